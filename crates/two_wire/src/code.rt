@@ -1,0 +1,70 @@
+//! Completion codes of refused requests.
+ghost use Rattle.std.specs.Prelude.{◌≡◌, ◌<◌};
+ghost use Rattle.std.specs.Option.{SomeIff};
+
+use std::marker::Model;
+
+/// A completion code other than 00h, which stands for success.
+#[derive(Clone, Copy, Debug, PartialEq, Eq)]
+pub struct Code {
+    value: u8,
+}
+
+impl Model for Code {
+    ghost use Rattle.std.specs.Prelude.{ℕ, ◌<◌};
+
+    ghost Value = { ℕ };
+
+    ghost view = { λ c. c.value };
+
+    ghost invariant = { λ c. 0 < c.value };
+
+    ghost inverse = { λ n. record { value = n } };
+}
+
+/// IPMI: the controller has no room for the request now.
+pub const NODE_BUSY: Code = Code { value: 0xC0 };
+
+/// IPMI: the command isn't one of the controller's.
+pub const INVALID_COMMAND: Code = Code { value: 0xC1 };
+
+/// IPMI: the command isn't one of the addressed logical unit's.
+pub const INVALID_FOR_LUN: Code = Code { value: 0xC2 };
+
+/// IPMI: the command doesn't take so many bytes of data.
+pub const INVALID_LENGTH: Code = Code { value: 0xC7 };
+
+/// IPMI: the sensor, record or other thing that is asked for isn't there.
+pub const NOT_PRESENT: Code = Code { value: 0xCB };
+
+/// IPMI: a field of the data isn't valid.
+pub const INVALID_DATA_FIELD: Code = Code { value: 0xCC };
+
+/// PLDM: the controller isn't ready for the request now.
+pub const PLDM_NOT_READY: Code = Code { value: 0x04 };
+
+/// PLDM: the command isn't one of the type's.
+pub const PLDM_UNSUPPORTED_COMMAND: Code = Code { value: 0x05 };
+
+/// PLDM: the type isn't one of the controller's.
+pub const PLDM_INVALID_TYPE: Code = Code { value: 0x20 };
+
+impl Code {
+    /// The code of this value, or nothing at 00h.
+    pub fn new(value: u8) -> Option<Code>
+        ensures { SomeIff result (0 < value) value }
+    {
+        if value == 0 {
+            return None;
+        }
+        Some(Code { value })
+    }
+
+    /// The code's byte.
+    pub fn value(self) -> u8
+        ensures value { result ≡ self }
+        ensures nonzero { 0 < result }
+    {
+        self.value
+    }
+}

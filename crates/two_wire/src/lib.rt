@@ -1,0 +1,20 @@
+//! What both two-wire buses of the controller have in common: bytes, addresses, bounded numbers, completion codes
+//! and check bytes.
+#![tactic(auto)]
+
+mod address;
+mod bus;
+mod bytes;
+mod checks;
+pub mod code;
+mod number;
+
+pub use address::Address;
+pub use bus::Bus;
+pub use bytes::{Bytes, Frame};
+pub use checks::sum8;
+pub use code::Code;
+pub use number::{Below, Lun, NetFn};
+
+#[cfg(test)]
+mod tests;

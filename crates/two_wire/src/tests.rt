@@ -1,0 +1,39 @@
+//! Check bytes of the standard's frames, and one call of each function.
+use crate::{Address, Bytes, Code, Lun, NetFn, code, sum8};
+use std::test::Fail;
+
+#[test]
+fn the_check_byte_of_a_head_and_of_a_body(rt: HostRuntime) {
+    assert_eq!(rt; sum8(&[0x20, 0x18]), 0xC8);
+    assert_eq!(rt; sum8(&[0x2C, 0x00, 0x01]), 0xD3);
+    assert_eq!(rt; sum8(&[]), 0);
+}
+
+#[test]
+fn bytes_are_kept_in_order(rt: HostRuntime) {
+    let mut bytes = Bytes::<4>::new();
+    assert!(rt; bytes.is_empty());
+    bytes.push(1);
+    bytes.extend_from_slice(&[2, 3]);
+    assert_eq!(rt; bytes.len(), 3);
+    assert_eq!(rt; bytes.as_slice(), [1, 2, 3].as_slice());
+    assert!(rt; bytes.copy().is(&[1, 2, 3]));
+    assert!(rt; !bytes.is(&[1, 2]));
+}
+
+#[test]
+fn an_address_has_bit_0_clear(rt: HostRuntime) -> Result<(), Fail> {
+    assert_eq!(rt; Address::new(0x2C).ok_or("2Ch")?.byte(), 0x2C);
+    assert!(rt; Address::new(0x2D).is_none());
+    Ok(())
+}
+
+#[test]
+fn numbers_and_codes_keep_their_value(rt: HostRuntime) -> Result<(), Fail> {
+    assert_eq!(rt; Lun::new(3).number(), 3);
+    assert_eq!(rt; NetFn::new(0x06).number(), 0x06);
+    assert_eq!(rt; Code::new(0x80).ok_or("80h")?.value(), 0x80);
+    assert!(rt; Code::new(0).is_none());
+    assert_eq!(rt; code::INVALID_LENGTH.value(), 0xC7);
+    Ok(())
+}
