@@ -1,0 +1,32 @@
+-- The names of records: which one an operation changes, and how long their values are.
+use Rattle.std.specs.Prelude.{ℕ, Bool, ◌==◌}
+use Rattle.std.specs.Ordering.{is_eq}
+use Rattle.std.specs.declared.cmp.Ordering.{Ordering}
+use Rattle.cfg_records.specs.declared.key.Key.{Key}
+use Rattle.cfg_records.specs.declared.key.Key.TheVariants as key
+use Rattle.cfg_records.specs.declared.op.Op.{Op}
+use Rattle.cfg_records.specs.declared.op.Op.TheVariants as op
+use Rattle.cfg_records.specs.contracts.key.KeyOrd.TheImpl as key_ord
+
+-- the record that an operation changes
+abbrev pub key_of : Op → Key
+key_of (op.Thresholds o) = key.Thresholds o.sensor
+key_of (op.Hysteresis o) = key.Hysteresis o.sensor
+
+-- a value of the key's kind may have this length
+abbrev pub is_length : Key → ℕ → Bool
+is_length (key.Thresholds sensor) n = n == 6
+is_length (key.Hysteresis sensor) n = n == 2
+
+-- the greatest length of a value of the key's kind
+abbrev pub longest : Key → ℕ
+longest (key.Thresholds sensor) = 6
+longest (key.Hysteresis sensor) = 2
+
+-- the order of keys
+abbrev pub key_cmp : Key → Key → Ordering
+key_cmp = (key_ord.ghosts).cmp
+
+-- the keys are one
+abbrev pub same_key : Key → Key → Bool
+same_key a b = is_eq (key_cmp a b)

@@ -1,0 +1,12 @@
+pub mod Keys
+pub mod KeyLaws
+pub mod Masks
+pub mod MaskLaws
+pub mod Thresholds
+pub mod ThresholdLaws
+pub mod Meaning
+pub mod Records
+pub mod RecordLaws
+pub mod Boards
+pub mod Distinct
+pub mod Sample

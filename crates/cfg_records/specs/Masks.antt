@@ -1,0 +1,20 @@
+-- Masks of a byte, as sets of places 0 to 7: bit i stands for place i.
+use Rattle.std.specs.Prelude.{ℕ, ◌<◌, zero, suc, Bool, true, ◌==◌, ◌&&◌, ◌||◌, not, IsTrue}
+use Rattle.std.specs.Int.{bit_at}
+
+-- the mask has the place
+abbrev pub has : ℕ → ℕ → Bool
+has mask place = bit_at mask place == 1
+
+-- each place of the mask is one of the set's
+abbrev pub IsWithin : ℕ → ℕ → Type 0
+IsWithin mask set = (place : ℕ) → place < 8 → IsTrue (has mask place) → IsTrue (has set place)
+
+-- the test holds at each number below
+abbrev pub all_below : (ℕ → Bool) → ℕ → Bool
+all_below p zero = true
+all_below p (suc n) = p n && all_below p n
+
+-- the test that the mask is within the set
+unfoldable pub is_within : ℕ → ℕ → Bool
+is_within mask set = all_below (λ place. not (has mask place) || has set place) 8

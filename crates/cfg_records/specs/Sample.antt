@@ -1,0 +1,36 @@
+-- The sample board.
+use Rattle.std.specs.Prelude.{◌≡◌, ℕ, List, [], ◌∷◌}
+use Rattle.cfg_records.specs.declared.sensor.Sensor.{Sensor}
+use Rattle.cfg_records.specs.declared.board_file.Device.{Device}
+
+-- what Get Device ID says of the sample board
+pub record IsSampleDevice (device : Device) : Type 0 where
+  pub id : device.id ≡ 0x20
+  pub revision : device.revision ≡ 1
+  pub major : device.major ≡ 1
+  pub minor : device.minor ≡ 0x05
+  pub support : device.support ≡ 0x07
+  pub manufacturer : device.manufacturer ≡ 0xABCD
+  pub product : device.product ≡ 0x1234
+
+-- a sensor of these words
+pub record IsSensor (sensor : Sensor) (number readable settable : ℕ) (thresholds : List ℕ) (positive negative : ℕ) : Type 0 where
+  pub numbered : sensor.number ≡ number
+  pub can_be_read : sensor.masks.readable ≡ readable
+  pub can_be_set : sensor.masks.settable ≡ settable
+  pub has_thresholds : sensor.thresholds ≡ thresholds
+  pub rises : sensor.hysteresis.positive ≡ positive
+  pub falls : sensor.hysteresis.negative ≡ negative
+
+-- a temperature sensor, all of whose thresholds can be read and set
+abbrev pub IsTemperature : Sensor → Type 0
+IsTemperature sensor = IsSensor sensor 5 0x3F 0x3F (0x14 ∷ 0x0A ∷ 0x05 ∷ 0x50 ∷ 0x5F ∷ 0x6E ∷ []) 2 2
+
+-- a fan sensor with upper thresholds alone, of which the highest can be set and not read
+abbrev pub IsFan : Sensor → Type 0
+IsFan sensor = IsSensor sensor 7 0x18 0x38 (0 ∷ 0 ∷ 0 ∷ 0x90 ∷ 0xA0 ∷ 0xB0 ∷ []) 0 0
+
+-- the sensors of the sample board
+abbrev pub AreSampleSensors : List Sensor → Type 0
+AreSampleSensors (a ∷ b ∷ []) = IsTemperature a × IsFan b
+AreSampleSensors _ = ⊥

@@ -1,0 +1,37 @@
+//! The names of records.
+ghost use Rattle.std.specs.Prelude.{◌≡◌, ◌≤◌};
+ghost use Rattle.cfg_records.specs.Keys.{is_length, longest};
+
+use crate::value::VALUE_CAPACITY;
+
+/// The name of a record: its kind, and which one of that kind.
+#[derive(Clone, Copy, Debug, PartialEq, Eq, PartialOrd, Ord)]
+pub enum Key {
+    /// The thresholds of the sensor of this number.
+    Thresholds(u8),
+    /// The hysteresis of the sensor of this number.
+    Hysteresis(u8),
+}
+
+impl Key {
+    /// Whether a value of the key's kind may have this length, in bytes.
+    pub fn is_length(&self, length: usize) -> bool
+        ensures { result ≡ is_length self.now length }
+    {
+        match self {
+            Key::Thresholds(_) => length == 6,
+            Key::Hysteresis(_) => length == 2,
+        }
+    }
+
+    /// The greatest length of a value of the key's kind, in bytes.
+    pub fn longest(&self) -> usize
+        ensures value { result ≡ longest self.now }
+        ensures fits { result ≤ VALUE_CAPACITY }
+    {
+        match self {
+            Key::Thresholds(_) => 6,
+            Key::Hysteresis(_) => 2,
+        }
+    }
+}

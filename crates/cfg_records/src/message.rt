@@ -1,0 +1,112 @@
+//! Requests and replies, without their frames.
+ghost use Rattle.std.specs.Prelude.{◌≡◌, ◌≤◌, ◌↔◌, [], length, IsTrue};
+
+use two_wire::{Below, Bytes, Code, Lun, NetFn};
+
+/// A request, and who sent it: its IPMB address, or its endpoint's EID.
+#[derive(Debug, PartialEq, Eq, Drop)]
+pub enum Asked {
+    /// IPMI: network function, logical unit of the controller, command and data.
+    Ipmi {
+        from: u8,
+        net_fn: NetFn,
+        lun: Lun,
+        command: u8,
+        body: Bytes<25>,
+    },
+    /// PLDM: type, command and data.
+    Pldm {
+        from: u8,
+        kind: Below<64>,
+        command: u8,
+        body: Bytes<252>,
+    },
+}
+
+/// A reply: its completion code, 00h where the request was carried out, and its data.
+#[derive(Debug, PartialEq, Eq, Drop)]
+pub struct Answered {
+    pub code: u8,
+    pub body: Bytes<251>,
+}
+
+impl Answered {
+    /// The reply to a request that was carried out.
+    pub fn done(body: &[u8]) -> Self
+        requires { length body.now ≤ 251 }
+        ensures { result ≡ record { code = 0; body = body.now } }
+    {
+        Answered {
+            code: 0,
+            body: Bytes::from_slice(body),
+        }
+    }
+
+    /// The reply to a request that was refused.
+    pub fn refused(code: Code) -> Self
+        ensures { result ≡ record { code = code; body = [] } }
+    {
+        Answered {
+            code: code.value(),
+            body: Bytes::new(),
+        }
+    }
+
+    /// The same reply once more.
+    pub fn copy(&self) -> Self
+        ensures { result ≡ self.now }
+    {
+        Answered {
+            code: self.code,
+            body: self.body.copy(),
+        }
+    }
+
+    /// Whether it is that reply.
+    pub fn is(&self, other: &Answered) -> bool
+        ensures { IsTrue result ↔ (self.now ≡ other.now) }
+    {
+        self.code == other.code && self.body.is(other.body.as_slice())
+    }
+}
+
+impl Asked {
+    /// The same request once more.
+    pub fn copy(&self) -> Self
+        ensures { result ≡ self.now }
+    {
+        match self {
+            Asked::Ipmi {
+                from,
+                net_fn,
+                lun,
+                command,
+                body,
+            } => Asked::Ipmi {
+                from: *from,
+                net_fn: *net_fn,
+                lun: *lun,
+                command: *command,
+                body: body.copy(),
+            },
+            Asked::Pldm {
+                from,
+                kind,
+                command,
+                body,
+            } => Asked::Pldm {
+                from: *from,
+                kind: *kind,
+                command: *command,
+                body: body.copy(),
+            },
+        }
+    }
+
+    /// Whether it is that request.
+    pub fn is(&self, other: &Asked) -> bool
+        ensures { IsTrue result ↔ (self.now ≡ other.now) }
+    {
+        self == other
+    }
+}

@@ -1,0 +1,91 @@
+//! Records, stores and the sample board.
+use crate::{
+    Answered, Asked, Hysteresis, Key, NoKey, PlainStore, Sensor, Store, StoreFault, ThresholdMasks,
+    Value, sample_board,
+};
+use std::test::Fail;
+use two_wire::{Below, Bytes, Lun, NetFn, code};
+
+#[test]
+fn the_sample_board_begins_with_four_records(rt: HostRuntime) -> Result<(), Fail> {
+    let file = sample_board(rt.alloc())?;
+    let pairs = file.records(rt.alloc())?;
+    assert_eq!(rt; pairs.len(), 4);
+    assert!(rt; pairs[1].0 == Key::Thresholds(7));
+    assert!(rt; pairs[1].1.is(&[0, 0, 0, 0x90, 0xA0, 0xB0]));
+    assert!(rt; pairs[2].0 == Key::Hysteresis(5));
+    assert!(rt; pairs[2].1.is(&[2, 2]));
+    Ok(())
+}
+
+#[test]
+fn a_store_has_what_was_put(rt: HostRuntime) -> Result<(), Fail> {
+    let pairs = sample_board(rt.alloc())?.records(rt.alloc())?;
+    let Ok(mut store) = PlainStore::new(rt.alloc(), pairs.as_slice()) else {
+        return Err("no store".into());
+    };
+    let key = Key::Hysteresis(7);
+    assert_eq!(rt; store.put(&key, Value::from_slice(&[3, 1])), Ok(()));
+    assert!(rt; store.get(&key).ok_or("hysteresis")?.is(&[3, 1]));
+    let missing = Key::Hysteresis(9);
+    assert_eq!(rt; store.put(&missing, Value::from_slice(&[3, 1])), Err(NoKey));
+    assert!(rt; store.get(&missing).is_none());
+    Ok(())
+}
+
+#[test]
+fn a_store_refuses_a_key_twice_before_a_bad_value(rt: HostRuntime) -> Result<(), Fail> {
+    let pair = || (Key::Hysteresis(5), Value::from_slice(&[1]));
+    let bad = vec![in rt.alloc(); pair()]?;
+    let twice = vec![in rt.alloc(); pair(), pair()]?;
+    assert!(rt;
+        matches!(
+            PlainStore::new(rt.alloc(), bad.as_slice()),
+            Err(StoreFault::BadValue)
+        )
+    );
+    assert!(rt;
+        matches!(
+            PlainStore::new(rt.alloc(), twice.as_slice()),
+            Err(StoreFault::TwiceTheSameKey)
+        )
+    );
+    Ok(())
+}
+
+#[test]
+fn a_sensor_has_its_thresholds_in_order(rt: HostRuntime) -> Result<(), Fail> {
+    let masks = ThresholdMasks::new(0x18, 0x38).ok_or("masks")?;
+    let hysteresis = Hysteresis {
+        positive: 0,
+        negative: 0,
+    };
+    assert!(rt; Sensor::new(7, masks, [0, 0, 0, 0x90, 0xA0, 0xB0], hysteresis).is_some());
+    assert!(rt; Sensor::new(7, masks, [0, 0, 0, 0x90, 0xB0, 0xA0], hysteresis).is_none());
+    assert!(rt; Sensor::new(7, masks, [1, 0, 0, 0x90, 0xA0, 0xB0], hysteresis).is_none());
+    assert!(rt; Sensor::new(255, masks, [0; 6], hysteresis).is_none());
+    assert!(rt; ThresholdMasks::new(0x40, 0).is_none());
+    Ok(())
+}
+
+#[test]
+fn requests_and_replies_are_compared_whole(rt: HostRuntime) {
+    let asked = Asked::Ipmi {
+        from: 0x2C,
+        net_fn: NetFn::new(4),
+        lun: Lun::new(0),
+        command: 0x27,
+        body: Bytes::from_slice(&[5]),
+    };
+    let other = Asked::Pldm {
+        from: 0x08,
+        kind: Below::new(3),
+        command: 0x27,
+        body: Bytes::from_slice(&[5]),
+    };
+    assert!(rt; asked.copy().is(&asked));
+    assert!(rt; !asked.is(&other));
+    let done = Answered::done(&[1]);
+    assert!(rt; done.copy().is(&done));
+    assert!(rt; !done.is(&Answered::refused(code::NOT_PRESENT)));
+}

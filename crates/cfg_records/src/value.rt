@@ -1,0 +1,14 @@
+//! The bytes of values, and of what requests and replies say of them.
+use two_wire::Bytes;
+
+/// How many bytes a value has at most.
+pub const VALUE_CAPACITY: usize = 208;
+
+/// How many bytes the data of a Get reply or of a Set request has at most.
+pub const DATA_CAPACITY: usize = 252;
+
+/// The value of a record.
+pub type Value = Bytes<{ VALUE_CAPACITY }>;
+
+/// The data of a Get reply or of a Set request, whole.
+pub type RecordData = Bytes<{ DATA_CAPACITY }>;
