@@ -1,10 +1,10 @@
 -- Messages by the places of their fields in the bytes.
-use Rattle.std.proofs.Common.{◌≡◌, ℕ, suc, ◌+◌, ◌-◌, ◌<◌, ◌≤◌, ◌%◌, List, [], ◌∷◌, ◌++◌, length, take, drop, get_or, refl, ap, arith, length-drop}
+use Rattle.std.proofs.Common.{◌≡◌, ℕ, suc, ◌+◌, ◌-◌, ◌<◌, List, [], ◌∷◌, ◌++◌, length, take, drop, get_or, refl, ap, arith, length-drop}
 use Rattle.std.proofs.lemmas.List.{length-take}
 use Rattle.two_wire.specs.Check.{check_byte}
 use Rattle.ipmb_frame.specs.declared.message.Request.{Request}
 use Rattle.ipmb_frame.specs.declared.message.Response.{Response}
-use Rattle.ipmb_frame.specs.Fault.{IsFaultless, net_fn_of}
+use Rattle.ipmb_frame.specs.Fault.{IsFaultless}
 use Rattle.ipmb_frame.specs.Grammar.{checked, packed, IsHeader, IsRequest, IsResponse}
 use Rattle.ipmb_frame.proofs.Checked.{check_byte-front, checked-front}
 

@@ -49,10 +49,8 @@ fn start(to: Party, function: u8, from: Party, sequence: Sequence) -> Frame
     ensures to { IsParty to }
     ensures from { IsParty from }
     ensures numbered { sequence < 64 }
-    ensures spelled {
-        result ≡ checked (to.address ∷ packed function to.lun ∷ [])
-            ++ from.address ∷ packed sequence from.lun ∷ []
-    }
+    ensures spelled { result ≡ checked (to.address ∷ packed function to.lun ∷ [])
+        ++ from.address ∷ packed sequence from.lun ∷ [] }
 {
     let mut frame = Frame::new();
     frame.push(to.address.byte());
