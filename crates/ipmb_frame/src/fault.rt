@@ -39,13 +39,13 @@ impl fmt::Display for FrameFault {
     ghost output = { λ fault. Some (fault_name fault) };
 
     fn fmt<W: fmt::Write>(&self, f: &mut fmt::Formatter<W>) -> fmt::Result {
-        match self {
-            FrameFault::Short => f.write_str("Short"),
-            FrameFault::Long => f.write_str("Long"),
-            FrameFault::HeadSum => f.write_str("HeadSum"),
-            FrameFault::BodySum => f.write_str("BodySum"),
-            FrameFault::OddAddress => f.write_str("OddAddress"),
-        }
+        f.write_str(match self {
+            FrameFault::Short => "Short",
+            FrameFault::Long => "Long",
+            FrameFault::HeadSum => "HeadSum",
+            FrameFault::BodySum => "BodySum",
+            FrameFault::OddAddress => "OddAddress",
+        })
     }
 }
 

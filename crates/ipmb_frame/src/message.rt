@@ -24,7 +24,7 @@ pub struct Header {
 }
 
 /// A request to carry a command out.
-#[derive(Debug, PartialEq, Eq, Drop)]
+#[derive(Clone, Debug, PartialEq, Eq, Drop)]
 pub struct Request {
     pub header: Header,
     /// The command's data.
@@ -32,7 +32,7 @@ pub struct Request {
 }
 
 /// The response to a request, whose header it has.
-#[derive(Debug, PartialEq, Eq, Drop)]
+#[derive(Clone, Debug, PartialEq, Eq, Drop)]
 pub struct Response {
     pub header: Header,
     /// The completion code. 00h stands for success.
@@ -41,21 +41,23 @@ pub struct Response {
     pub body: Bytes<24>,
 }
 
-/// A message of the bus, as its frame has it (Intelligent Platform Management Bus Communications Protocol 1.0,
-/// message formats). Who a frame goes to stands first in it, and who it comes from fourth:
+/// A message of the bus. A frame starts with the address that it goes to (Intelligent Platform Management Bus
+/// Communications Protocol 1.0, message formats):
 ///
 /// ```text
-///             +------+-----------------+----------+------+---------------+-----+------------------+----------+
-/// a request   | rsSA | netFn     rsLUN | checksum | rqSA | rqSeq   rqLUN | cmd | 0 to 25 bytes    | checksum |
-/// a response  | rqSA | netFn + 1 rqLUN | checksum | rsSA | rqSeq   rsLUN | cmd | code, 0 to 24 .. | checksum |
-///             +------+-----------------+----------+------+---------------+-----+------------------+----------+
-/// bits          7:0    7:2        1:0     7:0       7:0    7:2      1:0    7:0       7:0 each         7:0
-///             \------- adds up to 0 -------------/ \--------------------- adds up to 0 ----------------------/
+///   byte      0       1             2         3       4             5     6 ..                        last
+///          +------+-------------+----------+------+-------------+-----+---------------------------+----------+
+/// request  | rsSA | netFn | LUN | checksum | rqSA | rqSeq | LUN | cmd | data, 0 to 25 bytes       | checksum |
+///          +------+-------------+----------+------+-------------+-----+---------------------------+----------+
+/// response | rqSA | netFn | LUN | checksum | rsSA | rqSeq | LUN | cmd | code, data, 0 to 24 bytes | checksum |
+///          +------+-------------+----------+------+-------------+-----+---------------------------+----------+
+///   bits     7:0     7:2    1:0     7:0      7:0     7:2    1:0   7:0
 /// ```
 ///
-/// A frame has at most 32 bytes. A request's netFn is even, so a response's is odd. Bit 0 of an address is clear. Sums are
-/// modulo 256.
-#[derive(Debug, PartialEq, Eq, Drop)]
+/// Each logical unit (LUN) belongs to the address before it. A response's netFn is the request's, which is even, plus 1.
+/// Bytes 0 to 2 add up to 0 modulo 256, and so do those from byte 3 to the last. Bit 0 of an address is clear. A frame has
+/// at most 32 bytes.
+#[derive(Clone, Debug, PartialEq, Eq, Drop)]
 pub enum Msg {
     Request(Request),
     Response(Response),

@@ -1,5 +1,5 @@
 //! Frames byte by byte, and what is wrong with those that differ.
-ghost use Rattle.std.specs.Prelude.{◌<◌, ◌≤◌, length};
+ghost use Rattle.std.specs.Prelude.{◌≡◌, ◌<◌, ◌≤◌, length};
 
 use crate::{
     FrameFault, Header, Msg, Party, Request, Response, Sequence, read_frame, write_request,
@@ -212,5 +212,46 @@ fn a_fault_is_printed_by_its_name(rt: HostRuntime) -> Result<(), Fail> {
     for (fault, name) in names {
         assert_eq!(rt; fault.to_string(rt.alloc())?.as_str(), name);
     }
+    Ok(())
+}
+
+/// What is read of a request's frame.
+fn request_read_back(request: &Request) -> Result<Msg, FrameFault>
+    ensures { result ≡ Ok (Msg.Request request.now) }
+{
+    read_frame(write_request(request).as_slice())
+}
+
+/// What is read of a response's frame.
+fn response_read_back(response: &Response) -> Result<Msg, FrameFault>
+    ensures { result ≡ Ok (Msg.Response response.now) }
+{
+    read_frame(write_response(response).as_slice())
+}
+
+#[test]
+fn what_is_written_is_read_back_at_the_greatest_fields(rt: HostRuntime) -> Result<(), Fail> {
+    let greatest = Party {
+        address: Address::new(0xFE).ok_or("address")?,
+        lun: Lun::new(3),
+    };
+    let header = Header {
+        responder: greatest,
+        requester: greatest,
+        net_fn: NetFn::new(0x3E),
+        sequence: Sequence::new(63),
+        command: 0xFF,
+    };
+    let request = Request {
+        header,
+        body: Bytes::from_slice(&[0xFF; 25]),
+    };
+    assert_eq!(rt; request_read_back(&request), Ok(Msg::Request(request)));
+    let response = Response {
+        header,
+        code: 0xFF,
+        body: Bytes::from_slice(&[0xFF; 24]),
+    };
+    assert_eq!(rt; response_read_back(&response), Ok(Msg::Response(response)));
     Ok(())
 }
