@@ -1,0 +1,4 @@
+pub mod Checked
+pub mod Places
+pub mod Uniqueness
+pub mod Whole

@@ -1,0 +1,3 @@
+pub mod Grammar
+pub mod Fault
+pub use Rattle.two_wire.specs.Check

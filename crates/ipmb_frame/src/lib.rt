@@ -1,0 +1,17 @@
+//! Messages of the Intelligent Platform Management Bus, and the frames that carry them.
+#![tactic(auto)]
+
+mod fault;
+mod laws;
+mod message;
+mod reading;
+mod writing;
+
+pub use fault::FrameFault;
+pub use laws::{one_frame, one_message};
+pub use message::{Header, Msg, Party, Request, Response, Sequence};
+pub use reading::read_frame;
+pub use writing::{write_request, write_response};
+
+#[cfg(test)]
+mod tests;
