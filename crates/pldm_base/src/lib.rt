@@ -1,0 +1,17 @@
+//! Platform level data model: requests and replies as bytes, tables in parts, and the check number of a table.
+#![tactic(auto)]
+
+mod fault;
+mod laws;
+mod message;
+mod reading;
+mod writing;
+
+pub use fault::{PldmFault, PldmReplyFault};
+pub use laws::{no_request_is_a_reply, one_reply, one_request};
+pub use message::{Header, Instance, PldmBytes, PldmReply, PldmRequest, PldmType};
+pub use reading::{read_pldm, read_pldm_reply};
+pub use writing::{write_pldm, write_pldm_reply};
+
+#[cfg(test)]
+mod tests;
