@@ -5,12 +5,16 @@ mod fault;
 mod laws;
 mod message;
 mod reading;
+mod table;
+mod transfer;
 mod writing;
 
 pub use fault::{PldmFault, PldmReplyFault};
 pub use laws::{no_request_is_a_reply, one_reply, one_request};
 pub use message::{Header, Instance, PldmBytes, PldmReply, PldmRequest, PldmType};
 pub use reading::{read_pldm, read_pldm_reply};
+pub use table::{GET_FIRST_PART, GET_NEXT_PART, PART_LENGTH, Part, TransferFlag};
+pub use transfer::part;
 pub use writing::{write_pldm, write_pldm_reply};
 
 #[cfg(test)]
