@@ -1,8 +1,9 @@
 //! What holds of the definitions.
-ghost use Rattle.std.specs.Prelude.{◌≡◌, List, ℕ};
+ghost use Rattle.std.specs.Prelude.{◌≡◌, ◌==◌, ◌+◌, ◌*◌, ◌<◌, List, ℕ, Some, length, slice_get, nat_lt};
 ghost use Rattle.pldm_base.specs.declared.message.PldmRequest.{PldmRequest};
 ghost use Rattle.pldm_base.specs.declared.message.PldmReply.{PldmReply};
 ghost use Rattle.pldm_base.specs.Message.{IsRequest, IsReply};
+ghost use Rattle.pldm_base.specs.Parts.{AreParts, begins_part, is_last, part_bytes};
 
 /// Bytes are at most one request.
 pub fn one_request()
@@ -17,4 +18,19 @@ pub fn one_reply()
 /// No bytes are a request and a reply.
 pub fn no_request_is_a_reply()
     ensures { (r : PldmRequest) (s : PldmReply) (bytes : List ℕ) → IsRequest r bytes → IsReply s bytes → ⊥ }
+{}
+
+/// Every table has parts.
+pub fn every_table_has_parts()
+    ensures { (table : List ℕ) → (parts : List (List ℕ)) × AreParts table parts }
+{}
+
+/// The parts of a table stand at the multiples of 192: each begins there, with its bytes, and the last is the last.
+pub fn parts_stand_at_their_offsets()
+    ensures begins { (table : List ℕ) (parts : List (List ℕ)) → AreParts table parts
+        → (k : ℕ) → begins_part table (192 * k) ≡ nat_lt k (length parts) }
+    ensures bytes { (table : List ℕ) (parts : List (List ℕ)) → AreParts table parts
+        → (k : ℕ) → k < length parts → slice_get parts k ≡ Some (part_bytes table (192 * k)) }
+    ensures last { (table : List ℕ) (parts : List (List ℕ)) → AreParts table parts
+        → (k : ℕ) → k < length parts → is_last table (192 * k) ≡ (k + 1 == length parts) }
 {}

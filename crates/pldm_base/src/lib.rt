@@ -10,7 +10,10 @@ mod transfer;
 mod writing;
 
 pub use fault::{PldmFault, PldmReplyFault};
-pub use laws::{no_request_is_a_reply, one_reply, one_request};
+pub use laws::{
+    every_table_has_parts, no_request_is_a_reply, one_reply, one_request,
+    parts_stand_at_their_offsets,
+};
 pub use message::{Header, Instance, PldmBytes, PldmReply, PldmRequest, PldmType};
 pub use reading::{read_pldm, read_pldm_reply};
 pub use table::{GET_FIRST_PART, GET_NEXT_PART, PART_LENGTH, Part, TransferFlag};
