@@ -1,9 +1,9 @@
 -- Tables and their parts.
 use Rattle.std.proofs.Common.{◌≡◌, ℕ, zero, suc, ◌+◌, ◌-◌, ◌*◌, ◌%◌, ◌<◌, ◌≤◌, Bool, true, false, ltb, leb, eqb, List, [], ◌∷◌, ◌++◌, length, take, drop, get_or, refl, sym, ◌∙◌, ap, arith, length-append, length-drop, ◌⊎◌, inl, inr, subst, Some, ◌||◌, ◌&&◌}
 use Rattle.std.specs.List.{concat}
-use Rattle.std.proofs.lemmas.List.{take_all, append-nil, length-take-le, take-append-drop}
+use Rattle.std.proofs.lemmas.List.{take_all, append-nil, length-take-le, take-append-drop, same_lists}
 use Rattle.std.specs.List.{slice_get}
-use Rattle.std.proofs.lemmas.Option.{slice_get-get_or}
+use Rattle.std.proofs.lemmas.Option.{slice_get-get_or, get_or_from_slice_get}
 use Rattle.std.proofs.lemmas.Bool.{cases_lt}
 use Rattle.std.proofs.lemmas.Bool.Decides.{nat_tests}
 use Rattle.std.proofs.Math.Seq.{take-append_seam, drop-append_seam, drop-append-add}
@@ -133,3 +133,19 @@ pub has_parts : (table : List ℕ) → (parts : List (List ℕ)) × AreParts tab
 has_parts table =
     let found = cut (length table) table (omega arith) in
     (found.first ∷ found.others, found.are)
+
+-- as many parts hold as many bytes
+same_count : (m n bytes : ℕ) → AreCounted m bytes → AreCounted n bytes → m ≡ n
+same_count m n bytes a b = elim a.least as (λ _. m ≡ n) [
+  | inl alone ↦ elim b.least as (λ _. m ≡ n) [ inl sole ↦ omega arith | inr least ↦ omega (arith, a.most, a.some, b.some) ]
+  | inr few ↦ elim b.least as (λ _. m ≡ n) [ inl sole ↦ omega (arith, b.most, a.some, b.some) | inr least ↦ omega (arith, a.most, b.most) ]
+]
+
+-- a table has one list of parts
+pub one-parts : (table : List ℕ) (parts pieces : List (List ℕ)) → AreParts table parts → AreParts table pieces → parts ≡ pieces
+one-parts table parts pieces are also =
+    let bytes : length (concat parts) ≡ length (concat pieces) = ap length (are.together ∙ sym also.together) in
+    let count : length parts ≡ length pieces = same_count (length parts) (length pieces) (length (concat parts)) (counted parts are.sizes) (rw bytes (counted pieces also.sizes)) in
+    same_lists parts pieces count (λ k d within.
+    get_or_from_slice_get parts k (part_bytes table (192 * k)) d (part-at table parts are k within)
+    ∙ sym (get_or_from_slice_get pieces k (part_bytes table (192 * k)) d (part-at table pieces also k (omega arith))))

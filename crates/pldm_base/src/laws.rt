@@ -25,6 +25,11 @@ pub fn every_table_has_parts()
     ensures { (table : List ℕ) → (parts : List (List ℕ)) × AreParts table parts }
 {}
 
+/// A table has no two lists of parts.
+pub fn one_list_of_parts()
+    ensures { (table : List ℕ) (parts pieces : List (List ℕ)) → AreParts table parts → AreParts table pieces → parts ≡ pieces }
+{}
+
 /// The parts of a table stand at the multiples of 192: each begins there, with its bytes, and the last is the last.
 pub fn parts_stand_at_their_offsets()
     ensures begins { (table : List ℕ) (parts : List (List ℕ)) → AreParts table parts

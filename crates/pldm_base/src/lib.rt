@@ -11,7 +11,7 @@ mod writing;
 
 pub use fault::{PldmFault, PldmReplyFault};
 pub use laws::{
-    every_table_has_parts, no_request_is_a_reply, one_reply, one_request,
+    every_table_has_parts, no_request_is_a_reply, one_list_of_parts, one_reply, one_request,
     parts_stand_at_their_offsets,
 };
 pub use message::{Header, Instance, PldmBytes, PldmReply, PldmRequest, PldmType};
