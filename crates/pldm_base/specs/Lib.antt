@@ -1,2 +1,4 @@
 pub mod Message
 pub mod Parts
+pub mod Polynomial
+pub mod Crc

@@ -1,6 +1,7 @@
 //! Platform level data model: requests and replies as bytes, tables in parts, and the check number of a table.
 #![tactic(auto)]
 
+mod crc;
 mod fault;
 mod laws;
 mod message;
@@ -9,6 +10,7 @@ mod table;
 mod transfer;
 mod writing;
 
+pub use crc::crc32;
 pub use fault::{PldmFault, PldmReplyFault};
 pub use laws::{
     every_table_has_parts, no_request_is_a_reply, one_list_of_parts, one_reply, one_request,

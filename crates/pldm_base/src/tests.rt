@@ -1,7 +1,7 @@
 //! Messages byte by byte.
 use crate::{
     Header, Instance, PldmBytes, PldmFault, PldmReply, PldmReplyFault, PldmRequest, PldmType,
-    read_pldm, read_pldm_reply, write_pldm, write_pldm_reply,
+    crc32, read_pldm, read_pldm_reply, write_pldm, write_pldm_reply,
 };
 use std::test::Fail;
 use two_wire::Bytes;
@@ -112,4 +112,9 @@ fn the_first_fault_of_a_reply_is_told(rt: HostRuntime) {
         Some(PldmReplyFault::NotReply)
     );
     assert_eq!(rt; reply_fault_of(&[0x20, 0x00, 0x02, 0x00, 0x01]), None);
+}
+
+#[test]
+fn the_check_number_of_the_nine_digits(rt: HostRuntime) {
+    assert_eq!(rt; crc32(b"123456789"), 0xCBF4_3926);
 }

@@ -1,0 +1,110 @@
+-- The division as the register makes it.
+use Rattle.std.proofs.Common.{◌≡◌, ℕ, zero, suc, ◌+◌, ◌-◌, ◌*◌, ◌/◌, ◌%◌, ◌^◌, ◌<◌, ◌≤◌, Bool, true, false, not, eqb, List, [], ◌∷◌, ◌++◌, length, map, take, drop, replicate, refl, sym, ◌∙◌, ap, subst, arith, append_assoc, length-append}
+use Rattle.std.specs.Int.Bits.{bit_xor}
+use Rattle.pldm_base.specs.Polynomial.{differ, zeros, plus, scaled, IsRemainder}
+use Rattle.pldm_base.specs.Crc.{bits, divisor, front_inverted, lengthened, dividend, left, Leaves, IsCrc32}
+use Rattle.pldm_base.proofs.Division.{plus-assoc, plus-comm, plus-zeros, plus-longer, plus-append, length-plus, scaled-one, scaled-none, stop, step}
+use Rattle.pldm_base.proofs.Bits.{length-bits, bits-xor, bits-zero, bits-longer, bits-inverted}
+
+-- a register's lowest bit, and those above it
+register-front : (width register : ℕ) (rest : List Bool) → plus (bits (suc width) register) (false ∷ rest) ≡ differ (eqb (register % 2) 1) false ∷ plus (bits width (register / 2)) rest
+unfolding plus bits
+register-front width register rest = refl
+
+-- half a register has a zero at its end
+half_register : (width register : ℕ) (rest : List Bool) → register < 2 ^ suc width → suc width ≤ length rest
+    → plus (bits (suc width) (register / 2)) rest ≡ plus (bits width (register / 2)) rest
+half_register width register rest small long =
+    let longer : bits (suc width) (register / 2) ≡ bits width (register / 2) ++ zeros 1 = bits-longer width 1 (suc width) (register / 2) (omega arith) (omega arith) in
+    rw longer (plus-longer (bits width (register / 2)) rest 1 (omega (arith, length-bits width (register / 2))))
+
+-- a bit 1 is taken away with the divisor
+pub bit_one : (width low register : ℕ) (rest r : List Bool) → register < 2 ^ suc width → register % 2 ≡ 1 → suc width ≤ length rest
+    → IsRemainder (true ∷ bits (suc width) low) (plus (bits (suc width) (bit_xor (register / 2) low)) rest) r
+    → IsRemainder (true ∷ bits (suc width) low) (plus (bits (suc width) register) (false ∷ rest)) r
+bit_one width low register rest r small odd long h =
+    let g : List Bool = bits (suc width) low in
+    let half : List Bool = bits (suc width) (register / 2) in
+    let d : List Bool = plus (bits width (register / 2)) rest in
+    let front : plus (bits (suc width) register) (false ∷ rest) ≡ true ∷ d =
+      register-front width register rest ∙ ap (λ (n : ℕ). differ (eqb n 1) false ∷ d) odd in
+    let after : plus (bits (suc width) (bit_xor (register / 2) low)) rest ≡ plus (scaled true g) d =
+      ap (λ (xs : List Bool). plus xs rest) (bits-xor (suc width) (register / 2) low ∙ plus-comm half g)
+      ∙ plus-assoc g half rest ∙ ap (plus g) (half_register width register rest small long)
+      ∙ ap (λ (xs : List Bool). plus xs d) (sym (scaled-one g)) in
+    let P : List Bool → Type 0 = λ xs. IsRemainder (true ∷ g) xs r in
+    let within : length g ≤ length d = omega (arith, length-bits (suc width) low, length-bits width (register / 2), length-plus (bits width (register / 2)) rest (omega (arith, length-bits width (register / 2)))) in
+    subst P (sym front) (step true g d r within (subst P after h))
+
+-- a bit 0 alone
+pub bit_zero : (width low register : ℕ) (rest r : List Bool) → register < 2 ^ suc width → register % 2 ≡ 0 → suc width ≤ length rest
+    → IsRemainder (true ∷ bits (suc width) low) (plus (bits (suc width) (register / 2)) rest) r
+    → IsRemainder (true ∷ bits (suc width) low) (plus (bits (suc width) register) (false ∷ rest)) r
+bit_zero width low register rest r small even long h =
+    let g : List Bool = bits (suc width) low in
+    let d : List Bool = plus (bits width (register / 2)) rest in
+    let front : plus (bits (suc width) register) (false ∷ rest) ≡ false ∷ d =
+      register-front width register rest ∙ ap (λ (n : ℕ). differ (eqb n 1) false ∷ d) even in
+    let within : length g ≤ length d = omega (arith, length-bits (suc width) low, length-bits width (register / 2), length-plus (bits width (register / 2)) rest (omega (arith, length-bits width (register / 2)))) in
+    let after : plus (bits (suc width) (register / 2)) rest ≡ plus (scaled false g) d =
+      half_register width register rest small long ∙ sym (plus-zeros (length g) d within)
+      ∙ ap (λ (xs : List Bool). plus xs d) (sym (scaled-none g)) in
+    let P : List Bool → Type 0 = λ xs. IsRemainder (true ∷ g) xs r in
+    subst P (sym front) (step false g d r within (subst P after h))
+
+-- the divisor's coefficients below the highest, in a register
+divisor-is : divisor ≡ true ∷ bits 32 3988292384
+unfolding divisor bits
+divisor-is = refl
+
+pub takes_one : (register : ℕ) → register < 2 ^ 32 → register % 2 ≡ 1 → (rest : List Bool) → 32 ≤ length rest
+    → Leaves (left register (false ∷ rest)) (left (bit_xor (register / 2) 3988292384) rest)
+unfolding left
+takes_one register small odd rest long = record {
+  remainder = λ r h.
+    let P : List Bool → Type 0 = λ p. IsRemainder p (left register (false ∷ rest)) r in
+    let Q : List Bool → Type 0 = λ p. IsRemainder p (left (bit_xor (register / 2) 3988292384) rest) r in
+    subst P (sym divisor-is) (bit_one 31 3988292384 register rest r small odd long (subst Q divisor-is h));
+}
+
+pub takes_zero : (register : ℕ) → register < 2 ^ 32 → register % 2 ≡ 0 → (rest : List Bool) → 32 ≤ length rest
+    → Leaves (left register (false ∷ rest)) (left (register / 2) rest)
+unfolding left
+takes_zero register small even rest long = record {
+  remainder = λ r h.
+    let P : List Bool → Type 0 = λ p. IsRemainder p (left register (false ∷ rest)) r in
+    let Q : List Bool → Type 0 = λ p. IsRemainder p (left (register / 2) rest) r in
+    subst P (sym divisor-is) (bit_zero 31 3988292384 register rest r small even long (subst Q divisor-is h));
+}
+
+pub leaves-same : (d e : List Bool) → d ≡ e → Leaves d e
+leaves-same d e same = record {
+  remainder = λ r h. let P : List Bool → Type 0 = λ xs. IsRemainder divisor xs r in subst P (sym same) h;
+}
+
+pub leaves-then : (c d e : List Bool) → Leaves c d → Leaves d e → Leaves c e
+leaves-then c d e first second = record { remainder = λ r h. first.remainder r (second.remainder r h); }
+
+-- a byte before what follows is added to the register
+pub byte_added : (register byte : ℕ) (rest : List Bool) → byte < 2 ^ 8 → 32 ≤ length rest
+    → left register (bits 8 byte ++ rest) ≡ left (bit_xor register byte) (zeros 8 ++ rest)
+unfolding left
+byte_added register byte rest small long =
+    let r : List Bool = bits 32 register in
+    let b : List Bool = bits 8 byte in
+    let longer : bits 32 byte ≡ b ++ zeros 24 = bits-longer 8 24 32 byte refl small in
+    let front : plus b (zeros 8) ≡ b = plus-comm b (zeros 8) ∙ plus-zeros 8 b (omega (arith, length-bits 8 byte)) in
+    let behind : plus (zeros 24) rest ≡ rest = plus-zeros 24 rest (omega arith) in
+    let alone : plus (bits 32 byte) (zeros 8 ++ rest) ≡ b ++ rest =
+      ap (λ (xs : List Bool). plus xs (zeros 8 ++ rest)) longer
+      ∙ plus-append b (zeros 8) (zeros 24) rest (length-bits 8 byte)
+      ∙ ap (λ (xs : List Bool). xs ++ plus (zeros 24) rest) front
+      ∙ ap (λ (xs : List Bool). b ++ xs) behind in
+    sym (ap (λ (xs : List Bool). plus xs (zeros 8 ++ rest)) (bits-xor 32 register byte)
+      ∙ plus-assoc r (bits 32 byte) (zeros 8 ++ rest) ∙ ap (plus r) alone)
+
+-- one zero less
+pub zero_less : (k : ℕ) (rest : List Bool) → k < 8 → zeros (8 - k) ++ rest ≡ false ∷ (zeros (8 - (k + 1)) ++ rest)
+zero_less k rest within =
+    let less : 8 - k ≡ suc (8 - (k + 1)) = omega arith in
+    rw less refl
