@@ -1,6 +1,7 @@
 -- The division as the register makes it.
-use Rattle.std.proofs.Common.{◌≡◌, ℕ, zero, suc, ◌+◌, ◌-◌, ◌*◌, ◌/◌, ◌%◌, ◌^◌, ◌<◌, ◌≤◌, Bool, true, false, not, eqb, List, [], ◌∷◌, ◌++◌, length, map, take, drop, replicate, refl, sym, ◌∙◌, ap, subst, arith, append_assoc, length-append}
+use Rattle.std.proofs.Common.{◌≡◌, ℕ, zero, suc, ◌+◌, ◌-◌, ◌*◌, ◌/◌, ◌%◌, ◌^◌, ◌<◌, ◌≤◌, Bool, true, false, not, eqb, List, [], ◌∷◌, ◌++◌, length, map, take, drop, get_or, replicate, drop-cons, add-one, refl, sym, ◌∙◌, ap, subst, arith, append_assoc, length-append}
 use Rattle.std.specs.Int.Bits.{bit_xor}
+use Rattle.std.specs.List.{flat_map}
 use Rattle.pldm_base.specs.Polynomial.{differ, zeros, plus, scaled, IsRemainder}
 use Rattle.pldm_base.specs.Crc.{bits, divisor, front_inverted, lengthened, dividend, left, Leaves, IsCrc32}
 use Rattle.pldm_base.proofs.Division.{plus-assoc, plus-comm, plus-zeros, plus-longer, plus-append, length-plus, scaled-one, scaled-none, stop, step}
@@ -108,3 +109,50 @@ pub zero_less : (k : ℕ) (rest : List Bool) → k < 8 → zeros (8 - k) ++ rest
 zero_less k rest within =
     let less : 8 - k ≡ suc (8 - (k + 1)) = omega arith in
     rw less refl
+
+-- ones added to the front invert it
+front_inverted-is : (count : ℕ) (xs : List Bool) → count ≤ length xs → front_inverted count xs ≡ plus (replicate count true) xs
+unfolding plus
+front_inverted-is zero xs within = refl
+front_inverted-is (suc count) [] within = absurd (omega arith)
+front_inverted-is (suc count) (x ∷ xs) within = ap (λ rest. not x ∷ rest) (front_inverted-is count xs (omega arith))
+
+pub length-lengthened : (bytes : List ℕ) → 32 ≤ length (lengthened bytes)
+unfolding lengthened
+length-lengthened bytes = omega (arith, length-append (flat_map (bits 8) bytes) (zeros 32))
+
+-- the register holds ones at the start
+pub register_starts : (bytes : List ℕ) → dividend bytes ≡ left 4294967295 (lengthened bytes)
+unfolding dividend left
+register_starts bytes =
+    let ones : bits 32 4294967295 ≡ replicate 32 true = (unfold bits in refl) in
+    front_inverted-is 32 (lengthened bytes) (length-lengthened bytes) ∙ ap (λ (xs : List Bool). plus xs (lengthened bytes)) (sym ones)
+
+lengthened-cons : (byte : ℕ) (bytes : List ℕ) → lengthened (byte ∷ bytes) ≡ bits 8 byte ++ lengthened bytes
+unfolding lengthened
+lengthened-cons byte bytes = append_assoc (bits 8 byte) (flat_map (bits 8) bytes) (zeros 32)
+
+-- a byte more stands in front
+pub lengthened-drop : (bytes : List ℕ) (i : ℕ) → i < length bytes → lengthened (drop i bytes) ≡ bits 8 (get_or bytes i 0) ++ lengthened (drop (i + 1) bytes)
+lengthened-drop bytes i within =
+    let front : drop i bytes ≡ get_or bytes i 0 ∷ drop (i + 1) bytes = rw (add-one, drop-cons bytes i 0) refl in
+    ap lengthened front ∙ lengthened-cons (get_or bytes i 0) (drop (i + 1) bytes)
+
+-- the register without bytes is the remainder
+register_ends : (register : ℕ) → left register (lengthened []) ≡ bits 32 register
+unfolding left lengthened
+register_ends register = plus-comm (bits 32 register) (zeros 32) ∙ plus-zeros 32 (bits 32 register) (omega (arith, length-bits 32 register))
+
+-- the register inverted is the check number
+pub register_is : (bytes : List ℕ) (register : ℕ) → register < 2 ^ 32 → Leaves (dividend bytes) (left register (lengthened [])) → IsCrc32 bytes (4294967295 - register)
+register_is bytes register small leaves = record {
+  remainder = bits 32 register;
+  divided =
+    let P : List Bool → Type 0 = λ p. IsRemainder p (bits 32 register) (bits 32 register) in
+    let Q : List Bool → Type 0 = λ xs. IsRemainder divisor xs (bits 32 register) in
+    let alone : IsRemainder divisor (bits 32 register) (bits 32 register) =
+      subst P (sym divisor-is) (stop (bits 32 3988292384) (bits 32 register) (length-bits 32 register ∙ sym (length-bits 32 3988292384))) in
+    leaves.remainder (bits 32 register) (subst Q (sym (register_ends register)) alone);
+  small = omega arith;
+  spelled = bits-inverted 32 register small;
+}
