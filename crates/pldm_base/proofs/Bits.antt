@@ -20,8 +20,8 @@ lowest-xor : (a b : ℕ) → eqb (bit_xor a b % 2) 1 ≡ differ (eqb (a % 2) 1) 
 lowest-xor a b =
     let low : bit_xor a b % 2 ≡ bit_xor (a % 2) (b % 2) = xor_mod a b 1 in
     elim (bit_of a) as (λ _. eqb (bit_xor a b % 2) 1 ≡ differ (eqb (a % 2) 1) (eqb (b % 2) 1)) [
-      inl h ↦ elim (bit_of b) as (λ _. eqb (bit_xor a b % 2) 1 ≡ differ (eqb (a % 2) 1) (eqb (b % 2) 1)) [ inl k ↦ rw (low, h, k) refl | inr k ↦ rw (low, h, k) refl ]
-    | inr h ↦ elim (bit_of b) as (λ _. eqb (bit_xor a b % 2) 1 ≡ differ (eqb (a % 2) 1) (eqb (b % 2) 1)) [ inl k ↦ rw (low, h, k) refl | inr k ↦ rw (low, h, k) refl ]
+      | inl h ↦ elim (bit_of b) as (λ _. eqb (bit_xor a b % 2) 1 ≡ differ (eqb (a % 2) 1) (eqb (b % 2) 1)) [ inl k ↦ rw (low, h, k) refl | inr k ↦ rw (low, h, k) refl ]
+      | inr h ↦ elim (bit_of b) as (λ _. eqb (bit_xor a b % 2) 1 ≡ differ (eqb (a % 2) 1) (eqb (b % 2) 1)) [ inl k ↦ rw (low, h, k) refl | inr k ↦ rw (low, h, k) refl ]
     ]
 
 -- the bits of what differs are the sum of the bits
@@ -63,8 +63,8 @@ bits-inverted (suc count) n small =
     let low : (2 ^ suc count - 1 - n) % 2 ≡ 1 - n % 2 = omega (arith, twice) in
     let others : bits count (p - 1 - n / 2) ≡ map not (bits count (n / 2)) = bits-inverted count (n / 2) (omega (arith, twice)) in
     elim (bit_of n) as (λ _. bits (suc count) (2 ^ suc count - 1 - n) ≡ map not (bits (suc count) n)) [
-      inl h ↦ rw (half, low, h, others) refl
-    | inr h ↦ rw (half, low, h, others) refl
+      | inl h ↦ rw (half, low, h, others) refl
+      | inr h ↦ rw (half, low, h, others) refl
     ]
 
 -- a number is what its bits are
@@ -76,6 +76,30 @@ same_bits (suc count) a b small less e =
     let others : bits count (a / 2) ≡ bits count (b / 2) = cc in
     let half : a / 2 ≡ b / 2 = same_bits count (a / 2) (b / 2) (omega (arith, power count)) (omega (arith, power count)) others in
     elim (bit_of a) as (λ _. a ≡ b) [
-      inl h ↦ elim (bit_of b) as (λ _. a ≡ b) [ inl k ↦ omega (arith, half) | inr k ↦ (let clash = rw (h, k) at lowest in cc) ]
-    | inr h ↦ elim (bit_of b) as (λ _. a ≡ b) [ inl k ↦ (let clash = rw (h, k) at lowest in cc) | inr k ↦ omega (arith, half) ]
+      | inl h ↦ elim (bit_of b) as (λ _. a ≡ b) [ inl k ↦ omega (arith, half) | inr k ↦ (let clash = rw (h, k) at lowest in cc) ]
+      | inr h ↦ elim (bit_of b) as (λ _. a ≡ b) [ inl k ↦ (let clash = rw (h, k) at lowest in cc) | inr k ↦ omega (arith, half) ]
     ]
+
+-- the number of the bits
+pub number_of : List Bool → ℕ
+number_of [] = 0
+number_of (true ∷ others) = 1 + 2 * number_of others
+number_of (false ∷ others) = 2 * number_of others
+
+pub number_of-lt : (xs : List Bool) → number_of xs < 2 ^ length xs
+unfolding number_of
+number_of-lt [] = omega arith
+number_of-lt (true ∷ others) = omega (arith, number_of-lt others, power (length others))
+number_of-lt (false ∷ others) = omega (arith, number_of-lt others, power (length others))
+
+pub bits-number_of : (xs : List Bool) → bits (length xs) (number_of xs) ≡ xs
+unfolding number_of bits
+bits-number_of [] = refl
+bits-number_of (true ∷ others) =
+    let low : (1 + 2 * number_of others) % 2 ≡ 1 = omega arith in
+    let half : (1 + 2 * number_of others) / 2 ≡ number_of others = omega arith in
+    rw (low, half, bits-number_of others) refl
+bits-number_of (false ∷ others) =
+    let low : 2 * number_of others % 2 ≡ 0 = omega arith in
+    let half : 2 * number_of others / 2 ≡ number_of others = omega arith in
+    rw (low, half, bits-number_of others) refl

@@ -123,7 +123,7 @@ step b low d r within h = record {
   quotient = b ∷ h.quotient;
   lower = h.lower;
   divided =
-    rw (divided-front b h.quotient low r, ← h.divided, plus-twice (scaled b low) d (omega (arith, length-scaled b low))) refl;
+      rw (divided-front b h.quotient low r, ← h.divided, plus-twice (scaled b low) d (omega (arith, length-scaled b low))) refl;
 }
 
 -- what is left of a sum once the same is taken away from both sides
@@ -152,9 +152,18 @@ one_division (c ∷ q) (d ∷ s) low a b lower also e =
     let inside : length (scaled c low) ≤ length xs = omega (arith, length-scaled c low, length-divided q low a lower) in
     let within : length (scaled c low) ≤ length ys = omega (arith, length-scaled c low, length-divided s low b also) in
     one_division q s low a b lower also
-        (plus-cancel (scaled c low) xs ys inside within (rest ∙ ap (λ x. plus (scaled x low) ys) (sym same)))
+    (plus-cancel (scaled c low) xs ys inside within (rest ∙ ap (λ x. plus (scaled x low) ys) (sym same)))
 
 -- a division has one remainder
 pub one-remainder : (low d r s : List Bool) → IsRemainder (true ∷ low) d r → IsRemainder (true ∷ low) d s → r ≡ s
 one-remainder low d r s h k =
     one_division h.quotient k.quotient low r s (omega (arith, h.lower)) (omega (arith, k.lower)) (sym h.divided ∙ k.divided)
+
+-- there is a remainder
+pub divide : (steps : ℕ) (low d : List Bool) → length d ≡ steps + length low → (r : List Bool) × IsRemainder (true ∷ low) d r
+divide zero low d long = (d, stop low d (omega arith))
+divide (suc steps) low [] long = absurd (omega arith)
+divide (suc steps) low (b ∷ d) long =
+    let within : length low ≤ length d = omega arith in
+    let found = divide steps low (plus (scaled b low) d) (omega (arith, length-scaled b low, length-plus (scaled b low) d (omega (arith, length-scaled b low)))) in
+    (found.0, step b low d found.0 within found.1)

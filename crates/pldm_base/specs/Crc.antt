@@ -1,7 +1,7 @@
 -- The check number of IEEE 802.3.
 use Rattle.std.specs.Prelude.{◌≡◌, ℕ, zero, suc, ◌/◌, ◌%◌, ◌^◌, ◌<◌, ◌==◌, Bool, not, List, [], ◌∷◌, ◌++◌, take, drop, map, reverse}
 use Rattle.std.specs.List.{flat_map}
-use Rattle.pldm_base.specs.Polynomial.{zeros, plus, IsRemainder}
+use Rattle.pldm_base.specs.Polynomial.{zeros, IsRemainder}
 
 -- so many bits of a number, the lowest first
 unfoldable pub bits : ℕ → ℕ → List Bool
@@ -30,11 +30,3 @@ pub record IsCrc32 (bytes : List ℕ) (crc : ℕ) : Type 0 where
   pub divided : IsRemainder divisor (dividend bytes) remainder
   pub small : crc < 2 ^ 32
   pub spelled : bits 32 crc ≡ map not remainder
-
--- what is left to divide: the register's coefficients, added to the front of what follows
-unfoldable pub left : ℕ → List Bool → List Bool
-left register rest = plus (bits 32 register) rest
-
--- a remainder of the second is one of the first
-pub record Leaves (before after : List Bool) : Type 0 where
-  pub remainder : (r : List Bool) → IsRemainder divisor after r → IsRemainder divisor before r

@@ -2,3 +2,4 @@ pub mod Message
 pub mod Parts
 pub mod Polynomial
 pub mod Crc
+pub mod Register

@@ -1,6 +1,7 @@
 //! The check number of a table.
 ghost use Rattle.std.specs.Prelude.{◌≤◌, List, Bool, false, ◌∷◌, ◌++◌, length};
-ghost use Rattle.pldm_base.specs.Crc.{IsCrc32, Leaves, bits, left};
+ghost use Rattle.pldm_base.specs.Crc.{IsCrc32, bits};
+ghost use Rattle.pldm_base.specs.Register.{ReducesTo, loaded};
 
 // The coefficients of the divisor below the highest, with that of the power 31 in bit 0.
 const DIVISOR: u32 = 0xEDB8_8320;
@@ -18,7 +19,7 @@ pub fn crc32(bytes: &[u8]) -> u32
 
 // The register once a byte more is divided.
 fn with_byte(register: u32, byte: u8) -> u32
-    ensures { (rest : List Bool) → 32 ≤ length rest → Leaves (left register (bits 8 byte ++ rest)) (left result rest) }
+    ensures { (rest : List Bool) → 32 ≤ length rest → ReducesTo (loaded register (bits 8 byte ++ rest)) (loaded result rest) }
 {
     let mut next = register ^ u32::from(byte);
     for _ in 0..8u8 {
@@ -30,7 +31,7 @@ fn with_byte(register: u32, byte: u8) -> u32
 // The register once a bit more is divided: the coefficient of the highest power, in bit 0, is taken away, and the
 // divisor with it where it is 1.
 fn with_bit(register: u32) -> u32
-    ensures { (rest : List Bool) → 32 ≤ length rest → Leaves (left register (false ∷ rest)) (left result rest) }
+    ensures { (rest : List Bool) → 32 ≤ length rest → ReducesTo (loaded register (false ∷ rest)) (loaded result rest) }
 {
     if register & 1 == 1 {
         register >> 1 ^ DIVISOR

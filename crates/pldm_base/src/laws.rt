@@ -2,6 +2,7 @@
 ghost use Rattle.std.specs.Prelude.{◌≡◌, ◌==◌, ◌+◌, ◌*◌, ◌<◌, List, ℕ, Some, length, slice_get, nat_lt};
 ghost use Rattle.pldm_base.specs.declared.message.PldmRequest.{PldmRequest};
 ghost use Rattle.pldm_base.specs.declared.message.PldmReply.{PldmReply};
+ghost use Rattle.pldm_base.specs.Crc.{IsCrc32};
 ghost use Rattle.pldm_base.specs.Message.{IsRequest, IsReply};
 ghost use Rattle.pldm_base.specs.Parts.{AreParts, begins_part, is_last, part_bytes};
 
@@ -38,4 +39,14 @@ pub fn parts_stand_at_their_offsets()
         → (k : ℕ) → k < length parts → slice_get parts k ≡ Some (part_bytes table (192 * k)) }
     ensures last { (table : List ℕ) (parts : List (List ℕ)) → AreParts table parts
         → (k : ℕ) → k < length parts → is_last table (192 * k) ≡ (k + 1 == length parts) }
+{}
+
+/// All bytes have a check number.
+pub fn all_bytes_have_a_crc32()
+    ensures { (bytes : List ℕ) → (crc : ℕ) × IsCrc32 bytes crc }
+{}
+
+/// No bytes have two check numbers.
+pub fn one_crc32()
+    ensures { (bytes : List ℕ) (crc check : ℕ) → IsCrc32 bytes crc → IsCrc32 bytes check → crc ≡ check }
 {}

@@ -13,8 +13,8 @@ mod writing;
 pub use crc::crc32;
 pub use fault::{PldmFault, PldmReplyFault};
 pub use laws::{
-    every_table_has_parts, no_request_is_a_reply, one_list_of_parts, one_reply, one_request,
-    parts_stand_at_their_offsets,
+    all_bytes_have_a_crc32, every_table_has_parts, no_request_is_a_reply, one_crc32,
+    one_list_of_parts, one_reply, one_request, parts_stand_at_their_offsets,
 };
 pub use message::{Header, Instance, PldmBytes, PldmReply, PldmRequest, PldmType};
 pub use reading::{read_pldm, read_pldm_reply};

@@ -1,21 +1,23 @@
 use Rattle.std.proofs.Common.{◌≡◌, ◌+◌, ◌++◌, [], get_or, drop, sym, ap, arith, rules}
 use Rattle.std.proofs.lemmas.List.{drop_all}
-use Rattle.pldm_base.specs.Crc.{Leaves, bits, dividend, left, lengthened}
-use Rattle.pldm_base.proofs.Register.{leaves-same, leaves-then, register_starts, register_is, lengthened-drop, length-lengthened}
+use Rattle.pldm_base.specs.Crc.{bits, dividend, lengthened}
+use Rattle.pldm_base.specs.Register.{ReducesTo, loaded}
+use Rattle.pldm_base.proofs.Register.{same_reduces, then_reduces, register_starts, register_is, lengthened-drop, length-lengthened}
 use Rattle.pldm_base.proofs.crc.crc32.Goals as goal
 
 pub loop-byte-init : goal.loop-byte-init
-loop-byte-init c = (omega arith, leaves-same _ _ (register_starts c.args.bytes.now))
+loop-byte-init c = (omega arith, same_reduces _ _ (register_starts c.args.bytes.now))
 
 pub loop-byte-preserved : goal.loop-byte-preserved
 loop-byte-preserved c =
     let behind = lengthened (drop (c.loop-byte.byte-index + 1) c.args.bytes.now) in
-    let front : left c.loop-byte.register (lengthened (drop c.loop-byte.byte-index c.args.bytes.now))
-        ≡ left c.loop-byte.register (bits 8 (get_or c.args.bytes.now c.loop-byte.byte-index 0) ++ behind) =
-      ap (left c.loop-byte.register) (lengthened-drop c.args.bytes.now c.loop-byte.byte-index c.loop-byte-test.true) in
-    (c.with_byte-register.type_inv,
-     leaves-then _ _ _ c.loop-byte.invariant.1
-      (leaves-then _ _ _ (leaves-same _ _ front) (c.with_byte-register.ensures behind (length-lengthened _))))
+    let front : loaded c.loop-byte.register (lengthened (drop c.loop-byte.byte-index c.args.bytes.now))
+    ≡ loaded c.loop-byte.register (bits 8 (get_or c.args.bytes.now c.loop-byte.byte-index 0) ++ behind) =
+    ap (loaded c.loop-byte.register) (lengthened-drop c.args.bytes.now c.loop-byte.byte-index c.loop-byte-test.true) in (
+      c.with_byte-register.type_inv,
+      then_reduces _ _ _ c.loop-byte.invariant.1
+          (then_reduces _ _ _ (same_reduces _ _ front) (c.with_byte-register.ensures behind (length-lengthened _))),
+    )
 
 pub returns : goal.returns
 returns c =
