@@ -1,9 +1,9 @@
 -- Messages as lists.
-use Rattle.std.proofs.Common.{◌≡◌, ℕ, ◌+◌, ◌-◌, ◌*◌, ◌/◌, ◌%◌, ◌<◌, ◌≤◌, List, [], ◌∷◌, length, take, drop, get_or, refl, arith, length-take, length-drop}
+use Rattle.std.proofs.Common.{◌≡◌, ℕ, ◌+◌, ◌-◌, ◌*◌, ◌/◌, ◌%◌, ◌≤◌, List, ◌∷◌, length, take, drop, get_or, refl, arith, length-take, length-drop}
 use Rattle.std.proofs.Math.Seq.{take-length}
 use Rattle.pldm_base.specs.declared.message.PldmRequest.{PldmRequest}
 use Rattle.pldm_base.specs.declared.message.PldmReply.{PldmReply}
-use Rattle.pldm_base.specs.Message.{IsHeader, IsRequest, IsReply}
+use Rattle.pldm_base.specs.Message.{IsRequest, IsReply}
 
 -- a list of three or more is its first three and the rest
 front_three : (bytes : List ℕ) → 3 ≤ length bytes → bytes ≡ get_or bytes 0 0 ∷ get_or bytes 1 0 ∷ get_or bytes 2 0 ∷ take (length bytes - 3) (drop 3 bytes)

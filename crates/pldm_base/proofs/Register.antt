@@ -1,5 +1,5 @@
 -- The division as the register makes it.
-use Rattle.std.proofs.Common.{◌≡◌, ℕ, zero, suc, ◌+◌, ◌-◌, ◌*◌, ◌/◌, ◌%◌, ◌^◌, ◌<◌, ◌≤◌, Bool, true, false, not, eqb, List, [], ◌∷◌, ◌++◌, length, map, take, drop, get_or, replicate, drop-cons, add-one, refl, sym, ◌∙◌, ap, subst, arith, append_assoc, length-append, length-drop}
+use Rattle.std.proofs.Common.{◌≡◌, ℕ, zero, suc, ◌+◌, ◌-◌, ◌/◌, ◌%◌, ◌^◌, ◌<◌, ◌≤◌, Bool, true, false, not, eqb, List, [], ◌∷◌, ◌++◌, length, map, take, drop, get_or, replicate, drop-cons, add-one, refl, sym, ◌∙◌, ap, subst, arith, append_assoc, length-append, length-drop}
 use Rattle.std.proofs.lemmas.List.{length-map, length-take-le}
 use Rattle.std.specs.Int.Bits.{bit_xor}
 use Rattle.std.specs.List.{flat_map}
@@ -7,7 +7,7 @@ use Rattle.pldm_base.specs.Polynomial.{differ, zeros, plus, scaled, IsRemainder}
 use Rattle.pldm_base.specs.Crc.{bits, divisor, front_inverted, lengthened, dividend, IsCrc32}
 use Rattle.pldm_base.specs.Register.{loaded, ReducesTo}
 use Rattle.pldm_base.proofs.Division.{plus-assoc, plus-comm, plus-zeros, plus-longer, plus-append, length-plus, scaled-one, scaled-none, stop, step, divide, one-remainder}
-use Rattle.pldm_base.proofs.Bits.{length-bits, bits-xor, bits-zero, bits-longer, bits-inverted, same_bits, number_of, bits-number_of, number_of-lt}
+use Rattle.pldm_base.proofs.Bits.{length-bits, bits-xor, bits-longer, bits-inverted, same_bits, number_of, bits-number_of, number_of-lt}
 
 -- a register's lowest bit, and those above it
 register-front : (width register : ℕ) (rest : List Bool) → plus (bits (suc width) register) (false ∷ rest) ≡ differ (eqb (register % 2) 1) false ∷ plus (bits width (register / 2)) rest
@@ -150,7 +150,7 @@ register_ends : (register : ℕ) → loaded register (lengthened []) ≡ bits 32
 unfolding loaded lengthened
 register_ends register = plus-comm (bits 32 register) (zeros 32) ∙ plus-zeros 32 (bits 32 register) (omega (arith, length-bits 32 register))
 
--- the register inverted is the check number
+-- the register inverted is the CRC-32
 pub register_is : (bytes : List ℕ) (register : ℕ) → register < 2 ^ 32 → ReducesTo (dividend bytes) (loaded register (lengthened [])) → IsCrc32 bytes (4294967295 - register)
 register_is bytes register small reduces = record {
   remainder = bits 32 register;
@@ -164,7 +164,7 @@ register_is bytes register small reduces = record {
   spelled = bits-inverted 32 register small;
 }
 
--- the bytes have one check number
+-- bytes have one CRC-32
 pub one-crc32 : (bytes : List ℕ) (a b : ℕ) → IsCrc32 bytes a → IsCrc32 bytes b → a ≡ b
 one-crc32 bytes a b h k =
     let first : IsRemainder (true ∷ bits 32 3988292384) (dividend bytes) h.remainder = rw (← divisor-is) h.divided in
@@ -172,18 +172,18 @@ one-crc32 bytes a b h k =
     let same : h.remainder ≡ k.remainder = one-remainder (bits 32 3988292384) (dividend bytes) h.remainder k.remainder first second in
     same_bits 32 a b h.small k.small (h.spelled ∙ ap (map not) same ∙ sym k.spelled)
 
--- the check number of a remainder
+-- the CRC-32 of a remainder
 number_of_remainder : (bytes : List ℕ) (r : List Bool) → IsRemainder (true ∷ bits 32 3988292384) (dividend bytes) r → (crc : ℕ) × IsCrc32 bytes crc
 number_of_remainder bytes r h =
     let long : length (map not r) ≡ 32 = omega (arith, length-map r not, h.lower, length-bits 32 3988292384) in
     let small : number_of (map not r) < 2 ^ 32 =
-      (let S : ℕ → Type 0 = λ n. number_of (map not r) < 2 ^ n in subst S long (number_of-lt (map not r))) in
+    (let S : ℕ → Type 0 = λ n. number_of (map not r) < 2 ^ n in subst S long (number_of-lt (map not r))) in
     let spelled : bits 32 (number_of (map not r)) ≡ map not r =
     (let P : ℕ → Type 0 = λ n. bits n (number_of (map not r)) ≡ map not r in subst P long (bits-number_of (map not r))) in
     let Q : List Bool → Type 0 = λ p. IsRemainder p (dividend bytes) r in
     (number_of (map not r), record { remainder = r; divided = subst Q (sym divisor-is) h; small = small; spelled = spelled })
 
--- and they have one
+-- all bytes have a CRC-32
 pub has_crc32 : (bytes : List ℕ) → (crc : ℕ) × IsCrc32 bytes crc
 has_crc32 bytes =
     let found = divide (length (dividend bytes) - 32) (bits 32 3988292384) (dividend bytes) (omega (arith, length-bits 32 3988292384, length-dividend bytes)) in

@@ -1,4 +1,4 @@
--- The check number of IEEE 802.3.
+-- The CRC-32 of IEEE 802.3.
 use Rattle.std.specs.Prelude.{◌≡◌, ℕ, zero, suc, ◌/◌, ◌%◌, ◌^◌, ◌<◌, ◌==◌, Bool, not, List, [], ◌∷◌, ◌++◌, take, drop, map, reverse}
 use Rattle.std.specs.List.{flat_map}
 use Rattle.pldm_base.specs.Polynomial.{zeros, IsRemainder}
@@ -24,7 +24,7 @@ lengthened bytes = flat_map (bits 8) bytes ++ zeros 32
 unfoldable pub dividend : List ℕ → List Bool
 dividend bytes = front_inverted 32 (lengthened bytes)
 
--- the number is the check number of the bytes: the remainder inverted, its highest power being bit 0
+-- the number is the CRC-32 of the bytes: the remainder inverted, its highest power being bit 0
 pub record IsCrc32 (bytes : List ℕ) (crc : ℕ) : Type 0 where
   pub remainder : List Bool
   pub divided : IsRemainder divisor (dividend bytes) remainder

@@ -1,5 +1,5 @@
 -- Polynomials over the field of two elements, as the lists of their coefficients, that of the highest power first.
-use Rattle.std.specs.Prelude.{◌≡◌, ℕ, zero, suc, ◌-◌, Bool, true, false, not, ◌&&◌, List, [], ◌∷◌, ◌++◌, length, map, replicate}
+use Rattle.std.specs.Prelude.{◌≡◌, ℕ, ◌-◌, Bool, true, false, not, ◌&&◌, List, [], ◌∷◌, ◌++◌, length, map, replicate}
 
 -- the sum of two coefficients: whether they differ
 abbrev pub differ : Bool → Bool → Bool

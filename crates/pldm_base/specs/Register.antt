@@ -1,4 +1,4 @@
--- The division of the check number, as a register of 32 coefficients makes it.
+-- The division of the CRC-32, as a register of 32 coefficients makes it.
 use Rattle.std.specs.Prelude.{ℕ, Bool, List}
 use Rattle.pldm_base.specs.Polynomial.{plus, IsRemainder}
 use Rattle.pldm_base.specs.Crc.{bits, divisor}

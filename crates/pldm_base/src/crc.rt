@@ -1,4 +1,4 @@
-//! The check number of a table.
+//! The CRC-32 of a table.
 ghost use Rattle.std.specs.Prelude.{◌≤◌, List, Bool, false, ◌∷◌, ◌++◌, length};
 ghost use Rattle.pldm_base.specs.Crc.{IsCrc32, bits};
 ghost use Rattle.pldm_base.specs.Register.{ReducesTo, loaded};

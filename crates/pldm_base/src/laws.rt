@@ -41,12 +41,12 @@ pub fn parts_stand_at_their_offsets()
         → (k : ℕ) → k < length parts → is_last table (192 * k) ≡ (k + 1 == length parts) }
 {}
 
-/// All bytes have a check number.
+/// All bytes have a CRC-32.
 pub fn all_bytes_have_a_crc32()
     ensures { (bytes : List ℕ) → (crc : ℕ) × IsCrc32 bytes crc }
 {}
 
-/// No bytes have two check numbers.
+/// No bytes have two.
 pub fn one_crc32()
     ensures { (bytes : List ℕ) (crc check : ℕ) → IsCrc32 bytes crc → IsCrc32 bytes check → crc ≡ check }
 {}

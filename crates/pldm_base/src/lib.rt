@@ -1,4 +1,4 @@
-//! Platform level data model: requests and replies as bytes, tables in parts, and the check number of a table.
+//! Platform level data model: requests and replies as bytes, tables in parts, and their CRC-32.
 #![tactic(auto)]
 
 mod crc;

@@ -1,4 +1,4 @@
-use Rattle.std.proofs.Common.{arith, rules}
+use Rattle.std.proofs.Common.{arith}
 use Rattle.std.proofs.lemmas.Grind.{common_steps}
 use Rattle.pldm_base.proofs.Register.{takes_one, takes_zero}
 use Rattle.pldm_base.proofs.crc.with_bit.Goals as goal

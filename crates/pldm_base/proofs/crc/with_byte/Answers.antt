@@ -1,4 +1,4 @@
-use Rattle.std.proofs.Common.{◌≡◌, ◌+◌, ◌-◌, ◌≤◌, List, Bool, false, ◌∷◌, ◌++◌, length, refl, sym, ◌∙◌, ap, arith, length-append}
+use Rattle.std.proofs.Common.{◌≡◌, ◌+◌, ◌-◌, List, Bool, false, ◌∷◌, ◌++◌, refl, sym, ◌∙◌, ap, arith, length-append}
 use Rattle.std.specs.Int.Bits.{bit_xor}
 use Rattle.pldm_base.specs.Polynomial.{zeros}
 use Rattle.pldm_base.specs.Crc.{bits}
