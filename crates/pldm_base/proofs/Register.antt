@@ -56,18 +56,18 @@ bit_zero width low register rest r small even long h =
     subst P (sym front) (step false g d r within (subst P after h))
 
 -- the divisor's coefficients below the highest, in a register
-divisor-is : divisor ≡ true ∷ bits 32 3988292384
+divisor-is : divisor ≡ true ∷ bits 32 0xEDB88320
 unfolding divisor bits
 divisor-is = refl
 
 pub takes_one : (register : ℕ) → register < 2 ^ 32 → register % 2 ≡ 1 → (rest : List Bool) → 32 ≤ length rest
-    → ReducesTo (loaded register (false ∷ rest)) (loaded (bit_xor (register / 2) 3988292384) rest)
+    → ReducesTo (loaded register (false ∷ rest)) (loaded (bit_xor (register / 2) 0xEDB88320) rest)
 unfolding loaded
 takes_one register small odd rest long = record {
   remainder = λ r h.
       let P : List Bool → Type 0 = λ p. IsRemainder p (loaded register (false ∷ rest)) r in
-      let Q : List Bool → Type 0 = λ p. IsRemainder p (loaded (bit_xor (register / 2) 3988292384) rest) r in
-      subst P (sym divisor-is) (bit_one 31 3988292384 register rest r small odd long (subst Q divisor-is h));
+      let Q : List Bool → Type 0 = λ p. IsRemainder p (loaded (bit_xor (register / 2) 0xEDB88320) rest) r in
+      subst P (sym divisor-is) (bit_one 31 0xEDB88320 register rest r small odd long (subst Q divisor-is h));
 }
 
 pub takes_zero : (register : ℕ) → register < 2 ^ 32 → register % 2 ≡ 0 → (rest : List Bool) → 32 ≤ length rest
@@ -77,7 +77,7 @@ takes_zero register small even rest long = record {
   remainder = λ r h.
       let P : List Bool → Type 0 = λ p. IsRemainder p (loaded register (false ∷ rest)) r in
       let Q : List Bool → Type 0 = λ p. IsRemainder p (loaded (register / 2) rest) r in
-      subst P (sym divisor-is) (bit_zero 31 3988292384 register rest r small even long (subst Q divisor-is h));
+      subst P (sym divisor-is) (bit_zero 31 0xEDB88320 register rest r small even long (subst Q divisor-is h));
 }
 
 pub same_reduces : (d e : List Bool) → d ≡ e → ReducesTo d e
@@ -129,10 +129,10 @@ length-dividend bytes =
     omega (arith, length-lengthened bytes, length-append (map not (take 32 (lengthened bytes))) (drop 32 (lengthened bytes)), length-map (take 32 (lengthened bytes)) not, length-take-le 32 (lengthened bytes) (length-lengthened bytes), length-drop 32 (lengthened bytes))
 
 -- the register holds ones at the start
-pub register_starts : (bytes : List ℕ) → dividend bytes ≡ loaded 4294967295 (lengthened bytes)
+pub register_starts : (bytes : List ℕ) → dividend bytes ≡ loaded 0xFFFFFFFF (lengthened bytes)
 unfolding dividend loaded
 register_starts bytes =
-    let ones : bits 32 4294967295 ≡ replicate 32 true = (unfold bits in refl) in
+    let ones : bits 32 0xFFFFFFFF ≡ replicate 32 true = (unfold bits in refl) in
     front_inverted-is 32 (lengthened bytes) (length-lengthened bytes) ∙ ap (λ (xs : List Bool). plus xs (lengthened bytes)) (sym ones)
 
 lengthened-cons : (byte : ℕ) (bytes : List ℕ) → lengthened (byte ∷ bytes) ≡ bits 8 byte ++ lengthened bytes
@@ -151,14 +151,14 @@ unfolding loaded lengthened
 register_ends register = plus-comm (bits 32 register) (zeros 32) ∙ plus-zeros 32 (bits 32 register) (omega (arith, length-bits 32 register))
 
 -- the register inverted is the CRC-32
-pub register_is : (bytes : List ℕ) (register : ℕ) → register < 2 ^ 32 → ReducesTo (dividend bytes) (loaded register (lengthened [])) → IsCrc32 bytes (4294967295 - register)
+pub register_is : (bytes : List ℕ) (register : ℕ) → register < 2 ^ 32 → ReducesTo (dividend bytes) (loaded register (lengthened [])) → IsCrc32 bytes (0xFFFFFFFF - register)
 register_is bytes register small reduces = record {
   remainder = bits 32 register;
   divided =
       let P : List Bool → Type 0 = λ p. IsRemainder p (bits 32 register) (bits 32 register) in
       let Q : List Bool → Type 0 = λ xs. IsRemainder divisor xs (bits 32 register) in
       let alone : IsRemainder divisor (bits 32 register) (bits 32 register) =
-      subst P (sym divisor-is) (stop (bits 32 3988292384) (bits 32 register) (length-bits 32 register ∙ sym (length-bits 32 3988292384))) in
+      subst P (sym divisor-is) (stop (bits 32 0xEDB88320) (bits 32 register) (length-bits 32 register ∙ sym (length-bits 32 0xEDB88320))) in
       reduces.remainder (bits 32 register) (subst Q (sym (register_ends register)) alone);
   small = omega arith;
   spelled = bits-inverted 32 register small;
@@ -167,15 +167,15 @@ register_is bytes register small reduces = record {
 -- bytes have one CRC-32
 pub one-crc32 : (bytes : List ℕ) (a b : ℕ) → IsCrc32 bytes a → IsCrc32 bytes b → a ≡ b
 one-crc32 bytes a b h k =
-    let first : IsRemainder (true ∷ bits 32 3988292384) (dividend bytes) h.remainder = rw (← divisor-is) h.divided in
-    let second : IsRemainder (true ∷ bits 32 3988292384) (dividend bytes) k.remainder = rw (← divisor-is) k.divided in
-    let same : h.remainder ≡ k.remainder = one-remainder (bits 32 3988292384) (dividend bytes) h.remainder k.remainder first second in
+    let first : IsRemainder (true ∷ bits 32 0xEDB88320) (dividend bytes) h.remainder = rw (← divisor-is) h.divided in
+    let second : IsRemainder (true ∷ bits 32 0xEDB88320) (dividend bytes) k.remainder = rw (← divisor-is) k.divided in
+    let same : h.remainder ≡ k.remainder = one-remainder (bits 32 0xEDB88320) (dividend bytes) h.remainder k.remainder first second in
     same_bits 32 a b h.small k.small (h.spelled ∙ ap (map not) same ∙ sym k.spelled)
 
 -- the CRC-32 of a remainder
-number_of_remainder : (bytes : List ℕ) (r : List Bool) → IsRemainder (true ∷ bits 32 3988292384) (dividend bytes) r → (crc : ℕ) × IsCrc32 bytes crc
+number_of_remainder : (bytes : List ℕ) (r : List Bool) → IsRemainder (true ∷ bits 32 0xEDB88320) (dividend bytes) r → (crc : ℕ) × IsCrc32 bytes crc
 number_of_remainder bytes r h =
-    let long : length (map not r) ≡ 32 = omega (arith, length-map r not, h.lower, length-bits 32 3988292384) in
+    let long : length (map not r) ≡ 32 = omega (arith, length-map r not, h.lower, length-bits 32 0xEDB88320) in
     let small : number_of (map not r) < 2 ^ 32 =
     (let S : ℕ → Type 0 = λ n. number_of (map not r) < 2 ^ n in subst S long (number_of-lt (map not r))) in
     let spelled : bits 32 (number_of (map not r)) ≡ map not r =
@@ -186,5 +186,5 @@ number_of_remainder bytes r h =
 -- all bytes have a CRC-32
 pub has_crc32 : (bytes : List ℕ) → (crc : ℕ) × IsCrc32 bytes crc
 has_crc32 bytes =
-    let found = divide (length (dividend bytes) - 32) (bits 32 3988292384) (dividend bytes) (omega (arith, length-bits 32 3988292384, length-dividend bytes)) in
+    let found = divide (length (dividend bytes) - 32) (bits 32 0xEDB88320) (dividend bytes) (omega (arith, length-bits 32 0xEDB88320, length-dividend bytes)) in
     number_of_remainder bytes found.0 found.1

@@ -28,7 +28,8 @@ pub fn every_table_has_parts()
 
 /// A table has no two lists of parts.
 pub fn one_list_of_parts()
-    ensures { (table : List ℕ) (parts pieces : List (List ℕ)) → AreParts table parts → AreParts table pieces → parts ≡ pieces }
+    ensures { (table : List ℕ) (parts pieces : List (List ℕ)) → AreParts table parts → AreParts table pieces
+        → parts ≡ pieces }
 {}
 
 /// The parts of a table stand at the multiples of 192: each begins there, with its bytes, and the last is the last.
@@ -46,7 +47,7 @@ pub fn all_bytes_have_a_crc32()
     ensures { (bytes : List ℕ) → (crc : ℕ) × IsCrc32 bytes crc }
 {}
 
-/// No bytes have two.
+/// No bytes have two of them.
 pub fn one_crc32()
     ensures { (bytes : List ℕ) (crc check : ℕ) → IsCrc32 bytes crc → IsCrc32 bytes check → crc ≡ check }
 {}

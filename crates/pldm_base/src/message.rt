@@ -22,17 +22,19 @@ pub type PldmBytes = Bytes<255>;
 pub struct Header {
     pub instance: Instance,
     pub pldm_type: PldmType,
+    /// The command among those of its type.
     pub command: u8,
 }
 
-/// A request: bit 7 is set, bit 6 is clear, and the body follows the header.
+/// A request: bit 7 is set, bit 6 is clear, and the command's data follows the header.
 #[derive(Debug, PartialEq, Eq, Drop)]
 pub struct PldmRequest {
     pub header: Header,
     pub body: Bytes<252>,
 }
 
-/// A reply: bits 7 and 6 are clear, and the completion code, which is 00h for success, and the body follow the header.
+/// A reply: bits 7 and 6 are clear, and the completion code, which is 00h for success, and the data follow the header.
+/// It has the header of its request.
 #[derive(Debug, PartialEq, Eq, Drop)]
 pub struct PldmReply {
     pub header: Header,

@@ -10,7 +10,7 @@ pub const GET_NEXT_PART: u8 = 0x00;
 /// The transfer operation that asks for the first part.
 pub const GET_FIRST_PART: u8 = 0x01;
 
-/// Where a part stands among the parts of its table.
+/// Where a part stands among the parts of its table, the transfer flag of DSP0240.
 #[derive(Clone, Copy, Debug, PartialEq, Eq)]
 pub enum TransferFlag {
     Start = 0x01,
@@ -36,5 +36,6 @@ pub struct Part<'a> {
     /// The handle of the part behind this one, or 0 where this is the last.
     pub next: u32,
     pub flag: TransferFlag,
+    /// At most 192 bytes of the table.
     pub bytes: &'a [u8],
 }

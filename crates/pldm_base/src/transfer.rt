@@ -1,18 +1,21 @@
 //! The part of a table that a request asks for.
-ghost use Rattle.std.specs.Prelude.{◌≡◌, ◌^◌, ◌<◌, ◌≤◌, ◌↔◌, ◌&&◌, length, nat_lt, IsTrue, MatchOption, IsOkAnd};
+ghost use Rattle.std.specs.Prelude.{◌≡◌, ◌^◌, ◌≤◌, ◌&&◌, length, nat_lt, MatchOption, IsOkAnd};
 ghost use Rattle.pldm_base.specs.Parts.{asked_offset, begins_part, flag_of, invalid_data, IsPart};
 
 use crate::{GET_FIRST_PART, GET_NEXT_PART, PART_LENGTH, Part, TransferFlag};
 use two_wire::Code;
 use two_wire::code::PLDM_INVALID_DATA;
 
-// Handles have 32 bits, so a longer table has parts that none names.
+// A table may not be longer, since handles have 32 bits.
 const LONGEST_TABLE: usize = 1 << 32;
 
-/// The part of the table that a request asks for by its transfer operation and its transfer handle. The handle of a
-/// part is its offset. An empty table has one part, which is empty.
+/// The part of the table that a request asks for by its transfer operation and its transfer handle, as in GetBIOSTable
+/// of DSP0247. The handle of a part is its offset. An empty table has one part, which is empty. Of a table that is
+/// longer than handles reach, 4,294,967,296 bytes, no part is given.
 pub fn part(table: &[u8], operation: u8, handle: u32) -> Result<Part<'_>, Code>
-    ensures { MatchOption (asked_offset table.now operation handle) (result ≡ Err invalid_data) (λ offset. IsOkAnd result (IsPart table.now offset)) }
+    ensures { MatchOption (asked_offset table.now operation handle)
+        (result ≡ Err invalid_data)
+        (λ offset. IsOkAnd result (IsPart table.now offset)) }
 {
     if table.len() > LONGEST_TABLE {
         return Err(PLDM_INVALID_DATA);
@@ -32,6 +35,7 @@ fn is_later_part(table: &[u8], handle: u32) -> bool
     offset > 0 && offset % PART_LENGTH == 0 && offset < table.len()
 }
 
+// The part at an offset.
 fn part_at(table: &[u8], offset: u32) -> Part<'_>
     requires within { offset ≤ length table.now }
     requires named { length table.now ≤ 2 ^ 32 }
@@ -55,6 +59,7 @@ fn part_at(table: &[u8], offset: u32) -> Part<'_>
     }
 }
 
+// The flag of a part.
 fn flag_of_part(is_first: bool, is_last: bool) -> TransferFlag
     ensures { result ≡ flag_of is_first is_last }
 {
