@@ -11,8 +11,8 @@ use two_wire::code::PLDM_INVALID_DATA;
 // GetTID, a command of messaging control, as request 0.
 const GET_TID: [u8; 3] = [0x80, 0x00, 0x02];
 
-// Its reply: code 00h, terminus 1.
-const TID_IS_1: [u8; 5] = [0x00, 0x00, 0x02, 0x00, 0x01];
+// Its reply: code 00h, terminus 5.
+const TID_IS_5: [u8; 5] = [0x00, 0x00, 0x02, 0x00, 0x05];
 
 fn fault_of(message: &[u8; 4]) -> Option<PldmFault> {
     read_pldm(&PldmBytes::from_slice(message)).err()
@@ -50,10 +50,10 @@ fn a_reply_is_written_and_read(rt: HostRuntime) -> Result<(), Fail> {
     let reply = PldmReply {
         header,
         code: 0x00,
-        body: Bytes::from_slice(&[0x01]),
+        body: Bytes::from_slice(&[0x05]),
     };
     let bytes = write_pldm_reply(&reply);
-    assert_eq!(rt; bytes.as_slice(), TID_IS_1.as_slice());
+    assert_eq!(rt; bytes.as_slice(), TID_IS_5.as_slice());
     let read = read_pldm_reply(&bytes).ok().ok_or("no reply")?;
     assert!(rt; read == reply);
     Ok(())
