@@ -40,6 +40,9 @@ pub const NOT_PRESENT: Code = Code { value: 0xCB };
 /// IPMI: a field of the data isn't valid.
 pub const INVALID_DATA_FIELD: Code = Code { value: 0xCC };
 
+/// PLDM: the data isn't valid.
+pub const PLDM_INVALID_DATA: Code = Code { value: 0x02 };
+
 /// PLDM: the controller isn't ready for the request now.
 pub const PLDM_NOT_READY: Code = Code { value: 0x04 };
 

@@ -1,0 +1,5 @@
+pub mod Messages
+pub mod Tables
+pub mod Division
+pub mod Bits
+pub mod Register

@@ -1,0 +1,5 @@
+pub mod Message
+pub mod Parts
+pub mod Polynomial
+pub mod Crc
+pub mod Register

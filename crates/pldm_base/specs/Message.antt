@@ -1,0 +1,60 @@
+-- Requests and replies as bytes.
+use Rattle.std.specs.Prelude.{◌≡◌, ℕ, ◌+◌, ◌*◌, ◌/◌, ◌<◌, ◌≤◌, List, [], ◌∷◌, length, slice_index, Bool, nat_lt, ◌==◌, not}
+use Rattle.pldm_base.specs.declared.message.Header.{Header}
+use Rattle.pldm_base.specs.declared.message.PldmRequest.{PldmRequest}
+use Rattle.pldm_base.specs.declared.message.PldmReply.{PldmReply}
+use Rattle.pldm_base.specs.declared.fault.PldmFault.{PldmFault}
+use Rattle.pldm_base.specs.declared.fault.PldmFault.TheVariants as fault
+use Rattle.pldm_base.specs.declared.fault.PldmReplyFault.{PldmReplyFault}
+use Rattle.pldm_base.specs.declared.fault.PldmReplyFault.TheVariants as reply_fault
+
+-- the fields of less than a byte are in their ranges
+pub record IsHeader (h : Header) : Type 0 where
+  pub instance : h.instance < 32
+  pub pldm_type : h.pldm_type < 64
+
+-- a header and what follows it, by the request bit and the bit that is ignored, with the datagram bit and the version clear
+abbrev pub message : ℕ → ℕ → Header → List ℕ → List ℕ
+message request ignored h rest = (128 * request + 32 * ignored + h.instance) ∷ h.pldm_type ∷ h.command ∷ rest
+
+-- the bytes are the request, with this ignored bit
+pub record SpellsRequest (ignored : ℕ) (r : PldmRequest) (bytes : List ℕ) : Type 0 where
+  pub bit : ignored < 2
+  pub header : IsHeader r.header
+  pub fits : length r.body ≤ 252
+  pub spelled : bytes ≡ message 1 ignored r.header r.body
+
+-- the bytes are the reply, with this ignored bit
+pub record SpellsReply (ignored : ℕ) (r : PldmReply) (bytes : List ℕ) : Type 0 where
+  pub bit : ignored < 2
+  pub header : IsHeader r.header
+  pub fits : length r.body ≤ 251
+  pub spelled : bytes ≡ message 0 ignored r.header (r.code ∷ r.body)
+
+-- the bytes are the request, whatever the ignored bit is
+abbrev pub IsRequest : PldmRequest → List ℕ → Type 0
+IsRequest r bytes = (ignored : ℕ) × SpellsRequest ignored r bytes
+
+-- the bytes are the reply, whatever the ignored bit is
+abbrev pub IsReply : PldmReply → List ℕ → Type 0
+IsReply r bytes = (ignored : ℕ) × SpellsReply ignored r bytes
+
+-- the bytes have the fault: under 3 bytes, a version other than 00b, or request and datagram bit other than 10b
+abbrev pub has_fault : List ℕ → PldmFault → Bool
+has_fault bytes fault.Short = nat_lt (length bytes) 3
+has_fault bytes fault.Version = not (slice_index bytes 1 / 64 == 0)
+has_fault bytes fault.NotRequest = not (slice_index bytes 0 / 64 == 2)
+
+-- the faults of a request in their order
+abbrev pub faults : List PldmFault
+faults = fault.Short ∷ fault.Version ∷ fault.NotRequest ∷ []
+
+-- the bytes have the fault: under 4 bytes, a version other than 00b, or request and datagram bit other than 00b
+abbrev pub has_reply_fault : List ℕ → PldmReplyFault → Bool
+has_reply_fault bytes reply_fault.Short = nat_lt (length bytes) 4
+has_reply_fault bytes reply_fault.Version = not (slice_index bytes 1 / 64 == 0)
+has_reply_fault bytes reply_fault.NotReply = not (slice_index bytes 0 / 64 == 0)
+
+-- the faults of a reply in their order
+abbrev pub reply_faults : List PldmReplyFault
+reply_faults = reply_fault.Short ∷ reply_fault.Version ∷ reply_fault.NotReply ∷ []

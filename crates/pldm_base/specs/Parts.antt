@@ -1,0 +1,70 @@
+-- Tables in parts.
+use Rattle.std.specs.Prelude.{◌≡◌, ℕ, ◌+◌, ◌%◌, ◌^◌, ◌<◌, ◌≤◌, ◌||◌, ◌&&◌, ◌==◌, nat_lt, nat_le, List, [], ◌∷◌, length, take, drop, Bool, true, false, Option, Some, None, if◌then◌else◌}
+use Rattle.std.specs.List.{concat}
+use Rattle.pldm_base.specs.declared.table.Part.{Part}
+use Rattle.pldm_base.specs.declared.table.TransferFlag.{TransferFlag}
+use Rattle.pldm_base.specs.declared.table.TransferFlag.TheVariants.{Start, Middle, End, StartAndEnd}
+
+-- how many bytes each part but the last has
+abbrev pub part_length : ℕ
+part_length = 192
+
+-- each part but the last has 192 bytes, the last has at most as many, and only a part that is alone may be empty
+abbrev pub AreSizes : List (List ℕ) → Type 0
+AreSizes [] = ⊥
+AreSizes (last ∷ []) = length last ≤ part_length
+AreSizes (part ∷ next ∷ others) = (length part ≡ part_length) × (0 < length next) × AreSizes (next ∷ others)
+
+-- the parts of a table: put together they are the table
+pub record AreParts (table : List ℕ) (parts : List (List ℕ)) : Type 0 where
+  pub sizes : AreSizes parts
+  pub together : concat parts ≡ table
+
+-- a part begins at the offset: the first, or one at a multiple of 192 within the table
+abbrev pub begins_part : List ℕ → ℕ → Bool
+begins_part table offset = offset == 0 || (offset % part_length == 0 && nat_lt offset (length table))
+
+-- the bytes of the part at an offset: 192, or the rest
+abbrev pub part_bytes : List ℕ → ℕ → List ℕ
+part_bytes table offset = take part_length (drop offset table)
+
+-- whether the part at an offset is the last
+abbrev pub is_last : List ℕ → ℕ → Bool
+is_last table offset = nat_le (length table) (offset + part_length)
+
+-- the offset of the part behind the one at an offset, or 0
+abbrev pub next_handle : List ℕ → ℕ → ℕ
+next_handle table offset = if is_last table offset then 0 else (offset + part_length)
+
+-- the flag of a part, by whether it is the first and whether it is the last
+abbrev pub flag_of : Bool → Bool → TransferFlag
+flag_of true false = Start
+flag_of false false = Middle
+flag_of false true = End
+flag_of true true = StartAndEnd
+
+-- the byte of a flag
+abbrev pub flag_byte : TransferFlag → ℕ
+flag_byte Start = 1
+flag_byte Middle = 2
+flag_byte End = 4
+flag_byte StartAndEnd = 5
+
+-- the part of a table at an offset
+pub record IsPart (table : List ℕ) (offset : ℕ) (p : Part) : Type 0 where
+  pub bytes : p.bytes.now ≡ part_bytes table offset
+  pub next : p.next ≡ next_handle table offset
+  pub flag : p.flag ≡ flag_of (offset == 0) (is_last table offset)
+
+-- the completion code of data that isn't valid
+abbrev pub invalid_data : ℕ
+invalid_data = 2
+
+-- the offset of the part that a request asks for: operation 1 asks for the first, 0 for a later one by its handle; no
+-- part of a table of over 2^32 bytes is asked for, since handles have 32 bits
+abbrev pub asked_offset : List ℕ → ℕ → ℕ → Option ℕ
+asked_offset table operation handle =
+    if nat_lt (2 ^ 32) (length table) then None
+    else (if operation == 1 then Some 0
+    else (if operation == 0 && (nat_lt 0 handle && begins_part table handle) then Some handle
+    else None))

@@ -1,0 +1,32 @@
+-- Polynomials over the field of two elements, as the lists of their coefficients, that of the highest power first.
+use Rattle.std.specs.Prelude.{◌≡◌, ℕ, ◌-◌, Bool, true, false, not, ◌&&◌, List, [], ◌∷◌, ◌++◌, length, map, replicate}
+
+-- the sum of two coefficients: whether they differ
+abbrev pub differ : Bool → Bool → Bool
+differ true b = not b
+differ false b = b
+
+-- so many coefficients 0
+abbrev pub zeros : ℕ → List Bool
+zeros n = replicate n false
+
+-- the sum of two lists, place by place from the front; where one has ended it is the other
+unfoldable pub plus : List Bool → List Bool → List Bool
+plus [] ys = ys
+plus (x ∷ xs) [] = x ∷ xs
+plus (x ∷ xs) (y ∷ ys) = differ x y ∷ plus xs ys
+
+-- a polynomial times a coefficient
+unfoldable pub scaled : Bool → List Bool → List Bool
+scaled b p = map (λ x. b && x) p
+
+-- the product of two polynomials, by the coefficients of the first
+unfoldable pub product : List Bool → List Bool → List Bool
+product [] p = zeros (length p - 1)
+product (b ∷ others) p = plus (scaled b p) (false ∷ product others p)
+
+-- the remainder of a division: the dividend is a quotient times the divisor, plus the remainder, which is of a lower degree than the divisor
+pub record IsRemainder (divisor dividend remainder : List Bool) : Type 0 where
+  pub quotient : List Bool
+  pub lower : length remainder ≡ length divisor - 1
+  pub divided : dividend ≡ plus (product quotient divisor) (zeros (length quotient) ++ remainder)

@@ -1,0 +1,26 @@
+//! Platform level data model: requests and replies as bytes, tables in parts, and their CRC-32.
+#![tactic(auto)]
+
+mod crc;
+mod fault;
+mod laws;
+mod message;
+mod reading;
+mod table;
+mod transfer;
+mod writing;
+
+pub use crc::crc32;
+pub use fault::{PldmFault, PldmReplyFault};
+pub use laws::{
+    all_bytes_have_a_crc32, every_table_has_parts, no_request_is_a_reply, one_crc32,
+    one_list_of_parts, one_reply, one_request, parts_stand_at_their_offsets,
+};
+pub use message::{Header, Instance, PldmBytes, PldmReply, PldmRequest, PldmType};
+pub use reading::{read_pldm, read_pldm_reply};
+pub use table::{GET_FIRST_PART, GET_NEXT_PART, PART_LENGTH, Part, TransferFlag};
+pub use transfer::part;
+pub use writing::{write_pldm, write_pldm_reply};
+
+#[cfg(test)]
+mod tests;

@@ -1,0 +1,43 @@
+//! Requests and replies.
+use two_wire::{Below, Bytes};
+
+/// The number that a requester gives to a request, and that its reply has.
+pub type Instance = Below<32>;
+
+/// The type that a command belongs to, as 0 for messaging control or 3 for BIOS control.
+pub type PldmType = Below<64>;
+
+/// The bytes of a message behind the type byte of MCTP. With that byte a message has at most 256.
+pub type PldmBytes = Bytes<255>;
+
+/// What a request and its reply have in common, the header of DSP0240:
+///
+/// ```text
+/// bit      7       6        5       4   3   2   1   0
+/// byte 0   request datagram ignored instance
+/// byte 1   version (00b)    type
+/// byte 2   command
+/// ```
+#[derive(Clone, Copy, Debug, PartialEq, Eq)]
+pub struct Header {
+    pub instance: Instance,
+    pub pldm_type: PldmType,
+    /// The command among those of its type.
+    pub command: u8,
+}
+
+/// A request: bit 7 is set, bit 6 is clear, and the command's data follows the header.
+#[derive(Debug, PartialEq, Eq, Drop)]
+pub struct PldmRequest {
+    pub header: Header,
+    pub body: Bytes<252>,
+}
+
+/// A reply: bits 7 and 6 are clear, and the completion code, which is 00h for success, and the data follow the header.
+/// It has the header of its request.
+#[derive(Debug, PartialEq, Eq, Drop)]
+pub struct PldmReply {
+    pub header: Header,
+    pub code: u8,
+    pub body: Bytes<251>,
+}

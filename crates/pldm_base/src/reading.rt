@@ -1,0 +1,80 @@
+//! Bytes to messages.
+ghost use Rattle.std.specs.Prelude.{◌≡◌, IfOk, find};
+ghost use Rattle.std.specs.Result.{result_err};
+ghost use Rattle.pldm_base.specs.declared.message.PldmRequest.{PldmRequest as Request};
+ghost use Rattle.pldm_base.specs.declared.message.PldmReply.{PldmReply as Reply};
+ghost use Rattle.pldm_base.specs.Message.{IsRequest, IsReply, has_fault, faults, has_reply_fault, reply_faults};
+
+use crate::{
+    Header, Instance, PldmBytes, PldmFault, PldmReply, PldmReplyFault, PldmRequest, PldmType,
+};
+use two_wire::Bytes;
+
+/// The request that the bytes are.
+pub fn read_pldm(bytes: &PldmBytes) -> Result<PldmRequest, PldmFault>
+    // An error is the first fault that the bytes have, in the order of the faults.
+    ensures fault { result_err result ≡ find (has_fault bytes.now) faults }
+    // What is read is what the bytes are.
+    ensures read { IfOk result (λ r. IsRequest r bytes.now) }
+    // A request's bytes are read as that request.
+    ensures whole { (r : Request) → IsRequest r bytes.now → result ≡ Ok r }
+{
+    parse_request(bytes)
+}
+
+/// The reply that the bytes are.
+pub fn read_pldm_reply(bytes: &PldmBytes) -> Result<PldmReply, PldmReplyFault>
+    // An error is the first fault that the bytes have, in the order of the faults.
+    ensures fault { result_err result ≡ find (has_reply_fault bytes.now) reply_faults }
+    // What is read is what the bytes are.
+    ensures read { IfOk result (λ r. IsReply r bytes.now) }
+    // A reply's bytes are read as that reply.
+    ensures whole { (r : Reply) → IsReply r bytes.now → result ≡ Ok r }
+{
+    parse_reply(bytes)
+}
+
+fn parse_request(bytes: &PldmBytes) -> Result<PldmRequest, PldmFault>
+    ensures fault { result_err result ≡ find (has_fault bytes.now) faults }
+    ensures read { IfOk result (λ r. IsRequest r bytes.now) }
+{
+    let [first, second, command, body @ ..] = bytes.as_slice() else {
+        return Err(PldmFault::Short);
+    };
+    if *second >> 6 != 0 {
+        return Err(PldmFault::Version);
+    }
+    if *first >> 6 != 2 {
+        return Err(PldmFault::NotRequest);
+    }
+    let header = Header {
+        instance: Instance::new(*first & 31),
+        pldm_type: PldmType::new(*second),
+        command: *command,
+    };
+    let body = Bytes::from_slice(body);
+    Ok(PldmRequest { header, body })
+}
+
+fn parse_reply(bytes: &PldmBytes) -> Result<PldmReply, PldmReplyFault>
+    ensures fault { result_err result ≡ find (has_reply_fault bytes.now) reply_faults }
+    ensures read { IfOk result (λ r. IsReply r bytes.now) }
+{
+    let [first, second, command, code, body @ ..] = bytes.as_slice() else {
+        return Err(PldmReplyFault::Short);
+    };
+    if *second >> 6 != 0 {
+        return Err(PldmReplyFault::Version);
+    }
+    if *first >> 6 != 0 {
+        return Err(PldmReplyFault::NotReply);
+    }
+    let header = Header {
+        instance: Instance::new(*first & 31),
+        pldm_type: PldmType::new(*second),
+        command: *command,
+    };
+    let code = *code;
+    let body = Bytes::from_slice(body);
+    Ok(PldmReply { header, code, body })
+}
