@@ -1,0 +1,37 @@
+-- Completion codes, by the words of their standards: IPMI 2.0, section 5.2, and DSP0240.
+use Rattle.std.specs.Prelude.{ℕ}
+
+-- the request was carried out
+abbrev pub success : ℕ
+success = 0x00
+
+-- ---- IPMI
+
+abbrev pub node_busy : ℕ
+node_busy = 0xC0
+
+abbrev pub invalid_command : ℕ
+invalid_command = 0xC1
+
+abbrev pub invalid_for_lun : ℕ
+invalid_for_lun = 0xC2
+
+abbrev pub invalid_length : ℕ
+invalid_length = 0xC7
+
+abbrev pub not_present : ℕ
+not_present = 0xCB
+
+abbrev pub invalid_data_field : ℕ
+invalid_data_field = 0xCC
+
+-- ---- PLDM
+
+abbrev pub pldm_not_ready : ℕ
+pldm_not_ready = 0x04
+
+abbrev pub pldm_unsupported_command : ℕ
+pldm_unsupported_command = 0x05
+
+abbrev pub pldm_invalid_type : ℕ
+pldm_invalid_type = 0x20
