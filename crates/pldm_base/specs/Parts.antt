@@ -56,10 +56,6 @@ pub record IsPart (table : List ℕ) (offset : ℕ) (p : Part) : Type 0 where
   pub next : p.next ≡ next_handle table offset
   pub flag : p.flag ≡ flag_of (offset == 0) (is_last table offset)
 
--- the completion code of data that isn't valid
-abbrev pub invalid_data : ℕ
-invalid_data = 2
-
 -- the offset of the part that a request asks for: operation 1 asks for the first, 0 for a later one by its handle; no
 -- part of a table of over 2^32 bytes is asked for, since handles have 32 bits
 abbrev pub asked_offset : List ℕ → ℕ → ℕ → Option ℕ

@@ -1,6 +1,7 @@
 //! The part of a table that a request asks for.
 ghost use Rattle.std.specs.Prelude.{◌≡◌, ◌^◌, ◌≤◌, ◌&&◌, length, nat_lt, MatchOption, IsOkAnd};
-ghost use Rattle.pldm_base.specs.Parts.{asked_offset, begins_part, flag_of, invalid_data, IsPart};
+ghost use Rattle.two_wire.specs.Codes.{pldm_invalid_data};
+ghost use Rattle.pldm_base.specs.Parts.{asked_offset, begins_part, flag_of, IsPart};
 
 use crate::{GET_FIRST_PART, GET_NEXT_PART, PART_LENGTH, Part, TransferFlag};
 use two_wire::Code;
@@ -14,7 +15,7 @@ const LONGEST_TABLE: usize = 1 << 32;
 /// longer than handles reach, 4,294,967,296 bytes, no part is given.
 pub fn part(table: &[u8], operation: u8, handle: u32) -> Result<Part<'_>, Code>
     ensures { MatchOption (asked_offset table.now operation handle)
-        (result ≡ Err invalid_data)
+        (result ≡ Err pldm_invalid_data)
         (λ offset. IsOkAnd result (IsPart table.now offset)) }
 {
     if table.len() > LONGEST_TABLE {

@@ -27,6 +27,9 @@ invalid_data_field = 0xCC
 
 -- ---- PLDM
 
+abbrev pub pldm_invalid_data : ℕ
+pldm_invalid_data = 0x02
+
 abbrev pub pldm_not_ready : ℕ
 pldm_not_ready = 0x04
 
