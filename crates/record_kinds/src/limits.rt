@@ -1,0 +1,128 @@
+//! The limits of a record, of whichever kind.
+use cfg_records::{Asked, Key, Live, Op, RecordData, RecordKind, Value};
+use sensor_recs::{HysteresisLimits, ThresholdLimits};
+use two_wire::Code;
+
+/// The limits of one record.
+#[derive(Clone, Copy, Debug, PartialEq, Eq)]
+pub enum Limits {
+    Thresholds(ThresholdLimits),
+    Hysteresis(HysteresisLimits),
+}
+
+impl RecordKind for Limits {
+    ghost use Rattle.record_kinds.specs.Limits as l;
+    ghost use Rattle.record_kinds.specs.LimitsLaws as laws;
+
+    ghost is_key = { l.is_key };
+
+    ghost is_of = { l.is_of };
+
+    ghost valid = { l.valid };
+
+    ghost sets = { l.sets };
+
+    ghost outcome = { l.outcome };
+
+    ghost set_view = { l.set_view };
+
+    ghost live_after = { l.live_after };
+
+    ghost view = { l.view };
+
+    ghost conf = { l.conf };
+
+    ghost get_request = { l.get_request };
+
+    ghost set_body = { l.set_body };
+
+    ghost set_request = { l.set_request };
+
+    ghost is_reply = { l.is_reply };
+
+    ghost restorable = { l.restorable };
+
+    ghost undo = { l.undo };
+
+    fn apply(&self, op: &Op, value: &Value) -> Result<Value, Code> {
+        match self {
+            Limits::Thresholds(limits) => limits.apply(op, value),
+            Limits::Hysteresis(limits) => limits.apply(op, value),
+        }
+    }
+
+    fn set_reply(op: &Op) -> RecordData {
+        match op {
+            Op::Thresholds(_) => ThresholdLimits::set_reply(op),
+            Op::Hysteresis(_) => HysteresisLimits::set_reply(op),
+        }
+    }
+
+    fn next_live(op: &Op, live: &Live) -> Live {
+        match op {
+            Op::Thresholds(_) => ThresholdLimits::next_live(op, live),
+            Op::Hysteresis(_) => HysteresisLimits::next_live(op, live),
+        }
+    }
+
+    fn get_data(&self, value: &Value, live: &Live) -> RecordData {
+        match self {
+            Limits::Thresholds(limits) => limits.get_data(value, live),
+            Limits::Hysteresis(limits) => limits.get_data(value, live),
+        }
+    }
+
+    fn get_asked(key: &Key) -> Asked {
+        match key {
+            Key::Thresholds(_) => ThresholdLimits::get_asked(key),
+            Key::Hysteresis(_) => HysteresisLimits::get_asked(key),
+        }
+    }
+
+    fn set_data(op: &Op) -> RecordData {
+        match op {
+            Op::Thresholds(_) => ThresholdLimits::set_data(op),
+            Op::Hysteresis(_) => HysteresisLimits::set_data(op),
+        }
+    }
+
+    fn set_asked(op: &Op) -> Asked {
+        match op {
+            Op::Thresholds(_) => ThresholdLimits::set_asked(op),
+            Op::Hysteresis(_) => HysteresisLimits::set_asked(op),
+        }
+    }
+
+    fn inverse(op: &Op, get_data: &[u8]) -> Option<Op> {
+        match op {
+            Op::Thresholds(_) => ThresholdLimits::inverse(op, get_data),
+            Op::Hysteresis(_) => HysteresisLimits::inverse(op, get_data),
+        }
+    }
+
+    ghost of_kind = { laws.of_kind };
+
+    ghost taken = { laws.taken };
+
+    ghost decides = { laws.decides };
+
+    ghost refuses = { laws.refuses };
+
+    ghost determined = { laws.determined };
+
+    ghost keeps = { laws.keeps };
+
+    ghost fits = { laws.fits };
+
+    ghost replies = { laws.replies };
+
+    ghost steady = { laws.steady };
+
+    ghost get_short = { laws.get_short };
+
+    ghost set_short = { laws.set_short };
+
+    ghost same_record = { laws.same_record };
+
+    ghost undoes = { laws.undoes };
+}

@@ -1,0 +1,6 @@
+pub mod Requests
+pub mod Refusals
+pub mod Thresholds
+pub mod ThresholdsLaws
+pub mod Hysteresis
+pub mod HysteresisLaws

@@ -1,0 +1,94 @@
+//! Thresholds and hysteresis.
+ghost use Rattle.cfg_records.specs.Keys.{key_of};
+
+use crate::{HysteresisLimits, ThresholdLimits};
+use cfg_records::{
+    Hysteresis, Live, Op, RecordData, RecordKind, Sensor, SetHysteresis, SetThresholds,
+    ThresholdMasks, Value,
+};
+use std::test::Fail;
+use two_wire::code::INVALID_DATA_FIELD;
+
+/// The Get reply of a fan sensor, of which the upper thresholds but the highest can be read.
+const FAN_REPLY: [u8; 7] = [0x18, 0, 0, 0, 0x90, 0xA0, 0];
+
+/// A temperature sensor, all of whose thresholds can be read and set.
+fn temperature() -> Option<Sensor> {
+    let masks = ThresholdMasks::new(0x3F, 0x3F)?;
+    let hysteresis = Hysteresis {
+        positive: 2,
+        negative: 2,
+    };
+    Sensor::new(5, masks, [0x14, 0x0A, 0x05, 0x50, 0x5F, 0x6E], hysteresis)
+}
+
+/// The data of the Set request that undoes the operation from the Get reply.
+fn undo_data<K: RecordKind>(op: &Op, reply: &[u8]) -> Option<RecordData>
+    requires { K.is_key (key_of op.now) }
+{
+    let undo = K::inverse(op, reply)?;
+    Some(K::set_data(&undo))
+}
+
+#[test]
+fn a_threshold_that_is_not_read_is_not_undone(rt: HostRuntime) {
+    let op = Op::Thresholds(SetThresholds {
+        sensor: 7,
+        mask: 0x20,
+        values: [0, 0, 0, 0, 0, 0xB8],
+    });
+    assert!(rt; ThresholdLimits::inverse(&op, &FAN_REPLY).is_none());
+}
+
+#[test]
+fn a_threshold_is_undone_from_its_reply(rt: HostRuntime) -> Result<(), Fail> {
+    let op = Op::Thresholds(SetThresholds {
+        sensor: 7,
+        mask: 0x10,
+        values: [0, 0, 0, 0, 0xA8, 0],
+    });
+    let undo = undo_data::<ThresholdLimits>(&op, &FAN_REPLY).ok_or("undo")?;
+    assert!(rt; undo.is(&[0x07, 0x10, 0, 0, 0, 0, 0xA0, 0]));
+    Ok(())
+}
+
+#[test]
+fn hysteresis_is_undone_from_its_reply(rt: HostRuntime) -> Result<(), Fail> {
+    let op = Op::Hysteresis(SetHysteresis {
+        sensor: 5,
+        positive: 3,
+        negative: 1,
+    });
+    let undo = undo_data::<HysteresisLimits>(&op, &[2, 2]).ok_or("undo")?;
+    assert!(rt; undo.is(&[0x05, 0xFF, 2, 2]));
+    assert!(rt; undo_data::<HysteresisLimits>(&op, &[2]).is_none());
+    Ok(())
+}
+
+#[test]
+fn thresholds_out_of_order_are_refused(rt: HostRuntime) -> Result<(), Fail> {
+    let sensor = temperature().ok_or("sensor")?;
+    let limits = ThresholdLimits {
+        masks: sensor.masks,
+    };
+    let value = Value::from_slice(&sensor.thresholds);
+    let mut set = SetThresholds {
+        sensor: 5,
+        mask: 0x10,
+        values: [0, 0, 0, 0, 0x70, 0],
+    };
+    let high = limits.apply(&Op::Thresholds(set), &value);
+    assert!(rt; matches!(high, Err(INVALID_DATA_FIELD)));
+
+    set.values[4] = 0x60;
+    let Ok(new) = limits.apply(&Op::Thresholds(set), &value) else {
+        return Err("refused".into());
+    };
+    assert!(rt; new.is(&[0x14, 0x0A, 0x05, 0x50, 0x60, 0x6E]));
+    assert!(rt;
+        limits
+            .get_data(&value, &Live)
+            .is(&[0x3F, 0x14, 0x0A, 0x05, 0x50, 0x5F, 0x6E])
+    );
+    Ok(())
+}

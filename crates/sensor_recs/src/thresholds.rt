@@ -1,0 +1,203 @@
+//! The thresholds of a sensor, as a kind of record.
+ghost use Rattle.std.specs.Prelude.{◌≡◌, ◌↔◌, IsTrue, length};
+ghost use Rattle.std.specs.Option.{SomeIff};
+ghost use Rattle.sensor_recs.specs.Thresholds.{choose, thresholds_body, IsShown, undo_thresholds};
+
+use crate::request::sensor_request;
+use cfg_records::mask::{has, is_within};
+use cfg_records::{
+    Asked, Key, Live, Op, RecordData, RecordKind, SetThresholds, ThresholdMasks, Value,
+};
+use two_wire::Code;
+use two_wire::code::INVALID_DATA_FIELD;
+
+/// The number of the command that sets them.
+const SET_SENSOR_THRESHOLDS: u8 = 0x26;
+
+/// The number of the command that gets them.
+const GET_SENSOR_THRESHOLDS: u8 = 0x27;
+
+/// 00h for each threshold.
+const ZEROS: [u8; 6] = [0; 6];
+
+/// Which thresholds the sensor has. Those that can be set can be set to any values that leave all of them in order.
+#[derive(Clone, Copy, Debug, PartialEq, Eq)]
+pub struct ThresholdLimits {
+    pub masks: ThresholdMasks,
+}
+
+/// A byte for each place: of the first where the mask has the place, else of the second.
+fn choose(mask: u8, first: &[u8], second: &[u8]) -> [u8; 6]
+    requires first_six { length first.now ≡ 6 }
+    requires second_six { length second.now ≡ 6 }
+    ensures { result ≡ choose mask first.now second.now }
+{
+    let mut bytes = [0; 6];
+    for place in 0..6 {
+        bytes[place] = if has(mask, place) {
+            first[place]
+        } else {
+            second[place]
+        };
+    }
+    bytes
+}
+
+/// The data of the request that carries out the operation.
+fn body(op: &SetThresholds) -> RecordData
+    ensures value { result ≡ thresholds_body op.now }
+    ensures eight { length result ≡ 8 }
+{
+    let mut body = RecordData::from_slice(&[op.sensor, op.mask]);
+    body.extend_from_slice(&op.values);
+    body
+}
+
+/// Whether it is a Get reply that shows each threshold of the mask.
+fn shows(mask: u8, reply: &[u8]) -> bool
+    ensures { IsTrue result ↔ ((length reply.now ≡ 7) × IsShown mask reply.now) }
+{
+    reply.len() == 7 && is_within(mask, reply[0])
+}
+
+/// The operation that sets the mask's thresholds to what the reply shows.
+fn undo(op: &SetThresholds, reply: &[u8]) -> Option<SetThresholds>
+    ensures { SomeIff result ((length reply.now ≡ 7) × IsShown op.now.mask reply.now) (undo_thresholds op.now reply.now) }
+{
+    if !shows(op.mask, reply) {
+        return None;
+    }
+    Some(SetThresholds {
+        sensor: op.sensor,
+        mask: op.mask,
+        values: choose(op.mask, &reply[1..], &ZEROS),
+    })
+}
+
+impl ThresholdLimits {
+    ghost use Rattle.sensor_recs.specs.Thresholds.{thresholds_outcome};
+
+    /// The thresholds that the operation makes of these.
+    fn set(&self, op: &SetThresholds, old: &[u8]) -> Result<Value, Code>
+        requires { length old.now ≡ 6 }
+        ensures { result ≡ thresholds_outcome self.now.masks op.now old.now }
+    {
+        let new = choose(op.mask, &op.values, old);
+        if !is_within(op.mask, self.masks.settable) || !self.masks.is_in_order(&new) {
+            return Err(INVALID_DATA_FIELD);
+        }
+        Ok(Value::from_slice(&new))
+    }
+}
+
+impl RecordKind for ThresholdLimits {
+    ghost use Rattle.std.specs.Prelude.{refl};
+    ghost use Rattle.sensor_recs.specs.Thresholds as t;
+    ghost use Rattle.sensor_recs.specs.ThresholdsLaws as laws;
+
+    ghost is_key = { t.is_key };
+
+    ghost is_of = { λ _. t.is_key };
+
+    ghost valid = { t.valid };
+
+    ghost sets = { t.sets };
+
+    ghost outcome = { t.outcome };
+
+    ghost set_view = { t.set_view };
+
+    ghost live_after = { t.live_after };
+
+    ghost view = { t.view };
+
+    ghost conf = { λ _. t.conf };
+
+    ghost get_request = { t.get_request };
+
+    ghost set_body = { t.set_body };
+
+    ghost set_request = { t.set_request };
+
+    ghost is_reply = { t.is_reply };
+
+    ghost restorable = { t.restorable };
+
+    ghost undo = { t.undo };
+
+    fn apply(&self, op: &Op, value: &Value) -> Result<Value, Code> {
+        match op {
+            Op::Thresholds(op) => self.set(op, value.as_slice()),
+            _ => unreachable!(),
+        }
+    }
+
+    fn set_reply(_op: &Op) -> RecordData {
+        RecordData::new()
+    }
+
+    fn next_live(_op: &Op, live: &Live) -> Live {
+        *live
+    }
+
+    fn get_data(&self, value: &Value, _live: &Live) -> RecordData {
+        let mut reply = RecordData::from_slice(&[self.masks.readable]);
+        let shown = choose(self.masks.readable, value.as_slice(), &ZEROS);
+        reply.extend_from_slice(&shown);
+        reply
+    }
+
+    fn get_asked(key: &Key) -> Asked {
+        match key {
+            Key::Thresholds(sensor) => sensor_request(GET_SENSOR_THRESHOLDS, &[*sensor]),
+            _ => unreachable!(),
+        }
+    }
+
+    fn set_data(op: &Op) -> RecordData {
+        match op {
+            Op::Thresholds(op) => body(op),
+            _ => unreachable!(),
+        }
+    }
+
+    fn set_asked(op: &Op) -> Asked {
+        match op {
+            Op::Thresholds(op) => sensor_request(SET_SENSOR_THRESHOLDS, body(op).as_slice()),
+            _ => unreachable!(),
+        }
+    }
+
+    fn inverse(op: &Op, get_data: &[u8]) -> Option<Op> {
+        match op {
+            Op::Thresholds(op) => Some(Op::Thresholds(undo(op, get_data)?)),
+            _ => unreachable!(),
+        }
+    }
+
+    ghost of_kind = { λ _ _ here. here };
+
+    ghost taken = { laws.taken };
+
+    ghost decides = { laws.decides };
+
+    ghost refuses = { laws.refuses };
+
+    ghost determined = { laws.determined };
+
+    ghost keeps = { laws.keeps };
+
+    ghost fits = { laws.fits };
+
+    ghost replies = { laws.replies };
+
+    ghost steady = { λ _ _ _ _. refl };
+
+    ghost get_short = { laws.get_short };
+
+    ghost set_short = { laws.set_short };
+
+    ghost same_record = { laws.same_record };
+
+    ghost undoes = { laws.undoes };
+}
