@@ -1,3 +1,5 @@
 pub mod Limits
 pub mod LimitsLaws
 pub mod Boards
+pub mod Places
+pub mod Sound

@@ -1,5 +1,7 @@
 //! The limits of a record, of whichever kind.
-use cfg_records::{Asked, Key, Live, Op, RecordData, RecordKind, Value};
+ghost use Rattle.std.specs.Prelude.{◌≡◌};
+
+use cfg_records::{Asked, Key, Live, Op, RecordData, RecordKind, Sensor, Value};
 use sensor_recs::{HysteresisLimits, ThresholdLimits};
 use two_wire::Code;
 
@@ -8,6 +10,26 @@ use two_wire::Code;
 pub enum Limits {
     Thresholds(ThresholdLimits),
     Hysteresis(HysteresisLimits),
+}
+
+impl Limits {
+    ghost use Rattle.record_kinds.specs.Boards.{thresholds_of, hysteresis_of};
+
+    /// The limits of the sensor's thresholds.
+    pub fn of_thresholds(sensor: &Sensor) -> Limits
+        ensures { result ≡ thresholds_of sensor.now }
+    {
+        Limits::Thresholds(ThresholdLimits {
+            masks: sensor.masks,
+        })
+    }
+
+    /// The limits of the sensor's hysteresis.
+    pub fn of_hysteresis(_sensor: &Sensor) -> Limits
+        ensures { result ≡ hysteresis_of _sensor.now }
+    {
+        Limits::Hysteresis(HysteresisLimits)
+    }
 }
 
 impl RecordKind for Limits {

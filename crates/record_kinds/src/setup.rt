@@ -1,0 +1,80 @@
+//! What never changes of a board.
+ghost use Rattle.std.specs.Prelude.{◌≡◌, ◌≤◌, length};
+ghost use Rattle.cfg_records.specs.Distinct.{NumbersDiffer};
+ghost use Rattle.record_kinds.specs.Places.{ArePlaces};
+
+use crate::limits::Limits;
+use cfg_records::{BoardFile, Device, Key, Sensor};
+use std::marker::Model;
+
+/// The place of a sensor that isn't there.
+const NOWHERE: u8 = 255;
+
+/// A board file, in which a sensor is found by its number in one step.
+#[derive(Debug, Drop)]
+pub struct Setup {
+    file: BoardFile,
+    /// For each number, where in the file its sensor stands.
+    places: [u8; 256],
+}
+
+impl Model for Setup {
+    ghost use Rattle.cfg_records.specs.declared.board_file.BoardFile.{BoardFile};
+    ghost use Rattle.record_kinds.specs.Places.{ArePlaces};
+
+    ghost Value = { BoardFile };
+
+    ghost view = { λ s. s.file };
+
+    ghost invariant = { λ s. ArePlaces s.file.sensors s.places };
+}
+
+/// For each number, where the sensor of this number stands.
+fn places_of(sensors: &[Sensor]) -> [u8; 256]
+    requires few { length sensors.now ≤ 32 }
+    requires differ { NumbersDiffer sensors.now }
+    ensures { ArePlaces sensors.now result }
+{
+    let mut places = [NOWHERE; 256];
+    for (place, sensor) in sensors.iter().enumerate() {
+        places[sensor.number as usize] = place as u8;
+    }
+    places
+}
+
+impl Setup {
+    ghost use Rattle.record_kinds.specs.Boards.{sensor_at, limits_at};
+
+    /// The set-up of this board file.
+    pub fn new(file: BoardFile) -> Setup
+        ensures { result ≡ file }
+    {
+        let places = places_of(file.sensors.as_slice());
+        Setup { file, places }
+    }
+
+    /// What the board says of itself.
+    pub fn device(&self) -> &Device
+        ensures { result.now ≡ self.now.device }
+    {
+        &self.file.device
+    }
+
+    /// The sensor of this number.
+    pub fn sensor(&self, number: u8) -> Option<Sensor>
+        ensures { result ≡ sensor_at self.now.sensors number }
+    {
+        let place = self.places[number as usize];
+        self.file.sensors.as_slice().get(place as usize).copied()
+    }
+
+    /// The limits of the key's record.
+    pub fn limits(&self, key: &Key) -> Option<Limits>
+        ensures { result ≡ limits_at self.now key.now }
+    {
+        match key {
+            Key::Thresholds(number) => Some(Limits::of_thresholds(&self.sensor(*number)?)),
+            Key::Hysteresis(number) => Some(Limits::of_hysteresis(&self.sensor(*number)?)),
+        }
+    }
+}
