@@ -1,0 +1,189 @@
+-- What every answer has in common.
+use Rattle.std.proofs.Common.{◌≡◌, ◌≢◌, ℕ, ◌<◌, ◌≤◌, List, [], length, Option, Some, None, Result, Ok, Err, Bool, true, false, if◌then◌else◌, ◌==◌, refl, ap, sym, ◌∙◌, subst, arith, lit<, lit≤}
+use Rattle.std.proofs.lemmas.Bool.Decides.{nat_tests}
+use Rattle.two_wire.specs.Codes.{success, node_busy, pldm_not_ready, invalid_command, invalid_for_lun, invalid_length, pldm_unsupported_command, pldm_invalid_type, not_present}
+use Rattle.cfg_records.specs.Keys.{key_of}
+use Rattle.cfg_records.specs.Meaning.{IsRefusal, room_for}
+use Rattle.cfg_records.specs.declared.key.Key.{Key}
+use Rattle.cfg_records.specs.declared.key.Key.TheVariants as key
+use Rattle.cfg_records.specs.declared.sensor.Sensor.{Sensor}
+use Rattle.cfg_records.specs.declared.op.Op.{Op}
+use Rattle.cfg_records.specs.declared.live.Live.{Live}
+use Rattle.cfg_records.specs.declared.message.Asked.{Asked}
+use Rattle.cfg_records.specs.declared.message.Asked.TheVariants.{Ipmi, Pldm}
+use Rattle.cfg_records.specs.declared.message.Answered.{Answered}
+use Rattle.cfg_records.specs.declared.board_file.BoardFile.{BoardFile}
+use Rattle.record_kinds.specs.declared.limits.Limits.{Limits}
+use Rattle.record_kinds.specs.Limits.{is_of, outcome, view, get_request, set_request}
+use Rattle.record_kinds.specs.LimitsLaws as laws
+use Rattle.std.specs.Option.{option_map}
+use Rattle.record_kinds.specs.Boards.{sensor_at, thresholds_of, hysteresis_of, limits_at}
+use Rattle.record_kinds.specs.Sound.{IsSound, IsSoundAt}
+use Rattle.bmc_core.specs.declared.command.Command.{Command}
+use Rattle.bmc_core.specs.declared.command.Command.TheVariants as command
+use Rattle.bmc_core.specs.declared.command.Line.{Line}
+use Rattle.bmc_core.specs.declared.request.Request.{Request}
+use Rattle.bmc_core.specs.declared.request.Request.TheVariants.{GetDeviceId, Get, Set}
+use Rattle.bmc_core.specs.Table.{line_of, is_allowed, is_pldm_type}
+use Rattle.bmc_core.specs.Request.{request_of, asked_at, asked_by}
+use Rattle.bmc_core.specs.State.{State}
+use Rattle.bmc_core.specs.Answer.{get_answer, set_result, set_answer, serve, reply, answer_of}
+
+-- ---- a refusal changes nothing
+
+result_unchanged : (r : Result (List ℕ) ℕ) (op : Op) (before : State) → (set_result r op before).0.code ≢ success → (set_result r op before).1 ≡ before
+result_unchanged (Ok new) op before fault = absurd (fault refl)
+result_unchanged (Err code) op before fault = refl
+
+set_unchanged : (limits : Option Limits) (value : Option (List ℕ)) (unknown : ℕ) (op : Op) (before : State) → (set_answer limits value unknown op before).0.code ≢ success → (set_answer limits value unknown op before).1 ≡ before
+set_unchanged (Some limits) (Some old) unknown op before fault = result_unchanged (outcome limits op old) op before fault
+set_unchanged (Some limits) None unknown op before fault = refl
+set_unchanged None (Some old) unknown op before fault = refl
+set_unchanged None None unknown op before fault = refl
+
+serve_unchanged : (setup : BoardFile) (before : State) (request : Request) → (serve setup before request).0.code ≢ success → (serve setup before request).1 ≡ before
+serve_unchanged setup before GetDeviceId fault = refl
+serve_unchanged setup before (Get key) fault = refl
+serve_unchanged setup before (Set op) fault = set_unchanged _ _ _ op before fault
+
+reply_unchanged : (setup : BoardFile) (before : State) (r : Result Request ℕ) → (reply setup before r).0.code ≢ success → (reply setup before r).1 ≡ before
+reply_unchanged setup before (Ok request) fault = serve_unchanged setup before request fault
+reply_unchanged setup before (Err code) fault = refl
+
+pub answer_unchanged : (setup : BoardFile) (before : State) (asked : Asked) → (answer_of setup before asked).0.code ≢ success → (answer_of setup before asked).1 ≡ before
+answer_unchanged setup before asked fault = reply_unchanged setup before (asked_by asked) fault
+
+-- ---- no code is that of a busy controller
+
+-- the code is neither node busy nor not ready
+pub record IsCode (code : ℕ) : Type 0 where
+  pub not_busy : code ≢ node_busy
+  pub is_ready : code ≢ pldm_not_ready
+
+differ : (m n : ℕ) → (m == n) ≡ false → m ≢ n
+differ m n p h = grind (arith, nat_tests)
+
+-- a number that two tests tell from those codes is such
+code_of : (code : ℕ) → (code == node_busy) ≡ false → (code == pldm_not_ready) ≡ false → IsCode code
+code_of code p q = record { not_busy = differ _ _ p; is_ready = differ _ _ q }
+
+length_code : (b : Bool) (request : Request) (fault : ℕ) → (if b then Ok request else Err invalid_length) ≡ Err fault → IsCode fault
+length_code true request fault e = cc
+length_code false request fault e = let is : invalid_length ≡ fault = cc in subst IsCode is (code_of invalid_length refl refl)
+
+asked_at_code : (line : Option Line) (body : List ℕ) (fault : ℕ) → asked_at line body ≡ Err fault → IsCode fault
+asked_at_code None body fault e = let is : invalid_command ≡ fault = cc in subst IsCode is (code_of invalid_command refl refl)
+asked_at_code (Some line) body fault e = length_code (is_allowed line.lengths (length body)) (request_of line.command body) fault e
+
+lun_code : (b : Bool) (line : Option Line) (body : List ℕ) (fault : ℕ) → (if b then asked_at line body else Err invalid_for_lun) ≡ Err fault → IsCode fault
+lun_code true line body fault e = asked_at_code line body fault e
+lun_code false line body fault e = let is : invalid_for_lun ≡ fault = cc in subst IsCode is (code_of invalid_for_lun refl refl)
+
+type_code : (b : Bool) (fault : ℕ) → (let r : Result Request ℕ = (if b then Err pldm_unsupported_command else Err pldm_invalid_type) in r) ≡ Err fault → IsCode fault
+type_code true fault e = let is : pldm_unsupported_command ≡ fault = cc in subst IsCode is (code_of pldm_unsupported_command refl refl)
+type_code false fault e = let is : pldm_invalid_type ≡ fault = cc in subst IsCode is (code_of pldm_invalid_type refl refl)
+
+decode_code : (asked : Asked) (fault : ℕ) → asked_by asked ≡ Err fault → IsCode fault
+decode_code (Ipmi from net_fn lun number body) fault e = lun_code (lun == 0) (line_of net_fn number) body fault e
+decode_code (Pldm from kind number body) fault e = type_code (is_pldm_type kind) fault e
+
+get_code : (limits : Option Limits) (value : Option (List ℕ)) (live : Live) → IsCode (get_answer limits value live not_present).code
+get_code (Some limits) (Some value) live = code_of success refl refl
+get_code (Some limits) None live = code_of not_present refl refl
+get_code None (Some value) live = code_of not_present refl refl
+get_code None None live = code_of not_present refl refl
+
+result_code : (limits : Limits) (old : List ℕ) (op : Op) (before : State) (r : Result (List ℕ) ℕ) → outcome limits op old ≡ r → IsCode (set_result r op before).0.code
+result_code limits old op before (Ok new) e = code_of success refl refl
+result_code limits old op before (Err fault) e = let why : IsRefusal fault = laws.refuses limits op old fault e in record { not_busy = why.not_busy; is_ready = why.is_ready }
+
+set_code : (limits : Option Limits) (value : Option (List ℕ)) (op : Op) (before : State) → IsCode (set_answer limits value not_present op before).0.code
+set_code (Some limits) (Some old) op before = result_code limits old op before (outcome limits op old) refl
+set_code (Some limits) None op before = code_of not_present refl refl
+set_code None (Some old) op before = code_of not_present refl refl
+set_code None None op before = code_of not_present refl refl
+
+serve_code : (setup : BoardFile) (before : State) (request : Request) → IsCode (serve setup before request).0.code
+serve_code setup before GetDeviceId = code_of success refl refl
+serve_code setup before (Get key) = get_code _ _ before.live
+serve_code setup before (Set op) = set_code _ _ op before
+
+reply_code : (setup : BoardFile) (before : State) (asked : Asked) (r : Result Request ℕ) → asked_by asked ≡ r → IsCode (reply setup before r).0.code
+reply_code setup before asked (Ok request) e = serve_code setup before request
+reply_code setup before asked (Err fault) e = decode_code asked fault e
+
+pub answer_code : (setup : BoardFile) (before : State) (asked : Asked) → IsCode (answer_of setup before asked).0.code
+answer_code setup before asked = reply_code setup before asked (asked_by asked) refl
+
+-- ---- the data fits the frame or message that carries it
+
+-- the reply to what is asked for has room in so many bytes
+abbrev HasRoom : Request → ℕ → Type 0
+HasRoom GetDeviceId room = 11 ≤ room
+HasRoom (Get key) room = room_for (get_request key) ≤ room
+HasRoom (Set op) room = room_for (set_request op) ≤ room
+
+command_room : (c : Command) (body : List ℕ) → HasRoom (request_of c body) 24
+command_room command.GetDeviceId body = lit≤ tt
+command_room command.SetSensorHysteresis body = lit≤ tt
+command_room command.GetSensorHysteresis body = lit≤ tt
+command_room command.SetSensorThresholds body = lit≤ tt
+command_room command.GetSensorThresholds body = lit≤ tt
+
+length_room : (b : Bool) (c : Command) (body : List ℕ) (request : Request) → (if b then Ok (request_of c body) else Err invalid_length) ≡ Ok request → HasRoom request 24
+length_room true c body request e = let is : request_of c body ≡ request = cc in subst (λ (r : Request). HasRoom r 24) is (command_room c body)
+length_room false c body request e = cc
+
+asked_at_room : (line : Option Line) (body : List ℕ) (request : Request) → asked_at line body ≡ Ok request → HasRoom request 24
+asked_at_room None body request e = cc
+asked_at_room (Some line) body request e = length_room (is_allowed line.lengths (length body)) line.command body request e
+
+lun_room : (b : Bool) (line : Option Line) (body : List ℕ) (request : Request) → (if b then asked_at line body else Err invalid_for_lun) ≡ Ok request → HasRoom request 24
+lun_room true line body request e = asked_at_room line body request e
+lun_room false line body request e = cc
+
+type_room : (b : Bool) (request : Request) → (let r : Result Request ℕ = (if b then Err pldm_unsupported_command else Err pldm_invalid_type) in r) ≡ Ok request → HasRoom request 251
+type_room true request e = cc
+type_room false request e = cc
+
+decode_room : (asked : Asked) (request : Request) → asked_by asked ≡ Ok request → HasRoom request (room_for asked)
+decode_room (Ipmi from net_fn lun number body) request e = lun_room (lun == 0) (line_of net_fn number) body request e
+decode_room (Pldm from kind number body) request e = type_room (is_pldm_type kind) request e
+
+-- limits are those of a record with the key
+of_sensor : (sensor : Option Sensor) (to : Sensor → Limits) (limits : Limits) (key : Key) → option_map to sensor ≡ Some limits → ((s : Sensor) → is_of (to s) key) → is_of limits key
+of_sensor (Some s) to limits key e of = let same : to s ≡ limits = cc in subst (λ (l : Limits). is_of l key) same (of s)
+of_sensor None to limits key e of = cc
+
+pub limits_are_of : (file : BoardFile) (key : Key) (limits : Limits) → limits_at file key ≡ Some limits → is_of limits key
+limits_are_of file (key.Thresholds number) limits e = of_sensor (sensor_at file.sensors number) thresholds_of limits (key.Thresholds number) e (λ s. tt)
+limits_are_of file (key.Hysteresis number) limits e = of_sensor (sensor_at file.sensors number) hysteresis_of limits (key.Hysteresis number) e (λ s. tt)
+
+get_fits : (limits : Option Limits) (value : Option (List ℕ)) (live : Live) (key : Key) (room : ℕ) → ((l : Limits) → limits ≡ Some l → is_of l key) → IsSoundAt limits value → room_for (get_request key) ≤ room
+    → length (get_answer limits value live not_present).body ≤ room
+get_fits (Some l) (Some v) live key room of sound le = omega (arith, laws.get_short l key v live (of l refl) sound)
+get_fits (Some l) None live key room of sound le = omega arith
+get_fits None (Some v) live key room of sound le = omega arith
+get_fits None None live key room of sound le = omega arith
+
+result_fits : (r : Result (List ℕ) ℕ) (op : Op) (before : State) (room : ℕ) → room_for (set_request op) ≤ room → length (set_result r op before).0.body ≤ room
+result_fits (Ok new) op before room le = omega (arith, laws.set_short op tt)
+result_fits (Err fault) op before room le = omega arith
+
+set_fits : (limits : Option Limits) (value : Option (List ℕ)) (op : Op) (before : State) (room : ℕ) → room_for (set_request op) ≤ room → length (set_answer limits value not_present op before).0.body ≤ room
+set_fits (Some l) (Some old) op before room le = result_fits (outcome l op old) op before room le
+set_fits (Some l) None op before room le = omega arith
+set_fits None (Some old) op before room le = omega arith
+set_fits None None op before room le = omega arith
+
+serve_fits : (setup : BoardFile) (before : State) (request : Request) (room : ℕ) → IsSound setup before.records → HasRoom request room → length (serve setup before request).0.body ≤ room
+serve_fits setup before GetDeviceId room sound has = has
+serve_fits setup before (Get key) room sound has = get_fits (limits_at setup key) (before.records key) before.live key room (limits_are_of setup key) (sound key) has
+serve_fits setup before (Set op) room sound has = set_fits _ _ op before room has
+
+reply_fits : (setup : BoardFile) (before : State) (asked : Asked) (r : Result Request ℕ) → asked_by asked ≡ r → IsSound setup before.records → length (reply setup before r).0.body ≤ room_for asked
+reply_fits setup before asked (Ok request) e sound = serve_fits setup before request (room_for asked) sound (decode_room asked request e)
+reply_fits setup before asked (Err fault) e sound = omega arith
+
+pub answer_fits : (setup : BoardFile) (before : State) (asked : Asked) → IsSound setup before.records → length (answer_of setup before asked).0.body ≤ room_for asked
+answer_fits setup before asked sound = reply_fits setup before asked (asked_by asked) refl sound

@@ -1,0 +1,2 @@
+pub mod AnswerFacts
+pub mod Heard

@@ -1,0 +1,44 @@
+-- What a request asks for.
+use Rattle.std.specs.Prelude.{ℕ, List, [], ◌∷◌, length, slice_index, Option, Some, None, Result, Ok, Err, ◌==◌, if◌then◌else◌}
+use Rattle.two_wire.specs.Codes.{invalid_for_lun, invalid_command, invalid_length, pldm_unsupported_command, pldm_invalid_type}
+use Rattle.cfg_records.specs.declared.message.Asked.{Asked}
+use Rattle.cfg_records.specs.declared.message.Asked.TheVariants.{Ipmi, Pldm}
+use Rattle.cfg_records.specs.declared.key.Key.TheVariants as key
+use Rattle.cfg_records.specs.declared.op.Op.TheVariants as op
+use Rattle.cfg_records.specs.declared.op.SetThresholds.{SetThresholds}
+use Rattle.bmc_core.specs.declared.command.Command.{Command}
+use Rattle.bmc_core.specs.declared.command.Command.TheVariants as command
+use Rattle.bmc_core.specs.declared.command.Line.{Line}
+use Rattle.bmc_core.specs.declared.request.Request.{Request}
+use Rattle.bmc_core.specs.declared.request.Request.TheVariants as request
+use Rattle.bmc_core.specs.Table.{line_of, is_allowed, is_pldm_type}
+
+-- the byte at a place, 00h where it is missing
+abbrev pub byte_at : List ℕ → ℕ → ℕ
+byte_at body place = slice_index body place
+
+-- sensor, mask, and a byte for each threshold
+abbrev pub thresholds_in : List ℕ → SetThresholds
+thresholds_in body = record {
+  sensor = byte_at body 0;
+  mask = byte_at body 1;
+  values = byte_at body 2 ∷ byte_at body 3 ∷ byte_at body 4 ∷ byte_at body 5 ∷ byte_at body 6 ∷ byte_at body 7 ∷ [];
+}
+
+-- what a command asks for with data of a length that it takes
+abbrev pub request_of : Command → List ℕ → Request
+request_of command.GetDeviceId body = request.GetDeviceId
+request_of command.SetSensorHysteresis body = request.Set (op.Hysteresis (record { sensor = byte_at body 0; positive = byte_at body 2; negative = byte_at body 3 }))
+request_of command.GetSensorHysteresis body = request.Get (key.Hysteresis (byte_at body 0))
+request_of command.SetSensorThresholds body = request.Set (op.Thresholds (thresholds_in body))
+request_of command.GetSensorThresholds body = request.Get (key.Thresholds (byte_at body 0))
+
+-- what a line's command asks for, where the data has a length that it takes
+abbrev pub asked_at : Option Line → List ℕ → Result Request ℕ
+asked_at None body = Err invalid_command
+asked_at (Some line) body = if is_allowed line.lengths (length body) then Ok (request_of line.command body) else Err invalid_length
+
+-- what a request asks for, or the first code that refuses it. No PLDM command is listed.
+abbrev pub asked_by : Asked → Result Request ℕ
+asked_by (Ipmi from net_fn lun number body) = if lun == 0 then asked_at (line_of net_fn number) body else Err invalid_for_lun
+asked_by (Pldm from kind number body) = if is_pldm_type kind then Err pldm_unsupported_command else Err pldm_invalid_type

@@ -1,0 +1,53 @@
+-- The table of commands (IPMI 2.0, sections 20.1 and 35.6 to 35.9): one line each.
+use Rattle.std.specs.Prelude.{ℕ, List, [], ◌∷◌, Option, Some, None, Bool, true, false, find, ◌==◌, ◌&&◌, ◌||◌}
+use Rattle.cfg_records.specs.declared.message.Asked.{Asked}
+use Rattle.cfg_records.specs.declared.message.Asked.TheVariants.{Ipmi, Pldm}
+use Rattle.bmc_core.specs.declared.command.Command.{Command}
+use Rattle.bmc_core.specs.declared.command.Command.TheVariants as command
+use Rattle.bmc_core.specs.declared.command.Lengths.{Lengths}
+use Rattle.bmc_core.specs.declared.command.Lengths.TheVariants.{Exactly}
+use Rattle.bmc_core.specs.declared.command.Line.{Line}
+
+-- a line stands under a network function and a command number
+pub record Listed : Type 0 where
+  pub net_fn : ℕ
+  pub number : ℕ
+  pub line : Line
+
+abbrev pub listed : ℕ → ℕ → Lengths → Bool → Command → Listed
+listed net_fn number lengths changing command = record { net_fn = net_fn; number = number; line = record { command = command; lengths = lengths; changing = changing } }
+
+-- network function, number, lengths, whether it sets the configuration, command
+abbrev pub table : List Listed
+table =
+    listed 0x04 0x24 (Exactly 4) true command.SetSensorHysteresis ∷
+    listed 0x04 0x25 (Exactly 2) false command.GetSensorHysteresis ∷
+    listed 0x04 0x26 (Exactly 8) true command.SetSensorThresholds ∷
+    listed 0x04 0x27 (Exactly 1) false command.GetSensorThresholds ∷
+    listed 0x06 0x01 (Exactly 0) false command.GetDeviceId ∷
+    []
+
+abbrev pub line_in : Option Listed → Option Line
+line_in (Some l) = Some l.line
+line_in None = None
+
+-- the line of these numbers
+abbrev pub line_of : ℕ → ℕ → Option Line
+line_of net_fn number = line_in (find (λ l. (l.net_fn == net_fn) && (l.number == number)) table)
+
+-- the data may have this length
+abbrev pub is_allowed : Lengths → ℕ → Bool
+is_allowed (Exactly exact) length = length == exact
+
+-- the PLDM types that the controller knows: base, platform monitoring and control, BIOS (DSP0240)
+abbrev pub is_pldm_type : ℕ → Bool
+is_pldm_type kind = (kind == 0) || (kind == 2) || (kind == 3)
+
+abbrev pub changes : Option Line → Bool
+changes (Some line) = line.changing
+changes None = false
+
+-- the request's command sets the configuration
+abbrev pub is_changing : Asked → Bool
+is_changing (Ipmi from net_fn lun number body) = changes (line_of net_fn number)
+is_changing (Pldm from kind number body) = false

@@ -1,0 +1,90 @@
+//! The table of commands.
+ghost use Rattle.std.specs.Prelude.{◌≡◌, None, Some};
+ghost use Rattle.bmc_core.specs.Table.{line_of, is_allowed, is_changing, is_pldm_type};
+
+use cfg_records::Asked;
+
+/// A command of the table.
+#[derive(Clone, Copy, Debug, PartialEq, Eq)]
+pub enum Command {
+    GetDeviceId,
+    SetSensorHysteresis,
+    GetSensorHysteresis,
+    SetSensorThresholds,
+    GetSensorThresholds,
+}
+
+/// How many bytes of data a command takes.
+#[derive(Clone, Copy, Debug, PartialEq, Eq)]
+pub enum Lengths {
+    Exactly(u8),
+}
+
+/// What the table says of a command: how many bytes of data it takes, and whether it sets the configuration.
+#[derive(Clone, Copy, Debug, PartialEq, Eq)]
+pub struct Line {
+    pub command: Command,
+    pub lengths: Lengths,
+    pub changing: bool,
+}
+
+impl Lengths {
+    /// Whether the command takes so many bytes.
+    pub fn allow(self, length: usize) -> bool
+        ensures { result ≡ is_allowed self length }
+    {
+        match self {
+            Lengths::Exactly(exact) => length == exact as usize,
+        }
+    }
+}
+
+const fn entry(command: Command, lengths: Lengths, changing: bool) -> Line
+    ensures { result ≡ record { command = command; lengths = lengths; changing = changing } }
+{
+    Line {
+        command,
+        lengths,
+        changing,
+    }
+}
+
+/// The table's line for the network function and the command number, if they are listed.
+pub fn find_line(net_fn: u8, number: u8) -> Option<Line>
+    ensures { result ≡ line_of net_fn number }
+{
+    use Command::*;
+    use Lengths::*;
+    Some(match (net_fn, number) {
+        (0x04, 0x24) => entry(SetSensorHysteresis, Exactly(4), true),
+        (0x04, 0x25) => entry(GetSensorHysteresis, Exactly(2), false),
+        (0x04, 0x26) => entry(SetSensorThresholds, Exactly(8), true),
+        (0x04, 0x27) => entry(GetSensorThresholds, Exactly(1), false),
+        (0x06, 0x01) => entry(GetDeviceId, Exactly(0), false),
+        _ => return None,
+    })
+}
+
+/// Whether the PLDM type is one of the controller's: base, platform monitoring and control, BIOS.
+pub fn is_pldm_type(kind: u8) -> bool
+    ensures { result ≡ is_pldm_type kind }
+{
+    matches!(kind, 0 | 2 | 3)
+}
+
+/// Whether the request's command sets the configuration, be the request valid or not.
+pub fn changing(asked: &Asked) -> bool
+    ensures { result ≡ is_changing asked.now }
+{
+    match asked {
+        Asked::Ipmi {
+            net_fn,
+            command,
+            ..
+        } => match find_line(net_fn.number(), *command) {
+            Some(line) => line.changing,
+            None => false,
+        },
+        Asked::Pldm { .. } => false,
+    }
+}

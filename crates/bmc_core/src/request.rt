@@ -1,0 +1,92 @@
+//! What a request asks for.
+ghost use Rattle.std.specs.Prelude.{◌≡◌, ◌<◌};
+ghost use Rattle.bmc_core.specs.Request.{byte_at, thresholds_in, request_of, asked_by};
+
+use crate::command::{Command, find_line, is_pldm_type};
+use cfg_records::{Asked, Key, Op, SetHysteresis, SetThresholds};
+use two_wire::{Code, code};
+
+/// A well-formed request.
+#[derive(Clone, Copy, Debug, PartialEq, Eq)]
+pub enum Request {
+    GetDeviceId,
+    Get(Key),
+    Set(Op),
+}
+
+/// The byte at the place, 00h where it is missing.
+fn byte(body: &[u8], place: usize) -> u8
+    ensures { result ≡ byte_at body.now place }
+{
+    match body.get(place) {
+        Some(byte) => *byte,
+        None => 0,
+    }
+}
+
+/// Sensor, mask, and a byte for each threshold.
+fn set_thresholds(body: &[u8]) -> SetThresholds
+    ensures { result ≡ thresholds_in body.now }
+{
+    SetThresholds {
+        sensor: byte(body, 0),
+        mask: byte(body, 1),
+        values: [
+            byte(body, 2),
+            byte(body, 3),
+            byte(body, 4),
+            byte(body, 5),
+            byte(body, 6),
+            byte(body, 7),
+        ],
+    }
+}
+
+/// What the command asks for with this data, of a length that the command takes.
+fn request_in(command: Command, body: &[u8]) -> Request
+    ensures { result ≡ request_of command body.now }
+{
+    let number = byte(body, 0);
+    match command {
+        Command::GetDeviceId => Request::GetDeviceId,
+        Command::SetSensorHysteresis => Request::Set(Op::Hysteresis(SetHysteresis {
+            sensor: number,
+            positive: byte(body, 2),
+            negative: byte(body, 3),
+        })),
+        Command::GetSensorHysteresis => Request::Get(Key::Hysteresis(number)),
+        Command::SetSensorThresholds => Request::Set(Op::Thresholds(set_thresholds(body))),
+        Command::GetSensorThresholds => Request::Get(Key::Thresholds(number)),
+    }
+}
+
+/// What is asked for, or the first code that refuses it: the logical unit, then the command, then the length.
+pub fn read_request(asked: &Asked) -> Result<Request, Code>
+    ensures { result ≡ asked_by asked.now }
+{
+    match asked {
+        Asked::Ipmi {
+            lun,
+            net_fn,
+            command,
+            body,
+            ..
+        } => {
+            if lun.number() != 0 {
+                return Err(code::INVALID_FOR_LUN);
+            }
+            let Some(line) = find_line(net_fn.number(), *command) else {
+                return Err(code::INVALID_COMMAND);
+            };
+            if !line.lengths.allow(body.len()) {
+                return Err(code::INVALID_LENGTH);
+            }
+            Ok(request_in(line.command, body.as_slice()))
+        }
+        Asked::Pldm { kind, .. } => Err(if is_pldm_type(kind.number()) {
+            code::PLDM_UNSUPPORTED_COMMAND
+        } else {
+            code::PLDM_INVALID_TYPE
+        }),
+    }
+}
