@@ -1,0 +1,36 @@
+-- What a run says of what a port did.
+use Rattle.std.specs.Prelude.{ℕ, List, [], ◌∷◌, ◌++◌, codes}
+use Rattle.std.specs.List.{flat_map}
+use Rattle.hex.specs.Hex.{encode_upper}
+use Rattle.bmc_core.specs.declared.out.Out.{Out}
+use Rattle.bmc_core.specs.declared.out.Done.{Done}
+use Rattle.bmc_core.specs.declared.out.Done.TheVariants.{Ignored, Answered}
+use Rattle.bmc_core.specs.Names.{reason_name}
+use Rattle.bmc_lab.specs.declared.status.Status.{Status}
+use Rattle.bmc_lab.specs.declared.status.Status.TheVariants.{Sent, NotSent, RefusedWords, Memory, Output}
+
+-- the status as the process gives it
+abbrev pub byte_of : Status → ℕ
+byte_of Sent = 0
+byte_of NotSent = 1
+byte_of RefusedWords = 2
+byte_of Memory = 5
+byte_of Output = 6
+
+-- a frame in upper-case hexadecimal, and the line's end
+abbrev pub frame_line : List ℕ → List ℕ
+frame_line frame = encode_upper frame ++ 10 ∷ []
+
+-- why nothing was done
+abbrev pub done_line : Done → List ℕ
+done_line (Ignored reason) = codes "ignored " ++ reason_name reason ++ 10 ∷ []
+done_line Answered = []
+
+-- a line for each frame, and why nothing was done
+abbrev pub text_of : Out → List ℕ
+text_of out = flat_map frame_line out.frames ++ done_line out.done
+
+-- whether something was sent
+abbrev pub status_of : List (List ℕ) → Status
+status_of [] = NotSent
+status_of (frame ∷ frames) = Sent

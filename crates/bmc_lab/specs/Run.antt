@@ -1,0 +1,35 @@
+-- One frame sent to a fresh controller with the sample board.
+use Rattle.std.specs.Prelude.{◌≡◌, ℕ, List}
+use Rattle.cfg_records.specs.declared.board_file.BoardFile.{BoardFile}
+use Rattle.cfg_records.specs.Records.{records_of}
+use Rattle.cfg_records.specs.Boards.{pairs_of}
+use Rattle.cfg_records.specs.Sample.{IsSampleDevice, AreSampleSensors}
+use Rattle.bmc_core.specs.declared.out.Out.{Out}
+use Rattle.bmc_core.specs.declared.port.At.{At}
+use Rattle.bmc_core.specs.State.{State, state}
+use Rattle.bmc_core.specs.Port.{Hears}
+use Rattle.bmc_lab.specs.declared.status.Status.{Status}
+use Rattle.bmc_lab.specs.Report.{text_of, status_of}
+
+-- the controller is at 20h, with EID 0Ah
+abbrev pub controller : At
+controller = record { wire = 0x20; eid = 0x0A }
+
+-- the state of a board of this file that has heard nothing yet
+abbrev pub opening : BoardFile → State
+opening file = state (records_of (pairs_of file)) (record {})
+
+-- the file is the sample board's
+pub record IsSample (file : BoardFile) : Type 0 where
+  pub device : IsSampleDevice file.device
+  pub sensors : AreSampleSensors file.sensors
+
+-- what is said of the bytes: what a fresh controller with the sample board does with them
+pub record Tells (bytes text : List ℕ) (status : Status) : Type 0 where
+  pub file : BoardFile
+  pub sample : IsSample file
+  pub out : Out
+  pub after : State
+  pub heard : Hears controller file (opening file) bytes out after
+  pub said : text ≡ text_of out
+  pub ended : status ≡ status_of out.frames

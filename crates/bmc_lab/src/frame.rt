@@ -1,0 +1,75 @@
+//! `bmclab frame`: one frame to a fresh controller with the sample board.
+ghost use Rattle.std.specs.Prelude.{◌≡◌, ◌⊎◌, ℕ, List, IfOk, codes, string_bytes};
+ghost use Rattle.std.specs.Io.KnownBytes.{Appends, Keeps};
+ghost use Rattle.bmc_lab.specs.declared.status.Status.{Status as End};
+ghost use Rattle.bmc_lab.specs.Report.{byte_of};
+ghost use Rattle.bmc_lab.specs.Run.{controller, Tells};
+
+use crate::report::Report;
+use crate::status::Status;
+use bmc_core::{At, Board, Port};
+use cfg_records::{PlainStore, StoreFault, sample_board};
+use std::alloc::{AllocError, Global};
+use std::io;
+use two_wire::{Address, Bus};
+
+/// The controller's two-wire address.
+const WIRE: u8 = 0x20;
+
+/// The controller's EID.
+const EID: u8 = 0x0A;
+
+/// Where the controller is.
+fn controller_place() -> At
+    ensures { result ≡ controller }
+{
+    At {
+        wire: Address::new(WIRE).unwrap(),
+        eid: EID,
+    }
+}
+
+/// What a fresh controller with the sample board does with the bytes.
+fn frame_report(alloc: Global, bytes: &[u8]) -> Result<Report, AllocError>
+    ensures { IfOk result (λ report. Tells bytes.now (string_bytes report.text) report.status) }
+{
+    let file = sample_board(alloc)?;
+    let pairs = file.records(alloc)?;
+    let store = match PlainStore::new(alloc, pairs.as_slice()) {
+        Ok(store) => store,
+        Err(StoreFault::Memory) => return Err(AllocError),
+        Err(StoreFault::TwiceTheSameKey | StoreFault::BadValue) => unreachable!(),
+    };
+    let mut board = Board::open(alloc, file, store)?;
+    let mut port = Port::new(alloc, Bus::Ipmb, controller_place())?;
+    Report::new(alloc, &port.on_frame(&mut board, bytes))
+}
+
+/// Writes the text, and gives the status, or that of a write that failed.
+fn finish<W: io::Write>(to: &mut W, text: &[u8], status: Status) -> u8
+    ensures { (result ≡ 6) ⊎ ((result ≡ byte_of status) × Appends (W.contents to.old) (W.contents to.new) text.now) }
+{
+    match to.write_all(text) {
+        Ok(()) => u8::from(status),
+        Err(_) => u8::from(Status::Output),
+    }
+}
+
+/// Sends one frame to a fresh controller with the sample board. Writes each reply frame to `out` in upper-case hexadecimal on a
+/// line, or `ignored` and the reason's name, and gives the status: 0 where a frame was sent, 1 where none was, 5 with `memory` on
+/// `err` where memory was refused, and 6 where a write failed.
+pub fn frame_run<W: io::Write, E: io::Write>(
+    alloc: Global,
+    bytes: &[u8],
+    out: &mut W,
+    err: &mut E,
+) -> u8
+    ensures { (result ≡ 6)
+        ⊎ (((result ≡ 5) × Appends (E.contents err.old) (E.contents err.new) (codes "memory\n") × Keeps (W.contents out.old) (W.contents out.new))
+        ⊎ ((text : List ℕ) × (status : End) × Tells bytes.now text status × (result ≡ byte_of status) × Appends (W.contents out.old) (W.contents out.new) text × Keeps (E.contents err.old) (E.contents err.new))) }
+{
+    match frame_report(alloc, bytes) {
+        Ok(report) => finish(out, report.text.as_bytes(), report.status),
+        Err(_) => finish(err, b"memory\n", Status::Memory),
+    }
+}

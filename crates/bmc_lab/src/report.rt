@@ -1,0 +1,54 @@
+//! What a run says.
+ghost use Rattle.std.specs.Prelude.{◌≡◌, ◌++◌, IfOk, OnOk, string_bytes};
+ghost use Rattle.bmc_lab.specs.Report.{status_of, frame_line, text_of};
+
+use crate::status::Status;
+use bmc_core::{Done, Out};
+use std::alloc::{AllocError, Global};
+use two_wire::Frame;
+
+/// The lines that a run writes, and how it ends.
+#[derive(Debug, Drop)]
+pub struct Report {
+    pub text: String,
+    pub status: Status,
+}
+
+/// Adds the line of a frame: its bytes in upper-case hexadecimal.
+fn push_line(alloc: Global, text: &mut String, frame: &Frame) -> Result<(), AllocError>
+    ensures { OnOk result (string_bytes text.new ≡ string_bytes text.old ++ frame_line frame.now) }
+{
+    let digits = hex::encode_upper(alloc, frame.as_slice())?;
+    text.push_str(digits.as_str())?;
+    text.push_str("\n")
+}
+
+/// Whether a port sent something.
+fn status(out: &Out) -> Status
+    ensures { result ≡ status_of out.now.frames }
+{
+    match out.frames.as_slice() {
+        [] => Status::NotSent,
+        _ => Status::Sent,
+    }
+}
+
+impl Report {
+    /// What is said of what a port did: a line for each frame that it sent, and why it ignored what it heard.
+    pub fn new(alloc: Global, out: &Out) -> Result<Report, AllocError>
+        ensures text { IfOk result (λ report. string_bytes report.text ≡ text_of out.now) }
+        ensures status { IfOk result (λ report. report.status ≡ status_of out.now.frames) }
+    {
+        let mut text = String::new(alloc);
+        for frame in out.frames.as_slice() {
+            push_line(alloc, &mut text, frame)?;
+        }
+        if let Done::Ignored(reason) = out.done {
+            writeln!(text, "ignored {reason}")?;
+        }
+        Ok(Report {
+            text,
+            status: status(out),
+        })
+    }
+}

@@ -1,0 +1,27 @@
+//! How a run ends.
+
+/// The status that a run ends with, as the process gives it.
+#[derive(Clone, Copy, Debug, PartialEq, Eq)]
+pub enum Status {
+    /// A frame was sent.
+    Sent = 0,
+    /// No frame was sent.
+    NotSent = 1,
+    /// The words of the command line were refused.
+    RefusedWords = 2,
+    /// Memory was refused.
+    Memory = 5,
+    /// Writing to standard output or standard error failed.
+    Output = 6,
+}
+
+impl From<Status> for u8 {
+    ghost use Rattle.std.specs.Prelude.{◌≡◌};
+    ghost use Rattle.bmc_lab.specs.Report.{byte_of};
+
+    ghost from_gives = { λ status byte. byte ≡ byte_of status };
+
+    fn from(status: Status) -> u8 {
+        status as u8
+    }
+}
