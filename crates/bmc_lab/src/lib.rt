@@ -8,3 +8,6 @@ pub mod status;
 pub use frame::frame_run;
 pub use report::Report;
 pub use status::Status;
+
+#[cfg(test)]
+mod tests;
