@@ -1,5 +1,6 @@
 //! What never changes of a board.
 ghost use Rattle.std.specs.Prelude.{◌≡◌, ◌≤◌, length};
+ghost use Rattle.std.specs.Option.{option_copied};
 ghost use Rattle.cfg_records.specs.Distinct.{NumbersDiffer};
 ghost use Rattle.record_kinds.specs.Places.{ArePlaces};
 
@@ -61,11 +62,11 @@ impl Setup {
     }
 
     /// The sensor of this number.
-    pub fn sensor(&self, number: u8) -> Option<Sensor>
-        ensures { result ≡ sensor_at self.now.sensors number }
+    pub fn sensor(&self, number: u8) -> Option<&Sensor>
+        ensures { option_copied result ≡ sensor_at self.now.sensors number }
     {
         let place = self.places[number as usize];
-        self.file.sensors.as_slice().get(place as usize).copied()
+        self.file.sensors.as_slice().get(place as usize)
     }
 
     /// The limits of the key's record.
@@ -73,8 +74,8 @@ impl Setup {
         ensures { result ≡ limits_at self.now key.now }
     {
         match key {
-            Key::Thresholds(number) => Some(Limits::of_thresholds(&self.sensor(*number)?)),
-            Key::Hysteresis(number) => Some(Limits::of_hysteresis(&self.sensor(*number)?)),
+            Key::Thresholds(number) => Some(Limits::of_thresholds(self.sensor(*number)?)),
+            Key::Hysteresis(number) => Some(Limits::of_hysteresis(self.sensor(*number)?)),
         }
     }
 }
