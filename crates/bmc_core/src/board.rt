@@ -1,11 +1,11 @@
 //! A board.
 ghost use Rattle.std.specs.Prelude.{◌≡◌, ◌≢◌, ◌≤◌, ◌/◌, ◌%◌, IfOk, None, Some, length};
-ghost use Rattle.two_wire.specs.Codes.{success, node_busy, pldm_not_ready};
+ghost use Rattle.two_wire.specs.Codes.{success, node_busy, pldm_not_ready, not_present};
 ghost use Rattle.cfg_records.specs.Records.{records_of};
 ghost use Rattle.cfg_records.specs.Boards.{pairs_of};
 ghost use Rattle.cfg_records.specs.Meaning.{room_for};
 ghost use Rattle.record_kinds.specs.Sound.{IsSound, IsSound-prop};
-ghost use Rattle.bmc_core.specs.Row.{device_data};
+ghost use Rattle.bmc_core.specs.Row.{device_data, refused};
 
 use crate::request::{Request, read_request};
 use cfg_records::{
@@ -46,6 +46,13 @@ fn device_data(device: &Device) -> RecordData
     ])
 }
 
+/// The answer where the record isn't there.
+fn unknown() -> Answered
+    ensures { result ≡ refused not_present }
+{
+    Answered::refused(code::NOT_PRESENT)
+}
+
 impl<S: Store> Board<S> {
     ghost use Rattle.cfg_records.specs.Keys.{key_of};
     ghost use Rattle.record_kinds.specs.Boards.{limits_at};
@@ -81,7 +88,7 @@ impl<S: Store> Board<S> {
             (Some(limits), Some(value)) => {
                 Answered::done(limits.get_data(&value, &self.live).as_slice())
             }
-            _ => Answered::refused(code::NOT_PRESENT),
+            _ => unknown(),
         }
     }
 
@@ -100,7 +107,7 @@ impl<S: Store> Board<S> {
                 }
                 Err(code) => Answered::refused(code),
             },
-            _ => Answered::refused(code::NOT_PRESENT),
+            _ => unknown(),
         }
     }
 
