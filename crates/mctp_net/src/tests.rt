@@ -1,0 +1,2 @@
+//! Frames of the standard's form, byte by byte.
+mod packets;
