@@ -4,16 +4,20 @@
 
 mod fault;
 mod laws;
+mod message;
 mod packet;
 mod reading;
 mod some_bytes;
+mod splitting;
 mod writing;
 
 pub use fault::PacketFault;
 pub use laws::one_packet;
+pub use message::Message;
 pub use packet::{Envelope, Packet, Payload, Sequence, Tag};
 pub use reading::read_packet;
 pub use some_bytes::SomeBytes;
+pub use splitting::split;
 pub use writing::write_packet;
 
 #[cfg(test)]

@@ -94,5 +94,13 @@ impl<const CAP: usize> Bytes<CAP> {
     }
 }
 
+impl<const CAP: usize> Default for Bytes<CAP> {
+    ghost is_default = { λ b. b ≡ [] };
+
+    fn default() -> Self {
+        Bytes::new()
+    }
+}
+
 /// The bytes of one frame of either bus.
 pub type Frame = Bytes<80>;
