@@ -2,6 +2,8 @@
 //! control commands.
 #![tactic(auto)]
 
+mod control_fault;
+mod endpoint;
 mod fault;
 mod laws;
 mod message;
@@ -11,6 +13,8 @@ mod some_bytes;
 mod splitting;
 mod writing;
 
+pub use control_fault::ControlFault;
+pub use endpoint::{ControlReply, Endpoint, EndpointId};
 pub use fault::PacketFault;
 pub use laws::one_packet;
 pub use message::Message;
