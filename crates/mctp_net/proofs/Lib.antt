@@ -1,3 +1,8 @@
 pub mod Packets
 pub mod PacketLaws
 pub mod Cuts
+pub mod Filters
+pub mod Names
+pub mod Soundness
+pub mod Causes
+pub mod Wholes

@@ -2,6 +2,7 @@
 //! control commands.
 #![tactic(auto)]
 
+mod assembler;
 mod control_fault;
 mod endpoint;
 mod fault;
@@ -11,8 +12,10 @@ mod packet;
 mod reading;
 mod some_bytes;
 mod splitting;
+mod taken;
 mod writing;
 
+pub use assembler::Assembler;
 pub use control_fault::ControlFault;
 pub use endpoint::{ControlReply, Endpoint, EndpointId};
 pub use fault::PacketFault;
@@ -22,6 +25,7 @@ pub use packet::{Envelope, Packet, Payload, Sequence, Tag};
 pub use reading::read_packet;
 pub use some_bytes::SomeBytes;
 pub use splitting::split;
+pub use taken::{DropCause, Taken};
 pub use writing::write_packet;
 
 #[cfg(test)]

@@ -11,13 +11,13 @@ pub struct SomeBytes<const CAP: usize> {
 }
 
 impl<const CAP: usize> Model for SomeBytes<CAP> {
-    ghost use Rattle.std.specs.Prelude.{List, ℕ, ◌<◌, ◌≤◌, length};
+    ghost use Rattle.std.specs.Prelude.{List, ℕ, ◌<◌, length};
 
     ghost Value = { List ℕ };
 
     ghost view = { λ s. s.bytes };
 
-    ghost invariant = { λ s. (0 < length s.bytes) × (length s.bytes ≤ CAP) };
+    ghost invariant = { λ s. 0 < length s.bytes };
 
     ghost inverse = { λ xs. record { bytes = xs } };
 }
@@ -32,6 +32,14 @@ impl<const CAP: usize> SomeBytes<CAP> {
         SomeBytes {
             bytes: Bytes::from_slice(bytes),
         }
+    }
+
+    /// The same bytes.
+    pub fn from_bytes(bytes: Bytes<CAP>) -> Self
+        requires { 0 < length bytes }
+        ensures { result ≡ bytes.entry }
+    {
+        SomeBytes { bytes }
     }
 
     /// The bytes.
