@@ -6,3 +6,5 @@ pub mod Names
 pub mod Soundness
 pub mod Causes
 pub mod Wholes
+pub mod ComingBack
+pub mod OneCut

@@ -1,5 +1,5 @@
 -- Messages put together from packets. An assembler keeps the packets of all open assemblies in the order in which they came.
-use Rattle.std.specs.Prelude.{◌≡◌, ℕ, ◌==◌, ◌||◌, ◌&&◌, Bool, true, not, nat_le, if◌then◌else◌, List, [], ◌∷◌, ◌++◌, length, filter, find, Option, Some, None}
+use Rattle.std.specs.Prelude.{◌≡◌, ℕ, ◌==◌, ◌||◌, ◌&&◌, Bool, true, not, nat_le, if◌then◌else◌, List, [], ◌∷◌, ◌++◌, length, filter, find, Option, Some, None, false}
 use Rattle.mctp_net.specs.declared.packet.Envelope.{Envelope}
 use Rattle.mctp_net.specs.declared.packet.Packet.{Packet}
 use Rattle.mctp_net.specs.declared.message.Message.{Message}
@@ -80,3 +80,14 @@ abbrev pub dropped_for : Taken → Option DropCause
 dropped_for taken.Waiting = None
 dropped_for (taken.Whole m) = None
 dropped_for (taken.Dropped cause) = Some cause
+
+-- the packet is taken, and others are to come
+pub record IsTaken (own : ℕ) (kept : List Packet) (p : Packet) : Type 0 where
+  pub kept_on : drop_cause own kept p ≡ None
+  pub more : p.end ≡ false
+
+-- the packets come one after another: each but the last is taken, and the last makes the message whole
+abbrev pub ComesBack : ℕ → List Packet → List Packet → Message → Type 0
+ComesBack own kept [] m = ⊥
+ComesBack own kept (p ∷ []) m = MakesWhole own kept p m
+ComesBack own kept (p ∷ q ∷ rest) m = IsTaken own kept p × ComesBack own (kept_after own kept p) (q ∷ rest) m
