@@ -61,13 +61,15 @@ rest-comes own m count (p ∷ q ∷ rest) front kept pieces sum few some more en
     } in
     let taken : IsTaken own kept p = record { kept_on = passes_back own kept p (ours 0 p (omega arith)) fits; more = pieces.0.ended ∙ not_last } in
     let after : kept_after own kept p ≡ kept ++ p ∷ [] = kept_after-taken own kept p taken ∙ kept_with-more kept p start in
-    let next : length front + 1 ≡ length (front ++ p ∷ []) = sym (length-append front (p ∷ [])) in
-    (taken, subst (λ ps. ComesBack own ps (q ∷ rest) m) (sym after)
-      (rest-comes own m count (q ∷ rest) (front ++ p ∷ []) (kept ++ p ∷ [])
-        (subst (λ n. EachFrom (IsPiece count) n (q ∷ rest)) next pieces.1) (omega arith) few (omega arith) (omega arith)
-        (All-tail (λ x. x.envelope ≡ m.envelope) p (q ∷ rest) enveloped) (All-tail (λ x. is_ours own x ≡ true) p (q ∷ rest) ours)
-        (λ x is. taken_under-push p x kept (is ∙ sym mine) ∙ ap (λ ps. ps ++ p ∷ []) (under x is))
-        (rw (append_assoc front (p ∷ []) (q ∷ rest)) cut)))
+    let next : length front + 1 ≡ length (front ++ p ∷ []) = sym (length-append front (p ∷ [])) in (
+      taken,
+      subst (λ ps. ComesBack own ps (q ∷ rest) m) (sym after)
+          (rest-comes own m count (q ∷ rest) (front ++ p ∷ []) (kept ++ p ∷ [])
+          (subst (λ n. EachFrom (IsPiece count) n (q ∷ rest)) next pieces.1) (omega arith) few (omega arith) (omega arith)
+          (All-tail (λ x. x.envelope ≡ m.envelope) p (q ∷ rest) enveloped) (All-tail (λ x. is_ours own x ≡ true) p (q ∷ rest) ours)
+          (λ x is. taken_under-push p x kept (is ∙ sym mine) ∙ ap (λ ps. ps ++ p ∷ []) (under x is))
+          (rw (append_assoc front (p ∷ []) (q ∷ rest)) cut)),
+    )
 
 -- all of them
 pub cut-comes_back : (own : ℕ) (kept : List Packet) (m : Message) (ps : List Packet) → IsCutOf m ps → All (λ p. is_ours own p ≡ true) ps → (1 < length ps → open_count kept < 8) → ComesBack own kept ps m
@@ -95,26 +97,29 @@ cut-comes_back own kept m (p ∷ q ∷ rest) h ours room =
       slots = λ _ _. omega (arith, filter_split (λ x. x.start) (λ x. same_name p.envelope x.envelope) kept);
     } in
     let taken : IsTaken own kept p = record { kept_on = passes_back own kept p (ours 0 p (omega arith)) fits; more = h.cut.pieces.0.ended ∙ not_last } in
-    let after : kept_after own kept p ≡ others p kept ++ p ∷ [] = kept_after-taken own kept p taken ∙ kept_with-start kept p start in
-    (taken, subst (λ ps. ComesBack own ps (q ∷ rest) m) (sym after)
-      (rest-comes own m count (q ∷ rest) (p ∷ []) (others p kept ++ p ∷ []) h.cut.pieces.1 (omega arith) h.cut.few (omega arith) (omega arith)
-        (All-tail (λ x. x.envelope ≡ m.envelope) p (q ∷ rest) h.enveloped) (All-tail (λ x. is_ours own x ≡ true) p (q ∷ rest) ours)
-        (λ x is. taken_under-push p x (others p kept) (is ∙ sym mine)
+    let after : kept_after own kept p ≡ others p kept ++ p ∷ [] = kept_after-taken own kept p taken ∙ kept_with-start kept p start in (
+      taken,
+      subst (λ ps. ComesBack own ps (q ∷ rest) m) (sym after)
+          (rest-comes own m count (q ∷ rest) (p ∷ []) (others p kept ++ p ∷ []) h.cut.pieces.1 (omega arith) h.cut.few (omega arith) (omega arith)
+          (All-tail (λ x. x.envelope ≡ m.envelope) p (q ∷ rest) h.enveloped) (All-tail (λ x. is_ours own x ≡ true) p (q ∷ rest) ours)
+          (λ x is. taken_under-push p x (others p kept) (is ∙ sym mine)
           ∙ ap (λ ps. ps ++ p ∷ []) (taken_under-same x p (others p kept) (rw (is ∙ sym mine) (same_name-self p.envelope)) ∙ taken_under-others_same p kept))
-        h.cut))
+          h.cut),
+    )
 
 -- what is kept after a packet is sound
 pub sound-after : (own : ℕ) (kept : List Packet) (p : Packet) → IsSound kept → IsSound (kept_after own kept p)
 sound-after own kept p h = by_cause (drop_cause own kept p) refl
   where
-  by_end : (a : Bool) → p.end ≡ a → drop_cause own kept p ≡ None → IsSound (cond a (others p kept) (kept_with kept p))
-  by_end true e none = sound-others p kept h
-  by_end false e none = sound-with p kept h (passes own kept p none).1 e
-  by_cause : (cause : Option DropCause) → drop_cause own kept p ≡ cause → IsSound (kept_where cause kept p)
-  by_cause (Some NotOurs) e = h
-  by_cause (Some NoStart) e = h
-  by_cause (Some TooLong) e = sound-others p kept h
-  by_cause (Some OutOfSequence) e = sound-others p kept h
-  by_cause (Some UnitSize) e = sound-others p kept h
-  by_cause (Some NoSlot) e = sound-others p kept h
-  by_cause None e = by_end p.end refl e
+    by_end : (a : Bool) → p.end ≡ a → drop_cause own kept p ≡ None → IsSound (cond a (others p kept) (kept_with kept p))
+    by_end true e none = sound-others p kept h
+    by_end false e none = sound-with p kept h (passes own kept p none).1 e
+
+    by_cause : (cause : Option DropCause) → drop_cause own kept p ≡ cause → IsSound (kept_where cause kept p)
+    by_cause (Some NotOurs) e = h
+    by_cause (Some NoStart) e = h
+    by_cause (Some TooLong) e = sound-others p kept h
+    by_cause (Some OutOfSequence) e = sound-others p kept h
+    by_cause (Some UnitSize) e = sound-others p kept h
+    by_cause (Some NoSlot) e = sound-others p kept h
+    by_cause None e = by_end p.end refl e

@@ -41,7 +41,7 @@ same_from e count other number (p ∷ s ∷ ps) (q ∷ r ∷ qs) h k n m d f byt
     let long : length p.payload ≡ length q.payload = h.0.full (omega arith) ∙ sym (k.0.full (omega arith)) in
     let parts : (p.payload ≡ q.payload) × (carried (s ∷ ps) ≡ carried (r ∷ qs)) = fronts p.payload (carried (s ∷ ps)) q.payload (carried (r ∷ qs)) long bytes in
     let rest : (s ∷ ps) ≡ (r ∷ qs) = same_from e count other (number + 1) (s ∷ ps) (r ∷ qs) h.1 k.1 (omega arith) (omega arith)
-        (All-tail (λ x. x.envelope ≡ e) p (s ∷ ps) d) (All-tail (λ x. x.envelope ≡ e) q (r ∷ qs) f) parts.1 in
+    (All-tail (λ x. x.envelope ≡ e) p (s ∷ ps) d) (All-tail (λ x. x.envelope ≡ e) q (r ∷ qs) f) parts.1 in
     let one : (number + 1 == count) ≡ false = grind (arith, nat_tests) in
     let two : (number + 1 == other) ≡ false = grind (arith, nat_tests) in
     let head : p ≡ q = same_piece count other number p q h.0 k.0 (d 0 p (omega arith) ∙ sym (f 0 q (omega arith))) parts.0 (one ∙ sym two) in

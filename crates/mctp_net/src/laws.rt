@@ -1,5 +1,5 @@
 //! What holds of the definitions alone.
-ghost use Rattle.std.specs.Prelude.{◌≡◌, ◌<◌, List, [], ℕ, All, length, true};
+ghost use Rattle.std.specs.Prelude.{◌≡◌, ◌<◌, ◌≤◌, List, [], ℕ, All, length, true};
 ghost use Rattle.mctp_net.specs.declared.packet.Packet.{Packet};
 ghost use Rattle.mctp_net.specs.declared.message.Message.{Message};
 ghost use Rattle.mctp_net.specs.Grammar.{IsPacket};
@@ -10,6 +10,11 @@ ghost use Rattle.mctp_net.specs.Sound.{IsSound};
 /// Bytes are at most one packet.
 pub fn one_packet()
     ensures { (p q : Packet) (bytes : List ℕ) → IsPacket p bytes → IsPacket q bytes → p ≡ q }
+{}
+
+/// A message of 1 to 256 bytes has a cut.
+pub fn has_cut()
+    ensures { (m : Message) → 0 < length m.body → length m.body ≤ 256 → (ps : List Packet) × IsCutOf m ps }
 {}
 
 /// A message is cut in one way.
