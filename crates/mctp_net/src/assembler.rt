@@ -4,7 +4,7 @@ ghost use Rattle.std.specs.Vec.{vec_capacity};
 ghost use Rattle.mctp_net.specs.declared.message.Message.{Message as AnyMessage};
 ghost use Rattle.mctp_net.specs.declared.taken.Taken.TheVariants.{Whole as IsWhole, Waiting as IsWaiting};
 ghost use Rattle.mctp_net.specs.Cut.{carried};
-ghost use Rattle.mctp_net.specs.Assembly.{same_name, taken_under, others, joined_to, open_count, drop_cause, kept_with, kept_after, MakesWhole, dropped_for};
+ghost use Rattle.mctp_net.specs.Assembly.{same_name, taken_under, others, joined_to, open_count, drop_cause, kept_with, kept_after, MakesWhole, IsTaken, dropped_for};
 ghost use Rattle.mctp_net.specs.Sound.{Fits};
 
 use crate::{DropCause, Envelope, Message, Packet, SomeBytes, Taken};
@@ -47,7 +47,8 @@ impl Assembler {
         ensures dropped { dropped_for result ≡ drop_cause own self.old packet.now }
         // It's whole exactly where the packet ends a cut of the message.
         ensures whole { (m : AnyMessage) → (result ≡ IsWhole m) ↔ MakesWhole own self.old packet.now m }
-        ensures waiting { (result ≡ IsWaiting) ↔ ((drop_cause own self.old packet.now ≡ None) × (packet.now.end ≡ false)) }
+        // It's waiting exactly where it's taken and is no end.
+        ensures waiting { (result ≡ IsWaiting) ↔ IsTaken own self.old packet.now }
         ensures after { self.new ≡ kept_after own self.old packet.now }
     {
         match first_cause(own, self.kept.as_slice(), packet) {
@@ -167,7 +168,8 @@ fn close_name(kept: &mut Vec<Packet>, packet: &Packet)
 
 // Closes the assembly of a start's name.
 fn make_way(kept: &mut Vec<Packet>, packet: &Packet)
-    ensures items { kept.new.items ≡ (if packet.now.start then others packet.now kept.old.items else kept.old.items) }
+    ensures items { kept.new.items
+        ≡ (if packet.now.start then others packet.now kept.old.items else kept.old.items) }
     ensures capacity { vec_capacity kept.new ≡ vec_capacity kept.old }
 {
     if packet.start {

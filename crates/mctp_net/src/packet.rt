@@ -30,16 +30,19 @@ pub struct Envelope {
     pub tag: Tag,
 }
 
-/// A packet of the System Management Bus (DSP0237, "MCTP packet encapsulation"):
+/// A packet of a message on the System Management Bus (DSP0237, "MCTP packet encapsulation"):
 ///
-/// ```notrust
-///  destination | 0F | count | source + 1 | version | destination EID | source EID | flags | payload | PEC
-///  flags: start 7, end 6, sequence 5:4, tag owner 3, tag 2:0
+/// ```text
+///   byte   0             1    2       3            4             5                 6            7       8 ..           last
+///          +-------------+----+-------+------------+-------------+-----------------+------------+-------+--------------+-----+
+///          | destination | 0F | count | source + 1 | i i i i | 1 | destination EID | source EID | flags | 1 to 64 bytes | PEC |
+///          +-------------+----+-------+------------+-------------+-----------------+------------+-------+--------------+-----+
+///   flags  start 7, end 6, sequence 5:4, tag owner 3, tag 2:0
 /// ```
 ///
-/// The count is that of the bytes between it and the packet error code. Bits 3:0 of the version are 1; the others
-/// are ignored where a packet is read, and 0 where one is written.
-#[derive(Debug, PartialEq, Eq, Drop)]
+/// The count is that of the bytes from the source on, without the packet error code (PEC). Bits 7:4 of the version byte,
+/// `i`, are ignored where a packet is read, and 0 where one is written.
+#[derive(Clone, Debug, PartialEq, Eq, Drop)]
 pub struct Packet {
     pub envelope: Envelope,
     /// Whether it is the first of its message.

@@ -5,7 +5,7 @@ use std::marker::Model;
 use two_wire::Bytes;
 
 /// One to `CAP` bytes.
-#[derive(Debug, PartialEq, Eq, Drop)]
+#[derive(Clone, Debug, PartialEq, Eq, Drop)]
 pub struct SomeBytes<const CAP: usize> {
     bytes: Bytes<CAP>,
 }

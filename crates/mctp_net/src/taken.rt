@@ -19,7 +19,7 @@ pub enum DropCause {
 }
 
 /// What becomes of a packet.
-#[derive(Debug, PartialEq, Eq, Drop)]
+#[derive(Clone, Debug, PartialEq, Eq, Drop)]
 pub enum Taken {
     /// It's taken, and others are to come.
     Waiting,

@@ -73,6 +73,22 @@ fn messages_come_back(rt: HostRuntime) -> Result<(), Fail> {
 }
 
 #[test]
+fn a_message_of_65_bytes_is_two_frames(rt: HostRuntime) -> Result<(), Fail> {
+    let frames = split(&message(65).ok_or("the message")?);
+    assert_eq!(rt; frames.len(), 2);
+    let first = frames.as_slice()[0].as_slice();
+    assert_eq!(rt; first.len(), 73);
+    assert_eq!(rt;
+        &first[..8],
+        [0x20, 0x0F, 0x45, 0x31, 0x01, 0x0A, 0x08, 0x8B].as_slice()
+    );
+    assert!(rt;
+        frames.as_slice()[1].is(&[0x20, 0x0F, 0x06, 0x31, 0x01, 0x0A, 0x08, 0x5B, 0x40, 0x5F,])
+    );
+    Ok(())
+}
+
+#[test]
 fn a_ninth_assembly_has_no_slot(rt: HostRuntime) -> Result<(), Fail> {
     let mut assembler = Assembler::new(rt.alloc())?;
     for eid in 8..16 {
