@@ -1,19 +1,18 @@
 -- What is cut comes back whole.
-use Rattle.std.proofs.Common.{◌≡◌, ℕ, zero, suc, ◌+◌, ◌-◌, ◌*◌, ◌<◌, ◌≤◌, ◌==◌, Bool, true, false, not, cond, List, [], ◌∷◌, ◌++◌, length, refl, sym, ◌∙◌, ap, subst, arith, length-append, append_assoc, Option, Some, None}
-use Rattle.std.specs.List.{filter, All}
-use Rattle.std.proofs.lemmas.Bool.{eqb-true, eq-eqb}
+use Rattle.std.proofs.Common.{◌≡◌, ℕ, ◌+◌, ◌<◌, ◌≤◌, ◌==◌, Bool, true, false, cond, List, [], ◌∷◌, ◌++◌, length, refl, sym, ◌∙◌, ap, subst, arith, length-append, append_assoc, Option, Some, None}
+use Rattle.std.specs.List.{All}
 use Rattle.std.proofs.lemmas.Bool.Decides.{nat_tests}
 use Rattle.std.proofs.lemmas.List.Elements.{All-tail}
 use Rattle.mctp_net.specs.declared.packet.Packet.{Packet}
 use Rattle.mctp_net.specs.declared.message.Message.{Message}
 use Rattle.mctp_net.specs.declared.taken.DropCause.{DropCause}
 use Rattle.mctp_net.specs.declared.taken.DropCause.TheVariants.{NotOurs, NoStart, TooLong, OutOfSequence, UnitSize, NoSlot}
-use Rattle.mctp_net.specs.Cut.{IsPiece, EachFrom, carried, IsCut, IsCutOf}
-use Rattle.mctp_net.specs.Assembly.{same_name, taken_under, others, joined_to, open_count, is_ours, drop_cause, kept_with, kept_where, kept_after, MakesWhole, IsTaken, ComesBack}
+use Rattle.mctp_net.specs.Cut.{IsPiece, EachFrom, IsCut, IsCutOf}
+use Rattle.mctp_net.specs.Assembly.{same_name, taken_under, others, joined_to, open_count, is_ours, drop_cause, kept_with, kept_where, kept_after, IsTaken, ComesBack}
 use Rattle.mctp_net.specs.Sound.{IsSound, Fits}
 use Rattle.mctp_net.proofs.Filters.{filter_split, filter_last}
 use Rattle.mctp_net.proofs.Names.{same_name-self, taken_under-others_same, taken_under-same}
-use Rattle.mctp_net.proofs.Soundness.{sound-others, sound-with, sound-none}
+use Rattle.mctp_net.proofs.Soundness.{sound-others, sound-with}
 use Rattle.mctp_net.proofs.Causes.{passes, passes_back, joined-start, joined-more}
 
 -- what is kept after a packet that is taken

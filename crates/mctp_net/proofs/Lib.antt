@@ -8,3 +8,4 @@ pub mod Causes
 pub mod Wholes
 pub mod ComingBack
 pub mod OneCut
+pub mod NamesAlone

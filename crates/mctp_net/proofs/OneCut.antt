@@ -1,5 +1,5 @@
 -- A message is cut in one way.
-use Rattle.std.proofs.Common.{◌≡◌, ℕ, zero, suc, ◌+◌, ◌-◌, ◌*◌, ◌<◌, ◌≤◌, ◌==◌, Bool, true, false, List, [], ◌∷◌, ◌++◌, length, take, drop, refl, sym, ◌∙◌, ap, subst, arith, length-append}
+use Rattle.std.proofs.Common.{◌≡◌, ℕ, ◌+◌, ◌==◌, false, List, [], ◌∷◌, ◌++◌, length, refl, sym, ◌∙◌, ap, arith, length-append}
 use Rattle.std.specs.List.{All}
 use Rattle.std.proofs.Math.Seq.{take-append_seam, drop-append_seam}
 use Rattle.std.proofs.lemmas.Bool.Decides.{nat_tests}
@@ -8,7 +8,7 @@ use Rattle.std.proofs.lemmas.List.Elements.{All-tail}
 use Rattle.mctp_net.specs.declared.packet.Envelope.{Envelope}
 use Rattle.mctp_net.specs.declared.packet.Packet.{Packet}
 use Rattle.mctp_net.specs.declared.message.Message.{Message}
-use Rattle.mctp_net.specs.Cut.{IsPiece, EachFrom, carried, IsCut, IsCutOf}
+use Rattle.mctp_net.specs.Cut.{IsPiece, EachFrom, carried, IsCutOf}
 
 -- pieces of one number with the same place, envelope and bytes are one packet
 same_piece : (count other number : ℕ) (p q : Packet) → IsPiece count number p → IsPiece other number q → p.envelope ≡ q.envelope → p.payload ≡ q.payload → (number + 1 == count) ≡ (number + 1 == other) → p ≡ q

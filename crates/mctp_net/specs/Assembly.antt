@@ -69,6 +69,16 @@ kept_where None kept p = if p.end then others p kept else kept_with kept p
 abbrev pub kept_after : ℕ → List Packet → Packet → List Packet
 kept_after own kept p = kept_where (drop_cause own kept p) kept p
 
+-- what is open under the packet's name after it, where it's dropped for the cause or for none
+abbrev pub named_where : Option DropCause → List Packet → Packet → List Packet
+named_where (Some NotOurs) kept p = taken_under p kept
+named_where (Some NoStart) kept p = taken_under p kept
+named_where (Some TooLong) kept p = []
+named_where (Some OutOfSequence) kept p = []
+named_where (Some UnitSize) kept p = []
+named_where (Some NoSlot) kept p = []
+named_where None kept p = if p.end then [] else joined_to p kept ++ p ∷ []
+
 -- with the packets to which it's joined, the packet makes the message whole
 pub record MakesWhole (own : ℕ) (kept : List Packet) (p : Packet) (m : Message) : Type 0 where
   pub ours : is_ours own p ≡ true

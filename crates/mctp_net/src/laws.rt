@@ -1,10 +1,10 @@
 //! What holds of the definitions alone.
-ghost use Rattle.std.specs.Prelude.{◌≡◌, ◌<◌, ◌≤◌, List, [], ℕ, All, length, true};
+ghost use Rattle.std.specs.Prelude.{◌≡◌, ◌<◌, ◌≤◌, List, [], ℕ, All, length, true, false};
 ghost use Rattle.mctp_net.specs.declared.packet.Packet.{Packet};
 ghost use Rattle.mctp_net.specs.declared.message.Message.{Message};
 ghost use Rattle.mctp_net.specs.Grammar.{IsPacket};
 ghost use Rattle.mctp_net.specs.Cut.{IsCutOf};
-ghost use Rattle.mctp_net.specs.Assembly.{is_ours, open_count, kept_after, ComesBack};
+ghost use Rattle.mctp_net.specs.Assembly.{is_ours, same_name, taken_under, open_count, drop_cause, named_where, kept_after, ComesBack};
 ghost use Rattle.mctp_net.specs.Sound.{IsSound};
 
 /// Bytes are at most one packet.
@@ -34,4 +34,13 @@ pub fn comes_back()
 pub fn stays_sound()
     ensures none { IsSound [] }
     ensures next { (own : ℕ) (kept : List Packet) (p : Packet) → IsSound kept → IsSound (kept_after own kept p) }
+{}
+
+/// A packet changes what is open under its own name alone: unless it is dropped as NotOurs or NoStart, its assembly is
+/// longer by it, or closed.
+pub fn each_name_alone()
+    ensures same { (own : ℕ) (kept : List Packet) (p q : Packet) → same_name q.envelope p.envelope ≡ true
+        → taken_under q (kept_after own kept p) ≡ named_where (drop_cause own kept p) kept p }
+    ensures other { (own : ℕ) (kept : List Packet) (p q : Packet) → same_name q.envelope p.envelope ≡ false
+        → taken_under q (kept_after own kept p) ≡ taken_under q kept }
 {}

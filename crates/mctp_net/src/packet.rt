@@ -33,11 +33,12 @@ pub struct Envelope {
 /// A packet of a message on the System Management Bus (DSP0237, "MCTP packet encapsulation"):
 ///
 /// ```text
-///   byte   0             1    2       3            4             5                 6            7       8 ..           last
-///          +-------------+----+-------+------------+-------------+-----------------+------------+-------+--------------+-----+
-///          | destination | 0F | count | source + 1 | i i i i | 1 | destination EID | source EID | flags | 1 to 64 bytes | PEC |
-///          +-------------+----+-------+------------+-------------+-----------------+------------+-------+--------------+-----+
-///   flags  start 7, end 6, sequence 5:4, tag owner 3, tag 2:0
+///   byte     0         1    2       3            4       5             6            7       8 ..            last
+///          +---------+----+-------+------------+-------+-------------+------------+-------+---------------+-----+
+///          | address | 0F | count | source + 1 | i | 1 | destination | source EID | flags | 1 to 64 bytes | PEC |
+///          |         |    |       |            |   |   | EID         |            |       |               |     |
+///          +---------+----+-------+------------+-------+-------------+------------+-------+---------------+-----+
+///   flags: start 7, end 6, sequence 5:4, tag owner 3, tag 2:0
 /// ```
 ///
 /// The count is that of the bytes from the source on, without the packet error code (PEC). Bits 7:4 of the version byte,
@@ -58,12 +59,6 @@ impl Packet {
     pub fn copy(&self) -> Packet
         ensures { result ≡ self.now }
     {
-        Packet {
-            envelope: self.envelope,
-            start: self.start,
-            end: self.end,
-            sequence: self.sequence,
-            payload: self.payload.copy(),
-        }
+        self.clone().unwrap()
     }
 }

@@ -55,8 +55,6 @@ impl<const CAP: usize> SomeBytes<CAP> {
     pub fn copy(&self) -> Self
         ensures { result ≡ self.now }
     {
-        SomeBytes {
-            bytes: self.bytes.copy(),
-        }
+        self.clone().unwrap()
     }
 }
