@@ -8,6 +8,7 @@ mod bytes;
 mod checks;
 pub mod code;
 mod number;
+mod packet_error;
 
 pub use address::Address;
 pub use bus::Bus;
@@ -15,6 +16,7 @@ pub use bytes::{Bytes, Frame};
 pub use checks::sum8;
 pub use code::Code;
 pub use number::{Below, Lun, NetFn};
+pub use packet_error::pec;
 
 #[cfg(test)]
 mod tests;

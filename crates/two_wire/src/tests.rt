@@ -1,5 +1,5 @@
 //! Check bytes of the standard's frames, and one call of each function.
-use crate::{Address, Bytes, Code, Lun, NetFn, code, sum8};
+use crate::{Address, Bytes, Code, Lun, NetFn, code, pec, sum8};
 use std::test::Fail;
 
 #[test]
@@ -7,6 +7,18 @@ fn the_check_byte_of_a_head_and_of_a_body(rt: HostRuntime) {
     assert_eq!(rt; sum8(&[0x20, 0x18]), 0xC8);
     assert_eq!(rt; sum8(&[0x2C, 0x00, 0x01]), 0xD3);
     assert_eq!(rt; sum8(&[]), 0);
+}
+
+#[test]
+fn the_packet_error_code_of_nine_digits_and_of_a_packet(rt: HostRuntime) {
+    assert_eq!(rt; pec(b"123456789"), 0xF4);
+    assert_eq!(rt;
+        pec(&[
+            0x20, 0x0F, 0x08, 0x31, 0x01, 0x00, 0x08, 0xC8, 0x00, 0x80, 0x02
+        ]),
+        0x50
+    );
+    assert_eq!(rt; pec(&[]), 0);
 }
 
 #[test]

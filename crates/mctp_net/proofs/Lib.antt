@@ -1,0 +1,11 @@
+pub mod Packets
+pub mod PacketLaws
+pub mod Cuts
+pub mod Filters
+pub mod Names
+pub mod Soundness
+pub mod Causes
+pub mod Wholes
+pub mod ComingBack
+pub mod OneCut
+pub mod NamesAlone

@@ -1,0 +1,57 @@
+-- Packets of the System Management Bus.
+use Rattle.std.specs.Prelude.{◌≡◌, ℕ, ◌+◌, ◌-◌, ◌*◌, ◌%◌, ◌<◌, ◌≤◌, List, [], ◌∷◌, ◌++◌, length, take, slice_index, Bool, nat_lt, ◌==◌, ◌||◌, not, if◌then◌else◌}
+use Rattle.two_wire.specs.Pec.{pec_of}
+use Rattle.mctp_net.specs.declared.fault.PacketFault.{PacketFault}
+use Rattle.mctp_net.specs.declared.fault.PacketFault.TheVariants.{Short, NotMctp, Count, Pec, Version}
+use Rattle.mctp_net.specs.declared.packet.Envelope.{Envelope}
+use Rattle.mctp_net.specs.declared.packet.Packet.{Packet}
+
+-- a flag as a number
+abbrev pub bit : Bool → ℕ
+bit flag = if flag then 1 else 0
+
+-- the flags, from the highest bit down: start, end, two bits of sequence, tag owner, three bits of tag
+abbrev pub flags_of : Packet → ℕ
+flags_of p = 128 * bit p.start + 64 * bit p.end + 16 * p.sequence + 8 * bit p.envelope.tag_owner + p.envelope.tag
+
+-- the bytes before the packet error code, where the ignored bits of the version byte are these
+abbrev pub unchecked : Packet → ℕ → List ℕ
+unchecked p ignored =
+    p.envelope.destination ∷ 15 ∷ (5 + length p.payload) ∷ (p.envelope.source + 1) ∷ (16 * ignored + 1)
+    ∷ p.envelope.destination_eid ∷ p.envelope.source_eid ∷ flags_of p ∷ p.payload
+
+-- bytes, and behind them their packet error code
+abbrev pub with_pec : List ℕ → List ℕ
+with_pec bytes = bytes ++ pec_of bytes ∷ []
+
+-- the fields are in their ranges
+pub record IsEnvelope (e : Envelope) : Type 0 where
+  pub destination : (e.destination < 256) × (e.destination % 2 ≡ 0)
+  pub source : (e.source < 256) × (e.source % 2 ≡ 0)
+  pub destination_eid : e.destination_eid < 256
+  pub source_eid : e.source_eid < 256
+  pub tag : e.tag < 8
+
+-- the bytes are the packet, with these ignored bits
+pub record IsSpelled (p : Packet) (ignored : ℕ) (bytes : List ℕ) : Type 0 where
+  pub envelope : IsEnvelope p.envelope
+  pub sequence : p.sequence < 4
+  pub some : 0 < length p.payload
+  pub fits : length p.payload ≤ 64
+  pub spelled : bytes ≡ with_pec (unchecked p ignored)
+
+-- the bytes are the packet
+abbrev pub IsPacket : Packet → List ℕ → Type 0
+IsPacket p bytes = (ignored : ℕ) × (ignored < 16) × IsSpelled p ignored bytes
+
+-- the bytes have the fault
+abbrev pub has_fault : List ℕ → PacketFault → Bool
+has_fault bytes Short = nat_lt (length bytes) 10
+has_fault bytes NotMctp = not (slice_index bytes 1 == 15) || slice_index bytes 0 % 2 == 1 || slice_index bytes 3 % 2 == 0
+has_fault bytes Count = not (slice_index bytes 2 + 4 == length bytes) || nat_lt 73 (length bytes)
+has_fault bytes Pec = not (pec_of (take (length bytes - 1) bytes) == slice_index bytes (length bytes - 1))
+has_fault bytes Version = not (slice_index bytes 4 % 16 == 1)
+
+-- the faults in their order
+abbrev pub faults : List PacketFault
+faults = Short ∷ NotMctp ∷ Count ∷ Pec ∷ Version ∷ []

@@ -1,0 +1,48 @@
+//! Messages to frames.
+ghost use Rattle.std.specs.Prelude.{◌≡◌, ◌+◌, ◌*◌, ◌<◌, ◌≤◌, List, length, take, drop};
+ghost use Rattle.mctp_net.specs.declared.packet.Packet.{Packet as AnyPacket};
+ghost use Rattle.mctp_net.specs.Cut.{IsCutOf, AreWritten};
+ghost use Rattle.mctp_net.specs.Pieces.{piece_of};
+
+use crate::{Message, Packet, Payload, Sequence, write_packet};
+use arrayvec::ArrayVec;
+use two_wire::Frame;
+
+/// The frames of a message, one for each of its packets.
+pub fn split(message: &Message) -> ArrayVec<Frame, 4>
+    ensures { (ps : List AnyPacket) × IsCutOf message.now ps × AreWritten ps result.items }
+{
+    let count = message.body.as_slice().len().div_ceil(64);
+    let mut frames = ArrayVec::new();
+    for number in 0..count {
+        frames.push(write_packet(&piece(message, number)));
+    }
+    frames
+}
+
+// The packet of this number.
+fn piece(message: &Message, number: usize) -> Packet
+    requires { 64 * number < length message.now.body }
+    ensures value { result ≡ piece_of message.now number }
+    ensures fits { length message.now.body ≤ 256 }
+{
+    let body = message.body.as_slice();
+    Packet {
+        envelope: message.envelope,
+        start: number == 0,
+        end: body.len() <= 64 * number + 64,
+        sequence: Sequence::new(number as u8),
+        payload: Payload::from_slice(run(body, number)),
+    }
+}
+
+// The bytes that the packet of this number carries.
+fn run(body: &[u8], number: usize) -> &[u8]
+    requires some { 64 * number < length body.now }
+    requires few { length body.now ≤ 256 }
+    ensures value { result.now ≡ take 64 (drop (64 * number) body.now) }
+    ensures some { 0 < length result.now }
+    ensures fits { length result.now ≤ 64 }
+{
+    &body[64 * number..body.len().min(64 * number + 64)]
+}

@@ -1,0 +1,30 @@
+//! What becomes of a packet.
+use crate::Message;
+
+/// Why a packet is dropped: the first cause that holds, in this order.
+#[derive(Clone, Copy, Debug, PartialEq, Eq)]
+pub enum DropCause {
+    /// It goes to another endpoint.
+    NotOurs,
+    /// It isn't a start, and no assembly of its name is open.
+    NoStart,
+    /// Four packets were taken already.
+    TooLong,
+    /// Its sequence isn't its place.
+    OutOfSequence,
+    /// It isn't an end, and has other than 64 bytes.
+    UnitSize,
+    /// It would open a ninth assembly.
+    NoSlot,
+}
+
+/// What becomes of a packet.
+#[derive(Clone, Debug, PartialEq, Eq, Drop)]
+pub enum Taken {
+    /// It's taken, and others are to come.
+    Waiting,
+    /// It ends this message.
+    Whole(Message),
+    /// It's dropped.
+    Dropped(DropCause),
+}
