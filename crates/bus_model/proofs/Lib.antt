@@ -1,0 +1,11 @@
+pub mod Numbers
+pub mod Repeats
+pub mod Lists
+pub mod Sound
+pub mod Steps
+pub mod Effects
+pub mod InLog
+pub mod WholeMessages
+pub mod Rows
+pub mod Requesters
+pub mod Sentence

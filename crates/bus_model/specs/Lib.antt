@@ -1,0 +1,9 @@
+pub mod Request
+pub mod Numbering
+pub mod Carried
+pub mod Repeat
+pub mod Window
+pub mod BusState
+pub mod Schedule
+pub mod AtMostOnce
+pub mod Effect

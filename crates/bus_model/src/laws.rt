@@ -1,0 +1,44 @@
+//! The theorems, each the contract of a function without a body.
+
+ghost use Rattle.std.specs.Prelude.{ℕ, List};
+ghost use Rattle.bus_model.specs.Request.{Entry};
+ghost use Rattle.bus_model.specs.Numbering.{ipmb, smbus, is_above};
+ghost use Rattle.bus_model.specs.Repeat.{RuleIsSentence, RequestersOf};
+ghost use Rattle.bus_model.specs.Window.{RowsAreTheRule, WindowsApart};
+ghost use Rattle.bus_model.specs.Schedule.{NoneOpenIsHonest};
+ghost use Rattle.bus_model.specs.AtMostOnce.{AlwaysAtMostOnce};
+ghost use Rattle.bus_model.specs.Effect.{EventsHaveEffects};
+
+/// Over every honest schedule of whole messages the manager's requests are carried out at most once, in the order begun,
+/// and it takes for each the reply that is kept for it.
+pub fn requests_are_carried_at_most_once()
+    ensures ipmb { (manager first : ℕ) → AlwaysAtMostOnce (ipmb manager first) }
+    ensures smbus { (manager first : ℕ) → AlwaysAtMostOnce (smbus manager first) }
+{}
+
+/// What each honest event does to the open request: nothing, or it is carried out for the first time, or the reply that
+/// is kept for it is taken.
+pub fn events_have_effects()
+    ensures ipmb { (manager first : ℕ) → EventsHaveEffects (ipmb manager first) }
+    ensures smbus { (manager first : ℕ) → EventsHaveEffects (smbus manager first) }
+{}
+
+/// A lab that forgets the manager's window only while no request is open on either bus keeps the schedule honest.
+pub fn none_open_is_honest()
+    ensures { NoneOpenIsHonest }
+{}
+
+/// The rule for repeated, busy and new requests is its sentence, with numbers modulo 64 and modulo 32, and the requesters
+/// that count for busy are those that had something carried out since their last idle.
+pub fn rule_is_its_sentence()
+    ensures ipmb { RuleIsSentence (is_above 64) }
+    ensures smbus { RuleIsSentence (is_above 32) }
+    ensures requesters { (log : List Entry) → RequestersOf log }
+{}
+
+/// A port that keeps one row for each number of each requester, and looks at no list, does what the rule says.
+pub fn rows_are_the_rule()
+    ensures ipmb { RowsAreTheRule 64 }
+    ensures smbus { RowsAreTheRule 32 }
+    ensures apart { (circle : ℕ) → WindowsApart circle }
+{}
