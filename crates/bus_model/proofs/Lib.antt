@@ -9,3 +9,9 @@ pub mod WholeMessages
 pub mod Rows
 pub mod Requesters
 pub mod Sentence
+pub mod Assemblies
+pub mod BusGrows
+pub mod PacketSteps
+pub mod PacketEnds
+pub mod PacketLaws
+pub mod Cutting

@@ -40,6 +40,7 @@ pub record IsTaken (old new : BusState) (reply : List ℕ) : Type 0 where
   pub opened : length old.taken < length old.begun
   pub kept : IsKeptFor old.carried (length old.taken) reply
 
+-- what each event does
 abbrev pub HasEffect : Bus → BusState → Event → Type 0
 HasEffect b s (Begins bytes) = MatchBool (is_open s) (SameRequests s (happens b s (Begins bytes))) (IsBegun s (happens b s (Begins bytes)) bytes)
 HasEffect b s SendsAgain = SameRequests s (happens b s SendsAgain)

@@ -7,3 +7,8 @@ pub mod BusState
 pub mod Schedule
 pub mod AtMostOnce
 pub mod Effect
+pub mod Packet
+pub mod Assembly
+pub mod PacketBus
+pub mod PacketSchedule
+pub mod PacketEffect

@@ -8,6 +8,9 @@ ghost use Rattle.bus_model.specs.Window.{RowsAreTheRule, WindowsApart};
 ghost use Rattle.bus_model.specs.Schedule.{NoneOpenIsHonest};
 ghost use Rattle.bus_model.specs.AtMostOnce.{AlwaysAtMostOnce};
 ghost use Rattle.bus_model.specs.Effect.{EventsHaveEffects};
+ghost use Rattle.bus_model.specs.Packet.{IsCutting, packets_of};
+ghost use Rattle.bus_model.specs.PacketSchedule.{LiveWhereJoined, OneRequestWhereJoined, RecentWhereWhole, AlwaysAtMostOnceInPackets, RuleImplies};
+ghost use Rattle.bus_model.specs.PacketEffect.{EventsHavePacketEffects};
 
 /// Over every honest schedule of whole messages the manager's requests are carried out at most once, in the order begun,
 /// and it takes for each the reply that is kept for it.
@@ -41,4 +44,31 @@ pub fn rows_are_the_rule()
     ensures ipmb { RowsAreTheRule 64 }
     ensures smbus { RowsAreTheRule 32 }
     ensures apart { (circle : ℕ) → WindowsApart circle }
+{}
+
+/// The same where messages go in packets: it is enough that the packets that wait are recent still where one of them
+/// completes a message at the port. So it holds where a packet that waits counts as delivered again when another is joined
+/// to it, and where no packet is joined to one of another request.
+pub fn requests_are_carried_at_most_once_in_packets()
+    ensures recent { AlwaysAtMostOnceInPackets RecentWhereWhole }
+    ensures live { AlwaysAtMostOnceInPackets LiveWhereJoined }
+    ensures one_request { AlwaysAtMostOnceInPackets OneRequestWhereJoined }
+{}
+
+/// Either rule for every join implies the rule for the packets that complete a message.
+pub fn join_rules_imply_recent()
+    ensures live { RuleImplies LiveWhereJoined RecentWhereWhole }
+    ensures one_request { RuleImplies OneRequestWhereJoined RecentWhereWhole }
+{}
+
+/// What each honest event of packets does to the open request.
+pub fn packet_events_have_effects()
+    ensures recent { EventsHavePacketEffects RecentWhereWhole }
+    ensures live { EventsHavePacketEffects LiveWhereJoined }
+    ensures one_request { EventsHavePacketEffects OneRequestWhereJoined }
+{}
+
+/// Runs of 64 bytes, of messages of at most 256, are a way to cut messages.
+pub fn runs_of_64_are_a_cutting()
+    ensures { IsCutting packets_of }
 {}
