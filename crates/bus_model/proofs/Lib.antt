@@ -15,3 +15,6 @@ pub mod PacketSteps
 pub mod PacketEnds
 pub mod PacketLaws
 pub mod Cutting
+pub mod Decides
+pub mod PacketDecides
+pub mod Schedules

@@ -12,3 +12,5 @@ pub mod Assembly
 pub mod PacketBus
 pub mod PacketSchedule
 pub mod PacketEffect
+pub mod Example
+pub mod PacketExample

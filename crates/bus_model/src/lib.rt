@@ -2,4 +2,5 @@
 //! out at most once, and what it means for a manager.
 #![tactic(auto)]
 
+pub mod examples;
 pub mod laws;
