@@ -10,7 +10,7 @@ use Rattle.bus_model.specs.BusState.{request_of, Content, Ask, Reply, Frame, Bus
 use Rattle.bus_model.specs.Schedule.{IsLive, IsHonest}
 use Rattle.bus_model.specs.Effect.{IsKeptFor, SameRequests, IsBegun, IsCarried, IsTaken, HasEffect}
 use Rattle.bus_model.proofs.Lists.{at_end}
-use Rattle.bus_model.proofs.Numbers.{IsNumbering}
+use Rattle.bus_model.proofs.NumberLaws.{IsNumbering}
 use Rattle.bus_model.proofs.Repeats.{repeats, is_new}
 use Rattle.bus_model.proofs.Sound.{seen, Fits}
 use Rattle.bus_model.proofs.Steps.{Holds, heard}

@@ -1,4 +1,4 @@
-pub mod Numbers
+pub mod NumberLaws
 pub mod Repeats
 pub mod Lists
 pub mod Sound
@@ -6,7 +6,7 @@ pub mod Steps
 pub mod Effects
 pub mod InLog
 pub mod WholeMessages
-pub mod Rows
+pub mod WindowRows
 pub mod Requesters
 pub mod Sentence
 pub mod Assemblies
@@ -18,3 +18,6 @@ pub mod Cutting
 pub mod Decides
 pub mod PacketDecides
 pub mod Schedules
+pub mod RowTable
+pub mod RowHears
+pub mod HeardSoFar

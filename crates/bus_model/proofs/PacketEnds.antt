@@ -15,7 +15,7 @@ use Rattle.bus_model.specs.PacketBus.{PacketBus, rules_of, request_name, reply_n
 use Rattle.bus_model.specs.PacketSchedule.{RecentWhereWhole, PacketMayJoin, JoinsAtPort, IsPlain, IsPacketHonest, AllPacketHonest}
 use Rattle.bus_model.specs.PacketEffect.{PortEffect, ManagerEffect, HasPacketEffect}
 use Rattle.bus_model.proofs.Lists.{length_more}
-use Rattle.bus_model.proofs.Numbers.{smbus_numbers}
+use Rattle.bus_model.proofs.NumberLaws.{smbus_numbers}
 use Rattle.bus_model.proofs.Sound.{Fits}
 use Rattle.bus_model.proofs.Steps.{Holds, opening_holds, happens_holds, comes_holds, returns_holds}
 use Rattle.bus_model.proofs.Effects.{comes_effect, returns_effect, has_effect}

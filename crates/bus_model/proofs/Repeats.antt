@@ -9,7 +9,7 @@ use Rattle.bus_model.specs.Request.{Request, Kept, is_same}
 use Rattle.bus_model.specs.Carried.{kept_for}
 use Rattle.bus_model.specs.Numbering.{Bus}
 use Rattle.bus_model.specs.BusState.{request_of}
-use Rattle.bus_model.proofs.Numbers.{IsNumbering}
+use Rattle.bus_model.proofs.NumberLaws.{IsNumbering}
 
 pub is_same-same : (r : Request) → is_same r r ≡ true
 is_same-same r = and_from _ _ (and_from _ _ (eq-eqb r.requester r.requester refl) (eq-eqb r.number r.number refl)) ((bytes_eq-Decides r.bytes r.bytes).1 refl)

@@ -8,7 +8,7 @@ use Rattle.bus_model.specs.Request.{Request, Kept, Entry, Carried, Idled, is_sam
 use Rattle.bus_model.specs.Carried.{kept_for, requesters, is_busy, Repeats, IsBusy, IsNew, outcome_of}
 use Rattle.bus_model.specs.Numbering.{is_above}
 use Rattle.bus_model.specs.Repeat.{AllBetween, IsRepeat, NeedsNinth, RuleIsSentence}
-use Rattle.bus_model.proofs.Numbers.{circle_64, circle_32}
+use Rattle.bus_model.proofs.NumberLaws.{circle_64, circle_32}
 use Rattle.bus_model.proofs.Repeats.{is_same-same}
 use Rattle.bus_model.proofs.Requesters.{has_carried, empty_list, is_some_list}
 

@@ -8,7 +8,7 @@ use Rattle.bus_model.specs.Numbering.{Bus}
 use Rattle.bus_model.specs.BusState.{request_of, Content, Ask, Reply, Frame}
 use Rattle.bus_model.specs.Effect.{IsKeptFor}
 use Rattle.bus_model.proofs.Lists.{Grows, grows, at_end, one_more, length_more}
-use Rattle.bus_model.proofs.Numbers.{IsNumbering}
+use Rattle.bus_model.proofs.NumberLaws.{IsNumbering}
 use Rattle.bus_model.proofs.Repeats.{Asked, IsRun}
 
 pub IsRun-grows : (carried more : List Kept) → Grows carried more → (low : ℕ) (ks : List Kept) (high : ℕ) → IsRun carried low ks high → IsRun more low ks high

@@ -10,7 +10,7 @@ use Rattle.bus_model.specs.BusState.{request_of, Content, Ask, Reply, Frame, Bus
 use Rattle.bus_model.specs.Schedule.{IsLive, IsHonest, AllHonest}
 use Rattle.bus_model.specs.Effect.{IsKeptFor}
 use Rattle.bus_model.proofs.Lists.{at_end}
-use Rattle.bus_model.proofs.Numbers.{IsNumbering}
+use Rattle.bus_model.proofs.NumberLaws.{IsNumbering}
 use Rattle.bus_model.proofs.Repeats.{repeats, is_new}
 use Rattle.bus_model.proofs.Sound.{Seen, seen, seen-mine, seen-other, seen-idle, seen-idle_other, Fits, Sound, sound_begins, sound_again, sound_reply, sound_carried, sound_idle, sound_takes}
 

@@ -7,7 +7,7 @@ use Rattle.bus_model.specs.BusState.{BusState, Event, opening, is_open, happens,
 use Rattle.bus_model.specs.Schedule.{IsHonest, AllHonest, NoneOpenIsHonest}
 use Rattle.bus_model.specs.AtMostOnce.{AtMostOnce, AlwaysAtMostOnce}
 use Rattle.bus_model.specs.Effect.{EventsHaveEffects}
-use Rattle.bus_model.proofs.Numbers.{IsNumbering, ipmb_numbers, smbus_numbers}
+use Rattle.bus_model.proofs.NumberLaws.{IsNumbering, ipmb_numbers, smbus_numbers}
 use Rattle.bus_model.proofs.Steps.{Holds, opening_holds, run_holds}
 use Rattle.bus_model.proofs.InLog.{LogShows, opening_shows, run_shows}
 use Rattle.bus_model.proofs.Effects.{has_effect}

@@ -14,3 +14,6 @@ pub mod PacketSchedule
 pub mod PacketEffect
 pub mod Example
 pub mod PacketExample
+pub mod Circle
+pub mod Rows
+pub mod PlainPort

@@ -3,4 +3,12 @@
 #![tactic(auto)]
 
 pub mod examples;
+mod heard;
 pub mod laws;
+mod numbers;
+mod plain_port;
+mod rows;
+
+pub use heard::{Asked, Heard, Outcome};
+pub use numbers::Numbers;
+pub use plain_port::outcomes;

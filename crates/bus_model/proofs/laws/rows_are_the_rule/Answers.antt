@@ -1,5 +1,5 @@
 use Rattle.bus_model.proofs.laws.rows_are_the_rule.Goals as goal
-use Rattle.bus_model.proofs.Rows.{rows_64, rows_32, windows_apart}
+use Rattle.bus_model.proofs.WindowRows.{rows_64, rows_32, windows_apart}
 
 pub returns-clause-ipmb : goal.returns-clause-ipmb
 returns-clause-ipmb c = rows_64

@@ -7,7 +7,7 @@ use Rattle.bus_model.specs.Request.{Request, Kept, Entry, Carried, Idled, is_sam
 use Rattle.bus_model.specs.Carried.{kept_for, outcome_of, is_busy}
 use Rattle.bus_model.specs.Numbering.{is_above, is_next}
 use Rattle.bus_model.specs.Window.{Window, empty_window, window_after, window_of, windows_of, reply_in, AllOnCircle, RowsAreTheRule, WindowsApart}
-use Rattle.bus_model.proofs.Numbers.{IsCircle, circle_64, circle_32}
+use Rattle.bus_model.proofs.NumberLaws.{IsCircle, circle_64, circle_32}
 use Rattle.bus_model.proofs.Repeats.{is_same-number}
 
 -- every carried number is on the circle
