@@ -1,14 +1,11 @@
 -- Whether a schedule is honest, as a test that computes.
 use Rattle.std.proofs.Common.{◌≡◌, ◌+◌, Bool, true, not, ◌&&◌, ◌||◌, List, [], ◌∷◌, length, Option, Some, None, inl, inr}
-use Rattle.std.specs.Prelude.{slice_get, IfSome, nat_le, ◌==◌}
-use Rattle.std.proofs.lemmas.Bool.{and_parts, leb-true, eqb-true, eqb-false, not-true, or_cases, both_ways, eq-eqb}
+use Rattle.std.specs.Prelude.{slice_get, IfSome, ◌==◌}
+use Rattle.std.proofs.lemmas.Bool.{and_parts, and_from, le-leb, leb-true, eqb-true, eqb-false, not-true, or_cases, both_ways, eq-eqb}
 use Rattle.bus_model.specs.Request.{idles_of}
 use Rattle.bus_model.specs.Numbering.{Bus}
 use Rattle.bus_model.specs.BusState.{BusState, Frame, Event, Begins, SendsAgain, ReachesPort, ReachesManager, OtherAsks, IsIdle, is_open, happens}
-use Rattle.bus_model.specs.Schedule.{IsLive, IsHonest, AllHonest}
-
-abbrev pub is_live : Bus → BusState → Frame → Bool
-is_live b s f = nat_le (length s.begun) (f.request + b.span) && (f.idles == idles_of b.manager s.log)
+use Rattle.bus_model.specs.Schedule.{IsLive, is_live, TestTells, IsHonest, AllHonest}
 
 abbrev pub live_if : Bus → BusState → Option Frame → Bool
 live_if b s None = true
@@ -28,6 +25,9 @@ all_honest b (e ∷ es) s = is_honest b s e && all_honest b es (happens b s e)
 
 pub is_live-tells : (b : Bus) (s : BusState) (f : Frame) → is_live b s f ≡ true → IsLive b s f
 is_live-tells b s f t = let parts = and_parts _ _ t in (leb-true _ _ parts.0, eqb-true _ _ parts.1)
+
+pub test_tells : TestTells
+test_tells b s f = (is_live-tells b s f, λ live. and_from _ _ (le-leb (length s.begun) (f.request + b.span) live.0) (eq-eqb f.idles (idles_of b.manager s.log) live.1))
 
 pub live_if-tells : (b : Bus) (s : BusState) (o : Option Frame) → live_if b s o ≡ true → IfSome o (IsLive b s)
 live_if-tells b s None t = tt

@@ -21,3 +21,5 @@ pub mod Schedules
 pub mod RowTable
 pub mod RowHears
 pub mod HeardSoFar
+pub mod FrameMarks
+pub mod StepsSoFar

@@ -6,13 +6,13 @@ use Rattle.std.proofs.lemmas.Bool.{and_parts, leb-true, eqb-true, eqb-false, not
 use Rattle.bus_model.specs.Request.{idles_of}
 use Rattle.bus_model.specs.Numbering.{Bus}
 use Rattle.bus_model.specs.BusState.{BusState, Frame, Content, Ask, Reply, Event, Begins, SendsAgain, ReachesPort, ReachesManager, OtherAsks, IsIdle}
-use Rattle.bus_model.specs.Schedule.{IsLive}
+use Rattle.bus_model.specs.Schedule.{IsLive, is_live}
 use Rattle.bus_model.specs.Repeat.{In}
 use Rattle.bus_model.specs.Packet.{Packet}
 use Rattle.bus_model.specs.Assembly.{Sent, Step, Waits, Whole, Drops, IsJoined, takes, waiting}
 use Rattle.bus_model.specs.PacketBus.{PacketBus, rules_of, request_name, Ends, PacketEvent, Plain, PacketReachesPort, PacketReachesManager, OtherPacket, Closes, Clears, packet_happens}
 use Rattle.bus_model.specs.PacketSchedule.{JoinRule, AnyJoin, LiveWhereJoined, MayJoin, PacketMayJoin, JoinsAtPort, IsPlain, IsPacketHonest, AllPacketHonest}
-use Rattle.bus_model.proofs.Decides.{is_live, live_if, is_honest, is_live-tells, live_if-tells, is_honest-tells}
+use Rattle.bus_model.proofs.Decides.{live_if, is_honest, is_live-tells, live_if-tells, is_honest-tells}
 
 abbrev pub is_joined : Step → Bool
 is_joined Waits = true

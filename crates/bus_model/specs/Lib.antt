@@ -17,3 +17,4 @@ pub mod PacketExample
 pub mod Circle
 pub mod Rows
 pub mod PlainPort
+pub mod LiveFrames

@@ -5,7 +5,7 @@ ghost use Rattle.bus_model.specs.Request.{Entry};
 ghost use Rattle.bus_model.specs.Numbering.{ipmb, smbus, is_above};
 ghost use Rattle.bus_model.specs.Repeat.{RuleIsSentence, RequestersOf};
 ghost use Rattle.bus_model.specs.Window.{RowsAreTheRule, WindowsApart};
-ghost use Rattle.bus_model.specs.Schedule.{NoneOpenIsHonest};
+ghost use Rattle.bus_model.specs.Schedule.{NoneOpenIsHonest, TestTells};
 ghost use Rattle.bus_model.specs.AtMostOnce.{AlwaysAtMostOnce};
 ghost use Rattle.bus_model.specs.Effect.{EventsHaveEffects};
 ghost use Rattle.bus_model.specs.Packet.{IsCutting, packets_of};
@@ -24,6 +24,11 @@ pub fn requests_are_carried_at_most_once()
 pub fn events_have_effects()
     ensures ipmb { (manager first : ℕ) → EventsHaveEffects (ipmb manager first) }
     ensures smbus { (manager first : ℕ) → EventsHaveEffects (smbus manager first) }
+{}
+
+/// Whether a frame is live can be tested: the test is what the plain program of live frames computes.
+pub fn live_test_tells()
+    ensures { TestTells }
 {}
 
 /// A lab that forgets the manager's window only while no request is open on either bus keeps the schedule honest.

@@ -5,10 +5,12 @@
 pub mod examples;
 mod heard;
 pub mod laws;
+mod live_frames;
 mod numbers;
 mod plain_port;
 mod rows;
 
 pub use heard::{Asked, Heard, Outcome};
+pub use live_frames::{End, SentFrame, Step, sent_frames};
 pub use numbers::Numbers;
 pub use plain_port::outcomes;

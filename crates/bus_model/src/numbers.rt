@@ -2,7 +2,7 @@
 
 ghost use Rattle.std.specs.Prelude.{◌≡◌, ℕ};
 ghost use Rattle.bus_model.specs.Numbering.{distance, is_next};
-ghost use Rattle.bus_model.specs.Circle.{circle_of};
+ghost use Rattle.bus_model.specs.Circle.{circle_of, span_of};
 
 /// How a bus numbers requests.
 #[derive(Clone, Copy, PartialEq, Eq, Debug)]
@@ -15,12 +15,22 @@ pub enum Numbers {
 
 impl Numbers {
     /// How many numbers there are.
-    pub fn circle(self) -> u16
+    pub(crate) fn circle(self) -> u16
         ensures { result ≡ circle_of self }
     {
         match self {
             Numbers::Ipmb => 64,
             Numbers::Pldm => 32,
+        }
+    }
+
+    /// How many newer requests, once begun, make a frame too old.
+    pub(crate) fn span(self) -> usize
+        ensures { result ≡ span_of self }
+    {
+        match self {
+            Numbers::Ipmb => 32,
+            Numbers::Pldm => 8,
         }
     }
 
@@ -32,7 +42,7 @@ impl Numbers {
     }
 
     /// Whether a number is one of the next half of the circle, which are forgotten when a request is carried out.
-    pub fn is_next(self, low: u8, high: u8) -> bool
+    pub(crate) fn is_next(self, low: u8, high: u8) -> bool
         ensures { result ≡ is_next (circle_of self) low high }
     {
         let distance = self.distance(low, high);
