@@ -59,7 +59,7 @@ module _ (b : Bus) (numbers : IsNumbering b) where
   comes_effect s h answer n (Ask bytes) above live at = hears_effect s h n bytes answer above live at
   comes_effect s h answer n (Reply number reply) above live at = record { begun = refl; carried = refl; taken = refl }
 
-  port_effect : (s : BusState) (h : Holds b s) (answer : List ℕ) (which : ℕ) (o : Option Frame) → slice_get s.frames which ≡ o → IfSome o (IsLive b s)
+  pub port_effect : (s : BusState) (h : Holds b s) (answer : List ℕ) (which : ℕ) (o : Option Frame) → slice_get s.frames which ≡ o → IfSome o (IsLive b s)
       → MatchOption (carried_now b o s) (SameRequests s (at_port b answer o s)) (λ bytes. IsCarried s (at_port b answer o s) bytes answer)
   port_effect s h answer which None e live = record { begun = refl; carried = refl; taken = refl }
   port_effect s h answer which (Some f) e live =
@@ -87,7 +87,7 @@ module _ (b : Bus) (numbers : IsNumbering b) where
       })
       (λ f. record { begun = refl; carried = refl; taken = refl })
 
-  manager_effect : (s : BusState) (h : Holds b s) (which : ℕ) (o : Option Frame) → slice_get s.frames which ≡ o → IfSome o (IsLive b s)
+  pub manager_effect : (s : BusState) (h : Holds b s) (which : ℕ) (o : Option Frame) → slice_get s.frames which ≡ o → IfSome o (IsLive b s)
       → MatchOption (taken_now b o s) (SameRequests s (takes_if (taken_now b o s) s)) (λ reply. IsTaken s (takes_if (taken_now b o s) s) reply)
   manager_effect s h which None e live = record { begun = refl; carried = refl; taken = refl }
   manager_effect s h which (Some f) e live = returns_effect s h f.request f.content live.0 (h.sound.frames which f e).fits

@@ -23,3 +23,4 @@ pub mod RowHears
 pub mod HeardSoFar
 pub mod FrameMarks
 pub mod StepsSoFar
+pub mod Windows

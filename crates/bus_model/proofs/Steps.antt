@@ -106,7 +106,7 @@ module _ (b : Bus) (numbers : IsNumbering b) where
       record { floor = h.floor; sound = sound_takes b numbers h.floor s.begun s.carried s.taken (seen b.manager s.log) s.frames n number reply h.sound (ltb-true _ _ parts.0) (eqb-true _ _ parts.1) live at.0 at.1 })
       (λ f. h)
 
-  at_manager_holds : (s : BusState) (h : Holds b s) (which : ℕ) (o : Option Frame) → slice_get s.frames which ≡ o → IfSome o (IsLive b s) → Holds b (takes_if (taken_now b o s) s)
+  pub at_manager_holds : (s : BusState) (h : Holds b s) (which : ℕ) (o : Option Frame) → slice_get s.frames which ≡ o → IfSome o (IsLive b s) → Holds b (takes_if (taken_now b o s) s)
   at_manager_holds s h which None e live = h
   at_manager_holds s h which (Some f) e live = returns_holds s h f.request f.content live.0 (h.sound.frames which f e).fits
 

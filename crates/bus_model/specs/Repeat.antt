@@ -1,7 +1,7 @@
 -- The rule for repeats as a sentence, and what busy means.
 use Rattle.std.specs.Prelude.{◌≡◌, ◌≢◌, ℕ, ◌≤◌, ◌↔◌, Bool, true, List, [], ◌∷◌, ◌++◌, length, ◌⊎◌}
 use Rattle.bus_model.specs.Request.{Request, Kept, Entry, Carried, Idled, carried_since}
-use Rattle.bus_model.specs.Carried.{Repeats, IsBusy, IsNew, outcome, requesters}
+use Rattle.bus_model.specs.Carried.{Repeats, IsBusy, IsNew, outcome, requesters, Heard, log_with}
 use Rattle.bus_model.specs.Numbering.{is_above}
 
 -- a value is in a list
@@ -47,3 +47,7 @@ pub record RuleIsSentence (is_above : ℕ → ℕ → Bool) : Type 0 where
 -- the requesters of a log are those that had something carried out since their last idle, each once
 abbrev pub RequestersOf : List Entry → Type 0
 RequestersOf log = AllDifferent (requesters log) × ((q : ℕ) → In q (requesters log) ↔ (carried_since q log ≢ []))
+
+-- the rule never lets in more than eight requesters at a time
+abbrev pub EightSuffice : (ℕ → ℕ → Bool) → Type 0
+EightSuffice is_above = (h : Heard) (log : List Entry) → length (requesters log) ≤ 8 → length (requesters (log_with is_above h log)) ≤ 8

@@ -1,9 +1,9 @@
 //! The theorems, each the contract of a function without a body.
 
-ghost use Rattle.std.specs.Prelude.{ℕ, List};
+ghost use Rattle.std.specs.Prelude.{ℕ, Bool, List};
 ghost use Rattle.bus_model.specs.Request.{Entry};
 ghost use Rattle.bus_model.specs.Numbering.{ipmb, smbus, is_above};
-ghost use Rattle.bus_model.specs.Repeat.{RuleIsSentence, RequestersOf};
+ghost use Rattle.bus_model.specs.Repeat.{RuleIsSentence, RequestersOf, EightSuffice};
 ghost use Rattle.bus_model.specs.Window.{RowsAreTheRule, WindowsApart};
 ghost use Rattle.bus_model.specs.Schedule.{NoneOpenIsHonest, TestTells};
 ghost use Rattle.bus_model.specs.AtMostOnce.{AlwaysAtMostOnce};
@@ -42,6 +42,11 @@ pub fn rule_is_its_sentence()
     ensures ipmb { RuleIsSentence (is_above 64) }
     ensures smbus { RuleIsSentence (is_above 32) }
     ensures requesters { (log : List Entry) → RequestersOf log }
+{}
+
+/// The rule never lets in more than eight requesters at a time.
+pub fn eight_windows_suffice()
+    ensures { (is_above : ℕ → ℕ → Bool) → EightSuffice is_above }
 {}
 
 /// A port that keeps one row for each number of each requester, and looks at no list, does what the rule says.
