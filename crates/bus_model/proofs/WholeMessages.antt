@@ -1,0 +1,59 @@
+-- The laws of whole messages.
+use Rattle.std.proofs.Common.{ℕ, ◌++◌, List, [], ◌∷◌}
+use Rattle.std.proofs.lemmas.Bool.{or_parts}
+use Rattle.bus_model.specs.Request.{Entry}
+use Rattle.bus_model.specs.Numbering.{Bus, ipmb, smbus}
+use Rattle.bus_model.specs.BusState.{BusState, Event, opening, is_open, happens, run}
+use Rattle.bus_model.specs.Schedule.{IsHonest, AllHonest, NoneOpenIsHonest}
+use Rattle.bus_model.specs.AtMostOnce.{AtMostOnce, AlwaysAtMostOnce}
+use Rattle.bus_model.specs.Effect.{EventsHaveEffects}
+use Rattle.bus_model.proofs.NumberLaws.{IsNumbering, ipmb_numbers, smbus_numbers}
+use Rattle.bus_model.proofs.Steps.{Holds, opening_holds, run_holds}
+use Rattle.bus_model.proofs.InLog.{LogShows, opening_shows, run_shows}
+use Rattle.bus_model.proofs.Effects.{has_effect}
+
+-- a prefix of an honest schedule is honest
+pub honest_prefix : (b : Bus) (events later : List Event) (s : BusState) → AllHonest b (events ++ later) s → AllHonest b events s
+honest_prefix b [] later s honest = tt
+honest_prefix b (e ∷ es) later s honest = (honest.0, honest_prefix b es later (happens b s e) honest.1)
+
+pub honest_next : (b : Bus) (events : List Event) (e : Event) (s : BusState) → AllHonest b (events ++ e ∷ []) s → IsHonest b (run b events s) e
+honest_next b [] e s honest = honest.0
+honest_next b (f ∷ es) e s honest = honest_next b es e (happens b s f) honest.1
+
+pub at_most_once_from : (b : Bus) (before : List Entry) (s : BusState) → Holds b s → LogShows b before s → AtMostOnce b before s
+at_most_once_from b before s h shows = record {
+  asked = h.sound.asked;
+  replied = λ n reply e. let r = h.sound.replied n reply e in (r.kept, r.at, r.replied);
+  answered = h.sound.answered;
+  carried = h.sound.below;
+  one_open = h.sound.one_open;
+  nothing_else = shows;
+}
+
+always : (b : Bus) → IsNumbering b → AlwaysAtMostOnce b
+always b numbers before events later empty honest =
+    let first = honest_prefix b events later (opening before) honest in
+    at_most_once_from b before (run b events (opening before)) (run_holds b numbers events (opening before) (opening_holds b before empty) first)
+    (run_shows b before events (opening before) (opening_shows b before) first)
+
+effects : (b : Bus) → IsNumbering b → EventsHaveEffects b
+effects b numbers before events e empty honest =
+    has_effect b numbers (run b events (opening before)) e
+    (run_holds b numbers events (opening before) (opening_holds b before empty) (honest_prefix b events (e ∷ []) (opening before) honest))
+    (honest_next b events e (opening before) honest)
+
+pub ipmb_always : (manager first : ℕ) → AlwaysAtMostOnce (ipmb manager first)
+ipmb_always manager first = always (ipmb manager first) (ipmb_numbers manager first)
+
+pub smbus_always : (manager first : ℕ) → AlwaysAtMostOnce (smbus manager first)
+smbus_always manager first = always (smbus manager first) (smbus_numbers manager first)
+
+pub ipmb_effects : (manager first : ℕ) → EventsHaveEffects (ipmb manager first)
+ipmb_effects manager first = effects (ipmb manager first) (ipmb_numbers manager first)
+
+pub smbus_effects : (manager first : ℕ) → EventsHaveEffects (smbus manager first)
+smbus_effects manager first = effects (smbus manager first) (smbus_numbers manager first)
+
+pub none_open : NoneOpenIsHonest
+none_open b here there requester closed mine = (or_parts (is_open here) (is_open there) closed).0

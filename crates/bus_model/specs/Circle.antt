@@ -1,0 +1,13 @@
+-- The circle of numbers of a bus.
+use Rattle.std.specs.Prelude.{ℕ}
+use Rattle.bus_model.specs.declared.numbers.Numbers.{Numbers}
+use Rattle.bus_model.specs.declared.numbers.Numbers.TheVariants.{Ipmb, Pldm}
+
+abbrev pub circle_of : Numbers → ℕ
+circle_of Ipmb = 64
+circle_of Pldm = 32
+
+-- how many newer requests make a frame too old: 32 on IPMB, 8 on SMBus
+abbrev pub span_of : Numbers → ℕ
+span_of Ipmb = 32
+span_of Pldm = 8

@@ -1,0 +1,125 @@
+-- A bus on which messages go in packets, with the assemblies at both ends, and what an event does to it.
+use Rattle.std.specs.Prelude.{ℕ, Bool, true, false, ◌==◌, ◌&&◌, length, List, [], ◌∷◌, Option, Some, None, if◌then◌else◌, slice_get}
+use Rattle.bus_model.specs.Request.{Entry}
+use Rattle.bus_model.specs.Numbering.{Bus, smbus, tag_of}
+use Rattle.bus_model.specs.BusState.{BusState, Frame, Content, Ask, Reply, Event, OtherAsks, opening, is_open, comes, taken_content, takes_if, happens}
+use Rattle.bus_model.specs.Packet.{Packet}
+use Rattle.bus_model.specs.Assembly.{Name, is_name, Sent, Step, Waits, Whole, Drops, takes, message_of}
+
+-- what the bus fixes: both endpoints, the count from which the manager's requests go on, and how messages are cut
+pub record PacketBus : Type 0 where
+  pub manager : ℕ
+  pub controller : ℕ
+  pub first : ℕ
+  pub split : List ℕ → List Packet
+
+-- its rules for whole messages
+abbrev pub rules_of : PacketBus → Bus
+rules_of b = smbus b.manager b.first
+
+-- the name of request n's packets at the port, where the tag's owner is the requester, and of its reply's at the manager
+abbrev pub request_name : PacketBus → ℕ → Name
+request_name b n = record { source = b.manager; owner = true; tag = tag_of b.first n }
+
+abbrev pub reply_name : PacketBus → ℕ → Name
+reply_name b n = record { source = b.controller; owner = false; tag = tag_of b.first n }
+
+-- the bus in whole messages, and the packets that wait at either end, under each name
+pub record Ends : Type 0 where
+  pub bus : BusState
+  pub port : Name → List Sent
+  pub manager : Name → List Sent
+
+pub data PacketEvent : Type 0 where
+  -- an event that brings no frame to an end
+  Plain : (event : Event) → PacketEvent
+  -- packet `place` of frame `which` reaches the port, where the board would answer this if it completes a message
+  PacketReachesPort : (which place : ℕ) (answer : List ℕ) → PacketEvent
+  -- packet `place` of frame `which` reaches the manager
+  PacketReachesManager : (which place : ℕ) → PacketEvent
+  -- somebody else's packet reaches the port; `number` is the instance that a message which it completes has
+  OtherPacket : (name : Name) (packet : Packet) (number : ℕ) (answer : List ℕ) → PacketEvent
+  -- the port closes an assembly, as where it has no slot for a start of that name
+  Closes : (name : Name) → PacketEvent
+  -- the manager drops what waits at it, as where it begins to undo
+  Clears : PacketEvent
+
+-- the assemblies with one of them changed
+abbrev pub set_at : Name → List Sent → (Name → List Sent) → Name → List Sent
+set_at name taken assemblies n = if is_name n name then taken else assemblies n
+
+abbrev pub whole_comes : Bus → List ℕ → ℕ → Step → BusState → BusState
+whole_comes b answer n Waits s = s
+whole_comes b answer n Drops s = s
+whole_comes b answer n (Whole ss) s = comes b answer n (Ask (message_of ss)) s
+
+abbrev pub whole_returns : Bus → ℕ → Step → BusState → BusState
+whole_returns b number Waits s = s
+whole_returns b number Drops s = s
+whole_returns b number (Whole ss) s = takes_if (taken_content b (Reply number (Some (message_of ss))) s) s
+
+-- another's whole message is a request only with its tag owner bit set
+abbrev pub whole_other : Bus → Name → ℕ → List ℕ → Step → BusState → BusState
+whole_other b name number answer Waits s = s
+whole_other b name number answer Drops s = s
+whole_other b name number answer (Whole ss) s =
+    if name.owner
+    then happens b s (OtherAsks (record { requester = name.source; number = number; bytes = message_of ss }) answer)
+    else s
+
+abbrev pub port_takes : PacketBus → List ℕ → ℕ → ℕ → Option Packet → Ends → Ends
+port_takes b answer n idles None x = x
+port_takes b answer n idles (Some p) x =
+    let r = takes (x.port (request_name b n)) (record { request = n; idles = idles; packet = p }) in
+    record x { bus = whole_comes (rules_of b) answer n r.0 x.bus; port = set_at (request_name b n) r.1 x.port }
+
+-- the manager looks only at packets under the open request's tag
+abbrev pub is_awaited : PacketBus → ℕ → BusState → Bool
+is_awaited b n s = is_open s && (tag_of b.first n == tag_of b.first (length s.taken))
+
+abbrev pub manager_takes : PacketBus → ℕ → ℕ → ℕ → Option Packet → Ends → Ends
+manager_takes b number n idles None x = x
+manager_takes b number n idles (Some p) x =
+    let r = takes (x.manager (reply_name b n)) (record { request = n; idles = idles; packet = p }) in
+    record x { bus = whole_returns (rules_of b) number r.0 x.bus; manager = set_at (reply_name b n) r.1 x.manager }
+
+abbrev pub other_takes : PacketBus → Name → Packet → ℕ → List ℕ → Ends → Ends
+other_takes b name p number answer x =
+    let r = takes (x.port name) (record { request = 0; idles = 0; packet = p }) in
+    record x { bus = whole_other (rules_of b) name number answer r.0 x.bus; port = set_at name r.1 x.port }
+
+abbrev pub packet_comes : PacketBus → List ℕ → ℕ → ℕ → ℕ → Content → Ends → Ends
+packet_comes b answer place n idles (Ask bytes) x = port_takes b answer n idles (slice_get (b.split bytes) place) x
+packet_comes b answer place n idles (Reply number reply) x = x
+
+-- a busy reply is a single packet, a start, so what waited is closed, and it counts as no reply
+abbrev pub packet_returns : PacketBus → ℕ → ℕ → ℕ → Content → Ends → Ends
+packet_returns b place n idles (Ask bytes) x = x
+packet_returns b place n idles (Reply number None) x =
+    if is_awaited b n x.bus then record x { manager = set_at (reply_name b n) [] x.manager } else x
+packet_returns b place n idles (Reply number (Some reply)) x =
+    if is_awaited b n x.bus then manager_takes b number n idles (slice_get (b.split reply) place) x else x
+
+abbrev pub packet_at_port : PacketBus → List ℕ → ℕ → Option Frame → Ends → Ends
+packet_at_port b answer place None x = x
+packet_at_port b answer place (Some f) x = packet_comes b answer place f.request f.idles f.content x
+
+abbrev pub packet_at_manager : PacketBus → ℕ → Option Frame → Ends → Ends
+packet_at_manager b place None x = x
+packet_at_manager b place (Some f) x = packet_returns b place f.request f.idles f.content x
+
+abbrev pub packet_happens : PacketBus → Ends → PacketEvent → Ends
+packet_happens b x (Plain e) = record x { bus = happens (rules_of b) x.bus e }
+packet_happens b x (PacketReachesPort which place answer) = packet_at_port b answer place (slice_get x.bus.frames which) x
+packet_happens b x (PacketReachesManager which place) = packet_at_manager b place (slice_get x.bus.frames which) x
+packet_happens b x (OtherPacket name packet number answer) = other_takes b name packet number answer x
+packet_happens b x (Closes name) = record x { port = set_at name [] x.port }
+packet_happens b x Clears = record x { manager = λ name. [] }
+
+abbrev pub packet_run : PacketBus → List PacketEvent → Ends → Ends
+packet_run b [] x = x
+packet_run b (e ∷ es) x = packet_run b es (packet_happens b x e)
+
+-- no packet waits
+abbrev pub opening_ends : List Entry → Ends
+opening_ends before = record { bus = opening before; port = λ name. []; manager = λ name. [] }

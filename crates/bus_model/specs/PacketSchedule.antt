@@ -1,0 +1,68 @@
+-- Honest schedules of packets.
+use Rattle.std.specs.Prelude.{◌≡◌, ◌≢◌, ℕ, ◌+◌, ◌≤◌, List, [], ◌∷◌, ◌++◌, length, Option, Some, None, slice_get, IfSome}
+use Rattle.bus_model.specs.Request.{Entry, idles_of, carried_since}
+use Rattle.bus_model.specs.Numbering.{Bus}
+use Rattle.bus_model.specs.BusState.{BusState, Content, Ask, Reply, Event, ReachesPort, ReachesManager}
+use Rattle.bus_model.specs.Schedule.{IsLive, IsHonest}
+use Rattle.bus_model.specs.Repeat.{In}
+use Rattle.bus_model.specs.Packet.{Packet, IsCutting}
+use Rattle.bus_model.specs.Assembly.{Sent, IsWhole, IsJoined, takes, waiting}
+use Rattle.bus_model.specs.PacketBus.{PacketBus, rules_of, request_name, Ends, PacketEvent, Plain, PacketReachesPort, PacketReachesManager, OtherPacket, Closes, Clears, packet_happens, packet_run, opening_ends}
+use Rattle.bus_model.specs.AtMostOnce.{AtMostOnce}
+
+-- What is asked of the packets that wait at the port where another is joined to them. Nothing need be asked of the
+-- manager's, which joins packets of the open request alone.
+pub data JoinRule : Type 0 where
+  -- nothing
+  AnyJoin : JoinRule
+  -- a packet that waits counts as delivered again when another is joined to it, so it is live still
+  LiveWhereJoined : JoinRule
+  -- no packet is joined to one of another request
+  OneRequestWhereJoined : JoinRule
+  -- where a message is complete, its packets are of requests that are recent still
+  RecentWhereWhole : JoinRule
+
+abbrev pub MayJoin : JoinRule → Bus → BusState → List Sent → Sent → Type 0
+MayJoin AnyJoin b s taken p = Unit {0}
+MayJoin LiveWhereJoined b s taken p =
+    IsJoined (takes taken p).0 → (t : Sent) → In t (waiting taken p) → (length s.begun ≤ t.request + b.span) × (t.idles ≡ idles_of b.manager s.log)
+MayJoin OneRequestWhereJoined b s taken p = IsJoined (takes taken p).0 → (t : Sent) → In t (waiting taken p) → t.request ≡ p.request
+MayJoin RecentWhereWhole b s taken p = IsWhole (takes taken p).0 → (t : Sent) → In t (waiting taken p) → length s.begun ≤ t.request + b.span
+
+abbrev pub PacketMayJoin : JoinRule → Bus → BusState → List Sent → ℕ → ℕ → Option Packet → Type 0
+PacketMayJoin rule b s taken n idles None = Unit {0}
+PacketMayJoin rule b s taken n idles (Some p) = MayJoin rule b s taken (record { request = n; idles = idles; packet = p })
+
+abbrev pub JoinsAtPort : JoinRule → PacketBus → Ends → ℕ → ℕ → ℕ → Content → Type 0
+JoinsAtPort rule b x place n idles (Ask bytes) = PacketMayJoin rule (rules_of b) x.bus (x.port (request_name b n)) n idles (slice_get (b.split bytes) place)
+JoinsAtPort rule b x place n idles (Reply number reply) = Unit {0}
+
+-- the event brings no frame to an end, since frames go in packets
+abbrev pub IsPlain : Event → Type 0
+IsPlain (ReachesPort which answer) = ⊥
+IsPlain (ReachesManager which) = ⊥
+IsPlain _ = Unit {0}
+
+-- only packets of live frames are delivered, joined to others at the port by the rule, and nobody else uses the manager's endpoint
+abbrev pub IsPacketHonest : JoinRule → PacketBus → Ends → PacketEvent → Type 0
+IsPacketHonest rule b x (Plain e) = IsPlain e × IsHonest (rules_of b) x.bus e
+IsPacketHonest rule b x (PacketReachesPort which place answer) =
+    IfSome (slice_get x.bus.frames which) (λ f. IsLive (rules_of b) x.bus f × JoinsAtPort rule b x place f.request f.idles f.content)
+IsPacketHonest rule b x (PacketReachesManager which place) =
+    IfSome (slice_get x.bus.frames which) (IsLive (rules_of b) x.bus)
+IsPacketHonest rule b x (OtherPacket name packet number answer) = name.source ≢ b.manager
+IsPacketHonest rule b x (Closes name) = Unit {0}
+IsPacketHonest rule b x Clears = Unit {0}
+
+abbrev pub AllPacketHonest : JoinRule → PacketBus → List PacketEvent → Ends → Type 0
+AllPacketHonest rule b [] x = Unit {0}
+AllPacketHonest rule b (e ∷ es) x = IsPacketHonest rule b x e × AllPacketHonest rule b es (packet_happens b x e)
+
+-- at every event of every honest schedule of packets, by the rule, over a port whose window for the manager is empty
+abbrev pub AlwaysAtMostOnceInPackets : JoinRule → Type 0
+AlwaysAtMostOnceInPackets rule = (b : PacketBus) → IsCutting b.split → (before : List Entry) (events later : List PacketEvent) → carried_since b.manager before ≡ []
+    → AllPacketHonest rule b (events ++ later) (opening_ends before) → AtMostOnce (rules_of b) before (packet_run b events (opening_ends before)).bus
+
+-- a schedule that is honest by the one rule is so by the other
+abbrev pub RuleImplies : JoinRule → JoinRule → Type 0
+RuleImplies rule weaker = (b : PacketBus) (events : List PacketEvent) (before : List Entry) → AllPacketHonest rule b events (opening_ends before) → AllPacketHonest weaker b events (opening_ends before)

@@ -1,0 +1,30 @@
+//! Schedules that compute, so that no theorem is about nothing: each is the contract of a function without a body.
+
+ghost use Rattle.bus_model.specs.Numbering.{ipmb, smbus};
+ghost use Rattle.bus_model.specs.Example.{EndsAnswered, ShowsRepeats, ipmb_example, smbus_example};
+ghost use Rattle.bus_model.specs.PacketExample.{PacketsEndAnswered, PacketsShowRepeats, CarriesWhatNobodySent, example_bus, packet_example, stale_assembly};
+
+/// On IPMB, with sequence numbers from 60 on: a busy answer, an idle, a lost frame, a delayed reply, and a repeat after 31
+/// newer requests. All 33 requests are answered.
+pub fn ipmb_schedule_ends_answered()
+    ensures ends { EndsAnswered (ipmb 44 60) ipmb_example 33 }
+    ensures shows { ShowsRepeats (ipmb 44 60) ipmb_example 69 }
+{}
+
+/// On SMBus in whole messages, with instances from 28 on: the same with 7 newer requests.
+pub fn smbus_schedule_ends_answered()
+    ensures ends { EndsAnswered (smbus 44 28) smbus_example 9 }
+    ensures shows { ShowsRepeats (smbus 44 28) smbus_example 21 }
+{}
+
+/// In packets, two for each message: a lost end that a later copy's takes the place of, packets out of order, and another
+/// requester's start under the same tag, beside the rest.
+pub fn packet_schedule_ends_answered()
+    ensures ends { PacketsEndAnswered (example_bus 28) packet_example 9 }
+    ensures shows { PacketsShowRepeats (example_bus 28) packet_example }
+{}
+
+/// Why joins need a premise: every packet is of a live frame, but a message is carried out that nobody sent.
+pub fn stale_assembly_carries_what_nobody_sent()
+    ensures { CarriesWhatNobodySent (example_bus 0) stale_assembly }
+{}

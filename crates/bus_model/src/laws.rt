@@ -1,0 +1,84 @@
+//! The theorems, each the contract of a function without a body.
+
+ghost use Rattle.std.specs.Prelude.{ℕ, Bool, List};
+ghost use Rattle.bus_model.specs.Request.{Entry};
+ghost use Rattle.bus_model.specs.Numbering.{ipmb, smbus, is_above};
+ghost use Rattle.bus_model.specs.Repeat.{RuleIsSentence, RequestersOf, EightSuffice};
+ghost use Rattle.bus_model.specs.Window.{RowsAreTheRule, WindowsApart};
+ghost use Rattle.bus_model.specs.Schedule.{NoneOpenIsHonest, TestTells};
+ghost use Rattle.bus_model.specs.AtMostOnce.{AlwaysAtMostOnce};
+ghost use Rattle.bus_model.specs.Effect.{EventsHaveEffects};
+ghost use Rattle.bus_model.specs.Packet.{IsCutting, packets_of};
+ghost use Rattle.bus_model.specs.PacketSchedule.{LiveWhereJoined, OneRequestWhereJoined, RecentWhereWhole, AlwaysAtMostOnceInPackets, RuleImplies};
+ghost use Rattle.bus_model.specs.PacketEffect.{EventsHavePacketEffects};
+
+/// Over every honest schedule of whole messages the manager's requests are carried out at most once, in the order begun,
+/// and it takes for each the reply that is kept for it.
+pub fn requests_are_carried_at_most_once()
+    ensures ipmb { (manager first : ℕ) → AlwaysAtMostOnce (ipmb manager first) }
+    ensures smbus { (manager first : ℕ) → AlwaysAtMostOnce (smbus manager first) }
+{}
+
+/// What each honest event does to the open request: nothing, or it is carried out for the first time, or the reply that
+/// is kept for it is taken.
+pub fn events_have_effects()
+    ensures ipmb { (manager first : ℕ) → EventsHaveEffects (ipmb manager first) }
+    ensures smbus { (manager first : ℕ) → EventsHaveEffects (smbus manager first) }
+{}
+
+/// Whether a frame is live can be tested: the test is what the plain program of live frames computes.
+pub fn live_test_tells()
+    ensures { TestTells }
+{}
+
+/// A lab that forgets the manager's window only while no request is open on either bus keeps the schedule honest.
+pub fn none_open_is_honest()
+    ensures { NoneOpenIsHonest }
+{}
+
+/// The rule for repeated, busy and new requests is its sentence, with numbers modulo 64 and modulo 32, and the requesters
+/// that count for busy are those that had something carried out since their last idle.
+pub fn rule_is_its_sentence()
+    ensures ipmb { RuleIsSentence (is_above 64) }
+    ensures smbus { RuleIsSentence (is_above 32) }
+    ensures requesters { (log : List Entry) → RequestersOf log }
+{}
+
+/// The rule never lets in more than eight requesters at a time.
+pub fn eight_windows_suffice()
+    ensures { (is_above : ℕ → ℕ → Bool) → EightSuffice is_above }
+{}
+
+/// A port that keeps one row for each number of each requester, and looks at no list, does what the rule says.
+pub fn rows_are_the_rule()
+    ensures ipmb { RowsAreTheRule 64 }
+    ensures smbus { RowsAreTheRule 32 }
+    ensures apart { (circle : ℕ) → WindowsApart circle }
+{}
+
+/// The same where messages go in packets: it is enough that the packets that wait are recent still where one of them
+/// completes a message at the port. So it holds where a packet that waits counts as delivered again when another is joined
+/// to it, and where no packet is joined to one of another request.
+pub fn requests_are_carried_at_most_once_in_packets()
+    ensures recent { AlwaysAtMostOnceInPackets RecentWhereWhole }
+    ensures live { AlwaysAtMostOnceInPackets LiveWhereJoined }
+    ensures one_request { AlwaysAtMostOnceInPackets OneRequestWhereJoined }
+{}
+
+/// Either rule for every join implies the rule for the packets that complete a message.
+pub fn join_rules_imply_recent()
+    ensures live { RuleImplies LiveWhereJoined RecentWhereWhole }
+    ensures one_request { RuleImplies OneRequestWhereJoined RecentWhereWhole }
+{}
+
+/// What each honest event of packets does to the open request.
+pub fn packet_events_have_effects()
+    ensures recent { EventsHavePacketEffects RecentWhereWhole }
+    ensures live { EventsHavePacketEffects LiveWhereJoined }
+    ensures one_request { EventsHavePacketEffects OneRequestWhereJoined }
+{}
+
+/// Runs of 64 bytes, of messages of at most 256, are a way to cut messages.
+pub fn runs_of_64_are_a_cutting()
+    ensures { IsCutting packets_of }
+{}
