@@ -36,4 +36,4 @@ sets_are_read (op.Hysteresis o) whole = record { is_read = refl; from_nobody = (
 
 pub undos_are_whole : UndosAreWhole
 undos_are_whole (op.Thresholds o) reply whole is = refl
-undos_are_whole (op.Hysteresis o) reply whole is = tt
+undos_are_whole _ reply whole is = tt

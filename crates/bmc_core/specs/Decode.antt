@@ -20,10 +20,10 @@ pub record Asks (asked : Asked) (request : Request) : Type 0 where
   pub is_read : asked_by asked ≡ Ok request
   pub from_nobody : IsFromNobody asked
 
--- an operation has as many values as its type says: each operation of the program does
+-- each list in an operation is as long as its type says: so it is in each operation of a program
 abbrev pub IsWhole : Op → Type 0
 IsWhole (op.Thresholds o) = length o.values ≡ 6
-IsWhole (op.Hysteresis o) = Unit {0}
+IsWhole _ = Unit {0}
 
 -- the request for a record is read as a Get of that record
 abbrev pub GetsAreRead : Type 0
