@@ -1,2 +1,5 @@
 pub mod AnswerFacts
+pub mod Decoded
 pub mod Heard
+pub mod ShownAgain
+pub mod Undone

@@ -4,5 +4,7 @@ pub mod State
 pub mod Row
 pub mod Answer
 pub mod AnswerLaws
+pub mod Decode
+pub mod Undo
 pub mod Port
 pub mod Names

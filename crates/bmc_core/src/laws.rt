@@ -1,8 +1,47 @@
 //! What holds of the command relation.
 ghost use Rattle.bmc_core.specs.AnswerLaws.{HasAnswer, HasOneAnswer};
+ghost use Rattle.bmc_core.specs.Decode.{IsWhole, GetsAreRead, SetsAreRead, UndosAreWhole};
+ghost use Rattle.bmc_core.specs.Undo.{IsUndone, IsSteady, IsShownAsBefore};
+
+use cfg_records::Op;
 
 /// Each request has an answer and a state after it, and no other.
 pub fn one_answer()
     ensures answered { HasAnswer }
     ensures once { HasOneAnswer }
+{}
+
+/// The request that gets a record is read as that Get, and the request that carries out an operation as that Set. Both are from
+/// nobody, to logical unit 0. What undoes an operation is an operation of which this holds too.
+pub fn decode_law()
+    ensures gets { GetsAreRead }
+    ensures sets { SetsAreRead }
+    ensures undos { UndosAreWhole }
+{}
+
+/// Each list in the operation is as long as its type says. The laws here speak of such operations, so they hold of every
+/// operation that a program has.
+pub fn known(op: &Op)
+    ensures { IsWhole op.now }
+{
+    match op {
+        Op::Thresholds(op) => {
+            // A slice of an array is as long as its type says.
+            let _values: &[u8] = &op.values;
+        }
+        _ => {}
+    }
+}
+
+/// Where a record was got and then set, and its Get reply is one from which that can be undone, the request that undoes it is
+/// carried out, and then every record of the board is what it was before, whatever became of what isn't configuration.
+pub fn undo_law()
+    ensures { IsUndone }
+{}
+
+/// Two Gets of a record show the same configuration where the records of the board are the same: so do a Get of any record before
+/// a change and a Get of it after the undo.
+pub fn conf_law()
+    ensures steady { IsSteady }
+    ensures undone { IsShownAsBefore }
 {}

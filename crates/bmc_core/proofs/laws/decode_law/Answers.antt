@@ -1,0 +1,11 @@
+use Rattle.bmc_core.proofs.Decoded.{gets_are_read, sets_are_read, undos_are_whole}
+use Rattle.bmc_core.proofs.laws.decode_law.Goals as goal
+
+pub returns-clause-gets : goal.returns-clause-gets
+returns-clause-gets c = gets_are_read
+
+pub returns-clause-sets : goal.returns-clause-sets
+returns-clause-sets c = sets_are_read
+
+pub returns-clause-undos : goal.returns-clause-undos
+returns-clause-undos c = undos_are_whole

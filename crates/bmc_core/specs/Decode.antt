@@ -1,0 +1,38 @@
+-- The requests that get a record and that change one are read as that Get and that Set.
+use Rattle.std.specs.Prelude.{◌≡◌, ℕ, List, length, Ok}
+use Rattle.cfg_records.specs.declared.key.Key.{Key}
+use Rattle.cfg_records.specs.declared.op.Op.{Op}
+use Rattle.cfg_records.specs.declared.op.Op.TheVariants as op
+use Rattle.cfg_records.specs.declared.message.Asked.{Asked}
+use Rattle.cfg_records.specs.declared.message.Asked.TheVariants.{Ipmi, Pldm}
+use Rattle.record_kinds.specs.Limits.{get_request, set_request, is_reply, undo}
+use Rattle.bmc_core.specs.declared.request.Request.{Request}
+use Rattle.bmc_core.specs.declared.request.Request.TheVariants.{Get, Set}
+use Rattle.bmc_core.specs.Request.{asked_by}
+
+-- nobody asks, and logical unit 0 is asked
+abbrev pub IsFromNobody : Asked → Type 0
+IsFromNobody (Ipmi from net_fn lun number body) = (from ≡ 0) × (lun ≡ 0)
+IsFromNobody (Pldm from kind number body) = from ≡ 0
+
+-- a controller reads this in the request
+pub record Asks (asked : Asked) (request : Request) : Type 0 where
+  pub is_read : asked_by asked ≡ Ok request
+  pub from_nobody : IsFromNobody asked
+
+-- each list in an operation is as long as its type says: so it is in each operation of a program
+abbrev pub IsWhole : Op → Type 0
+IsWhole (op.Thresholds o) = length o.values ≡ 6
+IsWhole _ = Unit {0}
+
+-- the request for a record is read as a Get of that record
+abbrev pub GetsAreRead : Type 0
+GetsAreRead = (key : Key) → Asks (get_request key) (Get key)
+
+-- the request for an operation is read as that operation
+abbrev pub SetsAreRead : Type 0
+SetsAreRead = (op : Op) → IsWhole op → Asks (set_request op) (Set op)
+
+-- what undoes an operation is such an operation too
+abbrev pub UndosAreWhole : Type 0
+UndosAreWhole = (op : Op) (reply : List ℕ) → IsWhole op → is_reply op reply → IsWhole (undo op reply)
