@@ -7,6 +7,8 @@ pub mod ThresholdLaws
 pub mod PowerPolicy
 pub mod Watchdog
 pub mod Meaning
+pub mod Refusals
+pub mod Requests
 pub mod Opening
 pub mod Records
 pub mod RecordLaws
