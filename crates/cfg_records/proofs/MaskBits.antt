@@ -1,10 +1,10 @@
 -- A mask is within a set exactly where it has no bit that the set lacks.
-use Rattle.std.proofs.Common.{◌≡◌, ℕ, ◌+◌, ◌-◌, ◌^◌, ◌<◌, ◌≤◌, min, bit_and, IsTrue, nat_eq, refl, sym, ◌∙◌, ap, arith, eqb, eq-eqb, w8, rules, tests}
-use Rattle.std.specs.Int.{bit_at, bit_not}
+use Rattle.std.proofs.Common.{◌≡◌, ℕ, ◌-◌, ◌^◌, ◌<◌, min, bit_and, IsTrue, nat_eq, sym, ◌∙◌, ap, arith, w8}
+use Rattle.std.specs.Int.{bit_at}
 use Rattle.std.proofs.lemmas.Nat.{and_le_l}
 use Rattle.std.proofs.lemmas.Nat.Bits.{bit_at_and, bit_at_not, bit_at-zero, bit_at-lt, same_from_bits_below}
 use Rattle.std.proofs.lemmas.Bool.Decides.{nat_tests}
-use Rattle.cfg_records.specs.Masks.{has, IsWithin}
+use Rattle.cfg_records.specs.Masks.{IsWithin}
 
 one_left : (a b : ℕ) → 0 ≡ min a (1 - b) → a ≡ 1 → b < 2 → b ≡ 1
 one_left a b h e l = omega arith

@@ -1,5 +1,5 @@
 -- Items that have names of their own.
-use Rattle.std.proofs.Common.{◌≡◌, ◌≢◌, ℕ, ◌+◌, ◌-◌, ◌<◌, ◌≤◌, ◌⊎◌, inl, inr, List, [], ◌∷◌, ◌++◌, length, get_or, take, map, refl, ap, sym, ◌∙◌, arith, get_or-take, length-append}
+use Rattle.std.proofs.Common.{◌≡◌, ◌≢◌, ℕ, ◌-◌, ◌<◌, ◌≤◌, ◌⊎◌, inl, inr, List, [], ◌∷◌, ◌++◌, length, get_or, take, map, ap, sym, ◌∙◌, arith, get_or-take, length-append}
 use Rattle.std.specs.List.{Any}
 use Rattle.std.proofs.lemmas.List.{length-take, length-map, get_or-map, get_or_append_left, get_or_default}
 use Rattle.std.proofs.Math.Seq.{get_or-append_right}

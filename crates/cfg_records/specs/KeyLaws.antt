@@ -1,5 +1,5 @@
 -- Keys that compare alike are one.
-use Rattle.std.proofs.Common.{◌≡◌, ◌≤◌, ℕ, Bool, true, false, IsTrue, refl, ap, arith}
+use Rattle.std.proofs.Common.{◌≡◌, ◌≤◌, ℕ, true, IsTrue, refl, ap, arith}
 use Rattle.std.specs.Ordering.{is_eq}
 use Rattle.std.proofs.lemmas.Map.Lookups.{exact_unsigned}
 use Rattle.std.proofs.lemmas.Bool.Decides.{nat_tests}
@@ -7,7 +7,7 @@ use Rattle.std.specs.Cmp.{IsTotalOrder, eq_by_cmp_equiv}
 use Rattle.std.specs.declared.cmp.Ordering.{Ordering}
 use Rattle.std.specs.declared.cmp.Ordering.TheVariants.{Less, Equal, Greater}
 use Rattle.cfg_records.specs.declared.key.Key.{Key}
-use Rattle.cfg_records.specs.declared.key.Key.TheVariants.{Thresholds, Hysteresis}
+use Rattle.cfg_records.specs.declared.key.Key.TheVariants.{Thresholds, Hysteresis, PowerPolicy, Watchdog}
 use Rattle.cfg_records.specs.contracts.key.KeyOrd.TheImpl.Laws as key_laws
 use Rattle.cfg_records.specs.Keys.{key_cmp, same_key, is_length, longest}
 
@@ -24,6 +24,8 @@ equal_from_is_eq Greater h = cc
 pub exact_key : (a b : Key) → same_key a b ≡ true → a ≡ b
 exact_key (Thresholds a) (Thresholds b) h = ap Thresholds (exact_unsigned a b (equal_from_is_eq _ h))
 exact_key (Hysteresis a) (Hysteresis b) h = ap Hysteresis (exact_unsigned a b (equal_from_is_eq _ h))
+exact_key PowerPolicy PowerPolicy h = refl
+exact_key Watchdog Watchdog h = refl
 exact_key _ _ h = cc
 
 -- a key compares alike with itself
@@ -37,3 +39,5 @@ LengthsAreBounded = (k : Key) (n : ℕ) → IsTrue (is_length k n) → n ≤ lon
 pub lengths_are_bounded : LengthsAreBounded
 lengths_are_bounded (Thresholds sensor) n h = grind (arith, nat_tests)
 lengths_are_bounded (Hysteresis sensor) n h = grind (arith, nat_tests)
+lengths_are_bounded PowerPolicy n h = grind (arith, nat_tests)
+lengths_are_bounded Watchdog n h = grind (arith, nat_tests)

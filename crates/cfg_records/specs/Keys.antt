@@ -12,16 +12,22 @@ use Rattle.cfg_records.specs.contracts.key.KeyOrd.TheImpl as key_ord
 abbrev pub key_of : Op → Key
 key_of (op.Thresholds o) = key.Thresholds o.sensor
 key_of (op.Hysteresis o) = key.Hysteresis o.sensor
+key_of (op.PowerPolicy o) = key.PowerPolicy
+key_of (op.Watchdog o) = key.Watchdog
 
 -- a value of the key's kind may have this length
 abbrev pub is_length : Key → ℕ → Bool
 is_length (key.Thresholds sensor) n = n == 6
 is_length (key.Hysteresis sensor) n = n == 2
+is_length key.PowerPolicy n = n == 1
+is_length key.Watchdog n = n == 5
 
 -- the greatest length of a value of the key's kind
 abbrev pub longest : Key → ℕ
 longest (key.Thresholds sensor) = 6
 longest (key.Hysteresis sensor) = 2
+longest key.PowerPolicy = 1
+longest key.Watchdog = 5
 
 -- the order of keys
 abbrev pub key_cmp : Key → Key → Ordering

@@ -4,7 +4,12 @@ pub mod Masks
 pub mod MaskLaws
 pub mod Thresholds
 pub mod ThresholdLaws
+pub mod PowerPolicy
+pub mod Watchdog
 pub mod Meaning
+pub mod Refusals
+pub mod Requests
+pub mod Opening
 pub mod Records
 pub mod RecordLaws
 pub mod Boards

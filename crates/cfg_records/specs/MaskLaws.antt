@@ -1,5 +1,5 @@
 -- Tests of masks say what they are named for.
-use Rattle.std.proofs.Common.{◌≡◌, ℕ, zero, suc, ◌+◌, ◌<◌, Bool, true, false, ◌&&◌, ◌||◌, not, IsTrue, refl, sym, arith, below_more}
+use Rattle.std.proofs.Common.{◌≡◌, ℕ, zero, suc, ◌<◌, Bool, true, false, ◌&&◌, ◌||◌, not, refl, sym, arith, below_more}
 use Rattle.cfg_records.specs.Masks.{has, IsWithin, all_below, is_within}
 
 -- two tests are one where each says that the other holds

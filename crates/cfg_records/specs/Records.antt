@@ -1,5 +1,5 @@
 -- Records, as a map from keys to values.
-use Rattle.std.specs.Prelude.{◌≡◌, ℕ, List, Option, Some, None, Bool, if◌then◌else◌, find, All, length, IsTrue}
+use Rattle.std.specs.Prelude.{ℕ, List, Option, Some, if◌then◌else◌, find, All, length, IsTrue}
 use Rattle.std.specs.Option.{option_map}
 use Rattle.cfg_records.specs.declared.key.Key.{Key}
 use Rattle.cfg_records.specs.Keys.{same_key, is_length}

@@ -1,6 +1,7 @@
 -- The sample board.
 use Rattle.std.specs.Prelude.{◌≡◌, ℕ, List, [], ◌∷◌}
 use Rattle.cfg_records.specs.declared.sensor.Sensor.{Sensor}
+use Rattle.cfg_records.specs.declared.watchdog.Watchdog.{Watchdog}
 use Rattle.cfg_records.specs.declared.board_file.Device.{Device}
 
 -- what Get Device ID says of the sample board
@@ -34,3 +35,10 @@ IsFan sensor = IsSensor sensor 7 0x18 0x38 (0 ∷ 0 ∷ 0 ∷ 0x90 ∷ 0xA0 ∷ 
 abbrev pub AreSampleSensors : List Sensor → Type 0
 AreSampleSensors (a ∷ b ∷ []) = IsTemperature a × IsFan b
 AreSampleSensors _ = ⊥
+
+-- a watchdog that was never set: 0 in each byte
+pub record IsUnset (watchdog : Watchdog) : Type 0 where
+  pub no_use : watchdog.timer_use ≡ 0
+  pub no_action : watchdog.actions ≡ 0
+  pub no_warning : watchdog.pre_timeout ≡ 0
+  pub no_countdown : watchdog.initial ≡ 0

@@ -1,9 +1,9 @@
 -- The test of the order of thresholds says that they are in order.
-use Rattle.std.proofs.Common.{◌≡◌, ℕ, ◌<◌, ◌≤◌, List, length, slice_index, Bool, true, false, nat_le, ◌==◌, ◌||◌, IsTrue, IsFalse, refl, arith}
+use Rattle.std.proofs.Common.{◌≡◌, ℕ, ◌<◌, ◌≤◌, List, length, slice_index, Bool, true, false, nat_le, ◌==◌, ◌||◌, IsFalse, refl, arith}
 use Rattle.std.proofs.lemmas.Bool.Decides.{nat_tests}
 use Rattle.cfg_records.specs.Masks.{all_below}
 use Rattle.cfg_records.specs.MaskLaws.{all_below-at, at-all_below, implied, implies}
-use Rattle.cfg_records.specs.Thresholds.{is_there, place_of, IsInOrder, are_in_order, is_in_order, is_clear, IsThresholds}
+use Rattle.cfg_records.specs.Thresholds.{is_there, IsInOrder, are_in_order, is_in_order, is_clear, IsThresholds}
 use Rattle.cfg_records.specs.declared.thresholds.ThresholdMasks.{ThresholdMasks}
 
 le_from : (a b : ℕ) → nat_le a b ≡ true → a ≤ b

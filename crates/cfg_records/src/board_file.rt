@@ -1,13 +1,16 @@
 //! What a board begins with.
-ghost use Rattle.std.specs.Prelude.{◌≡◌, ◌<◌, ◌≤◌, ◌/◌, ◌%◌, ◌^◌, ◌==◌, ◌↔◌, IsTrue, length};
+ghost use Rattle.std.specs.Prelude.{◌≡◌, ◌<◌, ◌≤◌, ◌/◌, ◌%◌, ◌^◌, ◌==◌, ◌↔◌, IsTrue, [], ◌∷◌, length};
 ghost use Rattle.std.specs.List.{list_any};
+ghost use Rattle.cfg_records.specs.PowerPolicy.{IsPowerPolicy, IsPowerPolicy-prop};
 ghost use Rattle.cfg_records.specs.Distinct.{NumbersDiffer};
 
 use crate::items::Items;
 use crate::key::Key;
 use crate::sensor::Sensor;
 use crate::value::Value;
+use crate::watchdog::Watchdog;
 use std::alloc::{AllocError, Global};
+use two_wire::Below;
 
 /// What a board says of itself: bytes as Get Device ID gives them (IPMI 2.0, section 20.1), the minor revision in two decimal
 /// digits, the manufacturer's number in 24 bits.
@@ -31,8 +34,12 @@ pub struct Device {
 pub struct BoardFile {
     pub device: Device,
     pub sensors: Items<Sensor>,
+    /// The power restore policy (IPMI 2.0, section 28.8): 0 stay off, 1 as before, 2 power up, 3 unknown.
+    pub policy: Below<4>,
+    pub watchdog: Watchdog,
     ghost differ: { NumbersDiffer sensors },
     ghost few: { length sensors ≤ 32 },
+    ghost known_policy: { IsPowerPolicy (policy ∷ []) } by { IsPowerPolicy-prop (policy ∷ []) },
 }
 
 impl Device {
@@ -72,12 +79,18 @@ impl BoardFile {
     ghost use Rattle.std.specs.Prelude.{◌≡◌, ◌≤◌, ◌↔◌, IsSome, IfSome, IfOk, OnOk, length};
     ghost use Rattle.cfg_records.specs.Distinct.{NumbersDiffer};
     ghost use Rattle.cfg_records.specs.Records.{KeysDiffer, LengthsFit};
-    ghost use Rattle.cfg_records.specs.Boards.{pairs_of};
+    ghost use Rattle.cfg_records.specs.Boards.{sensor_pairs, power_policy_pair, pairs_of};
 
-    /// The file of this device and these sensors, or nothing where two sensors have one number or there are over 32.
-    pub fn new(device: Device, sensors: Vec<Sensor>) -> Option<BoardFile>
+    /// The file of these items, or nothing where two sensors have one number or there are over 32.
+    pub fn new(
+        device: Device,
+        sensors: Vec<Sensor>,
+        policy: Below<4>,
+        watchdog: Watchdog,
+    ) -> Option<BoardFile>
         ensures made { IsSome result ↔ (NumbersDiffer sensors.items × (length sensors.items ≤ 32)) }
         ensures parts { IfSome result (λ f. (f.device ≡ device) × (f.sensors ≡ sensors.items)) }
+        ensures settings { IfSome result (λ f. (f.policy ≡ policy) × (f.watchdog ≡ watchdog)) }
     {
         if sensors.len() > 32 || !numbers_differ(sensors.as_slice()) {
             return None;
@@ -85,7 +98,26 @@ impl BoardFile {
         Some(BoardFile {
             device,
             sensors: Items::new(sensors),
+            policy,
+            watchdog,
         })
+    }
+
+    /// The record of its power restore policy.
+    pub fn power_policy_pair(&self) -> (Key, Value)
+        ensures { result ≡ power_policy_pair self.now.policy }
+    {
+        (Key::PowerPolicy, Value::from_slice(&[self.policy.number()]))
+    }
+
+    /// The records of its sensors.
+    fn sensor_records(&self, alloc: Global) -> Result<Vec<(Key, Value)>, AllocError>
+        ensures { IfOk result (λ pairs. pairs.items ≡ sensor_pairs self.now.sensors) }
+    {
+        let sensors = self.sensors.as_slice();
+        let thresholds = sensors.iter().map(|sensor| sensor.thresholds_pair());
+        let hysteresis = sensors.iter().map(|sensor| sensor.hysteresis_pair());
+        thresholds.chain(hysteresis).collect(alloc)
     }
 
     /// The keys of the board's records, each once, with the values that they begin with.
@@ -94,10 +126,10 @@ impl BoardFile {
         ensures differ { OnOk result (KeysDiffer (pairs_of self.now)) }
         ensures fit { OnOk result (LengthsFit (pairs_of self.now)) }
     {
-        let sensors = self.sensors.as_slice();
-        let thresholds = sensors.iter().map(|sensor| sensor.thresholds_pair());
-        let hysteresis = sensors.iter().map(|sensor| sensor.hysteresis_pair());
-        thresholds.chain(hysteresis).collect(alloc)
+        let mut pairs = self.sensor_records(alloc)?;
+        pairs.push(self.power_policy_pair())?;
+        pairs.push(self.watchdog.pair())?;
+        Ok(pairs)
     }
 }
 

@@ -11,6 +11,10 @@ pub enum Key {
     Thresholds(u8),
     /// The hysteresis of the sensor of this number.
     Hysteresis(u8),
+    /// What the board does when power comes back.
+    PowerPolicy,
+    /// The settings of the watchdog timer.
+    Watchdog,
 }
 
 impl Key {
@@ -21,6 +25,8 @@ impl Key {
         match self {
             Key::Thresholds(_) => length == 6,
             Key::Hysteresis(_) => length == 2,
+            Key::PowerPolicy => length == 1,
+            Key::Watchdog => length == 5,
         }
     }
 
@@ -32,6 +38,8 @@ impl Key {
         match self {
             Key::Thresholds(_) => 6,
             Key::Hysteresis(_) => 2,
+            Key::PowerPolicy => 1,
+            Key::Watchdog => 5,
         }
     }
 }

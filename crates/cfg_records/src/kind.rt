@@ -142,3 +142,26 @@ pub trait RecordKind {
     /// The inverse brings the old value back.
     ghost undoes: { (s : Self) (op : Op) (old new : List ℕ) (live : Live) → valid s old → sets s op old new → restorable op (view s old live) → sets s (undo op (view s old live)) new old };
 }
+
+/// The value that the operation and then its inverse leave, where the inverse is made from what a Get replies before them:
+/// the old one. There is none where the operation is refused, or can't be undone from that reply.
+pub fn there_and_back<K: RecordKind>(
+    limits: &K,
+    op: &Op,
+    value: &Value,
+    live: &Live,
+) -> Option<Value>
+    requires of_record { K.is_of limits.now (key_of op.now) }
+    requires is_valid { K.valid limits.now value.now }
+    ensures { SomeIff result (((new : List ℕ) × K.sets limits.now op.now value.now new) × K.restorable op.now (K.view limits.now value.now live.now)) value.now }
+{
+    let reply = limits.get_data(value, live);
+    let Ok(new) = limits.apply(op, value) else {
+        return None;
+    };
+    let undo = K::inverse(op, reply.as_slice())?;
+    match limits.apply(&undo, &new) {
+        Ok(back) => Some(back),
+        Err(_) => unreachable!(),
+    }
+}

@@ -17,20 +17,22 @@ pub mod sensor;
 pub mod store;
 pub mod thresholds;
 pub mod value;
+pub mod watchdog;
 
 pub use board_file::{BoardFile, Device};
 pub use items::Items;
 pub use key::Key;
-pub use kind::RecordKind;
+pub use kind::{RecordKind, there_and_back};
 pub use live::Live;
 pub use message::{Answered, Asked};
-pub use op::{Op, SetHysteresis, SetThresholds};
+pub use op::{Op, SetHysteresis, SetPowerPolicy, SetThresholds, SetWatchdog};
 pub use plain_store::{PlainStore, StoreFault};
 pub use sample::sample_board;
 pub use sensor::{Hysteresis, Sensor};
 pub use store::{NoKey, Store};
 pub use thresholds::ThresholdMasks;
 pub use value::{RecordData, Value};
+pub use watchdog::Watchdog;
 
 #[cfg(test)]
 mod tests;

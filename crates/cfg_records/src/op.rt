@@ -20,11 +20,31 @@ pub struct SetHysteresis {
     pub negative: u8,
 }
 
+/// Sets the power restore policy, by the byte of the request: bits 2:0 are the policy, and 3 changes nothing.
+#[derive(Clone, Copy, Debug, PartialEq, Eq)]
+pub struct SetPowerPolicy {
+    pub policy: u8,
+}
+
+/// Sets the watchdog timer, by the bytes of the request: the timer use (bit 7 don't log, bit 6 don't stop, bits 2:0 the use),
+/// the actions (bits 6:4 the interrupt, bits 2:0 the action), the pre-timeout interval in seconds, the expiration flags to
+/// clear, and the countdown to begin from, in 100 ms.
+#[derive(Clone, Copy, Debug, PartialEq, Eq)]
+pub struct SetWatchdog {
+    pub timer_use: u8,
+    pub actions: u8,
+    pub pre_timeout: u8,
+    pub flags_to_clear: u8,
+    pub initial: u16,
+}
+
 /// A change of one record, as a request asks for it: any bytes that the request may carry.
 #[derive(Clone, Copy, Debug, PartialEq, Eq)]
 pub enum Op {
     Thresholds(SetThresholds),
     Hysteresis(SetHysteresis),
+    PowerPolicy(SetPowerPolicy),
+    Watchdog(SetWatchdog),
 }
 
 impl Op {
@@ -35,6 +55,8 @@ impl Op {
         match self {
             Op::Thresholds(op) => Key::Thresholds(op.sensor),
             Op::Hysteresis(op) => Key::Hysteresis(op.sensor),
+            Op::PowerPolicy(_) => Key::PowerPolicy,
+            Op::Watchdog(_) => Key::Watchdog,
         }
     }
 }

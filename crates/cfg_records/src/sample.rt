@@ -1,11 +1,13 @@
 //! The sample board.
-ghost use Rattle.std.specs.Prelude.{IfOk};
-ghost use Rattle.cfg_records.specs.Sample.{IsSampleDevice, IsTemperature, IsFan, AreSampleSensors};
+ghost use Rattle.std.specs.Prelude.{◌≡◌, IfOk};
+ghost use Rattle.cfg_records.specs.Sample.{IsSampleDevice, IsTemperature, IsFan, AreSampleSensors, IsUnset};
 
 use crate::board_file::{BoardFile, Device};
 use crate::sensor::{Hysteresis, Sensor};
 use crate::thresholds::ThresholdMasks;
+use crate::watchdog::Watchdog;
 use std::alloc::{AllocError, Global};
+use two_wire::Below;
 
 /// A temperature sensor, all of whose thresholds can be read and set.
 fn temperature() -> Sensor
@@ -43,10 +45,24 @@ fn fan() -> Sensor
     }
 }
 
+/// A watchdog that was never set.
+fn unset_watchdog() -> Watchdog
+    ensures { IsUnset result }
+{
+    Watchdog {
+        timer_use: 0,
+        actions: 0,
+        pre_timeout: 0,
+        initial: 0,
+    }
+}
+
 /// The sample board, which the program takes where it is given no board file.
 pub fn sample_board(alloc: Global) -> Result<BoardFile, AllocError>
     ensures device { IfOk result (λ f. IsSampleDevice f.device) }
     ensures sensors { IfOk result (λ f. AreSampleSensors f.sensors) }
+    ensures policy { IfOk result (λ f. f.policy ≡ 1) }
+    ensures watchdog { IfOk result (λ f. IsUnset f.watchdog) }
 {
     let mut sensors = Vec::new(alloc);
     sensors.push(temperature())?;
@@ -60,5 +76,5 @@ pub fn sample_board(alloc: Global) -> Result<BoardFile, AllocError>
         manufacturer: 0xABCD,
         product: 0x1234,
     };
-    Ok(BoardFile::new(device, sensors).unwrap())
+    Ok(BoardFile::new(device, sensors, Below::new(1), unset_watchdog()).unwrap())
 }

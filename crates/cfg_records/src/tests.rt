@@ -1,20 +1,24 @@
 //! Records, stores and the sample board.
 use crate::{
-    Answered, Asked, Hysteresis, Key, NoKey, PlainStore, Sensor, Store, StoreFault, ThresholdMasks,
-    Value, sample_board,
+    Answered, Asked, Hysteresis, Key, Live, NoKey, PlainStore, Sensor, Store, StoreFault,
+    ThresholdMasks, Value, Watchdog, sample_board,
 };
 use std::test::Fail;
 use two_wire::{Below, Bytes, Lun, NetFn, code};
 
 #[test]
-fn the_sample_board_begins_with_four_records(rt: HostRuntime) -> Result<(), Fail> {
+fn the_sample_board_begins_with_its_records(rt: HostRuntime) -> Result<(), Fail> {
     let file = sample_board(rt.alloc())?;
     let pairs = file.records(rt.alloc())?;
-    assert_eq!(rt; pairs.len(), 4);
+    assert_eq!(rt; pairs.len(), 6);
     assert!(rt; pairs[1].0 == Key::Thresholds(7));
     assert!(rt; pairs[1].1.is(&[0, 0, 0, 0x90, 0xA0, 0xB0]));
     assert!(rt; pairs[2].0 == Key::Hysteresis(5));
     assert!(rt; pairs[2].1.is(&[2, 2]));
+    assert!(rt; pairs[4].0 == Key::PowerPolicy);
+    assert!(rt; pairs[4].1.is(&[1]));
+    assert!(rt; pairs[5].0 == Key::Watchdog);
+    assert!(rt; pairs[5].1.is(&[0, 0, 0, 0, 0]));
     Ok(())
 }
 
@@ -88,4 +92,20 @@ fn requests_and_replies_are_compared_whole(rt: HostRuntime) {
     let done = Answered::done(&[1]);
     assert!(rt; done.copy().is(&done));
     assert!(rt; !done.is(&Answered::refused(code::NOT_PRESENT)));
+}
+
+#[test]
+fn a_watchdog_has_no_reserved_bits(rt: HostRuntime) {
+    assert!(rt; Watchdog::new(0x85, 0x33, 0xFF, 0xFFFF).is_some());
+    assert!(rt; Watchdog::new(0x06, 0, 0, 0).is_none());
+    assert!(rt; Watchdog::new(0x41, 0, 0, 0).is_none());
+    assert!(rt; Watchdog::new(1, 0x40, 0, 0).is_none());
+    assert!(rt; Watchdog::new(1, 0x08, 0, 0).is_none());
+}
+
+#[test]
+fn a_board_begins_with_its_watchdog_stopped(rt: HostRuntime) {
+    let live = Live::opening();
+    assert_eq!(rt; live.chassis.number(), 0);
+    assert!(rt; !live.running && live.expired == 0 && live.countdown == 0);
 }

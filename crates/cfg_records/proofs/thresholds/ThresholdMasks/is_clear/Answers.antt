@@ -1,4 +1,4 @@
-use Rattle.std.proofs.Common.{◌≡◌, false, sym, ◌∙◌, slice_index, arith, IsFalse}
+use Rattle.std.proofs.Common.{sym, arith, IsFalse}
 use Rattle.cfg_records.specs.Thresholds.{is_there}
 use Rattle.cfg_records.specs.MaskLaws.{is_false}
 use Rattle.cfg_records.specs.ThresholdLaws.{clear_true, true_clear}

@@ -1,4 +1,4 @@
-use Rattle.std.proofs.Common.{sym, ◌∙◌, refl, arith}
+use Rattle.std.proofs.Common.{sym, ◌∙◌, arith}
 use Rattle.cfg_records.specs.ThresholdLaws.{in_order_true, true_in_order}
 use Rattle.cfg_records.specs.MaskLaws.{is_false}
 use Rattle.cfg_records.proofs.Orders.{IsOrderedTo-there, IsOrderedTo-absent, no_drop}

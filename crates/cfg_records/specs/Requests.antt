@@ -1,0 +1,8 @@
+-- The requests that get and set records.
+use Rattle.std.specs.Prelude.{ℕ, List}
+use Rattle.cfg_records.specs.declared.message.Asked.{Asked}
+use Rattle.cfg_records.specs.declared.message.Asked.TheVariants.{Ipmi}
+
+-- the IPMI request of this network function, command and data: from nobody, to logical unit 0
+abbrev pub ipmi_request : ℕ → ℕ → List ℕ → Asked
+ipmi_request net_fn command body = Ipmi 0 net_fn 0 command body

@@ -1,0 +1,4 @@
+pub mod PowerPolicy
+pub mod PowerPolicyLaws
+pub mod Watchdog
+pub mod WatchdogLaws

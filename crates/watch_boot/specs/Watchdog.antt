@@ -1,0 +1,179 @@
+-- The watchdog timer, as a kind of record (IPMI 2.0, sections 27.5 to 27.7).
+use Rattle.std.specs.Prelude.{◌≡◌, ℕ, ◌+◌, ◌-◌, ◌*◌, ◌/◌, ◌%◌, ◌≤◌, List, [], ◌∷◌, length, slice_index, bit_and, nat_le, ◌&&◌, Bool, true, IsFalse, if◌then◌else◌, Result, Ok, Err}
+use Rattle.std.specs.Int.{w16, to_le_bytes, from_le_bytes}
+use Rattle.cfg_records.specs.declared.key.Key.{Key}
+use Rattle.cfg_records.specs.declared.key.Key.TheVariants as key
+use Rattle.cfg_records.specs.declared.op.Op.{Op}
+use Rattle.cfg_records.specs.declared.op.Op.TheVariants as op
+use Rattle.cfg_records.specs.declared.op.SetWatchdog.{SetWatchdog}
+use Rattle.cfg_records.specs.declared.live.Live.{Live}
+use Rattle.cfg_records.specs.declared.message.Asked.{Asked}
+use Rattle.cfg_records.specs.Masks.{has}
+use Rattle.cfg_records.specs.Watchdog.{IsWatchdog, watchdog_value}
+use Rattle.cfg_records.specs.Requests.{ipmi_request}
+
+-- ---- the bytes
+
+-- the use in bits 2:0 of a timer use byte
+abbrev pub use_in : ℕ → ℕ
+use_in timer_use = timer_use % 8
+
+-- don't log in bit 7 and the use in bits 2:0: what a Set keeps of a timer use byte
+abbrev pub kept_use : ℕ → ℕ
+kept_use timer_use = timer_use / 128 * 128 + use_in timer_use
+
+-- a timer use byte with 0 in bit 6
+abbrev pub without_bit_6 : ℕ → ℕ
+without_bit_6 timer_use = timer_use / 128 * 128 + timer_use % 64
+
+-- the interrupt in bits 6:4 and the action in bits 2:0 of an actions byte
+abbrev pub interrupt_in : ℕ → ℕ
+interrupt_in actions = actions / 16 % 8
+
+abbrev pub action_in : ℕ → ℕ
+action_in actions = actions % 8
+
+-- what a Set keeps of an actions byte
+abbrev pub kept_actions : ℕ → ℕ
+kept_actions actions = interrupt_in actions * 16 + action_in actions
+
+-- ---- Set Watchdog Timer
+
+-- the settings that the bytes say
+abbrev pub settings_of : SetWatchdog → List ℕ
+settings_of op = watchdog_value (kept_use op.timer_use) (kept_actions op.actions) op.pre_timeout op.initial
+
+-- they are a use from 1 to 5, and an interrupt and an action of at most 3, and become the value
+pub record SetsWatchdog (op : SetWatchdog) (new : List ℕ) : Type 0 where
+  pub a_use : 1 ≤ use_in op.timer_use
+  pub known_use : use_in op.timer_use ≤ 5
+  pub known_interrupt : interrupt_in op.actions ≤ 3
+  pub known_action : action_in op.actions ≤ 3
+  pub settings : new ≡ settings_of op
+
+-- the test of the bytes
+abbrev pub is_accepted : SetWatchdog → Bool
+is_accepted op = nat_le 1 (use_in op.timer_use) && nat_le (use_in op.timer_use) 5 && nat_le (interrupt_in op.actions) 3 && nat_le (action_in op.actions) 3
+
+-- the new settings, or CCh
+abbrev pub watchdog_outcome : SetWatchdog → Result (List ℕ) ℕ
+watchdog_outcome op = if is_accepted op then Ok (settings_of op) else Err 0xCC
+
+-- the flags of the first byte that the second doesn't name
+abbrev pub without : ℕ → ℕ → ℕ
+without flags named = bit_and flags (255 - named)
+
+-- the countdown begins anew, the timer goes on only where bit 6 is set, and the named flags are cleared
+abbrev pub live_after_set : SetWatchdog → Live → Live
+live_after_set op live = record {
+  chassis = live.chassis;
+  countdown = op.initial;
+  expired = without live.expired op.flags_to_clear;
+  running = live.running && has op.timer_use 6;
+}
+
+-- the data of the request
+abbrev pub watchdog_body : SetWatchdog → List ℕ
+watchdog_body op = op.timer_use ∷ op.actions ∷ op.pre_timeout ∷ op.flags_to_clear ∷ to_le_bytes w16 op.initial
+
+-- ---- Get Watchdog Timer
+
+-- the timer use byte, with bit 6 for whether the timer runs
+abbrev pub shown_use : ℕ → Bool → ℕ
+shown_use timer_use running = without_bit_6 timer_use + (if running then 64 else 0)
+
+-- the reply: the settings, with the flags after the pre-timeout interval, and what is left of the countdown
+abbrev pub watchdog_view : List ℕ → Live → List ℕ
+watchdog_view value live =
+    shown_use (slice_index value 0) live.running ∷ slice_index value 1 ∷ slice_index value 2 ∷ live.expired
+    ∷ slice_index value 3 ∷ slice_index value 4 ∷ to_le_bytes w16 live.countdown
+
+-- the reply without the running bit, the flags and the countdown
+abbrev pub configuration : List ℕ → List ℕ
+configuration reply =
+    without_bit_6 (slice_index reply 0) ∷ slice_index reply 1 ∷ slice_index reply 2 ∷ slice_index reply 4 ∷ slice_index reply 5 ∷ []
+
+-- a reply of a timer that is stopped and was set
+pub record IsStopped (reply : List ℕ) : Type 0 where
+  pub not_running : IsFalse (has (slice_index reply 0) 6)
+  pub a_use : 1 ≤ use_in (slice_index reply 0)
+  pub known_use : use_in (slice_index reply 0) ≤ 5
+
+-- the operation that sets what the reply shows: don't stop is 0, and no flag is cleared
+abbrev pub undo_watchdog : List ℕ → SetWatchdog
+undo_watchdog reply = record {
+  timer_use = kept_use (slice_index reply 0);
+  actions = kept_actions (slice_index reply 1);
+  pre_timeout = slice_index reply 2;
+  flags_to_clear = 0;
+  initial = from_le_bytes w16 (slice_index reply 4 ∷ slice_index reply 5 ∷ []);
+}
+
+-- ---- Reset Watchdog Timer
+
+-- the settings have a use
+abbrev pub WasSet : List ℕ → Type 0
+WasSet value = 1 ≤ use_in (slice_index value 0)
+
+-- the countdown begins anew, and the timer runs
+abbrev pub live_after_reset : List ℕ → Live → Live
+live_after_reset value live = record {
+  chassis = live.chassis;
+  countdown = from_le_bytes w16 (slice_index value 3 ∷ slice_index value 4 ∷ []);
+  expired = live.expired;
+  running = true;
+}
+
+-- ---- the kind, over all keys and operations
+
+abbrev pub is_key : Key → Type 0
+is_key key.Watchdog = Unit {0}
+is_key _ = ⊥
+
+abbrev pub valid : List ℕ → Type 0
+valid value = IsWatchdog value
+
+-- the new settings are the operation's, whatever the old ones are
+abbrev pub sets : Op → List ℕ → List ℕ → Type 0
+sets (op.Watchdog o) old new = SetsWatchdog o new
+sets _ old new = ⊥
+
+abbrev pub outcome : Op → List ℕ → Result (List ℕ) ℕ
+outcome (op.Watchdog o) old = watchdog_outcome o
+outcome _ old = Err 0xCC
+
+-- the Set reply has no data
+abbrev pub set_view : Op → List ℕ
+set_view o = []
+
+abbrev pub live_after : Op → Live → Live
+live_after (op.Watchdog o) live = live_after_set o live
+live_after _ live = live
+
+abbrev pub view : List ℕ → Live → List ℕ
+view value live = watchdog_view value live
+
+abbrev pub conf : List ℕ → List ℕ
+conf reply = configuration reply
+
+abbrev pub get_request : Key → Asked
+get_request k = ipmi_request 0x06 0x25 []
+
+abbrev pub set_body : Op → List ℕ
+set_body (op.Watchdog o) = watchdog_body o
+set_body _ = []
+
+abbrev pub set_request : Op → Asked
+set_request o = ipmi_request 0x06 0x24 (set_body o)
+
+abbrev pub is_reply : Op → List ℕ → Type 0
+is_reply (op.Watchdog o) reply = length reply ≡ 8
+is_reply _ reply = ⊥
+
+abbrev pub restorable : Op → List ℕ → Type 0
+restorable (op.Watchdog o) reply = IsStopped reply
+restorable _ reply = ⊥
+
+abbrev pub undo : Op → List ℕ → Op
+undo (op.Watchdog o) reply = op.Watchdog (undo_watchdog reply)
+undo o reply = o

@@ -1,0 +1,191 @@
+-- The laws of the kind Watchdog.
+use Rattle.std.proofs.Common.{◌≡◌, ℕ, zero, suc, ◌-◌, ◌^◌, ◌==◌, min, not, ◌/◌, ◌%◌, ◌<◌, ◌≤◌, List, [], ◌∷◌, length, slice_index, get_or, nat_le, ◌&&◌, Bool, true, false, if◌then◌else◌, Ok, Err, IsTrue, refl, sym, ◌∙◌, ap, arith}
+use Rattle.std.proofs.lemmas.Grind.{same_number_lists, common_steps}
+use Rattle.std.proofs.lemmas.Bool.Decides.{nat_tests}
+use Rattle.std.proofs.lemmas.Nat.{le_bytes_2}
+use Rattle.std.proofs.lemmas.Nat.Bits.{bit_at_and, bit_at_not, bit_at-lt}
+use Rattle.std.specs.Int.{bit_at, w8, w16, to_le_bytes, from_le_bytes}
+use Rattle.cfg_records.specs.Masks.{has}
+use Rattle.cfg_records.specs.declared.key.Key.{Key}
+use Rattle.cfg_records.specs.declared.key.Key.TheVariants as key
+use Rattle.cfg_records.specs.declared.op.Op.{Op}
+use Rattle.cfg_records.specs.declared.op.Op.TheVariants as op
+use Rattle.cfg_records.specs.declared.op.SetWatchdog.{SetWatchdog}
+use Rattle.cfg_records.specs.declared.live.Live.{Live}
+use Rattle.cfg_records.specs.Keys.{key_of, is_length}
+use Rattle.cfg_records.specs.MaskLaws.{both}
+use Rattle.cfg_records.specs.Meaning.{Decides, IsRefusal, room_for}
+use Rattle.cfg_records.specs.Refusals.{refused_field}
+use Rattle.cfg_records.specs.Watchdog.{IsWatchdog, watchdog_value}
+use Rattle.watch_boot.specs.Watchdog.{use_in, kept_use, without_bit_6, interrupt_in, action_in, kept_actions, SetsWatchdog, settings_of, is_accepted, shown_use, watchdog_view, without, IsStopped, undo_watchdog, is_key, valid, sets, outcome, set_view, view, conf, get_request, set_request, is_reply, restorable, undo}
+
+-- ---- what a Set makes
+
+le_from : (a b : ℕ) → nat_le a b ≡ true → a ≤ b
+le_from a b h = grind (arith, nat_tests)
+
+to_le : (a b : ℕ) → a ≤ b → nat_le a b ≡ true
+to_le a b h = grind (arith, nat_tests)
+
+-- four tests that hold together hold each
+pub record AllTrue (a b c d : Bool) : Type 0 where
+  pub first : a ≡ true
+  pub second : b ≡ true
+  pub third : c ≡ true
+  pub fourth : d ≡ true
+
+all_true : (a b c d : Bool) → (a && b && c && d) ≡ true → AllTrue a b c d
+all_true true true true true h = record { first = refl; second = refl; third = refl; fourth = refl }
+all_true true true true false h = cc
+all_true true true false d h = cc
+all_true true false c d h = cc
+all_true false b c d h = cc
+
+accepted_sets : (op : SetWatchdog) → is_accepted op ≡ true → SetsWatchdog op (settings_of op)
+accepted_sets op h =
+    let tests = all_true (nat_le 1 (use_in op.timer_use)) (nat_le (use_in op.timer_use) 5) (nat_le (interrupt_in op.actions) 3) (nat_le (action_in op.actions) 3) h in record {
+      a_use = le_from _ _ tests.first;
+      known_use = le_from _ _ tests.second;
+      known_interrupt = le_from _ _ tests.third;
+      known_action = le_from _ _ tests.fourth;
+      settings = refl;
+    }
+
+sets_accepted : (op : SetWatchdog) (new : List ℕ) → SetsWatchdog op new → is_accepted op ≡ true
+sets_accepted op new s = both _ _ (both _ _ (both _ _ (to_le _ _ s.a_use) (to_le _ _ s.known_use)) (to_le _ _ s.known_interrupt)) (to_le _ _ s.known_action)
+
+decided : (op : SetWatchdog) (b : Bool) → is_accepted op ≡ b → Decides (if b then Ok (settings_of op) else Err 0xCC) (SetsWatchdog op)
+decided op true is = accepted_sets op is
+decided op false is = λ new s. let accepted : is_accepted op ≡ true = sets_accepted op new s in cc
+
+refused : (made : List ℕ) (code : ℕ) (b : Bool) → (if b then Ok made else Err 0xCC) ≡ Err code → IsRefusal code
+refused made code true is = cc
+refused made code false is = refused_field code (Err 0xCC) refl is
+
+five_of : (a b c n : ℕ) → length (watchdog_value a b c n) ≡ 5
+five_of a b c n = refl
+
+keeps_watchdog : (op : SetWatchdog) (new : List ℕ) → SetsWatchdog op new → IsWatchdog new
+keeps_watchdog op new s = rw s.settings (record {
+  five = refl;
+  known_use = let h : use_in op.timer_use ≤ 5 = s.known_use in omega arith;
+  known_interrupt = let h : interrupt_in op.actions ≤ 3 = s.known_interrupt in omega arith;
+  known_action = let h : action_in op.actions ≤ 3 = s.known_action in omega arith;
+  low_byte = omega arith;
+  high_byte = omega arith;
+})
+
+-- ---- what an undo brings back
+
+-- a timer use byte of valid settings is kept whole, whether the reply shows a timer that runs or not
+kept_whole : (byte : ℕ) (running : Bool) → byte % 128 ≤ 5 → kept_use (kept_use (shown_use byte running)) ≡ byte
+kept_whole byte true known = omega arith
+kept_whole byte false known = omega arith
+
+same_use : (byte : ℕ) (running : Bool) → byte % 128 ≤ 5 → use_in (kept_use (shown_use byte running)) ≡ use_in (shown_use byte running)
+same_use byte true known = omega arith
+same_use byte false known = omega arith
+
+-- and so is an actions byte
+kept_both : (byte : ℕ) → byte / 16 ≤ 3 → byte % 16 ≤ 3 → kept_actions (kept_actions byte) ≡ byte
+kept_both byte interrupt action = omega arith
+
+each_byte : (low high : ℕ) → low < 256 → high < 256 → (i : ℕ) → get_or (low ∷ high ∷ []) i 0 < 256
+each_byte low high l h zero = l
+each_byte low high l h (suc zero) = h
+each_byte low high l h (suc (suc i)) = omega arith
+
+-- two bytes of a number are those bytes
+same_bytes : (low high : ℕ) → low < 256 → high < 256 → to_le_bytes w16 (from_le_bytes w16 (low ∷ high ∷ [])) ≡ low ∷ high ∷ []
+same_bytes low high l h = le_bytes_2 (low ∷ high ∷ []) _ refl (each_byte low high l h) refl
+
+-- a list of five is its members
+five_members : (xs : List ℕ) → length xs ≡ 5 → xs ≡ slice_index xs 0 ∷ slice_index xs 1 ∷ slice_index xs 2 ∷ slice_index xs 3 ∷ slice_index xs 4 ∷ []
+five_members xs five = same_number_lists _ _ five (λ k lt. grind (arith, common_steps))
+
+value_of_same : (a b c n v w x y z : ℕ) → a ≡ v → b ≡ w → c ≡ x → to_le_bytes w16 n ≡ y ∷ z ∷ [] → watchdog_value a b c n ≡ v ∷ w ∷ x ∷ y ∷ z ∷ []
+value_of_same a b c n v w x y z p q r s = cc
+
+undoes_watchdog : (old : List ℕ) (live : Live) → IsWatchdog old → IsStopped (watchdog_view old live) → SetsWatchdog (undo_watchdog (watchdog_view old live)) old
+undoes_watchdog old live v stopped = record {
+  a_use = let h : 1 ≤ use_in (shown_use (slice_index old 0) live.running) = stopped.a_use in omega (arith, same_use (slice_index old 0) live.running v.known_use);
+  known_use = let h : use_in (shown_use (slice_index old 0) live.running) ≤ 5 = stopped.known_use in omega (arith, same_use (slice_index old 0) live.running v.known_use);
+  known_interrupt = let h : slice_index old 1 / 16 ≤ 3 = v.known_interrupt in omega arith;
+  known_action = let h : slice_index old 1 % 16 ≤ 3 = v.known_action in omega arith;
+  settings = five_members old v.five ∙ sym (value_of_same _ _ _ _ _ _ _ _ _ (kept_whole (slice_index old 0) live.running v.known_use) (kept_both (slice_index old 1) v.known_interrupt v.known_action) refl (same_bytes (slice_index old 3) (slice_index old 4) v.low_byte v.high_byte));
+}
+
+-- ---- what isn't configuration
+
+steady_use : (byte : ℕ) (running : Bool) → without_bit_6 (shown_use byte running) ≡ without_bit_6 byte
+steady_use byte true = omega arith
+steady_use byte false = omega arith
+
+-- ---- the flags
+
+-- a flag is there after a Set where it was there and isn't named
+abbrev pub ClearsNamed : Type 0
+ClearsNamed = (flags named place : ℕ) → named < 2 ^ 8 → place < 8 → has (without flags named) place ≡ (has flags place && not (has named place))
+
+one_of_two : (a b : ℕ) → a < 2 → b < 2 → (min a (1 - b) == 1) ≡ ((a == 1) && not (b == 1))
+one_of_two zero zero small also = refl
+one_of_two zero (suc zero) small also = refl
+one_of_two zero (suc (suc b)) small also = absurd (omega arith)
+one_of_two (suc zero) zero small also = refl
+one_of_two (suc zero) (suc zero) small also = refl
+one_of_two (suc zero) (suc (suc b)) small also = absurd (omega arith)
+one_of_two (suc (suc a)) b small also = absurd (omega arith)
+
+pub clears_named : ClearsNamed
+clears_named flags named place fits within =
+    ap (λ (n : ℕ). n == 1) (bit_at_and flags (255 - named) place ∙ ap (min (bit_at flags place)) (bit_at_not w8 named place fits within))
+    ∙ one_of_two (bit_at flags place) (bit_at named place) (bit_at-lt flags place) (bit_at-lt named place)
+
+-- ---- over all keys and operations
+
+pub taken : (o : Op) (old new : List ℕ) → sets o old new → is_key (key_of o)
+taken (op.Watchdog o) old new done = tt
+taken _ old new done = absurd done
+
+pub decides : (o : Op) (value : List ℕ) → Decides (outcome o value) (sets o value)
+decides (op.Watchdog o) value = decided o (is_accepted o) refl
+decides _ value = λ new done. done
+
+pub refuses : (o : Op) (value : List ℕ) (code : ℕ) → outcome o value ≡ Err code → IsRefusal code
+refuses (op.Watchdog o) value code is = refused (settings_of o) code (is_accepted o) is
+refuses _ value code is = refused_field code (Err 0xCC) refl is
+
+pub determined : (o : Op) (old new other : List ℕ) → sets o old new → sets o old other → new ≡ other
+determined (op.Watchdog o) old new other done also = done.settings ∙ sym also.settings
+determined _ old new other done also = absurd done
+
+pub keeps : (o : Op) (old new : List ℕ) → sets o old new → valid new
+keeps (op.Watchdog o) old new done = keeps_watchdog o new done
+keeps _ old new done = absurd done
+
+pub fits : (o : Op) (old new : List ℕ) → sets o old new → IsTrue (is_length (key_of o) (length new))
+fits (op.Watchdog o) old new done = ap (λ (xs : List ℕ). is_length key.Watchdog (length xs)) done.settings
+fits _ old new done = absurd done
+
+pub replies : (o : Op) (value : List ℕ) (live : Live) → is_key (key_of o) → valid value → is_reply o (view value live)
+replies (op.Watchdog o) value live here is_valid = refl
+replies _ value live here is_valid = absurd here
+
+pub steady : (value : List ℕ) (live other : Live) → conf (view value live) ≡ conf (view value other)
+steady value live other =
+    ap (λ (n : ℕ). n ∷ slice_index value 1 ∷ slice_index value 2 ∷ slice_index value 3 ∷ slice_index value 4 ∷ [])
+    (steady_use (slice_index value 0) live.running ∙ sym (steady_use (slice_index value 0) other.running))
+
+pub get_short : (k : Key) (value : List ℕ) (live : Live) → is_key k → valid value → length (view value live) ≤ room_for (get_request k)
+get_short k value live here is_valid = omega arith
+
+pub set_short : (o : Op) → is_key (key_of o) → length (set_view o) ≤ room_for (set_request o)
+set_short o here = omega arith
+
+pub same_record : (o : Op) (reply : List ℕ) → key_of (undo o reply) ≡ key_of o
+same_record (op.Watchdog o) reply = refl
+same_record _ reply = refl
+
+pub undoes : (o : Op) (old new : List ℕ) (live : Live) → valid old → sets o old new → restorable o (view old live) → sets (undo o (view old live)) new old
+undoes (op.Watchdog o) old new live is_valid done can = undoes_watchdog old live is_valid can
+undoes _ old new live is_valid done can = absurd done

@@ -1,0 +1,162 @@
+//! The power restore policy, as a kind of record.
+ghost use Rattle.std.specs.Prelude.{◌≡◌, ◌≢◌, length};
+ghost use Rattle.std.specs.Option.{SomeIff};
+ghost use Rattle.watch_boot.specs.PowerPolicy.{policy_outcome, shown_policy, undo_policy};
+
+use cfg_records::{Asked, Key, Live, Op, RecordData, RecordKind, SetPowerPolicy, Value};
+use two_wire::code::INVALID_DATA_FIELD;
+use two_wire::{Code, NetFn};
+
+/// The number of the network function of the chassis.
+const CHASSIS: u8 = 0x00;
+
+/// The number of the command that gets it.
+const GET_CHASSIS_STATUS: u8 = 0x01;
+
+/// The number of the command that sets it.
+const SET_POWER_RESTORE_POLICY: u8 = 0x06;
+
+/// The policy that isn't known, and that a Set leaves as it is.
+const UNKNOWN: u8 = 3;
+
+/// The policies that a Set may choose, by a bit for each: 0, 1 and 2.
+const SUPPORTED: u8 = 0x07;
+
+/// Any known policy can be set.
+#[derive(Clone, Copy, Debug, PartialEq, Eq)]
+pub struct PowerPolicyLimits;
+
+/// The value that the operation makes of this one.
+fn set(op: &SetPowerPolicy, old: &[u8]) -> Result<Value, Code>
+    requires { length old.now ≡ 1 }
+    ensures { result ≡ policy_outcome op.now old.now }
+{
+    let asked = op.policy & 0x07;
+    if asked > UNKNOWN {
+        return Err(INVALID_DATA_FIELD);
+    }
+    let next = if asked == UNKNOWN { old[0] } else { asked };
+    Ok(Value::from_slice(&[next]))
+}
+
+/// The operation that sets the policy that the chassis status shows.
+fn undo(reply: &[u8]) -> Option<SetPowerPolicy>
+    ensures { SomeIff result ((length reply.now ≡ 3) × (shown_policy reply.now ≢ 3)) (undo_policy reply.now) }
+{
+    let [status, _, _] = reply else {
+        return None;
+    };
+    let policy = (status >> 5) & 0x03;
+    if policy == UNKNOWN {
+        return None;
+    }
+    Some(SetPowerPolicy { policy })
+}
+
+impl RecordKind for PowerPolicyLimits {
+    ghost use Rattle.watch_boot.specs.PowerPolicy as p;
+    ghost use Rattle.watch_boot.specs.PowerPolicyLaws as laws;
+
+    ghost is_key = { p.is_key };
+
+    ghost is_of = { λ _. p.is_key };
+
+    ghost valid = { λ _. p.valid };
+
+    ghost sets = { λ _. p.sets };
+
+    ghost outcome = { λ _. p.outcome };
+
+    ghost set_view = { p.set_view };
+
+    ghost live_after = { p.live_after };
+
+    ghost view = { λ _. p.view };
+
+    ghost conf = { λ _. p.conf };
+
+    ghost get_request = { p.get_request };
+
+    ghost set_body = { p.set_body };
+
+    ghost set_request = { p.set_request };
+
+    ghost is_reply = { p.is_reply };
+
+    ghost restorable = { p.restorable };
+
+    ghost undo = { p.undo };
+
+    fn apply(&self, op: &Op, value: &Value) -> Result<Value, Code> {
+        match op {
+            Op::PowerPolicy(op) => set(op, value.as_slice()),
+            _ => unreachable!(),
+        }
+    }
+
+    fn set_reply(_op: &Op) -> RecordData {
+        RecordData::from_slice(&[SUPPORTED])
+    }
+
+    fn next_live(_op: &Op, live: &Live) -> Live {
+        *live
+    }
+
+    fn get_data(&self, value: &Value, live: &Live) -> RecordData {
+        let policy = value.as_slice()[0];
+        RecordData::from_slice(&[(policy << 5) | live.chassis.number(), 0, 0])
+    }
+
+    fn get_asked(_key: &Key) -> Asked {
+        Asked::ipmi(NetFn::new(CHASSIS), GET_CHASSIS_STATUS, &[])
+    }
+
+    fn set_data(op: &Op) -> RecordData {
+        match op {
+            Op::PowerPolicy(op) => RecordData::from_slice(&[op.policy]),
+            _ => unreachable!(),
+        }
+    }
+
+    fn set_asked(op: &Op) -> Asked {
+        match op {
+            Op::PowerPolicy(op) => {
+                Asked::ipmi(NetFn::new(CHASSIS), SET_POWER_RESTORE_POLICY, &[op.policy])
+            }
+            _ => unreachable!(),
+        }
+    }
+
+    fn inverse(op: &Op, get_data: &[u8]) -> Option<Op> {
+        match op {
+            Op::PowerPolicy(_) => Some(Op::PowerPolicy(undo(get_data)?)),
+            _ => unreachable!(),
+        }
+    }
+
+    ghost of_kind = { λ _ _ here. here };
+
+    ghost taken = { λ _. laws.taken };
+
+    ghost decides = { λ _. laws.decides };
+
+    ghost refuses = { λ _. laws.refuses };
+
+    ghost determined = { λ _. laws.determined };
+
+    ghost keeps = { λ _. laws.keeps };
+
+    ghost fits = { λ _. laws.fits };
+
+    ghost replies = { λ _. laws.replies };
+
+    ghost steady = { λ _. laws.steady };
+
+    ghost get_short = { λ _. laws.get_short };
+
+    ghost set_short = { laws.set_short };
+
+    ghost same_record = { laws.same_record };
+
+    ghost undoes = { λ _. laws.undoes };
+}

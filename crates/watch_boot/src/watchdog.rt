@@ -1,0 +1,269 @@
+//! The watchdog timer, as a kind of record.
+ghost use Rattle.std.specs.Prelude.{◌≡◌, ◌%◌, ◌≤◌, length};
+ghost use Rattle.std.specs.Option.{SomeIff};
+ghost use Rattle.cfg_records.specs.Watchdog.{IsWatchdog};
+ghost use Rattle.watch_boot.specs.Watchdog.{kept_use, kept_actions, is_accepted, watchdog_outcome, live_after_set, watchdog_body, shown_use, watchdog_view, IsStopped, undo_watchdog, WasSet, live_after_reset};
+
+use cfg_records::mask::has;
+use cfg_records::{Asked, Key, Live, Op, RecordData, RecordKind, SetWatchdog, Value};
+use two_wire::code::INVALID_DATA_FIELD;
+use two_wire::{Code, NetFn};
+
+/// The number of the network function of applications.
+const APPLICATION: u8 = 0x06;
+
+/// The number of the command that sets it.
+const SET_WATCHDOG_TIMER: u8 = 0x24;
+
+/// The number of the command that gets it.
+const GET_WATCHDOG_TIMER: u8 = 0x25;
+
+/// The bit of a timer use byte that a Set has for "don't stop" and a Get for "running".
+const RUNNING_PLACE: usize = 6;
+
+/// Any settings with a known use, interrupt and action can be set.
+#[derive(Clone, Copy, Debug, PartialEq, Eq)]
+pub struct WatchdogLimits;
+
+/// What a Set keeps of a timer use byte: don't log in bit 7 and the use in bits 2:0.
+fn kept_use(timer_use: u8) -> u8
+    ensures { result ≡ kept_use timer_use }
+{
+    timer_use & 0x87
+}
+
+/// What a Set keeps of an actions byte: the interrupt in bits 6:4 and the action in bits 2:0.
+fn kept_actions(actions: u8) -> u8
+    ensures { result ≡ kept_actions actions }
+{
+    actions & 0x77
+}
+
+/// Whether the bytes say a use from 1 to 5, and an interrupt and an action of at most 3.
+fn is_accepted(op: &SetWatchdog) -> bool
+    ensures { result ≡ is_accepted op.now }
+{
+    let timer_use = op.timer_use & 0x07;
+    let interrupt = (op.actions >> 4) & 0x07;
+    let action = op.actions & 0x07;
+    matches!(timer_use, 1..=5) && interrupt <= 3 && action <= 3
+}
+
+/// The settings that the operation makes.
+fn set(op: &SetWatchdog) -> Result<Value, Code>
+    ensures { result ≡ watchdog_outcome op.now }
+{
+    if !is_accepted(op) {
+        return Err(INVALID_DATA_FIELD);
+    }
+    let [low, high] = op.initial.to_le_bytes();
+    let timer_use = kept_use(op.timer_use);
+    let actions = kept_actions(op.actions);
+    Ok(Value::from_slice(&[timer_use, actions, op.pre_timeout, low, high]))
+}
+
+/// What isn't configuration, after the operation.
+fn live_after_set(op: &SetWatchdog, live: &Live) -> Live
+    ensures { result ≡ live_after_set op.now live.now }
+{
+    Live {
+        chassis: live.chassis,
+        countdown: op.initial,
+        expired: live.expired & !op.flags_to_clear,
+        running: live.running && has(op.timer_use, RUNNING_PLACE),
+    }
+}
+
+/// The data of the request that carries out the operation.
+fn body(op: &SetWatchdog) -> RecordData
+    ensures value { result ≡ watchdog_body op.now }
+    ensures six { length result ≡ 6 }
+{
+    let [low, high] = op.initial.to_le_bytes();
+    RecordData::from_slice(&[
+        op.timer_use,
+        op.actions,
+        op.pre_timeout,
+        op.flags_to_clear,
+        low,
+        high,
+    ])
+}
+
+/// The timer use byte of a Get reply: bit 6 says whether the timer runs.
+fn shown_use(timer_use: u8, running: bool) -> u8
+    requires { timer_use % 128 ≤ 5 }
+    ensures { result ≡ shown_use timer_use running }
+{
+    if running {
+        timer_use | 1 << RUNNING_PLACE
+    } else {
+        timer_use
+    }
+}
+
+/// The data of the Get reply.
+fn reply(value: &[u8], live: &Live) -> RecordData
+    requires { IsWatchdog value.now }
+    ensures { result ≡ watchdog_view value.now live.now }
+{
+    let [low, high] = live.countdown.to_le_bytes();
+    RecordData::from_slice(&[
+        shown_use(value[0], live.running),
+        value[1],
+        value[2],
+        live.expired,
+        value[3],
+        value[4],
+        low,
+        high,
+    ])
+}
+
+/// The operation that sets what the reply shows.
+fn undo(reply: &[u8]) -> Option<SetWatchdog>
+    ensures { SomeIff result ((length reply.now ≡ 8) × IsStopped reply.now) (undo_watchdog reply.now) }
+{
+    let [timer_use, actions, pre_timeout, _, low, high, _, _] = reply else {
+        return None;
+    };
+    let used = timer_use & 0x07;
+    if has(*timer_use, RUNNING_PLACE) || used == 0 || used > 5 {
+        return None;
+    }
+    Some(SetWatchdog {
+        timer_use: kept_use(*timer_use),
+        actions: kept_actions(*actions),
+        pre_timeout: *pre_timeout,
+        flags_to_clear: 0,
+        initial: u16::from_le_bytes([*low, *high]),
+    })
+}
+
+/// What isn't configuration, after Reset Watchdog Timer: its countdown begins anew and it runs. None where it was never set.
+pub fn reset(value: &Value, live: &Live) -> Option<Live>
+    requires { IsWatchdog value.now }
+    ensures { SomeIff result (WasSet value.now) (live_after_reset value.now live.now) }
+{
+    let settings = value.as_slice();
+    if settings[0] & 0x07 == 0 {
+        return None;
+    }
+    Some(Live {
+        chassis: live.chassis,
+        countdown: u16::from_le_bytes([settings[3], settings[4]]),
+        expired: live.expired,
+        running: true,
+    })
+}
+
+impl RecordKind for WatchdogLimits {
+    ghost use Rattle.watch_boot.specs.Watchdog as w;
+    ghost use Rattle.watch_boot.specs.WatchdogLaws as laws;
+
+    ghost is_key = { w.is_key };
+
+    ghost is_of = { λ _. w.is_key };
+
+    ghost valid = { λ _. w.valid };
+
+    ghost sets = { λ _. w.sets };
+
+    ghost outcome = { λ _. w.outcome };
+
+    ghost set_view = { w.set_view };
+
+    ghost live_after = { w.live_after };
+
+    ghost view = { λ _. w.view };
+
+    ghost conf = { λ _. w.conf };
+
+    ghost get_request = { w.get_request };
+
+    ghost set_body = { w.set_body };
+
+    ghost set_request = { w.set_request };
+
+    ghost is_reply = { w.is_reply };
+
+    ghost restorable = { w.restorable };
+
+    ghost undo = { w.undo };
+
+    fn apply(&self, op: &Op, _value: &Value) -> Result<Value, Code> {
+        match op {
+            Op::Watchdog(op) => set(op),
+            _ => unreachable!(),
+        }
+    }
+
+    fn set_reply(_op: &Op) -> RecordData {
+        RecordData::new()
+    }
+
+    fn next_live(op: &Op, live: &Live) -> Live {
+        match op {
+            Op::Watchdog(op) => live_after_set(op, live),
+            _ => unreachable!(),
+        }
+    }
+
+    fn get_data(&self, value: &Value, live: &Live) -> RecordData {
+        reply(value.as_slice(), live)
+    }
+
+    fn get_asked(_key: &Key) -> Asked {
+        Asked::ipmi(NetFn::new(APPLICATION), GET_WATCHDOG_TIMER, &[])
+    }
+
+    fn set_data(op: &Op) -> RecordData {
+        match op {
+            Op::Watchdog(op) => body(op),
+            _ => unreachable!(),
+        }
+    }
+
+    fn set_asked(op: &Op) -> Asked {
+        match op {
+            Op::Watchdog(op) => {
+                let body = body(op);
+                Asked::ipmi(NetFn::new(APPLICATION), SET_WATCHDOG_TIMER, body.as_slice())
+            }
+            _ => unreachable!(),
+        }
+    }
+
+    fn inverse(op: &Op, get_data: &[u8]) -> Option<Op> {
+        match op {
+            Op::Watchdog(_) => Some(Op::Watchdog(undo(get_data)?)),
+            _ => unreachable!(),
+        }
+    }
+
+    ghost of_kind = { λ _ _ here. here };
+
+    ghost taken = { λ _. laws.taken };
+
+    ghost decides = { λ _. laws.decides };
+
+    ghost refuses = { λ _. laws.refuses };
+
+    ghost determined = { λ _. laws.determined };
+
+    ghost keeps = { λ _ op old new _. laws.keeps op old new };
+
+    ghost fits = { λ _. laws.fits };
+
+    ghost replies = { λ _. laws.replies };
+
+    ghost steady = { λ _. laws.steady };
+
+    ghost get_short = { λ _. laws.get_short };
+
+    ghost set_short = { laws.set_short };
+
+    ghost same_record = { laws.same_record };
+
+    ghost undoes = { λ _. laws.undoes };
+}
