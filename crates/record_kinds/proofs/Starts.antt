@@ -11,10 +11,11 @@ use Rattle.cfg_records.specs.Keys.{same_key}
 use Rattle.cfg_records.specs.KeyLaws.{exact_key, same_key_self}
 use Rattle.cfg_records.specs.MaskLaws.{same_test}
 use Rattle.cfg_records.specs.Records.{Pair, value_of}
-use Rattle.cfg_records.specs.Boards.{thresholds_pair, hysteresis_pair}
+use Rattle.cfg_records.specs.declared.board_file.BoardFile.{BoardFile}
+use Rattle.cfg_records.specs.Boards.{thresholds_pair, hysteresis_pair, sensor_pairs, power_policy_pair, watchdog_pair, pairs_of}
 use Rattle.record_kinds.specs.declared.limits.Limits.{Limits}
 use Rattle.record_kinds.specs.Limits.{valid}
-use Rattle.record_kinds.specs.Boards.{thresholds_of, hysteresis_of}
+use Rattle.record_kinds.specs.Boards.{thresholds_of, hysteresis_of, limits_at}
 use Rattle.record_kinds.specs.Sound.{IsSoundAt, StartsSound}
 
 -- the pair has the key
@@ -75,10 +76,37 @@ is_hysteresis number s =
 found_sound : (at : Option Limits) (found other : Option Pair) → found ≡ other → IsSoundAt at (option_map value_of other) → IsSoundAt at (option_map value_of found)
 found_sound at found other same sound = subst (λ (p : Option Pair). IsSoundAt at (option_map value_of p)) (sym same) sound
 
+-- the pairs behind those of sensors have no key of a sensor's
+alone_apart : (file : BoardFile) (k : Key) → same_key key.PowerPolicy k ≡ false → same_key key.Watchdog k ≡ false
+    → find (has_key k) (pairs_of file) ≡ find (has_key k) (sensor_pairs file.sensors)
+alone_apart file k power watch =
+    before (sensor_pairs file.sensors ++ power_policy_pair file.policy ∷ []) (watchdog_pair file.watchdog ∷ []) k (ap (λ b. cond b (Some (watchdog_pair file.watchdog)) None) watch)
+    ∙ before (sensor_pairs file.sensors) (power_policy_pair file.policy ∷ []) k (ap (λ b. cond b (Some (power_policy_pair file.policy)) None) power)
+
+-- no sensor's pair has a key that a board has once
+sensors_apart : (sensors : List Sensor) (k : Key) → ((s : Sensor) → same_key (thresholds_pair s).0 k ≡ false) → ((s : Sensor) → same_key (hysteresis_pair s).0 k ≡ false)
+    → find (has_key k) (sensor_pairs sensors) ≡ None
+sensors_apart sensors k no_thresholds no_hysteresis =
+    after (map thresholds_pair sensors) (map hysteresis_pair sensors) k (none_of thresholds_pair sensors k no_thresholds) ∙ none_of hysteresis_pair sensors k no_hysteresis
+
 pub starts_sound : StartsSound
 starts_sound file (key.Thresholds number) =
-    found_sound _ _ _ (before (map thresholds_pair file.sensors) (map hysteresis_pair file.sensors) (key.Thresholds number) (none_of hysteresis_pair file.sensors (key.Thresholds number) (λ s. refl)))
+    found_sound _ _ _
+    (alone_apart file (key.Thresholds number) refl refl
+    ∙ before (map thresholds_pair file.sensors) (map hysteresis_pair file.sensors) (key.Thresholds number) (none_of hysteresis_pair file.sensors (key.Thresholds number) (λ s. refl)))
     (sound_of thresholds_pair thresholds_of (λ s. s.number == number) file.sensors (key.Thresholds number) (is_thresholds number) (λ s. s.valid))
 starts_sound file (key.Hysteresis number) =
-    found_sound _ _ _ (after (map thresholds_pair file.sensors) (map hysteresis_pair file.sensors) (key.Hysteresis number) (none_of thresholds_pair file.sensors (key.Hysteresis number) (λ s. refl)))
+    found_sound _ _ _
+    (alone_apart file (key.Hysteresis number) refl refl
+    ∙ after (map thresholds_pair file.sensors) (map hysteresis_pair file.sensors) (key.Hysteresis number) (none_of thresholds_pair file.sensors (key.Hysteresis number) (λ s. refl)))
     (sound_of hysteresis_pair hysteresis_of (λ s. s.number == number) file.sensors (key.Hysteresis number) (is_hysteresis number) (λ s. refl))
+starts_sound file key.PowerPolicy =
+    found_sound (limits_at file key.PowerPolicy) _ (Some (power_policy_pair file.policy))
+    (before (sensor_pairs file.sensors ++ power_policy_pair file.policy ∷ []) (watchdog_pair file.watchdog ∷ []) key.PowerPolicy refl
+    ∙ after (sensor_pairs file.sensors) (power_policy_pair file.policy ∷ []) key.PowerPolicy (sensors_apart file.sensors key.PowerPolicy (λ s. refl) (λ s. refl)))
+    file.known_policy
+starts_sound file key.Watchdog =
+    found_sound (limits_at file key.Watchdog) _ (Some (watchdog_pair file.watchdog))
+    (after (sensor_pairs file.sensors ++ power_policy_pair file.policy ∷ []) (watchdog_pair file.watchdog ∷ []) key.Watchdog
+    (before (sensor_pairs file.sensors) (power_policy_pair file.policy ∷ []) key.Watchdog refl ∙ sensors_apart file.sensors key.Watchdog (λ s. refl) (λ s. refl)))
+    file.watchdog.valid

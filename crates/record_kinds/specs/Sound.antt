@@ -9,9 +9,11 @@ use Rattle.cfg_records.specs.Keys.{same_key}
 use Rattle.cfg_records.specs.KeyLaws.{exact_key}
 use Rattle.cfg_records.specs.Records.{Records, with_record, records_of}
 use Rattle.cfg_records.specs.Thresholds.{IsThresholds-prop}
+use Rattle.cfg_records.specs.PowerPolicy.{IsPowerPolicy-prop}
+use Rattle.cfg_records.specs.Watchdog.{IsWatchdog-prop}
 use Rattle.cfg_records.specs.Boards.{pairs_of}
 use Rattle.record_kinds.specs.declared.limits.Limits.{Limits}
-use Rattle.record_kinds.specs.declared.limits.Limits.TheVariants.{Thresholds, Hysteresis}
+use Rattle.record_kinds.specs.declared.limits.Limits.TheVariants.{Thresholds, Hysteresis, PowerPolicy, Watchdog}
 use Rattle.record_kinds.specs.Limits.{valid, sets}
 use Rattle.record_kinds.specs.LimitsLaws.{keeps}
 use Rattle.record_kinds.specs.Boards.{limits_at}
@@ -35,6 +37,8 @@ StartsSound = (file : BoardFile) → IsSound file (records_of (pairs_of file))
 pub valid-prop : (limits : Limits) (value : List ℕ) → IsProp (valid limits value)
 valid-prop (Thresholds limits) value = IsThresholds-prop limits.masks value
 valid-prop (Hysteresis limits) value = hlevel props
+valid-prop (PowerPolicy limits) value = IsPowerPolicy-prop value
+valid-prop (Watchdog limits) value = IsWatchdog-prop value
 
 IsSoundAt-prop : (limits : Option Limits) (value : Option (List ℕ)) → IsProp (IsSoundAt limits value)
 IsSoundAt-prop (Some limits) (Some value) = valid-prop limits value

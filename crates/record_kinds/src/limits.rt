@@ -4,12 +4,15 @@ ghost use Rattle.std.specs.Prelude.{◌≡◌};
 use cfg_records::{Asked, Key, Live, Op, RecordData, RecordKind, Sensor, Value};
 use sensor_recs::{HysteresisLimits, ThresholdLimits};
 use two_wire::Code;
+use watch_boot::{PowerPolicyLimits, WatchdogLimits};
 
 /// The limits of one record.
 #[derive(Clone, Copy, Debug, PartialEq, Eq)]
 pub enum Limits {
     Thresholds(ThresholdLimits),
     Hysteresis(HysteresisLimits),
+    PowerPolicy(PowerPolicyLimits),
+    Watchdog(WatchdogLimits),
 }
 
 impl Limits {
@@ -70,6 +73,8 @@ impl RecordKind for Limits {
         match self {
             Limits::Thresholds(limits) => limits.apply(op, value),
             Limits::Hysteresis(limits) => limits.apply(op, value),
+            Limits::PowerPolicy(limits) => limits.apply(op, value),
+            Limits::Watchdog(limits) => limits.apply(op, value),
         }
     }
 
@@ -77,6 +82,8 @@ impl RecordKind for Limits {
         match op {
             Op::Thresholds(_) => ThresholdLimits::set_reply(op),
             Op::Hysteresis(_) => HysteresisLimits::set_reply(op),
+            Op::PowerPolicy(_) => PowerPolicyLimits::set_reply(op),
+            Op::Watchdog(_) => WatchdogLimits::set_reply(op),
         }
     }
 
@@ -84,6 +91,8 @@ impl RecordKind for Limits {
         match op {
             Op::Thresholds(_) => ThresholdLimits::next_live(op, live),
             Op::Hysteresis(_) => HysteresisLimits::next_live(op, live),
+            Op::PowerPolicy(_) => PowerPolicyLimits::next_live(op, live),
+            Op::Watchdog(_) => WatchdogLimits::next_live(op, live),
         }
     }
 
@@ -91,6 +100,8 @@ impl RecordKind for Limits {
         match self {
             Limits::Thresholds(limits) => limits.get_data(value, live),
             Limits::Hysteresis(limits) => limits.get_data(value, live),
+            Limits::PowerPolicy(limits) => limits.get_data(value, live),
+            Limits::Watchdog(limits) => limits.get_data(value, live),
         }
     }
 
@@ -98,6 +109,8 @@ impl RecordKind for Limits {
         match key {
             Key::Thresholds(_) => ThresholdLimits::get_asked(key),
             Key::Hysteresis(_) => HysteresisLimits::get_asked(key),
+            Key::PowerPolicy => PowerPolicyLimits::get_asked(key),
+            Key::Watchdog => WatchdogLimits::get_asked(key),
         }
     }
 
@@ -105,6 +118,8 @@ impl RecordKind for Limits {
         match op {
             Op::Thresholds(_) => ThresholdLimits::set_data(op),
             Op::Hysteresis(_) => HysteresisLimits::set_data(op),
+            Op::PowerPolicy(_) => PowerPolicyLimits::set_data(op),
+            Op::Watchdog(_) => WatchdogLimits::set_data(op),
         }
     }
 
@@ -112,6 +127,8 @@ impl RecordKind for Limits {
         match op {
             Op::Thresholds(_) => ThresholdLimits::set_asked(op),
             Op::Hysteresis(_) => HysteresisLimits::set_asked(op),
+            Op::PowerPolicy(_) => PowerPolicyLimits::set_asked(op),
+            Op::Watchdog(_) => WatchdogLimits::set_asked(op),
         }
     }
 
@@ -119,6 +136,8 @@ impl RecordKind for Limits {
         match op {
             Op::Thresholds(_) => ThresholdLimits::inverse(op, get_data),
             Op::Hysteresis(_) => HysteresisLimits::inverse(op, get_data),
+            Op::PowerPolicy(_) => PowerPolicyLimits::inverse(op, get_data),
+            Op::Watchdog(_) => WatchdogLimits::inverse(op, get_data),
         }
     }
 

@@ -7,6 +7,7 @@ ghost use Rattle.record_kinds.specs.Places.{ArePlaces};
 use crate::limits::Limits;
 use cfg_records::{BoardFile, Device, Key, Sensor};
 use std::marker::Model;
+use watch_boot::{PowerPolicyLimits, WatchdogLimits};
 
 /// The place of a sensor that isn't there.
 const NOWHERE: u8 = 255;
@@ -76,6 +77,8 @@ impl Setup {
         match key {
             Key::Thresholds(number) => Some(Limits::of_thresholds(self.sensor(*number)?)),
             Key::Hysteresis(number) => Some(Limits::of_hysteresis(self.sensor(*number)?)),
+            Key::PowerPolicy => Some(Limits::PowerPolicy(PowerPolicyLimits)),
+            Key::Watchdog => Some(Limits::Watchdog(WatchdogLimits)),
         }
     }
 }

@@ -3,7 +3,7 @@ ghost use Rattle.std.specs.Prelude.{◌≡◌, ◌≤◌, length};
 ghost use Rattle.sensor_recs.specs.Requests.{sensor_request};
 
 use cfg_records::Asked;
-use two_wire::{Bytes, Lun, NetFn};
+use two_wire::NetFn;
 
 /// The number of the network function of sensors and events.
 const SENSOR_EVENT: u8 = 0x04;
@@ -13,11 +13,5 @@ pub fn sensor_request(command: u8, body: &[u8]) -> Asked
     requires { length body.now ≤ 25 }
     ensures { result ≡ sensor_request command body.now }
 {
-    Asked::Ipmi {
-        from: 0,
-        net_fn: NetFn::new(SENSOR_EVENT),
-        lun: Lun::new(0),
-        command,
-        body: Bytes::from_slice(body),
-    }
+    Asked::ipmi(NetFn::new(SENSOR_EVENT), command, body)
 }
