@@ -1,5 +1,6 @@
 pub mod AnswerFacts
 pub mod Decoded
 pub mod Heard
+pub mod Quiet
 pub mod ShownAgain
 pub mod Undone

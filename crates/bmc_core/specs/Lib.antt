@@ -6,5 +6,6 @@ pub mod Answer
 pub mod AnswerLaws
 pub mod Decode
 pub mod Undo
+pub mod Quiet
 pub mod Port
 pub mod Names

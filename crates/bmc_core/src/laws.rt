@@ -2,6 +2,7 @@
 ghost use Rattle.bmc_core.specs.AnswerLaws.{HasAnswer, HasOneAnswer};
 ghost use Rattle.bmc_core.specs.Decode.{IsWhole, GetsAreRead, SetsAreRead, UndosAreWhole};
 ghost use Rattle.bmc_core.specs.Undo.{IsUndone, IsSteady, IsShownAsBefore};
+ghost use Rattle.bmc_core.specs.Quiet.{KeepsRecords};
 
 use cfg_records::Op;
 
@@ -44,4 +45,9 @@ pub fn undo_law()
 pub fn conf_law()
     ensures steady { IsSteady }
     ensures undone { IsShownAsBefore }
+{}
+
+/// A request whose command sets no configuration leaves every record as it is, be it carried out or refused.
+pub fn quiet_law()
+    ensures { KeepsRecords }
 {}

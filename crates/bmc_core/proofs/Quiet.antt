@@ -1,0 +1,106 @@
+-- A command that the table doesn't mark as setting asks for no Set.
+use Rattle.std.proofs.Common.{◌≡◌, ℕ, List, [], ◌∷◌, Option, Some, None, Result, Ok, Err, Bool, true, false, if◌then◌else◌, ◌==◌, ◌&&◌, find, length, refl, ap}
+use Rattle.std.specs.List.{list_all}
+use Rattle.two_wire.specs.Codes.{invalid_for_lun, invalid_length, pldm_unsupported_command, pldm_invalid_type}
+use Rattle.cfg_records.specs.declared.message.Asked.{Asked}
+use Rattle.cfg_records.specs.declared.message.Asked.TheVariants.{Ipmi, Pldm}
+use Rattle.cfg_records.specs.declared.message.Answered.{Answered}
+use Rattle.cfg_records.specs.declared.board_file.BoardFile.{BoardFile}
+use Rattle.bmc_core.specs.declared.command.Command.{Command}
+use Rattle.bmc_core.specs.declared.command.Command.TheVariants as command
+use Rattle.bmc_core.specs.declared.command.Line.{Line}
+use Rattle.bmc_core.specs.declared.request.Request.{Request}
+use Rattle.bmc_core.specs.declared.request.Request.TheVariants.{GetDeviceId, Get, Set}
+use Rattle.bmc_core.specs.Table.{Listed, table, line_in, line_of, is_allowed, is_pldm_type, changes, is_changing}
+use Rattle.bmc_core.specs.Request.{request_of, asked_at, asked_by}
+use Rattle.bmc_core.specs.State.{State}
+use Rattle.bmc_core.specs.Row.{Serves, Replies}
+use Rattle.bmc_core.specs.Quiet.{KeepsRecords}
+
+-- the request is no Set
+abbrev IsQuiet : Request → Type 0
+IsQuiet (Set op) = ⊥
+IsQuiet _ = Unit {0}
+
+-- a setting command: a line for each
+abbrev is_setting : Command → Bool
+is_setting command.SetSensorHysteresis = true
+is_setting command.SetSensorThresholds = true
+is_setting _ = false
+
+quiet_command : (c : Command) (body : List ℕ) → is_setting c ≡ false → IsQuiet (request_of c body)
+quiet_command command.SetSensorHysteresis body e = cc
+quiet_command command.SetSensorThresholds body e = cc
+quiet_command _ body e = tt
+
+-- the table marks the line of a setting command
+abbrev is_marked : Listed → Bool
+is_marked l = if is_setting l.line.command then l.line.changing else true
+
+all_marked : list_all is_marked table ≡ true
+all_marked = refl
+
+marked_where : (setting changing : Bool) → (if setting then changing else true) ≡ true → changing ≡ false → setting ≡ false
+marked_where true changing marked e = cc
+marked_where false changing marked e = refl
+
+-- ---- the line that is found
+
+-- if there is a line, it is marked where its command is a setting one
+abbrev IsMarked : Option Line → Type 0
+IsMarked (Some line) = (if is_setting line.command then line.changing else true) ≡ true
+IsMarked None = Unit {0}
+
+both : (a b : Bool) → (a && b) ≡ true → (a ≡ true) × (b ≡ true)
+both true true e = (refl, refl)
+both true false e = cc
+both false b e = cc
+
+found_at : (b : Bool) (l : Listed) (rest : Option Listed) → is_marked l ≡ true → IsMarked (line_in rest) → IsMarked (line_in (if b then Some l else rest))
+found_at true l rest marked others = marked
+found_at false l rest marked others = others
+
+found : (p : Listed → Bool) (ls : List Listed) → list_all is_marked ls ≡ true → IsMarked (line_in (find p ls))
+found p [] all = tt
+found p (l ∷ ls) all = let parts : (is_marked l ≡ true) × (list_all is_marked ls ≡ true) = both _ _ all in found_at (p l) l (find p ls) parts.0 (found p ls parts.1)
+
+-- ---- what is asked for
+
+-- what is asked for, if anything, is no Set
+abbrev AsksQuietly : Result Request ℕ → Type 0
+AsksQuietly (Ok request) = IsQuiet request
+AsksQuietly (Err fault) = Unit {0}
+
+length_quiet : (b : Bool) (line : Line) (body : List ℕ) → is_setting line.command ≡ false → AsksQuietly (if b then Ok (request_of line.command body) else Err invalid_length)
+length_quiet true line body e = quiet_command line.command body e
+length_quiet false line body e = tt
+
+asked_at_quiet : (line : Option Line) (body : List ℕ) → IsMarked line → changes line ≡ false → AsksQuietly (asked_at line body)
+asked_at_quiet None body marked quiet = tt
+asked_at_quiet (Some line) body marked quiet = length_quiet (is_allowed line.lengths (length body)) line body (marked_where (is_setting line.command) line.changing marked quiet)
+
+lun_quiet : (b : Bool) (line : Option Line) (body : List ℕ) → IsMarked line → changes line ≡ false → AsksQuietly (if b then asked_at line body else Err invalid_for_lun)
+lun_quiet true line body marked quiet = asked_at_quiet line body marked quiet
+lun_quiet false line body marked quiet = tt
+
+type_quiet : (b : Bool) → AsksQuietly (if b then Err pldm_unsupported_command else Err pldm_invalid_type)
+type_quiet true = tt
+type_quiet false = tt
+
+asks_quietly : (asked : Asked) → is_changing asked ≡ false → AsksQuietly (asked_by asked)
+asks_quietly (Ipmi from net_fn lun number body) quiet = lun_quiet (lun == 0) (line_of net_fn number) body (found (λ l. (l.net_fn == net_fn) && (l.number == number)) table all_marked) quiet
+asks_quietly (Pldm from kind number body) quiet = type_quiet (is_pldm_type kind)
+
+-- ---- what it leaves
+
+served_quietly : (setup : BoardFile) (before : State) (request : Request) (answered : Answered) (after : State) → IsQuiet request → Serves setup before request answered after → after.records ≡ before.records
+served_quietly setup before GetDeviceId answered after quiet row = ap (λ (s : State). s.records) row.1
+served_quietly setup before (Get key) answered after quiet row = ap (λ (s : State). s.records) row.1
+served_quietly setup before (Set op) answered after quiet row = absurd quiet
+
+replied_quietly : (setup : BoardFile) (before : State) (r : Result Request ℕ) (answered : Answered) (after : State) → AsksQuietly r → Replies setup before r answered after → after.records ≡ before.records
+replied_quietly setup before (Ok request) answered after quiet row = served_quietly setup before request answered after quiet row
+replied_quietly setup before (Err fault) answered after quiet row = ap (λ (s : State). s.records) row.1
+
+pub keeps_records : KeepsRecords
+keeps_records setup before asked answered after quiet row = replied_quietly setup before (asked_by asked) answered after (asks_quietly asked quiet) row
