@@ -1,11 +1,13 @@
 -- What a request asks for.
 use Rattle.std.specs.Prelude.{ℕ, List, [], ◌∷◌, length, slice_index, Option, Some, None, Result, Ok, Err, ◌==◌, if◌then◌else◌}
+use Rattle.std.specs.Int.{w16, from_le_bytes}
 use Rattle.two_wire.specs.Codes.{invalid_for_lun, invalid_command, invalid_length, pldm_unsupported_command, pldm_invalid_type}
 use Rattle.cfg_records.specs.declared.message.Asked.{Asked}
 use Rattle.cfg_records.specs.declared.message.Asked.TheVariants.{Ipmi, Pldm}
 use Rattle.cfg_records.specs.declared.key.Key.TheVariants as key
 use Rattle.cfg_records.specs.declared.op.Op.TheVariants as op
 use Rattle.cfg_records.specs.declared.op.SetThresholds.{SetThresholds}
+use Rattle.cfg_records.specs.declared.op.SetWatchdog.{SetWatchdog}
 use Rattle.bmc_core.specs.declared.command.Command.{Command}
 use Rattle.bmc_core.specs.declared.command.Command.TheVariants as command
 use Rattle.bmc_core.specs.declared.command.Line.{Line}
@@ -25,6 +27,16 @@ thresholds_in body = record {
   values = byte_at body 2 ∷ byte_at body 3 ∷ byte_at body 4 ∷ byte_at body 5 ∷ byte_at body 6 ∷ byte_at body 7 ∷ [];
 }
 
+-- timer use, actions, pre-timeout interval, flags to clear, and the countdown, low byte first
+abbrev pub watchdog_in : List ℕ → SetWatchdog
+watchdog_in body = record {
+  timer_use = byte_at body 0;
+  actions = byte_at body 1;
+  pre_timeout = byte_at body 2;
+  flags_to_clear = byte_at body 3;
+  initial = from_le_bytes w16 (byte_at body 4 ∷ byte_at body 5 ∷ []);
+}
+
 -- what a command asks for with data of a length that it takes
 abbrev pub request_of : Command → List ℕ → Request
 request_of command.GetDeviceId body = request.GetDeviceId
@@ -32,6 +44,11 @@ request_of command.SetSensorHysteresis body = request.Set (op.Hysteresis (record
 request_of command.GetSensorHysteresis body = request.Get (key.Hysteresis (byte_at body 0))
 request_of command.SetSensorThresholds body = request.Set (op.Thresholds (thresholds_in body))
 request_of command.GetSensorThresholds body = request.Get (key.Thresholds (byte_at body 0))
+request_of command.GetChassisStatus body = request.Get key.PowerPolicy
+request_of command.SetPowerRestorePolicy body = request.Set (op.PowerPolicy (record { policy = byte_at body 0 }))
+request_of command.ResetWatchdogTimer body = request.ResetWatchdog
+request_of command.SetWatchdogTimer body = request.Set (op.Watchdog (watchdog_in body))
+request_of command.GetWatchdogTimer body = request.Get key.Watchdog
 
 -- what a line's command asks for, where the data has a length that it takes
 abbrev pub asked_at : Option Line → List ℕ → Result Request ℕ

@@ -1,20 +1,22 @@
 -- The command relation: the answer to each request, and the state that it leaves.
 use Rattle.std.specs.Prelude.{◌≡◌, ℕ, ◌/◌, ◌%◌, List, [], ◌∷◌, Option, Some, None, Result, Ok, Err, ◌⊎◌}
-use Rattle.two_wire.specs.Codes.{success, not_present}
+use Rattle.two_wire.specs.Codes.{success, not_present, uninitialized_watchdog}
 use Rattle.cfg_records.specs.Keys.{key_of}
 use Rattle.cfg_records.specs.Records.{with_record}
 use Rattle.cfg_records.specs.declared.key.Key.{Key}
+use Rattle.cfg_records.specs.declared.key.Key.TheVariants as key
 use Rattle.cfg_records.specs.declared.op.Op.{Op}
 use Rattle.cfg_records.specs.declared.live.Live.{Live}
 use Rattle.cfg_records.specs.declared.message.Asked.{Asked}
 use Rattle.cfg_records.specs.declared.message.Answered.{Answered}
 use Rattle.cfg_records.specs.declared.board_file.Device.{Device}
 use Rattle.cfg_records.specs.declared.board_file.BoardFile.{BoardFile}
+use Rattle.watch_boot.specs.Watchdog.{WasSet, live_after_reset}
 use Rattle.record_kinds.specs.declared.limits.Limits.{Limits}
 use Rattle.record_kinds.specs.Limits.{sets, outcome, view, set_view, live_after}
 use Rattle.record_kinds.specs.Boards.{limits_at}
 use Rattle.bmc_core.specs.declared.request.Request.{Request}
-use Rattle.bmc_core.specs.declared.request.Request.TheVariants.{GetDeviceId, Get, Set}
+use Rattle.bmc_core.specs.declared.request.Request.TheVariants.{GetDeviceId, ResetWatchdog, Get, Set}
 use Rattle.bmc_core.specs.Request.{asked_by}
 use Rattle.bmc_core.specs.State.{State, state}
 
@@ -62,9 +64,17 @@ abbrev pub Sets : Option Limits → Option (List ℕ) → ℕ → Op → State �
 Sets (Some limits) (Some old) unknown op before answered after = IsCarriedOut limits old op before answered after ⊎ IsRefused limits old op before answered after
 Sets _ _ unknown op before answered after = (answered ≡ refused unknown) × (after ≡ before)
 
+-- the watchdog timer starts where it was set once
+abbrev pub Resets : Option (List ℕ) → State → ℕ → Answered → State → Type 0
+Resets (Some value) before unknown answered after =
+    (WasSet value × (answered ≡ done []) × (after ≡ state before.records (live_after_reset value before.live)))
+    ⊎ (¬ WasSet value × (answered ≡ refused uninitialized_watchdog) × (after ≡ before))
+Resets None before unknown answered after = (answered ≡ refused unknown) × (after ≡ before)
+
 -- one line for each thing that can be asked for
 abbrev pub Serves : BoardFile → State → Request → Answered → State → Type 0
 Serves setup before GetDeviceId answered after = (answered ≡ done (device_data setup.device)) × (after ≡ before)
+Serves setup before ResetWatchdog answered after = Resets (before.records key.Watchdog) before (unknown_code setup key.Watchdog) answered after
 Serves setup before (Get key) answered after = Gets (limits_at setup key) (before.records key) before.live (unknown_code setup key) answered × (after ≡ before)
 Serves setup before (Set op) answered after = Sets (limits_at setup (key_of op)) (before.records (key_of op)) (unknown_code setup (key_of op)) op before answered after
 

@@ -1,4 +1,4 @@
--- The table of commands (IPMI 2.0, sections 20.1 and 35.6 to 35.9): one line each.
+-- The table of commands (IPMI 2.0, sections 20.1, 27.5 to 27.7, 28.2, 28.8 and 35.6 to 35.9): one line each.
 use Rattle.std.specs.Prelude.{ℕ, List, [], ◌∷◌, Option, Some, None, Bool, true, false, find, ◌==◌, ◌&&◌, ◌||◌}
 use Rattle.cfg_records.specs.declared.message.Asked.{Asked}
 use Rattle.cfg_records.specs.declared.message.Asked.TheVariants.{Ipmi, Pldm}
@@ -20,11 +20,16 @@ listed net_fn number lengths changing command = record { net_fn = net_fn; number
 -- network function, number, lengths, whether it sets the configuration, command
 abbrev pub table : List Listed
 table =
+    listed 0x00 0x01 (Exactly 0) false command.GetChassisStatus ∷
+    listed 0x00 0x06 (Exactly 1) true command.SetPowerRestorePolicy ∷
     listed 0x04 0x24 (Exactly 4) true command.SetSensorHysteresis ∷
     listed 0x04 0x25 (Exactly 2) false command.GetSensorHysteresis ∷
     listed 0x04 0x26 (Exactly 8) true command.SetSensorThresholds ∷
     listed 0x04 0x27 (Exactly 1) false command.GetSensorThresholds ∷
     listed 0x06 0x01 (Exactly 0) false command.GetDeviceId ∷
+    listed 0x06 0x22 (Exactly 0) false command.ResetWatchdogTimer ∷
+    listed 0x06 0x24 (Exactly 6) true command.SetWatchdogTimer ∷
+    listed 0x06 0x25 (Exactly 0) false command.GetWatchdogTimer ∷
     []
 
 abbrev pub line_in : Option Listed → Option Line

@@ -12,6 +12,11 @@ pub enum Command {
     GetSensorHysteresis,
     SetSensorThresholds,
     GetSensorThresholds,
+    GetChassisStatus,
+    SetPowerRestorePolicy,
+    ResetWatchdogTimer,
+    SetWatchdogTimer,
+    GetWatchdogTimer,
 }
 
 /// How many bytes of data a command takes.
@@ -56,11 +61,16 @@ pub fn find_line(net_fn: u8, number: u8) -> Option<Line>
     use Command::*;
     use Lengths::*;
     Some(match (net_fn, number) {
+        (0x00, 0x01) => entry(GetChassisStatus, Exactly(0), false),
+        (0x00, 0x06) => entry(SetPowerRestorePolicy, Exactly(1), true),
         (0x04, 0x24) => entry(SetSensorHysteresis, Exactly(4), true),
         (0x04, 0x25) => entry(GetSensorHysteresis, Exactly(2), false),
         (0x04, 0x26) => entry(SetSensorThresholds, Exactly(8), true),
         (0x04, 0x27) => entry(GetSensorThresholds, Exactly(1), false),
         (0x06, 0x01) => entry(GetDeviceId, Exactly(0), false),
+        (0x06, 0x22) => entry(ResetWatchdogTimer, Exactly(0), false),
+        (0x06, 0x24) => entry(SetWatchdogTimer, Exactly(6), true),
+        (0x06, 0x25) => entry(GetWatchdogTimer, Exactly(0), false),
         _ => return None,
     })
 }

@@ -1,15 +1,16 @@
 //! What a request asks for.
 ghost use Rattle.std.specs.Prelude.{◌≡◌, ◌<◌};
-ghost use Rattle.bmc_core.specs.Request.{byte_at, thresholds_in, request_of, asked_by};
+ghost use Rattle.bmc_core.specs.Request.{byte_at, thresholds_in, watchdog_in, request_of, asked_by};
 
 use crate::command::{Command, find_line, is_pldm_type};
-use cfg_records::{Asked, Key, Op, SetHysteresis, SetThresholds};
+use cfg_records::{Asked, Key, Op, SetHysteresis, SetPowerPolicy, SetThresholds, SetWatchdog};
 use two_wire::{Code, code};
 
 /// A well-formed request.
 #[derive(Clone, Copy, Debug, PartialEq, Eq)]
 pub enum Request {
     GetDeviceId,
+    ResetWatchdog,
     Get(Key),
     Set(Op),
 }
@@ -42,6 +43,19 @@ fn set_thresholds(body: &[u8]) -> SetThresholds
     }
 }
 
+/// Timer use, actions, pre-timeout interval, flags to clear, and the countdown, low byte first.
+fn set_watchdog(body: &[u8]) -> SetWatchdog
+    ensures { result ≡ watchdog_in body.now }
+{
+    SetWatchdog {
+        timer_use: byte(body, 0),
+        actions: byte(body, 1),
+        pre_timeout: byte(body, 2),
+        flags_to_clear: byte(body, 3),
+        initial: u16::from_le_bytes([byte(body, 4), byte(body, 5)]),
+    }
+}
+
 /// What the command asks for with this data, of a length that the command takes.
 fn request_in(command: Command, body: &[u8]) -> Request
     ensures { result ≡ request_of command body.now }
@@ -57,6 +71,13 @@ fn request_in(command: Command, body: &[u8]) -> Request
         Command::GetSensorHysteresis => Request::Get(Key::Hysteresis(number)),
         Command::SetSensorThresholds => Request::Set(Op::Thresholds(set_thresholds(body))),
         Command::GetSensorThresholds => Request::Get(Key::Thresholds(number)),
+        Command::GetChassisStatus => Request::Get(Key::PowerPolicy),
+        Command::SetPowerRestorePolicy => {
+            Request::Set(Op::PowerPolicy(SetPowerPolicy { policy: number }))
+        }
+        Command::ResetWatchdogTimer => Request::ResetWatchdog,
+        Command::SetWatchdogTimer => Request::Set(Op::Watchdog(set_watchdog(body))),
+        Command::GetWatchdogTimer => Request::Get(Key::Watchdog),
     }
 }
 

@@ -7,6 +7,9 @@ success = 0x00
 
 -- ---- IPMI
 
+abbrev pub uninitialized_watchdog : ℕ
+uninitialized_watchdog = 0x80
+
 abbrev pub node_busy : ℕ
 node_busy = 0xC0
 

@@ -25,6 +25,9 @@ impl Model for Code {
 /// IPMI: the controller has no room for the request now.
 pub const NODE_BUSY: Code = Code { value: 0xC0 };
 
+/// IPMI, Reset Watchdog Timer: the timer was never set.
+pub const UNINITIALIZED_WATCHDOG: Code = Code { value: 0x80 };
+
 /// IPMI: the command isn't one of the controller's.
 pub const INVALID_COMMAND: Code = Code { value: 0xC1 };
 
