@@ -73,17 +73,17 @@ impl Answered {
 impl Asked {
     ghost use Rattle.cfg_records.specs.Requests.{ipmi_request};
 
-    /// The IPMI request of this network function, command and data: from nobody, to logical unit 0.
-    pub fn ipmi(net_fn: NetFn, command: u8, body: &[u8]) -> Self
-        requires { length body.now ≤ 25 }
-        ensures { result ≡ ipmi_request net_fn command body.now }
+    /// The IPMI request of this network function and command, with these bytes of data: from nobody, to logical unit 0.
+    pub fn ipmi(net_fn: NetFn, command: u8, bytes: &[u8]) -> Self
+        requires { length bytes.now ≤ 25 }
+        ensures { result ≡ ipmi_request net_fn command bytes.now }
     {
         Asked::Ipmi {
             from: 0,
             net_fn,
             lun: Lun::new(0),
             command,
-            body: Bytes::from_slice(body),
+            body: Bytes::from_slice(bytes),
         }
     }
 

@@ -28,7 +28,7 @@ to_le : (a b : ℕ) → a ≤ b → nat_le a b ≡ true
 to_le a b h = grind (arith, nat_tests)
 
 -- four tests that hold together hold each
-pub record AllTrue (a b c d : Bool) : Type 0 where
+record AllTrue (a b c d : Bool) : Type 0 where
   pub first : a ≡ true
   pub second : b ≡ true
   pub third : c ≡ true
