@@ -1,7 +1,7 @@
 -- What every answer has in common.
 use Rattle.std.proofs.Common.{◌≡◌, ◌≢◌, ℕ, ◌<◌, ◌≤◌, List, [], length, Option, Some, None, Result, Ok, Err, Bool, true, false, if◌then◌else◌, ◌==◌, refl, ap, sym, ◌∙◌, subst, arith, lit<, lit≤}
 use Rattle.std.proofs.lemmas.Bool.Decides.{nat_tests}
-use Rattle.two_wire.specs.Codes.{success, node_busy, pldm_not_ready, invalid_command, invalid_for_lun, invalid_length, pldm_unsupported_command, pldm_invalid_type, not_present}
+use Rattle.two_wire.specs.Codes.{success, node_busy, pldm_not_ready, invalid_command, invalid_for_lun, invalid_length, pldm_unsupported_command, pldm_invalid_type, not_present, uninitialized_watchdog}
 use Rattle.cfg_records.specs.Keys.{key_of}
 use Rattle.cfg_records.specs.Meaning.{IsRefusal, room_for}
 use Rattle.cfg_records.specs.declared.key.Key.{Key}
@@ -14,6 +14,8 @@ use Rattle.cfg_records.specs.declared.message.Asked.TheVariants.{Ipmi, Pldm}
 use Rattle.cfg_records.specs.declared.message.Answered.{Answered}
 use Rattle.cfg_records.specs.declared.board_file.BoardFile.{BoardFile}
 use Rattle.record_kinds.specs.declared.limits.Limits.{Limits}
+use Rattle.record_kinds.specs.declared.limits.Limits.TheVariants as kinds
+use Rattle.watch_boot.specs.Watchdog.{was_set, live_after_reset}
 use Rattle.record_kinds.specs.Limits.{is_of, outcome, view, get_request, set_request}
 use Rattle.record_kinds.specs.LimitsLaws as laws
 use Rattle.std.specs.Option.{option_map}
@@ -23,11 +25,13 @@ use Rattle.bmc_core.specs.declared.command.Command.{Command}
 use Rattle.bmc_core.specs.declared.command.Command.TheVariants as command
 use Rattle.bmc_core.specs.declared.command.Line.{Line}
 use Rattle.bmc_core.specs.declared.request.Request.{Request}
-use Rattle.bmc_core.specs.declared.request.Request.TheVariants.{GetDeviceId, Get, Set}
+use Rattle.bmc_core.specs.declared.request.Request.TheVariants.{GetDeviceId, ResetWatchdog, Get, Set}
 use Rattle.bmc_core.specs.Table.{line_of, is_allowed, is_pldm_type}
 use Rattle.bmc_core.specs.Request.{request_of, asked_at, asked_by}
-use Rattle.bmc_core.specs.State.{State}
-use Rattle.bmc_core.specs.Answer.{get_answer, set_result, set_answer, serve, reply, answer_of}
+use Rattle.bmc_core.specs.State.{State, state}
+use Rattle.bmc_core.specs.Row.{done, refused}
+use Rattle.bmc_core.specs.AnswerLaws.{Given}
+use Rattle.bmc_core.specs.Answer.{get_answer, reset_answer, set_result, set_answer, serve, reply, answer_of}
 
 -- ---- a refusal changes nothing
 
@@ -41,8 +45,17 @@ set_unchanged (Some limits) None unknown op before fault = refl
 set_unchanged None (Some old) unknown op before fault = refl
 set_unchanged None None unknown op before fault = refl
 
+reset_where_unchanged : (value : List ℕ) (before : State) (b : Bool) → (let g : Given = (if b then (done [], state before.records (live_after_reset value before.live)) else (refused uninitialized_watchdog, before)) in g.0.code ≢ success → g.1 ≡ before)
+reset_where_unchanged value before true fault = absurd (fault refl)
+reset_where_unchanged value before false fault = refl
+
+reset_unchanged : (value : Option (List ℕ)) (before : State) (unknown : ℕ) → (reset_answer value before unknown).0.code ≢ success → (reset_answer value before unknown).1 ≡ before
+reset_unchanged (Some value) before unknown fault = reset_where_unchanged value before (was_set value) fault
+reset_unchanged None before unknown fault = refl
+
 serve_unchanged : (setup : BoardFile) (before : State) (request : Request) → (serve setup before request).0.code ≢ success → (serve setup before request).1 ≡ before
 serve_unchanged setup before GetDeviceId fault = refl
+serve_unchanged setup before ResetWatchdog fault = reset_unchanged (before.records key.Watchdog) before not_present fault
 serve_unchanged setup before (Get key) fault = refl
 serve_unchanged setup before (Set op) fault = set_unchanged _ _ _ op before fault
 
@@ -103,8 +116,17 @@ set_code (Some limits) None op before = code_of not_present refl refl
 set_code None (Some old) op before = code_of not_present refl refl
 set_code None None op before = code_of not_present refl refl
 
+reset_where_code : (value : List ℕ) (before : State) (b : Bool) → (let g : Given = (if b then (done [], state before.records (live_after_reset value before.live)) else (refused uninitialized_watchdog, before)) in IsCode g.0.code)
+reset_where_code value before true = code_of success refl refl
+reset_where_code value before false = code_of uninitialized_watchdog refl refl
+
+reset_code : (value : Option (List ℕ)) (before : State) → IsCode (reset_answer value before not_present).0.code
+reset_code (Some value) before = reset_where_code value before (was_set value)
+reset_code None before = code_of not_present refl refl
+
 serve_code : (setup : BoardFile) (before : State) (request : Request) → IsCode (serve setup before request).0.code
 serve_code setup before GetDeviceId = code_of success refl refl
+serve_code setup before ResetWatchdog = reset_code (before.records key.Watchdog) before
 serve_code setup before (Get key) = get_code _ _ before.live
 serve_code setup before (Set op) = set_code _ _ op before
 
@@ -120,6 +142,7 @@ answer_code setup before asked = reply_code setup before asked (asked_by asked) 
 -- the reply to what is asked for has room in so many bytes
 abbrev HasRoom : Request → ℕ → Type 0
 HasRoom GetDeviceId room = 11 ≤ room
+HasRoom ResetWatchdog room = 0 ≤ room
 HasRoom (Get key) room = room_for (get_request key) ≤ room
 HasRoom (Set op) room = room_for (set_request op) ≤ room
 
@@ -129,6 +152,11 @@ command_room command.SetSensorHysteresis body = lit≤ tt
 command_room command.GetSensorHysteresis body = lit≤ tt
 command_room command.SetSensorThresholds body = lit≤ tt
 command_room command.GetSensorThresholds body = lit≤ tt
+command_room command.GetChassisStatus body = lit≤ tt
+command_room command.SetPowerRestorePolicy body = lit≤ tt
+command_room command.ResetWatchdogTimer body = lit≤ tt
+command_room command.SetWatchdogTimer body = lit≤ tt
+command_room command.GetWatchdogTimer body = lit≤ tt
 
 length_room : (b : Bool) (c : Command) (body : List ℕ) (request : Request) → (if b then Ok (request_of c body) else Err invalid_length) ≡ Ok request → HasRoom request 24
 length_room true c body request e = let is : request_of c body ≡ request = cc in subst (λ (r : Request). HasRoom r 24) is (command_room c body)
@@ -155,9 +183,14 @@ of_sensor : (sensor : Option Sensor) (to : Sensor → Limits) (limits : Limits) 
 of_sensor (Some s) to limits key e of = let same : to s ≡ limits = cc in subst (λ (l : Limits). is_of l key) same (of s)
 of_sensor None to limits key e of = cc
 
+of_alone : (own limits : Limits) (key : Key) → (let s : Option Limits = Some own in s) ≡ Some limits → is_of own key → is_of limits key
+of_alone own limits key e of = let same : own ≡ limits = cc in subst (λ (l : Limits). is_of l key) same of
+
 pub limits_are_of : (file : BoardFile) (key : Key) (limits : Limits) → limits_at file key ≡ Some limits → is_of limits key
 limits_are_of file (key.Thresholds number) limits e = of_sensor (sensor_at file.sensors number) thresholds_of limits (key.Thresholds number) e (λ s. tt)
 limits_are_of file (key.Hysteresis number) limits e = of_sensor (sensor_at file.sensors number) hysteresis_of limits (key.Hysteresis number) e (λ s. tt)
+limits_are_of file key.PowerPolicy limits e = of_alone (kinds.PowerPolicy (record {})) limits key.PowerPolicy e tt
+limits_are_of file key.Watchdog limits e = of_alone (kinds.Watchdog (record {})) limits key.Watchdog e tt
 
 get_fits : (limits : Option Limits) (value : Option (List ℕ)) (live : Live) (key : Key) (room : ℕ) → ((l : Limits) → limits ≡ Some l → is_of l key) → IsSoundAt limits value → room_for (get_request key) ≤ room
     → length (get_answer limits value live not_present).body ≤ room
@@ -176,8 +209,17 @@ set_fits (Some l) None op before room le = omega arith
 set_fits None (Some old) op before room le = omega arith
 set_fits None None op before room le = omega arith
 
+reset_where_fits : (value : List ℕ) (before : State) (room : ℕ) (b : Bool) → (let g : Given = (if b then (done [], state before.records (live_after_reset value before.live)) else (refused uninitialized_watchdog, before)) in length g.0.body ≤ room)
+reset_where_fits value before room true = omega arith
+reset_where_fits value before room false = omega arith
+
+reset_fits : (value : Option (List ℕ)) (before : State) (room : ℕ) → length (reset_answer value before not_present).0.body ≤ room
+reset_fits (Some value) before room = reset_where_fits value before room (was_set value)
+reset_fits None before room = omega arith
+
 serve_fits : (setup : BoardFile) (before : State) (request : Request) (room : ℕ) → IsSound setup before.records → HasRoom request room → length (serve setup before request).0.body ≤ room
 serve_fits setup before GetDeviceId room sound has = has
+serve_fits setup before ResetWatchdog room sound has = reset_fits (before.records key.Watchdog) before room
 serve_fits setup before (Get key) room sound has = get_fits (limits_at setup key) (before.records key) before.live key room (limits_are_of setup key) (sound key) has
 serve_fits setup before (Set op) room sound has = set_fits _ _ op before room has
 

@@ -9,11 +9,12 @@ use Rattle.ipmb_frame.specs.Grammar.{IsMessage, IsResponse}
 use Rattle.cfg_records.specs.declared.message.Answered.{Answered as Reply}
 use Rattle.cfg_records.specs.declared.board_file.BoardFile.{BoardFile}
 use Rattle.bmc_core.specs.declared.out.Out.{Out}
+use Rattle.bmc_core.specs.declared.out.Reason.TheVariants.{Frame}
 use Rattle.bmc_core.specs.declared.port.At.{At}
 use Rattle.bmc_core.specs.State.{State}
 use Rattle.bmc_core.specs.Answer.{answer_of}
 use Rattle.bmc_core.specs.AnswerLaws.{Given}
-use Rattle.bmc_core.specs.Port.{IsTo, IsAnswered, Hears, answered, asked_in, response_to}
+use Rattle.bmc_core.specs.Port.{IsTo, IsAnswered, Hears, ignored, answered, asked_in, response_to}
 
 -- the request that was read is the only message that the bytes are
 same_request : (bytes : List ℕ) (read request : Request) → ((m : Msg) → IsMessage m bytes → (let r : Result Msg FrameFault = Ok (msg.Request read) in r) ≡ Ok m) → IsMessage (msg.Request request) bytes → read ≡ request
@@ -40,4 +41,16 @@ hears_request at setup before bytes read reply after frame faultless whole ours 
         left = ap (λ (p : Given). p.1) gives;
       } in
       subst (λ (q : Request). IsAnswered setup before q (answered frame) after) same answer;
+}
+
+-- bytes with a fault are ignored
+pub hears_fault : (at : At) (setup : BoardFile) (before : State) (bytes : List ℕ) (fault : FrameFault)
+    → (let n : Option FrameFault = Some fault in n) ≡ find (has_fault bytes) faults
+    → ((m : Msg) → IsMessage m bytes → (let r : Result Msg FrameFault = Err fault in r) ≡ Ok m)
+    → Hears at setup before bytes (ignored (Frame fault)) before
+hears_fault at setup before bytes fault found whole = record {
+  faulty = λ other is. let same : fault ≡ other = cc in (ap (λ f. ignored (Frame f)) same, refl);
+  not_ours = λ m is away. let none : (let r : Result Msg FrameFault = Err fault in r) ≡ Ok m = whole m is in cc;
+  no_request = λ r is ours. let none : (let e : Result Msg FrameFault = Err fault in e) ≡ Ok (msg.Response r) = whole (msg.Response r) is in cc;
+  request = λ r is ours. let none : (let e : Result Msg FrameFault = Err fault in e) ≡ Ok (msg.Request r) = whole (msg.Request r) is in cc;
 }

@@ -1,5 +1,5 @@
 -- A command that the table doesn't mark as setting asks for no Set.
-use Rattle.std.proofs.Common.{◌≡◌, ℕ, List, [], ◌∷◌, Option, Some, None, Result, Ok, Err, Bool, true, false, if◌then◌else◌, ◌==◌, ◌&&◌, find, length, refl, ap}
+use Rattle.std.proofs.Common.{◌≡◌, ℕ, List, [], ◌∷◌, Option, Some, None, Result, Ok, Err, Bool, true, false, if◌then◌else◌, ◌==◌, ◌&&◌, find, length, refl, ap, inl, inr}
 use Rattle.std.specs.List.{list_all}
 use Rattle.two_wire.specs.Codes.{invalid_for_lun, invalid_length, pldm_unsupported_command, pldm_invalid_type}
 use Rattle.cfg_records.specs.declared.message.Asked.{Asked}
@@ -10,11 +10,11 @@ use Rattle.bmc_core.specs.declared.command.Command.{Command}
 use Rattle.bmc_core.specs.declared.command.Command.TheVariants as command
 use Rattle.bmc_core.specs.declared.command.Line.{Line}
 use Rattle.bmc_core.specs.declared.request.Request.{Request}
-use Rattle.bmc_core.specs.declared.request.Request.TheVariants.{GetDeviceId, Get, Set}
+use Rattle.bmc_core.specs.declared.request.Request.TheVariants.{GetDeviceId, ResetWatchdog, Get, Set}
 use Rattle.bmc_core.specs.Table.{Listed, table, line_in, line_of, is_allowed, is_pldm_type, changes, is_changing}
 use Rattle.bmc_core.specs.Request.{request_of, asked_at, asked_by}
 use Rattle.bmc_core.specs.State.{State}
-use Rattle.bmc_core.specs.Row.{Serves, Replies}
+use Rattle.bmc_core.specs.Row.{Resets, Serves, Replies}
 use Rattle.bmc_core.specs.Quiet.{KeepsRecords}
 
 -- the request is no Set
@@ -26,11 +26,15 @@ IsQuiet _ = Unit {0}
 abbrev is_setting : Command → Bool
 is_setting command.SetSensorHysteresis = true
 is_setting command.SetSensorThresholds = true
+is_setting command.SetPowerRestorePolicy = true
+is_setting command.SetWatchdogTimer = true
 is_setting _ = false
 
 quiet_command : (c : Command) (body : List ℕ) → is_setting c ≡ false → IsQuiet (request_of c body)
 quiet_command command.SetSensorHysteresis body e = cc
 quiet_command command.SetSensorThresholds body e = cc
+quiet_command command.SetPowerRestorePolicy body e = cc
+quiet_command command.SetWatchdogTimer body e = cc
 quiet_command _ body e = tt
 
 -- the table marks the line of a setting command
@@ -93,8 +97,14 @@ asks_quietly (Pldm from kind number body) quiet = type_quiet (is_pldm_type kind)
 
 -- ---- what it leaves
 
+reset_quietly : (value : Option (List ℕ)) (before : State) (unknown : ℕ) (answered : Answered) (after : State) → Resets value before unknown answered after → after.records ≡ before.records
+reset_quietly (Some value) before unknown answered after (inl h) = ap (λ (s : State). s.records) h.2
+reset_quietly (Some value) before unknown answered after (inr h) = ap (λ (s : State). s.records) h.2
+reset_quietly None before unknown answered after h = ap (λ (s : State). s.records) h.1
+
 served_quietly : (setup : BoardFile) (before : State) (request : Request) (answered : Answered) (after : State) → IsQuiet request → Serves setup before request answered after → after.records ≡ before.records
 served_quietly setup before GetDeviceId answered after quiet row = ap (λ (s : State). s.records) row.1
+served_quietly setup before ResetWatchdog answered after quiet row = reset_quietly _ before _ answered after row
 served_quietly setup before (Get key) answered after quiet row = ap (λ (s : State). s.records) row.1
 served_quietly setup before (Set op) answered after quiet row = absurd quiet
 

@@ -1,6 +1,9 @@
 -- The function of answers meets the command relation, and the relation has no other answer.
 use Rattle.std.specs.Prelude.{◌≡◌, ℕ, List, Option, Some, None, Result, Ok, Err, ◌⊎◌}
-use Rattle.std.proofs.Common.{refl, ap, sym, ◌∙◌, subst, inl, inr}
+use Rattle.std.proofs.lemmas.Bool.Decides.{nat_tests}
+use Rattle.two_wire.specs.Codes.{uninitialized_watchdog}
+use Rattle.watch_boot.specs.Watchdog.{was_set, live_after_reset}
+use Rattle.std.proofs.Common.{[], ◌≤◌, nat_le, Bool, true, false, if◌then◌else◌, arith, refl, ap, sym, ◌∙◌, subst, inl, inr}
 use Rattle.cfg_records.specs.Keys.{key_of}
 use Rattle.cfg_records.specs.Records.{with_record}
 use Rattle.cfg_records.specs.Meaning.{Decides}
@@ -13,11 +16,11 @@ use Rattle.record_kinds.specs.declared.limits.Limits.{Limits}
 use Rattle.record_kinds.specs.Limits.{sets, outcome, live_after}
 use Rattle.record_kinds.specs.LimitsLaws as laws
 use Rattle.bmc_core.specs.declared.request.Request.{Request}
-use Rattle.bmc_core.specs.declared.request.Request.TheVariants.{GetDeviceId, Get, Set}
+use Rattle.bmc_core.specs.declared.request.Request.TheVariants.{GetDeviceId, ResetWatchdog, Get, Set}
 use Rattle.bmc_core.specs.Request.{asked_by}
 use Rattle.bmc_core.specs.State.{State, state}
-use Rattle.bmc_core.specs.Row.{refused, Gets, IsCarriedOut, IsRefused, Sets, Serves, Replies, Row}
-use Rattle.bmc_core.specs.Answer.{get_answer, set_result, set_answer, serve, reply, answer_of}
+use Rattle.bmc_core.specs.Row.{done, refused, Gets, Resets, IsCarriedOut, IsRefused, Sets, Serves, Replies, Row}
+use Rattle.bmc_core.specs.Answer.{get_answer, reset_answer, set_result, set_answer, serve, reply, answer_of}
 
 -- an answer, with the state after it
 abbrev pub Given : Type 0
@@ -46,8 +49,24 @@ sets_answer (Some limits) None unknown op before = (refl, refl)
 sets_answer None (Some old) unknown op before = (refl, refl)
 sets_answer None None unknown op before = (refl, refl)
 
+le_from : (a b : ℕ) → nat_le a b ≡ true → a ≤ b
+le_from a b h = grind (arith, nat_tests)
+
+not_le : (a b : ℕ) → nat_le a b ≡ false → ¬ (a ≤ b)
+not_le a b h = λ le. grind (arith, nat_tests)
+
+reset_where : (value : List ℕ) (before : State) (unknown : ℕ) (b : Bool) → was_set value ≡ b
+    → (let given : Given = (if b then (done [], state before.records (live_after_reset value before.live)) else (refused uninitialized_watchdog, before)) in Resets (Some value) before unknown given.0 given.1)
+reset_where value before unknown true e = inl (le_from _ _ e, refl, refl)
+reset_where value before unknown false e = inr (not_le _ _ e, refl, refl)
+
+resets : (value : Option (List ℕ)) (before : State) (unknown : ℕ) → Resets value before unknown (reset_answer value before unknown).0 (reset_answer value before unknown).1
+resets (Some value) before unknown = reset_where value before unknown (was_set value) refl
+resets None before unknown = (refl, refl)
+
 serves : (setup : BoardFile) (before : State) (request : Request) → Serves setup before request (serve setup before request).0 (serve setup before request).1
 serves setup before GetDeviceId = (refl, refl)
+serves setup before ResetWatchdog = resets _ before _
 serves setup before (Get key) = (gets _ _ before.live _, refl)
 serves setup before (Set op) = sets_answer _ _ _ op before
 
@@ -85,8 +104,20 @@ sets_once (Some limits) None unknown op before answered after h = pair _ _ _ _ h
 sets_once None (Some old) unknown op before answered after h = pair _ _ _ _ h.0 h.1
 sets_once None None unknown op before answered after h = pair _ _ _ _ h.0 h.1
 
+reset_once : (value : List ℕ) (before : State) (unknown : ℕ) (answered : Answered) (after : State) (b : Bool) → was_set value ≡ b → Resets (Some value) before unknown answered after
+    → (let p : Given = (answered, after) in p) ≡ (let q : Given = (if b then (done [], state before.records (live_after_reset value before.live)) else (refused uninitialized_watchdog, before)) in q)
+reset_once value before unknown answered after true e (inl h) = pair _ _ _ _ h.1 h.2
+reset_once value before unknown answered after true e (inr h) = absurd (h.0 (le_from _ _ e))
+reset_once value before unknown answered after false e (inl h) = absurd (not_le _ _ e h.0)
+reset_once value before unknown answered after false e (inr h) = pair _ _ _ _ h.1 h.2
+
+resets_once : (value : Option (List ℕ)) (before : State) (unknown : ℕ) (answered : Answered) (after : State) → Resets value before unknown answered after → (let p : Given = (answered, after) in p) ≡ reset_answer value before unknown
+resets_once (Some value) before unknown answered after h = reset_once value before unknown answered after (was_set value) refl h
+resets_once None before unknown answered after h = pair _ _ _ _ h.0 h.1
+
 serves_once : (setup : BoardFile) (before : State) (request : Request) (answered : Answered) (after : State) → Serves setup before request answered after → (let p : Given = (answered, after) in p) ≡ serve setup before request
 serves_once setup before GetDeviceId answered after h = pair _ _ _ _ h.0 h.1
+serves_once setup before ResetWatchdog answered after h = resets_once _ before _ answered after h
 serves_once setup before (Get key) answered after h = pair _ _ _ _ (gets_once _ _ before.live _ answered h.0) h.1
 serves_once setup before (Set op) answered after h = sets_once _ _ _ op before answered after h
 

@@ -1,6 +1,5 @@
 -- What a request asks for.
-use Rattle.std.specs.Prelude.{ℕ, List, [], ◌∷◌, length, slice_index, Option, Some, None, Result, Ok, Err, ◌==◌, if◌then◌else◌}
-use Rattle.std.specs.Int.{w16, from_le_bytes}
+use Rattle.std.specs.Prelude.{ℕ, ◌+◌, ◌*◌, List, [], ◌∷◌, length, slice_index, Option, Some, None, Result, Ok, Err, ◌==◌, if◌then◌else◌}
 use Rattle.two_wire.specs.Codes.{invalid_for_lun, invalid_command, invalid_length, pldm_unsupported_command, pldm_invalid_type}
 use Rattle.cfg_records.specs.declared.message.Asked.{Asked}
 use Rattle.cfg_records.specs.declared.message.Asked.TheVariants.{Ipmi, Pldm}
@@ -34,7 +33,7 @@ watchdog_in body = record {
   actions = byte_at body 1;
   pre_timeout = byte_at body 2;
   flags_to_clear = byte_at body 3;
-  initial = from_le_bytes w16 (byte_at body 4 ∷ byte_at body 5 ∷ []);
+  initial = byte_at body 4 + 256 * byte_at body 5;
 }
 
 -- what a command asks for with data of a length that it takes

@@ -3,6 +3,7 @@ ghost use Rattle.std.specs.Prelude.{◌≡◌, ◌≢◌, ◌≤◌, ◌/◌, �
 ghost use Rattle.two_wire.specs.Codes.{success, node_busy, pldm_not_ready, not_present};
 ghost use Rattle.cfg_records.specs.Records.{records_of};
 ghost use Rattle.cfg_records.specs.Boards.{pairs_of};
+ghost use Rattle.cfg_records.specs.Opening.{opening};
 ghost use Rattle.cfg_records.specs.Meaning.{room_for};
 ghost use Rattle.record_kinds.specs.Sound.{IsSound, IsSound-prop};
 ghost use Rattle.bmc_core.specs.Row.{device_data, refused};
@@ -14,6 +15,7 @@ use cfg_records::{
 use record_kinds::{Limits, Setup};
 use std::alloc::{AllocError, Global};
 use two_wire::code;
+use watch_boot::watchdog;
 
 /// A board over any store of its records: what never changes of it, what isn't configuration, and its records. Each record has
 /// limits, and a value that they allow.
@@ -58,17 +60,18 @@ impl<S: Store> Board<S> {
     ghost use Rattle.record_kinds.specs.Boards.{limits_at};
     ghost use Rattle.bmc_core.specs.State.{state};
     ghost use Rattle.bmc_core.specs.Row.{Row, unknown_code};
-    ghost use Rattle.bmc_core.specs.Answer.{get_answer, set_answer, answer_of};
+    ghost use Rattle.bmc_core.specs.Answer.{get_answer, reset_answer, set_answer, answer_of};
 
     /// A board of this file over this store of its records.
     pub fn open(_alloc: Global, file: BoardFile, store: S) -> Result<Self, AllocError>
         requires { S.records store ≡ records_of (pairs_of file) }
         ensures setup { IfOk result (λ board. board.setup ≡ file) }
         ensures records { IfOk result (λ board. S.records board.store ≡ records_of (pairs_of file)) }
+        ensures live { IfOk result (λ board. board.live ≡ opening) }
     {
         Ok(Board {
             setup: Setup::new(file),
-            live: Live,
+            live: Live::opening(),
             store,
         })
     }
@@ -89,6 +92,23 @@ impl<S: Store> Board<S> {
                 Answered::done(limits.get_data(&value, &self.live).as_slice())
             }
             _ => unknown(),
+        }
+    }
+
+    /// Starts the watchdog timer, where it was set once.
+    fn reset_watchdog(&mut self) -> Answered
+        ensures answer { (result, state (S.records self.new.store) self.new.live) ≡ reset_answer (S.records self.old.store Key.Watchdog) (state (S.records self.old.store) self.old.live) (unknown_code self.old.setup Key.Watchdog) }
+        ensures setup { self.new.setup ≡ self.old.setup }
+    {
+        let Some(value) = self.store.get(&Key::Watchdog) else {
+            return unknown();
+        };
+        match watchdog::reset(&value, &self.live) {
+            Some(live) => {
+                self.live = live;
+                Answered::done(&[])
+            }
+            None => Answered::refused(code::UNINITIALIZED_WATCHDOG),
         }
     }
 
@@ -120,6 +140,7 @@ impl<S: Store> Board<S> {
             Ok(Request::GetDeviceId) => {
                 Answered::done(device_data(self.setup.device()).as_slice())
             }
+            Ok(Request::ResetWatchdog) => self.reset_watchdog(),
             Ok(Request::Get(key)) => self.get(&key),
             Ok(Request::Set(op)) => self.set(&op),
         }

@@ -3,6 +3,7 @@ use Rattle.std.specs.Prelude.{◌≡◌, ℕ, List}
 use Rattle.cfg_records.specs.declared.board_file.BoardFile.{BoardFile}
 use Rattle.cfg_records.specs.Records.{records_of}
 use Rattle.cfg_records.specs.Boards.{pairs_of}
+use Rattle.cfg_records.specs.Opening.{opening as no_activity}
 use Rattle.cfg_records.specs.Sample.{IsSampleDevice, AreSampleSensors}
 use Rattle.bmc_core.specs.declared.out.Out.{Out}
 use Rattle.bmc_core.specs.declared.port.At.{At}
@@ -17,7 +18,7 @@ controller = record { wire = 0x20; eid = 0x0A }
 
 -- the state of a board of this file that has heard nothing yet
 abbrev pub opening : BoardFile → State
-opening file = state (records_of (pairs_of file)) (record {})
+opening file = state (records_of (pairs_of file)) no_activity
 
 -- the file is the sample board's
 pub record IsSample (file : BoardFile) : Type 0 where

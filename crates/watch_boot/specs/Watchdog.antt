@@ -72,9 +72,9 @@ live_after_set op live = record {
   running = live.running && has op.timer_use 6;
 }
 
--- the data of the request
+-- the data of the request, the low byte of the countdown first
 abbrev pub watchdog_body : SetWatchdog → List ℕ
-watchdog_body op = op.timer_use ∷ op.actions ∷ op.pre_timeout ∷ op.flags_to_clear ∷ to_le_bytes w16 op.initial
+watchdog_body op = op.timer_use ∷ op.actions ∷ op.pre_timeout ∷ op.flags_to_clear ∷ op.initial % 256 ∷ op.initial / 256 ∷ []
 
 -- ---- Get Watchdog Timer
 
@@ -114,6 +114,10 @@ undo_watchdog reply = record {
 -- the settings have a use
 abbrev pub WasSet : List ℕ → Type 0
 WasSet value = 1 ≤ use_in (slice_index value 0)
+
+-- the test of that
+abbrev pub was_set : List ℕ → Bool
+was_set value = nat_le 1 (use_in (slice_index value 0))
 
 -- the countdown begins anew, and the timer runs
 abbrev pub live_after_reset : List ℕ → Live → Live

@@ -10,7 +10,7 @@ use Rattle.bmc_core.specs.State.{State, state}
 use Rattle.bmc_core.specs.Answer.{answer_of}
 use Rattle.bmc_core.specs.AnswerLaws.{Given}
 use Rattle.bmc_core.specs.Port.{Hears, asked_in, response_to}
-use Rattle.bmc_core.proofs.Heard.{hears_request}
+use Rattle.bmc_core.proofs.Heard.{hears_fault, hears_request}
 use Rattle.bmc_core.proofs.port.Port.on_ipmb.Goals as goal
 
 pub returns-in-Request-clause-heard : goal.returns-in-Request-clause-heard
@@ -26,3 +26,9 @@ returns-in-Request-clause-heard g c =
     let spelled : IsResponse (response_to read reply) c.write_response.result = subst (λ (r : Response). IsResponse r c.write_response.result) c.response_to.ensures c.write_response.ensures in
     subst (λ (o : Out). Hears c.args.self.now.at setup before bytes o after) (sym c.answered.ensures)
     (hears_request c.args.self.now.at setup before bytes read reply after c.write_response.result c.in-Ok.ensures.fault whole (c.if-bytes-byte.false ∙ c.byte.ensures.value) gives spelled)
+
+pub returns-in-Err-clause-heard : goal.returns-in-Err-clause-heard
+returns-in-Err-clause-heard g c =
+    let before : State = state (g.S.Store.records c.args.board.now.store) c.args.board.now.live in
+    subst (λ (o : Out). Hears c.args.self.now.at c.args.board.now.setup before c.args.bytes.now o before) (sym c.ignored.ensures)
+    (hears_fault c.args.self.now.at c.args.board.now.setup before c.args.bytes.now c.in-Err.fault c.in-Err.ensures.fault c.in-Err.ensures.whole)
