@@ -29,6 +29,8 @@ pub struct Device {
 /// there are at most 32.
 #[derive(Debug, Drop)]
 pub struct BoardFile {
+    /// The terminus of a PLDM controller, by the number that GetTID gives (DSP0240).
+    pub tid: u8,
     pub device: Device,
     pub sensors: Items<Sensor>,
     ghost differ: { NumbersDiffer sensors },
@@ -74,15 +76,16 @@ impl BoardFile {
     ghost use Rattle.cfg_records.specs.Records.{KeysDiffer, LengthsFit};
     ghost use Rattle.cfg_records.specs.Boards.{pairs_of};
 
-    /// The file of this device and these sensors, or nothing where two sensors have one number or there are over 32.
-    pub fn new(device: Device, sensors: Vec<Sensor>) -> Option<BoardFile>
+    /// The file of this terminus, this device and these sensors, or nothing where two sensors have one number or there are over 32.
+    pub fn new(tid: u8, device: Device, sensors: Vec<Sensor>) -> Option<BoardFile>
         ensures made { IsSome result ↔ (NumbersDiffer sensors.items × (length sensors.items ≤ 32)) }
-        ensures parts { IfSome result (λ f. (f.device ≡ device) × (f.sensors ≡ sensors.items)) }
+        ensures parts { IfSome result (λ f. (f.tid ≡ tid) × (f.device ≡ device) × (f.sensors ≡ sensors.items)) }
     {
         if sensors.len() > 32 || !numbers_differ(sensors.as_slice()) {
             return None;
         }
         Some(BoardFile {
+            tid,
             device,
             sensors: Items::new(sensors),
         })

@@ -1,5 +1,5 @@
 //! The sample board.
-ghost use Rattle.std.specs.Prelude.{IfOk};
+ghost use Rattle.std.specs.Prelude.{◌≡◌, IfOk};
 ghost use Rattle.cfg_records.specs.Sample.{IsSampleDevice, IsTemperature, IsFan, AreSampleSensors};
 
 use crate::board_file::{BoardFile, Device};
@@ -43,8 +43,12 @@ fn fan() -> Sensor
     }
 }
 
+/// The sample board's terminus.
+const SAMPLE_TID: u8 = 5;
+
 /// The sample board, which the program takes where it is given no board file.
 pub fn sample_board(alloc: Global) -> Result<BoardFile, AllocError>
+    ensures terminus { IfOk result (λ f. f.tid ≡ 5) }
     ensures device { IfOk result (λ f. IsSampleDevice f.device) }
     ensures sensors { IfOk result (λ f. AreSampleSensors f.sensors) }
 {
@@ -60,5 +64,5 @@ pub fn sample_board(alloc: Global) -> Result<BoardFile, AllocError>
         manufacturer: 0xABCD,
         product: 0x1234,
     };
-    Ok(BoardFile::new(device, sensors).unwrap())
+    Ok(BoardFile::new(SAMPLE_TID, device, sensors).unwrap())
 }
