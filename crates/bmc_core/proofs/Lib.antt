@@ -1,2 +1,3 @@
 pub mod AnswerFacts
 pub mod Heard
+pub mod HeardPackets

@@ -1,6 +1,6 @@
 -- The function of answers meets the command relation, and the relation has no other answer.
-use Rattle.std.specs.Prelude.{◌≡◌, ℕ, List, Option, Some, None, Result, Ok, Err, ◌⊎◌}
-use Rattle.std.proofs.Common.{refl, ap, sym, ◌∙◌, subst, inl, inr}
+use Rattle.std.specs.Prelude.{◌≡◌, ℕ, List, Option, Some, None, Result, Ok, Err}
+use Rattle.std.proofs.Common.{refl, ap, ◌∙◌, inl, inr}
 use Rattle.cfg_records.specs.Keys.{key_of}
 use Rattle.cfg_records.specs.Records.{with_record}
 use Rattle.cfg_records.specs.Meaning.{Decides}
@@ -13,10 +13,10 @@ use Rattle.record_kinds.specs.declared.limits.Limits.{Limits}
 use Rattle.record_kinds.specs.Limits.{sets, outcome, live_after}
 use Rattle.record_kinds.specs.LimitsLaws as laws
 use Rattle.bmc_core.specs.declared.request.Request.{Request}
-use Rattle.bmc_core.specs.declared.request.Request.TheVariants.{GetDeviceId, Get, Set}
+use Rattle.bmc_core.specs.declared.request.Request.TheVariants.{GetDeviceId, GetTid, GetPldmTypes, Get, Set}
 use Rattle.bmc_core.specs.Request.{asked_by}
 use Rattle.bmc_core.specs.State.{State, state}
-use Rattle.bmc_core.specs.Row.{refused, Gets, IsCarriedOut, IsRefused, Sets, Serves, Replies, Row}
+use Rattle.bmc_core.specs.Row.{refused, Gets, Sets, Serves, Replies, Row}
 use Rattle.bmc_core.specs.Answer.{get_answer, set_result, set_answer, serve, reply, answer_of}
 
 -- an answer, with the state after it
@@ -48,6 +48,8 @@ sets_answer None None unknown op before = (refl, refl)
 
 serves : (setup : BoardFile) (before : State) (request : Request) → Serves setup before request (serve setup before request).0 (serve setup before request).1
 serves setup before GetDeviceId = (refl, refl)
+serves setup before GetTid = (refl, refl)
+serves setup before GetPldmTypes = (refl, refl)
 serves setup before (Get key) = (gets _ _ before.live _, refl)
 serves setup before (Set op) = sets_answer _ _ _ op before
 
@@ -87,6 +89,8 @@ sets_once None None unknown op before answered after h = pair _ _ _ _ h.0 h.1
 
 serves_once : (setup : BoardFile) (before : State) (request : Request) (answered : Answered) (after : State) → Serves setup before request answered after → (let p : Given = (answered, after) in p) ≡ serve setup before request
 serves_once setup before GetDeviceId answered after h = pair _ _ _ _ h.0 h.1
+serves_once setup before GetTid answered after h = pair _ _ _ _ h.0 h.1
+serves_once setup before GetPldmTypes answered after h = pair _ _ _ _ h.0 h.1
 serves_once setup before (Get key) answered after h = pair _ _ _ _ (gets_once _ _ before.live _ answered h.0) h.1
 serves_once setup before (Set op) answered after h = sets_once _ _ _ op before answered after h
 

@@ -4,5 +4,8 @@ pub mod State
 pub mod Row
 pub mod Answer
 pub mod AnswerLaws
+pub mod Outs
+pub mod IpmbPort
+pub mod SmbusPort
 pub mod Port
 pub mod Names
