@@ -1,7 +1,7 @@
 -- What every answer has in common.
-use Rattle.std.proofs.Common.{◌≡◌, ◌≢◌, ℕ, ◌<◌, ◌≤◌, List, [], length, Option, Some, None, Result, Ok, Err, Bool, true, false, if◌then◌else◌, ◌==◌, refl, ap, sym, ◌∙◌, subst, arith, lit<, lit≤}
+use Rattle.std.proofs.Common.{◌≡◌, ◌≢◌, ℕ, ◌≤◌, List, [], length, Option, Some, None, Result, Ok, Err, Bool, true, false, if◌then◌else◌, ◌==◌, refl, subst, arith, lit≤}
 use Rattle.std.proofs.lemmas.Bool.Decides.{nat_tests}
-use Rattle.two_wire.specs.Codes.{success, node_busy, pldm_not_ready, invalid_command, invalid_for_lun, invalid_length, pldm_unsupported_command, pldm_invalid_type, not_present, uninitialized_watchdog}
+use Rattle.two_wire.specs.Codes.{success, node_busy, pldm_not_ready, invalid_command, invalid_for_lun, invalid_length, pldm_unsupported_command, pldm_invalid_type, not_present, uninitialized_watchdog, pldm_invalid_length}
 use Rattle.cfg_records.specs.Keys.{key_of}
 use Rattle.cfg_records.specs.Meaning.{IsRefusal, room_for}
 use Rattle.cfg_records.specs.declared.key.Key.{Key}
@@ -11,7 +11,6 @@ use Rattle.cfg_records.specs.declared.op.Op.{Op}
 use Rattle.cfg_records.specs.declared.live.Live.{Live}
 use Rattle.cfg_records.specs.declared.message.Asked.{Asked}
 use Rattle.cfg_records.specs.declared.message.Asked.TheVariants.{Ipmi, Pldm}
-use Rattle.cfg_records.specs.declared.message.Answered.{Answered}
 use Rattle.cfg_records.specs.declared.board_file.BoardFile.{BoardFile}
 use Rattle.record_kinds.specs.declared.limits.Limits.{Limits}
 use Rattle.record_kinds.specs.declared.limits.Limits.TheVariants as kinds
@@ -24,10 +23,11 @@ use Rattle.record_kinds.specs.Sound.{IsSound, IsSoundAt}
 use Rattle.bmc_core.specs.declared.command.Command.{Command}
 use Rattle.bmc_core.specs.declared.command.Command.TheVariants as command
 use Rattle.bmc_core.specs.declared.command.Line.{Line}
+use Rattle.bmc_core.specs.declared.request.Refusals.{Refusals}
 use Rattle.bmc_core.specs.declared.request.Request.{Request}
-use Rattle.bmc_core.specs.declared.request.Request.TheVariants.{GetDeviceId, ResetWatchdog, Get, Set}
-use Rattle.bmc_core.specs.Table.{line_of, is_allowed, is_pldm_type}
-use Rattle.bmc_core.specs.Request.{request_of, asked_at, asked_by}
+use Rattle.bmc_core.specs.declared.request.Request.TheVariants.{GetDeviceId, ResetWatchdog, Get, Set, GetTid, GetPldmTypes}
+use Rattle.bmc_core.specs.Table.{line_of, is_allowed, is_pldm_type, pldm_line_of}
+use Rattle.bmc_core.specs.Request.{request_of, asked_at, asked_by, ipmi_refusals, pldm_refusals}
 use Rattle.bmc_core.specs.State.{State, state}
 use Rattle.bmc_core.specs.Row.{done, refused}
 use Rattle.bmc_core.specs.AnswerLaws.{Given}
@@ -56,6 +56,8 @@ reset_unchanged None before unknown fault = refl
 serve_unchanged : (setup : BoardFile) (before : State) (request : Request) → (serve setup before request).0.code ≢ success → (serve setup before request).1 ≡ before
 serve_unchanged setup before GetDeviceId fault = refl
 serve_unchanged setup before ResetWatchdog fault = reset_unchanged (before.records key.Watchdog) before not_present fault
+serve_unchanged setup before GetTid fault = refl
+serve_unchanged setup before GetPldmTypes fault = refl
 serve_unchanged setup before (Get key) fault = refl
 serve_unchanged setup before (Set op) fault = set_unchanged _ _ _ op before fault
 
@@ -80,25 +82,32 @@ differ m n p h = grind (arith, nat_tests)
 code_of : (code : ℕ) → (code == node_busy) ≡ false → (code == pldm_not_ready) ≡ false → IsCode code
 code_of code p q = record { not_busy = differ _ _ p; is_ready = differ _ _ q }
 
-length_code : (b : Bool) (request : Request) (fault : ℕ) → (if b then Ok request else Err invalid_length) ≡ Err fault → IsCode fault
-length_code true request fault e = cc
-length_code false request fault e = let is : invalid_length ≡ fault = cc in subst IsCode is (code_of invalid_length refl refl)
+length_code : (b : Bool) (request : Request) (code fault : ℕ) → IsCode code → (if b then Ok request else Err code) ≡ Err fault → IsCode fault
+length_code true request code fault is e = cc
+length_code false request code fault is e = let same : code ≡ fault = cc in subst IsCode same is
 
-asked_at_code : (line : Option Line) (body : List ℕ) (fault : ℕ) → asked_at line body ≡ Err fault → IsCode fault
-asked_at_code None body fault e = let is : invalid_command ≡ fault = cc in subst IsCode is (code_of invalid_command refl refl)
-asked_at_code (Some line) body fault e = length_code (is_allowed line.lengths (length body)) (request_of line.command body) fault e
+-- both refusals are such codes
+record AreCodes (refusals : Refusals) : Type 0 where
+  unlisted : IsCode refusals.unlisted
+  not_allowed : IsCode refusals.not_allowed
 
-lun_code : (b : Bool) (line : Option Line) (body : List ℕ) (fault : ℕ) → (if b then asked_at line body else Err invalid_for_lun) ≡ Err fault → IsCode fault
-lun_code true line body fault e = asked_at_code line body fault e
-lun_code false line body fault e = let is : invalid_for_lun ≡ fault = cc in subst IsCode is (code_of invalid_for_lun refl refl)
+ipmi_codes : AreCodes ipmi_refusals
+ipmi_codes = record { unlisted = code_of invalid_command refl refl; not_allowed = code_of invalid_length refl refl }
 
-type_code : (b : Bool) (fault : ℕ) → (let r : Result Request ℕ = (if b then Err pldm_unsupported_command else Err pldm_invalid_type) in r) ≡ Err fault → IsCode fault
-type_code true fault e = let is : pldm_unsupported_command ≡ fault = cc in subst IsCode is (code_of pldm_unsupported_command refl refl)
-type_code false fault e = let is : pldm_invalid_type ≡ fault = cc in subst IsCode is (code_of pldm_invalid_type refl refl)
+pldm_codes : AreCodes pldm_refusals
+pldm_codes = record { unlisted = code_of pldm_unsupported_command refl refl; not_allowed = code_of pldm_invalid_length refl refl }
+
+asked_at_code : (refusals : Refusals) (line : Option Line) (body : List ℕ) (fault : ℕ) → AreCodes refusals → asked_at refusals line body ≡ Err fault → IsCode fault
+asked_at_code refusals None body fault are e = let same : refusals.unlisted ≡ fault = cc in subst IsCode same are.unlisted
+asked_at_code refusals (Some line) body fault are e = length_code (is_allowed line.lengths (length body)) (request_of line.command body) refusals.not_allowed fault are.not_allowed e
+
+first_code : (b : Bool) (refusals : Refusals) (line : Option Line) (body : List ℕ) (code fault : ℕ) → AreCodes refusals → IsCode code → (if b then asked_at refusals line body else Err code) ≡ Err fault → IsCode fault
+first_code true refusals line body code fault are is e = asked_at_code refusals line body fault are e
+first_code false refusals line body code fault are is e = let same : code ≡ fault = cc in subst IsCode same is
 
 decode_code : (asked : Asked) (fault : ℕ) → asked_by asked ≡ Err fault → IsCode fault
-decode_code (Ipmi from net_fn lun number body) fault e = lun_code (lun == 0) (line_of net_fn number) body fault e
-decode_code (Pldm from kind number body) fault e = type_code (is_pldm_type kind) fault e
+decode_code (Ipmi from net_fn lun number body) fault e = first_code (lun == 0) ipmi_refusals (line_of net_fn number) body invalid_for_lun fault ipmi_codes (code_of invalid_for_lun refl refl) e
+decode_code (Pldm from kind number body) fault e = first_code (is_pldm_type kind) pldm_refusals (pldm_line_of kind number) body pldm_invalid_type fault pldm_codes (code_of pldm_invalid_type refl refl) e
 
 get_code : (limits : Option Limits) (value : Option (List ℕ)) (live : Live) → IsCode (get_answer limits value live not_present).code
 get_code (Some limits) (Some value) live = code_of success refl refl
@@ -127,6 +136,8 @@ reset_code None before = code_of not_present refl refl
 serve_code : (setup : BoardFile) (before : State) (request : Request) → IsCode (serve setup before request).0.code
 serve_code setup before GetDeviceId = code_of success refl refl
 serve_code setup before ResetWatchdog = reset_code (before.records key.Watchdog) before
+serve_code setup before GetTid = code_of success refl refl
+serve_code setup before GetPldmTypes = code_of success refl refl
 serve_code setup before (Get key) = get_code _ _ before.live
 serve_code setup before (Set op) = set_code _ _ op before
 
@@ -143,6 +154,8 @@ answer_code setup before asked = reply_code setup before asked (asked_by asked) 
 abbrev HasRoom : Request → ℕ → Type 0
 HasRoom GetDeviceId room = 11 ≤ room
 HasRoom ResetWatchdog room = 0 ≤ room
+HasRoom GetTid room = 1 ≤ room
+HasRoom GetPldmTypes room = 8 ≤ room
 HasRoom (Get key) room = room_for (get_request key) ≤ room
 HasRoom (Set op) room = room_for (set_request op) ≤ room
 
@@ -157,26 +170,33 @@ command_room command.SetPowerRestorePolicy body = lit≤ tt
 command_room command.ResetWatchdogTimer body = lit≤ tt
 command_room command.SetWatchdogTimer body = lit≤ tt
 command_room command.GetWatchdogTimer body = lit≤ tt
+command_room command.GetTid body = lit≤ tt
+command_room command.GetPldmTypes body = lit≤ tt
 
-length_room : (b : Bool) (c : Command) (body : List ℕ) (request : Request) → (if b then Ok (request_of c body) else Err invalid_length) ≡ Ok request → HasRoom request 24
-length_room true c body request e = let is : request_of c body ≡ request = cc in subst (λ (r : Request). HasRoom r 24) is (command_room c body)
-length_room false c body request e = cc
+length_room : (b : Bool) (c : Command) (body : List ℕ) (code : ℕ) (request : Request) → (if b then Ok (request_of c body) else Err code) ≡ Ok request → HasRoom request 24
+length_room true c body code request e = let is : request_of c body ≡ request = cc in subst (λ (r : Request). HasRoom r 24) is (command_room c body)
+length_room false c body code request e = cc
 
-asked_at_room : (line : Option Line) (body : List ℕ) (request : Request) → asked_at line body ≡ Ok request → HasRoom request 24
-asked_at_room None body request e = cc
-asked_at_room (Some line) body request e = length_room (is_allowed line.lengths (length body)) line.command body request e
+asked_at_room : (refusals : Refusals) (line : Option Line) (body : List ℕ) (request : Request) → asked_at refusals line body ≡ Ok request → HasRoom request 24
+asked_at_room refusals None body request e = cc
+asked_at_room refusals (Some line) body request e = length_room (is_allowed line.lengths (length body)) line.command body refusals.not_allowed request e
 
-lun_room : (b : Bool) (line : Option Line) (body : List ℕ) (request : Request) → (if b then asked_at line body else Err invalid_for_lun) ≡ Ok request → HasRoom request 24
-lun_room true line body request e = asked_at_room line body request e
-lun_room false line body request e = cc
+first_room : (b : Bool) (refusals : Refusals) (line : Option Line) (body : List ℕ) (code : ℕ) (request : Request) → (if b then asked_at refusals line body else Err code) ≡ Ok request → HasRoom request 24
+first_room true refusals line body code request e = asked_at_room refusals line body request e
+first_room false refusals line body code request e = cc
 
-type_room : (b : Bool) (request : Request) → (let r : Result Request ℕ = (if b then Err pldm_unsupported_command else Err pldm_invalid_type) in r) ≡ Ok request → HasRoom request 251
-type_room true request e = cc
-type_room false request e = cc
+-- what has room in 24 bytes has room in 251
+more_room : (request : Request) → HasRoom request 24 → HasRoom request 251
+more_room GetDeviceId has = omega arith
+more_room ResetWatchdog has = omega arith
+more_room GetTid has = omega arith
+more_room GetPldmTypes has = omega arith
+more_room (Get key) has = omega arith
+more_room (Set op) has = omega arith
 
 decode_room : (asked : Asked) (request : Request) → asked_by asked ≡ Ok request → HasRoom request (room_for asked)
-decode_room (Ipmi from net_fn lun number body) request e = lun_room (lun == 0) (line_of net_fn number) body request e
-decode_room (Pldm from kind number body) request e = type_room (is_pldm_type kind) request e
+decode_room (Ipmi from net_fn lun number body) request e = first_room (lun == 0) ipmi_refusals (line_of net_fn number) body invalid_for_lun request e
+decode_room (Pldm from kind number body) request e = more_room request (first_room (is_pldm_type kind) pldm_refusals (pldm_line_of kind number) body pldm_invalid_type request e)
 
 -- limits are those of a record with the key
 of_sensor : (sensor : Option Sensor) (to : Sensor → Limits) (limits : Limits) (key : Key) → option_map to sensor ≡ Some limits → ((s : Sensor) → is_of (to s) key) → is_of limits key
@@ -220,6 +240,8 @@ reset_fits None before room = omega arith
 serve_fits : (setup : BoardFile) (before : State) (request : Request) (room : ℕ) → IsSound setup before.records → HasRoom request room → length (serve setup before request).0.body ≤ room
 serve_fits setup before GetDeviceId room sound has = has
 serve_fits setup before ResetWatchdog room sound has = reset_fits (before.records key.Watchdog) before room
+serve_fits setup before GetTid room sound has = has
+serve_fits setup before GetPldmTypes room sound has = has
 serve_fits setup before (Get key) room sound has = get_fits (limits_at setup key) (before.records key) before.live key room (limits_are_of setup key) (sound key) has
 serve_fits setup before (Set op) room sound has = set_fits _ _ op before room has
 

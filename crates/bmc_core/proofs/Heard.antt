@@ -1,5 +1,5 @@
--- What a port does with a request's frame.
-use Rattle.std.proofs.Common.{◌≡◌, ℕ, List, Result, Ok, Err, Option, Some, None, find, slice_index, refl, ap, sym, ◌∙◌, subst}
+-- What a port does with a request's IPMB frame.
+use Rattle.std.proofs.Common.{◌≡◌, ℕ, List, Result, Ok, Err, Option, Some, None, find, refl, ap, subst}
 use Rattle.ipmb_frame.specs.declared.fault.FrameFault.{FrameFault}
 use Rattle.ipmb_frame.specs.declared.message.Request.{Request}
 use Rattle.ipmb_frame.specs.declared.message.Msg.{Msg}
@@ -14,7 +14,8 @@ use Rattle.bmc_core.specs.declared.port.At.{At}
 use Rattle.bmc_core.specs.State.{State}
 use Rattle.bmc_core.specs.Answer.{answer_of}
 use Rattle.bmc_core.specs.AnswerLaws.{Given}
-use Rattle.bmc_core.specs.Port.{IsTo, IsAnswered, Hears, ignored, answered, asked_in, response_to}
+use Rattle.bmc_core.specs.Outs.{ignored, answered}
+use Rattle.bmc_core.specs.IpmbPort.{IsTo, IsAnswered, HearsFrame, asked_in, response_to}
 
 -- the request that was read is the only message that the bytes are
 same_request : (bytes : List ℕ) (read request : Request) → ((m : Msg) → IsMessage m bytes → (let r : Result Msg FrameFault = Ok (msg.Request read) in r) ≡ Ok m) → IsMessage (msg.Request request) bytes → read ≡ request
@@ -27,7 +28,7 @@ pub hears_request : (at : At) (setup : BoardFile) (before : State) (bytes : List
     → IsTo at bytes
     → (let p : Given = (reply, after) in p) ≡ answer_of setup before (asked_in read)
     → IsResponse (response_to read reply) frame
-    → Hears at setup before bytes (answered frame) after
+    → HearsFrame at setup before bytes (answered frame) after
 hears_request at setup before bytes read reply after frame faultless whole ours gives spelled = record {
   faulty = λ fault is. cc;
   not_ours = λ m is away. absurd (away ours);
@@ -47,7 +48,7 @@ hears_request at setup before bytes read reply after frame faultless whole ours 
 pub hears_fault : (at : At) (setup : BoardFile) (before : State) (bytes : List ℕ) (fault : FrameFault)
     → (let n : Option FrameFault = Some fault in n) ≡ find (has_fault bytes) faults
     → ((m : Msg) → IsMessage m bytes → (let r : Result Msg FrameFault = Err fault in r) ≡ Ok m)
-    → Hears at setup before bytes (ignored (Frame fault)) before
+    → HearsFrame at setup before bytes (ignored (Frame fault)) before
 hears_fault at setup before bytes fault found whole = record {
   faulty = λ other is. let same : fault ≡ other = cc in (ap (λ f. ignored (Frame f)) same, refl);
   not_ours = λ m is away. let none : (let r : Result Msg FrameFault = Err fault in r) ≡ Ok m = whole m is in cc;

@@ -4,3 +4,4 @@ pub mod Heard
 pub mod Quiet
 pub mod ShownAgain
 pub mod Undone
+pub mod HeardPackets

@@ -1,7 +1,7 @@
 -- A command that the table doesn't mark as setting asks for no Set.
 use Rattle.std.proofs.Common.{◌≡◌, ℕ, List, [], ◌∷◌, Option, Some, None, Result, Ok, Err, Bool, true, false, if◌then◌else◌, ◌==◌, ◌&&◌, find, length, refl, ap, inl, inr}
 use Rattle.std.specs.List.{list_all}
-use Rattle.two_wire.specs.Codes.{invalid_for_lun, invalid_length, pldm_unsupported_command, pldm_invalid_type}
+use Rattle.two_wire.specs.Codes.{invalid_for_lun, pldm_invalid_type}
 use Rattle.cfg_records.specs.declared.message.Asked.{Asked}
 use Rattle.cfg_records.specs.declared.message.Asked.TheVariants.{Ipmi, Pldm}
 use Rattle.cfg_records.specs.declared.message.Answered.{Answered}
@@ -9,10 +9,11 @@ use Rattle.cfg_records.specs.declared.board_file.BoardFile.{BoardFile}
 use Rattle.bmc_core.specs.declared.command.Command.{Command}
 use Rattle.bmc_core.specs.declared.command.Command.TheVariants as command
 use Rattle.bmc_core.specs.declared.command.Line.{Line}
+use Rattle.bmc_core.specs.declared.request.Refusals.{Refusals}
 use Rattle.bmc_core.specs.declared.request.Request.{Request}
-use Rattle.bmc_core.specs.declared.request.Request.TheVariants.{GetDeviceId, ResetWatchdog, Get, Set}
-use Rattle.bmc_core.specs.Table.{Listed, table, line_in, line_of, is_allowed, is_pldm_type, changes, is_changing}
-use Rattle.bmc_core.specs.Request.{request_of, asked_at, asked_by}
+use Rattle.bmc_core.specs.declared.request.Request.TheVariants.{GetDeviceId, ResetWatchdog, GetTid, GetPldmTypes, Get, Set}
+use Rattle.bmc_core.specs.Table.{Listed, table, pldm_table, line_in, line_under, line_of, pldm_line_of, is_allowed, is_pldm_type, changes, is_changing}
+use Rattle.bmc_core.specs.Request.{request_of, ipmi_refusals, pldm_refusals, asked_at, asked_by}
 use Rattle.bmc_core.specs.State.{State}
 use Rattle.bmc_core.specs.Row.{Resets, Serves, Replies}
 use Rattle.bmc_core.specs.Quiet.{KeepsRecords}
@@ -37,12 +38,15 @@ quiet_command command.SetPowerRestorePolicy body e = cc
 quiet_command command.SetWatchdogTimer body e = cc
 quiet_command _ body e = tt
 
--- the table marks the line of a setting command
+-- a table marks the line of a setting command
 abbrev is_marked : Listed → Bool
 is_marked l = if is_setting l.line.command then l.line.changing else true
 
 all_marked : list_all is_marked table ≡ true
 all_marked = refl
+
+all_pldm_marked : list_all is_marked pldm_table ≡ true
+all_pldm_marked = refl
 
 marked_where : (setting changing : Bool) → (if setting then changing else true) ≡ true → changing ≡ false → setting ≡ false
 marked_where true changing marked e = cc
@@ -75,25 +79,25 @@ abbrev AsksQuietly : Result Request ℕ → Type 0
 AsksQuietly (Ok request) = IsQuiet request
 AsksQuietly (Err fault) = Unit {0}
 
-length_quiet : (b : Bool) (line : Line) (body : List ℕ) → is_setting line.command ≡ false → AsksQuietly (if b then Ok (request_of line.command body) else Err invalid_length)
-length_quiet true line body e = quiet_command line.command body e
-length_quiet false line body e = tt
+length_quiet : (b : Bool) (line : Line) (body : List ℕ) (code : ℕ) → is_setting line.command ≡ false → AsksQuietly (if b then Ok (request_of line.command body) else Err code)
+length_quiet true line body code e = quiet_command line.command body e
+length_quiet false line body code e = tt
 
-asked_at_quiet : (line : Option Line) (body : List ℕ) → IsMarked line → changes line ≡ false → AsksQuietly (asked_at line body)
-asked_at_quiet None body marked quiet = tt
-asked_at_quiet (Some line) body marked quiet = length_quiet (is_allowed line.lengths (length body)) line body (marked_where (is_setting line.command) line.changing marked quiet)
+asked_at_quiet : (refusals : Refusals) (line : Option Line) (body : List ℕ) → IsMarked line → changes line ≡ false → AsksQuietly (asked_at refusals line body)
+asked_at_quiet refusals None body marked quiet = tt
+asked_at_quiet refusals (Some line) body marked quiet = length_quiet (is_allowed line.lengths (length body)) line body refusals.not_allowed (marked_where (is_setting line.command) line.changing marked quiet)
 
-lun_quiet : (b : Bool) (line : Option Line) (body : List ℕ) → IsMarked line → changes line ≡ false → AsksQuietly (if b then asked_at line body else Err invalid_for_lun)
-lun_quiet true line body marked quiet = asked_at_quiet line body marked quiet
-lun_quiet false line body marked quiet = tt
+first_quiet : (b : Bool) (refusals : Refusals) (line : Option Line) (body : List ℕ) (code : ℕ) → IsMarked line → changes line ≡ false → AsksQuietly (if b then asked_at refusals line body else Err code)
+first_quiet true refusals line body code marked quiet = asked_at_quiet refusals line body marked quiet
+first_quiet false refusals line body code marked quiet = tt
 
-type_quiet : (b : Bool) → AsksQuietly (if b then Err pldm_unsupported_command else Err pldm_invalid_type)
-type_quiet true = tt
-type_quiet false = tt
+-- a line that is found is marked as the command that it gives
+marked_under : (group number : ℕ) (lines : List Listed) → list_all is_marked lines ≡ true → IsMarked (line_under group number lines)
+marked_under group number lines marked = found (λ l. (l.group == group) && (l.number == number)) lines marked
 
 asks_quietly : (asked : Asked) → is_changing asked ≡ false → AsksQuietly (asked_by asked)
-asks_quietly (Ipmi from net_fn lun number body) quiet = lun_quiet (lun == 0) (line_of net_fn number) body (found (λ l. (l.net_fn == net_fn) && (l.number == number)) table all_marked) quiet
-asks_quietly (Pldm from kind number body) quiet = type_quiet (is_pldm_type kind)
+asks_quietly (Ipmi from net_fn lun number body) quiet = first_quiet (lun == 0) ipmi_refusals (line_of net_fn number) body invalid_for_lun (marked_under net_fn number table all_marked) quiet
+asks_quietly (Pldm from kind number body) quiet = first_quiet (is_pldm_type kind) pldm_refusals (pldm_line_of kind number) body pldm_invalid_type (marked_under kind number pldm_table all_pldm_marked) quiet
 
 -- ---- what it leaves
 
@@ -105,6 +109,8 @@ reset_quietly None before unknown answered after h = ap (λ (s : State). s.recor
 served_quietly : (setup : BoardFile) (before : State) (request : Request) (answered : Answered) (after : State) → IsQuiet request → Serves setup before request answered after → after.records ≡ before.records
 served_quietly setup before GetDeviceId answered after quiet row = ap (λ (s : State). s.records) row.1
 served_quietly setup before ResetWatchdog answered after quiet row = reset_quietly _ before _ answered after row
+served_quietly setup before GetTid answered after quiet row = ap (λ (s : State). s.records) row.1
+served_quietly setup before GetPldmTypes answered after quiet row = ap (λ (s : State). s.records) row.1
 served_quietly setup before (Get key) answered after quiet row = ap (λ (s : State). s.records) row.1
 served_quietly setup before (Set op) answered after quiet row = absurd quiet
 

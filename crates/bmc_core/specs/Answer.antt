@@ -1,5 +1,5 @@
 -- The answer to each request and the state that it leaves, as a function.
-use Rattle.std.specs.Prelude.{ℕ, List, [], if◌then◌else◌, Option, Some, None, Result, Ok, Err}
+use Rattle.std.specs.Prelude.{ℕ, List, [], if◌then◌else◌, Option, Some, None, Result, Ok, Err, ◌∷◌}
 use Rattle.cfg_records.specs.Keys.{key_of}
 use Rattle.cfg_records.specs.Records.{with_record}
 use Rattle.cfg_records.specs.declared.op.Op.{Op}
@@ -14,10 +14,10 @@ use Rattle.record_kinds.specs.declared.limits.Limits.{Limits}
 use Rattle.record_kinds.specs.Limits.{outcome, view, set_view, live_after}
 use Rattle.record_kinds.specs.Boards.{limits_at}
 use Rattle.bmc_core.specs.declared.request.Request.{Request}
-use Rattle.bmc_core.specs.declared.request.Request.TheVariants.{GetDeviceId, ResetWatchdog, Get, Set}
+use Rattle.bmc_core.specs.declared.request.Request.TheVariants.{GetDeviceId, ResetWatchdog, Get, Set, GetTid, GetPldmTypes}
 use Rattle.bmc_core.specs.Request.{asked_by}
 use Rattle.bmc_core.specs.State.{State, state}
-use Rattle.bmc_core.specs.Row.{done, refused, device_data, unknown_code}
+use Rattle.bmc_core.specs.Row.{done, refused, device_data, pldm_types, unknown_code}
 
 -- the answer to a Get
 abbrev pub get_answer : Option Limits → Option (List ℕ) → Live → ℕ → Answered
@@ -42,6 +42,8 @@ reset_answer None before unknown = (refused unknown, before)
 abbrev pub serve : BoardFile → State → Request → Answered × State
 serve setup before GetDeviceId = (done (device_data setup.device), before)
 serve setup before ResetWatchdog = reset_answer (before.records key.Watchdog) before (unknown_code setup key.Watchdog)
+serve setup before GetTid = (done (setup.tid ∷ []), before)
+serve setup before GetPldmTypes = (done pldm_types, before)
 serve setup before (Get key) = (get_answer (limits_at setup key) (before.records key) before.live (unknown_code setup key), before)
 serve setup before (Set op) = set_answer (limits_at setup (key_of op)) (before.records (key_of op)) (unknown_code setup (key_of op)) op before
 

@@ -16,7 +16,7 @@ use Rattle.record_kinds.specs.declared.limits.Limits.{Limits}
 use Rattle.record_kinds.specs.Limits.{sets, outcome, live_after}
 use Rattle.record_kinds.specs.LimitsLaws as laws
 use Rattle.bmc_core.specs.declared.request.Request.{Request}
-use Rattle.bmc_core.specs.declared.request.Request.TheVariants.{GetDeviceId, ResetWatchdog, Get, Set}
+use Rattle.bmc_core.specs.declared.request.Request.TheVariants.{GetDeviceId, ResetWatchdog, Get, Set, GetTid, GetPldmTypes}
 use Rattle.bmc_core.specs.Request.{asked_by}
 use Rattle.bmc_core.specs.State.{State, state}
 use Rattle.bmc_core.specs.Row.{done, refused, Gets, Resets, IsCarriedOut, IsRefused, Sets, Serves, Replies, Row}
@@ -67,6 +67,8 @@ resets None before unknown = (refl, refl)
 serves : (setup : BoardFile) (before : State) (request : Request) → Serves setup before request (serve setup before request).0 (serve setup before request).1
 serves setup before GetDeviceId = (refl, refl)
 serves setup before ResetWatchdog = resets _ before _
+serves setup before GetTid = (refl, refl)
+serves setup before GetPldmTypes = (refl, refl)
 serves setup before (Get key) = (gets _ _ before.live _, refl)
 serves setup before (Set op) = sets_answer _ _ _ op before
 
@@ -118,6 +120,8 @@ resets_once None before unknown answered after h = pair _ _ _ _ h.0 h.1
 serves_once : (setup : BoardFile) (before : State) (request : Request) (answered : Answered) (after : State) → Serves setup before request answered after → (let p : Given = (answered, after) in p) ≡ serve setup before request
 serves_once setup before GetDeviceId answered after h = pair _ _ _ _ h.0 h.1
 serves_once setup before ResetWatchdog answered after h = resets_once _ before _ answered after h
+serves_once setup before GetTid answered after h = pair _ _ _ _ h.0 h.1
+serves_once setup before GetPldmTypes answered after h = pair _ _ _ _ h.0 h.1
 serves_once setup before (Get key) answered after h = pair _ _ _ _ (gets_once _ _ before.live _ answered h.0) h.1
 serves_once setup before (Set op) answered after h = sets_once _ _ _ op before answered after h
 

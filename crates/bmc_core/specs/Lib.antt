@@ -7,5 +7,8 @@ pub mod AnswerLaws
 pub mod Decode
 pub mod Undo
 pub mod Quiet
+pub mod Outs
+pub mod IpmbPort
+pub mod SmbusPort
 pub mod Port
 pub mod Names

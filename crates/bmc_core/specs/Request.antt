@@ -1,6 +1,6 @@
 -- What a request asks for.
 use Rattle.std.specs.Prelude.{ℕ, ◌+◌, ◌*◌, List, [], ◌∷◌, length, slice_index, Option, Some, None, Result, Ok, Err, ◌==◌, if◌then◌else◌}
-use Rattle.two_wire.specs.Codes.{invalid_for_lun, invalid_command, invalid_length, pldm_unsupported_command, pldm_invalid_type}
+use Rattle.two_wire.specs.Codes.{invalid_for_lun, invalid_command, invalid_length, pldm_unsupported_command, pldm_invalid_type, pldm_invalid_length}
 use Rattle.cfg_records.specs.declared.message.Asked.{Asked}
 use Rattle.cfg_records.specs.declared.message.Asked.TheVariants.{Ipmi, Pldm}
 use Rattle.cfg_records.specs.declared.key.Key.TheVariants as key
@@ -10,9 +10,10 @@ use Rattle.cfg_records.specs.declared.op.SetWatchdog.{SetWatchdog}
 use Rattle.bmc_core.specs.declared.command.Command.{Command}
 use Rattle.bmc_core.specs.declared.command.Command.TheVariants as command
 use Rattle.bmc_core.specs.declared.command.Line.{Line}
+use Rattle.bmc_core.specs.declared.request.Refusals.{Refusals}
 use Rattle.bmc_core.specs.declared.request.Request.{Request}
 use Rattle.bmc_core.specs.declared.request.Request.TheVariants as request
-use Rattle.bmc_core.specs.Table.{line_of, is_allowed, is_pldm_type}
+use Rattle.bmc_core.specs.Table.{line_of, pldm_line_of, is_allowed, is_pldm_type}
 
 -- the byte at a place, 00h where it is missing
 abbrev pub byte_at : List ℕ → ℕ → ℕ
@@ -48,13 +49,22 @@ request_of command.SetPowerRestorePolicy body = request.Set (op.PowerPolicy (rec
 request_of command.ResetWatchdogTimer body = request.ResetWatchdog
 request_of command.SetWatchdogTimer body = request.Set (op.Watchdog (watchdog_in body))
 request_of command.GetWatchdogTimer body = request.Get key.Watchdog
+request_of command.GetTid body = request.GetTid
+request_of command.GetPldmTypes body = request.GetPldmTypes
 
--- what a line's command asks for, where the data has a length that it takes
-abbrev pub asked_at : Option Line → List ℕ → Result Request ℕ
-asked_at None body = Err invalid_command
-asked_at (Some line) body = if is_allowed line.lengths (length body) then Ok (request_of line.command body) else Err invalid_length
+-- what refuses a command that isn't listed, and one whose data has a length that it doesn't take
+abbrev pub ipmi_refusals : Refusals
+ipmi_refusals = record { unlisted = invalid_command; not_allowed = invalid_length }
 
--- what a request asks for, or the first code that refuses it. No PLDM command is listed.
+abbrev pub pldm_refusals : Refusals
+pldm_refusals = record { unlisted = pldm_unsupported_command; not_allowed = pldm_invalid_length }
+
+-- what a line's command asks for, where there is a line and the data has a length that it takes
+abbrev pub asked_at : Refusals → Option Line → List ℕ → Result Request ℕ
+asked_at refusals None body = Err refusals.unlisted
+asked_at refusals (Some line) body = if is_allowed line.lengths (length body) then Ok (request_of line.command body) else Err refusals.not_allowed
+
+-- what a request asks for, or the first code that refuses it
 abbrev pub asked_by : Asked → Result Request ℕ
-asked_by (Ipmi from net_fn lun number body) = if lun == 0 then asked_at (line_of net_fn number) body else Err invalid_for_lun
-asked_by (Pldm from kind number body) = if is_pldm_type kind then Err pldm_unsupported_command else Err pldm_invalid_type
+asked_by (Ipmi from net_fn lun number body) = if lun == 0 then asked_at ipmi_refusals (line_of net_fn number) body else Err invalid_for_lun
+asked_by (Pldm from kind number body) = if is_pldm_type kind then asked_at pldm_refusals (pldm_line_of kind number) body else Err pldm_invalid_type

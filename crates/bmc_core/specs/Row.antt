@@ -16,7 +16,7 @@ use Rattle.record_kinds.specs.declared.limits.Limits.{Limits}
 use Rattle.record_kinds.specs.Limits.{sets, outcome, view, set_view, live_after}
 use Rattle.record_kinds.specs.Boards.{limits_at}
 use Rattle.bmc_core.specs.declared.request.Request.{Request}
-use Rattle.bmc_core.specs.declared.request.Request.TheVariants.{GetDeviceId, ResetWatchdog, Get, Set}
+use Rattle.bmc_core.specs.declared.request.Request.TheVariants.{GetDeviceId, ResetWatchdog, Get, Set, GetTid, GetPldmTypes}
 use Rattle.bmc_core.specs.Request.{asked_by}
 use Rattle.bmc_core.specs.State.{State, state}
 
@@ -34,6 +34,10 @@ abbrev pub device_data : Device → List ℕ
 device_data d =
     d.id ∷ d.revision ∷ d.major ∷ d.minor ∷ 0x02 ∷ d.support
     ∷ d.manufacturer % 256 ∷ d.manufacturer / 256 % 256 ∷ d.manufacturer / 65536 ∷ d.product % 256 ∷ d.product / 256 ∷ []
+
+-- what GetPLDMTypes replies (DSP0240): eight bytes, the lowest first, with a bit for each type, 0, 2 and 3
+abbrev pub pldm_types : List ℕ
+pldm_types = 0x0D ∷ 0 ∷ 0 ∷ 0 ∷ 0 ∷ 0 ∷ 0 ∷ 0 ∷ []
 
 -- the code for a record that isn't there
 abbrev pub unknown_code : BoardFile → Key → ℕ
@@ -75,6 +79,8 @@ Resets None before unknown answered after = (answered ≡ refused unknown) × (a
 abbrev pub Serves : BoardFile → State → Request → Answered → State → Type 0
 Serves setup before GetDeviceId answered after = (answered ≡ done (device_data setup.device)) × (after ≡ before)
 Serves setup before ResetWatchdog answered after = Resets (before.records key.Watchdog) before (unknown_code setup key.Watchdog) answered after
+Serves setup before GetTid answered after = (answered ≡ done (setup.tid ∷ [])) × (after ≡ before)
+Serves setup before GetPldmTypes answered after = (answered ≡ done pldm_types) × (after ≡ before)
 Serves setup before (Get key) answered after = Gets (limits_at setup key) (before.records key) before.live (unknown_code setup key) answered × (after ≡ before)
 Serves setup before (Set op) answered after = Sets (limits_at setup (key_of op)) (before.records (key_of op)) (unknown_code setup (key_of op)) op before answered after
 

@@ -1,4 +1,4 @@
--- The table of commands (IPMI 2.0, sections 20.1, 27.5 to 27.7, 28.2, 28.8 and 35.6 to 35.9): one line each.
+-- The tables of commands (IPMI 2.0, sections 20.1, 27.5 to 27.7, 28.2, 28.8 and 35.6 to 35.9; DSP0240, "GetTID" and "GetPLDMTypes"): one line each.
 use Rattle.std.specs.Prelude.{ℕ, List, [], ◌∷◌, Option, Some, None, Bool, true, false, find, ◌==◌, ◌&&◌, ◌||◌}
 use Rattle.cfg_records.specs.declared.message.Asked.{Asked}
 use Rattle.cfg_records.specs.declared.message.Asked.TheVariants.{Ipmi, Pldm}
@@ -8,16 +8,16 @@ use Rattle.bmc_core.specs.declared.command.Lengths.{Lengths}
 use Rattle.bmc_core.specs.declared.command.Lengths.TheVariants.{Exactly}
 use Rattle.bmc_core.specs.declared.command.Line.{Line}
 
--- a line stands under a network function and a command number
+-- a line stands under a group, which is a network function or a PLDM type, and a command number
 pub record Listed : Type 0 where
-  pub net_fn : ℕ
+  pub group : ℕ
   pub number : ℕ
   pub line : Line
 
 abbrev pub listed : ℕ → ℕ → Lengths → Bool → Command → Listed
-listed net_fn number lengths changing command = record { net_fn = net_fn; number = number; line = record { command = command; lengths = lengths; changing = changing } }
+listed group number lengths changing command = record { group = group; number = number; line = record { command = command; lengths = lengths; changing = changing } }
 
--- network function, number, lengths, whether it sets the configuration, command
+-- IPMI: network function, number, lengths, whether it sets the configuration, command
 abbrev pub table : List Listed
 table =
     listed 0x00 0x01 (Exactly 0) false command.GetChassisStatus ∷
@@ -32,13 +32,26 @@ table =
     listed 0x06 0x25 (Exactly 0) false command.GetWatchdogTimer ∷
     []
 
+-- PLDM: type, number, lengths, whether it sets the configuration, command
+abbrev pub pldm_table : List Listed
+pldm_table =
+    listed 0x00 0x02 (Exactly 0) false command.GetTid ∷
+    listed 0x00 0x04 (Exactly 0) false command.GetPldmTypes ∷
+    []
+
 abbrev pub line_in : Option Listed → Option Line
 line_in (Some l) = Some l.line
 line_in None = None
 
 -- the line of these numbers
+abbrev pub line_under : ℕ → ℕ → List Listed → Option Line
+line_under group number lines = line_in (find (λ l. (l.group == group) && (l.number == number)) lines)
+
 abbrev pub line_of : ℕ → ℕ → Option Line
-line_of net_fn number = line_in (find (λ l. (l.net_fn == net_fn) && (l.number == number)) table)
+line_of net_fn number = line_under net_fn number table
+
+abbrev pub pldm_line_of : ℕ → ℕ → Option Line
+pldm_line_of kind number = line_under kind number pldm_table
 
 -- the data may have this length
 abbrev pub is_allowed : Lengths → ℕ → Bool
@@ -55,4 +68,4 @@ changes None = false
 -- the request's command sets the configuration
 abbrev pub is_changing : Asked → Bool
 is_changing (Ipmi from net_fn lun number body) = changes (line_of net_fn number)
-is_changing (Pldm from kind number body) = false
+is_changing (Pldm from kind number body) = changes (pldm_line_of kind number)

@@ -48,6 +48,9 @@ fn device_data(device: &Device) -> RecordData
     ])
 }
 
+/// What GetPLDMTypes replies (DSP0240): a bit for each type, the lowest byte first.
+const PLDM_TYPES: [u8; 8] = [0x0D, 0, 0, 0, 0, 0, 0, 0];
+
 /// The answer where the record isn't there.
 fn unknown() -> Answered
     ensures { result ≡ refused not_present }
@@ -141,6 +144,8 @@ impl<S: Store> Board<S> {
                 Answered::done(device_data(self.setup.device()).as_slice())
             }
             Ok(Request::ResetWatchdog) => self.reset_watchdog(),
+            Ok(Request::GetTid) => Answered::done(&[self.setup.tid()]),
+            Ok(Request::GetPldmTypes) => Answered::done(&PLDM_TYPES),
             Ok(Request::Get(key)) => self.get(&key),
             Ok(Request::Set(op)) => self.set(&op),
         }

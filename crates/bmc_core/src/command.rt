@@ -1,10 +1,10 @@
-//! The table of commands.
+//! The tables of commands.
 ghost use Rattle.std.specs.Prelude.{◌≡◌, None, Some};
-ghost use Rattle.bmc_core.specs.Table.{line_of, is_allowed, is_changing, is_pldm_type};
+ghost use Rattle.bmc_core.specs.Table.{line_of, pldm_line_of, is_allowed, is_changing, is_pldm_type};
 
 use cfg_records::Asked;
 
-/// A command of the table.
+/// A command of the tables.
 #[derive(Clone, Copy, Debug, PartialEq, Eq)]
 pub enum Command {
     GetDeviceId,
@@ -17,6 +17,8 @@ pub enum Command {
     ResetWatchdogTimer,
     SetWatchdogTimer,
     GetWatchdogTimer,
+    GetTid,
+    GetPldmTypes,
 }
 
 /// How many bytes of data a command takes.
@@ -25,7 +27,7 @@ pub enum Lengths {
     Exactly(u8),
 }
 
-/// What the table says of a command: how many bytes of data it takes, and whether it sets the configuration.
+/// What its table says of a command: how many bytes of data it takes, and whether it sets the configuration.
 #[derive(Clone, Copy, Debug, PartialEq, Eq)]
 pub struct Line {
     pub command: Command,
@@ -54,7 +56,7 @@ const fn entry(command: Command, lengths: Lengths, changing: bool) -> Line
     }
 }
 
-/// The table's line for the network function and the command number, if they are listed.
+/// The line of IPMI's table for the network function and the command number, if they are listed.
 pub fn find_line(net_fn: u8, number: u8) -> Option<Line>
     ensures { result ≡ line_of net_fn number }
 {
@@ -75,6 +77,19 @@ pub fn find_line(net_fn: u8, number: u8) -> Option<Line>
     })
 }
 
+/// The line of PLDM's table for the type and the command number, if they are listed.
+pub fn find_pldm_line(kind: u8, number: u8) -> Option<Line>
+    ensures { result ≡ pldm_line_of kind number }
+{
+    use Command::*;
+    use Lengths::*;
+    Some(match (kind, number) {
+        (0x00, 0x02) => entry(GetTid, Exactly(0), false),
+        (0x00, 0x04) => entry(GetPldmTypes, Exactly(0), false),
+        _ => return None,
+    })
+}
+
 /// Whether the PLDM type is one of the controller's: base, platform monitoring and control, BIOS.
 pub fn is_pldm_type(kind: u8) -> bool
     ensures { result ≡ is_pldm_type kind }
@@ -86,15 +101,16 @@ pub fn is_pldm_type(kind: u8) -> bool
 pub fn changing(asked: &Asked) -> bool
     ensures { result ≡ is_changing asked.now }
 {
-    match asked {
+    let line = match asked {
         Asked::Ipmi {
             net_fn,
             command,
             ..
-        } => match find_line(net_fn.number(), *command) {
-            Some(line) => line.changing,
-            None => false,
-        },
-        Asked::Pldm { .. } => false,
+        } => find_line(net_fn.number(), *command),
+        Asked::Pldm { kind, command, .. } => find_pldm_line(kind.number(), *command),
+    };
+    match line {
+        Some(line) => line.changing,
+        None => false,
     }
 }

@@ -3,6 +3,8 @@ ghost use Rattle.std.specs.Prelude.{◌≡◌, [], ◌∷◌};
 
 use arrayvec::ArrayVec;
 use ipmb_frame::FrameFault;
+use mctp_net::{DropCause, PacketFault};
+use pldm_base::PldmFault;
 use std::fmt;
 use std::marker::Model;
 use two_wire::Frame;
@@ -10,15 +12,23 @@ use two_wire::Frame;
 /// Why a port ignored what it heard.
 #[derive(Clone, Copy, Debug, PartialEq, Eq)]
 pub enum Reason {
-    /// The bytes are no frame.
+    /// The bytes are no frame of IPMB.
     Frame(FrameFault),
-    /// The frame isn't to the port's address.
+    /// The bytes are no packet of the System Management Bus.
+    Packet(PacketFault),
+    /// The frame or packet isn't to the port's address.
     NotOurs,
-    /// The frame is no request.
+    /// The packet was dropped.
+    Dropped(DropCause),
+    /// It is no request: an IPMB response, a message under a tag that its sender doesn't own, or a control message without reply.
     NotRequest,
+    /// The message is neither a control message nor PLDM's.
+    MessageType,
+    /// The message is no request of PLDM.
+    Pldm(PldmFault),
 }
 
-/// The reason's name, or the fault's.
+/// The reason's name, or the fault's or the cause's.
 impl fmt::Display for Reason {
     ghost use Rattle.std.specs.Prelude.{Some};
     ghost use Rattle.bmc_core.specs.Names.{reason_name};
@@ -28,8 +38,12 @@ impl fmt::Display for Reason {
     fn fmt<W: fmt::Write>(&self, f: &mut fmt::Formatter<W>) -> fmt::Result {
         match self {
             Reason::Frame(fault) => write!(f, "{fault}"),
+            Reason::Packet(fault) => write!(f, "{fault}"),
             Reason::NotOurs => f.write_str("NotOurs"),
+            Reason::Dropped(cause) => write!(f, "{cause}"),
             Reason::NotRequest => f.write_str("NotRequest"),
+            Reason::MessageType => f.write_str("MessageType"),
+            Reason::Pldm(fault) => write!(f, "{fault}"),
         }
     }
 }
@@ -39,8 +53,12 @@ impl fmt::Display for Reason {
 pub enum Done {
     /// Nothing.
     Ignored(Reason),
+    /// It took a packet, and others of its message are to come.
+    Waiting,
     /// It had the request carried out.
     Answered,
+    /// Its endpoint answered a control message.
+    Control,
 }
 
 /// At most four frames, in the order in which they are to be sent.
@@ -55,6 +73,14 @@ impl Model for Frames {
     ghost Value = { List (List ℕ) };
 
     ghost view = { λ f. f.frames.items };
+}
+
+impl From<ArrayVec<Frame, 4>> for Frames {
+    ghost from_gives = { λ list frames. frames ≡ list.items };
+
+    fn from(frames: ArrayVec<Frame, 4>) -> Frames {
+        Frames { frames }
+    }
 }
 
 impl Frames {
@@ -92,7 +118,7 @@ pub struct Out {
 }
 
 impl Out {
-    ghost use Rattle.bmc_core.specs.Port.{ignored, answered};
+    ghost use Rattle.bmc_core.specs.Outs.{ignored, waiting, answered};
 
     /// Nothing is sent, for this reason.
     pub fn ignored(reason: Reason) -> Out
@@ -101,6 +127,16 @@ impl Out {
         Out {
             frames: Frames::none(),
             done: Done::Ignored(reason),
+        }
+    }
+
+    /// Nothing is sent yet.
+    pub fn waiting() -> Out
+        ensures { result ≡ waiting }
+    {
+        Out {
+            frames: Frames::none(),
+            done: Done::Waiting,
         }
     }
 

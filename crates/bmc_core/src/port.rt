@@ -1,92 +1,60 @@
 //! The ports that requests come to.
-ghost use Rattle.std.specs.Prelude.{◌≡◌, ◌≤◌, IfOk, length};
+ghost use Rattle.std.specs.Prelude.{◌≡◌, [], IfOk};
 ghost use Rattle.bmc_core.specs.State.{state};
-ghost use Rattle.bmc_core.specs.Port.{Hears, asked_in, response_to};
+ghost use Rattle.bmc_core.specs.Port.{Hears};
+
+mod ipmb;
+mod smbus;
 
 use crate::board::Board;
-use crate::out::{Out, Reason};
-use cfg_records::{Answered, Asked, Store};
-use ipmb_frame::{Msg, Request, Response, read_frame, write_response};
+use crate::out::Out;
+use cfg_records::Store;
+use mctp_net::{Assembler, Endpoint, EndpointId};
 use std::alloc::{AllocError, Global};
-use two_wire::{Address, Bus, Bytes};
+use two_wire::{Address, Bus};
 
-/// Where the controller is on a bus: its two-wire address, and its EID, which IPMB doesn't look at.
+/// Where the controller is on a bus: its two-wire address, and the EID that its endpoint begins with, which IPMB doesn't look at.
 #[derive(Clone, Copy, Debug, PartialEq, Eq)]
 pub struct At {
     pub wire: Address,
-    pub eid: u8,
+    pub eid: EndpointId,
 }
 
 /// A port of the controller on one bus.
-#[derive(Debug, Drop)]
+#[derive(Drop)]
 pub struct Port {
     bus: Bus,
     at: At,
-}
-
-/// What a request asks of the board.
-fn asked_in(request: &Request) -> Asked
-    ensures { result ≡ asked_in request.now }
-{
-    let header = request.header;
-    Asked::Ipmi {
-        from: header.requester.address.byte(),
-        net_fn: header.net_fn,
-        lun: header.responder.lun,
-        command: header.command,
-        body: request.body.copy(),
-    }
-}
-
-/// The response that gives the answer to the request.
-fn response_to(request: &Request, answered: &Answered) -> Response
-    requires { length answered.now.body ≤ 24 }
-    ensures { result ≡ response_to request.now answered.now }
-{
-    Response {
-        header: request.header,
-        code: answered.code,
-        body: Bytes::from_slice(answered.body.as_slice()),
-    }
+    /// The endpoint behind it, whose EID a requester can set.
+    endpoint: Endpoint,
+    /// The packets of messages that aren't whole yet.
+    assembler: Assembler,
 }
 
 impl Port {
-    /// A port of the bus. Its room is taken here.
-    pub fn new(_alloc: Global, bus: Bus, at: At) -> Result<Port, AllocError>
+    /// A port of the bus. All of its memory is taken here.
+    pub fn new(alloc: Global, bus: Bus, at: At) -> Result<Port, AllocError>
         ensures bus { IfOk result (λ port. port.bus ≡ bus) }
         ensures place { IfOk result (λ port. port.at ≡ at) }
+        ensures endpoint { IfOk result (λ port. port.endpoint ≡ at.eid) }
+        ensures packets { IfOk result (λ port. port.assembler ≡ []) }
     {
-        Ok(Port { bus, at })
+        Ok(Port {
+            bus,
+            at,
+            endpoint: Endpoint::new(at.eid),
+            assembler: Assembler::new(alloc)?,
+        })
     }
 
     /// Takes what is heard on the bus, and gives what is to be sent. It takes no memory.
     pub fn on_frame<S: Store>(&mut self, board: &mut Board<S>, bytes: &[u8]) -> Out
-        ensures heard { Hears self.old.at board.old.setup (state (S.records board.old.store) board.old.live) bytes.now result (state (S.records board.new.store) board.new.live) }
+        ensures heard { Hears board.old.setup self.old (state (S.records board.old.store) board.old.live) bytes.now result self.new (state (S.records board.new.store) board.new.live) }
         ensures setup { board.new.setup ≡ board.old.setup }
-        ensures port { self.new ≡ self.old }
     {
         match self.bus {
             Bus::Ipmb => self.on_ipmb(board, bytes),
-        }
-    }
-
-    fn on_ipmb<S: Store>(&self, board: &mut Board<S>, bytes: &[u8]) -> Out
-        ensures heard { Hears self.now.at board.old.setup (state (S.records board.old.store) board.old.live) bytes.now result (state (S.records board.new.store) board.new.live) }
-        ensures setup { board.new.setup ≡ board.old.setup }
-    {
-        let message = match read_frame(bytes) {
-            Ok(message) => message,
-            Err(fault) => return Out::ignored(Reason::Frame(fault)),
-        };
-        if bytes[0] != self.at.wire.byte() {
-            return Out::ignored(Reason::NotOurs);
-        }
-        match message {
-            Msg::Response(_) => Out::ignored(Reason::NotRequest),
-            Msg::Request(request) => {
-                let answered = board.answer(&asked_in(&request));
-                Out::answered(write_response(&response_to(&request, &answered)))
-            }
+            Bus::Smbus => self.on_smbus(board, bytes),
         }
     }
 }

@@ -1,8 +1,8 @@
 //! What a request asks for.
 ghost use Rattle.std.specs.Prelude.{◌≡◌, ◌<◌};
-ghost use Rattle.bmc_core.specs.Request.{byte_at, thresholds_in, watchdog_in, request_of, asked_by};
+ghost use Rattle.bmc_core.specs.Request.{byte_at, thresholds_in, watchdog_in, request_of, asked_by, asked_at};
 
-use crate::command::{Command, find_line, is_pldm_type};
+use crate::command::{Command, find_line, is_pldm_type, Line, find_pldm_line};
 use cfg_records::{Asked, Key, Op, SetHysteresis, SetPowerPolicy, SetThresholds, SetWatchdog};
 use two_wire::{Code, code};
 
@@ -11,6 +11,8 @@ use two_wire::{Code, code};
 pub enum Request {
     GetDeviceId,
     ResetWatchdog,
+    GetTid,
+    GetPldmTypes,
     Get(Key),
     Set(Op),
 }
@@ -78,10 +80,43 @@ fn request_in(command: Command, body: &[u8]) -> Request
         Command::ResetWatchdogTimer => Request::ResetWatchdog,
         Command::SetWatchdogTimer => Request::Set(Op::Watchdog(set_watchdog(body))),
         Command::GetWatchdogTimer => Request::Get(Key::Watchdog),
+        Command::GetTid => Request::GetTid,
+        Command::GetPldmTypes => Request::GetPldmTypes,
     }
 }
 
-/// What is asked for, or the first code that refuses it: the logical unit, then the command, then the length.
+/// What refuses a command that isn't listed, and one whose data has a length that it doesn't take.
+#[derive(Clone, Copy, Debug, PartialEq, Eq)]
+pub struct Refusals {
+    pub unlisted: Code,
+    pub not_allowed: Code,
+}
+
+const IPMI: Refusals = Refusals {
+    unlisted: code::INVALID_COMMAND,
+    not_allowed: code::INVALID_LENGTH,
+};
+
+const PLDM: Refusals = Refusals {
+    unlisted: code::PLDM_UNSUPPORTED_COMMAND,
+    not_allowed: code::PLDM_INVALID_LENGTH,
+};
+
+/// What the line's command asks for with this data, or what refuses it.
+fn request_at(refusals: Refusals, line: Option<Line>, body: &[u8]) -> Result<Request, Code>
+    ensures { result ≡ asked_at refusals line body.now }
+{
+    let Some(line) = line else {
+        return Err(refusals.unlisted);
+    };
+    if !line.lengths.allow(body.len()) {
+        return Err(refusals.not_allowed);
+    }
+    Ok(request_in(line.command, body))
+}
+
+/// What is asked for, or the first code that refuses it. Over IPMI the logical unit comes first, over PLDM the type, then the
+/// command, then the length.
 pub fn read_request(asked: &Asked) -> Result<Request, Code>
     ensures { result ≡ asked_by asked.now }
 {
@@ -96,18 +131,20 @@ pub fn read_request(asked: &Asked) -> Result<Request, Code>
             if lun.number() != 0 {
                 return Err(code::INVALID_FOR_LUN);
             }
-            let Some(line) = find_line(net_fn.number(), *command) else {
-                return Err(code::INVALID_COMMAND);
-            };
-            if !line.lengths.allow(body.len()) {
-                return Err(code::INVALID_LENGTH);
-            }
-            Ok(request_in(line.command, body.as_slice()))
+            let line = find_line(net_fn.number(), *command);
+            request_at(IPMI, line, body.as_slice())
         }
-        Asked::Pldm { kind, .. } => Err(if is_pldm_type(kind.number()) {
-            code::PLDM_UNSUPPORTED_COMMAND
-        } else {
-            code::PLDM_INVALID_TYPE
-        }),
+        Asked::Pldm {
+            kind,
+            command,
+            body,
+            ..
+        } => {
+            let kind = kind.number();
+            if !is_pldm_type(kind) {
+                return Err(code::PLDM_INVALID_TYPE);
+            }
+            request_at(PLDM, find_pldm_line(kind, *command), body.as_slice())
+        }
     }
 }

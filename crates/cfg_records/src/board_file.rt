@@ -32,6 +32,8 @@ pub struct Device {
 /// there are at most 32.
 #[derive(Debug, Drop)]
 pub struct BoardFile {
+    /// The terminus of a PLDM controller, by the number that GetTID gives (DSP0240).
+    pub tid: u8,
     pub device: Device,
     pub sensors: Items<Sensor>,
     /// The power restore policy (IPMI 2.0, section 28.8): 0 stay off, 1 as before, 2 power up, 3 unknown.
@@ -83,19 +85,21 @@ impl BoardFile {
 
     /// The file of these items, or nothing where two sensors have one number or there are over 32.
     pub fn new(
+        tid: u8,
         device: Device,
         sensors: Vec<Sensor>,
         policy: Below<4>,
         watchdog: Watchdog,
     ) -> Option<BoardFile>
         ensures made { IsSome result ↔ (NumbersDiffer sensors.items × (length sensors.items ≤ 32)) }
-        ensures parts { IfSome result (λ f. (f.device ≡ device) × (f.sensors ≡ sensors.items)) }
+        ensures parts { IfSome result (λ f. (f.tid ≡ tid) × (f.device ≡ device) × (f.sensors ≡ sensors.items)) }
         ensures settings { IfSome result (λ f. (f.policy ≡ policy) × (f.watchdog ≡ watchdog)) }
     {
         if sensors.len() > 32 || !numbers_differ(sensors.as_slice()) {
             return None;
         }
         Some(BoardFile {
+            tid,
             device,
             sensors: Items::new(sensors),
             policy,

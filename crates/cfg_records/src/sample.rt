@@ -57,8 +57,12 @@ fn unset_watchdog() -> Watchdog
     }
 }
 
+/// The sample board's terminus.
+const SAMPLE_TID: u8 = 5;
+
 /// The sample board, which the program takes where it is given no board file.
 pub fn sample_board(alloc: Global) -> Result<BoardFile, AllocError>
+    ensures terminus { IfOk result (λ f. f.tid ≡ 5) }
     ensures device { IfOk result (λ f. IsSampleDevice f.device) }
     ensures sensors { IfOk result (λ f. AreSampleSensors f.sensors) }
     ensures policy { IfOk result (λ f. f.policy ≡ 1) }
@@ -76,5 +80,6 @@ pub fn sample_board(alloc: Global) -> Result<BoardFile, AllocError>
         manufacturer: 0xABCD,
         product: 0x1234,
     };
-    Ok(BoardFile::new(device, sensors, Below::new(1), unset_watchdog()).unwrap())
+    let file = BoardFile::new(SAMPLE_TID, device, sensors, Below::new(1), unset_watchdog());
+    Ok(file.unwrap())
 }

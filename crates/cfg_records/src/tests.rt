@@ -9,6 +9,7 @@ use two_wire::{Below, Bytes, Lun, NetFn, code};
 #[test]
 fn the_sample_board_begins_with_its_records(rt: HostRuntime) -> Result<(), Fail> {
     let file = sample_board(rt.alloc())?;
+    assert_eq!(rt; file.tid, 5);
     let pairs = file.records(rt.alloc())?;
     assert_eq!(rt; pairs.len(), 6);
     assert!(rt; pairs[1].0 == Key::Thresholds(7));

@@ -1,5 +1,5 @@
 -- Messages put together from packets. An assembler keeps the packets of all open assemblies in the order in which they came.
-use Rattle.std.specs.Prelude.{◌≡◌, ℕ, ◌==◌, ◌||◌, ◌&&◌, Bool, true, not, nat_le, if◌then◌else◌, List, [], ◌∷◌, ◌++◌, length, filter, find, Option, Some, None, false}
+use Rattle.std.specs.Prelude.{◌≡◌, ℕ, ◌==◌, ◌||◌, ◌&&◌, Bool, true, not, nat_le, if◌then◌else◌, List, [], ◌∷◌, ◌++◌, length, filter, find, Option, Some, None, false, codes}
 use Rattle.mctp_net.specs.declared.packet.Envelope.{Envelope}
 use Rattle.mctp_net.specs.declared.packet.Packet.{Packet}
 use Rattle.mctp_net.specs.declared.message.Message.{Message}
@@ -46,6 +46,15 @@ fails own kept p NoSlot = p.start && not p.end && nat_le 8 (open_count (others p
 -- the causes in their order
 abbrev pub causes : List DropCause
 causes = NotOurs ∷ NoStart ∷ TooLong ∷ OutOfSequence ∷ UnitSize ∷ NoSlot ∷ []
+
+-- what a cause is called
+abbrev pub cause_name : DropCause → List ℕ
+cause_name NotOurs = codes "NotOurs"
+cause_name NoStart = codes "NoStart"
+cause_name TooLong = codes "TooLong"
+cause_name OutOfSequence = codes "OutOfSequence"
+cause_name UnitSize = codes "UnitSize"
+cause_name NoSlot = codes "NoSlot"
 
 -- the first cause to drop the packet
 abbrev pub drop_cause : ℕ → List Packet → Packet → Option DropCause

@@ -1,5 +1,5 @@
 -- Packets of the System Management Bus.
-use Rattle.std.specs.Prelude.{◌≡◌, ℕ, ◌+◌, ◌-◌, ◌*◌, ◌%◌, ◌<◌, ◌≤◌, List, [], ◌∷◌, ◌++◌, length, take, slice_index, Bool, nat_lt, ◌==◌, ◌||◌, not, if◌then◌else◌}
+use Rattle.std.specs.Prelude.{◌≡◌, ℕ, ◌+◌, ◌-◌, ◌*◌, ◌%◌, ◌<◌, ◌≤◌, List, [], ◌∷◌, ◌++◌, length, take, slice_index, Bool, nat_lt, ◌==◌, ◌||◌, not, if◌then◌else◌, codes}
 use Rattle.two_wire.specs.Pec.{pec_of}
 use Rattle.mctp_net.specs.declared.fault.PacketFault.{PacketFault}
 use Rattle.mctp_net.specs.declared.fault.PacketFault.TheVariants.{Short, NotMctp, Count, Pec, Version}
@@ -55,3 +55,11 @@ has_fault bytes Version = not (slice_index bytes 4 % 16 == 1)
 -- the faults in their order
 abbrev pub faults : List PacketFault
 faults = Short ∷ NotMctp ∷ Count ∷ Pec ∷ Version ∷ []
+
+-- what a fault is called
+abbrev pub fault_name : PacketFault → List ℕ
+fault_name Short = codes "Short"
+fault_name NotMctp = codes "NotMctp"
+fault_name Count = codes "Count"
+fault_name Pec = codes "Pec"
+fault_name Version = codes "Version"

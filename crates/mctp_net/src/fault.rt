@@ -1,4 +1,6 @@
 //! What is wrong with a packet.
+use std::error::Error;
+use std::fmt;
 
 /// The first fault of a packet, in this order.
 #[derive(Clone, Copy, Debug, PartialEq, Eq)]
@@ -14,3 +16,23 @@ pub enum PacketFault {
     /// Bits 3:0 of the version aren't 1.
     Version,
 }
+
+/// The fault's name, as it stands here.
+impl fmt::Display for PacketFault {
+    ghost use Rattle.std.specs.Prelude.{Some};
+    ghost use Rattle.mctp_net.specs.Grammar.{fault_name};
+
+    ghost output = { λ fault. Some (fault_name fault) };
+
+    fn fmt<W: fmt::Write>(&self, f: &mut fmt::Formatter<W>) -> fmt::Result {
+        f.write_str(match self {
+            PacketFault::Short => "Short",
+            PacketFault::NotMctp => "NotMctp",
+            PacketFault::Count => "Count",
+            PacketFault::Pec => "Pec",
+            PacketFault::Version => "Version",
+        })
+    }
+}
+
+impl Error for PacketFault {}

@@ -1,5 +1,7 @@
 //! What becomes of a packet.
 use crate::Message;
+use std::error::Error;
+use std::fmt;
 
 /// Why a packet is dropped: the first cause that holds, in this order.
 #[derive(Clone, Copy, Debug, PartialEq, Eq)]
@@ -17,6 +19,27 @@ pub enum DropCause {
     /// It would open a ninth assembly.
     NoSlot,
 }
+
+/// The cause's name, as it stands here.
+impl fmt::Display for DropCause {
+    ghost use Rattle.std.specs.Prelude.{Some};
+    ghost use Rattle.mctp_net.specs.Assembly.{cause_name};
+
+    ghost output = { λ cause. Some (cause_name cause) };
+
+    fn fmt<W: fmt::Write>(&self, f: &mut fmt::Formatter<W>) -> fmt::Result {
+        f.write_str(match self {
+            DropCause::NotOurs => "NotOurs",
+            DropCause::NoStart => "NoStart",
+            DropCause::TooLong => "TooLong",
+            DropCause::OutOfSequence => "OutOfSequence",
+            DropCause::UnitSize => "UnitSize",
+            DropCause::NoSlot => "NoSlot",
+        })
+    }
+}
+
+impl Error for DropCause {}
 
 /// What becomes of a packet.
 #[derive(Clone, Debug, PartialEq, Eq, Drop)]

@@ -1,5 +1,5 @@
 -- Requests and replies as bytes.
-use Rattle.std.specs.Prelude.{◌≡◌, ℕ, ◌+◌, ◌*◌, ◌/◌, ◌<◌, ◌≤◌, List, [], ◌∷◌, length, slice_index, Bool, nat_lt, ◌==◌, not}
+use Rattle.std.specs.Prelude.{◌≡◌, ℕ, ◌+◌, ◌*◌, ◌/◌, ◌<◌, ◌≤◌, List, [], ◌∷◌, length, slice_index, Bool, nat_lt, ◌==◌, not, codes}
 use Rattle.pldm_base.specs.declared.message.Header.{Header}
 use Rattle.pldm_base.specs.declared.message.PldmRequest.{PldmRequest}
 use Rattle.pldm_base.specs.declared.message.PldmReply.{PldmReply}
@@ -48,6 +48,12 @@ has_fault bytes fault.NotRequest = not (slice_index bytes 0 / 64 == 2)
 -- the faults of a request in their order
 abbrev pub faults : List PldmFault
 faults = fault.Short ∷ fault.Version ∷ fault.NotRequest ∷ []
+
+-- what a fault is called
+abbrev pub fault_name : PldmFault → List ℕ
+fault_name fault.Short = codes "Short"
+fault_name fault.Version = codes "Version"
+fault_name fault.NotRequest = codes "NotRequest"
 
 -- the bytes have the fault: under 4 bytes, a version other than 00b, or request and datagram bit other than 00b
 abbrev pub has_reply_fault : List ℕ → PldmReplyFault → Bool

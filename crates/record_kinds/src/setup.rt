@@ -55,6 +55,13 @@ impl Setup {
         Setup { file, places }
     }
 
+    /// The number of its terminus.
+    pub fn tid(&self) -> u8
+        ensures { result ≡ self.now.tid }
+    {
+        self.file.tid
+    }
+
     /// What the board says of itself.
     pub fn device(&self) -> &Device
         ensures { result.now ≡ self.now.device }

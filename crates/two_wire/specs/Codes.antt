@@ -33,6 +33,9 @@ invalid_data_field = 0xCC
 abbrev pub pldm_invalid_data : ℕ
 pldm_invalid_data = 0x02
 
+abbrev pub pldm_invalid_length : ℕ
+pldm_invalid_length = 0x03
+
 abbrev pub pldm_not_ready : ℕ
 pldm_not_ready = 0x04
 

@@ -5,4 +5,6 @@
 pub enum Bus {
     /// The Intelligent Platform Management Bus, which carries IPMI messages.
     Ipmb,
+    /// The System Management Bus, which carries MCTP packets.
+    Smbus,
 }

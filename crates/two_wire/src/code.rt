@@ -46,6 +46,9 @@ pub const INVALID_DATA_FIELD: Code = Code { value: 0xCC };
 /// PLDM: the data isn't valid.
 pub const PLDM_INVALID_DATA: Code = Code { value: 0x02 };
 
+/// PLDM: the command doesn't take so many bytes of data.
+pub const PLDM_INVALID_LENGTH: Code = Code { value: 0x03 };
+
 /// PLDM: the controller isn't ready for the request now.
 pub const PLDM_NOT_READY: Code = Code { value: 0x04 };
 

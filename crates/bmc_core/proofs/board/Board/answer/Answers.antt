@@ -1,4 +1,4 @@
-use Rattle.std.proofs.Common.{◌≡◌, ◌≢◌, ◌≤◌, ap, sym, subst, length}
+use Rattle.std.proofs.Common.{◌≡◌, ◌≢◌, ◌≤◌, sym, subst, length}
 use Rattle.two_wire.specs.Codes.{success, node_busy, pldm_not_ready}
 use Rattle.cfg_records.specs.Meaning.{room_for}
 use Rattle.bmc_core.specs.State.{State, state}

@@ -1,7 +1,4 @@
-use Rattle.std.proofs.Common.{◌≡◌, Some, List, ℕ, sym, ◌∙◌, ap, subst}
-use Rattle.cfg_records.specs.Keys.{key_of}
-use Rattle.cfg_records.specs.declared.key.Key.{Key}
-use Rattle.record_kinds.specs.declared.limits.Limits.{Limits}
+use Rattle.std.proofs.Common.{◌≡◌, Some, sym, ◌∙◌}
 use Rattle.record_kinds.specs.Boards.{limits_at}
 use Rattle.record_kinds.specs.Sound.{sound_put}
 use Rattle.bmc_core.proofs.board.Board.set.Goals as goal

@@ -1,0 +1,147 @@
+//! A port on the System Management Bus.
+ghost use Rattle.std.specs.Prelude.{◌≡◌, ◌≤◌, ◌∷◌, length};
+ghost use Rattle.mctp_net.specs.Control.{request_of};
+ghost use Rattle.bmc_core.specs.State.{State as AnyState, state};
+ghost use Rattle.bmc_core.specs.SmbusPort.{HearsPacket, HearsOurs, HearsMessage, HearsControl, HearsPldm, AreFramesOf, reply_message, pldm_asked, pldm_reply};
+
+use crate::board::Board;
+use crate::out::{Done, Frames, Out, Reason};
+use crate::port::Port;
+use cfg_records::{Answered, Asked, Store};
+use mctp_net::{Envelope, Message, Packet, SomeBytes, Taken, read_packet, split};
+use pldm_base::{PldmBytes, PldmReply, PldmRequest, read_pldm, write_pldm_reply};
+use two_wire::Bytes;
+
+/// The type of a control message (DSP0239, "MCTP message type codes").
+const CONTROL: u8 = 0x00;
+
+/// The type of a PLDM message.
+const PLDM: u8 = 0x01;
+
+/// What a request asks of the board, in this message.
+fn asked_in(message: &Message, request: &PldmRequest) -> Asked
+    ensures { result ≡ pldm_asked message.now request.now }
+{
+    let header = request.header;
+    Asked::Pldm {
+        from: message.envelope.source_eid,
+        kind: header.pldm_type,
+        command: header.command,
+        body: request.body.copy(),
+    }
+}
+
+/// The reply that gives the answer to the request.
+fn reply_to(request: &PldmRequest, answered: &Answered) -> PldmReply
+    ensures { result ≡ pldm_reply request.now answered.now }
+{
+    PldmReply {
+        header: request.header,
+        code: answered.code,
+        body: answered.body.copy(),
+    }
+}
+
+/// The body of a message with these bytes of PLDM.
+fn pldm_body(bytes: &PldmBytes) -> SomeBytes<256>
+    ensures { result ≡ 1 ∷ bytes.now }
+{
+    let mut body = Bytes::new();
+    body.push(PLDM);
+    body.extend_from_slice(bytes.as_slice());
+    SomeBytes::from_bytes(body)
+}
+
+impl Port {
+    /// Takes what is heard on the bus, and gives what is to be sent.
+    pub(super) fn on_smbus<S: Store>(&mut self, board: &mut Board<S>, bytes: &[u8]) -> Out
+        ensures heard { HearsPacket board.old.setup self.old (state (S.records board.old.store) board.old.live) bytes.now result self.new (state (S.records board.new.store) board.new.live) }
+        ensures setup { board.new.setup ≡ board.old.setup }
+    {
+        let packet = match read_packet(bytes) {
+            Ok(packet) => packet,
+            Err(fault) => return Out::ignored(Reason::Packet(fault)),
+        };
+        let envelope = packet.envelope;
+        if envelope.destination.byte() != self.at.wire.byte() {
+            return Out::ignored(Reason::NotOurs);
+        }
+        self.on_packet(board, &packet)
+    }
+
+    fn on_packet<S: Store>(&mut self, board: &mut Board<S>, packet: &Packet) -> Out
+        ensures heard { HearsOurs board.old.setup self.old (state (S.records board.old.store) board.old.live) packet.now result self.new (state (S.records board.new.store) board.new.live) }
+        ensures setup { board.new.setup ≡ board.old.setup }
+    {
+        let own = self.endpoint.eid().byte();
+        match self.assembler.take(own, packet) {
+            Taken::Waiting => Out::waiting(),
+            Taken::Dropped(cause) => Out::ignored(Reason::Dropped(cause)),
+            Taken::Whole(message) => self.on_message(board, &message),
+        }
+    }
+
+    fn on_message<S: Store>(&mut self, board: &mut Board<S>, message: &Message) -> Out
+        ensures heard { HearsMessage board.old.setup self.old (state (S.records board.old.store) board.old.live) message.now result self.new (state (S.records board.new.store) board.new.live) }
+        ensures setup { board.new.setup ≡ board.old.setup }
+    {
+        if !message.envelope.tag_owner {
+            return Out::ignored(Reason::NotRequest);
+        }
+        match message.body.as_slice() {
+            [CONTROL, ..] => self.on_control(message),
+            [PLDM, bytes @ ..] => self.on_pldm(board, message, bytes),
+            _ => Out::ignored(Reason::MessageType),
+        }
+    }
+
+    fn on_control(&mut self, message: &Message) -> Out
+        ensures { (before : AnyState) → HearsControl (request_of message.now.body) self.old before message.now result self.new before }
+    {
+        match self.endpoint.control(message.body.as_slice()) {
+            Some(reply) => Out {
+                frames: self.reply(message, SomeBytes::from_slice(reply.as_slice())),
+                done: Done::Control,
+            },
+            None => Out::ignored(Reason::NotRequest),
+        }
+    }
+
+    fn on_pldm<S: Store>(&self, board: &mut Board<S>, message: &Message, bytes: &[u8]) -> Out
+        requires { length bytes.now ≤ 255 }
+        ensures heard { HearsPldm board.old.setup self.now (state (S.records board.old.store) board.old.live) message.now bytes.now result self.now (state (S.records board.new.store) board.new.live) }
+        ensures setup { board.new.setup ≡ board.old.setup }
+    {
+        let request = match read_pldm(&PldmBytes::from_slice(bytes)) {
+            Ok(request) => request,
+            Err(fault) => return Out::ignored(Reason::Pldm(fault)),
+        };
+        let answered = board.answer(&asked_in(message, &request));
+        let reply = write_pldm_reply(&reply_to(&request, &answered));
+        Out {
+            frames: self.reply(message, pldm_body(&reply)),
+            done: Done::Answered,
+        }
+    }
+
+    /// The frames of the reply to a message, which has this body.
+    fn reply(&self, message: &Message, body: SomeBytes<256>) -> Frames
+        ensures { AreFramesOf (reply_message self.now message.now body) result }
+    {
+        let Envelope {
+            source,
+            source_eid,
+            tag,
+            ..
+        } = message.envelope;
+        let envelope = Envelope {
+            destination: source,
+            source: self.at.wire,
+            destination_eid: source_eid,
+            source_eid: self.endpoint.eid().byte(),
+            tag_owner: false,
+            tag,
+        };
+        Frames::from(split(&Message { envelope, body }))
+    }
+}
