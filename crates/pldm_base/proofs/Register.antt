@@ -3,11 +3,13 @@ use Rattle.std.proofs.Common.{◌≡◌, ℕ, zero, suc, ◌+◌, ◌-◌, ◌/�
 use Rattle.std.proofs.lemmas.List.{length-map, length-take-le}
 use Rattle.std.specs.Int.Bits.{bit_xor}
 use Rattle.std.specs.List.{flat_map}
-use Rattle.pldm_base.specs.Polynomial.{differ, zeros, plus, scaled, IsRemainder}
-use Rattle.pldm_base.specs.Crc.{bits, divisor, front_inverted, lengthened, dividend, IsCrc32}
+use Rattle.two_wire.specs.Polynomial.{differ, zeros, plus, scaled, IsRemainder}
+use Rattle.two_wire.specs.Bits.{bits, number_of}
+use Rattle.pldm_base.specs.Crc.{divisor, front_inverted, lengthened, dividend, IsCrc32}
 use Rattle.pldm_base.specs.Register.{loaded, ReducesTo}
-use Rattle.pldm_base.proofs.Division.{plus-assoc, plus-comm, plus-zeros, plus-longer, plus-append, length-plus, scaled-one, scaled-none, stop, step, divide, one-remainder}
-use Rattle.pldm_base.proofs.Bits.{length-bits, bits-xor, bits-longer, bits-inverted, same_bits, number_of, bits-number_of, number_of-lt}
+use Rattle.two_wire.proofs.Division.{plus-assoc, plus-comm, plus-zeros, plus-longer, plus-append, length-plus, scaled-one, scaled-none, stop, step, divides, one-remainder}
+use Rattle.two_wire.proofs.Bits.{length-bits, bits-xor, same_bits, bits-number_of, number_of-lt}
+use Rattle.pldm_base.proofs.Bits.{bits-longer, bits-inverted}
 
 -- a register's lowest bit, and those above it
 register-front : (width register : ℕ) (rest : List Bool) → plus (bits (suc width) register) (false ∷ rest) ≡ differ (eqb (register % 2) 1) false ∷ plus (bits width (register / 2)) rest
@@ -186,5 +188,5 @@ number_of_remainder bytes r h =
 -- all bytes have a CRC-32
 pub has_crc32 : (bytes : List ℕ) → (crc : ℕ) × IsCrc32 bytes crc
 has_crc32 bytes =
-    let found = divide (length (dividend bytes) - 32) (bits 32 0xEDB88320) (dividend bytes) (omega (arith, length-bits 32 0xEDB88320, length-dividend bytes)) in
-    number_of_remainder bytes found.0 found.1
+    number_of_remainder bytes _
+    (divides (length (dividend bytes) - 32) (bits 32 0xEDB88320) (dividend bytes) (omega (arith, length-bits 32 0xEDB88320, length-dividend bytes)))

@@ -1,16 +1,12 @@
 -- The CRC-32 of IEEE 802.3.
-use Rattle.std.specs.Prelude.{◌≡◌, ℕ, zero, suc, ◌/◌, ◌%◌, ◌^◌, ◌<◌, ◌==◌, Bool, not, List, [], ◌∷◌, ◌++◌, take, drop, map, reverse}
+use Rattle.std.specs.Prelude.{◌≡◌, ℕ, ◌^◌, ◌<◌, Bool, not, List, ◌++◌, take, drop, map}
 use Rattle.std.specs.List.{flat_map}
-use Rattle.pldm_base.specs.Polynomial.{zeros, IsRemainder}
-
--- so many bits of a number, the lowest first
-unfoldable pub bits : ℕ → ℕ → List Bool
-bits zero n = []
-bits (suc count) n = (n % 2 == 1) ∷ bits count (n / 2)
+use Rattle.two_wire.specs.Bits.{bits, highest_first}
+use Rattle.two_wire.specs.Polynomial.{zeros, IsRemainder}
 
 -- the divisor: the powers 32, 26, 23, 22, 16, 12, 11, 10, 8, 7, 5, 4, 2, 1 and 0
 unfoldable pub divisor : List Bool
-divisor = reverse (bits 33 0x104C11DB7)
+divisor = highest_first 33 0x104C11DB7
 
 -- the first so many bits inverted
 abbrev pub front_inverted : ℕ → List Bool → List Bool

@@ -1,7 +1,8 @@
 -- The division of the CRC-32, as a register of 32 coefficients makes it.
 use Rattle.std.specs.Prelude.{ℕ, Bool, List}
-use Rattle.pldm_base.specs.Polynomial.{plus, IsRemainder}
-use Rattle.pldm_base.specs.Crc.{bits, divisor}
+use Rattle.two_wire.specs.Polynomial.{plus, IsRemainder}
+use Rattle.two_wire.specs.Bits.{bits}
+use Rattle.pldm_base.specs.Crc.{divisor}
 
 -- what is still to be divided: the register's coefficients, added to the front of what follows
 unfoldable pub loaded : ℕ → List Bool → List Bool

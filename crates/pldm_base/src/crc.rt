@@ -1,6 +1,7 @@
 //! The CRC-32 of a table.
 ghost use Rattle.std.specs.Prelude.{◌≤◌, List, Bool, false, ◌∷◌, ◌++◌, length};
-ghost use Rattle.pldm_base.specs.Crc.{IsCrc32, bits};
+ghost use Rattle.two_wire.specs.Bits.{bits};
+ghost use Rattle.pldm_base.specs.Crc.{IsCrc32};
 ghost use Rattle.pldm_base.specs.Register.{ReducesTo, loaded};
 
 // The coefficients of the divisor below the highest, with that of the power 31 in bit 0.

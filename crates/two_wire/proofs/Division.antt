@@ -1,214 +1,237 @@
--- Long division of bits, byte by byte.
-use Rattle.std.proofs.Common.{◌≡◌, ℕ, zero, suc, ◌+◌, ◌-◌, ◌%◌, ◌==◌, ◌<◌, ◌≤◌, Bool, true, false, List, [], ◌∷◌, ◌++◌, length, map, drop, get_or, refl, sym, ◌∙◌, ap, arith, length-append, add-one}
-use Rattle.std.specs.List.{flat_map, range_with_len}
-use Rattle.std.specs.Int.{bit_at}
-use Rattle.std.specs.Prelude.{bit_xor, if◌then◌else◌}
-use Rattle.std.proofs.Math.ListN.{get_or-map, drop_of_length-le}
-use Rattle.std.proofs.Math.Seq.{drop-cons}
-use Rattle.std.proofs.lemmas.List.FromFn.{get_or-map-range_with_len, get_or-range_with_len}
-use Rattle.std.proofs.lemmas.Nat.Bits.{bit_at_xor, bit_at-lt}
-use Rattle.std.proofs.lemmas.Nat.{xor_lt}
-use Rattle.two_wire.specs.Pec.{xor, plus, divisor, divide, remainder, bits_of, number_of, eight_zeros, pec_of}
-use Rattle.two_wire.specs.declared.packet_error.TheConstants.{REMAINDERS}
+-- Sums of coefficients, and division, by a divisor of any degree.
+use Rattle.std.proofs.Common.{◌≡◌, ℕ, zero, suc, ◌+◌, ◌-◌, ◌≤◌, Bool, true, false, List, [], ◌∷◌, ◌++◌, length, drop, ◌&&◌, refl, sym, ◌∙◌, ap, arith, length-append}
+use Rattle.std.proofs.lemmas.List.{length-replicate, length-map}
+use Rattle.two_wire.specs.Polynomial.{differ, zeros, plus, scaled, product, IsRemainder, divide}
 
--- sums of bits
-xor-false : (a : Bool) → xor a false ≡ a
-xor-false true = refl
-xor-false false = refl
+differ-assoc : (a b c : Bool) → differ (differ a b) c ≡ differ a (differ b c)
+differ-assoc false b c = refl
+differ-assoc true false c = refl
+differ-assoc true true false = refl
+differ-assoc true true true = refl
 
-xor-comm : (a b : Bool) → xor a b ≡ xor b a
-xor-comm true true = refl
-xor-comm true false = refl
-xor-comm false true = refl
-xor-comm false false = refl
+differ-comm : (a b : Bool) → differ a b ≡ differ b a
+differ-comm false false = refl
+differ-comm false true = refl
+differ-comm true false = refl
+differ-comm true true = refl
 
-xor-swap : (a b c : Bool) → xor (xor a b) c ≡ xor (xor a c) b
-xor-swap true true true = refl
-xor-swap true true false = refl
-xor-swap true false true = refl
-xor-swap true false false = refl
-xor-swap false true true = refl
-xor-swap false true false = refl
-xor-swap false false true = refl
-xor-swap false false false = refl
+differ-self : (a : Bool) → differ a a ≡ false
+differ-self false = refl
+differ-self true = refl
 
-xor-assoc : (a b c : Bool) → xor (xor a b) c ≡ xor a (xor b c)
-xor-assoc true true true = refl
-xor-assoc true true false = refl
-xor-assoc true false true = refl
-xor-assoc true false false = refl
-xor-assoc false true true = refl
-xor-assoc false true false = refl
-xor-assoc false false true = refl
-xor-assoc false false false = refl
+pub plus-assoc : (xs ys zs : List Bool) → plus (plus xs ys) zs ≡ plus xs (plus ys zs)
+unfolding plus
+plus-assoc [] ys zs = refl
+plus-assoc (x ∷ xs) [] zs = refl
+plus-assoc (x ∷ xs) (y ∷ ys) [] = refl
+plus-assoc (x ∷ xs) (y ∷ ys) (z ∷ zs) = rw (differ-assoc x y z, plus-assoc xs ys zs) refl
 
-xor-both : (a b c : Bool) → xor (xor a c) (xor b c) ≡ xor a b
-xor-both true true true = refl
-xor-both true true false = refl
-xor-both true false true = refl
-xor-both true false false = refl
-xor-both false true true = refl
-xor-both false true false = refl
-xor-both false false true = refl
-xor-both false false false = refl
+pub plus-comm : (xs ys : List Bool) → plus xs ys ≡ plus ys xs
+unfolding plus
+plus-comm [] [] = refl
+plus-comm [] (y ∷ ys) = refl
+plus-comm (x ∷ xs) [] = refl
+plus-comm (x ∷ xs) (y ∷ ys) = rw (differ-comm x y, plus-comm xs ys) refl
 
--- the sum of two lists is as long as the longer one
-length-plus : (xs ys : List Bool) → length ys ≤ length xs → length (plus xs ys) ≡ length xs
-length-plus [] [] h = refl
-length-plus (x ∷ xs) [] h = refl
-length-plus [] (y ∷ ys) h = absurd (omega arith)
-length-plus (x ∷ xs) (y ∷ ys) h = let k : length ys ≤ length xs = omega arith in omega (arith, length-plus xs ys k)
+plus-self : (xs : List Bool) → plus xs xs ≡ zeros (length xs)
+unfolding plus
+plus-self [] = refl
+plus-self (x ∷ xs) = rw (differ-self x, plus-self xs) refl
 
--- what is taken off a sum may be taken off its first part
-plus-first : (xs ys ts : List Bool) → length ts ≤ length xs → length ts ≤ length ys → plus (plus xs ys) ts ≡ plus (plus xs ts) ys
-plus-first xs ys [] h k = refl
-plus-first [] ys (t ∷ ts) h k = absurd (omega arith)
-plus-first (x ∷ xs) [] (t ∷ ts) h k = refl
-plus-first (x ∷ xs) (y ∷ ys) (t ∷ ts) h k =
-    let i : length ts ≤ length xs = omega arith in let j : length ts ≤ length ys = omega arith in
-    let e : plus (plus xs ys) ts ≡ plus (plus xs ts) ys = plus-first xs ys ts i j in
-    let d : xor (xor x y) t ≡ xor (xor x t) y = xor-swap x y t in cc
+-- zeros change nothing
+pub plus-zeros : (n : ℕ) (xs : List Bool) → n ≤ length xs → plus (zeros n) xs ≡ xs
+unfolding plus
+plus-zeros zero xs within = refl
+plus-zeros (suc n) [] within = absurd (omega arith)
+plus-zeros (suc n) (x ∷ xs) within = rw (plus-zeros n xs (omega arith)) refl
 
--- or off its second part
-plus-second : (xs ys ts : List Bool) → length ts ≤ length ys → length ys ≤ length xs → plus (plus xs ys) ts ≡ plus xs (plus ys ts)
-plus-second xs ys [] h k = refl
-plus-second xs [] (t ∷ ts) h k = absurd (omega arith)
-plus-second [] (y ∷ ys) (t ∷ ts) h k = absurd (omega arith)
-plus-second (x ∷ xs) (y ∷ ys) (t ∷ ts) h k =
-    let i : length ts ≤ length ys = omega arith in let j : length ys ≤ length xs = omega arith in
-    let e : plus (plus xs ys) ts ≡ plus xs (plus ys ts) = plus-second xs ys ts i j in
-    let d : xor (xor x y) t ≡ xor x (xor y t) = xor-assoc x y t in cc
+-- nor do zeros at the end
+pub plus-longer : (xs ys : List Bool) (n : ℕ) → length xs + n ≤ length ys → plus (xs ++ zeros n) ys ≡ plus xs ys
+unfolding plus
+plus-longer [] ys n within = plus-zeros n ys (omega arith)
+plus-longer (x ∷ xs) [] n within = absurd (omega arith)
+plus-longer (x ∷ xs) (y ∷ ys) n within = rw (plus-longer xs ys n (omega arith)) refl
 
--- and off neither, where it would be taken off both
-plus-both : (xs ys ts : List Bool) → length ts ≤ length ys → length ys ≤ length xs → plus (plus xs ts) (plus ys ts) ≡ plus xs ys
-plus-both xs ys [] h k = refl
-plus-both xs [] (t ∷ ts) h k = absurd (omega arith)
-plus-both [] (y ∷ ys) (t ∷ ts) h k = absurd (omega arith)
-plus-both (x ∷ xs) (y ∷ ys) (t ∷ ts) h k =
-    let i : length ts ≤ length ys = omega arith in let j : length ys ≤ length xs = omega arith in
-    let e : plus (plus xs ts) (plus ys ts) ≡ plus xs ys = plus-both xs ys ts i j in
-    let d : xor (xor x t) (xor y t) ≡ xor x y = xor-both x y t in cc
+-- lists of the same length in front
+pub plus-append : (xs ys zs ws : List Bool) → length xs ≡ length ys → plus (xs ++ zs) (ys ++ ws) ≡ plus xs ys ++ plus zs ws
+unfolding plus
+plus-append [] [] zs ws same = refl
+plus-append [] (y ∷ ys) zs ws same = absurd (omega arith)
+plus-append (x ∷ xs) [] zs ws same = absurd (omega arith)
+plus-append (x ∷ xs) (y ∷ ys) zs ws same = ap (λ rest. differ x y ∷ rest) (plus-append xs ys zs ws (omega arith))
+
+-- what is added twice is not added
+pub plus-twice : (xs ys : List Bool) → length xs ≤ length ys → plus xs (plus xs ys) ≡ ys
+plus-twice xs ys within = sym (plus-assoc xs xs ys) ∙ ap (λ zs. plus zs ys) (plus-self xs) ∙ plus-zeros (length xs) ys within
+
+pub length-plus : (xs ys : List Bool) → length xs ≤ length ys → length (plus xs ys) ≡ length ys
+unfolding plus
+length-plus [] ys within = refl
+length-plus (x ∷ xs) [] within = absurd (omega arith)
+length-plus (x ∷ xs) (y ∷ ys) within = omega (arith, length-plus xs ys (omega arith))
+
+length-scaled : (b : Bool) (p : List Bool) → length (scaled b p) ≡ length p
+unfolding scaled
+length-scaled b p = length-map p _
+
+pub scaled-one : (p : List Bool) → scaled true p ≡ p
+unfolding scaled
+scaled-one [] = refl
+scaled-one (x ∷ p) = ap (λ ys. x ∷ ys) (scaled-one p)
+
+pub scaled-none : (p : List Bool) → scaled false p ≡ zeros (length p)
+unfolding scaled
+scaled-none [] = refl
+scaled-none (x ∷ p) = ap (λ ys. false ∷ ys) (scaled-none p)
+
+length-product : (q low : List Bool) → length (product q (true ∷ low)) ≡ length q + length low
+unfolding product
+length-product [] low = omega (arith, length-replicate (length (true ∷ low) - 1) false)
+length-product (b ∷ q) low =
+    let others = length-product q low in
+    omega (arith, length-scaled b (true ∷ low), length-plus (scaled b (true ∷ low)) (false ∷ product q (true ∷ low)) (omega (arith, length-scaled b (true ∷ low), others)))
+
+-- the quotient without coefficients
+undivided : (low r : List Bool) → length r ≡ length low → plus (product [] (true ∷ low)) (zeros 0 ++ r) ≡ r
+unfolding product
+undivided low r lower = plus-zeros (length (true ∷ low) - 1) r (omega arith)
+
+-- what is of a lower degree than the divisor is its own remainder
+pub stop : (low r : List Bool) → length r ≡ length low → IsRemainder (true ∷ low) r r
+stop low r lower = record {
+  quotient = [];
+  lower = omega arith;
+  divided = sym (undivided low r lower);
+}
+
+-- the front of the product, and what follows it
+product-front : (b : Bool) (q low : List Bool) → product (b ∷ q) (true ∷ low) ≡ b ∷ plus (scaled b low) (product q (true ∷ low))
+unfolding product plus scaled
+product-front false q low = refl
+product-front true q low = refl
+
+-- a quotient's front coefficient is the dividend's, and the others divide the rest, which the divisor was added to where that is 1
+divided-front : (b : Bool) (q low r : List Bool) → plus (product (b ∷ q) (true ∷ low)) (zeros (length (b ∷ q)) ++ r)
+    ≡ b ∷ plus (scaled b low) (plus (product q (true ∷ low)) (zeros (length q) ++ r))
+unfolding plus
+divided-front false q low r = rw (product-front false q low, plus-assoc) refl
+divided-front true q low r = rw (product-front true q low, plus-assoc) refl
+
+-- a step of the division: the front coefficient is taken away, and the divisor where it is 1
+pub step : (b : Bool) (low d r : List Bool) → length low ≤ length d → IsRemainder (true ∷ low) (plus (scaled b low) d) r → IsRemainder (true ∷ low) (b ∷ d) r
+step b low d r within h = record {
+  quotient = b ∷ h.quotient;
+  lower = h.lower;
+  divided =
+      rw (divided-front b h.quotient low r, ← h.divided, plus-twice (scaled b low) d (omega (arith, length-scaled b low))) refl;
+}
+
+-- what is left of a sum once the same is taken away from both sides
+plus-cancel : (xs ys zs : List Bool) → length xs ≤ length ys → length xs ≤ length zs → plus xs ys ≡ plus xs zs → ys ≡ zs
+plus-cancel xs ys zs within inside e = sym (plus-twice xs ys within) ∙ ap (plus xs) e ∙ plus-twice xs zs inside
+
+-- how long the product with a remainder is
+length-divided : (q low r : List Bool) → length r ≡ length low → length (plus (product q (true ∷ low)) (zeros (length q) ++ r)) ≡ length q + length low
+length-divided q low r lower =
+    let rest : length (zeros (length q) ++ r) ≡ length q + length low = omega (arith, length-append (zeros (length q)) r, length-replicate (length q) false) in
+    omega (arith, rest, length-product q low, length-plus (product q (true ∷ low)) (zeros (length q) ++ r) (omega (arith, rest, length-product q low)))
+
+one_division : (q s low a b : List Bool) → length a ≡ length low → length b ≡ length low
+    → plus (product q (true ∷ low)) (zeros (length q) ++ a) ≡ plus (product s (true ∷ low)) (zeros (length s) ++ b) → a ≡ b
+one_division [] [] low a b lower also e = sym (undivided low a lower) ∙ e ∙ undivided low b also
+one_division [] (c ∷ s) low a b lower also e =
+    absurd (omega (arith, length-divided [] low a lower, length-divided (c ∷ s) low b also, ap length e))
+one_division (c ∷ q) [] low a b lower also e =
+    absurd (omega (arith, length-divided [] low b also, length-divided (c ∷ q) low a lower, ap length e))
+one_division (c ∷ q) (d ∷ s) low a b lower also e =
+    let xs : List Bool = plus (product q (true ∷ low)) (zeros (length q) ++ a) in
+    let ys : List Bool = plus (product s (true ∷ low)) (zeros (length s) ++ b) in
+    let whole : c ∷ plus (scaled c low) xs ≡ d ∷ plus (scaled d low) ys = sym (divided-front c q low a) ∙ e ∙ divided-front d s low b in
+    let same : c ≡ d = cc in
+    let rest : plus (scaled c low) xs ≡ plus (scaled d low) ys = cc in
+    let inside : length (scaled c low) ≤ length xs = omega (arith, length-scaled c low, length-divided q low a lower) in
+    let within : length (scaled c low) ≤ length ys = omega (arith, length-scaled c low, length-divided s low b also) in
+    one_division q s low a b lower also
+    (plus-cancel (scaled c low) xs ys inside within (rest ∙ ap (λ x. plus (scaled x low) ys) (sym same)))
+
+-- a division has one remainder
+pub one-remainder : (low d r s : List Bool) → IsRemainder (true ∷ low) d r → IsRemainder (true ∷ low) d s → r ≡ s
+one-remainder low d r s h k =
+    one_division h.quotient k.quotient low r s (omega (arith, h.lower)) (omega (arith, k.lower)) (sym h.divided ∙ k.divided)
+
+-- a step of long division
+divide-front : (steps : ℕ) (b : Bool) (low d : List Bool) → divide (suc steps) (true ∷ low) (b ∷ d) ≡ divide steps (true ∷ low) (plus (scaled b low) d)
+unfolding divide plus scaled
+divide-front steps b low d = refl
+
+length-left : (b : Bool) (low d : List Bool) → length low ≤ length d → length (plus (scaled b low) d) ≡ length d
+length-left b low d within = length-plus (scaled b low) d (omega (arith, length-scaled b low))
+
+-- long division finds the remainder
+pub divides : (steps : ℕ) (low d : List Bool) → length d ≡ steps + length low → IsRemainder (true ∷ low) d (divide steps (true ∷ low) d)
+unfolding divide plus scaled
+divides zero low d long = stop low d (omega arith)
+divides (suc steps) low [] long = absurd (omega arith)
+divides (suc steps) low (b ∷ d) long =
+    let within : length low ≤ length d = omega arith in
+    let left : IsRemainder (true ∷ low) (plus (scaled b low) d) (divide steps (true ∷ low) (plus (scaled b low) d)) =
+    divides steps low (plus (scaled b low) d) (omega (arith, length-left b low d within)) in
+    step b low d (divide steps (true ∷ low) (plus (scaled b low) d)) within left
+
+distributes : (a b x : Bool) → (differ a b && x) ≡ differ (a && x) (b && x)
+distributes false b x = refl
+distributes true false false = refl
+distributes true false true = refl
+distributes true true false = refl
+distributes true true true = refl
+
+-- a polynomial times a sum
+scaled-differ : (a b : Bool) (p : List Bool) → scaled (differ a b) p ≡ plus (scaled a p) (scaled b p)
+unfolding scaled plus
+scaled-differ a b [] = refl
+scaled-differ a b (x ∷ p) = rw (distributes a b x, scaled-differ a b p) refl
+
+-- a sum of sums, its middle parts exchanged
+plus-exchanged : (ws vs xs ys : List Bool) → plus (plus ws vs) (plus xs ys) ≡ plus (plus ws xs) (plus vs ys)
+plus-exchanged ws vs xs ys =
+    plus-assoc ws vs (plus xs ys)
+    ∙ ap (plus ws) (sym (plus-assoc vs xs ys) ∙ ap (λ zs. plus zs ys) (plus-comm vs xs) ∙ plus-assoc xs vs ys)
+    ∙ sym (plus-assoc ws xs (plus vs ys))
 
 -- the division of a sum is the sum of the divisions
-divide-plus : (n : ℕ) (xs ys : List Bool) → n + 8 ≤ length ys → length ys ≤ length xs → divide n (plus xs ys) ≡ plus (divide n xs) (divide n ys)
-divide-plus zero xs ys h k = refl
-divide-plus (suc n) [] ys h k = absurd (omega arith)
-divide-plus (suc n) xs [] h k = absurd (omega arith)
-divide-plus (suc n) (false ∷ xs) (false ∷ ys) h k = divide-plus n xs ys (omega arith) (omega arith)
-divide-plus (suc n) (true ∷ xs) (false ∷ ys) h k =
-    let i : 8 ≤ length xs = omega arith in let j : 8 ≤ length ys = omega arith in
-    let e : plus (plus xs ys) divisor ≡ plus (plus xs divisor) ys = plus-first xs ys divisor i j in
-    let l : length (plus xs divisor) ≡ length xs = length-plus xs divisor i in
-    rw e (divide-plus n (plus xs divisor) ys (omega arith) (omega arith))
-divide-plus (suc n) (false ∷ xs) (true ∷ ys) h k =
-    let j : 8 ≤ length ys = omega arith in let i : length ys ≤ length xs = omega arith in
-    let e : plus (plus xs ys) divisor ≡ plus xs (plus ys divisor) = plus-second xs ys divisor j i in
-    let l : length (plus ys divisor) ≡ length ys = length-plus ys divisor j in
-    rw e (divide-plus n xs (plus ys divisor) (omega arith) (omega arith))
-divide-plus (suc n) (true ∷ xs) (true ∷ ys) h k =
-    let j : 8 ≤ length ys = omega arith in let i : length ys ≤ length xs = omega arith in
-    let e : plus (plus xs divisor) (plus ys divisor) ≡ plus xs ys = plus-both xs ys divisor j i in
-    let l : length (plus xs divisor) ≡ length xs = length-plus xs divisor (omega arith) in
-    let m : length (plus ys divisor) ≡ length ys = length-plus ys divisor j in
-    rw (← e) (divide-plus n (plus xs divisor) (plus ys divisor) (omega arith) (omega arith))
+pub divide-plus : (steps : ℕ) (low xs ys : List Bool) → steps + length low ≤ length xs → steps + length low ≤ length ys
+    → divide steps (true ∷ low) (plus xs ys) ≡ plus (divide steps (true ∷ low) xs) (divide steps (true ∷ low) ys)
+unfolding divide plus scaled
+divide-plus zero low xs ys long far = refl
+divide-plus (suc steps) low [] ys long far = absurd (omega arith)
+divide-plus (suc steps) low (x ∷ xs) [] long far = absurd (omega arith)
+divide-plus (suc steps) low (x ∷ xs) (y ∷ ys) long far =
+    let parts : plus (scaled (differ x y) low) (plus xs ys) ≡ plus (plus (scaled x low) xs) (plus (scaled y low) ys) =
+    ap (λ zs. plus zs (plus xs ys)) (scaled-differ x y low) ∙ plus-exchanged (scaled x low) (scaled y low) xs ys in
+    divide-front steps (differ x y) low (plus xs ys)
+    ∙ ap (divide steps (true ∷ low)) parts
+    ∙ divide-plus steps low (plus (scaled x low) xs) (plus (scaled y low) ys)
+    (omega (arith, length-left x low xs (omega arith))) (omega (arith, length-left y low ys (omega arith)))
 
--- zeros in front go, and leave the rest
-zeros-plus : (ys : List Bool) → 8 ≤ length ys → plus ys eight_zeros ≡ ys
-zeros-plus (a ∷ b ∷ c ∷ d ∷ e ∷ f ∷ g ∷ h ∷ rest) k =
-    simp xor-false
-zeros-plus _ k = absurd (omega arith)
-
--- a byte's remainder
-table_is : map bits_of REMAINDERS ≡ map (λ x. divide 8 (bits_of x ++ eight_zeros)) (range_with_len 0 256)
-table_is = refl
-
-read : (x : ℕ) → x < 256 → bits_of (get_or REMAINDERS x 0) ≡ divide 8 (bits_of x ++ eight_zeros)
-read x h =
-    sym (get_or-map bits_of REMAINDERS x 0) ∙ ap (λ t. get_or t x (bits_of 0)) table_is ∙ get_or-map-range_with_len (λ x. divide 8 (bits_of x ++ eight_zeros)) 0 256 x x (bits_of 0) h (omega arith)
-
--- a byte before eight bits or more goes, and its remainder is taken off them
-divide-byte : (x : ℕ) (rest : List Bool) → x < 256 → 8 ≤ length rest → divide 8 (bits_of x ++ rest) ≡ plus rest (bits_of (get_or REMAINDERS x 0))
-divide-byte x rest h k =
-    let z : plus rest eight_zeros ≡ rest = zeros-plus rest k in
-    let e : plus (eight_zeros ++ rest) (bits_of x ++ eight_zeros) ≡ bits_of x ++ rest = rw z refl in
-    let d : divide 8 (plus (eight_zeros ++ rest) (bits_of x ++ eight_zeros)) ≡ plus (divide 8 (eight_zeros ++ rest)) (divide 8 (bits_of x ++ eight_zeros)) =
-    divide-plus 8 (eight_zeros ++ rest) (bits_of x ++ eight_zeros) (omega arith) (omega arith) in
-    ap (divide 8) (sym e) ∙ d ∙ ap (plus rest) (sym (read x h))
-
--- a bit of a sum
-parity : (a b : ℕ) → a < 2 → b < 2 → ((a + b) % 2 == 1) ≡ xor (a == 1) (b == 1)
-parity zero zero h k = refl
-parity zero (suc zero) h k = refl
-parity (suc zero) zero h k = refl
-parity (suc zero) (suc zero) h k = refl
-parity (suc (suc a)) b h k = absurd (omega arith)
-parity a (suc (suc b)) h k = absurd (omega arith)
-
-xor-bit : (a b i : ℕ) → (bit_at (bit_xor a b) i == 1) ≡ xor (bit_at a i == 1) (bit_at b i == 1)
-xor-bit a b i = ap (λ n. n == 1) (bit_at_xor a b i) ∙ parity (bit_at a i) (bit_at b i) (bit_at-lt a i) (bit_at-lt b i)
-
--- the bits of a sum
-xor-bits : (a b : ℕ) → bits_of (bit_xor a b) ≡ plus (bits_of b) (bits_of a)
-xor-bits a b =
-    let at : (i : ℕ) → (bit_at (bit_xor a b) i == 1) ≡ xor (bit_at b i == 1) (bit_at a i == 1) = λ i. xor-bit a b i ∙ xor-comm (bit_at a i == 1) (bit_at b i == 1) in
-    cc (at 0, at 1, at 2, at 3, at 4, at 5, at 6, at 7)
+-- zeros in front go
+pub divide-zeros : (steps : ℕ) (low d : List Bool) → length low ≤ length d → divide steps (true ∷ low) (zeros steps ++ d) ≡ d
+unfolding divide plus scaled
+divide-zeros zero low d within = refl
+divide-zeros (suc steps) low d within =
+    let long : length low ≤ length (zeros steps ++ d) = omega (arith, length-append (zeros steps) d) in
+    let same : plus (scaled false low) (zeros steps ++ d) ≡ zeros steps ++ d =
+    ap (λ xs. plus xs (zeros steps ++ d)) (scaled-none low) ∙ plus-zeros (length low) (zeros steps ++ d) long in
+    divide-front steps false low (zeros steps ++ d) ∙ ap (divide steps (true ∷ low)) same ∙ divide-zeros steps low d within
 
 -- so many steps, and then so many more
-divide-none : (n : ℕ) → divide n [] ≡ []
-divide-none zero = refl
-divide-none (suc n) = refl
+divide-none : (steps : ℕ) (p : List Bool) → divide steps p [] ≡ []
+unfolding divide
+divide-none zero p = refl
+divide-none (suc steps) p = refl
 
-divide-on : (m n k : ℕ) (bits : List Bool) → k ≡ m + n → divide k bits ≡ divide n (divide m bits)
-divide-on zero n k bits e = let same : k ≡ n = omega arith in ap (λ i. divide i bits) same
-divide-on (suc m) n k [] e = divide-none k ∙ sym (divide-none n)
-divide-on (suc m) n zero (first ∷ rest) e = absurd (omega arith)
-divide-on (suc m) n (suc k) (first ∷ rest) e = divide-on m n k (if first then plus rest divisor else rest) (omega arith)
-
--- what is left of the bytes, where a code was taken off their front
-unfoldable pub left_of : ℕ → List ℕ → List Bool
-left_of code bytes = divide (length (flat_map bits_of bytes)) (plus (flat_map bits_of bytes ++ eight_zeros) (bits_of code))
-
--- one byte more
-left_of-step : (code byte : ℕ) (rest : List ℕ) → bit_xor code byte < 256 → left_of (get_or REMAINDERS (bit_xor code byte) 0) rest ≡ left_of code (byte ∷ rest)
-unfolding left_of
-left_of-step code byte rest h =
-    let x : ℕ = bit_xor code byte in
-    let bits : List Bool = flat_map bits_of rest in
-    let tail : List Bool = bits ++ eight_zeros in
-    let long : 8 ≤ length tail = omega (arith, length-append bits eight_zeros) in
-    let front : plus (bits_of byte ++ tail) (bits_of code) ≡ bits_of x ++ tail = ap (λ bits. bits ++ tail) (sym (xor-bits code byte)) in
-    let times : length (bits_of byte ++ bits) ≡ 8 + length bits = length-append (bits_of byte) bits in
-    sym (
-    ap (divide (length (bits_of byte ++ bits))) front
-    ∙ divide-on 8 (length bits) (length (bits_of byte ++ bits)) (bits_of x ++ tail) times
-    ∙ ap (divide (length bits)) (divide-byte x tail h long))
-
--- one byte more of a list
-pub left_of-next : (code i x : ℕ) (bytes : List ℕ) → i < length bytes → code < 256 → get_or bytes i 0 < 256 → x ≡ bit_xor code (get_or bytes i 0)
-    → left_of code (drop i bytes) ≡ left_of 0 bytes → left_of (get_or REMAINDERS x 0) (drop (i + 1) bytes) ≡ left_of 0 bytes
-left_of-next code i x bytes h low small is before =
-    let split : drop i bytes ≡ get_or bytes i 0 ∷ drop (i + 1) bytes = rw add-one (drop-cons bytes i 0 h) in
-    let step : left_of (get_or REMAINDERS (bit_xor code (get_or bytes i 0)) 0) (drop (i + 1) bytes) ≡ left_of code (get_or bytes i 0 ∷ drop (i + 1) bytes) =
-    left_of-step code (get_or bytes i 0) (drop (i + 1) bytes) (xor_lt 8 code (get_or bytes i 0) low small) in
-    rw is (step ∙ ap (left_of code) (sym split) ∙ before)
-
--- the byte of a byte's bits
-number_is : map (λ x. number_of (bits_of x)) (range_with_len 0 256) ≡ range_with_len 0 256
-number_is = refl
-
-number-bits : (x : ℕ) → x < 256 → number_of (bits_of x) ≡ x
-number-bits x h =
-    let at : get_or (range_with_len 0 256) x 0 ≡ x = omega (arith, get_or-range_with_len 0 256 x 0 h) in
-    sym (get_or-map-range_with_len (λ x. number_of (bits_of x)) 0 256 x x 0 h (omega arith)) ∙ ap (λ t. get_or t x 0) number_is ∙ at
-
--- when no byte is left, the code is the whole list's
-pub left_of-end : (code i : ℕ) (bytes : List ℕ) → code < 256 → length bytes ≤ i → left_of code (drop i bytes) ≡ left_of 0 bytes → code ≡ pec_of bytes
-unfolding pec_of left_of
-left_of-end code i bytes small past same =
-    let bits : List Bool = flat_map bits_of bytes in
-    let times : length (bits ++ eight_zeros) - 8 ≡ length bits = omega (arith, length-append bits eight_zeros) in
-    let long : 8 ≤ length (bits ++ eight_zeros) = omega (arith, length-append bits eight_zeros) in
-    let start : left_of 0 bytes ≡ remainder (bits ++ eight_zeros) = rw (times, zeros-plus (bits ++ eight_zeros) long) refl in
-    let none : drop i bytes ≡ [] = drop_of_length-le bytes past in
-    let end : left_of code (drop i bytes) ≡ bits_of code = rw none refl in
-    sym (number-bits code small) ∙ ap number_of (sym end ∙ same ∙ start)
+pub divide-on : (m n k : ℕ) (p d : List Bool) → k ≡ m + n → divide k p d ≡ divide n p (divide m p d)
+unfolding divide
+divide-on zero n k p d e = let same : k ≡ n = omega arith in ap (λ i. divide i p d) same
+divide-on (suc m) n k p [] e = divide-none k p ∙ sym (divide-none n p)
+divide-on (suc m) n zero p (b ∷ d) e = absurd (omega arith)
+divide-on (suc m) n (suc k) p (b ∷ d) e = divide-on m n k p (drop 1 (plus (scaled b p) (b ∷ d))) (omega arith)

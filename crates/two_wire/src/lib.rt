@@ -7,6 +7,7 @@ mod bus;
 mod bytes;
 mod checks;
 pub mod code;
+mod laws;
 mod number;
 mod packet_error;
 
@@ -15,6 +16,7 @@ pub use bus::Bus;
 pub use bytes::{Bytes, Frame};
 pub use checks::sum8;
 pub use code::Code;
+pub use laws::{all_bytes_have_a_pec, one_pec};
 pub use number::{Below, Lun, NetFn};
 pub use packet_error::pec;
 

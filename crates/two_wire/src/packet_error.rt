@@ -1,6 +1,6 @@
 //! The packet error code of the System Management Bus.
 ghost use Rattle.std.specs.Prelude.{◌≡◌};
-ghost use Rattle.two_wire.specs.Pec.{pec_of};
+ghost use Rattle.two_wire.specs.Pec.{IsPec, pec_of};
 
 // What is left of each byte, followed by eight zero bits.
 #[rattlefmt::skip]
@@ -25,7 +25,8 @@ static REMAINDERS: [u8; 256] = [
 
 /// The packet error code of the bytes: CRC-8 with the polynomial 07h from 0 (SMBus, "Packet Error Checking").
 pub fn pec(bytes: &[u8]) -> u8
-    ensures { result ≡ pec_of bytes.now }
+    ensures remainder { IsPec bytes.now result }
+    ensures value { result ≡ pec_of bytes.now }
 {
     let mut code = 0u8;
     for byte in bytes {

@@ -1,6 +1,7 @@
 use Rattle.std.proofs.Common.{◌≡◌, ◌+◌, ◌++◌, [], get_or, drop, ap, arith}
 use Rattle.std.proofs.lemmas.List.{drop_all}
-use Rattle.pldm_base.specs.Crc.{bits, lengthened}
+use Rattle.two_wire.specs.Bits.{bits}
+use Rattle.pldm_base.specs.Crc.{lengthened}
 use Rattle.pldm_base.specs.Register.{loaded}
 use Rattle.pldm_base.proofs.Register.{same_reduces, then_reduces, register_starts, register_is, lengthened-drop, length-lengthened}
 use Rattle.pldm_base.proofs.crc.crc32.Goals as goal

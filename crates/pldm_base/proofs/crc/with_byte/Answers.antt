@@ -1,7 +1,7 @@
 use Rattle.std.proofs.Common.{◌≡◌, ◌+◌, ◌-◌, List, Bool, false, ◌∷◌, ◌++◌, refl, sym, ◌∙◌, ap, arith, length-append}
 use Rattle.std.specs.Int.Bits.{bit_xor}
-use Rattle.pldm_base.specs.Polynomial.{zeros}
-use Rattle.pldm_base.specs.Crc.{bits}
+use Rattle.two_wire.specs.Polynomial.{zeros}
+use Rattle.two_wire.specs.Bits.{bits}
 use Rattle.pldm_base.specs.Register.{loaded}
 use Rattle.pldm_base.proofs.Register.{same_reduces, then_reduces, byte_added, zero_less}
 use Rattle.pldm_base.proofs.crc.with_byte.Goals as goal

@@ -1,5 +1,5 @@
 use Rattle.std.proofs.Common.{◌≤◌, ◌-◌, List, Bool, ◌++◌, length}
-use Rattle.pldm_base.specs.Polynomial.{zeros}
+use Rattle.two_wire.specs.Polynomial.{zeros}
 use Rattle.pldm_base.specs.Register.{ReducesTo, loaded}
 use Rattle.pldm_base.proofs.crc.with_byte.Given as goal
 

@@ -1,5 +1,5 @@
 use Rattle.std.proofs.Common.{◌≡◌, drop}
-use Rattle.two_wire.proofs.Division.{left_of}
+use Rattle.two_wire.proofs.PacketError.{left_of}
 use Rattle.two_wire.proofs.packet_error.pec.Given as goal
 
 abbrev pub invariant-loop-byte : goal.invariant-loop-byte

@@ -1,5 +1,5 @@
 -- Polynomials over the field of two elements, as the lists of their coefficients, that of the highest power first.
-use Rattle.std.specs.Prelude.{◌≡◌, ℕ, ◌-◌, Bool, true, false, not, ◌&&◌, List, [], ◌∷◌, ◌++◌, length, map, replicate}
+use Rattle.std.specs.Prelude.{◌≡◌, ℕ, ◌-◌, zero, suc, Bool, true, false, not, ◌&&◌, List, [], ◌∷◌, ◌++◌, length, map, drop, replicate}
 
 -- the sum of two coefficients: whether they differ
 abbrev pub differ : Bool → Bool → Bool
@@ -30,3 +30,13 @@ pub record IsRemainder (divisor dividend remainder : List Bool) : Type 0 where
   pub quotient : List Bool
   pub lower : length remainder ≡ length divisor - 1
   pub divided : dividend ≡ plus (product quotient divisor) (zeros (length quotient) ++ remainder)
+
+-- so many steps of a long division: the divisor times the front coefficient is taken off, and the front, now 0, goes
+unfoldable pub divide : ℕ → List Bool → List Bool → List Bool
+divide zero divisor dividend = dividend
+divide (suc steps) divisor [] = []
+divide (suc steps) divisor (front ∷ others) = divide steps divisor (drop 1 (plus (scaled front divisor) (front ∷ others)))
+
+-- the remainder, by long division
+abbrev pub remainder_of : List Bool → List Bool → List Bool
+remainder_of divisor dividend = divide (length dividend - (length divisor - 1)) divisor dividend
