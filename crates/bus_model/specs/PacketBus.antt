@@ -2,7 +2,7 @@
 use Rattle.std.specs.Prelude.{ℕ, Bool, true, false, ◌==◌, ◌&&◌, length, List, [], ◌∷◌, Option, Some, None, if◌then◌else◌, slice_get}
 use Rattle.bus_model.specs.Request.{Entry}
 use Rattle.bus_model.specs.Numbering.{Bus, smbus, tag_of}
-use Rattle.bus_model.specs.BusState.{BusState, Frame, Content, Ask, Reply, Event, OtherAsks, opening, is_open, comes, taken_content, takes_if, happens}
+use Rattle.bus_model.specs.BusState.{BusState, Frame, Content, Ask, Reply, Event, OtherAsks, opening, is_open, comes, carried_content, taken_content, takes_if, happens}
 use Rattle.bus_model.specs.Packet.{Packet}
 use Rattle.bus_model.specs.Assembly.{Name, is_name, Sent, Step, Waits, Whole, Drops, takes, message_of}
 
@@ -107,6 +107,44 @@ packet_at_port b answer place (Some f) x = packet_comes b answer place f.request
 abbrev pub packet_at_manager : PacketBus → ℕ → Option Frame → Ends → Ends
 packet_at_manager b place None x = x
 packet_at_manager b place (Some f) x = packet_returns b place f.request f.idles f.content x
+
+-- the bytes of the request that the port carries out, if this packet comes
+abbrev pub whole_carried : Bus → ℕ → Step → BusState → Option (List ℕ)
+whole_carried b n Waits s = None
+whole_carried b n Drops s = None
+whole_carried b n (Whole ss) s = carried_content b n (Ask (message_of ss)) s
+
+abbrev pub port_carries : PacketBus → ℕ → ℕ → Option Packet → Ends → Option (List ℕ)
+port_carries b n idles None x = None
+port_carries b n idles (Some p) x = whole_carried (rules_of b) n (takes (x.port (request_name b n)) (record { request = n; idles = idles; packet = p })).0 x.bus
+
+abbrev pub content_carries : PacketBus → ℕ → ℕ → ℕ → Content → Ends → Option (List ℕ)
+content_carries b place n idles (Ask bytes) x = port_carries b n idles (slice_get (b.split bytes) place) x
+content_carries b place n idles (Reply number reply) x = None
+
+abbrev pub packet_carried_now : PacketBus → ℕ → Option Frame → Ends → Option (List ℕ)
+packet_carried_now b place None x = None
+packet_carried_now b place (Some f) x = content_carries b place f.request f.idles f.content x
+
+-- the reply that the manager takes, if this packet comes
+abbrev pub whole_taken : Bus → ℕ → Step → BusState → Option (List ℕ)
+whole_taken b number Waits s = None
+whole_taken b number Drops s = None
+whole_taken b number (Whole ss) s = taken_content b (Reply number (Some (message_of ss))) s
+
+abbrev pub manager_gets : PacketBus → ℕ → ℕ → ℕ → Option Packet → Ends → Option (List ℕ)
+manager_gets b number n idles None x = None
+manager_gets b number n idles (Some p) x = whole_taken (rules_of b) number (takes (x.manager (reply_name b n)) (record { request = n; idles = idles; packet = p })).0 x.bus
+
+abbrev pub content_gets : PacketBus → ℕ → ℕ → ℕ → Content → Ends → Option (List ℕ)
+content_gets b place n idles (Ask bytes) x = None
+content_gets b place n idles (Reply number None) x = None
+content_gets b place n idles (Reply number (Some reply)) x =
+    if is_awaited b n x.bus then manager_gets b number n idles (slice_get (b.split reply) place) x else None
+
+abbrev pub packet_taken_now : PacketBus → ℕ → Option Frame → Ends → Option (List ℕ)
+packet_taken_now b place None x = None
+packet_taken_now b place (Some f) x = content_gets b place f.request f.idles f.content x
 
 abbrev pub packet_happens : PacketBus → Ends → PacketEvent → Ends
 packet_happens b x (Plain e) = record x { bus = happens (rules_of b) x.bus e }
