@@ -47,12 +47,15 @@ module _ (b : Bus) where
   plain_takes_none s (IsIdle requester) plain = (refl, omega arith)
 
 module _ (b : PacketBus) (cutting : IsCutting b.split) (before : List Entry) where
+  -- the rules for whole messages
   abbrev pub rules : Bus
   rules = rules_of b
 
+  -- the manager's assemblies at the port
   abbrev pub PortAssemblies : BusState → (Name → List Sent) → Type 0
   PortAssemblies s port = (tag : ℕ) → IsAssembly b.first b.split cutting (begun_at s) tag (port (named b.manager true tag))
 
+  -- the controller's assemblies at the manager
   abbrev pub ManagerAssemblies : BusState → (Name → List Sent) → Type 0
   ManagerAssemblies s manager = (tag : ℕ) → IsAssembly b.first b.split cutting (kept_at s) tag (manager (named b.controller false tag))
 
@@ -60,6 +63,7 @@ module _ (b : PacketBus) (cutting : IsCutting b.split) (before : List Entry) whe
   abbrev pub IsAwaited : BusState → List Sent → Type 0
   IsAwaited s taken = (t : Sent) → In t taken → (t.request ≡ length s.taken) × (length s.taken < length s.begun)
 
+  -- that of every tag
   abbrev pub AllAwaited : BusState → (Name → List Sent) → Type 0
   AllAwaited s manager = (tag : ℕ) → IsAwaited s (manager (named b.controller false tag))
 

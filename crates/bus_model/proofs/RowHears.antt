@@ -41,9 +41,11 @@ reply_of_row asked None = refl
 reply_of_row asked (Some row) =
     ap (λ (t : Bool). let none : Option (List ℕ) = None in cond t (Some (row.place ∷ [])) none) (same_asked asked row.asked) ∙ place_if (is_asked asked row.asked) row.place
 
+-- the place that the rows give for a request
 abbrev pub looked_up : Rows → Asked → Option ℕ
 looked_up port asked = kept_place asked (find (is_at asked.requester asked.number) port.rows.items)
 
+-- whether the rows say busy
 abbrev pub busy_by_rows : Rows → ℕ → Bool
 busy_by_rows port q = not (list_any (λ p. p == q) port.requesters.items) && nat_le 8 (length port.requesters.items)
 
