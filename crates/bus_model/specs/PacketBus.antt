@@ -17,11 +17,11 @@ pub record PacketBus : Type 0 where
 abbrev pub rules_of : PacketBus → Bus
 rules_of b = smbus b.manager b.first
 
--- the name of request n's packets at the port, where the tag's owner is the requester, and of its reply's at the manager
+-- the name of request n's packets at the port, where the tag owner bit is set
 abbrev pub request_name : PacketBus → ℕ → Name
 request_name b n = record { source = b.manager; owner = true; tag = tag_of b.first n }
 
--- the name of request n's reply, whose tag's owner isn't the manager any more
+-- the name of its reply's packets at the manager, where the tag owner bit is clear
 abbrev pub reply_name : PacketBus → ℕ → Name
 reply_name b n = record { source = b.controller; owner = false; tag = tag_of b.first n }
 
