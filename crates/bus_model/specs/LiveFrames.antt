@@ -1,5 +1,5 @@
 -- Which frames of a small schedule are live, by the definition.
-use Rattle.std.specs.Prelude.{◌≡◌, ℕ, ◌-◌, ◌≤◌, true, false, nat_le, ◌&&◌, List, [], ◌∷◌, length, map, Option, Some, None, slice_get}
+use Rattle.std.specs.Prelude.{◌≡◌, ℕ, ◌-◌, ◌≤◌, true, false, nat_le, ◌&&◌, List, [], ◌∷◌, ◌++◌, length, map, Option, Some, None, slice_get}
 use Rattle.bus_model.specs.Request.{Idled, idles_of}
 use Rattle.bus_model.specs.Numbering.{Bus, ipmb, smbus}
 use Rattle.bus_model.specs.BusState.{BusState, Frame, Content, Ask, Reply, opening, begins, sent}
@@ -87,3 +87,11 @@ pub record ShowsBus (numbers : Numbers) (begun : ℕ) (frames : List SentFrame) 
 -- the marks that the program has
 abbrev pub Shows : Aging → BusState → Type 0
 Shows aging s = ShowsBus aging.numbers aging.begun aging.frames.items s
+
+-- whatever bus the marks are of, they are then of the bus after the step
+abbrev pub TakesStep : Aging → Aging → Step → Type 0
+TakesStep old new step = (s : BusState) → Shows old s → Shows new (after_step old.numbers step s)
+
+-- a frame of this request is sent
+abbrev pub SendsFrame : Aging → Aging → ℕ → End → Type 0
+SendsFrame old new request e = new.frames.items ≡ old.frames.items ++ new_frame old.numbers old.begun request e ∷ []
