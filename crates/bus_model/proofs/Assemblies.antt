@@ -54,6 +54,7 @@ first_is place (q ∷ []) bytes h p (inr is) = absurd is
 first_is place (q ∷ r ∷ ps) bytes h p (inl e) = subst (λ (p : Packet). p.first ≡ eqb p.sequence 0) e (h.1 ∙ ap (λ (n : ℕ). eqb n 0) (sym h.0))
 first_is place (q ∷ r ∷ ps) bytes h p (inr is) = first_is (suc place) (r ∷ ps) h.4 h.6 p is
 
+-- the packets of what was sent
 abbrev pub packets : List Sent → List Packet
 packets [] = []
 packets (s ∷ ss) = s.packet ∷ packets ss
@@ -63,6 +64,7 @@ abbrev pub IsPartial : ℕ → List Sent → Type 0
 IsPartial place [] = Unit {0}
 IsPartial place (t ∷ ts) = (t.packet.sequence ≡ place) × (t.packet.first ≡ eqb place 0) × (t.packet.last ≡ false) × (length t.packet.payload ≡ 64) × IsPartial (suc place) ts
 
+-- each packet is of the message of its request
 abbrev pub Parts : (ℕ → List Packet) → List Sent → Type 0
 Parts parts ts = (t : Sent) → In t ts → In t.packet (parts t.request)
 
@@ -110,6 +112,7 @@ module _ (parts : ℕ → List Packet) (messages : ℕ → List ℕ) (cuts : (n 
     pub partial : IsPartial 0 taken
     pub each : Parts parts taken
 
+  -- what a step gives is as it should be
   abbrev pub Result : Sent → Step × List Sent → Type 0
   Result s r = IsMessageOf messages s r.0 × Good r.1
 

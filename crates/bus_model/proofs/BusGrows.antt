@@ -9,6 +9,7 @@ use Rattle.bus_model.specs.Numbering.{Bus}
 use Rattle.bus_model.specs.BusState.{BusState, Frame, Content, Ask, Reply, Event, Begins, SendsAgain, ReachesPort, ReachesManager, OtherAsks, IsIdle, request_of, is_open, begins, sends_again, comes, taken_now, takes_if, at_port, happens}
 use Rattle.bus_model.proofs.Lists.{Grows, grows}
 
+-- what was begun and carried stands where it stood
 pub record BusGrows (old new : BusState) : Type 0 where
   pub begun : Grows old.begun new.begun
   pub carried : Grows old.carried new.carried
@@ -51,13 +52,16 @@ module _ (b : Bus) where
 abbrev pub begun_at : BusState → ℕ → Option (List ℕ)
 begun_at s n = slice_get s.begun n
 
+-- the reply, if there is a kept request
 abbrev pub reply_at : Option Kept → Option (List ℕ)
 reply_at None = None
 reply_at (Some k) = Some k.reply
 
+-- the reply that is kept for a request
 abbrev pub kept_at : BusState → ℕ → Option (List ℕ)
 kept_at s n = reply_at (slice_get s.carried n)
 
+-- what the one has the other has
 abbrev pub Within : (ℕ → Option (List ℕ)) → (ℕ → Option (List ℕ)) → Type 0
 Within old new = (n : ℕ) (bytes : List ℕ) → old n ≡ Some bytes → new n ≡ Some bytes
 

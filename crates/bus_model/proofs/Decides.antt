@@ -7,10 +7,12 @@ use Rattle.bus_model.specs.Numbering.{Bus}
 use Rattle.bus_model.specs.BusState.{BusState, Frame, Event, Begins, SendsAgain, ReachesPort, ReachesManager, OtherAsks, IsIdle, is_open, happens}
 use Rattle.bus_model.specs.Schedule.{IsLive, is_live, TestTells, IsHonest, AllHonest}
 
+-- a frame, if it was sent, is live
 abbrev pub live_if : Bus → BusState → Option Frame → Bool
 live_if b s None = true
 live_if b s (Some f) = is_live b s f
 
+-- the event is honest
 abbrev pub is_honest : Bus → BusState → Event → Bool
 is_honest b s (Begins bytes) = true
 is_honest b s SendsAgain = true
@@ -19,6 +21,7 @@ is_honest b s (ReachesManager which) = live_if b s (slice_get s.frames which)
 is_honest b s (OtherAsks request answer) = not (request.requester == b.manager)
 is_honest b s (IsIdle requester) = not (requester == b.manager) || not (is_open s)
 
+-- every event is
 abbrev pub all_honest : Bus → List Event → BusState → Bool
 all_honest b [] s = true
 all_honest b (e ∷ es) s = is_honest b s e && all_honest b es (happens b s e)

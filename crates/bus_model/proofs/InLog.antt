@@ -8,6 +8,7 @@ use Rattle.bus_model.specs.Numbering.{Bus}
 use Rattle.bus_model.specs.BusState.{request_of, Content, Ask, Reply, Frame, BusState, Event, Begins, SendsAgain, ReachesPort, ReachesManager, OtherAsks, IsIdle, opening, is_open, begins, sends_again, comes, takes_if, taken_now, at_port, happens, run}
 use Rattle.bus_model.specs.Schedule.{IsHonest, AllHonest}
 
+-- a log shows of the manager what it did before, and then these
 abbrev pub InLog : ℕ → List Entry → List Entry → List Kept → Type 0
 InLog m before log carried = carried_by m log ≡ carried_by m before ++ carried
 
@@ -28,6 +29,7 @@ other m before log carried k IsBusy e h = h
 other m before log carried k IsNew e h = carried_by-other m k log e ∙ h
 
 module _ (b : Bus) (before : List Entry) where
+  -- the log of a bus does
   abbrev pub LogShows : BusState → Type 0
   LogShows s = InLog b.manager before s.log s.carried
 

@@ -24,3 +24,4 @@ pub mod HeardSoFar
 pub mod FrameMarks
 pub mod StepsSoFar
 pub mod Windows
+pub mod WindowSteps

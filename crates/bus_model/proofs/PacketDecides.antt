@@ -14,6 +14,7 @@ use Rattle.bus_model.specs.PacketBus.{PacketBus, rules_of, request_name, Ends, P
 use Rattle.bus_model.specs.PacketSchedule.{JoinRule, AnyJoin, LiveWhereJoined, MayJoin, PacketMayJoin, JoinsAtPort, IsPlain, IsPacketHonest, AllPacketHonest}
 use Rattle.bus_model.proofs.Decides.{live_if, is_honest, is_live-tells, live_if-tells, is_honest-tells}
 
+-- the packet is taken
 abbrev pub is_joined : Step → Bool
 is_joined Waits = true
 is_joined (Whole ss) = true
@@ -24,24 +25,30 @@ abbrev pub rule_of : Bool → JoinRule
 rule_of true = AnyJoin
 rule_of false = LiveWhereJoined
 
+-- a packet that waits is live
 abbrev pub sent_is_live : Bus → BusState → Sent → Bool
 sent_is_live b s t = nat_le (length s.begun) (t.request + b.span) && (t.idles == idles_of b.manager s.log)
 
+-- it may be joined to what waits
 abbrev pub may_join : Bool → Bus → BusState → List Sent → Sent → Bool
 may_join any b s taken p = any || (not (is_joined (takes taken p).0) || list_all (sent_is_live b s) (waiting taken p))
 
+-- the same of a packet, if there is one
 abbrev pub packet_may_join : Bool → Bus → BusState → List Sent → ℕ → ℕ → Option Packet → Bool
 packet_may_join any b s taken n idles None = true
 packet_may_join any b s taken n idles (Some p) = may_join any b s taken (record { request = n; idles = idles; packet = p })
 
+-- the same of a packet of a frame's content
 abbrev pub joins_at_port : Bool → PacketBus → Ends → ℕ → ℕ → ℕ → Content → Bool
 joins_at_port any b x place n idles (Ask bytes) = packet_may_join any (rules_of b) x.bus (x.port (request_name b n)) n idles (slice_get (b.split bytes) place)
 joins_at_port any b x place n idles (Reply number reply) = true
 
+-- a packet of a frame may reach the port
 abbrev pub port_test : Bool → PacketBus → Ends → ℕ → Option Frame → Bool
 port_test any b x place None = true
 port_test any b x place (Some f) = is_live (rules_of b) x.bus f && joins_at_port any b x place f.request f.idles f.content
 
+-- the event brings no frame to an end
 abbrev pub is_plain : Event → Bool
 is_plain (ReachesPort which answer) = false
 is_plain (ReachesManager which) = false
@@ -50,6 +57,7 @@ is_plain SendsAgain = true
 is_plain (OtherAsks request answer) = true
 is_plain (IsIdle requester) = true
 
+-- the event is honest
 abbrev pub is_packet_honest : Bool → PacketBus → Ends → PacketEvent → Bool
 is_packet_honest any b x (Plain e) = is_plain e && is_honest (rules_of b) x.bus e
 is_packet_honest any b x (PacketReachesPort which place answer) = port_test any b x place (slice_get x.bus.frames which)
@@ -58,6 +66,7 @@ is_packet_honest any b x (OtherPacket name packet number answer) = not (name.sou
 is_packet_honest any b x (Closes name) = true
 is_packet_honest any b x Clears = true
 
+-- every event is
 abbrev pub all_packet_honest : Bool → PacketBus → List PacketEvent → Ends → Bool
 all_packet_honest any b [] x = true
 all_packet_honest any b (e ∷ es) x = is_packet_honest any b x e && all_packet_honest any b es (packet_happens b x e)

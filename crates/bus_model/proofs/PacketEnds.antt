@@ -1,17 +1,17 @@
 -- What holds of a bus on which messages go in packets, at every event of an honest schedule.
-use Rattle.std.proofs.Common.{◌≡◌, ℕ, ◌+◌, ◌<◌, ◌≤◌, true, false, List, [], ◌∷◌, length, Option, Some, None, refl, sym, ◌∙◌, ap, subst, arith, ◌⊎◌, inl, inr}
-use Rattle.std.specs.Prelude.{slice_get, IfSome, MatchOption}
+use Rattle.std.proofs.Common.{◌≡◌, ℕ, ◌+◌, ◌<◌, ◌≤◌, Bool, true, false, List, [], ◌∷◌, length, Option, Some, None, cond, refl, sym, ◌∙◌, ap, subst, arith, inl, inr}
+use Rattle.std.specs.Prelude.{slice_get, IfSome}
 use Rattle.std.proofs.lemmas.Bool.{cond_both, and_parts, eqb-true, ltb-true}
 use Rattle.std.proofs.lemmas.Option.{slice_get_within}
 use Rattle.bus_model.specs.Request.{Entry, carried_since}
 use Rattle.bus_model.specs.Numbering.{Bus, tag_of}
-use Rattle.bus_model.specs.BusState.{BusState, Frame, Content, Ask, Reply, Event, Begins, SendsAgain, ReachesPort, ReachesManager, OtherAsks, IsIdle, opening, is_open, begins, sends_again, comes, carried_content, taken_content, takes_if, happens}
+use Rattle.bus_model.specs.BusState.{BusState, Frame, Content, Ask, Reply, Event, Begins, SendsAgain, ReachesPort, ReachesManager, OtherAsks, IsIdle, opening, is_open, begins, sends_again, comes, taken_content, takes_if, happens}
 use Rattle.bus_model.specs.Schedule.{IsLive, IsHonest}
-use Rattle.bus_model.specs.Effect.{SameRequests, IsCarried, IsTaken}
+use Rattle.bus_model.specs.Effect.{SameRequests}
 use Rattle.bus_model.specs.Repeat.{In}
 use Rattle.bus_model.specs.Packet.{Packet, IsCutting}
 use Rattle.bus_model.specs.Assembly.{Name, Sent, Step, Waits, Whole, Drops, IsWhole, takes, waiting, message_of}
-use Rattle.bus_model.specs.PacketBus.{PacketBus, rules_of, request_name, reply_name, Ends, PacketEvent, Plain, PacketReachesPort, PacketReachesManager, OtherPacket, Closes, Clears, set_at, is_awaited, whole_comes, whole_returns, whole_other, port_takes, manager_takes, packet_comes, packet_returns, packet_at_port, packet_at_manager, packet_happens, packet_run, opening_ends}
+use Rattle.bus_model.specs.PacketBus.{PacketBus, rules_of, request_name, reply_name, Ends, PacketEvent, Plain, PacketReachesPort, PacketReachesManager, OtherPacket, Closes, Clears, set_at, is_awaited, whole_carried, port_carries, content_carries, packet_carried_now, whole_taken, manager_gets, content_gets, packet_taken_now, whole_comes, whole_returns, whole_other, port_takes, manager_takes, packet_comes, packet_returns, packet_at_port, packet_at_manager, packet_happens, packet_run, opening_ends}
 use Rattle.bus_model.specs.PacketSchedule.{RecentWhereWhole, PacketMayJoin, JoinsAtPort, IsPlain, IsPacketHonest, AllPacketHonest}
 use Rattle.bus_model.specs.PacketEffect.{PortEffect, ManagerEffect, HasPacketEffect}
 use Rattle.bus_model.proofs.Lists.{length_more}
@@ -26,10 +26,6 @@ use Rattle.bus_model.proofs.PacketSteps.{in_slice, in_rest, in_waiting, named, a
 
 pub same_requests : (s : BusState) → SameRequests s s
 same_requests s = record { begun = refl; carried = refl; taken = refl }
-
-pub either_effect : (o : Option (List ℕ)) (same : Type 0) (moves : List ℕ → Type 0) → MatchOption o same moves → same ⊎ ((x : List ℕ) × moves x)
-either_effect None same moves h = inl h
-either_effect (Some x) same moves h = inr (x, h)
 
 -- an event that brings no frame to an end takes no reply
 module _ (b : Bus) where
@@ -51,12 +47,15 @@ module _ (b : Bus) where
   plain_takes_none s (IsIdle requester) plain = (refl, omega arith)
 
 module _ (b : PacketBus) (cutting : IsCutting b.split) (before : List Entry) where
+  -- the rules for whole messages
   abbrev pub rules : Bus
   rules = rules_of b
 
+  -- the manager's assemblies at the port
   abbrev pub PortAssemblies : BusState → (Name → List Sent) → Type 0
   PortAssemblies s port = (tag : ℕ) → IsAssembly b.first b.split cutting (begun_at s) tag (port (named b.manager true tag))
 
+  -- the controller's assemblies at the manager
   abbrev pub ManagerAssemblies : BusState → (Name → List Sent) → Type 0
   ManagerAssemblies s manager = (tag : ℕ) → IsAssembly b.first b.split cutting (kept_at s) tag (manager (named b.controller false tag))
 
@@ -64,6 +63,7 @@ module _ (b : PacketBus) (cutting : IsCutting b.split) (before : List Entry) whe
   abbrev pub IsAwaited : BusState → List Sent → Type 0
   IsAwaited s taken = (t : Sent) → In t taken → (t.request ≡ length s.taken) × (length s.taken < length s.begun)
 
+  -- that of every tag
   abbrev pub AllAwaited : BusState → (Name → List Sent) → Type 0
   AllAwaited s manager = (tag : ℕ) → IsAwaited s (manager (named b.controller false tag))
 
@@ -109,9 +109,9 @@ module _ (b : PacketBus) (cutting : IsCutting b.split) (before : List Entry) whe
   }
 
   whole_comes_keeps : (s : BusState) (h : Holds rules s) → LogShows rules before s → (answer : List ℕ) (n : ℕ) (bytes : List ℕ) (st : Step) → WholeIs bytes st → h.floor ≤ n → length s.begun ≤ n + 8 → slice_get s.begun n ≡ Some bytes
-      → Keeps s (whole_comes rules answer n st s) × PortEffect s (whole_comes rules answer n st s) answer
-  whole_comes_keeps s h shows answer n bytes Waits is above live at = (keeps_still s h shows, inl (same_requests s))
-  whole_comes_keeps s h shows answer n bytes Drops is above live at = (keeps_still s h shows, inl (same_requests s))
+      → Keeps s (whole_comes rules answer n st s) × PortEffect (whole_carried rules n st s) s (whole_comes rules answer n st s) answer
+  whole_comes_keeps s h shows answer n bytes Waits is above live at = (keeps_still s h shows, same_requests s)
+  whole_comes_keeps s h shows answer n bytes Drops is above live at = (keeps_still s h shows, same_requests s)
   whole_comes_keeps s h shows answer n bytes (Whole ss) is above live at =
       let content = Ask (message_of ss) in
       let fits : Fits rules s.begun s.carried n content = at ∙ ap (λ (x : List ℕ). Some x) (sym is) in
@@ -124,8 +124,7 @@ module _ (b : PacketBus) (cutting : IsCutting b.split) (before : List Entry) whe
           taken = refl;
           longer = omega arith;
         },
-        either_effect (carried_content rules n content s) (SameRequests s new) (λ bytes. IsCarried s new bytes answer)
-            (comes_effect rules numbers s h answer n content above live fits),
+        comes_effect rules numbers s h answer n content above live fits,
       )
 
   plain_keeps : (s : BusState) (h : Holds rules s) → LogShows rules before s → (e : Event) → IsPlain e → IsHonest rules s e → Keeps s (happens rules s e)
@@ -150,8 +149,8 @@ module _ (b : PacketBus) (cutting : IsCutting b.split) (before : List Entry) whe
 
   -- a packet reaches the port
   port_step : (x : Ends) → EndsHold x → (answer : List ℕ) (n idles : ℕ) (bytes : List ℕ) (place : ℕ) (o : Option Packet) → slice_get (b.split bytes) place ≡ o → (h : Holds rules x.bus) → h.floor ≤ n → length x.bus.begun ≤ n + 8 → slice_get x.bus.begun n ≡ Some bytes
-      → PacketMayJoin RecentWhereWhole rules x.bus (x.port (request_name b n)) n idles o → EndsHold (port_takes b answer n idles o x) × PortEffect x.bus (port_takes b answer n idles o x).bus answer
-  port_step x ok answer n idles bytes place None e h above live at joins = (ok, inl (same_requests x.bus))
+      → PacketMayJoin RecentWhereWhole rules x.bus (x.port (request_name b n)) n idles o → EndsHold (port_takes b answer n idles o x) × PortEffect (port_carries b n idles o x) x.bus (port_takes b answer n idles o x).bus answer
+  port_step x ok answer n idles bytes place None e h above live at joins = (ok, same_requests x.bus)
   port_step x ok answer n idles bytes place (Some p) e h above live at joins =
       let s : Sent = record { request = n; idles = idles; packet = p } in
       let taken = x.port (request_name b n) in
@@ -165,13 +164,13 @@ module _ (b : PacketBus) (cutting : IsCutting b.split) (before : List Entry) whe
       )
 
   content_step : (x : Ends) → EndsHold x → (answer : List ℕ) (place n idles : ℕ) (content : Content) → (h : Holds rules x.bus) → h.floor ≤ n → length x.bus.begun ≤ n + 8 → Fits rules x.bus.begun x.bus.carried n content
-      → JoinsAtPort RecentWhereWhole b x place n idles content → EndsHold (packet_comes b answer place n idles content x) × PortEffect x.bus (packet_comes b answer place n idles content x).bus answer
+      → JoinsAtPort RecentWhereWhole b x place n idles content → EndsHold (packet_comes b answer place n idles content x) × PortEffect (content_carries b place n idles content x) x.bus (packet_comes b answer place n idles content x).bus answer
   content_step x ok answer place n idles (Ask bytes) h above live fits joins = port_step x ok answer n idles bytes place (slice_get (b.split bytes) place) refl h above live fits joins
-  content_step x ok answer place n idles (Reply number reply) h above live fits joins = (ok, inl (same_requests x.bus))
+  content_step x ok answer place n idles (Reply number reply) h above live fits joins = (ok, same_requests x.bus)
 
   frame_at_port : (x : Ends) → EndsHold x → (which place : ℕ) (answer : List ℕ) (o : Option Frame) → slice_get x.bus.frames which ≡ o
-      → IfSome o (λ f. IsLive rules x.bus f × JoinsAtPort RecentWhereWhole b x place f.request f.idles f.content) → EndsHold (packet_at_port b answer place o x) × PortEffect x.bus (packet_at_port b answer place o x).bus answer
-  frame_at_port x ok which place answer None e honest = (ok, inl (same_requests x.bus))
+      → IfSome o (λ f. IsLive rules x.bus f × JoinsAtPort RecentWhereWhole b x place f.request f.idles f.content) → EndsHold (packet_at_port b answer place o x) × PortEffect (packet_carried_now b place o x) x.bus (packet_at_port b answer place o x).bus answer
+  frame_at_port x ok which place answer None e honest = (ok, same_requests x.bus)
   frame_at_port x ok which place answer (Some f) e honest =
       let s = ok.holds.sound.frames which f e in
       content_step x ok answer place f.request f.idles f.content ok.holds (s.floor_below honest.0.1) honest.0.0 s.fits honest.1
@@ -185,12 +184,12 @@ module _ (b : PacketBus) (cutting : IsCutting b.split) (before : List Entry) whe
       (one_tag b.first n (length s.taken) (length s.begun) below opened live (omega arith) (eqb-true _ _ parts.1), opened)
 
   -- the bus and what waits, after a packet at the manager
-  record Returned (old new : BusState) (name : Name) (rest : List Sent) (manager : Name → List Sent) : Type 0 where
+  record Returned (taken : Option (List ℕ)) (old new : BusState) (name : Name) (rest : List Sent) (manager : Name → List Sent) : Type 0 where
     holds : Holds rules new
     shows : LogShows rules before new
     grows : BusGrows old new
     awaited : AllAwaited new (set_at name rest manager)
-    effect : ManagerEffect old new
+    effect : ManagerEffect taken old new
 
   module _ (x : Ends) (ok : EndsHold x) (n number : ℕ) (reply : List ℕ) (live : length x.bus.begun ≤ n + 8) (fits : Fits rules x.bus.begun x.bus.carried n (Reply number (Some reply))) (is_open_one : (n ≡ length x.bus.taken) × (length x.bus.taken < length x.bus.begun)) where
     still_awaited : (rest : List Sent) → IsAwaited x.bus rest → AllAwaited x.bus (set_at (reply_name b n) rest x.manager)
@@ -202,9 +201,9 @@ module _ (b : PacketBus) (cutting : IsCutting b.split) (before : List Entry) whe
         (λ t is. absurd (subst (λ (l : List Sent). In t l) empty is))
         (λ tag differs t is. absurd (differs (sym ((ok.manager tag).tags t is) ∙ ap (tag_of b.first) ((ok.awaited tag t is).0 ∙ sym is_open_one.0))))
 
-    whole_returns_keeps : (st : Step) (rest : List Sent) → WholeIs reply st → (IsWhole st → rest ≡ []) → IsAwaited x.bus rest → Returned x.bus (whole_returns rules number st x.bus) (reply_name b n) rest x.manager
-    whole_returns_keeps Waits rest is empty all = record { holds = ok.holds; shows = ok.shows; grows = stays x.bus; awaited = still_awaited rest all; effect = inl (same_requests x.bus) }
-    whole_returns_keeps Drops rest is empty all = record { holds = ok.holds; shows = ok.shows; grows = stays x.bus; awaited = still_awaited rest all; effect = inl (same_requests x.bus) }
+    whole_returns_keeps : (st : Step) (rest : List Sent) → WholeIs reply st → (IsWhole st → rest ≡ []) → IsAwaited x.bus rest → Returned (whole_taken rules number st x.bus) x.bus (whole_returns rules number st x.bus) (reply_name b n) rest x.manager
+    whole_returns_keeps Waits rest is empty all = record { holds = ok.holds; shows = ok.shows; grows = stays x.bus; awaited = still_awaited rest all; effect = same_requests x.bus }
+    whole_returns_keeps Drops rest is empty all = record { holds = ok.holds; shows = ok.shows; grows = stays x.bus; awaited = still_awaited rest all; effect = same_requests x.bus }
     whole_returns_keeps (Whole ss) rest is empty all =
         let content = Reply number (Some (message_of ss)) in
         let o = taken_content rules content x.bus in
@@ -215,13 +214,13 @@ module _ (b : PacketBus) (cutting : IsCutting b.split) (before : List Entry) whe
           shows = takes_shows rules before o x.bus ok.shows;
           grows = takes_grow rules o x.bus;
           awaited = none_waits (takes_if o x.bus) rest (empty tt);
-          effect = either_effect o (SameRequests x.bus (takes_if o x.bus)) (λ reply. IsTaken x.bus (takes_if o x.bus) reply) (returns_effect rules numbers x.bus ok.holds n content live new_fits);
+          effect = returns_effect rules numbers x.bus ok.holds n content live new_fits;
         }
 
   -- a packet reaches the manager
   manager_step : (x : Ends) → EndsHold x → (n idles number : ℕ) (reply : List ℕ) (place : ℕ) (o : Option Packet) → slice_get (b.split reply) place ≡ o → length x.bus.begun ≤ n + 8 → Fits rules x.bus.begun x.bus.carried n (Reply number (Some reply))
-      → (n ≡ length x.bus.taken) × (length x.bus.taken < length x.bus.begun) → EndsHold (manager_takes b number n idles o x) × ManagerEffect x.bus (manager_takes b number n idles o x).bus
-  manager_step x ok n idles number reply place None e live fits awaited = (ok, inl (same_requests x.bus))
+      → (n ≡ length x.bus.taken) × (length x.bus.taken < length x.bus.begun) → EndsHold (manager_takes b number n idles o x) × ManagerEffect (manager_gets b number n idles o x) x.bus (manager_takes b number n idles o x).bus
+  manager_step x ok n idles number reply place None e live fits awaited = (ok, same_requests x.bus)
   manager_step x ok n idles number reply place (Some p) e live fits awaited =
       let at : kept_at x.bus n ≡ Some reply = ap reply_at fits.1.at ∙ ap (λ (r : List ℕ). Some r) fits.1.replied in
       let below = ok.holds.sound.below in let one_open = ok.holds.sound.one_open in
@@ -256,22 +255,27 @@ module _ (b : PacketBus) (cutting : IsCutting b.split) (before : List Entry) whe
     awaited = at_empty b.controller false (λ tag taken. IsAwaited x.bus taken) (reply_name b n) x.manager (λ tag t is. absurd is) ok.awaited;
   }
 
+  awaited_step : (x : Ends) → EndsHold x → (awaited : Bool) (y : Ends) (taken : Option (List ℕ)) → (awaited ≡ true → EndsHold y × ManagerEffect taken x.bus y.bus)
+      → EndsHold (cond awaited y x) × ManagerEffect (cond awaited taken None) x.bus (cond awaited y x).bus
+  awaited_step x ok true y taken step = step refl
+  awaited_step x ok false y taken step = (ok, same_requests x.bus)
+
   reply_step : (x : Ends) → EndsHold x → (place n idles : ℕ) (content : Content) → length x.bus.begun ≤ n + 8 → Fits rules x.bus.begun x.bus.carried n content
-      → EndsHold (packet_returns b place n idles content x) × ManagerEffect x.bus (packet_returns b place n idles content x).bus
-  reply_step x ok place n idles (Ask bytes) live fits = (ok, inl (same_requests x.bus))
+      → EndsHold (packet_returns b place n idles content x) × ManagerEffect (content_gets b place n idles content x) x.bus (packet_returns b place n idles content x).bus
+  reply_step x ok place n idles (Ask bytes) live fits = (ok, same_requests x.bus)
   reply_step x ok place n idles (Reply number None) live fits =
-      cond_both (is_awaited b n x.bus) (record x { manager = set_at (reply_name b n) [] x.manager }) x (λ y. EndsHold y × ManagerEffect x.bus y.bus)
-      (λ _. (busy_step x ok n, inl (same_requests x.bus))) (λ _. (ok, inl (same_requests x.bus)))
+      cond_both (is_awaited b n x.bus) (record x { manager = set_at (reply_name b n) [] x.manager }) x (λ y. EndsHold y × SameRequests x.bus y.bus)
+      (λ _. (busy_step x ok n, same_requests x.bus)) (λ _. (ok, same_requests x.bus))
   reply_step x ok place n idles (Reply number (Some reply)) live fits =
       let o = slice_get (b.split reply) place in
       let within = slice_get_within x.bus.carried n fits.1.kept fits.1.at in
       let below = ok.holds.sound.below in
-      cond_both (is_awaited b n x.bus) (manager_takes b number n idles o x) x (λ y. EndsHold y × ManagerEffect x.bus y.bus)
-      (λ t. manager_step x ok n idles number reply place o refl live fits (awaited_is_open x.bus ok.holds n (omega arith) live t)) (λ _. (ok, inl (same_requests x.bus)))
+      awaited_step x ok (is_awaited b n x.bus) (manager_takes b number n idles o x) (manager_gets b number n idles o x)
+      (λ t. manager_step x ok n idles number reply place o refl live fits (awaited_is_open x.bus ok.holds n (omega arith) live t))
 
   frame_at_manager : (x : Ends) → EndsHold x → (which place : ℕ) (o : Option Frame) → slice_get x.bus.frames which ≡ o → IfSome o (IsLive rules x.bus)
-      → EndsHold (packet_at_manager b place o x) × ManagerEffect x.bus (packet_at_manager b place o x).bus
-  frame_at_manager x ok which place None e live = (ok, inl (same_requests x.bus))
+      → EndsHold (packet_at_manager b place o x) × ManagerEffect (packet_taken_now b place o x) x.bus (packet_at_manager b place o x).bus
+  frame_at_manager x ok which place None e live = (ok, same_requests x.bus)
   frame_at_manager x ok which place (Some f) e live = reply_step x ok place f.request f.idles f.content live.0 (ok.holds.sound.frames which f e).fits
 
   other_step : (x : Ends) → EndsHold x → (name : Name) (packet : Packet) (number : ℕ) (answer : List ℕ) → (name.source ≡ b.manager → ⊥)

@@ -80,6 +80,7 @@ pub takes_whole : (taken : List Sent) (s : Sent) → IsWhole (takes taken s).0 �
 takes_whole [] s = cond_both s.packet.first (joined [] s) (Drops, []) (λ r. IsWhole r.0 → r.1 ≡ []) (λ _. joined_whole [] s) (λ _ _. refl)
 takes_whole (t ∷ ts) s = cond_both s.packet.first (joined [] s) (joined (t ∷ ts) s) (λ r. IsWhole r.0 → r.1 ≡ []) (λ _. joined_whole [] s) (λ _. joined_whole (t ∷ ts) s)
 
+-- what is whole is this message
 abbrev pub WholeIs : List ℕ → Step → Type 0
 WholeIs bytes Waits = Unit {0}
 WholeIs bytes Drops = Unit {0}

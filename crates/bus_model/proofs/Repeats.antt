@@ -26,6 +26,7 @@ abbrev pub IsRun : List Kept → ℕ → List Kept → ℕ → Type 0
 IsRun carried low [] high = high ≡ low
 IsRun carried low (k ∷ ks) high = (n : ℕ) × (high ≡ suc n) × (slice_get carried n ≡ Some k) × IsRun carried low ks n
 
+-- the list has the number
 abbrev pub Has : List ℕ → ℕ → Type 0
 Has [] x = ⊥
 Has (y ∷ ys) x = (y ≡ x) ⊎ Has ys x

@@ -1,15 +1,17 @@
 -- The rows of the plain port after each of its steps.
-use Rattle.std.proofs.Common.{◌≡◌, ℕ, Bool, true, false, not, List, [], ◌∷◌, Option, Some, None, cond, refl, sym, ◌∙◌, ap, inl, inr}
+use Rattle.std.proofs.Common.{◌≡◌, ℕ, Bool, true, false, not, List, [], ◌∷◌, Some, None, cond, refl, sym, ◌∙◌, ap, inl, inr}
 use Rattle.std.specs.Prelude.{filter, ◌==◌}
 use Rattle.std.specs.List.{find, list_any}
 use Rattle.std.proofs.lemmas.Bool.{cond_both, cond-true, cond-false, eqb-true, eq-eqb, ne_eqb, and_parts, and_from, and_left, and_right, or_right, or_from, cases_eq, cases_Bool, not_from_true, not_from_false}
-use Rattle.bus_model.specs.Request.{Kept, Entry, Carried, Idled}
+use Rattle.bus_model.specs.Request.{Entry, Carried, Idled}
 use Rattle.bus_model.specs.Numbering.{is_next}
-use Rattle.bus_model.specs.Window.{Window, empty_window, window_after, windows_of}
+use Rattle.bus_model.specs.Window.{windows_of}
 use Rattle.bus_model.specs.Circle.{circle_of}
 use Rattle.bus_model.specs.Rows.{kept_of, kept_if, is_at, is_forgotten, Keeps}
+use Rattle.bus_model.specs.declared.numbers.Numbers.{Numbers}
 use Rattle.bus_model.specs.declared.rows.Row.{Row}
 use Rattle.bus_model.specs.declared.rows.Rows.{Rows}
+use Rattle.bus_model.proofs.WindowSteps.{window_here, window_next, window_far, window_other, window_idle, window_idle_other}
 
 -- what is looked for isn't filtered out
 find_kept : (test keep : Row → Bool) (rows : List Row) → ((row : Row) → test row ≡ true → keep row ≡ true) → find test (filter keep rows) ≡ find test rows
@@ -46,19 +48,19 @@ pub keeps_idle : (old new : Rows) (log : List Entry) (p : ℕ) → Keeps old log
     → new.rows.items ≡ filter (λ row. not (row.asked.requester == p)) old.rows.items → new.requesters.items ≡ filter (λ q. not (q == p)) old.requesters.items → Keeps new (Idled p ∷ log)
 keeps_idle old new log p h numbers rows_are requesters_are =
     let keep : Row → Bool = (λ row. not (row.asked.requester == p)) in
+    let circle = circle_of old.numbers in
     record {
       rows = λ q n.
           ap (λ (l : List Row). kept_if (find (is_at q n) l)) rows_are
           ∙ elim (cases_eq p q) [
             | inl same ↦
                 ap kept_if (find_gone (is_at q n) keep old.rows.items (λ row t. not_from_true _ (eq-eqb _ _ (at_requester q n row t ∙ sym same))))
-                ∙ sym (ap (λ (t : Bool). let w : Window = cond t empty_window (windows_of (circle_of new.numbers) log q) in w n) (eq-eqb p q same))
+                ∙ sym (window_idle circle log q n p same)
             | inr other ↦
                 ap kept_if (find_kept (is_at q n) keep old.rows.items (λ row t. not_from_false _ (ne_eqb _ _ (λ e. other (sym e ∙ at_requester q n row t)))))
-                ∙ h.rows q n
-                ∙ ap (λ (c : _). windows_of (circle_of c) log q n) (sym numbers)
-                ∙ sym (ap (λ (t : Bool). let w : Window = cond t empty_window (windows_of (circle_of new.numbers) log q) in w n) (ne_eqb p q other))
-          ];
+                ∙ h.rows q n ∙ sym (window_idle_other circle log q n p other)
+          ]
+          ∙ ap (λ (c : Numbers). windows_of (circle_of c) (Idled p ∷ log) q n) (sym numbers);
       requesters = requesters_are ∙ ap (filter (λ q. not (q == p))) h.requesters;
     }
 
@@ -71,36 +73,30 @@ keeps_carried old new log row h numbers rows_are requesters_are =
     let k = kept_of row in
     let keep : Row → Bool = (λ r. not (is_forgotten circle row.asked r)) in
     let rest = filter keep old.rows.items in
-    let window_at : ℕ → ℕ → Bool → Option Kept = (λ q n t. let w : Window = cond t (window_after circle k (windows_of circle log q)) (windows_of circle log q) in w n) in
     record {
       rows = λ q n.
           ap (λ (l : List Row). kept_if (find (is_at q n) l)) rows_are
           ∙ elim (cases_eq row.asked.requester q) [
-            | inl mine ↦
-                elim (cases_eq row.asked.number n) [
-                  | inl here ↦
-                      ap kept_if (cond-true (is_at q n row) (Some row) (find (is_at q n) rest) (and_from _ _ (eq-eqb _ _ mine) (eq-eqb _ _ here)))
-                      ∙ sym (ap (λ (t : Bool). cond t (Some k) (cond (is_next circle row.asked.number n) None (windows_of circle log q n))) (eq-eqb n row.asked.number (sym here)))
-                  | inr there ↦
-                      ap kept_if (cond-false (is_at q n row) (Some row) (find (is_at q n) rest) (and_right _ _ (ne_eqb _ _ there)))
-                      ∙ elim (cases_Bool (is_next circle row.asked.number n)) [
-                        | inl next ↦
-                            ap kept_if (find_gone (is_at q n) keep old.rows.items (λ r t. not_from_true _ (and_from _ _ (eq-eqb _ _ (at_requester q n r t ∙ sym mine)) (or_right _ _ (ap (is_next circle row.asked.number) (at_number q n r t) ∙ next)))))
-                            ∙ sym (ap (λ (t : Bool). let none : Option Kept = None in cond t none (windows_of circle log q n)) next)
-                        | inr far ↦
-                            ap kept_if (find_kept (is_at q n) keep old.rows.items (λ r t. not_from_false _ (and_right _ _ (or_from _ _ (ne_eqb _ _ (λ e. there (sym e ∙ at_number q n r t))) (ap (is_next circle row.asked.number) (at_number q n r t) ∙ far)))))
-                            ∙ h.rows q n
-                            ∙ sym (ap (λ (t : Bool). let none : Option Kept = None in cond t none (windows_of circle log q n)) far)
-                      ]
-                      ∙ sym (ap (λ (t : Bool). cond t (Some k) (cond (is_next circle row.asked.number n) None (windows_of circle log q n))) (ne_eqb n row.asked.number (λ e. there (sym e))))
-                ]
-                ∙ sym (ap (window_at q n) (eq-eqb row.asked.requester q mine))
+            | inl mine ↦ elim (cases_eq row.asked.number n) [
+              | inl here ↦
+                  ap kept_if (cond-true (is_at q n row) (Some row) (find (is_at q n) rest) (and_from _ _ (eq-eqb _ _ mine) (eq-eqb _ _ here)))
+                  ∙ sym (window_here circle log q n k mine here)
+              | inr there ↦
+                  ap kept_if (cond-false (is_at q n row) (Some row) (find (is_at q n) rest) (and_right _ _ (ne_eqb _ _ there)))
+                  ∙ elim (cases_Bool (is_next circle row.asked.number n)) [
+                    | inl next ↦
+                        ap kept_if (find_gone (is_at q n) keep old.rows.items (λ r t. not_from_true _ (and_from _ _ (eq-eqb _ _ (at_requester q n r t ∙ sym mine)) (or_right _ _ (ap (is_next circle row.asked.number) (at_number q n r t) ∙ next)))))
+                        ∙ sym (window_next circle log q n k mine there next)
+                    | inr far ↦
+                        ap kept_if (find_kept (is_at q n) keep old.rows.items (λ r t. not_from_false _ (and_right _ _ (or_from _ _ (ne_eqb _ _ (λ e. there (sym e ∙ at_number q n r t))) (ap (is_next circle row.asked.number) (at_number q n r t) ∙ far)))))
+                        ∙ h.rows q n ∙ sym (window_far circle log q n k mine there far)
+                  ]
+            ]
             | inr other ↦
                 ap kept_if (cond-false (is_at q n row) (Some row) (find (is_at q n) rest) (and_left _ _ (ne_eqb _ _ other)))
                 ∙ ap kept_if (find_kept (is_at q n) keep old.rows.items (λ r t. not_from_false _ (and_left _ _ (ne_eqb _ _ (λ e. other (sym e ∙ at_requester q n r t))))))
-                ∙ h.rows q n
-                ∙ sym (ap (window_at q n) (ne_eqb row.asked.requester q other))
+                ∙ h.rows q n ∙ sym (window_other circle log q n k other)
           ]
-          ∙ ap (λ (c : _). windows_of (circle_of c) (Carried k ∷ log) q n) (sym numbers);
+          ∙ ap (λ (c : Numbers). windows_of (circle_of c) (Carried k ∷ log) q n) (sym numbers);
       requesters = requesters_are ∙ ap (λ (l : List ℕ). cond (list_any (λ q. q == row.asked.requester) l) l (row.asked.requester ∷ l)) h.requesters;
     }

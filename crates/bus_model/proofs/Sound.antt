@@ -20,6 +20,7 @@ pub record Seen : Type 0 where
   pub since : List Kept
   pub idles : ℕ
 
+-- what a log shows of it
 abbrev pub seen : ℕ → List Entry → Seen
 seen q log = record { since = carried_since q log; idles = idles_of q log }
 
@@ -47,6 +48,7 @@ pub record IsSent (b : Bus) (floor : ℕ) (begun : List (List ℕ)) (carried : L
   pub floor_below : f.idles ≡ idles → floor ≤ f.request
   pub fits : Fits b begun carried f.request f.content
 
+-- every frame is one that was sent so
 abbrev pub AllSent : Bus → ℕ → List (List ℕ) → List Kept → ℕ → List Frame → Type 0
 AllSent b floor begun carried idles frames = (i : ℕ) (f : Frame) → slice_get frames i ≡ Some f → IsSent b floor begun carried idles f
 

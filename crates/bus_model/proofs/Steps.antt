@@ -14,6 +14,7 @@ use Rattle.bus_model.proofs.NumberLaws.{IsNumbering}
 use Rattle.bus_model.proofs.Repeats.{repeats, is_new}
 use Rattle.bus_model.proofs.Sound.{Seen, seen, seen-mine, seen-other, seen-idle, seen-idle_other, Fits, Sound, sound_begins, sound_again, sound_reply, sound_carried, sound_idle, sound_takes}
 
+-- the invariant at a floor
 abbrev pub SoundAt : Bus → ℕ → BusState → Type 0
 SoundAt b floor s = Sound b floor s.begun s.carried s.taken (seen b.manager s.log) s.frames
 
@@ -48,6 +49,7 @@ module _ (b : Bus) (numbers : IsNumbering b) where
   repeat_holds s h n reply above kept =
       record { floor = h.floor; sound = sound_reply b numbers h.floor s.begun s.carried s.taken (seen b.manager s.log) s.frames n (Some reply) h.sound above (refl, kept) }
 
+  -- the bus after the port heard a request of the manager, by what it did with it
   abbrev pub heard : BusState → ℕ → Kept → Outcome → BusState
   heard s n k o = sent b n (Reply k.request.number (reply_after o k)) (record s { carried = carried_after o k s.carried; log = log_after o k s.log })
 

@@ -18,3 +18,4 @@ pub mod Circle
 pub mod Rows
 pub mod PlainPort
 pub mod LiveFrames
+pub mod Premise

@@ -22,6 +22,7 @@ pub data JoinRule : Type 0 where
   -- where a message is complete, its packets are of requests that are recent still
   RecentWhereWhole : JoinRule
 
+-- the rule is kept where this packet meets what waits
 abbrev pub MayJoin : JoinRule → Bus → BusState → List Sent → Sent → Type 0
 MayJoin AnyJoin b s taken p = Unit {0}
 MayJoin LiveWhereJoined b s taken p =
@@ -29,10 +30,12 @@ MayJoin LiveWhereJoined b s taken p =
 MayJoin OneRequestWhereJoined b s taken p = IsJoined (takes taken p).0 → (t : Sent) → In t (waiting taken p) → t.request ≡ p.request
 MayJoin RecentWhereWhole b s taken p = IsWhole (takes taken p).0 → (t : Sent) → In t (waiting taken p) → length s.begun ≤ t.request + b.span
 
+-- the same of a packet, if there is one
 abbrev pub PacketMayJoin : JoinRule → Bus → BusState → List Sent → ℕ → ℕ → Option Packet → Type 0
 PacketMayJoin rule b s taken n idles None = Unit {0}
 PacketMayJoin rule b s taken n idles (Some p) = MayJoin rule b s taken (record { request = n; idles = idles; packet = p })
 
+-- the same of a packet of a frame's content
 abbrev pub JoinsAtPort : JoinRule → PacketBus → Ends → ℕ → ℕ → ℕ → Content → Type 0
 JoinsAtPort rule b x place n idles (Ask bytes) = PacketMayJoin rule (rules_of b) x.bus (x.port (request_name b n)) n idles (slice_get (b.split bytes) place)
 JoinsAtPort rule b x place n idles (Reply number reply) = Unit {0}
@@ -54,6 +57,7 @@ IsPacketHonest rule b x (OtherPacket name packet number answer) = name.source �
 IsPacketHonest rule b x (Closes name) = Unit {0}
 IsPacketHonest rule b x Clears = Unit {0}
 
+-- every event of the schedule is honest when it comes
 abbrev pub AllPacketHonest : JoinRule → PacketBus → List PacketEvent → Ends → Type 0
 AllPacketHonest rule b [] x = Unit {0}
 AllPacketHonest rule b (e ∷ es) x = IsPacketHonest rule b x e × AllPacketHonest rule b es (packet_happens b x e)

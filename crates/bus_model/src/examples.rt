@@ -2,6 +2,7 @@
 
 ghost use Rattle.bus_model.specs.Numbering.{ipmb, smbus};
 ghost use Rattle.bus_model.specs.Example.{EndsAnswered, ShowsRepeats, ipmb_example, smbus_example};
+ghost use Rattle.bus_model.specs.Premise.{Counts, InUseAtStart, too_old, forgotten_while_open, older_than_idle, in_the_managers_name};
 ghost use Rattle.bus_model.specs.PacketExample.{PacketsEndAnswered, PacketsShowRepeats, CarriesWhatNobodySent, example_bus, packet_example, stale_assembly};
 
 /// On IPMB, with sequence numbers from 60 on: a busy answer, an idle, a lost frame, a delayed reply, and a repeat after 31
@@ -27,4 +28,15 @@ pub fn packet_schedule_ends_answered()
 /// Why joins need a premise: every packet is of a live frame, but a message is carried out that nobody sent.
 pub fn stale_assembly_carries_what_nobody_sent()
     ensures { CarriesWhatNobodySent (example_bus 0) stale_assembly }
+{}
+
+/// Why each premise is there. A copy that comes after 32 newer requests, or after the window was forgotten, is carried out
+/// once more than the request was begun; and where somebody uses the manager's address, or its window holds something at
+/// the start, the manager takes a reply to what it didn't ask.
+pub fn premises_are_needed()
+    ensures span { Counts (ipmb 44 0) too_old 33 34 33 }
+    ensures open_request { Counts (ipmb 44 0) forgotten_while_open 1 2 0 }
+    ensures older_frames { Counts (ipmb 44 0) older_than_idle 1 2 1 }
+    ensures address { Counts (ipmb 44 0) in_the_managers_name 1 0 1 }
+    ensures empty_window { InUseAtStart (ipmb 44 0) }
 {}

@@ -1,9 +1,8 @@
 //! Which frames of a small schedule are live: a plain program that marks frames as they get too old.
 
-ghost use Rattle.std.specs.Prelude.{◌≡◌, ◌+◌, ◌<◌, ◌≤◌, ◌^◌, List, [], ◌∷◌, ◌++◌, slice_get, map, IfOk, OnOk};
-ghost use Rattle.bus_model.specs.BusState.{BusState};
+ghost use Rattle.std.specs.Prelude.{◌≡◌, ◌+◌, ◌<◌, ◌≤◌, ◌^◌, slice_get, map, IfOk, OnOk};
 ghost use Rattle.bus_model.specs.Circle.{span_of};
-ghost use Rattle.bus_model.specs.LiveFrames.{Shows, after_step, aged, new_frame, dead, AreLiveByRule};
+ghost use Rattle.bus_model.specs.LiveFrames.{TakesStep, SendsFrame, aged, dead, AreLiveByRule};
 
 use crate::numbers::Numbers;
 use std::alloc::{AllocError, Global};
@@ -85,7 +84,7 @@ impl Aging {
     /// The manager begins a request: older frames may die.
     fn begins(&mut self, alloc: Global) -> Result<(), AllocError>
         requires { self.old.begun + 1 < 2 ^ 64 }
-        ensures shows { OnOk result ((s : BusState) → Shows self.old s → Shows self.new (after_step self.old.numbers Step.Begins s)) }
+        ensures shows { OnOk result (TakesStep self.old self.new Step.Begins) }
         ensures begun { OnOk result (self.new.begun ≡ self.old.begun + 1) }
         ensures numbers { self.new.numbers ≡ self.old.numbers }
     {
@@ -103,7 +102,7 @@ impl Aging {
 
     /// A frame of this request is sent now.
     fn sends(&mut self, request: usize, end: End) -> Result<(), AllocError>
-        ensures frames { OnOk result (self.new.frames.items ≡ self.old.frames.items ++ new_frame self.old.numbers self.old.begun request «end» ∷ []) }
+        ensures frames { OnOk result (SendsFrame self.old self.new request «end») }
         ensures begun { self.new.begun ≡ self.old.begun }
         ensures numbers { self.new.numbers ≡ self.old.numbers }
     {
@@ -119,7 +118,7 @@ impl Aging {
 
     /// The newest request is sent again.
     fn sends_again(&mut self) -> Result<(), AllocError>
-        ensures shows { OnOk result ((s : BusState) → Shows self.old s → Shows self.new (after_step self.old.numbers Step.SendsAgain s)) }
+        ensures shows { OnOk result (TakesStep self.old self.new Step.SendsAgain) }
         ensures begun { self.new.begun ≡ self.old.begun }
         ensures numbers { self.new.numbers ≡ self.old.numbers }
     {
@@ -137,7 +136,7 @@ impl Aging {
 
     /// The port replies to a frame, if it is one for it.
     fn replies(&mut self, which: usize) -> Result<(), AllocError>
-        ensures shows { OnOk result ((s : BusState) → Shows self.old s → Shows self.new (after_step self.old.numbers (Step.Replies which) s)) }
+        ensures shows { OnOk result (TakesStep self.old self.new (Step.Replies which)) }
         ensures begun { self.new.begun ≡ self.old.begun }
         ensures numbers { self.new.numbers ≡ self.old.numbers }
     {
@@ -153,7 +152,7 @@ impl Aging {
 
     /// The manager's window is forgotten: every frame that was sent is dead.
     fn forgets(&mut self, alloc: Global) -> Result<(), AllocError>
-        ensures shows { OnOk result ((s : BusState) → Shows self.old s → Shows self.new (after_step self.old.numbers Step.Forgotten s)) }
+        ensures shows { OnOk result (TakesStep self.old self.new Step.Forgotten) }
         ensures begun { self.new.begun ≡ self.old.begun }
         ensures numbers { self.new.numbers ≡ self.old.numbers }
     {
@@ -164,7 +163,7 @@ impl Aging {
     /// What one step does.
     fn step(&mut self, alloc: Global, step: Step) -> Result<(), AllocError>
         requires { self.old.begun + 1 < 2 ^ 64 }
-        ensures shows { OnOk result ((s : BusState) → Shows self.old s → Shows self.new (after_step self.old.numbers step s)) }
+        ensures shows { OnOk result (TakesStep self.old self.new step) }
         ensures begun { OnOk result (self.new.begun ≤ self.old.begun + 1) }
         ensures numbers { self.new.numbers ≡ self.old.numbers }
     {

@@ -1,10 +1,9 @@
 //! The rows of a port: for each requester, under each number, the request that was carried out with it.
 
-ghost use Rattle.std.specs.Prelude.{◌≡◌, ◌==◌, ◌&&◌, ◌<◌, List, [], ◌∷◌, not, nat_le, filter, length, if◌then◌else◌, IfOk, OnOk};
-ghost use Rattle.std.specs.List.{find, list_any};
-ghost use Rattle.bus_model.specs.Request.{Entry, Carried, Idled};
+ghost use Rattle.std.specs.Prelude.{◌≡◌, ◌<◌, [], IfOk, OnOk};
 ghost use Rattle.bus_model.specs.Circle.{circle_of};
-ghost use Rattle.bus_model.specs.Rows.{is_at, is_forgotten, kept_place, Keeps, kept_of, HearsByRule};
+ghost use Rattle.bus_model.specs.Rows.{is_forgotten, row_of, looked_up, is_among, needs_ninth, room_for, with_requester};
+ghost use Rattle.bus_model.specs.Rows.{Keeps, KeepsCarried, KeepsIdle, HearsByRule};
 
 use crate::heard::{Asked, Outcome};
 use crate::numbers::Numbers;
@@ -55,7 +54,7 @@ impl Rows {
 
     /// The row of a requester's number.
     fn row_at(&self, requester: u8, number: u8) -> Option<Row>
-        ensures { result ≡ find (is_at requester number) self.now.rows.items }
+        ensures { result ≡ row_of requester number self.now.rows.items }
     {
         self.rows.iter().copied().find(|row| row.asked.requester == requester
             && row.asked.number == number)
@@ -63,7 +62,7 @@ impl Rows {
 
     /// The place of the request that this one repeats.
     fn kept_place(&self, asked: Asked) -> Option<usize>
-        ensures { result ≡ kept_place asked (find (is_at asked.requester asked.number) self.now.rows.items) }
+        ensures { result ≡ looked_up asked self.now.rows.items }
     {
         match self.row_at(asked.requester, asked.number) {
             Some(row) => {
@@ -79,21 +78,21 @@ impl Rows {
 
     /// Whether the requester has rows.
     fn has_rows(&self, requester: u8) -> bool
-        ensures { result ≡ list_any (λ q. q == requester) self.now.requesters.items }
+        ensures { result ≡ is_among requester self.now.requesters.items }
     {
         self.requesters.iter().any(|q| *q == requester)
     }
 
     /// Whether a ninth requester would be needed.
     fn is_busy(&self, requester: u8) -> bool
-        ensures { result ≡ (not (list_any (λ q. q == requester) self.now.requesters.items) && nat_le 8 (length self.now.requesters.items)) }
+        ensures { result ≡ needs_ninth requester self.now.requesters.items }
     {
         !self.has_rows(requester) && self.requesters.len() >= REQUESTERS
     }
 
     /// Forgets the rows that a request takes the place of.
     fn make_room(&mut self, asked: Asked)
-        ensures rows { self.new.rows.items ≡ filter (λ row. not (is_forgotten (circle_of self.old.numbers) asked row)) self.old.rows.items }
+        ensures rows { self.new.rows.items ≡ room_for (circle_of self.old.numbers) asked self.old.rows.items }
         ensures requesters { self.new.requesters ≡ self.old.requesters }
         ensures numbers { self.new.numbers ≡ self.old.numbers }
     {
@@ -103,7 +102,7 @@ impl Rows {
 
     /// Counts a requester among those that have rows.
     fn add_requester(&mut self, requester: u8) -> Result<(), AllocError>
-        ensures requesters { OnOk result (self.new.requesters.items ≡ (if list_any (λ q. q == requester) self.old.requesters.items then self.old.requesters.items else requester ∷ self.old.requesters.items)) }
+        ensures requesters { OnOk result (self.new.requesters.items ≡ with_requester requester self.old.requesters.items) }
         ensures rows { self.new.rows ≡ self.old.rows }
         ensures numbers { self.new.numbers ≡ self.old.numbers }
     {
@@ -115,7 +114,7 @@ impl Rows {
 
     /// Carries a request out.
     fn carry(&mut self, asked: Asked, place: usize) -> Result<(), AllocError>
-        ensures keeps { OnOk result ((log : List Entry) → Keeps self.old log → Keeps self.new (Carried (kept_of (record { asked = asked; place = place })) ∷ log)) }
+        ensures keeps { OnOk result (KeepsCarried self.old self.new asked place) }
         ensures numbers { self.new.numbers ≡ self.old.numbers }
     {
         self.make_room(asked);
@@ -142,7 +141,7 @@ impl Rows {
 
     /// Forgets a requester's rows.
     pub fn idle(&mut self, requester: u8)
-        ensures keeps { (log : List Entry) → Keeps self.old log → Keeps self.new (Idled requester ∷ log) }
+        ensures keeps { KeepsIdle self.old self.new requester }
         ensures numbers { self.new.numbers ≡ self.old.numbers }
     {
         self.rows.retain(|row| row.asked.requester != requester);
