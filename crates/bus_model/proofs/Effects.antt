@@ -31,6 +31,7 @@ module _ (b : Bus) (numbers : IsNumbering b) where
         taken = refl;
         opened = subst (λ (n : ℕ). slice_get s.begun n ≡ Some bytes) is at;
         first = slice_get_past s.carried (length s.taken) (omega arith);
+        carried = (k, refl, refl, refl);
         kept = subst (λ (m : ℕ). IsKeptFor (s.carried ++ k ∷ []) m answer) is (record { kept = k; at = kept_is; replied = refl });
       }
 

@@ -1,19 +1,19 @@
 -- What holds of a bus on which messages go in packets, at every event of an honest schedule.
-use Rattle.std.proofs.Common.{◌≡◌, ℕ, ◌+◌, ◌<◌, ◌≤◌, true, false, List, [], ◌∷◌, length, Option, Some, None, refl, sym, ◌∙◌, ap, subst, arith, ◌⊎◌, inl, inr}
-use Rattle.std.specs.Prelude.{slice_get, IfSome, MatchOption}
-use Rattle.std.proofs.lemmas.Bool.{cond_both, and_parts, eqb-true, ltb-true}
+use Rattle.std.proofs.Common.{◌≡◌, ℕ, ◌+◌, ◌<◌, ◌≤◌, Bool, true, false, cond, List, [], ◌∷◌, length, Option, Some, None, refl, sym, ◌∙◌, ap, subst, arith, inl, inr}
+use Rattle.std.specs.Prelude.{slice_get, IfSome}
+use Rattle.std.proofs.lemmas.Bool.{cond_both, cases_Bool, and_parts, eqb-true, ltb-true}
 use Rattle.std.proofs.lemmas.Option.{slice_get_within}
 use Rattle.bus_model.specs.Request.{Entry, carried_since}
 use Rattle.bus_model.specs.Numbering.{Bus, tag_of}
-use Rattle.bus_model.specs.BusState.{BusState, Frame, Content, Ask, Reply, Event, Begins, SendsAgain, ReachesPort, ReachesManager, OtherAsks, IsIdle, opening, is_open, begins, sends_again, comes, carried_content, taken_content, takes_if, happens}
+use Rattle.bus_model.specs.BusState.{BusState, Frame, Content, Ask, Reply, Event, Begins, SendsAgain, ReachesPort, ReachesManager, OtherAsks, IsIdle, opening, is_open, begins, sends_again, comes, taken_content, takes_if, happens}
 use Rattle.bus_model.specs.Schedule.{IsLive, IsHonest}
-use Rattle.bus_model.specs.Effect.{SameRequests, IsCarried, IsTaken}
+use Rattle.bus_model.specs.Effect.{SameRequests}
 use Rattle.bus_model.specs.Repeat.{In}
 use Rattle.bus_model.specs.Packet.{Packet, IsCutting}
 use Rattle.bus_model.specs.Assembly.{Name, Sent, Step, Waits, Whole, Drops, IsWhole, takes, waiting, message_of}
 use Rattle.bus_model.specs.PacketBus.{PacketBus, rules_of, request_name, reply_name, Ends, PacketEvent, Plain, PacketReachesPort, PacketReachesManager, OtherPacket, Closes, Clears, set_at, is_awaited, whole_comes, whole_returns, whole_other, port_takes, manager_takes, packet_comes, packet_returns, packet_at_port, packet_at_manager, packet_happens, packet_run, opening_ends}
 use Rattle.bus_model.specs.PacketSchedule.{RecentWhereWhole, PacketMayJoin, JoinsAtPort, IsPlain, IsPacketHonest, AllPacketHonest}
-use Rattle.bus_model.specs.PacketEffect.{PortEffect, ManagerEffect, HasPacketEffect}
+use Rattle.bus_model.specs.PacketEffect.{step_of, whole_request, whole_reply, completed_request, completed_reply, PortEffect, ManagerEffect, FrameAtPort, FrameAtManager, HasPacketEffect}
 use Rattle.bus_model.proofs.Lists.{length_more}
 use Rattle.bus_model.proofs.NumberLaws.{smbus_numbers}
 use Rattle.bus_model.proofs.Sound.{Fits}
@@ -27,9 +27,12 @@ use Rattle.bus_model.proofs.PacketSteps.{in_slice, in_rest, in_waiting, named, a
 pub same_requests : (s : BusState) → SameRequests s s
 same_requests s = record { begun = refl; carried = refl; taken = refl }
 
-pub either_effect : (o : Option (List ℕ)) (same : Type 0) (moves : List ℕ → Type 0) → MatchOption o same moves → same ⊎ ((x : List ℕ) × moves x)
-either_effect None same moves h = inl h
-either_effect (Some x) same moves h = inr (x, h)
+-- nothing is complete, and nothing moves
+pub port_still : (b : Bus) (n : ℕ) (content : Content) (answer : List ℕ) (s : BusState) → PortEffect b n content None answer s s
+port_still b n content answer s = record { as_sent = tt; moves = same_requests s }
+
+pub manager_still : (b : Bus) (content : Content) (s : BusState) → ManagerEffect b content None s s
+manager_still b content s = record { as_sent = tt; moves = same_requests s }
 
 -- an event that brings no frame to an end takes no reply
 module _ (b : Bus) where
@@ -109,9 +112,9 @@ module _ (b : PacketBus) (cutting : IsCutting b.split) (before : List Entry) whe
   }
 
   whole_comes_keeps : (s : BusState) (h : Holds rules s) → LogShows rules before s → (answer : List ℕ) (n : ℕ) (bytes : List ℕ) (st : Step) → WholeIs bytes st → h.floor ≤ n → length s.begun ≤ n + 8 → slice_get s.begun n ≡ Some bytes
-      → Keeps s (whole_comes rules answer n st s) × PortEffect s (whole_comes rules answer n st s) answer
-  whole_comes_keeps s h shows answer n bytes Waits is above live at = (keeps_still s h shows, inl (same_requests s))
-  whole_comes_keeps s h shows answer n bytes Drops is above live at = (keeps_still s h shows, inl (same_requests s))
+      → Keeps s (whole_comes rules answer n st s) × PortEffect rules n (Ask bytes) (whole_request st) answer s (whole_comes rules answer n st s)
+  whole_comes_keeps s h shows answer n bytes Waits is above live at = (keeps_still s h shows, port_still rules n (Ask bytes) answer s)
+  whole_comes_keeps s h shows answer n bytes Drops is above live at = (keeps_still s h shows, port_still rules n (Ask bytes) answer s)
   whole_comes_keeps s h shows answer n bytes (Whole ss) is above live at =
       let content = Ask (message_of ss) in
       let fits : Fits rules s.begun s.carried n content = at ∙ ap (λ (x : List ℕ). Some x) (sym is) in
@@ -124,8 +127,7 @@ module _ (b : PacketBus) (cutting : IsCutting b.split) (before : List Entry) whe
           taken = refl;
           longer = omega arith;
         },
-        either_effect (carried_content rules n content s) (SameRequests s new) (λ bytes. IsCarried s new bytes answer)
-            (comes_effect rules numbers s h answer n content above live fits),
+        record { as_sent = ap (λ (x : List ℕ). Ask x) is; moves = comes_effect rules numbers s h answer n content above live fits },
       )
 
   plain_keeps : (s : BusState) (h : Holds rules s) → LogShows rules before s → (e : Event) → IsPlain e → IsHonest rules s e → Keeps s (happens rules s e)
@@ -150,8 +152,8 @@ module _ (b : PacketBus) (cutting : IsCutting b.split) (before : List Entry) whe
 
   -- a packet reaches the port
   port_step : (x : Ends) → EndsHold x → (answer : List ℕ) (n idles : ℕ) (bytes : List ℕ) (place : ℕ) (o : Option Packet) → slice_get (b.split bytes) place ≡ o → (h : Holds rules x.bus) → h.floor ≤ n → length x.bus.begun ≤ n + 8 → slice_get x.bus.begun n ≡ Some bytes
-      → PacketMayJoin RecentWhereWhole rules x.bus (x.port (request_name b n)) n idles o → EndsHold (port_takes b answer n idles o x) × PortEffect x.bus (port_takes b answer n idles o x).bus answer
-  port_step x ok answer n idles bytes place None e h above live at joins = (ok, inl (same_requests x.bus))
+      → PacketMayJoin RecentWhereWhole rules x.bus (x.port (request_name b n)) n idles o → EndsHold (port_takes b answer n idles o x) × PortEffect rules n (Ask bytes) (whole_request (step_of x.port (request_name b n) n idles o)) answer x.bus (port_takes b answer n idles o x).bus
+  port_step x ok answer n idles bytes place None e h above live at joins = (ok, port_still rules n (Ask bytes) answer x.bus)
   port_step x ok answer n idles bytes place (Some p) e h above live at joins =
       let s : Sent = record { request = n; idles = idles; packet = p } in
       let taken = x.port (request_name b n) in
@@ -165,13 +167,13 @@ module _ (b : PacketBus) (cutting : IsCutting b.split) (before : List Entry) whe
       )
 
   content_step : (x : Ends) → EndsHold x → (answer : List ℕ) (place n idles : ℕ) (content : Content) → (h : Holds rules x.bus) → h.floor ≤ n → length x.bus.begun ≤ n + 8 → Fits rules x.bus.begun x.bus.carried n content
-      → JoinsAtPort RecentWhereWhole b x place n idles content → EndsHold (packet_comes b answer place n idles content x) × PortEffect x.bus (packet_comes b answer place n idles content x).bus answer
+      → JoinsAtPort RecentWhereWhole b x place n idles content → EndsHold (packet_comes b answer place n idles content x) × PortEffect rules n content (completed_request b x place n idles content) answer x.bus (packet_comes b answer place n idles content x).bus
   content_step x ok answer place n idles (Ask bytes) h above live fits joins = port_step x ok answer n idles bytes place (slice_get (b.split bytes) place) refl h above live fits joins
-  content_step x ok answer place n idles (Reply number reply) h above live fits joins = (ok, inl (same_requests x.bus))
+  content_step x ok answer place n idles (Reply number reply) h above live fits joins = (ok, port_still rules n (Reply number reply) answer x.bus)
 
   frame_at_port : (x : Ends) → EndsHold x → (which place : ℕ) (answer : List ℕ) (o : Option Frame) → slice_get x.bus.frames which ≡ o
-      → IfSome o (λ f. IsLive rules x.bus f × JoinsAtPort RecentWhereWhole b x place f.request f.idles f.content) → EndsHold (packet_at_port b answer place o x) × PortEffect x.bus (packet_at_port b answer place o x).bus answer
-  frame_at_port x ok which place answer None e honest = (ok, inl (same_requests x.bus))
+      → IfSome o (λ f. IsLive rules x.bus f × JoinsAtPort RecentWhereWhole b x place f.request f.idles f.content) → EndsHold (packet_at_port b answer place o x) × FrameAtPort b x place answer (packet_at_port b answer place o x).bus o
+  frame_at_port x ok which place answer None e honest = (ok, same_requests x.bus)
   frame_at_port x ok which place answer (Some f) e honest =
       let s = ok.holds.sound.frames which f e in
       content_step x ok answer place f.request f.idles f.content ok.holds (s.floor_below honest.0.1) honest.0.0 s.fits honest.1
@@ -185,12 +187,12 @@ module _ (b : PacketBus) (cutting : IsCutting b.split) (before : List Entry) whe
       (one_tag b.first n (length s.taken) (length s.begun) below opened live (omega arith) (eqb-true _ _ parts.1), opened)
 
   -- the bus and what waits, after a packet at the manager
-  record Returned (old new : BusState) (name : Name) (rest : List Sent) (manager : Name → List Sent) : Type 0 where
+  record Returned (content : Content) (complete : Option Content) (old new : BusState) (name : Name) (rest : List Sent) (manager : Name → List Sent) : Type 0 where
     holds : Holds rules new
     shows : LogShows rules before new
     grows : BusGrows old new
     awaited : AllAwaited new (set_at name rest manager)
-    effect : ManagerEffect old new
+    effect : ManagerEffect rules content complete old new
 
   module _ (x : Ends) (ok : EndsHold x) (n number : ℕ) (reply : List ℕ) (live : length x.bus.begun ≤ n + 8) (fits : Fits rules x.bus.begun x.bus.carried n (Reply number (Some reply))) (is_open_one : (n ≡ length x.bus.taken) × (length x.bus.taken < length x.bus.begun)) where
     still_awaited : (rest : List Sent) → IsAwaited x.bus rest → AllAwaited x.bus (set_at (reply_name b n) rest x.manager)
@@ -202,9 +204,9 @@ module _ (b : PacketBus) (cutting : IsCutting b.split) (before : List Entry) whe
         (λ t is. absurd (subst (λ (l : List Sent). In t l) empty is))
         (λ tag differs t is. absurd (differs (sym ((ok.manager tag).tags t is) ∙ ap (tag_of b.first) ((ok.awaited tag t is).0 ∙ sym is_open_one.0))))
 
-    whole_returns_keeps : (st : Step) (rest : List Sent) → WholeIs reply st → (IsWhole st → rest ≡ []) → IsAwaited x.bus rest → Returned x.bus (whole_returns rules number st x.bus) (reply_name b n) rest x.manager
-    whole_returns_keeps Waits rest is empty all = record { holds = ok.holds; shows = ok.shows; grows = stays x.bus; awaited = still_awaited rest all; effect = inl (same_requests x.bus) }
-    whole_returns_keeps Drops rest is empty all = record { holds = ok.holds; shows = ok.shows; grows = stays x.bus; awaited = still_awaited rest all; effect = inl (same_requests x.bus) }
+    whole_returns_keeps : (st : Step) (rest : List Sent) → WholeIs reply st → (IsWhole st → rest ≡ []) → IsAwaited x.bus rest → Returned (Reply number (Some reply)) (whole_reply number st) x.bus (whole_returns rules number st x.bus) (reply_name b n) rest x.manager
+    whole_returns_keeps Waits rest is empty all = record { holds = ok.holds; shows = ok.shows; grows = stays x.bus; awaited = still_awaited rest all; effect = manager_still rules (Reply number (Some reply)) x.bus }
+    whole_returns_keeps Drops rest is empty all = record { holds = ok.holds; shows = ok.shows; grows = stays x.bus; awaited = still_awaited rest all; effect = manager_still rules (Reply number (Some reply)) x.bus }
     whole_returns_keeps (Whole ss) rest is empty all =
         let content = Reply number (Some (message_of ss)) in
         let o = taken_content rules content x.bus in
@@ -215,13 +217,13 @@ module _ (b : PacketBus) (cutting : IsCutting b.split) (before : List Entry) whe
           shows = takes_shows rules before o x.bus ok.shows;
           grows = takes_grow rules o x.bus;
           awaited = none_waits (takes_if o x.bus) rest (empty tt);
-          effect = either_effect o (SameRequests x.bus (takes_if o x.bus)) (λ reply. IsTaken x.bus (takes_if o x.bus) reply) (returns_effect rules numbers x.bus ok.holds n content live new_fits);
+          effect = record { as_sent = ap (λ (x : List ℕ). Reply number (Some x)) is; moves = returns_effect rules numbers x.bus ok.holds n content live new_fits };
         }
 
   -- a packet reaches the manager
   manager_step : (x : Ends) → EndsHold x → (n idles number : ℕ) (reply : List ℕ) (place : ℕ) (o : Option Packet) → slice_get (b.split reply) place ≡ o → length x.bus.begun ≤ n + 8 → Fits rules x.bus.begun x.bus.carried n (Reply number (Some reply))
-      → (n ≡ length x.bus.taken) × (length x.bus.taken < length x.bus.begun) → EndsHold (manager_takes b number n idles o x) × ManagerEffect x.bus (manager_takes b number n idles o x).bus
-  manager_step x ok n idles number reply place None e live fits awaited = (ok, inl (same_requests x.bus))
+      → (n ≡ length x.bus.taken) × (length x.bus.taken < length x.bus.begun) → EndsHold (manager_takes b number n idles o x) × ManagerEffect rules (Reply number (Some reply)) (whole_reply number (step_of x.manager (reply_name b n) n idles o)) x.bus (manager_takes b number n idles o x).bus
+  manager_step x ok n idles number reply place None e live fits awaited = (ok, manager_still rules (Reply number (Some reply)) x.bus)
   manager_step x ok n idles number reply place (Some p) e live fits awaited =
       let at : kept_at x.bus n ≡ Some reply = ap reply_at fits.1.at ∙ ap (λ (r : List ℕ). Some r) fits.1.replied in
       let below = ok.holds.sound.below in let one_open = ok.holds.sound.one_open in
@@ -257,21 +259,27 @@ module _ (b : PacketBus) (cutting : IsCutting b.split) (before : List Entry) whe
   }
 
   reply_step : (x : Ends) → EndsHold x → (place n idles : ℕ) (content : Content) → length x.bus.begun ≤ n + 8 → Fits rules x.bus.begun x.bus.carried n content
-      → EndsHold (packet_returns b place n idles content x) × ManagerEffect x.bus (packet_returns b place n idles content x).bus
-  reply_step x ok place n idles (Ask bytes) live fits = (ok, inl (same_requests x.bus))
+      → EndsHold (packet_returns b place n idles content x) × ManagerEffect rules content (completed_reply b x place n idles content) x.bus (packet_returns b place n idles content x).bus
+  reply_step x ok place n idles (Ask bytes) live fits = (ok, manager_still rules (Ask bytes) x.bus)
   reply_step x ok place n idles (Reply number None) live fits =
-      cond_both (is_awaited b n x.bus) (record x { manager = set_at (reply_name b n) [] x.manager }) x (λ y. EndsHold y × ManagerEffect x.bus y.bus)
-      (λ _. (busy_step x ok n, inl (same_requests x.bus))) (λ _. (ok, inl (same_requests x.bus)))
+      let busy = Reply number None in
+      cond_both (is_awaited b n x.bus) (record x { manager = set_at (reply_name b n) [] x.manager }) x (λ y. EndsHold y × ManagerEffect rules busy None x.bus y.bus)
+      (λ _. (busy_step x ok n, manager_still rules busy x.bus)) (λ _. (ok, manager_still rules busy x.bus))
   reply_step x ok place n idles (Reply number (Some reply)) live fits =
       let o = slice_get (b.split reply) place in
       let within = slice_get_within x.bus.carried n fits.1.kept fits.1.at in
       let below = ok.holds.sound.below in
-      cond_both (is_awaited b n x.bus) (manager_takes b number n idles o x) x (λ y. EndsHold y × ManagerEffect x.bus y.bus)
-      (λ t. manager_step x ok n idles number reply place o refl live fits (awaited_is_open x.bus ok.holds n (omega arith) live t)) (λ _. (ok, inl (same_requests x.bus)))
+      let content = Reply number (Some reply) in
+      let complete = whole_reply number (step_of x.manager (reply_name b n) n idles o) in
+      let Does : Bool → Type 0 = (λ t. let y = cond t (manager_takes b number n idles o x) x in EndsHold y × ManagerEffect rules content (cond t complete None) x.bus y.bus) in
+      elim (cases_Bool (is_awaited b n x.bus)) [
+        | inl t ↦ subst Does (sym t) (manager_step x ok n idles number reply place o refl live fits (awaited_is_open x.bus ok.holds n (omega arith) live t))
+        | inr f ↦ subst Does (sym f) (ok, manager_still rules content x.bus)
+      ]
 
   frame_at_manager : (x : Ends) → EndsHold x → (which place : ℕ) (o : Option Frame) → slice_get x.bus.frames which ≡ o → IfSome o (IsLive rules x.bus)
-      → EndsHold (packet_at_manager b place o x) × ManagerEffect x.bus (packet_at_manager b place o x).bus
-  frame_at_manager x ok which place None e live = (ok, inl (same_requests x.bus))
+      → EndsHold (packet_at_manager b place o x) × FrameAtManager b x place (packet_at_manager b place o x).bus o
+  frame_at_manager x ok which place None e live = (ok, same_requests x.bus)
   frame_at_manager x ok which place (Some f) e live = reply_step x ok place f.request f.idles f.content live.0 (ok.holds.sound.frames which f e).fits
 
   other_step : (x : Ends) → EndsHold x → (name : Name) (packet : Packet) (number : ℕ) (answer : List ℕ) → (name.source ≡ b.manager → ⊥)

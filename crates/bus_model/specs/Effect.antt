@@ -30,6 +30,7 @@ pub record IsCarried (old new : BusState) (bytes reply : List ℕ) : Type 0 wher
   pub taken : new.taken ≡ old.taken
   pub opened : slice_get old.begun (length old.taken) ≡ Some bytes
   pub first : slice_get old.carried (length old.taken) ≡ None
+  pub carried : (k : Kept) × (new.carried ≡ old.carried ++ k ∷ []) × (k.request.bytes ≡ bytes) × (k.reply ≡ reply)
   pub kept : IsKeptFor new.carried (length old.taken) reply
 
 -- the open request's reply is taken, which is the one that is kept for it

@@ -1,25 +1,81 @@
 -- What an event of packets does to the manager's requests.
-use Rattle.std.specs.Prelude.{List, [], ◌∷◌, ◌++◌, ℕ, ◌≡◌, ◌⊎◌}
+use Rattle.std.specs.Prelude.{◌≡◌, List, [], ◌∷◌, ◌++◌, ℕ, Option, Some, None, slice_get, if◌then◌else◌, IfSome, MatchOption}
 use Rattle.bus_model.specs.Request.{Entry, carried_since}
-use Rattle.bus_model.specs.BusState.{BusState}
+use Rattle.bus_model.specs.Numbering.{Bus}
+use Rattle.bus_model.specs.BusState.{BusState, Frame, Content, Ask, Reply, carried_content, taken_content}
 use Rattle.bus_model.specs.Effect.{SameRequests, IsCarried, IsTaken, HasEffect}
-use Rattle.bus_model.specs.Packet.{IsCutting}
-use Rattle.bus_model.specs.PacketBus.{PacketBus, rules_of, Ends, PacketEvent, Plain, PacketReachesPort, PacketReachesManager, OtherPacket, Closes, Clears, packet_happens, packet_run, opening_ends}
+use Rattle.bus_model.specs.Packet.{Packet, IsCutting}
+use Rattle.bus_model.specs.Assembly.{Name, Sent, Step, Waits, Whole, Drops, takes, message_of}
+use Rattle.bus_model.specs.PacketBus.{PacketBus, rules_of, request_name, reply_name, is_awaited, Ends, PacketEvent, Plain, PacketReachesPort, PacketReachesManager, OtherPacket, Closes, Clears, packet_happens, packet_run, opening_ends}
 use Rattle.bus_model.specs.PacketSchedule.{JoinRule, AllPacketHonest}
 
--- at the port: no request of the manager moves, or the open one is carried out for the first time
-abbrev pub PortEffect : BusState → BusState → List ℕ → Type 0
-PortEffect old new answer = SameRequests old new ⊎ ((bytes : List ℕ) × IsCarried old new bytes answer)
+-- what an end does with a packet under a name; a frame has no packet at a place past its last
+abbrev pub step_of : (Name → List Sent) → Name → ℕ → ℕ → Option Packet → Step
+step_of assemblies name n idles None = Drops
+step_of assemblies name n idles (Some p) = (takes (assemblies name) (record { request = n; idles = idles; packet = p })).0
 
--- at the manager: none moves, or the reply that is kept for the open one is taken
-abbrev pub ManagerEffect : BusState → BusState → Type 0
-ManagerEffect old new = SameRequests old new ⊎ ((reply : List ℕ) × IsTaken old new reply)
+-- the request that is complete, or the reply
+abbrev pub whole_request : Step → Option Content
+whole_request (Whole ss) = Some (Ask (message_of ss))
+whole_request Waits = None
+whole_request Drops = None
+
+abbrev pub whole_reply : ℕ → Step → Option Content
+whole_reply number (Whole ss) = Some (Reply number (Some (message_of ss)))
+whole_reply number Waits = None
+whole_reply number Drops = None
+
+-- the request that packet `place` of a frame of request n completes at the port
+abbrev pub completed_request : PacketBus → Ends → ℕ → ℕ → ℕ → Content → Option Content
+completed_request b x place n idles (Ask bytes) = whole_request (step_of x.port (request_name b n) n idles (slice_get (b.split bytes) place))
+completed_request b x place n idles (Reply number reply) = None
+
+-- the reply that packet `place` of a frame of request n completes at the manager
+abbrev pub completed_reply : PacketBus → Ends → ℕ → ℕ → ℕ → Content → Option Content
+completed_reply b x place n idles (Ask bytes) = None
+completed_reply b x place n idles (Reply number None) = None
+completed_reply b x place n idles (Reply number (Some reply)) =
+    if is_awaited b n x.bus
+    then whole_reply number (step_of x.manager (reply_name b n) n idles (slice_get (b.split reply) place))
+    else None
+
+-- what the port carries out of a request that is complete, and what the manager takes of a reply
+abbrev pub carried_of : Bus → ℕ → Option Content → BusState → Option (List ℕ)
+carried_of b n None s = None
+carried_of b n (Some content) s = carried_content b n content s
+
+abbrev pub taken_of : Bus → Option Content → BusState → Option (List ℕ)
+taken_of b None s = None
+taken_of b (Some content) s = taken_content b content s
+
+-- Where a request is complete at the port, it is the one that the frame holds. No request of the manager moves, or, where
+-- the rule says that it is new, it is the open one, and is carried out for the first time.
+pub record PortEffect (b : Bus) (n : ℕ) (content : Content) (complete : Option Content) (answer : List ℕ) (old new : BusState) : Type 0 where
+  pub as_sent : IfSome complete (λ whole. whole ≡ content)
+  pub moves : MatchOption (carried_of b n complete old) (SameRequests old new) (λ bytes. IsCarried old new bytes answer)
+
+-- Where a reply is complete at the manager, it is the one that the frame holds. No request moves, or, where the reply has
+-- the open request's number, it is taken, and is the one that is kept for it.
+pub record ManagerEffect (b : Bus) (content : Content) (complete : Option Content) (old new : BusState) : Type 0 where
+  pub as_sent : IfSome complete (λ whole. whole ≡ content)
+  pub moves : MatchOption (taken_of b complete old) (SameRequests old new) (λ reply. IsTaken old new reply)
+
+-- what a packet of a frame does at the port, and at the manager; nothing, if there is no such frame
+abbrev pub FrameAtPort : PacketBus → Ends → ℕ → List ℕ → BusState → Option Frame → Type 0
+FrameAtPort b x place answer new None = SameRequests x.bus new
+FrameAtPort b x place answer new (Some f) = PortEffect (rules_of b) f.request f.content (completed_request b x place f.request f.idles f.content) answer x.bus new
+
+abbrev pub FrameAtManager : PacketBus → Ends → ℕ → BusState → Option Frame → Type 0
+FrameAtManager b x place new None = SameRequests x.bus new
+FrameAtManager b x place new (Some f) = ManagerEffect (rules_of b) f.content (completed_reply b x place f.request f.idles f.content) x.bus new
 
 -- what each event does
 abbrev pub HasPacketEffect : PacketBus → Ends → PacketEvent → Type 0
 HasPacketEffect b x (Plain e) = HasEffect (rules_of b) x.bus e
-HasPacketEffect b x (PacketReachesPort which place answer) = PortEffect x.bus (packet_happens b x (PacketReachesPort which place answer)).bus answer
-HasPacketEffect b x (PacketReachesManager which place) = ManagerEffect x.bus (packet_happens b x (PacketReachesManager which place)).bus
+HasPacketEffect b x (PacketReachesPort which place answer) =
+    FrameAtPort b x place answer (packet_happens b x (PacketReachesPort which place answer)).bus (slice_get x.bus.frames which)
+HasPacketEffect b x (PacketReachesManager which place) =
+    FrameAtManager b x place (packet_happens b x (PacketReachesManager which place)).bus (slice_get x.bus.frames which)
 HasPacketEffect b x (OtherPacket name packet number answer) = SameRequests x.bus (packet_happens b x (OtherPacket name packet number answer)).bus
 HasPacketEffect b x (Closes name) = SameRequests x.bus (packet_happens b x (Closes name)).bus
 HasPacketEffect b x Clears = SameRequests x.bus (packet_happens b x Clears).bus

@@ -34,14 +34,16 @@ other_start = OtherPacket (record { source = 5; owner = true; tag = 4 }) (record
 
 -- Eight others hold all windows, so the first request finds the port busy (frame 1). One of them becomes idle. Of frame 2
 -- the end is lost, and frame 3's takes its place. The reply, frame 4, is delayed. Frame 5 is a repeat, and of its reply,
--- frame 6, the end comes first and is dropped. After seven newer requests the first one's frame comes again, is answered
--- by frame 21, and after an idle of the manager there is one more request.
+-- frame 6, the end comes first and is dropped. The delayed reply comes while the second request is open, and isn't taken.
+-- After seven newer requests the first one's frame comes again, is answered by frame 21, and after an idle of the manager
+-- there is one more request.
 abbrev pub packet_example : List PacketEvent
 packet_example =
     map Plain (others 8) ++ Plain (Begins (long 7)) ∷ both_reach_port 0 70 ++ PacketReachesManager 1 0
     ∷ Plain (IsIdle 3) ∷ Plain SendsAgain ∷ PacketReachesPort 2 0 [] ∷ other_start ∷ Plain SendsAgain ∷ PacketReachesPort 3 1 (long 71)
-    ∷ Plain SendsAgain ∷ both_reach_port 5 72 ++ PacketReachesManager 6 1 ∷ both_reach_manager 6 ++ PacketReachesManager 4 0 ∷ []
-    ++ packet_rounds 7 7 ++ both_reach_port 3 73 ++ Plain (IsIdle 8) ∷ [] ++ packet_rounds 1 22
+    ∷ Plain SendsAgain ∷ both_reach_port 5 72 ++ PacketReachesManager 6 1 ∷ both_reach_manager 6
+    ++ Plain (Begins (long 31)) ∷ both_reach_manager 4 ++ both_reach_port 7 31 ++ both_reach_manager 4 ++ both_reach_manager 8
+    ++ packet_rounds 6 9 ++ both_reach_port 3 73 ++ Plain (IsIdle 8) ∷ [] ++ packet_rounds 1 22
 
 -- it is honest, and each of so many requests was carried out and its reply taken
 pub record PacketsEndAnswered (b : PacketBus) (events : List PacketEvent) (requests : ℕ) : Type 0 where
@@ -60,6 +62,7 @@ pub record PacketsShowRepeats (b : PacketBus) (events : List PacketEvent) : Type
   pub repeated : PacketHeld b events 6 0 (Reply ((rules_of b).number_of 0) (Some (long 71)))
   pub late_repeated : PacketHeld b events 21 0 (Reply ((rules_of b).number_of 0) (Some (long 71)))
   pub first_taken : slice_get (packet_run b events (opening_ends [])).bus.taken 0 ≡ Some (long 71)
+  pub second_taken : slice_get (packet_run b events (opening_ends [])).bus.taken 1 ≡ Some (long 31)
 
 -- Request 0 is answered, and a late copy of its first packet opens an assembly again. Seven more requests go by, each under
 -- a tag of its own. Request 8 has request 0's tag; its first packet is lost, and its second comes.

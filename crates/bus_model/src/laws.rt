@@ -8,7 +8,7 @@ ghost use Rattle.bus_model.specs.Window.{RowsAreTheRule, WindowsApart};
 ghost use Rattle.bus_model.specs.Schedule.{NoneOpenIsHonest, TestTells};
 ghost use Rattle.bus_model.specs.AtMostOnce.{AlwaysAtMostOnce};
 ghost use Rattle.bus_model.specs.Effect.{EventsHaveEffects};
-ghost use Rattle.bus_model.specs.Packet.{IsCutting, packets_of};
+ghost use Rattle.bus_model.specs.Packet.{IsCutting, CutsAll, packets_of};
 ghost use Rattle.bus_model.specs.PacketSchedule.{LiveWhereJoined, OneRequestWhereJoined, RecentWhereWhole, AlwaysAtMostOnceInPackets, RuleImplies};
 ghost use Rattle.bus_model.specs.PacketEffect.{EventsHavePacketEffects};
 
@@ -78,7 +78,8 @@ pub fn packet_events_have_effects()
     ensures one_request { EventsHavePacketEffects OneRequestWhereJoined }
 {}
 
-/// Runs of 64 bytes, of messages of at most 256, are a way to cut messages.
+/// Runs of 64 bytes are a way to cut messages, and each message of at most 256 bytes is cut.
 pub fn runs_of_64_are_a_cutting()
-    ensures { IsCutting packets_of }
+    ensures cut { IsCutting packets_of }
+    ensures each { CutsAll packets_of }
 {}
