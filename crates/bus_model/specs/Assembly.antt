@@ -8,6 +8,7 @@ pub record Name : Type 0 where
   pub owner : Bool
   pub tag : ℕ
 
+-- two names are the same: equal source, tag owner bit and tag
 abbrev pub is_name : Name → Name → Bool
 is_name m n = ((m.source == n.source) && (if m.owner then n.owner else not n.owner)) && (m.tag == n.tag)
 

@@ -16,6 +16,7 @@ pub record Frame : Type 0 where
   pub idles : ℕ
   pub content : Content
 
+-- the bus: what the manager began and took, what the port did, and every frame that was sent
 pub record BusState : Type 0 where
   pub begun : List (List ℕ)  -- the bytes of the manager's requests, in the order begun
   pub carried : List Kept  -- those that the port carried out, oldest first
@@ -23,6 +24,7 @@ pub record BusState : Type 0 where
   pub log : List Entry  -- what the port did for all requesters, newest first
   pub frames : List Frame  -- every frame that was sent, oldest first
 
+-- what can happen on the bus; a schedule is a list of these
 pub data Event : Type 0 where
   -- the manager begins a request, unless one is open
   Begins : (bytes : List ℕ) → Event
@@ -49,12 +51,15 @@ request_of b n bytes = record { requester = b.manager; number = b.number_of n; b
 abbrev pub is_open : BusState → Bool
 is_open s = nat_lt (length s.taken) (length s.begun)
 
+-- a frame of this request is sent now
 abbrev pub sent : Bus → ℕ → Content → BusState → BusState
 sent b n content s = record s { frames = s.frames ++ record { request = n; idles = idles_of b.manager s.log; content = content } ∷ [] }
 
+-- a request is begun, and its frame is sent
 abbrev pub begins : Bus → List ℕ → BusState → BusState
 begins b bytes s = sent b (length s.begun) (Ask bytes) (record s { begun = s.begun ++ bytes ∷ [] })
 
+-- a frame of the open request is sent again, if one is open
 abbrev pub sends_again : Bus → Option (List ℕ) → BusState → BusState
 sends_again b None s = s
 sends_again b (Some bytes) s = sent b (length s.taken) (Ask bytes) s
@@ -70,6 +75,7 @@ abbrev pub comes : Bus → List ℕ → ℕ → Content → BusState → BusStat
 comes b answer n (Ask bytes) s = hears b n (record { request = request_of b n bytes; reply = answer }) s
 comes b answer n (Reply number reply) s = s
 
+-- the manager takes a reply
 abbrev pub takes : List ℕ → BusState → BusState
 takes reply s = record s { taken = s.taken ++ reply ∷ [] }
 
@@ -80,14 +86,17 @@ taken_content b (Ask bytes) s = None
 taken_content b (Reply number None) s = None
 taken_content b (Reply number (Some reply)) s = if is_open s && (number == b.number_of (length s.taken)) then Some reply else None
 
+-- the manager takes a reply, if there is one
 abbrev pub takes_if : Option (List ℕ) → BusState → BusState
 takes_if None s = s
 takes_if (Some reply) s = takes reply s
 
+-- a frame comes to the port, if there is such a frame
 abbrev pub at_port : Bus → List ℕ → Option Frame → BusState → BusState
 at_port b answer None s = s
 at_port b answer (Some f) s = comes b answer f.request f.content s
 
+-- the reply that the manager takes, if this frame comes
 abbrev pub taken_now : Bus → Option Frame → BusState → Option (List ℕ)
 taken_now b None s = None
 taken_now b (Some f) s = taken_content b f.content s
@@ -98,14 +107,17 @@ new_bytes (Repeats reply) bytes = None
 new_bytes IsBusy bytes = None
 new_bytes IsNew bytes = Some bytes
 
+-- the bytes of the request that the port carries out, if this content of request n comes
 abbrev pub carried_content : Bus → ℕ → Content → BusState → Option (List ℕ)
 carried_content b n (Ask bytes) s = new_bytes (outcome b.is_above (request_of b n bytes) s.log) bytes
 carried_content b n (Reply number reply) s = None
 
+-- the bytes of the request that the port carries out, if this frame comes
 abbrev pub carried_now : Bus → Option Frame → BusState → Option (List ℕ)
 carried_now b None s = None
 carried_now b (Some f) s = carried_content b f.request f.content s
 
+-- the bus after an event
 abbrev pub happens : Bus → BusState → Event → BusState
 happens b s (Begins bytes) = if is_open s then s else begins b bytes s
 happens b s SendsAgain = sends_again b (slice_get s.begun (length s.taken)) s

@@ -33,10 +33,12 @@ abbrev pub replies_under : Bus → ℕ → Content → BusState → BusState
 replies_under b n (Ask bytes) s = sent b n (Reply (b.number_of n) None) s
 replies_under b n (Reply number reply) s = s
 
+-- the port's reply to a frame, if there is such a frame
 abbrev pub replies_to : Bus → Option Frame → BusState → BusState
 replies_to b None s = s
 replies_to b (Some f) s = replies_under b f.request f.content s
 
+-- the newest request is sent again, if any was begun
 abbrev pub sends_newest : Bus → List (List ℕ) → BusState → BusState
 sends_newest b [] s = s
 sends_newest b (bytes ∷ more) s = sent b (length more) (Ask []) s
@@ -48,6 +50,7 @@ after_step numbers SendsAgain s = sends_newest (bus_of numbers) s.begun s
 after_step numbers (Replies which) s = replies_to (bus_of numbers) (slice_get s.frames which) s
 after_step numbers Forgotten s = record s { log = Idled (bus_of numbers).manager ∷ s.log }
 
+-- the bus after so many steps
 abbrev pub after_steps : Numbers → List Step → BusState → BusState
 after_steps numbers [] s = s
 after_steps numbers (step ∷ steps) s = after_steps numbers steps (after_step numbers step s)
@@ -81,5 +84,6 @@ pub record ShowsBus (numbers : Numbers) (begun : ℕ) (frames : List SentFrame) 
   pub frames_are : frames ≡ map (sent_frame (bus_of numbers) s) s.frames
   pub earlier : AllEarlier (idles_of (bus_of numbers).manager s.log) s.frames
 
+-- the plain program's marks are those of a bus
 abbrev pub Shows : Aging → BusState → Type 0
 Shows aging s = ShowsBus aging.numbers aging.begun aging.frames.items s

@@ -17,10 +17,11 @@ pub record PacketBus : Type 0 where
 abbrev pub rules_of : PacketBus → Bus
 rules_of b = smbus b.manager b.first
 
--- the name of request n's packets at the port, where the tag's owner is the requester, and of its reply's at the manager
+-- the name of the packets of request n at the port; the tag's owner is the requester
 abbrev pub request_name : PacketBus → ℕ → Name
 request_name b n = record { source = b.manager; owner = true; tag = tag_of b.first n }
 
+-- the name of the packets of the reply to request n, at the manager
 abbrev pub reply_name : PacketBus → ℕ → Name
 reply_name b n = record { source = b.controller; owner = false; tag = tag_of b.first n }
 
@@ -30,6 +31,7 @@ pub record Ends : Type 0 where
   pub port : Name → List Sent
   pub manager : Name → List Sent
 
+-- what can happen on the bus in packets; a schedule is a list of these
 pub data PacketEvent : Type 0 where
   -- an event that brings no frame to an end
   Plain : (event : Event) → PacketEvent
@@ -48,11 +50,14 @@ pub data PacketEvent : Type 0 where
 abbrev pub set_at : Name → List Sent → (Name → List Sent) → Name → List Sent
 set_at name taken assemblies n = if is_name n name then taken else assemblies n
 
+-- A message that is complete counts as one of its last packet's request. Over honest schedules it is the message that this
+-- packet's frame holds, so that the number which stands in its first packet is the same.
 abbrev pub whole_comes : Bus → List ℕ → ℕ → Step → BusState → BusState
 whole_comes b answer n Waits s = s
 whole_comes b answer n Drops s = s
 whole_comes b answer n (Whole ss) s = comes b answer n (Ask (message_of ss)) s
 
+-- a reply that is complete at the manager, under the number of its last packet's frame
 abbrev pub whole_returns : Bus → ℕ → Step → BusState → BusState
 whole_returns b number Waits s = s
 whole_returns b number Drops s = s
@@ -67,6 +72,7 @@ whole_other b name number answer (Whole ss) s =
     then happens b s (OtherAsks (record { requester = name.source; number = number; bytes = message_of ss }) answer)
     else s
 
+-- the port takes a packet of request n, if there is such a packet
 abbrev pub port_takes : PacketBus → List ℕ → ℕ → ℕ → Option Packet → Ends → Ends
 port_takes b answer n idles None x = x
 port_takes b answer n idles (Some p) x =
@@ -77,17 +83,20 @@ port_takes b answer n idles (Some p) x =
 abbrev pub is_awaited : PacketBus → ℕ → BusState → Bool
 is_awaited b n s = is_open s && (tag_of b.first n == tag_of b.first (length s.taken))
 
+-- the manager takes a packet of a reply to request n, if there is such a packet
 abbrev pub manager_takes : PacketBus → ℕ → ℕ → ℕ → Option Packet → Ends → Ends
 manager_takes b number n idles None x = x
 manager_takes b number n idles (Some p) x =
     let r = takes (x.manager (reply_name b n)) (record { request = n; idles = idles; packet = p }) in
     record x { bus = whole_returns (rules_of b) number r.0 x.bus; manager = set_at (reply_name b n) r.1 x.manager }
 
+-- the port takes a packet of another requester
 abbrev pub other_takes : PacketBus → Name → Packet → ℕ → List ℕ → Ends → Ends
 other_takes b name p number answer x =
     let r = takes (x.port name) (record { request = 0; idles = 0; packet = p }) in
     record x { bus = whole_other (rules_of b) name number answer r.0 x.bus; port = set_at name r.1 x.port }
 
+-- a packet of this content comes to the port; what is of no request is ignored there
 abbrev pub packet_comes : PacketBus → List ℕ → ℕ → ℕ → ℕ → Content → Ends → Ends
 packet_comes b answer place n idles (Ask bytes) x = port_takes b answer n idles (slice_get (b.split bytes) place) x
 packet_comes b answer place n idles (Reply number reply) x = x
@@ -100,14 +109,17 @@ packet_returns b place n idles (Reply number None) x =
 packet_returns b place n idles (Reply number (Some reply)) x =
     if is_awaited b n x.bus then manager_takes b number n idles (slice_get (b.split reply) place) x else x
 
+-- a packet of a frame comes to the port, if there is such a frame
 abbrev pub packet_at_port : PacketBus → List ℕ → ℕ → Option Frame → Ends → Ends
 packet_at_port b answer place None x = x
 packet_at_port b answer place (Some f) x = packet_comes b answer place f.request f.idles f.content x
 
+-- a packet of a frame comes to the manager, if there is such a frame
 abbrev pub packet_at_manager : PacketBus → ℕ → Option Frame → Ends → Ends
 packet_at_manager b place None x = x
 packet_at_manager b place (Some f) x = packet_returns b place f.request f.idles f.content x
 
+-- both ends after an event
 abbrev pub packet_happens : PacketBus → Ends → PacketEvent → Ends
 packet_happens b x (Plain e) = record x { bus = happens (rules_of b) x.bus e }
 packet_happens b x (PacketReachesPort which place answer) = packet_at_port b answer place (slice_get x.bus.frames which) x
@@ -116,6 +128,7 @@ packet_happens b x (OtherPacket name packet number answer) = other_takes b name 
 packet_happens b x (Closes name) = record x { port = set_at name [] x.port }
 packet_happens b x Clears = record x { manager = λ name. [] }
 
+-- both ends after a schedule, event by event
 abbrev pub packet_run : PacketBus → List PacketEvent → Ends → Ends
 packet_run b [] x = x
 packet_run b (e ∷ es) x = packet_run b es (packet_happens b x e)

@@ -14,12 +14,13 @@ abbrev pub step_of : (Name → List Sent) → Name → ℕ → ℕ → Option Pa
 step_of assemblies name n idles None = Drops
 step_of assemblies name n idles (Some p) = (takes (assemblies name) (record { request = n; idles = idles; packet = p })).0
 
--- the request that is complete, or the reply
+-- the request that is complete, if one is
 abbrev pub whole_request : Step → Option Content
 whole_request (Whole ss) = Some (Ask (message_of ss))
 whole_request Waits = None
 whole_request Drops = None
 
+-- the reply that is complete, under this number
 abbrev pub whole_reply : ℕ → Step → Option Content
 whole_reply number (Whole ss) = Some (Reply number (Some (message_of ss)))
 whole_reply number Waits = None
@@ -39,11 +40,12 @@ completed_reply b x place n idles (Reply number (Some reply)) =
     then whole_reply number (step_of x.manager (reply_name b n) n idles (slice_get (b.split reply) place))
     else None
 
--- what the port carries out of a request that is complete, and what the manager takes of a reply
+-- what the port carries out of a request that is complete
 abbrev pub carried_of : Bus → ℕ → Option Content → BusState → Option (List ℕ)
 carried_of b n None s = None
 carried_of b n (Some content) s = carried_content b n content s
 
+-- what the manager takes of a reply that is complete
 abbrev pub taken_of : Bus → Option Content → BusState → Option (List ℕ)
 taken_of b None s = None
 taken_of b (Some content) s = taken_content b content s
@@ -60,11 +62,12 @@ pub record ManagerEffect (b : Bus) (content : Content) (complete : Option Conten
   pub as_sent : IfSome complete (λ whole. whole ≡ content)
   pub moves : MatchOption (taken_of b complete old) (SameRequests old new) (λ reply. IsTaken old new reply)
 
--- what a packet of a frame does at the port, and at the manager; nothing, if there is no such frame
+-- what a packet of a frame does at the port; nothing, if there is no such frame
 abbrev pub FrameAtPort : PacketBus → Ends → ℕ → List ℕ → BusState → Option Frame → Type 0
 FrameAtPort b x place answer new None = SameRequests x.bus new
 FrameAtPort b x place answer new (Some f) = PortEffect (rules_of b) f.request f.content (completed_request b x place f.request f.idles f.content) answer x.bus new
 
+-- what a packet of a frame does at the manager; nothing, if there is no such frame
 abbrev pub FrameAtManager : PacketBus → Ends → ℕ → BusState → Option Frame → Type 0
 FrameAtManager b x place new None = SameRequests x.bus new
 FrameAtManager b x place new (Some f) = ManagerEffect (rules_of b) f.content (completed_reply b x place f.request f.idles f.content) x.bus new

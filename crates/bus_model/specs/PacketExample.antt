@@ -16,10 +16,11 @@ long n = replicate 70 n
 abbrev pub example_bus : ℕ → PacketBus
 example_bus first = record { manager = 8; controller = 10; first = first; split = packets_of }
 
--- both packets of a frame reach the port, or the manager
+-- both packets of a frame reach the port
 abbrev pub both_reach_port : ℕ → ℕ → List PacketEvent
 both_reach_port which answer = PacketReachesPort which 0 [] ∷ PacketReachesPort which 1 (long answer) ∷ []
 
+-- both packets of a frame reach the manager
 abbrev pub both_reach_manager : ℕ → List PacketEvent
 both_reach_manager which = PacketReachesManager which 0 ∷ PacketReachesManager which 1 ∷ []
 
@@ -57,6 +58,7 @@ abbrev pub PacketHeld : PacketBus → List PacketEvent → ℕ → ℕ → Conte
 PacketHeld b events which request content =
     slice_get (packet_run b events (opening_ends [])).bus.frames which ≡ Some (record { request = request; idles = 0; content = content })
 
+-- the busy answer, the kept replies to the repeats, the second after the newer requests, and the replies taken first
 pub record PacketsShowRepeats (b : PacketBus) (events : List PacketEvent) : Type 0 where
   pub busy : PacketHeld b events 1 0 (Reply ((rules_of b).number_of 0) None)
   pub repeated : PacketHeld b events 6 0 (Reply ((rules_of b).number_of 0) (Some (long 71)))

@@ -27,6 +27,7 @@ IsHonest b s (ReachesManager which) = IfSome (slice_get s.frames which) (IsLive 
 IsHonest b s (OtherAsks request answer) = request.requester ≢ b.manager
 IsHonest b s (IsIdle requester) = requester ≡ b.manager → is_open s ≡ false
 
+-- every event of a schedule is honest, where it happens
 abbrev pub AllHonest : Bus → List Event → BusState → Type 0
 AllHonest b [] s = Unit {0}
 AllHonest b (e ∷ es) s = IsHonest b s e × AllHonest b es (happens b s e)

@@ -9,7 +9,7 @@ ghost use Rattle.bus_model.specs.Schedule.{NoneOpenIsHonest, TestTells};
 ghost use Rattle.bus_model.specs.AtMostOnce.{AlwaysAtMostOnce};
 ghost use Rattle.bus_model.specs.Effect.{EventsHaveEffects};
 ghost use Rattle.bus_model.specs.Packet.{IsCutting, CutsAll, packets_of};
-ghost use Rattle.bus_model.specs.PacketSchedule.{LiveWhereJoined, OneRequestWhereJoined, RecentWhereWhole, AlwaysAtMostOnceInPackets, RuleImplies};
+ghost use Rattle.bus_model.specs.PacketSchedule.{LiveWhereJoined, OneRequestWhereJoined, RecentWhereWhole, AlwaysAtMostOnceInPackets, RuleImplies, NoneOpenIsPacketHonest};
 ghost use Rattle.bus_model.specs.PacketEffect.{EventsHavePacketEffects};
 
 /// Over every honest schedule of whole messages the manager's requests are carried out at most once, in the order begun,
@@ -33,7 +33,8 @@ pub fn live_test_tells()
 
 /// A lab that forgets the manager's window only while no request is open on either bus keeps the schedule honest.
 pub fn none_open_is_honest()
-    ensures { NoneOpenIsHonest }
+    ensures whole { NoneOpenIsHonest }
+    ensures in_packets { NoneOpenIsPacketHonest }
 {}
 
 /// The rule for repeated, busy and new requests is its sentence, with numbers modulo 64 and modulo 32, and the requesters
