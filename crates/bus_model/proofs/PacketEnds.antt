@@ -5,18 +5,19 @@ use Rattle.std.proofs.lemmas.Bool.{cond_both, cases_Bool, and_parts, eqb-true, l
 use Rattle.std.proofs.lemmas.Option.{slice_get_within}
 use Rattle.bus_model.specs.Request.{Entry, carried_since}
 use Rattle.bus_model.specs.Numbering.{Bus, tag_of}
-use Rattle.bus_model.specs.BusState.{BusState, Frame, Content, Ask, Reply, Event, Begins, SendsAgain, ReachesPort, ReachesManager, OtherAsks, IsIdle, opening, is_open, begins, sends_again, comes, taken_content, takes_if, happens}
+use Rattle.bus_model.specs.BusState.{BusState, Frame, Content, Ask, Reply, Event, Begins, SendsAgain, ReachesPort, ReachesManager, OtherAsks, OtherReplies, IsIdle, opening, is_open, begins, sends_again, comes, taken_content, takes_if, happens}
 use Rattle.bus_model.specs.Schedule.{IsLive, IsHonest}
 use Rattle.bus_model.specs.Effect.{SameRequests}
 use Rattle.bus_model.specs.Repeat.{In}
 use Rattle.bus_model.specs.Packet.{Packet, IsCutting}
 use Rattle.bus_model.specs.Assembly.{Name, Sent, Step, Waits, Whole, Drops, IsWhole, takes, waiting, message_of}
-use Rattle.bus_model.specs.PacketBus.{PacketBus, rules_of, request_name, reply_name, Ends, PacketEvent, Plain, PacketReachesPort, PacketReachesManager, OtherPacket, Closes, Clears, set_at, is_awaited, whole_comes, whole_returns, whole_other, port_takes, manager_takes, packet_comes, packet_returns, packet_at_port, packet_at_manager, packet_happens, packet_run, opening_ends}
+use Rattle.bus_model.specs.PacketBus.{PacketBus, rules_of, request_name, reply_name, Ends, PacketEvent, Plain, PacketReachesPort, PacketReachesManager, OtherPacket, OtherReplyPacket, Closes, Clears, set_at, is_awaited, whole_comes, whole_returns, whole_other, port_takes, manager_takes, packet_comes, packet_returns, packet_at_port, packet_at_manager, packet_happens, packet_run, opening_ends}
 use Rattle.bus_model.specs.PacketSchedule.{RecentWhereWhole, PacketMayJoin, JoinsAtPort, IsPlain, IsPacketHonest, AllPacketHonest}
 use Rattle.bus_model.specs.PacketEffect.{step_of, whole_request, whole_reply, completed_request, completed_reply, PortEffect, ManagerEffect, FrameAtPort, FrameAtManager, HasPacketEffect}
 use Rattle.bus_model.proofs.Lists.{length_more}
 use Rattle.bus_model.proofs.NumberLaws.{smbus_numbers}
 use Rattle.bus_model.proofs.Sound.{Fits}
+use Rattle.bus_model.proofs.Strangers.{ignored, packet_ignored}
 use Rattle.bus_model.proofs.Steps.{Holds, opening_holds, happens_holds, comes_holds, returns_holds}
 use Rattle.bus_model.proofs.Effects.{comes_effect, returns_effect, has_effect}
 use Rattle.bus_model.proofs.BusGrows.{BusGrows, stays, comes_grow, takes_grow, happens_grows, begun_at, kept_at, reply_at, reply_within, kept_within}
@@ -43,15 +44,16 @@ module _ (b : Bus) where
   again_takes_none s None = (refl, omega arith)
   again_takes_none s (Some bytes) = (refl, omega arith)
 
-  pub plain_takes_none : (s : BusState) (e : Event) → IsPlain e → TakesNone s (happens b s e)
-  plain_takes_none s (Begins bytes) plain =
+  pub plain_takes_none : (s : BusState) (e : Event) → IsPlain e → IsHonest b s e → TakesNone s (happens b s e)
+  plain_takes_none s (Begins bytes) plain honest =
       let more = length_more s.begun bytes in
       cond_both (is_open s) s (begins b bytes s) (TakesNone s) (λ _. (refl, omega arith)) (λ _. (refl, omega arith))
-  plain_takes_none s SendsAgain plain = again_takes_none s (slice_get s.begun (length s.taken))
-  plain_takes_none s (ReachesPort which answer) plain = absurd plain
-  plain_takes_none s (ReachesManager which) plain = absurd plain
-  plain_takes_none s (OtherAsks request answer) plain = (refl, omega arith)
-  plain_takes_none s (IsIdle requester) plain = (refl, omega arith)
+  plain_takes_none s SendsAgain plain honest = again_takes_none s (slice_get s.begun (length s.taken))
+  plain_takes_none s (ReachesPort which answer) plain honest = absurd plain
+  plain_takes_none s (ReachesManager which) plain honest = absurd plain
+  plain_takes_none s (OtherAsks request answer) plain honest = (refl, omega arith)
+  plain_takes_none s (OtherReplies source number reply) plain honest = subst (TakesNone s) (sym (ignored b source number reply s honest)) (refl, omega arith)
+  plain_takes_none s (IsIdle requester) plain honest = (refl, omega arith)
 
 module _ (b : PacketBus) (cutting : IsCutting b.split) (before : List Entry) where
   abbrev pub rules : Bus
@@ -118,7 +120,7 @@ module _ (b : PacketBus) (cutting : IsCutting b.split) (before : List Entry) whe
   whole_comes_keeps s h shows answer n bytes (Whole ss) is above live at =
       let content = Ask (message_of ss) in
       let fits : Fits rules s.begun s.carried n content = at ∙ ap (λ (x : List ℕ). Some x) (sym is) in
-      let numbers = smbus_numbers b.manager b.first in
+      let numbers = smbus_numbers b.manager b.controller b.first in
       let new = comes rules answer n content s in (
         record {
           holds = comes_holds rules numbers s h answer n content above live fits;
@@ -132,9 +134,9 @@ module _ (b : PacketBus) (cutting : IsCutting b.split) (before : List Entry) whe
 
   plain_keeps : (s : BusState) (h : Holds rules s) → LogShows rules before s → (e : Event) → IsPlain e → IsHonest rules s e → Keeps s (happens rules s e)
   plain_keeps s h shows e plain honest =
-      let none = plain_takes_none rules s e plain in
+      let none = plain_takes_none rules s e plain honest in
       record {
-        holds = happens_holds rules (smbus_numbers b.manager b.first) s e h honest;
+        holds = happens_holds rules (smbus_numbers b.manager b.controller b.first) s e h honest;
         shows = happens_shows rules before s e shows honest;
         grows = happens_grows rules s e;
         taken = none.0;
@@ -148,7 +150,7 @@ module _ (b : PacketBus) (cutting : IsCutting b.split) (before : List Entry) whe
   whole_other_keeps s h shows name number answer (Whole ss) other =
       let e = OtherAsks (record { requester = name.source; number = number; bytes = message_of ss }) answer in
       cond_both name.owner (happens rules s e) s (λ new. Keeps s new × SameRequests s new)
-      (λ _. (plain_keeps s h shows e tt other, has_effect rules (smbus_numbers b.manager b.first) s e h other)) (λ _. (keeps_still s h shows, same_requests s))
+      (λ _. (plain_keeps s h shows e tt other, has_effect rules (smbus_numbers b.manager b.controller b.first) s e h other)) (λ _. (keeps_still s h shows, same_requests s))
 
   -- a packet reaches the port
   port_step : (x : Ends) → EndsHold x → (answer : List ℕ) (n idles : ℕ) (bytes : List ℕ) (place : ℕ) (o : Option Packet) → slice_get (b.split bytes) place ≡ o → (h : Holds rules x.bus) → h.floor ≤ n → length x.bus.begun ≤ n + 8 → slice_get x.bus.begun n ≡ Some bytes
@@ -210,7 +212,7 @@ module _ (b : PacketBus) (cutting : IsCutting b.split) (before : List Entry) whe
     whole_returns_keeps (Whole ss) rest is empty all =
         let content = Reply number (Some (message_of ss)) in
         let o = taken_content rules content x.bus in
-        let numbers = smbus_numbers b.manager b.first in
+        let numbers = smbus_numbers b.manager b.controller b.first in
         let new_fits : Fits rules x.bus.begun x.bus.carried n content = (fits.0, record { kept = fits.1.kept; at = fits.1.at; replied = fits.1.replied ∙ sym is }) in
         record {
           holds = returns_holds rules numbers x.bus ok.holds n content live new_fits;
@@ -298,10 +300,12 @@ module _ (b : PacketBus) (cutting : IsCutting b.split) (before : List Entry) whe
   packet_step x (Plain e) ok honest =
       let new = happens rules x.bus e in
       let w = plain_keeps x.bus ok.holds ok.shows e honest.0 honest.1 in
-      (after_step x ok new x.port w (port_grows x.bus new w.grows x.port ok.port), has_effect rules (smbus_numbers b.manager b.first) x.bus e ok.holds honest.1)
+      (after_step x ok new x.port w (port_grows x.bus new w.grows x.port ok.port), has_effect rules (smbus_numbers b.manager b.controller b.first) x.bus e ok.holds honest.1)
   packet_step x (PacketReachesPort which place answer) ok honest = frame_at_port x ok which place answer _ refl honest
   packet_step x (PacketReachesManager which place) ok honest = frame_at_manager x ok which place _ refl honest
   packet_step x (OtherPacket name packet number answer) ok honest = other_step x ok name packet number answer honest
+  packet_step x (OtherReplyPacket name packet number) ok honest =
+      subst (λ (y : Ends). EndsHold y × SameRequests x.bus y.bus) (sym (packet_ignored b x name packet number honest)) (ok, same_requests x.bus)
   packet_step x (Closes name) ok honest = (
     record {
       holds = ok.holds;

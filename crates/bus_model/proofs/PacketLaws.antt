@@ -6,7 +6,7 @@ use Rattle.bus_model.specs.BusState.{BusState, Frame, Content, Ask, Reply}
 use Rattle.bus_model.specs.Schedule.{IsLive}
 use Rattle.bus_model.specs.Packet.{Packet}
 use Rattle.bus_model.specs.Assembly.{Sent, Step, Waits, Whole, Drops, IsWhole, IsJoined, takes}
-use Rattle.bus_model.specs.PacketBus.{PacketBus, rules_of, request_name, Ends, PacketEvent, Plain, PacketReachesPort, PacketReachesManager, OtherPacket, Closes, Clears, packet_happens, packet_run, opening_ends}
+use Rattle.bus_model.specs.PacketBus.{PacketBus, rules_of, request_name, Ends, PacketEvent, Plain, PacketReachesPort, PacketReachesManager, OtherPacket, OtherReplyPacket, Closes, Clears, packet_happens, packet_run, opening_ends}
 use Rattle.bus_model.specs.PacketSchedule.{JoinRule, LiveWhereJoined, OneRequestWhereJoined, RecentWhereWhole, MayJoin, PacketMayJoin, JoinsAtPort, IsPacketHonest, AllPacketHonest, AlwaysAtMostOnceInPackets, RuleImplies, NoneOpenIsPacketHonest}
 use Rattle.bus_model.specs.PacketEffect.{EventsHavePacketEffects}
 use Rattle.bus_model.proofs.WholeMessages.{at_most_once_from, none_open}
@@ -52,6 +52,7 @@ module _ (rule : JoinRule) (asks : AsksNoLess rule) (b : PacketBus) where
   event_implies x (PacketReachesPort which place answer) honest = frame_implies x place (slice_get x.bus.frames which) honest
   event_implies x (PacketReachesManager which place) honest = honest
   event_implies x (OtherPacket name packet number answer) honest = honest
+  event_implies x (OtherReplyPacket name packet number) honest = honest
   event_implies x (Closes name) honest = honest
   event_implies x Clears honest = honest
 

@@ -36,6 +36,8 @@ pub data Event : Type 0 where
   ReachesManager : (which : ℕ) → Event
   -- somebody else's request reaches the port
   OtherAsks : (request : Request) (answer : List ℕ) → Event
+  -- somebody else's frame reaches the manager, from this address: a reply under this number
+  OtherReplies : (source number : ℕ) (reply : List ℕ) → Event
   -- the port forgets a requester's window
   IsIdle : (requester : ℕ) → Event
 
@@ -86,6 +88,10 @@ taken_content b (Ask bytes) s = None
 taken_content b (Reply number None) s = None
 taken_content b (Reply number (Some reply)) s = if is_open s && (number == b.number_of (length s.taken)) then Some reply else None
 
+-- the manager takes no reply but from the controller's address
+abbrev pub taken_from : Bus → ℕ → ℕ → List ℕ → BusState → Option (List ℕ)
+taken_from b source number reply s = if source == b.controller then taken_content b (Reply number (Some reply)) s else None
+
 -- the manager takes a reply, if there is one
 abbrev pub takes_if : Option (List ℕ) → BusState → BusState
 takes_if None s = s
@@ -124,6 +130,7 @@ happens b s SendsAgain = sends_again b (slice_get s.begun (length s.taken)) s
 happens b s (ReachesPort which answer) = at_port b answer (slice_get s.frames which) s
 happens b s (ReachesManager which) = takes_if (taken_now b (slice_get s.frames which) s) s
 happens b s (OtherAsks request answer) = record s { log = log_with b.is_above (HeardRequest (record { request = request; reply = answer })) s.log }
+happens b s (OtherReplies source number reply) = takes_if (taken_from b source number reply s) s
 happens b s (IsIdle requester) = record s { log = Idled requester ∷ s.log }
 
 -- the state after a schedule, event by event

@@ -14,10 +14,10 @@ use Rattle.bus_model.specs.declared.live_frames.Step.{Step}
 use Rattle.bus_model.specs.declared.live_frames.Step.TheVariants.{Begins, SendsAgain, Replies, Forgotten}
 use Rattle.bus_model.specs.declared.live_frames.Aging.{Aging}
 
--- a bus whose manager is 0, with requests from 0 on
+-- a bus whose manager is 0 and whose controller is 1, with requests from 0 on
 abbrev pub bus_of : Numbers → Bus
-bus_of Ipmb = ipmb 0 0
-bus_of Pldm = smbus 0 0
+bus_of Ipmb = ipmb 0 1 0
+bus_of Pldm = smbus 0 1 0
 
 -- where the content goes
 abbrev pub end_of : Content → End

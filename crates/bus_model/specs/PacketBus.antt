@@ -15,7 +15,7 @@ pub record PacketBus : Type 0 where
 
 -- its rules for whole messages
 abbrev pub rules_of : PacketBus → Bus
-rules_of b = smbus b.manager b.first
+rules_of b = smbus b.manager b.controller b.first
 
 -- the name of the packets of request n at the port; the tag's owner is the requester
 abbrev pub request_name : PacketBus → ℕ → Name
@@ -41,6 +41,8 @@ pub data PacketEvent : Type 0 where
   PacketReachesManager : (which place : ℕ) → PacketEvent
   -- somebody else's packet reaches the port; `number` is the instance that a message which it completes has
   OtherPacket : (name : Name) (packet : Packet) (number : ℕ) (answer : List ℕ) → PacketEvent
+  -- somebody else's packet reaches the manager; `number` is the instance that a reply which it completes has
+  OtherReplyPacket : (name : Name) (packet : Packet) (number : ℕ) → PacketEvent
   -- the port closes an assembly, as where it has no slot for a start of that name
   Closes : (name : Name) → PacketEvent
   -- the manager drops what waits at it, as where it begins to undo
@@ -96,6 +98,11 @@ other_takes b name p number answer x =
     let r = takes (x.port name) (record { request = 0; idles = 0; packet = p }) in
     record x { bus = whole_other (rules_of b) name number answer r.0 x.bus; port = set_at name r.1 x.port }
 
+-- the manager takes a packet of another only under the open request's reply's name
+abbrev pub other_returns : PacketBus → Name → Packet → ℕ → Ends → Ends
+other_returns b name p number x =
+    if is_open x.bus && is_name name (reply_name b (length x.bus.taken)) then manager_takes b number (length x.bus.taken) 0 (Some p) x else x
+
 -- a packet of this content comes to the port; what is of no request is ignored there
 abbrev pub packet_comes : PacketBus → List ℕ → ℕ → ℕ → ℕ → Content → Ends → Ends
 packet_comes b answer place n idles (Ask bytes) x = port_takes b answer n idles (slice_get (b.split bytes) place) x
@@ -125,6 +132,7 @@ packet_happens b x (Plain e) = record x { bus = happens (rules_of b) x.bus e }
 packet_happens b x (PacketReachesPort which place answer) = packet_at_port b answer place (slice_get x.bus.frames which) x
 packet_happens b x (PacketReachesManager which place) = packet_at_manager b place (slice_get x.bus.frames which) x
 packet_happens b x (OtherPacket name packet number answer) = other_takes b name packet number answer x
+packet_happens b x (OtherReplyPacket name packet number) = other_returns b name packet number x
 packet_happens b x (Closes name) = record x { port = set_at name [] x.port }
 packet_happens b x Clears = record x { manager = λ name. [] }
 

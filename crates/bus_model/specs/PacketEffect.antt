@@ -6,7 +6,7 @@ use Rattle.bus_model.specs.BusState.{BusState, Frame, Content, Ask, Reply, carri
 use Rattle.bus_model.specs.Effect.{SameRequests, IsCarried, IsTaken, HasEffect}
 use Rattle.bus_model.specs.Packet.{Packet, IsCutting}
 use Rattle.bus_model.specs.Assembly.{Name, Sent, Step, Waits, Whole, Drops, takes, message_of}
-use Rattle.bus_model.specs.PacketBus.{PacketBus, rules_of, request_name, reply_name, is_awaited, Ends, PacketEvent, Plain, PacketReachesPort, PacketReachesManager, OtherPacket, Closes, Clears, packet_happens, packet_run, opening_ends}
+use Rattle.bus_model.specs.PacketBus.{PacketBus, rules_of, request_name, reply_name, is_awaited, Ends, PacketEvent, Plain, PacketReachesPort, PacketReachesManager, OtherPacket, OtherReplyPacket, Closes, Clears, packet_happens, packet_run, opening_ends}
 use Rattle.bus_model.specs.PacketSchedule.{JoinRule, AllPacketHonest}
 
 -- what an end does with a packet under a name; a frame has no packet at a place past its last
@@ -80,6 +80,7 @@ HasPacketEffect b x (PacketReachesPort which place answer) =
 HasPacketEffect b x (PacketReachesManager which place) =
     FrameAtManager b x place (packet_happens b x (PacketReachesManager which place)).bus (slice_get x.bus.frames which)
 HasPacketEffect b x (OtherPacket name packet number answer) = SameRequests x.bus (packet_happens b x (OtherPacket name packet number answer)).bus
+HasPacketEffect b x (OtherReplyPacket name packet number) = SameRequests x.bus (packet_happens b x (OtherReplyPacket name packet number)).bus
 HasPacketEffect b x (Closes name) = SameRequests x.bus (packet_happens b x (Closes name)).bus
 HasPacketEffect b x Clears = SameRequests x.bus (packet_happens b x Clears).bus
 

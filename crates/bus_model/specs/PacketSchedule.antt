@@ -7,7 +7,7 @@ use Rattle.bus_model.specs.Schedule.{IsLive, IsHonest}
 use Rattle.bus_model.specs.Repeat.{In}
 use Rattle.bus_model.specs.Packet.{Packet, IsCutting}
 use Rattle.bus_model.specs.Assembly.{Sent, IsWhole, IsJoined, takes, waiting}
-use Rattle.bus_model.specs.PacketBus.{PacketBus, rules_of, request_name, Ends, PacketEvent, Plain, PacketReachesPort, PacketReachesManager, OtherPacket, Closes, Clears, packet_happens, packet_run, opening_ends}
+use Rattle.bus_model.specs.PacketBus.{PacketBus, rules_of, request_name, Ends, PacketEvent, Plain, PacketReachesPort, PacketReachesManager, OtherPacket, OtherReplyPacket, Closes, Clears, packet_happens, packet_run, opening_ends}
 use Rattle.bus_model.specs.AtMostOnce.{AtMostOnce}
 
 -- What is asked of the packets that wait at the port where another is joined to them. Nothing need be asked of the
@@ -46,7 +46,8 @@ IsPlain (ReachesPort which answer) = ⊥
 IsPlain (ReachesManager which) = ⊥
 IsPlain _ = Unit {0}
 
--- only packets of live frames are delivered, joined to others at the port by the rule, and nobody else uses the manager's endpoint
+-- only packets of live frames are delivered, joined to others at the port by the rule, and nobody else uses
+-- the manager's endpoint, or replies from the controller's
 abbrev pub IsPacketHonest : JoinRule → PacketBus → Ends → PacketEvent → Type 0
 IsPacketHonest rule b x (Plain e) = IsPlain e × IsHonest (rules_of b) x.bus e
 IsPacketHonest rule b x (PacketReachesPort which place answer) =
@@ -54,6 +55,7 @@ IsPacketHonest rule b x (PacketReachesPort which place answer) =
 IsPacketHonest rule b x (PacketReachesManager which place) =
     IfSome (slice_get x.bus.frames which) (IsLive (rules_of b) x.bus)
 IsPacketHonest rule b x (OtherPacket name packet number answer) = name.source ≢ b.manager
+IsPacketHonest rule b x (OtherReplyPacket name packet number) = name.source ≢ b.controller
 IsPacketHonest rule b x (Closes name) = Unit {0}
 IsPacketHonest rule b x Clears = Unit {0}
 

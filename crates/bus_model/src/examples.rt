@@ -7,14 +7,14 @@ ghost use Rattle.bus_model.specs.PacketExample.{PacketsEndAnswered, PacketsShowR
 /// On IPMB, with sequence numbers from 60 on: a busy answer, an idle, a lost frame, a delayed reply, and a repeat after 31
 /// newer requests. All 33 requests are answered.
 pub fn ipmb_schedule_ends_answered()
-    ensures ends { EndsAnswered (ipmb 44 60) ipmb_example 33 }
-    ensures shows { ShowsRepeats (ipmb 44 60) ipmb_example 69 }
+    ensures ends { EndsAnswered (ipmb 44 32 60) ipmb_example 33 }
+    ensures shows { ShowsRepeats (ipmb 44 32 60) ipmb_example 69 }
 {}
 
 /// On SMBus in whole messages, with instances from 28 on: the same with 7 newer requests.
 pub fn smbus_schedule_ends_answered()
-    ensures ends { EndsAnswered (smbus 44 28) smbus_example 9 }
-    ensures shows { ShowsRepeats (smbus 44 28) smbus_example 21 }
+    ensures ends { EndsAnswered (smbus 44 32 28) smbus_example 9 }
+    ensures shows { ShowsRepeats (smbus 44 32 28) smbus_example 21 }
 {}
 
 /// In packets, two for each message: a lost end that a later copy's takes the place of, packets out of order, and another

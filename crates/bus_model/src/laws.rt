@@ -15,15 +15,15 @@ ghost use Rattle.bus_model.specs.PacketEffect.{EventsHavePacketEffects};
 /// Over every honest schedule of whole messages the manager's requests are carried out at most once, in the order begun,
 /// and it takes for each the reply that is kept for it.
 pub fn requests_are_carried_at_most_once()
-    ensures ipmb { (manager first : ℕ) → AlwaysAtMostOnce (ipmb manager first) }
-    ensures smbus { (manager first : ℕ) → AlwaysAtMostOnce (smbus manager first) }
+    ensures ipmb { (manager controller first : ℕ) → AlwaysAtMostOnce (ipmb manager controller first) }
+    ensures smbus { (manager controller first : ℕ) → AlwaysAtMostOnce (smbus manager controller first) }
 {}
 
 /// What each honest event does to the open request: nothing, or it is carried out for the first time, or the reply that
 /// is kept for it is taken.
 pub fn events_have_effects()
-    ensures ipmb { (manager first : ℕ) → EventsHaveEffects (ipmb manager first) }
-    ensures smbus { (manager first : ℕ) → EventsHaveEffects (smbus manager first) }
+    ensures ipmb { (manager controller first : ℕ) → EventsHaveEffects (ipmb manager controller first) }
+    ensures smbus { (manager controller first : ℕ) → EventsHaveEffects (smbus manager controller first) }
 {}
 
 /// Whether a frame is live can be tested: the test is what the plain program of live frames computes.
