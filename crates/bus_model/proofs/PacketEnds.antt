@@ -5,7 +5,7 @@ use Rattle.std.proofs.lemmas.Bool.{cond_both, cases_Bool, and_parts, eqb-true, l
 use Rattle.std.proofs.lemmas.Option.{slice_get_within}
 use Rattle.bus_model.specs.Request.{Entry, carried_since}
 use Rattle.bus_model.specs.Numbering.{Bus, tag_of}
-use Rattle.bus_model.specs.BusState.{BusState, Frame, Content, Ask, Reply, Event, Begins, SendsAgain, ReachesPort, ReachesManager, OtherAsks, OtherReplies, IsIdle, opening, is_open, begins, sends_again, comes, taken_content, takes_if, happens}
+use Rattle.bus_model.specs.BusState.{BusState, Frame, Content, Ask, Reply, Event, Begins, SendsAgain, ReachesPort, ReachesManager, OtherAsks, OtherReplies, IsIdle, opening, is_open, begins, sends_again, request_of, hears, taken_content, takes_if, happens}
 use Rattle.bus_model.specs.Schedule.{IsLive, IsHonest}
 use Rattle.bus_model.specs.Effect.{SameRequests}
 use Rattle.bus_model.specs.Repeat.{In}
@@ -23,7 +23,7 @@ use Rattle.bus_model.proofs.Effects.{comes_effect, returns_effect, has_effect}
 use Rattle.bus_model.proofs.BusGrows.{BusGrows, stays, comes_grow, takes_grow, happens_grows, begun_at, kept_at, reply_at, reply_within, kept_within}
 use Rattle.bus_model.proofs.InLog.{LogShows, opening_shows, comes_shows, takes_shows, happens_shows}
 use Rattle.bus_model.proofs.Assemblies.{one_tag}
-use Rattle.bus_model.proofs.PacketSteps.{in_slice, in_rest, in_waiting, named, at_tag, at_tag_alone, at_other, at_empty, takes_whole, WholeIs, IsAssembly, nothing, assembly_grows, assembly_step}
+use Rattle.bus_model.proofs.PacketSteps.{in_slice, in_rest, in_waiting, named, at_tag, at_tag_alone, at_other, at_empty, takes_whole, WholeIs, FirstIs, IsAssembly, nothing, assembly_grows, assembly_step}
 
 pub same_requests : (s : BusState) → SameRequests s s
 same_requests s = record { begun = refl; carried = refl; taken = refl }
@@ -113,15 +113,17 @@ module _ (b : PacketBus) (cutting : IsCutting b.split) (before : List Entry) whe
     awaited = awaited_still x.bus new x.manager w.taken w.longer ok.awaited;
   }
 
-  whole_comes_keeps : (s : BusState) (h : Holds rules s) → LogShows rules before s → (answer : List ℕ) (n : ℕ) (bytes : List ℕ) (st : Step) → WholeIs bytes st → h.floor ≤ n → length s.begun ≤ n + 8 → slice_get s.begun n ≡ Some bytes
-      → Keeps s (whole_comes rules answer n st s) × PortEffect rules n (Ask bytes) (whole_request st) answer s (whole_comes rules answer n st s)
-  whole_comes_keeps s h shows answer n bytes Waits is above live at = (keeps_still s h shows, port_still rules n (Ask bytes) answer s)
-  whole_comes_keeps s h shows answer n bytes Drops is above live at = (keeps_still s h shows, port_still rules n (Ask bytes) answer s)
-  whole_comes_keeps s h shows answer n bytes (Whole ss) is above live at =
+  whole_comes_keeps : (s : BusState) (h : Holds rules s) → LogShows rules before s → (answer : List ℕ) (n : ℕ) (bytes : List ℕ) (st : Step) → WholeIs bytes st → FirstIs n st → h.floor ≤ n → length s.begun ≤ n + 8 → slice_get s.begun n ≡ Some bytes
+      → Keeps s (whole_comes rules answer n st s) × PortEffect rules n (Ask bytes) (whole_request rules n st) answer s (whole_comes rules answer n st s)
+  whole_comes_keeps s h shows answer n bytes Waits is first above live at = (keeps_still s h shows, port_still rules n (Ask bytes) answer s)
+  whole_comes_keeps s h shows answer n bytes Drops is first above live at = (keeps_still s h shows, port_still rules n (Ask bytes) answer s)
+  whole_comes_keeps s h shows answer n bytes (Whole ss) is first above live at =
       let content = Ask (message_of ss) in
       let fits : Fits rules s.begun s.carried n content = at ∙ ap (λ (x : List ℕ). Some x) (sym is) in
       let numbers = smbus_numbers b.manager b.controller b.first in
-      let new = comes rules answer n content s in (
+      let hears_as : ℕ → BusState = (λ m. hears rules n (record { request = request_of rules m (message_of ss); reply = answer }) s) in
+      let Does : ℕ → Type 0 = (λ m. Keeps s (hears_as m) × PortEffect rules n (Ask bytes) (Some (request_of rules m (message_of ss))) answer s (hears_as m)) in
+      let one : Does n = (
         record {
           holds = comes_holds rules numbers s h answer n content above live fits;
           shows = comes_shows rules before answer n content s shows;
@@ -129,8 +131,9 @@ module _ (b : PacketBus) (cutting : IsCutting b.split) (before : List Entry) whe
           taken = refl;
           longer = omega arith;
         },
-        record { as_sent = ap (λ (x : List ℕ). Ask x) is; moves = comes_effect rules numbers s h answer n content above live fits },
-      )
+        record { as_sent = ap (λ (x : List ℕ). request_of rules n x) is; moves = comes_effect rules numbers s h answer n content above live fits },
+      ) in
+      subst Does (sym first) one
 
   plain_keeps : (s : BusState) (h : Holds rules s) → LogShows rules before s → (e : Event) → IsPlain e → IsHonest rules s e → Keeps s (happens rules s e)
   plain_keeps s h shows e plain honest =
@@ -154,14 +157,14 @@ module _ (b : PacketBus) (cutting : IsCutting b.split) (before : List Entry) whe
 
   -- a packet reaches the port
   port_step : (x : Ends) → EndsHold x → (answer : List ℕ) (n idles : ℕ) (bytes : List ℕ) (place : ℕ) (o : Option Packet) → slice_get (b.split bytes) place ≡ o → (h : Holds rules x.bus) → h.floor ≤ n → length x.bus.begun ≤ n + 8 → slice_get x.bus.begun n ≡ Some bytes
-      → PacketMayJoin RecentWhereWhole rules x.bus (x.port (request_name b n)) n idles o → EndsHold (port_takes b answer n idles o x) × PortEffect rules n (Ask bytes) (whole_request (step_of x.port (request_name b n) n idles o)) answer x.bus (port_takes b answer n idles o x).bus
+      → PacketMayJoin RecentWhereWhole rules x.bus (x.port (request_name b n)) n idles o → EndsHold (port_takes b answer n idles o x) × PortEffect rules n (Ask bytes) (whole_request rules n (step_of x.port (request_name b n) n idles o)) answer x.bus (port_takes b answer n idles o x).bus
   port_step x ok answer n idles bytes place None e h above live at joins = (ok, port_still rules n (Ask bytes) answer x.bus)
   port_step x ok answer n idles bytes place (Some p) e h above live at joins =
       let s : Sent = record { request = n; idles = idles; packet = p } in
       let taken = x.port (request_name b n) in
       let r = assembly_step b.first b.split cutting (begun_at x.bus) (length x.bus.begun) (λ n bytes e. slice_get_within x.bus.begun n bytes e) taken s bytes (ok.port (tag_of b.first n)) at (in_slice (b.split bytes) place p e) live joins in
       let new = whole_comes rules answer n (takes taken s).0 x.bus in
-      let w = whole_comes_keeps x.bus h ok.shows answer n bytes (takes taken s).0 r.0 above live at in (
+      let w = whole_comes_keeps x.bus h ok.shows answer n bytes (takes taken s).0 r.0 r.2 above live at in (
         after_step x ok new (set_at (request_name b n) (takes taken s).1 x.port) w.0
             (at_tag b.manager true (λ tag taken. IsAssembly b.first b.split cutting (begun_at new) tag taken) (tag_of b.first n) (takes taken s).1 x.port
             (assembly_grows b.first b.split cutting (begun_at x.bus) (begun_at new) w.0.grows.begun (tag_of b.first n) (takes taken s).1 r.1) (port_grows x.bus new w.0.grows x.port ok.port)),

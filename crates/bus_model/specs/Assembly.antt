@@ -56,6 +56,11 @@ IsJoined (Whole ss) = Unit {0}
 IsJoined Waits = Unit {0}
 IsJoined Drops = ⊥
 
+-- the request of the first packet, in which a message's number stands; n where there is none
+abbrev pub first_request : ℕ → List Sent → ℕ
+first_request n [] = n
+first_request n (s ∷ ss) = s.request
+
 -- the bytes of packets, joined
 abbrev pub message_of : List Sent → List ℕ
 message_of [] = []

@@ -2,9 +2,9 @@
 use Rattle.std.specs.Prelude.{ℕ, Bool, true, false, ◌==◌, ◌&&◌, length, List, [], ◌∷◌, Option, Some, None, if◌then◌else◌, slice_get}
 use Rattle.bus_model.specs.Request.{Entry}
 use Rattle.bus_model.specs.Numbering.{Bus, smbus, tag_of}
-use Rattle.bus_model.specs.BusState.{BusState, Frame, Content, Ask, Reply, Event, OtherAsks, opening, is_open, comes, taken_content, takes_if, happens}
+use Rattle.bus_model.specs.BusState.{BusState, Frame, Content, Ask, Reply, Event, OtherAsks, opening, is_open, request_of, hears, taken_content, takes_if, happens}
 use Rattle.bus_model.specs.Packet.{Packet}
-use Rattle.bus_model.specs.Assembly.{Name, is_name, Sent, Step, Waits, Whole, Drops, takes, message_of}
+use Rattle.bus_model.specs.Assembly.{Name, is_name, Sent, Step, Waits, Whole, Drops, takes, first_request, message_of}
 
 -- what the bus fixes: both endpoints, the count from which the manager's requests go on, and how messages are cut
 pub record PacketBus : Type 0 where
@@ -52,12 +52,12 @@ pub data PacketEvent : Type 0 where
 abbrev pub set_at : Name → List Sent → (Name → List Sent) → Name → List Sent
 set_at name taken assemblies n = if is_name n name then taken else assemblies n
 
--- A message that is complete counts as one of its last packet's request. Over honest schedules it is the message that this
--- packet's frame holds, so that the number which stands in its first packet is the same.
+-- a request that is complete at the port, under the number that stands in its first packet; its reply belongs to request n,
+-- whose frame's packet completed it
 abbrev pub whole_comes : Bus → List ℕ → ℕ → Step → BusState → BusState
 whole_comes b answer n Waits s = s
 whole_comes b answer n Drops s = s
-whole_comes b answer n (Whole ss) s = comes b answer n (Ask (message_of ss)) s
+whole_comes b answer n (Whole ss) s = hears b n (record { request = request_of b (first_request n ss) (message_of ss); reply = answer }) s
 
 -- a reply that is complete at the manager, under the number of its last packet's frame
 abbrev pub whole_returns : Bus → ℕ → Step → BusState → BusState

@@ -1,11 +1,12 @@
 -- What an event of packets does to the manager's requests.
 use Rattle.std.specs.Prelude.{◌≡◌, List, [], ◌∷◌, ◌++◌, ℕ, Option, Some, None, slice_get, if◌then◌else◌, IfSome, MatchOption}
-use Rattle.bus_model.specs.Request.{Entry, carried_since}
+use Rattle.bus_model.specs.Request.{Request, Entry, carried_since}
+use Rattle.bus_model.specs.Carried.{outcome}
 use Rattle.bus_model.specs.Numbering.{Bus}
-use Rattle.bus_model.specs.BusState.{BusState, Frame, Content, Ask, Reply, carried_content, taken_content}
+use Rattle.bus_model.specs.BusState.{BusState, Frame, Content, Ask, Reply, request_of, new_bytes, taken_content}
 use Rattle.bus_model.specs.Effect.{SameRequests, IsCarried, IsTaken, HasEffect}
 use Rattle.bus_model.specs.Packet.{Packet, IsCutting}
-use Rattle.bus_model.specs.Assembly.{Name, Sent, Step, Waits, Whole, Drops, takes, message_of}
+use Rattle.bus_model.specs.Assembly.{Name, Sent, Step, Waits, Whole, Drops, takes, first_request, message_of}
 use Rattle.bus_model.specs.PacketBus.{PacketBus, rules_of, request_name, reply_name, is_awaited, Ends, PacketEvent, Plain, PacketReachesPort, PacketReachesManager, OtherPacket, OtherReplyPacket, Closes, Clears, packet_happens, packet_run, opening_ends}
 use Rattle.bus_model.specs.PacketSchedule.{JoinRule, AllPacketHonest}
 
@@ -15,10 +16,10 @@ step_of assemblies name n idles None = Drops
 step_of assemblies name n idles (Some p) = (takes (assemblies name) (record { request = n; idles = idles; packet = p })).0
 
 -- the request that is complete, if one is
-abbrev pub whole_request : Step → Option Content
-whole_request (Whole ss) = Some (Ask (message_of ss))
-whole_request Waits = None
-whole_request Drops = None
+abbrev pub whole_request : Bus → ℕ → Step → Option Request
+whole_request b n (Whole ss) = Some (request_of b (first_request n ss) (message_of ss))
+whole_request b n Waits = None
+whole_request b n Drops = None
 
 -- the reply that is complete, under this number
 abbrev pub whole_reply : ℕ → Step → Option Content
@@ -27,8 +28,8 @@ whole_reply number Waits = None
 whole_reply number Drops = None
 
 -- the request that packet `place` of a frame of request n completes at the port
-abbrev pub completed_request : PacketBus → Ends → ℕ → ℕ → ℕ → Content → Option Content
-completed_request b x place n idles (Ask bytes) = whole_request (step_of x.port (request_name b n) n idles (slice_get (b.split bytes) place))
+abbrev pub completed_request : PacketBus → Ends → ℕ → ℕ → ℕ → Content → Option Request
+completed_request b x place n idles (Ask bytes) = whole_request (rules_of b) n (step_of x.port (request_name b n) n idles (slice_get (b.split bytes) place))
 completed_request b x place n idles (Reply number reply) = None
 
 -- the reply that packet `place` of a frame of request n completes at the manager
@@ -41,20 +42,25 @@ completed_reply b x place n idles (Reply number (Some reply)) =
     else None
 
 -- what the port carries out of a request that is complete
-abbrev pub carried_of : Bus → ℕ → Option Content → BusState → Option (List ℕ)
-carried_of b n None s = None
-carried_of b n (Some content) s = carried_content b n content s
+abbrev pub carried_of : Bus → Option Request → BusState → Option (List ℕ)
+carried_of b None s = None
+carried_of b (Some r) s = new_bytes (outcome b.is_above r s.log) r.bytes
 
 -- what the manager takes of a reply that is complete
 abbrev pub taken_of : Bus → Option Content → BusState → Option (List ℕ)
 taken_of b None s = None
 taken_of b (Some content) s = taken_content b content s
 
+-- the frame of request n holds this request
+abbrev pub HoldsRequest : Bus → ℕ → Content → Request → Type 0
+HoldsRequest b n (Ask bytes) r = r ≡ request_of b n bytes
+HoldsRequest b n (Reply number reply) r = ⊥
+
 -- Where a request is complete at the port, it is the one that the frame holds. No request of the manager moves, or, where
 -- the rule says that it is new, it is the open one, and is carried out for the first time.
-pub record PortEffect (b : Bus) (n : ℕ) (content : Content) (complete : Option Content) (answer : List ℕ) (old new : BusState) : Type 0 where
-  pub as_sent : IfSome complete (λ whole. whole ≡ content)
-  pub moves : MatchOption (carried_of b n complete old) (SameRequests old new) (λ bytes. IsCarried old new bytes answer)
+pub record PortEffect (b : Bus) (n : ℕ) (content : Content) (complete : Option Request) (answer : List ℕ) (old new : BusState) : Type 0 where
+  pub as_sent : IfSome complete (HoldsRequest b n content)
+  pub moves : MatchOption (carried_of b complete old) (SameRequests old new) (λ bytes. IsCarried old new bytes answer)
 
 -- Where a reply is complete at the manager, it is the one that the frame holds. No request moves, or, where the reply has
 -- the open request's number, it is taken, and is the one that is kept for it.

@@ -79,8 +79,8 @@ stale_assembly = packet_rounds 1 0 ++ PacketReachesPort 0 0 [] ∷ packet_rounds
 abbrev pub mixed : List ℕ
 mixed = replicate 64 0 ++ replicate 6 88
 
--- each packet was of a live frame, and a message was carried out that nobody sent
+-- each packet was of a live frame, and a message was carried out that nobody sent, under the number in its first packet
 pub record CarriesWhatNobodySent (b : PacketBus) (events : List PacketEvent) : Type 0 where
   pub live_frames : AllPacketHonest AnyJoin b events (opening_ends [])
-  pub carried : slice_get (packet_run b events (opening_ends [])).bus.carried 8 ≡ Some (record { request = request_of (rules_of b) 8 mixed; reply = long 80 })
+  pub carried : slice_get (packet_run b events (opening_ends [])).bus.carried 8 ≡ Some (record { request = request_of (rules_of b) 0 mixed; reply = long 80 })
   pub never_sent : list_any (λ bytes. bytes_eq bytes mixed) (packet_run b events (opening_ends [])).bus.begun ≡ false
