@@ -4,7 +4,7 @@ use Rattle.std.specs.Prelude.{slice_get, IfSome, ◌==◌}
 use Rattle.std.proofs.lemmas.Bool.{and_parts, and_from, le-leb, leb-true, eqb-true, eqb-false, not-true, or_cases, both_ways, eq-eqb}
 use Rattle.bus_model.specs.Request.{idles_of}
 use Rattle.bus_model.specs.Numbering.{Bus}
-use Rattle.bus_model.specs.BusState.{BusState, Frame, Event, Begins, SendsAgain, ReachesPort, ReachesManager, OtherAsks, IsIdle, is_open, happens}
+use Rattle.bus_model.specs.BusState.{BusState, Frame, Event, Begins, SendsAgain, ReachesPort, ReachesManager, OtherAsks, OtherReplies, IsIdle, is_open, happens}
 use Rattle.bus_model.specs.Schedule.{IsLive, is_live, TestTells, IsHonest, AllHonest}
 
 -- a frame, if it was sent, is live
@@ -19,6 +19,7 @@ is_honest b s SendsAgain = true
 is_honest b s (ReachesPort which answer) = live_if b s (slice_get s.frames which)
 is_honest b s (ReachesManager which) = live_if b s (slice_get s.frames which)
 is_honest b s (OtherAsks request answer) = not (request.requester == b.manager)
+is_honest b s (OtherReplies source number reply) = not (source == b.controller)
 is_honest b s (IsIdle requester) = not (requester == b.manager) || not (is_open s)
 
 -- every event is
@@ -42,6 +43,7 @@ is_honest-tells b s SendsAgain t = tt
 is_honest-tells b s (ReachesPort which answer) t = live_if-tells b s (slice_get s.frames which) t
 is_honest-tells b s (ReachesManager which) t = live_if-tells b s (slice_get s.frames which) t
 is_honest-tells b s (OtherAsks request answer) t = eqb-false _ _ (not-true _ t)
+is_honest-tells b s (OtherReplies source number reply) t = eqb-false _ _ (not-true _ t)
 is_honest-tells b s (IsIdle requester) t =
     λ mine. elim (or_cases _ _ t) [
       | inl other ↦ absurd (both_ways _ (not-true _ other) (eq-eqb requester b.manager mine))

@@ -6,12 +6,13 @@ use Rattle.std.proofs.lemmas.Option.{slice_get_within, slice_get_past}
 use Rattle.bus_model.specs.Request.{Kept, Entry}
 use Rattle.bus_model.specs.Carried.{Outcome, outcome_of, is_busy}
 use Rattle.bus_model.specs.Numbering.{Bus}
-use Rattle.bus_model.specs.BusState.{request_of, Content, Ask, Reply, Frame, BusState, Event, Begins, SendsAgain, ReachesPort, ReachesManager, OtherAsks, IsIdle, is_open, begins, sends_again, hears, comes, takes_if, at_port, new_bytes, carried_content, carried_now, taken_content, taken_now}
+use Rattle.bus_model.specs.BusState.{request_of, Content, Ask, Reply, Frame, BusState, Event, Begins, SendsAgain, ReachesPort, ReachesManager, OtherAsks, OtherReplies, IsIdle, is_open, begins, sends_again, hears, comes, takes_if, at_port, new_bytes, carried_content, carried_now, taken_content, taken_now}
 use Rattle.bus_model.specs.Schedule.{IsLive, IsHonest}
 use Rattle.bus_model.specs.Effect.{IsKeptFor, SameRequests, IsBegun, IsCarried, IsTaken, HasEffect}
 use Rattle.bus_model.proofs.Lists.{at_end}
 use Rattle.bus_model.proofs.NumberLaws.{IsNumbering}
 use Rattle.bus_model.proofs.Repeats.{repeats, is_new}
+use Rattle.bus_model.proofs.Strangers.{ignored}
 use Rattle.bus_model.proofs.Sound.{seen, Fits}
 use Rattle.bus_model.proofs.Steps.{Holds, heard}
 
@@ -31,6 +32,7 @@ module _ (b : Bus) (numbers : IsNumbering b) where
         taken = refl;
         opened = subst (λ (n : ℕ). slice_get s.begun n ≡ Some bytes) is at;
         first = slice_get_past s.carried (length s.taken) (omega arith);
+        carried = (k, refl, refl, refl);
         kept = subst (λ (m : ℕ). IsKeptFor (s.carried ++ k ∷ []) m answer) is (record { kept = k; at = kept_is; replied = refl });
       }
 
@@ -115,4 +117,5 @@ module _ (b : Bus) (numbers : IsNumbering b) where
   has_effect s (ReachesPort which answer) h honest = port_effect s h answer which _ refl honest
   has_effect s (ReachesManager which) h honest = manager_effect s h which _ refl honest
   has_effect s (OtherAsks request answer) h honest = other_effect s _
+  has_effect s (OtherReplies source number reply) h honest = subst (λ (new : BusState). SameRequests s new) (sym (ignored b source number reply s honest)) (other_effect s s.log)
   has_effect s (IsIdle requester) h honest = other_effect s _

@@ -5,7 +5,7 @@ use Rattle.std.proofs.lemmas.Bool.{cond_both, eq-eqb, ne_eqb}
 use Rattle.bus_model.specs.Request.{Kept, Entry, Carried, carried_by}
 use Rattle.bus_model.specs.Carried.{Outcome, Repeats, IsBusy, IsNew, outcome, log_after, carried_after}
 use Rattle.bus_model.specs.Numbering.{Bus}
-use Rattle.bus_model.specs.BusState.{request_of, Content, Ask, Reply, Frame, BusState, Event, Begins, SendsAgain, ReachesPort, ReachesManager, OtherAsks, IsIdle, opening, is_open, begins, sends_again, comes, takes_if, taken_now, at_port, happens, run}
+use Rattle.bus_model.specs.BusState.{request_of, Content, Ask, Reply, Frame, BusState, Event, Begins, SendsAgain, ReachesPort, ReachesManager, OtherAsks, IsIdle, opening, is_open, begins, sends_again, comes, takes_if, taken_now, taken_from, OtherReplies, at_port, happens, run}
 use Rattle.bus_model.specs.Schedule.{IsHonest, AllHonest}
 
 -- a log shows of the manager what it did before, and then these
@@ -58,6 +58,7 @@ module _ (b : Bus) (before : List Entry) where
   happens_shows s (ReachesPort which answer) h honest = at_port_shows answer (slice_get s.frames which) s h
   happens_shows s (ReachesManager which) h honest = takes_shows (taken_now b (slice_get s.frames which) s) s h
   happens_shows s (OtherAsks request answer) h honest = other b.manager before s.log s.carried (record { request = request; reply = answer }) (outcome b.is_above request s.log) honest h
+  happens_shows s (OtherReplies source number reply) h honest = takes_shows (taken_from b source number reply s) s h
   happens_shows s (IsIdle requester) h honest = h
 
   pub run_shows : (events : List Event) (s : BusState) → LogShows s → AllHonest b events s → LogShows (run b events s)

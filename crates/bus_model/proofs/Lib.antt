@@ -2,6 +2,7 @@ pub mod NumberLaws
 pub mod Repeats
 pub mod Lists
 pub mod Sound
+pub mod Strangers
 pub mod Steps
 pub mod Effects
 pub mod InLog

@@ -12,15 +12,15 @@ pub record IsNumbering (b : Bus) : Type 0 where
   -- two live requests have different numbers
   pub one : (m n : ℕ) → m ≤ n → n < m + b.span → b.number_of m ≡ b.number_of n → m ≡ n
 
-pub ipmb_numbers : (manager first : ℕ) → IsNumbering (ipmb manager first)
-ipmb_numbers manager first = record {
+pub ipmb_numbers : (manager controller first : ℕ) → IsNumbering (ipmb manager controller first)
+ipmb_numbers manager controller first = record {
   near = λ m n lt within. and_from _ _ (lt-ltb 0 (((first + n) % 64 + 64 - (first + m) % 64) % 64) (omega arith)) (lt-ltb (((first + n) % 64 + 64 - (first + m) % 64) % 64) 32 (omega arith));
   far = λ m n lt same. (m + 32, omega arith, omega arith, and_right _ _ (le-ltb (((first + (m + 32)) % 64 + 64 - (first + m) % 64) % 64) 32 (omega arith)));
   one = λ m n le within same. omega arith;
 }
 
-pub smbus_numbers : (manager first : ℕ) → IsNumbering (smbus manager first)
-smbus_numbers manager first = record {
+pub smbus_numbers : (manager controller first : ℕ) → IsNumbering (smbus manager controller first)
+smbus_numbers manager controller first = record {
   near = λ m n lt within. and_from _ _ (lt-ltb 0 (((first + n) % 32 + 32 - (first + m) % 32) % 32) (omega arith)) (lt-ltb (((first + n) % 32 + 32 - (first + m) % 32) % 32) 16 (omega arith));
   far = λ m n lt same. (m + 16, omega arith, omega arith, and_right _ _ (le-ltb (((first + (m + 16)) % 32 + 32 - (first + m) % 32) % 32) 16 (omega arith)));
   one = λ m n le within same. omega arith;

@@ -5,12 +5,12 @@ use Rattle.std.specs.List.{list_all}
 use Rattle.std.proofs.lemmas.Bool.{and_parts, leb-true, eqb-true, eqb-false, not-true, or_cases, both_ways, true≢false}
 use Rattle.bus_model.specs.Request.{idles_of}
 use Rattle.bus_model.specs.Numbering.{Bus}
-use Rattle.bus_model.specs.BusState.{BusState, Frame, Content, Ask, Reply, Event, Begins, SendsAgain, ReachesPort, ReachesManager, OtherAsks, IsIdle}
+use Rattle.bus_model.specs.BusState.{BusState, Frame, Content, Ask, Reply, Event, Begins, SendsAgain, ReachesPort, ReachesManager, OtherAsks, OtherReplies, IsIdle}
 use Rattle.bus_model.specs.Schedule.{IsLive, is_live}
 use Rattle.bus_model.specs.Repeat.{In}
 use Rattle.bus_model.specs.Packet.{Packet}
 use Rattle.bus_model.specs.Assembly.{Sent, Step, Waits, Whole, Drops, IsJoined, takes, waiting}
-use Rattle.bus_model.specs.PacketBus.{PacketBus, rules_of, request_name, Ends, PacketEvent, Plain, PacketReachesPort, PacketReachesManager, OtherPacket, Closes, Clears, packet_happens}
+use Rattle.bus_model.specs.PacketBus.{PacketBus, rules_of, request_name, Ends, PacketEvent, Plain, PacketReachesPort, PacketReachesManager, OtherPacket, OtherReplyPacket, Closes, Clears, packet_happens}
 use Rattle.bus_model.specs.PacketSchedule.{JoinRule, AnyJoin, LiveWhereJoined, MayJoin, PacketMayJoin, JoinsAtPort, IsPlain, IsPacketHonest, AllPacketHonest}
 use Rattle.bus_model.proofs.Decides.{live_if, is_honest, is_live-tells, live_if-tells, is_honest-tells}
 
@@ -55,6 +55,7 @@ is_plain (ReachesManager which) = false
 is_plain (Begins bytes) = true
 is_plain SendsAgain = true
 is_plain (OtherAsks request answer) = true
+is_plain (OtherReplies source number reply) = true
 is_plain (IsIdle requester) = true
 
 -- the event is honest
@@ -63,6 +64,7 @@ is_packet_honest any b x (Plain e) = is_plain e && is_honest (rules_of b) x.bus 
 is_packet_honest any b x (PacketReachesPort which place answer) = port_test any b x place (slice_get x.bus.frames which)
 is_packet_honest any b x (PacketReachesManager which place) = live_if (rules_of b) x.bus (slice_get x.bus.frames which)
 is_packet_honest any b x (OtherPacket name packet number answer) = not (name.source == b.manager)
+is_packet_honest any b x (OtherReplyPacket name packet number) = not (name.source == b.controller)
 is_packet_honest any b x (Closes name) = true
 is_packet_honest any b x Clears = true
 
@@ -109,6 +111,7 @@ is_plain-tells SendsAgain t = tt
 is_plain-tells (ReachesPort which answer) t = absurd (true≢false (sym t))
 is_plain-tells (ReachesManager which) t = absurd (true≢false (sym t))
 is_plain-tells (OtherAsks request answer) t = tt
+is_plain-tells (OtherReplies source number reply) t = tt
 is_plain-tells (IsIdle requester) t = tt
 
 is_packet_honest-tells : (any : Bool) (b : PacketBus) (x : Ends) (e : PacketEvent) → is_packet_honest any b x e ≡ true → IsPacketHonest (rule_of any) b x e
@@ -116,6 +119,7 @@ is_packet_honest-tells any b x (Plain e) t = let parts = and_parts _ _ t in (is_
 is_packet_honest-tells any b x (PacketReachesPort which place answer) t = port_test-tells any b x place (slice_get x.bus.frames which) t
 is_packet_honest-tells any b x (PacketReachesManager which place) t = live_if-tells (rules_of b) x.bus (slice_get x.bus.frames which) t
 is_packet_honest-tells any b x (OtherPacket name packet number answer) t = eqb-false _ _ (not-true _ t)
+is_packet_honest-tells any b x (OtherReplyPacket name packet number) t = eqb-false _ _ (not-true _ t)
 is_packet_honest-tells any b x (Closes name) t = tt
 is_packet_honest-tells any b x Clears t = tt
 

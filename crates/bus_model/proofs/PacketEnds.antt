@@ -1,31 +1,39 @@
 -- What holds of a bus on which messages go in packets, at every event of an honest schedule.
-use Rattle.std.proofs.Common.{◌≡◌, ℕ, ◌+◌, ◌<◌, ◌≤◌, Bool, true, false, List, [], ◌∷◌, length, Option, Some, None, cond, refl, sym, ◌∙◌, ap, subst, arith, inl, inr}
+use Rattle.std.proofs.Common.{◌≡◌, ℕ, ◌+◌, ◌<◌, ◌≤◌, Bool, true, false, cond, List, [], ◌∷◌, length, Option, Some, None, refl, sym, ◌∙◌, ap, subst, arith, inl, inr}
 use Rattle.std.specs.Prelude.{slice_get, IfSome}
-use Rattle.std.proofs.lemmas.Bool.{cond_both, and_parts, eqb-true, ltb-true}
+use Rattle.std.proofs.lemmas.Bool.{cond_both, cases_Bool, and_parts, eqb-true, ltb-true}
 use Rattle.std.proofs.lemmas.Option.{slice_get_within}
 use Rattle.bus_model.specs.Request.{Entry, carried_since}
 use Rattle.bus_model.specs.Numbering.{Bus, tag_of}
-use Rattle.bus_model.specs.BusState.{BusState, Frame, Content, Ask, Reply, Event, Begins, SendsAgain, ReachesPort, ReachesManager, OtherAsks, IsIdle, opening, is_open, begins, sends_again, comes, taken_content, takes_if, happens}
+use Rattle.bus_model.specs.BusState.{BusState, Frame, Content, Ask, Reply, Event, Begins, SendsAgain, ReachesPort, ReachesManager, OtherAsks, OtherReplies, IsIdle, opening, is_open, begins, sends_again, request_of, hears, taken_content, takes_if, happens}
 use Rattle.bus_model.specs.Schedule.{IsLive, IsHonest}
 use Rattle.bus_model.specs.Effect.{SameRequests}
 use Rattle.bus_model.specs.Repeat.{In}
 use Rattle.bus_model.specs.Packet.{Packet, IsCutting}
 use Rattle.bus_model.specs.Assembly.{Name, Sent, Step, Waits, Whole, Drops, IsWhole, takes, waiting, message_of}
-use Rattle.bus_model.specs.PacketBus.{PacketBus, rules_of, request_name, reply_name, Ends, PacketEvent, Plain, PacketReachesPort, PacketReachesManager, OtherPacket, Closes, Clears, set_at, is_awaited, whole_carried, port_carries, content_carries, packet_carried_now, whole_taken, manager_gets, content_gets, packet_taken_now, whole_comes, whole_returns, whole_other, port_takes, manager_takes, packet_comes, packet_returns, packet_at_port, packet_at_manager, packet_happens, packet_run, opening_ends}
+use Rattle.bus_model.specs.PacketBus.{PacketBus, rules_of, request_name, reply_name, Ends, PacketEvent, Plain, PacketReachesPort, PacketReachesManager, OtherPacket, OtherReplyPacket, Closes, Clears, set_at, is_awaited, whole_comes, whole_returns, whole_other, port_takes, manager_takes, packet_comes, packet_returns, packet_at_port, packet_at_manager, packet_happens, packet_run, opening_ends}
 use Rattle.bus_model.specs.PacketSchedule.{RecentWhereWhole, PacketMayJoin, JoinsAtPort, IsPlain, IsPacketHonest, AllPacketHonest}
-use Rattle.bus_model.specs.PacketEffect.{PortEffect, ManagerEffect, HasPacketEffect}
+use Rattle.bus_model.specs.PacketEffect.{step_of, whole_request, whole_reply, completed_request, completed_reply, PortEffect, ManagerEffect, FrameAtPort, FrameAtManager, HasPacketEffect}
 use Rattle.bus_model.proofs.Lists.{length_more}
 use Rattle.bus_model.proofs.NumberLaws.{smbus_numbers}
 use Rattle.bus_model.proofs.Sound.{Fits}
+use Rattle.bus_model.proofs.Strangers.{ignored, packet_ignored}
 use Rattle.bus_model.proofs.Steps.{Holds, opening_holds, happens_holds, comes_holds, returns_holds}
 use Rattle.bus_model.proofs.Effects.{comes_effect, returns_effect, has_effect}
 use Rattle.bus_model.proofs.BusGrows.{BusGrows, stays, comes_grow, takes_grow, happens_grows, begun_at, kept_at, reply_at, reply_within, kept_within}
 use Rattle.bus_model.proofs.InLog.{LogShows, opening_shows, comes_shows, takes_shows, happens_shows}
 use Rattle.bus_model.proofs.Assemblies.{one_tag}
-use Rattle.bus_model.proofs.PacketSteps.{in_slice, in_rest, in_waiting, named, at_tag, at_tag_alone, at_other, at_empty, takes_whole, WholeIs, IsAssembly, nothing, assembly_grows, assembly_step}
+use Rattle.bus_model.proofs.PacketSteps.{in_slice, in_rest, in_waiting, named, at_tag, at_tag_alone, at_other, at_empty, takes_whole, WholeIs, FirstIs, IsAssembly, nothing, assembly_grows, assembly_step}
 
 pub same_requests : (s : BusState) → SameRequests s s
 same_requests s = record { begun = refl; carried = refl; taken = refl }
+
+-- nothing is complete, and nothing moves
+pub port_still : (b : Bus) (n : ℕ) (content : Content) (answer : List ℕ) (s : BusState) → PortEffect b n content None answer s s
+port_still b n content answer s = record { as_sent = tt; moves = same_requests s }
+
+pub manager_still : (b : Bus) (content : Content) (s : BusState) → ManagerEffect b content None s s
+manager_still b content s = record { as_sent = tt; moves = same_requests s }
 
 -- an event that brings no frame to an end takes no reply
 module _ (b : Bus) where
@@ -36,26 +44,24 @@ module _ (b : Bus) where
   again_takes_none s None = (refl, omega arith)
   again_takes_none s (Some bytes) = (refl, omega arith)
 
-  pub plain_takes_none : (s : BusState) (e : Event) → IsPlain e → TakesNone s (happens b s e)
-  plain_takes_none s (Begins bytes) plain =
+  pub plain_takes_none : (s : BusState) (e : Event) → IsPlain e → IsHonest b s e → TakesNone s (happens b s e)
+  plain_takes_none s (Begins bytes) plain honest =
       let more = length_more s.begun bytes in
       cond_both (is_open s) s (begins b bytes s) (TakesNone s) (λ _. (refl, omega arith)) (λ _. (refl, omega arith))
-  plain_takes_none s SendsAgain plain = again_takes_none s (slice_get s.begun (length s.taken))
-  plain_takes_none s (ReachesPort which answer) plain = absurd plain
-  plain_takes_none s (ReachesManager which) plain = absurd plain
-  plain_takes_none s (OtherAsks request answer) plain = (refl, omega arith)
-  plain_takes_none s (IsIdle requester) plain = (refl, omega arith)
+  plain_takes_none s SendsAgain plain honest = again_takes_none s (slice_get s.begun (length s.taken))
+  plain_takes_none s (ReachesPort which answer) plain honest = absurd plain
+  plain_takes_none s (ReachesManager which) plain honest = absurd plain
+  plain_takes_none s (OtherAsks request answer) plain honest = (refl, omega arith)
+  plain_takes_none s (OtherReplies source number reply) plain honest = subst (TakesNone s) (sym (ignored b source number reply s honest)) (refl, omega arith)
+  plain_takes_none s (IsIdle requester) plain honest = (refl, omega arith)
 
 module _ (b : PacketBus) (cutting : IsCutting b.split) (before : List Entry) where
-  -- the rules for whole messages
   abbrev pub rules : Bus
   rules = rules_of b
 
-  -- the manager's assemblies at the port
   abbrev pub PortAssemblies : BusState → (Name → List Sent) → Type 0
   PortAssemblies s port = (tag : ℕ) → IsAssembly b.first b.split cutting (begun_at s) tag (port (named b.manager true tag))
 
-  -- the controller's assemblies at the manager
   abbrev pub ManagerAssemblies : BusState → (Name → List Sent) → Type 0
   ManagerAssemblies s manager = (tag : ℕ) → IsAssembly b.first b.split cutting (kept_at s) tag (manager (named b.controller false tag))
 
@@ -63,7 +69,6 @@ module _ (b : PacketBus) (cutting : IsCutting b.split) (before : List Entry) whe
   abbrev pub IsAwaited : BusState → List Sent → Type 0
   IsAwaited s taken = (t : Sent) → In t taken → (t.request ≡ length s.taken) × (length s.taken < length s.begun)
 
-  -- that of every tag
   abbrev pub AllAwaited : BusState → (Name → List Sent) → Type 0
   AllAwaited s manager = (tag : ℕ) → IsAwaited s (manager (named b.controller false tag))
 
@@ -108,15 +113,17 @@ module _ (b : PacketBus) (cutting : IsCutting b.split) (before : List Entry) whe
     awaited = awaited_still x.bus new x.manager w.taken w.longer ok.awaited;
   }
 
-  whole_comes_keeps : (s : BusState) (h : Holds rules s) → LogShows rules before s → (answer : List ℕ) (n : ℕ) (bytes : List ℕ) (st : Step) → WholeIs bytes st → h.floor ≤ n → length s.begun ≤ n + 8 → slice_get s.begun n ≡ Some bytes
-      → Keeps s (whole_comes rules answer n st s) × PortEffect (whole_carried rules n st s) s (whole_comes rules answer n st s) answer
-  whole_comes_keeps s h shows answer n bytes Waits is above live at = (keeps_still s h shows, same_requests s)
-  whole_comes_keeps s h shows answer n bytes Drops is above live at = (keeps_still s h shows, same_requests s)
-  whole_comes_keeps s h shows answer n bytes (Whole ss) is above live at =
+  whole_comes_keeps : (s : BusState) (h : Holds rules s) → LogShows rules before s → (answer : List ℕ) (n : ℕ) (bytes : List ℕ) (st : Step) → WholeIs bytes st → FirstIs n st → h.floor ≤ n → length s.begun ≤ n + 8 → slice_get s.begun n ≡ Some bytes
+      → Keeps s (whole_comes rules answer n st s) × PortEffect rules n (Ask bytes) (whole_request rules n st) answer s (whole_comes rules answer n st s)
+  whole_comes_keeps s h shows answer n bytes Waits is first above live at = (keeps_still s h shows, port_still rules n (Ask bytes) answer s)
+  whole_comes_keeps s h shows answer n bytes Drops is first above live at = (keeps_still s h shows, port_still rules n (Ask bytes) answer s)
+  whole_comes_keeps s h shows answer n bytes (Whole ss) is first above live at =
       let content = Ask (message_of ss) in
       let fits : Fits rules s.begun s.carried n content = at ∙ ap (λ (x : List ℕ). Some x) (sym is) in
-      let numbers = smbus_numbers b.manager b.first in
-      let new = comes rules answer n content s in (
+      let numbers = smbus_numbers b.manager b.controller b.first in
+      let hears_as : ℕ → BusState = (λ m. hears rules n (record { request = request_of rules m (message_of ss); reply = answer }) s) in
+      let Does : ℕ → Type 0 = (λ m. Keeps s (hears_as m) × PortEffect rules n (Ask bytes) (Some (request_of rules m (message_of ss))) answer s (hears_as m)) in
+      let one : Does n = (
         record {
           holds = comes_holds rules numbers s h answer n content above live fits;
           shows = comes_shows rules before answer n content s shows;
@@ -124,14 +131,15 @@ module _ (b : PacketBus) (cutting : IsCutting b.split) (before : List Entry) whe
           taken = refl;
           longer = omega arith;
         },
-        comes_effect rules numbers s h answer n content above live fits,
-      )
+        record { as_sent = ap (λ (x : List ℕ). request_of rules n x) is; moves = comes_effect rules numbers s h answer n content above live fits },
+      ) in
+      subst Does (sym first) one
 
   plain_keeps : (s : BusState) (h : Holds rules s) → LogShows rules before s → (e : Event) → IsPlain e → IsHonest rules s e → Keeps s (happens rules s e)
   plain_keeps s h shows e plain honest =
-      let none = plain_takes_none rules s e plain in
+      let none = plain_takes_none rules s e plain honest in
       record {
-        holds = happens_holds rules (smbus_numbers b.manager b.first) s e h honest;
+        holds = happens_holds rules (smbus_numbers b.manager b.controller b.first) s e h honest;
         shows = happens_shows rules before s e shows honest;
         grows = happens_grows rules s e;
         taken = none.0;
@@ -145,18 +153,18 @@ module _ (b : PacketBus) (cutting : IsCutting b.split) (before : List Entry) whe
   whole_other_keeps s h shows name number answer (Whole ss) other =
       let e = OtherAsks (record { requester = name.source; number = number; bytes = message_of ss }) answer in
       cond_both name.owner (happens rules s e) s (λ new. Keeps s new × SameRequests s new)
-      (λ _. (plain_keeps s h shows e tt other, has_effect rules (smbus_numbers b.manager b.first) s e h other)) (λ _. (keeps_still s h shows, same_requests s))
+      (λ _. (plain_keeps s h shows e tt other, has_effect rules (smbus_numbers b.manager b.controller b.first) s e h other)) (λ _. (keeps_still s h shows, same_requests s))
 
   -- a packet reaches the port
   port_step : (x : Ends) → EndsHold x → (answer : List ℕ) (n idles : ℕ) (bytes : List ℕ) (place : ℕ) (o : Option Packet) → slice_get (b.split bytes) place ≡ o → (h : Holds rules x.bus) → h.floor ≤ n → length x.bus.begun ≤ n + 8 → slice_get x.bus.begun n ≡ Some bytes
-      → PacketMayJoin RecentWhereWhole rules x.bus (x.port (request_name b n)) n idles o → EndsHold (port_takes b answer n idles o x) × PortEffect (port_carries b n idles o x) x.bus (port_takes b answer n idles o x).bus answer
-  port_step x ok answer n idles bytes place None e h above live at joins = (ok, same_requests x.bus)
+      → PacketMayJoin RecentWhereWhole rules x.bus (x.port (request_name b n)) n idles o → EndsHold (port_takes b answer n idles o x) × PortEffect rules n (Ask bytes) (whole_request rules n (step_of x.port (request_name b n) n idles o)) answer x.bus (port_takes b answer n idles o x).bus
+  port_step x ok answer n idles bytes place None e h above live at joins = (ok, port_still rules n (Ask bytes) answer x.bus)
   port_step x ok answer n idles bytes place (Some p) e h above live at joins =
       let s : Sent = record { request = n; idles = idles; packet = p } in
       let taken = x.port (request_name b n) in
       let r = assembly_step b.first b.split cutting (begun_at x.bus) (length x.bus.begun) (λ n bytes e. slice_get_within x.bus.begun n bytes e) taken s bytes (ok.port (tag_of b.first n)) at (in_slice (b.split bytes) place p e) live joins in
       let new = whole_comes rules answer n (takes taken s).0 x.bus in
-      let w = whole_comes_keeps x.bus h ok.shows answer n bytes (takes taken s).0 r.0 above live at in (
+      let w = whole_comes_keeps x.bus h ok.shows answer n bytes (takes taken s).0 r.0 r.2 above live at in (
         after_step x ok new (set_at (request_name b n) (takes taken s).1 x.port) w.0
             (at_tag b.manager true (λ tag taken. IsAssembly b.first b.split cutting (begun_at new) tag taken) (tag_of b.first n) (takes taken s).1 x.port
             (assembly_grows b.first b.split cutting (begun_at x.bus) (begun_at new) w.0.grows.begun (tag_of b.first n) (takes taken s).1 r.1) (port_grows x.bus new w.0.grows x.port ok.port)),
@@ -164,12 +172,12 @@ module _ (b : PacketBus) (cutting : IsCutting b.split) (before : List Entry) whe
       )
 
   content_step : (x : Ends) → EndsHold x → (answer : List ℕ) (place n idles : ℕ) (content : Content) → (h : Holds rules x.bus) → h.floor ≤ n → length x.bus.begun ≤ n + 8 → Fits rules x.bus.begun x.bus.carried n content
-      → JoinsAtPort RecentWhereWhole b x place n idles content → EndsHold (packet_comes b answer place n idles content x) × PortEffect (content_carries b place n idles content x) x.bus (packet_comes b answer place n idles content x).bus answer
+      → JoinsAtPort RecentWhereWhole b x place n idles content → EndsHold (packet_comes b answer place n idles content x) × PortEffect rules n content (completed_request b x place n idles content) answer x.bus (packet_comes b answer place n idles content x).bus
   content_step x ok answer place n idles (Ask bytes) h above live fits joins = port_step x ok answer n idles bytes place (slice_get (b.split bytes) place) refl h above live fits joins
-  content_step x ok answer place n idles (Reply number reply) h above live fits joins = (ok, same_requests x.bus)
+  content_step x ok answer place n idles (Reply number reply) h above live fits joins = (ok, port_still rules n (Reply number reply) answer x.bus)
 
   frame_at_port : (x : Ends) → EndsHold x → (which place : ℕ) (answer : List ℕ) (o : Option Frame) → slice_get x.bus.frames which ≡ o
-      → IfSome o (λ f. IsLive rules x.bus f × JoinsAtPort RecentWhereWhole b x place f.request f.idles f.content) → EndsHold (packet_at_port b answer place o x) × PortEffect (packet_carried_now b place o x) x.bus (packet_at_port b answer place o x).bus answer
+      → IfSome o (λ f. IsLive rules x.bus f × JoinsAtPort RecentWhereWhole b x place f.request f.idles f.content) → EndsHold (packet_at_port b answer place o x) × FrameAtPort b x place answer (packet_at_port b answer place o x).bus o
   frame_at_port x ok which place answer None e honest = (ok, same_requests x.bus)
   frame_at_port x ok which place answer (Some f) e honest =
       let s = ok.holds.sound.frames which f e in
@@ -184,12 +192,12 @@ module _ (b : PacketBus) (cutting : IsCutting b.split) (before : List Entry) whe
       (one_tag b.first n (length s.taken) (length s.begun) below opened live (omega arith) (eqb-true _ _ parts.1), opened)
 
   -- the bus and what waits, after a packet at the manager
-  record Returned (taken : Option (List ℕ)) (old new : BusState) (name : Name) (rest : List Sent) (manager : Name → List Sent) : Type 0 where
+  record Returned (content : Content) (complete : Option Content) (old new : BusState) (name : Name) (rest : List Sent) (manager : Name → List Sent) : Type 0 where
     holds : Holds rules new
     shows : LogShows rules before new
     grows : BusGrows old new
     awaited : AllAwaited new (set_at name rest manager)
-    effect : ManagerEffect taken old new
+    effect : ManagerEffect rules content complete old new
 
   module _ (x : Ends) (ok : EndsHold x) (n number : ℕ) (reply : List ℕ) (live : length x.bus.begun ≤ n + 8) (fits : Fits rules x.bus.begun x.bus.carried n (Reply number (Some reply))) (is_open_one : (n ≡ length x.bus.taken) × (length x.bus.taken < length x.bus.begun)) where
     still_awaited : (rest : List Sent) → IsAwaited x.bus rest → AllAwaited x.bus (set_at (reply_name b n) rest x.manager)
@@ -201,26 +209,26 @@ module _ (b : PacketBus) (cutting : IsCutting b.split) (before : List Entry) whe
         (λ t is. absurd (subst (λ (l : List Sent). In t l) empty is))
         (λ tag differs t is. absurd (differs (sym ((ok.manager tag).tags t is) ∙ ap (tag_of b.first) ((ok.awaited tag t is).0 ∙ sym is_open_one.0))))
 
-    whole_returns_keeps : (st : Step) (rest : List Sent) → WholeIs reply st → (IsWhole st → rest ≡ []) → IsAwaited x.bus rest → Returned (whole_taken rules number st x.bus) x.bus (whole_returns rules number st x.bus) (reply_name b n) rest x.manager
-    whole_returns_keeps Waits rest is empty all = record { holds = ok.holds; shows = ok.shows; grows = stays x.bus; awaited = still_awaited rest all; effect = same_requests x.bus }
-    whole_returns_keeps Drops rest is empty all = record { holds = ok.holds; shows = ok.shows; grows = stays x.bus; awaited = still_awaited rest all; effect = same_requests x.bus }
+    whole_returns_keeps : (st : Step) (rest : List Sent) → WholeIs reply st → (IsWhole st → rest ≡ []) → IsAwaited x.bus rest → Returned (Reply number (Some reply)) (whole_reply number st) x.bus (whole_returns rules number st x.bus) (reply_name b n) rest x.manager
+    whole_returns_keeps Waits rest is empty all = record { holds = ok.holds; shows = ok.shows; grows = stays x.bus; awaited = still_awaited rest all; effect = manager_still rules (Reply number (Some reply)) x.bus }
+    whole_returns_keeps Drops rest is empty all = record { holds = ok.holds; shows = ok.shows; grows = stays x.bus; awaited = still_awaited rest all; effect = manager_still rules (Reply number (Some reply)) x.bus }
     whole_returns_keeps (Whole ss) rest is empty all =
         let content = Reply number (Some (message_of ss)) in
         let o = taken_content rules content x.bus in
-        let numbers = smbus_numbers b.manager b.first in
+        let numbers = smbus_numbers b.manager b.controller b.first in
         let new_fits : Fits rules x.bus.begun x.bus.carried n content = (fits.0, record { kept = fits.1.kept; at = fits.1.at; replied = fits.1.replied ∙ sym is }) in
         record {
           holds = returns_holds rules numbers x.bus ok.holds n content live new_fits;
           shows = takes_shows rules before o x.bus ok.shows;
           grows = takes_grow rules o x.bus;
           awaited = none_waits (takes_if o x.bus) rest (empty tt);
-          effect = returns_effect rules numbers x.bus ok.holds n content live new_fits;
+          effect = record { as_sent = ap (λ (x : List ℕ). Reply number (Some x)) is; moves = returns_effect rules numbers x.bus ok.holds n content live new_fits };
         }
 
   -- a packet reaches the manager
   manager_step : (x : Ends) → EndsHold x → (n idles number : ℕ) (reply : List ℕ) (place : ℕ) (o : Option Packet) → slice_get (b.split reply) place ≡ o → length x.bus.begun ≤ n + 8 → Fits rules x.bus.begun x.bus.carried n (Reply number (Some reply))
-      → (n ≡ length x.bus.taken) × (length x.bus.taken < length x.bus.begun) → EndsHold (manager_takes b number n idles o x) × ManagerEffect (manager_gets b number n idles o x) x.bus (manager_takes b number n idles o x).bus
-  manager_step x ok n idles number reply place None e live fits awaited = (ok, same_requests x.bus)
+      → (n ≡ length x.bus.taken) × (length x.bus.taken < length x.bus.begun) → EndsHold (manager_takes b number n idles o x) × ManagerEffect rules (Reply number (Some reply)) (whole_reply number (step_of x.manager (reply_name b n) n idles o)) x.bus (manager_takes b number n idles o x).bus
+  manager_step x ok n idles number reply place None e live fits awaited = (ok, manager_still rules (Reply number (Some reply)) x.bus)
   manager_step x ok n idles number reply place (Some p) e live fits awaited =
       let at : kept_at x.bus n ≡ Some reply = ap reply_at fits.1.at ∙ ap (λ (r : List ℕ). Some r) fits.1.replied in
       let below = ok.holds.sound.below in let one_open = ok.holds.sound.one_open in
@@ -255,26 +263,27 @@ module _ (b : PacketBus) (cutting : IsCutting b.split) (before : List Entry) whe
     awaited = at_empty b.controller false (λ tag taken. IsAwaited x.bus taken) (reply_name b n) x.manager (λ tag t is. absurd is) ok.awaited;
   }
 
-  awaited_step : (x : Ends) → EndsHold x → (awaited : Bool) (y : Ends) (taken : Option (List ℕ)) → (awaited ≡ true → EndsHold y × ManagerEffect taken x.bus y.bus)
-      → EndsHold (cond awaited y x) × ManagerEffect (cond awaited taken None) x.bus (cond awaited y x).bus
-  awaited_step x ok true y taken step = step refl
-  awaited_step x ok false y taken step = (ok, same_requests x.bus)
-
   reply_step : (x : Ends) → EndsHold x → (place n idles : ℕ) (content : Content) → length x.bus.begun ≤ n + 8 → Fits rules x.bus.begun x.bus.carried n content
-      → EndsHold (packet_returns b place n idles content x) × ManagerEffect (content_gets b place n idles content x) x.bus (packet_returns b place n idles content x).bus
-  reply_step x ok place n idles (Ask bytes) live fits = (ok, same_requests x.bus)
+      → EndsHold (packet_returns b place n idles content x) × ManagerEffect rules content (completed_reply b x place n idles content) x.bus (packet_returns b place n idles content x).bus
+  reply_step x ok place n idles (Ask bytes) live fits = (ok, manager_still rules (Ask bytes) x.bus)
   reply_step x ok place n idles (Reply number None) live fits =
-      cond_both (is_awaited b n x.bus) (record x { manager = set_at (reply_name b n) [] x.manager }) x (λ y. EndsHold y × SameRequests x.bus y.bus)
-      (λ _. (busy_step x ok n, same_requests x.bus)) (λ _. (ok, same_requests x.bus))
+      let busy = Reply number None in
+      cond_both (is_awaited b n x.bus) (record x { manager = set_at (reply_name b n) [] x.manager }) x (λ y. EndsHold y × ManagerEffect rules busy None x.bus y.bus)
+      (λ _. (busy_step x ok n, manager_still rules busy x.bus)) (λ _. (ok, manager_still rules busy x.bus))
   reply_step x ok place n idles (Reply number (Some reply)) live fits =
       let o = slice_get (b.split reply) place in
       let within = slice_get_within x.bus.carried n fits.1.kept fits.1.at in
       let below = ok.holds.sound.below in
-      awaited_step x ok (is_awaited b n x.bus) (manager_takes b number n idles o x) (manager_gets b number n idles o x)
-      (λ t. manager_step x ok n idles number reply place o refl live fits (awaited_is_open x.bus ok.holds n (omega arith) live t))
+      let content = Reply number (Some reply) in
+      let complete = whole_reply number (step_of x.manager (reply_name b n) n idles o) in
+      let Does : Bool → Type 0 = (λ t. let y = cond t (manager_takes b number n idles o x) x in EndsHold y × ManagerEffect rules content (cond t complete None) x.bus y.bus) in
+      elim (cases_Bool (is_awaited b n x.bus)) [
+        | inl t ↦ subst Does (sym t) (manager_step x ok n idles number reply place o refl live fits (awaited_is_open x.bus ok.holds n (omega arith) live t))
+        | inr f ↦ subst Does (sym f) (ok, manager_still rules content x.bus)
+      ]
 
   frame_at_manager : (x : Ends) → EndsHold x → (which place : ℕ) (o : Option Frame) → slice_get x.bus.frames which ≡ o → IfSome o (IsLive rules x.bus)
-      → EndsHold (packet_at_manager b place o x) × ManagerEffect (packet_taken_now b place o x) x.bus (packet_at_manager b place o x).bus
+      → EndsHold (packet_at_manager b place o x) × FrameAtManager b x place (packet_at_manager b place o x).bus o
   frame_at_manager x ok which place None e live = (ok, same_requests x.bus)
   frame_at_manager x ok which place (Some f) e live = reply_step x ok place f.request f.idles f.content live.0 (ok.holds.sound.frames which f e).fits
 
@@ -294,10 +303,12 @@ module _ (b : PacketBus) (cutting : IsCutting b.split) (before : List Entry) whe
   packet_step x (Plain e) ok honest =
       let new = happens rules x.bus e in
       let w = plain_keeps x.bus ok.holds ok.shows e honest.0 honest.1 in
-      (after_step x ok new x.port w (port_grows x.bus new w.grows x.port ok.port), has_effect rules (smbus_numbers b.manager b.first) x.bus e ok.holds honest.1)
+      (after_step x ok new x.port w (port_grows x.bus new w.grows x.port ok.port), has_effect rules (smbus_numbers b.manager b.controller b.first) x.bus e ok.holds honest.1)
   packet_step x (PacketReachesPort which place answer) ok honest = frame_at_port x ok which place answer _ refl honest
   packet_step x (PacketReachesManager which place) ok honest = frame_at_manager x ok which place _ refl honest
   packet_step x (OtherPacket name packet number answer) ok honest = other_step x ok name packet number answer honest
+  packet_step x (OtherReplyPacket name packet number) ok honest =
+      subst (λ (y : Ends). EndsHold y × SameRequests x.bus y.bus) (sym (packet_ignored b x name packet number honest)) (ok, same_requests x.bus)
   packet_step x (Closes name) ok honest = (
     record {
       holds = ok.holds;

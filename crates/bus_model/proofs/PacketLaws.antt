@@ -6,10 +6,10 @@ use Rattle.bus_model.specs.BusState.{BusState, Frame, Content, Ask, Reply}
 use Rattle.bus_model.specs.Schedule.{IsLive}
 use Rattle.bus_model.specs.Packet.{Packet}
 use Rattle.bus_model.specs.Assembly.{Sent, Step, Waits, Whole, Drops, IsWhole, IsJoined, takes}
-use Rattle.bus_model.specs.PacketBus.{PacketBus, rules_of, request_name, Ends, PacketEvent, Plain, PacketReachesPort, PacketReachesManager, OtherPacket, Closes, Clears, packet_happens, packet_run, opening_ends}
-use Rattle.bus_model.specs.PacketSchedule.{JoinRule, LiveWhereJoined, OneRequestWhereJoined, RecentWhereWhole, MayJoin, PacketMayJoin, JoinsAtPort, IsPacketHonest, AllPacketHonest, AlwaysAtMostOnceInPackets, RuleImplies}
+use Rattle.bus_model.specs.PacketBus.{PacketBus, rules_of, request_name, Ends, PacketEvent, Plain, PacketReachesPort, PacketReachesManager, OtherPacket, OtherReplyPacket, Closes, Clears, packet_happens, packet_run, opening_ends}
+use Rattle.bus_model.specs.PacketSchedule.{JoinRule, LiveWhereJoined, OneRequestWhereJoined, RecentWhereWhole, MayJoin, PacketMayJoin, JoinsAtPort, IsPacketHonest, AllPacketHonest, AlwaysAtMostOnceInPackets, RuleImplies, NoneOpenIsPacketHonest}
 use Rattle.bus_model.specs.PacketEffect.{EventsHavePacketEffects}
-use Rattle.bus_model.proofs.WholeMessages.{at_most_once_from}
+use Rattle.bus_model.proofs.WholeMessages.{at_most_once_from, none_open}
 use Rattle.bus_model.proofs.PacketEnds.{packet_step, packet_run_holds, opening_ends_hold}
 
 -- what completes a message is taken
@@ -47,15 +47,16 @@ module _ (rule : JoinRule) (asks : AsksNoLess rule) (b : PacketBus) where
   frame_implies x place None honest = honest
   frame_implies x place (Some f) honest = (honest.0, content_implies x place f.request f.idles f.content honest.0.0 honest.1)
 
-  event_implies : (x : Ends) (e : PacketEvent) → IsPacketHonest rule b x e → IsPacketHonest RecentWhereWhole b x e
+  pub event_implies : (x : Ends) (e : PacketEvent) → IsPacketHonest rule b x e → IsPacketHonest RecentWhereWhole b x e
   event_implies x (Plain e) honest = honest
   event_implies x (PacketReachesPort which place answer) honest = frame_implies x place (slice_get x.bus.frames which) honest
   event_implies x (PacketReachesManager which place) honest = honest
   event_implies x (OtherPacket name packet number answer) honest = honest
+  event_implies x (OtherReplyPacket name packet number) honest = honest
   event_implies x (Closes name) honest = honest
   event_implies x Clears honest = honest
 
-  all_imply : (events : List PacketEvent) (x : Ends) → AllPacketHonest rule b events x → AllPacketHonest RecentWhereWhole b events x
+  pub all_imply : (events : List PacketEvent) (x : Ends) → AllPacketHonest rule b events x → AllPacketHonest RecentWhereWhole b events x
   all_imply [] x honest = honest
   all_imply (e ∷ es) x honest = (event_implies x e honest.0, all_imply es (packet_happens b x e) honest.1)
 
@@ -63,11 +64,11 @@ pub implies : (rule : JoinRule) → AsksNoLess rule → RuleImplies rule RecentW
 implies rule asks b events before honest = all_imply rule asks b events (opening_ends before) honest
 
 -- a prefix of an honest schedule is honest
-packet_prefix : (rule : JoinRule) (b : PacketBus) (events later : List PacketEvent) (x : Ends) → AllPacketHonest rule b (events ++ later) x → AllPacketHonest rule b events x
+pub packet_prefix : (rule : JoinRule) (b : PacketBus) (events later : List PacketEvent) (x : Ends) → AllPacketHonest rule b (events ++ later) x → AllPacketHonest rule b events x
 packet_prefix rule b [] later x honest = tt
 packet_prefix rule b (e ∷ es) later x honest = (honest.0, packet_prefix rule b es later (packet_happens b x e) honest.1)
 
-packet_next : (rule : JoinRule) (b : PacketBus) (events : List PacketEvent) (e : PacketEvent) (x : Ends) → AllPacketHonest rule b (events ++ e ∷ []) x → IsPacketHonest rule b (packet_run b events x) e
+pub packet_next : (rule : JoinRule) (b : PacketBus) (events : List PacketEvent) (e : PacketEvent) (x : Ends) → AllPacketHonest rule b (events ++ e ∷ []) x → IsPacketHonest rule b (packet_run b events x) e
 packet_next rule b [] e x honest = honest.0
 packet_next rule b (f ∷ es) e x honest = packet_next rule b es e (packet_happens b x f) honest.1
 
@@ -82,3 +83,6 @@ effects_in_packets rule asks b cutting before events e empty honest =
     let first = all_imply rule asks b events (opening_ends before) (packet_prefix rule b events (e ∷ []) (opening_ends before) honest) in
     let next = event_implies rule asks b (packet_run b events (opening_ends before)) e (packet_next rule b events e (opening_ends before) honest) in
     (packet_step b cutting before (packet_run b events (opening_ends before)) e (packet_run_holds b cutting before events (opening_ends before) (opening_ends_hold b cutting before empty) first) next).1
+
+pub none_open_in_packets : NoneOpenIsPacketHonest
+none_open_in_packets rule b here there requester closed = (tt, none_open (rules_of b) here.bus there requester closed)

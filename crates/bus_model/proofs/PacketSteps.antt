@@ -6,7 +6,7 @@ use Rattle.std.proofs.lemmas.Option.{none-some, same_Some}
 use Rattle.bus_model.specs.Numbering.{tag_of}
 use Rattle.bus_model.specs.Repeat.{In}
 use Rattle.bus_model.specs.Packet.{Packet, IsCutting, IsCutFrom}
-use Rattle.bus_model.specs.Assembly.{Name, is_name, Sent, Step, Waits, Whole, Drops, IsWhole, joined, takes, waiting, message_of}
+use Rattle.bus_model.specs.Assembly.{Name, is_name, Sent, Step, Waits, Whole, Drops, IsWhole, joined, takes, waiting, first_request, message_of}
 use Rattle.bus_model.specs.PacketBus.{set_at}
 use Rattle.bus_model.proofs.BusGrows.{Within}
 use Rattle.bus_model.proofs.Assemblies.{IsPartial, IsMessageOf, Good, takes_good, in_push, one_tag}
@@ -86,6 +86,34 @@ WholeIs bytes Waits = Unit {0}
 WholeIs bytes Drops = Unit {0}
 WholeIs bytes (Whole ss) = message_of ss ≡ bytes
 
+-- a message that is complete has the number of this request in its first packet
+abbrev pub FirstIs : ℕ → Step → Type 0
+FirstIs n Waits = Unit {0}
+FirstIs n Drops = Unit {0}
+FirstIs n (Whole ss) = first_request n ss ≡ n
+
+first_pushed : (taken : List Sent) (s : Sent) → ((t : Sent) → In t taken → t.request ≡ s.request) → first_request s.request (taken ++ s ∷ []) ≡ s.request
+first_pushed [] s same = refl
+first_pushed (t ∷ ts) s same = same t (inl refl)
+
+joined_first : (taken : List Sent) (s : Sent) → (IsWhole (joined taken s).0 → (t : Sent) → In t taken → t.request ≡ s.request) → FirstIs s.request (joined taken s).0
+joined_first taken s =
+    let P : Step × List Sent → Type 0 = (λ r. (IsWhole r.0 → (t : Sent) → In t taken → t.request ≡ s.request) → FirstIs s.request r.0) in
+    cond_both (ltb 3 (length taken) || not (eqb s.packet.sequence (length taken))) (Drops, []) (cond s.packet.last (Whole (taken ++ s ∷ []), []) (cond (not (eqb (length s.packet.payload) 64)) (Drops, []) (Waits, taken ++ s ∷ []))) P
+    (λ _ _. tt)
+    (λ _. cond_both s.packet.last (Whole (taken ++ s ∷ []), []) (cond (not (eqb (length s.packet.payload) 64)) (Drops, []) (Waits, taken ++ s ∷ [])) P
+    (λ _ same. first_pushed taken s (same tt))
+    (λ _. cond_both (not (eqb (length s.packet.payload) 64)) (Drops, []) (Waits, taken ++ s ∷ []) P (λ _ _. tt) (λ _ _. tt)))
+
+takes_first : (taken : List Sent) (s : Sent) → (IsWhole (takes taken s).0 → (t : Sent) → In t (waiting taken s) → t.request ≡ s.request) → FirstIs s.request (takes taken s).0
+takes_first [] s =
+    cond_both s.packet.first (joined [] s) (Drops, []) (λ r. (IsWhole r.0 → (t : Sent) → In t (waiting [] s) → t.request ≡ s.request) → FirstIs s.request r.0)
+    (λ _ _. joined_first [] s (λ _ t is. absurd is)) (λ _ _. tt)
+takes_first (t ∷ ts) s =
+    cond_both s.packet.first (joined [] s) (joined (t ∷ ts) s) (λ r. (IsWhole r.0 → (u : Sent) → In u (waiting (t ∷ ts) s) → u.request ≡ s.request) → FirstIs s.request r.0)
+    (λ _ _. joined_first [] s (λ _ u is. absurd is))
+    (λ f same. joined_first (t ∷ ts) s (λ whole u is. same whole u (subst (λ (b : Bool). In u (cond b [] (t ∷ ts))) (sym f) is)))
+
 module _ (first : ℕ) (split : List ℕ → List Packet) (cutting : IsCutting split) where
   -- the packets of an open assembly are of messages under its tag
   pub record IsAssembly (lookup : ℕ → Option (List ℕ)) (tag : ℕ) (taken : List Sent) : Type 0 where
@@ -115,7 +143,7 @@ module _ (first : ℕ) (split : List ℕ → List Packet) (cutting : IsCutting s
     -- a packet of a recent message: what is whole is that message, and what waits is an assembly still
     pub assembly_step : (taken : List Sent) (s : Sent) (bytes : List ℕ) → IsAssembly lookup (tag_of first s.request) taken → lookup s.request ≡ Some bytes → In s.packet (split bytes) → begun ≤ s.request + 8
         → (IsWhole (takes taken s).0 → (t : Sent) → In t (waiting taken s) → begun ≤ t.request + 8)
-        → WholeIs bytes (takes taken s).0 × IsAssembly lookup (tag_of first s.request) (takes taken s).1
+        → WholeIs bytes (takes taken s).0 × IsAssembly lookup (tag_of first s.request) (takes taken s).1 × FirstIs s.request (takes taken s).0
     assembly_step taken s bytes a at is_in live waiting_live =
         let n = s.request in
         let parts : ℕ → List Packet = (λ n. split (message n)) in
@@ -133,4 +161,5 @@ module _ (first : ℕ) (split : List ℕ → List Packet) (cutting : IsCutting s
             each = λ t is. elim (in_rest taken s t is) [ inl old ↦ a.each t old | inr e ↦ subst (λ (t : Sent). (bytes : List ℕ) × (lookup t.request ≡ Some bytes) × In t.packet (split bytes)) e (bytes, at, is_in) ];
             tags = λ t is. elim (in_rest taken s t is) [ inl old ↦ a.tags t old | inr e ↦ subst (λ (t : Sent). tag_of first t.request ≡ tag_of first n) e refl ];
           },
+          takes_first taken s same,
         )

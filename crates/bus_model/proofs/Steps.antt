@@ -6,12 +6,13 @@ use Rattle.std.proofs.lemmas.Option.{none-some, slice_get_within}
 use Rattle.bus_model.specs.Request.{Kept, Entry, carried_since, idles_of}
 use Rattle.bus_model.specs.Carried.{Outcome, Repeats, IsBusy, IsNew, outcome, outcome_of, log_after, reply_after, carried_after, is_busy}
 use Rattle.bus_model.specs.Numbering.{Bus}
-use Rattle.bus_model.specs.BusState.{request_of, Content, Ask, Reply, Frame, BusState, Event, Begins, SendsAgain, ReachesPort, ReachesManager, OtherAsks, IsIdle, opening, is_open, sent, begins, sends_again, hears, comes, taken_content, takes_if, taken_now, at_port, happens, run}
+use Rattle.bus_model.specs.BusState.{request_of, Content, Ask, Reply, Frame, BusState, Event, Begins, SendsAgain, ReachesPort, ReachesManager, OtherAsks, OtherReplies, IsIdle, opening, is_open, sent, begins, sends_again, hears, comes, taken_content, takes_if, taken_now, at_port, happens, run}
 use Rattle.bus_model.specs.Schedule.{IsLive, IsHonest, AllHonest}
 use Rattle.bus_model.specs.Effect.{IsKeptFor}
 use Rattle.bus_model.proofs.Lists.{at_end}
 use Rattle.bus_model.proofs.NumberLaws.{IsNumbering}
 use Rattle.bus_model.proofs.Repeats.{repeats, is_new}
+use Rattle.bus_model.proofs.Strangers.{ignored}
 use Rattle.bus_model.proofs.Sound.{Seen, seen, seen-mine, seen-other, seen-idle, seen-idle_other, Fits, Sound, sound_begins, sound_again, sound_reply, sound_carried, sound_idle, sound_takes}
 
 -- the invariant at a floor
@@ -126,6 +127,7 @@ module _ (b : Bus) (numbers : IsNumbering b) where
   happens_holds s (ReachesPort which answer) h honest = at_port_holds s h answer which _ refl honest
   happens_holds s (ReachesManager which) h honest = at_manager_holds s h which _ refl honest
   happens_holds s (OtherAsks request answer) h honest = other_holds s h (record { request = request; reply = answer }) (outcome b.is_above request s.log) honest
+  happens_holds s (OtherReplies source number reply) h honest = subst (Holds b) (sym (ignored b source number reply s honest)) h
   happens_holds s (IsIdle requester) h honest =
       elim (cases_eq requester b.manager) [
         | inl mine ↦ record {

@@ -43,17 +43,17 @@ effects b numbers before events e empty honest =
     (run_holds b numbers events (opening before) (opening_holds b before empty) (honest_prefix b events (e ∷ []) (opening before) honest))
     (honest_next b events e (opening before) honest)
 
-pub ipmb_always : (manager first : ℕ) → AlwaysAtMostOnce (ipmb manager first)
-ipmb_always manager first = always (ipmb manager first) (ipmb_numbers manager first)
+pub ipmb_always : (manager controller first : ℕ) → AlwaysAtMostOnce (ipmb manager controller first)
+ipmb_always manager controller first = always (ipmb manager controller first) (ipmb_numbers manager controller first)
 
-pub smbus_always : (manager first : ℕ) → AlwaysAtMostOnce (smbus manager first)
-smbus_always manager first = always (smbus manager first) (smbus_numbers manager first)
+pub smbus_always : (manager controller first : ℕ) → AlwaysAtMostOnce (smbus manager controller first)
+smbus_always manager controller first = always (smbus manager controller first) (smbus_numbers manager controller first)
 
-pub ipmb_effects : (manager first : ℕ) → EventsHaveEffects (ipmb manager first)
-ipmb_effects manager first = effects (ipmb manager first) (ipmb_numbers manager first)
+pub ipmb_effects : (manager controller first : ℕ) → EventsHaveEffects (ipmb manager controller first)
+ipmb_effects manager controller first = effects (ipmb manager controller first) (ipmb_numbers manager controller first)
 
-pub smbus_effects : (manager first : ℕ) → EventsHaveEffects (smbus manager first)
-smbus_effects manager first = effects (smbus manager first) (smbus_numbers manager first)
+pub smbus_effects : (manager controller first : ℕ) → EventsHaveEffects (smbus manager controller first)
+smbus_effects manager controller first = effects (smbus manager controller first) (smbus_numbers manager controller first)
 
 pub none_open : NoneOpenIsHonest
 none_open b here there requester closed mine = (or_parts (is_open here) (is_open there) closed).0

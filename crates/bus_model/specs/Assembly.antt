@@ -8,7 +8,7 @@ pub record Name : Type 0 where
   pub owner : Bool
   pub tag : ℕ
 
--- two names are the same
+-- two names are the same: equal source, tag owner bit and tag
 abbrev pub is_name : Name → Name → Bool
 is_name m n = ((m.source == n.source) && (if m.owner then n.owner else not n.owner)) && (m.tag == n.tag)
 
@@ -55,6 +55,11 @@ abbrev pub IsJoined : Step → Type 0
 IsJoined (Whole ss) = Unit {0}
 IsJoined Waits = Unit {0}
 IsJoined Drops = ⊥
+
+-- the request of the first packet, in which a message's number stands; n where there is none
+abbrev pub first_request : ℕ → List Sent → ℕ
+first_request n [] = n
+first_request n (s ∷ ss) = s.request
 
 -- the bytes of packets, joined
 abbrev pub message_of : List Sent → List ℕ

@@ -5,7 +5,7 @@ use Rattle.bus_model.specs.Numbering.{Bus}
 use Rattle.bus_model.specs.BusState.{BusState, Event, request_of, opening, run}
 use Rattle.bus_model.specs.Schedule.{AllHonest}
 
--- what holds of a bus over a port that did this before
+-- what holds of the bus in this state, over a port that did this before
 pub record AtMostOnce (b : Bus) (before : List Entry) (s : BusState) : Type 0 where
   -- the n-th that was carried out is the n-th that was begun
   pub asked : (n : ℕ) (k : Kept) → slice_get s.carried n ≡ Some k → (slice_get s.begun n ≡ Some k.request.bytes) × (k.request ≡ request_of b n k.request.bytes)

@@ -16,7 +16,7 @@ pub record Frame : Type 0 where
   pub idles : ℕ
   pub content : Content
 
--- one bus, as far as the manager and the port are concerned
+-- the bus: what the manager began and took, what the port did, and every frame that was sent
 pub record BusState : Type 0 where
   pub begun : List (List ℕ)  -- the bytes of the manager's requests, in the order begun
   pub carried : List Kept  -- those that the port carried out, oldest first
@@ -24,7 +24,7 @@ pub record BusState : Type 0 where
   pub log : List Entry  -- what the port did for all requesters, newest first
   pub frames : List Frame  -- every frame that was sent, oldest first
 
--- what can happen on it
+-- what can happen on the bus; a schedule is a list of these
 pub data Event : Type 0 where
   -- the manager begins a request, unless one is open
   Begins : (bytes : List ℕ) → Event
@@ -36,6 +36,8 @@ pub data Event : Type 0 where
   ReachesManager : (which : ℕ) → Event
   -- somebody else's request reaches the port
   OtherAsks : (request : Request) (answer : List ℕ) → Event
+  -- somebody else's frame reaches the manager, from this address: a reply under this number
+  OtherReplies : (source number : ℕ) (reply : List ℕ) → Event
   -- the port forgets a requester's window
   IsIdle : (requester : ℕ) → Event
 
@@ -51,15 +53,15 @@ request_of b n bytes = record { requester = b.manager; number = b.number_of n; b
 abbrev pub is_open : BusState → Bool
 is_open s = nat_lt (length s.taken) (length s.begun)
 
--- a frame of this request is sent
+-- a frame of this request is sent now
 abbrev pub sent : Bus → ℕ → Content → BusState → BusState
 sent b n content s = record s { frames = s.frames ++ record { request = n; idles = idles_of b.manager s.log; content = content } ∷ [] }
 
--- the manager begins its next request
+-- a request is begun, and its frame is sent
 abbrev pub begins : Bus → List ℕ → BusState → BusState
 begins b bytes s = sent b (length s.begun) (Ask bytes) (record s { begun = s.begun ++ bytes ∷ [] })
 
--- the open request, if there is one, goes out again
+-- a frame of the open request is sent again, if one is open
 abbrev pub sends_again : Bus → Option (List ℕ) → BusState → BusState
 sends_again b None s = s
 sends_again b (Some bytes) s = sent b (length s.taken) (Ask bytes) s
@@ -86,17 +88,21 @@ taken_content b (Ask bytes) s = None
 taken_content b (Reply number None) s = None
 taken_content b (Reply number (Some reply)) s = if is_open s && (number == b.number_of (length s.taken)) then Some reply else None
 
--- it takes one, if there is one to take
+-- the manager takes no reply but from the controller's address
+abbrev pub taken_from : Bus → ℕ → ℕ → List ℕ → BusState → Option (List ℕ)
+taken_from b source number reply s = if source == b.controller then taken_content b (Reply number (Some reply)) s else None
+
+-- the manager takes a reply, if there is one
 abbrev pub takes_if : Option (List ℕ) → BusState → BusState
 takes_if None s = s
 takes_if (Some reply) s = takes reply s
 
--- a frame, if it was sent, reaches the port
+-- a frame comes to the port, if there is such a frame
 abbrev pub at_port : Bus → List ℕ → Option Frame → BusState → BusState
 at_port b answer None s = s
 at_port b answer (Some f) s = comes b answer f.request f.content s
 
--- the reply that the manager takes, if this frame reaches it
+-- the reply that the manager takes, if this frame comes
 abbrev pub taken_now : Bus → Option Frame → BusState → Option (List ℕ)
 taken_now b None s = None
 taken_now b (Some f) s = taken_content b f.content s
@@ -107,12 +113,12 @@ new_bytes (Repeats reply) bytes = None
 new_bytes IsBusy bytes = None
 new_bytes IsNew bytes = Some bytes
 
--- the same for content
+-- the bytes of the request that the port carries out, if this content of request n comes
 abbrev pub carried_content : Bus → ℕ → Content → BusState → Option (List ℕ)
 carried_content b n (Ask bytes) s = new_bytes (outcome b.is_above (request_of b n bytes) s.log) bytes
 carried_content b n (Reply number reply) s = None
 
--- the bytes of the request that the port carries out, if this frame reaches it
+-- the bytes of the request that the port carries out, if this frame comes
 abbrev pub carried_now : Bus → Option Frame → BusState → Option (List ℕ)
 carried_now b None s = None
 carried_now b (Some f) s = carried_content b f.request f.content s
@@ -124,6 +130,7 @@ happens b s SendsAgain = sends_again b (slice_get s.begun (length s.taken)) s
 happens b s (ReachesPort which answer) = at_port b answer (slice_get s.frames which) s
 happens b s (ReachesManager which) = takes_if (taken_now b (slice_get s.frames which) s) s
 happens b s (OtherAsks request answer) = record s { log = log_with b.is_above (HeardRequest (record { request = request; reply = answer })) s.log }
+happens b s (OtherReplies source number reply) = takes_if (taken_from b source number reply s) s
 happens b s (IsIdle requester) = record s { log = Idled requester ∷ s.log }
 
 -- the state after a schedule, event by event

@@ -31,7 +31,7 @@ pub data Outcome : Type 0 where
   -- it carries the request out
   IsNew : Outcome
 
--- what is done, by the reply that is kept, if any, and whether a ninth window would be needed
+-- what is done, by the reply that is kept and by whether a ninth window would be needed
 abbrev pub outcome_of : Option (List ℕ) → Bool → Outcome
 outcome_of (Some reply) busy = Repeats reply
 outcome_of None true = IsBusy

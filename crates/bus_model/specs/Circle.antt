@@ -3,7 +3,7 @@ use Rattle.std.specs.Prelude.{ℕ}
 use Rattle.bus_model.specs.declared.numbers.Numbers.{Numbers}
 use Rattle.bus_model.specs.declared.numbers.Numbers.TheVariants.{Ipmb, Pldm}
 
--- how many numbers there are
+-- how many numbers there are: 64 sequence numbers on IPMB, 32 instances of PLDM
 abbrev pub circle_of : Numbers → ℕ
 circle_of Ipmb = 64
 circle_of Pldm = 32

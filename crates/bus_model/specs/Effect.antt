@@ -2,7 +2,7 @@
 use Rattle.std.specs.Prelude.{◌≡◌, ℕ, ◌<◌, List, [], ◌∷◌, ◌++◌, length, Some, None, slice_get, MatchOption, MatchBool}
 use Rattle.bus_model.specs.Request.{Kept, Entry, carried_since}
 use Rattle.bus_model.specs.Numbering.{Bus}
-use Rattle.bus_model.specs.BusState.{BusState, Event, Begins, SendsAgain, ReachesPort, ReachesManager, OtherAsks, IsIdle, is_open, opening, happens, run, carried_now, taken_now}
+use Rattle.bus_model.specs.BusState.{BusState, Event, Begins, SendsAgain, ReachesPort, ReachesManager, OtherAsks, OtherReplies, IsIdle, is_open, opening, happens, run, carried_now, taken_now}
 use Rattle.bus_model.specs.Schedule.{AllHonest}
 
 -- the reply that is kept for the n-th request
@@ -30,6 +30,7 @@ pub record IsCarried (old new : BusState) (bytes reply : List ℕ) : Type 0 wher
   pub taken : new.taken ≡ old.taken
   pub opened : slice_get old.begun (length old.taken) ≡ Some bytes
   pub first : slice_get old.carried (length old.taken) ≡ None
+  pub carried : (k : Kept) × (new.carried ≡ old.carried ++ k ∷ []) × (k.request.bytes ≡ bytes) × (k.reply ≡ reply)
   pub kept : IsKeptFor new.carried (length old.taken) reply
 
 -- the open request's reply is taken, which is the one that is kept for it
@@ -51,6 +52,7 @@ HasEffect b s (ReachesManager which) =
     let new = happens b s (ReachesManager which) in
     MatchOption (taken_now b (slice_get s.frames which) s) (SameRequests s new) (λ reply. IsTaken s new reply)
 HasEffect b s (OtherAsks request answer) = SameRequests s (happens b s (OtherAsks request answer))
+HasEffect b s (OtherReplies source number reply) = SameRequests s (happens b s (OtherReplies source number reply))
 HasEffect b s (IsIdle requester) = SameRequests s (happens b s (IsIdle requester))
 
 -- of every event of every honest schedule

@@ -14,10 +14,10 @@ use Rattle.bus_model.specs.declared.live_frames.Step.{Step}
 use Rattle.bus_model.specs.declared.live_frames.Step.TheVariants.{Begins, SendsAgain, Replies, Forgotten}
 use Rattle.bus_model.specs.declared.live_frames.Aging.{Aging}
 
--- a bus whose manager is 0, with requests from 0 on
+-- a bus whose manager is 0 and whose controller is 1, with requests from 0 on
 abbrev pub bus_of : Numbers → Bus
-bus_of Ipmb = ipmb 0 0
-bus_of Pldm = smbus 0 0
+bus_of Ipmb = ipmb 0 1 0
+bus_of Pldm = smbus 0 1 0
 
 -- where the content goes
 abbrev pub end_of : Content → End
@@ -33,12 +33,12 @@ abbrev pub replies_under : Bus → ℕ → Content → BusState → BusState
 replies_under b n (Ask bytes) s = sent b n (Reply (b.number_of n) None) s
 replies_under b n (Reply number reply) s = s
 
--- a frame, if it was sent, is delivered to the port
+-- the port's reply to a frame, if there is such a frame
 abbrev pub replies_to : Bus → Option Frame → BusState → BusState
 replies_to b None s = s
 replies_to b (Some f) s = replies_under b f.request f.content s
 
--- the newest request, if any, is sent again
+-- the newest request is sent again, if any was begun
 abbrev pub sends_newest : Bus → List (List ℕ) → BusState → BusState
 sends_newest b [] s = s
 sends_newest b (bytes ∷ more) s = sent b (length more) (Ask []) s
@@ -50,7 +50,7 @@ after_step numbers SendsAgain s = sends_newest (bus_of numbers) s.begun s
 after_step numbers (Replies which) s = replies_to (bus_of numbers) (slice_get s.frames which) s
 after_step numbers Forgotten s = record s { log = Idled (bus_of numbers).manager ∷ s.log }
 
--- the bus after a list of steps
+-- the bus after so many steps
 abbrev pub after_steps : Numbers → List Step → BusState → BusState
 after_steps numbers [] s = s
 after_steps numbers (step ∷ steps) s = after_steps numbers steps (after_step numbers step s)
@@ -84,7 +84,7 @@ pub record ShowsBus (numbers : Numbers) (begun : ℕ) (frames : List SentFrame) 
   pub frames_are : frames ≡ map (sent_frame (bus_of numbers) s) s.frames
   pub earlier : AllEarlier (idles_of (bus_of numbers).manager s.log) s.frames
 
--- the marks that the program has
+-- the plain program's marks are those of a bus
 abbrev pub Shows : Aging → BusState → Type 0
 Shows aging s = ShowsBus aging.numbers aging.begun aging.frames.items s
 

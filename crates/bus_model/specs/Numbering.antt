@@ -13,21 +13,22 @@ is_above circle low high = nat_lt 0 (distance circle low high) && nat_lt (distan
 abbrev pub is_next : ℕ → ℕ → ℕ → Bool
 is_next circle low high = nat_lt 0 (distance circle low high) && nat_le (distance circle low high) (circle / 2)
 
--- what one bus fixes: its manager's address, the number of the manager's n-th request, which number is above which,
+-- what one bus fixes: both ends' addresses, the number of the manager's n-th request, which number is above which,
 -- and the span: how many newer requests of the manager, once begun, make a frame too old
 pub record Bus : Type 0 where
   pub manager : ℕ
+  pub controller : ℕ
   pub number_of : ℕ → ℕ
   pub is_above : ℕ → ℕ → Bool
   pub span : ℕ
 
 -- IPMB, for a manager whose requests count from `first`: sequence numbers modulo 64
-abbrev pub ipmb : ℕ → ℕ → Bus
-ipmb manager first = record { manager = manager; number_of = λ n. (first + n) % 64; is_above = is_above 64; span = 32 }
+abbrev pub ipmb : ℕ → ℕ → ℕ → Bus
+ipmb manager controller first = record { manager = manager; controller = controller; number_of = λ n. (first + n) % 64; is_above = is_above 64; span = 32 }
 
 -- PLDM over MCTP on SMBus: instances modulo 32
-abbrev pub smbus : ℕ → ℕ → Bus
-smbus manager first = record { manager = manager; number_of = λ n. (first + n) % 32; is_above = is_above 32; span = 8 }
+abbrev pub smbus : ℕ → ℕ → ℕ → Bus
+smbus manager controller first = record { manager = manager; controller = controller; number_of = λ n. (first + n) % 32; is_above = is_above 32; span = 8 }
 
 -- the tag of the manager's n-th request on SMBus
 abbrev pub tag_of : ℕ → ℕ → ℕ

@@ -37,3 +37,7 @@ packets_from (suc left) place bytes =
 -- the way that there is: up to 256 bytes in runs of 64
 abbrev pub packets_of : List ℕ → List Packet
 packets_of bytes = if nat_le (length bytes) 256 then packets_from 4 0 bytes else []
+
+-- each message of at most 256 bytes has a cut, of packets of at most 64 bytes
+abbrev pub CutsAll : (List ℕ → List Packet) → Type 0
+CutsAll split = (bytes : List ℕ) → length bytes ≤ 256 → IsCut (split bytes) bytes × ((p : Packet) → In p (split bytes) → length p.payload ≤ 64)

@@ -2,9 +2,9 @@
 use Rattle.std.specs.Prelude.{ℕ, Bool, true, false, ◌==◌, ◌&&◌, length, List, [], ◌∷◌, Option, Some, None, if◌then◌else◌, slice_get}
 use Rattle.bus_model.specs.Request.{Entry}
 use Rattle.bus_model.specs.Numbering.{Bus, smbus, tag_of}
-use Rattle.bus_model.specs.BusState.{BusState, Frame, Content, Ask, Reply, Event, OtherAsks, opening, is_open, comes, carried_content, taken_content, takes_if, happens}
+use Rattle.bus_model.specs.BusState.{BusState, Frame, Content, Ask, Reply, Event, OtherAsks, opening, is_open, request_of, hears, taken_content, takes_if, happens}
 use Rattle.bus_model.specs.Packet.{Packet}
-use Rattle.bus_model.specs.Assembly.{Name, is_name, Sent, Step, Waits, Whole, Drops, takes, message_of}
+use Rattle.bus_model.specs.Assembly.{Name, is_name, Sent, Step, Waits, Whole, Drops, takes, first_request, message_of}
 
 -- what the bus fixes: both endpoints, the count from which the manager's requests go on, and how messages are cut
 pub record PacketBus : Type 0 where
@@ -15,13 +15,13 @@ pub record PacketBus : Type 0 where
 
 -- its rules for whole messages
 abbrev pub rules_of : PacketBus → Bus
-rules_of b = smbus b.manager b.first
+rules_of b = smbus b.manager b.controller b.first
 
--- the name of request n's packets at the port, where the tag owner bit is set
+-- the name of the packets of request n at the port; the tag's owner is the requester
 abbrev pub request_name : PacketBus → ℕ → Name
 request_name b n = record { source = b.manager; owner = true; tag = tag_of b.first n }
 
--- the name of its reply's packets at the manager, where the tag owner bit is clear
+-- the name of the packets of the reply to request n, at the manager
 abbrev pub reply_name : PacketBus → ℕ → Name
 reply_name b n = record { source = b.controller; owner = false; tag = tag_of b.first n }
 
@@ -31,7 +31,7 @@ pub record Ends : Type 0 where
   pub port : Name → List Sent
   pub manager : Name → List Sent
 
--- what can happen on it
+-- what can happen on the bus in packets; a schedule is a list of these
 pub data PacketEvent : Type 0 where
   -- an event that brings no frame to an end
   Plain : (event : Event) → PacketEvent
@@ -41,6 +41,8 @@ pub data PacketEvent : Type 0 where
   PacketReachesManager : (which place : ℕ) → PacketEvent
   -- somebody else's packet reaches the port; `number` is the instance that a message which it completes has
   OtherPacket : (name : Name) (packet : Packet) (number : ℕ) (answer : List ℕ) → PacketEvent
+  -- somebody else's packet reaches the manager; `number` is the instance that a reply which it completes has
+  OtherReplyPacket : (name : Name) (packet : Packet) (number : ℕ) → PacketEvent
   -- the port closes an assembly, as where it has no slot for a start of that name
   Closes : (name : Name) → PacketEvent
   -- the manager drops what waits at it, as where it begins to undo
@@ -50,13 +52,14 @@ pub data PacketEvent : Type 0 where
 abbrev pub set_at : Name → List Sent → (Name → List Sent) → Name → List Sent
 set_at name taken assemblies n = if is_name n name then taken else assemblies n
 
--- a message that is complete reaches the port
+-- a request that is complete at the port, under the number that stands in its first packet; its reply belongs to request n,
+-- whose frame's packet completed it
 abbrev pub whole_comes : Bus → List ℕ → ℕ → Step → BusState → BusState
 whole_comes b answer n Waits s = s
 whole_comes b answer n Drops s = s
-whole_comes b answer n (Whole ss) s = comes b answer n (Ask (message_of ss)) s
+whole_comes b answer n (Whole ss) s = hears b n (record { request = request_of b (first_request n ss) (message_of ss); reply = answer }) s
 
--- a reply that is complete reaches the manager
+-- a reply that is complete at the manager, under the number of its last packet's frame
 abbrev pub whole_returns : Bus → ℕ → Step → BusState → BusState
 whole_returns b number Waits s = s
 whole_returns b number Drops s = s
@@ -71,7 +74,7 @@ whole_other b name number answer (Whole ss) s =
     then happens b s (OtherAsks (record { requester = name.source; number = number; bytes = message_of ss }) answer)
     else s
 
--- a packet of request n reaches the port
+-- the port takes a packet of request n, if there is such a packet
 abbrev pub port_takes : PacketBus → List ℕ → ℕ → ℕ → Option Packet → Ends → Ends
 port_takes b answer n idles None x = x
 port_takes b answer n idles (Some p) x =
@@ -82,20 +85,25 @@ port_takes b answer n idles (Some p) x =
 abbrev pub is_awaited : PacketBus → ℕ → BusState → Bool
 is_awaited b n s = is_open s && (tag_of b.first n == tag_of b.first (length s.taken))
 
--- a packet of request n's reply reaches the manager
+-- the manager takes a packet of a reply to request n, if there is such a packet
 abbrev pub manager_takes : PacketBus → ℕ → ℕ → ℕ → Option Packet → Ends → Ends
 manager_takes b number n idles None x = x
 manager_takes b number n idles (Some p) x =
     let r = takes (x.manager (reply_name b n)) (record { request = n; idles = idles; packet = p }) in
     record x { bus = whole_returns (rules_of b) number r.0 x.bus; manager = set_at (reply_name b n) r.1 x.manager }
 
--- another requester's packet reaches the port
+-- the port takes a packet of another requester
 abbrev pub other_takes : PacketBus → Name → Packet → ℕ → List ℕ → Ends → Ends
 other_takes b name p number answer x =
     let r = takes (x.port name) (record { request = 0; idles = 0; packet = p }) in
     record x { bus = whole_other (rules_of b) name number answer r.0 x.bus; port = set_at name r.1 x.port }
 
--- a packet of a frame's content comes to the port; what is no request is ignored there
+-- the manager takes a packet of another only under the open request's reply's name
+abbrev pub other_returns : PacketBus → Name → Packet → ℕ → Ends → Ends
+other_returns b name p number x =
+    if is_open x.bus && is_name name (reply_name b (length x.bus.taken)) then manager_takes b number (length x.bus.taken) 0 (Some p) x else x
+
+-- a packet of this content comes to the port; what is of no request is ignored there
 abbrev pub packet_comes : PacketBus → List ℕ → ℕ → ℕ → ℕ → Content → Ends → Ends
 packet_comes b answer place n idles (Ask bytes) x = port_takes b answer n idles (slice_get (b.split bytes) place) x
 packet_comes b answer place n idles (Reply number reply) x = x
@@ -108,70 +116,27 @@ packet_returns b place n idles (Reply number None) x =
 packet_returns b place n idles (Reply number (Some reply)) x =
     if is_awaited b n x.bus then manager_takes b number n idles (slice_get (b.split reply) place) x else x
 
--- a packet of a frame, if it was sent, reaches the port
+-- a packet of a frame comes to the port, if there is such a frame
 abbrev pub packet_at_port : PacketBus → List ℕ → ℕ → Option Frame → Ends → Ends
 packet_at_port b answer place None x = x
 packet_at_port b answer place (Some f) x = packet_comes b answer place f.request f.idles f.content x
 
--- a packet of a frame, if it was sent, reaches the manager
+-- a packet of a frame comes to the manager, if there is such a frame
 abbrev pub packet_at_manager : PacketBus → ℕ → Option Frame → Ends → Ends
 packet_at_manager b place None x = x
 packet_at_manager b place (Some f) x = packet_returns b place f.request f.idles f.content x
 
--- the bytes of the request that the port carries out, if this packet comes
-abbrev pub whole_carried : Bus → ℕ → Step → BusState → Option (List ℕ)
-whole_carried b n Waits s = None
-whole_carried b n Drops s = None
-whole_carried b n (Whole ss) s = carried_content b n (Ask (message_of ss)) s
-
--- the same of a packet
-abbrev pub port_carries : PacketBus → ℕ → ℕ → Option Packet → Ends → Option (List ℕ)
-port_carries b n idles None x = None
-port_carries b n idles (Some p) x = whole_carried (rules_of b) n (takes (x.port (request_name b n)) (record { request = n; idles = idles; packet = p })).0 x.bus
-
--- the same of a packet of a frame's content
-abbrev pub content_carries : PacketBus → ℕ → ℕ → ℕ → Content → Ends → Option (List ℕ)
-content_carries b place n idles (Ask bytes) x = port_carries b n idles (slice_get (b.split bytes) place) x
-content_carries b place n idles (Reply number reply) x = None
-
--- the same of a packet of a frame
-abbrev pub packet_carried_now : PacketBus → ℕ → Option Frame → Ends → Option (List ℕ)
-packet_carried_now b place None x = None
-packet_carried_now b place (Some f) x = content_carries b place f.request f.idles f.content x
-
--- the reply that the manager takes, if this packet comes
-abbrev pub whole_taken : Bus → ℕ → Step → BusState → Option (List ℕ)
-whole_taken b number Waits s = None
-whole_taken b number Drops s = None
-whole_taken b number (Whole ss) s = taken_content b (Reply number (Some (message_of ss))) s
-
--- the same of a packet
-abbrev pub manager_gets : PacketBus → ℕ → ℕ → ℕ → Option Packet → Ends → Option (List ℕ)
-manager_gets b number n idles None x = None
-manager_gets b number n idles (Some p) x = whole_taken (rules_of b) number (takes (x.manager (reply_name b n)) (record { request = n; idles = idles; packet = p })).0 x.bus
-
--- the same of a packet of a frame's content
-abbrev pub content_gets : PacketBus → ℕ → ℕ → ℕ → Content → Ends → Option (List ℕ)
-content_gets b place n idles (Ask bytes) x = None
-content_gets b place n idles (Reply number None) x = None
-content_gets b place n idles (Reply number (Some reply)) x =
-    if is_awaited b n x.bus then manager_gets b number n idles (slice_get (b.split reply) place) x else None
-
--- the same of a packet of a frame
-abbrev pub packet_taken_now : PacketBus → ℕ → Option Frame → Ends → Option (List ℕ)
-packet_taken_now b place None x = None
-packet_taken_now b place (Some f) x = content_gets b place f.request f.idles f.content x
-
--- the bus after an event
+-- both ends after an event
 abbrev pub packet_happens : PacketBus → Ends → PacketEvent → Ends
 packet_happens b x (Plain e) = record x { bus = happens (rules_of b) x.bus e }
 packet_happens b x (PacketReachesPort which place answer) = packet_at_port b answer place (slice_get x.bus.frames which) x
 packet_happens b x (PacketReachesManager which place) = packet_at_manager b place (slice_get x.bus.frames which) x
 packet_happens b x (OtherPacket name packet number answer) = other_takes b name packet number answer x
+packet_happens b x (OtherReplyPacket name packet number) = other_returns b name packet number x
 packet_happens b x (Closes name) = record x { port = set_at name [] x.port }
 packet_happens b x Clears = record x { manager = λ name. [] }
 
--- the bus after a schedule, event by event
+-- both ends after a schedule, event by event
 abbrev pub packet_run : PacketBus → List PacketEvent → Ends → Ends
 packet_run b [] x = x
 packet_run b (e ∷ es) x = packet_run b es (packet_happens b x e)

@@ -1,13 +1,13 @@
 -- Honest schedules of packets.
-use Rattle.std.specs.Prelude.{◌≡◌, ◌≢◌, ℕ, ◌+◌, ◌≤◌, List, [], ◌∷◌, ◌++◌, length, Option, Some, None, slice_get, IfSome}
+use Rattle.std.specs.Prelude.{◌≡◌, ◌≢◌, ℕ, ◌+◌, ◌≤◌, false, ◌||◌, List, [], ◌∷◌, ◌++◌, length, Option, Some, None, slice_get, IfSome}
 use Rattle.bus_model.specs.Request.{Entry, idles_of, carried_since}
 use Rattle.bus_model.specs.Numbering.{Bus}
-use Rattle.bus_model.specs.BusState.{BusState, Content, Ask, Reply, Event, ReachesPort, ReachesManager}
+use Rattle.bus_model.specs.BusState.{BusState, Content, Ask, Reply, Event, ReachesPort, ReachesManager, IsIdle, is_open}
 use Rattle.bus_model.specs.Schedule.{IsLive, IsHonest}
 use Rattle.bus_model.specs.Repeat.{In}
 use Rattle.bus_model.specs.Packet.{Packet, IsCutting}
 use Rattle.bus_model.specs.Assembly.{Sent, IsWhole, IsJoined, takes, waiting}
-use Rattle.bus_model.specs.PacketBus.{PacketBus, rules_of, request_name, Ends, PacketEvent, Plain, PacketReachesPort, PacketReachesManager, OtherPacket, Closes, Clears, packet_happens, packet_run, opening_ends}
+use Rattle.bus_model.specs.PacketBus.{PacketBus, rules_of, request_name, Ends, PacketEvent, Plain, PacketReachesPort, PacketReachesManager, OtherPacket, OtherReplyPacket, Closes, Clears, packet_happens, packet_run, opening_ends}
 use Rattle.bus_model.specs.AtMostOnce.{AtMostOnce}
 
 -- What is asked of the packets that wait at the port where another is joined to them. Nothing need be asked of the
@@ -22,7 +22,7 @@ pub data JoinRule : Type 0 where
   -- where a message is complete, its packets are of requests that are recent still
   RecentWhereWhole : JoinRule
 
--- the rule is kept where this packet meets what waits
+-- the rule allows this packet to be taken to those that wait
 abbrev pub MayJoin : JoinRule → Bus → BusState → List Sent → Sent → Type 0
 MayJoin AnyJoin b s taken p = Unit {0}
 MayJoin LiveWhereJoined b s taken p =
@@ -30,12 +30,12 @@ MayJoin LiveWhereJoined b s taken p =
 MayJoin OneRequestWhereJoined b s taken p = IsJoined (takes taken p).0 → (t : Sent) → In t (waiting taken p) → t.request ≡ p.request
 MayJoin RecentWhereWhole b s taken p = IsWhole (takes taken p).0 → (t : Sent) → In t (waiting taken p) → length s.begun ≤ t.request + b.span
 
--- the same of a packet, if there is one
+-- the same of a packet of request n, if there is such a packet
 abbrev pub PacketMayJoin : JoinRule → Bus → BusState → List Sent → ℕ → ℕ → Option Packet → Type 0
 PacketMayJoin rule b s taken n idles None = Unit {0}
 PacketMayJoin rule b s taken n idles (Some p) = MayJoin rule b s taken (record { request = n; idles = idles; packet = p })
 
--- the same of a packet of a frame's content
+-- the same of packet `place` of a frame that comes to the port
 abbrev pub JoinsAtPort : JoinRule → PacketBus → Ends → ℕ → ℕ → ℕ → Content → Type 0
 JoinsAtPort rule b x place n idles (Ask bytes) = PacketMayJoin rule (rules_of b) x.bus (x.port (request_name b n)) n idles (slice_get (b.split bytes) place)
 JoinsAtPort rule b x place n idles (Reply number reply) = Unit {0}
@@ -46,7 +46,8 @@ IsPlain (ReachesPort which answer) = ⊥
 IsPlain (ReachesManager which) = ⊥
 IsPlain _ = Unit {0}
 
--- only packets of live frames are delivered, joined to others at the port by the rule, and nobody else uses the manager's endpoint
+-- only packets of live frames are delivered, joined to others at the port by the rule, and nobody else uses
+-- the manager's endpoint, or replies from the controller's
 abbrev pub IsPacketHonest : JoinRule → PacketBus → Ends → PacketEvent → Type 0
 IsPacketHonest rule b x (Plain e) = IsPlain e × IsHonest (rules_of b) x.bus e
 IsPacketHonest rule b x (PacketReachesPort which place answer) =
@@ -54,10 +55,11 @@ IsPacketHonest rule b x (PacketReachesPort which place answer) =
 IsPacketHonest rule b x (PacketReachesManager which place) =
     IfSome (slice_get x.bus.frames which) (IsLive (rules_of b) x.bus)
 IsPacketHonest rule b x (OtherPacket name packet number answer) = name.source ≢ b.manager
+IsPacketHonest rule b x (OtherReplyPacket name packet number) = name.source ≢ b.controller
 IsPacketHonest rule b x (Closes name) = Unit {0}
 IsPacketHonest rule b x Clears = Unit {0}
 
--- every event of the schedule is honest when it comes
+-- every event of a schedule of packets is honest, where it happens
 abbrev pub AllPacketHonest : JoinRule → PacketBus → List PacketEvent → Ends → Type 0
 AllPacketHonest rule b [] x = Unit {0}
 AllPacketHonest rule b (e ∷ es) x = IsPacketHonest rule b x e × AllPacketHonest rule b es (packet_happens b x e)
@@ -70,3 +72,7 @@ AlwaysAtMostOnceInPackets rule = (b : PacketBus) → IsCutting b.split → (befo
 -- a schedule that is honest by the one rule is so by the other
 abbrev pub RuleImplies : JoinRule → JoinRule → Type 0
 RuleImplies rule weaker = (b : PacketBus) (events : List PacketEvent) (before : List Entry) → AllPacketHonest rule b events (opening_ends before) → AllPacketHonest weaker b events (opening_ends before)
+
+-- a lab that forgets the manager's window only while no request is open on either bus is honest in packets, too
+abbrev pub NoneOpenIsPacketHonest : Type 0
+NoneOpenIsPacketHonest = (rule : JoinRule) (b : PacketBus) (here : Ends) (there : BusState) (requester : ℕ) → (is_open here.bus || is_open there) ≡ false → IsPacketHonest rule b here (Plain (IsIdle requester))

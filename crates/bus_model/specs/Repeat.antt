@@ -14,7 +14,7 @@ abbrev pub MayStandBetween : (ℕ → ℕ → Bool) → Request → Entry → Ty
 MayStandBetween is_above r (Carried k) = k.request.requester ≡ r.requester → is_above r.number k.request.number ≡ true
 MayStandBetween is_above r (Idled q) = q ≢ r.requester
 
--- each of the entries may
+-- so is everything between
 abbrev pub AllBetween : (ℕ → ℕ → Bool) → Request → List Entry → Type 0
 AllBetween is_above r [] = Unit {0}
 AllBetween is_above r (e ∷ es) = MayStandBetween is_above r e × AllBetween is_above r es

@@ -16,7 +16,7 @@ use Rattle.bus_model.specs.declared.rows.Rows.{Rows}
 abbrev pub request_of_asked : Asked → Request
 request_of_asked asked = record { requester = asked.requester; number = asked.number; bytes = asked.body ∷ [] }
 
--- a row as a kept request
+-- the request of a row as carried out, with its place for the reply
 abbrev pub kept_of : Row → Kept
 kept_of row = record { request = request_of_asked row.asked; reply = row.place ∷ [] }
 
@@ -25,7 +25,7 @@ abbrev pub kept_if : Option Row → Option Kept
 kept_if None = None
 kept_if (Some row) = Some (kept_of row)
 
--- two requests have equal fields
+-- two requests are the same: equal requester, number and body
 abbrev pub is_asked : Asked → Asked → Bool
 is_asked a b = ((a.requester == b.requester) && (a.number == b.number)) && (a.body == b.body)
 

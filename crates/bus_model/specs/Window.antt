@@ -8,7 +8,7 @@ use Rattle.bus_model.specs.Numbering.{is_above, is_next}
 abbrev pub Window : Type 0
 Window = ℕ → Option Kept
 
--- nothing is kept
+-- a window in which nothing is kept
 abbrev pub empty_window : Window
 empty_window n = None
 

@@ -8,14 +8,14 @@ ghost use Rattle.bus_model.specs.PacketExample.{PacketsEndAnswered, PacketsShowR
 /// On IPMB, with sequence numbers from 60 on: a busy answer, an idle, a lost frame, a delayed reply, and a repeat after 31
 /// newer requests. All 33 requests are answered.
 pub fn ipmb_schedule_ends_answered()
-    ensures ends { EndsAnswered (ipmb 44 60) ipmb_example 33 }
-    ensures shows { ShowsRepeats (ipmb 44 60) ipmb_example 69 }
+    ensures ends { EndsAnswered (ipmb 44 32 60) ipmb_example 33 }
+    ensures shows { ShowsRepeats (ipmb 44 32 60) ipmb_example 69 }
 {}
 
 /// On SMBus in whole messages, with instances from 28 on: the same with 7 newer requests.
 pub fn smbus_schedule_ends_answered()
-    ensures ends { EndsAnswered (smbus 44 28) smbus_example 9 }
-    ensures shows { ShowsRepeats (smbus 44 28) smbus_example 21 }
+    ensures ends { EndsAnswered (smbus 44 32 28) smbus_example 9 }
+    ensures shows { ShowsRepeats (smbus 44 32 28) smbus_example 21 }
 {}
 
 /// In packets, two for each message: a lost end that a later copy's takes the place of, packets out of order, and another
@@ -34,9 +34,9 @@ pub fn stale_assembly_carries_what_nobody_sent()
 /// once more than the request was begun; and where somebody uses the manager's address, or its window holds something at
 /// the start, the manager takes a reply to what it didn't ask.
 pub fn premises_are_needed()
-    ensures span { Counts (ipmb 44 0) too_old 33 34 33 }
-    ensures open_request { Counts (ipmb 44 0) forgotten_while_open 1 2 0 }
-    ensures older_frames { Counts (ipmb 44 0) older_than_idle 1 2 1 }
-    ensures address { Counts (ipmb 44 0) in_the_managers_name 1 0 1 }
-    ensures empty_window { InUseAtStart (ipmb 44 0) }
+    ensures span { Counts (ipmb 44 32 0) too_old 33 34 33 }
+    ensures open_request { Counts (ipmb 44 32 0) forgotten_while_open 1 2 0 }
+    ensures older_frames { Counts (ipmb 44 32 0) older_than_idle 1 2 1 }
+    ensures address { Counts (ipmb 44 32 0) in_the_managers_name 1 0 1 }
+    ensures empty_window { InUseAtStart (ipmb 44 32 0) }
 {}

@@ -8,22 +8,22 @@ ghost use Rattle.bus_model.specs.Window.{RowsAreTheRule, WindowsApart};
 ghost use Rattle.bus_model.specs.Schedule.{NoneOpenIsHonest, TestTells};
 ghost use Rattle.bus_model.specs.AtMostOnce.{AlwaysAtMostOnce};
 ghost use Rattle.bus_model.specs.Effect.{EventsHaveEffects};
-ghost use Rattle.bus_model.specs.Packet.{IsCutting, packets_of};
-ghost use Rattle.bus_model.specs.PacketSchedule.{LiveWhereJoined, OneRequestWhereJoined, RecentWhereWhole, AlwaysAtMostOnceInPackets, RuleImplies};
+ghost use Rattle.bus_model.specs.Packet.{IsCutting, CutsAll, packets_of};
+ghost use Rattle.bus_model.specs.PacketSchedule.{LiveWhereJoined, OneRequestWhereJoined, RecentWhereWhole, AlwaysAtMostOnceInPackets, RuleImplies, NoneOpenIsPacketHonest};
 ghost use Rattle.bus_model.specs.PacketEffect.{EventsHavePacketEffects};
 
 /// Over every honest schedule of whole messages the manager's requests are carried out at most once, in the order begun,
 /// and it takes for each the reply that is kept for it.
 pub fn requests_are_carried_at_most_once()
-    ensures ipmb { (manager first : ℕ) → AlwaysAtMostOnce (ipmb manager first) }
-    ensures smbus { (manager first : ℕ) → AlwaysAtMostOnce (smbus manager first) }
+    ensures ipmb { (manager controller first : ℕ) → AlwaysAtMostOnce (ipmb manager controller first) }
+    ensures smbus { (manager controller first : ℕ) → AlwaysAtMostOnce (smbus manager controller first) }
 {}
 
 /// What each honest event does to the open request: nothing, or it is carried out for the first time, or the reply that
 /// is kept for it is taken.
 pub fn events_have_effects()
-    ensures ipmb { (manager first : ℕ) → EventsHaveEffects (ipmb manager first) }
-    ensures smbus { (manager first : ℕ) → EventsHaveEffects (smbus manager first) }
+    ensures ipmb { (manager controller first : ℕ) → EventsHaveEffects (ipmb manager controller first) }
+    ensures smbus { (manager controller first : ℕ) → EventsHaveEffects (smbus manager controller first) }
 {}
 
 /// Whether a frame is live can be tested: the test is what the plain program of live frames computes.
@@ -33,7 +33,8 @@ pub fn live_test_tells()
 
 /// A lab that forgets the manager's window only while no request is open on either bus keeps the schedule honest.
 pub fn none_open_is_honest()
-    ensures { NoneOpenIsHonest }
+    ensures whole { NoneOpenIsHonest }
+    ensures in_packets { NoneOpenIsPacketHonest }
 {}
 
 /// The rule for repeated, busy and new requests is its sentence, with numbers modulo 64 and modulo 32, and the requesters
@@ -78,7 +79,8 @@ pub fn packet_events_have_effects()
     ensures one_request { EventsHavePacketEffects OneRequestWhereJoined }
 {}
 
-/// Runs of 64 bytes, of messages of at most 256, are a way to cut messages.
+/// Runs of 64 bytes are a way to cut messages, and each message of at most 256 bytes is cut.
 pub fn runs_of_64_are_a_cutting()
-    ensures { IsCutting packets_of }
+    ensures cut { IsCutting packets_of }
+    ensures each { CutsAll packets_of }
 {}

@@ -14,3 +14,6 @@ pub use heard::{Asked, Heard, Outcome};
 pub use live_frames::{End, SentFrame, Step, sent_frames};
 pub use numbers::Numbers;
 pub use plain_port::outcomes;
+
+#[cfg(test)]
+mod tests;
