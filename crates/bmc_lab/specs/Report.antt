@@ -4,7 +4,7 @@ use Rattle.std.specs.List.{flat_map}
 use Rattle.hex.specs.Hex.{encode_upper}
 use Rattle.bmc_core.specs.declared.out.Out.{Out}
 use Rattle.bmc_core.specs.declared.out.Done.{Done}
-use Rattle.bmc_core.specs.declared.out.Done.TheVariants.{Ignored, Answered}
+use Rattle.bmc_core.specs.declared.out.Done.TheVariants.{Ignored, Waiting, Answered, Control}
 use Rattle.bmc_core.specs.Names.{reason_name}
 use Rattle.bmc_lab.specs.declared.status.Status.{Status}
 use Rattle.bmc_lab.specs.declared.status.Status.TheVariants.{Sent, NotSent, RefusedWords, Memory, Output}
@@ -21,12 +21,14 @@ byte_of Output = 6
 abbrev pub frame_line : List ℕ → List ℕ
 frame_line frame = encode_upper frame ++ 10 ∷ []
 
--- why nothing was done
+-- why nothing was sent
 abbrev pub done_line : Done → List ℕ
 done_line (Ignored reason) = codes "ignored " ++ reason_name reason ++ 10 ∷ []
+done_line Waiting = codes "waiting\n"
 done_line Answered = []
+done_line Control = []
 
--- a line for each frame, and why nothing was done
+-- a line for each frame, and why nothing was sent
 abbrev pub text_of : Out → List ℕ
 text_of out = flat_map frame_line out.frames ++ done_line out.done
 

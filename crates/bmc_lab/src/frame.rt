@@ -9,11 +9,12 @@ use crate::report::Report;
 use crate::status::Status;
 use bmc_core::{At, Board, Port};
 use cfg_records::{PlainStore, StoreFault, sample_board};
+use mctp_net::EndpointId;
 use std::alloc::{AllocError, Global};
 use std::io;
 use two_wire::{Address, Bus};
 
-/// The controller's two-wire address.
+/// The controller's two-wire address, on both buses.
 const WIRE: u8 = 0x20;
 
 /// The controller's EID.
@@ -25,13 +26,13 @@ fn controller_place() -> At
 {
     At {
         wire: Address::new(WIRE).unwrap(),
-        eid: EID,
+        eid: EndpointId::new(EID).unwrap(),
     }
 }
 
-/// What a fresh controller with the sample board does with the bytes.
-fn frame_report(alloc: Global, bytes: &[u8]) -> Result<Report, AllocError>
-    ensures { IfOk result (λ report. Tells bytes.now (string_bytes report.text) report.status) }
+/// What a fresh controller with the sample board does with the bytes where it hears them on the bus.
+fn frame_report(alloc: Global, bus: Bus, bytes: &[u8]) -> Result<Report, AllocError>
+    ensures { IfOk result (λ report. Tells bus bytes.now (string_bytes report.text) report.status) }
 {
     let file = sample_board(alloc)?;
     let pairs = file.records(alloc)?;
@@ -41,7 +42,7 @@ fn frame_report(alloc: Global, bytes: &[u8]) -> Result<Report, AllocError>
         Err(StoreFault::TwiceTheSameKey | StoreFault::BadValue) => unreachable!(),
     };
     let mut board = Board::open(alloc, file, store)?;
-    let mut port = Port::new(alloc, Bus::Ipmb, controller_place())?;
+    let mut port = Port::new(alloc, bus, controller_place())?;
     Report::new(alloc, &port.on_frame(&mut board, bytes))
 }
 
@@ -56,19 +57,20 @@ fn finish<W: io::Write>(to: &mut W, text: &[u8], status: Status) -> u8
 }
 
 /// Sends one frame to a fresh controller with the sample board. Writes each reply frame to `out` in upper-case hexadecimal on a
-/// line, or `ignored` and the reason's name, and gives the status: 0 where a frame was sent, 1 where none was, 5 with `memory` on
-/// `err` where memory was refused, and 6 where a write failed.
+/// line, or `ignored` and the reason's name, or `waiting` where others of its message are to come, and gives the status: 0 where a
+/// frame was sent, 1 where none was, 5 with `memory` on `err` where memory was refused, and 6 where a write failed.
 pub fn frame_run<W: io::Write, E: io::Write>(
     alloc: Global,
+    bus: Bus,
     bytes: &[u8],
     out: &mut W,
     err: &mut E,
 ) -> u8
     ensures { (result ≡ 6)
         ⊎ (((result ≡ 5) × Appends (E.contents err.old) (E.contents err.new) (codes "memory\n") × Keeps (W.contents out.old) (W.contents out.new))
-        ⊎ ((text : List ℕ) × (status : End) × Tells bytes.now text status × (result ≡ byte_of status) × Appends (W.contents out.old) (W.contents out.new) text × Keeps (E.contents err.old) (E.contents err.new))) }
+        ⊎ ((text : List ℕ) × (status : End) × Tells bus bytes.now text status × (result ≡ byte_of status) × Appends (W.contents out.old) (W.contents out.new) text × Keeps (E.contents err.old) (E.contents err.new))) }
 {
-    match frame_report(alloc, bytes) {
+    match frame_report(alloc, bus, bytes) {
         Ok(report) => finish(out, report.text.as_bytes(), report.status),
         Err(_) => finish(err, b"memory\n", Status::Memory),
     }

@@ -34,7 +34,8 @@ fn status(out: &Out) -> Status
 }
 
 impl Report {
-    /// What is said of what a port did: a line for each frame that it sent, and why it ignored what it heard.
+    /// What is said of what a port did: a line for each frame that it sent, and why it ignored what it heard, or that it waits for
+    /// the rest of a message.
     pub fn new(alloc: Global, out: &Out) -> Result<Report, AllocError>
         ensures text { IfOk result (λ report. string_bytes report.text ≡ text_of out.now) }
         ensures status { IfOk result (λ report. report.status ≡ status_of out.now.frames) }
@@ -43,8 +44,10 @@ impl Report {
         for frame in out.frames.as_slice() {
             push_line(alloc, &mut text, frame)?;
         }
-        if let Done::Ignored(reason) = out.done {
-            writeln!(text, "ignored {reason}")?;
+        match out.done {
+            Done::Ignored(reason) => writeln!(text, "ignored {reason}")?,
+            Done::Waiting => text.push_str("waiting\n")?,
+            Done::Answered | Done::Control => {}
         }
         Ok(Report {
             text,

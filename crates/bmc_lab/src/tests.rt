@@ -1,8 +1,11 @@
 //! Worked frames on the sample board, and what a run does where memory or a write is refused.
+mod smbus;
+
 use crate::frame_run;
 use bmc_core::{At, Board, Done, Out, Port, Reason, changing};
-use cfg_records::{Asked, Key, PlainStore, Store, StoreFault, sample_board};
+use cfg_records::{Answered, Asked, Key, PlainStore, Store, StoreFault, sample_board};
 use ipmb_frame::FrameFault;
+use mctp_net::EndpointId;
 use std::alloc::{AllocError, Global};
 use std::io;
 use std::process::Abort;
@@ -40,14 +43,14 @@ fn new_paper(alloc: Global, left: usize) -> Paper {
     }
 }
 
-/// A board and its IPMB port, with the sample board's records.
+/// A board and its port, with the sample board's records.
 #[derive(Drop)]
 struct Lab {
     board: Board<PlainStore>,
     port: Port,
 }
 
-fn open_lab(alloc: Global) -> Result<Lab, AllocError> {
+fn open_lab(alloc: Global, bus: Bus) -> Result<Lab, AllocError> {
     let file = sample_board(alloc)?;
     let pairs = file.records(alloc)?;
     let store = match PlainStore::new(alloc, pairs.as_slice()) {
@@ -57,11 +60,11 @@ fn open_lab(alloc: Global) -> Result<Lab, AllocError> {
     };
     let at = At {
         wire: Address::new(0x20).unwrap(),
-        eid: 0x0A,
+        eid: EndpointId::new(0x0A).unwrap(),
     };
     Ok(Lab {
         board: Board::open(alloc, file, store)?,
-        port: Port::new(alloc, Bus::Ipmb, at)?,
+        port: Port::new(alloc, bus, at)?,
     })
 }
 
@@ -81,10 +84,22 @@ fn hear(rt: &impl Abort, alloc: Global, lab: &mut Lab, digits: &str) -> Out {
     lab.port.on_frame(&mut lab.board, bytes.as_slice())
 }
 
-/// The port sends this frame and no other.
+/// The port has the request carried out, and sends this frame and no other.
 fn expect_reply(rt: &impl Abort, alloc: Global, lab: &mut Lab, digits: &str, reply: &str) {
+    expect_frame(rt, alloc, lab, digits, Done::Answered, reply);
+}
+
+/// The port does this, and sends this frame and no other.
+fn expect_frame(
+    rt: &impl Abort,
+    alloc: Global,
+    lab: &mut Lab,
+    digits: &str,
+    done: Done,
+    reply: &str,
+) {
     let out = hear(rt, alloc, lab, digits);
-    assert!(rt; matches!(out.done, Done::Answered), "{digits} is answered");
+    assert_eq!(rt; out.done, done, "{digits}");
     let [frame] = out.frames.as_slice() else {
         panic!(rt; "{digits} has one reply");
     };
@@ -94,9 +109,14 @@ fn expect_reply(rt: &impl Abort, alloc: Global, lab: &mut Lab, digits: &str, rep
 
 /// The port ignores the bytes for this reason.
 fn expect_ignored(rt: &impl Abort, alloc: Global, lab: &mut Lab, digits: &str, reason: Reason) {
+    expect_nothing(rt, alloc, lab, digits, Done::Ignored(reason));
+}
+
+/// The port does this, and sends nothing.
+fn expect_nothing(rt: &impl Abort, alloc: Global, lab: &mut Lab, digits: &str, done: Done) {
     let out = hear(rt, alloc, lab, digits);
     assert!(rt; out.frames.as_slice().is_empty(), "{digits} has no reply");
-    assert_eq!(rt; out.done, Done::Ignored(reason), "{digits}");
+    assert_eq!(rt; out.done, done, "{digits}");
 }
 
 /// The record of a sensor's thresholds.
@@ -112,7 +132,7 @@ const BEFORE: [u8; 6] = [0x14, 0x0A, 0x05, 0x50, 0x5F, 0x6E];
 
 #[test]
 fn get_device_id_is_answered(rt: HostRuntime) -> Result<(), Fail> {
-    let mut lab = open_lab(rt.alloc())?;
+    let mut lab = open_lab(rt.alloc(), Bus::Ipmb)?;
     expect_reply(
         &rt,
         rt.alloc(),
@@ -125,7 +145,7 @@ fn get_device_id_is_answered(rt: HostRuntime) -> Result<(), Fail> {
 
 #[test]
 fn upper_critical_is_set_over_ipmb_and_got_again(rt: HostRuntime) -> Result<(), Fail> {
-    let mut lab = open_lab(rt.alloc())?;
+    let mut lab = open_lab(rt.alloc(), Bus::Ipmb)?;
     expect_reply(
         &rt,
         rt.alloc(),
@@ -146,7 +166,7 @@ fn upper_critical_is_set_over_ipmb_and_got_again(rt: HostRuntime) -> Result<(), 
 
 #[test]
 fn hysteresis_is_set_over_ipmb_and_got_again(rt: HostRuntime) -> Result<(), Fail> {
-    let mut lab = open_lab(rt.alloc())?;
+    let mut lab = open_lab(rt.alloc(), Bus::Ipmb)?;
     expect_reply(
         &rt,
         rt.alloc(),
@@ -166,7 +186,7 @@ fn hysteresis_is_set_over_ipmb_and_got_again(rt: HostRuntime) -> Result<(), Fail
 
 #[test]
 fn a_wrong_checksum_is_ignored_and_changes_nothing(rt: HostRuntime) -> Result<(), Fail> {
-    let mut lab = open_lab(rt.alloc())?;
+    let mut lab = open_lab(rt.alloc(), Bus::Ipmb)?;
     expect_ignored(
         &rt,
         rt.alloc(),
@@ -182,7 +202,7 @@ fn a_wrong_checksum_is_ignored_and_changes_nothing(rt: HostRuntime) -> Result<()
 fn the_longest_frame_is_heard_and_longer_and_shorter_ones_are_not(
     rt: HostRuntime,
 ) -> Result<(), Fail> {
-    let mut lab = open_lab(rt.alloc())?;
+    let mut lab = open_lab(rt.alloc(), Bus::Ipmb)?;
     let zeros = "00 00 00 00 00 00 00 00 00 00 00 00 00 00 00 00 00 00 00 00 00 00 00 00 00";
     let longest = format!(in rt.alloc(); "20 18 C8 2C 04 01 {zeros} CF")?;
     let longer = format!(in rt.alloc(); "20 18 C8 2C 04 01 {zeros} 00 CF")?;
@@ -202,7 +222,7 @@ fn the_longest_frame_is_heard_and_longer_and_shorter_ones_are_not(
 
 #[test]
 fn thresholds_out_of_order_are_refused_and_change_nothing(rt: HostRuntime) -> Result<(), Fail> {
-    let mut lab = open_lab(rt.alloc())?;
+    let mut lab = open_lab(rt.alloc(), Bus::Ipmb)?;
     expect_reply(
         &rt,
         rt.alloc(),
@@ -216,7 +236,7 @@ fn thresholds_out_of_order_are_refused_and_change_nothing(rt: HostRuntime) -> Re
 
 #[test]
 fn frames_to_others_and_responses_are_ignored(rt: HostRuntime) -> Result<(), Fail> {
-    let mut lab = open_lab(rt.alloc())?;
+    let mut lab = open_lab(rt.alloc(), Bus::Ipmb)?;
     // Get Device ID to 22h: the first address and its checksum differ.
     expect_ignored(
         &rt,
@@ -251,7 +271,7 @@ fn ipmi(net_fn: u8, lun: u8, command: u8, body: &[u8]) -> Option<Asked> {
 
 #[test]
 fn each_check_of_a_command_has_its_code(rt: HostRuntime) -> Result<(), Fail> {
-    let mut lab = open_lab(rt.alloc())?;
+    let mut lab = open_lab(rt.alloc(), Bus::Ipmb)?;
     let set: [u8; 8] = [5, 0x10, 0, 0, 0, 0, 0x5A, 0];
     let unknown: [u8; 8] = [9, 0x10, 0, 0, 0, 0, 0x5A, 0];
     let unsettable: [u8; 8] = [7, 0x04, 0, 0, 0, 0, 0, 0];
@@ -278,17 +298,44 @@ fn each_check_of_a_command_has_its_code(rt: HostRuntime) -> Result<(), Fail> {
     Ok(())
 }
 
+fn pldm(kind: u8, command: u8, body: &[u8]) -> Option<Asked> {
+    if kind >= 64 || body.len() > 252 {
+        return None;
+    }
+    Some(Asked::Pldm {
+        from: 0x08,
+        kind: Below::new(kind),
+        command,
+        body: Bytes::from_slice(body),
+    })
+}
+
 #[test]
-fn no_pldm_command_is_known_yet(rt: HostRuntime) -> Result<(), Fail> {
-    let mut lab = open_lab(rt.alloc())?;
-    for (kind, code) in [(0, 0x05), (2, 0x05), (3, 0x05), (1, 0x20), (63, 0x20)] {
-        let asked = Asked::Pldm {
-            from: 0x08,
-            kind: Below::new(kind),
-            command: 0x02,
-            body: Bytes::new(),
-        };
-        assert_eq!(rt; lab.board.answer(&asked).code, code, "type {kind}");
+fn the_terminus_and_its_types_are_told(rt: HostRuntime) -> Result<(), Fail> {
+    let mut lab = open_lab(rt.alloc(), Bus::Ipmb)?;
+    let terminus = lab.board.answer(&pldm(0, 0x02, &[]).ok_or("a request")?);
+    assert!(rt; terminus.is(&Answered::done(&[5])));
+    let types = lab.board.answer(&pldm(0, 0x04, &[]).ok_or("a request")?);
+    assert!(rt; types.is(&Answered::done(&[0x0D, 0, 0, 0, 0, 0, 0, 0])));
+    Ok(())
+}
+
+#[test]
+fn each_check_of_a_pldm_command_has_its_code(rt: HostRuntime) -> Result<(), Fail> {
+    let mut lab = open_lab(rt.alloc(), Bus::Ipmb)?;
+    for (kind, command, body, code) in [
+        (1, 0x02, &[0][..], 0x20),
+        (63, 0x03, &[], 0x20),
+        (0, 0x03, &[0], 0x05),
+        (2, 0x02, &[], 0x05),
+        (3, 0x04, &[], 0x05),
+        (0, 0x02, &[0], 0x03),
+        (0, 0x04, &[0], 0x03),
+        (0, 0x02, &[], 0x00),
+    ] {
+        let asked = pldm(kind, command, body).ok_or("a request")?;
+        let answered = lab.board.answer(&asked);
+        assert_eq!(rt; answered.code, code, "{kind} {command:02X}");
         assert!(rt; !changing(&asked));
     }
     Ok(())
@@ -303,6 +350,17 @@ fn setting_commands_are_marked(rt: HostRuntime) -> Result<(), Fail> {
     Ok(())
 }
 
+/// A run writes this line and nothing else, and ends so.
+fn expect_run(rt: &impl Abort, alloc: Global, bus: Bus, digits: &str, line: &str, status: u8) {
+    let bytes = bytes_of(rt, alloc, digits);
+    let mut out = new_paper(alloc, 99);
+    let mut err = new_paper(alloc, 99);
+    let ended = frame_run(alloc, bus, bytes.as_slice(), &mut out, &mut err);
+    assert_eq!(rt; ended, status, "{digits}");
+    assert_eq!(rt; out.text.as_slice(), line.as_bytes(), "{digits}");
+    assert!(rt; err.text.is_empty(), "{digits}");
+}
+
 #[test]
 fn a_run_says_what_was_sent_or_why_nothing_was(rt: HostRuntime) -> Result<(), Fail> {
     for (digits, line, status) in [
@@ -310,13 +368,7 @@ fn a_run_says_what_was_sent_or_why_nothing_was(rt: HostRuntime) -> Result<(), Fa
         ("2010D02C08260510000000005A0038", "ignored BodySum\n", 1),
         ("2218C62C0001D3", "ignored NotOurs\n", 1),
     ] {
-        let bytes = bytes_of(&rt, rt.alloc(), digits);
-        let mut out = new_paper(rt.alloc(), 99);
-        let mut err = new_paper(rt.alloc(), 99);
-        let ended = frame_run(rt.alloc(), bytes.as_slice(), &mut out, &mut err);
-        assert_eq!(rt; ended, status, "{digits}");
-        assert_eq!(rt; out.text.as_slice(), line.as_bytes(), "{digits}");
-        assert!(rt; err.text.is_empty(), "{digits}");
+        expect_run(&rt, rt.alloc(), Bus::Ipmb, digits, line, status);
     }
     Ok(())
 }
@@ -328,13 +380,13 @@ fn a_write_that_fails_ends_a_run_with_6(rt: HostRuntime) -> Result<(), Fail> {
     for left in 0..3 {
         let mut out = new_paper(rt.alloc(), left);
         let mut err = new_paper(rt.alloc(), 99);
-        let ended = frame_run(rt.alloc(), bytes.as_slice(), &mut out, &mut err);
+        let ended = frame_run(rt.alloc(), Bus::Ipmb, bytes.as_slice(), &mut out, &mut err);
         assert_eq!(rt; ended, 6, "with {left} calls");
         assert!(rt; err.text.is_empty(), "with {left} calls");
     }
     let mut out = new_paper(rt.alloc(), 3);
     let mut err = new_paper(rt.alloc(), 0);
-    let ended = frame_run(rt.alloc(), bytes.as_slice(), &mut out, &mut err);
+    let ended = frame_run(rt.alloc(), Bus::Ipmb, bytes.as_slice(), &mut out, &mut err);
     assert_eq!(rt; ended, 0);
     Ok(())
 }

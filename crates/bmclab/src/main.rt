@@ -11,7 +11,7 @@ use std::rt::Env;
 
 fn run<R: Env + AllocGlobal, W: io::Write, E: io::Write>(rt: &R, out: &mut W, err: &mut E) -> u8 {
     match words::asked(rt) {
-        Ok(bytes) => frame_run(rt.alloc(), bytes.as_slice(), out, err),
+        Ok(frame) => frame_run(rt.alloc(), frame.bus, frame.bytes.as_slice(), out, err),
         Err(status) => u8::from(refuse(status, err)),
     }
 }

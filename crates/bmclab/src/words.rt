@@ -6,11 +6,20 @@ use hex::FromHexError;
 use std::alloc::{AllocError, Global};
 use std::rt::Env;
 use std::{env, io};
+use two_wire::Bus;
 
-/// `bmclab frame HEX`.
+/// The frame that the program is to send, and on which bus.
+#[derive(Drop)]
+pub struct AskedFrame {
+    pub bus: Bus,
+    pub bytes: Vec<u8>,
+}
+
+/// `bmclab frame [--bus ipmb|smbus] HEX`.
 fn command<'a>(alloc: Global) -> Result<Command<'a>, AllocError> {
     let hex = Arg::new(alloc, "HEX").required(true);
-    let frame = Command::new(alloc, "frame").arg(hex)?;
+    let bus = Arg::new(alloc, "bus").long("bus");
+    let frame = Command::new(alloc, "frame").arg(bus)?.arg(hex)?;
     Command::new(alloc, "bmclab")
         .subcommand_required(true)
         .subcommand(frame)
@@ -24,6 +33,15 @@ fn refusal(error: &Error) -> Status {
     }
 }
 
+/// The bus of this name, and IPMB where none is named.
+fn bus_of(name: Option<&str>) -> Result<Bus, Status> {
+    match name {
+        None | Some("ipmb") => Ok(Bus::Ipmb),
+        Some("smbus") => Ok(Bus::Smbus),
+        Some(_) => Err(Status::RefusedWords),
+    }
+}
+
 /// The bytes of an even number of hexadecimal digits, at least two.
 fn bytes_of(alloc: Global, digits: &str) -> Result<Vec<u8>, Status> {
     match hex::decode(alloc, digits) {
@@ -34,8 +52,8 @@ fn bytes_of(alloc: Global, digits: &str) -> Result<Vec<u8>, Status> {
     }
 }
 
-/// The bytes that the words name.
-fn read(alloc: Global, words: &[String]) -> Result<Vec<u8>, Status> {
+/// The frame that the words name.
+fn read(alloc: Global, words: &[String]) -> Result<AskedFrame, Status> {
     let Ok(command) = command(alloc) else {
         return Err(Status::Memory);
     };
@@ -46,14 +64,17 @@ fn read(alloc: Global, words: &[String]) -> Result<Vec<u8>, Status> {
     let Some(frame) = matches.subcommand_matches("frame") else {
         return Err(Status::RefusedWords);
     };
-    match frame.get_str("HEX") {
-        Some(digits) => bytes_of(alloc, digits),
-        None => Err(Status::RefusedWords),
-    }
+    let Some(digits) = frame.get_str("HEX") else {
+        return Err(Status::RefusedWords);
+    };
+    Ok(AskedFrame {
+        bus: bus_of(frame.get_str("bus"))?,
+        bytes: bytes_of(alloc, digits)?,
+    })
 }
 
-/// The bytes of the frame that the program is to send.
-pub fn asked<R: Env + AllocGlobal>(rt: &R) -> Result<Vec<u8>, Status> {
+/// The frame that the program is to send.
+pub fn asked<R: Env + AllocGlobal>(rt: &R) -> Result<AskedFrame, Status> {
     let args = match env::args(rt) {
         Ok(args) => args,
         Err(error) if error.kind() == io::ErrorKind::OutOfMemory => return Err(Status::Memory),
