@@ -2,7 +2,7 @@
 ghost use Rattle.std.specs.Prelude.{◌≡◌, ◌<◌};
 ghost use Rattle.bmc_core.specs.Request.{byte_at, thresholds_in, watchdog_in, request_of, asked_by, asked_at};
 
-use crate::command::{Command, find_line, is_pldm_type, Line, find_pldm_line};
+use crate::command::{Command, Line, find_line, find_pldm_line, is_pldm_type};
 use cfg_records::{Asked, Key, Op, SetHysteresis, SetPowerPolicy, SetThresholds, SetWatchdog};
 use two_wire::{Code, code};
 

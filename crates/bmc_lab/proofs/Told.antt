@@ -5,6 +5,7 @@ use Rattle.cfg_records.specs.declared.board_file.BoardFile.{BoardFile}
 use Rattle.cfg_records.specs.declared.live.Live.{Live}
 use Rattle.cfg_records.specs.Records.{Records, records_of}
 use Rattle.cfg_records.specs.Boards.{pairs_of}
+use Rattle.cfg_records.specs.Opening.{opening as no_activity}
 use Rattle.bmc_core.specs.declared.out.Out.{Out}
 use Rattle.bmc_core.specs.declared.port.At.{At}
 use Rattle.bmc_core.specs.declared.port.Port.{Port}
@@ -22,12 +23,13 @@ is_fresh port bus at place same stands named empty =
     λ i. record { bus = same i; at = where_it_is i; endpoint = eid i; assembler = empty i }
 
 -- a fresh port, over a board that stands as the file says, hears as a fresh controller does
-pub as_opened : (port : Port) (bus : Bus) (setup file : BoardFile) (records : Records) (live : Live) (bytes : List ℕ) (out : Out) (next : Port) (after : State) → port ≡ fresh_port bus → setup ≡ file → records ≡ records_of (pairs_of file)
+pub as_opened : (port : Port) (bus : Bus) (setup file : BoardFile) (records : Records) (live : Live) (bytes : List ℕ) (out : Out) (next : Port) (after : State) → port ≡ fresh_port bus → setup ≡ file → records ≡ records_of (pairs_of file) → live ≡ no_activity
     → Hears setup port (state records live) bytes out next after → Hears file (fresh_port bus) (opening file) bytes out next after
-as_opened port bus setup file records live bytes out next after fresh same begins heard =
+as_opened port bus setup file records live bytes out next after fresh same begins idle heard =
     subst (λ (p : Port). Hears file p (opening file) bytes out next after) fresh
     (subst (λ (f : BoardFile). Hears f port (opening file) bytes out next after) same
-    (subst (λ (r : Records). Hears setup port (state r live) bytes out next after) begins heard))
+    (subst (λ (l : Live). Hears setup port (state (records_of (pairs_of file)) l) bytes out next after) idle
+    (subst (λ (r : Records). Hears setup port (state r live) bytes out next after) begins heard)))
 
 -- a report of what the port did tells it
 pub told : {E : Type 0} (r : Result Report E) (bus : Bus) (bytes : List ℕ) (file : BoardFile) (out : Out) (next : Port) (after : State) → IsSample file → Hears file (fresh_port bus) (opening file) bytes out next after

@@ -185,6 +185,32 @@ fn hysteresis_is_set_over_ipmb_and_got_again(rt: HostRuntime) -> Result<(), Fail
 }
 
 #[test]
+fn a_watchdog_that_was_never_set_is_not_reset(rt: HostRuntime) -> Result<(), Fail> {
+    let mut lab = open_lab(rt.alloc(), Bus::Ipmb)?;
+    expect_reply(
+        &rt,
+        rt.alloc(),
+        &mut lab,
+        "20 18 C8 2C 00 22 B2",
+        "2C 1C B8 20 00 22 80 3E",
+    );
+    Ok(())
+}
+
+#[test]
+fn the_chassis_status_shows_the_power_policy(rt: HostRuntime) -> Result<(), Fail> {
+    let mut lab = open_lab(rt.alloc(), Bus::Ipmb)?;
+    expect_reply(
+        &rt,
+        rt.alloc(),
+        &mut lab,
+        "20 00 E0 2C 00 01 D3",
+        "2C 04 D0 20 00 01 00 20 00 00 BF",
+    );
+    Ok(())
+}
+
+#[test]
 fn a_wrong_checksum_is_ignored_and_changes_nothing(rt: HostRuntime) -> Result<(), Fail> {
     let mut lab = open_lab(rt.alloc(), Bus::Ipmb)?;
     expect_ignored(
@@ -343,9 +369,20 @@ fn each_check_of_a_pldm_command_has_its_code(rt: HostRuntime) -> Result<(), Fail
 
 #[test]
 fn setting_commands_are_marked(rt: HostRuntime) -> Result<(), Fail> {
-    for (command, marked) in [(0x24, true), (0x25, false), (0x26, true), (0x27, false)] {
-        let asked = ipmi(0x04, 3, command, &[]).ok_or("a request")?;
-        assert_eq!(rt; changing(&asked), marked, "04h {command:02X}h");
+    for (net_fn, command, marked) in [
+        (0x00, 0x01, false),
+        (0x00, 0x06, true),
+        (0x04, 0x24, true),
+        (0x04, 0x25, false),
+        (0x04, 0x26, true),
+        (0x04, 0x27, false),
+        (0x06, 0x01, false),
+        (0x06, 0x22, false),
+        (0x06, 0x24, true),
+        (0x06, 0x25, false),
+    ] {
+        let asked = ipmi(net_fn, 3, command, &[]).ok_or("a request")?;
+        assert_eq!(rt; changing(&asked), marked, "{net_fn:02X}h {command:02X}h");
     }
     Ok(())
 }
