@@ -97,7 +97,6 @@ undoes (Thresholds limits) (op.Thresholds o) old new live is_valid done can = th
 undoes (Thresholds limits) _ old new live is_valid done can = absurd done
 undoes (Hysteresis limits) (op.Hysteresis o) old new live is_valid done can = hysteresis.undoes (op.Hysteresis o) old new live is_valid done can
 undoes (Hysteresis limits) _ old new live is_valid done can = absurd done
-
 undoes (PowerPolicy limits) (op.PowerPolicy o) old new live is_valid done can = power_policy.undoes (op.PowerPolicy o) old new live is_valid done can
 undoes (PowerPolicy limits) _ old new live is_valid done can = absurd done
 undoes (Watchdog limits) (op.Watchdog o) old new live is_valid done can = watchdog.undoes (op.Watchdog o) old new live is_valid done can
