@@ -5,3 +5,4 @@ pub mod Quiet
 pub mod ShownAgain
 pub mod Undone
 pub mod HeardPackets
+pub mod OneReply

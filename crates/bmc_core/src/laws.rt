@@ -1,8 +1,11 @@
-//! What holds of the command relation.
+//! What holds of the definitions alone.
+ghost use Rattle.std.specs.Prelude.{◌≡◌, List, ℕ};
+ghost use Rattle.mctp_net.specs.declared.message.Message.{Message};
 ghost use Rattle.bmc_core.specs.AnswerLaws.{HasAnswer, HasOneAnswer};
 ghost use Rattle.bmc_core.specs.Decode.{IsWhole, GetsAreRead, SetsAreRead, UndosAreWhole};
 ghost use Rattle.bmc_core.specs.Undo.{IsUndone, IsSteady, IsShownAsBefore};
 ghost use Rattle.bmc_core.specs.Quiet.{KeepsRecords};
+ghost use Rattle.bmc_core.specs.SmbusPort.{AreFramesOf};
 
 use cfg_records::Op;
 
@@ -50,4 +53,9 @@ pub fn conf_law()
 /// A request whose command sets no configuration leaves every record as it is, be it carried out or refused.
 pub fn quiet_law()
     ensures { KeepsRecords }
+{}
+
+/// A message has one list of frames.
+pub fn one_list_of_frames()
+    ensures { (m : Message) (frames others : List (List ℕ)) → AreFramesOf m frames → AreFramesOf m others → frames ≡ others }
 {}
