@@ -83,7 +83,7 @@ impl<const CAP: usize> Bytes<CAP> {
     pub fn copy(&self) -> Self
         ensures { result ≡ self.now }
     {
-        self.clone().unwrap()
+        Bytes::from_slice(self.as_slice())
     }
 
     /// Whether they are these.
