@@ -1,7 +1,6 @@
 //! What a port sends, and what it did.
 ghost use Rattle.std.specs.Prelude.{◌≡◌, [], ◌∷◌};
 
-use arrayvec::ArrayVec;
 use ipmb_frame::FrameFault;
 use std::fmt;
 use std::marker::Model;
@@ -43,18 +42,19 @@ pub enum Done {
     Answered,
 }
 
-/// At most four frames, in the order in which they are to be sent.
+/// The frames that are to be sent: at most one.
 #[derive(Debug, Drop)]
 pub struct Frames {
-    frames: ArrayVec<Frame, 4>,
+    frame: Option<Frame>,
 }
 
 impl Model for Frames {
     ghost use Rattle.std.specs.Prelude.{List, ℕ};
+    ghost use Rattle.std.specs.Option.{option_to_list};
 
     ghost Value = { List (List ℕ) };
 
-    ghost view = { λ f. f.frames.items };
+    ghost view = { λ f. option_to_list f.frame };
 }
 
 impl Frames {
@@ -62,25 +62,21 @@ impl Frames {
     pub fn none() -> Frames
         ensures { result ≡ [] }
     {
-        Frames {
-            frames: ArrayVec::new(),
-        }
+        Frames { frame: None }
     }
 
     /// One frame.
     pub fn one(frame: Frame) -> Frames
         ensures { result ≡ frame ∷ [] }
     {
-        let mut frames = ArrayVec::new();
-        frames.push(frame);
-        Frames { frames }
+        Frames { frame: Some(frame) }
     }
 
     /// The frames.
     pub fn as_slice(&self) -> &[Frame]
         ensures { result.now ≡ self.now }
     {
-        self.frames.as_slice()
+        self.frame.as_slice()
     }
 }
 
