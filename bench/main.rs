@@ -12,10 +12,10 @@ use std::time::Instant;
 const RANDOM: usize = 4000;
 
 /// How often each list of frames is measured, once with each controller in turn.
-const TURNS: usize = 25;
+const TURNS: usize = 400;
 
 /// About how many requests one measure takes.
-const REQUESTS: u64 = 1 << 19;
+const REQUESTS: u64 = 1 << 14;
 
 /// The bytes of a frame, of which the first `length` count. None stand for no frame.
 #[repr(C)]
@@ -123,7 +123,8 @@ fn main() -> ExitCode {
         // One list with the proved controller alone, for a profiler.
         Some(place) => {
             let work = &works[place.parse::<usize>().expect("a number of 0 to 2")];
-            println!("{:<28} {:>14.0}", work.name, speed(proved::serve, &work.frames));
+            let speeds: Vec<f64> = (0..TURNS).map(|_| speed(proved::serve, &work.frames)).collect();
+            println!("{:<28} {:>14.0}", work.name, fastest(&speeds));
         }
     }
     ExitCode::SUCCESS
