@@ -73,48 +73,49 @@ impl<S: Store> Board<S> {
         &self.store
     }
 
-    /// What a Get of the key's record replies.
-    fn get(&self, key: &Key) -> Answered
-        ensures { result ≡ get_answer (limits_at self.now.setup key.now) (S.records self.now.store key.now) self.now.live (unknown_code self.now.setup key.now) }
+    /// Makes it what a Get of the key's record replies.
+    fn get(&self, key: &Key, answered: &mut Answered)
+        ensures { answered.new ≡ get_answer (limits_at self.now.setup key.now) (S.records self.now.store key.now) self.now.live (unknown_code self.now.setup key.now) }
     {
-        match (self.setup.limits(key), self.store.get(key)) {
+        match (self.setup.limits(key), &self.store.get(key)) {
             (Some(limits), Some(value)) => {
-                Answered::done(limits.get_data(&value, &self.live).as_slice())
+                answered.set_done(limits.get_data(value, &self.live).as_slice());
             }
-            _ => Answered::refused(code::NOT_PRESENT),
+            _ => answered.set_refused(code::NOT_PRESENT),
         }
     }
 
-    /// Carries out the operation, where its record takes it.
-    fn set(&mut self, op: &Op) -> Answered
-        ensures answer { (result, state (S.records self.new.store) self.new.live) ≡ set_answer (limits_at self.old.setup (key_of op.now)) (S.records self.old.store (key_of op.now)) (unknown_code self.old.setup (key_of op.now)) op.now (state (S.records self.old.store) self.old.live) }
+    /// Carries out the operation, where its record takes it, and makes it the reply.
+    fn set(&mut self, op: &Op, answered: &mut Answered)
+        ensures answer { (answered.new, state (S.records self.new.store) self.new.live) ≡ set_answer (limits_at self.old.setup (key_of op.now)) (S.records self.old.store (key_of op.now)) (unknown_code self.old.setup (key_of op.now)) op.now (state (S.records self.old.store) self.old.live) }
         ensures setup { self.new.setup ≡ self.old.setup }
     {
         let key = op.key();
-        match (self.setup.limits(&key), self.store.get(&key)) {
-            (Some(limits), Some(value)) => match limits.apply(op, &value) {
+        match (self.setup.limits(&key), &self.store.get(&key)) {
+            (Some(limits), Some(value)) => match limits.apply(op, value) {
                 Ok(new) => {
                     let _ = self.store.put(&key, new);
                     self.live = Limits::next_live(op, &self.live);
-                    Answered::done(Limits::set_reply(op).as_slice())
+                    answered.set_done(Limits::set_reply(op).as_slice());
                 }
-                Err(code) => Answered::refused(code),
+                Err(code) => answered.set_refused(code),
             },
-            _ => Answered::refused(code::NOT_PRESENT),
+            _ => answered.set_refused(code::NOT_PRESENT),
         }
     }
 
-    fn serve(&mut self, asked: &Asked) -> Answered
-        ensures answer { (result, state (S.records self.new.store) self.new.live) ≡ answer_of self.old.setup (state (S.records self.old.store) self.old.live) asked.now }
+    /// Makes it the answer to a request.
+    fn serve(&mut self, asked: &Asked, answered: &mut Answered)
+        ensures answer { (answered.new, state (S.records self.new.store) self.new.live) ≡ answer_of self.old.setup (state (S.records self.old.store) self.old.live) asked.now }
         ensures setup { self.new.setup ≡ self.old.setup }
     {
         match read_request(asked) {
-            Err(code) => Answered::refused(code),
+            Err(code) => answered.set_refused(code),
             Ok(Request::GetDeviceId) => {
-                Answered::done(device_data(self.setup.device()).as_slice())
+                answered.set_done(device_data(self.setup.device()).as_slice());
             }
-            Ok(Request::Get(key)) => self.get(&key),
-            Ok(Request::Set(op)) => self.set(&op),
+            Ok(Request::Get(key)) => self.get(&key, answered),
+            Ok(Request::Set(op)) => self.set(&op, answered),
         }
     }
 
@@ -133,6 +134,8 @@ impl<S: Store> Board<S> {
         // The data fits the frame or message that carries it.
         ensures fits { length result.body ≤ room_for asked.now }
     {
-        self.serve(asked)
+        let mut answered = Answered::done(&[]);
+        self.serve(asked, &mut answered);
+        answered
     }
 }

@@ -65,7 +65,10 @@ impl Store for PlainStore {
     ghost records = { λ s key. btree.get key_cmp s.records key };
 
     fn get(&self, key: &Key) -> Option<Value> {
-        self.records.get(key).map(|value| value.copy())
+        match self.records.get(key) {
+            Some(value) => Some(value.copy()),
+            None => None,
+        }
     }
 
     fn put(&mut self, key: &Key, value: Value) -> Result<(), NoKey> {
