@@ -105,9 +105,10 @@ impl<S: Store> Board<S> {
     }
 
     /// Makes it the answer to a request.
-    fn serve(&mut self, asked: &Asked, answered: &mut Answered)
+    pub(crate) fn serve(&mut self, asked: &Asked, answered: &mut Answered)
         ensures answer { (answered.new, state (S.records self.new.store) self.new.live) ≡ answer_of self.old.setup (state (S.records self.old.store) self.old.live) asked.now }
         ensures setup { self.new.setup ≡ self.old.setup }
+        ensures fits { length answered.new.body ≤ room_for asked.now }
     {
         match read_request(asked) {
             Err(code) => answered.set_refused(code),

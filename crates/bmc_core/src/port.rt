@@ -1,14 +1,14 @@
 //! The ports that requests come to.
 ghost use Rattle.std.specs.Prelude.{◌≡◌, ◌≤◌, IfOk, length};
 ghost use Rattle.bmc_core.specs.State.{state};
-ghost use Rattle.bmc_core.specs.Port.{Hears, asked_in, response_to};
+ghost use Rattle.bmc_core.specs.Port.{Hears, IsAnswered, answered, asked_in, response_to};
 
 use crate::board::Board;
 use crate::out::{Out, Reason};
 use cfg_records::{Answered, Asked, Store};
 use ipmb_frame::{Msg, Request, Response, read_frame, write_response};
 use std::alloc::{AllocError, Global};
-use two_wire::{Address, Bus, Bytes};
+use two_wire::{Address, Bus, Bytes, Frame};
 
 /// Where the controller is on a bus: its two-wire address, and its EID, which IPMB doesn't look at.
 #[derive(Clone, Copy, Debug, PartialEq, Eq)]
@@ -50,6 +50,16 @@ fn response_to(request: &Request, answered: &Answered) -> Response
     }
 }
 
+/// Has the request carried out, and gives the response's frame.
+fn respond<S: Store>(board: &mut Board<S>, request: &Request) -> Frame
+    ensures answer { IsAnswered board.old.setup (state (S.records board.old.store) board.old.live) request.now (answered result) (state (S.records board.new.store) board.new.live) }
+    ensures setup { board.new.setup ≡ board.old.setup }
+{
+    let mut answered = Answered::done(&[]);
+    board.serve(&asked_in(request), &mut answered);
+    write_response(&response_to(request, &answered))
+}
+
 impl Port {
     /// A port of the bus. Its room is taken here.
     pub fn new(_alloc: Global, bus: Bus, at: At) -> Result<Port, AllocError>
@@ -74,19 +84,17 @@ impl Port {
         ensures heard { Hears self.now.at board.old.setup (state (S.records board.old.store) board.old.live) bytes.now result (state (S.records board.new.store) board.new.live) }
         ensures setup { board.new.setup ≡ board.old.setup }
     {
-        let message = match read_frame(bytes) {
+        let read = read_frame(bytes);
+        let message = match &read {
             Ok(message) => message,
-            Err(fault) => return Out::ignored(Reason::Frame(fault)),
+            Err(fault) => return Out::ignored(Reason::Frame(*fault)),
         };
         if bytes[0] != self.at.wire.byte() {
             return Out::ignored(Reason::NotOurs);
         }
         match message {
             Msg::Response(_) => Out::ignored(Reason::NotRequest),
-            Msg::Request(request) => {
-                let answered = board.answer(&asked_in(&request));
-                Out::answered(write_response(&response_to(&request, &answered)))
-            }
+            Msg::Request(request) => Out::answered(respond(board, request)),
         }
     }
 }
