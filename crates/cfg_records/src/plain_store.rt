@@ -65,10 +65,7 @@ impl Store for PlainStore {
     ghost records = { λ s key. btree.get key_cmp s.records key };
 
     fn get(&self, key: &Key) -> Option<Value> {
-        match self.records.get(key) {
-            Some(value) => Some(value.copy()),
-            None => None,
-        }
+        self.records.get(key).map(|value| value.copy())
     }
 
     fn put(&mut self, key: &Key, value: Value) -> Result<(), NoKey> {
