@@ -1,5 +1,6 @@
 //! Requests to a controller with the sample board.
-ghost use Rattle.std.specs.Prelude.{◌≡◌, length};
+ghost use Rattle.bmc_core.specs.State.{state};
+ghost use Rattle.bench_port.specs.Serve.{frame_of, Serves};
 
 use crate::slot::Slot;
 use bmc_core::{At, Board, Port};
@@ -20,7 +21,9 @@ fn board(alloc: Global) -> Result<Board<PlainStore>, AllocError> {
 }
 
 /// Hands a frame to the port, and gives what it sends.
-fn serve_one<S: Store>(port: &mut Port, board: &mut Board<S>, frame: &Slot, reply: &mut Slot) {
+fn serve_one<S: Store>(port: &mut Port, board: &mut Board<S>, frame: &Slot, reply: &mut Slot)
+    ensures { Serves port.old.at board.old.setup (state (S.records board.old.store) board.old.live) (frame_of frame.now) (frame_of reply.new) (state (S.records board.new.store) board.new.live) }
+{
     match port.on_frame(board, frame.as_slice()).frames.as_slice() {
         [frame, ..] => reply.fill(frame.as_slice()),
         [] => reply.fill(&[]),

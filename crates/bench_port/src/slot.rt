@@ -1,5 +1,6 @@
 //! Frames in a caller's memory.
-ghost use Rattle.std.specs.Prelude.{◌≤◌, length};
+ghost use Rattle.std.specs.Prelude.{◌≡◌, ◌≤◌, length};
+ghost use Rattle.bench_port.specs.Serve.{frame_of};
 
 /// A slot has room for so many bytes.
 const ROOM: usize = 80;
@@ -14,13 +15,16 @@ pub struct Slot {
 
 impl Slot {
     /// The frame. A length above 80 counts as 80.
-    pub fn as_slice(&self) -> &[u8] {
+    pub fn as_slice(&self) -> &[u8]
+        ensures { result.now ≡ frame_of self.now }
+    {
         &self.bytes[..ROOM.min(self.length as usize)]
     }
 
     /// Puts another frame into its place.
     pub fn fill(&mut self, frame: &[u8])
         requires { length frame.now ≤ 80 }
+        ensures { frame_of self.new ≡ frame.now }
     {
         self.bytes[..frame.len()].copy_from_slice(frame);
         self.length = frame.len() as u8;
