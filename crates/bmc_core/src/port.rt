@@ -1,14 +1,14 @@
 //! The ports that requests come to.
-ghost use Rattle.std.specs.Prelude.{◌≡◌, ◌≤◌, IfOk, length};
+ghost use Rattle.std.specs.Prelude.{◌≡◌, IfOk};
 ghost use Rattle.bmc_core.specs.State.{state};
-ghost use Rattle.bmc_core.specs.Port.{Hears, IsAnswered, answered, asked_in, response_to};
+ghost use Rattle.bmc_core.specs.Port.{Hears, IsAnswered, answered, asked_in};
 
 use crate::board::Board;
 use crate::out::{Out, Reason};
 use cfg_records::{Answered, Asked, Store};
-use ipmb_frame::{Msg, Request, Response, read_frame, write_response};
+use ipmb_frame::{Msg, Request, read_frame, write_answer};
 use std::alloc::{AllocError, Global};
-use two_wire::{Address, Bus, Bytes, Frame};
+use two_wire::{Address, Bus, Frame};
 
 /// Where the controller is on a bus: its two-wire address, and its EID, which IPMB doesn't look at.
 #[derive(Clone, Copy, Debug, PartialEq, Eq)]
@@ -38,18 +38,6 @@ fn asked_in(request: &Request) -> Asked
     }
 }
 
-/// The response that gives the answer to the request.
-fn response_to(request: &Request, answered: &Answered) -> Response
-    requires { length answered.now.body ≤ 24 }
-    ensures { result ≡ response_to request.now answered.now }
-{
-    Response {
-        header: request.header,
-        code: answered.code,
-        body: Bytes::from_slice(answered.body.as_slice()),
-    }
-}
-
 /// Has the request carried out, and gives the response's frame.
 fn respond<S: Store>(board: &mut Board<S>, request: &Request) -> Frame
     ensures answer { IsAnswered board.old.setup (state (S.records board.old.store) board.old.live) request.now (answered result) (state (S.records board.new.store) board.new.live) }
@@ -57,7 +45,7 @@ fn respond<S: Store>(board: &mut Board<S>, request: &Request) -> Frame
 {
     let mut answered = Answered::done(&[]);
     board.serve(&asked_in(request), &mut answered);
-    write_response(&response_to(request, &answered))
+    write_answer(&request.header, answered.code, answered.body.as_slice())
 }
 
 impl Port {
