@@ -5,43 +5,30 @@ use Rattle.ipmb_frame.specs.declared.message.Request.{Request}
 use Rattle.ipmb_frame.specs.declared.message.Msg.{Msg}
 use Rattle.ipmb_frame.specs.declared.message.Msg.TheVariants as msg
 use Rattle.ipmb_frame.specs.Fault.{has_fault, faults}
-use Rattle.ipmb_frame.specs.Grammar.{IsMessage, IsResponse}
-use Rattle.cfg_records.specs.declared.message.Answered.{Answered as Reply}
+use Rattle.ipmb_frame.specs.Grammar.{IsMessage}
 use Rattle.cfg_records.specs.declared.board_file.BoardFile.{BoardFile}
-use Rattle.bmc_core.specs.declared.out.Out.{Out}
 use Rattle.bmc_core.specs.declared.out.Reason.TheVariants.{Frame}
 use Rattle.bmc_core.specs.declared.port.At.{At}
 use Rattle.bmc_core.specs.State.{State}
-use Rattle.bmc_core.specs.Answer.{answer_of}
-use Rattle.bmc_core.specs.AnswerLaws.{Given}
 use Rattle.bmc_core.specs.Outs.{ignored, answered}
-use Rattle.bmc_core.specs.IpmbPort.{IsTo, IsAnswered, HearsFrame, asked_in, response_to}
+use Rattle.bmc_core.specs.IpmbPort.{IsTo, IsAnswered, HearsFrame}
 
 -- the request that was read is the only message that the bytes are
 same_request : (bytes : List ℕ) (read request : Request) → ((m : Msg) → IsMessage m bytes → (let r : Result Msg FrameFault = Ok (msg.Request read) in r) ≡ Ok m) → IsMessage (msg.Request request) bytes → read ≡ request
 same_request bytes read request whole is = let one : (let r : Result Msg FrameFault = Ok (msg.Request read) in r) ≡ Ok (msg.Request request) = whole (msg.Request request) is in cc
 
 -- the response to the request that was read is sent
-pub hears_request : (at : At) (setup : BoardFile) (before : State) (bytes : List ℕ) (read : Request) (reply : Reply) (after : State) (frame : List ℕ)
+pub hears_request : (at : At) (setup : BoardFile) (before : State) (bytes : List ℕ) (read : Request) (after : State) (frame : List ℕ)
     → (let n : Option FrameFault = None in n) ≡ find (has_fault bytes) faults
     → ((m : Msg) → IsMessage m bytes → (let r : Result Msg FrameFault = Ok (msg.Request read) in r) ≡ Ok m)
     → IsTo at bytes
-    → (let p : Given = (reply, after) in p) ≡ answer_of setup before (asked_in read)
-    → IsResponse (response_to read reply) frame
+    → IsAnswered setup before read (answered frame) after
     → HearsFrame at setup before bytes (answered frame) after
-hears_request at setup before bytes read reply after frame faultless whole ours gives spelled = record {
+hears_request at setup before bytes read after frame faultless whole ours answer = record {
   faulty = λ fault is. cc;
   not_ours = λ m is away. absurd (away ours);
   no_request = λ r is _. let other : (let r : Result Msg FrameFault = Ok (msg.Request read) in r) ≡ Ok (msg.Response r) = whole (msg.Response r) is in cc;
-  request = λ r is _.
-      let same : read ≡ r = same_request bytes read r whole is in
-      let answer : IsAnswered setup before read (answered frame) after = record {
-        frame = frame;
-        spelled = subst (λ (p : Given). IsResponse (response_to read p.0) frame) gives spelled;
-        sent = refl;
-        left = ap (λ (p : Given). p.1) gives;
-      } in
-      subst (λ (q : Request). IsAnswered setup before q (answered frame) after) same answer;
+  request = λ r is _. subst (λ (q : Request). IsAnswered setup before q (answered frame) after) (same_request bytes read r whole is) answer;
 }
 
 -- bytes with a fault are ignored

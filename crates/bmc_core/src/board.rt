@@ -1,12 +1,12 @@
 //! A board.
 ghost use Rattle.std.specs.Prelude.{◌≡◌, ◌≢◌, ◌≤◌, ◌/◌, ◌%◌, IfOk, None, Some, length};
-ghost use Rattle.two_wire.specs.Codes.{success, node_busy, pldm_not_ready, not_present};
+ghost use Rattle.two_wire.specs.Codes.{success, node_busy, pldm_not_ready};
 ghost use Rattle.cfg_records.specs.Records.{records_of};
 ghost use Rattle.cfg_records.specs.Boards.{pairs_of};
 ghost use Rattle.cfg_records.specs.Opening.{opening};
 ghost use Rattle.cfg_records.specs.Meaning.{room_for};
 ghost use Rattle.record_kinds.specs.Sound.{IsSound, IsSound-prop};
-ghost use Rattle.bmc_core.specs.Row.{device_data, refused};
+ghost use Rattle.bmc_core.specs.Row.{device_data};
 
 use crate::request::{Request, read_request};
 use cfg_records::{
@@ -51,13 +51,6 @@ fn device_data(device: &Device) -> RecordData
 /// What GetPLDMTypes replies (DSP0240): a bit for each type, the lowest byte first.
 const PLDM_TYPES: [u8; 8] = [0x0D, 0, 0, 0, 0, 0, 0, 0];
 
-/// The answer where the record isn't there.
-fn unknown() -> Answered
-    ensures { result ≡ refused not_present }
-{
-    Answered::refused(code::NOT_PRESENT)
-}
-
 impl<S: Store> Board<S> {
     ghost use Rattle.cfg_records.specs.Keys.{key_of};
     ghost use Rattle.record_kinds.specs.Boards.{limits_at};
@@ -86,68 +79,70 @@ impl<S: Store> Board<S> {
         &self.store
     }
 
-    /// What a Get of the key's record replies.
-    fn get(&self, key: &Key) -> Answered
-        ensures { result ≡ get_answer (limits_at self.now.setup key.now) (S.records self.now.store key.now) self.now.live (unknown_code self.now.setup key.now) }
+    /// Makes it what a Get of the key's record replies.
+    fn get(&self, key: &Key, answered: &mut Answered)
+        ensures { answered.new ≡ get_answer (limits_at self.now.setup key.now) (S.records self.now.store key.now) self.now.live (unknown_code self.now.setup key.now) }
     {
-        match (self.setup.limits(key), self.store.get(key)) {
+        match (self.setup.limits(key), &self.store.get(key)) {
             (Some(limits), Some(value)) => {
-                Answered::done(limits.get_data(&value, &self.live).as_slice())
+                answered.set_done(limits.get_data(value, &self.live).as_slice());
             }
-            _ => unknown(),
+            _ => answered.set_refused(code::NOT_PRESENT),
         }
     }
 
-    /// Starts the watchdog timer, where it was set once.
-    fn reset_watchdog(&mut self) -> Answered
-        ensures answer { (result, state (S.records self.new.store) self.new.live) ≡ reset_answer (S.records self.old.store Key.Watchdog) (state (S.records self.old.store) self.old.live) (unknown_code self.old.setup Key.Watchdog) }
+    /// Starts the watchdog timer, where it was set once, and makes it the reply.
+    fn reset_watchdog(&mut self, answered: &mut Answered)
+        ensures answer { (answered.new, state (S.records self.new.store) self.new.live) ≡ reset_answer (S.records self.old.store Key.Watchdog) (state (S.records self.old.store) self.old.live) (unknown_code self.old.setup Key.Watchdog) }
         ensures setup { self.new.setup ≡ self.old.setup }
     {
         let Some(value) = self.store.get(&Key::Watchdog) else {
-            return unknown();
+            return answered.set_refused(code::NOT_PRESENT);
         };
         match watchdog::reset(&value, &self.live) {
             Some(live) => {
                 self.live = live;
-                Answered::done(&[])
+                answered.set_done(&[]);
             }
-            None => Answered::refused(code::UNINITIALIZED_WATCHDOG),
+            None => answered.set_refused(code::UNINITIALIZED_WATCHDOG),
         }
     }
 
-    /// Carries out the operation, where its record takes it.
-    fn set(&mut self, op: &Op) -> Answered
-        ensures answer { (result, state (S.records self.new.store) self.new.live) ≡ set_answer (limits_at self.old.setup (key_of op.now)) (S.records self.old.store (key_of op.now)) (unknown_code self.old.setup (key_of op.now)) op.now (state (S.records self.old.store) self.old.live) }
+    /// Carries out the operation, where its record takes it, and makes it the reply.
+    fn set(&mut self, op: &Op, answered: &mut Answered)
+        ensures answer { (answered.new, state (S.records self.new.store) self.new.live) ≡ set_answer (limits_at self.old.setup (key_of op.now)) (S.records self.old.store (key_of op.now)) (unknown_code self.old.setup (key_of op.now)) op.now (state (S.records self.old.store) self.old.live) }
         ensures setup { self.new.setup ≡ self.old.setup }
     {
         let key = op.key();
-        match (self.setup.limits(&key), self.store.get(&key)) {
-            (Some(limits), Some(value)) => match limits.apply(op, &value) {
+        match (self.setup.limits(&key), &self.store.get(&key)) {
+            (Some(limits), Some(value)) => match limits.apply(op, value) {
                 Ok(new) => {
                     let _ = self.store.put(&key, new);
                     self.live = Limits::next_live(op, &self.live);
-                    Answered::done(Limits::set_reply(op).as_slice())
+                    answered.set_done(Limits::set_reply(op).as_slice());
                 }
-                Err(code) => Answered::refused(code),
+                Err(code) => answered.set_refused(code),
             },
-            _ => unknown(),
+            _ => answered.set_refused(code::NOT_PRESENT),
         }
     }
 
-    fn serve(&mut self, asked: &Asked) -> Answered
-        ensures answer { (result, state (S.records self.new.store) self.new.live) ≡ answer_of self.old.setup (state (S.records self.old.store) self.old.live) asked.now }
+    /// Makes it the answer to a request.
+    pub(crate) fn serve(&mut self, asked: &Asked, answered: &mut Answered)
+        ensures answer { (answered.new, state (S.records self.new.store) self.new.live) ≡ answer_of self.old.setup (state (S.records self.old.store) self.old.live) asked.now }
         ensures setup { self.new.setup ≡ self.old.setup }
+        ensures fits { length answered.new.body ≤ room_for asked.now }
     {
         match read_request(asked) {
-            Err(code) => Answered::refused(code),
+            Err(code) => answered.set_refused(code),
             Ok(Request::GetDeviceId) => {
-                Answered::done(device_data(self.setup.device()).as_slice())
+                answered.set_done(device_data(self.setup.device()).as_slice());
             }
-            Ok(Request::ResetWatchdog) => self.reset_watchdog(),
-            Ok(Request::GetTid) => Answered::done(&[self.setup.tid()]),
-            Ok(Request::GetPldmTypes) => Answered::done(&PLDM_TYPES),
-            Ok(Request::Get(key)) => self.get(&key),
-            Ok(Request::Set(op)) => self.set(&op),
+            Ok(Request::ResetWatchdog) => self.reset_watchdog(answered),
+            Ok(Request::GetTid) => answered.set_done(&[self.setup.tid()]),
+            Ok(Request::GetPldmTypes) => answered.set_done(&PLDM_TYPES),
+            Ok(Request::Get(key)) => self.get(&key, answered),
+            Ok(Request::Set(op)) => self.set(&op, answered),
         }
     }
 
@@ -166,6 +161,8 @@ impl<S: Store> Board<S> {
         // The data fits the frame or message that carries it.
         ensures fits { length result.body ≤ room_for asked.now }
     {
-        self.serve(asked)
+        let mut answered = Answered::done(&[]);
+        self.serve(asked, &mut answered);
+        answered
     }
 }

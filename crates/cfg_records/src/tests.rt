@@ -91,8 +91,14 @@ fn requests_and_replies_are_compared_whole(rt: HostRuntime) {
     assert!(rt; asked.copy().is(&asked));
     assert!(rt; !asked.is(&other));
     let done = Answered::done(&[1]);
-    assert!(rt; done.copy().is(&done));
-    assert!(rt; !done.is(&Answered::refused(code::NOT_PRESENT)));
+    let refused = Answered::refused(code::NOT_PRESENT);
+    let mut reply = done.copy();
+    assert!(rt; reply.is(&done));
+    assert!(rt; !reply.is(&refused));
+    reply.set_refused(code::NOT_PRESENT);
+    assert!(rt; reply.is(&refused));
+    reply.set_done(&[1]);
+    assert!(rt; reply.is(&done));
 }
 
 #[test]

@@ -28,17 +28,25 @@ pub fn write_request(request: &Request) -> Frame
 pub fn write_response(response: &Response) -> Frame
     ensures { IsResponse response.now result }
 {
+    write_answer(&response.header, response.code, response.body.as_slice())
+}
+
+/// The frame of the response with this code and this data to the request of this header.
+pub fn write_answer(header: &Header, code: u8, body: &[u8]) -> Frame
+    requires { length body.now ≤ 24 }
+    ensures { IsResponse (record { header = header.now; code = code; body = body.now }) result }
+{
     let Header {
         responder,
         requester,
         net_fn,
         sequence,
         command,
-    } = response.header;
+    } = *header;
     let mut frame = start(requester, net_fn.number() + 1, responder, sequence);
     frame.push(command);
-    frame.push(response.code);
-    frame.extend_from_slice(response.body.as_slice());
+    frame.push(code);
+    frame.extend_from_slice(body);
     finish(&mut frame);
     frame
 }

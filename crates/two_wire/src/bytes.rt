@@ -79,11 +79,20 @@ impl<const CAP: usize> Bytes<CAP> {
         self.items.try_extend_from_slice(bytes).unwrap();
     }
 
+    /// Puts these bytes in place of those that are there.
+    pub fn replace(&mut self, bytes: &[u8])
+        requires { length bytes.now ≤ CAP }
+        ensures { self.new ≡ bytes.now }
+    {
+        self.items.clear();
+        self.extend_from_slice(bytes);
+    }
+
     /// The same bytes once more.
     pub fn copy(&self) -> Self
         ensures { result ≡ self.now }
     {
-        self.clone().unwrap()
+        Bytes::from_slice(self.as_slice())
     }
 
     /// Whether they are these.

@@ -31,6 +31,8 @@ fn bytes_are_kept_in_order(rt: HostRuntime) {
     assert_eq!(rt; bytes.as_slice(), [1, 2, 3].as_slice());
     assert!(rt; bytes.copy().is(&[1, 2, 3]));
     assert!(rt; !bytes.is(&[1, 2]));
+    bytes.replace(&[7, 8]);
+    assert!(rt; bytes.is(&[7, 8]));
 }
 
 #[test]

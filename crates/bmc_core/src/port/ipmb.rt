@@ -1,14 +1,15 @@
 //! A port on IPMB.
-ghost use Rattle.std.specs.Prelude.{◌≡◌, ◌≤◌, length};
+ghost use Rattle.std.specs.Prelude.{◌≡◌};
 ghost use Rattle.bmc_core.specs.State.{state};
-ghost use Rattle.bmc_core.specs.IpmbPort.{HearsFrame, asked_in, response_to};
+ghost use Rattle.bmc_core.specs.IpmbPort.{HearsFrame, IsAnswered, asked_in};
+ghost use Rattle.bmc_core.specs.Outs.{answered};
 
 use crate::board::Board;
 use crate::out::{Out, Reason};
 use crate::port::Port;
 use cfg_records::{Answered, Asked, Store};
-use ipmb_frame::{Msg, Request, Response, read_frame, write_response};
-use two_wire::Bytes;
+use ipmb_frame::{Msg, Request, read_frame, write_answer};
+use two_wire::Frame;
 
 /// What a request asks of the board.
 fn asked_in(request: &Request) -> Asked
@@ -24,16 +25,14 @@ fn asked_in(request: &Request) -> Asked
     }
 }
 
-/// The response that gives the answer to the request.
-fn response_to(request: &Request, answered: &Answered) -> Response
-    requires { length answered.now.body ≤ 24 }
-    ensures { result ≡ response_to request.now answered.now }
+/// Has the request carried out, and gives the response's frame.
+fn respond<S: Store>(board: &mut Board<S>, request: &Request) -> Frame
+    ensures answer { IsAnswered board.old.setup (state (S.records board.old.store) board.old.live) request.now (answered result) (state (S.records board.new.store) board.new.live) }
+    ensures setup { board.new.setup ≡ board.old.setup }
 {
-    Response {
-        header: request.header,
-        code: answered.code,
-        body: Bytes::from_slice(answered.body.as_slice()),
-    }
+    let mut answered = Answered::done(&[]);
+    board.serve(&asked_in(request), &mut answered);
+    write_answer(&request.header, answered.code, answered.body.as_slice())
 }
 
 impl Port {
@@ -42,19 +41,17 @@ impl Port {
         ensures heard { HearsFrame self.now.at board.old.setup (state (S.records board.old.store) board.old.live) bytes.now result (state (S.records board.new.store) board.new.live) }
         ensures setup { board.new.setup ≡ board.old.setup }
     {
-        let message = match read_frame(bytes) {
+        let read = read_frame(bytes);
+        let message = match &read {
             Ok(message) => message,
-            Err(fault) => return Out::ignored(Reason::Frame(fault)),
+            Err(fault) => return Out::ignored(Reason::Frame(*fault)),
         };
         if bytes[0] != self.at.wire.byte() {
             return Out::ignored(Reason::NotOurs);
         }
         match message {
             Msg::Response(_) => Out::ignored(Reason::NotRequest),
-            Msg::Request(request) => {
-                let answered = board.answer(&asked_in(&request));
-                Out::answered(write_response(&response_to(&request, &answered)))
-            }
+            Msg::Request(request) => Out::answered(respond(board, request)),
         }
     }
 }

@@ -1,0 +1,223 @@
+//! The controller once more in plain Rust, with no proof: the same commands on the same sample board, the same checks in
+//! the same order.
+
+use crate::Slot;
+
+const OK: u8 = 0x00;
+const INVALID_COMMAND: u8 = 0xC1;
+const INVALID_FOR_LUN: u8 = 0xC2;
+const INVALID_LENGTH: u8 = 0xC7;
+const NOT_PRESENT: u8 = 0xCB;
+const INVALID_DATA_FIELD: u8 = 0xCC;
+
+/// The controller's two-wire address.
+const WIRE: u8 = 0x20;
+
+/// The place of a sensor that isn't there.
+const NOWHERE: u8 = 255;
+
+/// The places of the thresholds, from the lowest to the highest.
+const LOWEST_FIRST: [usize; 6] = [2, 1, 0, 3, 4, 5];
+
+/// What Get Device ID replies: IPMI 2.0, manufacturer ABCDh and product 1234h.
+const DEVICE: [u8; 11] = [0x20, 0x01, 0x01, 0x05, 0x02, 0x07, 0xCD, 0xAB, 0x00, 0x34, 0x12];
+
+struct Sensor {
+    number: u8,
+    readable: u8,
+    settable: u8,
+    thresholds: [u8; 6],
+    hysteresis: [u8; 2],
+}
+
+impl Sensor {
+    /// The six thresholds, where all that the sensor has are in order.
+    fn in_order(&self, thresholds: &[u8; 6]) -> bool {
+        let there = self.readable | self.settable;
+        let mut highest = 0;
+        for place in LOWEST_FIRST {
+            if there >> place & 1 == 1 {
+                if thresholds[place] < highest {
+                    return false;
+                }
+                highest = thresholds[place];
+            }
+        }
+        true
+    }
+
+    fn set_thresholds(&mut self, mask: u8, values: &[u8]) -> u8 {
+        let mut new = self.thresholds;
+        for (place, threshold) in new.iter_mut().enumerate() {
+            if mask >> place & 1 == 1 {
+                *threshold = values[place];
+            }
+        }
+        if mask & !self.settable != 0 || !self.in_order(&new) {
+            return INVALID_DATA_FIELD;
+        }
+        self.thresholds = new;
+        OK
+    }
+
+    fn put_thresholds(&self, reply: &mut Reply) {
+        reply.push(self.readable);
+        for (place, threshold) in self.thresholds.iter().enumerate() {
+            reply.push(if self.readable >> place & 1 == 1 { *threshold } else { 0 });
+        }
+    }
+}
+
+/// A reply as it grows: its data follow its code.
+struct Reply<'a> {
+    bytes: &'a mut [u8; 80],
+    length: usize,
+}
+
+impl Reply<'_> {
+    fn push(&mut self, byte: u8) {
+        self.bytes[self.length] = byte;
+        self.length += 1;
+    }
+
+    fn extend(&mut self, bytes: &[u8]) {
+        self.bytes[self.length..self.length + bytes.len()].copy_from_slice(bytes);
+        self.length += bytes.len();
+    }
+
+    /// Puts the code in its place.
+    fn code(&mut self, code: u8) {
+        self.bytes[6] = code;
+    }
+}
+
+#[derive(Clone, Copy)]
+enum Command {
+    GetDeviceId,
+    SetHysteresis,
+    GetHysteresis,
+    SetThresholds,
+    GetThresholds,
+}
+
+/// The command, and how many bytes of data it takes.
+fn find_command(net_fn: u8, number: u8) -> Option<(Command, usize)> {
+    Some(match (net_fn, number) {
+        (0x04, 0x24) => (Command::SetHysteresis, 4),
+        (0x04, 0x25) => (Command::GetHysteresis, 2),
+        (0x04, 0x26) => (Command::SetThresholds, 8),
+        (0x04, 0x27) => (Command::GetThresholds, 1),
+        (0x06, 0x01) => (Command::GetDeviceId, 0),
+        _ => return None,
+    })
+}
+
+fn sum(bytes: &[u8]) -> u8 {
+    bytes.iter().fold(0, |sum: u8, byte| sum.wrapping_add(*byte))
+}
+
+/// Whether the bytes are a frame.
+fn is_frame(bytes: &[u8]) -> bool {
+    if bytes.len() < 7 || bytes.len() > 32 {
+        return false;
+    }
+    let is_response = bytes[1] >> 2 & 1 == 1;
+    !(is_response && bytes.len() == 7)
+        && sum(&bytes[..3]) == 0
+        && sum(&bytes[3..]) == 0
+        && bytes[0] & 1 == 0
+        && bytes[3] & 1 == 0
+}
+
+pub struct Controller {
+    sensors: Vec<Sensor>,
+    /// For each number, where its sensor stands.
+    places: [u8; 256],
+}
+
+impl Controller {
+    /// A controller with the sample board.
+    pub fn new() -> Controller {
+        let temperature = Sensor {
+            number: 5,
+            readable: 0x3F,
+            settable: 0x3F,
+            thresholds: [0x14, 0x0A, 0x05, 0x50, 0x5F, 0x6E],
+            hysteresis: [2, 2],
+        };
+        let fan = Sensor {
+            number: 7,
+            readable: 0x18,
+            settable: 0x38,
+            thresholds: [0, 0, 0, 0x90, 0xA0, 0xB0],
+            hysteresis: [0, 0],
+        };
+        let sensors = vec![temperature, fan];
+        let mut places = [NOWHERE; 256];
+        for (place, sensor) in sensors.iter().enumerate() {
+            places[sensor.number as usize] = place as u8;
+        }
+        Controller { sensors, places }
+    }
+
+    fn sensor(&mut self, number: u8) -> Option<&mut Sensor> {
+        self.sensors.get_mut(self.places[number as usize] as usize)
+    }
+
+    /// Carries a request out, puts its data into the reply and gives its code.
+    fn serve(&mut self, frame: &[u8], reply: &mut Reply) -> u8 {
+        let data = &frame[6..frame.len() - 1];
+        if frame[1] & 3 != 0 {
+            return INVALID_FOR_LUN;
+        }
+        let Some((command, length)) = find_command(frame[1] >> 2, frame[5]) else {
+            return INVALID_COMMAND;
+        };
+        if data.len() != length {
+            return INVALID_LENGTH;
+        }
+        if let Command::GetDeviceId = command {
+            reply.extend(&DEVICE);
+            return OK;
+        }
+        let Some(sensor) = self.sensor(data[0]) else {
+            return NOT_PRESENT;
+        };
+        match command {
+            Command::GetDeviceId => {}
+            Command::SetHysteresis => sensor.hysteresis.copy_from_slice(&data[2..4]),
+            Command::GetHysteresis => reply.extend(&sensor.hysteresis),
+            Command::SetThresholds => return sensor.set_thresholds(data[1], &data[2..]),
+            Command::GetThresholds => sensor.put_thresholds(reply),
+        }
+        OK
+    }
+
+    /// Takes a frame that was heard, writes the reply's frame and gives its length, 0 where none is sent.
+    pub fn on_frame(&mut self, frame: &[u8], bytes: &mut [u8; 80]) -> usize {
+        if !is_frame(frame) || frame[0] != WIRE || frame[1] >> 2 & 1 == 1 {
+            return 0;
+        }
+        let mut reply = Reply { bytes, length: 0 };
+        let function = (frame[1] & !3) + 4 | frame[4] & 3;
+        reply.extend(&[frame[3], function, 0u8.wrapping_sub(frame[3]).wrapping_sub(function)]);
+        reply.extend(&[frame[0], frame[4] & !3 | frame[1] & 3, frame[5], OK]);
+        let code = self.serve(frame, &mut reply);
+        reply.code(code);
+        let check = 0u8.wrapping_sub(sum(&reply.bytes[3..reply.length]));
+        reply.push(check);
+        reply.length
+    }
+}
+
+/// Hands the frames in turn, so many times over, to a fresh controller with the sample board, and leaves what it sent at
+/// last to each.
+#[inline(never)]
+pub fn serve(frames: &[Slot], rounds: u64, replies: &mut [Slot]) {
+    let mut controller = Controller::new();
+    for _ in 0..rounds {
+        for (frame, reply) in frames.iter().zip(replies.iter_mut()) {
+            reply.length = controller.on_frame(frame.as_slice(), &mut reply.bytes) as u8;
+        }
+    }
+}

@@ -1,0 +1,24 @@
+//! The proved controller, which `crates/bench_port` puts into a static library.
+
+use crate::Slot;
+
+unsafe extern "C" {
+    // The parameter `alloc: Global` takes no bytes.
+    fn bench_port_serve(
+        frames: *const Slot,
+        frame_count: usize,
+        rounds: u64,
+        replies: *mut Slot,
+        reply_count: usize,
+    ) -> bool;
+}
+
+/// Hands the frames in turn, so many times over, to a fresh controller with the sample board, and leaves what it sent at
+/// last to each.
+pub fn serve(frames: &[Slot], rounds: u64, replies: &mut [Slot]) {
+    // SAFETY: the declaration fits the function's; pointers and lengths are those of slices that are borrowed for the call.
+    let done = unsafe {
+        bench_port_serve(frames.as_ptr(), frames.len(), rounds, replies.as_mut_ptr(), replies.len())
+    };
+    assert!(done, "memory was refused");
+}

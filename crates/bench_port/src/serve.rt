@@ -1,0 +1,73 @@
+//! Requests to a controller with the sample board.
+ghost use Rattle.bmc_core.specs.State.{state};
+ghost use Rattle.bench_port.specs.Serve.{frame_of, Serves};
+
+use crate::slot::Slot;
+use bmc_core::{At, Board, Port};
+use cfg_records::{PlainStore, Store, StoreFault, sample_board};
+use mctp_net::EndpointId;
+use std::alloc::{AllocError, Global};
+use two_wire::{Address, Bus};
+
+/// A board with the sample board's records.
+fn board(alloc: Global) -> Result<Board<PlainStore>, AllocError> {
+    let file = sample_board(alloc)?;
+    let pairs = file.records(alloc)?;
+    let store = match PlainStore::new(alloc, pairs.as_slice()) {
+        Ok(store) => store,
+        Err(StoreFault::Memory) => return Err(AllocError),
+        Err(StoreFault::TwiceTheSameKey | StoreFault::BadValue) => unreachable!(),
+    };
+    Board::open(alloc, file, store)
+}
+
+/// Hands a frame to the port, and gives what it sends.
+fn serve_one<S: Store>(port: &mut Port, board: &mut Board<S>, frame: &Slot, reply: &mut Slot)
+    ensures { Serves board.old.setup port.old (state (S.records board.old.store) board.old.live) (frame_of frame.now) (frame_of reply.new) port.new (state (S.records board.new.store) board.new.live) }
+{
+    match port.on_frame(board, frame.as_slice()).frames.as_slice() {
+        [frame, ..] => reply.fill(frame.as_slice()),
+        [] => reply.fill(&[]),
+    }
+}
+
+fn serve_round<S: Store>(
+    port: &mut Port,
+    board: &mut Board<S>,
+    frames: &[Slot],
+    replies: &mut [Slot],
+) {
+    for (frame, reply) in frames.iter().zip(replies.iter_mut()) {
+        serve_one(port, board, frame, reply);
+    }
+}
+
+fn serve(
+    alloc: Global,
+    frames: &[Slot],
+    rounds: u64,
+    replies: &mut [Slot],
+) -> Result<(), AllocError> {
+    let mut board = board(alloc)?;
+    let at = At {
+        wire: Address::new(0x20).unwrap(),
+        eid: EndpointId::new(0x0A).unwrap(),
+    };
+    let mut port = Port::new(alloc, Bus::Ipmb, at)?;
+    for _ in 0..rounds {
+        serve_round(&mut port, &mut board, frames, replies);
+    }
+    Ok(())
+}
+
+/// Hands the frames in turn, so many times over, to a fresh controller at 20h with the sample board, and leaves what it sent
+/// at last to each. Whether memory was given.
+#[unsafe(no_mangle)]
+pub extern "C" fn bench_port_serve(
+    alloc: Global,
+    frames: &[Slot],
+    rounds: u64,
+    replies: &mut [Slot],
+) -> bool {
+    serve(alloc, frames, rounds, replies).is_ok()
+}
