@@ -5,10 +5,13 @@ use crate::Slot;
 const WIRE: u8 = 0x20;
 const REQUESTER: u8 = 0x2C;
 const SENSOR_EVENT: u8 = 0x04;
+const CHASSIS: u8 = 0x00;
 const APP: u8 = 0x06;
 
 fn check_byte(bytes: &[u8]) -> u8 {
-    bytes.iter().fold(0, |check: u8, byte| check.wrapping_sub(*byte))
+    bytes
+        .iter()
+        .fold(0, |check: u8, byte| check.wrapping_sub(*byte))
 }
 
 /// The frame of a request to the controller's logical unit 0.
@@ -28,7 +31,10 @@ pub struct Work {
 }
 
 fn work(name: &'static str, frames: Vec<Vec<u8>>) -> Work {
-    Work { name, frames: frames.iter().map(|frame| Slot::new(frame)).collect() }
+    Work {
+        name,
+        frames: frames.iter().map(|frame| Slot::new(frame)).collect(),
+    }
 }
 
 /// A Set of a sensor's thresholds and then a Get of them, each Set with other values than the last.
@@ -36,7 +42,16 @@ fn thresholds() -> Vec<Vec<u8>> {
     (0..32)
         .flat_map(|turn: u8| {
             let low = turn % 4;
-            let set = [5, 0x3F, 0x14 + low, 0x0A + low, 0x05 + low, 0x50, 0x5F, 0x6E + low];
+            let set = [
+                5,
+                0x3F,
+                0x14 + low,
+                0x0A + low,
+                0x05 + low,
+                0x50,
+                0x5F,
+                0x6E + low,
+            ];
             [
                 request(SENSOR_EVENT, 2 * turn % 64, 0x26, &set),
                 request(SENSOR_EVENT, (2 * turn + 1) % 64, 0x27, &[5]),
@@ -103,11 +118,20 @@ impl Random {
             (SENSOR_EVENT, 0x26, 8),
             (SENSOR_EVENT, 0x27, 1),
             (APP, 0x01, 0),
+            (CHASSIS, 0x01, 0),
+            (CHASSIS, 0x06, 1),
+            (APP, 0x22, 0),
+            (APP, 0x24, 6),
+            (APP, 0x25, 0),
         ]);
-        let length = if self.below(8) == 0 { self.below(26) } else { length };
+        let length = if self.below(8) == 0 {
+            self.below(26)
+        } else {
+            length
+        };
         let mut data = self.bytes(length);
         if let Some(sensor) = data.first_mut() {
-            *sensor = self.one_of(&[5, 7, 5, 7, 6, 255]);
+            *sensor = self.one_of(&[5, 7, 5, 7, 5, 7, 6, 255, 2, 0x44]);
         }
         if let Some(mask) = data.get_mut(1) {
             *mask = self.one_of(&[0x3F, 0x38, 0x01, 0x20, 0x00, *mask]);

@@ -29,7 +29,10 @@ impl Slot {
     pub fn new(frame: &[u8]) -> Slot {
         let mut bytes = [0; 80];
         bytes[..frame.len()].copy_from_slice(frame);
-        Slot { length: frame.len() as u8, bytes }
+        Slot {
+            length: frame.len() as u8,
+            bytes,
+        }
     }
 
     /// The frame. A length above 80 counts as 80.
@@ -55,7 +58,10 @@ fn agree(name: &str, frames: &[Slot]) -> bool {
         let plain = replies_of(plain::serve, frames, rounds);
         for ((frame, a), b) in frames.iter().zip(&proved).zip(&plain) {
             if a.as_slice() != b.as_slice() {
-                eprintln!("bench: {name}, {rounds} round(s): to {:02X?}", frame.as_slice());
+                eprintln!(
+                    "bench: {name}, {rounds} round(s): to {:02X?}",
+                    frame.as_slice()
+                );
                 eprintln!("bench:   proved {:02X?}", a.as_slice());
                 eprintln!("bench:   plain  {:02X?}", b.as_slice());
                 same = false;
@@ -67,7 +73,10 @@ fn agree(name: &str, frames: &[Slot]) -> bool {
 
 /// How many of the frames got a reply of this code.
 fn count(replies: &[Slot], code: u8) -> usize {
-    replies.iter().filter(|reply| reply.length > 6 && reply.bytes[6] == code).count()
+    replies
+        .iter()
+        .filter(|reply| reply.length > 6 && reply.bytes[6] == code)
+        .count()
 }
 
 fn random_agree() -> bool {
@@ -104,7 +113,13 @@ fn measure(work: &Work) {
         plain.push(speed(plain::serve, &work.frames));
     }
     let (proved, plain) = (fastest(&proved), fastest(&plain));
-    println!("{:<28} {:>14.0} {:>14.0} {:>7.2}", work.name, proved, plain, proved / plain);
+    println!(
+        "{:<28} {:>14.0} {:>14.0} {:>7.2}",
+        work.name,
+        proved,
+        plain,
+        proved / plain
+    );
 }
 
 fn main() -> ExitCode {
@@ -117,13 +132,18 @@ fn main() -> ExitCode {
         eprintln!("bench: the two controllers differ");
         return ExitCode::FAILURE;
     }
-    println!("{:<28} {:>14} {:>14} {:>7}", "requests a second", "proved", "plain Rust", "ratio");
+    println!(
+        "{:<28} {:>14} {:>14} {:>7}",
+        "requests a second", "proved", "plain Rust", "ratio"
+    );
     match std::env::args().nth(1) {
         None => works.iter().for_each(measure),
         // One list with the proved controller alone, for a profiler.
         Some(place) => {
             let work = &works[place.parse::<usize>().expect("a number of 0 to 2")];
-            let speeds: Vec<f64> = (0..TURNS).map(|_| speed(proved::serve, &work.frames)).collect();
+            let speeds: Vec<f64> = (0..TURNS)
+                .map(|_| speed(proved::serve, &work.frames))
+                .collect();
             println!("{:<28} {:>14.0}", work.name, fastest(&speeds));
         }
     }

@@ -7,6 +7,7 @@ const OK: u8 = 0x00;
 const INVALID_COMMAND: u8 = 0xC1;
 const INVALID_FOR_LUN: u8 = 0xC2;
 const INVALID_LENGTH: u8 = 0xC7;
+const UNINITIALIZED_WATCHDOG: u8 = 0x80;
 const NOT_PRESENT: u8 = 0xCB;
 const INVALID_DATA_FIELD: u8 = 0xCC;
 
@@ -20,7 +21,9 @@ const NOWHERE: u8 = 255;
 const LOWEST_FIRST: [usize; 6] = [2, 1, 0, 3, 4, 5];
 
 /// What Get Device ID replies: IPMI 2.0, manufacturer ABCDh and product 1234h.
-const DEVICE: [u8; 11] = [0x20, 0x01, 0x01, 0x05, 0x02, 0x07, 0xCD, 0xAB, 0x00, 0x34, 0x12];
+const DEVICE: [u8; 11] = [
+    0x20, 0x01, 0x01, 0x05, 0x02, 0x07, 0xCD, 0xAB, 0x00, 0x34, 0x12,
+];
 
 struct Sensor {
     number: u8,
@@ -63,8 +66,60 @@ impl Sensor {
     fn put_thresholds(&self, reply: &mut Reply) {
         reply.push(self.readable);
         for (place, threshold) in self.thresholds.iter().enumerate() {
-            reply.push(if self.readable >> place & 1 == 1 { *threshold } else { 0 });
+            reply.push(if self.readable >> place & 1 == 1 {
+                *threshold
+            } else {
+                0
+            });
         }
+    }
+}
+
+/// The settings of the watchdog timer, and the timer.
+struct Watchdog {
+    timer_use: u8,
+    actions: u8,
+    pre_timeout: u8,
+    expired: u8,
+    initial: [u8; 2],
+    countdown: [u8; 2],
+    is_running: bool,
+}
+
+impl Watchdog {
+    fn set(&mut self, data: &[u8]) -> u8 {
+        if !(1..=5).contains(&(data[0] & 7)) || data[1] >> 4 & 7 > 3 || data[1] & 7 > 3 {
+            return INVALID_DATA_FIELD;
+        }
+        self.timer_use = data[0] & 0x87;
+        self.actions = data[1] & 0x77;
+        self.pre_timeout = data[2];
+        self.expired &= !data[3];
+        self.initial = [data[4], data[5]];
+        self.countdown = self.initial;
+        self.is_running = self.is_running && data[0] & 0x40 != 0;
+        OK
+    }
+
+    fn reset(&mut self) -> u8 {
+        if self.timer_use & 7 == 0 {
+            return UNINITIALIZED_WATCHDOG;
+        }
+        self.countdown = self.initial;
+        self.is_running = true;
+        OK
+    }
+
+    fn put(&self, reply: &mut Reply) {
+        let running = if self.is_running { 0x40 } else { 0 };
+        reply.extend(&[
+            self.timer_use | running,
+            self.actions,
+            self.pre_timeout,
+            self.expired,
+        ]);
+        reply.extend(&self.initial);
+        reply.extend(&self.countdown);
     }
 }
 
@@ -94,6 +149,11 @@ impl Reply<'_> {
 #[derive(Clone, Copy)]
 enum Command {
     GetDeviceId,
+    GetChassisStatus,
+    SetPowerRestorePolicy,
+    ResetWatchdog,
+    SetWatchdog,
+    GetWatchdog,
     SetHysteresis,
     GetHysteresis,
     SetThresholds,
@@ -103,17 +163,24 @@ enum Command {
 /// The command, and how many bytes of data it takes.
 fn find_command(net_fn: u8, number: u8) -> Option<(Command, usize)> {
     Some(match (net_fn, number) {
+        (0x00, 0x01) => (Command::GetChassisStatus, 0),
+        (0x00, 0x06) => (Command::SetPowerRestorePolicy, 1),
         (0x04, 0x24) => (Command::SetHysteresis, 4),
         (0x04, 0x25) => (Command::GetHysteresis, 2),
         (0x04, 0x26) => (Command::SetThresholds, 8),
         (0x04, 0x27) => (Command::GetThresholds, 1),
         (0x06, 0x01) => (Command::GetDeviceId, 0),
+        (0x06, 0x22) => (Command::ResetWatchdog, 0),
+        (0x06, 0x24) => (Command::SetWatchdog, 6),
+        (0x06, 0x25) => (Command::GetWatchdog, 0),
         _ => return None,
     })
 }
 
 fn sum(bytes: &[u8]) -> u8 {
-    bytes.iter().fold(0, |sum: u8, byte| sum.wrapping_add(*byte))
+    bytes
+        .iter()
+        .fold(0, |sum: u8, byte| sum.wrapping_add(*byte))
 }
 
 /// Whether the bytes are a frame.
@@ -133,6 +200,8 @@ pub struct Controller {
     sensors: Vec<Sensor>,
     /// For each number, where its sensor stands.
     places: [u8; 256],
+    policy: u8,
+    watchdog: Watchdog,
 }
 
 impl Controller {
@@ -157,11 +226,36 @@ impl Controller {
         for (place, sensor) in sensors.iter().enumerate() {
             places[sensor.number as usize] = place as u8;
         }
-        Controller { sensors, places }
+        let watchdog = Watchdog {
+            timer_use: 0,
+            actions: 0,
+            pre_timeout: 0,
+            expired: 0,
+            initial: [0, 0],
+            countdown: [0, 0],
+            is_running: false,
+        };
+        Controller {
+            sensors,
+            places,
+            policy: 1,
+            watchdog,
+        }
     }
 
     fn sensor(&mut self, number: u8) -> Option<&mut Sensor> {
         self.sensors.get_mut(self.places[number as usize] as usize)
+    }
+
+    /// Bits 2:0 are the policy, and 3 leaves it as it is. The reply says that 0, 1 and 2 are there.
+    fn set_policy(&mut self, asked: u8, reply: &mut Reply) -> u8 {
+        match asked & 7 {
+            policy @ 0..=2 => self.policy = policy,
+            3 => {}
+            _ => return INVALID_DATA_FIELD,
+        }
+        reply.push(0x07);
+        OK
     }
 
     /// Carries a request out, puts its data into the reply and gives its code.
@@ -176,19 +270,27 @@ impl Controller {
         if data.len() != length {
             return INVALID_LENGTH;
         }
-        if let Command::GetDeviceId = command {
-            reply.extend(&DEVICE);
-            return OK;
+        match command {
+            Command::GetDeviceId => reply.extend(&DEVICE),
+            Command::GetChassisStatus => reply.extend(&[self.policy << 5, 0, 0]),
+            Command::SetPowerRestorePolicy => return self.set_policy(data[0], reply),
+            Command::ResetWatchdog => return self.watchdog.reset(),
+            Command::SetWatchdog => return self.watchdog.set(data),
+            Command::GetWatchdog => self.watchdog.put(reply),
+            _ => return self.serve_sensor(command, data, reply),
         }
+        OK
+    }
+
+    fn serve_sensor(&mut self, command: Command, data: &[u8], reply: &mut Reply) -> u8 {
         let Some(sensor) = self.sensor(data[0]) else {
             return NOT_PRESENT;
         };
         match command {
-            Command::GetDeviceId => {}
             Command::SetHysteresis => sensor.hysteresis.copy_from_slice(&data[2..4]),
             Command::GetHysteresis => reply.extend(&sensor.hysteresis),
             Command::SetThresholds => return sensor.set_thresholds(data[1], &data[2..]),
-            Command::GetThresholds => sensor.put_thresholds(reply),
+            _ => sensor.put_thresholds(reply),
         }
         OK
     }
@@ -200,7 +302,11 @@ impl Controller {
         }
         let mut reply = Reply { bytes, length: 0 };
         let function = (frame[1] & !3) + 4 | frame[4] & 3;
-        reply.extend(&[frame[3], function, 0u8.wrapping_sub(frame[3]).wrapping_sub(function)]);
+        reply.extend(&[
+            frame[3],
+            function,
+            0u8.wrapping_sub(frame[3]).wrapping_sub(function),
+        ]);
         reply.extend(&[frame[0], frame[4] & !3 | frame[1] & 3, frame[5], OK]);
         let code = self.serve(frame, &mut reply);
         reply.code(code);

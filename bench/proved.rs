@@ -18,7 +18,13 @@ unsafe extern "C" {
 pub fn serve(frames: &[Slot], rounds: u64, replies: &mut [Slot]) {
     // SAFETY: the declaration fits the function's; pointers and lengths are those of slices that are borrowed for the call.
     let done = unsafe {
-        bench_port_serve(frames.as_ptr(), frames.len(), rounds, replies.as_mut_ptr(), replies.len())
+        bench_port_serve(
+            frames.as_ptr(),
+            frames.len(),
+            rounds,
+            replies.as_mut_ptr(),
+            replies.len(),
+        )
     };
     assert!(done, "memory was refused");
 }
