@@ -87,7 +87,7 @@ fn thresholds_out_of_order_are_refused(rt: HostRuntime) -> Result<(), Fail> {
     assert!(rt; new.is(&[0x14, 0x0A, 0x05, 0x50, 0x60, 0x6E]));
     assert!(rt;
         limits
-            .get_data(&value, &Live)
+            .get_data(&value, &Live::opening())
             .is(&[0x3F, 0x14, 0x0A, 0x05, 0x50, 0x5F, 0x6E])
     );
     Ok(())
