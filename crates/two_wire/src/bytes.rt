@@ -84,8 +84,10 @@ impl<const CAP: usize> Bytes<CAP> {
         requires { length bytes.now ≤ CAP }
         ensures { self.new ≡ bytes.now }
     {
-        self.items.clear();
-        self.extend_from_slice(bytes);
+        let kept = bytes.len().min(self.len());
+        self.items.truncate(kept);
+        self.items.as_mut_slice().copy_from_slice(&bytes[..kept]);
+        self.extend_from_slice(&bytes[kept..]);
     }
 
     /// The same bytes once more.

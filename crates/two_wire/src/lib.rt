@@ -3,19 +3,23 @@
 #![tactic(auto)]
 
 mod address;
+mod buffer;
 mod bus;
 mod bytes;
 mod checks;
 pub mod code;
+mod data;
 mod laws;
 mod number;
 mod packet_error;
 
 pub use address::Address;
+pub use buffer::Buffer;
 pub use bus::Bus;
 pub use bytes::{Bytes, Frame};
 pub use checks::sum8;
 pub use code::Code;
+pub use data::Data;
 pub use laws::{all_bytes_have_a_pec, one_pec};
 pub use number::{Below, Lun, NetFn};
 pub use packet_error::pec;

@@ -1,5 +1,7 @@
 //! Check bytes of the standard's frames, and one call of each function.
-use crate::{Address, Bytes, Code, Lun, NetFn, code, pec, sum8};
+ghost use Rattle.std.specs.Prelude.{◌+◌, ◌≤◌, length};
+
+use crate::{Address, Buffer, Bytes, Code, Data, Lun, NetFn, code, pec, sum8};
 use std::test::Fail;
 
 #[test]
@@ -50,4 +52,34 @@ fn numbers_and_codes_keep_their_value(rt: HostRuntime) -> Result<(), Fail> {
     assert!(rt; Code::new(0).is_none());
     assert_eq!(rt; code::INVALID_LENGTH.value(), 0xC7);
     Ok(())
+}
+
+/// Through the trait alone.
+fn add<B: Buffer>(to: &mut B)
+    requires { length (B.bytes to.old) + 3 ≤ B.capacity }
+{
+    to.push(1);
+    to.extend_from_slice(&[2, 3]);
+}
+
+#[test]
+fn a_buffer_grows_at_its_end(rt: HostRuntime) {
+    let mut bytes = Bytes::<4>::new();
+    add(&mut bytes);
+    assert_eq!(rt; bytes.as_slice(), [1, 2, 3].as_slice());
+}
+
+#[test]
+fn bytes_are_replaced_by_more_and_by_fewer(rt: HostRuntime) {
+    let mut bytes = Bytes::<4>::from_slice(&[1, 2]);
+    bytes.replace(&[5, 6, 7, 8]);
+    assert_eq!(rt; bytes.as_slice(), [5, 6, 7, 8].as_slice());
+    bytes.replace(&[9]);
+    assert_eq!(rt; bytes.as_slice(), [9].as_slice());
+}
+
+#[test]
+fn data_show_the_bytes_that_they_lie_in(rt: HostRuntime) {
+    let frame = [1, 2, 3, 4];
+    assert_eq!(rt; Data::<4>::new(&frame[1..3]).as_slice(), [2, 3].as_slice());
 }
