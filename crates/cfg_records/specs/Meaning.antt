@@ -9,6 +9,11 @@ abbrev pub Decides : Result (List ℕ) ℕ → (List ℕ → Type 0) → Type 0
 Decides (Ok new) P = P new
 Decides (Err code) P = (new : List ℕ) → ¬ P new
 
+-- what comes of a call that writes the new value where it succeeds
+abbrev pub told : {A : Type 0} → Result A ℕ → List ℕ → Result (List ℕ) ℕ
+told (Ok _) new = Ok new
+told (Err code) new = Err code
+
 -- a code that a command table answers: a byte that is neither success nor one of the two codes of a busy controller
 pub record IsRefusal (code : ℕ) : Type 0 where
   pub is_fault : 0 < code

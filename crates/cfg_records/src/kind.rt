@@ -1,7 +1,7 @@
 //! What a kind of record is.
-ghost use Rattle.std.specs.Prelude.{◌≡◌, ◌≤◌, ℕ, List, Result, Err, IsTrue, SomeIff, length};
+ghost use Rattle.std.specs.Prelude.{◌≡◌, ◌+◌, ◌≤◌, ◌++◌, ℕ, List, Result, Err, IsTrue, OnErr, SomeIff, length};
 ghost use Rattle.cfg_records.specs.Keys.{key_of, is_length};
-ghost use Rattle.cfg_records.specs.Meaning.{Decides, IsRefusal, room_for};
+ghost use Rattle.cfg_records.specs.Meaning.{Decides, IsRefusal, room_for, told};
 ghost use Rattle.cfg_records.specs.declared.key.Key.{Key};
 ghost use Rattle.cfg_records.specs.declared.op.Op.{Op};
 ghost use Rattle.cfg_records.specs.declared.live.Live.{Live};
@@ -12,7 +12,7 @@ use crate::live::Live;
 use crate::message::Asked;
 use crate::op::Op;
 use crate::value::{RecordData, Value};
-use two_wire::Code;
+use two_wire::{Buffer, Code};
 
 /// A kind of record. `self` is the limits of one record, from the board file.
 pub trait RecordKind {
@@ -61,27 +61,30 @@ pub trait RecordKind {
     /// The operation that undoes it from this Get reply.
     ghost undo: { Op → List ℕ → Op };
 
-    /// The value that the operation makes of this one.
-    fn apply(&self, op: &Op, value: &Value) -> Result<Value, Code>
+    /// Makes `new` the value that the operation makes of this one, or gives the code that refuses it.
+    fn apply(&self, op: &Op, value: &[u8], new: &mut Value) -> Result<(), Code>
         requires of_record { is_of self.now (key_of op.now) }
         requires is_valid { valid self.now value.now }
-        ensures decides { Decides result (sets self.now op.now value.now) }
-        ensures outcome { result ≡ outcome self.now op.now value.now };
+        ensures decides { Decides (told result new.new) (sets self.now op.now value.now) }
+        ensures outcome { told result new.new ≡ outcome self.now op.now value.now }
+        ensures kept { OnErr result (new.new ≡ new.old) };
 
-    /// The data of the reply to a Set that was carried out.
-    fn set_reply(op: &Op) -> RecordData
-        requires { is_key (key_of op.now) }
-        ensures { result ≡ set_view op.now };
+    /// Appends the data of the reply to a Set that was carried out.
+    fn set_reply<B: Buffer>(op: &Op, reply: &mut B)
+        requires of_kind { is_key (key_of op.now) }
+        requires room { length (B.bytes reply.old) + length (set_view op.now) ≤ B.capacity }
+        ensures { B.bytes reply.new ≡ B.bytes reply.old ++ set_view op.now };
 
     /// What isn't configuration, after the operation was carried out.
     fn next_live(op: &Op, live: &Live) -> Live
         requires { is_key (key_of op.now) }
         ensures { result ≡ live_after op.now live.now };
 
-    /// The data of the Get reply.
-    fn get_data(&self, value: &Value, live: &Live) -> RecordData
-        requires { valid self.now value.now }
-        ensures { result ≡ view self.now value.now live.now };
+    /// Appends the data of the Get reply.
+    fn get_data<B: Buffer>(&self, value: &[u8], live: &Live, reply: &mut B)
+        requires is_valid { valid self.now value.now }
+        requires room { length (B.bytes reply.old) + length (view self.now value.now live.now) ≤ B.capacity }
+        ensures { B.bytes reply.new ≡ B.bytes reply.old ++ view self.now value.now live.now };
 
     /// The request that gets the record: from nobody, to logical unit 0, ignored bits 0.
     fn get_asked(key: &Key) -> Asked
@@ -148,20 +151,23 @@ pub trait RecordKind {
 pub fn there_and_back<K: RecordKind>(
     limits: &K,
     op: &Op,
-    value: &Value,
+    value: &[u8],
     live: &Live,
 ) -> Option<Value>
     requires of_record { K.is_of limits.now (key_of op.now) }
     requires is_valid { K.valid limits.now value.now }
     ensures { SomeIff result (((new : List ℕ) × K.sets limits.now op.now value.now new) × K.restorable op.now (K.view limits.now value.now live.now)) value.now }
 {
-    let reply = limits.get_data(value, live);
-    let Ok(new) = limits.apply(op, value) else {
+    let mut reply = RecordData::new();
+    limits.get_data(value, live, &mut reply);
+    let mut new = Value::new();
+    let Ok(()) = limits.apply(op, value, &mut new) else {
         return None;
     };
     let undo = K::inverse(op, reply.as_slice())?;
-    match limits.apply(&undo, &new) {
-        Ok(back) => Some(back),
+    let mut back = Value::new();
+    match limits.apply(&undo, new.as_slice(), &mut back) {
+        Ok(()) => Some(back),
         Err(_) => unreachable!(),
     }
 }

@@ -52,23 +52,6 @@ impl Answered {
         }
     }
 
-    /// Makes it the reply to a request that was carried out.
-    pub fn set_done(&mut self, body: &[u8])
-        requires { length body.now ≤ 251 }
-        ensures { self.new ≡ record { code = 0; body = body.now } }
-    {
-        self.code = 0;
-        self.body.replace(body);
-    }
-
-    /// Makes it the reply to a request that was refused.
-    pub fn set_refused(&mut self, code: Code)
-        ensures { self.new ≡ record { code = code; body = [] } }
-    {
-        self.code = code.value();
-        self.body.replace(&[]);
-    }
-
     /// The same reply once more.
     pub fn copy(&self) -> Self
         ensures { result ≡ self.now }

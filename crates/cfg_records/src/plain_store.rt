@@ -64,14 +64,17 @@ impl Store for PlainStore {
 
     ghost records = { λ s key. btree.get key_cmp s.records key };
 
-    fn get(&self, key: &Key) -> Option<Value> {
-        self.records.get(key).map(|value| value.copy())
+    fn get(&self, key: &Key) -> Option<&[u8]> {
+        match self.records.get(key) {
+            Some(value) => Some(value.as_slice()),
+            None => None,
+        }
     }
 
-    fn put(&mut self, key: &Key, value: Value) -> Result<(), NoKey> {
+    fn put(&mut self, key: &Key, value: &[u8]) -> Result<(), NoKey> {
         match self.records.get_mut(key) {
             Some(place) => {
-                *place = value;
+                place.replace(value);
                 Ok(())
             }
             None => Err(NoKey),
