@@ -8,7 +8,7 @@ use Rattle.cfg_records.specs.declared.op.Op.TheVariants as op
 use Rattle.cfg_records.specs.declared.live.Live.{Live}
 use Rattle.cfg_records.specs.Keys.{key_of, is_length}
 use Rattle.cfg_records.specs.Meaning.{Decides, IsRefusal, room_for}
-use Rattle.sensor_recs.specs.Refusals.{refused_field}
+use Rattle.cfg_records.specs.Refusals.{refused_field}
 use Rattle.sensor_recs.specs.Hysteresis.{is_key, valid, sets, outcome, set_view, view, get_request, set_request, is_reply, restorable, undo}
 
 -- a list of two is its two members

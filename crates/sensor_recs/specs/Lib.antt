@@ -1,5 +1,4 @@
 pub mod Requests
-pub mod Refusals
 pub mod Thresholds
 pub mod ThresholdsLaws
 pub mod Hysteresis

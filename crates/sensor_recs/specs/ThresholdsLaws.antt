@@ -12,10 +12,10 @@ use Rattle.cfg_records.specs.Keys.{key_of, is_length}
 use Rattle.cfg_records.specs.Masks.{has, IsWithin}
 use Rattle.cfg_records.specs.MaskLaws.{both, both_true, within_true, true_within}
 use Rattle.cfg_records.specs.Meaning.{Decides, IsRefusal, room_for}
+use Rattle.cfg_records.specs.Refusals.{refused_field}
 use Rattle.cfg_records.specs.Thresholds.{is_there, IsInOrder, IsThresholds, is_in_order}
 use Rattle.cfg_records.specs.ThresholdLaws.{in_order_true, true_in_order}
 use Rattle.sensor_recs.specs.declared.thresholds.ThresholdLimits.{ThresholdLimits}
-use Rattle.sensor_recs.specs.Refusals.{refused_field}
 use Rattle.sensor_recs.specs.Thresholds.{SetsThresholds, chosen, choose, zeros, merged, is_accepted, thresholds_view, undo_thresholds, is_key, valid, sets, outcome, set_view, view, get_request, set_request, is_reply, restorable, undo}
 
 then_is : (b : Bool) (x y : ℕ) → b ≡ true → (if b then x else y) ≡ x

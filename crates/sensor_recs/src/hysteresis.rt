@@ -5,7 +5,7 @@ ghost use Rattle.sensor_recs.specs.Hysteresis.{both_bytes, undo_hysteresis, hyst
 
 use crate::request::sensor_request;
 use cfg_records::{Asked, Key, Live, Op, RecordData, RecordKind, SetHysteresis, Value};
-use two_wire::Code;
+use two_wire::{Buffer, Code};
 
 /// The number of the command that sets it.
 const SET_SENSOR_HYSTERESIS: u8 = 0x24;
@@ -21,10 +21,10 @@ const HYSTERESIS_MASK: u8 = 0xFF;
 pub struct HysteresisLimits;
 
 /// The value that the operation makes.
-fn both_bytes(op: &SetHysteresis) -> Value
+fn both_bytes(op: &SetHysteresis) -> [u8; 2]
     ensures { result ≡ both_bytes op.now }
 {
-    Value::from_slice(&[op.positive, op.negative])
+    [op.positive, op.negative]
 }
 
 /// The data of the request that carries out the operation.
@@ -83,23 +83,22 @@ impl RecordKind for HysteresisLimits {
 
     ghost undo = { h.undo };
 
-    fn apply(&self, op: &Op, _value: &Value) -> Result<Value, Code> {
-        match op {
-            Op::Hysteresis(op) => Ok(both_bytes(op)),
-            _ => unreachable!(),
-        }
+    fn apply(&self, op: &Op, _value: &[u8], new: &mut Value) -> Result<(), Code> {
+        let Op::Hysteresis(op) = op else {
+            unreachable!();
+        };
+        new.replace(&both_bytes(op));
+        Ok(())
     }
 
-    fn set_reply(_op: &Op) -> RecordData {
-        RecordData::new()
-    }
+    fn set_reply<B: Buffer>(_op: &Op, _reply: &mut B) {}
 
     fn next_live(_op: &Op, live: &Live) -> Live {
         *live
     }
 
-    fn get_data(&self, value: &Value, _live: &Live) -> RecordData {
-        RecordData::from_slice(value.as_slice())
+    fn get_data<B: Buffer>(&self, value: &[u8], _live: &Live, reply: &mut B) {
+        reply.extend_from_slice(value);
     }
 
     fn get_asked(key: &Key) -> Asked {

@@ -71,24 +71,40 @@ fn thresholds_out_of_order_are_refused(rt: HostRuntime) -> Result<(), Fail> {
     let limits = ThresholdLimits {
         masks: sensor.masks,
     };
-    let value = Value::from_slice(&sensor.thresholds);
     let mut set = SetThresholds {
         sensor: 5,
         mask: 0x10,
         values: [0, 0, 0, 0, 0x70, 0],
     };
-    let high = limits.apply(&Op::Thresholds(set), &value);
+    let mut new = Value::from_slice(&[0xEE]);
+    let high = limits.apply(&Op::Thresholds(set), &sensor.thresholds, &mut new);
     assert!(rt; matches!(high, Err(INVALID_DATA_FIELD)));
+    assert!(rt; new.is(&[0xEE]));
 
     set.values[4] = 0x60;
-    let Ok(new) = limits.apply(&Op::Thresholds(set), &value) else {
+    let Ok(()) = limits.apply(&Op::Thresholds(set), &sensor.thresholds, &mut new) else {
         return Err("refused".into());
     };
     assert!(rt; new.is(&[0x14, 0x0A, 0x05, 0x50, 0x60, 0x6E]));
-    assert!(rt;
-        limits
-            .get_data(&value, &Live::opening())
-            .is(&[0x3F, 0x14, 0x0A, 0x05, 0x50, 0x5F, 0x6E])
-    );
+    Ok(())
+}
+
+#[test]
+fn replies_are_appended(rt: HostRuntime) -> Result<(), Fail> {
+    let sensor = temperature().ok_or("sensor")?;
+    let limits = ThresholdLimits {
+        masks: sensor.masks,
+    };
+    let live = Live::opening();
+    let op = Op::Hysteresis(SetHysteresis {
+        sensor: 5,
+        positive: 3,
+        negative: 1,
+    });
+    let mut reply = RecordData::from_slice(&[0xEE]);
+    HysteresisLimits::set_reply(&op, &mut reply);
+    HysteresisLimits.get_data(&[3, 1], &live, &mut reply);
+    limits.get_data(&sensor.thresholds, &live, &mut reply);
+    assert!(rt; reply.is(&[0xEE, 3, 1, 0x3F, 0x14, 0x0A, 0x05, 0x50, 0x5F, 0x6E]));
     Ok(())
 }

@@ -8,8 +8,8 @@ use cfg_records::mask::{has, is_within};
 use cfg_records::{
     Asked, Key, Live, Op, RecordData, RecordKind, SetThresholds, ThresholdMasks, Value,
 };
-use two_wire::Code;
 use two_wire::code::INVALID_DATA_FIELD;
+use two_wire::{Buffer, Code};
 
 /// The number of the command that sets them.
 const SET_SENSOR_THRESHOLDS: u8 = 0x26;
@@ -75,18 +75,22 @@ fn undo(op: &SetThresholds, reply: &[u8]) -> Option<SetThresholds>
 }
 
 impl ThresholdLimits {
+    ghost use Rattle.std.specs.Prelude.{OnErr};
+    ghost use Rattle.cfg_records.specs.Meaning.{told};
     ghost use Rattle.sensor_recs.specs.Thresholds.{thresholds_outcome};
 
-    /// The thresholds that the operation makes of these.
-    fn set(&self, op: &SetThresholds, old: &[u8]) -> Result<Value, Code>
+    /// Makes `new` the thresholds that the operation makes of the old ones.
+    fn set(&self, op: &SetThresholds, old: &[u8], new: &mut Value) -> Result<(), Code>
         requires { length old.now ≡ 6 }
-        ensures { result ≡ thresholds_outcome self.now.masks op.now old.now }
+        ensures outcome { told result new.new ≡ thresholds_outcome self.now.masks op.now old.now }
+        ensures kept { OnErr result (new.new ≡ new.old) }
     {
-        let new = choose(op.mask, &op.values, old);
-        if !is_within(op.mask, self.masks.settable) || !self.masks.is_in_order(&new) {
+        let values = choose(op.mask, &op.values, old);
+        if !is_within(op.mask, self.masks.settable) || !self.masks.is_in_order(&values) {
             return Err(INVALID_DATA_FIELD);
         }
-        Ok(Value::from_slice(&new))
+        new.replace(&values);
+        Ok(())
     }
 }
 
@@ -125,26 +129,23 @@ impl RecordKind for ThresholdLimits {
 
     ghost undo = { t.undo };
 
-    fn apply(&self, op: &Op, value: &Value) -> Result<Value, Code> {
+    fn apply(&self, op: &Op, value: &[u8], new: &mut Value) -> Result<(), Code> {
         match op {
-            Op::Thresholds(op) => self.set(op, value.as_slice()),
+            Op::Thresholds(op) => self.set(op, value, new),
             _ => unreachable!(),
         }
     }
 
-    fn set_reply(_op: &Op) -> RecordData {
-        RecordData::new()
-    }
+    fn set_reply<B: Buffer>(_op: &Op, _reply: &mut B) {}
 
     fn next_live(_op: &Op, live: &Live) -> Live {
         *live
     }
 
-    fn get_data(&self, value: &Value, _live: &Live) -> RecordData {
-        let mut reply = RecordData::from_slice(&[self.masks.readable]);
-        let shown = choose(self.masks.readable, value.as_slice(), &ZEROS);
+    fn get_data<B: Buffer>(&self, value: &[u8], _live: &Live, reply: &mut B) {
+        let shown = choose(self.masks.readable, value, &ZEROS);
+        reply.push(self.masks.readable);
         reply.extend_from_slice(&shown);
-        reply
     }
 
     fn get_asked(key: &Key) -> Asked {
