@@ -1,11 +1,12 @@
 //! The power restore policy, as a kind of record.
-ghost use Rattle.std.specs.Prelude.{◌≡◌, ◌≢◌, length};
+ghost use Rattle.std.specs.Prelude.{◌≡◌, ◌≢◌, OnErr, length};
 ghost use Rattle.std.specs.Option.{SomeIff};
+ghost use Rattle.cfg_records.specs.Meaning.{told};
 ghost use Rattle.watch_boot.specs.PowerPolicy.{policy_outcome, shown_policy, undo_policy};
 
 use cfg_records::{Asked, Key, Live, Op, RecordData, RecordKind, SetPowerPolicy, Value};
 use two_wire::code::INVALID_DATA_FIELD;
-use two_wire::{Code, NetFn};
+use two_wire::{Buffer, Code, NetFn};
 
 /// The number of the network function of the chassis.
 const CHASSIS: u8 = 0x00;
@@ -26,17 +27,19 @@ const SUPPORTED: u8 = 0x07;
 #[derive(Clone, Copy, Debug, PartialEq, Eq)]
 pub struct PowerPolicyLimits;
 
-/// The value that the operation makes of this one.
-fn set(op: &SetPowerPolicy, old: &[u8]) -> Result<Value, Code>
+/// Makes `new` the value that the operation makes of the old one.
+fn set(op: &SetPowerPolicy, old: &[u8], new: &mut Value) -> Result<(), Code>
     requires { length old.now ≡ 1 }
-    ensures { result ≡ policy_outcome op.now old.now }
+    ensures outcome { told result new.new ≡ policy_outcome op.now old.now }
+    ensures kept { OnErr result (new.new ≡ new.old) }
 {
     let asked = op.policy & 0x07;
     if asked > UNKNOWN {
         return Err(INVALID_DATA_FIELD);
     }
     let next = if asked == UNKNOWN { old[0] } else { asked };
-    Ok(Value::from_slice(&[next]))
+    new.replace(&[next]);
+    Ok(())
 }
 
 /// The operation that sets the policy that the chassis status shows.
@@ -87,24 +90,23 @@ impl RecordKind for PowerPolicyLimits {
 
     ghost undo = { p.undo };
 
-    fn apply(&self, op: &Op, value: &Value) -> Result<Value, Code> {
+    fn apply(&self, op: &Op, value: &[u8], new: &mut Value) -> Result<(), Code> {
         match op {
-            Op::PowerPolicy(op) => set(op, value.as_slice()),
+            Op::PowerPolicy(op) => set(op, value, new),
             _ => unreachable!(),
         }
     }
 
-    fn set_reply(_op: &Op) -> RecordData {
-        RecordData::from_slice(&[SUPPORTED])
+    fn set_reply<B: Buffer>(_op: &Op, reply: &mut B) {
+        reply.push(SUPPORTED);
     }
 
     fn next_live(_op: &Op, live: &Live) -> Live {
         *live
     }
 
-    fn get_data(&self, value: &Value, live: &Live) -> RecordData {
-        let policy = value.as_slice()[0];
-        RecordData::from_slice(&[(policy << 5) | live.chassis.number(), 0, 0])
+    fn get_data<B: Buffer>(&self, value: &[u8], live: &Live, reply: &mut B) {
+        reply.extend_from_slice(&[(value[0] << 5) | live.chassis.number(), 0, 0]);
     }
 
     fn get_asked(_key: &Key) -> Asked {

@@ -33,11 +33,21 @@ fn running() -> Live {
 }
 
 /// Whether the operation and its inverse bring the value back.
-fn comes_back<K: RecordKind>(limits: &K, op: &Op, value: &Value, live: &Live) -> bool
+fn comes_back<K: RecordKind>(limits: &K, op: &Op, value: &[u8], live: &Live) -> bool
     requires of_record { K.is_of limits.now (key_of op.now) }
     requires is_valid { K.valid limits.now value.now }
 {
-    there_and_back(limits, op, value, live).is_some_and(|back| back.is(value.as_slice()))
+    there_and_back(limits, op, value, live).is_some_and(|back| back.is(value))
+}
+
+/// The value that the operation makes, where it isn't refused.
+fn applied<K: RecordKind>(limits: &K, op: &Op, value: &[u8]) -> Option<Value>
+    requires of_record { K.is_of limits.now (key_of op.now) }
+    requires is_valid { K.valid limits.now value.now }
+{
+    let mut new = Value::new();
+    limits.apply(op, value, &mut new).ok()?;
+    Some(new)
 }
 
 /// The data of the Set request that undoes the operation from the Get reply.
@@ -60,25 +70,41 @@ fn a_policy_is_undone_from_the_chassis_status(rt: HostRuntime) -> Result<(), Fai
 
 #[test]
 fn a_policy_of_3_changes_nothing(rt: HostRuntime) -> Result<(), Fail> {
-    let old = Value::from_slice(&[1]);
     let no_change = Op::PowerPolicy(SetPowerPolicy { policy: 3 });
-    let Ok(new) = PowerPolicyLimits.apply(&no_change, &old) else {
-        return Err("refused".into());
-    };
+    let new = applied(&PowerPolicyLimits, &no_change, &[1]).ok_or("refused")?;
     assert!(rt; new.is(&[1]));
-    assert!(rt; PowerPolicyLimits::set_reply(&no_change).is(&[0x07]));
-    let unknown = Op::PowerPolicy(SetPowerPolicy { policy: 4 });
-    assert!(rt; PowerPolicyLimits.apply(&unknown, &old).is_err());
+    let mut reply = RecordData::from_slice(&[0x2C]);
+    PowerPolicyLimits::set_reply(&no_change, &mut reply);
+    assert!(rt; reply.is(&[0x2C, 0x07]));
     Ok(())
+}
+
+#[test]
+fn a_refused_set_writes_nothing(rt: HostRuntime) {
+    let mut new = Value::from_slice(&[9, 9]);
+    let unknown = Op::PowerPolicy(SetPowerPolicy { policy: 4 });
+    assert!(rt; PowerPolicyLimits.apply(&unknown, &[1], &mut new).is_err());
+    assert!(rt; new.is(&[9, 9]));
+    let no_use = Op::Watchdog(SetWatchdog {
+        timer_use: 0,
+        actions: 0,
+        pre_timeout: 0,
+        flags_to_clear: 0,
+        initial: 1,
+    });
+    assert!(rt; WatchdogLimits.apply(&no_use, &SETTINGS, &mut new).is_err());
+    assert!(rt; new.is(&[9, 9]));
 }
 
 #[test]
 fn chassis_bits_leave_the_policy_bits(rt: HostRuntime) {
     let mut live = Live::opening();
-    let value = Value::from_slice(&[1]);
-    assert!(rt; PowerPolicyLimits.get_data(&value, &live).is(&[0x20, 0, 0]));
+    let mut reply = RecordData::new();
+    PowerPolicyLimits.get_data(&[1], &live, &mut reply);
+    assert!(rt; reply.is(&[0x20, 0, 0]));
     live.chassis = Below::new(0x1F);
-    assert!(rt; PowerPolicyLimits.get_data(&value, &live).is(&[0x3F, 0, 0]));
+    PowerPolicyLimits.get_data(&[1], &live, &mut reply);
+    assert!(rt; reply.is(&[0x20, 0, 0, 0x3F, 0, 0]));
 }
 
 #[test]
@@ -95,9 +121,7 @@ fn settings_are_undone_from_a_timer_that_is_stopped(rt: HostRuntime) -> Result<(
 
 #[test]
 fn a_set_begins_the_countdown_anew(rt: HostRuntime) -> Result<(), Fail> {
-    let Ok(new) = WatchdogLimits.apply(&LATER, &Value::from_slice(&SETTINGS)) else {
-        return Err("refused".into());
-    };
+    let new = applied(&WatchdogLimits, &LATER, &SETTINGS).ok_or("refused")?;
     assert!(rt; new.is(&[0x84, 0x11, 0x05, 0x70, 0x17]));
     let live = WatchdogLimits::next_live(&LATER, &running());
     assert!(rt; live.running && live.countdown == 6000 && live.expired == 0x08);
@@ -114,44 +138,27 @@ fn a_set_begins_the_countdown_anew(rt: HostRuntime) -> Result<(), Fail> {
 
 #[test]
 fn a_get_shows_the_settings_and_the_timer(rt: HostRuntime) {
-    let value = Value::from_slice(&SETTINGS);
-    assert!(rt;
-        WatchdogLimits
-            .get_data(&value, &running())
-            .is(&[0x44, 0x01, 0x0A, 0x18, 0xB8, 0x0B, 0x39, 0x30])
-    );
+    let mut reply = RecordData::new();
+    WatchdogLimits.get_data(&SETTINGS, &running(), &mut reply);
+    assert!(rt; reply.is(&[0x44, 0x01, 0x0A, 0x18, 0xB8, 0x0B, 0x39, 0x30]));
     let asked = Asked::ipmi(NetFn::new(0x06), 0x25, &[]);
     assert!(rt; WatchdogLimits::get_asked(&Key::Watchdog).is(&asked));
 }
 
 #[test]
 fn a_reset_starts_a_timer_that_was_set(rt: HostRuntime) -> Result<(), Fail> {
-    let live = reset(&Value::from_slice(&SETTINGS), &Live::opening()).ok_or("never set")?;
+    let live = reset(&SETTINGS, &Live::opening()).ok_or("never set")?;
     assert!(rt; live.running && live.countdown == 3000);
-    assert!(rt; reset(&Value::from_slice(&[0; 5]), &Live::opening()).is_none());
+    assert!(rt; reset(&[0; 5], &Live::opening()).is_none());
     Ok(())
 }
 
 #[test]
 fn settings_come_back_where_they_can(rt: HostRuntime) {
     let live = Live::opening();
-    assert!(rt;
-        comes_back(
-            &WatchdogLimits,
-            &LATER,
-            &Value::from_slice(&SETTINGS),
-            &live
-        )
-    );
-    assert!(rt;
-        !comes_back(
-            &WatchdogLimits,
-            &LATER,
-            &Value::from_slice(&SETTINGS),
-            &running()
-        )
-    );
+    assert!(rt; comes_back(&WatchdogLimits, &LATER, &SETTINGS, &live));
+    assert!(rt; !comes_back(&WatchdogLimits, &LATER, &SETTINGS, &running()));
     let op = Op::PowerPolicy(SetPowerPolicy { policy: 0 });
-    assert!(rt; comes_back(&PowerPolicyLimits, &op, &Value::from_slice(&[2]), &live));
-    assert!(rt; !comes_back(&PowerPolicyLimits, &op, &Value::from_slice(&[3]), &live));
+    assert!(rt; comes_back(&PowerPolicyLimits, &op, &[2], &live));
+    assert!(rt; !comes_back(&PowerPolicyLimits, &op, &[3], &live));
 }

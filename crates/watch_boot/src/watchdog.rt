@@ -1,13 +1,14 @@
 //! The watchdog timer, as a kind of record.
-ghost use Rattle.std.specs.Prelude.{◌≡◌, ◌%◌, ◌≤◌, length};
+ghost use Rattle.std.specs.Prelude.{◌≡◌, ◌+◌, ◌%◌, ◌≤◌, ◌++◌, OnErr, length};
 ghost use Rattle.std.specs.Option.{SomeIff};
+ghost use Rattle.cfg_records.specs.Meaning.{told};
 ghost use Rattle.cfg_records.specs.Watchdog.{IsWatchdog};
 ghost use Rattle.watch_boot.specs.Watchdog.{kept_use, kept_actions, is_accepted, watchdog_outcome, live_after_set, watchdog_body, shown_use, watchdog_view, IsStopped, undo_watchdog, WasSet, live_after_reset};
 
 use cfg_records::mask::has;
 use cfg_records::{Asked, Key, Live, Op, RecordData, RecordKind, SetWatchdog, Value};
 use two_wire::code::INVALID_DATA_FIELD;
-use two_wire::{Code, NetFn};
+use two_wire::{Buffer, Code, NetFn};
 
 /// The number of the network function of applications.
 const APPLICATION: u8 = 0x06;
@@ -49,9 +50,10 @@ fn is_accepted(op: &SetWatchdog) -> bool
     matches!(timer_use, 1..=5) && interrupt <= 3 && action <= 3
 }
 
-/// The settings that the operation makes.
-fn set(op: &SetWatchdog) -> Result<Value, Code>
-    ensures { result ≡ watchdog_outcome op.now }
+/// Makes `new` the settings that the operation says.
+fn set(op: &SetWatchdog, new: &mut Value) -> Result<(), Code>
+    ensures outcome { told result new.new ≡ watchdog_outcome op.now }
+    ensures kept { OnErr result (new.new ≡ new.old) }
 {
     if !is_accepted(op) {
         return Err(INVALID_DATA_FIELD);
@@ -59,7 +61,8 @@ fn set(op: &SetWatchdog) -> Result<Value, Code>
     let [low, high] = op.initial.to_le_bytes();
     let timer_use = kept_use(op.timer_use);
     let actions = kept_actions(op.actions);
-    Ok(Value::from_slice(&[timer_use, actions, op.pre_timeout, low, high]))
+    new.replace(&[timer_use, actions, op.pre_timeout, low, high]);
+    Ok(())
 }
 
 /// What isn't configuration, after the operation.
@@ -102,13 +105,14 @@ fn shown_use(timer_use: u8, running: bool) -> u8
     }
 }
 
-/// The data of the Get reply.
-fn reply(value: &[u8], live: &Live) -> RecordData
-    requires { IsWatchdog value.now }
-    ensures { result ≡ watchdog_view value.now live.now }
+/// Appends the data of the Get reply.
+fn show<B: Buffer>(value: &[u8], live: &Live, reply: &mut B)
+    requires is_valid { IsWatchdog value.now }
+    requires room { length (B.bytes reply.old) + length (watchdog_view value.now live.now) ≤ B.capacity }
+    ensures { B.bytes reply.new ≡ B.bytes reply.old ++ watchdog_view value.now live.now }
 {
     let [low, high] = live.countdown.to_le_bytes();
-    RecordData::from_slice(&[
+    reply.extend_from_slice(&[
         shown_use(value[0], live.running),
         value[1],
         value[2],
@@ -117,7 +121,7 @@ fn reply(value: &[u8], live: &Live) -> RecordData
         value[4],
         low,
         high,
-    ])
+    ]);
 }
 
 /// The operation that sets what the reply shows.
@@ -141,17 +145,16 @@ fn undo(reply: &[u8]) -> Option<SetWatchdog>
 }
 
 /// What isn't configuration, after Reset Watchdog Timer: its countdown begins anew and it runs. None where it was never set.
-pub fn reset(value: &Value, live: &Live) -> Option<Live>
+pub fn reset(value: &[u8], live: &Live) -> Option<Live>
     requires { IsWatchdog value.now }
     ensures { SomeIff result (WasSet value.now) (live_after_reset value.now live.now) }
 {
-    let settings = value.as_slice();
-    if settings[0] & 0x07 == 0 {
+    if value[0] & 0x07 == 0 {
         return None;
     }
     Some(Live {
         chassis: live.chassis,
-        countdown: u16::from_le_bytes([settings[3], settings[4]]),
+        countdown: u16::from_le_bytes([value[3], value[4]]),
         expired: live.expired,
         running: true,
     })
@@ -191,16 +194,14 @@ impl RecordKind for WatchdogLimits {
 
     ghost undo = { w.undo };
 
-    fn apply(&self, op: &Op, _value: &Value) -> Result<Value, Code> {
+    fn apply(&self, op: &Op, _value: &[u8], new: &mut Value) -> Result<(), Code> {
         match op {
-            Op::Watchdog(op) => set(op),
+            Op::Watchdog(op) => set(op, new),
             _ => unreachable!(),
         }
     }
 
-    fn set_reply(_op: &Op) -> RecordData {
-        RecordData::new()
-    }
+    fn set_reply<B: Buffer>(_op: &Op, _reply: &mut B) {}
 
     fn next_live(op: &Op, live: &Live) -> Live {
         match op {
@@ -209,8 +210,8 @@ impl RecordKind for WatchdogLimits {
         }
     }
 
-    fn get_data(&self, value: &Value, live: &Live) -> RecordData {
-        reply(value.as_slice(), live)
+    fn get_data<B: Buffer>(&self, value: &[u8], live: &Live, reply: &mut B) {
+        show(value, live, reply);
     }
 
     fn get_asked(_key: &Key) -> Asked {
