@@ -28,13 +28,25 @@ request_head r = r.header.responder.address ∷ packed r.header.net_fn r.header.
 abbrev pub request_tail : Request → List ℕ
 request_tail r = r.header.requester.address ∷ packed r.header.sequence r.header.requester.lun ∷ r.header.command ∷ r.body
 
--- a response's connection header: rqSA, the next netFn and rqLUN
-abbrev pub response_head : Response → List ℕ
-response_head r = r.header.requester.address ∷ packed (r.header.net_fn + 1) r.header.requester.lun ∷ []
+-- the connection header of a response to this header: rqSA, the next netFn and rqLUN
+abbrev pub response_connection : Header → List ℕ
+response_connection h = h.requester.address ∷ packed (h.net_fn + 1) h.requester.lun ∷ []
 
--- what follows it: rsSA, rqSeq and rsLUN, cmd, the completion code, the data
+-- what follows it before the data: rsSA, rqSeq and rsLUN, cmd, the completion code
+abbrev pub response_lead : Header → ℕ → List ℕ
+response_lead h code = h.responder.address ∷ packed h.sequence h.responder.lun ∷ h.command ∷ code ∷ []
+
+-- all of a response that stands before its data
+abbrev pub response_start : Header → ℕ → List ℕ
+response_start h code = checked (response_connection h) ++ response_lead h code
+
+-- a response's connection header
+abbrev pub response_head : Response → List ℕ
+response_head r = response_connection r.header
+
+-- what follows it: up to the completion code, and the data
 abbrev pub response_tail : Response → List ℕ
-response_tail r = r.header.responder.address ∷ packed r.header.sequence r.header.responder.lun ∷ r.header.command ∷ r.code ∷ r.body
+response_tail r = response_lead r.header r.code ++ r.body
 
 -- an address is an even byte, a logical unit's number is below 4
 pub record IsParty (p : Party) : Type 0 where

@@ -11,7 +11,7 @@ pub use fault::FrameFault;
 pub use laws::{one_frame, one_message};
 pub use message::{Header, Msg, Party, Request, Response, Sequence};
 pub use reading::read_frame;
-pub use writing::{write_answer, write_request, write_response};
+pub use writing::{begin_response, end_response, write_request, write_response};
 
 #[cfg(test)]
 mod tests;

@@ -1,5 +1,5 @@
 //! Requests and responses.
-use two_wire::{Address, Below, Bytes, Lun, NetFn};
+use two_wire::{Address, Below, Data, Lun, NetFn};
 
 /// The number that a requester gives to a request, and that the response has too.
 pub type Sequence = Below<64>;
@@ -24,21 +24,21 @@ pub struct Header {
 }
 
 /// A request to carry a command out.
-#[derive(Clone, Debug, PartialEq, Eq, Drop)]
-pub struct Request {
+#[derive(Debug, Drop)]
+pub struct Request<'a> {
     pub header: Header,
     /// The command's data.
-    pub body: Bytes<25>,
+    pub body: Data<'a, 25>,
 }
 
 /// The response to a request, whose header it has.
-#[derive(Clone, Debug, PartialEq, Eq, Drop)]
-pub struct Response {
+#[derive(Debug, Drop)]
+pub struct Response<'a> {
     pub header: Header,
     /// The completion code. 00h stands for success.
     pub code: u8,
     /// The data behind the completion code.
-    pub body: Bytes<24>,
+    pub body: Data<'a, 24>,
 }
 
 /// A message of the bus. A frame starts with the address that it goes to (Intelligent Platform Management Bus
@@ -57,8 +57,8 @@ pub struct Response {
 /// Each logical unit (LUN) belongs to the address before it. A response's netFn is the request's, which is even, plus 1.
 /// Bytes 0 to 2 add up to 0 modulo 256, and so do those from byte 3 to the last. Bit 0 of an address is clear. A frame has
 /// at most 32 bytes.
-#[derive(Clone, Debug, PartialEq, Eq, Drop)]
-pub enum Msg {
-    Request(Request),
-    Response(Response),
+#[derive(Debug, Drop)]
+pub enum Msg<'a> {
+    Request(Request<'a>),
+    Response(Response<'a>),
 }

@@ -7,10 +7,10 @@ ghost use Rattle.ipmb_frame.specs.Grammar.{IsMessage, IsRequest, IsResponse};
 
 use crate::fault::{fault_of, is_of_response};
 use crate::{FrameFault, Header, Msg, Party, Request, Response, Sequence};
-use two_wire::{Address, Bytes, Lun, NetFn};
+use two_wire::{Address, Data, Lun, NetFn};
 
-/// The message that the bytes are.
-pub fn read_frame(bytes: &[u8]) -> Result<Msg, FrameFault>
+/// The message that the bytes are. Its data lie in them.
+pub fn read_frame(bytes: &[u8]) -> Result<Msg<'_>, FrameFault>
     // An error is the first fault that the bytes have, in the order of the faults.
     ensures fault { result_err result ≡ find (has_fault bytes.now) faults }
     // What is read is what the bytes are.
@@ -24,7 +24,7 @@ pub fn read_frame(bytes: &[u8]) -> Result<Msg, FrameFault>
     }
 }
 
-fn read_message(bytes: &[u8]) -> Msg
+fn read_message(bytes: &[u8]) -> Msg<'_>
     requires { IsFaultless bytes.now }
     ensures { IsMessage result bytes.now }
 {
@@ -35,7 +35,7 @@ fn read_message(bytes: &[u8]) -> Msg
     }
 }
 
-fn read_request(bytes: &[u8]) -> Request
+fn read_request(bytes: &[u8]) -> Request<'_>
     requires faultless { IsFaultless bytes.now }
     requires even { net_fn_of bytes.now % 2 ≡ 0 }
     ensures { IsRequest result bytes.now }
@@ -47,11 +47,11 @@ fn read_request(bytes: &[u8]) -> Request
         sequence: Sequence::new(bytes[4] >> 2),
         command: bytes[5],
     };
-    let body = Bytes::from_slice(&bytes[6..bytes.len() - 1]);
+    let body = Data::new(&bytes[6..bytes.len() - 1]);
     Request { header, body }
 }
 
-fn read_response(bytes: &[u8]) -> Response
+fn read_response(bytes: &[u8]) -> Response<'_>
     requires faultless { IsFaultless bytes.now }
     requires odd { net_fn_of bytes.now % 2 ≡ 1 }
     ensures { IsResponse result bytes.now }
@@ -64,7 +64,7 @@ fn read_response(bytes: &[u8]) -> Response
         command: bytes[5],
     };
     let content = &bytes[6..bytes.len() - 1];
-    let body = Bytes::from_slice(&content[1..]);
+    let body = Data::new(&content[1..]);
     Response {
         header,
         code: content[0],

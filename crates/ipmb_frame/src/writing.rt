@@ -1,7 +1,8 @@
 //! Messages to frames.
-ghost use Rattle.std.specs.Prelude.{◌≡◌, ◌+◌, ◌<◌, ◌≤◌, [], ◌∷◌, ◌++◌, length, drop};
+ghost use Rattle.std.specs.Prelude.{◌≡◌, ◌+◌, ◌<◌, ◌≤◌, List, ℕ, [], ◌∷◌, ◌++◌, length, drop};
 ghost use Rattle.two_wire.specs.Check.{check_byte};
-ghost use Rattle.ipmb_frame.specs.Grammar.{IsParty, IsRequest, IsResponse, packed, checked};
+ghost use Rattle.ipmb_frame.specs.declared.message.Header.{Header as TheHeader};
+ghost use Rattle.ipmb_frame.specs.Grammar.{IsParty, IsHeader, IsRequest, IsResponse, packed, checked, response_start};
 
 use crate::{Header, Party, Request, Response, Sequence};
 use two_wire::{Frame, sum8};
@@ -17,7 +18,8 @@ pub fn write_request(request: &Request) -> Frame
         sequence,
         command,
     } = request.header;
-    let mut frame = start(responder, net_fn.number(), requester, sequence);
+    let mut frame = Frame::new();
+    start(&mut frame, responder, net_fn.number(), requester, sequence);
     frame.push(command);
     frame.extend_from_slice(request.body.as_slice());
     finish(&mut frame);
@@ -28,13 +30,18 @@ pub fn write_request(request: &Request) -> Frame
 pub fn write_response(response: &Response) -> Frame
     ensures { IsResponse response.now result }
 {
-    write_answer(&response.header, response.code, response.body.as_slice())
+    let mut frame = Frame::new();
+    begin_response(&mut frame, &response.header, response.code);
+    frame.extend_from_slice(response.body.as_slice());
+    end_response(&mut frame);
+    frame
 }
 
-/// The frame of the response with this code and this data to the request of this header.
-pub fn write_answer(header: &Header, code: u8, body: &[u8]) -> Frame
-    requires { length body.now ≤ 24 }
-    ensures { IsResponse (record { header = header.now; code = code; body = body.now }) result }
+/// Makes the frame all of the response that stands before its data, whatever it was. The data are appended next, and
+/// `end_response` comes last.
+pub fn begin_response(frame: &mut Frame, header: &Header, code: u8)
+    ensures started { frame.new ≡ response_start header.now code }
+    ensures header { IsHeader header.now }
 {
     let Header {
         responder,
@@ -43,30 +50,38 @@ pub fn write_answer(header: &Header, code: u8, body: &[u8]) -> Frame
         sequence,
         command,
     } = *header;
-    let mut frame = start(requester, net_fn.number() + 1, responder, sequence);
+    start(frame, requester, net_fn.number() + 1, responder, sequence);
     frame.push(command);
     frame.push(code);
-    frame.extend_from_slice(body);
-    finish(&mut frame);
-    frame
 }
 
-/// The first five bytes of the frame that goes to one party and comes from the other.
-fn start(to: Party, function: u8, from: Party, sequence: Sequence) -> Frame
+/// Appends the second checksum to a response that was begun, and whose data are there.
+pub fn end_response(frame: &mut Frame)
+    requires started { 3 ≤ length frame.old }
+    requires room { length frame.old < 80 }
+    ensures response { (header : TheHeader) (code : ℕ) (body : List ℕ) → IsHeader header → length body ≤ 24
+        → frame.old ≡ response_start header code ++ body
+        → IsResponse (record { header = header; code = code; body = body }) frame.new }
+    ensures checksum { frame.new ≡ frame.old ++ check_byte (drop 3 frame.old) ∷ [] }
+{
+    finish(frame);
+}
+
+/// Makes the frame the first five bytes of the one that goes to one party and comes from the other.
+fn start(frame: &mut Frame, to: Party, function: u8, from: Party, sequence: Sequence)
     requires { function < 64 }
     ensures to { IsParty to }
     ensures from { IsParty from }
     ensures numbered { sequence < 64 }
-    ensures spelled { result ≡ checked (to.address ∷ packed function to.lun ∷ [])
+    ensures spelled { frame.new ≡ checked (to.address ∷ packed function to.lun ∷ [])
         ++ from.address ∷ packed sequence from.lun ∷ [] }
 {
-    let mut frame = Frame::new();
+    *frame = Frame::new();
     frame.push(to.address.byte());
     frame.push(function << 2 | to.lun.number());
     frame.push(sum8(frame.as_slice()));
     frame.push(from.address.byte());
     frame.push(sequence.number() << 2 | from.lun.number());
-    frame
 }
 
 /// Appends the second checksum.
