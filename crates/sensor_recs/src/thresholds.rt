@@ -54,6 +54,7 @@ fn body(op: &SetThresholds) -> RecordData
 }
 
 /// Whether it is a Get reply that shows each threshold of the mask.
+#[tactic(auto, using(cfg_records::specs::MaskLaws::within_true, cfg_records::specs::MaskLaws::true_within))]
 fn shows(mask: u8, reply: &[u8]) -> bool
     ensures { IsTrue result ↔ ((length reply.now ≡ 7) × IsShown mask reply.now) }
 {
