@@ -3,7 +3,7 @@ ghost use Rattle.std.specs.Prelude.{◌≡◌};
 
 use cfg_records::{Asked, Key, Live, Op, RecordData, RecordKind, Sensor, Value};
 use sensor_recs::{HysteresisLimits, ThresholdLimits};
-use two_wire::Code;
+use two_wire::{Buffer, Code};
 use watch_boot::{PowerPolicyLimits, WatchdogLimits};
 
 /// The limits of one record.
@@ -69,21 +69,21 @@ impl RecordKind for Limits {
 
     ghost undo = { l.undo };
 
-    fn apply(&self, op: &Op, value: &Value) -> Result<Value, Code> {
+    fn apply(&self, op: &Op, value: &[u8], new: &mut Value) -> Result<(), Code> {
         match self {
-            Limits::Thresholds(limits) => limits.apply(op, value),
-            Limits::Hysteresis(limits) => limits.apply(op, value),
-            Limits::PowerPolicy(limits) => limits.apply(op, value),
-            Limits::Watchdog(limits) => limits.apply(op, value),
+            Limits::Thresholds(limits) => limits.apply(op, value, new),
+            Limits::Hysteresis(limits) => limits.apply(op, value, new),
+            Limits::PowerPolicy(limits) => limits.apply(op, value, new),
+            Limits::Watchdog(limits) => limits.apply(op, value, new),
         }
     }
 
-    fn set_reply(op: &Op) -> RecordData {
+    fn set_reply<B: Buffer>(op: &Op, reply: &mut B) {
         match op {
-            Op::Thresholds(_) => ThresholdLimits::set_reply(op),
-            Op::Hysteresis(_) => HysteresisLimits::set_reply(op),
-            Op::PowerPolicy(_) => PowerPolicyLimits::set_reply(op),
-            Op::Watchdog(_) => WatchdogLimits::set_reply(op),
+            Op::Thresholds(_) => ThresholdLimits::set_reply(op, reply),
+            Op::Hysteresis(_) => HysteresisLimits::set_reply(op, reply),
+            Op::PowerPolicy(_) => PowerPolicyLimits::set_reply(op, reply),
+            Op::Watchdog(_) => WatchdogLimits::set_reply(op, reply),
         }
     }
 
@@ -96,12 +96,12 @@ impl RecordKind for Limits {
         }
     }
 
-    fn get_data(&self, value: &Value, live: &Live) -> RecordData {
+    fn get_data<B: Buffer>(&self, value: &[u8], live: &Live, reply: &mut B) {
         match self {
-            Limits::Thresholds(limits) => limits.get_data(value, live),
-            Limits::Hysteresis(limits) => limits.get_data(value, live),
-            Limits::PowerPolicy(limits) => limits.get_data(value, live),
-            Limits::Watchdog(limits) => limits.get_data(value, live),
+            Limits::Thresholds(limits) => limits.get_data(value, live, reply),
+            Limits::Hysteresis(limits) => limits.get_data(value, live, reply),
+            Limits::PowerPolicy(limits) => limits.get_data(value, live, reply),
+            Limits::Watchdog(limits) => limits.get_data(value, live, reply),
         }
     }
 
