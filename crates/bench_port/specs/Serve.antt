@@ -4,6 +4,7 @@ use Rattle.cfg_records.specs.declared.board_file.BoardFile.{BoardFile}
 use Rattle.bmc_core.specs.declared.out.Out.{Out}
 use Rattle.bmc_core.specs.declared.port.Port.{Port}
 use Rattle.bmc_core.specs.State.{State}
+use Rattle.bmc_core.specs.Outs.{sent}
 use Rattle.bmc_core.specs.Port.{Hears}
 use Rattle.bench_port.specs.declared.slot.Slot.{Slot}
 
@@ -20,4 +21,4 @@ first (frame ∷ _) = frame
 pub record Serves (setup : BoardFile) (port : Port) (before : State) (frame reply : List ℕ) (next : Port) (after : State) : Type 0 where
   pub out : Out
   pub heard : Hears setup port before frame out next after
-  pub said : reply ≡ first out.frames
+  pub said : reply ≡ first (sent out)

@@ -3,7 +3,7 @@ ghost use Rattle.bmc_core.specs.State.{state};
 ghost use Rattle.bench_port.specs.Serve.{frame_of, Serves};
 
 use crate::slot::Slot;
-use bmc_core::{At, Board, Port};
+use bmc_core::{At, Board, Out, Port};
 use cfg_records::{PlainStore, Store, StoreFault, sample_board};
 use mctp_net::EndpointId;
 use std::alloc::{AllocError, Global};
@@ -22,10 +22,17 @@ fn board(alloc: Global) -> Result<Board<PlainStore>, AllocError> {
 }
 
 /// Hands a frame to the port, and gives what it sends.
-fn serve_one<S: Store>(port: &mut Port, board: &mut Board<S>, frame: &Slot, reply: &mut Slot)
+fn serve_one<S: Store>(
+    port: &mut Port,
+    board: &mut Board<S>,
+    frame: &Slot,
+    out: &mut Out,
+    reply: &mut Slot,
+)
     ensures { Serves board.old.setup port.old (state (S.records board.old.store) board.old.live) (frame_of frame.now) (frame_of reply.new) port.new (state (S.records board.new.store) board.new.live) }
 {
-    match port.on_frame(board, frame.as_slice()).frames.as_slice() {
+    port.on_frame(board, frame.as_slice(), out);
+    match out.frames.as_slice() {
         [frame, ..] => reply.fill(frame.as_slice()),
         [] => reply.fill(&[]),
     }
@@ -35,10 +42,11 @@ fn serve_round<S: Store>(
     port: &mut Port,
     board: &mut Board<S>,
     frames: &[Slot],
+    out: &mut Out,
     replies: &mut [Slot],
 ) {
     for (frame, reply) in frames.iter().zip(replies.iter_mut()) {
-        serve_one(port, board, frame, reply);
+        serve_one(port, board, frame, out, reply);
     }
 }
 
@@ -54,8 +62,9 @@ fn serve(
         eid: EndpointId::new(0x0A).unwrap(),
     };
     let mut port = Port::new(alloc, Bus::Ipmb, at)?;
+    let mut out = Out::new();
     for _ in 0..rounds {
-        serve_round(&mut port, &mut board, frames, replies);
+        serve_round(&mut port, &mut board, frames, &mut out, replies);
     }
     Ok(())
 }

@@ -2,7 +2,6 @@
 use Rattle.std.proofs.Common.{◌≡◌, ◌≢◌, ℕ, ◌≤◌, List, [], length, Option, Some, None, Result, Ok, Err, Bool, true, false, if◌then◌else◌, ◌==◌, refl, subst, arith, lit≤}
 use Rattle.std.proofs.lemmas.Bool.Decides.{nat_tests}
 use Rattle.two_wire.specs.Codes.{success, node_busy, pldm_not_ready, invalid_command, invalid_for_lun, invalid_length, pldm_unsupported_command, pldm_invalid_type, not_present, uninitialized_watchdog, pldm_invalid_length}
-use Rattle.cfg_records.specs.Keys.{key_of}
 use Rattle.cfg_records.specs.Meaning.{IsRefusal, room_for}
 use Rattle.cfg_records.specs.declared.key.Key.{Key}
 use Rattle.cfg_records.specs.declared.key.Key.TheVariants as key
@@ -15,7 +14,7 @@ use Rattle.cfg_records.specs.declared.board_file.BoardFile.{BoardFile}
 use Rattle.record_kinds.specs.declared.limits.Limits.{Limits}
 use Rattle.record_kinds.specs.declared.limits.Limits.TheVariants as kinds
 use Rattle.watch_boot.specs.Watchdog.{was_set, live_after_reset}
-use Rattle.record_kinds.specs.Limits.{is_of, outcome, view, get_request, set_request}
+use Rattle.record_kinds.specs.Limits.{is_of, outcome, get_request, set_request}
 use Rattle.record_kinds.specs.LimitsLaws as laws
 use Rattle.std.specs.Option.{option_map}
 use Rattle.record_kinds.specs.Boards.{sensor_at, thresholds_of, hysteresis_of, limits_at}

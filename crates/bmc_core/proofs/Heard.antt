@@ -8,9 +8,10 @@ use Rattle.ipmb_frame.specs.Fault.{has_fault, faults}
 use Rattle.ipmb_frame.specs.Grammar.{IsMessage}
 use Rattle.cfg_records.specs.declared.board_file.BoardFile.{BoardFile}
 use Rattle.bmc_core.specs.declared.out.Reason.TheVariants.{Frame}
+use Rattle.bmc_core.specs.declared.out.Out.{Out}
 use Rattle.bmc_core.specs.declared.port.At.{At}
 use Rattle.bmc_core.specs.State.{State}
-use Rattle.bmc_core.specs.Outs.{ignored, answered}
+use Rattle.bmc_core.specs.Outs.{ignored}
 use Rattle.bmc_core.specs.IpmbPort.{IsTo, IsAnswered, HearsFrame}
 
 -- the request that was read is the only message that the bytes are
@@ -18,17 +19,17 @@ same_request : (bytes : List ℕ) (read request : Request) → ((m : Msg) → Is
 same_request bytes read request whole is = let one : (let r : Result Msg FrameFault = Ok (msg.Request read) in r) ≡ Ok (msg.Request request) = whole (msg.Request request) is in cc
 
 -- the response to the request that was read is sent
-pub hears_request : (at : At) (setup : BoardFile) (before : State) (bytes : List ℕ) (read : Request) (after : State) (frame : List ℕ)
+pub hears_request : (at : At) (setup : BoardFile) (before : State) (bytes : List ℕ) (read : Request) (after : State) (out : Out)
     → (let n : Option FrameFault = None in n) ≡ find (has_fault bytes) faults
     → ((m : Msg) → IsMessage m bytes → (let r : Result Msg FrameFault = Ok (msg.Request read) in r) ≡ Ok m)
     → IsTo at bytes
-    → IsAnswered setup before read (answered frame) after
-    → HearsFrame at setup before bytes (answered frame) after
-hears_request at setup before bytes read after frame faultless whole ours answer = record {
+    → IsAnswered setup before read out after
+    → HearsFrame at setup before bytes out after
+hears_request at setup before bytes read after out faultless whole ours answer = record {
   faulty = λ fault is. cc;
   not_ours = λ m is away. absurd (away ours);
   no_request = λ r is _. let other : (let r : Result Msg FrameFault = Ok (msg.Request read) in r) ≡ Ok (msg.Response r) = whole (msg.Response r) is in cc;
-  request = λ r is _. subst (λ (q : Request). IsAnswered setup before q (answered frame) after) (same_request bytes read r whole is) answer;
+  request = λ r is _. subst (λ (q : Request). IsAnswered setup before q out after) (same_request bytes read r whole is) answer;
 }
 
 -- bytes with a fault are ignored

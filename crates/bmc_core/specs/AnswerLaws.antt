@@ -1,9 +1,9 @@
 -- The function of answers meets the command relation, and the relation has no other answer.
-use Rattle.std.specs.Prelude.{◌≡◌, ℕ, List, Option, Some, None, Result, Ok, Err, ◌⊎◌}
+use Rattle.std.specs.Prelude.{◌≡◌, ℕ, List, Option, Some, None, Result, Ok, Err}
 use Rattle.std.proofs.lemmas.Bool.Decides.{nat_tests}
 use Rattle.two_wire.specs.Codes.{uninitialized_watchdog}
 use Rattle.watch_boot.specs.Watchdog.{was_set, live_after_reset}
-use Rattle.std.proofs.Common.{[], ◌≤◌, nat_le, Bool, true, false, if◌then◌else◌, arith, refl, ap, sym, ◌∙◌, subst, inl, inr}
+use Rattle.std.proofs.Common.{[], ◌≤◌, nat_le, Bool, true, false, if◌then◌else◌, arith, refl, ap, ◌∙◌, inl, inr}
 use Rattle.cfg_records.specs.Keys.{key_of}
 use Rattle.cfg_records.specs.Records.{with_record}
 use Rattle.cfg_records.specs.Meaning.{Decides}
@@ -19,7 +19,7 @@ use Rattle.bmc_core.specs.declared.request.Request.{Request}
 use Rattle.bmc_core.specs.declared.request.Request.TheVariants.{GetDeviceId, ResetWatchdog, Get, Set, GetTid, GetPldmTypes}
 use Rattle.bmc_core.specs.Request.{asked_by}
 use Rattle.bmc_core.specs.State.{State, state}
-use Rattle.bmc_core.specs.Row.{done, refused, Gets, Resets, IsCarriedOut, IsRefused, Sets, Serves, Replies, Row}
+use Rattle.bmc_core.specs.Row.{done, refused, Gets, Resets, Sets, Serves, Replies, Row}
 use Rattle.bmc_core.specs.Answer.{get_answer, reset_answer, set_result, set_answer, serve, reply, answer_of}
 
 -- an answer, with the state after it

@@ -3,6 +3,8 @@ pub mod Request
 pub mod State
 pub mod Row
 pub mod Answer
+pub mod Room
+pub mod Gives
 pub mod AnswerLaws
 pub mod Decode
 pub mod Undo

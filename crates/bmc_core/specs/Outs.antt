@@ -1,17 +1,26 @@
 -- What a port sends and did.
 use Rattle.std.specs.Prelude.{ℕ, List, [], ◌∷◌}
+use Rattle.bmc_core.specs.declared.out.Frames.{Frames}
 use Rattle.bmc_core.specs.declared.out.Out.{Out}
 use Rattle.bmc_core.specs.declared.out.Reason.{Reason}
 use Rattle.bmc_core.specs.declared.out.Done.TheVariants as done
 
+-- these frames
+abbrev pub frames_of : List (List ℕ) → Frames
+frames_of list = record { list = record { items = list } }
+
+-- what is sent
+abbrev pub sent : Out → List (List ℕ)
+sent out = out.frames.list.items
+
 -- nothing is sent, for this reason
 abbrev pub ignored : Reason → Out
-ignored reason = record { frames = []; done = done.Ignored reason }
+ignored reason = record { frames = frames_of []; done = done.Ignored reason }
 
 -- nothing is sent yet
 abbrev pub waiting : Out
-waiting = record { frames = []; done = done.Waiting }
+waiting = record { frames = frames_of []; done = done.Waiting }
 
 -- the response is sent
 abbrev pub answered : List ℕ → Out
-answered frame = record { frames = frame ∷ []; done = done.Answered }
+answered frame = record { frames = frames_of (frame ∷ []); done = done.Answered }

@@ -24,7 +24,7 @@ use Rattle.bmc_core.specs.declared.out.Done.TheVariants as done
 use Rattle.bmc_core.specs.declared.port.Port.{Port}
 use Rattle.bmc_core.specs.State.{State}
 use Rattle.bmc_core.specs.Answer.{answer_of}
-use Rattle.bmc_core.specs.Outs.{ignored, waiting}
+use Rattle.bmc_core.specs.Outs.{ignored, waiting, sent}
 
 -- nothing is sent for this reason, and neither the port nor the board changes
 pub record Ignores (why : Reason) (port : Port) (before : State) (out : Out) (next : Port) (after : State) : Type 0 where
@@ -59,7 +59,7 @@ AreFramesOf m frames = (ps : List Packet) × IsCutOf m ps × AreWritten ps frame
 -- the endpoint's reply is sent, from the identifier that it has then
 pub record AnswersControl (port : Port) (before : State) (m : Message) (r : ControlRequest) (out : Out) (next : Port) (after : State) : Type 0 where
   pub named : next ≡ record port { endpoint = eid_after port.endpoint r.command r.content }
-  pub sent : AreFramesOf (reply_message next m (control_reply_to port.endpoint r)) out.frames
+  pub sent : AreFramesOf (reply_message next m (control_reply_to port.endpoint r)) (sent out)
   pub did : out.done ≡ done.Control
   pub left : after ≡ before
 
@@ -81,7 +81,7 @@ pldm_reply r reply = record { header = r.header; code = reply.code; body = reply
 pub record AnswersPldm (setup : BoardFile) (port : Port) (before : State) (m : Message) (r : PldmRequest) (out : Out) (next : Port) (after : State) : Type 0 where
   pub body : List ℕ
   pub spelled : SpellsReply 0 (pldm_reply r (answer_of setup before (pldm_asked m r)).0) body
-  pub sent : AreFramesOf (reply_message port m (1 ∷ body)) out.frames
+  pub sent : AreFramesOf (reply_message port m (1 ∷ body)) (sent out)
   pub did : out.done ≡ done.Answered
   pub stays : next ≡ port
   pub left : after ≡ (answer_of setup before (pldm_asked m r)).1

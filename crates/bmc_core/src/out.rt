@@ -1,12 +1,11 @@
 //! What a port sends, and what it did.
-ghost use Rattle.std.specs.Prelude.{◌≡◌, [], ◌∷◌};
+ghost use Rattle.std.specs.Prelude.{◌≡◌, [], length};
 
 use arrayvec::ArrayVec;
 use ipmb_frame::FrameFault;
 use mctp_net::{DropCause, PacketFault};
 use pldm_base::PldmFault;
 use std::fmt;
-use std::marker::Model;
 use two_wire::Frame;
 
 /// Why a port ignored what it heard.
@@ -64,53 +63,46 @@ pub enum Done {
 /// At most four frames, in the order in which they are to be sent.
 #[derive(Debug, Drop)]
 pub struct Frames {
-    frames: ArrayVec<Frame, 4>,
-}
-
-impl Model for Frames {
-    ghost use Rattle.std.specs.Prelude.{List, ℕ};
-
-    ghost Value = { List (List ℕ) };
-
-    ghost view = { λ f. f.frames.items };
+    pub(crate) list: ArrayVec<Frame, 4>,
 }
 
 impl From<ArrayVec<Frame, 4>> for Frames {
-    ghost from_gives = { λ list frames. frames ≡ list.items };
+    ghost from_gives = { λ list frames. frames.list ≡ list };
 
-    fn from(frames: ArrayVec<Frame, 4>) -> Frames {
-        Frames { frames }
+    fn from(list: ArrayVec<Frame, 4>) -> Frames {
+        Frames { list }
     }
 }
 
 impl Frames {
     /// No frames.
     pub fn none() -> Frames
-        ensures { result ≡ [] }
+        ensures { result.list.items ≡ [] }
     {
         Frames {
-            frames: ArrayVec::new(),
+            list: ArrayVec::new(),
         }
     }
 
-    /// One frame.
-    pub fn one(frame: Frame) -> Frames
-        ensures { result ≡ frame ∷ [] }
+    /// Makes it one frame, of any bytes.
+    pub(crate) fn keep_one(&mut self)
+        ensures { length self.new.list.items ≡ 1 }
     {
-        let mut frames = ArrayVec::new();
-        frames.push(frame);
-        Frames { frames }
+        self.list.truncate(1);
+        if self.list.is_empty() {
+            self.list.push(Frame::new());
+        }
     }
 
     /// The frames.
     pub fn as_slice(&self) -> &[Frame]
-        ensures { result.now ≡ self.now }
+        ensures { result.now ≡ self.now.list.items }
     {
-        self.frames.as_slice()
+        self.list.as_slice()
     }
 }
 
-/// What a port sends, and what it did.
+/// What a port sends, and what it did. A port fills it in, and leaves nothing of what it was, so one serves for many calls.
 #[derive(Debug, Drop)]
 pub struct Out {
     pub frames: Frames,
@@ -118,20 +110,10 @@ pub struct Out {
 }
 
 impl Out {
-    ghost use Rattle.bmc_core.specs.Outs.{ignored, waiting, answered};
+    ghost use Rattle.bmc_core.specs.Outs.{ignored, waiting};
 
-    /// Nothing is sent, for this reason.
-    pub fn ignored(reason: Reason) -> Out
-        ensures { result ≡ ignored reason }
-    {
-        Out {
-            frames: Frames::none(),
-            done: Done::Ignored(reason),
-        }
-    }
-
-    /// Nothing is sent yet.
-    pub fn waiting() -> Out
+    /// Nothing was sent yet.
+    pub fn new() -> Out
         ensures { result ≡ waiting }
     {
         Out {
@@ -140,13 +122,19 @@ impl Out {
         }
     }
 
-    /// The response is sent.
-    pub fn answered(frame: Frame) -> Out
-        ensures { result ≡ answered frame }
+    /// Nothing is sent, for this reason.
+    pub(crate) fn ignore(&mut self, reason: Reason)
+        ensures { self.new ≡ ignored reason }
     {
-        Out {
-            frames: Frames::one(frame),
-            done: Done::Answered,
-        }
+        self.frames.list.clear();
+        self.done = Done::Ignored(reason);
+    }
+
+    /// Nothing is sent yet.
+    pub(crate) fn wait(&mut self)
+        ensures { self.new ≡ waiting }
+    {
+        self.frames.list.clear();
+        self.done = Done::Waiting;
     }
 }

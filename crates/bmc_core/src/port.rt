@@ -47,14 +47,14 @@ impl Port {
         })
     }
 
-    /// Takes what is heard on the bus, and gives what is to be sent. It takes no memory.
-    pub fn on_frame<S: Store>(&mut self, board: &mut Board<S>, bytes: &[u8]) -> Out
-        ensures heard { Hears board.old.setup self.old (state (S.records board.old.store) board.old.live) bytes.now result self.new (state (S.records board.new.store) board.new.live) }
+    /// Takes what is heard on the bus, and fills in what is to be sent. It takes no memory.
+    pub fn on_frame<S: Store>(&mut self, board: &mut Board<S>, bytes: &[u8], out: &mut Out)
+        ensures heard { Hears board.old.setup self.old (state (S.records board.old.store) board.old.live) bytes.now out.new self.new (state (S.records board.new.store) board.new.live) }
         ensures setup { board.new.setup ≡ board.old.setup }
     {
         match self.bus {
-            Bus::Ipmb => self.on_ipmb(board, bytes),
-            Bus::Smbus => self.on_smbus(board, bytes),
+            Bus::Ipmb => self.on_ipmb(board, bytes, out),
+            Bus::Smbus => self.on_smbus(board, bytes, out),
         }
     }
 }

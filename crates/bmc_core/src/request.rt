@@ -1,10 +1,10 @@
 //! What a request asks for.
-ghost use Rattle.std.specs.Prelude.{◌≡◌, ◌<◌};
+ghost use Rattle.std.specs.Prelude.{◌≡◌, ℕ};
 ghost use Rattle.bmc_core.specs.Request.{byte_at, thresholds_in, watchdog_in, request_of, asked_by, asked_at};
 
 use crate::command::{Command, Line, find_line, find_pldm_line, is_pldm_type};
 use cfg_records::{Asked, Key, Op, SetHysteresis, SetPowerPolicy, SetThresholds, SetWatchdog};
-use two_wire::{Code, code};
+use two_wire::{Below, Code, Lun, NetFn, code};
 
 /// A well-formed request.
 #[derive(Clone, Copy, Debug, PartialEq, Eq)]
@@ -115,8 +115,30 @@ fn request_at(refusals: Refusals, line: Option<Line>, body: &[u8]) -> Result<Req
     Ok(request_in(line.command, body))
 }
 
-/// What is asked for, or the first code that refuses it. Over IPMI the logical unit comes first, over PLDM the type, then the
-/// command, then the length.
+/// What an IPMI request asks for, or the first code that refuses it: the logical unit comes first, then the command, then the
+/// length of its data. Who asks makes no difference.
+pub fn read_ipmi(lun: Lun, net_fn: NetFn, command: u8, body: &[u8]) -> Result<Request, Code>
+    ensures { (from : ℕ) → result ≡ asked_by (Asked.Ipmi from net_fn lun command body.now) }
+{
+    if lun.number() != 0 {
+        return Err(code::INVALID_FOR_LUN);
+    }
+    request_at(IPMI, find_line(net_fn.number(), command), body)
+}
+
+/// What a PLDM request asks for, or the first code that refuses it: the type comes first, then the command, then the length of
+/// its data. Who asks makes no difference.
+pub fn read_pldm(kind: Below<64>, command: u8, body: &[u8]) -> Result<Request, Code>
+    ensures { (from : ℕ) → result ≡ asked_by (Asked.Pldm from kind command body.now) }
+{
+    let kind = kind.number();
+    if !is_pldm_type(kind) {
+        return Err(code::PLDM_INVALID_TYPE);
+    }
+    request_at(PLDM, find_pldm_line(kind, command), body)
+}
+
+/// What is asked for, or the first code that refuses it.
 pub fn read_request(asked: &Asked) -> Result<Request, Code>
     ensures { result ≡ asked_by asked.now }
 {
@@ -127,24 +149,12 @@ pub fn read_request(asked: &Asked) -> Result<Request, Code>
             command,
             body,
             ..
-        } => {
-            if lun.number() != 0 {
-                return Err(code::INVALID_FOR_LUN);
-            }
-            let line = find_line(net_fn.number(), *command);
-            request_at(IPMI, line, body.as_slice())
-        }
+        } => read_ipmi(*lun, *net_fn, *command, body.as_slice()),
         Asked::Pldm {
             kind,
             command,
             body,
             ..
-        } => {
-            let kind = kind.number();
-            if !is_pldm_type(kind) {
-                return Err(code::PLDM_INVALID_TYPE);
-            }
-            request_at(PLDM, find_pldm_line(kind, *command), body.as_slice())
-        }
+        } => read_pldm(*kind, *command, body.as_slice()),
     }
 }

@@ -10,6 +10,7 @@ use Rattle.bmc_core.specs.declared.out.Out.{Out}
 use Rattle.bmc_core.specs.declared.port.At.{At}
 use Rattle.bmc_core.specs.declared.port.Port.{Port}
 use Rattle.bmc_core.specs.State.{State, state}
+use Rattle.bmc_core.specs.Outs.{sent}
 use Rattle.bmc_core.specs.Port.{Hears}
 use Rattle.bmc_lab.specs.declared.report.Report.{Report}
 use Rattle.bmc_lab.specs.Report.{text_of, status_of}
@@ -33,6 +34,6 @@ as_opened port bus setup file records live bytes out next after fresh same begin
 
 -- a report of what the port did tells it
 pub told : {E : Type 0} (r : Result Report E) (bus : Bus) (bytes : List ℕ) (file : BoardFile) (out : Out) (next : Port) (after : State) → IsSample file → Hears file (fresh_port bus) (opening file) bytes out next after
-    → IfOk r (λ report. string_bytes report.text ≡ text_of out) → IfOk r (λ report. report.status ≡ status_of out.frames) → IfOk r (λ report. Tells bus bytes (string_bytes report.text) report.status)
+    → IfOk r (λ report. string_bytes report.text ≡ text_of out) → IfOk r (λ report. report.status ≡ status_of (sent out)) → IfOk r (λ report. Tells bus bytes (string_bytes report.text) report.status)
 told (Ok report) bus bytes file out next after is_sample is_heard is_said is_ended = record { file = file; sample = is_sample; out = out; next = next; after = after; heard = is_heard; said = is_said; ended = is_ended }
 told (Err e) bus bytes file out next after is_sample is_heard is_said is_ended = tt

@@ -6,6 +6,7 @@ use Rattle.bmc_core.specs.declared.out.Out.{Out}
 use Rattle.bmc_core.specs.declared.out.Done.{Done}
 use Rattle.bmc_core.specs.declared.out.Done.TheVariants.{Ignored, Waiting, Answered, Control}
 use Rattle.bmc_core.specs.Names.{reason_name}
+use Rattle.bmc_core.specs.Outs.{sent}
 use Rattle.bmc_lab.specs.declared.status.Status.{Status}
 use Rattle.bmc_lab.specs.declared.status.Status.TheVariants.{Sent, NotSent, RefusedWords, Memory, Output}
 
@@ -30,7 +31,7 @@ done_line Control = []
 
 -- a line for each frame, and why nothing was sent
 abbrev pub text_of : Out → List ℕ
-text_of out = flat_map frame_line out.frames ++ done_line out.done
+text_of out = flat_map frame_line (sent out) ++ done_line out.done
 
 -- whether something was sent
 abbrev pub status_of : List (List ℕ) → Status

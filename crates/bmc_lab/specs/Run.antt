@@ -10,6 +10,7 @@ use Rattle.bmc_core.specs.declared.out.Out.{Out}
 use Rattle.bmc_core.specs.declared.port.At.{At}
 use Rattle.bmc_core.specs.declared.port.Port.{Port}
 use Rattle.bmc_core.specs.State.{State, state}
+use Rattle.bmc_core.specs.Outs.{sent}
 use Rattle.bmc_core.specs.Port.{Hears}
 use Rattle.bmc_lab.specs.declared.status.Status.{Status}
 use Rattle.bmc_lab.specs.Report.{text_of, status_of}
@@ -43,4 +44,4 @@ pub record Tells (bus : Bus) (bytes text : List ℕ) (status : Status) : Type 0 
   pub after : State
   pub heard : Hears file (fresh_port bus) (opening file) bytes out next after
   pub said : text ≡ text_of out
-  pub ended : status ≡ status_of out.frames
+  pub ended : status ≡ status_of (sent out)

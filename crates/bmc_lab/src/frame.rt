@@ -7,7 +7,7 @@ ghost use Rattle.bmc_lab.specs.Run.{controller, Tells};
 
 use crate::report::Report;
 use crate::status::Status;
-use bmc_core::{At, Board, Port};
+use bmc_core::{At, Board, Out, Port};
 use cfg_records::{PlainStore, StoreFault, sample_board};
 use mctp_net::EndpointId;
 use std::alloc::{AllocError, Global};
@@ -43,7 +43,9 @@ fn frame_report(alloc: Global, bus: Bus, bytes: &[u8]) -> Result<Report, AllocEr
     };
     let mut board = Board::open(alloc, file, store)?;
     let mut port = Port::new(alloc, bus, controller_place())?;
-    Report::new(alloc, &port.on_frame(&mut board, bytes))
+    let mut out = Out::new();
+    port.on_frame(&mut board, bytes, &mut out);
+    Report::new(alloc, &out)
 }
 
 /// Writes the text, and gives the status, or that of a write that failed.

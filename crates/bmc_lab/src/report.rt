@@ -1,5 +1,6 @@
 //! What a run says.
 ghost use Rattle.std.specs.Prelude.{◌≡◌, ◌++◌, IfOk, OnOk, string_bytes};
+ghost use Rattle.bmc_core.specs.Outs.{sent};
 ghost use Rattle.bmc_lab.specs.Report.{status_of, frame_line, text_of};
 
 use crate::status::Status;
@@ -25,7 +26,7 @@ fn push_line(alloc: Global, text: &mut String, frame: &Frame) -> Result<(), Allo
 
 /// Whether a port sent something.
 fn status(out: &Out) -> Status
-    ensures { result ≡ status_of out.now.frames }
+    ensures { result ≡ status_of (sent out.now) }
 {
     match out.frames.as_slice() {
         [] => Status::NotSent,
@@ -38,7 +39,7 @@ impl Report {
     /// the rest of a message.
     pub fn new(alloc: Global, out: &Out) -> Result<Report, AllocError>
         ensures text { IfOk result (λ report. string_bytes report.text ≡ text_of out.now) }
-        ensures status { IfOk result (λ report. report.status ≡ status_of out.now.frames) }
+        ensures status { IfOk result (λ report. report.status ≡ status_of (sent out.now)) }
     {
         let mut text = String::new(alloc);
         for frame in out.frames.as_slice() {

@@ -81,7 +81,10 @@ fn bytes_of(rt: &impl Abort, alloc: Global, digits: &str) -> Vec<u8> {
 /// What the port of the lab does with the bytes.
 fn hear(rt: &impl Abort, alloc: Global, lab: &mut Lab, digits: &str) -> Out {
     let bytes = bytes_of(rt, alloc, digits);
-    lab.port.on_frame(&mut lab.board, bytes.as_slice())
+    let mut out = Out::new();
+    lab.port
+        .on_frame(&mut lab.board, bytes.as_slice(), &mut out);
+    out
 }
 
 /// The port has the request carried out, and sends this frame and no other.
@@ -122,8 +125,9 @@ fn expect_nothing(rt: &impl Abort, alloc: Global, lab: &mut Lab, digits: &str, d
 /// The record of a sensor's thresholds.
 fn expect_thresholds(rt: &impl Abort, lab: &Lab, sensor: u8, thresholds: &[u8]) {
     let value = lab.board.store().get(&Key::Thresholds(sensor));
-    assert!(rt;
-        value.expect(rt, "a sensor").is(thresholds),
+    assert_eq!(rt;
+        value.expect(rt, "a sensor"),
+        thresholds,
         "of sensor {sensor}"
     );
 }

@@ -1,57 +1,73 @@
 //! A port on IPMB.
 ghost use Rattle.std.specs.Prelude.{◌≡◌};
+ghost use Rattle.bmc_core.specs.Request.{asked_by};
 ghost use Rattle.bmc_core.specs.State.{state};
 ghost use Rattle.bmc_core.specs.IpmbPort.{HearsFrame, IsAnswered, asked_in};
 ghost use Rattle.bmc_core.specs.Outs.{answered};
 
 use crate::board::Board;
-use crate::out::{Out, Reason};
+use crate::out::{Done, Out, Reason};
 use crate::port::Port;
-use cfg_records::{Answered, Asked, Store};
-use ipmb_frame::{Msg, Request, read_frame, write_answer};
-use two_wire::Frame;
+use crate::request::{self, read_ipmi};
+use cfg_records::Store;
+use ipmb_frame::{Msg, Request, begin_response, end_response, read_frame};
+use two_wire::{Code, Frame};
 
 /// What a request asks of the board.
-fn asked_in(request: &Request) -> Asked
-    ensures { result ≡ asked_in request.now }
+fn asked_in(request: &Request) -> Result<request::Request, Code>
+    ensures { result ≡ asked_by (asked_in request.now) }
 {
-    let header = request.header;
-    Asked::Ipmi {
-        from: header.requester.address.byte(),
-        net_fn: header.net_fn,
-        lun: header.responder.lun,
-        command: header.command,
-        body: request.body.copy(),
-    }
+    let header = &request.header;
+    read_ipmi(
+        header.responder.lun,
+        header.net_fn,
+        header.command,
+        request.body.as_slice(),
+    )
 }
 
-/// Has the request carried out, and gives the response's frame.
-fn respond<S: Store>(board: &mut Board<S>, request: &Request) -> Frame
-    ensures answer { IsAnswered board.old.setup (state (S.records board.old.store) board.old.live) request.now (answered result) (state (S.records board.new.store) board.new.live) }
+/// Has the request carried out, and makes the frame its response.
+fn respond<S: Store>(board: &mut Board<S>, request: &Request, frame: &mut Frame)
+    ensures answer { IsAnswered board.old.setup (state (S.records board.old.store) board.old.live) request.now (answered frame.new) (state (S.records board.new.store) board.new.live) }
     ensures setup { board.new.setup ≡ board.old.setup }
 {
-    let mut answered = Answered::done(&[]);
-    board.serve(&asked_in(request), &mut answered);
-    write_answer(&request.header, answered.code, answered.body.as_slice())
+    let header = &request.header;
+    begin_response(frame, header, 0);
+    if let Err(code) = board.reply(asked_in(request), frame) {
+        begin_response(frame, header, code.value());
+    }
+    end_response(frame);
+}
+
+/// Has the request carried out, and sends the response.
+fn answer<S: Store>(board: &mut Board<S>, request: &Request, out: &mut Out)
+    ensures answer { IsAnswered board.old.setup (state (S.records board.old.store) board.old.live) request.now out.new (state (S.records board.new.store) board.new.live) }
+    ensures setup { board.new.setup ≡ board.old.setup }
+{
+    out.done = Done::Answered;
+    out.frames.keep_one();
+    match out.frames.list.as_mut_slice() {
+        [frame] => respond(board, request, frame),
+        _ => unreachable!(),
+    }
 }
 
 impl Port {
     /// Takes what is heard on the bus, and gives what is to be sent.
-    pub(super) fn on_ipmb<S: Store>(&self, board: &mut Board<S>, bytes: &[u8]) -> Out
-        ensures heard { HearsFrame self.now.at board.old.setup (state (S.records board.old.store) board.old.live) bytes.now result (state (S.records board.new.store) board.new.live) }
+    pub(super) fn on_ipmb<S: Store>(&self, board: &mut Board<S>, bytes: &[u8], out: &mut Out)
+        ensures heard { HearsFrame self.now.at board.old.setup (state (S.records board.old.store) board.old.live) bytes.now out.new (state (S.records board.new.store) board.new.live) }
         ensures setup { board.new.setup ≡ board.old.setup }
     {
-        let read = read_frame(bytes);
-        let message = match &read {
+        let message = match read_frame(bytes) {
             Ok(message) => message,
-            Err(fault) => return Out::ignored(Reason::Frame(*fault)),
+            Err(fault) => return out.ignore(Reason::Frame(fault)),
         };
         if bytes[0] != self.at.wire.byte() {
-            return Out::ignored(Reason::NotOurs);
+            return out.ignore(Reason::NotOurs);
         }
         match message {
-            Msg::Response(_) => Out::ignored(Reason::NotRequest),
-            Msg::Request(request) => Out::answered(respond(board, request)),
+            Msg::Response(_) => out.ignore(Reason::NotRequest),
+            Msg::Request(request) => answer(board, &request, out),
         }
     }
 }

@@ -54,79 +54,83 @@ fn pldm_body(bytes: &PldmBytes) -> SomeBytes<256>
 
 impl Port {
     /// Takes what is heard on the bus, and gives what is to be sent.
-    pub(super) fn on_smbus<S: Store>(&mut self, board: &mut Board<S>, bytes: &[u8]) -> Out
-        ensures heard { HearsPacket board.old.setup self.old (state (S.records board.old.store) board.old.live) bytes.now result self.new (state (S.records board.new.store) board.new.live) }
+    pub(super) fn on_smbus<S: Store>(&mut self, board: &mut Board<S>, bytes: &[u8], out: &mut Out)
+        ensures heard { HearsPacket board.old.setup self.old (state (S.records board.old.store) board.old.live) bytes.now out.new self.new (state (S.records board.new.store) board.new.live) }
         ensures setup { board.new.setup ≡ board.old.setup }
     {
         let packet = match read_packet(bytes) {
             Ok(packet) => packet,
-            Err(fault) => return Out::ignored(Reason::Packet(fault)),
+            Err(fault) => return out.ignore(Reason::Packet(fault)),
         };
         let envelope = packet.envelope;
         if envelope.destination.byte() != self.at.wire.byte() {
-            return Out::ignored(Reason::NotOurs);
+            return out.ignore(Reason::NotOurs);
         }
-        self.on_packet(board, &packet)
+        self.on_packet(board, &packet, out)
     }
 
-    fn on_packet<S: Store>(&mut self, board: &mut Board<S>, packet: &Packet) -> Out
-        ensures heard { HearsOurs board.old.setup self.old (state (S.records board.old.store) board.old.live) packet.now result self.new (state (S.records board.new.store) board.new.live) }
+    fn on_packet<S: Store>(&mut self, board: &mut Board<S>, packet: &Packet, out: &mut Out)
+        ensures heard { HearsOurs board.old.setup self.old (state (S.records board.old.store) board.old.live) packet.now out.new self.new (state (S.records board.new.store) board.new.live) }
         ensures setup { board.new.setup ≡ board.old.setup }
     {
         let own = self.endpoint.eid().byte();
         match self.assembler.take(own, packet) {
-            Taken::Waiting => Out::waiting(),
-            Taken::Dropped(cause) => Out::ignored(Reason::Dropped(cause)),
-            Taken::Whole(message) => self.on_message(board, &message),
+            Taken::Waiting => out.wait(),
+            Taken::Dropped(cause) => out.ignore(Reason::Dropped(cause)),
+            Taken::Whole(message) => self.on_message(board, &message, out),
         }
     }
 
-    fn on_message<S: Store>(&mut self, board: &mut Board<S>, message: &Message) -> Out
-        ensures heard { HearsMessage board.old.setup self.old (state (S.records board.old.store) board.old.live) message.now result self.new (state (S.records board.new.store) board.new.live) }
+    fn on_message<S: Store>(&mut self, board: &mut Board<S>, message: &Message, out: &mut Out)
+        ensures heard { HearsMessage board.old.setup self.old (state (S.records board.old.store) board.old.live) message.now out.new self.new (state (S.records board.new.store) board.new.live) }
         ensures setup { board.new.setup ≡ board.old.setup }
     {
         if !message.envelope.tag_owner {
-            return Out::ignored(Reason::NotRequest);
+            return out.ignore(Reason::NotRequest);
         }
         match message.body.as_slice() {
-            [CONTROL, ..] => self.on_control(message),
-            [PLDM, bytes @ ..] => self.on_pldm(board, message, bytes),
-            _ => Out::ignored(Reason::MessageType),
+            [CONTROL, ..] => self.on_control(message, out),
+            [PLDM, bytes @ ..] => self.on_pldm(board, message, bytes, out),
+            _ => out.ignore(Reason::MessageType),
         }
     }
 
-    fn on_control(&mut self, message: &Message) -> Out
-        ensures { (before : AnyState) → HearsControl (request_of message.now.body) self.old before message.now result self.new before }
+    fn on_control(&mut self, message: &Message, out: &mut Out)
+        ensures { (before : AnyState) → HearsControl (request_of message.now.body) self.old before message.now out.new self.new before }
     {
         match self.endpoint.control(message.body.as_slice()) {
-            Some(reply) => Out {
-                frames: self.reply(message, SomeBytes::from_slice(reply.as_slice())),
-                done: Done::Control,
-            },
-            None => Out::ignored(Reason::NotRequest),
+            Some(reply) => {
+                out.frames = self.reply(message, SomeBytes::from_slice(reply.as_slice()));
+                out.done = Done::Control;
+            }
+            None => out.ignore(Reason::NotRequest),
         }
     }
 
-    fn on_pldm<S: Store>(&self, board: &mut Board<S>, message: &Message, bytes: &[u8]) -> Out
+    fn on_pldm<S: Store>(
+        &self,
+        board: &mut Board<S>,
+        message: &Message,
+        bytes: &[u8],
+        out: &mut Out,
+    )
         requires { length bytes.now ≤ 255 }
-        ensures heard { HearsPldm board.old.setup self.now (state (S.records board.old.store) board.old.live) message.now bytes.now result self.now (state (S.records board.new.store) board.new.live) }
+        ensures heard { HearsPldm board.old.setup self.now (state (S.records board.old.store) board.old.live) message.now bytes.now out.new self.now (state (S.records board.new.store) board.new.live) }
         ensures setup { board.new.setup ≡ board.old.setup }
     {
         let request = match read_pldm(&PldmBytes::from_slice(bytes)) {
             Ok(request) => request,
-            Err(fault) => return Out::ignored(Reason::Pldm(fault)),
+            Err(fault) => return out.ignore(Reason::Pldm(fault)),
         };
         let answered = board.answer(&asked_in(message, &request));
         let reply = write_pldm_reply(&reply_to(&request, &answered));
-        Out {
-            frames: self.reply(message, pldm_body(&reply)),
-            done: Done::Answered,
-        }
+        out.frames = self.reply(message, pldm_body(&reply));
+        out.done = Done::Answered;
     }
 
     /// The frames of the reply to a message, which has this body.
     fn reply(&self, message: &Message, body: SomeBytes<256>) -> Frames
-        ensures { AreFramesOf (reply_message self.now message.now body) result }
+        ensures { AreFramesOf (reply_message self.now message.now body) result.list.items }
     {
         let Envelope {
             source,

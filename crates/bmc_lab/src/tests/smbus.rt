@@ -2,7 +2,7 @@
 use super::{
     Lab, expect_frame, expect_ignored, expect_nothing, expect_reply, expect_run, open_lab,
 };
-use bmc_core::{Done, Reason};
+use bmc_core::{Done, Out, Reason};
 use mctp_net::{DropCause, PacketFault};
 use pldm_base::PldmFault;
 use std::process::Abort;
@@ -173,7 +173,8 @@ fn hear_unit(rt: &impl Abort, lab: &mut Lab, source: u8, flags: u8) -> Done {
     frame[..8].copy_from_slice(&[0x20, 0x0F, 0x45, 0x31, 0x01, 0x0A, source, flags]);
     frame[8] = 0x01;
     frame[72] = pec(&frame[..72]);
-    let out = lab.port.on_frame(&mut lab.board, &frame);
+    let mut out = Out::new();
+    lab.port.on_frame(&mut lab.board, &frame, &mut out);
     assert!(rt; out.frames.as_slice().is_empty());
     out.done
 }

@@ -1,10 +1,18 @@
-use Rattle.std.proofs.Common.{◌≡◌, Some, sym, ◌∙◌}
+use Rattle.std.proofs.Common.{◌≡◌, Some, sym, ◌∙◌, ap, subst}
+use Rattle.std.specs.Option.{option_copied}
+use Rattle.record_kinds.specs.Limits.{sets}
 use Rattle.record_kinds.specs.Boards.{limits_at}
 use Rattle.record_kinds.specs.Sound.{sound_put}
 use Rattle.bmc_core.proofs.board.Board.set.Goals as goal
 
-pub invariant_of-self : goal.invariant_of-self
-invariant_of-self g c =
-    let had : g.S.Store.records c.args.self.now.store c.key-key.result ≡ Some c.in-Some-Some.value = sym c.get.ensures ∙ c.in-Some-Some.is-1 in
-    let at : limits_at c.args.self.now.setup c.key-key.result ≡ Some c.in-Some-Some.limits = sym c.limits.ensures ∙ c.in-Some-Some.is-0 in
-    record { sound = sound_put c.put.result c.args.self.now.setup (g.S.Store.records c.args.self.now.store) (g.S.Store.records c.put.new.self) c.key-key.result c.in-Some-Some.limits c.args.op.now c.in-Some-Some.value c.in-Ok.new c.args.self.now.sound at had c.in-Ok.ensures.decides c.put.ensures.ok c.put.ensures.err }
+pub invariant_of-self-in-Some-Some : goal.invariant_of-self-in-Some-Some
+invariant_of-self-in-Some-Some g c =
+    let file = c.args.self.now.setup in
+    let key = c.key-key.result in
+    let limits = c.in-Some-Some.limits in
+    let old = c.in-Some-Some.value.now in
+    let new = c.as_slice.result.now in
+    let had : g.S.Store.records c.args.self.now.store key ≡ Some old = sym c.get.ensures ∙ ap option_copied c.in-Some-Some.is-1 in
+    let at : limits_at file key ≡ Some limits = sym c.limits.ensures ∙ c.in-Some-Some.is-0 in
+    let done : sets limits c.args.op.now old new = subst (sets limits c.args.op.now old) (sym c.as_slice.ensures.value) c.in_ok-apply-in-Some-Some.ensures.decides in
+    record { sound = sound_put c.put.result file (g.S.Store.records c.args.self.now.store) (g.S.Store.records c.put.new.self) key limits c.args.op.now old new c.args.self.now.sound at had done c.put.ensures.ok c.put.ensures.err }

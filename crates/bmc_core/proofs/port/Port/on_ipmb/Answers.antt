@@ -14,16 +14,15 @@ pub returns-in-Request-clause-heard : goal.returns-in-Request-clause-heard
 returns-in-Request-clause-heard g c =
     let setup = c.args.board.now.setup in
     let before : State = state (g.S.Store.records c.args.board.now.store) c.args.board.now.live in
-    let after : State = state (g.S.Store.records c.respond.new.board.store) c.respond.new.board.live in
+    let after : State = state (g.S.Store.records c.answer.new.board.store) c.answer.new.board.live in
     let bytes = c.args.bytes.now in
     let read = c.in-Request.request in
-    let whole : (m : Msg) → IsMessage m bytes → (let r : Result Msg FrameFault = Ok (msg.Request read) in r) ≡ Ok m = λ m h. ap Ok (sym c.in-Request.is) ∙ sym c.in-Ok.is ∙ c.read_frame-read.ensures.whole m h in
-    subst (λ (o : Out). HearsFrame c.args.self.now.at setup before bytes o after) (sym c.answered.ensures)
-    (hears_request c.args.self.now.at setup before bytes read after c.respond.result (ap result_err (sym c.in-Ok.is) ∙ c.read_frame-read.ensures.fault) whole (c.if-bytes-byte.false ∙ c.byte.ensures.value) c.respond.ensures.answer)
+    let whole : (m : Msg) → IsMessage m bytes → (let r : Result Msg FrameFault = Ok (msg.Request read) in r) ≡ Ok m = λ m h. ap Ok (sym c.in-Request.is) ∙ sym c.in-Ok.is ∙ c.read_frame.ensures.whole m h in
+    hears_request c.args.self.now.at setup before bytes read after c.answer.new.out (ap result_err (sym c.in-Ok.is) ∙ c.read_frame.ensures.fault) whole (c.if-bytes-byte.false ∙ c.byte.ensures.value) c.answer.ensures.answer
 
 pub returns-in-Err-clause-heard : goal.returns-in-Err-clause-heard
 returns-in-Err-clause-heard g c =
     let before : State = state (g.S.Store.records c.args.board.now.store) c.args.board.now.live in
-    let whole : (m : Msg) → IsMessage m c.args.bytes.now → (let r : Result Msg FrameFault = Err c.in-Err.fault in r) ≡ Ok m = λ m h. sym c.in-Err.is ∙ c.read_frame-read.ensures.whole m h in
-    subst (λ (o : Out). HearsFrame c.args.self.now.at c.args.board.now.setup before c.args.bytes.now o before) (sym c.ignored.ensures)
-    (hears_fault c.args.self.now.at c.args.board.now.setup before c.args.bytes.now c.in-Err.fault (ap result_err (sym c.in-Err.is) ∙ c.read_frame-read.ensures.fault) whole)
+    let whole : (m : Msg) → IsMessage m c.args.bytes.now → (let r : Result Msg FrameFault = Err c.in-Err.fault in r) ≡ Ok m = λ m h. sym c.in-Err.is ∙ c.read_frame.ensures.whole m h in
+    subst (λ (o : Out). HearsFrame c.args.self.now.at c.args.board.now.setup before c.args.bytes.now o before) (sym c.ignore.ensures)
+    (hears_fault c.args.self.now.at c.args.board.now.setup before c.args.bytes.now c.in-Err.fault (ap result_err (sym c.in-Err.is) ∙ c.read_frame.ensures.fault) whole)

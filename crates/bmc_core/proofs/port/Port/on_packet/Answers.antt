@@ -8,24 +8,24 @@ returns-in-Waiting-clause-heard g c =
     let port = c.args.self.now in
     let p = c.args.packet.now in
     let own : c.byte-own.result ≡ port.endpoint = c.byte-own.ensures.value ∙ c.eid.ensures in
-    hears_waiting c.args.board.now.setup port (state (g.S.Store.records c.args.board.now.store) c.args.board.now.live) p c.waiting.result _ _
+    hears_waiting c.args.board.now.setup port (state (g.S.Store.records c.args.board.now.store) c.args.board.now.live) p c.wait.new.self _ _
     (takes port c.byte-own.result p _ own c.in-Waiting.ensures.dropped c.in-Waiting.ensures.whole c.in-Waiting.ensures.waiting)
-    c.waiting.ensures (is_with_packet port c.byte-own.result p c.take.new.self own c.in-Waiting.ensures.after) refl
+    c.wait.ensures (is_with_packet port c.byte-own.result p c.take.new.self own c.in-Waiting.ensures.after) refl
 
 pub returns-in-Dropped-clause-heard : goal.returns-in-Dropped-clause-heard
 returns-in-Dropped-clause-heard g c =
     let port = c.args.self.now in
     let p = c.args.packet.now in
     let own : c.byte-own.result ≡ port.endpoint = c.byte-own.ensures.value ∙ c.eid.ensures in
-    hears_dropped c.args.board.now.setup port (state (g.S.Store.records c.args.board.now.store) c.args.board.now.live) p c.in-Dropped.cause c.ignored.result _ _
+    hears_dropped c.args.board.now.setup port (state (g.S.Store.records c.args.board.now.store) c.args.board.now.live) p c.in-Dropped.cause c.ignore.new.self _ _
     (takes port c.byte-own.result p _ own c.in-Dropped.ensures.dropped c.in-Dropped.ensures.whole c.in-Dropped.ensures.waiting)
-    c.ignored.ensures (is_with_packet port c.byte-own.result p c.take.new.self own c.in-Dropped.ensures.after) refl
+    c.ignore.ensures (is_with_packet port c.byte-own.result p c.take.new.self own c.in-Dropped.ensures.after) refl
 
 pub returns-in-Whole-clause-heard : goal.returns-in-Whole-clause-heard
 returns-in-Whole-clause-heard g c =
     let port = c.args.self.now in
     let p = c.args.packet.now in
     let own : c.byte-own.result ≡ port.endpoint = c.byte-own.ensures.value ∙ c.eid.ensures in
-    hears_whole c.args.board.now.setup port (state (g.S.Store.records c.args.board.now.store) c.args.board.now.live) p c.in-Whole.message _ c.on_message.result _ _
+    hears_whole c.args.board.now.setup port (state (g.S.Store.records c.args.board.now.store) c.args.board.now.live) p c.in-Whole.message _ c.on_message.new.out _ _
     (takes port c.byte-own.result p _ own c.in-Whole.ensures.dropped c.in-Whole.ensures.whole c.in-Whole.ensures.waiting)
     (is_with_packet port c.byte-own.result p c.take.new.self own c.in-Whole.ensures.after) c.on_message.ensures.heard
