@@ -1,6 +1,7 @@
 //! Requests to a controller with the sample board.
-ghost use Rattle.bmc_core.specs.State.{state};
-ghost use Rattle.bench_port.specs.Serve.{frame_of, Serves};
+ghost use Rattle.std.specs.Prelude.{◌≡◌};
+ghost use Rattle.bmc_core.specs.Outs.{sent};
+ghost use Rattle.bench_port.specs.Serve.{frame_of, first};
 
 use crate::slot::Slot;
 use bmc_core::{At, Board, Out, Port};
@@ -21,32 +22,20 @@ fn board(alloc: Global) -> Result<Board<PlainStore>, AllocError> {
     Board::open(alloc, file, store)
 }
 
-/// Hands a frame to the port, and gives what it sends.
-fn serve_one<S: Store>(
-    port: &mut Port,
-    board: &mut Board<S>,
-    frame: &Slot,
-    out: &mut Out,
-    reply: &mut Slot,
-)
-    ensures { Serves board.old.setup port.old (state (S.records board.old.store) board.old.live) (frame_of frame.now) (frame_of reply.new) port.new (state (S.records board.new.store) board.new.live) }
-{
-    port.on_frame(board, frame.as_slice(), out);
-    match out.frames.as_slice() {
-        [frame, ..] => reply.fill(frame.as_slice()),
-        [] => reply.fill(&[]),
+/// Hands each frame to the port, which fills in the place that stands beside it.
+fn serve_round<S: Store>(port: &mut Port, board: &mut Board<S>, frames: &[Slot], outs: &mut [Out]) {
+    for (frame, out) in frames.iter().zip(outs.iter_mut()) {
+        port.on_frame(board, frame.as_slice(), out);
     }
 }
 
-fn serve_round<S: Store>(
-    port: &mut Port,
-    board: &mut Board<S>,
-    frames: &[Slot],
-    out: &mut Out,
-    replies: &mut [Slot],
-) {
-    for (frame, reply) in frames.iter().zip(replies.iter_mut()) {
-        serve_one(port, board, frame, out, reply);
+/// Leaves the first frame that was sent.
+fn leave(out: &Out, reply: &mut Slot)
+    ensures { frame_of reply.new ≡ first (sent out.now) }
+{
+    match out.frames.as_slice() {
+        [frame, ..] => reply.fill(frame.as_slice()),
+        [] => reply.fill(&[]),
     }
 }
 
@@ -62,9 +51,15 @@ fn serve(
         eid: EndpointId::new(0x0A).unwrap(),
     };
     let mut port = Port::new(alloc, Bus::Ipmb, at)?;
-    let mut out = Out::new();
+    let mut outs = Vec::with_capacity(alloc, frames.len())?;
+    for _ in frames {
+        outs.push(Out::new())?;
+    }
     for _ in 0..rounds {
-        serve_round(&mut port, &mut board, frames, &mut out, replies);
+        serve_round(&mut port, &mut board, frames, outs.as_mut_slice());
+    }
+    for (out, reply) in outs.iter().zip(replies.iter_mut()) {
+        leave(out, reply);
     }
     Ok(())
 }

@@ -84,10 +84,12 @@ impl<const CAP: usize> Bytes<CAP> {
         requires { length bytes.now ≤ CAP }
         ensures { self.new ≡ bytes.now }
     {
-        let kept = bytes.len().min(self.len());
-        self.items.truncate(kept);
-        self.items.as_mut_slice().copy_from_slice(&bytes[..kept]);
-        self.extend_from_slice(&bytes[kept..]);
+        if self.len() == bytes.len() {
+            self.items.as_mut_slice().copy_from_slice(bytes);
+        } else {
+            self.items.clear();
+            self.extend_from_slice(bytes);
+        }
     }
 
     /// The same bytes once more.
