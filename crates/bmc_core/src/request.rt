@@ -59,6 +59,7 @@ fn set_watchdog(body: &[u8]) -> SetWatchdog
 }
 
 /// What the command asks for with this data, of a length that the command takes.
+#[inline(always)]
 fn request_in(command: Command, body: &[u8]) -> Request
     ensures { result ≡ request_of command body.now }
 {
@@ -103,6 +104,7 @@ const PLDM: Refusals = Refusals {
 };
 
 /// What the line's command asks for with this data, or what refuses it.
+#[inline(always)]
 fn request_at(refusals: Refusals, line: Option<Line>, body: &[u8]) -> Result<Request, Code>
     ensures { result ≡ asked_at refusals line body.now }
 {
