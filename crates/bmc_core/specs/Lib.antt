@@ -2,6 +2,7 @@ pub mod Table
 pub mod Request
 pub mod State
 pub mod Row
+pub mod PldmTypes
 pub mod Answer
 pub mod Room
 pub mod Gives

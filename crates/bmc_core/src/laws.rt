@@ -4,6 +4,7 @@ ghost use Rattle.mctp_net.specs.declared.message.Message.{Message};
 ghost use Rattle.bmc_core.specs.AnswerLaws.{HasAnswer, HasOneAnswer};
 ghost use Rattle.bmc_core.specs.Decode.{IsWhole, GetsAreRead, SetsAreRead, UndosAreWhole};
 ghost use Rattle.bmc_core.specs.Undo.{IsUndone, IsSteady, IsShownAsBefore};
+ghost use Rattle.bmc_core.specs.PldmTypes.{TypesAreNamed};
 ghost use Rattle.bmc_core.specs.Quiet.{KeepsRecords};
 ghost use Rattle.bmc_core.specs.SmbusPort.{AreFramesOf};
 
@@ -53,6 +54,11 @@ pub fn conf_law()
 /// A request whose command sets no configuration leaves every record as it is, be it carried out or refused.
 pub fn quiet_law()
     ensures { KeepsRecords }
+{}
+
+/// GetPLDMTypes names exactly the types whose requests aren't refused for their type.
+pub fn pldm_types_law()
+    ensures { TypesAreNamed }
 {}
 
 /// A message has one list of frames.

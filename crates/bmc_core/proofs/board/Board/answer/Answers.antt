@@ -13,9 +13,9 @@ returns-clause-row g c =
     let before : State = state (g.S.Store.records c.args.self.now.store) c.args.self.now.live in
     let given : Result Request ℕ → Given = λ r. reply setup before r in
     let gives : Gives c.reply-done.result [] c.reply-done.new.to (given c.read_request.result).0 =
-        subst (λ (old : List ℕ). Gives c.reply-done.result old c.reply-done.new.to (given c.read_request.result).0) c.new-body.ensures c.reply-done.ensures.answer in
+    subst (λ (old : List ℕ). Gives c.reply-done.result old c.reply-done.new.to (given c.read_request.result).0) c.new-body.ensures c.reply-done.ensures.answer in
     let said : c.answered.result ≡ (given c.read_request.result).0 = c.answered.ensures _ gives in
     let pair : (let p : Given = (c.answered.result, state (g.S.Store.records c.reply-done.new.self.store) c.reply-done.new.self.live) in p) ≡ given c.read_request.result =
-        λ i. (said i, c.reply-done.ensures.left i) in
+    λ i. (said i, c.reply-done.ensures.left i) in
     let same : (let p : Given = (c.answered.result, state (g.S.Store.records c.reply-done.new.self.store) c.reply-done.new.self.live) in p) ≡ answer_of setup before c.args.asked.now = pair ∙ ap given c.read_request.ensures in
     subst (λ (p : Given). Row setup before c.args.asked.now p.0 p.1) (sym same) (has_answer setup before c.args.asked.now)
