@@ -30,6 +30,7 @@ use Rattle.bmc_core.specs.Request.{request_of, asked_at, asked_by, ipmi_refusals
 use Rattle.bmc_core.specs.State.{State, state}
 use Rattle.bmc_core.specs.Row.{done, refused}
 use Rattle.bmc_core.specs.AnswerLaws.{Given}
+use Rattle.bmc_core.specs.Room.{longest_reply}
 use Rattle.bmc_core.specs.Answer.{get_answer, reset_answer, set_result, set_answer, serve, reply, answer_of}
 
 -- ---- a refusal changes nothing
@@ -149,16 +150,7 @@ answer_code setup before asked = reply_code setup before asked (asked_by asked) 
 
 -- ---- the data fits the frame or message that carries it
 
--- the reply to what is asked for has room in so many bytes
-abbrev HasRoom : Request → ℕ → Type 0
-HasRoom GetDeviceId room = 11 ≤ room
-HasRoom ResetWatchdog room = 0 ≤ room
-HasRoom GetTid room = 1 ≤ room
-HasRoom GetPldmTypes room = 8 ≤ room
-HasRoom (Get key) room = room_for (get_request key) ≤ room
-HasRoom (Set op) room = room_for (set_request op) ≤ room
-
-command_room : (c : Command) (body : List ℕ) → HasRoom (request_of c body) 24
+command_room : (c : Command) (body : List ℕ) → longest_reply (request_of c body) ≤ 24
 command_room command.GetDeviceId body = lit≤ tt
 command_room command.SetSensorHysteresis body = lit≤ tt
 command_room command.GetSensorHysteresis body = lit≤ tt
@@ -172,30 +164,21 @@ command_room command.GetWatchdogTimer body = lit≤ tt
 command_room command.GetTid body = lit≤ tt
 command_room command.GetPldmTypes body = lit≤ tt
 
-length_room : (b : Bool) (c : Command) (body : List ℕ) (code : ℕ) (request : Request) → (if b then Ok (request_of c body) else Err code) ≡ Ok request → HasRoom request 24
-length_room true c body code request e = let is : request_of c body ≡ request = cc in subst (λ (r : Request). HasRoom r 24) is (command_room c body)
+length_room : (b : Bool) (c : Command) (body : List ℕ) (code : ℕ) (request : Request) → (if b then Ok (request_of c body) else Err code) ≡ Ok request → longest_reply request ≤ 24
+length_room true c body code request e = let is : request_of c body ≡ request = cc in subst (λ (r : Request). longest_reply r ≤ 24) is (command_room c body)
 length_room false c body code request e = cc
 
-asked_at_room : (refusals : Refusals) (line : Option Line) (body : List ℕ) (request : Request) → asked_at refusals line body ≡ Ok request → HasRoom request 24
+asked_at_room : (refusals : Refusals) (line : Option Line) (body : List ℕ) (request : Request) → asked_at refusals line body ≡ Ok request → longest_reply request ≤ 24
 asked_at_room refusals None body request e = cc
 asked_at_room refusals (Some line) body request e = length_room (is_allowed line.lengths (length body)) line.command body refusals.not_allowed request e
 
-first_room : (b : Bool) (refusals : Refusals) (line : Option Line) (body : List ℕ) (code : ℕ) (request : Request) → (if b then asked_at refusals line body else Err code) ≡ Ok request → HasRoom request 24
+first_room : (b : Bool) (refusals : Refusals) (line : Option Line) (body : List ℕ) (code : ℕ) (request : Request) → (if b then asked_at refusals line body else Err code) ≡ Ok request → longest_reply request ≤ 24
 first_room true refusals line body code request e = asked_at_room refusals line body request e
 first_room false refusals line body code request e = cc
 
--- what has room in 24 bytes has room in 251
-more_room : (request : Request) → HasRoom request 24 → HasRoom request 251
-more_room GetDeviceId has = omega arith
-more_room ResetWatchdog has = omega arith
-more_room GetTid has = omega arith
-more_room GetPldmTypes has = omega arith
-more_room (Get key) has = omega arith
-more_room (Set op) has = omega arith
-
-decode_room : (asked : Asked) (request : Request) → asked_by asked ≡ Ok request → HasRoom request (room_for asked)
+decode_room : (asked : Asked) (request : Request) → asked_by asked ≡ Ok request → longest_reply request ≤ room_for asked
 decode_room (Ipmi from net_fn lun number body) request e = first_room (lun == 0) ipmi_refusals (line_of net_fn number) body invalid_for_lun request e
-decode_room (Pldm from kind number body) request e = more_room request (first_room (is_pldm_type kind) pldm_refusals (pldm_line_of kind number) body pldm_invalid_type request e)
+decode_room (Pldm from kind number body) request e = omega (arith, first_room (is_pldm_type kind) pldm_refusals (pldm_line_of kind number) body pldm_invalid_type request e)
 
 -- limits are those of a record with the key
 of_sensor : (sensor : Option Sensor) (to : Sensor → Limits) (limits : Limits) (key : Key) → option_map to sensor ≡ Some limits → ((s : Sensor) → is_of (to s) key) → is_of limits key
@@ -236,7 +219,7 @@ reset_fits : (value : Option (List ℕ)) (before : State) (room : ℕ) → lengt
 reset_fits (Some value) before room = reset_where_fits value before room (was_set value)
 reset_fits None before room = omega arith
 
-serve_fits : (setup : BoardFile) (before : State) (request : Request) (room : ℕ) → IsSound setup before.records → HasRoom request room → length (serve setup before request).0.body ≤ room
+serve_fits : (setup : BoardFile) (before : State) (request : Request) (room : ℕ) → IsSound setup before.records → longest_reply request ≤ room → length (serve setup before request).0.body ≤ room
 serve_fits setup before GetDeviceId room sound has = has
 serve_fits setup before ResetWatchdog room sound has = reset_fits (before.records key.Watchdog) before room
 serve_fits setup before GetTid room sound has = has

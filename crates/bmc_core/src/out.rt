@@ -54,7 +54,7 @@ pub enum Done {
     Ignored(Reason),
     /// It took a packet, and others of its message are to come.
     Waiting,
-    /// It had the request carried out.
+    /// The board answered the request.
     Answered,
     /// Its endpoint answered a control message.
     Control,

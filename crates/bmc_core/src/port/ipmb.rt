@@ -53,7 +53,7 @@ fn answer<S: Store>(board: &mut Board<S>, request: &Request, out: &mut Out)
 }
 
 impl Port {
-    /// Takes what is heard on the bus, and gives what is to be sent.
+    /// Takes what is heard on the bus, and fills in what is to be sent.
     pub(super) fn on_ipmb<S: Store>(&self, board: &mut Board<S>, bytes: &[u8], out: &mut Out)
         ensures heard { HearsFrame self.now.at board.old.setup (state (S.records board.old.store) board.old.live) bytes.now out.new (state (S.records board.new.store) board.new.live) }
         ensures setup { board.new.setup ≡ board.old.setup }

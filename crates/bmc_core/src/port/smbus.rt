@@ -53,7 +53,7 @@ fn pldm_body(bytes: &PldmBytes) -> SomeBytes<256>
 }
 
 impl Port {
-    /// Takes what is heard on the bus, and gives what is to be sent.
+    /// Takes what is heard on the bus, and fills in what is to be sent.
     pub(super) fn on_smbus<S: Store>(&mut self, board: &mut Board<S>, bytes: &[u8], out: &mut Out)
         ensures heard { HearsPacket board.old.setup self.old (state (S.records board.old.store) board.old.live) bytes.now out.new self.new (state (S.records board.new.store) board.new.live) }
         ensures setup { board.new.setup ≡ board.old.setup }
