@@ -5,7 +5,7 @@ ghost use Rattle.bench_port.specs.Serve.{frame_of, first};
 
 use crate::slot::Slot;
 use bmc_core::{At, Board, Out, Port};
-use cfg_records::{PlainStore, Store, StoreFault, sample_board};
+use cfg_records::{PlainStore, Store, sample_board};
 use mctp_net::EndpointId;
 use std::alloc::{AllocError, Global};
 use two_wire::{Address, Bus};
@@ -13,12 +13,7 @@ use two_wire::{Address, Bus};
 /// A board with the sample board's records.
 fn board(alloc: Global) -> Result<Board<PlainStore>, AllocError> {
     let file = sample_board(alloc)?;
-    let pairs = file.records(alloc)?;
-    let store = match PlainStore::new(alloc, pairs.as_slice()) {
-        Ok(store) => store,
-        Err(StoreFault::Memory) => return Err(AllocError),
-        Err(StoreFault::TwiceTheSameKey | StoreFault::BadValue) => unreachable!(),
-    };
+    let store = PlainStore::of_file(alloc, &file)?;
     Board::open(alloc, file, store)
 }
 

@@ -14,11 +14,8 @@ use two_wire::code;
 /// A fresh sample board.
 fn board(alloc: Global) -> Result<Board<PlainStore>, Fail> {
     let file = sample_board(alloc)?;
-    let pairs = file.records(alloc)?;
-    match PlainStore::new(alloc, pairs.as_slice()) {
-        Ok(store) => Ok(Board::open(alloc, file, store)?),
-        Err(_) => Err("no store".into()),
-    }
+    let store = PlainStore::of_file(alloc, &file)?;
+    Ok(Board::open(alloc, file, store)?)
 }
 
 /// What a Get replies of the record that the operation changes.

@@ -8,7 +8,7 @@ ghost use Rattle.bmc_lab.specs.Run.{controller, Tells};
 use crate::report::Report;
 use crate::status::Status;
 use bmc_core::{At, Board, Out, Port};
-use cfg_records::{PlainStore, StoreFault, sample_board};
+use cfg_records::{PlainStore, sample_board};
 use mctp_net::EndpointId;
 use std::alloc::{AllocError, Global};
 use std::io;
@@ -35,12 +35,7 @@ fn frame_report(alloc: Global, bus: Bus, bytes: &[u8]) -> Result<Report, AllocEr
     ensures { IfOk result (λ report. Tells bus bytes.now (string_bytes report.text) report.status) }
 {
     let file = sample_board(alloc)?;
-    let pairs = file.records(alloc)?;
-    let store = match PlainStore::new(alloc, pairs.as_slice()) {
-        Ok(store) => store,
-        Err(StoreFault::Memory) => return Err(AllocError),
-        Err(StoreFault::TwiceTheSameKey | StoreFault::BadValue) => unreachable!(),
-    };
+    let store = PlainStore::of_file(alloc, &file)?;
     let mut board = Board::open(alloc, file, store)?;
     let mut port = Port::new(alloc, bus, controller_place())?;
     let mut out = Out::new();

@@ -3,7 +3,7 @@ mod smbus;
 
 use crate::frame_run;
 use bmc_core::{At, Board, Done, Out, Port, Reason, changing};
-use cfg_records::{Answered, Asked, Key, PlainStore, Store, StoreFault, sample_board};
+use cfg_records::{Answered, Asked, Key, PlainStore, Store, sample_board};
 use ipmb_frame::FrameFault;
 use mctp_net::EndpointId;
 use std::alloc::{AllocError, Global};
@@ -52,12 +52,7 @@ struct Lab {
 
 fn open_lab(alloc: Global, bus: Bus) -> Result<Lab, AllocError> {
     let file = sample_board(alloc)?;
-    let pairs = file.records(alloc)?;
-    let store = match PlainStore::new(alloc, pairs.as_slice()) {
-        Ok(store) => store,
-        Err(StoreFault::Memory) => return Err(AllocError),
-        Err(StoreFault::TwiceTheSameKey | StoreFault::BadValue) => unreachable!(),
-    };
+    let store = PlainStore::of_file(alloc, &file)?;
     let at = At {
         wire: Address::new(0x20).unwrap(),
         eid: EndpointId::new(0x0A).unwrap(),

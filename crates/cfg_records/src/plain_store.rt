@@ -1,12 +1,14 @@
 //! Records in a map.
 ghost use Rattle.std.specs.Prelude.{◌≡◌, ◌↔◌, IfOk, OnOk, Err, IsTrue, All, length};
+ghost use Rattle.cfg_records.specs.Boards.{pairs_of};
 ghost use Rattle.cfg_records.specs.Keys.{key_cmp};
 ghost use Rattle.cfg_records.specs.Records.{records_of, KeysDiffer, LengthsFit};
 
+use crate::board_file::BoardFile;
 use crate::key::Key;
 use crate::store::{NoKey, Store};
 use crate::value::Value;
-use std::alloc::Global;
+use std::alloc::{AllocError, Global};
 use std::collections::BTreeMap;
 
 /// Why no store is made: the first that holds.
@@ -50,6 +52,18 @@ impl PlainStore {
             return Err(StoreFault::BadValue);
         }
         Ok(PlainStore { records })
+    }
+
+    /// A store of the records that a board begins with.
+    pub fn of_file(alloc: Global, file: &BoardFile) -> Result<Self, AllocError>
+        ensures { IfOk result (λ s. ⟦<PlainStore as Store>⟧.records s ≡ records_of (pairs_of file.now)) }
+    {
+        let pairs = file.records(alloc)?;
+        match PlainStore::new(alloc, pairs.as_slice()) {
+            Ok(store) => Ok(store),
+            Err(StoreFault::Memory) => Err(AllocError),
+            Err(StoreFault::TwiceTheSameKey | StoreFault::BadValue) => unreachable!(),
+        }
     }
 }
 

@@ -25,10 +25,7 @@ fn the_sample_board_begins_with_its_records(rt: HostRuntime) -> Result<(), Fail>
 
 #[test]
 fn a_store_has_what_was_put(rt: HostRuntime) -> Result<(), Fail> {
-    let pairs = sample_board(rt.alloc())?.records(rt.alloc())?;
-    let Ok(mut store) = PlainStore::new(rt.alloc(), pairs.as_slice()) else {
-        return Err("no store".into());
-    };
+    let mut store = PlainStore::of_file(rt.alloc(), &sample_board(rt.alloc())?)?;
     let key = Key::Hysteresis(7);
     assert_eq!(rt; store.put(&key, &[3, 1]), Ok(()));
     assert_eq!(rt; store.get(&key).ok_or("hysteresis")?, [3, 1].as_slice());
