@@ -73,13 +73,33 @@ fn bytes_of(rt: &impl Abort, alloc: Global, digits: &str) -> Vec<u8> {
     hex::decode(alloc, text.as_str()).expect(rt, "hexadecimal digits")
 }
 
+/// What the port of the lab does with the bytes, in place of what it did before.
+fn hear_in(rt: &impl Abort, alloc: Global, lab: &mut Lab, digits: &str, out: &mut Out) {
+    let bytes = bytes_of(rt, alloc, digits);
+    lab.port.on_frame(&mut lab.board, bytes.as_slice(), out);
+}
+
 /// What the port of the lab does with the bytes.
 fn hear(rt: &impl Abort, alloc: Global, lab: &mut Lab, digits: &str) -> Out {
-    let bytes = bytes_of(rt, alloc, digits);
     let mut out = Out::new();
-    lab.port
-        .on_frame(&mut lab.board, bytes.as_slice(), &mut out);
+    hear_in(rt, alloc, lab, digits, &mut out);
     out
+}
+
+/// This was done, and this frame is sent and no other.
+fn expect_sent(rt: &impl Abort, alloc: Global, out: &Out, done: Done, reply: &str) {
+    assert_eq!(rt; out.done, done, "with {reply}");
+    let [frame] = out.frames.as_slice() else {
+        panic!(rt; "{reply} is sent alone");
+    };
+    let wanted = bytes_of(rt, alloc, reply);
+    assert_eq!(rt; frame.as_slice(), wanted.as_slice());
+}
+
+/// This was done with these bytes, and nothing is sent.
+fn expect_not_sent(rt: &impl Abort, out: &Out, digits: &str, done: Done) {
+    assert_eq!(rt; out.done, done, "{digits}");
+    assert!(rt; out.frames.as_slice().is_empty(), "{digits} has no reply");
 }
 
 /// The port has the request carried out, and sends this frame and no other.
@@ -97,12 +117,7 @@ fn expect_frame(
     reply: &str,
 ) {
     let out = hear(rt, alloc, lab, digits);
-    assert_eq!(rt; out.done, done, "{digits}");
-    let [frame] = out.frames.as_slice() else {
-        panic!(rt; "{digits} has one reply");
-    };
-    let wanted = bytes_of(rt, alloc, reply);
-    assert_eq!(rt; frame.as_slice(), wanted.as_slice(), "to {digits}");
+    expect_sent(rt, alloc, &out, done, reply);
 }
 
 /// The port ignores the bytes for this reason.
@@ -113,8 +128,7 @@ fn expect_ignored(rt: &impl Abort, alloc: Global, lab: &mut Lab, digits: &str, r
 /// The port does this, and sends nothing.
 fn expect_nothing(rt: &impl Abort, alloc: Global, lab: &mut Lab, digits: &str, done: Done) {
     let out = hear(rt, alloc, lab, digits);
-    assert!(rt; out.frames.as_slice().is_empty(), "{digits} has no reply");
-    assert_eq!(rt; out.done, done, "{digits}");
+    expect_not_sent(rt, &out, digits, done);
 }
 
 /// The record of a sensor's thresholds.

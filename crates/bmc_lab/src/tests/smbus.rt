@@ -1,8 +1,10 @@
 //! Worked packets on the sample board.
 use super::{
-    Lab, expect_frame, expect_ignored, expect_nothing, expect_reply, expect_run, open_lab,
+    Lab, expect_frame, expect_ignored, expect_not_sent, expect_nothing, expect_reply, expect_run,
+    expect_sent, hear_in, open_lab,
 };
 use bmc_core::{Done, Out, Reason};
+use ipmb_frame::FrameFault;
 use mctp_net::{DropCause, PacketFault};
 use pldm_base::PldmFault;
 use std::process::Abort;
@@ -164,6 +166,40 @@ fn each_message_that_is_no_request_of_the_controller_has_its_reason(
         expect_ignored(&rt, rt.alloc(), &mut lab, digits, reason);
     }
     expect_reply(&rt, rt.alloc(), &mut lab, GET_TID, TERMINUS);
+    Ok(())
+}
+
+#[test]
+fn one_out_serves_for_many_calls(rt: HostRuntime) -> Result<(), Fail> {
+    let mut ipmb = open_lab(rt.alloc(), Bus::Ipmb)?;
+    let mut smbus = open_lab(rt.alloc(), Bus::Smbus)?;
+    let mut out = Out::new();
+    let device_id = "20 18 C8 2C 00 01 D3";
+    hear_in(&rt, rt.alloc(), &mut ipmb, device_id, &mut out);
+    let reply = "2C 1C B8 20 00 01 00 20 01 01 05 02 07 CD AB 00 34 12 F1";
+    expect_sent(&rt, rt.alloc(), &out, Done::Answered, reply);
+    // A wrong checksum, and nothing is left of the reply.
+    let wrong = "20 18 C8 2C 00 01 D4";
+    hear_in(&rt, rt.alloc(), &mut ipmb, wrong, &mut out);
+    let body_sum = Reason::Frame(FrameFault::BodySum);
+    expect_not_sent(&rt, &out, wrong, Done::Ignored(body_sum));
+    // The frame of a longer reply, then of a shorter one.
+    hear_in(&rt, rt.alloc(), &mut ipmb, device_id, &mut out);
+    hear_in(&rt, rt.alloc(), &mut ipmb, "20 18 C8 2C 00 22 B2", &mut out);
+    let unset = "2C 1C B8 20 00 22 80 3E";
+    expect_sent(&rt, rt.alloc(), &out, Done::Answered, unset);
+    // A packet after frames, one of a message that isn't whole, and a frame again.
+    hear_in(&rt, rt.alloc(), &mut smbus, GET_TID, &mut out);
+    expect_sent(&rt, rt.alloc(), &out, Done::Answered, TERMINUS);
+    let first = format!(in rt.alloc(); "{FIRST} {ZEROS} 44")?;
+    hear_in(&rt, rt.alloc(), &mut smbus, first.as_str(), &mut out);
+    expect_not_sent(&rt, &out, first.as_str(), Done::Waiting);
+    hear_in(&rt, rt.alloc(), &mut smbus, GET_TID, &mut out);
+    let other_type = "20 0F 06 31 01 0A 08 C8 7E 3B";
+    hear_in(&rt, rt.alloc(), &mut smbus, other_type, &mut out);
+    expect_not_sent(&rt, &out, other_type, Done::Ignored(Reason::MessageType));
+    hear_in(&rt, rt.alloc(), &mut ipmb, device_id, &mut out);
+    expect_sent(&rt, rt.alloc(), &out, Done::Answered, reply);
     Ok(())
 }
 
