@@ -1,6 +1,8 @@
 //! Requests to a controller with the sample board.
 ghost use Rattle.std.specs.Prelude.{◌≡◌};
 ghost use Rattle.bmc_core.specs.Outs.{sent};
+ghost use Rattle.bmc_core.specs.Port.{Hears};
+ghost use Rattle.bmc_core.specs.State.{state};
 ghost use Rattle.bench_port.specs.Serve.{frame_of, first};
 
 use crate::slot::Slot;
@@ -17,10 +19,17 @@ fn board(alloc: Global) -> Result<Board<PlainStore>, AllocError> {
     Board::open(alloc, file, store)
 }
 
-/// Hands each frame to the port, which fills in the place that stands beside it.
+/// Hands a frame to the port, which fills in what it sends.
+fn serve_one<S: Store>(port: &mut Port, board: &mut Board<S>, frame: &Slot, out: &mut Out)
+    ensures { Hears board.old.setup port.old (state (S.records board.old.store) board.old.live) (frame_of frame.now) out.new port.new (state (S.records board.new.store) board.new.live) }
+{
+    port.on_frame(board, frame.as_slice(), out);
+}
+
+/// Hands each frame to the port, and has it fill in the place that stands beside the frame.
 fn serve_round<S: Store>(port: &mut Port, board: &mut Board<S>, frames: &[Slot], outs: &mut [Out]) {
     for (frame, out) in frames.iter().zip(outs.iter_mut()) {
-        port.on_frame(board, frame.as_slice(), out);
+        serve_one(port, board, frame, out);
     }
 }
 
