@@ -1,17 +1,22 @@
 -- The pairs of a board file, kind after kind.
-use Rattle.std.proofs.Common.{◌≡◌, ◌≢◌, ℕ, zero, suc, ◌<◌, List, [], ◌∷◌, ◌++◌, length, get_or, map, IsTrue, refl, ap, arith}
+use Rattle.std.proofs.Common.{◌≡◌, ◌≢◌, ℕ, zero, suc, ◌<◌, ◌⊎◌, inl, inr, List, [], ◌∷◌, ◌++◌, length, get_or, map, Option, Some, None, IsTrue, refl, ap, sym, ◌∙◌, arith}
 use Rattle.std.proofs.lemmas.Bool.Decides.{nat_tests}
-use Rattle.std.specs.List.{All}
+use Rattle.std.specs.List.{All, find}
+use Rattle.std.specs.Option.{option_map, option_or}
 use Rattle.std.proofs.lemmas.List.Elements.{All-append, All-map}
+use Rattle.std.proofs.lemmas.List.Folds.{find-append}
 use Rattle.cfg_records.specs.declared.key.Key.{Key}
 use Rattle.cfg_records.specs.declared.key.Key.TheVariants as key
 use Rattle.cfg_records.specs.declared.sensor.Sensor.{Sensor}
 use Rattle.cfg_records.specs.declared.board_file.BoardFile.{BoardFile}
 use Rattle.cfg_records.specs.Keys.{is_length}
+use Rattle.cfg_records.specs.KeyLaws.{exact_key}
 use Rattle.cfg_records.specs.Distinct.{NumbersDiffer}
-use Rattle.cfg_records.specs.Records.{Pair, key_in, KeysDiffer, LengthsFit}
+use Rattle.cfg_records.specs.Records.{Pair, key_in, value_of, records_of, KeysDiffer, LengthsFit}
 use Rattle.cfg_records.specs.Boards.{thresholds_pair, hysteresis_pair, power_policy_pair, watchdog_pair, pairs_of}
 use Rattle.cfg_records.proofs.Names.{NamesDiffer-map, NamesDiffer-append}
+use Rattle.cfg_records.proofs.Searches.{find_some}
+use Rattle.cfg_records.proofs.Pairs.{has_key}
 
 -- the place of a kind among the pairs of a file
 abbrev pub place_of : Key → ℕ
@@ -20,6 +25,19 @@ place_of (key.Hysteresis sensor) = 1
 place_of key.PowerPolicy = 2
 place_of key.Watchdog = 3
 
+-- the pairs of each kind, at its place
+abbrev pub kinds_of : BoardFile → List (List Pair)
+kinds_of file =
+    map thresholds_pair file.sensors
+    ∷ map hysteresis_pair file.sensors
+    ∷ (power_policy_pair file.policy ∷ [])
+    ∷ (watchdog_pair file.watchdog ∷ [])
+    ∷ []
+
+-- the pairs of the kind at a place
+abbrev pub pairs_at : BoardFile → ℕ → List Pair
+pairs_at file place = get_or (kinds_of file) place []
+
 -- the pairs of one kind
 record AreOf (place : ℕ) (pairs : List Pair) : Type 0 where
   pub differ : KeysDiffer pairs
@@ -27,28 +45,61 @@ record AreOf (place : ℕ) (pairs : List Pair) : Type 0 where
   pub placed : All (λ pair. place_of pair.0 ≡ place) pairs
 
 -- the pairs of the kinds before a place
-pub record AreBefore (place : ℕ) (pairs : List Pair) : Type 0 where
+pub record AreBefore (file : BoardFile) (place : ℕ) (pairs : List Pair) : Type 0 where
   pub differ : KeysDiffer pairs
   pub fit : LengthsFit pairs
   pub placed : All (λ pair. place_of pair.0 < place) pairs
+  pub found : (k : Key) → place_of k < place → find (has_key k) pairs ≡ find (has_key k) (pairs_at file (place_of k))
 
 places_apart : (place : ℕ) (a b : Key) → place_of a < place → place_of b ≡ place → a ≢ b
 places_apart place a b before here same = let one : place_of a ≡ place_of b = ap place_of same in absurd (omega arith)
 
+none_or : (found : Option Pair) → ((q : Pair) → found ≡ Some q → ⊥) → found ≡ None
+none_or None h = refl
+none_or (Some q) h = absurd (h q refl)
+
+or_none : (found : Option Pair) → option_or found None ≡ found
+or_none (Some q) = refl
+or_none None = refl
+
+-- a key isn't found among pairs of other kinds
+none_of : (pairs : List Pair) (k : Key) → All (λ pair. place_of pair.0 ≢ place_of k) pairs → find (has_key k) pairs ≡ None
+none_of pairs k others =
+    none_or (find (has_key k) pairs) (λ q is.
+    let at = find_some (has_key k) pairs q is in
+    others at.0 q at.1.inside (ap (λ (p : Pair). place_of p.0) (at.1.is_it q) ∙ ap place_of (exact_key q.0 k at.1.passes)))
+
+earlier_or_here : (m n : ℕ) → m < suc n → (m < n) ⊎ (m ≡ n)
+earlier_or_here m n lt = grind arith
+
+-- a key of one of these kinds is found where its own kind has it
+found_next : (file : BoardFile) (place : ℕ) (pairs : List Pair) → AreBefore file place pairs → AreOf place (pairs_at file place) → (k : Key) → (place_of k < place) ⊎ (place_of k ≡ place)
+    → find (has_key k) (pairs ++ pairs_at file place) ≡ find (has_key k) (pairs_at file (place_of k))
+found_next file place pairs before here k (inl lt) =
+    find-append (has_key k) pairs (pairs_at file place)
+    ∙ ap (option_or (find (has_key k) pairs)) (none_of (pairs_at file place) k (λ i d inside same. let p : place_of (get_or (pairs_at file place) i d).0 ≡ place = here.placed i d inside in omega arith))
+    ∙ or_none (find (has_key k) pairs) ∙ before.found k lt
+found_next file place pairs before here k (inr is) =
+    find-append (has_key k) pairs (pairs_at file place)
+    ∙ ap (λ (found : Option Pair). option_or found (find (has_key k) (pairs_at file place))) (none_of pairs k (λ i d inside same. let p : place_of (get_or pairs i d).0 < place = before.placed i d inside in omega arith))
+    ∙ ap (λ (n : ℕ). find (has_key k) (pairs_at file n)) (sym is)
+
 -- the pairs of the next kind come after them
-and_then : (place : ℕ) (pairs next : List Pair) → AreBefore place pairs → AreOf place next → AreBefore (suc place) (pairs ++ next)
-and_then place pairs next before here = record {
-  differ = NamesDiffer-append key_in pairs next before.differ here.differ (λ m n d p q. places_apart place _ _ (before.placed m d p) (here.placed n d q));
-  fit = All-append (λ (pair : Pair). IsTrue (is_length pair.0 (length pair.1))) pairs next before.fit here.fit;
-  placed = All-append (λ (pair : Pair). place_of pair.0 < suc place) pairs next (λ k d lt. let p : place_of (get_or pairs k d).0 < place = before.placed k d lt in omega arith) (λ k d lt. let p : place_of (get_or next k d).0 ≡ place = here.placed k d lt in omega arith);
+and_then : (file : BoardFile) (place : ℕ) (pairs : List Pair) → AreBefore file place pairs → AreOf place (pairs_at file place) → AreBefore file (suc place) (pairs ++ pairs_at file place)
+and_then file place pairs before here = record {
+  differ = NamesDiffer-append key_in pairs (pairs_at file place) before.differ here.differ (λ m n d p q. places_apart place _ _ (before.placed m d p) (here.placed n d q));
+  fit = All-append (λ (pair : Pair). IsTrue (is_length pair.0 (length pair.1))) pairs (pairs_at file place) before.fit here.fit;
+  placed = All-append (λ (pair : Pair). place_of pair.0 < suc place) pairs (pairs_at file place) (λ k d lt. let p : place_of (get_or pairs k d).0 < place = before.placed k d lt in omega arith) (λ k d lt. let p : place_of (get_or (pairs_at file place) k d).0 ≡ place = here.placed k d lt in omega arith);
+  found = λ k lt. found_next file place pairs before here k (earlier_or_here (place_of k) place lt);
 }
 
 -- no pairs come first
-none_before : AreBefore 0 []
-none_before = record {
+none_before : (file : BoardFile) → AreBefore file 0 []
+none_before file = record {
   differ = λ i j d lt inside same. absurd (omega arith);
   fit = λ k d lt. absurd (omega arith);
   placed = λ k d lt. absurd (omega arith);
+  found = λ k lt. absurd (omega arith);
 }
 
 -- a fact of one pair
@@ -83,12 +134,20 @@ hysteresis_are sensors differ = record {
 }
 
 -- the pairs of a file: a step for each kind
-pub pairs_are : (file : BoardFile) → AreBefore 4 (pairs_of file)
+pub pairs_are : (file : BoardFile) → AreBefore file 4 (pairs_of file)
 pairs_are file =
-    let thresholds : AreBefore 1 (map thresholds_pair file.sensors) = and_then 0 [] (map thresholds_pair file.sensors) none_before (thresholds_are file.sensors file.differ) in
-    let hysteresis = and_then 1 _ (map hysteresis_pair file.sensors) thresholds (hysteresis_are file.sensors file.differ) in
-    let policy = and_then 2 _ (power_policy_pair file.policy ∷ []) hysteresis (one_of 2 (power_policy_pair file.policy) refl refl) in
-    and_then 3 _ (watchdog_pair file.watchdog ∷ []) policy (one_of 3 (watchdog_pair file.watchdog) refl refl)
+    let thresholds : AreBefore file 1 (map thresholds_pair file.sensors) = and_then file 0 [] (none_before file) (thresholds_are file.sensors file.differ) in
+    let hysteresis = and_then file 1 _ thresholds (hysteresis_are file.sensors file.differ) in
+    let policy = and_then file 2 _ hysteresis (one_of 2 (power_policy_pair file.policy) refl refl) in
+    and_then file 3 _ policy (one_of 3 (watchdog_pair file.watchdog) refl refl)
+
+has_place : (k : Key) → place_of k < 4
+has_place (key.Thresholds sensor) = omega arith
+has_place _ = omega arith
+
+-- the record of a key is that of its kind's pairs
+pub record_of_kind : (file : BoardFile) (k : Key) → records_of (pairs_of file) k ≡ records_of (pairs_at file (place_of k)) k
+record_of_kind file k = ap (option_map value_of) ((pairs_are file).found k (has_place k))
 
 -- no two pairs of a file have the same key
 pub pairs_differ : (file : BoardFile) → KeysDiffer (pairs_of file)

@@ -12,7 +12,7 @@ use Rattle.cfg_records.proofs.Names.{NamesDiffer-push}
 use Rattle.cfg_records.proofs.Searches.{find_none, find_some}
 
 -- the pair has the key
-abbrev has_key : Key → Pair → Bool
+abbrev pub has_key : Key → Pair → Bool
 has_key key = λ pair. same_key pair.0 key
 
 more_at : (found : Option Pair) (p : Pair) (b : Bool) → (b ≡ true → option_map value_of found ≡ None)
