@@ -1,6 +1,6 @@
 //! Records, stores and the sample board.
 use crate::{
-    Answered, Asked, Hysteresis, Key, Live, NoKey, PlainStore, Sensor, Store, StoreFault,
+    Answered, Asked, Device, Hysteresis, Key, Live, NoKey, PlainStore, Sensor, Store, StoreFault,
     ThresholdMasks, Value, Watchdog, sample_board,
 };
 use std::test::Fail;
@@ -67,6 +67,17 @@ fn a_sensor_has_its_thresholds_in_order(rt: HostRuntime) -> Result<(), Fail> {
     assert!(rt; Sensor::new(7, masks, [1, 0, 0, 0x90, 0xA0, 0xB0], hysteresis).is_none());
     assert!(rt; Sensor::new(255, masks, [0; 6], hysteresis).is_none());
     assert!(rt; ThresholdMasks::new(0x40, 0).is_none());
+    Ok(())
+}
+
+#[test]
+fn a_device_has_decimal_digits_and_a_short_manufacturer(rt: HostRuntime) -> Result<(), Fail> {
+    let device = |minor, manufacturer| Device::new(32, 1, 2, minor, 5, manufacturer, 7);
+    let made = device(0x19, 0xFF_FFFF).ok_or("device")?;
+    assert_eq!(rt; made.minor, 0x19);
+    assert_eq!(rt; made.manufacturer, 0xFF_FFFF);
+    assert!(rt; device(0x1A, 0xFF_FFFF).is_none());
+    assert!(rt; device(0x19, 1 << 24).is_none());
     Ok(())
 }
 
