@@ -1,11 +1,13 @@
--- The requests that get a record and that change one are read as that Get and that Set.
+-- The requests that get a record and that change one are read as that Get and that Set, and those that undo a change have 0 in each
+-- bit that is ignored.
 use Rattle.std.specs.Prelude.{◌≡◌, ℕ, List, length, Ok}
 use Rattle.cfg_records.specs.declared.key.Key.{Key}
 use Rattle.cfg_records.specs.declared.op.Op.{Op}
 use Rattle.cfg_records.specs.declared.op.Op.TheVariants as op
 use Rattle.cfg_records.specs.declared.message.Asked.{Asked}
 use Rattle.cfg_records.specs.declared.message.Asked.TheVariants.{Ipmi, Pldm}
-use Rattle.record_kinds.specs.Limits.{get_request, set_request, is_reply, undo}
+use Rattle.cfg_records.specs.Keys.{IsPlain}
+use Rattle.record_kinds.specs.Limits.{get_request, set_request, is_reply, restorable, undo}
 use Rattle.bmc_core.specs.declared.request.Request.{Request}
 use Rattle.bmc_core.specs.declared.request.Request.TheVariants.{Get, Set}
 use Rattle.bmc_core.specs.Request.{asked_by}
@@ -36,3 +38,7 @@ SetsAreRead = (op : Op) → IsWhole op → Asks (set_request op) (Set op)
 -- what undoes an operation is such an operation too
 abbrev pub UndosAreWhole : Type 0
 UndosAreWhole = (op : Op) (reply : List ℕ) → IsWhole op → is_reply op reply → IsWhole (undo op reply)
+
+-- what undoes an operation has 0 in each bit that a controller ignores
+abbrev pub UndosArePlain : Type 0
+UndosArePlain = (op : Op) (reply : List ℕ) → is_reply op reply → restorable op reply → IsPlain (undo op reply)

@@ -2,7 +2,7 @@
 ghost use Rattle.std.specs.Prelude.{◌≡◌, List, ℕ};
 ghost use Rattle.mctp_net.specs.declared.message.Message.{Message};
 ghost use Rattle.bmc_core.specs.AnswerLaws.{HasAnswer, HasOneAnswer};
-ghost use Rattle.bmc_core.specs.Decode.{IsWhole, GetsAreRead, SetsAreRead, UndosAreWhole};
+ghost use Rattle.bmc_core.specs.Decode.{IsWhole, GetsAreRead, SetsAreRead, UndosAreWhole, UndosArePlain};
 ghost use Rattle.bmc_core.specs.Undo.{IsUndone, IsSteady, IsShownAsBefore};
 ghost use Rattle.bmc_core.specs.PldmTypes.{TypesAreNamed};
 ghost use Rattle.bmc_core.specs.Quiet.{KeepsRecords};
@@ -17,11 +17,13 @@ pub fn one_answer()
 {}
 
 /// The request that gets a record is read as that Get, and the request that carries out an operation as that Set. Both are from
-/// nobody, to logical unit 0. What undoes an operation is an operation of which this holds too.
+/// nobody, to logical unit 0. What undoes an operation is an operation of which this holds too, and has 0 in each bit that a
+/// controller ignores.
 pub fn decode_law()
     ensures gets { GetsAreRead }
     ensures sets { SetsAreRead }
     ensures undos { UndosAreWhole }
+    ensures plain { UndosArePlain }
 {}
 
 /// Each list in the operation is as long as its type says. The laws here speak of such operations, so they hold of every

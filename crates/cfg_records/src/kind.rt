@@ -86,7 +86,7 @@ pub trait RecordKind {
         requires room { length (B.bytes reply.old) + length (view self.now value.now live.now) ≤ B.capacity }
         ensures { B.bytes reply.new ≡ B.bytes reply.old ++ view self.now value.now live.now };
 
-    /// The request that gets the record: from nobody, to logical unit 0, ignored bits 0.
+    /// The request that gets the record: from nobody, to logical unit 0.
     fn get_asked(key: &Key) -> Asked
         requires { is_key key.now }
         ensures { result ≡ get_request key.now };
@@ -96,7 +96,8 @@ pub trait RecordKind {
         requires { is_key (key_of op.now) }
         ensures { result ≡ set_body op.now };
 
-    /// The request that carries out the operation: from nobody, to logical unit 0, ignored bits 0.
+    /// The request that carries out the operation: from nobody, to logical unit 0, with the operation's bytes as they are. What
+    /// undoes an operation has 0 in each bit that a controller ignores.
     fn set_asked(op: &Op) -> Asked
         requires { is_key (key_of op.now) }
         ensures { result ≡ set_request op.now };

@@ -5,7 +5,7 @@ use Rattle.cfg_records.specs.declared.key.Key.TheVariants as key
 use Rattle.cfg_records.specs.declared.op.Op.{Op}
 use Rattle.cfg_records.specs.declared.op.Op.TheVariants as op
 use Rattle.cfg_records.specs.declared.live.Live.{Live}
-use Rattle.cfg_records.specs.Keys.{key_of, is_length}
+use Rattle.cfg_records.specs.Keys.{key_of, IsPlain, is_length}
 use Rattle.cfg_records.specs.Meaning.{Decides, IsRefusal, room_for}
 use Rattle.sensor_recs.specs.ThresholdsLaws as thresholds
 use Rattle.sensor_recs.specs.HysteresisLaws as hysteresis
@@ -101,3 +101,9 @@ undoes (PowerPolicy limits) (op.PowerPolicy o) old new live is_valid done can = 
 undoes (PowerPolicy limits) _ old new live is_valid done can = absurd done
 undoes (Watchdog limits) (op.Watchdog o) old new live is_valid done can = watchdog.undoes (op.Watchdog o) old new live is_valid done can
 undoes (Watchdog limits) _ old new live is_valid done can = absurd done
+
+pub plain : (o : Op) (reply : List ℕ) → is_reply o reply → restorable o reply → IsPlain (undo o reply)
+plain (op.Thresholds o) reply is can = thresholds.plain (op.Thresholds o) reply is can
+plain (op.Hysteresis o) reply is can = hysteresis.plain (op.Hysteresis o) reply is can
+plain (op.PowerPolicy o) reply is can = power_policy.plain (op.PowerPolicy o) reply is can
+plain (op.Watchdog o) reply is can = watchdog.plain (op.Watchdog o) reply is can

@@ -6,7 +6,7 @@ use Rattle.cfg_records.specs.declared.key.Key.TheVariants as key
 use Rattle.cfg_records.specs.declared.op.Op.{Op}
 use Rattle.cfg_records.specs.declared.op.Op.TheVariants as op
 use Rattle.cfg_records.specs.declared.live.Live.{Live}
-use Rattle.cfg_records.specs.Keys.{key_of, is_length}
+use Rattle.cfg_records.specs.Keys.{key_of, IsPlain, is_length}
 use Rattle.cfg_records.specs.Meaning.{Decides, IsRefusal, room_for}
 use Rattle.cfg_records.specs.Refusals.{refused_field}
 use Rattle.sensor_recs.specs.Hysteresis.{is_key, valid, sets, outcome, set_view, view, get_request, set_request, is_reply, restorable, undo}
@@ -59,3 +59,7 @@ same_record _ reply = refl
 pub undoes : (o : Op) (old new : List ℕ) (live : Live) → valid old → sets o old new → restorable o (view old live) → sets (undo o (view old live)) new old
 undoes (op.Hysteresis o) old new live is_valid done can = two old is_valid
 undoes _ old new live is_valid done can = absurd done
+
+pub plain : (o : Op) (reply : List ℕ) → is_reply o reply → restorable o reply → IsPlain (undo o reply)
+plain (op.Hysteresis o) reply is can = tt
+plain _ reply is can = absurd is

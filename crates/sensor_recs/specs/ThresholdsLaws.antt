@@ -1,5 +1,5 @@
 -- The laws of the kind Thresholds.
-use Rattle.std.proofs.Common.{◌≡◌, ℕ, zero, suc, ◌<◌, ◌≤◌, List, length, slice_index, Bool, true, false, ◌||◌, IsTrue, IsFalse, if◌then◌else◌, Ok, Err, refl, sym, ◌∙◌, ap, arith}
+use Rattle.std.proofs.Common.{◌≡◌, ℕ, zero, suc, ◌<◌, ◌≤◌, List, length, drop, slice_index, Bool, true, false, ◌||◌, IsTrue, IsFalse, if◌then◌else◌, Ok, Err, refl, sym, ◌∙◌, ap, arith}
 use Rattle.std.proofs.lemmas.Grind.{same_number_lists}
 use Rattle.cfg_records.specs.declared.key.Key.{Key}
 use Rattle.cfg_records.specs.declared.key.Key.TheVariants as key
@@ -8,7 +8,7 @@ use Rattle.cfg_records.specs.declared.op.Op.TheVariants as op
 use Rattle.cfg_records.specs.declared.op.SetThresholds.{SetThresholds}
 use Rattle.cfg_records.specs.declared.live.Live.{Live}
 use Rattle.cfg_records.specs.declared.thresholds.ThresholdMasks.{ThresholdMasks}
-use Rattle.cfg_records.specs.Keys.{key_of, is_length}
+use Rattle.cfg_records.specs.Keys.{key_of, IsPlain, is_length}
 use Rattle.cfg_records.specs.Masks.{has, IsWithin}
 use Rattle.cfg_records.specs.MaskLaws.{both, both_true, within_true, true_within}
 use Rattle.cfg_records.specs.Meaning.{Decides, IsRefusal, room_for}
@@ -102,6 +102,19 @@ undoes_thresholds masks op old new v s within = record {
   in_order = v.in_order;
 }
 
+zero_at : (k : ℕ) → k < 6 → slice_index zeros k ≡ 0
+zero_at zero lt = refl
+zero_at (suc zero) lt = refl
+zero_at (suc (suc zero)) lt = refl
+zero_at (suc (suc (suc zero))) lt = refl
+zero_at (suc (suc (suc (suc zero)))) lt = refl
+zero_at (suc (suc (suc (suc (suc zero))))) lt = refl
+zero_at (suc (suc (suc (suc (suc (suc k)))))) lt = absurd (omega arith)
+
+-- an undo has 0 at each place that the mask hasn't
+plain_thresholds : (op : SetThresholds) (reply : List ℕ) (k : ℕ) → k < 6 → IsFalse (has op.mask k) → slice_index (undo_thresholds op reply).values k ≡ 0
+plain_thresholds op reply k lt gone = choose_at op.mask (drop 1 reply) zeros k lt ∙ else_is _ _ _ gone ∙ zero_at k lt
+
 -- ---- over all keys and operations
 
 pub taken : (s : ThresholdLimits) (o : Op) (old new : List ℕ) → sets s o old new → is_key (key_of o)
@@ -146,3 +159,7 @@ same_record _ reply = refl
 pub undoes : (s : ThresholdLimits) (o : Op) (old new : List ℕ) (live : Live) → valid s old → sets s o old new → restorable o (view s old live) → sets s (undo o (view s old live)) new old
 undoes s (op.Thresholds o) old new live is_valid done can = undoes_thresholds s.masks o old new is_valid done can
 undoes s _ old new live is_valid done can = absurd done
+
+pub plain : (o : Op) (reply : List ℕ) → is_reply o reply → restorable o reply → IsPlain (undo o reply)
+plain (op.Thresholds o) reply is can = plain_thresholds o reply
+plain _ reply is can = absurd is

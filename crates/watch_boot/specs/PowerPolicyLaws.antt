@@ -8,7 +8,7 @@ use Rattle.cfg_records.specs.declared.op.Op.{Op}
 use Rattle.cfg_records.specs.declared.op.Op.TheVariants as op
 use Rattle.cfg_records.specs.declared.op.SetPowerPolicy.{SetPowerPolicy}
 use Rattle.cfg_records.specs.declared.live.Live.{Live}
-use Rattle.cfg_records.specs.Keys.{key_of, is_length}
+use Rattle.cfg_records.specs.Keys.{key_of, IsPlain, is_length}
 use Rattle.cfg_records.specs.Meaning.{Decides, IsRefusal, room_for}
 use Rattle.cfg_records.specs.Refusals.{refused_field}
 use Rattle.cfg_records.specs.PowerPolicy.{IsPowerPolicy}
@@ -134,3 +134,7 @@ same_record _ reply = refl
 pub undoes : (o : Op) (old new : List ℕ) (live : Live) → valid old → sets o old new → restorable o (view old live) → sets (undo o (view old live)) new old
 undoes (op.PowerPolicy o) old new live is_valid done can = undoes_policy old new live is_valid can
 undoes _ old new live is_valid done can = absurd done
+
+pub plain : (o : Op) (reply : List ℕ) → is_reply o reply → restorable o reply → IsPlain (undo o reply)
+plain (op.PowerPolicy o) reply is can = omega arith
+plain _ reply is can = absurd is
