@@ -2,12 +2,14 @@
 use Rattle.std.proofs.Common.{◌≡◌, ℕ, ◌+◌, ◌*◌, ◌/◌, ◌%◌, ap, List, [], ◌∷◌, length, Ok, refl, arith}
 use Rattle.cfg_records.specs.declared.key.Key.TheVariants as key
 use Rattle.cfg_records.specs.declared.op.Op.{Op}
+use Rattle.cfg_records.specs.declared.op.SetThresholds.{SetThresholds}
 use Rattle.cfg_records.specs.declared.op.SetWatchdog.{SetWatchdog}
 use Rattle.cfg_records.specs.declared.op.Op.TheVariants as op
+use Rattle.cfg_records.proofs.Operations.{set_thresholds, same_thresholds}
 use Rattle.record_kinds.specs.Limits.{set_request}
 use Rattle.bmc_core.specs.declared.request.Request.TheVariants as request
 use Rattle.bmc_core.specs.Request.{asked_by}
-use Rattle.bmc_core.specs.Decode.{GetsAreRead, SetsAreRead, UndosAreWhole}
+use Rattle.bmc_core.specs.Decode.{GetsAreRead, SetsAreRead}
 
 -- what holds of all lists of six holds of a list of length six
 six : (P : List ℕ → Type 0) → ((a b c d e f : ℕ) → P (a ∷ b ∷ c ∷ d ∷ e ∷ f ∷ [])) → (xs : List ℕ) → length xs ≡ 6 → P xs
@@ -20,12 +22,17 @@ six P at (a ∷ b ∷ []) is = absurd (omega (arith, is))
 six P at (a ∷ []) is = absurd (omega (arith, is))
 six P at [] is = absurd (omega (arith, is))
 
-abbrev set_thresholds : ℕ → ℕ → List ℕ → Op
-set_thresholds sensor mask values = op.Thresholds (record { sensor = sensor; mask = mask; values = values })
+-- the request is read as the operation that it carries out
+abbrev IsRead : SetThresholds → Type 0
+IsRead o = asked_by (set_request (op.Thresholds o)) ≡ Ok (request.Set (op.Thresholds o))
 
-thresholds_read : (sensor mask : ℕ) (values : List ℕ) → length values ≡ 6 → asked_by (set_request (set_thresholds sensor mask values)) ≡ Ok (request.Set (set_thresholds sensor mask values))
-thresholds_read sensor mask values is =
-    six (λ v. asked_by (set_request (set_thresholds sensor mask v)) ≡ Ok (request.Set (set_thresholds sensor mask v))) (λ a b c d e f. refl) values is
+thresholds_read : (o : SetThresholds) → IsRead o
+thresholds_read o =
+    six (λ (v : List ℕ). (is : length v ≡ 6) → IsRead (set_thresholds o.sensor o.mask v is))
+    (λ a b c d e f is.
+    let v : List ℕ = a ∷ b ∷ c ∷ d ∷ e ∷ f ∷ [] in
+    ap (λ (made : SetThresholds). Ok (request.Set (op.Thresholds made))) (same_thresholds o.sensor o.mask v v refl is refl))
+    o.values o.six o.six
 
 -- a number is its low byte and what is above it
 two_bytes : (n : ℕ) → n % 256 + 256 * (n / 256) ≡ n
@@ -41,11 +48,7 @@ gets_are_read key.PowerPolicy = record { is_read = refl; from_nobody = (refl, re
 gets_are_read key.Watchdog = record { is_read = refl; from_nobody = (refl, refl) }
 
 pub sets_are_read : SetsAreRead
-sets_are_read (op.Thresholds o) whole = record { is_read = thresholds_read o.sensor o.mask o.values whole; from_nobody = (refl, refl) }
-sets_are_read (op.Hysteresis o) whole = record { is_read = refl; from_nobody = (refl, refl) }
-sets_are_read (op.PowerPolicy o) whole = record { is_read = refl; from_nobody = (refl, refl) }
-sets_are_read (op.Watchdog o) whole = record { is_read = ap (λ n. Ok (request.Set (set_watchdog o n))) (two_bytes o.initial); from_nobody = (refl, refl) }
-
-pub undos_are_whole : UndosAreWhole
-undos_are_whole (op.Thresholds o) reply whole is = refl
-undos_are_whole _ reply whole is = tt
+sets_are_read (op.Thresholds o) = record { is_read = thresholds_read o; from_nobody = (refl, refl) }
+sets_are_read (op.Hysteresis o) = record { is_read = refl; from_nobody = (refl, refl) }
+sets_are_read (op.PowerPolicy o) = record { is_read = refl; from_nobody = (refl, refl) }
+sets_are_read (op.Watchdog o) = record { is_read = ap (λ n. Ok (request.Set (set_watchdog o n))) (two_bytes o.initial); from_nobody = (refl, refl) }

@@ -11,7 +11,7 @@ use Rattle.cfg_records.specs.declared.message.Asked.{Asked}
 use Rattle.cfg_records.specs.declared.message.Answered.{Answered}
 use Rattle.cfg_records.specs.declared.board_file.BoardFile.{BoardFile}
 use Rattle.record_kinds.specs.declared.limits.Limits.{Limits}
-use Rattle.record_kinds.specs.Limits.{valid, sets, view, get_request, set_request, is_reply, restorable, undo}
+use Rattle.record_kinds.specs.Limits.{valid, sets, view, get_request, set_request, restorable, undo}
 use Rattle.record_kinds.specs.LimitsLaws as laws
 use Rattle.record_kinds.specs.Boards.{limits_at}
 use Rattle.record_kinds.specs.Sound.{valid_at}
@@ -20,9 +20,8 @@ use Rattle.bmc_core.specs.declared.request.Request.TheVariants.{Get, Set}
 use Rattle.bmc_core.specs.Request.{asked_by}
 use Rattle.bmc_core.specs.State.{State}
 use Rattle.bmc_core.specs.Row.{done, refused, unknown_code, Gets, IsCarriedOut, Sets, Serves, Replies, Row}
-use Rattle.bmc_core.specs.Decode.{IsWhole}
 use Rattle.bmc_core.specs.Undo.{IsUndone}
-use Rattle.bmc_core.proofs.Decoded.{gets_are_read, sets_are_read, undos_are_whole}
+use Rattle.bmc_core.proofs.Decoded.{gets_are_read, sets_are_read}
 
 -- ---- requests that are read
 
@@ -32,8 +31,8 @@ read_as setup before asked request answered after is row = subst (λ (r : Result
 pub get_served : (setup : BoardFile) (before : State) (key : Key) (answered : Answered) (after : State) → Row setup before (get_request key) answered after → Serves setup before (Get key) answered after
 get_served setup before key answered after row = read_as setup before (get_request key) (Get key) answered after (gets_are_read key).is_read row
 
-set_served : (setup : BoardFile) (before : State) (op : Op) (answered : Answered) (after : State) → IsWhole op → Row setup before (set_request op) answered after → Serves setup before (Set op) answered after
-set_served setup before op answered after whole row = read_as setup before (set_request op) (Set op) answered after (sets_are_read op whole).is_read row
+set_served : (setup : BoardFile) (before : State) (op : Op) (answered : Answered) (after : State) → Row setup before (set_request op) answered after → Serves setup before (Set op) answered after
+set_served setup before op answered after row = read_as setup before (set_request op) (Set op) answered after (sets_are_read op).is_read row
 
 -- ---- requests that are carried out
 
@@ -100,15 +99,14 @@ is_undone setup op before got until after from back shown changed undone h =
     let stayed : until.records ≡ before.records = h.stayed ∙ ap (λ (s : State). s.records) served.1 in
     let had : until.records key ≡ Some seen.old = ap (λ (r : Records). r key) stayed ∙ seen.value_is in
     let change : IsCarriedOut seen.of seen.old op until changed after =
-    carried_out seen.of seen.old unknown op until changed after (sets_at _ _ seen.of seen.old unknown op until changed after seen.limits_are had (set_served setup until op changed after h.whole h.change)) h.was_changed in
+    carried_out seen.of seen.old unknown op until changed after (sets_at _ _ seen.of seen.old unknown op until changed after seen.limits_are had (set_served setup until op changed after h.change)) h.was_changed in
     let shown_is : view seen.of seen.old before.live ≡ shown.body = sym (ap (λ (a : Answered). a.body) seen.body_is) in
-    let is_reply_of : is_reply op shown.body = subst (is_reply op) shown_is (laws.replies seen.of op seen.old before.live (laws.taken seen.of op seen.old change.new change.is_set) is_valid) in
     let can : sets seen.of inverse change.new seen.old = subst (λ (reply : List ℕ). sets seen.of (undo op reply) change.new seen.old) shown_is (laws.undoes seen.of op seen.old change.new before.live is_valid change.is_set (subst (restorable op) (sym shown_is) h.can_undo)) in
     let same : key_of inverse ≡ key = laws.same_record op shown.body in
     let written : from.records ≡ with_record until.records key change.new = h.stayed_changed ∙ ap (λ (s : State). s.records) change.left in
     let has : from.records key ≡ Some change.new = ap (λ (r : Records). r key) written ∙ with_record_same until.records key change.new in
     let way : Sets (limits_at setup key) (from.records key) unknown inverse from undone back =
-    subst (λ (k : Key). Sets (limits_at setup k) (from.records k) (unknown_code setup k) inverse from undone back) same (set_served setup from inverse undone back (undos_are_whole op shown.body h.whole is_reply_of) h.way_back) in
+    subst (λ (k : Key). Sets (limits_at setup k) (from.records k) (unknown_code setup k) inverse from undone back) same (set_served setup from inverse undone back h.way_back) in
     let end : (undone.code ≡ success) × (back.records ≡ until.records) =
     undone_at seen.of key inverse unknown until.records seen.old change.new from back undone same had written can (sets_at _ _ seen.of change.new unknown inverse from undone back seen.limits_are has way) in
     (end.0, end.1 ∙ stayed)

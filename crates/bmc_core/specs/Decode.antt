@@ -1,9 +1,8 @@
 -- The requests that get a record and that change one are read as that Get and that Set, and those that undo a change have 0 in each
 -- bit that is ignored.
-use Rattle.std.specs.Prelude.{◌≡◌, ℕ, List, length, Ok}
+use Rattle.std.specs.Prelude.{◌≡◌, ℕ, List, Ok}
 use Rattle.cfg_records.specs.declared.key.Key.{Key}
 use Rattle.cfg_records.specs.declared.op.Op.{Op}
-use Rattle.cfg_records.specs.declared.op.Op.TheVariants as op
 use Rattle.cfg_records.specs.declared.message.Asked.{Asked}
 use Rattle.cfg_records.specs.declared.message.Asked.TheVariants.{Ipmi, Pldm}
 use Rattle.cfg_records.specs.Keys.{IsPlain}
@@ -22,22 +21,13 @@ pub record Asks (asked : Asked) (request : Request) : Type 0 where
   pub is_read : asked_by asked ≡ Ok request
   pub from_nobody : IsFromNobody asked
 
--- each list in an operation is as long as its type says: so it is in each operation of a program
-abbrev pub IsWhole : Op → Type 0
-IsWhole (op.Thresholds o) = length o.values ≡ 6
-IsWhole _ = Unit {0}
-
 -- the request for a record is read as a Get of that record
 abbrev pub GetsAreRead : Type 0
 GetsAreRead = (key : Key) → Asks (get_request key) (Get key)
 
 -- the request for an operation is read as that operation
 abbrev pub SetsAreRead : Type 0
-SetsAreRead = (op : Op) → IsWhole op → Asks (set_request op) (Set op)
-
--- what undoes an operation is such an operation too
-abbrev pub UndosAreWhole : Type 0
-UndosAreWhole = (op : Op) (reply : List ℕ) → IsWhole op → is_reply op reply → IsWhole (undo op reply)
+SetsAreRead = (op : Op) → Asks (set_request op) (Set op)
 
 -- what undoes an operation has 0 in each bit that a controller ignores
 abbrev pub UndosArePlain : Type 0

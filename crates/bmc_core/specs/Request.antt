@@ -1,5 +1,5 @@
 -- What a request asks for.
-use Rattle.std.specs.Prelude.{ℕ, ◌+◌, ◌*◌, List, [], ◌∷◌, length, slice_index, Option, Some, None, Result, Ok, Err, ◌==◌, if◌then◌else◌}
+use Rattle.std.specs.Prelude.{ℕ, ◌+◌, ◌*◌, List, [], ◌∷◌, length, slice_index, Option, Some, None, Result, Ok, Err, ◌==◌, if◌then◌else◌, refl}
 use Rattle.two_wire.specs.Codes.{invalid_for_lun, invalid_command, invalid_length, pldm_unsupported_command, pldm_invalid_type, pldm_invalid_length}
 use Rattle.cfg_records.specs.declared.message.Asked.{Asked}
 use Rattle.cfg_records.specs.declared.message.Asked.TheVariants.{Ipmi, Pldm}
@@ -25,6 +25,7 @@ thresholds_in body = record {
   sensor = byte_at body 0;
   mask = byte_at body 1;
   values = byte_at body 2 ∷ byte_at body 3 ∷ byte_at body 4 ∷ byte_at body 5 ∷ byte_at body 6 ∷ byte_at body 7 ∷ [];
+  six = refl;
 }
 
 -- timer use, actions, pre-timeout interval, flags to clear, and the countdown, low byte first

@@ -13,13 +13,11 @@ use Rattle.record_kinds.specs.Boards.{limits_at}
 use Rattle.record_kinds.specs.Sound.{IsSound}
 use Rattle.bmc_core.specs.State.{State}
 use Rattle.bmc_core.specs.Row.{Row}
-use Rattle.bmc_core.specs.Decode.{IsWhole}
 
 -- A record is read, changed by an operation, and changed back by the operation that the Get reply gives. Each time a request goes
 -- from one state to another, and the records stay as they are from one request to the next.
 pub record ChangesAndBack (setup : BoardFile) (op : Op) (before got until after from back : State) (shown changed undone : Answered) : Type 0 where
   pub sound : IsSound setup before.records
-  pub whole : IsWhole op
   pub read : Row setup before (get_request (key_of op)) shown got
   pub was_read : shown.code ≡ success
   pub can_undo : restorable op shown.body

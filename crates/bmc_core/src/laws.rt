@@ -2,13 +2,11 @@
 ghost use Rattle.std.specs.Prelude.{◌≡◌, List, ℕ};
 ghost use Rattle.mctp_net.specs.declared.message.Message.{Message};
 ghost use Rattle.bmc_core.specs.AnswerLaws.{HasAnswer, HasOneAnswer};
-ghost use Rattle.bmc_core.specs.Decode.{IsWhole, GetsAreRead, SetsAreRead, UndosAreWhole, UndosArePlain};
+ghost use Rattle.bmc_core.specs.Decode.{GetsAreRead, SetsAreRead, UndosArePlain};
 ghost use Rattle.bmc_core.specs.Undo.{IsUndone, IsSteady, IsShownAsBefore};
 ghost use Rattle.bmc_core.specs.PldmTypes.{TypesAreNamed};
 ghost use Rattle.bmc_core.specs.Quiet.{KeepsRecords};
 ghost use Rattle.bmc_core.specs.SmbusPort.{AreFramesOf};
-
-use cfg_records::Op;
 
 /// Each request has an answer and a state after it, and no other.
 pub fn one_answer()
@@ -17,28 +15,12 @@ pub fn one_answer()
 {}
 
 /// The request that gets a record is read as that Get, and the request that carries out an operation as that Set. Both are from
-/// nobody, to logical unit 0. What undoes an operation is an operation of which this holds too, and has 0 in each bit that a
-/// controller ignores.
+/// nobody, to logical unit 0. What undoes an operation has 0 in each bit that a controller ignores.
 pub fn decode_law()
     ensures gets { GetsAreRead }
     ensures sets { SetsAreRead }
-    ensures undos { UndosAreWhole }
     ensures plain { UndosArePlain }
 {}
-
-/// Each list in the operation is as long as its type says. The laws here speak of such operations, so they hold of every
-/// operation that a program has.
-pub fn known(op: &Op)
-    ensures { IsWhole op.now }
-{
-    match op {
-        Op::Thresholds(op) => {
-            // A slice of an array is as long as its type says.
-            let _values: &[u8] = &op.values;
-        }
-        _ => {}
-    }
-}
 
 /// Where a record was got and then set, and its Get reply is one from which that can be undone, the request that undoes it is
 /// carried out, and then every record of the board is what it was before, whatever became of what isn't configuration.

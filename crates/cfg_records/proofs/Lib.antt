@@ -5,3 +5,4 @@ pub mod Names
 pub mod Numbers
 pub mod Pairs
 pub mod BoardPairs
+pub mod Operations

@@ -1,6 +1,5 @@
 //! Changes of one record.
-ghost use Rattle.std.specs.Prelude.{◌≡◌};
-ghost use Rattle.cfg_records.specs.Keys.{key_of};
+ghost use Rattle.std.specs.Prelude.{◌≡◌, length};
 
 use crate::key::Key;
 
@@ -10,6 +9,7 @@ pub struct SetThresholds {
     pub sensor: u8,
     pub mask: u8,
     pub values: [u8; 6],
+    pub ghost six: { length values ≡ 6 },
 }
 
 /// Sets both hysteresis values.
@@ -48,6 +48,8 @@ pub enum Op {
 }
 
 impl Op {
+    ghost use Rattle.cfg_records.specs.Keys.{key_of};
+
     /// The record that it changes.
     pub fn key(&self) -> Key
         ensures { result ≡ key_of self.now }

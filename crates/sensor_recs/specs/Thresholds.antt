@@ -1,5 +1,5 @@
 -- The thresholds of a sensor, as a kind of record (IPMI 2.0, sections 35.8 and 35.9).
-use Rattle.std.specs.Prelude.{◌≡◌, ℕ, ◌<◌, List, [], ◌∷◌, length, drop, slice_index, ◌&&◌, IsTrue, IsFalse, Bool, if◌then◌else◌, Result, Ok, Err}
+use Rattle.std.specs.Prelude.{◌≡◌, ℕ, ◌<◌, List, [], ◌∷◌, length, drop, slice_index, ◌&&◌, IsTrue, IsFalse, Bool, if◌then◌else◌, Result, Ok, Err, refl}
 use Rattle.cfg_records.specs.declared.key.Key.{Key}
 use Rattle.cfg_records.specs.declared.key.Key.TheVariants as key
 use Rattle.cfg_records.specs.declared.op.Op.{Op}
@@ -59,7 +59,7 @@ IsShown mask reply = IsWithin mask (slice_index reply 0)
 
 -- the operation that sets the mask's thresholds to what the reply shows, with 00h for the others
 abbrev pub undo_thresholds : SetThresholds → List ℕ → SetThresholds
-undo_thresholds op reply = record { sensor = op.sensor; mask = op.mask; values = choose op.mask (drop 1 reply) zeros }
+undo_thresholds op reply = record { sensor = op.sensor; mask = op.mask; values = choose op.mask (drop 1 reply) zeros; six = refl }
 
 -- ---- the kind, over all keys and operations
 

@@ -1,5 +1,5 @@
 use Rattle.record_kinds.specs.LimitsLaws.{plain}
-use Rattle.bmc_core.proofs.Decoded.{gets_are_read, sets_are_read, undos_are_whole}
+use Rattle.bmc_core.proofs.Decoded.{gets_are_read, sets_are_read}
 use Rattle.bmc_core.proofs.laws.decode_law.Goals as goal
 
 pub returns-clause-gets : goal.returns-clause-gets
@@ -7,9 +7,6 @@ returns-clause-gets c = gets_are_read
 
 pub returns-clause-sets : goal.returns-clause-sets
 returns-clause-sets c = sets_are_read
-
-pub returns-clause-undos : goal.returns-clause-undos
-returns-clause-undos c = undos_are_whole
 
 pub returns-clause-plain : goal.returns-clause-plain
 returns-clause-plain c = plain
