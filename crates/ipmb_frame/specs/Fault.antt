@@ -1,5 +1,5 @@
 -- What bytes that are no frame of the bus have wrong (Intelligent Platform Management Bus, communications protocol 1.0).
-use Rattle.std.specs.Prelude.{◌≡◌, ℕ, ◌/◌, ◌%◌, ◌≤◌, List, [], ◌∷◌, length, take, drop, slice_index, codes, Bool, nat_lt, ◌==◌, ◌||◌, ◌&&◌, not}
+use Rattle.std.specs.Prelude.{◌≡◌, ℕ, ◌/◌, ◌%◌, ◌≤◌, List, [], ◌∷◌, length, take, drop, slice_index, codes, Bool, nat_lt, ◌==◌, ◌||◌, ◌&&◌, not, find, Some}
 use Rattle.two_wire.specs.Check.{check_byte}
 use Rattle.ipmb_frame.specs.declared.fault.FrameFault.{FrameFault}
 use Rattle.ipmb_frame.specs.declared.fault.FrameFault.TheVariants.{Short, Long, HeadSum, BodySum, OddAddress}
@@ -19,6 +19,10 @@ has_fault bytes OddAddress = slice_index bytes 0 % 2 == 1 || slice_index bytes 3
 -- the faults in their order
 abbrev pub faults : List FrameFault
 faults = Short ∷ Long ∷ HeadSum ∷ BodySum ∷ OddAddress ∷ []
+
+-- the bytes have a fault, and this is the first
+abbrev pub HasFault : List ℕ → Type 0
+HasFault bytes = (fault : FrameFault) × (find (has_fault bytes) faults ≡ Some fault)
 
 -- the fault's name, as it is printed
 abbrev pub fault_name : FrameFault → List ℕ

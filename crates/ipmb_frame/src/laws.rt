@@ -1,7 +1,10 @@
 //! What holds of messages and their frames.
-ghost use Rattle.std.specs.Prelude.{◌≡◌, List, ℕ};
+ghost use Rattle.std.specs.Prelude.{◌≡◌, ◌⊎◌, List, ℕ, find, None};
 ghost use Rattle.ipmb_frame.specs.declared.message.Msg.{Msg};
+ghost use Rattle.ipmb_frame.specs.Fault.{has_fault, faults, HasFault};
 ghost use Rattle.ipmb_frame.specs.Grammar.{IsMessage};
+
+use crate::read_frame;
 
 /// Bytes are at most one message.
 pub fn one_message()
@@ -12,3 +15,11 @@ pub fn one_message()
 pub fn one_frame()
     ensures { (m : Msg) (xs ys : List ℕ) → IsMessage m xs → IsMessage m ys → xs ≡ ys }
 {}
+
+/// Bytes have a fault or are a message, and never both.
+pub fn fault_or_message(bytes: &[u8])
+    ensures either { HasFault bytes.now ⊎ ((m : Msg) × IsMessage m bytes.now) }
+    ensures not_both { (m : Msg) → IsMessage m bytes.now → find (has_fault bytes.now) faults ≡ None }
+{
+    let _ = read_frame(bytes);
+}
