@@ -1,5 +1,5 @@
 -- Packets of the System Management Bus.
-use Rattle.std.specs.Prelude.{◌≡◌, ℕ, ◌+◌, ◌-◌, ◌*◌, ◌%◌, ◌<◌, ◌≤◌, List, [], ◌∷◌, ◌++◌, length, take, slice_index, Bool, nat_lt, ◌==◌, ◌||◌, not, if◌then◌else◌, codes}
+use Rattle.std.specs.Prelude.{◌≡◌, ℕ, ◌+◌, ◌-◌, ◌*◌, ◌%◌, ◌<◌, ◌≤◌, List, [], ◌∷◌, ◌++◌, length, take, slice_index, Bool, nat_lt, ◌==◌, ◌||◌, not, if◌then◌else◌, codes, find, Some}
 use Rattle.two_wire.specs.Pec.{pec_of}
 use Rattle.mctp_net.specs.declared.fault.PacketFault.{PacketFault}
 use Rattle.mctp_net.specs.declared.fault.PacketFault.TheVariants.{Short, NotMctp, Count, Pec, Version}
@@ -55,6 +55,10 @@ has_fault bytes Version = not (slice_index bytes 4 % 16 == 1)
 -- the faults in their order
 abbrev pub faults : List PacketFault
 faults = Short ∷ NotMctp ∷ Count ∷ Pec ∷ Version ∷ []
+
+-- the bytes have a fault, and this is the first
+abbrev pub HasFault : List ℕ → Type 0
+HasFault bytes = (fault : PacketFault) × (find (has_fault bytes) faults ≡ Some fault)
 
 -- what a fault is called
 abbrev pub fault_name : PacketFault → List ℕ

@@ -1,16 +1,26 @@
 //! What holds of the definitions alone.
-ghost use Rattle.std.specs.Prelude.{◌≡◌, ◌<◌, ◌≤◌, List, [], ℕ, All, length, true, false};
+ghost use Rattle.std.specs.Prelude.{◌≡◌, ◌<◌, ◌≤◌, ◌⊎◌, List, [], ℕ, All, length, true, false, find, None};
 ghost use Rattle.mctp_net.specs.declared.packet.Packet.{Packet};
 ghost use Rattle.mctp_net.specs.declared.message.Message.{Message};
-ghost use Rattle.mctp_net.specs.Grammar.{IsPacket};
+ghost use Rattle.mctp_net.specs.Grammar.{IsPacket, HasFault, has_fault, faults};
 ghost use Rattle.mctp_net.specs.Cut.{IsCutOf};
 ghost use Rattle.mctp_net.specs.Assembly.{is_ours, same_name, taken_under, open_count, drop_cause, named_where, kept_after, ComesBack};
 ghost use Rattle.mctp_net.specs.Sound.{IsSound};
+
+use crate::read_packet;
 
 /// Bytes are at most one packet.
 pub fn one_packet()
     ensures { (p q : Packet) (bytes : List ℕ) → IsPacket p bytes → IsPacket q bytes → p ≡ q }
 {}
+
+/// Bytes have a fault or are a packet, and never both.
+pub fn fault_or_packet(bytes: &[u8])
+    ensures either { HasFault bytes.now ⊎ ((p : Packet) × IsPacket p bytes.now) }
+    ensures not_both { (p : Packet) → IsPacket p bytes.now → find (has_fault bytes.now) faults ≡ None }
+{
+    let _ = read_packet(bytes);
+}
 
 /// A message of 1 to 256 bytes has a cut.
 pub fn has_cut()

@@ -19,7 +19,9 @@ pub use assembler::Assembler;
 pub use control_fault::ControlFault;
 pub use endpoint::{ControlReply, Endpoint, EndpointId};
 pub use fault::PacketFault;
-pub use laws::{comes_back, each_name_alone, has_cut, one_cut, one_packet, stays_sound};
+pub use laws::{
+    comes_back, each_name_alone, fault_or_packet, has_cut, one_cut, one_packet, stays_sound,
+};
 pub use message::Message;
 pub use packet::{Envelope, Packet, Payload, Sequence, Tag};
 pub use reading::read_packet;
