@@ -1,5 +1,5 @@
 -- Requests and replies as bytes.
-use Rattle.std.specs.Prelude.{◌≡◌, ℕ, ◌+◌, ◌*◌, ◌/◌, ◌<◌, ◌≤◌, List, [], ◌∷◌, length, slice_index, Bool, nat_lt, ◌==◌, not, codes}
+use Rattle.std.specs.Prelude.{◌≡◌, ℕ, ◌+◌, ◌*◌, ◌/◌, ◌<◌, ◌≤◌, List, [], ◌∷◌, length, slice_index, Bool, nat_lt, ◌==◌, not, codes, find, Some}
 use Rattle.pldm_base.specs.declared.message.Header.{Header}
 use Rattle.pldm_base.specs.declared.message.PldmRequest.{PldmRequest}
 use Rattle.pldm_base.specs.declared.message.PldmReply.{PldmReply}
@@ -49,6 +49,10 @@ has_fault bytes fault.NotRequest = not (slice_index bytes 0 / 64 == 2)
 abbrev pub faults : List PldmFault
 faults = fault.Short ∷ fault.Version ∷ fault.NotRequest ∷ []
 
+-- the bytes have a request's fault, and this is the first
+abbrev pub HasFault : List ℕ → Type 0
+HasFault bytes = (fault : PldmFault) × (find (has_fault bytes) faults ≡ Some fault)
+
 -- what a fault is called
 abbrev pub fault_name : PldmFault → List ℕ
 fault_name fault.Short = codes "Short"
@@ -64,3 +68,7 @@ has_reply_fault bytes reply_fault.NotReply = not (slice_index bytes 0 / 64 == 0)
 -- the faults of a reply in their order
 abbrev pub reply_faults : List PldmReplyFault
 reply_faults = reply_fault.Short ∷ reply_fault.Version ∷ reply_fault.NotReply ∷ []
+
+-- the bytes have a reply's fault, and this is the first
+abbrev pub HasReplyFault : List ℕ → Type 0
+HasReplyFault bytes = (fault : PldmReplyFault) × (find (has_reply_fault bytes) reply_faults ≡ Some fault)

@@ -1,10 +1,12 @@
 //! What holds of the definitions.
-ghost use Rattle.std.specs.Prelude.{◌≡◌, ◌==◌, ◌+◌, ◌*◌, ◌<◌, List, ℕ, Some, length, slice_get, nat_lt};
+ghost use Rattle.std.specs.Prelude.{◌≡◌, ◌==◌, ◌+◌, ◌*◌, ◌<◌, ◌⊎◌, List, ℕ, Some, None, length, slice_get, find, nat_lt};
 ghost use Rattle.pldm_base.specs.declared.message.PldmRequest.{PldmRequest};
 ghost use Rattle.pldm_base.specs.declared.message.PldmReply.{PldmReply};
 ghost use Rattle.pldm_base.specs.Crc.{IsCrc32};
-ghost use Rattle.pldm_base.specs.Message.{IsRequest, IsReply};
+ghost use Rattle.pldm_base.specs.Message.{IsRequest, IsReply, HasFault, HasReplyFault, has_fault, faults, has_reply_fault, reply_faults};
 ghost use Rattle.pldm_base.specs.Parts.{AreParts, begins_part, is_last, part_bytes};
+
+use crate::{PldmBytes, read_pldm, read_pldm_reply};
 
 /// Bytes are at most one request.
 pub fn one_request()
@@ -15,6 +17,22 @@ pub fn one_request()
 pub fn one_reply()
     ensures { (r s : PldmReply) (bytes : List ℕ) → IsReply r bytes → IsReply s bytes → r ≡ s }
 {}
+
+/// Bytes have a fault or are a request, and never both.
+pub fn fault_or_request(bytes: &PldmBytes)
+    ensures either { HasFault bytes.now ⊎ ((r : PldmRequest) × IsRequest r bytes.now) }
+    ensures not_both { (r : PldmRequest) → IsRequest r bytes.now → find (has_fault bytes.now) faults ≡ None }
+{
+    let _ = read_pldm(bytes);
+}
+
+/// Bytes have a fault or are a reply, and never both.
+pub fn fault_or_reply(bytes: &PldmBytes)
+    ensures either { HasReplyFault bytes.now ⊎ ((r : PldmReply) × IsReply r bytes.now) }
+    ensures not_both { (r : PldmReply) → IsReply r bytes.now → find (has_reply_fault bytes.now) reply_faults ≡ None }
+{
+    let _ = read_pldm_reply(bytes);
+}
 
 /// No bytes are a request and a reply.
 pub fn no_request_is_a_reply()

@@ -13,8 +13,9 @@ mod writing;
 pub use crc::crc32;
 pub use fault::{PldmFault, PldmReplyFault};
 pub use laws::{
-    all_bytes_have_a_crc32, every_table_has_parts, no_request_is_a_reply, one_crc32,
-    one_list_of_parts, one_reply, one_request, parts_stand_at_their_offsets,
+    all_bytes_have_a_crc32, every_table_has_parts, fault_or_reply, fault_or_request,
+    no_request_is_a_reply, one_crc32, one_list_of_parts, one_reply, one_request,
+    parts_stand_at_their_offsets,
 };
 pub use message::{Header, Instance, PldmBytes, PldmReply, PldmRequest, PldmType};
 pub use reading::{read_pldm, read_pldm_reply};
