@@ -1,4 +1,5 @@
 pub mod Checked
 pub mod Places
 pub mod Uniqueness
+pub mod Faultless
 pub mod Whole

@@ -26,7 +26,7 @@ no_fault a p b q k body even also high low =
     rw (short, long, head, tail, odd) refl
 
 -- what is a message has no fault
-message-no_fault : (m : Msg) (bytes : List ℕ) → IsMessage m bytes → find (has_fault bytes) faults ≡ None
+pub message-no_fault : (m : Msg) (bytes : List ℕ) → IsMessage m bytes → find (has_fault bytes) faults ≡ None
 message-no_fault (msg.Request r) bytes h =
     let even : r.header.net_fn % 2 ≡ 0 = h.header.even in
     let small : r.header.responder.lun < 4 = h.header.responder.lun in

@@ -1,10 +1,8 @@
 //! What holds of messages and their frames.
-ghost use Rattle.std.specs.Prelude.{◌≡◌, ◌⊎◌, List, ℕ, find, None};
+ghost use Rattle.std.specs.Prelude.{◌≡◌, ◌<◌, ◌⊎◌, List, ℕ, All, find, None};
 ghost use Rattle.ipmb_frame.specs.declared.message.Msg.{Msg};
 ghost use Rattle.ipmb_frame.specs.Fault.{has_fault, faults, HasFault};
 ghost use Rattle.ipmb_frame.specs.Grammar.{IsMessage};
-
-use crate::read_frame;
 
 /// Bytes are at most one message.
 pub fn one_message()
@@ -17,9 +15,7 @@ pub fn one_frame()
 {}
 
 /// Bytes have a fault or are a message, and never both.
-pub fn fault_or_message(bytes: &[u8])
-    ensures either { HasFault bytes.now ⊎ ((m : Msg) × IsMessage m bytes.now) }
-    ensures not_both { (m : Msg) → IsMessage m bytes.now → find (has_fault bytes.now) faults ≡ None }
-{
-    let _ = read_frame(bytes);
-}
+pub fn fault_or_message()
+    ensures either { (bytes : List ℕ) → All (λ b. b < 256) bytes → HasFault bytes ⊎ ((m : Msg) × IsMessage m bytes) }
+    ensures not_both { (m : Msg) (bytes : List ℕ) → IsMessage m bytes → find (has_fault bytes) faults ≡ None }
+{}
