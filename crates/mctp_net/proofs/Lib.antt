@@ -9,3 +9,4 @@ pub mod Wholes
 pub mod ComingBack
 pub mod OneCut
 pub mod NamesAlone
+pub mod Faultless

@@ -7,20 +7,16 @@ ghost use Rattle.mctp_net.specs.Cut.{IsCutOf};
 ghost use Rattle.mctp_net.specs.Assembly.{is_ours, same_name, taken_under, open_count, drop_cause, named_where, kept_after, ComesBack};
 ghost use Rattle.mctp_net.specs.Sound.{IsSound};
 
-use crate::read_packet;
-
 /// Bytes are at most one packet.
 pub fn one_packet()
     ensures { (p q : Packet) (bytes : List ℕ) → IsPacket p bytes → IsPacket q bytes → p ≡ q }
 {}
 
 /// Bytes have a fault or are a packet, and never both.
-pub fn fault_or_packet(bytes: &[u8])
-    ensures either { HasFault bytes.now ⊎ ((p : Packet) × IsPacket p bytes.now) }
-    ensures not_both { (p : Packet) → IsPacket p bytes.now → find (has_fault bytes.now) faults ≡ None }
-{
-    let _ = read_packet(bytes);
-}
+pub fn fault_or_packet()
+    ensures either { (bytes : List ℕ) → All (λ b. b < 256) bytes → HasFault bytes ⊎ ((p : Packet) × IsPacket p bytes) }
+    ensures not_both { (p : Packet) (bytes : List ℕ) → IsPacket p bytes → find (has_fault bytes) faults ≡ None }
+{}
 
 /// A message of 1 to 256 bytes has a cut.
 pub fn has_cut()

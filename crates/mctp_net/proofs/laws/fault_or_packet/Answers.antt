@@ -1,5 +1,9 @@
+use Rattle.mctp_net.proofs.Faultless.{fault-or-packet}
 use Rattle.mctp_net.proofs.PacketLaws.{packet-whole}
 use Rattle.mctp_net.proofs.laws.fault_or_packet.Goals as goal
 
-pub returns-clause-not_both : goal.returns-clause-not_both
-returns-clause-not_both c = λ p h. packet-whole p c.args.bytes.now h
+pub returns : goal.returns
+returns c = record {
+  either = fault-or-packet;
+  not_both = packet-whole;
+}
