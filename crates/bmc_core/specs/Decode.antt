@@ -1,5 +1,5 @@
--- The requests that get a record and that change one are read as that Get and that Set, and those that undo a change have 0 in each
--- bit that is ignored.
+-- The requests that get a record and that change one are read as that Get and that Set. The operation that undoes a change has 0 in
+-- each bit that is ignored.
 use Rattle.std.specs.Prelude.{◌≡◌, ℕ, List, Ok}
 use Rattle.cfg_records.specs.declared.key.Key.{Key}
 use Rattle.cfg_records.specs.declared.op.Op.{Op}
