@@ -37,7 +37,7 @@ pub record IsAnswered (setup : BoardFile) (before : State) (request : Request) (
   pub left : after ≡ (answer_of setup before (asked_in request)).1
 
 -- A port at this place, of a board with this setup, hears the bytes: it sends and does so, and the board goes from one state to the
--- other. Bytes have a fault, or else are one message.
+-- other. Bytes have a fault, or else are one message (`fault_or_message`).
 pub record HearsFrame (at : At) (setup : BoardFile) (before : State) (bytes : List ℕ) (out : Out) (after : State) : Type 0 where
   pub faulty : (fault : FrameFault) → find (has_fault bytes) faults ≡ Some fault → (out ≡ ignored (Frame fault)) × (after ≡ before)
   pub not_ours : (m : Msg) → IsMessage m bytes → ¬ IsTo at bytes → (out ≡ ignored NotOurs) × (after ≡ before)

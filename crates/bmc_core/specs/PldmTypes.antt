@@ -4,6 +4,6 @@ use Rattle.cfg_records.specs.Masks.{has}
 use Rattle.bmc_core.specs.Table.{is_pldm_type}
 use Rattle.bmc_core.specs.Row.{pldm_types}
 
--- a type is answered otherwise than by its refusal exactly where the reply has its bit: 8 types a byte
+-- a type is one of the controller's exactly where its bit is set in the reply: eight types a byte, the lowest first
 abbrev pub TypesAreNamed : Type 0
 TypesAreNamed = (kind : ℕ) → kind < 64 → has (slice_index pldm_types (kind / 8)) (kind % 8) ≡ is_pldm_type kind
