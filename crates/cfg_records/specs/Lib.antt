@@ -10,6 +10,10 @@ pub mod Meaning
 pub mod Refusals
 pub mod Requests
 pub mod Opening
+pub mod Kind
+pub mod Cases
+pub mod CaseLaws
+pub mod Exports
 pub mod Records
 pub mod RecordLaws
 pub mod Boards

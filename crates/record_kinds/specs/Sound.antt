@@ -8,14 +8,10 @@ use Rattle.cfg_records.specs.declared.board_file.BoardFile.{BoardFile}
 use Rattle.cfg_records.specs.Keys.{same_key}
 use Rattle.cfg_records.specs.KeyLaws.{exact_key}
 use Rattle.cfg_records.specs.Records.{Records, with_record, records_of}
-use Rattle.cfg_records.specs.Thresholds.{IsThresholds-prop}
-use Rattle.cfg_records.specs.PowerPolicy.{IsPowerPolicy-prop}
-use Rattle.cfg_records.specs.Watchdog.{IsWatchdog-prop}
 use Rattle.cfg_records.specs.Boards.{pairs_of}
 use Rattle.record_kinds.specs.declared.limits.Limits.{Limits}
-use Rattle.record_kinds.specs.declared.limits.Limits.TheVariants.{Thresholds, Hysteresis, PowerPolicy, Watchdog}
 use Rattle.record_kinds.specs.Limits.{valid, sets}
-use Rattle.record_kinds.specs.LimitsLaws.{keeps}
+use Rattle.record_kinds.specs.LimitsLaws.{is_kind}
 use Rattle.record_kinds.specs.Boards.{limits_at}
 
 -- limits and a value that they allow, or neither
@@ -35,10 +31,7 @@ StartsSound = (file : BoardFile) → IsSound file (records_of (pairs_of file))
 -- ---- there is one proof at most
 
 pub valid-prop : (limits : Limits) (value : List ℕ) → IsProp (valid limits value)
-valid-prop (Thresholds limits) value = IsThresholds-prop limits.masks value
-valid-prop (Hysteresis limits) value = hlevel props
-valid-prop (PowerPolicy limits) value = IsPowerPolicy-prop value
-valid-prop (Watchdog limits) value = IsWatchdog-prop value
+valid-prop limits = (is_kind limits).one_proof
 
 IsSoundAt-prop : (limits : Option Limits) (value : Option (List ℕ)) → IsProp (IsSoundAt limits value)
 IsSoundAt-prop (Some limits) (Some value) = valid-prop limits value
@@ -70,5 +63,5 @@ sound_with file records key limits new sound at is_valid = λ k. sound_where fil
 pub sound_put : {T E : Type 0} (r : Result T E) (file : BoardFile) (records after : Records) (key : Key) (limits : Limits) (op : Op) (old new : List ℕ) → IsSound file records → limits_at file key ≡ Some limits → records key ≡ Some old
     → sets limits op old new → OnOk r (after ≡ with_record records key new) → OnErr r (after ≡ records) → IsSound file after
 sound_put (Ok x) file records after key limits op old new sound at had done ok err =
-    subst (IsSound file) (sym ok) (sound_with file records key limits new sound at (keeps limits op old new (valid_at _ _ limits old at had (sound key)) done))
+    subst (IsSound file) (sym ok) (sound_with file records key limits new sound at ((is_kind limits).keeps op old new (valid_at _ _ limits old at had (sound key)) done))
 sound_put (Err x) file records after key limits op old new sound at had done ok err = subst (IsSound file) (sym err) sound

@@ -35,135 +35,111 @@ impl Limits {
     }
 }
 
-impl RecordKind for Limits {
-    ghost use Rattle.record_kinds.specs.Limits as l;
+/// The kinds, a line for each: its name, its limits, and where its keys are.
+macro_rules! of_each_kind {
+    ($does:ident $how:tt) => {
+        $does! { $how
+            Thresholds ThresholdLimits {Key::Thresholds(sensor) => sensor}
+            Hysteresis HysteresisLimits {Key::Hysteresis(sensor) => sensor}
+            PowerPolicy PowerPolicyLimits {Key::PowerPolicy => &()}
+            Watchdog WatchdogLimits {Key::Watchdog => &()}
+        }
+    };
+}
+
+/// A call of a kind's function, with these arguments after the first.
+macro_rules! call {
+    ($limits:ident $function:ident $first:ident ($($more:expr),*)) => {
+        $limits::$function($first $(, $more)*)
+    };
+}
+
+/// What the record's kind does, by its limits.
+macro_rules! by_limits {
+    ([$any:expr, $function:ident $more:tt] $($kind:ident $limits:ident $key:tt)*) => {
+        match $any {
+            $(Limits::$kind(limits) => call!($limits $function limits $more),)*
+        }
+    };
+}
+
+/// What the record's kind does with its operation, by its limits.
+macro_rules! by_both {
+    ([$any:expr, $op:expr, $value:expr, $new:expr] $($kind:ident $limits:ident $key:tt)*) => {
+        match $any {
+            $(Limits::$kind(limits) => match $op {
+                Op::$kind(op) => limits.apply(op, $value, $new),
+                _ => unreachable!(),
+            },)*
+        }
+    };
+}
+
+/// What the operation's kind does.
+macro_rules! by_op {
+    ([$op:expr, $function:ident $more:tt] $($kind:ident $limits:ident $key:tt)*) => {
+        match $op {
+            $(Op::$kind(op) => call!($limits $function op $more),)*
+        }
+    };
+}
+
+/// The operation of its kind that the operation's kind gives.
+macro_rules! op_by_op {
+    ([$op:expr, $function:ident $more:tt] $($kind:ident $limits:ident $key:tt)*) => {
+        match $op {
+            $(Op::$kind(op) => Op::$kind(call!($limits $function op $more)?),)*
+        }
+    };
+}
+
+/// What the key's kind does.
+macro_rules! by_key {
+    ([$any:expr, $function:ident] $($kind:ident $limits:ident {$key:pat => $own:expr})*) => {
+        match $any {
+            $($key => $limits::$function($own),)*
+        }
+    };
+}
+
+impl<'a> RecordKind<'a> for Limits {
     ghost use Rattle.record_kinds.specs.LimitsLaws as laws;
 
-    ghost is_key = { l.is_key };
+    type Key = Key;
 
-    ghost is_of = { l.is_of };
+    type Op = Op;
 
-    ghost valid = { l.valid };
-
-    ghost sets = { l.sets };
-
-    ghost outcome = { l.outcome };
-
-    ghost set_view = { l.set_view };
-
-    ghost live_after = { l.live_after };
-
-    ghost view = { l.view };
-
-    ghost conf = { l.conf };
-
-    ghost get_request = { l.get_request };
-
-    ghost set_body = { l.set_body };
-
-    ghost set_request = { l.set_request };
-
-    ghost is_reply = { l.is_reply };
-
-    ghost restorable = { l.restorable };
-
-    ghost undo = { l.undo };
+    ghost kind = { laws.kind };
 
     fn apply(&self, op: &Op, value: &[u8], new: &mut Value) -> Result<(), Code> {
-        match self {
-            Limits::Thresholds(limits) => limits.apply(op, value, new),
-            Limits::Hysteresis(limits) => limits.apply(op, value, new),
-            Limits::PowerPolicy(limits) => limits.apply(op, value, new),
-            Limits::Watchdog(limits) => limits.apply(op, value, new),
-        }
+        of_each_kind!(by_both [self, op, value, new])
     }
 
     fn set_reply<B: Buffer>(op: &Op, reply: &mut B) {
-        match op {
-            Op::Thresholds(_) => ThresholdLimits::set_reply(op, reply),
-            Op::Hysteresis(_) => HysteresisLimits::set_reply(op, reply),
-            Op::PowerPolicy(_) => PowerPolicyLimits::set_reply(op, reply),
-            Op::Watchdog(_) => WatchdogLimits::set_reply(op, reply),
-        }
+        of_each_kind!(by_op [op, set_reply(reply)])
     }
 
     fn next_live(op: &Op, live: &Live) -> Live {
-        match op {
-            Op::Thresholds(_) => ThresholdLimits::next_live(op, live),
-            Op::Hysteresis(_) => HysteresisLimits::next_live(op, live),
-            Op::PowerPolicy(_) => PowerPolicyLimits::next_live(op, live),
-            Op::Watchdog(_) => WatchdogLimits::next_live(op, live),
-        }
+        of_each_kind!(by_op [op, next_live(live)])
     }
 
     fn get_data<B: Buffer>(&self, value: &[u8], live: &Live, reply: &mut B) {
-        match self {
-            Limits::Thresholds(limits) => limits.get_data(value, live, reply),
-            Limits::Hysteresis(limits) => limits.get_data(value, live, reply),
-            Limits::PowerPolicy(limits) => limits.get_data(value, live, reply),
-            Limits::Watchdog(limits) => limits.get_data(value, live, reply),
-        }
+        of_each_kind!(by_limits [self, get_data(value, live, reply)])
     }
 
     fn get_asked(key: &Key) -> Asked {
-        match key {
-            Key::Thresholds(_) => ThresholdLimits::get_asked(key),
-            Key::Hysteresis(_) => HysteresisLimits::get_asked(key),
-            Key::PowerPolicy => PowerPolicyLimits::get_asked(key),
-            Key::Watchdog => WatchdogLimits::get_asked(key),
-        }
+        of_each_kind!(by_key [key, get_asked])
     }
 
     fn set_data(op: &Op) -> RecordData {
-        match op {
-            Op::Thresholds(_) => ThresholdLimits::set_data(op),
-            Op::Hysteresis(_) => HysteresisLimits::set_data(op),
-            Op::PowerPolicy(_) => PowerPolicyLimits::set_data(op),
-            Op::Watchdog(_) => WatchdogLimits::set_data(op),
-        }
+        of_each_kind!(by_op [op, set_data()])
     }
 
     fn set_asked(op: &Op) -> Asked {
-        match op {
-            Op::Thresholds(_) => ThresholdLimits::set_asked(op),
-            Op::Hysteresis(_) => HysteresisLimits::set_asked(op),
-            Op::PowerPolicy(_) => PowerPolicyLimits::set_asked(op),
-            Op::Watchdog(_) => WatchdogLimits::set_asked(op),
-        }
+        of_each_kind!(by_op [op, set_asked()])
     }
 
-    fn inverse(op: &Op, get_data: &[u8]) -> Option<Op> {
-        match op {
-            Op::Thresholds(_) => ThresholdLimits::inverse(op, get_data),
-            Op::Hysteresis(_) => HysteresisLimits::inverse(op, get_data),
-            Op::PowerPolicy(_) => PowerPolicyLimits::inverse(op, get_data),
-            Op::Watchdog(_) => WatchdogLimits::inverse(op, get_data),
-        }
+    fn inverse(op: &Op, get_data: &'a [u8]) -> Option<Op> {
+        Some(of_each_kind!(op_by_op [op, inverse(get_data)]))
     }
-
-    ghost of_kind = { laws.of_kind };
-
-    ghost taken = { laws.taken };
-
-    ghost decides = { laws.decides };
-
-    ghost refuses = { laws.refuses };
-
-    ghost determined = { laws.determined };
-
-    ghost keeps = { laws.keeps };
-
-    ghost fits = { laws.fits };
-
-    ghost replies = { laws.replies };
-
-    ghost steady = { laws.steady };
-
-    ghost get_short = { laws.get_short };
-
-    ghost set_short = { laws.set_short };
-
-    ghost same_record = { laws.same_record };
-
-    ghost undoes = { laws.undoes };
 }

@@ -4,7 +4,7 @@ ghost use Rattle.std.specs.Option.{SomeIff};
 ghost use Rattle.sensor_recs.specs.Hysteresis.{both_bytes, undo_hysteresis, hysteresis_body};
 
 use crate::request::sensor_request;
-use cfg_records::{Asked, Key, Live, Op, RecordData, RecordKind, SetHysteresis, Value};
+use cfg_records::{Asked, Live, RecordData, RecordKind, SetHysteresis, Value};
 use two_wire::{Buffer, Code};
 
 /// The number of the command that sets it.
@@ -48,52 +48,23 @@ fn undo(op: &SetHysteresis, reply: &[u8]) -> Option<SetHysteresis>
     })
 }
 
-impl RecordKind for HysteresisLimits {
-    ghost use Rattle.std.specs.Prelude.{refl};
-    ghost use Rattle.sensor_recs.specs.Hysteresis as h;
+impl<'a> RecordKind<'a> for HysteresisLimits {
     ghost use Rattle.sensor_recs.specs.HysteresisLaws as laws;
 
-    ghost is_key = { h.is_key };
+    type Key = u8;
 
-    ghost is_of = { λ _. h.is_key };
+    type Op = SetHysteresis;
 
-    ghost valid = { λ _. h.valid };
+    ghost kind = { laws.one.kind };
 
-    ghost sets = { λ _. h.sets };
-
-    ghost outcome = { λ _. h.outcome };
-
-    ghost set_view = { h.set_view };
-
-    ghost live_after = { h.live_after };
-
-    ghost view = { λ _. h.view };
-
-    ghost conf = { λ _. h.conf };
-
-    ghost get_request = { h.get_request };
-
-    ghost set_body = { h.set_body };
-
-    ghost set_request = { h.set_request };
-
-    ghost is_reply = { h.is_reply };
-
-    ghost restorable = { h.restorable };
-
-    ghost undo = { h.undo };
-
-    fn apply(&self, op: &Op, _value: &[u8], new: &mut Value) -> Result<(), Code> {
-        let Op::Hysteresis(op) = op else {
-            unreachable!();
-        };
+    fn apply(&self, op: &SetHysteresis, _value: &[u8], new: &mut Value) -> Result<(), Code> {
         new.replace(&both_bytes(op));
         Ok(())
     }
 
-    fn set_reply<B: Buffer>(_op: &Op, _reply: &mut B) {}
+    fn set_reply<B: Buffer>(_op: &SetHysteresis, _reply: &mut B) {}
 
-    fn next_live(_op: &Op, live: &Live) -> Live {
+    fn next_live(_op: &SetHysteresis, live: &Live) -> Live {
         *live
     }
 
@@ -101,59 +72,19 @@ impl RecordKind for HysteresisLimits {
         reply.extend_from_slice(value);
     }
 
-    fn get_asked(key: &Key) -> Asked {
-        match key {
-            Key::Hysteresis(sensor) => {
-                sensor_request(GET_SENSOR_HYSTERESIS, &[*sensor, HYSTERESIS_MASK])
-            }
-            _ => unreachable!(),
-        }
+    fn get_asked(sensor: &u8) -> Asked {
+        sensor_request(GET_SENSOR_HYSTERESIS, &[*sensor, HYSTERESIS_MASK])
     }
 
-    fn set_data(op: &Op) -> RecordData {
-        match op {
-            Op::Hysteresis(op) => body(op),
-            _ => unreachable!(),
-        }
+    fn set_data(op: &SetHysteresis) -> RecordData {
+        body(op)
     }
 
-    fn set_asked(op: &Op) -> Asked {
-        match op {
-            Op::Hysteresis(op) => sensor_request(SET_SENSOR_HYSTERESIS, body(op).as_slice()),
-            _ => unreachable!(),
-        }
+    fn set_asked(op: &SetHysteresis) -> Asked {
+        sensor_request(SET_SENSOR_HYSTERESIS, body(op).as_slice())
     }
 
-    fn inverse(op: &Op, get_data: &[u8]) -> Option<Op> {
-        match op {
-            Op::Hysteresis(op) => Some(Op::Hysteresis(undo(op, get_data)?)),
-            _ => unreachable!(),
-        }
+    fn inverse(op: &SetHysteresis, get_data: &'a [u8]) -> Option<SetHysteresis> {
+        undo(op, get_data)
     }
-
-    ghost of_kind = { λ _ _ here. here };
-
-    ghost taken = { λ _. laws.taken };
-
-    ghost decides = { λ _. laws.decides };
-
-    ghost refuses = { λ _. laws.refuses };
-
-    ghost determined = { λ _. laws.determined };
-
-    ghost keeps = { λ _ op old new _. laws.keeps op old new };
-
-    ghost fits = { λ _. laws.fits };
-
-    ghost replies = { λ _. laws.replies };
-
-    ghost steady = { λ _ _ _ _. refl };
-
-    ghost get_short = { λ _. laws.get_short };
-
-    ghost set_short = { laws.set_short };
-
-    ghost same_record = { laws.same_record };
-
-    ghost undoes = { λ _. laws.undoes };
 }

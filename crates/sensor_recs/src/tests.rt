@@ -1,10 +1,8 @@
 //! Thresholds and hysteresis.
-ghost use Rattle.cfg_records.specs.Keys.{key_of};
-
 use crate::{HysteresisLimits, ThresholdLimits};
 use cfg_records::{
-    Hysteresis, Live, Op, RecordData, RecordKind, Sensor, SetHysteresis, SetThresholds,
-    ThresholdMasks, Value,
+    Hysteresis, Live, RecordData, RecordKind, Sensor, SetHysteresis, SetThresholds, ThresholdMasks,
+    Value,
 };
 use std::test::Fail;
 use two_wire::code::INVALID_DATA_FIELD;
@@ -23,30 +21,28 @@ fn temperature() -> Option<Sensor> {
 }
 
 /// The data of the Set request that undoes the operation from the Get reply.
-fn undo_data<K: RecordKind>(op: &Op, reply: &[u8]) -> Option<RecordData>
-    requires { K.is_key (key_of op.now) }
-{
+fn undo_data<K: RecordKind<'static>>(op: &K::Op, reply: &[u8]) -> Option<RecordData> {
     let undo = K::inverse(op, reply)?;
     Some(K::set_data(&undo))
 }
 
 #[test]
 fn a_threshold_that_is_not_read_is_not_undone(rt: HostRuntime) {
-    let op = Op::Thresholds(SetThresholds {
+    let op = SetThresholds {
         sensor: 7,
         mask: 0x20,
         values: [0, 0, 0, 0, 0, 0xB8],
-    });
+    };
     assert!(rt; ThresholdLimits::inverse(&op, &FAN_REPLY).is_none());
 }
 
 #[test]
 fn a_threshold_is_undone_from_its_reply(rt: HostRuntime) -> Result<(), Fail> {
-    let op = Op::Thresholds(SetThresholds {
+    let op = SetThresholds {
         sensor: 7,
         mask: 0x10,
         values: [0, 0, 0, 0, 0xA8, 0],
-    });
+    };
     let undo = undo_data::<ThresholdLimits>(&op, &FAN_REPLY).ok_or("undo")?;
     assert!(rt; undo.is(&[0x07, 0x10, 0, 0, 0, 0, 0xA0, 0]));
     Ok(())
@@ -54,11 +50,11 @@ fn a_threshold_is_undone_from_its_reply(rt: HostRuntime) -> Result<(), Fail> {
 
 #[test]
 fn hysteresis_is_undone_from_its_reply(rt: HostRuntime) -> Result<(), Fail> {
-    let op = Op::Hysteresis(SetHysteresis {
+    let op = SetHysteresis {
         sensor: 5,
         positive: 3,
         negative: 1,
-    });
+    };
     let undo = undo_data::<HysteresisLimits>(&op, &[2, 2]).ok_or("undo")?;
     assert!(rt; undo.is(&[0x05, 0xFF, 2, 2]));
     assert!(rt; undo_data::<HysteresisLimits>(&op, &[2]).is_none());
@@ -77,12 +73,12 @@ fn thresholds_out_of_order_are_refused(rt: HostRuntime) -> Result<(), Fail> {
         values: [0, 0, 0, 0, 0x70, 0],
     };
     let mut new = Value::from_slice(&[0xEE]);
-    let high = limits.apply(&Op::Thresholds(set), &sensor.thresholds, &mut new);
+    let high = limits.apply(&set, &sensor.thresholds, &mut new);
     assert!(rt; matches!(high, Err(INVALID_DATA_FIELD)));
     assert!(rt; new.is(&[0xEE]));
 
     set.values[4] = 0x60;
-    let Ok(()) = limits.apply(&Op::Thresholds(set), &sensor.thresholds, &mut new) else {
+    let Ok(()) = limits.apply(&set, &sensor.thresholds, &mut new) else {
         return Err("refused".into());
     };
     assert!(rt; new.is(&[0x14, 0x0A, 0x05, 0x50, 0x60, 0x6E]));
@@ -96,11 +92,11 @@ fn replies_are_appended(rt: HostRuntime) -> Result<(), Fail> {
         masks: sensor.masks,
     };
     let live = Live::opening();
-    let op = Op::Hysteresis(SetHysteresis {
+    let op = SetHysteresis {
         sensor: 5,
         positive: 3,
         negative: 1,
-    });
+    };
     let mut reply = RecordData::from_slice(&[0xEE]);
     HysteresisLimits::set_reply(&op, &mut reply);
     HysteresisLimits.get_data(&[3, 1], &live, &mut reply);

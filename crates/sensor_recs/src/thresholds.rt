@@ -5,9 +5,7 @@ ghost use Rattle.sensor_recs.specs.Thresholds.{choose, thresholds_body, IsShown,
 
 use crate::request::sensor_request;
 use cfg_records::mask::{has, is_within};
-use cfg_records::{
-    Asked, Key, Live, Op, RecordData, RecordKind, SetThresholds, ThresholdMasks, Value,
-};
+use cfg_records::{Asked, Live, RecordData, RecordKind, SetThresholds, ThresholdMasks, Value};
 use two_wire::code::INVALID_DATA_FIELD;
 use two_wire::{Buffer, Code};
 
@@ -95,51 +93,22 @@ impl ThresholdLimits {
     }
 }
 
-impl RecordKind for ThresholdLimits {
-    ghost use Rattle.std.specs.Prelude.{refl};
-    ghost use Rattle.sensor_recs.specs.Thresholds as t;
+impl<'a> RecordKind<'a> for ThresholdLimits {
     ghost use Rattle.sensor_recs.specs.ThresholdsLaws as laws;
 
-    ghost is_key = { t.is_key };
+    type Key = u8;
 
-    ghost is_of = { λ _. t.is_key };
+    type Op = SetThresholds;
 
-    ghost valid = { t.valid };
+    ghost kind = { laws.one.kind };
 
-    ghost sets = { t.sets };
-
-    ghost outcome = { t.outcome };
-
-    ghost set_view = { t.set_view };
-
-    ghost live_after = { t.live_after };
-
-    ghost view = { t.view };
-
-    ghost conf = { λ _. t.conf };
-
-    ghost get_request = { t.get_request };
-
-    ghost set_body = { t.set_body };
-
-    ghost set_request = { t.set_request };
-
-    ghost is_reply = { t.is_reply };
-
-    ghost restorable = { t.restorable };
-
-    ghost undo = { t.undo };
-
-    fn apply(&self, op: &Op, value: &[u8], new: &mut Value) -> Result<(), Code> {
-        match op {
-            Op::Thresholds(op) => self.set(op, value, new),
-            _ => unreachable!(),
-        }
+    fn apply(&self, op: &SetThresholds, value: &[u8], new: &mut Value) -> Result<(), Code> {
+        self.set(op, value, new)
     }
 
-    fn set_reply<B: Buffer>(_op: &Op, _reply: &mut B) {}
+    fn set_reply<B: Buffer>(_op: &SetThresholds, _reply: &mut B) {}
 
-    fn next_live(_op: &Op, live: &Live) -> Live {
+    fn next_live(_op: &SetThresholds, live: &Live) -> Live {
         *live
     }
 
@@ -149,57 +118,19 @@ impl RecordKind for ThresholdLimits {
         reply.extend_from_slice(&shown);
     }
 
-    fn get_asked(key: &Key) -> Asked {
-        match key {
-            Key::Thresholds(sensor) => sensor_request(GET_SENSOR_THRESHOLDS, &[*sensor]),
-            _ => unreachable!(),
-        }
+    fn get_asked(sensor: &u8) -> Asked {
+        sensor_request(GET_SENSOR_THRESHOLDS, &[*sensor])
     }
 
-    fn set_data(op: &Op) -> RecordData {
-        match op {
-            Op::Thresholds(op) => body(op),
-            _ => unreachable!(),
-        }
+    fn set_data(op: &SetThresholds) -> RecordData {
+        body(op)
     }
 
-    fn set_asked(op: &Op) -> Asked {
-        match op {
-            Op::Thresholds(op) => sensor_request(SET_SENSOR_THRESHOLDS, body(op).as_slice()),
-            _ => unreachable!(),
-        }
+    fn set_asked(op: &SetThresholds) -> Asked {
+        sensor_request(SET_SENSOR_THRESHOLDS, body(op).as_slice())
     }
 
-    fn inverse(op: &Op, get_data: &[u8]) -> Option<Op> {
-        match op {
-            Op::Thresholds(op) => Some(Op::Thresholds(undo(op, get_data)?)),
-            _ => unreachable!(),
-        }
+    fn inverse(op: &SetThresholds, get_data: &'a [u8]) -> Option<SetThresholds> {
+        undo(op, get_data)
     }
-
-    ghost of_kind = { λ _ _ here. here };
-
-    ghost taken = { laws.taken };
-
-    ghost decides = { laws.decides };
-
-    ghost refuses = { laws.refuses };
-
-    ghost determined = { laws.determined };
-
-    ghost keeps = { laws.keeps };
-
-    ghost fits = { laws.fits };
-
-    ghost replies = { laws.replies };
-
-    ghost steady = { λ _ _ _ _. refl };
-
-    ghost get_short = { laws.get_short };
-
-    ghost set_short = { laws.set_short };
-
-    ghost same_record = { laws.same_record };
-
-    ghost undoes = { laws.undoes };
 }

@@ -1,13 +1,14 @@
 -- The power restore policy, as a kind of record (IPMI 2.0, sections 28.2 and 28.8): Get Chassis Status shows it in bits 6:5
 -- of its first byte.
-use Rattle.std.specs.Prelude.{◌≡◌, ◌≢◌, ℕ, ◌+◌, ◌*◌, ◌/◌, ◌%◌, ◌<◌, ◌≤◌, List, [], ◌∷◌, length, slice_index, nat_le, ◌==◌, if◌then◌else◌, Result, Ok, Err}
+use Rattle.std.specs.Prelude.{◌≡◌, ◌≢◌, ℕ, ◌+◌, ◌*◌, ◌/◌, ◌%◌, ◌<◌, ◌≤◌, List, [], ◌∷◌, length, slice_index, nat_le, ◌==◌, if◌then◌else◌, Result, Ok, Err, Option, Some, None, refl}
 use Rattle.cfg_records.specs.declared.key.Key.{Key}
 use Rattle.cfg_records.specs.declared.key.Key.TheVariants as key
 use Rattle.cfg_records.specs.declared.op.Op.{Op}
 use Rattle.cfg_records.specs.declared.op.Op.TheVariants as op
 use Rattle.cfg_records.specs.declared.op.SetPowerPolicy.{SetPowerPolicy}
 use Rattle.cfg_records.specs.declared.live.Live.{Live}
-use Rattle.cfg_records.specs.declared.message.Asked.{Asked}
+use Rattle.cfg_records.specs.Kind.{Form, Rules}
+use Rattle.cfg_records.specs.Cases.{Case}
 use Rattle.cfg_records.specs.PowerPolicy.{IsPowerPolicy}
 use Rattle.cfg_records.specs.Requests.{ipmi_request}
 
@@ -42,56 +43,52 @@ shown_policy reply = slice_index reply 0 / 32 % 4
 abbrev pub undo_policy : List ℕ → SetPowerPolicy
 undo_policy reply = record { policy = shown_policy reply }
 
--- ---- the kind, over all keys and operations
+-- ---- the kind
 
-abbrev pub is_key : Key → Type 0
-is_key key.PowerPolicy = Unit {0}
-is_key _ = ⊥
+abbrev pub form : Form (Unit {0}) SetPowerPolicy
+form = record {
+  name = λ alone. key.PowerPolicy;
+  key_of = λ op. tt;
+  get_request = λ alone. ipmi_request 0x00 0x01 [];
+  set_body = λ op. op.policy ∷ [];
+  set_request = λ op. ipmi_request 0x00 0x06 (op.policy ∷ []);
+  -- the Set reply says that the policies 0, 1 and 2 are there, by a bit for each
+  set_view = λ op. 0x07 ∷ [];
+  live_after = λ op live. live;
+  is_reply = λ op reply. length reply ≡ 3;
+  -- no request sets the policy 3
+  restorable = λ op reply. shown_policy reply ≢ 3;
+  undo = λ op. undo_policy;
+  -- bits 7:3 are ignored
+  is_plain = λ op. op.policy < 8;
+}
 
-abbrev pub valid : List ℕ → Type 0
-valid value = IsPowerPolicy value
+abbrev pub rules : Rules (Unit {0}) SetPowerPolicy
+rules = record {
+  is_of = λ alone. Unit {0};
+  valid = IsPowerPolicy;
+  sets = SetsPolicy;
+  outcome = policy_outcome;
+  view = status;
+  -- the policy alone is configuration: neither the chassis bits nor the other two bytes are
+  conf = λ reply. shown_policy reply ∷ [];
+}
 
-abbrev pub sets : Op → List ℕ → List ℕ → Type 0
-sets (op.PowerPolicy o) old new = SetsPolicy o old new
-sets _ old new = ⊥
+abbrev own_key : (k : Key) → Option ((own : Unit {0}) × (k ≡ form.name own))
+own_key key.PowerPolicy = Some (tt, refl)
+own_key _ = None
 
-abbrev pub outcome : Op → List ℕ → Result (List ℕ) ℕ
-outcome (op.PowerPolicy o) old = policy_outcome o old
-outcome _ old = Err 0xCC
+abbrev own_op : (o : Op) → Option ((own : SetPowerPolicy) × (o ≡ op.PowerPolicy own))
+own_op (op.PowerPolicy o) = Some (o, refl)
+own_op _ = None
 
--- the Set reply says that the policies 0, 1 and 2 are there, by a bit for each
-abbrev pub set_view : Op → List ℕ
-set_view o = 0x07 ∷ []
-
-abbrev pub live_after : Op → Live → Live
-live_after o live = live
-
-abbrev pub view : List ℕ → Live → List ℕ
-view value live = status value live
-
--- the policy alone is configuration: neither the chassis bits nor the other two bytes are
-abbrev pub conf : List ℕ → List ℕ
-conf reply = shown_policy reply ∷ []
-
-abbrev pub get_request : Key → Asked
-get_request k = ipmi_request 0x00 0x01 []
-
-abbrev pub set_body : Op → List ℕ
-set_body (op.PowerPolicy o) = o.policy ∷ []
-set_body _ = []
-
-abbrev pub set_request : Op → Asked
-set_request o = ipmi_request 0x00 0x06 (set_body o)
-
-abbrev pub is_reply : Op → List ℕ → Type 0
-is_reply (op.PowerPolicy o) reply = length reply ≡ 3
-is_reply _ reply = ⊥
-
--- no request sets the policy 3
-abbrev pub restorable : Op → List ℕ → Type 0
-restorable (op.PowerPolicy o) reply = shown_policy reply ≢ 3
-restorable _ reply = ⊥
-
-abbrev pub undo : Op → List ℕ → Op
-undo (op.PowerPolicy o) reply = op.PowerPolicy (undo_policy reply)
-undo o reply = o
+abbrev pub case : Case form
+case = record {
+  op = op.PowerPolicy;
+  own_key = own_key;
+  own_op = own_op;
+  key_is = λ o. refl;
+  finds_key = λ own. refl;
+  finds_op = λ o. refl;
+  op_there = elim [ op.PowerPolicy o ↦ λ here. tt | _ ↦ λ here. here ];
+}

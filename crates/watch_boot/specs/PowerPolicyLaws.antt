@@ -2,17 +2,17 @@
 use Rattle.std.proofs.Common.{◌≡◌, ◌≢◌, ℕ, zero, suc, ◌+◌, ◌*◌, ◌/◌, ◌%◌, ◌<◌, ◌≤◌, List, [], ◌∷◌, length, slice_index, nat_le, ◌==◌, Bool, true, false, if◌then◌else◌, Ok, Err, IsTrue, refl, sym, ◌∙◌, ap, arith}
 use Rattle.std.proofs.lemmas.Grind.{same_number_lists}
 use Rattle.std.proofs.lemmas.Bool.Decides.{nat_tests}
-use Rattle.cfg_records.specs.declared.key.Key.{Key}
 use Rattle.cfg_records.specs.declared.key.Key.TheVariants as key
-use Rattle.cfg_records.specs.declared.op.Op.{Op}
-use Rattle.cfg_records.specs.declared.op.Op.TheVariants as op
 use Rattle.cfg_records.specs.declared.op.SetPowerPolicy.{SetPowerPolicy}
 use Rattle.cfg_records.specs.declared.live.Live.{Live}
-use Rattle.cfg_records.specs.Keys.{key_of, IsPlain, is_length}
-use Rattle.cfg_records.specs.Meaning.{Decides, IsRefusal, room_for}
+use Rattle.cfg_records.specs.Keys.{is_length}
+use Rattle.cfg_records.specs.Meaning.{Decides, IsRefusal}
+use Rattle.cfg_records.specs.Kind.{IsForm, IsKind}
+use Rattle.cfg_records.specs.Exports.{OneKind}
+use Rattle.watch_boot.specs.declared.power_policy.PowerPolicyLimits.{PowerPolicyLimits}
 use Rattle.cfg_records.specs.Refusals.{refused_field}
-use Rattle.cfg_records.specs.PowerPolicy.{IsPowerPolicy}
-use Rattle.watch_boot.specs.PowerPolicy.{asked_policy, SetsPolicy, next_policy, status, shown_policy, undo_policy, is_key, valid, sets, outcome, set_view, view, conf, get_request, set_request, is_reply, restorable, undo}
+use Rattle.cfg_records.specs.PowerPolicy.{IsPowerPolicy, IsPowerPolicy-prop}
+use Rattle.watch_boot.specs.PowerPolicy.{asked_policy, SetsPolicy, next_policy, status, shown_policy, undo_policy, form, rules, case}
 
 at_first : (xs : List ℕ) (x : ℕ) → length xs ≡ 1 → slice_index xs 0 ≡ x → (k : ℕ) → k < length xs → slice_index xs k ≡ slice_index (x ∷ []) k
 at_first xs x one is zero lt = is
@@ -88,53 +88,29 @@ undoes_policy old new live v other =
       unchanged = λ three. absurd (omega arith);
     }
 
--- ---- over all keys and operations
+-- ---- the kind
 
-pub taken : (o : Op) (old new : List ℕ) → sets o old new → is_key (key_of o)
-taken (op.PowerPolicy o) old new done = tt
-taken _ old new done = absurd done
+pub is_form : IsForm form
+is_form = record {
+  set_short = λ op. omega arith;
+  plain = λ op reply is can. omega arith;
+}
 
-pub decides : (o : Op) (value : List ℕ) → Decides (outcome o value) (sets o value)
-decides (op.PowerPolicy o) value = decided o value (nat_le (asked_policy o) 3) refl
-decides _ value = λ new done. done
+pub is_kind : IsKind form rules
+is_kind = record {
+  one_proof = IsPowerPolicy-prop;
+  taken = λ op old new done. tt;
+  decides = λ op value. decided op value (nat_le (asked_policy op) 3) refl;
+  refuses = λ op value code is. refused (next_policy op value ∷ []) code (nat_le (asked_policy op) 3) is;
+  determined = λ op old new other done also. next_only op old new done ∙ sym (next_only op old other also);
+  keeps = keeps_policy;
+  fits = λ op old new done. ap (is_length key.PowerPolicy) done.one;
+  replies = λ op value live here is_valid. refl;
+  steady = λ value live other. ap (λ (n : ℕ). n ∷ []) (shows (slice_index value 0) live.chassis ∙ sym (shows (slice_index value 0) other.chassis));
+  get_short = λ alone value live here is_valid. omega arith;
+  same_record = λ op value live here is_valid. refl;
+  undoes = λ op old new live is_valid done can. undoes_policy old new live is_valid can;
+}
 
-pub refuses : (o : Op) (value : List ℕ) (code : ℕ) → outcome o value ≡ Err code → IsRefusal code
-refuses (op.PowerPolicy o) value code is = refused (next_policy o value ∷ []) code (nat_le (asked_policy o) 3) is
-refuses _ value code is = refused_field code (Err 0xCC) refl is
-
-pub determined : (o : Op) (old new other : List ℕ) → sets o old new → sets o old other → new ≡ other
-determined (op.PowerPolicy o) old new other done also = next_only o old new done ∙ sym (next_only o old other also)
-determined _ old new other done also = absurd done
-
-pub keeps : (o : Op) (old new : List ℕ) → valid old → sets o old new → valid new
-keeps (op.PowerPolicy o) old new is_valid done = keeps_policy o old new is_valid done
-keeps _ old new is_valid done = absurd done
-
-pub fits : (o : Op) (old new : List ℕ) → sets o old new → IsTrue (is_length (key_of o) (length new))
-fits (op.PowerPolicy o) old new done = ap (is_length key.PowerPolicy) done.one
-fits _ old new done = absurd done
-
-pub replies : (o : Op) (value : List ℕ) (live : Live) → is_key (key_of o) → valid value → is_reply o (view value live)
-replies (op.PowerPolicy o) value live here is_valid = refl
-replies _ value live here is_valid = absurd here
-
-pub steady : (value : List ℕ) (live other : Live) → conf (view value live) ≡ conf (view value other)
-steady value live other = ap (λ (n : ℕ). n ∷ []) (shows (slice_index value 0) live.chassis ∙ sym (shows (slice_index value 0) other.chassis))
-
-pub get_short : (k : Key) (value : List ℕ) (live : Live) → is_key k → valid value → length (view value live) ≤ room_for (get_request k)
-get_short k value live here is_valid = omega arith
-
-pub set_short : (o : Op) → is_key (key_of o) → length (set_view o) ≤ room_for (set_request o)
-set_short o here = omega arith
-
-pub same_record : (o : Op) (reply : List ℕ) → key_of (undo o reply) ≡ key_of o
-same_record (op.PowerPolicy o) reply = refl
-same_record _ reply = refl
-
-pub undoes : (o : Op) (old new : List ℕ) (live : Live) → valid old → sets o old new → restorable o (view old live) → sets (undo o (view old live)) new old
-undoes (op.PowerPolicy o) old new live is_valid done can = undoes_policy old new live is_valid can
-undoes _ old new live is_valid done can = absurd done
-
-pub plain : (o : Op) (reply : List ℕ) → is_reply o reply → restorable o reply → IsPlain (undo o reply)
-plain (op.PowerPolicy o) reply is can = omega arith
-plain _ reply is can = absurd is
+abbrev pub one : OneKind (Unit {0}) SetPowerPolicy PowerPolicyLimits
+one = record { kind = record { form = form; rules = λ limits. rules; is_form = is_form; is_kind = λ limits. is_kind }; case = case }

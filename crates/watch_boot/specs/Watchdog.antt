@@ -1,5 +1,5 @@
 -- The watchdog timer, as a kind of record (IPMI 2.0, sections 27.5 to 27.7).
-use Rattle.std.specs.Prelude.{◌≡◌, ℕ, ◌+◌, ◌-◌, ◌*◌, ◌/◌, ◌%◌, ◌≤◌, List, [], ◌∷◌, length, slice_index, bit_and, nat_le, ◌&&◌, Bool, true, IsFalse, if◌then◌else◌, Result, Ok, Err}
+use Rattle.std.specs.Prelude.{◌≡◌, ℕ, ◌+◌, ◌-◌, ◌*◌, ◌/◌, ◌%◌, ◌<◌, ◌≤◌, List, [], ◌∷◌, length, slice_index, bit_and, nat_le, ◌&&◌, Bool, true, IsFalse, if◌then◌else◌, Result, Ok, Err, Option, Some, None, refl}
 use Rattle.std.specs.Int.{w16, to_le_bytes, from_le_bytes}
 use Rattle.cfg_records.specs.declared.key.Key.{Key}
 use Rattle.cfg_records.specs.declared.key.Key.TheVariants as key
@@ -7,7 +7,8 @@ use Rattle.cfg_records.specs.declared.op.Op.{Op}
 use Rattle.cfg_records.specs.declared.op.Op.TheVariants as op
 use Rattle.cfg_records.specs.declared.op.SetWatchdog.{SetWatchdog}
 use Rattle.cfg_records.specs.declared.live.Live.{Live}
-use Rattle.cfg_records.specs.declared.message.Asked.{Asked}
+use Rattle.cfg_records.specs.Kind.{Form, Rules}
+use Rattle.cfg_records.specs.Cases.{Case}
 use Rattle.cfg_records.specs.Masks.{has}
 use Rattle.cfg_records.specs.Watchdog.{IsWatchdog, watchdog_value}
 use Rattle.cfg_records.specs.Requests.{ipmi_request}
@@ -128,56 +129,51 @@ live_after_reset value live = record {
   running = true;
 }
 
--- ---- the kind, over all keys and operations
+-- ---- the kind
 
-abbrev pub is_key : Key → Type 0
-is_key key.Watchdog = Unit {0}
-is_key _ = ⊥
+abbrev pub form : Form (Unit {0}) SetWatchdog
+form = record {
+  name = λ alone. key.Watchdog;
+  key_of = λ op. tt;
+  get_request = λ alone. ipmi_request 0x06 0x25 [];
+  set_body = watchdog_body;
+  set_request = λ op. ipmi_request 0x06 0x24 (watchdog_body op);
+  -- the Set reply has no data
+  set_view = λ op. [];
+  live_after = live_after_set;
+  is_reply = λ op reply. length reply ≡ 8;
+  restorable = λ op. IsStopped;
+  undo = λ op. undo_watchdog;
+  -- bits 5:3 of the timer use, and bits 7 and 3 of the actions are ignored
+  is_plain = λ op. (op.timer_use % 64 < 8) × (op.actions < 128) × (op.actions % 16 < 8);
+}
 
-abbrev pub valid : List ℕ → Type 0
-valid value = IsWatchdog value
+abbrev pub rules : Rules (Unit {0}) SetWatchdog
+rules = record {
+  is_of = λ alone. Unit {0};
+  valid = IsWatchdog;
+  -- the new settings are the operation's, whatever the old ones are
+  sets = λ op old new. SetsWatchdog op new;
+  outcome = λ op old. watchdog_outcome op;
+  view = watchdog_view;
+  conf = configuration;
+}
 
--- the new settings are the operation's, whatever the old ones are
-abbrev pub sets : Op → List ℕ → List ℕ → Type 0
-sets (op.Watchdog o) old new = SetsWatchdog o new
-sets _ old new = ⊥
+abbrev own_key : (k : Key) → Option ((own : Unit {0}) × (k ≡ form.name own))
+own_key key.Watchdog = Some (tt, refl)
+own_key _ = None
 
-abbrev pub outcome : Op → List ℕ → Result (List ℕ) ℕ
-outcome (op.Watchdog o) old = watchdog_outcome o
-outcome _ old = Err 0xCC
+abbrev own_op : (o : Op) → Option ((own : SetWatchdog) × (o ≡ op.Watchdog own))
+own_op (op.Watchdog o) = Some (o, refl)
+own_op _ = None
 
--- the Set reply has no data
-abbrev pub set_view : Op → List ℕ
-set_view o = []
-
-abbrev pub live_after : Op → Live → Live
-live_after (op.Watchdog o) live = live_after_set o live
-live_after _ live = live
-
-abbrev pub view : List ℕ → Live → List ℕ
-view value live = watchdog_view value live
-
-abbrev pub conf : List ℕ → List ℕ
-conf reply = configuration reply
-
-abbrev pub get_request : Key → Asked
-get_request k = ipmi_request 0x06 0x25 []
-
-abbrev pub set_body : Op → List ℕ
-set_body (op.Watchdog o) = watchdog_body o
-set_body _ = []
-
-abbrev pub set_request : Op → Asked
-set_request o = ipmi_request 0x06 0x24 (set_body o)
-
-abbrev pub is_reply : Op → List ℕ → Type 0
-is_reply (op.Watchdog o) reply = length reply ≡ 8
-is_reply _ reply = ⊥
-
-abbrev pub restorable : Op → List ℕ → Type 0
-restorable (op.Watchdog o) reply = IsStopped reply
-restorable _ reply = ⊥
-
-abbrev pub undo : Op → List ℕ → Op
-undo (op.Watchdog o) reply = op.Watchdog (undo_watchdog reply)
-undo o reply = o
+abbrev pub case : Case form
+case = record {
+  op = op.Watchdog;
+  own_key = own_key;
+  own_op = own_op;
+  key_is = λ o. refl;
+  finds_key = λ own. refl;
+  finds_op = λ o. refl;
+  op_there = elim [ op.Watchdog o ↦ λ here. tt | _ ↦ λ here. here ];
+}

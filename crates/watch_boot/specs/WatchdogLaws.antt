@@ -6,18 +6,18 @@ use Rattle.std.proofs.lemmas.Nat.{le_bytes_2}
 use Rattle.std.proofs.lemmas.Nat.Bits.{bit_at_and, bit_at_not, bit_at-lt}
 use Rattle.std.specs.Int.{bit_at, w8, w16, to_le_bytes, from_le_bytes}
 use Rattle.cfg_records.specs.Masks.{has}
-use Rattle.cfg_records.specs.declared.key.Key.{Key}
 use Rattle.cfg_records.specs.declared.key.Key.TheVariants as key
-use Rattle.cfg_records.specs.declared.op.Op.{Op}
-use Rattle.cfg_records.specs.declared.op.Op.TheVariants as op
 use Rattle.cfg_records.specs.declared.op.SetWatchdog.{SetWatchdog}
 use Rattle.cfg_records.specs.declared.live.Live.{Live}
-use Rattle.cfg_records.specs.Keys.{key_of, IsPlain, is_length}
+use Rattle.cfg_records.specs.Keys.{is_length}
 use Rattle.cfg_records.specs.MaskLaws.{both}
-use Rattle.cfg_records.specs.Meaning.{Decides, IsRefusal, room_for}
+use Rattle.cfg_records.specs.Meaning.{Decides, IsRefusal}
+use Rattle.cfg_records.specs.Kind.{IsForm, IsKind}
+use Rattle.cfg_records.specs.Exports.{OneKind}
+use Rattle.watch_boot.specs.declared.watchdog.WatchdogLimits.{WatchdogLimits}
 use Rattle.cfg_records.specs.Refusals.{refused_field}
-use Rattle.cfg_records.specs.Watchdog.{IsWatchdog, watchdog_value}
-use Rattle.watch_boot.specs.Watchdog.{use_in, kept_use, without_bit_6, interrupt_in, action_in, kept_actions, SetsWatchdog, settings_of, is_accepted, shown_use, watchdog_view, without, IsStopped, undo_watchdog, is_key, valid, sets, outcome, set_view, view, conf, get_request, set_request, is_reply, restorable, undo}
+use Rattle.cfg_records.specs.Watchdog.{IsWatchdog, IsWatchdog-prop, watchdog_value}
+use Rattle.watch_boot.specs.Watchdog.{use_in, kept_use, without_bit_6, interrupt_in, action_in, kept_actions, SetsWatchdog, settings_of, is_accepted, shown_use, watchdog_view, without, IsStopped, undo_watchdog, form, rules, case}
 
 -- ---- what a Set makes
 
@@ -141,55 +141,31 @@ clears_named flags named place fits within =
     ap (λ (n : ℕ). n == 1) (bit_at_and flags (255 - named) place ∙ ap (min (bit_at flags place)) (bit_at_not w8 named place fits within))
     ∙ one_of_two (bit_at flags place) (bit_at named place) (bit_at-lt flags place) (bit_at-lt named place)
 
--- ---- over all keys and operations
+-- ---- the kind
 
-pub taken : (o : Op) (old new : List ℕ) → sets o old new → is_key (key_of o)
-taken (op.Watchdog o) old new done = tt
-taken _ old new done = absurd done
+pub is_form : IsForm form
+is_form = record {
+  set_short = λ op. omega arith;
+  plain = λ op reply is can. (omega arith, omega arith, omega arith);
+}
 
-pub decides : (o : Op) (value : List ℕ) → Decides (outcome o value) (sets o value)
-decides (op.Watchdog o) value = decided o (is_accepted o) refl
-decides _ value = λ new done. done
+pub is_kind : IsKind form rules
+is_kind = record {
+  one_proof = IsWatchdog-prop;
+  taken = λ op old new done. tt;
+  decides = λ op value. decided op (is_accepted op) refl;
+  refuses = λ op value code is. refused (settings_of op) code (is_accepted op) is;
+  determined = λ op old new other done also. done.settings ∙ sym also.settings;
+  keeps = λ op old new is_valid done. keeps_watchdog op new done;
+  fits = λ op old new done. ap (λ (xs : List ℕ). is_length key.Watchdog (length xs)) done.settings;
+  replies = λ op value live here is_valid. refl;
+  steady = λ value live other.
+      ap (λ (n : ℕ). n ∷ slice_index value 1 ∷ slice_index value 2 ∷ slice_index value 3 ∷ slice_index value 4 ∷ [])
+      (steady_use (slice_index value 0) live.running ∙ sym (steady_use (slice_index value 0) other.running));
+  get_short = λ alone value live here is_valid. omega arith;
+  same_record = λ op value live here is_valid. refl;
+  undoes = λ op old new live is_valid done can. undoes_watchdog old live is_valid can;
+}
 
-pub refuses : (o : Op) (value : List ℕ) (code : ℕ) → outcome o value ≡ Err code → IsRefusal code
-refuses (op.Watchdog o) value code is = refused (settings_of o) code (is_accepted o) is
-refuses _ value code is = refused_field code (Err 0xCC) refl is
-
-pub determined : (o : Op) (old new other : List ℕ) → sets o old new → sets o old other → new ≡ other
-determined (op.Watchdog o) old new other done also = done.settings ∙ sym also.settings
-determined _ old new other done also = absurd done
-
-pub keeps : (o : Op) (old new : List ℕ) → sets o old new → valid new
-keeps (op.Watchdog o) old new done = keeps_watchdog o new done
-keeps _ old new done = absurd done
-
-pub fits : (o : Op) (old new : List ℕ) → sets o old new → IsTrue (is_length (key_of o) (length new))
-fits (op.Watchdog o) old new done = ap (λ (xs : List ℕ). is_length key.Watchdog (length xs)) done.settings
-fits _ old new done = absurd done
-
-pub replies : (o : Op) (value : List ℕ) (live : Live) → is_key (key_of o) → valid value → is_reply o (view value live)
-replies (op.Watchdog o) value live here is_valid = refl
-replies _ value live here is_valid = absurd here
-
-pub steady : (value : List ℕ) (live other : Live) → conf (view value live) ≡ conf (view value other)
-steady value live other =
-    ap (λ (n : ℕ). n ∷ slice_index value 1 ∷ slice_index value 2 ∷ slice_index value 3 ∷ slice_index value 4 ∷ [])
-    (steady_use (slice_index value 0) live.running ∙ sym (steady_use (slice_index value 0) other.running))
-
-pub get_short : (k : Key) (value : List ℕ) (live : Live) → is_key k → valid value → length (view value live) ≤ room_for (get_request k)
-get_short k value live here is_valid = omega arith
-
-pub set_short : (o : Op) → is_key (key_of o) → length (set_view o) ≤ room_for (set_request o)
-set_short o here = omega arith
-
-pub same_record : (o : Op) (reply : List ℕ) → key_of (undo o reply) ≡ key_of o
-same_record (op.Watchdog o) reply = refl
-same_record _ reply = refl
-
-pub undoes : (o : Op) (old new : List ℕ) (live : Live) → valid old → sets o old new → restorable o (view old live) → sets (undo o (view old live)) new old
-undoes (op.Watchdog o) old new live is_valid done can = undoes_watchdog old live is_valid can
-undoes _ old new live is_valid done can = absurd done
-
-pub plain : (o : Op) (reply : List ℕ) → is_reply o reply → restorable o reply → IsPlain (undo o reply)
-plain (op.Watchdog o) reply is can = (omega arith, omega arith, omega arith)
-plain _ reply is can = absurd is
+abbrev pub one : OneKind (Unit {0}) SetWatchdog WatchdogLimits
+one = record { kind = record { form = form; rules = λ limits. rules; is_form = is_form; is_kind = λ limits. is_kind }; case = case }

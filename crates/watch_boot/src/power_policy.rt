@@ -4,7 +4,7 @@ ghost use Rattle.std.specs.Option.{SomeIff};
 ghost use Rattle.cfg_records.specs.Meaning.{told};
 ghost use Rattle.watch_boot.specs.PowerPolicy.{policy_outcome, shown_policy, undo_policy};
 
-use cfg_records::{Asked, Key, Live, Op, RecordData, RecordKind, SetPowerPolicy, Value};
+use cfg_records::{Asked, Live, RecordData, RecordKind, SetPowerPolicy, Value};
 use two_wire::code::INVALID_DATA_FIELD;
 use two_wire::{Buffer, Code, NetFn};
 
@@ -56,52 +56,24 @@ fn undo(reply: &[u8]) -> Option<SetPowerPolicy>
     Some(SetPowerPolicy { policy })
 }
 
-impl RecordKind for PowerPolicyLimits {
-    ghost use Rattle.watch_boot.specs.PowerPolicy as p;
+impl<'a> RecordKind<'a> for PowerPolicyLimits {
     ghost use Rattle.watch_boot.specs.PowerPolicyLaws as laws;
 
-    ghost is_key = { p.is_key };
+    type Key = ();
 
-    ghost is_of = { λ _. p.is_key };
+    type Op = SetPowerPolicy;
 
-    ghost valid = { λ _. p.valid };
+    ghost kind = { laws.one.kind };
 
-    ghost sets = { λ _. p.sets };
-
-    ghost outcome = { λ _. p.outcome };
-
-    ghost set_view = { p.set_view };
-
-    ghost live_after = { p.live_after };
-
-    ghost view = { λ _. p.view };
-
-    ghost conf = { λ _. p.conf };
-
-    ghost get_request = { p.get_request };
-
-    ghost set_body = { p.set_body };
-
-    ghost set_request = { p.set_request };
-
-    ghost is_reply = { p.is_reply };
-
-    ghost restorable = { p.restorable };
-
-    ghost undo = { p.undo };
-
-    fn apply(&self, op: &Op, value: &[u8], new: &mut Value) -> Result<(), Code> {
-        match op {
-            Op::PowerPolicy(op) => set(op, value, new),
-            _ => unreachable!(),
-        }
+    fn apply(&self, op: &SetPowerPolicy, value: &[u8], new: &mut Value) -> Result<(), Code> {
+        set(op, value, new)
     }
 
-    fn set_reply<B: Buffer>(_op: &Op, reply: &mut B) {
+    fn set_reply<B: Buffer>(_op: &SetPowerPolicy, reply: &mut B) {
         reply.push(SUPPORTED);
     }
 
-    fn next_live(_op: &Op, live: &Live) -> Live {
+    fn next_live(_op: &SetPowerPolicy, live: &Live) -> Live {
         *live
     }
 
@@ -109,56 +81,19 @@ impl RecordKind for PowerPolicyLimits {
         reply.extend_from_slice(&[(value[0] << 5) | live.chassis.number(), 0, 0]);
     }
 
-    fn get_asked(_key: &Key) -> Asked {
+    fn get_asked(_key: &()) -> Asked {
         Asked::ipmi(NetFn::new(CHASSIS), GET_CHASSIS_STATUS, &[])
     }
 
-    fn set_data(op: &Op) -> RecordData {
-        match op {
-            Op::PowerPolicy(op) => RecordData::from_slice(&[op.policy]),
-            _ => unreachable!(),
-        }
+    fn set_data(op: &SetPowerPolicy) -> RecordData {
+        RecordData::from_slice(&[op.policy])
     }
 
-    fn set_asked(op: &Op) -> Asked {
-        match op {
-            Op::PowerPolicy(op) => {
-                Asked::ipmi(NetFn::new(CHASSIS), SET_POWER_RESTORE_POLICY, &[op.policy])
-            }
-            _ => unreachable!(),
-        }
+    fn set_asked(op: &SetPowerPolicy) -> Asked {
+        Asked::ipmi(NetFn::new(CHASSIS), SET_POWER_RESTORE_POLICY, &[op.policy])
     }
 
-    fn inverse(op: &Op, get_data: &[u8]) -> Option<Op> {
-        match op {
-            Op::PowerPolicy(_) => Some(Op::PowerPolicy(undo(get_data)?)),
-            _ => unreachable!(),
-        }
+    fn inverse(_op: &SetPowerPolicy, get_data: &[u8]) -> Option<SetPowerPolicy> {
+        undo(get_data)
     }
-
-    ghost of_kind = { λ _ _ here. here };
-
-    ghost taken = { λ _. laws.taken };
-
-    ghost decides = { λ _. laws.decides };
-
-    ghost refuses = { λ _. laws.refuses };
-
-    ghost determined = { λ _. laws.determined };
-
-    ghost keeps = { λ _. laws.keeps };
-
-    ghost fits = { λ _. laws.fits };
-
-    ghost replies = { λ _. laws.replies };
-
-    ghost steady = { λ _. laws.steady };
-
-    ghost get_short = { λ _. laws.get_short };
-
-    ghost set_short = { laws.set_short };
-
-    ghost same_record = { laws.same_record };
-
-    ghost undoes = { λ _. laws.undoes };
 }

@@ -1,11 +1,9 @@
 //! The power restore policy and the watchdog.
-ghost use Rattle.cfg_records.specs.Keys.{key_of};
 
 use crate::watchdog::reset;
 use crate::{PowerPolicyLimits, WatchdogLimits};
 use cfg_records::{
-    Asked, Key, Live, Op, RecordData, RecordKind, SetPowerPolicy, SetWatchdog, Value,
-    there_and_back,
+    Asked, Live, RecordData, RecordKind, SetPowerPolicy, SetWatchdog, Value, there_and_back,
 };
 use std::test::Fail;
 use two_wire::{Below, NetFn};
@@ -14,13 +12,13 @@ use two_wire::{Below, NetFn};
 const SETTINGS: [u8; 5] = [0x04, 0x01, 0x0A, 0xB8, 0x0B];
 
 /// A Set of the watchdog that lets it run on.
-const LATER: Op = Op::Watchdog(SetWatchdog {
+const LATER: SetWatchdog = SetWatchdog {
     timer_use: 0xC4,
     actions: 0x11,
     pre_timeout: 5,
     flags_to_clear: 0x10,
     initial: 6000,
-});
+};
 
 /// A watchdog that runs, with two flags set.
 fn running() -> Live {
@@ -33,17 +31,17 @@ fn running() -> Live {
 }
 
 /// Whether the operation and its inverse bring the value back.
-fn comes_back<K: RecordKind>(limits: &K, op: &Op, value: &[u8], live: &Live) -> bool
-    requires of_record { K.is_of limits.now (key_of op.now) }
-    requires is_valid { K.valid limits.now value.now }
+fn comes_back<K: RecordKind<'static>>(limits: &K, op: &K::Op, value: &[u8], live: &Live) -> bool
+    requires of_record { (K.kind.rules limits.now).is_of (K.kind.form.key_of op.now) }
+    requires is_valid { (K.kind.rules limits.now).valid value.now }
 {
     there_and_back(limits, op, value, live).is_some_and(|back| back.is(value))
 }
 
 /// The value that the operation makes, where it isn't refused.
-fn applied<K: RecordKind>(limits: &K, op: &Op, value: &[u8]) -> Option<Value>
-    requires of_record { K.is_of limits.now (key_of op.now) }
-    requires is_valid { K.valid limits.now value.now }
+fn applied<K: RecordKind<'static>>(limits: &K, op: &K::Op, value: &[u8]) -> Option<Value>
+    requires of_record { (K.kind.rules limits.now).is_of (K.kind.form.key_of op.now) }
+    requires is_valid { (K.kind.rules limits.now).valid value.now }
 {
     let mut new = Value::new();
     limits.apply(op, value, &mut new).ok()?;
@@ -51,16 +49,14 @@ fn applied<K: RecordKind>(limits: &K, op: &Op, value: &[u8]) -> Option<Value>
 }
 
 /// The data of the Set request that undoes the operation from the Get reply.
-fn undo_data<K: RecordKind>(op: &Op, reply: &[u8]) -> Option<RecordData>
-    requires { K.is_key (key_of op.now) }
-{
+fn undo_data<K: RecordKind<'static>>(op: &K::Op, reply: &[u8]) -> Option<RecordData> {
     let undo = K::inverse(op, reply)?;
     Some(K::set_data(&undo))
 }
 
 #[test]
 fn a_policy_is_undone_from_the_chassis_status(rt: HostRuntime) -> Result<(), Fail> {
-    let op = Op::PowerPolicy(SetPowerPolicy { policy: 2 });
+    let op = SetPowerPolicy { policy: 2 };
     let undo = undo_data::<PowerPolicyLimits>(&op, &[0x20, 0, 0]).ok_or("undo")?;
     assert!(rt; undo.is(&[0x01]));
     assert!(rt; undo_data::<PowerPolicyLimits>(&op, &[0x60, 0, 0]).is_none());
@@ -70,7 +66,7 @@ fn a_policy_is_undone_from_the_chassis_status(rt: HostRuntime) -> Result<(), Fai
 
 #[test]
 fn a_policy_of_3_changes_nothing(rt: HostRuntime) -> Result<(), Fail> {
-    let no_change = Op::PowerPolicy(SetPowerPolicy { policy: 3 });
+    let no_change = SetPowerPolicy { policy: 3 };
     let new = applied(&PowerPolicyLimits, &no_change, &[1]).ok_or("refused")?;
     assert!(rt; new.is(&[1]));
     let mut reply = RecordData::from_slice(&[0x2C]);
@@ -82,16 +78,16 @@ fn a_policy_of_3_changes_nothing(rt: HostRuntime) -> Result<(), Fail> {
 #[test]
 fn a_refused_set_writes_nothing(rt: HostRuntime) {
     let mut new = Value::from_slice(&[9, 9]);
-    let unknown = Op::PowerPolicy(SetPowerPolicy { policy: 4 });
+    let unknown = SetPowerPolicy { policy: 4 };
     assert!(rt; PowerPolicyLimits.apply(&unknown, &[1], &mut new).is_err());
     assert!(rt; new.is(&[9, 9]));
-    let no_use = Op::Watchdog(SetWatchdog {
+    let no_use = SetWatchdog {
         timer_use: 0,
         actions: 0,
         pre_timeout: 0,
         flags_to_clear: 0,
         initial: 1,
-    });
+    };
     assert!(rt; WatchdogLimits.apply(&no_use, &SETTINGS, &mut new).is_err());
     assert!(rt; new.is(&[9, 9]));
 }
@@ -125,13 +121,13 @@ fn a_set_begins_the_countdown_anew(rt: HostRuntime) -> Result<(), Fail> {
     assert!(rt; new.is(&[0x84, 0x11, 0x05, 0x70, 0x17]));
     let live = WatchdogLimits::next_live(&LATER, &running());
     assert!(rt; live.running && live.countdown == 6000 && live.expired == 0x08);
-    let stop = Op::Watchdog(SetWatchdog {
+    let stop = SetWatchdog {
         timer_use: 0x04,
         actions: 0,
         pre_timeout: 0,
         flags_to_clear: 0,
         initial: 1,
-    });
+    };
     assert!(rt; !WatchdogLimits::next_live(&stop, &running()).running);
     Ok(())
 }
@@ -142,7 +138,7 @@ fn a_get_shows_the_settings_and_the_timer(rt: HostRuntime) {
     WatchdogLimits.get_data(&SETTINGS, &running(), &mut reply);
     assert!(rt; reply.is(&[0x44, 0x01, 0x0A, 0x18, 0xB8, 0x0B, 0x39, 0x30]));
     let asked = Asked::ipmi(NetFn::new(0x06), 0x25, &[]);
-    assert!(rt; WatchdogLimits::get_asked(&Key::Watchdog).is(&asked));
+    assert!(rt; WatchdogLimits::get_asked(&()).is(&asked));
 }
 
 #[test]
@@ -158,7 +154,7 @@ fn settings_come_back_where_they_can(rt: HostRuntime) {
     let live = Live::opening();
     assert!(rt; comes_back(&WatchdogLimits, &LATER, &SETTINGS, &live));
     assert!(rt; !comes_back(&WatchdogLimits, &LATER, &SETTINGS, &running()));
-    let op = Op::PowerPolicy(SetPowerPolicy { policy: 0 });
+    let op = SetPowerPolicy { policy: 0 };
     assert!(rt; comes_back(&PowerPolicyLimits, &op, &[2], &live));
     assert!(rt; !comes_back(&PowerPolicyLimits, &op, &[3], &live));
 }

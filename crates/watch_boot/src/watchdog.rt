@@ -6,7 +6,7 @@ ghost use Rattle.cfg_records.specs.Watchdog.{IsWatchdog};
 ghost use Rattle.watch_boot.specs.Watchdog.{kept_use, kept_actions, is_accepted, watchdog_outcome, live_after_set, watchdog_body, shown_use, watchdog_view, IsStopped, undo_watchdog, WasSet, live_after_reset};
 
 use cfg_records::mask::has;
-use cfg_records::{Asked, Key, Live, Op, RecordData, RecordKind, SetWatchdog, Value};
+use cfg_records::{Asked, Live, RecordData, RecordKind, SetWatchdog, Value};
 use two_wire::code::INVALID_DATA_FIELD;
 use two_wire::{Buffer, Code, NetFn};
 
@@ -160,111 +160,43 @@ pub fn reset(value: &[u8], live: &Live) -> Option<Live>
     })
 }
 
-impl RecordKind for WatchdogLimits {
-    ghost use Rattle.watch_boot.specs.Watchdog as w;
+impl<'a> RecordKind<'a> for WatchdogLimits {
     ghost use Rattle.watch_boot.specs.WatchdogLaws as laws;
 
-    ghost is_key = { w.is_key };
+    type Key = ();
 
-    ghost is_of = { λ _. w.is_key };
+    type Op = SetWatchdog;
 
-    ghost valid = { λ _. w.valid };
+    ghost kind = { laws.one.kind };
 
-    ghost sets = { λ _. w.sets };
-
-    ghost outcome = { λ _. w.outcome };
-
-    ghost set_view = { w.set_view };
-
-    ghost live_after = { w.live_after };
-
-    ghost view = { λ _. w.view };
-
-    ghost conf = { λ _. w.conf };
-
-    ghost get_request = { w.get_request };
-
-    ghost set_body = { w.set_body };
-
-    ghost set_request = { w.set_request };
-
-    ghost is_reply = { w.is_reply };
-
-    ghost restorable = { w.restorable };
-
-    ghost undo = { w.undo };
-
-    fn apply(&self, op: &Op, _value: &[u8], new: &mut Value) -> Result<(), Code> {
-        match op {
-            Op::Watchdog(op) => set(op, new),
-            _ => unreachable!(),
-        }
+    fn apply(&self, op: &SetWatchdog, _value: &[u8], new: &mut Value) -> Result<(), Code> {
+        set(op, new)
     }
 
-    fn set_reply<B: Buffer>(_op: &Op, _reply: &mut B) {}
+    fn set_reply<B: Buffer>(_op: &SetWatchdog, _reply: &mut B) {}
 
-    fn next_live(op: &Op, live: &Live) -> Live {
-        match op {
-            Op::Watchdog(op) => live_after_set(op, live),
-            _ => unreachable!(),
-        }
+    fn next_live(op: &SetWatchdog, live: &Live) -> Live {
+        live_after_set(op, live)
     }
 
     fn get_data<B: Buffer>(&self, value: &[u8], live: &Live, reply: &mut B) {
         show(value, live, reply);
     }
 
-    fn get_asked(_key: &Key) -> Asked {
+    fn get_asked(_key: &()) -> Asked {
         Asked::ipmi(NetFn::new(APPLICATION), GET_WATCHDOG_TIMER, &[])
     }
 
-    fn set_data(op: &Op) -> RecordData {
-        match op {
-            Op::Watchdog(op) => body(op),
-            _ => unreachable!(),
-        }
+    fn set_data(op: &SetWatchdog) -> RecordData {
+        body(op)
     }
 
-    fn set_asked(op: &Op) -> Asked {
-        match op {
-            Op::Watchdog(op) => {
-                let body = body(op);
-                Asked::ipmi(NetFn::new(APPLICATION), SET_WATCHDOG_TIMER, body.as_slice())
-            }
-            _ => unreachable!(),
-        }
+    fn set_asked(op: &SetWatchdog) -> Asked {
+        let body = body(op);
+        Asked::ipmi(NetFn::new(APPLICATION), SET_WATCHDOG_TIMER, body.as_slice())
     }
 
-    fn inverse(op: &Op, get_data: &[u8]) -> Option<Op> {
-        match op {
-            Op::Watchdog(_) => Some(Op::Watchdog(undo(get_data)?)),
-            _ => unreachable!(),
-        }
+    fn inverse(_op: &SetWatchdog, get_data: &[u8]) -> Option<SetWatchdog> {
+        undo(get_data)
     }
-
-    ghost of_kind = { λ _ _ here. here };
-
-    ghost taken = { λ _. laws.taken };
-
-    ghost decides = { λ _. laws.decides };
-
-    ghost refuses = { λ _. laws.refuses };
-
-    ghost determined = { λ _. laws.determined };
-
-    ghost keeps = { λ _ op old new _. laws.keeps op old new };
-
-    ghost fits = { λ _. laws.fits };
-
-    ghost replies = { λ _. laws.replies };
-
-    ghost steady = { λ _. laws.steady };
-
-    ghost get_short = { λ _. laws.get_short };
-
-    ghost set_short = { laws.set_short };
-
-    ghost same_record = { laws.same_record };
-
-    ghost undoes = { λ _. laws.undoes };
 }
