@@ -31,7 +31,7 @@ fn running() -> Live {
 }
 
 /// The value that the operation makes, where it isn't refused.
-fn applied<K: RecordKind<'static>>(limits: &K, op: &K::Op, value: &[u8]) -> Option<Value>
+fn applied<'a, K: RecordKind<'a>>(limits: &K, op: &K::Op, value: &[u8]) -> Option<Value>
     requires of_record { (K.kind.record_words limits.now).is_of (K.kind.words.key_of op.now) }
     requires is_valid { (K.kind.record_words limits.now).valid value.now }
 {
