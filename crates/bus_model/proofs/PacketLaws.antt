@@ -69,9 +69,10 @@ pub packet_prefix : (rule : JoinRule) (b : PacketBus) (events later : List Packe
 packet_prefix rule b [] later x honest = tt
 packet_prefix rule b (e ∷ es) later x honest = (honest.0, packet_prefix rule b es later (packet_happens b x e) honest.1)
 
-pub packet_next : (rule : JoinRule) (b : PacketBus) (events : List PacketEvent) (e : PacketEvent) (x : Ends) → AllPacketHonest rule b (events ++ e ∷ []) x → IsPacketHonest rule b (packet_run b events x) e
-packet_next rule b [] e x honest = honest.0
-packet_next rule b (f ∷ es) e x honest = packet_next rule b es e (packet_happens b x f) honest.1
+-- and so is the rest, after it
+pub packet_rest : (rule : JoinRule) (b : PacketBus) (events later : List PacketEvent) (x : Ends) → AllPacketHonest rule b (events ++ later) x → AllPacketHonest rule b later (packet_run b events x)
+packet_rest rule b [] later x honest = honest
+packet_rest rule b (e ∷ es) later x honest = packet_rest rule b es later (packet_happens b x e) honest.1
 
 pub always_in_packets : (rule : JoinRule) → AsksNoLess rule → AlwaysAtMostOnceInPackets rule
 always_in_packets rule asks b cutting start events later none waits empty honest =
@@ -82,7 +83,7 @@ always_in_packets rule asks b cutting start events later none waits empty honest
 pub effects_in_packets : (rule : JoinRule) → AsksNoLess rule → EventsHavePacketEffects rule
 effects_in_packets rule asks b cutting start events e none waits empty honest =
     let first = all_imply rule asks b events start (packet_prefix rule b events (e ∷ []) start honest) in
-    let next = event_implies rule asks b (packet_run b events start) e (packet_next rule b events e start honest) in
+    let next = event_implies rule asks b (packet_run b events start) e (packet_rest rule b events (e ∷ []) start honest).0 in
     (packet_step b cutting start.bus.log (packet_run b events start) e (packet_run_holds b cutting start.bus.log events start (start_ends_hold b cutting start none waits empty) first) next).1
 
 pub none_open_in_packets : NoneOpenIsPacketHonest
