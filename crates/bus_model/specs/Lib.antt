@@ -14,6 +14,8 @@ pub mod PacketBus
 pub mod PacketSchedule
 pub mod PacketEffect
 pub mod Resume
+pub mod CleanLink
+pub mod Slots
 pub mod Example
 pub mod PacketExample
 pub mod Circle
