@@ -1,0 +1,5 @@
+pub mod Family
+pub mod Laws
+pub mod Plan
+pub mod Machine
+pub mod Resume
