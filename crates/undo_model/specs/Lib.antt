@@ -3,3 +3,5 @@ pub mod Laws
 pub mod Plan
 pub mod Machine
 pub mod Resume
+pub mod Wires
+pub mod Joined
