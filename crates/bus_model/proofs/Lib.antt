@@ -15,6 +15,7 @@ pub mod BusGrows
 pub mod PacketSteps
 pub mod PacketEnds
 pub mod PacketLaws
+pub mod Resume
 pub mod Cutting
 pub mod Decides
 pub mod PacketDecides

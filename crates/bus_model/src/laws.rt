@@ -11,6 +11,7 @@ ghost use Rattle.bus_model.specs.Effect.{EventsHaveEffects};
 ghost use Rattle.bus_model.specs.Packet.{IsCutting, CutsAll, packets_of};
 ghost use Rattle.bus_model.specs.PacketSchedule.{LiveWhereJoined, OneRequestWhereJoined, RecentWhereWhole, AlwaysAtMostOnceInPackets, RuleImplies, NoneOpenIsPacketHonest};
 ghost use Rattle.bus_model.specs.PacketEffect.{EventsHavePacketEffects};
+ghost use Rattle.bus_model.specs.Resume.{GoesOn, GoesOnInPackets, TagsGoOn, NothingWaitsWhereClosed};
 
 /// Over every honest schedule of whole messages the manager's requests are carried out at most once, in the order begun,
 /// and it takes for each the reply that is kept for it.
@@ -26,12 +27,30 @@ pub fn events_have_effects()
     ensures smbus { (manager controller first : ℕ) → EventsHaveEffects (smbus manager controller first) }
 {}
 
+/// Where another manager takes the place of one, its requests count from the number that came next. By its own requests and
+/// replies alone it then does what the bus says of a manager: which request is open, under which number, what comes next, and
+/// which replies are taken. So the theorems, which count both managers' requests together, are about it.
+pub fn resumed_manager_goes_on()
+    ensures ipmb { (manager controller : ℕ) → GoesOn (ipmb manager controller) }
+    ensures smbus { (manager controller : ℕ) → GoesOn (smbus manager controller) }
+    ensures tags { TagsGoOn }
+{}
+
+/// The same in packets. At such a moment nothing waits at the manager, so that nothing is dropped.
+pub fn resumed_manager_goes_on_in_packets()
+    ensures recent { GoesOnInPackets RecentWhereWhole }
+    ensures live { GoesOnInPackets LiveWhereJoined }
+    ensures one_request { GoesOnInPackets OneRequestWhereJoined }
+    ensures nothing_waits { NothingWaitsWhereClosed RecentWhereWhole }
+{}
+
 /// Whether a frame is live can be tested: the test is what the plain program of live frames computes.
 pub fn live_test_tells()
     ensures { TestTells }
 {}
 
-/// A lab that forgets the manager's window only while no request is open on either bus keeps the schedule honest.
+/// A lab that forgets the manager's window, or puts another manager in its place, only while no request is open on either bus
+/// keeps the schedule honest.
 pub fn none_open_is_honest()
     ensures whole { NoneOpenIsHonest }
     ensures in_packets { NoneOpenIsPacketHonest }
