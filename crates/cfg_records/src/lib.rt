@@ -3,23 +3,30 @@
 #![tactic(auto)]
 
 pub mod board_file;
+pub mod device;
+pub mod distinct;
+pub mod hysteresis;
 pub mod items;
 pub mod key;
 pub mod kind;
-pub mod laws;
 pub mod live;
 pub mod mask;
 pub mod message;
 pub mod op;
 pub mod plain_store;
+pub mod power_policy;
 pub mod sample;
 pub mod sensor;
+pub mod sensor_thresholds;
 pub mod store;
 pub mod thresholds;
 pub mod value;
 pub mod watchdog;
 
-pub use board_file::{BoardFile, Device};
+pub use board_file::BoardFile;
+pub use device::{Bcd, Device, ManufacturerId};
+pub use distinct::{Distinct, Numbered};
+pub use hysteresis::Hysteresis;
 pub use items::Items;
 pub use key::Key;
 pub use kind::{RecordKind, there_and_back};
@@ -27,8 +34,10 @@ pub use live::Live;
 pub use message::{Answered, Asked};
 pub use op::{Op, SetHysteresis, SetPowerPolicy, SetThresholds, SetWatchdog};
 pub use plain_store::{PlainStore, StoreFault};
+pub use power_policy::PowerPolicy;
 pub use sample::sample_board;
-pub use sensor::{Hysteresis, Sensor};
+pub use sensor::{Sensor, Sensors};
+pub use sensor_thresholds::Thresholds;
 pub use store::{NoKey, Store};
 pub use thresholds::ThresholdMasks;
 pub use value::{RecordData, Value};

@@ -19,7 +19,7 @@ pub struct Watchdog {
 impl Watchdog {
     ghost use Rattle.std.specs.Prelude.{◌≡◌, ◌↔◌, IsSome, IfSome};
     ghost use Rattle.cfg_records.specs.Watchdog.{watchdog_value, IsWatchdog};
-    ghost use Rattle.cfg_records.specs.Boards.{watchdog_pair};
+    ghost use Rattle.cfg_records.specs.Boards.{settings_value};
 
     /// The settings of these bytes, or nothing where they aren't such as a watchdog can have.
     pub fn new(timer_use: u8, actions: u8, pre_timeout: u8, initial: u16) -> Option<Watchdog>
@@ -40,7 +40,7 @@ impl Watchdog {
 
     /// The record of the settings.
     pub fn pair(&self) -> (Key, Value)
-        ensures { result ≡ watchdog_pair self.now }
+        ensures { result ≡ (Key.Watchdog, settings_value self.now) }
     {
         let [low, high] = self.initial.to_le_bytes();
         (

@@ -1,0 +1,25 @@
+//! The hysteresis of a board file's sensor.
+ghost use Rattle.std.specs.Prelude.{◌≡◌};
+ghost use Rattle.cfg_records.specs.Hysteresis.{hysteresis_value};
+
+use crate::key::Key;
+use crate::value::Value;
+
+/// How far a reading goes back before an event is taken back: for rising and for falling thresholds, in raw units.
+#[derive(Clone, Copy, Debug, PartialEq, Eq)]
+pub struct Hysteresis {
+    pub positive: u8,
+    pub negative: u8,
+}
+
+impl Hysteresis {
+    /// The record of the sensor of this number.
+    pub fn pair(&self, sensor: u8) -> (Key, Value)
+        ensures { result ≡ (Key.Hysteresis sensor, hysteresis_value self.now) }
+    {
+        (
+            Key::Hysteresis(sensor),
+            Value::from_slice(&[self.positive, self.negative]),
+        )
+    }
+}
