@@ -1,5 +1,5 @@
 -- The watchdog timer, as a kind of record (IPMI 2.0, sections 27.5 to 27.7).
-use Rattle.std.specs.Prelude.{◌≡◌, ℕ, ◌+◌, ◌-◌, ◌*◌, ◌/◌, ◌%◌, ◌<◌, ◌≤◌, List, [], ◌∷◌, length, slice_index, bit_and, nat_le, ◌&&◌, ◌==◌, not, Bool, true, IsFalse, if◌then◌else◌, Result, Ok, Err, Option, Some, None, refl}
+use Rattle.std.specs.Prelude.{◌≡◌, ℕ, ◌+◌, ◌-◌, ◌*◌, ◌/◌, ◌%◌, ◌^◌, ◌<◌, ◌≤◌, List, [], ◌∷◌, length, slice_index, bit_and, nat_le, ◌&&◌, ◌==◌, not, Bool, true, IsFalse, if◌then◌else◌, Result, Ok, Err, Option, Some, None, refl}
 use Rattle.std.specs.Int.{w16, to_le_bytes, from_le_bytes}
 use Rattle.cfg_records.specs.declared.key.Key.{Key}
 use Rattle.cfg_records.specs.declared.key.Key.TheVariants as key
@@ -63,6 +63,10 @@ watchdog_outcome op = if is_accepted op then Ok (settings_of op) else Err 0xCC
 -- the flags of the first byte that the second doesn't name
 abbrev pub without : ℕ → ℕ → ℕ
 without flags named = bit_and flags (255 - named)
+
+-- a flag is there after a Set where it was there and isn't named
+abbrev pub ClearsNamed : Type 0
+ClearsNamed = (flags named place : ℕ) → named < 2 ^ 8 → place < 8 → has (without flags named) place ≡ (has flags place && not (has named place))
 
 -- the countdown begins anew, the timer goes on only where bit 6 is set, and the named flags are cleared
 abbrev pub live_after_set : SetWatchdog → Live → Live
