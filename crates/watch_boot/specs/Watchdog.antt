@@ -143,12 +143,12 @@ abbrev pub words : KindWords (Unit {0}) SetWatchdog
 words = record {
   name = λ alone. key.Watchdog;
   key_of = λ op. tt;
-  get_request = λ alone. ipmi_request 0x06 0x25 [];
-  set_body = watchdog_body;
-  set_request = λ op. ipmi_request 0x06 0x24 (watchdog_body op);
+  get_asked = λ alone. ipmi_request 0x06 0x25 [];
+  set_data = watchdog_body;
+  set_asked = λ op. ipmi_request 0x06 0x24 (watchdog_body op);
   -- the Set reply has no data
-  set_view = λ op. [];
-  live_after = live_after_set;
+  set_reply = λ op. [];
+  next_live = live_after_set;
   is_reply = λ op reply. length reply ≡ 8;
   restorable = λ op. IsStopped;
   inverse = λ op reply. if is_stopped reply then Some (undo_watchdog reply) else None;
