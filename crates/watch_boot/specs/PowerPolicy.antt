@@ -65,12 +65,12 @@ abbrev pub words : KindWords (Unit {0}) SetPowerPolicy
 words = record {
   name = λ alone. key.PowerPolicy;
   key_of = λ op. tt;
-  get_request = λ alone. ipmi_request chassis get_chassis_status [];
-  set_body = λ op. op.policy ∷ [];
-  set_request = λ op. ipmi_request chassis set_power_restore_policy (op.policy ∷ []);
+  get_asked = λ alone. ipmi_request chassis get_chassis_status [];
+  set_data = λ op. op.policy ∷ [];
+  set_asked = λ op. ipmi_request chassis set_power_restore_policy (op.policy ∷ []);
   -- the Set reply says which policies are there
-  set_view = λ op. supported ∷ [];
-  live_after = λ op live. live;
+  set_reply = λ op. supported ∷ [];
+  next_live = λ op live. live;
   is_reply = λ op reply. length reply ≡ 3;
   -- no request sets the policy 3
   restorable = λ op reply. shown_policy reply ≢ 3;
