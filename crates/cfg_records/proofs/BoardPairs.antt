@@ -13,7 +13,6 @@ use Rattle.cfg_records.specs.Keys.{is_length}
 use Rattle.cfg_records.specs.KeyLaws.{exact_key}
 use Rattle.cfg_records.specs.Distinct.{NamesDiffer}
 use Rattle.cfg_records.specs.Records.{Pair, key_in, value_of, records_of, KeysDiffer, LengthsFit}
-use Rattle.cfg_records.specs.Hysteresis.{hysteresis_value}
 use Rattle.cfg_records.specs.Boards.{policy_value, settings_value, kinds_of, pairs_of}
 use Rattle.cfg_records.proofs.Names.{NamesDiffer-map, NamesDiffer-append}
 use Rattle.cfg_records.proofs.Searches.{find_some}
@@ -128,8 +127,8 @@ six n h = grind (arith, nat_tests)
 -- the pairs of a file: a step for each kind
 pub pairs_are : (file : BoardFile) → AreBefore file 4 (pairs_of file)
 pairs_are file =
-    let before_1 = and_then file 0 [] (none_before file) (of_sensors file key.Thresholds (λ s. s.thresholds.values) 0 (λ m n same. cc) (λ n. refl) (λ s. six _ s.thresholds.valid.six)) in
-    let before_2 = and_then file 1 _ before_1 (of_sensors file key.Hysteresis (λ s. hysteresis_value s.hysteresis) 1 (λ m n same. cc) (λ n. refl) (λ s. refl)) in
+    let before_1 = and_then file 0 [] (none_before file) (of_sensors file key.Thresholds _ 0 (λ m n same. cc) (λ n. refl) (λ s. six _ s.thresholds.valid.six)) in
+    let before_2 = and_then file 1 _ before_1 (of_sensors file key.Hysteresis _ 1 (λ m n same. cc) (λ n. refl) (λ s. refl)) in
     let before_3 = and_then file 2 _ before_2 (one_of 2 (key.PowerPolicy, policy_value file.policy) refl refl) in
     and_then file 3 _ before_3 (one_of 3 (key.Watchdog, settings_value file.watchdog) refl refl)
 

@@ -1,4 +1,4 @@
-//! The power restore policy of a board file.
+//! The power restore policy: in a board file, and as it is set.
 ghost use Rattle.std.specs.Prelude.{[], ◌∷◌};
 ghost use Rattle.cfg_records.specs.PowerPolicy.{IsPowerPolicy, IsPowerPolicy-prop};
 
@@ -10,6 +10,12 @@ use crate::value::Value;
 pub struct PowerPolicy {
     pub number: u8,
     ghost valid: { IsPowerPolicy (number ∷ []) } by { IsPowerPolicy-prop (number ∷ []) },
+}
+
+/// Sets the power restore policy, by the byte of the request: bits 2:0 are the policy, and 3 changes nothing.
+#[derive(Clone, Copy, Debug, PartialEq, Eq)]
+pub struct SetPowerPolicy {
+    pub policy: u8,
 }
 
 impl PowerPolicy {

@@ -1,4 +1,5 @@
-//! The thresholds of a board file's sensor.
+//! The thresholds of a sensor: in a board file, and as they are set.
+ghost use Rattle.std.specs.Prelude.{◌≡◌, length};
 ghost use Rattle.cfg_records.specs.Thresholds.{IsThresholds, IsThresholds-prop};
 
 use crate::key::Key;
@@ -11,6 +12,15 @@ pub struct Thresholds {
     pub masks: ThresholdMasks,
     pub values: [u8; 6],
     ghost valid: { IsThresholds masks values } by { IsThresholds-prop masks values },
+}
+
+/// Sets the thresholds that the mask has (bit i for the byte at place i) to the bytes at their places.
+#[derive(Clone, Copy, Debug, PartialEq, Eq)]
+pub struct SetThresholds {
+    pub sensor: u8,
+    pub mask: u8,
+    pub values: [u8; 6],
+    pub ghost six: { length values ≡ 6 },
 }
 
 impl Thresholds {

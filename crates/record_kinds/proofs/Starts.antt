@@ -11,11 +11,9 @@ use Rattle.cfg_records.specs.Keys.{same_key}
 use Rattle.cfg_records.specs.KeyLaws.{exact_key, same_key_self}
 use Rattle.cfg_records.specs.MaskLaws.{same_test}
 use Rattle.cfg_records.specs.Records.{Pair, value_of, records_of}
-use Rattle.cfg_records.specs.Hysteresis.{hysteresis_value}
 use Rattle.cfg_records.proofs.Pairs.{has_key}
 use Rattle.cfg_records.proofs.BoardPairs.{place_of, pairs_at, record_of_kind}
 use Rattle.record_kinds.specs.declared.limits.Limits.{Limits}
-use Rattle.record_kinds.specs.declared.limits.Limits.TheVariants as limits
 use Rattle.record_kinds.specs.Limits.{valid}
 use Rattle.record_kinds.specs.Boards.{of_sensor, limits_at}
 use Rattle.record_kinds.specs.Sound.{IsSoundAt, StartsSound}
@@ -55,8 +53,8 @@ of_sensors file of value limits_of number exact =
 
 -- the record of a key is sound where only the pairs of its kind are: a line for each kind
 sound_in_kind : (file : BoardFile) (k : Key) → IsSoundAt (limits_at file k) (records_of (pairs_at file (place_of k)) k)
-sound_in_kind file (key.Thresholds number) = of_sensors file key.Thresholds (λ s. s.thresholds.values) (λ s. limits.Thresholds (record { masks = s.thresholds.masks })) number (λ m n same. cc) (λ s. s.thresholds.valid)
-sound_in_kind file (key.Hysteresis number) = of_sensors file key.Hysteresis (λ s. hysteresis_value s.hysteresis) (λ s. limits.Hysteresis (record {})) number (λ m n same. cc) (λ s. refl)
+sound_in_kind file (key.Thresholds number) = of_sensors file key.Thresholds _ _ number (λ m n same. cc) (λ s. s.thresholds.valid)
+sound_in_kind file (key.Hysteresis number) = of_sensors file key.Hysteresis _ _ number (λ m n same. cc) (λ s. refl)
 sound_in_kind file key.PowerPolicy = file.policy.valid
 sound_in_kind file key.Watchdog = file.watchdog.valid
 

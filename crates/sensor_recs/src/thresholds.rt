@@ -4,7 +4,9 @@ ghost use Rattle.sensor_recs.specs.Thresholds.{choose, thresholds_body, shows_al
 
 use crate::request::sensor_request;
 use cfg_records::mask::{has, is_within};
-use cfg_records::{Asked, Live, RecordData, RecordKind, Sensor, SetThresholds, ThresholdMasks, Value};
+use cfg_records::{
+    Asked, Live, RecordData, RecordKind, Sensor, SetThresholds, ThresholdMasks, Value,
+};
 use two_wire::code::INVALID_DATA_FIELD;
 use two_wire::{Buffer, Code};
 

@@ -6,7 +6,7 @@ use Rattle.cfg_records.specs.declared.key.Key.{Key}
 use Rattle.cfg_records.specs.declared.key.Key.TheVariants as key
 use Rattle.cfg_records.specs.declared.op.Op.{Op}
 use Rattle.cfg_records.specs.declared.op.Op.TheVariants as op
-use Rattle.cfg_records.specs.declared.op.SetPowerPolicy.{SetPowerPolicy}
+use Rattle.cfg_records.specs.declared.power_policy.SetPowerPolicy.{SetPowerPolicy}
 use Rattle.cfg_records.specs.declared.live.Live.{Live}
 use Rattle.cfg_records.specs.Kind.{KindWords, RecordWords}
 use Rattle.cfg_records.specs.AllKinds.{Place}

@@ -4,7 +4,7 @@ use Rattle.std.proofs.lemmas.Grind.{same_number_lists}
 use Rattle.std.proofs.lemmas.Bool.Decides.{nat_tests}
 use Rattle.two_wire.specs.Codes.{invalid_data_field}
 use Rattle.cfg_records.specs.declared.key.Key.TheVariants as key
-use Rattle.cfg_records.specs.declared.op.SetPowerPolicy.{SetPowerPolicy}
+use Rattle.cfg_records.specs.declared.power_policy.SetPowerPolicy.{SetPowerPolicy}
 use Rattle.cfg_records.specs.declared.live.Live.{Live}
 use Rattle.cfg_records.specs.Keys.{is_length}
 use Rattle.cfg_records.specs.MaskLaws.{both, both_true}

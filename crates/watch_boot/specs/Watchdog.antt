@@ -6,7 +6,7 @@ use Rattle.cfg_records.specs.declared.key.Key.{Key}
 use Rattle.cfg_records.specs.declared.key.Key.TheVariants as key
 use Rattle.cfg_records.specs.declared.op.Op.{Op}
 use Rattle.cfg_records.specs.declared.op.Op.TheVariants as op
-use Rattle.cfg_records.specs.declared.op.SetWatchdog.{SetWatchdog}
+use Rattle.cfg_records.specs.declared.watchdog.SetWatchdog.{SetWatchdog}
 use Rattle.cfg_records.specs.declared.live.Live.{Live}
 use Rattle.cfg_records.specs.Kind.{KindWords, RecordWords}
 use Rattle.cfg_records.specs.AllKinds.{Place}

@@ -8,7 +8,7 @@ use Rattle.std.specs.Int.{bit_at, w8, w16, to_le_bytes, from_le_bytes}
 use Rattle.two_wire.specs.Codes.{invalid_data_field}
 use Rattle.cfg_records.specs.Masks.{has}
 use Rattle.cfg_records.specs.declared.key.Key.TheVariants as key
-use Rattle.cfg_records.specs.declared.op.SetWatchdog.{SetWatchdog}
+use Rattle.cfg_records.specs.declared.watchdog.SetWatchdog.{SetWatchdog}
 use Rattle.cfg_records.specs.declared.live.Live.{Live}
 use Rattle.cfg_records.specs.Keys.{is_length}
 use Rattle.cfg_records.specs.MaskLaws.{both}
