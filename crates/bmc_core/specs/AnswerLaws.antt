@@ -4,7 +4,7 @@ use Rattle.std.proofs.lemmas.Bool.Decides.{nat_tests}
 use Rattle.two_wire.specs.Codes.{uninitialized_watchdog}
 use Rattle.watch_boot.specs.Watchdog.{was_set, live_after_reset}
 use Rattle.std.proofs.Common.{[], ◌≤◌, nat_le, Bool, true, false, if◌then◌else◌, arith, refl, ap, ◌∙◌, inl, inr}
-use Rattle.cfg_records.specs.Keys.{key_of}
+use Rattle.record_kinds.specs.Limits.{key_of}
 use Rattle.cfg_records.specs.Records.{with_record}
 use Rattle.cfg_records.specs.Meaning.{Decides}
 use Rattle.cfg_records.specs.declared.op.Op.{Op}

@@ -64,7 +64,7 @@ fn answered(done: Result<(), Code>, body: Bytes<251>) -> Answered
 const PLDM_TYPES: [u8; 8] = [0x0D, 0, 0, 0, 0, 0, 0, 0];
 
 impl<S: Store> Board<S> {
-    ghost use Rattle.cfg_records.specs.Keys.{key_of};
+    ghost use Rattle.record_kinds.specs.Limits.{key_of};
     ghost use Rattle.record_kinds.specs.Boards.{limits_at};
     ghost use Rattle.bmc_core.specs.State.{state};
     ghost use Rattle.bmc_core.specs.Room.{longest_reply};
@@ -132,7 +132,7 @@ impl<S: Store> Board<S> {
         ensures left { state (S.records self.new.store) self.new.live ≡ (set_answer (limits_at self.old.setup (key_of op.now)) (S.records self.old.store (key_of op.now)) (unknown_code self.old.setup (key_of op.now)) op.now (state (S.records self.old.store) self.old.live)).1 }
         ensures setup { self.new.setup ≡ self.old.setup }
     {
-        let key = op.key();
+        let key = Limits::key(op);
         match (self.setup.limits(&key), self.store.get(&key)) {
             (Some(limits), Some(value)) => {
                 limits.apply(op, value, &mut self.made)?;

@@ -1,5 +1,5 @@
 //! A change and its undo, on the sample board.
-ghost use Rattle.cfg_records.specs.Keys.{key_of};
+ghost use Rattle.record_kinds.specs.Limits.{key_of};
 
 use crate::Board;
 use cfg_records::{
@@ -20,7 +20,7 @@ fn board(alloc: Global) -> Result<Board<PlainStore>, Fail> {
 
 /// What a Get replies of the record that the operation changes.
 fn shown<S: Store>(board: &mut Board<S>, op: &Op) -> Answered {
-    board.answer(&Limits::get_asked(&op.key()))
+    board.answer(&Limits::get_asked(&Limits::key(op)))
 }
 
 /// The record is changed, and changed back from what the Get replied: what a Get replies before, between and after.
