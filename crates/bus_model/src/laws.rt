@@ -10,7 +10,8 @@ ghost use Rattle.bus_model.specs.AtMostOnce.{AlwaysAtMostOnce};
 ghost use Rattle.bus_model.specs.Effect.{EventsHaveEffects};
 ghost use Rattle.bus_model.specs.Packet.{IsCutting, CutsAll, packets_of};
 ghost use Rattle.bus_model.specs.PacketSchedule.{LiveWhereJoined, OneRequestWhereJoined, RecentWhereWhole, AlwaysAtMostOnceInPackets, RuleImplies, NoneOpenIsPacketHonest};
-ghost use Rattle.bus_model.specs.PacketEffect.{EventsHavePacketEffects};
+ghost use Rattle.bus_model.specs.PacketEffect.{EventsHavePacketEffects, OthersAsk};
+ghost use Rattle.bus_model.specs.Bytes.{ReadsRequests};
 ghost use Rattle.bus_model.specs.CleanLink.{OpenGoesThrough, OpenGoesThroughInPackets, CutIsWhole};
 ghost use Rattle.bus_model.specs.Slots.{SlotsDecide};
 ghost use Rattle.bus_model.specs.declared.numbers.Numbers.{Numbers};
@@ -65,6 +66,13 @@ pub fn test_on_bytes_is_the_model()
     ensures smbus { (manager controller first : ℕ) → TestIsModel Pldm (smbus manager controller first) }
     ensures in_packets { TestIsModelInPackets Pldm RecentWhereWhole }
     ensures busy { (kind : Numbers) → BusyFails kind }
+{}
+
+/// What another requester's packets do at the port. A message that they make is a request only where it is one by its bytes;
+/// control messages, other types and malformed requests leave the bus and its log as they are, so they take no window.
+pub fn only_requests_take_windows()
+    ensures read { ReadsRequests }
+    ensures packets { OthersAsk }
 {}
 
 /// Whether a frame is live can be tested: the test is what the plain program of live frames computes.
