@@ -1,14 +1,12 @@
 -- The manager's test on bytes takes of live content what the model takes by the number.
-use Rattle.std.proofs.Common.{◌≡◌, ◌≢◌, ℕ, ◌+◌, ◌*◌, ◌/◌, ◌%◌, ◌<◌, ◌≤◌, Bool, true, false, ◌&&◌, eqb, not, cond, List, [], ◌∷◌, length, Option, Some, None, refl, sym, ◌∙◌, ap, subst, arith, inl, inr}
+use Rattle.std.proofs.Common.{◌≡◌, ◌≢◌, ℕ, ◌+◌, ◌*◌, ◌/◌, ◌%◌, ◌<◌, ◌≤◌, Bool, true, false, ◌&&◌, eqb, cond, List, [], ◌∷◌, length, Option, Some, None, refl, sym, ◌∙◌, ap, subst, arith, inl, inr}
 use Rattle.std.specs.Prelude.{slice_get, slice_index}
-use Rattle.std.proofs.lemmas.Bool.{and_parts, and_from, and_right, eqb-true, eq-eqb, ne_eqb, lt-ltb, cond_both, cond-true, cases_Bool, true≢false, not_from_true, not_from_false}
+use Rattle.std.proofs.lemmas.Bool.{and_parts, and_from, and_right, eqb-true, eq-eqb, ne_eqb, lt-ltb, cond_both, cond-true, cases_Bool, true≢false, not_from_false}
 use Rattle.std.proofs.lemmas.Option.{same_Some, slice_get_within}
 use Rattle.bus_model.specs.declared.numbers.Numbers.{Numbers}
 use Rattle.bus_model.specs.declared.numbers.Numbers.TheVariants.{Ipmb, Pldm}
-use Rattle.bus_model.specs.Request.{Kept}
 use Rattle.bus_model.specs.Numbering.{Bus, ipmb, smbus}
-use Rattle.bus_model.specs.BusState.{BusState, Frame, Content, Ask, Reply, is_open, taken_content}
-use Rattle.bus_model.specs.Effect.{IsKeptFor}
+use Rattle.bus_model.specs.BusState.{BusState, Content, Ask, Reply, is_open, taken_content}
 use Rattle.bus_model.specs.PacketBus.{rules_of}
 use Rattle.bus_model.specs.PacketSchedule.{JoinRule}
 use Rattle.bus_model.specs.Bytes.{IpmbHeader, ipmb_request, ipmb_reply, IsIpmbRequest, IsIpmbReply, ipmb_answers, PldmHeader, pldm_request, pldm_reply, IsPldmRequest, IsPldmReply, pldm_answers, busy_code, IsRequestOn, IsReplyOn, answers}

@@ -1,24 +1,22 @@
 -- A manager that goes on from the number which comes next does what the bus says of it.
-use Rattle.std.proofs.Common.{◌≡◌, ℕ, zero, suc, ◌+◌, ◌-◌, ◌%◌, ◌≤◌, Bool, false, ◌&&◌, eqb, ltb, cond, List, [], ◌∷◌, ◌++◌, length, drop, Option, Some, None, refl, sym, ◌∙◌, ap, subst, arith, inl, inr}
+use Rattle.std.proofs.Common.{◌≡◌, ℕ, zero, suc, ◌+◌, ◌-◌, ◌≤◌, Bool, false, ◌&&◌, eqb, ltb, cond, List, [], ◌∷◌, length, drop, Option, Some, None, refl, sym, ◌∙◌, ap, arith, inl, inr}
 use Rattle.std.specs.Prelude.{slice_get}
 use Rattle.std.proofs.lemmas.Bool.{lt-ltb, le-ltb, ltb-false, cases_lt, cond_both}
 use Rattle.std.proofs.lemmas.List.{length-drop}
-use Rattle.bus_model.specs.Request.{Request, Kept, Entry}
+use Rattle.bus_model.specs.Request.{Request}
 use Rattle.bus_model.specs.Numbering.{Bus, ipmb, smbus, tag_of}
 use Rattle.bus_model.specs.BusState.{BusState, Frame, Content, Ask, Reply, Event, Begins, SendsAgain, ReachesPort, ReachesManager, OtherAsks, OtherReplies, IsIdle, Resumes, is_open, begins, sends_again, comes, at_port, taken_content, taken_now, taken_from, takes_if, happens, run}
-use Rattle.bus_model.specs.Schedule.{AllHonest}
-use Rattle.bus_model.specs.Start.{NothingUnderWay, EmptyWindow, NothingWaits}
 use Rattle.bus_model.specs.Repeat.{In}
-use Rattle.bus_model.specs.Packet.{Packet, IsCutting}
-use Rattle.bus_model.specs.Assembly.{Name, is_name, Sent, Step, Waits, Whole, Drops, takes, message_of}
+use Rattle.bus_model.specs.Packet.{Packet}
+use Rattle.bus_model.specs.Assembly.{is_name, Sent, Step, Waits, Whole, Drops, takes, message_of}
 use Rattle.bus_model.specs.PacketBus.{PacketBus, rules_of, request_name, reply_name, Ends, PacketEvent, Plain, PacketReachesPort, PacketReachesManager, OtherPacket, OtherReplyPacket, Closes, Clears, PacketResumes, set_at, is_awaited, whole_comes, whole_returns, other_request, hears_other, port_takes, manager_takes, packet_comes, packet_returns, packet_at_port, packet_at_manager, packet_happens, packet_run}
-use Rattle.bus_model.specs.PacketSchedule.{JoinRule, AllPacketHonest}
+use Rattle.bus_model.specs.PacketSchedule.{JoinRule}
 use Rattle.bus_model.specs.Resume.{known_since, ActsAs, GoesOn, GoesOnInPackets, TagsGoOn, NothingWaitsWhereClosed}
 use Rattle.bus_model.proofs.Lists.{length_more}
 use Rattle.bus_model.proofs.NumberLaws.{IsNumbering, ipmb_numbers, smbus_numbers}
 use Rattle.bus_model.proofs.Steps.{Holds, start_holds, run_holds}
 use Rattle.bus_model.proofs.WholeMessages.{honest_prefix, honest_rest}
-use Rattle.bus_model.proofs.PacketEnds.{EndsHold, packet_run_holds, start_ends_hold}
+use Rattle.bus_model.proofs.PacketEnds.{packet_run_holds, start_ends_hold}
 use Rattle.bus_model.proofs.PacketLaws.{AsksNoLess, all_imply, packet_prefix, packet_rest}
 
 -- what stands past the first few
