@@ -4,3 +4,6 @@ pub mod Calls
 pub mod Buses
 pub mod Orderly
 pub mod Joined
+pub mod LineLaws
+pub mod World
+pub mod Headline

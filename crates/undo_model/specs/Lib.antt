@@ -5,3 +5,6 @@ pub mod Machine
 pub mod Resume
 pub mod Wires
 pub mod Joined
+pub mod Line
+pub mod World
+pub mod Headline
