@@ -7,3 +7,4 @@ pub mod Joined
 pub mod LineLaws
 pub mod World
 pub mod Headline
+pub mod Registers

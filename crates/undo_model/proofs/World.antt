@@ -319,7 +319,7 @@ module _ (F : Family) (laws : IsFamily F) (L : Bus → Line) (lines : (bus : Bus
       → WorldHolds (world.looks F L W bus e b w)
   looks_hold task bus e false w at is h honest t = h
   looks_hold task bus e true w at is h honest t =
-      brought_holds task bus e ((L bus).brings (w.on bus) e) w at (is refl) h honest.honest ((lines bus).to_manager (w.on bus) e (h.holds bus) honest.outside t honest.honest)
+      brought_holds task bus e ((L bus).brings (w.on bus) e) w at (is refl) h honest.1 ((lines bus).to_manager (w.on bus) e (h.holds bus) honest.0 t honest.1)
 
   returns_hold : (bus : Bus) (e : (L bus).Event) (stage : Stage F) (w : World F L) → stage ≡ w.machine.stage → WorldHolds w → IsHonestOn F L W bus e w → (L bus).is_to_manager e ≡ true → WorldHolds (world.returns F L W bus e stage w)
   returns_hold bus e (Opened true task) w at h honest t = looks_hold task bus e (same_bus bus (bus_at F task)) w at (same_bus-true bus (bus_at F task)) h honest t
@@ -370,7 +370,7 @@ module _ (F : Family) (laws : IsFamily F) (L : Bus → Line) (lines : (bus : Bus
   happens_holds w (Resume retries) h may = resumes_hold retries w.machine.stage w refl h
   happens_holds w (ToManager bus e) h may = returns_hold bus e w.machine.stage w refl h may.0 may.1
   happens_holds w (OnBus bus e after) h may =
-      on_bus_holds bus e after ((L bus).carries (w.on bus) e) w h may.0.honest ((lines bus).on_bus (w.on bus) e (h.holds bus) may.0.outside may.1 may.0.honest) may.2
+      on_bus_holds bus e after ((L bus).carries (w.on bus) e) w h may.0.1 ((lines bus).on_bus (w.on bus) e (h.holds bus) may.0.0 may.1 may.0.1) may.2
   happens_holds w (OnBench after) h may =
       record { joined = elsewhere F laws W first plan start w.machine.plan w.machine.stage w.machine.stopped w.machine.undo (requests w.on) w.board after h.joined may; counted = h.counted; holds = h.holds }
 

@@ -8,3 +8,4 @@ pub mod Joined
 pub mod Line
 pub mod World
 pub mod Headline
+pub mod Registers

@@ -121,10 +121,9 @@ module _ (F : Family) (L : Bus → Line) (W : Wires F) where
   BoardMay bus None board after = F.records after ≡ F.records board
   BoardMay bus (Some x) board after = (a : Answered) × (x.reply ≡ W.reply_to bus x.bytes a) × F.Row board (W.asked_from bus x.bytes) a after
 
-  -- what happens on a bus is honest there
-  pub record IsHonestOn (bus : Bus) (event : (L bus).Event) (w : World F L) : Type 0 where
-    pub outside : (L bus).IsOutside event
-    pub honest : (L bus).IsHonest (w.on bus) event
+  -- what happens on a bus is none of the manager's doing, and honest there
+  abbrev pub IsHonestOn : (bus : Bus) → (L bus).Event → World F L → Type 0
+  IsHonestOn bus e w = (L bus).IsOutside e × (L bus).IsHonest (w.on bus) e
 
   -- it may happen here
   abbrev pub May : World F L → Happening F L → Type 0
