@@ -14,7 +14,7 @@ use Rattle.cfg_records.specs.declared.board_file.BoardFile.{BoardFile}
 use Rattle.record_kinds.specs.declared.limits.Limits.{Limits}
 use Rattle.record_kinds.specs.declared.limits.Limits.TheVariants as kinds
 use Rattle.watch_boot.specs.Watchdog.{was_set, live_after_reset}
-use Rattle.record_kinds.specs.Limits.{is_of, outcome, get_request, set_request}
+use Rattle.record_kinds.specs.Limits.{is_of, outcome, get_asked, set_asked}
 use Rattle.record_kinds.specs.LimitsLaws as laws
 use Rattle.std.specs.Option.{option_map}
 use Rattle.record_kinds.specs.Boards.{sensor_at, thresholds_of, hysteresis_of, limits_at}
@@ -194,18 +194,18 @@ limits_are_of file (key.Hysteresis number) limits e = of_sensor (sensor_at file.
 limits_are_of file key.PowerPolicy limits e = of_alone (kinds.PowerPolicy (record {})) limits key.PowerPolicy e tt
 limits_are_of file key.Watchdog limits e = of_alone (kinds.Watchdog (record {})) limits key.Watchdog e tt
 
-get_fits : (limits : Option Limits) (value : Option (List ℕ)) (live : Live) (key : Key) (room : ℕ) → ((l : Limits) → limits ≡ Some l → is_of l key) → IsSoundAt limits value → room_for (get_request key) ≤ room
+get_fits : (limits : Option Limits) (value : Option (List ℕ)) (live : Live) (key : Key) (room : ℕ) → ((l : Limits) → limits ≡ Some l → is_of l key) → IsSoundAt limits value → room_for (get_asked key) ≤ room
     → length (get_answer limits value live not_present).body ≤ room
 get_fits (Some l) (Some v) live key room of sound le = omega (arith, (laws.record_laws l).get_short key v live (of l refl) sound)
 get_fits (Some l) None live key room of sound le = omega arith
 get_fits None (Some v) live key room of sound le = omega arith
 get_fits None None live key room of sound le = omega arith
 
-result_fits : (r : Result (List ℕ) ℕ) (op : Op) (before : State) (room : ℕ) → room_for (set_request op) ≤ room → length (set_result r op before).0.body ≤ room
+result_fits : (r : Result (List ℕ) ℕ) (op : Op) (before : State) (room : ℕ) → room_for (set_asked op) ≤ room → length (set_result r op before).0.body ≤ room
 result_fits (Ok new) op before room le = omega (arith, laws.kind_laws.set_short op)
 result_fits (Err fault) op before room le = omega arith
 
-set_fits : (limits : Option Limits) (value : Option (List ℕ)) (op : Op) (before : State) (room : ℕ) → room_for (set_request op) ≤ room → length (set_answer limits value not_present op before).0.body ≤ room
+set_fits : (limits : Option Limits) (value : Option (List ℕ)) (op : Op) (before : State) (room : ℕ) → room_for (set_asked op) ≤ room → length (set_answer limits value not_present op before).0.body ≤ room
 set_fits (Some l) (Some old) op before room le = result_fits (outcome l op old) op before room le
 set_fits (Some l) None op before room le = omega arith
 set_fits None (Some old) op before room le = omega arith

@@ -12,7 +12,7 @@ use Rattle.cfg_records.specs.declared.message.Answered.{Answered}
 use Rattle.cfg_records.specs.declared.board_file.BoardFile.{BoardFile}
 use Rattle.record_kinds.specs.declared.limits.Limits.{Limits}
 use Rattle.cfg_records.specs.Kind.{RecordLaws}
-use Rattle.record_kinds.specs.Limits.{words, record_words, valid, sets, view, get_request, set_request, inverse}
+use Rattle.record_kinds.specs.Limits.{words, record_words, valid, sets, view, get_asked, set_asked, inverse}
 use Rattle.record_kinds.specs.LimitsLaws as laws
 use Rattle.record_kinds.specs.Boards.{limits_at}
 use Rattle.record_kinds.specs.Sound.{valid_at}
@@ -29,11 +29,11 @@ use Rattle.bmc_core.proofs.Decoded.{gets_are_read, sets_are_read}
 read_as : (setup : BoardFile) (before : State) (asked : Asked) (request : Request) (answered : Answered) (after : State) → asked_by asked ≡ Ok request → Row setup before asked answered after → Serves setup before request answered after
 read_as setup before asked request answered after is row = subst (λ (r : Result Request ℕ). Replies setup before r answered after) is row
 
-pub get_served : (setup : BoardFile) (before : State) (key : Key) (answered : Answered) (after : State) → Row setup before (get_request key) answered after → Serves setup before (Get key) answered after
-get_served setup before key answered after row = read_as setup before (get_request key) (Get key) answered after (gets_are_read key).is_read row
+pub get_served : (setup : BoardFile) (before : State) (key : Key) (answered : Answered) (after : State) → Row setup before (get_asked key) answered after → Serves setup before (Get key) answered after
+get_served setup before key answered after row = read_as setup before (get_asked key) (Get key) answered after (gets_are_read key).is_read row
 
-set_served : (setup : BoardFile) (before : State) (op : Op) (answered : Answered) (after : State) → Row setup before (set_request op) answered after → Serves setup before (Set op) answered after
-set_served setup before op answered after row = read_as setup before (set_request op) (Set op) answered after (sets_are_read op).is_read row
+set_served : (setup : BoardFile) (before : State) (op : Op) (answered : Answered) (after : State) → Row setup before (set_asked op) answered after → Serves setup before (Set op) answered after
+set_served setup before op answered after row = read_as setup before (set_asked op) (Set op) answered after (sets_are_read op).is_read row
 
 -- ---- requests that are carried out
 

@@ -11,7 +11,7 @@ use Rattle.cfg_records.specs.declared.board_file.BoardFile.{BoardFile}
 use Rattle.two_wire.specs.Codes.{uninitialized_watchdog}
 use Rattle.watch_boot.specs.Watchdog.{was_set, live_after_reset}
 use Rattle.record_kinds.specs.declared.limits.Limits.{Limits}
-use Rattle.record_kinds.specs.Limits.{outcome, view, set_view, live_after}
+use Rattle.record_kinds.specs.Limits.{outcome, view, set_reply, next_live}
 use Rattle.record_kinds.specs.Boards.{limits_at}
 use Rattle.bmc_core.specs.declared.request.Request.{Request}
 use Rattle.bmc_core.specs.declared.request.Request.TheVariants.{GetDeviceId, ResetWatchdog, Get, Set, GetTid, GetPldmTypes}
@@ -26,7 +26,7 @@ get_answer _ _ live unknown = refused unknown
 
 -- what comes of a Set: its reply, and the state that it leaves
 abbrev pub set_result : Result (List ℕ) ℕ → Op → State → Answered × State
-set_result (Ok new) op before = (done (set_view op), state (with_record before.records (key_of op) new) (live_after op before.live))
+set_result (Ok new) op before = (done (set_reply op), state (with_record before.records (key_of op) new) (next_live op before.live))
 set_result (Err fault) op before = (refused fault, before)
 
 abbrev pub set_answer : Option Limits → Option (List ℕ) → ℕ → Op → State → Answered × State

@@ -13,7 +13,7 @@ use Rattle.cfg_records.specs.declared.message.Asked.{Asked}
 use Rattle.cfg_records.specs.declared.message.Answered.{Answered}
 use Rattle.cfg_records.specs.declared.board_file.BoardFile.{BoardFile}
 use Rattle.record_kinds.specs.declared.limits.Limits.{Limits}
-use Rattle.record_kinds.specs.Limits.{sets, outcome, live_after}
+use Rattle.record_kinds.specs.Limits.{sets, outcome, next_live}
 use Rattle.record_kinds.specs.LimitsLaws as laws
 use Rattle.bmc_core.specs.declared.request.Request.{Request}
 use Rattle.bmc_core.specs.declared.request.Request.TheVariants.{GetDeviceId, ResetWatchdog, Get, Set, GetTid, GetPldmTypes}
@@ -93,7 +93,7 @@ gets_once None None live unknown answered h = h
 result_once : (limits : Limits) (old : List ℕ) (unknown : ℕ) (op : Op) (before : State) (answered : Answered) (after : State) (r : Result (List ℕ) ℕ) → outcome limits op old ≡ r → Decides r (sets limits op old)
     → Sets (Some limits) (Some old) unknown op before answered after → (let p : Given = (answered, after) in p) ≡ set_result r op before
 result_once limits old unknown op before answered after (Ok new) e d (inl h) =
-    pair _ _ _ _ h.replied (h.left ∙ ap (λ v. state (with_record before.records (key_of op) v) (live_after op before.live)) ((laws.record_laws limits).determined op old h.new new h.is_set d))
+    pair _ _ _ _ h.replied (h.left ∙ ap (λ v. state (with_record before.records (key_of op) v) (next_live op before.live)) ((laws.record_laws limits).determined op old h.new new h.is_set d))
 result_once limits old unknown op before answered after (Ok new) e d (inr h) = absurd (h.no_value new d)
 result_once limits old unknown op before answered after (Err fault) e d (inl h) = absurd (d h.new h.is_set)
 result_once limits old unknown op before answered after (Err fault) e d (inr h) =

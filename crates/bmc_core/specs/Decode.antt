@@ -5,7 +5,7 @@ use Rattle.cfg_records.specs.declared.key.Key.{Key}
 use Rattle.cfg_records.specs.declared.op.Op.{Op}
 use Rattle.cfg_records.specs.declared.message.Asked.{Asked}
 use Rattle.cfg_records.specs.declared.message.Asked.TheVariants.{Ipmi, Pldm}
-use Rattle.record_kinds.specs.Limits.{get_request, set_request, inverse, is_plain}
+use Rattle.record_kinds.specs.Limits.{get_asked, set_asked, inverse, is_plain}
 use Rattle.bmc_core.specs.declared.request.Request.{Request}
 use Rattle.bmc_core.specs.declared.request.Request.TheVariants.{Get, Set}
 use Rattle.bmc_core.specs.Request.{asked_by}
@@ -22,11 +22,11 @@ pub record Asks (asked : Asked) (request : Request) : Type 0 where
 
 -- the request for a record is read as a Get of that record
 abbrev pub GetsAreRead : Type 0
-GetsAreRead = (key : Key) → Asks (get_request key) (Get key)
+GetsAreRead = (key : Key) → Asks (get_asked key) (Get key)
 
 -- the request for an operation is read as that operation
 abbrev pub SetsAreRead : Type 0
-SetsAreRead = (op : Op) → Asks (set_request op) (Set op)
+SetsAreRead = (op : Op) → Asks (set_asked op) (Set op)
 
 -- what undoes an operation has 0 in each bit that a controller ignores
 abbrev pub UndosArePlain : Type 0

@@ -1,7 +1,7 @@
 -- How long replies are.
 use Rattle.std.specs.Prelude.{ℕ}
 use Rattle.cfg_records.specs.Meaning.{room_for}
-use Rattle.record_kinds.specs.Limits.{get_request, set_request}
+use Rattle.record_kinds.specs.Limits.{get_asked, set_asked}
 use Rattle.bmc_core.specs.declared.request.Request.{Request}
 use Rattle.bmc_core.specs.declared.request.Request.TheVariants.{GetDeviceId, ResetWatchdog, Get, Set, GetTid, GetPldmTypes}
 
@@ -11,5 +11,5 @@ longest_reply GetDeviceId = 11
 longest_reply ResetWatchdog = 0
 longest_reply GetTid = 1
 longest_reply GetPldmTypes = 8
-longest_reply (Get key) = room_for (get_request key)
-longest_reply (Set op) = room_for (set_request op)
+longest_reply (Get key) = room_for (get_asked key)
+longest_reply (Set op) = room_for (set_asked op)

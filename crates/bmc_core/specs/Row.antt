@@ -13,7 +13,7 @@ use Rattle.cfg_records.specs.declared.board_file.Device.{Device}
 use Rattle.cfg_records.specs.declared.board_file.BoardFile.{BoardFile}
 use Rattle.watch_boot.specs.Watchdog.{WasSet, live_after_reset}
 use Rattle.record_kinds.specs.declared.limits.Limits.{Limits}
-use Rattle.record_kinds.specs.Limits.{sets, outcome, view, set_view, live_after}
+use Rattle.record_kinds.specs.Limits.{sets, outcome, view, set_reply, next_live}
 use Rattle.record_kinds.specs.Boards.{limits_at}
 use Rattle.bmc_core.specs.declared.request.Request.{Request}
 use Rattle.bmc_core.specs.declared.request.Request.TheVariants.{GetDeviceId, ResetWatchdog, Get, Set, GetTid, GetPldmTypes}
@@ -52,8 +52,8 @@ Gets _ _ live unknown answered = answered ≡ refused unknown
 pub record IsCarriedOut (limits : Limits) (old : List ℕ) (op : Op) (before : State) (answered : Answered) (after : State) : Type 0 where
   pub new : List ℕ
   pub is_set : sets limits op old new
-  pub replied : answered ≡ done (set_view op)
-  pub left : after ≡ state (with_record before.records (key_of op) new) (live_after op before.live)
+  pub replied : answered ≡ done (set_reply op)
+  pub left : after ≡ state (with_record before.records (key_of op) new) (next_live op before.live)
 
 -- a Set that its kind doesn't accept changes nothing
 pub record IsRefused (limits : Limits) (old : List ℕ) (op : Op) (before : State) (answered : Answered) (after : State) : Type 0 where

@@ -8,7 +8,7 @@ use Rattle.cfg_records.specs.declared.op.Op.{Op}
 use Rattle.cfg_records.specs.declared.message.Answered.{Answered}
 use Rattle.cfg_records.specs.declared.board_file.BoardFile.{BoardFile}
 use Rattle.record_kinds.specs.declared.limits.Limits.{Limits}
-use Rattle.record_kinds.specs.Limits.{conf, get_request, set_request, inverse}
+use Rattle.record_kinds.specs.Limits.{conf, get_asked, set_asked, inverse}
 use Rattle.record_kinds.specs.Boards.{limits_at}
 use Rattle.record_kinds.specs.Sound.{IsSound}
 use Rattle.bmc_core.specs.State.{State}
@@ -18,14 +18,14 @@ use Rattle.bmc_core.specs.Row.{Row}
 -- from one state to another, and the records stay as they are from one request to the next.
 pub record ChangesAndBack (setup : BoardFile) (op made : Op) (before got until after from back : State) (shown changed undone : Answered) : Type 0 where
   pub sound : IsSound setup before.records
-  pub read : Row setup before (get_request (key_of op)) shown got
+  pub read : Row setup before (get_asked (key_of op)) shown got
   pub was_read : shown.code ≡ success
   pub undoes : inverse op shown.body ≡ Some made
   pub stayed : until.records ≡ got.records
-  pub change : Row setup until (set_request op) changed after
+  pub change : Row setup until (set_asked op) changed after
   pub was_changed : changed.code ≡ success
   pub stayed_changed : from.records ≡ after.records
-  pub way_back : Row setup from (set_request made) undone back
+  pub way_back : Row setup from (set_asked made) undone back
 
 -- then the undo is carried out, and all records are as before
 abbrev pub IsUndone : Type 0
@@ -36,9 +36,9 @@ IsUndone = (setup : BoardFile) (op made : Op) (before got until after from back 
 -- the record of a key, with these limits, is read at two states
 pub record ReadsTwice (setup : BoardFile) (key : Key) (limits : Limits) (first got second again : State) (shown shown_again : Answered) : Type 0 where
   pub has_limits : limits_at setup key ≡ Some limits
-  pub read : Row setup first (get_request key) shown got
+  pub read : Row setup first (get_asked key) shown got
   pub was_read : shown.code ≡ success
-  pub read_again : Row setup second (get_request key) shown_again again
+  pub read_again : Row setup second (get_asked key) shown_again again
 
 -- both Gets are carried out, and show the same configuration
 abbrev pub ShowsTheSame : Limits → Answered → Answered → Type 0

@@ -53,12 +53,12 @@ abbrev pub words : KindWords (Unit {0}) SetPowerPolicy
 words = record {
   name = λ alone. key.PowerPolicy;
   key_of = λ op. tt;
-  get_request = λ alone. ipmi_request 0x00 0x01 [];
-  set_body = λ op. op.policy ∷ [];
-  set_request = λ op. ipmi_request 0x00 0x06 (op.policy ∷ []);
+  get_asked = λ alone. ipmi_request 0x00 0x01 [];
+  set_data = λ op. op.policy ∷ [];
+  set_asked = λ op. ipmi_request 0x00 0x06 (op.policy ∷ []);
   -- the Set reply says that the policies 0, 1 and 2 are there, by a bit for each
-  set_view = λ op. 0x07 ∷ [];
-  live_after = λ op live. live;
+  set_reply = λ op. 0x07 ∷ [];
+  next_live = λ op live. live;
   is_reply = λ op reply. length reply ≡ 3;
   -- no request sets the policy 3
   restorable = λ op reply. shown_policy reply ≢ 3;

@@ -16,7 +16,7 @@ use Rattle.cfg_records.specs.InverseLaws.{some_where, made_where, tested_same, s
 use Rattle.cfg_records.specs.Kind.{KindLaws, RecordLaws}
 use Rattle.cfg_records.specs.Refusals.{refused_field}
 use Rattle.cfg_records.specs.Watchdog.{IsWatchdog, IsWatchdog-prop, watchdog_value}
-use Rattle.watch_boot.specs.Watchdog.{use_in, kept_use, without_bit_6, interrupt_in, action_in, kept_actions, SetsWatchdog, settings_of, is_accepted, shown_use, watchdog_view, without, configuration, IsStopped, is_stopped, undo_watchdog, words, record_words}
+use Rattle.watch_boot.specs.Watchdog.{use_in, kept_use, without_bit_6, interrupt_in, action_in, kept_actions, SetsWatchdog, settings_of, is_accepted, shown_use, watchdog_view, without, ClearsNamed, configuration, IsStopped, is_stopped, undo_watchdog, words, record_words}
 
 -- ---- what a Set makes
 
@@ -163,10 +163,6 @@ told_settings value other live v w same =
     five_members value v.five ∙ five_bytes _ _ _ _ _ _ _ _ _ _ use_is (at 1) (at 2) (at 3) (at 4) ∙ sym (five_members other w.five)
 
 -- ---- the flags
-
--- a flag is there after a Set where it was there and isn't named
-abbrev pub ClearsNamed : Type 0
-ClearsNamed = (flags named place : ℕ) → named < 2 ^ 8 → place < 8 → has (without flags named) place ≡ (has flags place && not (has named place))
 
 one_of_two : (a b : ℕ) → a < 2 → b < 2 → (min a (1 - b) == 1) ≡ ((a == 1) && not (b == 1))
 one_of_two zero zero small also = refl
