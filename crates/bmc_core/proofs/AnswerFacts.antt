@@ -17,7 +17,7 @@ use Rattle.watch_boot.specs.Watchdog.{was_set, live_after_reset}
 use Rattle.record_kinds.specs.Limits.{is_of, outcome, get_asked, set_asked}
 use Rattle.record_kinds.specs.LimitsLaws as laws
 use Rattle.std.specs.Option.{option_map}
-use Rattle.record_kinds.specs.Boards.{sensor_at, thresholds_of, hysteresis_of, limits_at}
+use Rattle.record_kinds.specs.Boards.{sensor_at, limits_at}
 use Rattle.record_kinds.specs.Sound.{IsSound, IsSoundAt}
 use Rattle.bmc_core.specs.declared.command.Command.{Command}
 use Rattle.bmc_core.specs.declared.command.Command.TheVariants as command
@@ -189,8 +189,8 @@ of_alone : (own limits : Limits) (key : Key) → (let s : Option Limits = Some o
 of_alone own limits key e of = let same : own ≡ limits = cc in subst (λ (l : Limits). is_of l key) same of
 
 pub limits_are_of : (file : BoardFile) (key : Key) (limits : Limits) → limits_at file key ≡ Some limits → is_of limits key
-limits_are_of file (key.Thresholds number) limits e = of_sensor (sensor_at file.sensors number) thresholds_of limits (key.Thresholds number) e (λ s. tt)
-limits_are_of file (key.Hysteresis number) limits e = of_sensor (sensor_at file.sensors number) hysteresis_of limits (key.Hysteresis number) e (λ s. tt)
+limits_are_of file (key.Thresholds number) limits e = of_sensor (sensor_at file.sensors.items number) (λ s. kinds.Thresholds (record { masks = s.thresholds.masks })) limits (key.Thresholds number) e (λ s. tt)
+limits_are_of file (key.Hysteresis number) limits e = of_sensor (sensor_at file.sensors.items number) (λ s. kinds.Hysteresis (record {})) limits (key.Hysteresis number) e (λ s. tt)
 limits_are_of file key.PowerPolicy limits e = of_alone (kinds.PowerPolicy (record {})) limits key.PowerPolicy e tt
 limits_are_of file key.Watchdog limits e = of_alone (kinds.Watchdog (record {})) limits key.Watchdog e tt
 

@@ -5,8 +5,8 @@ use Rattle.cfg_records.specs.declared.message.Asked.{Asked}
 use Rattle.cfg_records.specs.declared.message.Asked.TheVariants.{Ipmi, Pldm}
 use Rattle.cfg_records.specs.declared.key.Key.TheVariants as key
 use Rattle.cfg_records.specs.declared.op.Op.TheVariants as op
-use Rattle.cfg_records.specs.declared.op.SetThresholds.{SetThresholds}
-use Rattle.cfg_records.specs.declared.op.SetWatchdog.{SetWatchdog}
+use Rattle.cfg_records.specs.declared.sensor_thresholds.SetThresholds.{SetThresholds}
+use Rattle.cfg_records.specs.declared.watchdog.SetWatchdog.{SetWatchdog}
 use Rattle.bmc_core.specs.declared.command.Command.{Command}
 use Rattle.bmc_core.specs.declared.command.Command.TheVariants as command
 use Rattle.bmc_core.specs.declared.command.Line.{Line}

@@ -9,7 +9,7 @@ use Rattle.cfg_records.specs.declared.op.Op.{Op}
 use Rattle.cfg_records.specs.declared.live.Live.{Live}
 use Rattle.cfg_records.specs.declared.message.Asked.{Asked}
 use Rattle.cfg_records.specs.declared.message.Answered.{Answered}
-use Rattle.cfg_records.specs.declared.board_file.Device.{Device}
+use Rattle.cfg_records.specs.declared.device.Device.{Device}
 use Rattle.cfg_records.specs.declared.board_file.BoardFile.{BoardFile}
 use Rattle.watch_boot.specs.Watchdog.{WasSet, live_after_reset}
 use Rattle.record_kinds.specs.declared.limits.Limits.{Limits}
@@ -32,8 +32,8 @@ refused fault = record { code = fault; body = [] }
 -- byte of a number first
 abbrev pub device_data : Device → List ℕ
 device_data d =
-    d.id ∷ d.revision ∷ d.major ∷ d.minor ∷ 0x02 ∷ d.support
-    ∷ d.manufacturer % 256 ∷ d.manufacturer / 256 % 256 ∷ d.manufacturer / 65536 ∷ d.product % 256 ∷ d.product / 256 ∷ []
+    d.id ∷ d.revision ∷ d.major ∷ d.minor.byte ∷ 0x02 ∷ d.support
+    ∷ d.manufacturer.number % 256 ∷ d.manufacturer.number / 256 % 256 ∷ d.manufacturer.number / 65536 ∷ d.product % 256 ∷ d.product / 256 ∷ []
 
 -- what GetPLDMTypes replies (DSP0240): eight bytes, the lowest first, with a bit for each type, 0, 2 and 3
 abbrev pub pldm_types : List ℕ

@@ -33,13 +33,13 @@ pub struct Board<S: Store> {
 fn device_data(device: &Device) -> [u8; 11]
     ensures { result ≡ device_data device.now }
 {
-    let manufacturer = device.manufacturer;
+    let manufacturer = device.manufacturer.number;
     let product = device.product;
     [
         device.id,
         device.revision,
         device.major,
-        device.minor,
+        device.minor.byte,
         0x02,
         device.support,
         (manufacturer % 256) as u8,

@@ -6,6 +6,7 @@ use Rattle.cfg_records.specs.declared.live.Live.{Live}
 use Rattle.cfg_records.specs.Records.{Records, records_of}
 use Rattle.cfg_records.specs.Boards.{pairs_of}
 use Rattle.cfg_records.specs.Opening.{opening as no_activity}
+use Rattle.cfg_records.specs.Sample.{IsSampleBoard}
 use Rattle.bmc_core.specs.declared.out.Out.{Out}
 use Rattle.bmc_core.specs.declared.port.At.{At}
 use Rattle.bmc_core.specs.declared.port.Port.{Port}
@@ -14,7 +15,7 @@ use Rattle.bmc_core.specs.Outs.{sent}
 use Rattle.bmc_core.specs.Port.{Hears}
 use Rattle.bmc_lab.specs.declared.report.Report.{Report}
 use Rattle.bmc_lab.specs.Report.{text_of, status_of}
-use Rattle.bmc_lab.specs.Run.{controller, fresh_port, opening, IsSample, Tells}
+use Rattle.bmc_lab.specs.Run.{controller, fresh_port, opening, Tells}
 
 -- a port that is made for the controller's place is fresh
 pub is_fresh : (port : Port) (bus : Bus) (at : At) → at ≡ controller → port.bus ≡ bus → port.at ≡ at → port.endpoint ≡ at.eid → port.assembler ≡ [] → port ≡ fresh_port bus
@@ -33,7 +34,7 @@ as_opened port bus setup file records live bytes out next after fresh same begin
     (subst (λ (r : Records). Hears setup port (state r live) bytes out next after) begins heard)))
 
 -- a report of what the port did tells it
-pub told : {E : Type 0} (r : Result Report E) (bus : Bus) (bytes : List ℕ) (file : BoardFile) (out : Out) (next : Port) (after : State) → IsSample file → Hears file (fresh_port bus) (opening file) bytes out next after
+pub told : {E : Type 0} (r : Result Report E) (bus : Bus) (bytes : List ℕ) (file : BoardFile) (out : Out) (next : Port) (after : State) → IsSampleBoard file → Hears file (fresh_port bus) (opening file) bytes out next after
     → IfOk r (λ report. string_bytes report.text ≡ text_of out) → IfOk r (λ report. report.status ≡ status_of (sent out)) → IfOk r (λ report. Tells bus bytes (string_bytes report.text) report.status)
 told (Ok report) bus bytes file out next after is_sample is_heard is_said is_ended = record { file = file; sample = is_sample; out = out; next = next; after = after; heard = is_heard; said = is_said; ended = is_ended }
 told (Err e) bus bytes file out next after is_sample is_heard is_said is_ended = tt

@@ -4,7 +4,9 @@ ghost use Rattle.sensor_recs.specs.Thresholds.{choose, thresholds_body, shows_al
 
 use crate::request::sensor_request;
 use cfg_records::mask::{has, is_within};
-use cfg_records::{Asked, Live, RecordData, RecordKind, SetThresholds, ThresholdMasks, Value};
+use cfg_records::{
+    Asked, Live, RecordData, RecordKind, Sensor, SetThresholds, ThresholdMasks, Value,
+};
 use two_wire::code::INVALID_DATA_FIELD;
 use two_wire::{Buffer, Code};
 
@@ -61,6 +63,15 @@ impl ThresholdLimits {
     ghost use Rattle.std.specs.Prelude.{OnErr};
     ghost use Rattle.cfg_records.specs.Meaning.{told};
     ghost use Rattle.sensor_recs.specs.Thresholds.{thresholds_outcome};
+
+    /// The limits that a sensor gives.
+    pub fn of(sensor: &Sensor) -> Self
+        ensures { result ≡ record { masks = sensor.now.thresholds.masks } }
+    {
+        ThresholdLimits {
+            masks: sensor.thresholds.masks,
+        }
+    }
 
     /// Makes `new` the thresholds that the operation makes of the old ones.
     fn set(&self, op: &SetThresholds, old: &[u8], new: &mut Value) -> Result<(), Code>

@@ -5,9 +5,10 @@ use Rattle.std.proofs.lemmas.Bool.Decides.{nat_tests}
 use Rattle.std.proofs.lemmas.Nat.{le_bytes_2}
 use Rattle.std.proofs.lemmas.Nat.Bits.{bit_at_and, bit_at_not, bit_at-lt}
 use Rattle.std.specs.Int.{bit_at, w8, w16, to_le_bytes, from_le_bytes}
+use Rattle.two_wire.specs.Codes.{invalid_data_field}
 use Rattle.cfg_records.specs.Masks.{has}
 use Rattle.cfg_records.specs.declared.key.Key.TheVariants as key
-use Rattle.cfg_records.specs.declared.op.SetWatchdog.{SetWatchdog}
+use Rattle.cfg_records.specs.declared.watchdog.SetWatchdog.{SetWatchdog}
 use Rattle.cfg_records.specs.declared.live.Live.{Live}
 use Rattle.cfg_records.specs.Keys.{is_length}
 use Rattle.cfg_records.specs.MaskLaws.{both}
@@ -53,13 +54,13 @@ accepted_sets op h =
 sets_accepted : (op : SetWatchdog) (new : List ℕ) → SetsWatchdog op new → is_accepted op ≡ true
 sets_accepted op new s = both _ _ (both _ _ (both _ _ (to_le _ _ s.a_use) (to_le _ _ s.known_use)) (to_le _ _ s.known_interrupt)) (to_le _ _ s.known_action)
 
-decided : (op : SetWatchdog) (b : Bool) → is_accepted op ≡ b → Decides (if b then Ok (settings_of op) else Err 0xCC) (SetsWatchdog op)
+decided : (op : SetWatchdog) (b : Bool) → is_accepted op ≡ b → Decides (if b then Ok (settings_of op) else Err invalid_data_field) (SetsWatchdog op)
 decided op true is = accepted_sets op is
 decided op false is = λ new s. let accepted : is_accepted op ≡ true = sets_accepted op new s in cc
 
-refused : (made : List ℕ) (code : ℕ) (b : Bool) → (if b then Ok made else Err 0xCC) ≡ Err code → IsRefusal code
+refused : (made : List ℕ) (code : ℕ) (b : Bool) → (if b then Ok made else Err invalid_data_field) ≡ Err code → IsRefusal code
 refused made code true is = cc
-refused made code false is = refused_field code (Err 0xCC) refl is
+refused made code false is = refused_field code (Err invalid_data_field) refl is
 
 five_of : (a b c n : ℕ) → length (watchdog_value a b c n) ≡ 5
 five_of a b c n = refl

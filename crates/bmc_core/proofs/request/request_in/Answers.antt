@@ -1,6 +1,6 @@
 use Rattle.std.proofs.Common.{ap, sym, ◌∙◌}
 use Rattle.cfg_records.specs.declared.op.Op.TheVariants as op
-use Rattle.cfg_records.specs.declared.op.SetThresholds.{SetThresholds}
+use Rattle.cfg_records.specs.declared.sensor_thresholds.SetThresholds.{SetThresholds}
 use Rattle.bmc_core.specs.declared.command.Command.{Command}
 use Rattle.bmc_core.specs.declared.request.Request.TheVariants as request
 use Rattle.bmc_core.specs.Request.{request_of}
