@@ -12,7 +12,7 @@ use Rattle.cfg_records.specs.declared.message.Answered.{Answered}
 use Rattle.cfg_records.specs.declared.board_file.BoardFile.{BoardFile}
 use Rattle.record_kinds.specs.declared.limits.Limits.{Limits}
 use Rattle.cfg_records.specs.Kind.{RecordLaws}
-use Rattle.record_kinds.specs.Limits.{words, record_words, valid, sets, view, get_request, set_request, restorable, undo}
+use Rattle.record_kinds.specs.Limits.{words, record_words, valid, sets, view, get_request, set_request, inverse}
 use Rattle.record_kinds.specs.LimitsLaws as laws
 use Rattle.record_kinds.specs.Boards.{limits_at}
 use Rattle.record_kinds.specs.Sound.{valid_at}
@@ -90,10 +90,9 @@ sets_at limits value of old unknown op before answered after limits_are value_is
     subst (λ (v : Option (List ℕ)). Sets (Some of) v unknown op before answered after) value_is (subst (λ (l : Option Limits). Sets l value unknown op before answered after) limits_are s)
 
 pub is_undone : IsUndone
-is_undone setup op before got until after from back shown changed undone h =
+is_undone setup op made before got until after from back shown changed undone h =
     let key : Key = key_of op in
     let unknown : ℕ = unknown_code setup key in
-    let inverse : Op = undo op shown.body in
     let served : Serves setup before (Get key) shown got = get_served setup before key shown got h.read in
     let seen : Shows (limits_at setup key) (before.records key) before.live shown = shows _ _ before.live unknown shown (unknown_is_fault setup key) served.0 h.was_read in
     let is_valid : valid seen.of seen.old = valid_at _ _ seen.of seen.old seen.limits_are seen.value_is (h.sound key) in
@@ -103,13 +102,14 @@ is_undone setup op before got until after from back shown changed undone h =
     carried_out seen.of seen.old unknown op until changed after (sets_at _ _ seen.of seen.old unknown op until changed after seen.limits_are had (set_served setup until op changed after h.change)) h.was_changed in
     let of_seen : RecordLaws words (record_words seen.of) = laws.record_laws seen.of in
     let shown_is : view seen.of seen.old before.live ≡ shown.body = sym (ap (λ (a : Answered). a.body) seen.body_is) in
-    let can : sets seen.of inverse change.new seen.old = subst (λ (reply : List ℕ). sets seen.of (undo op reply) change.new seen.old) shown_is (of_seen.undoes op seen.old change.new before.live is_valid change.is_set (subst (restorable op) (sym shown_is) h.can_undo)) in
+    let is_made : inverse op (view seen.of seen.old before.live) ≡ Some made = ap (inverse op) shown_is ∙ h.undoes in
+    let can : sets seen.of made change.new seen.old = of_seen.undoes op made seen.old change.new before.live is_valid change.is_set is_made in
     let here : (record_words seen.of).is_of key = of_seen.taken op seen.old change.new change.is_set in
-    let same : key_of inverse ≡ key = subst (λ (reply : List ℕ). key_of (undo op reply) ≡ key) shown_is (of_seen.same_record op seen.old before.live here is_valid) in
+    let same : key_of made ≡ key = of_seen.same_record op made seen.old before.live here is_valid is_made in
     let written : from.records ≡ with_record until.records key change.new = h.stayed_changed ∙ ap (λ (s : State). s.records) change.left in
     let has : from.records key ≡ Some change.new = ap (λ (r : Records). r key) written ∙ with_record_same until.records key change.new in
-    let way : Sets (limits_at setup key) (from.records key) unknown inverse from undone back =
-    subst (λ (k : Key). Sets (limits_at setup k) (from.records k) (unknown_code setup k) inverse from undone back) same (set_served setup from inverse undone back h.way_back) in
+    let way : Sets (limits_at setup key) (from.records key) unknown made from undone back =
+    subst (λ (k : Key). Sets (limits_at setup k) (from.records k) (unknown_code setup k) made from undone back) same (set_served setup from made undone back h.way_back) in
     let end : (undone.code ≡ success) × (back.records ≡ until.records) =
-    undone_at seen.of key inverse unknown until.records seen.old change.new from back undone same had written can (sets_at _ _ seen.of change.new unknown inverse from undone back seen.limits_are has way) in
+    undone_at seen.of key made unknown until.records seen.old change.new from back undone same had written can (sets_at _ _ seen.of change.new unknown made from undone back seen.limits_are has way) in
     (end.0, end.1 ∙ stayed)

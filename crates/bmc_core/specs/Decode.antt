@@ -1,11 +1,11 @@
 -- The requests that get a record and that change one are read as that Get and that Set. The operation that undoes a change has 0 in
 -- each bit that is ignored.
-use Rattle.std.specs.Prelude.{◌≡◌, ℕ, List, Ok}
+use Rattle.std.specs.Prelude.{◌≡◌, ℕ, List, Some, Ok}
 use Rattle.cfg_records.specs.declared.key.Key.{Key}
 use Rattle.cfg_records.specs.declared.op.Op.{Op}
 use Rattle.cfg_records.specs.declared.message.Asked.{Asked}
 use Rattle.cfg_records.specs.declared.message.Asked.TheVariants.{Ipmi, Pldm}
-use Rattle.record_kinds.specs.Limits.{get_request, set_request, is_reply, restorable, undo, is_plain}
+use Rattle.record_kinds.specs.Limits.{get_request, set_request, inverse, is_plain}
 use Rattle.bmc_core.specs.declared.request.Request.{Request}
 use Rattle.bmc_core.specs.declared.request.Request.TheVariants.{Get, Set}
 use Rattle.bmc_core.specs.Request.{asked_by}
@@ -30,4 +30,4 @@ SetsAreRead = (op : Op) → Asks (set_request op) (Set op)
 
 -- what undoes an operation has 0 in each bit that a controller ignores
 abbrev pub UndosArePlain : Type 0
-UndosArePlain = (op : Op) (reply : List ℕ) → is_reply op reply → restorable op reply → is_plain (undo op reply)
+UndosArePlain = (op made : Op) (reply : List ℕ) → inverse op reply ≡ Some made → is_plain made

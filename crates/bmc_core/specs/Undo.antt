@@ -8,29 +8,29 @@ use Rattle.cfg_records.specs.declared.op.Op.{Op}
 use Rattle.cfg_records.specs.declared.message.Answered.{Answered}
 use Rattle.cfg_records.specs.declared.board_file.BoardFile.{BoardFile}
 use Rattle.record_kinds.specs.declared.limits.Limits.{Limits}
-use Rattle.record_kinds.specs.Limits.{conf, get_request, set_request, restorable, undo}
+use Rattle.record_kinds.specs.Limits.{conf, get_request, set_request, inverse}
 use Rattle.record_kinds.specs.Boards.{limits_at}
 use Rattle.record_kinds.specs.Sound.{IsSound}
 use Rattle.bmc_core.specs.State.{State}
 use Rattle.bmc_core.specs.Row.{Row}
 
--- A record is read, changed by an operation, and changed back by the operation that the Get reply gives. Each time a request goes
+-- A record is read, changed by an operation, and changed back by the operation that undoes it from the Get reply. Each time a request goes
 -- from one state to another, and the records stay as they are from one request to the next.
-pub record ChangesAndBack (setup : BoardFile) (op : Op) (before got until after from back : State) (shown changed undone : Answered) : Type 0 where
+pub record ChangesAndBack (setup : BoardFile) (op made : Op) (before got until after from back : State) (shown changed undone : Answered) : Type 0 where
   pub sound : IsSound setup before.records
   pub read : Row setup before (get_request (key_of op)) shown got
   pub was_read : shown.code ≡ success
-  pub can_undo : restorable op shown.body
+  pub undoes : inverse op shown.body ≡ Some made
   pub stayed : until.records ≡ got.records
   pub change : Row setup until (set_request op) changed after
   pub was_changed : changed.code ≡ success
   pub stayed_changed : from.records ≡ after.records
-  pub way_back : Row setup from (set_request (undo op shown.body)) undone back
+  pub way_back : Row setup from (set_request made) undone back
 
 -- then the undo is carried out, and all records are as before
 abbrev pub IsUndone : Type 0
-IsUndone = (setup : BoardFile) (op : Op) (before got until after from back : State) (shown changed undone : Answered)
-    → ChangesAndBack setup op before got until after from back shown changed undone
+IsUndone = (setup : BoardFile) (op made : Op) (before got until after from back : State) (shown changed undone : Answered)
+    → ChangesAndBack setup op made before got until after from back shown changed undone
     → (undone.code ≡ success) × (back.records ≡ before.records)
 
 -- the record of a key, with these limits, is read at two states
@@ -53,8 +53,8 @@ IsSteady = (setup : BoardFile) (key : Key) (limits : Limits) (first got second a
 
 -- so do a Get of any record before a change and a Get of it after the undo
 abbrev pub IsShownAsBefore : Type 0
-IsShownAsBefore = (setup : BoardFile) (op : Op) (before got until after from back : State) (shown changed undone : Answered)
-    → ChangesAndBack setup op before got until after from back shown changed undone
+IsShownAsBefore = (setup : BoardFile) (op made : Op) (before got until after from back : State) (shown changed undone : Answered)
+    → ChangesAndBack setup op made before got until after from back shown changed undone
     → (key : Key) (limits : Limits) (earlier seen later again : State) (shown_then shown_now : Answered)
     → ReadsTwice setup key limits earlier seen later again shown_then shown_now
     → earlier.records ≡ before.records

@@ -22,7 +22,7 @@ pub fn decode_law()
     ensures plain { UndosArePlain }
 {}
 
-/// Where a record was got and then set, and its Get reply is one from which that can be undone, the request that undoes it is
+/// Where a record was got and then set, and the Set has an inverse from the Get reply, the request of that inverse is
 /// carried out, and then every record of the board is what it was before, whatever became of what isn't configuration.
 pub fn undo_law()
     ensures { IsUndone }

@@ -6,7 +6,7 @@ use Rattle.std.proofs.lemmas.Option.{none-some, slice_get_within}
 use Rattle.bus_model.specs.Request.{Kept}
 use Rattle.bus_model.specs.Carried.{Outcome, Repeats, IsBusy, IsNew, outcome, carried_after}
 use Rattle.bus_model.specs.Numbering.{Bus}
-use Rattle.bus_model.specs.BusState.{BusState, Frame, Content, Ask, Reply, Event, Begins, SendsAgain, ReachesPort, ReachesManager, OtherAsks, IsIdle, request_of, is_open, begins, sends_again, comes, taken_now, taken_from, OtherReplies, takes_if, at_port, happens}
+use Rattle.bus_model.specs.BusState.{BusState, Frame, Content, Ask, Reply, Event, Begins, SendsAgain, ReachesPort, ReachesManager, OtherAsks, IsIdle, Resumes, request_of, is_open, begins, sends_again, comes, taken_now, taken_from, OtherReplies, takes_if, at_port, happens}
 use Rattle.bus_model.proofs.Lists.{Grows, grows}
 
 -- what was begun and carried stands where it stood
@@ -48,6 +48,7 @@ module _ (b : Bus) where
   happens_grows s (OtherAsks request answer) = record { begun = λ n x e. e; carried = λ n x e. e }
   happens_grows s (OtherReplies source number reply) = takes_grow (taken_from b source number reply s) s
   happens_grows s (IsIdle requester) = record { begun = λ n x e. e; carried = λ n x e. e }
+  happens_grows s Resumes = stays s
 
 -- the message of a request, and the reply that is kept for one
 abbrev pub begun_at : BusState → ℕ → Option (List ℕ)

@@ -4,7 +4,7 @@ use Rattle.std.specs.Prelude.{slice_get, IfSome, ◌==◌}
 use Rattle.std.proofs.lemmas.Bool.{and_parts, and_from, le-leb, leb-true, eqb-true, eqb-false, not-true, or_cases, both_ways, eq-eqb}
 use Rattle.bus_model.specs.Request.{idles_of}
 use Rattle.bus_model.specs.Numbering.{Bus}
-use Rattle.bus_model.specs.BusState.{BusState, Frame, Event, Begins, SendsAgain, ReachesPort, ReachesManager, OtherAsks, OtherReplies, IsIdle, is_open, happens}
+use Rattle.bus_model.specs.BusState.{BusState, Frame, Event, Begins, SendsAgain, ReachesPort, ReachesManager, OtherAsks, OtherReplies, IsIdle, Resumes, is_open, happens}
 use Rattle.bus_model.specs.Schedule.{IsLive, is_live, TestTells, IsHonest, AllHonest}
 
 -- a frame, if it was sent, is live
@@ -21,6 +21,7 @@ is_honest b s (ReachesManager which) = live_if b s (slice_get s.frames which)
 is_honest b s (OtherAsks request answer) = not (request.requester == b.manager)
 is_honest b s (OtherReplies source number reply) = not (source == b.controller)
 is_honest b s (IsIdle requester) = not (requester == b.manager) || not (is_open s)
+is_honest b s Resumes = not (is_open s)
 
 -- every event is
 abbrev pub all_honest : Bus → List Event → BusState → Bool
@@ -49,6 +50,7 @@ is_honest-tells b s (IsIdle requester) t =
       | inl other ↦ absurd (both_ways _ (not-true _ other) (eq-eqb requester b.manager mine))
       | inr closed ↦ not-true _ closed
     ]
+is_honest-tells b s Resumes t = not-true _ t
 
 pub all_honest-tells : (b : Bus) (events : List Event) (s : BusState) → all_honest b events s ≡ true → AllHonest b events s
 all_honest-tells b [] s t = tt

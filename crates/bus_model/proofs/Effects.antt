@@ -6,7 +6,7 @@ use Rattle.std.proofs.lemmas.Option.{slice_get_within, slice_get_past}
 use Rattle.bus_model.specs.Request.{Kept, Entry}
 use Rattle.bus_model.specs.Carried.{Outcome, outcome_of, is_busy}
 use Rattle.bus_model.specs.Numbering.{Bus}
-use Rattle.bus_model.specs.BusState.{request_of, Content, Ask, Reply, Frame, BusState, Event, Begins, SendsAgain, ReachesPort, ReachesManager, OtherAsks, OtherReplies, IsIdle, is_open, begins, sends_again, hears, comes, takes_if, at_port, new_bytes, carried_content, carried_now, taken_content, taken_now}
+use Rattle.bus_model.specs.BusState.{request_of, Content, Ask, Reply, Frame, BusState, Event, Begins, SendsAgain, ReachesPort, ReachesManager, OtherAsks, OtherReplies, IsIdle, Resumes, is_open, begins, sends_again, hears, comes, takes_if, at_port, new_bytes, carried_content, carried_now, taken_content, taken_now}
 use Rattle.bus_model.specs.Schedule.{IsLive, IsHonest}
 use Rattle.bus_model.specs.Effect.{IsKeptFor, SameRequests, IsBegun, IsCarried, IsTaken, HasEffect}
 use Rattle.bus_model.proofs.Lists.{at_end}
@@ -119,3 +119,4 @@ module _ (b : Bus) (numbers : IsNumbering b) where
   has_effect s (OtherAsks request answer) h honest = other_effect s _
   has_effect s (OtherReplies source number reply) h honest = subst (λ (new : BusState). SameRequests s new) (sym (ignored b source number reply s honest)) (other_effect s s.log)
   has_effect s (IsIdle requester) h honest = other_effect s _
+  has_effect s Resumes h honest = other_effect s s.log

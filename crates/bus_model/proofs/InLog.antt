@@ -5,8 +5,9 @@ use Rattle.std.proofs.lemmas.Bool.{cond_both, eq-eqb, ne_eqb}
 use Rattle.bus_model.specs.Request.{Kept, Entry, Carried, carried_by}
 use Rattle.bus_model.specs.Carried.{Outcome, Repeats, IsBusy, IsNew, outcome, log_after, carried_after}
 use Rattle.bus_model.specs.Numbering.{Bus}
-use Rattle.bus_model.specs.BusState.{request_of, Content, Ask, Reply, Frame, BusState, Event, Begins, SendsAgain, ReachesPort, ReachesManager, OtherAsks, IsIdle, opening, is_open, begins, sends_again, comes, takes_if, taken_now, taken_from, OtherReplies, at_port, happens, run}
+use Rattle.bus_model.specs.BusState.{request_of, Content, Ask, Reply, Frame, BusState, Event, Begins, SendsAgain, ReachesPort, ReachesManager, OtherAsks, IsIdle, Resumes, opening, is_open, begins, sends_again, comes, takes_if, taken_now, taken_from, OtherReplies, at_port, happens, run}
 use Rattle.bus_model.specs.Schedule.{IsHonest, AllHonest}
+use Rattle.bus_model.specs.Start.{NothingUnderWay}
 
 -- a log shows of the manager what it did before, and then these
 abbrev pub InLog : ℕ → List Entry → List Entry → List Kept → Type 0
@@ -36,6 +37,9 @@ module _ (b : Bus) (before : List Entry) where
   pub opening_shows : LogShows (opening before)
   opening_shows = sym (append-nil (carried_by b.manager before))
 
+  pub start_shows : (s : BusState) → NothingUnderWay s → s.log ≡ before → LogShows s
+  start_shows s start is = ap (carried_by b.manager) is ∙ sym (append-nil (carried_by b.manager before)) ∙ ap (λ (ks : List Kept). carried_by b.manager before ++ ks) (sym start.carried)
+
   pub comes_shows : (answer : List ℕ) (n : ℕ) (c : Content) (s : BusState) → LogShows s → LogShows (comes b answer n c s)
   comes_shows answer n (Ask bytes) s h = mine b.manager before s.log s.carried (record { request = request_of b n bytes; reply = answer }) (outcome b.is_above (request_of b n bytes) s.log) refl h
   comes_shows answer n (Reply number reply) s h = h
@@ -60,6 +64,7 @@ module _ (b : Bus) (before : List Entry) where
   happens_shows s (OtherAsks request answer) h honest = other b.manager before s.log s.carried (record { request = request; reply = answer }) (outcome b.is_above request s.log) honest h
   happens_shows s (OtherReplies source number reply) h honest = takes_shows (taken_from b source number reply s) s h
   happens_shows s (IsIdle requester) h honest = h
+  happens_shows s Resumes h honest = h
 
   pub run_shows : (events : List Event) (s : BusState) → LogShows s → AllHonest b events s → LogShows (run b events s)
   run_shows [] s h honest = h

@@ -15,6 +15,9 @@ pub mod BusGrows
 pub mod PacketSteps
 pub mod PacketEnds
 pub mod PacketLaws
+pub mod Resume
+pub mod CleanLink
+pub mod Slots
 pub mod Cutting
 pub mod Decides
 pub mod PacketDecides

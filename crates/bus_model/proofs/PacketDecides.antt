@@ -5,12 +5,12 @@ use Rattle.std.specs.List.{list_all}
 use Rattle.std.proofs.lemmas.Bool.{and_parts, leb-true, eqb-true, eqb-false, not-true, or_cases, both_ways, true≢false}
 use Rattle.bus_model.specs.Request.{idles_of}
 use Rattle.bus_model.specs.Numbering.{Bus}
-use Rattle.bus_model.specs.BusState.{BusState, Frame, Content, Ask, Reply, Event, Begins, SendsAgain, ReachesPort, ReachesManager, OtherAsks, OtherReplies, IsIdle}
+use Rattle.bus_model.specs.BusState.{BusState, Frame, Content, Ask, Reply, Event, Begins, SendsAgain, ReachesPort, ReachesManager, OtherAsks, OtherReplies, IsIdle, Resumes}
 use Rattle.bus_model.specs.Schedule.{IsLive, is_live}
 use Rattle.bus_model.specs.Repeat.{In}
 use Rattle.bus_model.specs.Packet.{Packet}
 use Rattle.bus_model.specs.Assembly.{Sent, Step, Waits, Whole, Drops, IsJoined, takes, waiting}
-use Rattle.bus_model.specs.PacketBus.{PacketBus, rules_of, request_name, Ends, PacketEvent, Plain, PacketReachesPort, PacketReachesManager, OtherPacket, OtherReplyPacket, Closes, Clears, packet_happens}
+use Rattle.bus_model.specs.PacketBus.{PacketBus, rules_of, request_name, Ends, PacketEvent, Plain, PacketReachesPort, PacketReachesManager, OtherPacket, OtherReplyPacket, Closes, Clears, PacketResumes, packet_happens}
 use Rattle.bus_model.specs.PacketSchedule.{JoinRule, AnyJoin, LiveWhereJoined, MayJoin, PacketMayJoin, JoinsAtPort, IsPlain, IsPacketHonest, AllPacketHonest}
 use Rattle.bus_model.proofs.Decides.{live_if, is_honest, is_live-tells, live_if-tells, is_honest-tells}
 
@@ -57,6 +57,7 @@ is_plain SendsAgain = true
 is_plain (OtherAsks request answer) = true
 is_plain (OtherReplies source number reply) = true
 is_plain (IsIdle requester) = true
+is_plain Resumes = false
 
 -- the event is honest
 abbrev pub is_packet_honest : Bool → PacketBus → Ends → PacketEvent → Bool
@@ -67,6 +68,7 @@ is_packet_honest any b x (OtherPacket name packet number answer) = not (name.sou
 is_packet_honest any b x (OtherReplyPacket name packet number) = not (name.source == b.controller)
 is_packet_honest any b x (Closes name) = true
 is_packet_honest any b x Clears = true
+is_packet_honest any b x PacketResumes = is_honest (rules_of b) x.bus Resumes
 
 -- every event is
 abbrev pub all_packet_honest : Bool → PacketBus → List PacketEvent → Ends → Bool
@@ -113,6 +115,7 @@ is_plain-tells (ReachesManager which) t = absurd (true≢false (sym t))
 is_plain-tells (OtherAsks request answer) t = tt
 is_plain-tells (OtherReplies source number reply) t = tt
 is_plain-tells (IsIdle requester) t = tt
+is_plain-tells Resumes t = absurd (true≢false (sym t))
 
 is_packet_honest-tells : (any : Bool) (b : PacketBus) (x : Ends) (e : PacketEvent) → is_packet_honest any b x e ≡ true → IsPacketHonest (rule_of any) b x e
 is_packet_honest-tells any b x (Plain e) t = let parts = and_parts _ _ t in (is_plain-tells e parts.0, is_honest-tells (rules_of b) x.bus e parts.1)
@@ -122,6 +125,7 @@ is_packet_honest-tells any b x (OtherPacket name packet number answer) t = eqb-f
 is_packet_honest-tells any b x (OtherReplyPacket name packet number) t = eqb-false _ _ (not-true _ t)
 is_packet_honest-tells any b x (Closes name) t = tt
 is_packet_honest-tells any b x Clears t = tt
+is_packet_honest-tells any b x PacketResumes t = is_honest-tells (rules_of b) x.bus Resumes t
 
 pub all_packet_honest-tells : (any : Bool) (b : PacketBus) (events : List PacketEvent) (x : Ends) → all_packet_honest any b events x ≡ true → AllPacketHonest (rule_of any) b events x
 all_packet_honest-tells any b [] x t = tt

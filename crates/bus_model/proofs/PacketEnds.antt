@@ -3,25 +3,26 @@ use Rattle.std.proofs.Common.{◌≡◌, ℕ, ◌+◌, ◌<◌, ◌≤◌, Bool,
 use Rattle.std.specs.Prelude.{slice_get, IfSome}
 use Rattle.std.proofs.lemmas.Bool.{cond_both, cases_Bool, and_parts, eqb-true, ltb-true}
 use Rattle.std.proofs.lemmas.Option.{slice_get_within}
-use Rattle.bus_model.specs.Request.{Entry, carried_since}
+use Rattle.bus_model.specs.Request.{Entry}
 use Rattle.bus_model.specs.Numbering.{Bus, tag_of}
-use Rattle.bus_model.specs.BusState.{BusState, Frame, Content, Ask, Reply, Event, Begins, SendsAgain, ReachesPort, ReachesManager, OtherAsks, OtherReplies, IsIdle, opening, is_open, begins, sends_again, request_of, hears, taken_content, takes_if, happens}
+use Rattle.bus_model.specs.BusState.{BusState, Frame, Content, Ask, Reply, Event, Begins, SendsAgain, ReachesPort, ReachesManager, OtherAsks, OtherReplies, IsIdle, Resumes, is_open, begins, sends_again, request_of, hears, taken_content, takes_if, happens}
 use Rattle.bus_model.specs.Schedule.{IsLive, IsHonest}
+use Rattle.bus_model.specs.Start.{NothingUnderWay, EmptyWindow, NothingWaits}
 use Rattle.bus_model.specs.Effect.{SameRequests}
 use Rattle.bus_model.specs.Repeat.{In}
 use Rattle.bus_model.specs.Packet.{Packet, IsCutting}
 use Rattle.bus_model.specs.Assembly.{Name, Sent, Step, Waits, Whole, Drops, IsWhole, takes, waiting, message_of}
-use Rattle.bus_model.specs.PacketBus.{PacketBus, rules_of, request_name, reply_name, Ends, PacketEvent, Plain, PacketReachesPort, PacketReachesManager, OtherPacket, OtherReplyPacket, Closes, Clears, set_at, is_awaited, whole_comes, whole_returns, whole_other, port_takes, manager_takes, packet_comes, packet_returns, packet_at_port, packet_at_manager, packet_happens, packet_run, opening_ends}
+use Rattle.bus_model.specs.PacketBus.{PacketBus, rules_of, request_name, reply_name, Ends, PacketEvent, Plain, PacketReachesPort, PacketReachesManager, OtherPacket, OtherReplyPacket, Closes, Clears, PacketResumes, set_at, is_awaited, whole_comes, whole_returns, whole_other, port_takes, manager_takes, packet_comes, packet_returns, packet_at_port, packet_at_manager, packet_happens, packet_run}
 use Rattle.bus_model.specs.PacketSchedule.{RecentWhereWhole, PacketMayJoin, JoinsAtPort, IsPlain, IsPacketHonest, AllPacketHonest}
 use Rattle.bus_model.specs.PacketEffect.{step_of, whole_request, whole_reply, completed_request, completed_reply, PortEffect, ManagerEffect, FrameAtPort, FrameAtManager, HasPacketEffect}
 use Rattle.bus_model.proofs.Lists.{length_more}
 use Rattle.bus_model.proofs.NumberLaws.{smbus_numbers}
 use Rattle.bus_model.proofs.Sound.{Fits}
 use Rattle.bus_model.proofs.Strangers.{ignored, packet_ignored}
-use Rattle.bus_model.proofs.Steps.{Holds, opening_holds, happens_holds, comes_holds, returns_holds}
+use Rattle.bus_model.proofs.Steps.{Holds, start_holds, happens_holds, comes_holds, returns_holds}
 use Rattle.bus_model.proofs.Effects.{comes_effect, returns_effect, has_effect}
 use Rattle.bus_model.proofs.BusGrows.{BusGrows, stays, comes_grow, takes_grow, happens_grows, begun_at, kept_at, reply_at, reply_within, kept_within}
-use Rattle.bus_model.proofs.InLog.{LogShows, opening_shows, comes_shows, takes_shows, happens_shows}
+use Rattle.bus_model.proofs.InLog.{LogShows, start_shows, comes_shows, takes_shows, happens_shows}
 use Rattle.bus_model.proofs.Assemblies.{one_tag}
 use Rattle.bus_model.proofs.PacketSteps.{in_slice, in_rest, in_waiting, named, at_tag, at_tag_alone, at_other, at_empty, takes_whole, WholeIs, FirstIs, IsAssembly, nothing, assembly_grows, assembly_step}
 
@@ -54,6 +55,7 @@ module _ (b : Bus) where
   plain_takes_none s (OtherAsks request answer) plain honest = (refl, omega arith)
   plain_takes_none s (OtherReplies source number reply) plain honest = subst (TakesNone s) (sym (ignored b source number reply s honest)) (refl, omega arith)
   plain_takes_none s (IsIdle requester) plain honest = (refl, omega arith)
+  plain_takes_none s Resumes plain honest = absurd plain
 
 module _ (b : PacketBus) (cutting : IsCutting b.split) (before : List Entry) where
   abbrev pub rules : Bus
@@ -298,6 +300,16 @@ module _ (b : PacketBus) (cutting : IsCutting b.split) (before : List Entry) whe
         w.1,
       )
 
+  -- what waits at the manager is dropped
+  cleared : (x : Ends) → EndsHold x → EndsHold (record x { manager = λ name. [] })
+  cleared x ok = record {
+    holds = ok.holds;
+    shows = ok.shows;
+    port = ok.port;
+    manager = λ tag. nothing b.first b.split cutting (kept_at x.bus) tag;
+    awaited = λ tag t is. absurd is;
+  }
+
   -- each honest event keeps what holds, and does to the manager's requests what it may
   pub packet_step : (x : Ends) (e : PacketEvent) → EndsHold x → IsPacketHonest RecentWhereWhole b x e → EndsHold (packet_happens b x e) × HasPacketEffect b x e
   packet_step x (Plain e) ok honest =
@@ -319,20 +331,19 @@ module _ (b : PacketBus) (cutting : IsCutting b.split) (before : List Entry) whe
     },
     same_requests x.bus,
   )
-  packet_step x Clears ok honest = (
-    record { holds = ok.holds; shows = ok.shows; port = ok.port; manager = λ tag. nothing b.first b.split cutting (kept_at x.bus) tag; awaited = λ tag t is. absurd is },
-    same_requests x.bus,
-  )
+  packet_step x Clears ok honest = (cleared x ok, same_requests x.bus)
+  packet_step x PacketResumes ok honest = (cleared x ok, same_requests x.bus)
 
   pub packet_run_holds : (events : List PacketEvent) (x : Ends) → EndsHold x → AllPacketHonest RecentWhereWhole b events x → EndsHold (packet_run b events x)
   packet_run_holds [] x ok honest = ok
   packet_run_holds (e ∷ es) x ok honest = packet_run_holds es (packet_happens b x e) (packet_step x e ok honest.0).0 honest.1
 
-  pub opening_ends_hold : carried_since b.manager before ≡ [] → EndsHold (opening_ends before)
-  opening_ends_hold empty = record {
-    holds = opening_holds rules before empty;
-    shows = opening_shows rules before;
-    port = nothing b.first b.split cutting (begun_at (opening before));
-    manager = nothing b.first b.split cutting (kept_at (opening before));
-    awaited = λ tag t is. absurd is;
-  }
+-- a bus of packets with nothing under way, nothing waiting and an empty window
+pub start_ends_hold : (b : PacketBus) (cutting : IsCutting b.split) (x : Ends) → NothingUnderWay x.bus → NothingWaits b x → EmptyWindow (rules_of b) x.bus.log → EndsHold b cutting x.bus.log x
+start_ends_hold b cutting x none waits empty = record {
+  holds = start_holds (rules_of b) x.bus none empty;
+  shows = start_shows (rules_of b) x.bus.log x.bus none refl;
+  port = λ tag. subst (IsAssembly b.first b.split cutting (begun_at x.bus) tag) (sym (waits.port (named b.manager true tag) refl)) (nothing b.first b.split cutting (begun_at x.bus) tag);
+  manager = λ tag. subst (IsAssembly b.first b.split cutting (kept_at x.bus) tag) (sym (waits.manager (named b.controller false tag) refl)) (nothing b.first b.split cutting (kept_at x.bus) tag);
+  awaited = λ tag t is. absurd (subst (λ (l : List Sent). In t l) (waits.manager (named b.controller false tag) refl) is);
+}

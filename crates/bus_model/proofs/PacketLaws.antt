@@ -6,11 +6,11 @@ use Rattle.bus_model.specs.BusState.{BusState, Frame, Content, Ask, Reply}
 use Rattle.bus_model.specs.Schedule.{IsLive}
 use Rattle.bus_model.specs.Packet.{Packet}
 use Rattle.bus_model.specs.Assembly.{Sent, Step, Waits, Whole, Drops, IsWhole, IsJoined, takes}
-use Rattle.bus_model.specs.PacketBus.{PacketBus, rules_of, request_name, Ends, PacketEvent, Plain, PacketReachesPort, PacketReachesManager, OtherPacket, OtherReplyPacket, Closes, Clears, packet_happens, packet_run, opening_ends}
+use Rattle.bus_model.specs.PacketBus.{PacketBus, rules_of, request_name, Ends, PacketEvent, Plain, PacketReachesPort, PacketReachesManager, OtherPacket, OtherReplyPacket, Closes, Clears, PacketResumes, packet_happens, packet_run}
 use Rattle.bus_model.specs.PacketSchedule.{JoinRule, LiveWhereJoined, OneRequestWhereJoined, RecentWhereWhole, MayJoin, PacketMayJoin, JoinsAtPort, IsPacketHonest, AllPacketHonest, AlwaysAtMostOnceInPackets, RuleImplies, NoneOpenIsPacketHonest}
 use Rattle.bus_model.specs.PacketEffect.{EventsHavePacketEffects}
 use Rattle.bus_model.proofs.WholeMessages.{at_most_once_from, none_open}
-use Rattle.bus_model.proofs.PacketEnds.{packet_step, packet_run_holds, opening_ends_hold}
+use Rattle.bus_model.proofs.PacketEnds.{packet_step, packet_run_holds, start_ends_hold}
 
 -- what completes a message is taken
 whole_joined : (st : Step) → IsWhole st → IsJoined st
@@ -55,34 +55,39 @@ module _ (rule : JoinRule) (asks : AsksNoLess rule) (b : PacketBus) where
   event_implies x (OtherReplyPacket name packet number) honest = honest
   event_implies x (Closes name) honest = honest
   event_implies x Clears honest = honest
+  event_implies x PacketResumes honest = honest
 
   pub all_imply : (events : List PacketEvent) (x : Ends) → AllPacketHonest rule b events x → AllPacketHonest RecentWhereWhole b events x
   all_imply [] x honest = honest
   all_imply (e ∷ es) x honest = (event_implies x e honest.0, all_imply es (packet_happens b x e) honest.1)
 
 pub implies : (rule : JoinRule) → AsksNoLess rule → RuleImplies rule RecentWhereWhole
-implies rule asks b events before honest = all_imply rule asks b events (opening_ends before) honest
+implies rule asks b events x honest = all_imply rule asks b events x honest
 
 -- a prefix of an honest schedule is honest
 pub packet_prefix : (rule : JoinRule) (b : PacketBus) (events later : List PacketEvent) (x : Ends) → AllPacketHonest rule b (events ++ later) x → AllPacketHonest rule b events x
 packet_prefix rule b [] later x honest = tt
 packet_prefix rule b (e ∷ es) later x honest = (honest.0, packet_prefix rule b es later (packet_happens b x e) honest.1)
 
-pub packet_next : (rule : JoinRule) (b : PacketBus) (events : List PacketEvent) (e : PacketEvent) (x : Ends) → AllPacketHonest rule b (events ++ e ∷ []) x → IsPacketHonest rule b (packet_run b events x) e
-packet_next rule b [] e x honest = honest.0
-packet_next rule b (f ∷ es) e x honest = packet_next rule b es e (packet_happens b x f) honest.1
+-- and so is the rest, after it
+pub packet_rest : (rule : JoinRule) (b : PacketBus) (events later : List PacketEvent) (x : Ends) → AllPacketHonest rule b (events ++ later) x → AllPacketHonest rule b later (packet_run b events x)
+packet_rest rule b [] later x honest = honest
+packet_rest rule b (e ∷ es) later x honest = packet_rest rule b es later (packet_happens b x e) honest.1
 
 pub always_in_packets : (rule : JoinRule) → AsksNoLess rule → AlwaysAtMostOnceInPackets rule
-always_in_packets rule asks b cutting before events later empty honest =
-    let first = all_imply rule asks b events (opening_ends before) (packet_prefix rule b events later (opening_ends before) honest) in
-    let ok = packet_run_holds b cutting before events (opening_ends before) (opening_ends_hold b cutting before empty) first in
-    at_most_once_from (rules_of b) before (packet_run b events (opening_ends before)).bus ok.holds ok.shows
+always_in_packets rule asks b cutting start events later none waits empty honest =
+    let first = all_imply rule asks b events start (packet_prefix rule b events later start honest) in
+    let ok = packet_run_holds b cutting start.bus.log events start (start_ends_hold b cutting start none waits empty) first in
+    at_most_once_from (rules_of b) start.bus.log (packet_run b events start).bus ok.holds ok.shows
 
 pub effects_in_packets : (rule : JoinRule) → AsksNoLess rule → EventsHavePacketEffects rule
-effects_in_packets rule asks b cutting before events e empty honest =
-    let first = all_imply rule asks b events (opening_ends before) (packet_prefix rule b events (e ∷ []) (opening_ends before) honest) in
-    let next = event_implies rule asks b (packet_run b events (opening_ends before)) e (packet_next rule b events e (opening_ends before) honest) in
-    (packet_step b cutting before (packet_run b events (opening_ends before)) e (packet_run_holds b cutting before events (opening_ends before) (opening_ends_hold b cutting before empty) first) next).1
+effects_in_packets rule asks b cutting start events e none waits empty honest =
+    let first = all_imply rule asks b events start (packet_prefix rule b events (e ∷ []) start honest) in
+    let next = event_implies rule asks b (packet_run b events start) e (packet_rest rule b events (e ∷ []) start honest).0 in
+    (packet_step b cutting start.bus.log (packet_run b events start) e (packet_run_holds b cutting start.bus.log events start (start_ends_hold b cutting start none waits empty) first) next).1
 
 pub none_open_in_packets : NoneOpenIsPacketHonest
-none_open_in_packets rule b here there requester closed = (tt, none_open (rules_of b) here.bus there requester closed)
+none_open_in_packets = record {
+  idle = λ rule b here there requester closed. (tt, none_open.idle (rules_of b) here.bus there requester closed);
+  resumes = λ rule b here there closed. none_open.resumes (rules_of b) here.bus there closed;
+}

@@ -1,13 +1,14 @@
 -- Each honest event keeps what holds.
-use Rattle.std.proofs.Common.{◌≡◌, ℕ, ◌+◌, ◌≤◌, Bool, true, false, ◌&&◌, eqb, List, [], ◌∷◌, ◌++◌, length, Option, Some, None, refl, sym, ap, subst, arith, inl, inr}
+use Rattle.std.proofs.Common.{◌≡◌, ℕ, ◌+◌, ◌≤◌, Bool, true, false, ◌&&◌, eqb, List, [], ◌∷◌, ◌++◌, length, Option, Some, None, refl, sym, ◌∙◌, ap, subst, arith, inl, inr}
 use Rattle.std.specs.Prelude.{slice_get, IfSome}
 use Rattle.std.proofs.lemmas.Bool.{and_parts, eqb-true, ltb-true, ltb-false, cond_both, cases_eq, cases_lt}
 use Rattle.std.proofs.lemmas.Option.{none-some, slice_get_within}
-use Rattle.bus_model.specs.Request.{Kept, Entry, carried_since, idles_of}
+use Rattle.bus_model.specs.Request.{Kept, Entry, idles_of}
 use Rattle.bus_model.specs.Carried.{Outcome, Repeats, IsBusy, IsNew, outcome, outcome_of, log_after, reply_after, carried_after, is_busy}
 use Rattle.bus_model.specs.Numbering.{Bus}
-use Rattle.bus_model.specs.BusState.{request_of, Content, Ask, Reply, Frame, BusState, Event, Begins, SendsAgain, ReachesPort, ReachesManager, OtherAsks, OtherReplies, IsIdle, opening, is_open, sent, begins, sends_again, hears, comes, taken_content, takes_if, taken_now, at_port, happens, run}
+use Rattle.bus_model.specs.BusState.{request_of, Content, Ask, Reply, Frame, BusState, Event, Begins, SendsAgain, ReachesPort, ReachesManager, OtherAsks, OtherReplies, IsIdle, Resumes, opening, is_open, sent, begins, sends_again, hears, comes, taken_content, takes_if, taken_now, at_port, happens, run}
 use Rattle.bus_model.specs.Schedule.{IsLive, IsHonest, AllHonest}
+use Rattle.bus_model.specs.Start.{NothingUnderWay, EmptyWindow}
 use Rattle.bus_model.specs.Effect.{IsKeptFor}
 use Rattle.bus_model.proofs.Lists.{at_end}
 use Rattle.bus_model.proofs.NumberLaws.{IsNumbering}
@@ -24,7 +25,7 @@ pub record Holds (b : Bus) (s : BusState) : Type 0 where
   pub floor : ℕ
   pub sound : SoundAt b floor s
 
-pub opening_holds : (b : Bus) (before : List Entry) → carried_since b.manager before ≡ [] → Holds b (opening before)
+pub opening_holds : (b : Bus) (before : List Entry) → EmptyWindow b before → Holds b (opening before)
 opening_holds b before empty = record {
   floor = 0;
   sound = subst (λ (since : List Kept). Sound b 0 [] [] [] (record { since = since; idles = idles_of b.manager before }) []) (sym empty) (record {
@@ -38,6 +39,17 @@ opening_holds b before empty = record {
     frames = λ i f e. absurd (none-some f e);
   });
 }
+
+-- with nothing under way the bus is at the opening
+pub opens : (s : BusState) → NothingUnderWay s → opening s.log ≡ s
+opens s start =
+    ap (λ (l : List (List ℕ)). record { begun = l; carried = []; taken = []; log = s.log; frames = [] }) (sym start.begun)
+    ∙ ap (λ (l : List Kept). record { begun = s.begun; carried = l; taken = []; log = s.log; frames = [] }) (sym start.carried)
+    ∙ ap (λ (l : List (List ℕ)). record { begun = s.begun; carried = s.carried; taken = l; log = s.log; frames = [] }) (sym start.taken)
+    ∙ ap (λ (l : List Frame). record { begun = s.begun; carried = s.carried; taken = s.taken; log = s.log; frames = l }) (sym start.frames)
+
+pub start_holds : (b : Bus) (s : BusState) → NothingUnderWay s → EmptyWindow b s.log → Holds b s
+start_holds b s start empty = subst (Holds b) (opens s start) (opening_holds b s.log empty)
 
 module _ (b : Bus) (numbers : IsNumbering b) where
   pub again_holds : (s : BusState) (o : Option (List ℕ)) → slice_get s.begun (length s.taken) ≡ o → Holds b s → Holds b (sends_again b o s)
@@ -137,6 +149,7 @@ module _ (b : Bus) (numbers : IsNumbering b) where
         }
         | inr other ↦ record { floor = h.floor; sound = subst (λ (w : Seen). Sound b h.floor s.begun s.carried s.taken w s.frames) (sym (seen-idle_other b.manager requester s.log other)) h.sound }
       ]
+  happens_holds s Resumes h honest = h
 
   pub run_holds : (events : List Event) (s : BusState) → Holds b s → AllHonest b events s → Holds b (run b events s)
   run_holds [] s h honest = h

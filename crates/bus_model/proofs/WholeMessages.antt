@@ -1,15 +1,15 @@
 -- The laws of whole messages.
-use Rattle.std.proofs.Common.{ℕ, ◌++◌, List, [], ◌∷◌}
+use Rattle.std.proofs.Common.{refl, ℕ, ◌++◌, List, [], ◌∷◌}
 use Rattle.std.proofs.lemmas.Bool.{or_parts}
 use Rattle.bus_model.specs.Request.{Entry}
 use Rattle.bus_model.specs.Numbering.{Bus, ipmb, smbus}
 use Rattle.bus_model.specs.BusState.{BusState, Event, opening, is_open, happens, run}
-use Rattle.bus_model.specs.Schedule.{IsHonest, AllHonest, NoneOpenIsHonest}
+use Rattle.bus_model.specs.Schedule.{AllHonest, NoneOpenIsHonest}
 use Rattle.bus_model.specs.AtMostOnce.{AtMostOnce, AlwaysAtMostOnce}
 use Rattle.bus_model.specs.Effect.{EventsHaveEffects}
 use Rattle.bus_model.proofs.NumberLaws.{IsNumbering, ipmb_numbers, smbus_numbers}
-use Rattle.bus_model.proofs.Steps.{Holds, opening_holds, run_holds}
-use Rattle.bus_model.proofs.InLog.{LogShows, opening_shows, run_shows}
+use Rattle.bus_model.proofs.Steps.{Holds, start_holds, run_holds}
+use Rattle.bus_model.proofs.InLog.{LogShows, start_shows, run_shows}
 use Rattle.bus_model.proofs.Effects.{has_effect}
 
 -- a prefix of an honest schedule is honest
@@ -17,9 +17,10 @@ pub honest_prefix : (b : Bus) (events later : List Event) (s : BusState) → All
 honest_prefix b [] later s honest = tt
 honest_prefix b (e ∷ es) later s honest = (honest.0, honest_prefix b es later (happens b s e) honest.1)
 
-pub honest_next : (b : Bus) (events : List Event) (e : Event) (s : BusState) → AllHonest b (events ++ e ∷ []) s → IsHonest b (run b events s) e
-honest_next b [] e s honest = honest.0
-honest_next b (f ∷ es) e s honest = honest_next b es e (happens b s f) honest.1
+-- and so is the rest, after it
+pub honest_rest : (b : Bus) (events later : List Event) (s : BusState) → AllHonest b (events ++ later) s → AllHonest b later (run b events s)
+honest_rest b [] later s honest = honest
+honest_rest b (e ∷ es) later s honest = honest_rest b es later (happens b s e) honest.1
 
 pub at_most_once_from : (b : Bus) (before : List Entry) (s : BusState) → Holds b s → LogShows b before s → AtMostOnce b before s
 at_most_once_from b before s h shows = record {
@@ -32,16 +33,16 @@ at_most_once_from b before s h shows = record {
 }
 
 always : (b : Bus) → IsNumbering b → AlwaysAtMostOnce b
-always b numbers before events later empty honest =
-    let first = honest_prefix b events later (opening before) honest in
-    at_most_once_from b before (run b events (opening before)) (run_holds b numbers events (opening before) (opening_holds b before empty) first)
-    (run_shows b before events (opening before) (opening_shows b before) first)
+always b numbers start events later none empty honest =
+    let first = honest_prefix b events later start honest in
+    at_most_once_from b start.log (run b events start) (run_holds b numbers events start (start_holds b start none empty) first)
+    (run_shows b start.log events start (start_shows b start.log start none refl) first)
 
 effects : (b : Bus) → IsNumbering b → EventsHaveEffects b
-effects b numbers before events e empty honest =
-    has_effect b numbers (run b events (opening before)) e
-    (run_holds b numbers events (opening before) (opening_holds b before empty) (honest_prefix b events (e ∷ []) (opening before) honest))
-    (honest_next b events e (opening before) honest)
+effects b numbers start events e none empty honest =
+    has_effect b numbers (run b events start) e
+    (run_holds b numbers events start (start_holds b start none empty) (honest_prefix b events (e ∷ []) start honest))
+    (honest_rest b events (e ∷ []) start honest).0
 
 pub ipmb_always : (manager controller first : ℕ) → AlwaysAtMostOnce (ipmb manager controller first)
 ipmb_always manager controller first = always (ipmb manager controller first) (ipmb_numbers manager controller first)
@@ -56,4 +57,7 @@ pub smbus_effects : (manager controller first : ℕ) → EventsHaveEffects (smbu
 smbus_effects manager controller first = effects (smbus manager controller first) (smbus_numbers manager controller first)
 
 pub none_open : NoneOpenIsHonest
-none_open b here there requester closed mine = (or_parts (is_open here) (is_open there) closed).0
+none_open = record {
+  idle = λ b here there requester closed mine. (or_parts (is_open here) (is_open there) closed).0;
+  resumes = λ b here there closed. (or_parts (is_open here) (is_open there) closed).0;
+}

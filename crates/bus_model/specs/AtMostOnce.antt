@@ -1,9 +1,10 @@
 -- What holds of a bus: every request of the manager is carried out at most once, in the order begun.
 use Rattle.std.specs.Prelude.{◌≡◌, ℕ, ◌+◌, ◌≤◌, List, [], ◌++◌, length, Some, slice_get}
-use Rattle.bus_model.specs.Request.{Kept, Entry, carried_since, carried_by}
+use Rattle.bus_model.specs.Request.{Kept, Entry, carried_by}
 use Rattle.bus_model.specs.Numbering.{Bus}
-use Rattle.bus_model.specs.BusState.{BusState, Event, request_of, opening, run}
+use Rattle.bus_model.specs.BusState.{BusState, Event, request_of, run}
 use Rattle.bus_model.specs.Schedule.{AllHonest}
+use Rattle.bus_model.specs.Start.{NothingUnderWay, EmptyWindow}
 
 -- what holds of the bus in this state, over a port that did this before
 pub record AtMostOnce (b : Bus) (before : List Entry) (s : BusState) : Type 0 where
@@ -20,7 +21,7 @@ pub record AtMostOnce (b : Bus) (before : List Entry) (s : BusState) : Type 0 wh
   -- and the port carried nothing else out in the manager's name
   pub nothing_else : carried_by b.manager s.log ≡ carried_by b.manager before ++ s.carried
 
--- at every event of every honest schedule over a port whose window for the manager is empty
+-- at every event of every honest schedule from a start, whoever takes the manager's place on the way
 abbrev pub AlwaysAtMostOnce : Bus → Type 0
-AlwaysAtMostOnce b = (before : List Entry) (events later : List Event) → carried_since b.manager before ≡ []
-    → AllHonest b (events ++ later) (opening before) → AtMostOnce b before (run b events (opening before))
+AlwaysAtMostOnce b = (start : BusState) (events later : List Event) → NothingUnderWay start → EmptyWindow b start.log
+    → AllHonest b (events ++ later) start → AtMostOnce b start.log (run b events start)

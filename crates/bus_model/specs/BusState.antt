@@ -40,6 +40,9 @@ pub data Event : Type 0 where
   OtherReplies : (source number : ℕ) (reply : List ℕ) → Event
   -- the port forgets a requester's window
   IsIdle : (requester : ℕ) → Event
+  -- Another manager takes the place of this one, under the same address. Its requests go on from the number that comes
+  -- next, and it has no other knowledge of the bus.
+  Resumes : Event
 
 -- nothing was begun, over a port that did this before
 abbrev pub opening : List Entry → BusState
@@ -132,6 +135,7 @@ happens b s (ReachesManager which) = takes_if (taken_now b (slice_get s.frames w
 happens b s (OtherAsks request answer) = record s { log = log_with b.is_above (HeardRequest (record { request = request; reply = answer })) s.log }
 happens b s (OtherReplies source number reply) = takes_if (taken_from b source number reply s) s
 happens b s (IsIdle requester) = record s { log = Idled requester ∷ s.log }
+happens b s Resumes = s
 
 -- the state after a schedule, event by event
 abbrev pub run : Bus → List Event → BusState → BusState

@@ -1,9 +1,10 @@
 -- What an event does to the manager's requests: nothing, or one step of the open one.
 use Rattle.std.specs.Prelude.{◌≡◌, ℕ, ◌<◌, List, [], ◌∷◌, ◌++◌, length, Some, None, slice_get, MatchOption, MatchBool}
-use Rattle.bus_model.specs.Request.{Kept, Entry, carried_since}
+use Rattle.bus_model.specs.Request.{Kept}
 use Rattle.bus_model.specs.Numbering.{Bus}
-use Rattle.bus_model.specs.BusState.{BusState, Event, Begins, SendsAgain, ReachesPort, ReachesManager, OtherAsks, OtherReplies, IsIdle, is_open, opening, happens, run, carried_now, taken_now}
+use Rattle.bus_model.specs.BusState.{BusState, Event, Begins, SendsAgain, ReachesPort, ReachesManager, OtherAsks, OtherReplies, IsIdle, Resumes, is_open, happens, run, carried_now, taken_now}
 use Rattle.bus_model.specs.Schedule.{AllHonest}
+use Rattle.bus_model.specs.Start.{NothingUnderWay, EmptyWindow}
 
 -- the reply that is kept for the n-th request
 pub record IsKeptFor (carried : List Kept) (n : ℕ) (reply : List ℕ) : Type 0 where
@@ -54,8 +55,9 @@ HasEffect b s (ReachesManager which) =
 HasEffect b s (OtherAsks request answer) = SameRequests s (happens b s (OtherAsks request answer))
 HasEffect b s (OtherReplies source number reply) = SameRequests s (happens b s (OtherReplies source number reply))
 HasEffect b s (IsIdle requester) = SameRequests s (happens b s (IsIdle requester))
+HasEffect b s Resumes = SameRequests s (happens b s Resumes)
 
--- of every event of every honest schedule
+-- of every event of every honest schedule from a start
 abbrev pub EventsHaveEffects : Bus → Type 0
-EventsHaveEffects b = (before : List Entry) (events : List Event) (e : Event) → carried_since b.manager before ≡ []
-    → AllHonest b (events ++ e ∷ []) (opening before) → HasEffect b (run b events (opening before)) e
+EventsHaveEffects b = (start : BusState) (events : List Event) (e : Event) → NothingUnderWay start → EmptyWindow b start.log
+    → AllHonest b (events ++ e ∷ []) start → HasEffect b (run b events start) e

@@ -1,7 +1,7 @@
 -- Schedules that compute, on each bus: none of the theorems is about nothing.
 use Rattle.std.specs.Prelude.{◌≡◌, ℕ, zero, suc, ◌+◌, List, [], ◌∷◌, ◌++◌, length, Some, None, slice_get}
 use Rattle.bus_model.specs.Numbering.{Bus}
-use Rattle.bus_model.specs.BusState.{Content, Reply, Event, Begins, SendsAgain, ReachesPort, ReachesManager, OtherAsks, OtherReplies, IsIdle, opening, run}
+use Rattle.bus_model.specs.BusState.{Content, Reply, Event, Begins, SendsAgain, ReachesPort, ReachesManager, OtherAsks, OtherReplies, IsIdle, Resumes, opening, run}
 use Rattle.bus_model.specs.Schedule.{AllHonest}
 
 -- so many other requesters, from 0 on, ask something
@@ -29,13 +29,14 @@ abbrev pub late_reply : ℕ → List Event
 late_reply number =
     Begins (31 ∷ []) ∷ ReachesManager 4 ∷ OtherReplies 50 number (99 ∷ []) ∷ ReachesPort 7 (31 ∷ []) ∷ ReachesManager 4 ∷ ReachesManager 8 ∷ []
 
--- on IPMB: 31 newer requests, then the first one's frame again, then an idle of the manager and one more request
+-- on IPMB: another manager takes over, after 31 newer requests the first one's frame comes again, and after an idle of the
+-- manager there is one more request
 abbrev pub ipmb_example : List Event
-ipmb_example = hard_start ++ late_reply 61 ++ rounds 30 9 ++ ReachesPort 3 (73 ∷ []) ∷ IsIdle 44 ∷ [] ++ rounds 1 70
+ipmb_example = hard_start ++ late_reply 61 ++ Resumes ∷ rounds 30 9 ++ ReachesPort 3 (73 ∷ []) ∷ IsIdle 44 ∷ [] ++ rounds 1 70
 
 -- on SMBus: the same with 7 newer requests
 abbrev pub smbus_example : List Event
-smbus_example = hard_start ++ late_reply 29 ++ rounds 6 9 ++ ReachesPort 3 (73 ∷ []) ∷ IsIdle 44 ∷ [] ++ rounds 1 22
+smbus_example = hard_start ++ late_reply 29 ++ Resumes ∷ rounds 6 9 ++ ReachesPort 3 (73 ∷ []) ∷ IsIdle 44 ∷ [] ++ rounds 1 22
 
 -- the schedule is honest, and each of so many requests was carried out and its reply taken
 pub record EndsAnswered (b : Bus) (events : List Event) (requests : ℕ) : Type 0 where

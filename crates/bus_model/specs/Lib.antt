@@ -5,6 +5,7 @@ pub mod Repeat
 pub mod Window
 pub mod BusState
 pub mod Schedule
+pub mod Start
 pub mod AtMostOnce
 pub mod Effect
 pub mod Packet
@@ -12,6 +13,9 @@ pub mod Assembly
 pub mod PacketBus
 pub mod PacketSchedule
 pub mod PacketEffect
+pub mod Resume
+pub mod CleanLink
+pub mod Slots
 pub mod Example
 pub mod PacketExample
 pub mod Circle

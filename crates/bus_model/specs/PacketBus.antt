@@ -2,7 +2,7 @@
 use Rattle.std.specs.Prelude.{ℕ, Bool, true, false, ◌==◌, ◌&&◌, length, List, [], ◌∷◌, Option, Some, None, if◌then◌else◌, slice_get}
 use Rattle.bus_model.specs.Request.{Entry}
 use Rattle.bus_model.specs.Numbering.{Bus, smbus, tag_of}
-use Rattle.bus_model.specs.BusState.{BusState, Frame, Content, Ask, Reply, Event, OtherAsks, opening, is_open, request_of, hears, taken_content, takes_if, happens}
+use Rattle.bus_model.specs.BusState.{BusState, Frame, Content, Ask, Reply, Event, OtherAsks, Resumes, opening, is_open, request_of, hears, taken_content, takes_if, happens}
 use Rattle.bus_model.specs.Packet.{Packet}
 use Rattle.bus_model.specs.Assembly.{Name, is_name, Sent, Step, Waits, Whole, Drops, takes, first_request, message_of}
 
@@ -47,6 +47,8 @@ pub data PacketEvent : Type 0 where
   Closes : (name : Name) → PacketEvent
   -- the manager drops what waits at it, as where it begins to undo
   Clears : PacketEvent
+  -- another manager takes the place of this one, at which nothing waits
+  PacketResumes : PacketEvent
 
 -- the assemblies with one of them changed
 abbrev pub set_at : Name → List Sent → (Name → List Sent) → Name → List Sent
@@ -135,6 +137,7 @@ packet_happens b x (OtherPacket name packet number answer) = other_takes b name 
 packet_happens b x (OtherReplyPacket name packet number) = other_returns b name packet number x
 packet_happens b x (Closes name) = record x { port = set_at name [] x.port }
 packet_happens b x Clears = record x { manager = λ name. [] }
+packet_happens b x PacketResumes = record x { bus = happens (rules_of b) x.bus Resumes; manager = λ name. [] }
 
 -- both ends after a schedule, event by event
 abbrev pub packet_run : PacketBus → List PacketEvent → Ends → Ends

@@ -1,13 +1,14 @@
 -- What an event of packets does to the manager's requests.
 use Rattle.std.specs.Prelude.{◌≡◌, List, [], ◌∷◌, ◌++◌, ℕ, Option, Some, None, slice_get, if◌then◌else◌, IfSome, MatchOption}
-use Rattle.bus_model.specs.Request.{Request, Entry, carried_since}
+use Rattle.bus_model.specs.Request.{Request}
 use Rattle.bus_model.specs.Carried.{outcome}
 use Rattle.bus_model.specs.Numbering.{Bus}
 use Rattle.bus_model.specs.BusState.{BusState, Frame, Content, Ask, Reply, request_of, new_bytes, taken_content}
 use Rattle.bus_model.specs.Effect.{SameRequests, IsCarried, IsTaken, HasEffect}
 use Rattle.bus_model.specs.Packet.{Packet, IsCutting}
 use Rattle.bus_model.specs.Assembly.{Name, Sent, Step, Waits, Whole, Drops, takes, first_request, message_of}
-use Rattle.bus_model.specs.PacketBus.{PacketBus, rules_of, request_name, reply_name, is_awaited, Ends, PacketEvent, Plain, PacketReachesPort, PacketReachesManager, OtherPacket, OtherReplyPacket, Closes, Clears, packet_happens, packet_run, opening_ends}
+use Rattle.bus_model.specs.PacketBus.{PacketBus, rules_of, request_name, reply_name, is_awaited, Ends, PacketEvent, Plain, PacketReachesPort, PacketReachesManager, OtherPacket, OtherReplyPacket, Closes, Clears, PacketResumes, packet_happens, packet_run}
+use Rattle.bus_model.specs.Start.{NothingUnderWay, NothingWaits, EmptyWindow}
 use Rattle.bus_model.specs.PacketSchedule.{JoinRule, AllPacketHonest}
 
 -- what an end does with a packet under a name; a frame has no packet at a place past its last
@@ -89,8 +90,10 @@ HasPacketEffect b x (OtherPacket name packet number answer) = SameRequests x.bus
 HasPacketEffect b x (OtherReplyPacket name packet number) = SameRequests x.bus (packet_happens b x (OtherReplyPacket name packet number)).bus
 HasPacketEffect b x (Closes name) = SameRequests x.bus (packet_happens b x (Closes name)).bus
 HasPacketEffect b x Clears = SameRequests x.bus (packet_happens b x Clears).bus
+HasPacketEffect b x PacketResumes = SameRequests x.bus (packet_happens b x PacketResumes).bus
 
--- of every event of every honest schedule of packets, by the rule
+-- of every event of every honest schedule of packets, by the rule, from a start
 abbrev pub EventsHavePacketEffects : JoinRule → Type 0
-EventsHavePacketEffects rule = (b : PacketBus) → IsCutting b.split → (before : List Entry) (events : List PacketEvent) (e : PacketEvent) → carried_since b.manager before ≡ []
-    → AllPacketHonest rule b (events ++ e ∷ []) (opening_ends before) → HasPacketEffect b (packet_run b events (opening_ends before)) e
+EventsHavePacketEffects rule = (b : PacketBus) → IsCutting b.split → (start : Ends) (events : List PacketEvent) (e : PacketEvent)
+    → NothingUnderWay start.bus → NothingWaits b start → EmptyWindow (rules_of b) start.bus.log
+    → AllPacketHonest rule b (events ++ e ∷ []) start → HasPacketEffect b (packet_run b events start) e

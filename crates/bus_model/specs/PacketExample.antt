@@ -5,7 +5,7 @@ use Rattle.std.specs.Str.{bytes_eq}
 use Rattle.bus_model.specs.BusState.{Content, Reply, Begins, SendsAgain, IsIdle, request_of}
 use Rattle.bus_model.specs.Example.{others}
 use Rattle.bus_model.specs.Packet.{packets_of}
-use Rattle.bus_model.specs.PacketBus.{PacketBus, rules_of, PacketEvent, Plain, PacketReachesPort, PacketReachesManager, OtherPacket, OtherReplyPacket, packet_run, opening_ends}
+use Rattle.bus_model.specs.PacketBus.{PacketBus, rules_of, PacketEvent, Plain, PacketReachesPort, PacketReachesManager, OtherPacket, OtherReplyPacket, PacketResumes, packet_run, opening_ends}
 use Rattle.bus_model.specs.PacketSchedule.{AnyJoin, LiveWhereJoined, AllPacketHonest}
 
 -- a message of two packets
@@ -40,15 +40,15 @@ other_reply = OtherReplyPacket (record { source = 5; owner = false; tag = 5 }) (
 -- Eight others hold all windows, so the first request finds the port busy (frame 1). One of them becomes idle. Of frame 2
 -- the end is lost, and frame 3's takes its place. The reply, frame 4, is delayed. Frame 5 is a repeat, and of its reply,
 -- frame 6, the end comes first and is dropped. The delayed reply and another's reply come while the second request is
--- open, and aren't taken. After seven newer requests the first one's frame comes again, is answered by frame 21, and after
--- an idle of the manager there is one more request.
+-- open, and aren't taken. Another manager takes over. After seven newer requests the first one's frame comes again, is
+-- answered by frame 21, and after an idle of the manager there is one more request.
 abbrev pub packet_example : List PacketEvent
 packet_example =
     map Plain (others 8) ++ Plain (Begins (long 7)) ∷ both_reach_port 0 70 ++ PacketReachesManager 1 0
     ∷ Plain (IsIdle 3) ∷ Plain SendsAgain ∷ PacketReachesPort 2 0 [] ∷ other_start ∷ Plain SendsAgain ∷ PacketReachesPort 3 1 (long 71)
     ∷ Plain SendsAgain ∷ both_reach_port 5 72 ++ PacketReachesManager 6 1 ∷ both_reach_manager 6
     ++ Plain (Begins (long 31)) ∷ both_reach_manager 4 ++ other_reply ∷ both_reach_port 7 31 ++ both_reach_manager 4 ++ both_reach_manager 8
-    ++ packet_rounds 6 9 ++ both_reach_port 3 73 ++ Plain (IsIdle 8) ∷ [] ++ packet_rounds 1 22
+    ++ PacketResumes ∷ packet_rounds 6 9 ++ both_reach_port 3 73 ++ Plain (IsIdle 8) ∷ [] ++ packet_rounds 1 22
 
 -- it is honest, and each of so many requests was carried out and its reply taken
 pub record PacketsEndAnswered (b : PacketBus) (events : List PacketEvent) (requests : ℕ) : Type 0 where

@@ -1,13 +1,14 @@
 -- Honest schedules of packets.
 use Rattle.std.specs.Prelude.{◌≡◌, ◌≢◌, ℕ, ◌+◌, ◌≤◌, false, ◌||◌, List, [], ◌∷◌, ◌++◌, length, Option, Some, None, slice_get, IfSome}
-use Rattle.bus_model.specs.Request.{Entry, idles_of, carried_since}
+use Rattle.bus_model.specs.Request.{idles_of}
 use Rattle.bus_model.specs.Numbering.{Bus}
-use Rattle.bus_model.specs.BusState.{BusState, Content, Ask, Reply, Event, ReachesPort, ReachesManager, IsIdle, is_open}
+use Rattle.bus_model.specs.BusState.{BusState, Content, Ask, Reply, Event, ReachesPort, ReachesManager, IsIdle, Resumes, is_open}
 use Rattle.bus_model.specs.Schedule.{IsLive, IsHonest}
 use Rattle.bus_model.specs.Repeat.{In}
 use Rattle.bus_model.specs.Packet.{Packet, IsCutting}
 use Rattle.bus_model.specs.Assembly.{Sent, IsWhole, IsJoined, takes, waiting}
-use Rattle.bus_model.specs.PacketBus.{PacketBus, rules_of, request_name, Ends, PacketEvent, Plain, PacketReachesPort, PacketReachesManager, OtherPacket, OtherReplyPacket, Closes, Clears, packet_happens, packet_run, opening_ends}
+use Rattle.bus_model.specs.PacketBus.{PacketBus, rules_of, request_name, Ends, PacketEvent, Plain, PacketReachesPort, PacketReachesManager, OtherPacket, OtherReplyPacket, Closes, Clears, PacketResumes, packet_happens, packet_run}
+use Rattle.bus_model.specs.Start.{NothingUnderWay, NothingWaits, EmptyWindow}
 use Rattle.bus_model.specs.AtMostOnce.{AtMostOnce}
 
 -- What is asked of the packets that wait at the port where another is joined to them. Nothing need be asked of the
@@ -40,10 +41,11 @@ abbrev pub JoinsAtPort : JoinRule → PacketBus → Ends → ℕ → ℕ → ℕ
 JoinsAtPort rule b x place n idles (Ask bytes) = PacketMayJoin rule (rules_of b) x.bus (x.port (request_name b n)) n idles (slice_get (b.split bytes) place)
 JoinsAtPort rule b x place n idles (Reply number reply) = Unit {0}
 
--- the event brings no frame to an end, since frames go in packets
+-- the event is the same in packets: it brings no frame to an end, and changes nothing that waits
 abbrev pub IsPlain : Event → Type 0
 IsPlain (ReachesPort which answer) = ⊥
 IsPlain (ReachesManager which) = ⊥
+IsPlain Resumes = ⊥
 IsPlain _ = Unit {0}
 
 -- only packets of live frames are delivered, joined to others at the port by the rule, and nobody else uses
@@ -58,21 +60,25 @@ IsPacketHonest rule b x (OtherPacket name packet number answer) = name.source �
 IsPacketHonest rule b x (OtherReplyPacket name packet number) = name.source ≢ b.controller
 IsPacketHonest rule b x (Closes name) = Unit {0}
 IsPacketHonest rule b x Clears = Unit {0}
+IsPacketHonest rule b x PacketResumes = IsHonest (rules_of b) x.bus Resumes
 
 -- every event of a schedule of packets is honest, where it happens
 abbrev pub AllPacketHonest : JoinRule → PacketBus → List PacketEvent → Ends → Type 0
 AllPacketHonest rule b [] x = Unit {0}
 AllPacketHonest rule b (e ∷ es) x = IsPacketHonest rule b x e × AllPacketHonest rule b es (packet_happens b x e)
 
--- at every event of every honest schedule of packets, by the rule, over a port whose window for the manager is empty
+-- at every event of every honest schedule of packets, by the rule, from a start, whoever takes the manager's place on the way
 abbrev pub AlwaysAtMostOnceInPackets : JoinRule → Type 0
-AlwaysAtMostOnceInPackets rule = (b : PacketBus) → IsCutting b.split → (before : List Entry) (events later : List PacketEvent) → carried_since b.manager before ≡ []
-    → AllPacketHonest rule b (events ++ later) (opening_ends before) → AtMostOnce (rules_of b) before (packet_run b events (opening_ends before)).bus
+AlwaysAtMostOnceInPackets rule = (b : PacketBus) → IsCutting b.split → (start : Ends) (events later : List PacketEvent)
+    → NothingUnderWay start.bus → NothingWaits b start → EmptyWindow (rules_of b) start.bus.log
+    → AllPacketHonest rule b (events ++ later) start → AtMostOnce (rules_of b) start.bus.log (packet_run b events start).bus
 
 -- a schedule that is honest by the one rule is so by the other
 abbrev pub RuleImplies : JoinRule → JoinRule → Type 0
-RuleImplies rule weaker = (b : PacketBus) (events : List PacketEvent) (before : List Entry) → AllPacketHonest rule b events (opening_ends before) → AllPacketHonest weaker b events (opening_ends before)
+RuleImplies rule weaker = (b : PacketBus) (events : List PacketEvent) (x : Ends) → AllPacketHonest rule b events x → AllPacketHonest weaker b events x
 
--- a lab that forgets the manager's window only while no request is open on either bus is honest in packets, too
-abbrev pub NoneOpenIsPacketHonest : Type 0
-NoneOpenIsPacketHonest = (rule : JoinRule) (b : PacketBus) (here : Ends) (there : BusState) (requester : ℕ) → (is_open here.bus || is_open there) ≡ false → IsPacketHonest rule b here (Plain (IsIdle requester))
+-- a lab that forgets the manager's window, or puts another in its place, only while no request is open on either bus is
+-- honest in packets, too
+pub record NoneOpenIsPacketHonest : Type 0 where
+  pub idle : (rule : JoinRule) (b : PacketBus) (here : Ends) (there : BusState) (requester : ℕ) → (is_open here.bus || is_open there) ≡ false → IsPacketHonest rule b here (Plain (IsIdle requester))
+  pub resumes : (rule : JoinRule) (b : PacketBus) (here : Ends) (there : BusState) → (is_open here.bus || is_open there) ≡ false → IsPacketHonest rule b here PacketResumes

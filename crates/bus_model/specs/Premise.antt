@@ -27,6 +27,12 @@ abbrev pub in_the_managers_name : List Event
 in_the_managers_name =
     OtherAsks (record { requester = 44; number = 0; bytes = 7 ∷ [] }) (9 ∷ []) ∷ Begins (7 ∷ []) ∷ ReachesPort 0 (1 ∷ []) ∷ ReachesManager 1 ∷ []
 
+-- Another manager takes the place of one whose request 0 is open, and goes on from number 1. Nobody waits for request 0 any
+-- more, so where a frame of it comes late, it is one more request in the manager's name; and the new one's comes again.
+abbrev pub resumed_while_open : List Event
+resumed_while_open =
+    Begins (8 ∷ []) ∷ ReachesPort 0 (1 ∷ []) ∷ ReachesManager 1 ∷ OtherAsks (record { requester = 44; number = 0; bytes = 7 ∷ [] }) (2 ∷ []) ∷ ReachesPort 0 (3 ∷ []) ∷ []
+
 -- the window isn't empty at the start: it holds such a request
 abbrev pub InUseAtStart : Bus → Type 0
 InUseAtStart b =

@@ -11,6 +11,9 @@ ghost use Rattle.bus_model.specs.Effect.{EventsHaveEffects};
 ghost use Rattle.bus_model.specs.Packet.{IsCutting, CutsAll, packets_of};
 ghost use Rattle.bus_model.specs.PacketSchedule.{LiveWhereJoined, OneRequestWhereJoined, RecentWhereWhole, AlwaysAtMostOnceInPackets, RuleImplies, NoneOpenIsPacketHonest};
 ghost use Rattle.bus_model.specs.PacketEffect.{EventsHavePacketEffects};
+ghost use Rattle.bus_model.specs.CleanLink.{OpenGoesThrough, OpenGoesThroughInPackets, CutIsWhole};
+ghost use Rattle.bus_model.specs.Slots.{SlotsDecide};
+ghost use Rattle.bus_model.specs.Resume.{GoesOn, GoesOnInPackets, TagsGoOn, NothingWaitsWhereClosed};
 
 /// Over every honest schedule of whole messages the manager's requests are carried out at most once, in the order begun,
 /// and it takes for each the reply that is kept for it.
@@ -26,12 +29,39 @@ pub fn events_have_effects()
     ensures smbus { (manager controller first : ℕ) → EventsHaveEffects (smbus manager controller first) }
 {}
 
+/// Where another manager takes the place of one, its requests count from the number that came next. By its own requests and
+/// replies alone it then does what the bus says of a manager: which request is open, under which number, what comes next, and
+/// which replies are taken. So the theorems, which count both managers' requests together, are about it.
+pub fn resumed_manager_goes_on()
+    ensures ipmb { (manager controller : ℕ) → GoesOn (ipmb manager controller) }
+    ensures smbus { (manager controller : ℕ) → GoesOn (smbus manager controller) }
+    ensures tags { TagsGoOn }
+{}
+
+/// The same in packets. At such a moment nothing waits at the manager, so that nothing is dropped.
+pub fn resumed_manager_goes_on_in_packets()
+    ensures recent { GoesOnInPackets RecentWhereWhole }
+    ensures live { GoesOnInPackets LiveWhereJoined }
+    ensures one_request { GoesOnInPackets OneRequestWhereJoined }
+    ensures nothing_waits { NothingWaitsWhereClosed RecentWhereWhole }
+{}
+
+/// What a link without loss gives. The open request's first frame that comes is carried out, unless the controller is busy; any
+/// frame that comes with its reply is taken; and the packets of a message, one after another, are the message.
+pub fn open_request_goes_through()
+    ensures ipmb { (manager controller first : ℕ) → OpenGoesThrough (ipmb manager controller first) }
+    ensures smbus { (manager controller first : ℕ) → OpenGoesThrough (smbus manager controller first) }
+    ensures in_packets { OpenGoesThroughInPackets RecentWhereWhole }
+    ensures cut { CutIsWhole }
+{}
+
 /// Whether a frame is live can be tested: the test is what the plain program of live frames computes.
 pub fn live_test_tells()
     ensures { TestTells }
 {}
 
-/// A lab that forgets the manager's window only while no request is open on either bus keeps the schedule honest.
+/// A lab that forgets the manager's window, or puts another manager in its place, only while no request is open on either bus
+/// keeps the schedule honest.
 pub fn none_open_is_honest()
     ensures whole { NoneOpenIsHonest }
     ensures in_packets { NoneOpenIsPacketHonest }
@@ -48,6 +78,11 @@ pub fn rule_is_its_sentence()
 /// The rule never lets in more than eight requesters at a time.
 pub fn eight_windows_suffice()
     ensures { (is_above : ℕ → ℕ → Bool) → EightSuffice is_above }
+{}
+
+/// A port that keeps a list of its requesters, each once and in any order, tells by it who is busy.
+pub fn slots_decide_who_is_busy()
+    ensures { SlotsDecide }
 {}
 
 /// A port that keeps one row for each number of each requester, and looks at no list, does what the rule says.

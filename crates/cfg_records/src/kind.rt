@@ -1,5 +1,6 @@
 //! What a kind of record is.
 ghost use Rattle.std.specs.Prelude.{◌≡◌, ◌+◌, ◌≤◌, ◌++◌, ℕ, List, OnErr, SomeIff, length};
+ghost use Rattle.cfg_records.specs.declared.live.Live.{Live};
 ghost use Rattle.cfg_records.specs.Meaning.{Decides, told};
 ghost use Rattle.cfg_records.specs.Kind.{Kind};
 
@@ -14,7 +15,7 @@ pub trait RecordKind<'a> {
     type Key: Copy;
 
     /// A change of a record of the kind.
-    type Op: Copy;
+    type Op: Drop;
 
     /// What the kind says of its records, and that it holds.
     ghost kind: { Kind Self.Key Self.Op Self };
@@ -57,6 +58,30 @@ pub trait RecordKind<'a> {
 
     /// The operation that brings back what the Get reply shows, where it is such a reply and the operation can be undone from it.
     fn inverse(op: &Self::Op, get_data: &'a [u8]) -> Option<Self::Op>
-        ensures { SomeIff result (kind.words.is_reply op.now get_data.now × kind.words.restorable op.now get_data.now) (kind.words.undo op.now get_data.now) };
+        ensures { result ≡ kind.words.inverse op.now get_data.now };
 }
 
+/// The value that the operation and then its inverse leave, where the inverse is made from what a Get replied before them: the
+/// old one. There is none where the operation is refused, or can't be undone from that reply.
+pub fn there_and_back<'a, K: RecordKind<'a>>(
+    limits: &K,
+    op: &K::Op,
+    value: &[u8],
+    get_data: &'a [u8],
+) -> Option<Value>
+    requires of_record { (K.kind.record_words limits.now).is_of (K.kind.words.key_of op.now) }
+    requires is_valid { (K.kind.record_words limits.now).valid value.now }
+    requires was_got { (live : Live) × (get_data.now ≡ (K.kind.record_words limits.now).view value.now live) }
+    ensures { SomeIff result (((new : List ℕ) × (K.kind.record_words limits.now).sets op.now value.now new) × K.kind.words.restorable op.now get_data.now) value.now }
+{
+    let mut new = Value::new();
+    let Ok(()) = limits.apply(op, value, &mut new) else {
+        return None;
+    };
+    let undo = K::inverse(op, get_data)?;
+    let mut back = Value::new();
+    match limits.apply(&undo, new.as_slice(), &mut back) {
+        Ok(()) => Some(back),
+        Err(_) => unreachable!(),
+    }
+}

@@ -1,11 +1,11 @@
 -- Bytes are at most one message, and a message has one frame.
-use Rattle.std.proofs.Common.{◌≡◌, ℕ, ◌+◌, ◌%◌, ◌<◌, List, ap, arith}
+use Rattle.std.proofs.Common.{◌≡◌, ℕ, ◌+◌, ◌%◌, ◌<◌, List, sym, ◌∙◌, ap, arith}
 use Rattle.ipmb_frame.specs.declared.message.Header.{Header}
 use Rattle.ipmb_frame.specs.declared.message.Request.{Request}
 use Rattle.ipmb_frame.specs.declared.message.Response.{Response}
 use Rattle.ipmb_frame.specs.declared.message.Msg.{Msg}
 use Rattle.ipmb_frame.specs.declared.message.Msg.TheVariants as msg
-use Rattle.ipmb_frame.specs.Grammar.{packed, request_tail, response_tail, IsRequest, IsResponse, IsMessage}
+use Rattle.ipmb_frame.specs.Grammar.{packed, frame, request_bytes, request_head, request_tail, response_tail, IsRequest, IsResponse, IsMessage}
 use Rattle.ipmb_frame.proofs.Checked.{checked-one}
 
 -- a byte is of one pair of numbers, the lower one below 4
@@ -23,6 +23,32 @@ header-one h k a b c d e f g = λ i. record {
   sequence = f i;
   command = g i;
 }
+
+-- what two requests with the same bytes have in common
+pub bytes-one : (r s : Request) → r.header.responder.lun < 4 → s.header.responder.lun < 4 → r.header.requester.lun < 4 → s.header.requester.lun < 4
+    → request_bytes r ≡ request_bytes s
+    → (r.header.responder.lun ≡ s.header.responder.lun) × (r.header.requester.lun ≡ s.header.requester.lun)
+    × ((r.header.net_fn ≡ s.header.net_fn) × (r.header.sequence ≡ s.header.sequence) × (r.header.command ≡ s.header.command)) × (r.body ≡ s.body)
+bytes-one r s a b c d e =
+    let low : (r.header.net_fn ≡ s.header.net_fn) × (r.header.responder.lun ≡ s.header.responder.lun) = packed-one _ _ _ _ a b (cc) in
+    let high : (r.header.sequence ≡ s.header.sequence) × (r.header.requester.lun ≡ s.header.requester.lun) = packed-one _ _ _ _ c d (cc) in
+    let command : r.header.command ≡ s.header.command = cc in
+    let body : r.body ≡ s.body = cc in
+    (low.1, high.1, (low.0, high.0, command), body)
+
+-- requests between the same addresses with the same bytes are one
+pub same-bytes_one : (r s : Request) (xs ys : List ℕ) → IsRequest r xs → IsRequest s ys → r.header.responder.address ≡ s.header.responder.address
+    → r.header.requester.address ≡ s.header.requester.address → request_bytes r ≡ request_bytes s → r ≡ s
+same-bytes_one r s xs ys h k to from e =
+    let parts = bytes-one r s h.header.responder.lun k.header.responder.lun h.header.requester.lun k.header.requester.lun e in
+    let header : r.header ≡ s.header = header-one r.header s.header to parts.0 from parts.1 parts.2.0 parts.2.1 parts.2.2 in
+    λ i. record { header = header i; body = parts.3 i }
+
+-- and have one frame
+pub same-bytes_one_frame : (r s : Request) (xs ys : List ℕ) → IsRequest r xs → IsRequest s ys → r.header.responder.address ≡ s.header.responder.address
+    → r.header.requester.address ≡ s.header.requester.address → request_bytes r ≡ request_bytes s → xs ≡ ys
+same-bytes_one_frame r s xs ys h k to from e =
+    h.spelled ∙ ap (λ (q : Request). frame (request_head q) (request_tail q)) (same-bytes_one r s xs ys h k to from e) ∙ sym k.spelled
 
 -- bytes are at most one request
 request-one : (r s : Request) (bytes : List ℕ) → IsRequest r bytes → IsRequest s bytes → r ≡ s

@@ -28,6 +28,11 @@ request_head r = r.header.responder.address ∷ packed r.header.net_fn r.header.
 abbrev pub request_tail : Request → List ℕ
 request_tail r = r.header.requester.address ∷ packed r.header.sequence r.header.requester.lun ∷ r.header.command ∷ r.body
 
+-- a request's bytes without addresses and checksums
+abbrev pub request_bytes : Request → List ℕ
+request_bytes r =
+    packed r.header.net_fn r.header.responder.lun ∷ packed r.header.sequence r.header.requester.lun ∷ r.header.command ∷ r.body
+
 -- the connection header of a response to this header: rqSA, the next netFn and rqLUN
 abbrev pub response_connection : Header → List ℕ
 response_connection h = h.requester.address ∷ packed (h.net_fn + 1) h.requester.lun ∷ []

@@ -1,8 +1,9 @@
 //! What holds of messages and their frames.
 ghost use Rattle.std.specs.Prelude.{◌≡◌, ◌<◌, ◌⊎◌, List, ℕ, All, find, None};
+ghost use Rattle.ipmb_frame.specs.declared.message.Request.{Request};
 ghost use Rattle.ipmb_frame.specs.declared.message.Msg.{Msg};
 ghost use Rattle.ipmb_frame.specs.Fault.{has_fault, faults, HasFault};
-ghost use Rattle.ipmb_frame.specs.Grammar.{IsMessage};
+ghost use Rattle.ipmb_frame.specs.Grammar.{IsRequest, IsMessage, request_bytes};
 
 /// Bytes are at most one message.
 pub fn one_message()
@@ -12,6 +13,18 @@ pub fn one_message()
 /// A message has at most one frame.
 pub fn one_frame()
     ensures { (m : Msg) (xs ys : List ℕ) → IsMessage m xs → IsMessage m ys → xs ≡ ys }
+{}
+
+/// Requests between the same addresses with the same bytes are one request, in one frame.
+pub fn same_bytes_same_frame()
+    ensures request { (r s : Request) (xs ys : List ℕ) → IsRequest r xs → IsRequest s ys
+        → r.header.responder.address ≡ s.header.responder.address
+        → r.header.requester.address ≡ s.header.requester.address
+        → request_bytes r ≡ request_bytes s → r ≡ s }
+    ensures frame { (r s : Request) (xs ys : List ℕ) → IsRequest r xs → IsRequest s ys
+        → r.header.responder.address ≡ s.header.responder.address
+        → r.header.requester.address ≡ s.header.requester.address
+        → request_bytes r ≡ request_bytes s → xs ≡ ys }
 {}
 
 /// Bytes have a fault or are a message, and never both.

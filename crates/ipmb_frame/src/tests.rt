@@ -3,7 +3,7 @@ ghost use Rattle.std.specs.Prelude.{◌≡◌, ◌<◌, ◌≤◌, ◌↔◌, le
 
 use crate::{
     FrameFault, Header, Msg, Party, Request, Response, Sequence, begin_response, end_response,
-    read_frame, write_request, write_response,
+    read_frame, same_request, write_request, write_response,
 };
 use std::process::Abort;
 use std::test::Fail;
@@ -292,4 +292,25 @@ fn what_is_written_is_read_back_at_the_greatest_fields(rt: HostRuntime) -> Resul
     };
     assert!(rt; is_response_read_back(&response));
     Ok(())
+}
+
+// Whether the frames, which differ in these places alone, hold the same request.
+fn are_same(text: &str, other: &str) -> Option<bool> {
+    let (one, two) = (bytes_of(text), bytes_of(other));
+    match (read_frame(one.as_slice()), read_frame(two.as_slice())) {
+        (Ok(Msg::Request(a)), Ok(Msg::Request(b))) => Some(same_request(&a, &b)),
+        _ => None,
+    }
+}
+
+#[test]
+fn a_request_is_the_same_whoever_sends_it(rt: HostRuntime) {
+    // Get Device ID from 2Ch, and from 2Eh.
+    assert_eq!(rt; are_same("20 18 C8 2C 00 01 D3", "20 18 C8 2E 00 01 D1"), Some(true));
+    // With sequence number 1, from logical unit 1, to logical unit 1, another command, with a byte of data.
+    assert_eq!(rt; are_same("20 18 C8 2C 00 01 D3", "20 18 C8 2C 04 01 CF"), Some(false));
+    assert_eq!(rt; are_same("20 18 C8 2C 00 01 D3", "20 18 C8 2C 01 01 D2"), Some(false));
+    assert_eq!(rt; are_same("20 18 C8 2C 00 01 D3", "20 19 C7 2C 00 01 D3"), Some(false));
+    assert_eq!(rt; are_same("20 18 C8 2C 00 01 D3", "20 18 C8 2C 00 02 D2"), Some(false));
+    assert_eq!(rt; are_same("20 18 C8 2C 00 01 D3", "20 18 C8 2C 00 01 00 D3"), Some(false));
 }

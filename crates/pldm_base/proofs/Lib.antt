@@ -1,4 +1,5 @@
 pub mod Messages
+pub mod InBytes
 pub mod Tables
 pub mod Bits
 pub mod Register

@@ -1,5 +1,5 @@
 -- Requests and replies as bytes.
-use Rattle.std.specs.Prelude.{◌≡◌, ℕ, ◌+◌, ◌*◌, ◌/◌, ◌<◌, ◌≤◌, List, [], ◌∷◌, length, slice_index, Bool, nat_lt, ◌==◌, not, codes, find, Some}
+use Rattle.std.specs.Prelude.{◌≡◌, ℕ, ◌+◌, ◌*◌, ◌/◌, ◌%◌, ◌<◌, ◌≤◌, List, [], ◌∷◌, length, slice_index, Bool, nat_lt, nat_le, ◌==◌, ◌&&◌, not, if◌then◌else◌, codes, find, Option, Some, None}
 use Rattle.pldm_base.specs.declared.message.Header.{Header}
 use Rattle.pldm_base.specs.declared.message.PldmRequest.{PldmRequest}
 use Rattle.pldm_base.specs.declared.message.PldmReply.{PldmReply}
@@ -16,6 +16,18 @@ pub record IsHeader (h : Header) : Type 0 where
 -- a header and what follows it, by the request bit and the bit that is ignored, with the datagram bit and the version clear
 abbrev pub message : ℕ → ℕ → Header → List ℕ → List ℕ
 message request ignored h rest = (128 * request + 32 * ignored + h.instance) ∷ h.pldm_type ∷ h.command ∷ rest
+
+-- a request's bytes, with the ignored bit 0
+abbrev pub request_bytes : PldmRequest → List ℕ
+request_bytes r = message 1 0 r.header r.body
+
+-- all of a reply that stands before its data, with the ignored bit 0
+abbrev pub reply_start : Header → ℕ → List ℕ
+reply_start h code = message 0 0 h (code ∷ [])
+
+-- a reply's bytes, with the ignored bit 0
+abbrev pub reply_bytes : PldmReply → List ℕ
+reply_bytes r = message 0 0 r.header (r.code ∷ r.body)
 
 -- the bytes are the request, with this ignored bit
 pub record SpellsRequest (ignored : ℕ) (r : PldmRequest) (bytes : List ℕ) : Type 0 where
@@ -72,3 +84,19 @@ reply_faults = reply_fault.Short ∷ reply_fault.Version ∷ reply_fault.NotRepl
 -- the bytes have a reply's fault, and this is the first
 abbrev pub HasReplyFault : List ℕ → Type 0
 HasReplyFault bytes = (fault : PldmReplyFault) × (find (has_reply_fault bytes) reply_faults ≡ Some fault)
+
+-- the header in a message's first three bytes
+abbrev pub header_in : ℕ → ℕ → ℕ → Header
+header_in first second command = record { instance = first % 32; pldm_type = second; command = command }
+
+-- the request that the bytes are, if they are one: request and datagram bit 10b, version 00b, at most 252 bytes of data
+abbrev pub request_in : List ℕ → Option PldmRequest
+request_in (first ∷ second ∷ command ∷ body) =
+    if first / 64 == 2 && second / 64 == 0 && nat_le (length body) 252 then Some (record { header = header_in first second command; body = body }) else None
+request_in _ = None
+
+-- the reply that the bytes are, if they are one: request and datagram bit 00b, version 00b, at most 251 bytes of data
+abbrev pub reply_in : List ℕ → Option PldmReply
+reply_in (first ∷ second ∷ command ∷ code ∷ body) =
+    if first / 64 == 0 && second / 64 == 0 && nat_le (length body) 251 then Some (record { header = header_in first second command; code = code; body = body }) else None
+reply_in _ = None

@@ -1,9 +1,9 @@
 //! What holds of the definitions.
-ghost use Rattle.std.specs.Prelude.{◌≡◌, ◌==◌, ◌+◌, ◌*◌, ◌<◌, ◌⊎◌, List, ℕ, Some, None, length, slice_get, find, nat_lt};
+ghost use Rattle.std.specs.Prelude.{◌≡◌, ◌==◌, ◌+◌, ◌*◌, ◌<◌, ◌⊎◌, ◌↔◌, List, ℕ, Some, None, length, slice_get, find, nat_lt};
 ghost use Rattle.pldm_base.specs.declared.message.PldmRequest.{PldmRequest};
 ghost use Rattle.pldm_base.specs.declared.message.PldmReply.{PldmReply};
 ghost use Rattle.pldm_base.specs.Crc.{IsCrc32};
-ghost use Rattle.pldm_base.specs.Message.{IsRequest, IsReply, HasFault, HasReplyFault, has_fault, faults, has_reply_fault, reply_faults};
+ghost use Rattle.pldm_base.specs.Message.{IsRequest, IsReply, HasFault, HasReplyFault, has_fault, faults, has_reply_fault, reply_faults, request_in, reply_in};
 ghost use Rattle.pldm_base.specs.Parts.{AreParts, begins_part, is_last, part_bytes};
 
 use crate::{PldmBytes, read_pldm, read_pldm_reply};
@@ -19,7 +19,7 @@ pub fn one_reply()
 {}
 
 /// Bytes have a fault or are a request, and never both.
-pub fn fault_or_request(bytes: &PldmBytes)
+pub fn fault_or_request(bytes: &PldmBytes<'_>)
     ensures either { HasFault bytes.now ⊎ ((r : PldmRequest) × IsRequest r bytes.now) }
     ensures not_both { (r : PldmRequest) → IsRequest r bytes.now → find (has_fault bytes.now) faults ≡ None }
 {
@@ -27,12 +27,18 @@ pub fn fault_or_request(bytes: &PldmBytes)
 }
 
 /// Bytes have a fault or are a reply, and never both.
-pub fn fault_or_reply(bytes: &PldmBytes)
+pub fn fault_or_reply(bytes: &PldmBytes<'_>)
     ensures either { HasReplyFault bytes.now ⊎ ((r : PldmReply) × IsReply r bytes.now) }
     ensures not_both { (r : PldmReply) → IsReply r bytes.now → find (has_reply_fault bytes.now) reply_faults ≡ None }
 {
     let _ = read_pldm_reply(bytes);
 }
+
+/// The request in bytes is the one that they are, and so with the reply.
+pub fn in_bytes_is_the_grammar()
+    ensures request { (r : PldmRequest) (bytes : List ℕ) → (request_in bytes ≡ Some r) ↔ IsRequest r bytes }
+    ensures reply { (r : PldmReply) (bytes : List ℕ) → (reply_in bytes ≡ Some r) ↔ IsReply r bytes }
+{}
 
 /// No bytes are a request and a reply.
 pub fn no_request_is_a_reply()

@@ -1,5 +1,5 @@
 //! Requests and replies.
-use two_wire::{Below, Bytes};
+use two_wire::{Below, Data};
 
 /// The number that a requester gives to a request, and that its reply has.
 pub type Instance = Below<32>;
@@ -7,8 +7,8 @@ pub type Instance = Below<32>;
 /// The type that a command belongs to, as 0 for messaging control or 3 for BIOS control.
 pub type PldmType = Below<64>;
 
-/// The bytes of a message behind the type byte of MCTP. With that byte a message has at most 256.
-pub type PldmBytes = Bytes<255>;
+/// The bytes of a message behind the type byte of MCTP, where they lie. With that byte a message has at most 256.
+pub type PldmBytes<'a> = Data<'a, 255>;
 
 /// What a request and its reply have in common, the header of DSP0240:
 ///
@@ -27,17 +27,19 @@ pub struct Header {
 }
 
 /// A request: bit 7 is set, bit 6 is clear, and the command's data follows the header.
-#[derive(Debug, PartialEq, Eq, Drop)]
-pub struct PldmRequest {
+#[derive(Debug, Drop)]
+pub struct PldmRequest<'a> {
     pub header: Header,
-    pub body: Bytes<252>,
+    /// The command's data, where they lie.
+    pub body: Data<'a, 252>,
 }
 
 /// A reply: bits 7 and 6 are clear, and the completion code, which is 00h for success, and the data follow the header.
 /// It has the header of its request.
-#[derive(Debug, PartialEq, Eq, Drop)]
-pub struct PldmReply {
+#[derive(Debug, Drop)]
+pub struct PldmReply<'a> {
     pub header: Header,
     pub code: u8,
-    pub body: Bytes<251>,
+    /// The data behind the completion code, where they lie.
+    pub body: Data<'a, 251>,
 }

@@ -2,10 +2,10 @@
 use crate::{
     GET_FIRST_PART, GET_NEXT_PART, Header, Instance, PldmBytes, PldmFault, PldmReply,
     PldmReplyFault, PldmRequest, PldmType, TransferFlag, crc32, part, read_pldm, read_pldm_reply,
-    write_pldm, write_pldm_reply,
+    same_request, write_pldm, write_pldm_reply,
 };
 use std::test::Fail;
-use two_wire::Bytes;
+use two_wire::{Bytes, Data};
 use two_wire::code::PLDM_INVALID_DATA;
 
 // GetTID, a command of messaging control, as request 0.
@@ -15,11 +15,11 @@ const GET_TID: [u8; 3] = [0x80, 0x00, 0x02];
 const TID_IS_5: [u8; 5] = [0x00, 0x00, 0x02, 0x00, 0x05];
 
 fn fault_of(message: &[u8; 4]) -> Option<PldmFault> {
-    read_pldm(&PldmBytes::from_slice(message)).err()
+    read_pldm(&PldmBytes::new(message)).err()
 }
 
 fn reply_fault_of(message: &[u8; 5]) -> Option<PldmReplyFault> {
-    read_pldm_reply(&PldmBytes::from_slice(message)).err()
+    read_pldm_reply(&PldmBytes::new(message)).err()
 }
 
 #[test]
@@ -31,12 +31,13 @@ fn a_request_is_written_and_read(rt: HostRuntime) -> Result<(), Fail> {
     };
     let request = PldmRequest {
         header,
-        body: Bytes::new(),
+        body: Data::new(&[]),
     };
-    let bytes = write_pldm(&request);
+    let mut bytes = Bytes::<255>::new();
+    write_pldm(&request, &mut bytes);
     assert_eq!(rt; bytes.as_slice(), GET_TID.as_slice());
-    let read = read_pldm(&bytes).ok().ok_or("no request")?;
-    assert!(rt; read == request);
+    let read = read_pldm(&PldmBytes::new(&GET_TID)).ok().ok_or("no request")?;
+    assert!(rt; same_request(&read, &request));
     Ok(())
 }
 
@@ -50,32 +51,57 @@ fn a_reply_is_written_and_read(rt: HostRuntime) -> Result<(), Fail> {
     let reply = PldmReply {
         header,
         code: 0x00,
-        body: Bytes::from_slice(&[0x05]),
+        body: Data::new(&[0x05]),
     };
-    let bytes = write_pldm_reply(&reply);
+    let mut bytes = Bytes::<255>::new();
+    write_pldm_reply(&reply, &mut bytes);
     assert_eq!(rt; bytes.as_slice(), TID_IS_5.as_slice());
-    let read = read_pldm_reply(&bytes).ok().ok_or("no reply")?;
-    assert!(rt; read == reply);
+    let read = read_pldm_reply(&PldmBytes::new(&TID_IS_5)).ok().ok_or("no reply")?;
+    let header = read.header;
+    assert_eq!(rt; header.command, 0x02);
+    assert_eq!(rt; read.code, 0x00);
+    assert_eq!(rt; read.body.as_slice(), [0x05].as_slice());
     Ok(())
 }
 
 #[test]
 fn the_fields_stand_in_their_bits(rt: HostRuntime) -> Result<(), Fail> {
     // GetBIOSTable, as request 19, with the ignored bit set.
-    let bytes = PldmBytes::from_slice(&[0xB3, 0x03, 0x01, 0x00, 0x00, 0x00, 0x00, 0x01, 0x02]);
-    let request = read_pldm(&bytes).ok().ok_or("no request")?;
+    let bytes = [0xB3, 0x03, 0x01, 0x00, 0x00, 0x00, 0x00, 0x01, 0x02];
+    let request = read_pldm(&PldmBytes::new(&bytes)).ok().ok_or("no request")?;
     let header = request.header;
     assert_eq!(rt; header.instance.number(), 19);
     assert_eq!(rt; header.pldm_type.number(), 3);
     assert_eq!(rt; header.command, 0x01);
-    assert!(rt; request.body.is(&[0x00, 0x00, 0x00, 0x00, 0x01, 0x02]));
+    assert_eq!(rt;
+        request.body.as_slice(),
+        [0x00, 0x00, 0x00, 0x00, 0x01, 0x02].as_slice()
+    );
+    Ok(())
+}
+
+#[test]
+fn a_request_with_the_ignored_bit_is_the_same(rt: HostRuntime) -> Result<(), Fail> {
+    let request = read_pldm(&PldmBytes::new(&[0x83, 0x00, 0x02]))?;
+    for (bytes, is_same) in [
+        ([0x83, 0x00, 0x02], true),
+        ([0xA3, 0x00, 0x02], true),
+        ([0x84, 0x00, 0x02], false),
+        ([0x83, 0x02, 0x02], false),
+        ([0x83, 0x00, 0x04], false),
+    ] {
+        let other = read_pldm(&PldmBytes::new(&bytes))?;
+        assert_eq!(rt; same_request(&request, &other), is_same);
+    }
+    let longer = read_pldm(&PldmBytes::new(&[0x83, 0x00, 0x02, 0x00]))?;
+    assert!(rt; !same_request(&request, &longer));
     Ok(())
 }
 
 #[test]
 fn the_first_fault_of_a_request_is_told(rt: HostRuntime) {
     assert_eq!(rt;
-        read_pldm(&PldmBytes::from_slice(&[0x80, 0xC0])).err(),
+        read_pldm(&PldmBytes::new(&[0x80, 0xC0])).err(),
         Some(PldmFault::Short)
     );
     assert_eq!(rt;
@@ -99,7 +125,7 @@ fn the_first_fault_of_a_request_is_told(rt: HostRuntime) {
 
 #[test]
 fn the_first_fault_of_a_reply_is_told(rt: HostRuntime) {
-    let short = read_pldm_reply(&PldmBytes::from_slice(&[0x00, 0xC0, 0x02]));
+    let short = read_pldm_reply(&PldmBytes::new(&[0x00, 0xC0, 0x02]));
     assert_eq!(rt; short.err(), Some(PldmReplyFault::Short));
     assert_eq!(rt;
         reply_fault_of(&[0x00, 0x40, 0x02, 0x00, 0x01]),

@@ -1,5 +1,5 @@
 -- The watchdog timer, as a kind of record (IPMI 2.0, sections 27.5 to 27.7).
-use Rattle.std.specs.Prelude.{◌≡◌, ℕ, ◌+◌, ◌-◌, ◌*◌, ◌/◌, ◌%◌, ◌<◌, ◌≤◌, List, [], ◌∷◌, length, slice_index, bit_and, nat_le, ◌&&◌, Bool, true, IsFalse, if◌then◌else◌, Result, Ok, Err, Option, Some, None, refl}
+use Rattle.std.specs.Prelude.{◌≡◌, ℕ, ◌+◌, ◌-◌, ◌*◌, ◌/◌, ◌%◌, ◌<◌, ◌≤◌, List, [], ◌∷◌, length, slice_index, bit_and, nat_le, ◌&&◌, ◌==◌, not, Bool, true, IsFalse, if◌then◌else◌, Result, Ok, Err, Option, Some, None, refl}
 use Rattle.std.specs.Int.{w16, to_le_bytes, from_le_bytes}
 use Rattle.cfg_records.specs.declared.key.Key.{Key}
 use Rattle.cfg_records.specs.declared.key.Key.TheVariants as key
@@ -100,6 +100,10 @@ pub record IsStopped (reply : List ℕ) : Type 0 where
   pub a_use : 1 ≤ use_in (slice_index reply 0)
   pub known_use : use_in (slice_index reply 0) ≤ 5
 
+-- the test that it is one
+abbrev pub is_stopped : List ℕ → Bool
+is_stopped reply = length reply == 8 && not (has (slice_index reply 0) 6) && nat_le 1 (use_in (slice_index reply 0)) && nat_le (use_in (slice_index reply 0)) 5
+
 -- the operation that sets what the reply shows: don't stop is 0, and no flag is cleared
 abbrev pub undo_watchdog : List ℕ → SetWatchdog
 undo_watchdog reply = record {
@@ -143,7 +147,7 @@ words = record {
   live_after = live_after_set;
   is_reply = λ op reply. length reply ≡ 8;
   restorable = λ op. IsStopped;
-  undo = λ op. undo_watchdog;
+  inverse = λ op reply. if is_stopped reply then Some (undo_watchdog reply) else None;
   -- bits 5:3 of the timer use, and bits 7 and 3 of the actions are ignored
   is_plain = λ op. (op.timer_use % 64 < 8) × (op.actions < 128) × (op.actions % 16 < 8);
 }
@@ -157,6 +161,7 @@ record_words = record {
   outcome = λ op old. watchdog_outcome op;
   view = watchdog_view;
   conf = configuration;
+  shown = λ value. value;
 }
 
 abbrev own_key : (k : Key) → Option ((own : Unit {0}) × (k ≡ words.name own))
@@ -175,5 +180,5 @@ place = record {
   key_is = λ o. refl;
   finds_key = λ own. refl;
   finds_op = λ o. refl;
-  op_there = elim [ op.Watchdog o ↦ λ here. tt | _ ↦ λ here. here ];
+  op_there = elim [ op.Watchdog o ↦ λ here. refl | _ ↦ λ here. here ];
 }

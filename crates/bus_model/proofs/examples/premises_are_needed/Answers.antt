@@ -13,5 +13,8 @@ returns-clause-older_frames c = (refl, refl, refl)
 pub returns-clause-address : goal.returns-clause-address
 returns-clause-address c = (refl, refl, refl)
 
+pub returns-clause-resume : goal.returns-clause-resume
+returns-clause-resume c = (refl, refl, refl)
+
 pub returns-clause-empty_window : goal.returns-clause-empty_window
 returns-clause-empty_window c = (refl, refl)
