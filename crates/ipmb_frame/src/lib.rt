@@ -12,6 +12,3 @@ pub use laws::{fault_or_message, one_frame, one_message};
 pub use message::{Header, Msg, Party, Request, Response, Sequence};
 pub use reading::read_frame;
 pub use writing::{begin_response, end_response, write_request, write_response};
-
-#[cfg(test)]
-mod tests;

@@ -22,6 +22,3 @@ pub use reading::{read_pldm, read_pldm_reply};
 pub use table::{GET_FIRST_PART, GET_NEXT_PART, PART_LENGTH, Part, TransferFlag};
 pub use transfer::part;
 pub use writing::{write_pldm, write_pldm_reply};
-
-#[cfg(test)]
-mod tests;
