@@ -2,7 +2,7 @@
 ghost use Rattle.std.specs.Prelude.{◌≡◌};
 ghost use Rattle.bmc_core.specs.Outs.{sent};
 ghost use Rattle.bmc_core.specs.Port.{Hears};
-ghost use Rattle.bmc_core.specs.State.{state};
+ghost use Rattle.bmc_board.specs.State.{state};
 ghost use Rattle.bench_port.specs.Serve.{frame_of, first};
 
 use crate::slot::Slot;

@@ -1,12 +1,12 @@
 //! The ports that requests come to.
 ghost use Rattle.std.specs.Prelude.{◌≡◌, [], IfOk};
-ghost use Rattle.bmc_core.specs.State.{state};
+ghost use Rattle.bmc_board.specs.State.{state};
 ghost use Rattle.bmc_core.specs.Port.{Hears};
 
 mod ipmb;
 mod smbus;
 
-use crate::board::Board;
+use bmc_board::Board;
 use crate::out::Out;
 use cfg_records::Store;
 use mctp_net::{Assembler, Endpoint, EndpointId};

@@ -9,7 +9,7 @@ use Rattle.cfg_records.specs.Sample.{IsSampleDevice, AreSampleSensors, IsUnset}
 use Rattle.bmc_core.specs.declared.out.Out.{Out}
 use Rattle.bmc_core.specs.declared.port.At.{At}
 use Rattle.bmc_core.specs.declared.port.Port.{Port}
-use Rattle.bmc_core.specs.State.{State, state}
+use Rattle.bmc_board.specs.State.{State, state}
 use Rattle.bmc_core.specs.Outs.{sent}
 use Rattle.bmc_core.specs.Port.{Hears}
 use Rattle.bmc_lab.specs.declared.status.Status.{Status}

@@ -1,14 +1,14 @@
 //! A port on IPMB.
 ghost use Rattle.std.specs.Prelude.{◌≡◌};
-ghost use Rattle.bmc_core.specs.Request.{asked_by};
-ghost use Rattle.bmc_core.specs.State.{state};
+ghost use Rattle.bmc_board.specs.Request.{asked_by};
+ghost use Rattle.bmc_board.specs.State.{state};
 ghost use Rattle.bmc_core.specs.IpmbPort.{HearsFrame, IsAnswered, asked_in};
 ghost use Rattle.bmc_core.specs.Outs.{answered};
 
-use crate::board::Board;
+use bmc_board::Board;
 use crate::out::{Done, Out, Reason};
 use crate::port::Port;
-use crate::request::{self, read_ipmi};
+use bmc_board::request::{self, read_ipmi};
 use cfg_records::Store;
 use ipmb_frame::{Msg, Request, begin_response, end_response, read_frame};
 use two_wire::{Code, Frame};

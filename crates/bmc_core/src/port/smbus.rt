@@ -1,10 +1,10 @@
 //! A port on the System Management Bus.
 ghost use Rattle.std.specs.Prelude.{◌≡◌, ◌≤◌, ◌∷◌, length};
 ghost use Rattle.mctp_net.specs.Control.{request_of};
-ghost use Rattle.bmc_core.specs.State.{State as AnyState, state};
+ghost use Rattle.bmc_board.specs.State.{State as AnyState, state};
 ghost use Rattle.bmc_core.specs.SmbusPort.{HearsPacket, HearsOurs, HearsMessage, HearsControl, HearsPldm, AreFramesOf, reply_message, pldm_asked, pldm_reply};
 
-use crate::board::Board;
+use bmc_board::Board;
 use crate::out::{Done, Frames, Out, Reason};
 use crate::port::Port;
 use cfg_records::{Answered, Asked, Store};

@@ -5,7 +5,7 @@ use Rattle.ipmb_frame.specs.declared.message.Msg.TheVariants as msg
 use Rattle.std.specs.Result.{result_err}
 use Rattle.ipmb_frame.specs.Grammar.{IsMessage}
 use Rattle.bmc_core.specs.declared.out.Out.{Out}
-use Rattle.bmc_core.specs.State.{State, state}
+use Rattle.bmc_board.specs.State.{State, state}
 use Rattle.bmc_core.specs.IpmbPort.{HearsFrame}
 use Rattle.bmc_core.proofs.Heard.{hears_fault, hears_request}
 use Rattle.bmc_core.proofs.port.Port.on_ipmb.Goals as goal

@@ -1,5 +1,5 @@
 use Rattle.std.proofs.Common.{◌≡◌, refl, ◌∙◌}
-use Rattle.bmc_core.specs.State.{state}
+use Rattle.bmc_board.specs.State.{state}
 use Rattle.bmc_core.proofs.HeardPackets.{takes, is_with_packet, hears_waiting, hears_dropped, hears_whole}
 use Rattle.bmc_core.proofs.port.Port.on_packet.Goals as goal
 

@@ -1,5 +1,5 @@
 use Rattle.std.proofs.Common.{refl, sym, ◌∙◌}
-use Rattle.bmc_core.specs.State.{state}
+use Rattle.bmc_board.specs.State.{state}
 use Rattle.bmc_core.proofs.HeardPackets.{hears_fault, hears_packet}
 use Rattle.bmc_core.proofs.port.Port.on_smbus.Goals as goal
 

@@ -1,0 +1,5 @@
+pub mod AnswerFacts
+pub mod Decoded
+pub mod Quiet
+pub mod ShownAgain
+pub mod Undone

@@ -1,0 +1,12 @@
+use Rattle.record_kinds.specs.LimitsLaws.{is_form}
+use Rattle.bmc_board.proofs.Decoded.{gets_are_read, sets_are_read}
+use Rattle.bmc_board.proofs.laws.decode_law.Goals as goal
+
+pub returns-clause-gets : goal.returns-clause-gets
+returns-clause-gets c = gets_are_read
+
+pub returns-clause-sets : goal.returns-clause-sets
+returns-clause-sets c = sets_are_read
+
+pub returns-clause-plain : goal.returns-clause-plain
+returns-clause-plain c = is_form.plain
