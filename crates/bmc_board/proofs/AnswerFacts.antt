@@ -117,7 +117,7 @@ get_code None None live = code_of not_present refl refl
 
 result_code : (limits : Limits) (old : List ℕ) (op : Op) (before : State) (r : Result (List ℕ) ℕ) → outcome limits op old ≡ r → IsCode (set_result r op before).0.code
 result_code limits old op before (Ok new) e = code_of success refl refl
-result_code limits old op before (Err fault) e = let why : IsRefusal fault = (laws.is_kind limits).refuses op old fault e in record { not_busy = why.not_busy; is_ready = why.is_ready }
+result_code limits old op before (Err fault) e = let why : IsRefusal fault = (laws.record_laws limits).refuses op old fault e in record { not_busy = why.not_busy; is_ready = why.is_ready }
 
 set_code : (limits : Option Limits) (value : Option (List ℕ)) (op : Op) (before : State) → IsCode (set_answer limits value not_present op before).0.code
 set_code (Some limits) (Some old) op before = result_code limits old op before (outcome limits op old) refl
@@ -196,13 +196,13 @@ limits_are_of file key.Watchdog limits e = of_alone (kinds.Watchdog (record {}))
 
 get_fits : (limits : Option Limits) (value : Option (List ℕ)) (live : Live) (key : Key) (room : ℕ) → ((l : Limits) → limits ≡ Some l → is_of l key) → IsSoundAt limits value → room_for (get_request key) ≤ room
     → length (get_answer limits value live not_present).body ≤ room
-get_fits (Some l) (Some v) live key room of sound le = omega (arith, (laws.is_kind l).get_short key v live (of l refl) sound)
+get_fits (Some l) (Some v) live key room of sound le = omega (arith, (laws.record_laws l).get_short key v live (of l refl) sound)
 get_fits (Some l) None live key room of sound le = omega arith
 get_fits None (Some v) live key room of sound le = omega arith
 get_fits None None live key room of sound le = omega arith
 
 result_fits : (r : Result (List ℕ) ℕ) (op : Op) (before : State) (room : ℕ) → room_for (set_request op) ≤ room → length (set_result r op before).0.body ≤ room
-result_fits (Ok new) op before room le = omega (arith, laws.is_form.set_short op)
+result_fits (Ok new) op before room le = omega (arith, laws.kind_laws.set_short op)
 result_fits (Err fault) op before room le = omega arith
 
 set_fits : (limits : Option Limits) (value : Option (List ℕ)) (op : Op) (before : State) (room : ℕ) → room_for (set_request op) ≤ room → length (set_answer limits value not_present op before).0.body ≤ room

@@ -28,7 +28,7 @@ is_steady setup key limits first got second again shown shown_again h same =
     let then : shown ≡ done (view limits seen.old first.live) = subst (λ (l : Limits). shown ≡ done (view l seen.old first.live)) of_is seen.body_is in
     let now : shown_again ≡ done (view limits seen.old second.live) =
     get_at _ _ limits seen.old second.live unknown shown_again h.has_limits had (get_served setup second key shown_again again h.read_again).0 in
-    let steady : conf limits (view limits seen.old second.live) ≡ conf limits (view limits seen.old first.live) = (laws.is_kind limits).steady seen.old second.live first.live in (
+    let steady : conf limits (view limits seen.old second.live) ≡ conf limits (view limits seen.old first.live) = (laws.record_laws limits).steady seen.old second.live first.live in (
       ap (λ (a : Answered). a.code) now,
       ap (λ (a : Answered). conf limits a.body) now ∙ steady ∙ sym (ap (λ (a : Answered). conf limits a.body) then),
     )

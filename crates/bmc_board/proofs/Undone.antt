@@ -11,8 +11,8 @@ use Rattle.cfg_records.specs.declared.message.Asked.{Asked}
 use Rattle.cfg_records.specs.declared.message.Answered.{Answered}
 use Rattle.cfg_records.specs.declared.board_file.BoardFile.{BoardFile}
 use Rattle.record_kinds.specs.declared.limits.Limits.{Limits}
-use Rattle.cfg_records.specs.Kind.{IsKind}
-use Rattle.record_kinds.specs.Limits.{form, rules, valid, sets, view, get_request, set_request, restorable, undo}
+use Rattle.cfg_records.specs.Kind.{RecordLaws}
+use Rattle.record_kinds.specs.Limits.{words, record_words, valid, sets, view, get_request, set_request, restorable, undo}
 use Rattle.record_kinds.specs.LimitsLaws as laws
 use Rattle.record_kinds.specs.Boards.{limits_at}
 use Rattle.record_kinds.specs.Sound.{valid_at}
@@ -63,7 +63,7 @@ shows None None live unknown shown is_fault gets carried = absurd (not_refused s
 carried_out : (limits : Limits) (old : List ℕ) (unknown : ℕ) (op : Op) (before : State) (changed : Answered) (after : State) → Sets (Some limits) (Some old) unknown op before changed after → changed.code ≡ success → IsCarriedOut limits old op before changed after
 carried_out limits old unknown op before changed after (inl is) carried = is
 carried_out limits old unknown op before changed after (inr is) carried =
-    let fault : 0 < is.fault = ((laws.is_kind limits).refuses op old is.fault is.has_fault).is_fault in
+    let fault : 0 < is.fault = ((laws.record_laws limits).refuses op old is.fault is.has_fault).is_fault in
     absurd (not_refused changed is.fault (λ zero. omega (arith, fault, zero)) is.replied carried)
 
 -- ---- the way back
@@ -77,7 +77,7 @@ undone_at limits key op unknown records old new from back undone same had change
   ap (λ (a : Answered). a.code) is.replied,
   ap (λ (s : State). s.records) is.left
       ∙ ap (λ (k : Key). with_record from.records k is.new) same
-      ∙ ap (with_record from.records key) ((laws.is_kind limits).determined op new is.new old is.is_set can)
+      ∙ ap (with_record from.records key) ((laws.record_laws limits).determined op new is.new old is.is_set can)
       ∙ ap (λ (r : Records). with_record r key old) changed
       ∙ with_record_back records key new old had,
 )
@@ -101,10 +101,10 @@ is_undone setup op before got until after from back shown changed undone h =
     let had : until.records key ≡ Some seen.old = ap (λ (r : Records). r key) stayed ∙ seen.value_is in
     let change : IsCarriedOut seen.of seen.old op until changed after =
     carried_out seen.of seen.old unknown op until changed after (sets_at _ _ seen.of seen.old unknown op until changed after seen.limits_are had (set_served setup until op changed after h.change)) h.was_changed in
-    let of_seen : IsKind form (rules seen.of) = laws.is_kind seen.of in
+    let of_seen : RecordLaws words (record_words seen.of) = laws.record_laws seen.of in
     let shown_is : view seen.of seen.old before.live ≡ shown.body = sym (ap (λ (a : Answered). a.body) seen.body_is) in
     let can : sets seen.of inverse change.new seen.old = subst (λ (reply : List ℕ). sets seen.of (undo op reply) change.new seen.old) shown_is (of_seen.undoes op seen.old change.new before.live is_valid change.is_set (subst (restorable op) (sym shown_is) h.can_undo)) in
-    let here : (rules seen.of).is_of key = of_seen.taken op seen.old change.new change.is_set in
+    let here : (record_words seen.of).is_of key = of_seen.taken op seen.old change.new change.is_set in
     let same : key_of inverse ≡ key = subst (λ (reply : List ℕ). key_of (undo op reply) ≡ key) shown_is (of_seen.same_record op seen.old before.live here is_valid) in
     let written : from.records ≡ with_record until.records key change.new = h.stayed_changed ∙ ap (λ (s : State). s.records) change.left in
     let has : from.records key ≡ Some change.new = ap (λ (r : Records). r key) written ∙ with_record_same until.records key change.new in

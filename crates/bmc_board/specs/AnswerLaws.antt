@@ -44,7 +44,7 @@ result_sets limits old unknown op before (Ok new) e d = inl (record { new = new;
 result_sets limits old unknown op before (Err fault) e d = inr (record { fault = fault; no_value = d; has_fault = e; replied = refl; left = refl })
 
 sets_answer : (limits : Option Limits) (value : Option (List ℕ)) (unknown : ℕ) (op : Op) (before : State) → Sets limits value unknown op before (set_answer limits value unknown op before).0 (set_answer limits value unknown op before).1
-sets_answer (Some limits) (Some old) unknown op before = result_sets limits old unknown op before (outcome limits op old) refl ((laws.is_kind limits).decides op old)
+sets_answer (Some limits) (Some old) unknown op before = result_sets limits old unknown op before (outcome limits op old) refl ((laws.record_laws limits).decides op old)
 sets_answer (Some limits) None unknown op before = (refl, refl)
 sets_answer None (Some old) unknown op before = (refl, refl)
 sets_answer None None unknown op before = (refl, refl)
@@ -93,7 +93,7 @@ gets_once None None live unknown answered h = h
 result_once : (limits : Limits) (old : List ℕ) (unknown : ℕ) (op : Op) (before : State) (answered : Answered) (after : State) (r : Result (List ℕ) ℕ) → outcome limits op old ≡ r → Decides r (sets limits op old)
     → Sets (Some limits) (Some old) unknown op before answered after → (let p : Given = (answered, after) in p) ≡ set_result r op before
 result_once limits old unknown op before answered after (Ok new) e d (inl h) =
-    pair _ _ _ _ h.replied (h.left ∙ ap (λ v. state (with_record before.records (key_of op) v) (live_after op before.live)) ((laws.is_kind limits).determined op old h.new new h.is_set d))
+    pair _ _ _ _ h.replied (h.left ∙ ap (λ v. state (with_record before.records (key_of op) v) (live_after op before.live)) ((laws.record_laws limits).determined op old h.new new h.is_set d))
 result_once limits old unknown op before answered after (Ok new) e d (inr h) = absurd (h.no_value new d)
 result_once limits old unknown op before answered after (Err fault) e d (inl h) = absurd (d h.new h.is_set)
 result_once limits old unknown op before answered after (Err fault) e d (inr h) =
@@ -101,7 +101,7 @@ result_once limits old unknown op before answered after (Err fault) e d (inr h) 
     pair _ _ _ _ (h.replied ∙ ap refused same) h.left
 
 sets_once : (limits : Option Limits) (value : Option (List ℕ)) (unknown : ℕ) (op : Op) (before : State) (answered : Answered) (after : State) → Sets limits value unknown op before answered after → (let p : Given = (answered, after) in p) ≡ set_answer limits value unknown op before
-sets_once (Some limits) (Some old) unknown op before answered after h = result_once limits old unknown op before answered after (outcome limits op old) refl ((laws.is_kind limits).decides op old) h
+sets_once (Some limits) (Some old) unknown op before answered after h = result_once limits old unknown op before answered after (outcome limits op old) refl ((laws.record_laws limits).decides op old) h
 sets_once (Some limits) None unknown op before answered after h = pair _ _ _ _ h.0 h.1
 sets_once None (Some old) unknown op before answered after h = pair _ _ _ _ h.0 h.1
 sets_once None None unknown op before answered after h = pair _ _ _ _ h.0 h.1

@@ -11,9 +11,9 @@ pub mod Refusals
 pub mod Requests
 pub mod Opening
 pub mod Kind
-pub mod Cases
-pub mod CaseLaws
-pub mod Exports
+pub mod AllKinds
+pub mod AllKindsLaws
+pub mod Member
 pub mod Records
 pub mod RecordLaws
 pub mod Boards

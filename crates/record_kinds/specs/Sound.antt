@@ -11,7 +11,7 @@ use Rattle.cfg_records.specs.Records.{Records, with_record, records_of}
 use Rattle.cfg_records.specs.Boards.{pairs_of}
 use Rattle.record_kinds.specs.declared.limits.Limits.{Limits}
 use Rattle.record_kinds.specs.Limits.{valid, sets}
-use Rattle.record_kinds.specs.LimitsLaws.{is_kind}
+use Rattle.record_kinds.specs.LimitsLaws.{record_laws}
 use Rattle.record_kinds.specs.Boards.{limits_at}
 
 -- limits and a value that they allow, or neither
@@ -31,7 +31,7 @@ StartsSound = (file : BoardFile) → IsSound file (records_of (pairs_of file))
 -- ---- there is one proof at most
 
 pub valid-prop : (limits : Limits) (value : List ℕ) → IsProp (valid limits value)
-valid-prop limits = (is_kind limits).one_proof
+valid-prop limits = (record_laws limits).one_proof
 
 IsSoundAt-prop : (limits : Option Limits) (value : Option (List ℕ)) → IsProp (IsSoundAt limits value)
 IsSoundAt-prop (Some limits) (Some value) = valid-prop limits value
@@ -63,5 +63,5 @@ sound_with file records key limits new sound at is_valid = λ k. sound_where fil
 pub sound_put : {T E : Type 0} (r : Result T E) (file : BoardFile) (records after : Records) (key : Key) (limits : Limits) (op : Op) (old new : List ℕ) → IsSound file records → limits_at file key ≡ Some limits → records key ≡ Some old
     → sets limits op old new → OnOk r (after ≡ with_record records key new) → OnErr r (after ≡ records) → IsSound file after
 sound_put (Ok x) file records after key limits op old new sound at had done ok err =
-    subst (IsSound file) (sym ok) (sound_with file records key limits new sound at ((is_kind limits).keeps op old new (valid_at _ _ limits old at had (sound key)) done))
+    subst (IsSound file) (sym ok) (sound_with file records key limits new sound at ((record_laws limits).keeps op old new (valid_at _ _ limits old at had (sound key)) done))
 sound_put (Err x) file records after key limits op old new sound at had done ok err = subst (IsSound file) (sym err) sound

@@ -55,7 +55,7 @@ impl<'a> RecordKind<'a> for HysteresisLimits {
 
     type Op = SetHysteresis;
 
-    ghost kind = { laws.one.kind };
+    ghost kind = { laws.kind };
 
     fn apply(&self, op: &SetHysteresis, _value: &[u8], new: &mut Value) -> Result<(), Code> {
         new.replace(&both_bytes(op));

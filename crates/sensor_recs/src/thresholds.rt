@@ -100,7 +100,7 @@ impl<'a> RecordKind<'a> for ThresholdLimits {
 
     type Op = SetThresholds;
 
-    ghost kind = { laws.one.kind };
+    ghost kind = { laws.kind };
 
     fn apply(&self, op: &SetThresholds, value: &[u8], new: &mut Value) -> Result<(), Code> {
         self.set(op, value, new)

@@ -7,8 +7,8 @@ use Rattle.cfg_records.specs.declared.op.Op.{Op}
 use Rattle.cfg_records.specs.declared.op.Op.TheVariants as op
 use Rattle.cfg_records.specs.declared.op.SetPowerPolicy.{SetPowerPolicy}
 use Rattle.cfg_records.specs.declared.live.Live.{Live}
-use Rattle.cfg_records.specs.Kind.{Form, Rules}
-use Rattle.cfg_records.specs.Cases.{Case}
+use Rattle.cfg_records.specs.Kind.{KindWords, RecordWords}
+use Rattle.cfg_records.specs.AllKinds.{Place}
 use Rattle.cfg_records.specs.PowerPolicy.{IsPowerPolicy}
 use Rattle.cfg_records.specs.Requests.{ipmi_request}
 
@@ -45,8 +45,8 @@ undo_policy reply = record { policy = shown_policy reply }
 
 -- ---- the kind
 
-abbrev pub form : Form (Unit {0}) SetPowerPolicy
-form = record {
+abbrev pub words : KindWords (Unit {0}) SetPowerPolicy
+words = record {
   name = λ alone. key.PowerPolicy;
   key_of = λ op. tt;
   get_request = λ alone. ipmi_request 0x00 0x01 [];
@@ -63,8 +63,8 @@ form = record {
   is_plain = λ op. op.policy < 8;
 }
 
-abbrev pub rules : Rules (Unit {0}) SetPowerPolicy
-rules = record {
+abbrev pub record_words : RecordWords (Unit {0}) SetPowerPolicy
+record_words = record {
   is_of = λ alone. Unit {0};
   valid = IsPowerPolicy;
   sets = SetsPolicy;
@@ -74,7 +74,7 @@ rules = record {
   conf = λ reply. shown_policy reply ∷ [];
 }
 
-abbrev own_key : (k : Key) → Option ((own : Unit {0}) × (k ≡ form.name own))
+abbrev own_key : (k : Key) → Option ((own : Unit {0}) × (k ≡ words.name own))
 own_key key.PowerPolicy = Some (tt, refl)
 own_key _ = None
 
@@ -82,8 +82,8 @@ abbrev own_op : (o : Op) → Option ((own : SetPowerPolicy) × (o ≡ op.PowerPo
 own_op (op.PowerPolicy o) = Some (o, refl)
 own_op _ = None
 
-abbrev pub case : Case form
-case = record {
+abbrev pub place : Place words
+place = record {
   op = op.PowerPolicy;
   own_key = own_key;
   own_op = own_op;

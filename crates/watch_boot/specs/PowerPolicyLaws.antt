@@ -7,12 +7,12 @@ use Rattle.cfg_records.specs.declared.op.SetPowerPolicy.{SetPowerPolicy}
 use Rattle.cfg_records.specs.declared.live.Live.{Live}
 use Rattle.cfg_records.specs.Keys.{is_length}
 use Rattle.cfg_records.specs.Meaning.{Decides, IsRefusal}
-use Rattle.cfg_records.specs.Kind.{IsForm, IsKind}
-use Rattle.cfg_records.specs.Exports.{OneKind}
+use Rattle.cfg_records.specs.Kind.{KindLaws, RecordLaws, Kind}
+use Rattle.cfg_records.specs.Member.{Member}
 use Rattle.watch_boot.specs.declared.power_policy.PowerPolicyLimits.{PowerPolicyLimits}
 use Rattle.cfg_records.specs.Refusals.{refused_field}
 use Rattle.cfg_records.specs.PowerPolicy.{IsPowerPolicy, IsPowerPolicy-prop}
-use Rattle.watch_boot.specs.PowerPolicy.{asked_policy, SetsPolicy, next_policy, status, shown_policy, undo_policy, form, rules, case}
+use Rattle.watch_boot.specs.PowerPolicy.{asked_policy, SetsPolicy, next_policy, status, shown_policy, undo_policy, words, record_words, place}
 
 at_first : (xs : List ℕ) (x : ℕ) → length xs ≡ 1 → slice_index xs 0 ≡ x → (k : ℕ) → k < length xs → slice_index xs k ≡ slice_index (x ∷ []) k
 at_first xs x one is zero lt = is
@@ -90,14 +90,14 @@ undoes_policy old new live v other =
 
 -- ---- the kind
 
-pub is_form : IsForm form
-is_form = record {
+pub kind_laws : KindLaws words
+kind_laws = record {
   set_short = λ op. omega arith;
   plain = λ op reply is can. omega arith;
 }
 
-pub is_kind : IsKind form rules
-is_kind = record {
+pub record_laws : RecordLaws words record_words
+record_laws = record {
   one_proof = IsPowerPolicy-prop;
   taken = λ op old new done. tt;
   decides = λ op value. decided op value (nat_le (asked_policy op) 3) refl;
@@ -112,5 +112,10 @@ is_kind = record {
   undoes = λ op old new live is_valid done can. undoes_policy old new live is_valid can;
 }
 
-abbrev pub one : OneKind (Unit {0}) SetPowerPolicy PowerPolicyLimits
-one = record { kind = record { form = form; rules = λ limits. rules; is_form = is_form; is_kind = λ limits. is_kind }; case = case }
+-- what it says, and that it holds
+abbrev pub kind : Kind (Unit {0}) SetPowerPolicy PowerPolicyLimits
+kind = record { words = words; record_words = λ limits. record_words; kind_laws = kind_laws; record_laws = λ limits. record_laws }
+
+-- the kind, and where it stands among all
+abbrev pub member : Member (Unit {0}) SetPowerPolicy PowerPolicyLimits
+member = record { kind = kind; place = place }

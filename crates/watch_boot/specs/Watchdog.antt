@@ -7,8 +7,8 @@ use Rattle.cfg_records.specs.declared.op.Op.{Op}
 use Rattle.cfg_records.specs.declared.op.Op.TheVariants as op
 use Rattle.cfg_records.specs.declared.op.SetWatchdog.{SetWatchdog}
 use Rattle.cfg_records.specs.declared.live.Live.{Live}
-use Rattle.cfg_records.specs.Kind.{Form, Rules}
-use Rattle.cfg_records.specs.Cases.{Case}
+use Rattle.cfg_records.specs.Kind.{KindWords, RecordWords}
+use Rattle.cfg_records.specs.AllKinds.{Place}
 use Rattle.cfg_records.specs.Masks.{has}
 use Rattle.cfg_records.specs.Watchdog.{IsWatchdog, watchdog_value}
 use Rattle.cfg_records.specs.Requests.{ipmi_request}
@@ -131,8 +131,8 @@ live_after_reset value live = record {
 
 -- ---- the kind
 
-abbrev pub form : Form (Unit {0}) SetWatchdog
-form = record {
+abbrev pub words : KindWords (Unit {0}) SetWatchdog
+words = record {
   name = λ alone. key.Watchdog;
   key_of = λ op. tt;
   get_request = λ alone. ipmi_request 0x06 0x25 [];
@@ -148,8 +148,8 @@ form = record {
   is_plain = λ op. (op.timer_use % 64 < 8) × (op.actions < 128) × (op.actions % 16 < 8);
 }
 
-abbrev pub rules : Rules (Unit {0}) SetWatchdog
-rules = record {
+abbrev pub record_words : RecordWords (Unit {0}) SetWatchdog
+record_words = record {
   is_of = λ alone. Unit {0};
   valid = IsWatchdog;
   -- the new settings are the operation's, whatever the old ones are
@@ -159,7 +159,7 @@ rules = record {
   conf = configuration;
 }
 
-abbrev own_key : (k : Key) → Option ((own : Unit {0}) × (k ≡ form.name own))
+abbrev own_key : (k : Key) → Option ((own : Unit {0}) × (k ≡ words.name own))
 own_key key.Watchdog = Some (tt, refl)
 own_key _ = None
 
@@ -167,8 +167,8 @@ abbrev own_op : (o : Op) → Option ((own : SetWatchdog) × (o ≡ op.Watchdog o
 own_op (op.Watchdog o) = Some (o, refl)
 own_op _ = None
 
-abbrev pub case : Case form
-case = record {
+abbrev pub place : Place words
+place = record {
   op = op.Watchdog;
   own_key = own_key;
   own_op = own_op;

@@ -12,12 +12,12 @@ use Rattle.cfg_records.specs.declared.live.Live.{Live}
 use Rattle.cfg_records.specs.Keys.{is_length}
 use Rattle.cfg_records.specs.MaskLaws.{both}
 use Rattle.cfg_records.specs.Meaning.{Decides, IsRefusal}
-use Rattle.cfg_records.specs.Kind.{IsForm, IsKind}
-use Rattle.cfg_records.specs.Exports.{OneKind}
+use Rattle.cfg_records.specs.Kind.{KindLaws, RecordLaws, Kind}
+use Rattle.cfg_records.specs.Member.{Member}
 use Rattle.watch_boot.specs.declared.watchdog.WatchdogLimits.{WatchdogLimits}
 use Rattle.cfg_records.specs.Refusals.{refused_field}
 use Rattle.cfg_records.specs.Watchdog.{IsWatchdog, IsWatchdog-prop, watchdog_value}
-use Rattle.watch_boot.specs.Watchdog.{use_in, kept_use, without_bit_6, interrupt_in, action_in, kept_actions, SetsWatchdog, settings_of, is_accepted, shown_use, watchdog_view, without, IsStopped, undo_watchdog, form, rules, case}
+use Rattle.watch_boot.specs.Watchdog.{use_in, kept_use, without_bit_6, interrupt_in, action_in, kept_actions, SetsWatchdog, settings_of, is_accepted, shown_use, watchdog_view, without, IsStopped, undo_watchdog, words, record_words, place}
 
 -- ---- what a Set makes
 
@@ -143,14 +143,14 @@ clears_named flags named place fits within =
 
 -- ---- the kind
 
-pub is_form : IsForm form
-is_form = record {
+pub kind_laws : KindLaws words
+kind_laws = record {
   set_short = λ op. omega arith;
   plain = λ op reply is can. (omega arith, omega arith, omega arith);
 }
 
-pub is_kind : IsKind form rules
-is_kind = record {
+pub record_laws : RecordLaws words record_words
+record_laws = record {
   one_proof = IsWatchdog-prop;
   taken = λ op old new done. tt;
   decides = λ op value. decided op (is_accepted op) refl;
@@ -167,5 +167,10 @@ is_kind = record {
   undoes = λ op old new live is_valid done can. undoes_watchdog old live is_valid can;
 }
 
-abbrev pub one : OneKind (Unit {0}) SetWatchdog WatchdogLimits
-one = record { kind = record { form = form; rules = λ limits. rules; is_form = is_form; is_kind = λ limits. is_kind }; case = case }
+-- what it says, and that it holds
+abbrev pub kind : Kind (Unit {0}) SetWatchdog WatchdogLimits
+kind = record { words = words; record_words = λ limits. record_words; kind_laws = kind_laws; record_laws = λ limits. record_laws }
+
+-- the kind, and where it stands among all
+abbrev pub member : Member (Unit {0}) SetWatchdog WatchdogLimits
+member = record { kind = kind; place = place }

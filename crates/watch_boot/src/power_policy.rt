@@ -63,7 +63,7 @@ impl<'a> RecordKind<'a> for PowerPolicyLimits {
 
     type Op = SetPowerPolicy;
 
-    ghost kind = { laws.one.kind };
+    ghost kind = { laws.kind };
 
     fn apply(&self, op: &SetPowerPolicy, value: &[u8], new: &mut Value) -> Result<(), Code> {
         set(op, value, new)

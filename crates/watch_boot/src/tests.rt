@@ -32,16 +32,16 @@ fn running() -> Live {
 
 /// Whether the operation and its inverse bring the value back.
 fn comes_back<K: RecordKind<'static>>(limits: &K, op: &K::Op, value: &[u8], live: &Live) -> bool
-    requires of_record { (K.kind.rules limits.now).is_of (K.kind.form.key_of op.now) }
-    requires is_valid { (K.kind.rules limits.now).valid value.now }
+    requires of_record { (K.kind.record_words limits.now).is_of (K.kind.words.key_of op.now) }
+    requires is_valid { (K.kind.record_words limits.now).valid value.now }
 {
     there_and_back(limits, op, value, live).is_some_and(|back| back.is(value))
 }
 
 /// The value that the operation makes, where it isn't refused.
 fn applied<K: RecordKind<'static>>(limits: &K, op: &K::Op, value: &[u8]) -> Option<Value>
-    requires of_record { (K.kind.rules limits.now).is_of (K.kind.form.key_of op.now) }
-    requires is_valid { (K.kind.rules limits.now).valid value.now }
+    requires of_record { (K.kind.record_words limits.now).is_of (K.kind.words.key_of op.now) }
+    requires is_valid { (K.kind.record_words limits.now).valid value.now }
 {
     let mut new = Value::new();
     limits.apply(op, value, &mut new).ok()?;

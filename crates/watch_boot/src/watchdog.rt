@@ -167,7 +167,7 @@ impl<'a> RecordKind<'a> for WatchdogLimits {
 
     type Op = SetWatchdog;
 
-    ghost kind = { laws.one.kind };
+    ghost kind = { laws.kind };
 
     fn apply(&self, op: &SetWatchdog, _value: &[u8], new: &mut Value) -> Result<(), Code> {
         set(op, new)

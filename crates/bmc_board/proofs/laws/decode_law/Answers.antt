@@ -1,4 +1,4 @@
-use Rattle.record_kinds.specs.LimitsLaws.{is_form}
+use Rattle.record_kinds.specs.LimitsLaws.{kind_laws}
 use Rattle.bmc_board.proofs.Decoded.{gets_are_read, sets_are_read}
 use Rattle.bmc_board.proofs.laws.decode_law.Goals as goal
 
@@ -9,4 +9,4 @@ pub returns-clause-sets : goal.returns-clause-sets
 returns-clause-sets c = sets_are_read
 
 pub returns-clause-plain : goal.returns-clause-plain
-returns-clause-plain c = is_form.plain
+returns-clause-plain c = kind_laws.plain
