@@ -1,6 +1,7 @@
 -- Each request for a record, and each for an operation, is read as what it asks for: a line for each kind.
 use Rattle.std.proofs.Common.{◌≡◌, ℕ, ◌+◌, ◌*◌, ◌/◌, ◌%◌, ap, List, [], ◌∷◌, length, Ok, refl, arith}
 use Rattle.cfg_records.specs.declared.key.Key.TheVariants as key
+use Rattle.cfg_records.specs.declared.message.Asked.TheVariants.{Ipmi, Pldm}
 use Rattle.cfg_records.specs.declared.op.Op.{Op}
 use Rattle.cfg_records.specs.declared.op.SetThresholds.{SetThresholds}
 use Rattle.cfg_records.specs.declared.op.SetWatchdog.{SetWatchdog}
@@ -9,7 +10,7 @@ use Rattle.cfg_records.proofs.Operations.{set_thresholds, same_thresholds}
 use Rattle.record_kinds.specs.Limits.{set_request}
 use Rattle.bmc_board.specs.declared.request.Request.TheVariants as request
 use Rattle.bmc_board.specs.Request.{asked_by}
-use Rattle.bmc_board.specs.Decode.{GetsAreRead, SetsAreRead}
+use Rattle.bmc_board.specs.Decode.{IsReadFromAll, GetsAreRead, SetsAreRead}
 
 -- what holds of all lists of six holds of a list of length six
 six : (P : List ℕ → Type 0) → ((a b c d e f : ℕ) → P (a ∷ b ∷ c ∷ d ∷ e ∷ f ∷ [])) → (xs : List ℕ) → length xs ≡ 6 → P xs
@@ -52,3 +53,7 @@ sets_are_read (op.Thresholds o) = record { is_read = thresholds_read o; from_nob
 sets_are_read (op.Hysteresis o) = record { is_read = refl; from_nobody = (refl, refl) }
 sets_are_read (op.PowerPolicy o) = record { is_read = refl; from_nobody = (refl, refl) }
 sets_are_read (op.Watchdog o) = record { is_read = ap (λ n. Ok (request.Set (set_watchdog o n))) (two_bytes o.initial); from_nobody = (refl, refl) }
+
+pub is_read_from_all : IsReadFromAll
+is_read_from_all from (Ipmi other net_fn lun number body) = refl
+is_read_from_all from (Pldm other kind number body) = refl

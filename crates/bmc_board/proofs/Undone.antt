@@ -6,7 +6,7 @@ use Rattle.cfg_records.specs.Records.{Records, with_record}
 use Rattle.cfg_records.specs.RecordLaws.{with_record_same, with_record_back}
 use Rattle.cfg_records.specs.declared.key.Key.{Key}
 use Rattle.cfg_records.specs.declared.op.Op.{Op}
-use Rattle.cfg_records.specs.declared.live.Live.{Live}
+use Rattle.cfg_records.specs.declared.live.Live.{Live as LivePart}
 use Rattle.cfg_records.specs.declared.message.Asked.{Asked}
 use Rattle.cfg_records.specs.declared.message.Answered.{Answered}
 use Rattle.cfg_records.specs.declared.board_file.BoardFile.{BoardFile}
@@ -20,40 +20,44 @@ use Rattle.bmc_board.specs.declared.request.Request.{Request}
 use Rattle.bmc_board.specs.declared.request.Request.TheVariants.{Get, Set}
 use Rattle.bmc_board.specs.Request.{asked_by}
 use Rattle.bmc_board.specs.State.{State}
-use Rattle.bmc_board.specs.Row.{done, refused, unknown_code, Gets, IsCarriedOut, Sets, Serves, Replies, Row}
+use Rattle.bmc_board.specs.Replies.{done, refused, unknown_code}
+use Rattle.bmc_board.specs.Answer.{Given, get_answer}
+use Rattle.bmc_board.specs.Row.{IsCarriedOut, Sets, Serves, Replies, Row}
+use Rattle.bmc_board.specs.Decode.{sent_by}
 use Rattle.bmc_board.specs.Undo.{IsUndone}
-use Rattle.bmc_board.proofs.Decoded.{gets_are_read, sets_are_read}
+use Rattle.bmc_board.proofs.LiveFacts.{unknown_is_refused}
+use Rattle.bmc_board.proofs.Decoded.{is_read_from_all, gets_are_read, sets_are_read}
 
 -- ---- requests that are read
 
 read_as : (setup : BoardFile) (before : State) (asked : Asked) (request : Request) (answered : Answered) (after : State) → asked_by asked ≡ Ok request → Row setup before asked answered after → Serves setup before request answered after
 read_as setup before asked request answered after is row = subst (λ (r : Result Request ℕ). Replies setup before r answered after) is row
 
-pub get_served : (setup : BoardFile) (before : State) (key : Key) (answered : Answered) (after : State) → Row setup before (get_request key) answered after → Serves setup before (Get key) answered after
-get_served setup before key answered after row = read_as setup before (get_request key) (Get key) answered after (gets_are_read key).is_read row
+pub get_served : (setup : BoardFile) (before : State) (from : ℕ) (key : Key) (answered : Answered) (after : State) → Row setup before (sent_by from (get_request key)) answered after → Serves setup before (Get key) answered after
+get_served setup before from key answered after row = read_as setup before (sent_by from (get_request key)) (Get key) answered after (is_read_from_all from (get_request key) ∙ (gets_are_read key).is_read) row
 
-set_served : (setup : BoardFile) (before : State) (op : Op) (answered : Answered) (after : State) → Row setup before (set_request op) answered after → Serves setup before (Set op) answered after
-set_served setup before op answered after row = read_as setup before (set_request op) (Set op) answered after (sets_are_read op).is_read row
+set_served : (setup : BoardFile) (before : State) (from : ℕ) (op : Op) (answered : Answered) (after : State) → Row setup before (sent_by from (set_request op)) answered after → Serves setup before (Set op) answered after
+set_served setup before from op answered after row = read_as setup before (sent_by from (set_request op)) (Set op) answered after (is_read_from_all from (set_request op) ∙ (sets_are_read op).is_read) row
 
 -- ---- requests that are carried out
 
 -- a record that isn't there has a code of its own
 pub unknown_is_fault : (setup : BoardFile) (key : Key) → unknown_code setup key ≢ success
-unknown_is_fault setup key is = omega (arith, is)
+unknown_is_fault setup key is = omega (arith, (unknown_is_refused setup key).is_fault, is)
 
 -- a request that was carried out wasn't refused
 not_refused : (answered : Answered) (fault : ℕ) → fault ≢ success → answered ≡ refused fault → answered.code ≡ success → ⊥
 not_refused answered fault is_fault refusal carried = is_fault (sym (ap (λ (a : Answered). a.code) refusal) ∙ carried)
 
 -- a Get that was carried out shows a value that the record has, under its limits
-pub record Shows (limits : Option Limits) (value : Option (List ℕ)) (live : Live) (shown : Answered) : Type 0 where
+pub record Shows (limits : Option Limits) (value : Option (List ℕ)) (live : LivePart) (shown : Answered) : Type 0 where
   pub of : Limits
   pub limits_are : limits ≡ Some of
   pub old : List ℕ
   pub value_is : value ≡ Some old
   pub body_is : shown ≡ done (view of old live)
 
-pub shows : (limits : Option Limits) (value : Option (List ℕ)) (live : Live) (unknown : ℕ) (shown : Answered) → unknown ≢ success → Gets limits value live unknown shown → shown.code ≡ success → Shows limits value live shown
+pub shows : (limits : Option Limits) (value : Option (List ℕ)) (live : LivePart) (unknown : ℕ) (shown : Answered) → unknown ≢ success → shown ≡ get_answer limits value live unknown → shown.code ≡ success → Shows limits value live shown
 shows (Some limits) (Some value) live unknown shown is_fault gets carried = record { of = limits; limits_are = refl; old = value; value_is = refl; body_is = gets }
 shows (Some limits) None live unknown shown is_fault gets carried = absurd (not_refused shown unknown is_fault gets carried)
 shows None (Some value) live unknown shown is_fault gets carried = absurd (not_refused shown unknown is_fault gets carried)
@@ -94,22 +98,22 @@ is_undone setup op before got until after from back shown changed undone h =
     let key : Key = key_of op in
     let unknown : ℕ = unknown_code setup key in
     let inverse : Op = undo op shown.body in
-    let served : Serves setup before (Get key) shown got = get_served setup before key shown got h.read in
-    let seen : Shows (limits_at setup key) (before.records key) before.live shown = shows _ _ before.live unknown shown (unknown_is_fault setup key) served.0 h.was_read in
+    let served : Serves setup before (Get key) shown got = get_served setup before h.reader key shown got h.read in
+    let seen : Shows (limits_at setup key) (before.records key) before.activity.live shown = shows _ _ before.activity.live unknown shown (unknown_is_fault setup key) (ap (λ (g : Given). g.0) served) h.was_read in
     let is_valid : valid seen.of seen.old = valid_at _ _ seen.of seen.old seen.limits_are seen.value_is (h.sound key) in
-    let stayed : until.records ≡ before.records = h.stayed ∙ ap (λ (s : State). s.records) served.1 in
+    let stayed : until.records ≡ before.records = h.stayed ∙ ap (λ (g : Given). g.1.records) served in
     let had : until.records key ≡ Some seen.old = ap (λ (r : Records). r key) stayed ∙ seen.value_is in
     let change : IsCarriedOut seen.of seen.old op until changed after =
-    carried_out seen.of seen.old unknown op until changed after (sets_at _ _ seen.of seen.old unknown op until changed after seen.limits_are had (set_served setup until op changed after h.change)) h.was_changed in
+    carried_out seen.of seen.old unknown op until changed after (sets_at _ _ seen.of seen.old unknown op until changed after seen.limits_are had (set_served setup until h.changer op changed after h.change)) h.was_changed in
     let of_seen : RecordLaws words (record_words seen.of) = laws.record_laws seen.of in
-    let shown_is : view seen.of seen.old before.live ≡ shown.body = sym (ap (λ (a : Answered). a.body) seen.body_is) in
-    let can : sets seen.of inverse change.new seen.old = subst (λ (reply : List ℕ). sets seen.of (undo op reply) change.new seen.old) shown_is (of_seen.undoes op seen.old change.new before.live is_valid change.is_set (subst (restorable op) (sym shown_is) h.can_undo)) in
+    let shown_is : view seen.of seen.old before.activity.live ≡ shown.body = sym (ap (λ (a : Answered). a.body) seen.body_is) in
+    let can : sets seen.of inverse change.new seen.old = subst (λ (reply : List ℕ). sets seen.of (undo op reply) change.new seen.old) shown_is (of_seen.undoes op seen.old change.new before.activity.live is_valid change.is_set (subst (restorable op) (sym shown_is) h.can_undo)) in
     let here : (record_words seen.of).is_of key = of_seen.taken op seen.old change.new change.is_set in
-    let same : key_of inverse ≡ key = subst (λ (reply : List ℕ). key_of (undo op reply) ≡ key) shown_is (of_seen.same_record op seen.old before.live here is_valid) in
+    let same : key_of inverse ≡ key = subst (λ (reply : List ℕ). key_of (undo op reply) ≡ key) shown_is (of_seen.same_record op seen.old before.activity.live here is_valid) in
     let written : from.records ≡ with_record until.records key change.new = h.stayed_changed ∙ ap (λ (s : State). s.records) change.left in
     let has : from.records key ≡ Some change.new = ap (λ (r : Records). r key) written ∙ with_record_same until.records key change.new in
     let way : Sets (limits_at setup key) (from.records key) unknown inverse from undone back =
-    subst (λ (k : Key). Sets (limits_at setup k) (from.records k) (unknown_code setup k) inverse from undone back) same (set_served setup from inverse undone back h.way_back) in
+    subst (λ (k : Key). Sets (limits_at setup k) (from.records k) (unknown_code setup k) inverse from undone back) same (set_served setup from h.undoer inverse undone back h.way_back) in
     let end : (undone.code ≡ success) × (back.records ≡ until.records) =
     undone_at seen.of key inverse unknown until.records seen.old change.new from back undone same had written can (sets_at _ _ seen.of change.new unknown inverse from undone back seen.limits_are has way) in
     (end.0, end.1 ∙ stayed)

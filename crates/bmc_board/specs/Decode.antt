@@ -10,6 +10,15 @@ use Rattle.bmc_board.specs.declared.request.Request.{Request}
 use Rattle.bmc_board.specs.declared.request.Request.TheVariants.{Get, Set}
 use Rattle.bmc_board.specs.Request.{asked_by}
 
+-- the same request, from another requester
+abbrev pub sent_by : ℕ → Asked → Asked
+sent_by from (Ipmi other net_fn lun number body) = Ipmi from net_fn lun number body
+sent_by from (Pldm other kind number body) = Pldm from kind number body
+
+-- who asks makes no difference
+abbrev pub IsReadFromAll : Type 0
+IsReadFromAll = (from : ℕ) (asked : Asked) → asked_by (sent_by from asked) ≡ asked_by asked
+
 -- nobody asks, and logical unit 0 is asked
 abbrev pub IsFromNobody : Asked → Type 0
 IsFromNobody (Ipmi from net_fn lun number body) = (from ≡ 0) × (lun ≡ 0)

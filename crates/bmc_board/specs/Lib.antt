@@ -1,12 +1,15 @@
 pub mod Table
 pub mod Request
 pub mod State
-pub mod Row
-pub mod PldmTypes
+pub mod Replies
+pub mod Live
 pub mod Answer
+pub mod Row
 pub mod Room
 pub mod Gives
 pub mod AnswerLaws
+pub mod LiveLaws
+pub mod PldmTypes
 pub mod Decode
 pub mod Undo
 pub mod Quiet

@@ -2,7 +2,7 @@
 use Rattle.std.specs.Prelude.{◌≡◌, ℕ, ◌<◌, ◌/◌, ◌%◌, slice_index}
 use Rattle.cfg_records.specs.Masks.{has}
 use Rattle.bmc_board.specs.Table.{is_pldm_type}
-use Rattle.bmc_board.specs.Row.{pldm_types}
+use Rattle.bmc_board.specs.Live.{pldm_types}
 
 -- a type is one of the controller's exactly where its bit is set in the reply: eight types a byte, the lowest first
 abbrev pub TypesAreNamed : Type 0

@@ -38,20 +38,17 @@ watchdog_in body = record {
   initial = byte_at body 4 + 256 * byte_at body 5;
 }
 
--- what a command asks for with data of a length that it takes
-abbrev pub request_of : Command → List ℕ → Request
-request_of command.GetDeviceId body = request.GetDeviceId
-request_of command.SetSensorHysteresis body = request.Set (op.Hysteresis (record { sensor = byte_at body 0; positive = byte_at body 2; negative = byte_at body 3 }))
-request_of command.GetSensorHysteresis body = request.Get (key.Hysteresis (byte_at body 0))
-request_of command.SetSensorThresholds body = request.Set (op.Thresholds (thresholds_in body))
-request_of command.GetSensorThresholds body = request.Get (key.Thresholds (byte_at body 0))
-request_of command.GetChassisStatus body = request.Get key.PowerPolicy
-request_of command.SetPowerRestorePolicy body = request.Set (op.PowerPolicy (record { policy = byte_at body 0 }))
-request_of command.ResetWatchdogTimer body = request.ResetWatchdog
-request_of command.SetWatchdogTimer body = request.Set (op.Watchdog (watchdog_in body))
-request_of command.GetWatchdogTimer body = request.Get key.Watchdog
-request_of command.GetTid body = request.GetTid
-request_of command.GetPldmTypes body = request.GetPldmTypes
+-- what a command asks for with data of a length that it takes, or the code that refuses the data
+abbrev pub request_of : Command → List ℕ → Result Request ℕ
+request_of (command.Live live) body = Ok (request.Live live)
+request_of command.SetSensorHysteresis body = Ok (request.Set (op.Hysteresis (record { sensor = byte_at body 0; positive = byte_at body 2; negative = byte_at body 3 })))
+request_of command.GetSensorHysteresis body = Ok (request.Get (key.Hysteresis (byte_at body 0)))
+request_of command.SetSensorThresholds body = Ok (request.Set (op.Thresholds (thresholds_in body)))
+request_of command.GetSensorThresholds body = Ok (request.Get (key.Thresholds (byte_at body 0)))
+request_of command.GetChassisStatus body = Ok (request.Get key.PowerPolicy)
+request_of command.SetPowerRestorePolicy body = Ok (request.Set (op.PowerPolicy (record { policy = byte_at body 0 })))
+request_of command.SetWatchdogTimer body = Ok (request.Set (op.Watchdog (watchdog_in body)))
+request_of command.GetWatchdogTimer body = Ok (request.Get key.Watchdog)
 
 -- what refuses a command that isn't listed, and one whose data has a length that it doesn't take
 abbrev pub ipmi_refusals : Refusals
@@ -63,7 +60,7 @@ pldm_refusals = record { unlisted = pldm_unsupported_command; not_allowed = pldm
 -- what a line's command asks for, where there is a line and the data has a length that it takes
 abbrev pub asked_at : Refusals → Option Line → List ℕ → Result Request ℕ
 asked_at refusals None body = Err refusals.unlisted
-asked_at refusals (Some line) body = if is_allowed line.lengths (length body) then Ok (request_of line.command body) else Err refusals.not_allowed
+asked_at refusals (Some line) body = if is_allowed line.lengths (length body) then request_of line.command body else Err refusals.not_allowed
 
 -- what a request asks for, or the first code that refuses it
 abbrev pub asked_by : Asked → Result Request ℕ

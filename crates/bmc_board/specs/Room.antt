@@ -3,13 +3,11 @@ use Rattle.std.specs.Prelude.{ℕ}
 use Rattle.cfg_records.specs.Meaning.{room_for}
 use Rattle.record_kinds.specs.Limits.{get_request, set_request}
 use Rattle.bmc_board.specs.declared.request.Request.{Request}
-use Rattle.bmc_board.specs.declared.request.Request.TheVariants.{GetDeviceId, ResetWatchdog, Get, Set, GetTid, GetPldmTypes}
+use Rattle.bmc_board.specs.declared.request.Request.TheVariants.{Live, Get, Set}
+use Rattle.bmc_board.specs.Live.{longest_live_reply}
 
 -- the reply to what is asked for has at most so many bytes of data
 abbrev pub longest_reply : Request → ℕ
-longest_reply GetDeviceId = 11
-longest_reply ResetWatchdog = 0
-longest_reply GetTid = 1
-longest_reply GetPldmTypes = 8
+longest_reply (Live command) = longest_live_reply
 longest_reply (Get key) = room_for (get_request key)
 longest_reply (Set op) = room_for (set_request op)

@@ -1,6 +1,6 @@
 -- What a change and its undo do to the records of a board, and to what its Gets show. What isn't configuration may be another at
 -- each moment.
-use Rattle.std.specs.Prelude.{◌≡◌, Some}
+use Rattle.std.specs.Prelude.{◌≡◌, ℕ, Some}
 use Rattle.two_wire.specs.Codes.{success}
 use Rattle.cfg_records.specs.Keys.{key_of}
 use Rattle.cfg_records.specs.declared.key.Key.{Key}
@@ -13,19 +13,23 @@ use Rattle.record_kinds.specs.Boards.{limits_at}
 use Rattle.record_kinds.specs.Sound.{IsSound}
 use Rattle.bmc_board.specs.State.{State}
 use Rattle.bmc_board.specs.Row.{Row}
+use Rattle.bmc_board.specs.Decode.{sent_by}
 
--- A record is read, changed by an operation, and changed back by the operation that the Get reply gives. Each time a request goes
--- from one state to another, and the records stay as they are from one request to the next.
+-- A record is read, changed by an operation, and changed back by the operation that the Get reply gives, each time at the request of
+-- any requester. Each request goes from one state to another, and the records stay as they are from one request to the next.
 pub record ChangesAndBack (setup : BoardFile) (op : Op) (before got until after from back : State) (shown changed undone : Answered) : Type 0 where
+  pub reader : ℕ
+  pub changer : ℕ
+  pub undoer : ℕ
   pub sound : IsSound setup before.records
-  pub read : Row setup before (get_request (key_of op)) shown got
+  pub read : Row setup before (sent_by reader (get_request (key_of op))) shown got
   pub was_read : shown.code ≡ success
   pub can_undo : restorable op shown.body
   pub stayed : until.records ≡ got.records
-  pub change : Row setup until (set_request op) changed after
+  pub change : Row setup until (sent_by changer (set_request op)) changed after
   pub was_changed : changed.code ≡ success
   pub stayed_changed : from.records ≡ after.records
-  pub way_back : Row setup from (set_request (undo op shown.body)) undone back
+  pub way_back : Row setup from (sent_by undoer (set_request (undo op shown.body))) undone back
 
 -- then the undo is carried out, and all records are as before
 abbrev pub IsUndone : Type 0
@@ -35,10 +39,12 @@ IsUndone = (setup : BoardFile) (op : Op) (before got until after from back : Sta
 
 -- the record of a key, with these limits, is read at two states
 pub record ReadsTwice (setup : BoardFile) (key : Key) (limits : Limits) (first got second again : State) (shown shown_again : Answered) : Type 0 where
+  pub reader : ℕ
+  pub later_reader : ℕ
   pub has_limits : limits_at setup key ≡ Some limits
-  pub read : Row setup first (get_request key) shown got
+  pub read : Row setup first (sent_by reader (get_request key)) shown got
   pub was_read : shown.code ≡ success
-  pub read_again : Row setup second (get_request key) shown_again again
+  pub read_again : Row setup second (sent_by later_reader (get_request key)) shown_again again
 
 -- both Gets are carried out, and show the same configuration
 abbrev pub ShowsTheSame : Limits → Answered → Answered → Type 0

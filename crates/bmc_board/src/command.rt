@@ -2,29 +2,32 @@
 ghost use Rattle.std.specs.Prelude.{◌≡◌, None, Some};
 ghost use Rattle.bmc_board.specs.Table.{line_of, pldm_line_of, is_allowed, is_changing, is_pldm_type};
 
+use crate::live::LiveCommand;
 use cfg_records::Asked;
 
 /// A command of the tables.
 #[derive(Clone, Copy, Debug, PartialEq, Eq)]
 pub enum Command {
-    GetDeviceId,
+    /// A live command, which takes no data.
+    Live(LiveCommand),
     SetSensorHysteresis,
     GetSensorHysteresis,
     SetSensorThresholds,
     GetSensorThresholds,
     GetChassisStatus,
     SetPowerRestorePolicy,
-    ResetWatchdogTimer,
     SetWatchdogTimer,
     GetWatchdogTimer,
-    GetTid,
-    GetPldmTypes,
 }
 
 /// How many bytes of data a command takes.
 #[derive(Clone, Copy, Debug, PartialEq, Eq)]
 pub enum Lengths {
     Exactly(u8),
+    /// The least and the greatest.
+    Between(u8, u8),
+    AtLeast(u8),
+    OneOf(u8, u8, u8),
 }
 
 /// What its table says of a command: how many bytes of data it takes, and whether it sets the configuration.
@@ -42,6 +45,11 @@ impl Lengths {
     {
         match self {
             Lengths::Exactly(exact) => length == exact as usize,
+            Lengths::Between(least, most) => least as usize <= length && length <= most as usize,
+            Lengths::AtLeast(least) => least as usize <= length,
+            Lengths::OneOf(first, second, third) => {
+                length == first as usize || length == second as usize || length == third as usize
+            }
         }
     }
 }
@@ -62,6 +70,7 @@ pub fn find_line(net_fn: u8, number: u8) -> Option<Line>
 {
     use Command::*;
     use Lengths::*;
+    use LiveCommand::*;
     Some(match (net_fn, number) {
         (0x00, 0x01) => entry(GetChassisStatus, Exactly(0), false),
         (0x00, 0x06) => entry(SetPowerRestorePolicy, Exactly(1), true),
@@ -69,8 +78,8 @@ pub fn find_line(net_fn: u8, number: u8) -> Option<Line>
         (0x04, 0x25) => entry(GetSensorHysteresis, Exactly(2), false),
         (0x04, 0x26) => entry(SetSensorThresholds, Exactly(8), true),
         (0x04, 0x27) => entry(GetSensorThresholds, Exactly(1), false),
-        (0x06, 0x01) => entry(GetDeviceId, Exactly(0), false),
-        (0x06, 0x22) => entry(ResetWatchdogTimer, Exactly(0), false),
+        (0x06, 0x01) => entry(Live(GetDeviceId), Exactly(0), false),
+        (0x06, 0x22) => entry(Live(ResetWatchdog), Exactly(0), false),
         (0x06, 0x24) => entry(SetWatchdogTimer, Exactly(6), true),
         (0x06, 0x25) => entry(GetWatchdogTimer, Exactly(0), false),
         _ => return None,
@@ -83,9 +92,10 @@ pub fn find_pldm_line(kind: u8, number: u8) -> Option<Line>
 {
     use Command::*;
     use Lengths::*;
+    use LiveCommand::*;
     Some(match (kind, number) {
-        (0x00, 0x02) => entry(GetTid, Exactly(0), false),
-        (0x00, 0x04) => entry(GetPldmTypes, Exactly(0), false),
+        (0x00, 0x02) => entry(Live(GetTid), Exactly(0), false),
+        (0x00, 0x04) => entry(Live(GetPldmTypes), Exactly(0), false),
         _ => return None,
     })
 }

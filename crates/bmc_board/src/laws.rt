@@ -1,6 +1,7 @@
 //! What holds of the definitions alone.
-ghost use Rattle.bmc_board.specs.AnswerLaws.{HasAnswer, HasOneAnswer};
-ghost use Rattle.bmc_board.specs.Decode.{GetsAreRead, SetsAreRead, UndosArePlain};
+ghost use Rattle.bmc_board.specs.AnswerLaws.{HasAnswer, HasOneAnswer, NeverBusy, UnknownIsRefused, RefusedIsUnchanged, StaysSound, AnswersFit};
+ghost use Rattle.bmc_board.specs.LiveLaws.{AreLive};
+ghost use Rattle.bmc_board.specs.Decode.{IsReadFromAll, GetsAreRead, SetsAreRead, UndosArePlain};
 ghost use Rattle.bmc_board.specs.Undo.{IsUndone, IsSteady, IsShownAsBefore};
 ghost use Rattle.bmc_board.specs.PldmTypes.{TypesAreNamed};
 ghost use Rattle.bmc_board.specs.Quiet.{KeepsRecords};
@@ -11,16 +12,42 @@ pub fn one_answer()
     ensures once { HasOneAnswer }
 {}
 
+/// No command answers the codes of a busy controller, and none answers success where a record isn't there.
+pub fn codes_law()
+    ensures answers { NeverBusy }
+    ensures unknown { UnknownIsRefused }
+{}
+
+/// What a refused request leaves is what was there.
+pub fn refusal_law()
+    ensures { RefusedIsUnchanged }
+{}
+
+/// Where each record has a value that its limits allow, each has one after any answer, and the answer's data fits the frame or message
+/// that carries it.
+pub fn sound_law()
+    ensures records { StaysSound }
+    ensures fits { AnswersFit }
+{}
+
+/// A live command leaves the records, by the form of its definition. Its code isn't a busy controller's, its data fits any frame, and
+/// where it refuses it changes nothing.
+pub fn live_law()
+    ensures { AreLive }
+{}
+
 /// The request that gets a record is read as that Get, and the request that carries out an operation as that Set. Both are from
-/// nobody, to logical unit 0. What undoes an operation has 0 in each bit that a controller ignores.
+/// nobody, to logical unit 0, and mean the same from anyone. What undoes an operation has 0 in each bit that a controller ignores.
 pub fn decode_law()
     ensures gets { GetsAreRead }
     ensures sets { SetsAreRead }
+    ensures anyone { IsReadFromAll }
     ensures plain { UndosArePlain }
 {}
 
 /// Where a record was got and then set, and its Get reply is one from which that can be undone, the request that undoes it is
-/// carried out, and then every record of the board is what it was before, whatever became of what isn't configuration.
+/// carried out, and then every record of the board is what it was before, whoever asks, and whatever became of what isn't
+/// configuration.
 pub fn undo_law()
     ensures { IsUndone }
 {}

@@ -3,17 +3,18 @@ ghost use Rattle.std.specs.Prelude.{◌≡◌, ℕ};
 ghost use Rattle.bmc_board.specs.Request.{byte_at, thresholds_in, watchdog_in, request_of, asked_by, asked_at};
 
 use crate::command::{Command, Line, find_line, find_pldm_line, is_pldm_type};
+use crate::live::LiveCommand;
 use cfg_records::{Asked, Key, Op, SetHysteresis, SetPowerPolicy, SetThresholds, SetWatchdog};
 use two_wire::{Below, Code, Lun, NetFn, code};
 
 /// A well-formed request.
 #[derive(Clone, Copy, Debug, PartialEq, Eq)]
 pub enum Request {
-    GetDeviceId,
-    ResetWatchdog,
-    GetTid,
-    GetPldmTypes,
+    /// Carry out a live command.
+    Live(LiveCommand),
+    /// Show a record.
     Get(Key),
+    /// Change a record.
     Set(Op),
 }
 
@@ -58,31 +59,28 @@ fn set_watchdog(body: &[u8]) -> SetWatchdog
     }
 }
 
-/// What the command asks for with this data, of a length that the command takes.
+/// What the command asks for with this data, of a length that the command takes, or the code that refuses the data.
 #[inline(always)]
-fn request_in(command: Command, body: &[u8]) -> Request
+fn request_in(command: Command, body: &[u8]) -> Result<Request, Code>
     ensures { result ≡ request_of command body.now }
 {
     let number = byte(body, 0);
     match command {
-        Command::GetDeviceId => Request::GetDeviceId,
-        Command::SetSensorHysteresis => Request::Set(Op::Hysteresis(SetHysteresis {
+        Command::Live(command) => Ok(Request::Live(command)),
+        Command::SetSensorHysteresis => Ok(Request::Set(Op::Hysteresis(SetHysteresis {
             sensor: number,
             positive: byte(body, 2),
             negative: byte(body, 3),
-        })),
-        Command::GetSensorHysteresis => Request::Get(Key::Hysteresis(number)),
-        Command::SetSensorThresholds => Request::Set(Op::Thresholds(set_thresholds(body))),
-        Command::GetSensorThresholds => Request::Get(Key::Thresholds(number)),
-        Command::GetChassisStatus => Request::Get(Key::PowerPolicy),
-        Command::SetPowerRestorePolicy => {
-            Request::Set(Op::PowerPolicy(SetPowerPolicy { policy: number }))
-        }
-        Command::ResetWatchdogTimer => Request::ResetWatchdog,
-        Command::SetWatchdogTimer => Request::Set(Op::Watchdog(set_watchdog(body))),
-        Command::GetWatchdogTimer => Request::Get(Key::Watchdog),
-        Command::GetTid => Request::GetTid,
-        Command::GetPldmTypes => Request::GetPldmTypes,
+        }))),
+        Command::GetSensorHysteresis => Ok(Request::Get(Key::Hysteresis(number))),
+        Command::SetSensorThresholds => Ok(Request::Set(Op::Thresholds(set_thresholds(body)))),
+        Command::GetSensorThresholds => Ok(Request::Get(Key::Thresholds(number))),
+        Command::GetChassisStatus => Ok(Request::Get(Key::PowerPolicy)),
+        Command::SetPowerRestorePolicy => Ok(Request::Set(Op::PowerPolicy(SetPowerPolicy {
+            policy: number,
+        }))),
+        Command::SetWatchdogTimer => Ok(Request::Set(Op::Watchdog(set_watchdog(body)))),
+        Command::GetWatchdogTimer => Ok(Request::Get(Key::Watchdog)),
     }
 }
 
@@ -114,7 +112,7 @@ fn request_at(refusals: Refusals, line: Option<Line>, body: &[u8]) -> Result<Req
     if !line.lengths.allow(body.len()) {
         return Err(refusals.not_allowed);
     }
-    Ok(request_in(line.command, body))
+    request_in(line.command, body)
 }
 
 /// What an IPMI request asks for, or the first code that refuses it: the logical unit comes first, then the command, then the

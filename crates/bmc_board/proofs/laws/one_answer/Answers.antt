@@ -1,4 +1,4 @@
-use Rattle.bmc_board.specs.AnswerLaws.{has_answer, has_one_answer}
+use Rattle.bmc_board.proofs.OneAnswer.{has_answer, has_one_answer}
 use Rattle.bmc_board.proofs.laws.one_answer.Goals as goal
 
 pub returns-clause-answered : goal.returns-clause-answered

@@ -2,7 +2,7 @@ use Rattle.std.proofs.Common.{◌≡◌, ◌/◌, ◌%◌, slice_index, Bool, tr
 use Rattle.cfg_records.specs.Masks.{has}
 use Rattle.cfg_records.specs.MaskLaws.{all_below-at}
 use Rattle.bmc_board.specs.Table.{is_pldm_type}
-use Rattle.bmc_board.specs.Row.{pldm_types}
+use Rattle.bmc_board.specs.Live.{pldm_types}
 use Rattle.bmc_board.proofs.laws.pldm_types_law.Goals as goal
 
 -- whether two tests agree
