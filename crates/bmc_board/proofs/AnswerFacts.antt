@@ -12,7 +12,7 @@ use Rattle.cfg_records.specs.declared.message.Asked.{Asked}
 use Rattle.cfg_records.specs.declared.board_file.BoardFile.{BoardFile}
 use Rattle.record_kinds.specs.declared.limits.Limits.{Limits}
 use Rattle.record_kinds.specs.declared.limits.Limits.TheVariants as kinds
-use Rattle.record_kinds.specs.Limits.{is_of, sets, outcome, get_request, set_request}
+use Rattle.record_kinds.specs.Limits.{is_of, sets, outcome, get_asked, set_asked}
 use Rattle.record_kinds.specs.LimitsLaws as laws
 use Rattle.std.specs.Option.{option_map}
 use Rattle.record_kinds.specs.Boards.{sensor_at, thresholds_of, hysteresis_of, limits_at}
@@ -25,9 +25,9 @@ use Rattle.bmc_board.specs.State.{State, IsUnchanged}
 use Rattle.bmc_board.specs.Replies.{done, refused, unknown_code}
 use Rattle.bmc_board.specs.Room.{longest_reply}
 use Rattle.bmc_board.specs.Live.{live_answer}
-use Rattle.bmc_board.specs.LiveLaws.{IsLive}
+use Rattle.bmc_board.specs.AnyLive.{IsLive}
 use Rattle.bmc_board.specs.Answer.{Given, get_answer, set_result, set_answer, serve, reply, answer_of}
-use Rattle.bmc_board.specs.AnswerLaws.{IsCode, NeverBusy, RefusedIsUnchanged, StaysSound, AnswersFit}
+use Rattle.bmc_board.specs.AnyAnswer.{IsCode, NeverBusy, RefusedIsUnchanged, StaysSound, AnswersFit}
 use Rattle.bmc_board.proofs.AskedFacts.{code_of, IsRight, asked_right}
 use Rattle.bmc_board.proofs.LiveFacts.{refusal_code, unknown_is_refused, are_live}
 
@@ -104,7 +104,7 @@ record IsFit (setup : BoardFile) (room : ℕ) (given : Given) : Type 0 where
 refused_fit : (setup : BoardFile) (room fault : ℕ) (before : State) → IsSound setup before.records → IsFit setup room (refused fault, before)
 refused_fit setup room fault before sound = record { short = omega arith; sound = sound }
 
-get_short : (limits : Option Limits) (value : Option (List ℕ)) (live : LivePart) (unknown : ℕ) (key : Key) (room : ℕ) → ((l : Limits) → limits ≡ Some l → is_of l key) → IsSoundAt limits value → room_for (get_request key) ≤ room
+get_short : (limits : Option Limits) (value : Option (List ℕ)) (live : LivePart) (unknown : ℕ) (key : Key) (room : ℕ) → ((l : Limits) → limits ≡ Some l → is_of l key) → IsSoundAt limits value → room_for (get_asked key) ≤ room
     → length (get_answer limits value live unknown).body ≤ room
 get_short (Some l) (Some v) live unknown key room of sound le = omega (arith, (laws.record_laws l).get_short key v live (of l refl) sound)
 get_short (Some l) None live unknown key room of sound le = omega arith
@@ -112,7 +112,7 @@ get_short None (Some v) live unknown key room of sound le = omega arith
 get_short None None live unknown key room of sound le = omega arith
 
 result_fit : (setup : BoardFile) (room : ℕ) (limits : Limits) (old : List ℕ) (op : Op) (before : State) (r : Result (List ℕ) ℕ) → IsSound setup before.records → limits_at setup (key_of op) ≡ Some limits → before.records (key_of op) ≡ Some old
-    → Decides r (sets limits op old) → room_for (set_request op) ≤ room → IsFit setup room (set_result r op before)
+    → Decides r (sets limits op old) → room_for (set_asked op) ≤ room → IsFit setup room (set_result r op before)
 result_fit setup room limits old op before (Ok new) sound at had is le = record {
   short = omega (arith, laws.kind_laws.set_short op);
   sound = sound_with setup before.records (key_of op) limits new sound at ((laws.record_laws limits).keeps op old new (valid_at _ _ limits old at had (sound (key_of op))) is);
@@ -120,7 +120,7 @@ result_fit setup room limits old op before (Ok new) sound at had is le = record 
 result_fit setup room limits old op before (Err fault) sound at had is le = refused_fit setup room fault before sound
 
 set_fit : (setup : BoardFile) (room : ℕ) (limits : Option Limits) (value : Option (List ℕ)) (unknown : ℕ) (op : Op) (before : State) → IsSound setup before.records → limits_at setup (key_of op) ≡ limits → before.records (key_of op) ≡ value
-    → room_for (set_request op) ≤ room → IsFit setup room (set_answer limits value unknown op before)
+    → room_for (set_asked op) ≤ room → IsFit setup room (set_answer limits value unknown op before)
 set_fit setup room (Some l) (Some old) unknown op before sound at had le = result_fit setup room l old op before (outcome l op old) sound at had ((laws.record_laws l).decides op old) le
 set_fit setup room (Some l) None unknown op before sound at had le = refused_fit setup room unknown before sound
 set_fit setup room None (Some old) unknown op before sound at had le = refused_fit setup room unknown before sound

@@ -13,7 +13,7 @@ use Rattle.bmc_board.specs.declared.request.Request.TheVariants.{Live, Get, Set}
 use Rattle.bmc_board.specs.Table.{Listed, table, pldm_table, line_in, line_under, line_of, pldm_line_of, is_allowed, is_pldm_type, changes, is_changing}
 use Rattle.bmc_board.specs.Request.{request_of, asked_at, asked_by, ipmi_refusals, pldm_refusals}
 use Rattle.bmc_board.specs.Room.{longest_reply}
-use Rattle.bmc_board.specs.AnswerLaws.{IsCode}
+use Rattle.bmc_board.specs.AnyAnswer.{IsCode}
 
 -- the request is no Set
 abbrev pub IsQuiet : Request → Type 0

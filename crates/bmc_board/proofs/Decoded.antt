@@ -7,7 +7,7 @@ use Rattle.cfg_records.specs.declared.op.SetThresholds.{SetThresholds}
 use Rattle.cfg_records.specs.declared.op.SetWatchdog.{SetWatchdog}
 use Rattle.cfg_records.specs.declared.op.Op.TheVariants as op
 use Rattle.cfg_records.proofs.Operations.{set_thresholds, same_thresholds}
-use Rattle.record_kinds.specs.Limits.{set_request}
+use Rattle.record_kinds.specs.Limits.{set_asked}
 use Rattle.bmc_board.specs.declared.request.Request.TheVariants as request
 use Rattle.bmc_board.specs.Request.{asked_by}
 use Rattle.bmc_board.specs.Decode.{IsReadFromAll, GetsAreRead, SetsAreRead}
@@ -25,7 +25,7 @@ six P at [] is = absurd (omega (arith, is))
 
 -- the request is read as the operation that it carries out
 abbrev IsRead : SetThresholds → Type 0
-IsRead o = asked_by (set_request (op.Thresholds o)) ≡ Ok (request.Set (op.Thresholds o))
+IsRead o = asked_by (set_asked (op.Thresholds o)) ≡ Ok (request.Set (op.Thresholds o))
 
 thresholds_read : (o : SetThresholds) → IsRead o
 thresholds_read o =

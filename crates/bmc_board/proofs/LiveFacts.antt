@@ -11,9 +11,9 @@ use Rattle.watch_boot.specs.Watchdog.{was_set, live_after_reset}
 use Rattle.bmc_board.specs.declared.activity.Activity.{Activity}
 use Rattle.bmc_board.specs.declared.live.LiveCommand.TheVariants.{GetDeviceId, ResetWatchdog, GetTid, GetPldmTypes}
 use Rattle.bmc_board.specs.Replies.{done, refused, unknown_code}
-use Rattle.bmc_board.specs.AnswerLaws.{IsCode, UnknownIsRefused}
+use Rattle.bmc_board.specs.AnyAnswer.{IsCode, UnknownIsRefused}
 use Rattle.bmc_board.specs.Live.{reset_answer, longest_live_reply}
-use Rattle.bmc_board.specs.LiveLaws.{IsLive, AreLive}
+use Rattle.bmc_board.specs.AnyLive.{IsLive, AreLive}
 use Rattle.bmc_board.proofs.AskedFacts.{code_of}
 
 -- ---- codes

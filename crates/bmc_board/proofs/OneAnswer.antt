@@ -16,7 +16,7 @@ use Rattle.bmc_board.specs.State.{State, state}
 use Rattle.bmc_board.specs.Replies.{refused}
 use Rattle.bmc_board.specs.Answer.{Given, activity_after, set_result, set_answer, serve, reply, answer_of}
 use Rattle.bmc_board.specs.Row.{Sets, Is, Serves, Replies}
-use Rattle.bmc_board.specs.AnswerLaws.{HasAnswer, HasOneAnswer}
+use Rattle.bmc_board.specs.AnyAnswer.{HasAnswer, HasOneAnswer}
 
 -- two parts that are equal make equal pairs
 pair : (a b : Answered) (s t : State) → a ≡ b → s ≡ t → (let p : Given = (a, s) in p) ≡ (let q : Given = (b, t) in q)

@@ -35,6 +35,6 @@ is_steady setup key limits first got second again shown shown_again h same =
     )
 
 pub is_shown_as_before : IsShownAsBefore
-is_shown_as_before setup op before got until after from back shown changed undone h key limits earlier seen later again shown_then shown_now reads at_start at_end =
-    let undone_all : back.records ≡ before.records = (is_undone setup op before got until after from back shown changed undone h).1 in
+is_shown_as_before setup op made before got until after from back shown changed undone h key limits earlier seen later again shown_then shown_now reads at_start at_end =
+    let undone_all : back.records ≡ before.records = (is_undone setup op made before got until after from back shown changed undone h).1 in
     is_steady setup key limits earlier seen later again shown_then shown_now reads (at_end ∙ undone_all ∙ sym at_start)

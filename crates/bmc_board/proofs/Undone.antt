@@ -12,7 +12,7 @@ use Rattle.cfg_records.specs.declared.message.Answered.{Answered}
 use Rattle.cfg_records.specs.declared.board_file.BoardFile.{BoardFile}
 use Rattle.record_kinds.specs.declared.limits.Limits.{Limits}
 use Rattle.cfg_records.specs.Kind.{RecordLaws}
-use Rattle.record_kinds.specs.Limits.{words, record_words, valid, sets, view, get_request, set_request, restorable, undo}
+use Rattle.record_kinds.specs.Limits.{words, record_words, valid, sets, view, get_asked, set_asked, is_reply, inverse}
 use Rattle.record_kinds.specs.LimitsLaws as laws
 use Rattle.record_kinds.specs.Boards.{limits_at}
 use Rattle.record_kinds.specs.Sound.{valid_at}
@@ -24,7 +24,8 @@ use Rattle.bmc_board.specs.Replies.{done, refused, unknown_code}
 use Rattle.bmc_board.specs.Answer.{Given, get_answer}
 use Rattle.bmc_board.specs.Row.{IsCarriedOut, Sets, Serves, Replies, Row}
 use Rattle.bmc_board.specs.Decode.{sent_by}
-use Rattle.bmc_board.specs.Undo.{IsUndone}
+use Rattle.bmc_board.specs.Undo.{IsUndone, IsAReply}
+use Rattle.bmc_board.proofs.AnswerFacts.{limits_are_of}
 use Rattle.bmc_board.proofs.LiveFacts.{unknown_is_refused}
 use Rattle.bmc_board.proofs.Decoded.{is_read_from_all, gets_are_read, sets_are_read}
 
@@ -33,11 +34,11 @@ use Rattle.bmc_board.proofs.Decoded.{is_read_from_all, gets_are_read, sets_are_r
 read_as : (setup : BoardFile) (before : State) (asked : Asked) (request : Request) (answered : Answered) (after : State) → asked_by asked ≡ Ok request → Row setup before asked answered after → Serves setup before request answered after
 read_as setup before asked request answered after is row = subst (λ (r : Result Request ℕ). Replies setup before r answered after) is row
 
-pub get_served : (setup : BoardFile) (before : State) (from : ℕ) (key : Key) (answered : Answered) (after : State) → Row setup before (sent_by from (get_request key)) answered after → Serves setup before (Get key) answered after
-get_served setup before from key answered after row = read_as setup before (sent_by from (get_request key)) (Get key) answered after (is_read_from_all from (get_request key) ∙ (gets_are_read key).is_read) row
+pub get_served : (setup : BoardFile) (before : State) (from : ℕ) (key : Key) (answered : Answered) (after : State) → Row setup before (sent_by from (get_asked key)) answered after → Serves setup before (Get key) answered after
+get_served setup before from key answered after row = read_as setup before (sent_by from (get_asked key)) (Get key) answered after (is_read_from_all from (get_asked key) ∙ (gets_are_read key).is_read) row
 
-set_served : (setup : BoardFile) (before : State) (from : ℕ) (op : Op) (answered : Answered) (after : State) → Row setup before (sent_by from (set_request op)) answered after → Serves setup before (Set op) answered after
-set_served setup before from op answered after row = read_as setup before (sent_by from (set_request op)) (Set op) answered after (is_read_from_all from (set_request op) ∙ (sets_are_read op).is_read) row
+set_served : (setup : BoardFile) (before : State) (from : ℕ) (op : Op) (answered : Answered) (after : State) → Row setup before (sent_by from (set_asked op)) answered after → Serves setup before (Set op) answered after
+set_served setup before from op answered after row = read_as setup before (sent_by from (set_asked op)) (Set op) answered after (is_read_from_all from (set_asked op) ∙ (sets_are_read op).is_read) row
 
 -- ---- requests that are carried out
 
@@ -93,11 +94,20 @@ pub sets_at : (limits : Option Limits) (value : Option (List ℕ)) (of : Limits)
 sets_at limits value of old unknown op before answered after limits_are value_is s =
     subst (λ (v : Option (List ℕ)). Sets (Some of) v unknown op before answered after) value_is (subst (λ (l : Option Limits). Sets l value unknown op before answered after) limits_are s)
 
+-- what a Get replies is a reply of the record's kind
+pub is_a_reply : IsAReply
+is_a_reply setup op before got shown h =
+    let key : Key = key_of op in
+    let served : Serves setup before (Get key) shown got = get_served setup before h.reader key shown got h.read in
+    let seen : Shows (limits_at setup key) (before.records key) before.activity.live shown = shows _ _ before.activity.live (unknown_code setup key) shown (unknown_is_fault setup key) (ap (λ (g : Given). g.0) served) h.was_read in
+    let is_valid : valid seen.of seen.old = valid_at _ _ seen.of seen.old seen.limits_are seen.value_is (h.sound key) in
+    let reply : is_reply op (view seen.of seen.old before.activity.live) = (laws.record_laws seen.of).replies op seen.old before.activity.live (limits_are_of setup key seen.of seen.limits_are) is_valid in
+    subst (is_reply op) (sym (ap (λ (a : Answered). a.body) seen.body_is)) reply
+
 pub is_undone : IsUndone
-is_undone setup op before got until after from back shown changed undone h =
+is_undone setup op made before got until after from back shown changed undone h =
     let key : Key = key_of op in
     let unknown : ℕ = unknown_code setup key in
-    let inverse : Op = undo op shown.body in
     let served : Serves setup before (Get key) shown got = get_served setup before h.reader key shown got h.read in
     let seen : Shows (limits_at setup key) (before.records key) before.activity.live shown = shows _ _ before.activity.live unknown shown (unknown_is_fault setup key) (ap (λ (g : Given). g.0) served) h.was_read in
     let is_valid : valid seen.of seen.old = valid_at _ _ seen.of seen.old seen.limits_are seen.value_is (h.sound key) in
@@ -107,13 +117,14 @@ is_undone setup op before got until after from back shown changed undone h =
     carried_out seen.of seen.old unknown op until changed after (sets_at _ _ seen.of seen.old unknown op until changed after seen.limits_are had (set_served setup until h.changer op changed after h.change)) h.was_changed in
     let of_seen : RecordLaws words (record_words seen.of) = laws.record_laws seen.of in
     let shown_is : view seen.of seen.old before.activity.live ≡ shown.body = sym (ap (λ (a : Answered). a.body) seen.body_is) in
-    let can : sets seen.of inverse change.new seen.old = subst (λ (reply : List ℕ). sets seen.of (undo op reply) change.new seen.old) shown_is (of_seen.undoes op seen.old change.new before.activity.live is_valid change.is_set (subst (restorable op) (sym shown_is) h.can_undo)) in
+    let is_made : inverse op (view seen.of seen.old before.activity.live) ≡ Some made = ap (inverse op) shown_is ∙ h.undoes in
+    let can : sets seen.of made change.new seen.old = of_seen.undoes op made seen.old change.new before.activity.live is_valid change.is_set is_made in
     let here : (record_words seen.of).is_of key = of_seen.taken op seen.old change.new change.is_set in
-    let same : key_of inverse ≡ key = subst (λ (reply : List ℕ). key_of (undo op reply) ≡ key) shown_is (of_seen.same_record op seen.old before.activity.live here is_valid) in
+    let same : key_of made ≡ key = of_seen.same_record op made seen.old before.activity.live here is_valid is_made in
     let written : from.records ≡ with_record until.records key change.new = h.stayed_changed ∙ ap (λ (s : State). s.records) change.left in
     let has : from.records key ≡ Some change.new = ap (λ (r : Records). r key) written ∙ with_record_same until.records key change.new in
-    let way : Sets (limits_at setup key) (from.records key) unknown inverse from undone back =
-    subst (λ (k : Key). Sets (limits_at setup k) (from.records k) (unknown_code setup k) inverse from undone back) same (set_served setup from h.undoer inverse undone back h.way_back) in
+    let way : Sets (limits_at setup key) (from.records key) unknown made from undone back =
+    subst (λ (k : Key). Sets (limits_at setup k) (from.records k) (unknown_code setup k) made from undone back) same (set_served setup from h.undoer made undone back h.way_back) in
     let end : (undone.code ≡ success) × (back.records ≡ until.records) =
-    undone_at seen.of key inverse unknown until.records seen.old change.new from back undone same had written can (sets_at _ _ seen.of change.new unknown inverse from undone back seen.limits_are has way) in
+    undone_at seen.of key made unknown until.records seen.old change.new from back undone same had written can (sets_at _ _ seen.of change.new unknown made from undone back seen.limits_are has way) in
     (end.0, end.1 ∙ stayed)

@@ -8,7 +8,7 @@ use Rattle.cfg_records.specs.declared.message.Answered.{Answered}
 use Rattle.cfg_records.specs.declared.live.Live.{Live as LivePart}
 use Rattle.cfg_records.specs.declared.board_file.BoardFile.{BoardFile}
 use Rattle.record_kinds.specs.declared.limits.Limits.{Limits}
-use Rattle.record_kinds.specs.Limits.{outcome, view, set_view, live_after}
+use Rattle.record_kinds.specs.Limits.{outcome, view, set_reply, next_live}
 use Rattle.record_kinds.specs.Boards.{limits_at}
 use Rattle.bmc_board.specs.declared.activity.Activity.{Activity}
 use Rattle.bmc_board.specs.declared.request.Request.{Request}
@@ -33,11 +33,11 @@ get_answer _ _ live unknown = refused unknown
 
 -- the activity after a Set that was carried out
 abbrev pub activity_after : Op → Activity → Activity
-activity_after op before = record before { live = live_after op before.live }
+activity_after op before = record before { live = next_live op before.live }
 
 -- what comes of a Set: its reply, and the state that it leaves
 abbrev pub set_result : Result (List ℕ) ℕ → Op → State → Given
-set_result (Ok new) op before = (done (set_view op), state (with_record before.records (key_of op) new) (activity_after op before.activity))
+set_result (Ok new) op before = (done (set_reply op), state (with_record before.records (key_of op) new) (activity_after op before.activity))
 set_result (Err fault) op before = (refused fault, before)
 
 abbrev pub set_answer : Option Limits → Option (List ℕ) → ℕ → Op → State → Given

@@ -1,11 +1,11 @@
 -- The requests that get a record and that change one are read as that Get and that Set. The operation that undoes a change has 0 in
 -- each bit that is ignored.
-use Rattle.std.specs.Prelude.{◌≡◌, ℕ, List, Ok}
+use Rattle.std.specs.Prelude.{◌≡◌, ℕ, List, Some, Ok}
 use Rattle.cfg_records.specs.declared.key.Key.{Key}
 use Rattle.cfg_records.specs.declared.op.Op.{Op}
 use Rattle.cfg_records.specs.declared.message.Asked.{Asked}
 use Rattle.cfg_records.specs.declared.message.Asked.TheVariants.{Ipmi, Pldm}
-use Rattle.record_kinds.specs.Limits.{get_request, set_request, is_reply, restorable, undo, is_plain}
+use Rattle.record_kinds.specs.Limits.{get_asked, set_asked, inverse, is_plain}
 use Rattle.bmc_board.specs.declared.request.Request.{Request}
 use Rattle.bmc_board.specs.declared.request.Request.TheVariants.{Get, Set}
 use Rattle.bmc_board.specs.Request.{asked_by}
@@ -31,12 +31,12 @@ pub record Asks (asked : Asked) (request : Request) : Type 0 where
 
 -- the request for a record is read as a Get of that record
 abbrev pub GetsAreRead : Type 0
-GetsAreRead = (key : Key) → Asks (get_request key) (Get key)
+GetsAreRead = (key : Key) → Asks (get_asked key) (Get key)
 
 -- the request for an operation is read as that operation
 abbrev pub SetsAreRead : Type 0
-SetsAreRead = (op : Op) → Asks (set_request op) (Set op)
+SetsAreRead = (op : Op) → Asks (set_asked op) (Set op)
 
 -- what undoes an operation has 0 in each bit that a controller ignores
 abbrev pub UndosArePlain : Type 0
-UndosArePlain = (op : Op) (reply : List ℕ) → is_reply op reply → restorable op reply → is_plain (undo op reply)
+UndosArePlain = (op made : Op) (reply : List ℕ) → inverse op reply ≡ Some made → is_plain made

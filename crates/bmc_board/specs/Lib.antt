@@ -7,8 +7,8 @@ pub mod Answer
 pub mod Row
 pub mod Room
 pub mod Gives
-pub mod AnswerLaws
-pub mod LiveLaws
+pub mod AnyAnswer
+pub mod AnyLive
 pub mod PldmTypes
 pub mod Decode
 pub mod Undo

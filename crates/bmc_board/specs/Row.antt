@@ -7,7 +7,7 @@ use Rattle.cfg_records.specs.declared.message.Asked.{Asked}
 use Rattle.cfg_records.specs.declared.message.Answered.{Answered}
 use Rattle.cfg_records.specs.declared.board_file.BoardFile.{BoardFile}
 use Rattle.record_kinds.specs.declared.limits.Limits.{Limits}
-use Rattle.record_kinds.specs.Limits.{sets, outcome, set_view}
+use Rattle.record_kinds.specs.Limits.{sets, outcome, set_reply}
 use Rattle.record_kinds.specs.Boards.{limits_at}
 use Rattle.bmc_board.specs.declared.request.Request.{Request}
 use Rattle.bmc_board.specs.declared.request.Request.TheVariants.{Set}
@@ -20,7 +20,7 @@ use Rattle.bmc_board.specs.Answer.{Given, activity_after, serve}
 pub record IsCarriedOut (limits : Limits) (old : List ℕ) (op : Op) (before : State) (answered : Answered) (after : State) : Type 0 where
   pub new : List ℕ
   pub is_set : sets limits op old new
-  pub replied : answered ≡ done (set_view op)
+  pub replied : answered ≡ done (set_reply op)
   pub left : after ≡ state (with_record before.records (key_of op) new) (activity_after op before.activity)
 
 -- a Set that its kind doesn't accept changes nothing

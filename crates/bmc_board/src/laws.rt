@@ -1,8 +1,8 @@
 //! What holds of the definitions alone.
-ghost use Rattle.bmc_board.specs.AnswerLaws.{HasAnswer, HasOneAnswer, NeverBusy, UnknownIsRefused, RefusedIsUnchanged, StaysSound, AnswersFit};
-ghost use Rattle.bmc_board.specs.LiveLaws.{AreLive};
+ghost use Rattle.bmc_board.specs.AnyAnswer.{HasAnswer, HasOneAnswer, NeverBusy, UnknownIsRefused, RefusedIsUnchanged, StaysSound, AnswersFit};
+ghost use Rattle.bmc_board.specs.AnyLive.{AreLive};
 ghost use Rattle.bmc_board.specs.Decode.{IsReadFromAll, GetsAreRead, SetsAreRead, UndosArePlain};
-ghost use Rattle.bmc_board.specs.Undo.{IsUndone, IsSteady, IsShownAsBefore};
+ghost use Rattle.bmc_board.specs.Undo.{IsAReply, IsUndone, IsSteady, IsShownAsBefore};
 ghost use Rattle.bmc_board.specs.PldmTypes.{TypesAreNamed};
 ghost use Rattle.bmc_board.specs.Quiet.{KeepsRecords};
 
@@ -45,11 +45,12 @@ pub fn decode_law()
     ensures plain { UndosArePlain }
 {}
 
-/// Where a record was got and then set, and its Get reply is one from which that can be undone, the request that undoes it is
-/// carried out, and then every record of the board is what it was before, whoever asks, and whatever became of what isn't
-/// configuration.
+/// What a Get replies is a reply from which `inverse` makes an operation wherever one undoes it. Where a record was got and then set,
+/// and the Set has an inverse from the Get reply, the request of that inverse is carried out, and then every record of the board is
+/// what it was before, whoever asks, and whatever became of what isn't configuration.
 pub fn undo_law()
-    ensures { IsUndone }
+    ensures reply { IsAReply }
+    ensures undone { IsUndone }
 {}
 
 /// Two Gets of a record show the same configuration where the records of the board are the same: so do a Get of any record before

@@ -1,3 +1,4 @@
+pub mod InverseLaws
 pub mod Keys
 pub mod KeyLaws
 pub mod Masks
@@ -14,6 +15,7 @@ pub mod Kind
 pub mod AllKinds
 pub mod AllKindsLaws
 pub mod Member
+pub mod MemberLaws
 pub mod Records
 pub mod RecordLaws
 pub mod Boards

@@ -1,5 +1,6 @@
 //! What a kind of record is.
 ghost use Rattle.std.specs.Prelude.{◌≡◌, ◌+◌, ◌≤◌, ◌++◌, ℕ, List, OnErr, SomeIff, length};
+ghost use Rattle.cfg_records.specs.declared.live.Live.{Live};
 ghost use Rattle.cfg_records.specs.Meaning.{Decides, told};
 ghost use Rattle.cfg_records.specs.Kind.{Kind};
 
@@ -14,7 +15,7 @@ pub trait RecordKind<'a> {
     type Key: Copy;
 
     /// A change of a record of the kind.
-    type Op: Copy;
+    type Op: Drop;
 
     /// What the kind says of its records, and that it holds.
     ghost kind: { Kind Self.Key Self.Op Self };
@@ -29,12 +30,12 @@ pub trait RecordKind<'a> {
 
     /// Appends the data of the reply to a Set that was carried out.
     fn set_reply<B: Buffer>(op: &Self::Op, reply: &mut B)
-        requires room { length (B.bytes reply.old) + length (kind.words.set_view op.now) ≤ B.capacity }
-        ensures { B.bytes reply.new ≡ B.bytes reply.old ++ kind.words.set_view op.now };
+        requires room { length (B.bytes reply.old) + length (kind.words.set_reply op.now) ≤ B.capacity }
+        ensures { B.bytes reply.new ≡ B.bytes reply.old ++ kind.words.set_reply op.now };
 
     /// What isn't configuration, after the operation was carried out.
     fn next_live(op: &Self::Op, live: &Live) -> Live
-        ensures { result ≡ kind.words.live_after op.now live.now };
+        ensures { result ≡ kind.words.next_live op.now live.now };
 
     /// Appends the data of the Get reply.
     fn get_data<B: Buffer>(&self, value: &[u8], live: &Live, reply: &mut B)
@@ -44,19 +45,43 @@ pub trait RecordKind<'a> {
 
     /// The request that gets the record: from nobody, to logical unit 0.
     fn get_asked(key: &Self::Key) -> Asked
-        ensures { result ≡ kind.words.get_request key.now };
+        ensures { result ≡ kind.words.get_asked key.now };
 
     /// The data of the request that carries out the operation.
     fn set_data(op: &Self::Op) -> RecordData
-        ensures { result ≡ kind.words.set_body op.now };
+        ensures { result ≡ kind.words.set_data op.now };
 
     /// The request that carries out the operation: from nobody, to logical unit 0, with the operation's bytes as they are. What
     /// undoes an operation has 0 in each bit that a controller ignores.
     fn set_asked(op: &Self::Op) -> Asked
-        ensures { result ≡ kind.words.set_request op.now };
+        ensures { result ≡ kind.words.set_asked op.now };
 
     /// The operation that brings back what the Get reply shows, where it is such a reply and the operation can be undone from it.
     fn inverse(op: &Self::Op, get_data: &'a [u8]) -> Option<Self::Op>
-        ensures { SomeIff result (kind.words.is_reply op.now get_data.now × kind.words.restorable op.now get_data.now) (kind.words.undo op.now get_data.now) };
+        ensures { result ≡ kind.words.inverse op.now get_data.now };
 }
 
+/// The value that the operation and then its inverse leave, where the inverse is made from what a Get replied before them: the
+/// old one. There is none where the operation is refused, or can't be undone from that reply.
+pub fn there_and_back<'a, K: RecordKind<'a>>(
+    limits: &K,
+    op: &K::Op,
+    value: &[u8],
+    get_data: &'a [u8],
+) -> Option<Value>
+    requires of_record { (K.kind.record_words limits.now).is_of (K.kind.words.key_of op.now) }
+    requires is_valid { (K.kind.record_words limits.now).valid value.now }
+    requires was_got { (live : Live) × (get_data.now ≡ (K.kind.record_words limits.now).view value.now live) }
+    ensures { SomeIff result (((new : List ℕ) × (K.kind.record_words limits.now).sets op.now value.now new) × K.kind.words.restorable op.now get_data.now) value.now }
+{
+    let mut new = Value::new();
+    let Ok(()) = limits.apply(op, value, &mut new) else {
+        return None;
+    };
+    let undo = K::inverse(op, get_data)?;
+    let mut back = Value::new();
+    match limits.apply(&undo, new.as_slice(), &mut back) {
+        Ok(()) => Some(back),
+        Err(_) => unreachable!(),
+    }
+}

@@ -22,7 +22,7 @@ pub mod watchdog;
 pub use board_file::{BoardFile, Device};
 pub use items::Items;
 pub use key::Key;
-pub use kind::{RecordKind};
+pub use kind::{RecordKind, there_and_back};
 pub use live::Live;
 pub use message::{Answered, Asked};
 pub use op::{Op, SetHysteresis, SetPowerPolicy, SetThresholds, SetWatchdog};

@@ -103,13 +103,13 @@ macro_rules! by_key {
 }
 
 impl<'a> RecordKind<'a> for Limits {
-    ghost use Rattle.record_kinds.specs.LimitsLaws as laws;
+    ghost use Rattle.record_kinds.specs.LimitsKind as all;
 
     type Key = Key;
 
     type Op = Op;
 
-    ghost kind = { laws.kind };
+    ghost kind = { all.kind };
 
     fn apply(&self, op: &Op, value: &[u8], new: &mut Value) -> Result<(), Code> {
         of_each_kind!(by_both [self, op, value, new])

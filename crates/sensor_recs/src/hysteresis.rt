@@ -1,7 +1,6 @@
 //! The hysteresis of a sensor, as a kind of record.
-ghost use Rattle.std.specs.Prelude.{◌≡◌, length};
-ghost use Rattle.std.specs.Option.{SomeIff};
-ghost use Rattle.sensor_recs.specs.Hysteresis.{both_bytes, undo_hysteresis, hysteresis_body};
+ghost use Rattle.std.specs.Prelude.{◌≡◌};
+ghost use Rattle.sensor_recs.specs.Hysteresis.{both_bytes, hysteresis_body};
 
 use crate::request::sensor_request;
 use cfg_records::{Asked, Live, RecordData, RecordKind, SetHysteresis, Value};
@@ -34,28 +33,14 @@ fn body(op: &SetHysteresis) -> RecordData
     RecordData::from_slice(&[op.sensor, HYSTERESIS_MASK, op.positive, op.negative])
 }
 
-/// The operation that sets both bytes to what the reply shows.
-fn undo(op: &SetHysteresis, reply: &[u8]) -> Option<SetHysteresis>
-    ensures { SomeIff result (length reply.now ≡ 2) (undo_hysteresis op.now reply.now) }
-{
-    let [positive, negative] = reply else {
-        return None;
-    };
-    Some(SetHysteresis {
-        sensor: op.sensor,
-        positive: *positive,
-        negative: *negative,
-    })
-}
-
 impl<'a> RecordKind<'a> for HysteresisLimits {
-    ghost use Rattle.sensor_recs.specs.HysteresisLaws as laws;
+    ghost use Rattle.sensor_recs.specs.HysteresisKind as hysteresis;
 
     type Key = u8;
 
     type Op = SetHysteresis;
 
-    ghost kind = { laws.kind };
+    ghost kind = { hysteresis.kind };
 
     fn apply(&self, op: &SetHysteresis, _value: &[u8], new: &mut Value) -> Result<(), Code> {
         new.replace(&both_bytes(op));
@@ -85,6 +70,13 @@ impl<'a> RecordKind<'a> for HysteresisLimits {
     }
 
     fn inverse(op: &SetHysteresis, get_data: &'a [u8]) -> Option<SetHysteresis> {
-        undo(op, get_data)
+        let [positive, negative] = get_data else {
+            return None;
+        };
+        Some(SetHysteresis {
+            sensor: op.sensor,
+            positive: *positive,
+            negative: *negative,
+        })
     }
 }

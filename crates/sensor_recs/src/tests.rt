@@ -21,7 +21,7 @@ fn temperature() -> Option<Sensor> {
 }
 
 /// The data of the Set request that undoes the operation from the Get reply.
-fn undo_data<K: RecordKind<'static>>(op: &K::Op, reply: &[u8]) -> Option<RecordData> {
+fn undo_data<'a, K: RecordKind<'a>>(op: &K::Op, reply: &'a [u8]) -> Option<RecordData> {
     let undo = K::inverse(op, reply)?;
     Some(K::set_data(&undo))
 }

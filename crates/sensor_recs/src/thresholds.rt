@@ -1,7 +1,6 @@
 //! The thresholds of a sensor, as a kind of record.
-ghost use Rattle.std.specs.Prelude.{◌≡◌, ◌↔◌, IsTrue, length};
-ghost use Rattle.std.specs.Option.{SomeIff};
-ghost use Rattle.sensor_recs.specs.Thresholds.{choose, thresholds_body, IsShown, undo_thresholds};
+ghost use Rattle.std.specs.Prelude.{◌≡◌, length};
+ghost use Rattle.sensor_recs.specs.Thresholds.{choose, thresholds_body, shows_all};
 
 use crate::request::sensor_request;
 use cfg_records::mask::{has, is_within};
@@ -52,25 +51,10 @@ fn body(op: &SetThresholds) -> RecordData
 }
 
 /// Whether it is a Get reply that shows each threshold of the mask.
-#[tactic(auto, using(cfg_records::specs::MaskLaws::within_true, cfg_records::specs::MaskLaws::true_within))]
-fn shows(mask: u8, reply: &[u8]) -> bool
-    ensures { IsTrue result ↔ ((length reply.now ≡ 7) × IsShown mask reply.now) }
+fn shows_all(mask: u8, reply: &[u8]) -> bool
+    ensures { result ≡ shows_all mask reply.now }
 {
     reply.len() == 7 && is_within(mask, reply[0])
-}
-
-/// The operation that sets the mask's thresholds to what the reply shows.
-fn undo(op: &SetThresholds, reply: &[u8]) -> Option<SetThresholds>
-    ensures { SomeIff result ((length reply.now ≡ 7) × IsShown op.now.mask reply.now) (undo_thresholds op.now reply.now) }
-{
-    if !shows(op.mask, reply) {
-        return None;
-    }
-    Some(SetThresholds {
-        sensor: op.sensor,
-        mask: op.mask,
-        values: choose(op.mask, &reply[1..], &ZEROS),
-    })
 }
 
 impl ThresholdLimits {
@@ -94,13 +78,13 @@ impl ThresholdLimits {
 }
 
 impl<'a> RecordKind<'a> for ThresholdLimits {
-    ghost use Rattle.sensor_recs.specs.ThresholdsLaws as laws;
+    ghost use Rattle.sensor_recs.specs.ThresholdsKind as thresholds;
 
     type Key = u8;
 
     type Op = SetThresholds;
 
-    ghost kind = { laws.kind };
+    ghost kind = { thresholds.kind };
 
     fn apply(&self, op: &SetThresholds, value: &[u8], new: &mut Value) -> Result<(), Code> {
         self.set(op, value, new)
@@ -131,6 +115,13 @@ impl<'a> RecordKind<'a> for ThresholdLimits {
     }
 
     fn inverse(op: &SetThresholds, get_data: &'a [u8]) -> Option<SetThresholds> {
-        undo(op, get_data)
+        if !shows_all(op.mask, get_data) {
+            return None;
+        }
+        Some(SetThresholds {
+            sensor: op.sensor,
+            mask: op.mask,
+            values: choose(op.mask, &get_data[1..], &ZEROS),
+        })
     }
 }

@@ -1,6 +1,6 @@
 -- The power restore policy, as a kind of record (IPMI 2.0, sections 28.2 and 28.8): Get Chassis Status shows it in bits 6:5
 -- of its first byte.
-use Rattle.std.specs.Prelude.{◌≡◌, ◌≢◌, ℕ, ◌+◌, ◌*◌, ◌/◌, ◌%◌, ◌<◌, ◌≤◌, List, [], ◌∷◌, length, slice_index, nat_le, ◌==◌, if◌then◌else◌, Result, Ok, Err, Option, Some, None, refl}
+use Rattle.std.specs.Prelude.{◌≡◌, ◌≢◌, ℕ, ◌+◌, ◌*◌, ◌/◌, ◌%◌, ◌<◌, ◌≤◌, List, [], ◌∷◌, length, slice_index, nat_le, ◌==◌, ◌&&◌, not, Bool, if◌then◌else◌, Result, Ok, Err, Option, Some, None, refl}
 use Rattle.cfg_records.specs.declared.key.Key.{Key}
 use Rattle.cfg_records.specs.declared.key.Key.TheVariants as key
 use Rattle.cfg_records.specs.declared.op.Op.{Op}
@@ -39,6 +39,10 @@ status value live = (slice_index value 0 * 32 + live.chassis % 32) ∷ 0 ∷ 0 �
 abbrev pub shown_policy : List ℕ → ℕ
 shown_policy reply = slice_index reply 0 / 32 % 4
 
+-- the test that it is a status of a known policy
+abbrev pub is_known : List ℕ → Bool
+is_known reply = length reply == 3 && not (shown_policy reply == 3)
+
 -- the operation that sets what the status shows
 abbrev pub undo_policy : List ℕ → SetPowerPolicy
 undo_policy reply = record { policy = shown_policy reply }
@@ -49,16 +53,16 @@ abbrev pub words : KindWords (Unit {0}) SetPowerPolicy
 words = record {
   name = λ alone. key.PowerPolicy;
   key_of = λ op. tt;
-  get_request = λ alone. ipmi_request 0x00 0x01 [];
-  set_body = λ op. op.policy ∷ [];
-  set_request = λ op. ipmi_request 0x00 0x06 (op.policy ∷ []);
+  get_asked = λ alone. ipmi_request 0x00 0x01 [];
+  set_data = λ op. op.policy ∷ [];
+  set_asked = λ op. ipmi_request 0x00 0x06 (op.policy ∷ []);
   -- the Set reply says that the policies 0, 1 and 2 are there, by a bit for each
-  set_view = λ op. 0x07 ∷ [];
-  live_after = λ op live. live;
+  set_reply = λ op. 0x07 ∷ [];
+  next_live = λ op live. live;
   is_reply = λ op reply. length reply ≡ 3;
   -- no request sets the policy 3
   restorable = λ op reply. shown_policy reply ≢ 3;
-  undo = λ op. undo_policy;
+  inverse = λ op reply. if is_known reply then Some (undo_policy reply) else None;
   -- bits 7:3 are ignored
   is_plain = λ op. op.policy < 8;
 }
@@ -72,6 +76,7 @@ record_words = record {
   view = status;
   -- the policy alone is configuration: neither the chassis bits nor the other two bytes are
   conf = λ reply. shown_policy reply ∷ [];
+  shown = λ value. value;
 }
 
 abbrev own_key : (k : Key) → Option ((own : Unit {0}) × (k ≡ words.name own))
@@ -90,5 +95,5 @@ place = record {
   key_is = λ o. refl;
   finds_key = λ own. refl;
   finds_op = λ o. refl;
-  op_there = elim [ op.PowerPolicy o ↦ λ here. tt | _ ↦ λ here. here ];
+  op_there = elim [ op.PowerPolicy o ↦ λ here. refl | _ ↦ λ here. here ];
 }

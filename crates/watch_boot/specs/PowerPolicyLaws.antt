@@ -1,18 +1,18 @@
 -- The laws of the kind PowerPolicy.
-use Rattle.std.proofs.Common.{◌≡◌, ◌≢◌, ℕ, zero, suc, ◌+◌, ◌*◌, ◌/◌, ◌%◌, ◌<◌, ◌≤◌, List, [], ◌∷◌, length, slice_index, nat_le, ◌==◌, Bool, true, false, if◌then◌else◌, Ok, Err, IsTrue, refl, sym, ◌∙◌, ap, arith}
+use Rattle.std.proofs.Common.{◌≡◌, ◌≢◌, ℕ, zero, suc, ◌+◌, ◌*◌, ◌/◌, ◌%◌, ◌<◌, ◌≤◌, List, [], ◌∷◌, length, slice_index, nat_le, ◌==◌, ◌&&◌, not, Bool, true, false, if◌then◌else◌, Ok, Err, IsTrue, refl, sym, ◌∙◌, ap, subst, Some, arith}
 use Rattle.std.proofs.lemmas.Grind.{same_number_lists}
 use Rattle.std.proofs.lemmas.Bool.Decides.{nat_tests}
 use Rattle.cfg_records.specs.declared.key.Key.TheVariants as key
 use Rattle.cfg_records.specs.declared.op.SetPowerPolicy.{SetPowerPolicy}
 use Rattle.cfg_records.specs.declared.live.Live.{Live}
 use Rattle.cfg_records.specs.Keys.{is_length}
+use Rattle.cfg_records.specs.MaskLaws.{both, both_true}
 use Rattle.cfg_records.specs.Meaning.{Decides, IsRefusal}
-use Rattle.cfg_records.specs.Kind.{KindLaws, RecordLaws, Kind}
-use Rattle.cfg_records.specs.Member.{Member}
-use Rattle.watch_boot.specs.declared.power_policy.PowerPolicyLimits.{PowerPolicyLimits}
+use Rattle.cfg_records.specs.InverseLaws.{some_where, made_where, tested_same, same_tested}
+use Rattle.cfg_records.specs.Kind.{KindLaws, RecordLaws}
 use Rattle.cfg_records.specs.Refusals.{refused_field}
 use Rattle.cfg_records.specs.PowerPolicy.{IsPowerPolicy, IsPowerPolicy-prop}
-use Rattle.watch_boot.specs.PowerPolicy.{asked_policy, SetsPolicy, next_policy, status, shown_policy, undo_policy, words, record_words, place}
+use Rattle.watch_boot.specs.PowerPolicy.{asked_policy, SetsPolicy, next_policy, status, shown_policy, is_known, undo_policy, words, record_words}
 
 at_first : (xs : List ℕ) (x : ℕ) → length xs ≡ 1 → slice_index xs 0 ≡ x → (k : ℕ) → k < length xs → slice_index xs k ≡ slice_index (x ∷ []) k
 at_first xs x one is zero lt = is
@@ -88,12 +88,47 @@ undoes_policy old new live v other =
       unchanged = λ three. absurd (omega arith);
     }
 
+not_three : (n : ℕ) → not (n == 3) ≡ true → n ≢ 3
+not_three n h is = grind (arith, nat_tests)
+
+three_not : (n : ℕ) → n ≢ 3 → (b : Bool) → (n == 3) ≡ b → not b ≡ true
+three_not n other true is = absurd (other (tested_same n 3 is))
+three_not n other false is = refl
+
+-- the test holds of the statuses of a known policy
+known_tested : (reply : List ℕ) → is_known reply ≡ true → (length reply ≡ 3) × (shown_policy reply ≢ 3)
+known_tested reply is = let tests = both_true (length reply == 3) _ is in (tested_same _ _ tests.0, not_three _ tests.1)
+
+tested_known : (reply : List ℕ) → (length reply ≡ 3) × (shown_policy reply ≢ 3) → is_known reply ≡ true
+tested_known reply h = both _ _ (same_tested _ _ h.0) (three_not (shown_policy reply) h.1 (shown_policy reply == 3) refl)
+
+-- what undoes an operation, made from a status
+made_policy : (op made : SetPowerPolicy) (reply : List ℕ) → words.inverse op reply ≡ Some made → (is_known reply ≡ true) × (undo_policy reply ≡ made)
+made_policy op made reply is = made_where (is_known reply) (undo_policy reply) made is
+
+undo_is_plain : (reply : List ℕ) → (undo_policy reply).policy < 8
+undo_is_plain reply = omega arith
+
+-- ---- what of a status is configuration
+
+-- the policy that a status shows tells the value
+told_policy : (value other : List ℕ) (live : Live) → IsPowerPolicy value → IsPowerPolicy other → shown_policy (status value live) ∷ [] ≡ shown_policy (status other live) ∷ [] → value ≡ other
+told_policy value other live v w same =
+    let heads : shown_policy (status value live) ≡ shown_policy (status other live) = ap (λ (xs : List ℕ). slice_index xs 0) same in
+    let one : shown_policy (status value live) ≡ slice_index value 0 % 4 = shows (slice_index value 0) live.chassis in
+    let two : shown_policy (status other live) ≡ slice_index other 0 % 4 = shows (slice_index other 0) live.chassis in
+    let low : slice_index value 0 ≤ 3 = v.known in
+    let also : slice_index other 0 ≤ 3 = w.known in
+    let policies : slice_index value 0 ≡ slice_index other 0 = omega arith in
+    one_byte value _ v.one policies ∙ sym (one_byte other _ w.one refl)
+
 -- ---- the kind
 
 pub kind_laws : KindLaws words
 kind_laws = record {
   set_short = λ op. omega arith;
-  plain = λ op reply is can. omega arith;
+  invertible = λ op reply. some_where (is_known reply) (undo_policy reply) _ (known_tested reply) (tested_known reply);
+  plain = λ op made reply is. subst words.is_plain (made_policy op made reply is).1 (undo_is_plain reply);
 }
 
 pub record_laws : RecordLaws words record_words
@@ -108,14 +143,9 @@ record_laws = record {
   replies = λ op value live here is_valid. refl;
   steady = λ value live other. ap (λ (n : ℕ). n ∷ []) (shows (slice_index value 0) live.chassis ∙ sym (shows (slice_index value 0) other.chassis));
   get_short = λ alone value live here is_valid. omega arith;
-  same_record = λ op value live here is_valid. refl;
-  undoes = λ op old new live is_valid done can. undoes_policy old new live is_valid can;
+  tells = told_policy;
+  same_record = λ op made value live here is_valid is. refl;
+  undoes = λ op made old new live is_valid done is.
+      let is_made = made_policy op made (status old live) is in
+      subst (λ (o : SetPowerPolicy). SetsPolicy o new old) is_made.1 (undoes_policy old new live is_valid (known_tested (status old live) is_made.0).1);
 }
-
--- what it says, and that it holds
-abbrev pub kind : Kind (Unit {0}) SetPowerPolicy PowerPolicyLimits
-kind = record { words = words; record_words = λ limits. record_words; kind_laws = kind_laws; record_laws = λ limits. record_laws }
-
--- the kind, and where it stands among all
-abbrev pub member : Member (Unit {0}) SetPowerPolicy PowerPolicyLimits
-member = record { kind = kind; place = place }

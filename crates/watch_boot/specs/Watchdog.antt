@@ -1,5 +1,5 @@
 -- The watchdog timer, as a kind of record (IPMI 2.0, sections 27.5 to 27.7).
-use Rattle.std.specs.Prelude.{◌≡◌, ℕ, ◌+◌, ◌-◌, ◌*◌, ◌/◌, ◌%◌, ◌<◌, ◌≤◌, List, [], ◌∷◌, length, slice_index, bit_and, nat_le, ◌&&◌, Bool, true, IsFalse, if◌then◌else◌, Result, Ok, Err, Option, Some, None, refl}
+use Rattle.std.specs.Prelude.{◌≡◌, ℕ, ◌+◌, ◌-◌, ◌*◌, ◌/◌, ◌%◌, ◌^◌, ◌<◌, ◌≤◌, List, [], ◌∷◌, length, slice_index, bit_and, nat_le, ◌&&◌, ◌==◌, not, Bool, true, IsFalse, if◌then◌else◌, Result, Ok, Err, Option, Some, None, refl}
 use Rattle.std.specs.Int.{w16, to_le_bytes, from_le_bytes}
 use Rattle.cfg_records.specs.declared.key.Key.{Key}
 use Rattle.cfg_records.specs.declared.key.Key.TheVariants as key
@@ -64,6 +64,10 @@ watchdog_outcome op = if is_accepted op then Ok (settings_of op) else Err 0xCC
 abbrev pub without : ℕ → ℕ → ℕ
 without flags named = bit_and flags (255 - named)
 
+-- a flag is there after a Set where it was there and isn't named
+abbrev pub ClearsNamed : Type 0
+ClearsNamed = (flags named place : ℕ) → named < 2 ^ 8 → place < 8 → has (without flags named) place ≡ (has flags place && not (has named place))
+
 -- the countdown begins anew, the timer goes on only where bit 6 is set, and the named flags are cleared
 abbrev pub live_after_set : SetWatchdog → Live → Live
 live_after_set op live = record {
@@ -100,6 +104,10 @@ pub record IsStopped (reply : List ℕ) : Type 0 where
   pub a_use : 1 ≤ use_in (slice_index reply 0)
   pub known_use : use_in (slice_index reply 0) ≤ 5
 
+-- the test that it is one
+abbrev pub is_stopped : List ℕ → Bool
+is_stopped reply = length reply == 8 && not (has (slice_index reply 0) 6) && nat_le 1 (use_in (slice_index reply 0)) && nat_le (use_in (slice_index reply 0)) 5
+
 -- the operation that sets what the reply shows: don't stop is 0, and no flag is cleared
 abbrev pub undo_watchdog : List ℕ → SetWatchdog
 undo_watchdog reply = record {
@@ -135,15 +143,15 @@ abbrev pub words : KindWords (Unit {0}) SetWatchdog
 words = record {
   name = λ alone. key.Watchdog;
   key_of = λ op. tt;
-  get_request = λ alone. ipmi_request 0x06 0x25 [];
-  set_body = watchdog_body;
-  set_request = λ op. ipmi_request 0x06 0x24 (watchdog_body op);
+  get_asked = λ alone. ipmi_request 0x06 0x25 [];
+  set_data = watchdog_body;
+  set_asked = λ op. ipmi_request 0x06 0x24 (watchdog_body op);
   -- the Set reply has no data
-  set_view = λ op. [];
-  live_after = live_after_set;
+  set_reply = λ op. [];
+  next_live = live_after_set;
   is_reply = λ op reply. length reply ≡ 8;
   restorable = λ op. IsStopped;
-  undo = λ op. undo_watchdog;
+  inverse = λ op reply. if is_stopped reply then Some (undo_watchdog reply) else None;
   -- bits 5:3 of the timer use, and bits 7 and 3 of the actions are ignored
   is_plain = λ op. (op.timer_use % 64 < 8) × (op.actions < 128) × (op.actions % 16 < 8);
 }
@@ -157,6 +165,7 @@ record_words = record {
   outcome = λ op old. watchdog_outcome op;
   view = watchdog_view;
   conf = configuration;
+  shown = λ value. value;
 }
 
 abbrev own_key : (k : Key) → Option ((own : Unit {0}) × (k ≡ words.name own))
@@ -175,5 +184,5 @@ place = record {
   key_is = λ o. refl;
   finds_key = λ own. refl;
   finds_op = λ o. refl;
-  op_there = elim [ op.Watchdog o ↦ λ here. tt | _ ↦ λ here. here ];
+  op_there = elim [ op.Watchdog o ↦ λ here. refl | _ ↦ λ here. here ];
 }

@@ -1,5 +1,5 @@
 -- The laws of the kind Watchdog.
-use Rattle.std.proofs.Common.{◌≡◌, ℕ, zero, suc, ◌-◌, ◌^◌, ◌==◌, min, not, ◌/◌, ◌%◌, ◌<◌, ◌≤◌, List, [], ◌∷◌, length, slice_index, get_or, nat_le, ◌&&◌, Bool, true, false, if◌then◌else◌, Ok, Err, IsTrue, refl, sym, ◌∙◌, ap, arith}
+use Rattle.std.proofs.Common.{◌≡◌, ℕ, zero, suc, ◌-◌, ◌^◌, ◌==◌, min, not, ◌/◌, ◌%◌, ◌<◌, ◌≤◌, List, [], ◌∷◌, length, slice_index, get_or, nat_le, ◌&&◌, Bool, true, false, if◌then◌else◌, Ok, Err, IsTrue, IsFalse, refl, sym, ◌∙◌, ap, subst, Some, arith}
 use Rattle.std.proofs.lemmas.Grind.{same_number_lists, common_steps}
 use Rattle.std.proofs.lemmas.Bool.Decides.{nat_tests}
 use Rattle.std.proofs.lemmas.Nat.{le_bytes_2}
@@ -12,12 +12,11 @@ use Rattle.cfg_records.specs.declared.live.Live.{Live}
 use Rattle.cfg_records.specs.Keys.{is_length}
 use Rattle.cfg_records.specs.MaskLaws.{both}
 use Rattle.cfg_records.specs.Meaning.{Decides, IsRefusal}
-use Rattle.cfg_records.specs.Kind.{KindLaws, RecordLaws, Kind}
-use Rattle.cfg_records.specs.Member.{Member}
-use Rattle.watch_boot.specs.declared.watchdog.WatchdogLimits.{WatchdogLimits}
+use Rattle.cfg_records.specs.InverseLaws.{some_where, made_where, tested_same, same_tested}
+use Rattle.cfg_records.specs.Kind.{KindLaws, RecordLaws}
 use Rattle.cfg_records.specs.Refusals.{refused_field}
 use Rattle.cfg_records.specs.Watchdog.{IsWatchdog, IsWatchdog-prop, watchdog_value}
-use Rattle.watch_boot.specs.Watchdog.{use_in, kept_use, without_bit_6, interrupt_in, action_in, kept_actions, SetsWatchdog, settings_of, is_accepted, shown_use, watchdog_view, without, IsStopped, undo_watchdog, words, record_words, place}
+use Rattle.watch_boot.specs.Watchdog.{use_in, kept_use, without_bit_6, interrupt_in, action_in, kept_actions, SetsWatchdog, settings_of, is_accepted, shown_use, watchdog_view, without, ClearsNamed, configuration, IsStopped, is_stopped, undo_watchdog, words, record_words}
 
 -- ---- what a Set makes
 
@@ -115,17 +114,55 @@ undoes_watchdog old live v stopped = record {
   settings = five_members old v.five ∙ sym (value_of_same _ _ _ _ _ _ _ _ _ (kept_whole (slice_index old 0) live.running v.known_use) (kept_both (slice_index old 1) v.known_interrupt v.known_action) refl (same_bytes (slice_index old 3) (slice_index old 4) v.low_byte v.high_byte));
 }
 
+false_of : (b : Bool) → not b ≡ true → IsFalse b
+false_of true h = cc
+false_of false h = refl
+
+not_of : (b : Bool) → IsFalse b → not b ≡ true
+not_of true h = cc
+not_of false h = refl
+
+-- the test holds of the replies of a timer that is stopped and was set
+stopped_tested : (reply : List ℕ) → is_stopped reply ≡ true → (length reply ≡ 8) × IsStopped reply
+stopped_tested reply is =
+    let tests = all_true (length reply == 8) (not (has (slice_index reply 0) 6)) (nat_le 1 (use_in (slice_index reply 0))) (nat_le (use_in (slice_index reply 0)) 5) is in (
+      tested_same _ _ tests.first,
+      record { not_running = false_of _ tests.second; a_use = le_from _ _ tests.third; known_use = le_from _ _ tests.fourth },
+    )
+
+tested_stopped : (reply : List ℕ) → (length reply ≡ 8) × IsStopped reply → is_stopped reply ≡ true
+tested_stopped reply h = both _ _ (both _ _ (both _ _ (same_tested _ _ h.0) (not_of _ h.1.not_running)) (to_le _ _ h.1.a_use)) (to_le _ _ h.1.known_use)
+
+-- what undoes an operation, made from a reply
+made_watchdog : (op made : SetWatchdog) (reply : List ℕ) → words.inverse op reply ≡ Some made → (is_stopped reply ≡ true) × (undo_watchdog reply ≡ made)
+made_watchdog op made reply is = made_where (is_stopped reply) (undo_watchdog reply) made is
+
+undo_is_plain : (op : SetWatchdog) (reply : List ℕ) → words.is_plain (undo_watchdog reply)
+undo_is_plain op reply = (omega arith, omega arith, omega arith)
+
 -- ---- what isn't configuration
 
 steady_use : (byte : ℕ) (running : Bool) → without_bit_6 (shown_use byte running) ≡ without_bit_6 byte
 steady_use byte true = omega arith
 steady_use byte false = omega arith
 
--- ---- the flags
+-- a timer use byte of valid settings has 0 in bit 6
+no_bit_6 : (byte : ℕ) → byte % 128 ≤ 5 → without_bit_6 byte ≡ byte
+no_bit_6 byte known = omega arith
 
--- a flag is there after a Set where it was there and isn't named
-abbrev pub ClearsNamed : Type 0
-ClearsNamed = (flags named place : ℕ) → named < 2 ^ 8 → place < 8 → has (without flags named) place ≡ (has flags place && not (has named place))
+-- five bytes, one for each place of the settings
+five_bytes : (a b c d e v w x y z : ℕ) → a ≡ v → b ≡ w → c ≡ x → d ≡ y → e ≡ z → a ∷ b ∷ c ∷ d ∷ e ∷ [] ≡ v ∷ w ∷ x ∷ y ∷ z ∷ []
+five_bytes a b c d e v w x y z p q r s t = cc
+
+-- the configuration of a reply tells the settings
+told_settings : (value other : List ℕ) (live : Live) → IsWatchdog value → IsWatchdog other → configuration (watchdog_view value live) ≡ configuration (watchdog_view other live) → value ≡ other
+told_settings value other live v w same =
+    let at : (k : ℕ) → slice_index (configuration (watchdog_view value live)) k ≡ slice_index (configuration (watchdog_view other live)) k = λ k. ap (λ (xs : List ℕ). slice_index xs k) same in
+    let use_is : slice_index value 0 ≡ slice_index other 0 =
+    sym (steady_use (slice_index value 0) live.running ∙ no_bit_6 (slice_index value 0) v.known_use) ∙ at 0 ∙ steady_use (slice_index other 0) live.running ∙ no_bit_6 (slice_index other 0) w.known_use in
+    five_members value v.five ∙ five_bytes _ _ _ _ _ _ _ _ _ _ use_is (at 1) (at 2) (at 3) (at 4) ∙ sym (five_members other w.five)
+
+-- ---- the flags
 
 one_of_two : (a b : ℕ) → a < 2 → b < 2 → (min a (1 - b) == 1) ≡ ((a == 1) && not (b == 1))
 one_of_two zero zero small also = refl
@@ -146,7 +183,8 @@ clears_named flags named place fits within =
 pub kind_laws : KindLaws words
 kind_laws = record {
   set_short = λ op. omega arith;
-  plain = λ op reply is can. (omega arith, omega arith, omega arith);
+  invertible = λ op reply. some_where (is_stopped reply) (undo_watchdog reply) _ (stopped_tested reply) (tested_stopped reply);
+  plain = λ op made reply is. subst words.is_plain (made_watchdog op made reply is).1 (undo_is_plain op reply);
 }
 
 pub record_laws : RecordLaws words record_words
@@ -163,14 +201,9 @@ record_laws = record {
       ap (λ (n : ℕ). n ∷ slice_index value 1 ∷ slice_index value 2 ∷ slice_index value 3 ∷ slice_index value 4 ∷ [])
       (steady_use (slice_index value 0) live.running ∙ sym (steady_use (slice_index value 0) other.running));
   get_short = λ alone value live here is_valid. omega arith;
-  same_record = λ op value live here is_valid. refl;
-  undoes = λ op old new live is_valid done can. undoes_watchdog old live is_valid can;
+  tells = told_settings;
+  same_record = λ op made value live here is_valid is. refl;
+  undoes = λ op made old new live is_valid done is.
+      let is_made = made_watchdog op made (watchdog_view old live) is in
+      subst (λ (o : SetWatchdog). SetsWatchdog o old) is_made.1 (undoes_watchdog old live is_valid (stopped_tested (watchdog_view old live) is_made.0).1);
 }
-
--- what it says, and that it holds
-abbrev pub kind : Kind (Unit {0}) SetWatchdog WatchdogLimits
-kind = record { words = words; record_words = λ limits. record_words; kind_laws = kind_laws; record_laws = λ limits. record_laws }
-
--- the kind, and where it stands among all
-abbrev pub member : Member (Unit {0}) SetWatchdog WatchdogLimits
-member = record { kind = kind; place = place }

@@ -1,8 +1,7 @@
 //! The power restore policy, as a kind of record.
-ghost use Rattle.std.specs.Prelude.{◌≡◌, ◌≢◌, OnErr, length};
-ghost use Rattle.std.specs.Option.{SomeIff};
+ghost use Rattle.std.specs.Prelude.{◌≡◌, OnErr, length};
 ghost use Rattle.cfg_records.specs.Meaning.{told};
-ghost use Rattle.watch_boot.specs.PowerPolicy.{policy_outcome, shown_policy, undo_policy};
+ghost use Rattle.watch_boot.specs.PowerPolicy.{policy_outcome};
 
 use cfg_records::{Asked, Live, RecordData, RecordKind, SetPowerPolicy, Value};
 use two_wire::code::INVALID_DATA_FIELD;
@@ -42,28 +41,14 @@ fn set(op: &SetPowerPolicy, old: &[u8], new: &mut Value) -> Result<(), Code>
     Ok(())
 }
 
-/// The operation that sets the policy that the chassis status shows.
-fn undo(reply: &[u8]) -> Option<SetPowerPolicy>
-    ensures { SomeIff result ((length reply.now ≡ 3) × (shown_policy reply.now ≢ 3)) (undo_policy reply.now) }
-{
-    let [status, _, _] = reply else {
-        return None;
-    };
-    let policy = (status >> 5) & 0x03;
-    if policy == UNKNOWN {
-        return None;
-    }
-    Some(SetPowerPolicy { policy })
-}
-
 impl<'a> RecordKind<'a> for PowerPolicyLimits {
-    ghost use Rattle.watch_boot.specs.PowerPolicyLaws as laws;
+    ghost use Rattle.watch_boot.specs.PowerPolicyKind as power_policy;
 
     type Key = ();
 
     type Op = SetPowerPolicy;
 
-    ghost kind = { laws.kind };
+    ghost kind = { power_policy.kind };
 
     fn apply(&self, op: &SetPowerPolicy, value: &[u8], new: &mut Value) -> Result<(), Code> {
         set(op, value, new)
@@ -93,7 +78,14 @@ impl<'a> RecordKind<'a> for PowerPolicyLimits {
         Asked::ipmi(NetFn::new(CHASSIS), SET_POWER_RESTORE_POLICY, &[op.policy])
     }
 
-    fn inverse(_op: &SetPowerPolicy, get_data: &[u8]) -> Option<SetPowerPolicy> {
-        undo(get_data)
+    fn inverse(_op: &SetPowerPolicy, get_data: &'a [u8]) -> Option<SetPowerPolicy> {
+        let [status, _, _] = get_data else {
+            return None;
+        };
+        let policy = (status >> 5) & 0x03;
+        if policy == UNKNOWN {
+            return None;
+        }
+        Some(SetPowerPolicy { policy })
     }
 }

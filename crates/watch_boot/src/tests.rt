@@ -30,16 +30,8 @@ fn running() -> Live {
     }
 }
 
-/// Whether the operation and its inverse bring the value back.
-fn comes_back<K: RecordKind<'static>>(limits: &K, op: &K::Op, value: &[u8], live: &Live) -> bool
-    requires of_record { (K.kind.record_words limits.now).is_of (K.kind.words.key_of op.now) }
-    requires is_valid { (K.kind.record_words limits.now).valid value.now }
-{
-    there_and_back(limits, op, value, live).is_some_and(|back| back.is(value))
-}
-
 /// The value that the operation makes, where it isn't refused.
-fn applied<K: RecordKind<'static>>(limits: &K, op: &K::Op, value: &[u8]) -> Option<Value>
+fn applied<'a, K: RecordKind<'a>>(limits: &K, op: &K::Op, value: &[u8]) -> Option<Value>
     requires of_record { (K.kind.record_words limits.now).is_of (K.kind.words.key_of op.now) }
     requires is_valid { (K.kind.record_words limits.now).valid value.now }
 {
@@ -49,7 +41,7 @@ fn applied<K: RecordKind<'static>>(limits: &K, op: &K::Op, value: &[u8]) -> Opti
 }
 
 /// The data of the Set request that undoes the operation from the Get reply.
-fn undo_data<K: RecordKind<'static>>(op: &K::Op, reply: &[u8]) -> Option<RecordData> {
+fn undo_data<'a, K: RecordKind<'a>>(op: &K::Op, reply: &'a [u8]) -> Option<RecordData> {
     let undo = K::inverse(op, reply)?;
     Some(K::set_data(&undo))
 }
@@ -151,10 +143,23 @@ fn a_reset_starts_a_timer_that_was_set(rt: HostRuntime) -> Result<(), Fail> {
 
 #[test]
 fn settings_come_back_where_they_can(rt: HostRuntime) {
-    let live = Live::opening();
-    assert!(rt; comes_back(&WatchdogLimits, &LATER, &SETTINGS, &live));
-    assert!(rt; !comes_back(&WatchdogLimits, &LATER, &SETTINGS, &running()));
+    let mut stopped = RecordData::new();
+    WatchdogLimits.get_data(&SETTINGS, &Live::opening(), &mut stopped);
+    let back = there_and_back(&WatchdogLimits, &LATER, &SETTINGS, stopped.as_slice());
+    assert!(rt; back.is_some_and(|back| back.is(&SETTINGS)));
+    let mut runs = RecordData::new();
+    WatchdogLimits.get_data(&SETTINGS, &running(), &mut runs);
+    assert!(rt; there_and_back(&WatchdogLimits, &LATER, &SETTINGS, runs.as_slice()).is_none());
+}
+
+#[test]
+fn a_policy_comes_back_where_it_is_known(rt: HostRuntime) {
     let op = SetPowerPolicy { policy: 0 };
-    assert!(rt; comes_back(&PowerPolicyLimits, &op, &[2], &live));
-    assert!(rt; !comes_back(&PowerPolicyLimits, &op, &[3], &live));
+    let mut known = RecordData::new();
+    PowerPolicyLimits.get_data(&[2], &Live::opening(), &mut known);
+    let back = there_and_back(&PowerPolicyLimits, &op, &[2], known.as_slice());
+    assert!(rt; back.is_some_and(|back| back.is(&[2])));
+    let mut unknown = RecordData::new();
+    PowerPolicyLimits.get_data(&[3], &Live::opening(), &mut unknown);
+    assert!(rt; there_and_back(&PowerPolicyLimits, &op, &[3], unknown.as_slice()).is_none());
 }

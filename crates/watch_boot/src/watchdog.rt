@@ -3,7 +3,7 @@ ghost use Rattle.std.specs.Prelude.{◌≡◌, ◌+◌, ◌%◌, ◌≤◌, ◌+
 ghost use Rattle.std.specs.Option.{SomeIff};
 ghost use Rattle.cfg_records.specs.Meaning.{told};
 ghost use Rattle.cfg_records.specs.Watchdog.{IsWatchdog};
-ghost use Rattle.watch_boot.specs.Watchdog.{kept_use, kept_actions, is_accepted, watchdog_outcome, live_after_set, watchdog_body, shown_use, watchdog_view, IsStopped, undo_watchdog, WasSet, live_after_reset};
+ghost use Rattle.watch_boot.specs.Watchdog.{kept_use, kept_actions, is_accepted, watchdog_outcome, live_after_set, watchdog_body, shown_use, watchdog_view, WasSet, live_after_reset};
 
 use cfg_records::mask::has;
 use cfg_records::{Asked, Live, RecordData, RecordKind, SetWatchdog, Value};
@@ -124,26 +124,6 @@ fn show<B: Buffer>(value: &[u8], live: &Live, reply: &mut B)
     ]);
 }
 
-/// The operation that sets what the reply shows.
-fn undo(reply: &[u8]) -> Option<SetWatchdog>
-    ensures { SomeIff result ((length reply.now ≡ 8) × IsStopped reply.now) (undo_watchdog reply.now) }
-{
-    let [timer_use, actions, pre_timeout, _, low, high, _, _] = reply else {
-        return None;
-    };
-    let used = timer_use & 0x07;
-    if has(*timer_use, RUNNING_PLACE) || used == 0 || used > 5 {
-        return None;
-    }
-    Some(SetWatchdog {
-        timer_use: kept_use(*timer_use),
-        actions: kept_actions(*actions),
-        pre_timeout: *pre_timeout,
-        flags_to_clear: 0,
-        initial: u16::from_le_bytes([*low, *high]),
-    })
-}
-
 /// What isn't configuration, after Reset Watchdog Timer: its countdown begins anew and it runs. None where it was never set.
 pub fn reset(value: &[u8], live: &Live) -> Option<Live>
     requires { IsWatchdog value.now }
@@ -161,13 +141,13 @@ pub fn reset(value: &[u8], live: &Live) -> Option<Live>
 }
 
 impl<'a> RecordKind<'a> for WatchdogLimits {
-    ghost use Rattle.watch_boot.specs.WatchdogLaws as laws;
+    ghost use Rattle.watch_boot.specs.WatchdogKind as watchdog;
 
     type Key = ();
 
     type Op = SetWatchdog;
 
-    ghost kind = { laws.kind };
+    ghost kind = { watchdog.kind };
 
     fn apply(&self, op: &SetWatchdog, _value: &[u8], new: &mut Value) -> Result<(), Code> {
         set(op, new)
@@ -196,7 +176,20 @@ impl<'a> RecordKind<'a> for WatchdogLimits {
         Asked::ipmi(NetFn::new(APPLICATION), SET_WATCHDOG_TIMER, body.as_slice())
     }
 
-    fn inverse(_op: &SetWatchdog, get_data: &[u8]) -> Option<SetWatchdog> {
-        undo(get_data)
+    fn inverse(_op: &SetWatchdog, get_data: &'a [u8]) -> Option<SetWatchdog> {
+        let [timer_use, actions, pre_timeout, _, low, high, _, _] = get_data else {
+            return None;
+        };
+        let used = timer_use & 0x07;
+        if has(*timer_use, RUNNING_PLACE) || used == 0 || used > 5 {
+            return None;
+        }
+        Some(SetWatchdog {
+            timer_use: kept_use(*timer_use),
+            actions: kept_actions(*actions),
+            pre_timeout: *pre_timeout,
+            flags_to_clear: 0,
+            initial: u16::from_le_bytes([*low, *high]),
+        })
     }
 }

@@ -7,7 +7,7 @@ use Rattle.cfg_records.specs.declared.board_file.BoardFile.{BoardFile}
 use Rattle.bmc_board.specs.declared.activity.Activity.{Activity}
 use Rattle.bmc_board.specs.declared.live.LiveCommand.{LiveCommand}
 use Rattle.bmc_board.specs.State.{state, IsUnchanged}
-use Rattle.bmc_board.specs.AnswerLaws.{IsCode}
+use Rattle.bmc_board.specs.AnyAnswer.{IsCode}
 use Rattle.bmc_board.specs.Live.{live_answer, longest_live_reply}
 
 -- its code isn't a busy controller's, its data is short, and a refusal leaves what was there

@@ -1,0 +1,29 @@
+-- An inverse that is there where a test holds.
+use Rattle.std.specs.Prelude.{◌≡◌, ◌↔◌, ℕ, ◌==◌, Bool, true, false, Option, Some, None, SomeIff, if◌then◌else◌}
+use Rattle.std.proofs.Common.{refl, ap, arith}
+use Rattle.std.proofs.lemmas.Bool.Decides.{nat_tests}
+use Rattle.std.specs.Option.{IsSome}
+
+-- it is there exactly where the test says that it is
+pub some_where : {O : Type 0} (b : Bool) (x : O) (P : Type 0) → (b ≡ true → P) → (P → b ≡ true) → IsSome (if b then Some x else None) ↔ P
+some_where true x P holds test = (λ is. holds refl, λ p. refl)
+some_where false x P holds test = (λ is. cc, λ p. test p)
+
+-- it is this one, and the test holds
+pub made_where : {O : Type 0} (b : Bool) (x made : O) → (if b then Some x else None) ≡ Some made → (b ≡ true) × (x ≡ made)
+made_where true x made is = (refl, cc)
+made_where false x made is = cc
+
+-- what is there exactly where the test says so is it
+pub inverse_is : {O : Type 0} (found : Option O) (b : Bool) (x : O) (P : Type 0) → (b ≡ true → P) → (P → b ≡ true) → SomeIff found P x → found ≡ (if b then Some x else None)
+inverse_is (Some y) true x P holds test found = ap Some found.1
+inverse_is (Some y) false x P holds test found = let b : false ≡ true = test found.0 in cc
+inverse_is None true x P holds test found = absurd (found (holds refl))
+inverse_is None false x P holds test found = refl
+
+-- two numbers that are tested to be one are
+pub tested_same : (a b : ℕ) → (a == b) ≡ true → a ≡ b
+tested_same a b h = grind (arith, nat_tests)
+
+pub same_tested : (a b : ℕ) → a ≡ b → (a == b) ≡ true
+same_tested a b h = grind (arith, nat_tests)

@@ -1,0 +1,11 @@
+-- The kind of which every record is, as one value.
+use Rattle.cfg_records.specs.declared.key.Key.{Key}
+use Rattle.cfg_records.specs.declared.op.Op.{Op}
+use Rattle.cfg_records.specs.Kind.{Kind}
+use Rattle.record_kinds.specs.declared.limits.Limits.{Limits}
+use Rattle.record_kinds.specs.Limits.{words, record_words}
+use Rattle.record_kinds.specs.LimitsLaws.{kind_laws, record_laws}
+
+-- what it says, and that it holds
+abbrev pub kind : Kind Key Op Limits
+kind = record { words = words; record_words = record_words; kind_laws = kind_laws; record_laws = record_laws }

@@ -1,0 +1,16 @@
+-- Thresholds as one value, and where it stands among all kinds.
+use Rattle.std.specs.Prelude.{ℕ}
+use Rattle.cfg_records.specs.declared.op.SetThresholds.{SetThresholds}
+use Rattle.cfg_records.specs.Kind.{Kind}
+use Rattle.cfg_records.specs.Member.{Member}
+use Rattle.sensor_recs.specs.declared.thresholds.ThresholdLimits.{ThresholdLimits}
+use Rattle.sensor_recs.specs.Thresholds.{words, record_words, place}
+use Rattle.sensor_recs.specs.ThresholdsLaws.{kind_laws, record_laws}
+
+-- what it says, and that it holds
+abbrev pub kind : Kind ℕ SetThresholds ThresholdLimits
+kind = record { words = words; record_words = λ limits. record_words limits.masks; kind_laws = kind_laws; record_laws = λ limits. record_laws limits.masks }
+
+-- the kind, and where it stands among all
+abbrev pub member : Member ℕ SetThresholds ThresholdLimits
+member = record { kind = kind; place = place }

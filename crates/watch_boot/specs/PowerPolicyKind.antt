@@ -1,0 +1,15 @@
+-- PowerPolicy as one value, and where it stands among all kinds.
+use Rattle.cfg_records.specs.declared.op.SetPowerPolicy.{SetPowerPolicy}
+use Rattle.cfg_records.specs.Kind.{Kind}
+use Rattle.cfg_records.specs.Member.{Member}
+use Rattle.watch_boot.specs.declared.power_policy.PowerPolicyLimits.{PowerPolicyLimits}
+use Rattle.watch_boot.specs.PowerPolicy.{words, record_words, place}
+use Rattle.watch_boot.specs.PowerPolicyLaws.{kind_laws, record_laws}
+
+-- what it says, and that it holds
+abbrev pub kind : Kind (Unit {0}) SetPowerPolicy PowerPolicyLimits
+kind = record { words = words; record_words = λ limits. record_words; kind_laws = kind_laws; record_laws = λ limits. record_laws }
+
+-- the kind, and where it stands among all
+abbrev pub member : Member (Unit {0}) SetPowerPolicy PowerPolicyLimits
+member = record { kind = kind; place = place }

@@ -1,0 +1,15 @@
+-- Watchdog as one value, and where it stands among all kinds.
+use Rattle.cfg_records.specs.declared.op.SetWatchdog.{SetWatchdog}
+use Rattle.cfg_records.specs.Kind.{Kind}
+use Rattle.cfg_records.specs.Member.{Member}
+use Rattle.watch_boot.specs.declared.watchdog.WatchdogLimits.{WatchdogLimits}
+use Rattle.watch_boot.specs.Watchdog.{words, record_words, place}
+use Rattle.watch_boot.specs.WatchdogLaws.{kind_laws, record_laws}
+
+-- what it says, and that it holds
+abbrev pub kind : Kind (Unit {0}) SetWatchdog WatchdogLimits
+kind = record { words = words; record_words = λ limits. record_words; kind_laws = kind_laws; record_laws = λ limits. record_laws }
+
+-- the kind, and where it stands among all
+abbrev pub member : Member (Unit {0}) SetWatchdog WatchdogLimits
+member = record { kind = kind; place = place }
