@@ -9,7 +9,7 @@ use Rattle.cfg_records.specs.declared.message.Answered.{Answered}
 use Rattle.cfg_records.specs.declared.board_file.BoardFile.{BoardFile}
 use Rattle.watch_boot.specs.Watchdog.{was_set, live_after_reset}
 use Rattle.bmc_board.specs.declared.activity.Activity.{Activity}
-use Rattle.bmc_board.specs.declared.live.LiveCommand.TheVariants.{GetDeviceId, ResetWatchdog, GetTid, GetPldmTypes}
+use Rattle.bmc_board.specs.declared.live.LiveCommand.TheVariants as live
 use Rattle.bmc_board.specs.Replies.{done, refused, unknown_code}
 use Rattle.bmc_board.specs.AnyAnswer.{IsCode, UnknownIsRefused}
 use Rattle.bmc_board.specs.Live.{reset_answer, longest_live_reply}
@@ -55,7 +55,7 @@ resets records (Some value) unknown before is = reset_where records value before
 resets records None unknown before is = is_refused records before unknown is
 
 pub are_live : AreLive
-are_live setup records before GetDeviceId = is_done records before before _ (lit≤ tt)
-are_live setup records before ResetWatchdog = resets records (records key.Watchdog) _ before (refusal_code _ (unknown_is_refused setup key.Watchdog))
-are_live setup records before GetTid = is_done records before before _ (lit≤ tt)
-are_live setup records before GetPldmTypes = is_done records before before _ (lit≤ tt)
+are_live setup records before live.GetDeviceId = is_done records before before _ (lit≤ tt)
+are_live setup records before live.ResetWatchdog = resets records (records key.Watchdog) _ before (refusal_code _ (unknown_is_refused setup key.Watchdog))
+are_live setup records before live.GetTid = is_done records before before _ (lit≤ tt)
+are_live setup records before live.GetPldmTypes = is_done records before before _ (lit≤ tt)

@@ -9,7 +9,7 @@ use Rattle.cfg_records.specs.declared.board_file.BoardFile.{BoardFile}
 use Rattle.watch_boot.specs.Watchdog.{was_set, live_after_reset}
 use Rattle.bmc_board.specs.declared.activity.Activity.{Activity}
 use Rattle.bmc_board.specs.declared.live.LiveCommand.{LiveCommand}
-use Rattle.bmc_board.specs.declared.live.LiveCommand.TheVariants.{GetDeviceId, ResetWatchdog, GetTid, GetPldmTypes}
+use Rattle.bmc_board.specs.declared.live.LiveCommand.TheVariants as live
 use Rattle.bmc_board.specs.Replies.{done, refused, unknown_code}
 
 -- what Get Device ID replies: three bytes of the device, its revisions, IPMI 2.0, what it supports, and whose it is, the lowest
@@ -31,10 +31,10 @@ reset_answer None unknown before = (refused unknown, before)
 
 -- the reply to each live command, and what it leaves of what isn't configuration
 abbrev pub live_answer : BoardFile → Records → Activity → LiveCommand → Answered × Activity
-live_answer setup records before GetDeviceId = (done (device_data setup.device), before)
-live_answer setup records before ResetWatchdog = reset_answer (records key.Watchdog) (unknown_code setup key.Watchdog) before
-live_answer setup records before GetTid = (done (setup.tid ∷ []), before)
-live_answer setup records before GetPldmTypes = (done pldm_types, before)
+live_answer setup records before live.GetDeviceId = (done (device_data setup.device), before)
+live_answer setup records before live.ResetWatchdog = reset_answer (records key.Watchdog) (unknown_code setup key.Watchdog) before
+live_answer setup records before live.GetTid = (done (setup.tid ∷ []), before)
+live_answer setup records before live.GetPldmTypes = (done pldm_types, before)
 
 -- the reply to a live command has at most so many bytes of data, which fit any frame
 abbrev pub longest_live_reply : ℕ

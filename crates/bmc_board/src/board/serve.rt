@@ -137,7 +137,7 @@ impl<S: Store> Board<S> {
             (Some(limits), Some(value)) => {
                 limits.apply(op, value, &mut self.made)?;
                 let _ = self.store.put(&key, self.made.as_slice());
-                self.activity.live = Limits::next_live(op, &self.activity.live);
+                Limits::next_live(op, &mut self.activity.live);
                 Limits::set_reply(op, to);
                 Ok(())
             }
