@@ -56,6 +56,7 @@ resets records None unknown before is = is_refused records before unknown is
 
 pub are_live : AreLive
 are_live setup records before live.GetDeviceId = is_done records before before _ (lit≤ tt)
+are_live setup records before live.GetSelfTestResults = is_done records before before _ (lit≤ tt)
 are_live setup records before live.ResetWatchdog = resets records (records key.Watchdog) _ before (refusal_code _ (unknown_is_refused setup key.Watchdog))
 are_live setup records before live.GetTid = is_done records before before _ (lit≤ tt)
 are_live setup records before live.GetPldmTypes = is_done records before before _ (lit≤ tt)

@@ -19,6 +19,10 @@ device_data d =
     d.id ∷ d.revision ∷ d.major ∷ d.minor ∷ 0x02 ∷ d.support
     ∷ d.manufacturer % 256 ∷ d.manufacturer / 256 % 256 ∷ d.manufacturer / 65536 ∷ d.product % 256 ∷ d.product / 256 ∷ []
 
+-- what Get Self Test Results replies: no error was found
+abbrev pub no_error : List ℕ
+no_error = 0x55 ∷ 0x00 ∷ []
+
 -- what GetPLDMTypes replies: eight bytes, the lowest first, with a bit for each type, 0, 2 and 3
 abbrev pub pldm_types : List ℕ
 pldm_types = 0x0D ∷ 0 ∷ 0 ∷ 0 ∷ 0 ∷ 0 ∷ 0 ∷ 0 ∷ []
@@ -32,6 +36,7 @@ reset_answer None unknown before = (refused unknown, before)
 -- the reply to each live command, and what it leaves of what isn't configuration
 abbrev pub live_answer : BoardFile → Records → Activity → LiveCommand → Answered × Activity
 live_answer setup records before live.GetDeviceId = (done (device_data setup.device), before)
+live_answer setup records before live.GetSelfTestResults = (done no_error, before)
 live_answer setup records before live.ResetWatchdog = reset_answer (records key.Watchdog) (unknown_code setup key.Watchdog) before
 live_answer setup records before live.GetTid = (done (setup.tid ∷ []), before)
 live_answer setup records before live.GetPldmTypes = (done pldm_types, before)

@@ -1,4 +1,4 @@
--- The tables of commands (IPMI 2.0, sections 20.1, 27.5 to 27.7, 28.2, 28.8 and 35.6 to 35.9; DSP0240, "GetTID" and "GetPLDMTypes"): one line each.
+-- The tables of commands (IPMI 2.0, sections 20.1, 20.4, 27.5 to 27.7, 28.2, 28.8 and 35.6 to 35.9; DSP0240, "GetTID" and "GetPLDMTypes"): one line each.
 use Rattle.std.specs.Prelude.{ℕ, List, [], ◌∷◌, Option, Some, None, Bool, true, false, find, nat_le, ◌==◌, ◌&&◌, ◌||◌}
 use Rattle.cfg_records.specs.declared.message.Asked.{Asked}
 use Rattle.cfg_records.specs.declared.message.Asked.TheVariants.{Ipmi, Pldm}
@@ -28,6 +28,7 @@ table =
     listed 0x04 0x26 (Exactly 8) true command.SetSensorThresholds ∷
     listed 0x04 0x27 (Exactly 1) false command.GetSensorThresholds ∷
     listed 0x06 0x01 (Exactly 0) false (command.Live live.GetDeviceId) ∷
+    listed 0x06 0x04 (Exactly 0) false (command.Live live.GetSelfTestResults) ∷
     listed 0x06 0x22 (Exactly 0) false (command.Live live.ResetWatchdog) ∷
     listed 0x06 0x24 (Exactly 6) true command.SetWatchdogTimer ∷
     listed 0x06 0x25 (Exactly 0) false command.GetWatchdogTimer ∷

@@ -79,6 +79,7 @@ pub fn find_line(net_fn: u8, number: u8) -> Option<Line>
         (0x04, 0x26) => entry(SetSensorThresholds, Exactly(8), true),
         (0x04, 0x27) => entry(GetSensorThresholds, Exactly(1), false),
         (0x06, 0x01) => entry(Live(GetDeviceId), Exactly(0), false),
+        (0x06, 0x04) => entry(Live(GetSelfTestResults), Exactly(0), false),
         (0x06, 0x22) => entry(Live(ResetWatchdog), Exactly(0), false),
         (0x06, 0x24) => entry(SetWatchdogTimer, Exactly(6), true),
         (0x06, 0x25) => entry(GetWatchdogTimer, Exactly(0), false),

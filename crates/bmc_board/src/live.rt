@@ -8,10 +8,14 @@ use cfg_records::Device;
 #[derive(Clone, Copy, Debug, PartialEq, Eq)]
 pub enum LiveCommand {
     GetDeviceId,
+    GetSelfTestResults,
     ResetWatchdog,
     GetTid,
     GetPldmTypes,
 }
+
+/// What Get Self Test Results replies (IPMI 2.0, section 20.4): no error was found.
+pub(crate) const NO_ERROR: [u8; 2] = [0x55, 0x00];
 
 /// What GetPLDMTypes replies (DSP0240): a bit for each type, the lowest byte first.
 pub(crate) const PLDM_TYPES: [u8; 8] = [0x0D, 0, 0, 0, 0, 0, 0, 0];

@@ -157,6 +157,19 @@ fn get_device_id_is_answered(rt: HostRuntime) -> Result<(), Fail> {
 }
 
 #[test]
+fn the_self_test_found_no_error(rt: HostRuntime) -> Result<(), Fail> {
+    let mut lab = open_lab(rt.alloc(), Bus::Ipmb)?;
+    expect_reply(
+        &rt,
+        rt.alloc(),
+        &mut lab,
+        "20 18 C8 2C 00 04 D0",
+        "2C 1C B8 20 00 04 00 55 00 87",
+    );
+    Ok(())
+}
+
+#[test]
 fn upper_critical_is_set_over_ipmb_and_got_again(rt: HostRuntime) -> Result<(), Fail> {
     let mut lab = open_lab(rt.alloc(), Bus::Ipmb)?;
     expect_reply(

@@ -10,7 +10,7 @@ ghost use Rattle.bmc_board.specs.Replies.{done, unknown_code};
 
 use crate::activity::Activity;
 use crate::board::Board;
-use crate::live::{LiveCommand, PLDM_TYPES, device_data};
+use crate::live::{LiveCommand, NO_ERROR, PLDM_TYPES, device_data};
 use crate::request::{Request, read_request};
 use cfg_records::{Answered, Asked, BoardFile, Key, Op, RecordKind, Store, Value};
 use record_kinds::{Limits, Setup};
@@ -105,6 +105,7 @@ impl<S: Store> Board<S> {
     {
         match command {
             LiveCommand::GetDeviceId => show(&device_data(self.setup.device()), to),
+            LiveCommand::GetSelfTestResults => show(&NO_ERROR, to),
             LiveCommand::ResetWatchdog => self.reset_watchdog(),
             LiveCommand::GetTid => show(&[self.setup.tid()], to),
             LiveCommand::GetPldmTypes => show(&PLDM_TYPES, to),
