@@ -180,7 +180,10 @@ fn a_refused_change_leaves_records_and_activity(rt: HostRuntime) -> Result<(), F
     let mut board = board(rt.alloc())?;
     assert_eq!(rt; set(&mut board, &watchdog_for(3000)), 0);
     // Reset Watchdog Timer: it runs.
-    assert_eq!(rt; board.answer(&Asked::ipmi(NetFn::new(0x06), 0x22, &[])).code, 0);
+    assert_eq!(rt;
+        board.answer(&Asked::ipmi(NetFn::new(0x06), 0x22, &[])).code,
+        0
+    );
     let before = all_shown(rt.alloc(), &mut board)?;
     let refused = code::INVALID_DATA_FIELD.value();
     // Upper critical above upper non-recoverable, a policy of 4, and a use of 6.
