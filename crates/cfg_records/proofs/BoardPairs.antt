@@ -11,9 +11,9 @@ use Rattle.cfg_records.specs.declared.sensor.Sensor.{Sensor}
 use Rattle.cfg_records.specs.declared.board_file.BoardFile.{BoardFile}
 use Rattle.cfg_records.specs.Keys.{is_length}
 use Rattle.cfg_records.specs.KeyLaws.{exact_key}
-use Rattle.cfg_records.specs.Distinct.{NumbersDiffer}
+use Rattle.cfg_records.specs.Distinct.{NamesDiffer}
 use Rattle.cfg_records.specs.Records.{Pair, key_in, value_of, records_of, KeysDiffer, LengthsFit}
-use Rattle.cfg_records.specs.Boards.{thresholds_pair, hysteresis_pair, power_policy_pair, watchdog_pair, pairs_of}
+use Rattle.cfg_records.specs.Boards.{policy_value, settings_value, kinds_of, pairs_of}
 use Rattle.cfg_records.proofs.Names.{NamesDiffer-map, NamesDiffer-append}
 use Rattle.cfg_records.proofs.Searches.{find_some}
 use Rattle.cfg_records.proofs.Pairs.{has_key}
@@ -24,15 +24,6 @@ place_of (key.Thresholds sensor) = 0
 place_of (key.Hysteresis sensor) = 1
 place_of key.PowerPolicy = 2
 place_of key.Watchdog = 3
-
--- the pairs of each kind, at its place
-abbrev pub kinds_of : BoardFile → List (List Pair)
-kinds_of file =
-    map thresholds_pair file.sensors
-    ∷ map hysteresis_pair file.sensors
-    ∷ (power_policy_pair file.policy ∷ [])
-    ∷ (watchdog_pair file.watchdog ∷ [])
-    ∷ []
 
 -- the pairs of the kind at a place
 abbrev pub pairs_at : BoardFile → ℕ → List Pair
@@ -115,31 +106,31 @@ one_of place pair fits placed = record {
   placed = only (λ (p : Pair). place_of p.0 ≡ place) pair placed;
 }
 
+-- the pairs of numbered items, of which each has a record of a kind
+of_numbered : {X : Type 0} (number_of : X → ℕ) (of : ℕ → Key) (value : X → List ℕ) (place : ℕ) (items : List X) → NamesDiffer number_of items
+    → ((m n : ℕ) → of m ≡ of n → m ≡ n) → ((n : ℕ) → place_of (of n) ≡ place) → ((x : X) → IsTrue (is_length (of (number_of x)) (length (value x))))
+    → AreOf place (map (λ x. (of (number_of x), value x)) items)
+of_numbered number_of of value place items differ exact placed fits = record {
+  differ = NamesDiffer-map key_in (λ x. (of (number_of x), value x)) items (λ i j d lt inside same. differ i j d lt inside (exact _ _ same));
+  fit = All-map (λ (pair : Pair). IsTrue (is_length pair.0 (length pair.1))) (λ x. (of (number_of x), value x)) items (λ k d lt. fits (get_or items k d));
+  placed = All-map (λ (pair : Pair). place_of pair.0 ≡ place) (λ x. (of (number_of x), value x)) items (λ k d lt. placed (number_of (get_or items k d)));
+}
+
+of_sensors : (file : BoardFile) (of : ℕ → Key) (value : Sensor → List ℕ) (place : ℕ)
+    → ((m n : ℕ) → of m ≡ of n → m ≡ n) → ((n : ℕ) → place_of (of n) ≡ place) → ((s : Sensor) → IsTrue (is_length (of s.number) (length (value s))))
+    → AreOf place (map (λ s. (of s.number, value s)) file.sensors.items)
+of_sensors file of value place = of_numbered (λ s. s.number) of value place file.sensors.items file.sensors.differ
+
 six : (n : ℕ) → n ≡ 6 → IsTrue (is_length (key.Thresholds 0) n)
 six n h = grind (arith, nat_tests)
-
--- keys of sensors differ where their numbers do
-thresholds_are : (sensors : List Sensor) → NumbersDiffer sensors → AreOf 0 (map thresholds_pair sensors)
-thresholds_are sensors differ = record {
-  differ = NamesDiffer-map key_in thresholds_pair sensors (λ i j d lt inside same. differ i j d lt inside (cc));
-  fit = All-map (λ (pair : Pair). IsTrue (is_length pair.0 (length pair.1))) thresholds_pair sensors (λ k d lt. six _ (get_or sensors k d).valid.six);
-  placed = All-map (λ (pair : Pair). place_of pair.0 ≡ 0) thresholds_pair sensors (λ k d lt. refl);
-}
-
-hysteresis_are : (sensors : List Sensor) → NumbersDiffer sensors → AreOf 1 (map hysteresis_pair sensors)
-hysteresis_are sensors differ = record {
-  differ = NamesDiffer-map key_in hysteresis_pair sensors (λ i j d lt inside same. differ i j d lt inside (cc));
-  fit = All-map (λ (pair : Pair). IsTrue (is_length pair.0 (length pair.1))) hysteresis_pair sensors (λ k d lt. refl);
-  placed = All-map (λ (pair : Pair). place_of pair.0 ≡ 1) hysteresis_pair sensors (λ k d lt. refl);
-}
 
 -- the pairs of a file: a step for each kind
 pub pairs_are : (file : BoardFile) → AreBefore file 4 (pairs_of file)
 pairs_are file =
-    let thresholds : AreBefore file 1 (map thresholds_pair file.sensors) = and_then file 0 [] (none_before file) (thresholds_are file.sensors file.differ) in
-    let hysteresis = and_then file 1 _ thresholds (hysteresis_are file.sensors file.differ) in
-    let policy = and_then file 2 _ hysteresis (one_of 2 (power_policy_pair file.policy) refl refl) in
-    and_then file 3 _ policy (one_of 3 (watchdog_pair file.watchdog) refl refl)
+    let before_1 = and_then file 0 [] (none_before file) (of_sensors file key.Thresholds _ 0 (λ m n same. cc) (λ n. refl) (λ s. six _ s.thresholds.valid.six)) in
+    let before_2 = and_then file 1 _ before_1 (of_sensors file key.Hysteresis _ 1 (λ m n same. cc) (λ n. refl) (λ s. refl)) in
+    let before_3 = and_then file 2 _ before_2 (one_of 2 (key.PowerPolicy, policy_value file.policy) refl refl) in
+    and_then file 3 _ before_3 (one_of 3 (key.Watchdog, settings_value file.watchdog) refl refl)
 
 has_place : (k : Key) → place_of k < 4
 has_place (key.Thresholds sensor) = omega arith

@@ -2,29 +2,40 @@
 use Rattle.std.specs.Prelude.{ℕ, List, [], ◌∷◌, ◌++◌, map}
 use Rattle.cfg_records.specs.declared.key.Key.TheVariants as key
 use Rattle.cfg_records.specs.declared.sensor.Sensor.{Sensor}
+use Rattle.cfg_records.specs.declared.power_policy.PowerPolicy.{PowerPolicy}
 use Rattle.cfg_records.specs.declared.watchdog.Watchdog.{Watchdog}
 use Rattle.cfg_records.specs.declared.board_file.BoardFile.{BoardFile}
+use Rattle.cfg_records.specs.Hysteresis.{hysteresis_value}
 use Rattle.cfg_records.specs.Watchdog.{watchdog_value}
 use Rattle.cfg_records.specs.Records.{Pair}
 
--- what a sensor's item gives for each kind of record
-abbrev pub thresholds_pair : Sensor → Pair
-thresholds_pair sensor = (key.Thresholds sensor.number, sensor.thresholds)
+-- the values of what a board has once
+abbrev pub policy_value : PowerPolicy → List ℕ
+policy_value policy = policy.number ∷ []
 
-abbrev pub hysteresis_pair : Sensor → Pair
-hysteresis_pair sensor = (key.Hysteresis sensor.number, sensor.hysteresis.positive ∷ sensor.hysteresis.negative ∷ [])
+abbrev pub settings_value : Watchdog → List ℕ
+settings_value watchdog = watchdog_value watchdog.timer_use watchdog.actions watchdog.pre_timeout watchdog.initial
 
--- the pairs of sensors, kind after kind, and in each in the sensors' order
-abbrev pub sensor_pairs : List Sensor → List Pair
-sensor_pairs sensors = map thresholds_pair sensors ++ map hysteresis_pair sensors
+-- lists of pairs as one, each behind those before it
+abbrev pub joined : List Pair → List (List Pair) → List Pair
+joined before [] = before
+joined before (pairs ∷ more) = joined (before ++ pairs) more
 
--- what a file gives for the records that a board has once
-abbrev pub power_policy_pair : ℕ → Pair
-power_policy_pair policy = (key.PowerPolicy, policy ∷ [])
+-- the keys of each kind of record that a sensor has, with their values, in the sensors' order: a line for each kind
+abbrev pub sensor_kinds : List Sensor → List (List Pair)
+sensor_kinds sensors =
+    map (λ s. (key.Thresholds s.number, s.thresholds.values)) sensors
+    ∷ map (λ s. (key.Hysteresis s.number, hysteresis_value s.hysteresis)) sensors
+    ∷ []
 
-abbrev pub watchdog_pair : Watchdog → Pair
-watchdog_pair watchdog = (key.Watchdog, watchdog_value watchdog.timer_use watchdog.actions watchdog.pre_timeout watchdog.initial)
+-- the keys of each kind with their values: a line for each kind that a board has once
+abbrev pub kinds_of : BoardFile → List (List Pair)
+kinds_of file =
+    sensor_kinds file.sensors.items
+    ++ ((key.PowerPolicy, policy_value file.policy) ∷ [])
+    ∷ ((key.Watchdog, settings_value file.watchdog) ∷ [])
+    ∷ []
 
--- the file's pairs: those of its sensors, and one of each kind that a board has once
+-- the file's pairs, kind after kind
 abbrev pub pairs_of : BoardFile → List Pair
-pairs_of file = sensor_pairs file.sensors ++ power_policy_pair file.policy ∷ [] ++ watchdog_pair file.watchdog ∷ []
+pairs_of file = joined [] (kinds_of file)

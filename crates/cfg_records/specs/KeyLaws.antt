@@ -1,15 +1,14 @@
 -- Keys that compare alike are one.
-use Rattle.std.proofs.Common.{◌≡◌, ◌≤◌, ℕ, true, IsTrue, refl, ap, arith}
+use Rattle.std.proofs.Common.{◌≡◌, true, refl, ap}
 use Rattle.std.specs.Ordering.{is_eq}
 use Rattle.std.proofs.lemmas.Map.Lookups.{exact_unsigned}
-use Rattle.std.proofs.lemmas.Bool.Decides.{nat_tests}
 use Rattle.std.specs.Cmp.{IsTotalOrder, eq_by_cmp_equiv}
 use Rattle.std.specs.declared.cmp.Ordering.{Ordering}
 use Rattle.std.specs.declared.cmp.Ordering.TheVariants.{Less, Equal, Greater}
 use Rattle.cfg_records.specs.declared.key.Key.{Key}
-use Rattle.cfg_records.specs.declared.key.Key.TheVariants.{Thresholds, Hysteresis, PowerPolicy, Watchdog}
+use Rattle.cfg_records.specs.declared.key.Key.TheVariants as key
 use Rattle.cfg_records.specs.contracts.key.KeyOrd.TheImpl.Laws as key_laws
-use Rattle.cfg_records.specs.Keys.{key_cmp, same_key, is_length, longest}
+use Rattle.cfg_records.specs.Keys.{key_cmp, same_key}
 
 -- the order of keys is total
 pub key_total : IsTotalOrder key_cmp
@@ -22,22 +21,12 @@ equal_from_is_eq Greater h = cc
 
 -- keys that compare alike are one
 pub exact_key : (a b : Key) → same_key a b ≡ true → a ≡ b
-exact_key (Thresholds a) (Thresholds b) h = ap Thresholds (exact_unsigned a b (equal_from_is_eq _ h))
-exact_key (Hysteresis a) (Hysteresis b) h = ap Hysteresis (exact_unsigned a b (equal_from_is_eq _ h))
-exact_key PowerPolicy PowerPolicy h = refl
-exact_key Watchdog Watchdog h = refl
+exact_key (key.Thresholds a) (key.Thresholds b) h = ap key.Thresholds (exact_unsigned a b (equal_from_is_eq _ h))
+exact_key (key.Hysteresis a) (key.Hysteresis b) h = ap key.Hysteresis (exact_unsigned a b (equal_from_is_eq _ h))
+exact_key key.PowerPolicy key.PowerPolicy h = refl
+exact_key key.Watchdog key.Watchdog h = refl
 exact_key _ _ h = cc
 
 -- a key compares alike with itself
 pub same_key_self : (k : Key) → same_key k k ≡ true
 same_key_self k = (eq_by_cmp_equiv key_total).refl k
-
--- no value is longer than the longest of its kind
-abbrev pub LengthsAreBounded : Type 0
-LengthsAreBounded = (k : Key) (n : ℕ) → IsTrue (is_length k n) → n ≤ longest k
-
-pub lengths_are_bounded : LengthsAreBounded
-lengths_are_bounded (Thresholds sensor) n h = grind (arith, nat_tests)
-lengths_are_bounded (Hysteresis sensor) n h = grind (arith, nat_tests)
-lengths_are_bounded PowerPolicy n h = grind (arith, nat_tests)
-lengths_are_bounded Watchdog n h = grind (arith, nat_tests)

@@ -22,13 +22,6 @@ is_length (key.Hysteresis sensor) n = n == 2
 is_length key.PowerPolicy n = n == 1
 is_length key.Watchdog n = n == 5
 
--- the greatest length of a value of the key's kind
-abbrev pub longest : Key → ℕ
-longest (key.Thresholds sensor) = 6
-longest (key.Hysteresis sensor) = 2
-longest key.PowerPolicy = 1
-longest key.Watchdog = 5
-
 -- the order of keys
 abbrev pub key_cmp : Key → Key → Ordering
 key_cmp = (key_ord.ghosts).cmp

@@ -5,6 +5,7 @@ pub mod Masks
 pub mod MaskLaws
 pub mod Thresholds
 pub mod ThresholdLaws
+pub mod Hysteresis
 pub mod PowerPolicy
 pub mod Watchdog
 pub mod Meaning

@@ -14,6 +14,6 @@ op_laws_of member op_words agrees own = own_op_laws member.kind.words member.pla
 
 -- of each of its records
 pub record_laws_of : {K O L : Type 0} (member : Member K O L) (op_words : Op → OpWords) (asked : Key → Asked)
-    → ((own : O) → op_words (member.place.op own) ≡ op_words_of member own) → ((own : K) → asked (member.kind.words.name own) ≡ member.kind.words.get_request own)
+    → ((own : O) → op_words (member.place.op own) ≡ op_words_of member own) → ((own : K) → asked (member.kind.words.name own) ≡ member.kind.words.get_asked own)
     → (limits : L) → RecordLaws (any_words op_words asked) (record_words_of member limits)
 record_laws_of member op_words asked agrees asks limits = lifted_laws member.kind.words member.place op_words agrees asked asks (member.kind.record_words limits) (member.kind.record_laws limits)

@@ -1,9 +1,10 @@
--- The code of an invalid field, CCh.
+-- The code of an invalid field.
 use Rattle.std.proofs.Common.{◌≡◌, ℕ, List, Result, Err, subst, lit<, arith}
+use Rattle.two_wire.specs.Codes.{invalid_data_field}
 use Rattle.cfg_records.specs.Meaning.{IsRefusal}
 
 -- it is a code that a command table answers
-pub invalid_field : IsRefusal 0xCC
+pub invalid_field : IsRefusal invalid_data_field
 invalid_field = record {
   is_fault = lit< tt;
   is_byte = lit< tt;
@@ -12,5 +13,5 @@ invalid_field = record {
 }
 
 -- a result that refuses with it refuses with no other code
-pub refused_field : (code : ℕ) (r : Result (List ℕ) ℕ) → r ≡ Err 0xCC → r ≡ Err code → IsRefusal code
-refused_field code r refuses is = let same : 0xCC ≡ code = cc in subst IsRefusal same invalid_field
+pub refused_field : (code : ℕ) (r : Result (List ℕ) ℕ) → r ≡ Err invalid_data_field → r ≡ Err code → IsRefusal code
+refused_field code r refuses is = let same : invalid_data_field ≡ code = cc in subst IsRefusal same invalid_field

@@ -3,6 +3,16 @@ use Rattle.std.specs.Prelude.{ℕ, List}
 use Rattle.cfg_records.specs.declared.message.Asked.{Asked}
 use Rattle.cfg_records.specs.declared.message.Asked.TheVariants.{Ipmi}
 
+-- the network functions of requests (IPMI 2.0, section 5.1)
+abbrev pub chassis : ℕ
+chassis = 0x00
+
+abbrev pub sensor_event : ℕ
+sensor_event = 0x04
+
+abbrev pub application : ℕ
+application = 0x06
+
 -- the IPMI request of this network function, command and data: from nobody, to logical unit 0
 abbrev pub ipmi_request : ℕ → ℕ → List ℕ → Asked
 ipmi_request net_fn command body = Ipmi 0 net_fn 0 command body

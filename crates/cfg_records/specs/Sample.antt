@@ -2,24 +2,25 @@
 use Rattle.std.specs.Prelude.{◌≡◌, ℕ, List, [], ◌∷◌}
 use Rattle.cfg_records.specs.declared.sensor.Sensor.{Sensor}
 use Rattle.cfg_records.specs.declared.watchdog.Watchdog.{Watchdog}
-use Rattle.cfg_records.specs.declared.board_file.Device.{Device}
+use Rattle.cfg_records.specs.declared.device.Device.{Device}
+use Rattle.cfg_records.specs.declared.board_file.BoardFile.{BoardFile}
 
 -- what Get Device ID says of the sample board
 pub record IsSampleDevice (device : Device) : Type 0 where
   pub id : device.id ≡ 0x20
   pub revision : device.revision ≡ 1
   pub major : device.major ≡ 1
-  pub minor : device.minor ≡ 0x05
+  pub minor : device.minor.byte ≡ 0x05
   pub support : device.support ≡ 0x07
-  pub manufacturer : device.manufacturer ≡ 0xABCD
+  pub manufacturer : device.manufacturer.number ≡ 0xABCD
   pub product : device.product ≡ 0x1234
 
 -- a sensor of these words
 pub record IsSensor (sensor : Sensor) (number readable settable : ℕ) (thresholds : List ℕ) (positive negative : ℕ) : Type 0 where
   pub numbered : sensor.number ≡ number
-  pub can_be_read : sensor.masks.readable ≡ readable
-  pub can_be_set : sensor.masks.settable ≡ settable
-  pub has_thresholds : sensor.thresholds ≡ thresholds
+  pub can_be_read : sensor.thresholds.masks.readable ≡ readable
+  pub can_be_set : sensor.thresholds.masks.settable ≡ settable
+  pub has_thresholds : sensor.thresholds.values ≡ thresholds
   pub rises : sensor.hysteresis.positive ≡ positive
   pub falls : sensor.hysteresis.negative ≡ negative
 
@@ -42,3 +43,11 @@ pub record IsUnset (watchdog : Watchdog) : Type 0 where
   pub no_action : watchdog.actions ≡ 0
   pub no_warning : watchdog.pre_timeout ≡ 0
   pub no_countdown : watchdog.initial ≡ 0
+
+-- the sample board
+pub record IsSampleBoard (file : BoardFile) : Type 0 where
+  pub terminus : file.tid ≡ 5
+  pub device : IsSampleDevice file.device
+  pub sensors : AreSampleSensors file.sensors.items
+  pub policy : file.policy.number ≡ 1
+  pub watchdog : IsUnset file.watchdog

@@ -1,8 +1,6 @@
 //! The names of records.
-ghost use Rattle.std.specs.Prelude.{◌≡◌, ◌≤◌};
-ghost use Rattle.cfg_records.specs.Keys.{is_length, longest};
-
-use crate::value::VALUE_CAPACITY;
+ghost use Rattle.std.specs.Prelude.{◌≡◌};
+ghost use Rattle.cfg_records.specs.Keys.{is_length};
 
 /// The name of a record: its kind, and which one of that kind.
 #[derive(Clone, Copy, Debug, PartialEq, Eq, PartialOrd, Ord)]
@@ -27,19 +25,6 @@ impl Key {
             Key::Hysteresis(_) => length == 2,
             Key::PowerPolicy => length == 1,
             Key::Watchdog => length == 5,
-        }
-    }
-
-    /// The greatest length of a value of the key's kind, in bytes.
-    pub fn longest(&self) -> usize
-        ensures value { result ≡ longest self.now }
-        ensures fits { result ≤ VALUE_CAPACITY }
-    {
-        match self {
-            Key::Thresholds(_) => 6,
-            Key::Hysteresis(_) => 2,
-            Key::PowerPolicy => 1,
-            Key::Watchdog => 5,
         }
     }
 }

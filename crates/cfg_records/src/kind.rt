@@ -30,12 +30,12 @@ pub trait RecordKind<'a> {
 
     /// Appends the data of the reply to a Set that was carried out.
     fn set_reply<B: Buffer>(op: &Self::Op, reply: &mut B)
-        requires room { length (B.bytes reply.old) + length (kind.words.set_view op.now) ≤ B.capacity }
-        ensures { B.bytes reply.new ≡ B.bytes reply.old ++ kind.words.set_view op.now };
+        requires room { length (B.bytes reply.old) + length (kind.words.set_reply op.now) ≤ B.capacity }
+        ensures { B.bytes reply.new ≡ B.bytes reply.old ++ kind.words.set_reply op.now };
 
-    /// What isn't configuration, after the operation was carried out.
-    fn next_live(op: &Self::Op, live: &Live) -> Live
-        ensures { result ≡ kind.words.live_after op.now live.now };
+    /// Changes what isn't configuration as the operation does, once it was carried out.
+    fn next_live(op: &Self::Op, live: &mut Live)
+        ensures { live.new ≡ kind.words.next_live op.now live.old };
 
     /// Appends the data of the Get reply.
     fn get_data<B: Buffer>(&self, value: &[u8], live: &Live, reply: &mut B)
@@ -45,16 +45,16 @@ pub trait RecordKind<'a> {
 
     /// The request that gets the record: from nobody, to logical unit 0.
     fn get_asked(key: &Self::Key) -> Asked
-        ensures { result ≡ kind.words.get_request key.now };
+        ensures { result ≡ kind.words.get_asked key.now };
 
     /// The data of the request that carries out the operation.
     fn set_data(op: &Self::Op) -> RecordData
-        ensures { result ≡ kind.words.set_body op.now };
+        ensures { result ≡ kind.words.set_data op.now };
 
     /// The request that carries out the operation: from nobody, to logical unit 0, with the operation's bytes as they are. What
     /// undoes an operation has 0 in each bit that a controller ignores.
     fn set_asked(op: &Self::Op) -> Asked
-        ensures { result ≡ kind.words.set_request op.now };
+        ensures { result ≡ kind.words.set_asked op.now };
 
     /// The operation that brings back what the Get reply shows, where it is such a reply and the operation can be undone from it.
     fn inverse(op: &Self::Op, get_data: &'a [u8]) -> Option<Self::Op>

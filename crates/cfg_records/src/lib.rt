@@ -3,36 +3,45 @@
 #![tactic(auto)]
 
 pub mod board_file;
+pub mod device;
+pub mod distinct;
+pub mod hysteresis;
 pub mod items;
 pub mod key;
 pub mod kind;
-pub mod laws;
 pub mod live;
 pub mod mask;
 pub mod message;
 pub mod op;
 pub mod plain_store;
+pub mod power_policy;
 pub mod sample;
 pub mod sensor;
+pub mod sensor_thresholds;
 pub mod store;
 pub mod thresholds;
 pub mod value;
 pub mod watchdog;
 
-pub use board_file::{BoardFile, Device};
+pub use board_file::BoardFile;
+pub use device::{Bcd, Device, ManufacturerId};
+pub use distinct::{Distinct, Numbered};
+pub use hysteresis::{Hysteresis, SetHysteresis};
 pub use items::Items;
 pub use key::Key;
 pub use kind::{RecordKind, there_and_back};
 pub use live::Live;
 pub use message::{Answered, Asked};
-pub use op::{Op, SetHysteresis, SetPowerPolicy, SetThresholds, SetWatchdog};
+pub use op::Op;
 pub use plain_store::{PlainStore, StoreFault};
+pub use power_policy::{PowerPolicy, SetPowerPolicy};
 pub use sample::sample_board;
-pub use sensor::{Hysteresis, Sensor};
+pub use sensor::{Sensor, Sensors};
+pub use sensor_thresholds::{SetThresholds, Thresholds};
 pub use store::{NoKey, Store};
 pub use thresholds::ThresholdMasks;
 pub use value::{RecordData, Value};
-pub use watchdog::Watchdog;
+pub use watchdog::{SetWatchdog, Watchdog};
 
 #[cfg(test)]
 mod tests;

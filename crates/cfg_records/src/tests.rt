@@ -1,7 +1,7 @@
 //! Records, stores and the sample board.
 use crate::{
-    Answered, Asked, Device, Hysteresis, Key, Live, NoKey, PlainStore, Sensor, Store, StoreFault,
-    ThresholdMasks, Value, Watchdog, sample_board,
+    Answered, Asked, Bcd, Hysteresis, Key, Live, ManufacturerId, NoKey, PlainStore, PowerPolicy,
+    Sensor, Sensors, Store, StoreFault, ThresholdMasks, Thresholds, Value, Watchdog, sample_board,
 };
 use std::test::Fail;
 use two_wire::{Below, Bytes, Lun, NetFn, code};
@@ -58,26 +58,64 @@ fn a_store_refuses_a_key_twice_before_a_bad_value(rt: HostRuntime) -> Result<(),
 #[test]
 fn a_sensor_has_its_thresholds_in_order(rt: HostRuntime) -> Result<(), Fail> {
     let masks = ThresholdMasks::new(0x18, 0x38).ok_or("masks")?;
-    let hysteresis = Hysteresis {
-        positive: 0,
-        negative: 0,
-    };
-    assert!(rt; Sensor::new(7, masks, [0, 0, 0, 0x90, 0xA0, 0xB0], hysteresis).is_some());
-    assert!(rt; Sensor::new(7, masks, [0, 0, 0, 0x90, 0xB0, 0xA0], hysteresis).is_none());
-    assert!(rt; Sensor::new(7, masks, [1, 0, 0, 0x90, 0xA0, 0xB0], hysteresis).is_none());
-    assert!(rt; Sensor::new(255, masks, [0; 6], hysteresis).is_none());
+    assert!(rt; Thresholds::new(masks, [0, 0, 0, 0x90, 0xA0, 0xB0]).is_some());
+    assert!(rt; Thresholds::new(masks, [0, 0, 0, 0x90, 0xB0, 0xA0]).is_none());
+    assert!(rt; Thresholds::new(masks, [1, 0, 0, 0x90, 0xA0, 0xB0]).is_none());
     assert!(rt; ThresholdMasks::new(0x40, 0).is_none());
+    Ok(())
+}
+
+/// A sensor without thresholds.
+fn bare(number: u8) -> Option<Sensor>
+    requires { number < 255 }
+{
+    Some(Sensor {
+        number,
+        thresholds: Thresholds::new(ThresholdMasks::new(0, 0)?, [0; 6])?,
+        hysteresis: Hysteresis {
+            positive: 0,
+            negative: 0,
+        },
+    })
+}
+
+#[test]
+fn sensors_have_numbers_of_their_own(rt: HostRuntime) -> Result<(), Fail> {
+    let apart = vec![in rt.alloc(); bare(1).ok_or("1")?, bare(2).ok_or("2")?]?;
+    let alike = vec![in rt.alloc(); bare(1).ok_or("1")?, bare(1).ok_or("1")?]?;
+    assert!(rt; Sensors::new(apart).is_some());
+    assert!(rt; Sensors::new(alike).is_none());
+    Ok(())
+}
+
+#[test]
+fn a_board_has_at_most_32_sensors(rt: HostRuntime) -> Result<(), Fail> {
+    let mut most = Vec::new(rt.alloc());
+    let mut more = Vec::new(rt.alloc());
+    for number in 0..32 {
+        most.push(bare(number).ok_or("sensor")?)?;
+        more.push(bare(number).ok_or("sensor")?)?;
+    }
+    more.push(bare(32).ok_or("sensor")?)?;
+    assert!(rt; Sensors::new(most).is_some());
+    assert!(rt; Sensors::new(more).is_none());
     Ok(())
 }
 
 #[test]
 fn a_device_has_decimal_digits_and_a_short_manufacturer(rt: HostRuntime) -> Result<(), Fail> {
-    let device = |minor, manufacturer| Device::new(32, 1, 2, minor, 5, manufacturer, 7);
-    let made = device(0x19, 0xFF_FFFF).ok_or("device")?;
-    assert_eq!(rt; made.minor, 0x19);
-    assert_eq!(rt; made.manufacturer, 0xFF_FFFF);
-    assert!(rt; device(0x1A, 0xFF_FFFF).is_none());
-    assert!(rt; device(0x19, 1 << 24).is_none());
+    assert_eq!(rt; Bcd::new(0x19).ok_or("minor")?.byte, 0x19);
+    assert!(rt; Bcd::new(0x1A).is_none());
+    let manufacturer = ManufacturerId::new(0xFF_FFFF).ok_or("manufacturer")?;
+    assert_eq!(rt; manufacturer.number, 0xFF_FFFF);
+    assert!(rt; ManufacturerId::new(1 << 24).is_none());
+    Ok(())
+}
+
+#[test]
+fn a_policy_is_at_most_3(rt: HostRuntime) -> Result<(), Fail> {
+    assert_eq!(rt; PowerPolicy::new(3).ok_or("policy")?.number, 3);
+    assert!(rt; PowerPolicy::new(4).is_none());
     Ok(())
 }
 

@@ -1,4 +1,4 @@
-//! The watchdog of a board file.
+//! The watchdog timer: in a board file, and as it is set.
 ghost use Rattle.cfg_records.specs.Watchdog.{watchdog_value, IsWatchdog, IsWatchdog-prop};
 
 use crate::key::Key;
@@ -16,10 +16,22 @@ pub struct Watchdog {
     ghost valid: { IsWatchdog (watchdog_value timer_use actions pre_timeout initial) } by { IsWatchdog-prop (watchdog_value timer_use actions pre_timeout initial) },
 }
 
+/// Sets the watchdog timer, by the bytes of the request: the timer use (bit 7 don't log, bit 6 don't stop, bits 2:0 the use),
+/// the actions (bits 6:4 the interrupt, bits 2:0 the action), the pre-timeout interval in seconds, the expiration flags to
+/// clear, and the countdown to begin from, in 100 ms.
+#[derive(Clone, Copy, Debug, PartialEq, Eq)]
+pub struct SetWatchdog {
+    pub timer_use: u8,
+    pub actions: u8,
+    pub pre_timeout: u8,
+    pub flags_to_clear: u8,
+    pub initial: u16,
+}
+
 impl Watchdog {
     ghost use Rattle.std.specs.Prelude.{◌≡◌, ◌↔◌, IsSome, IfSome};
     ghost use Rattle.cfg_records.specs.Watchdog.{watchdog_value, IsWatchdog};
-    ghost use Rattle.cfg_records.specs.Boards.{watchdog_pair};
+    ghost use Rattle.cfg_records.specs.Boards.{settings_value};
 
     /// The settings of these bytes, or nothing where they aren't such as a watchdog can have.
     pub fn new(timer_use: u8, actions: u8, pre_timeout: u8, initial: u16) -> Option<Watchdog>
@@ -40,7 +52,7 @@ impl Watchdog {
 
     /// The record of the settings.
     pub fn pair(&self) -> (Key, Value)
-        ensures { result ≡ watchdog_pair self.now }
+        ensures { result ≡ (Key.Watchdog, settings_value self.now) }
     {
         let [low, high] = self.initial.to_le_bytes();
         (

@@ -7,6 +7,7 @@ use Rattle.mctp_net.specs.declared.taken.DropCause.{DropCause}
 use Rattle.mctp_net.specs.declared.taken.DropCause.TheVariants.{NotOurs, NoStart, TooLong, OutOfSequence, UnitSize, NoSlot}
 use Rattle.mctp_net.specs.declared.taken.Taken.{Taken}
 use Rattle.mctp_net.specs.declared.taken.Taken.TheVariants as taken
+use Rattle.mctp_net.specs.Sizes.{unit_size, most_assemblies}
 use Rattle.mctp_net.specs.Grammar.{bit}
 use Rattle.mctp_net.specs.Cut.{IsCut}
 
@@ -40,8 +41,8 @@ fails own kept p NotOurs = not (is_ours own p)
 fails own kept p NoStart = not p.start && length (taken_under p kept) == 0
 fails own kept p TooLong = nat_le 4 (length (joined_to p kept))
 fails own kept p OutOfSequence = not (p.sequence == length (joined_to p kept))
-fails own kept p UnitSize = not p.end && not (length p.payload == 64)
-fails own kept p NoSlot = p.start && not p.end && nat_le 8 (open_count (others p kept))
+fails own kept p UnitSize = not p.end && not (length p.payload == unit_size)
+fails own kept p NoSlot = p.start && not p.end && nat_le most_assemblies (open_count (others p kept))
 
 -- the causes in their order
 abbrev pub causes : List DropCause

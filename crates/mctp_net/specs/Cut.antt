@@ -3,6 +3,7 @@ use Rattle.std.specs.Prelude.{◌≡◌, ℕ, ◌+◌, ◌<◌, ◌≤◌, ◌==
 use Rattle.std.specs.List.{flat_map, AllZip}
 use Rattle.mctp_net.specs.declared.packet.Packet.{Packet}
 use Rattle.mctp_net.specs.declared.message.Message.{Message}
+use Rattle.mctp_net.specs.Sizes.{unit_size}
 use Rattle.mctp_net.specs.Grammar.{IsSpelled}
 
 -- the packet is the one of this number, of so many
@@ -11,8 +12,8 @@ pub record IsPiece (count number : ℕ) (p : Packet) : Type 0 where
   pub started : p.start ≡ (number == 0)
   pub ended : p.end ≡ (number + 1 == count)
   pub some : 0 < length p.payload
-  pub fits : length p.payload ≤ 64
-  pub full : number + 1 < count → length p.payload ≡ 64
+  pub fits : length p.payload ≤ unit_size
+  pub full : number + 1 < count → length p.payload ≡ unit_size
 
 -- each packet meets the relation with its number, where the first has this one
 abbrev pub EachFrom : (ℕ → Packet → Type 0) → ℕ → List Packet → Type 0
@@ -23,7 +24,7 @@ EachFrom P number (p ∷ ps) = P number p × EachFrom P (number + 1) ps
 abbrev pub carried : List Packet → List ℕ
 carried ps = flat_map (λ p. p.payload) ps
 
--- The packets are a cut of the bytes: at most four runs, all but the last of 64 bytes, numbered from 0, the first marked
+-- The packets are a cut of the bytes: at most four runs, all but the last of a unit, numbered from 0, the first marked
 -- as start and the last as end.
 pub record IsCut (body : List ℕ) (ps : List Packet) : Type 0 where
   pub some : 0 < length ps

@@ -5,6 +5,7 @@ use Rattle.mctp_net.specs.declared.fault.PacketFault.{PacketFault}
 use Rattle.mctp_net.specs.declared.fault.PacketFault.TheVariants.{Short, NotMctp, Count, Pec, Version}
 use Rattle.mctp_net.specs.declared.packet.Envelope.{Envelope}
 use Rattle.mctp_net.specs.declared.packet.Packet.{Packet}
+use Rattle.mctp_net.specs.Sizes.{unit_size}
 
 -- a flag as a number
 abbrev pub bit : Bool → ℕ
@@ -37,7 +38,7 @@ pub record IsSpelled (p : Packet) (ignored : ℕ) (bytes : List ℕ) : Type 0 wh
   pub envelope : IsEnvelope p.envelope
   pub sequence : p.sequence < 4
   pub some : 0 < length p.payload
-  pub fits : length p.payload ≤ 64
+  pub fits : length p.payload ≤ unit_size
   pub spelled : bytes ≡ with_pec (unchecked p ignored)
 
 -- the bytes are the packet

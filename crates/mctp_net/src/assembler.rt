@@ -7,10 +7,14 @@ ghost use Rattle.mctp_net.specs.Cut.{carried};
 ghost use Rattle.mctp_net.specs.Assembly.{same_name, taken_under, others, joined_to, open_count, drop_cause, kept_with, kept_after, MakesWhole, IsTaken, dropped_for};
 ghost use Rattle.mctp_net.specs.Sound.{Fits};
 
+use crate::packet::UNIT_SIZE;
 use crate::{DropCause, Envelope, Message, Packet, SomeBytes, Taken};
 use std::alloc::{AllocError, Global};
 use std::marker::Model;
 use two_wire::Bytes;
+
+/// How many messages can be put together at once.
+const MOST_ASSEMBLIES: usize = 8;
 
 /// At most eight messages that are being put together, each from at most four packets. It is seen as the packets of all
 /// of them, in the order in which they came.
@@ -102,7 +106,7 @@ impl Assembler {
         requires { Fits self.now packet.now }
         ensures value { result ≡ carried (joined_to packet.now self.now ++ packet.now ∷ []) }
         ensures some { 0 < length packet.now.payload }
-        ensures fits { length packet.now.payload ≤ 64 }
+        ensures fits { length packet.now.payload ≤ UNIT_SIZE }
     {
         let mut body = joined_bytes(self.kept.as_slice(), packet);
         body.extend_from_slice(packet.payload.as_slice());
@@ -149,10 +153,10 @@ fn first_cause(own: u8, kept: &[Packet], packet: &Packet) -> Option<DropCause>
     if usize::from(packet.sequence.number()) != place {
         return Some(DropCause::OutOfSequence);
     }
-    if !packet.end && packet.payload.as_slice().len() != 64 {
+    if !packet.end && packet.payload.as_slice().len() != UNIT_SIZE {
         return Some(DropCause::UnitSize);
     }
-    if packet.start && !packet.end && open_beside(kept, packet) >= 8 {
+    if packet.start && !packet.end && open_beside(kept, packet) >= MOST_ASSEMBLIES {
         return Some(DropCause::NoSlot);
     }
     None

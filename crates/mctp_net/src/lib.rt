@@ -23,12 +23,9 @@ pub use laws::{
     comes_back, each_name_alone, fault_or_packet, has_cut, one_cut, one_packet, stays_sound,
 };
 pub use message::Message;
-pub use packet::{Envelope, Packet, Payload, Sequence, Tag};
+pub use packet::{Envelope, Packet, Payload, Sequence, Tag, UNIT_SIZE};
 pub use reading::read_packet;
 pub use some_bytes::SomeBytes;
 pub use splitting::split;
 pub use taken::{DropCause, Taken};
 pub use writing::write_packet;
-
-#[cfg(test)]
-mod tests;

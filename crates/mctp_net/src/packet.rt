@@ -10,8 +10,11 @@ pub type Tag = Below<8>;
 /// A packet's number in its message, modulo 4.
 pub type Sequence = Below<4>;
 
+/// How many bytes of a message each packet carries but the last, which may carry fewer.
+pub const UNIT_SIZE: usize = 64;
+
 /// The bytes of a message that one packet carries.
-pub type Payload = SomeBytes<64>;
+pub type Payload = SomeBytes<{ UNIT_SIZE }>;
 
 /// Between whom a message goes, and under which tag.
 #[derive(Clone, Copy, Debug, PartialEq, Eq)]

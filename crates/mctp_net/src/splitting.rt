@@ -4,6 +4,7 @@ ghost use Rattle.mctp_net.specs.declared.packet.Packet.{Packet as AnyPacket};
 ghost use Rattle.mctp_net.specs.Cut.{IsCutOf, AreWritten};
 ghost use Rattle.mctp_net.specs.Pieces.{piece_of};
 
+use crate::packet::UNIT_SIZE;
 use crate::{Message, Packet, Payload, Sequence, write_packet};
 use arrayvec::ArrayVec;
 use two_wire::Frame;
@@ -12,7 +13,7 @@ use two_wire::Frame;
 pub fn split(message: &Message) -> ArrayVec<Frame, 4>
     ensures { (ps : List AnyPacket) × IsCutOf message.now ps × AreWritten ps result.items }
 {
-    let count = message.body.as_slice().len().div_ceil(64);
+    let count = message.body.as_slice().len().div_ceil(UNIT_SIZE);
     let mut frames = ArrayVec::new();
     for number in 0..count {
         frames.push(write_packet(&piece(message, number)));
@@ -22,7 +23,7 @@ pub fn split(message: &Message) -> ArrayVec<Frame, 4>
 
 // The packet of this number.
 fn piece(message: &Message, number: usize) -> Packet
-    requires { 64 * number < length message.now.body }
+    requires { UNIT_SIZE * number < length message.now.body }
     ensures value { result ≡ piece_of message.now number }
     ensures fits { length message.now.body ≤ 256 }
 {
@@ -30,7 +31,7 @@ fn piece(message: &Message, number: usize) -> Packet
     Packet {
         envelope: message.envelope,
         start: number == 0,
-        end: body.len() <= 64 * number + 64,
+        end: body.len() <= UNIT_SIZE * number + UNIT_SIZE,
         sequence: Sequence::new(number as u8),
         payload: Payload::from_slice(run(body, number)),
     }
@@ -38,11 +39,11 @@ fn piece(message: &Message, number: usize) -> Packet
 
 // The bytes that the packet of this number carries.
 fn run(body: &[u8], number: usize) -> &[u8]
-    requires some { 64 * number < length body.now }
+    requires some { UNIT_SIZE * number < length body.now }
     requires few { length body.now ≤ 256 }
-    ensures value { result.now ≡ take 64 (drop (64 * number) body.now) }
+    ensures value { result.now ≡ take UNIT_SIZE (drop (UNIT_SIZE * number) body.now) }
     ensures some { 0 < length result.now }
-    ensures fits { length result.now ≤ 64 }
+    ensures fits { length result.now ≤ UNIT_SIZE }
 {
-    &body[64 * number..body.len().min(64 * number + 64)]
+    &body[UNIT_SIZE * number..body.len().min(UNIT_SIZE * number + UNIT_SIZE)]
 }

@@ -9,7 +9,7 @@ use Rattle.std.proofs.lemmas.Option.{slice_get_read, slice_get_past}
 use Rattle.std.proofs.Math.ListN.{set}
 use Rattle.std.proofs.lemmas.List.Folds.{find-append}
 use Rattle.cfg_records.specs.declared.sensor.Sensor.{Sensor}
-use Rattle.cfg_records.specs.Distinct.{NumbersDiffer}
+use Rattle.cfg_records.specs.Distinct.{NamesDiffer}
 use Rattle.cfg_records.proofs.Searches.{find_some}
 use Rattle.record_kinds.specs.Boards.{sensor_at}
 
@@ -25,7 +25,7 @@ none_or None h = refl
 none_or (Some q) h = absurd (h q refl)
 
 -- no sensor before this one has its number
-alone : (sensors : List Sensor) (i : ℕ) (s : Sensor) (number : ℕ) → NumbersDiffer sensors → i < length sensors → s ≡ get_or sensors i s → s.number ≡ number → sensor_at (take i sensors) number ≡ None
+alone : (sensors : List Sensor) (i : ℕ) (s : Sensor) (number : ℕ) → NamesDiffer (λ (x : Sensor). x.number) sensors → i < length sensors → s ≡ get_or sensors i s → s.number ≡ number → sensor_at (take i sensors) number ≡ None
 alone sensors i s number differ inside is has =
     none_or (sensor_at (take i sensors) number) (λ q found.
     let place = find_some (has_number number) (take i sensors) q found in
@@ -41,7 +41,7 @@ joined (Some q) s true new = let none : Some q ≡ None = new refl in cc
 joined (Some q) s false new = refl
 
 -- the next sensor is found by its number, and the others as before
-sensor_at-more : (sensors : List Sensor) (i : ℕ) (s : Sensor) (number : ℕ) → NumbersDiffer sensors → i < length sensors → s ≡ get_or sensors i s
+sensor_at-more : (sensors : List Sensor) (i : ℕ) (s : Sensor) (number : ℕ) → NamesDiffer (λ (x : Sensor). x.number) sensors → i < length sensors → s ≡ get_or sensors i s
     → sensor_at (take (i + 1) sensors) number ≡ cond (s.number == number) (Some s) (sensor_at (take i sensors) number)
 sensor_at-more sensors i s number differ inside is =
     ap (λ (xs : List Sensor). sensor_at xs number) (take_more sensors i s inside ∙ ap (λ (x : Sensor). take i sensors ++ x ∷ []) (sym is))
@@ -63,7 +63,7 @@ placed sensors places i s number found inside is fits before false e =
     ap (slice_get sensors) (get_or-set_other places s.number number i 0 (other_number _ _ e)) ∙ before
 
 -- with the next sensor's place, those up to it are found
-pub more_placed : (sensors : List Sensor) (places : List ℕ) (i : ℕ) (s : Sensor) (number : ℕ) → NumbersDiffer sensors → i < length sensors → s ≡ get_or sensors i s → s.number < length places
+pub more_placed : (sensors : List Sensor) (places : List ℕ) (i : ℕ) (s : Sensor) (number : ℕ) → NamesDiffer (λ (x : Sensor). x.number) sensors → i < length sensors → s ≡ get_or sensors i s → s.number < length places
     → slice_get sensors (slice_index places number) ≡ sensor_at (take i sensors) number → slice_get sensors (slice_index (set places s.number i) number) ≡ sensor_at (take (i + 1) sensors) number
 more_placed sensors places i s number differ inside is fits before =
     placed sensors places i s number (sensor_at (take i sensors) number) inside is fits before (s.number == number) refl ∙ sym (sensor_at-more sensors i s number differ inside is)

@@ -5,17 +5,17 @@ use Rattle.std.specs.Option.{option_map}
 use Rattle.std.proofs.lemmas.Bool.Decides.{nat_tests}
 use Rattle.cfg_records.specs.declared.key.Key.{Key}
 use Rattle.cfg_records.specs.declared.key.Key.TheVariants as key
+use Rattle.cfg_records.specs.declared.sensor.Sensor.{Sensor}
 use Rattle.cfg_records.specs.declared.board_file.BoardFile.{BoardFile}
 use Rattle.cfg_records.specs.Keys.{same_key}
 use Rattle.cfg_records.specs.KeyLaws.{exact_key, same_key_self}
 use Rattle.cfg_records.specs.MaskLaws.{same_test}
 use Rattle.cfg_records.specs.Records.{Pair, value_of, records_of}
-use Rattle.cfg_records.specs.Boards.{thresholds_pair, hysteresis_pair}
 use Rattle.cfg_records.proofs.Pairs.{has_key}
 use Rattle.cfg_records.proofs.BoardPairs.{place_of, pairs_at, record_of_kind}
 use Rattle.record_kinds.specs.declared.limits.Limits.{Limits}
 use Rattle.record_kinds.specs.Limits.{valid}
-use Rattle.record_kinds.specs.Boards.{thresholds_of, hysteresis_of, limits_at}
+use Rattle.record_kinds.specs.Boards.{of_sensor, limits_at}
 use Rattle.record_kinds.specs.Sound.{IsSoundAt, StartsSound}
 
 -- ---- pairs of one kind of item
@@ -43,15 +43,19 @@ sound_of pair limits test (x ∷ xs) k same all_valid =
     subst (λ (b : Bool). IsSoundAt (option_map limits (find test (x ∷ xs))) (option_map value_of (cond b (Some (pair x)) (find (has_key k) (map pair xs))))) (sym (same x))
     (sound_first pair limits x (test x) (find test xs) (find (has_key k) (map pair xs)) (all_valid x) (sound_of pair limits test xs k same all_valid))
 
+-- the records of a kind that each sensor has
+of_sensors : (file : BoardFile) (of : ℕ → Key) (value : Sensor → List ℕ) (limits_of : Sensor → Limits) (number : ℕ) → ((m n : ℕ) → of m ≡ of n → m ≡ n) → ((s : Sensor) → valid (limits_of s) (value s))
+    → IsSoundAt (of_sensor limits_of file number) (records_of (map (λ s. (of s.number, value s)) file.sensors.items) (of number))
+of_sensors file of value limits_of number exact =
+    sound_of (λ s. (of s.number, value s)) limits_of (λ s. s.number == number) file.sensors.items (of number) (λ s. same_numbered of exact s.number number)
+
 -- ---- each kind
 
 -- the record of a key is sound where only the pairs of its kind are: a line for each kind
 sound_in_kind : (file : BoardFile) (k : Key) → IsSoundAt (limits_at file k) (records_of (pairs_at file (place_of k)) k)
-sound_in_kind file (key.Thresholds number) =
-    sound_of thresholds_pair thresholds_of (λ s. s.number == number) file.sensors (key.Thresholds number) (λ s. same_numbered key.Thresholds (λ m n same. cc) s.number number) (λ s. s.valid)
-sound_in_kind file (key.Hysteresis number) =
-    sound_of hysteresis_pair hysteresis_of (λ s. s.number == number) file.sensors (key.Hysteresis number) (λ s. same_numbered key.Hysteresis (λ m n same. cc) s.number number) (λ s. refl)
-sound_in_kind file key.PowerPolicy = file.known_policy
+sound_in_kind file (key.Thresholds number) = of_sensors file key.Thresholds _ _ number (λ m n same. cc) (λ s. s.thresholds.valid)
+sound_in_kind file (key.Hysteresis number) = of_sensors file key.Hysteresis _ _ number (λ m n same. cc) (λ s. refl)
+sound_in_kind file key.PowerPolicy = file.policy.valid
 sound_in_kind file key.Watchdog = file.watchdog.valid
 
 pub starts_sound : StartsSound

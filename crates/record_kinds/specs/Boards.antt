@@ -6,22 +6,19 @@ use Rattle.cfg_records.specs.declared.key.Key.TheVariants as key
 use Rattle.cfg_records.specs.declared.sensor.Sensor.{Sensor}
 use Rattle.cfg_records.specs.declared.board_file.BoardFile.{BoardFile}
 use Rattle.record_kinds.specs.declared.limits.Limits.{Limits}
-use Rattle.record_kinds.specs.declared.limits.Limits.TheVariants.{Thresholds, Hysteresis, PowerPolicy, Watchdog}
+use Rattle.record_kinds.specs.declared.limits.Limits.TheVariants as limits
 
 -- the sensor of this number
 abbrev pub sensor_at : List Sensor → ℕ → Option Sensor
 sensor_at sensors number = find (λ s. s.number == number) sensors
 
--- the limits of a sensor's records
-abbrev pub thresholds_of : Sensor → Limits
-thresholds_of sensor = Thresholds (record { masks = sensor.masks })
+-- the limits that the sensor of this number gives
+abbrev pub of_sensor : (Sensor → Limits) → BoardFile → ℕ → Option Limits
+of_sensor limits_of file number = option_map limits_of (sensor_at file.sensors.items number)
 
-abbrev pub hysteresis_of : Sensor → Limits
-hysteresis_of sensor = Hysteresis (record {})
-
--- the limits of the key's record
+-- the limits of the key's record: a line for each kind
 abbrev pub limits_at : BoardFile → Key → Option Limits
-limits_at file (key.Thresholds number) = option_map thresholds_of (sensor_at file.sensors number)
-limits_at file (key.Hysteresis number) = option_map hysteresis_of (sensor_at file.sensors number)
-limits_at file key.PowerPolicy = Some (PowerPolicy (record {}))
-limits_at file key.Watchdog = Some (Watchdog (record {}))
+limits_at file (key.Thresholds number) = of_sensor (λ s. limits.Thresholds (record { masks = s.thresholds.masks })) file number
+limits_at file (key.Hysteresis number) = of_sensor (λ s. limits.Hysteresis (record {})) file number
+limits_at file key.PowerPolicy = Some (limits.PowerPolicy (record {}))
+limits_at file key.Watchdog = Some (limits.Watchdog (record {}))

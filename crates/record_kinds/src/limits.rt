@@ -1,7 +1,5 @@
 //! The limits of a record, of whichever kind.
-ghost use Rattle.std.specs.Prelude.{◌≡◌};
-
-use cfg_records::{Asked, Key, Live, Op, RecordData, RecordKind, Sensor, Value};
+use cfg_records::{Asked, Key, Live, Op, RecordData, RecordKind, Value};
 use sensor_recs::{HysteresisLimits, ThresholdLimits};
 use two_wire::{Buffer, Code};
 use watch_boot::{PowerPolicyLimits, WatchdogLimits};
@@ -13,26 +11,6 @@ pub enum Limits {
     Hysteresis(HysteresisLimits),
     PowerPolicy(PowerPolicyLimits),
     Watchdog(WatchdogLimits),
-}
-
-impl Limits {
-    ghost use Rattle.record_kinds.specs.Boards.{thresholds_of, hysteresis_of};
-
-    /// The limits of the sensor's thresholds.
-    pub fn of_thresholds(sensor: &Sensor) -> Limits
-        ensures { result ≡ thresholds_of sensor.now }
-    {
-        Limits::Thresholds(ThresholdLimits {
-            masks: sensor.masks,
-        })
-    }
-
-    /// The limits of the sensor's hysteresis.
-    pub fn of_hysteresis(_sensor: &Sensor) -> Limits
-        ensures { result ≡ hysteresis_of _sensor.now }
-    {
-        Limits::Hysteresis(HysteresisLimits)
-    }
 }
 
 /// The kinds, a line for each: its name, its limits, and where its keys are.
@@ -119,7 +97,7 @@ impl<'a> RecordKind<'a> for Limits {
         of_each_kind!(by_op [op, set_reply(reply)])
     }
 
-    fn next_live(op: &Op, live: &Live) -> Live {
+    fn next_live(op: &Op, live: &mut Live) {
         of_each_kind!(by_op [op, next_live(live)])
     }
 

@@ -1,11 +1,12 @@
 //! What never changes of a board.
 ghost use Rattle.std.specs.Prelude.{◌≡◌, ◌≤◌, length};
 ghost use Rattle.std.specs.Option.{option_copied};
-ghost use Rattle.cfg_records.specs.Distinct.{NumbersDiffer};
+ghost use Rattle.cfg_records.specs.Distinct.{NamesDiffer};
 ghost use Rattle.record_kinds.specs.Places.{ArePlaces};
 
 use crate::limits::Limits;
 use cfg_records::{BoardFile, Device, Key, Sensor};
+use sensor_recs::{HysteresisLimits, ThresholdLimits};
 use std::marker::Model;
 use watch_boot::{PowerPolicyLimits, WatchdogLimits};
 
@@ -28,13 +29,13 @@ impl Model for Setup {
 
     ghost view = { λ s. s.file };
 
-    ghost invariant = { λ s. ArePlaces s.file.sensors s.places };
+    ghost invariant = { λ s. ArePlaces s.file.sensors.items s.places };
 }
 
 /// For each number, where the sensor of this number stands.
 fn places_of(sensors: &[Sensor]) -> [u8; 256]
     requires few { length sensors.now ≤ 32 }
-    requires differ { NumbersDiffer sensors.now }
+    requires differ { NamesDiffer (λ sensor. sensor.number) sensors.now }
     ensures { ArePlaces sensors.now result }
 {
     let mut places = [NOWHERE; 256];
@@ -51,7 +52,7 @@ impl Setup {
     pub fn new(file: BoardFile) -> Setup
         ensures { result ≡ file }
     {
-        let places = places_of(file.sensors.as_slice());
+        let places = places_of(file.sensors.items.as_slice());
         Setup { file, places }
     }
 
@@ -71,21 +72,21 @@ impl Setup {
 
     /// The sensor of this number.
     pub fn sensor(&self, number: u8) -> Option<&Sensor>
-        ensures { option_copied result ≡ sensor_at self.now.sensors number }
+        ensures { option_copied result ≡ sensor_at self.now.sensors.items number }
     {
         let place = self.places[number as usize];
-        self.file.sensors.as_slice().get(place as usize)
+        self.file.sensors.items.as_slice().get(place as usize)
     }
 
     /// The limits of the key's record.
     pub fn limits(&self, key: &Key) -> Option<Limits>
         ensures { result ≡ limits_at self.now key.now }
     {
-        match key {
-            Key::Thresholds(number) => Some(Limits::of_thresholds(self.sensor(*number)?)),
-            Key::Hysteresis(number) => Some(Limits::of_hysteresis(self.sensor(*number)?)),
-            Key::PowerPolicy => Some(Limits::PowerPolicy(PowerPolicyLimits)),
-            Key::Watchdog => Some(Limits::Watchdog(WatchdogLimits)),
-        }
+        Some(match key {
+            Key::Thresholds(n) => Limits::Thresholds(ThresholdLimits::of(self.sensor(*n)?)),
+            Key::Hysteresis(n) => Limits::Hysteresis(HysteresisLimits::of(self.sensor(*n)?)),
+            Key::PowerPolicy => Limits::PowerPolicy(PowerPolicyLimits),
+            Key::Watchdog => Limits::Watchdog(WatchdogLimits),
+        })
     }
 }

@@ -1,6 +1,6 @@
 -- Hysteresis as one value, and where it stands among all kinds.
 use Rattle.std.specs.Prelude.{ℕ}
-use Rattle.cfg_records.specs.declared.op.SetHysteresis.{SetHysteresis}
+use Rattle.cfg_records.specs.declared.hysteresis.SetHysteresis.{SetHysteresis}
 use Rattle.cfg_records.specs.Kind.{Kind}
 use Rattle.cfg_records.specs.Member.{Member}
 use Rattle.sensor_recs.specs.declared.hysteresis.HysteresisLimits.{HysteresisLimits}

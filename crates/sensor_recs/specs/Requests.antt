@@ -1,8 +1,8 @@
 -- Requests to sensors (IPMI 2.0, section 35).
 use Rattle.std.specs.Prelude.{ℕ, List}
 use Rattle.cfg_records.specs.declared.message.Asked.{Asked}
-use Rattle.cfg_records.specs.Requests.{ipmi_request}
+use Rattle.cfg_records.specs.Requests.{sensor_event, ipmi_request}
 
 -- the sensor request with this command and data: from nobody, to logical unit 0
 abbrev pub sensor_request : ℕ → List ℕ → Asked
-sensor_request command body = ipmi_request 0x04 command body
+sensor_request command body = ipmi_request sensor_event command body

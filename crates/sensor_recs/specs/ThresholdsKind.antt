@@ -1,6 +1,6 @@
 -- Thresholds as one value, and where it stands among all kinds.
 use Rattle.std.specs.Prelude.{ℕ}
-use Rattle.cfg_records.specs.declared.op.SetThresholds.{SetThresholds}
+use Rattle.cfg_records.specs.declared.sensor_thresholds.SetThresholds.{SetThresholds}
 use Rattle.cfg_records.specs.Kind.{Kind}
 use Rattle.cfg_records.specs.Member.{Member}
 use Rattle.sensor_recs.specs.declared.thresholds.ThresholdLimits.{ThresholdLimits}

@@ -3,7 +3,7 @@ ghost use Rattle.std.specs.Prelude.{◌≡◌};
 ghost use Rattle.sensor_recs.specs.Hysteresis.{both_bytes, hysteresis_body};
 
 use crate::request::sensor_request;
-use cfg_records::{Asked, Live, RecordData, RecordKind, SetHysteresis, Value};
+use cfg_records::{Asked, Live, RecordData, RecordKind, Sensor, SetHysteresis, Value};
 use two_wire::{Buffer, Code};
 
 /// The number of the command that sets it.
@@ -18,6 +18,15 @@ const HYSTERESIS_MASK: u8 = 0xFF;
 /// Any hysteresis can be set.
 #[derive(Clone, Copy, Debug, PartialEq, Eq)]
 pub struct HysteresisLimits;
+
+impl HysteresisLimits {
+    /// The limits that a sensor gives.
+    pub fn of(_sensor: &Sensor) -> Self
+        ensures { result ≡ record {} }
+    {
+        HysteresisLimits
+    }
+}
 
 /// The value that the operation makes.
 fn both_bytes(op: &SetHysteresis) -> [u8; 2]
@@ -49,9 +58,7 @@ impl<'a> RecordKind<'a> for HysteresisLimits {
 
     fn set_reply<B: Buffer>(_op: &SetHysteresis, _reply: &mut B) {}
 
-    fn next_live(_op: &SetHysteresis, live: &Live) -> Live {
-        *live
-    }
+    fn next_live(_op: &SetHysteresis, _live: &mut Live) {}
 
     fn get_data<B: Buffer>(&self, value: &[u8], _live: &Live, reply: &mut B) {
         reply.extend_from_slice(value);

@@ -1,8 +1,7 @@
 //! Thresholds and hysteresis.
 use crate::{HysteresisLimits, ThresholdLimits};
 use cfg_records::{
-    Hysteresis, Live, RecordData, RecordKind, Sensor, SetHysteresis, SetThresholds, ThresholdMasks,
-    Value,
+    Live, RecordData, RecordKind, SetHysteresis, SetThresholds, ThresholdMasks, Thresholds, Value,
 };
 use std::test::Fail;
 use two_wire::code::INVALID_DATA_FIELD;
@@ -10,14 +9,10 @@ use two_wire::code::INVALID_DATA_FIELD;
 /// The Get reply of a fan sensor, of which the upper thresholds but the highest can be read.
 const FAN_REPLY: [u8; 7] = [0x18, 0, 0, 0, 0x90, 0xA0, 0];
 
-/// A temperature sensor, all of whose thresholds can be read and set.
-fn temperature() -> Option<Sensor> {
+/// The thresholds of a temperature sensor, all of which can be read and set.
+fn temperature() -> Option<Thresholds> {
     let masks = ThresholdMasks::new(0x3F, 0x3F)?;
-    let hysteresis = Hysteresis {
-        positive: 2,
-        negative: 2,
-    };
-    Sensor::new(5, masks, [0x14, 0x0A, 0x05, 0x50, 0x5F, 0x6E], hysteresis)
+    Thresholds::new(masks, [0x14, 0x0A, 0x05, 0x50, 0x5F, 0x6E])
 }
 
 /// The data of the Set request that undoes the operation from the Get reply.
@@ -63,9 +58,9 @@ fn hysteresis_is_undone_from_its_reply(rt: HostRuntime) -> Result<(), Fail> {
 
 #[test]
 fn thresholds_out_of_order_are_refused(rt: HostRuntime) -> Result<(), Fail> {
-    let sensor = temperature().ok_or("sensor")?;
+    let thresholds = temperature().ok_or("thresholds")?;
     let limits = ThresholdLimits {
-        masks: sensor.masks,
+        masks: thresholds.masks,
     };
     let mut set = SetThresholds {
         sensor: 5,
@@ -73,12 +68,12 @@ fn thresholds_out_of_order_are_refused(rt: HostRuntime) -> Result<(), Fail> {
         values: [0, 0, 0, 0, 0x70, 0],
     };
     let mut new = Value::from_slice(&[0xEE]);
-    let high = limits.apply(&set, &sensor.thresholds, &mut new);
+    let high = limits.apply(&set, &thresholds.values, &mut new);
     assert!(rt; matches!(high, Err(INVALID_DATA_FIELD)));
     assert!(rt; new.is(&[0xEE]));
 
     set.values[4] = 0x60;
-    let Ok(()) = limits.apply(&set, &sensor.thresholds, &mut new) else {
+    let Ok(()) = limits.apply(&set, &thresholds.values, &mut new) else {
         return Err("refused".into());
     };
     assert!(rt; new.is(&[0x14, 0x0A, 0x05, 0x50, 0x60, 0x6E]));
@@ -87,9 +82,9 @@ fn thresholds_out_of_order_are_refused(rt: HostRuntime) -> Result<(), Fail> {
 
 #[test]
 fn replies_are_appended(rt: HostRuntime) -> Result<(), Fail> {
-    let sensor = temperature().ok_or("sensor")?;
+    let thresholds = temperature().ok_or("thresholds")?;
     let limits = ThresholdLimits {
-        masks: sensor.masks,
+        masks: thresholds.masks,
     };
     let live = Live::opening();
     let op = SetHysteresis {
@@ -100,7 +95,7 @@ fn replies_are_appended(rt: HostRuntime) -> Result<(), Fail> {
     let mut reply = RecordData::from_slice(&[0xEE]);
     HysteresisLimits::set_reply(&op, &mut reply);
     HysteresisLimits.get_data(&[3, 1], &live, &mut reply);
-    limits.get_data(&sensor.thresholds, &live, &mut reply);
+    limits.get_data(&thresholds.values, &live, &mut reply);
     assert!(rt; reply.is(&[0xEE, 3, 1, 0x3F, 0x14, 0x0A, 0x05, 0x50, 0x5F, 0x6E]));
     Ok(())
 }

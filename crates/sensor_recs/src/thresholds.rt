@@ -4,7 +4,9 @@ ghost use Rattle.sensor_recs.specs.Thresholds.{choose, thresholds_body, shows_al
 
 use crate::request::sensor_request;
 use cfg_records::mask::{has, is_within};
-use cfg_records::{Asked, Live, RecordData, RecordKind, SetThresholds, ThresholdMasks, Value};
+use cfg_records::{
+    Asked, Live, RecordData, RecordKind, Sensor, SetThresholds, ThresholdMasks, Value,
+};
 use two_wire::code::INVALID_DATA_FIELD;
 use two_wire::{Buffer, Code};
 
@@ -62,6 +64,15 @@ impl ThresholdLimits {
     ghost use Rattle.cfg_records.specs.Meaning.{told};
     ghost use Rattle.sensor_recs.specs.Thresholds.{thresholds_outcome};
 
+    /// The limits that a sensor gives.
+    pub fn of(sensor: &Sensor) -> Self
+        ensures { result ≡ record { masks = sensor.now.thresholds.masks } }
+    {
+        ThresholdLimits {
+            masks: sensor.thresholds.masks,
+        }
+    }
+
     /// Makes `new` the thresholds that the operation makes of the old ones.
     fn set(&self, op: &SetThresholds, old: &[u8], new: &mut Value) -> Result<(), Code>
         requires { length old.now ≡ 6 }
@@ -92,9 +103,7 @@ impl<'a> RecordKind<'a> for ThresholdLimits {
 
     fn set_reply<B: Buffer>(_op: &SetThresholds, _reply: &mut B) {}
 
-    fn next_live(_op: &SetThresholds, live: &Live) -> Live {
-        *live
-    }
+    fn next_live(_op: &SetThresholds, _live: &mut Live) {}
 
     fn get_data<B: Buffer>(&self, value: &[u8], _live: &Live, reply: &mut B) {
         let shown = choose(self.masks.readable, value, &ZEROS);

@@ -1,6 +1,7 @@
 //! Completion codes of refused requests.
-ghost use Rattle.std.specs.Prelude.{◌≡◌, ◌<◌};
+ghost use Rattle.std.specs.Prelude.{◌≡◌, ◌<◌, [], ◌∷◌};
 ghost use Rattle.std.specs.Option.{SomeIff};
+ghost use Rattle.two_wire.specs.Codes as codes;
 
 use std::marker::Model;
 
@@ -57,6 +58,34 @@ pub const PLDM_UNSUPPORTED_COMMAND: Code = Code { value: 0x05 };
 
 /// PLDM: the type isn't one of the controller's.
 pub const PLDM_INVALID_TYPE: Code = Code { value: 0x20 };
+
+/// The codes of IPMI, from the lowest, each by its constant. The clause ties a constant to the name that contracts have for it.
+pub fn of_ipmi() -> [Code; 7]
+    ensures { result ≡ codes.uninitialized_watchdog ∷ codes.node_busy ∷ codes.invalid_command ∷ codes.invalid_for_lun ∷ codes.invalid_length ∷ codes.not_present ∷ codes.invalid_data_field ∷ [] }
+{
+    [
+        UNINITIALIZED_WATCHDOG,
+        NODE_BUSY,
+        INVALID_COMMAND,
+        INVALID_FOR_LUN,
+        INVALID_LENGTH,
+        NOT_PRESENT,
+        INVALID_DATA_FIELD,
+    ]
+}
+
+/// The codes of PLDM, from the lowest, each by its constant.
+pub fn of_pldm() -> [Code; 5]
+    ensures { result ≡ codes.pldm_invalid_data ∷ codes.pldm_invalid_length ∷ codes.pldm_not_ready ∷ codes.pldm_unsupported_command ∷ codes.pldm_invalid_type ∷ [] }
+{
+    [
+        PLDM_INVALID_DATA,
+        PLDM_INVALID_LENGTH,
+        PLDM_NOT_READY,
+        PLDM_UNSUPPORTED_COMMAND,
+        PLDM_INVALID_TYPE,
+    ]
+}
 
 impl Code {
     /// The code of this value, or nothing at 00h.

@@ -1,16 +1,28 @@
 -- The power restore policy, as a kind of record (IPMI 2.0, sections 28.2 and 28.8): Get Chassis Status shows it in bits 6:5
 -- of its first byte.
 use Rattle.std.specs.Prelude.{◌≡◌, ◌≢◌, ℕ, ◌+◌, ◌*◌, ◌/◌, ◌%◌, ◌<◌, ◌≤◌, List, [], ◌∷◌, length, slice_index, nat_le, ◌==◌, ◌&&◌, not, Bool, if◌then◌else◌, Result, Ok, Err, Option, Some, None, refl}
+use Rattle.two_wire.specs.Codes.{invalid_data_field}
 use Rattle.cfg_records.specs.declared.key.Key.{Key}
 use Rattle.cfg_records.specs.declared.key.Key.TheVariants as key
 use Rattle.cfg_records.specs.declared.op.Op.{Op}
 use Rattle.cfg_records.specs.declared.op.Op.TheVariants as op
-use Rattle.cfg_records.specs.declared.op.SetPowerPolicy.{SetPowerPolicy}
+use Rattle.cfg_records.specs.declared.power_policy.SetPowerPolicy.{SetPowerPolicy}
 use Rattle.cfg_records.specs.declared.live.Live.{Live}
 use Rattle.cfg_records.specs.Kind.{KindWords, RecordWords}
 use Rattle.cfg_records.specs.AllKinds.{Place}
 use Rattle.cfg_records.specs.PowerPolicy.{IsPowerPolicy}
-use Rattle.cfg_records.specs.Requests.{ipmi_request}
+use Rattle.cfg_records.specs.Requests.{chassis, ipmi_request}
+
+-- the command that sets it, and the one that gets it among other things
+abbrev pub set_power_restore_policy : ℕ
+set_power_restore_policy = 0x06
+
+abbrev pub get_chassis_status : ℕ
+get_chassis_status = 0x01
+
+-- the policies that the Set reply names: a bit for each of 0, 1 and 2
+abbrev pub supported : ℕ
+supported = 0x07
 
 -- the policy that is asked for: bits 2:0
 abbrev pub asked_policy : SetPowerPolicy → ℕ
@@ -29,7 +41,7 @@ next_policy op old = if asked_policy op == 3 then slice_index old 0 else asked_p
 
 -- the new value, or CCh
 abbrev pub policy_outcome : SetPowerPolicy → List ℕ → Result (List ℕ) ℕ
-policy_outcome op old = if nat_le (asked_policy op) 3 then Ok (next_policy op old ∷ []) else Err 0xCC
+policy_outcome op old = if nat_le (asked_policy op) 3 then Ok (next_policy op old ∷ []) else Err invalid_data_field
 
 -- the chassis status: the policy in bits 6:5 with the chassis bits in 4:0, and two bytes of 00h
 abbrev pub status : List ℕ → Live → List ℕ
@@ -53,12 +65,12 @@ abbrev pub words : KindWords (Unit {0}) SetPowerPolicy
 words = record {
   name = λ alone. key.PowerPolicy;
   key_of = λ op. tt;
-  get_request = λ alone. ipmi_request 0x00 0x01 [];
-  set_body = λ op. op.policy ∷ [];
-  set_request = λ op. ipmi_request 0x00 0x06 (op.policy ∷ []);
-  -- the Set reply says that the policies 0, 1 and 2 are there, by a bit for each
-  set_view = λ op. 0x07 ∷ [];
-  live_after = λ op live. live;
+  get_asked = λ alone. ipmi_request chassis get_chassis_status [];
+  set_data = λ op. op.policy ∷ [];
+  set_asked = λ op. ipmi_request chassis set_power_restore_policy (op.policy ∷ []);
+  -- the Set reply says which policies are there
+  set_reply = λ op. supported ∷ [];
+  next_live = λ op live. live;
   is_reply = λ op reply. length reply ≡ 3;
   -- no request sets the policy 3
   restorable = λ op reply. shown_policy reply ≢ 3;

@@ -1,5 +1,5 @@
 -- PowerPolicy as one value, and where it stands among all kinds.
-use Rattle.cfg_records.specs.declared.op.SetPowerPolicy.{SetPowerPolicy}
+use Rattle.cfg_records.specs.declared.power_policy.SetPowerPolicy.{SetPowerPolicy}
 use Rattle.cfg_records.specs.Kind.{Kind}
 use Rattle.cfg_records.specs.Member.{Member}
 use Rattle.watch_boot.specs.declared.power_policy.PowerPolicyLimits.{PowerPolicyLimits}

@@ -2,8 +2,9 @@
 use Rattle.std.proofs.Common.{◌≡◌, ◌≢◌, ℕ, zero, suc, ◌+◌, ◌*◌, ◌/◌, ◌%◌, ◌<◌, ◌≤◌, List, [], ◌∷◌, length, slice_index, nat_le, ◌==◌, ◌&&◌, not, Bool, true, false, if◌then◌else◌, Ok, Err, IsTrue, refl, sym, ◌∙◌, ap, subst, Some, arith}
 use Rattle.std.proofs.lemmas.Grind.{same_number_lists}
 use Rattle.std.proofs.lemmas.Bool.Decides.{nat_tests}
+use Rattle.two_wire.specs.Codes.{invalid_data_field}
 use Rattle.cfg_records.specs.declared.key.Key.TheVariants as key
-use Rattle.cfg_records.specs.declared.op.SetPowerPolicy.{SetPowerPolicy}
+use Rattle.cfg_records.specs.declared.power_policy.SetPowerPolicy.{SetPowerPolicy}
 use Rattle.cfg_records.specs.declared.live.Live.{Live}
 use Rattle.cfg_records.specs.Keys.{is_length}
 use Rattle.cfg_records.specs.MaskLaws.{both, both_true}
@@ -54,13 +55,13 @@ at_most a b h = grind (arith, nat_tests)
 above : (a b : ℕ) → nat_le a b ≡ false → a ≤ b → ⊥
 above a b h le = grind (arith, nat_tests)
 
-decided : (op : SetPowerPolicy) (old : List ℕ) (b : Bool) → nat_le (asked_policy op) 3 ≡ b → Decides (if b then Ok (next_policy op old ∷ []) else Err 0xCC) (SetsPolicy op old)
+decided : (op : SetPowerPolicy) (old : List ℕ) (b : Bool) → nat_le (asked_policy op) 3 ≡ b → Decides (if b then Ok (next_policy op old ∷ []) else Err invalid_data_field) (SetsPolicy op old)
 decided op old true is = next_sets op old (at_most _ _ is)
 decided op old false is = λ new s. above _ _ is s.known
 
-refused : (made : List ℕ) (code : ℕ) (b : Bool) → (if b then Ok made else Err 0xCC) ≡ Err code → IsRefusal code
+refused : (made : List ℕ) (code : ℕ) (b : Bool) → (if b then Ok made else Err invalid_data_field) ≡ Err code → IsRefusal code
 refused made code true is = cc
-refused made code false is = refused_field code (Err 0xCC) refl is
+refused made code false is = refused_field code (Err invalid_data_field) refl is
 
 known_next : (asked old : ℕ) (b : Bool) → asked ≤ 3 → old ≤ 3 → (if b then old else asked) ≤ 3
 known_next asked old true known was = was

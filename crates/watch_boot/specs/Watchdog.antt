@@ -1,17 +1,25 @@
 -- The watchdog timer, as a kind of record (IPMI 2.0, sections 27.5 to 27.7).
-use Rattle.std.specs.Prelude.{◌≡◌, ℕ, ◌+◌, ◌-◌, ◌*◌, ◌/◌, ◌%◌, ◌<◌, ◌≤◌, List, [], ◌∷◌, length, slice_index, bit_and, nat_le, ◌&&◌, ◌==◌, not, Bool, true, IsFalse, if◌then◌else◌, Result, Ok, Err, Option, Some, None, refl}
+use Rattle.std.specs.Prelude.{◌≡◌, ℕ, ◌+◌, ◌-◌, ◌*◌, ◌/◌, ◌%◌, ◌^◌, ◌<◌, ◌≤◌, List, [], ◌∷◌, length, slice_index, bit_and, nat_le, ◌&&◌, ◌==◌, not, Bool, true, IsFalse, if◌then◌else◌, Result, Ok, Err, Option, Some, None, refl}
 use Rattle.std.specs.Int.{w16, to_le_bytes, from_le_bytes}
+use Rattle.two_wire.specs.Codes.{invalid_data_field}
 use Rattle.cfg_records.specs.declared.key.Key.{Key}
 use Rattle.cfg_records.specs.declared.key.Key.TheVariants as key
 use Rattle.cfg_records.specs.declared.op.Op.{Op}
 use Rattle.cfg_records.specs.declared.op.Op.TheVariants as op
-use Rattle.cfg_records.specs.declared.op.SetWatchdog.{SetWatchdog}
+use Rattle.cfg_records.specs.declared.watchdog.SetWatchdog.{SetWatchdog}
 use Rattle.cfg_records.specs.declared.live.Live.{Live}
 use Rattle.cfg_records.specs.Kind.{KindWords, RecordWords}
 use Rattle.cfg_records.specs.AllKinds.{Place}
 use Rattle.cfg_records.specs.Masks.{has}
 use Rattle.cfg_records.specs.Watchdog.{IsWatchdog, watchdog_value}
-use Rattle.cfg_records.specs.Requests.{ipmi_request}
+use Rattle.cfg_records.specs.Requests.{application, ipmi_request}
+
+-- the commands that set it and get it
+abbrev pub set_watchdog_timer : ℕ
+set_watchdog_timer = 0x24
+
+abbrev pub get_watchdog_timer : ℕ
+get_watchdog_timer = 0x25
 
 -- ---- the bytes
 
@@ -58,11 +66,15 @@ is_accepted op = nat_le 1 (use_in op.timer_use) && nat_le (use_in op.timer_use) 
 
 -- the new settings, or CCh
 abbrev pub watchdog_outcome : SetWatchdog → Result (List ℕ) ℕ
-watchdog_outcome op = if is_accepted op then Ok (settings_of op) else Err 0xCC
+watchdog_outcome op = if is_accepted op then Ok (settings_of op) else Err invalid_data_field
 
 -- the flags of the first byte that the second doesn't name
 abbrev pub without : ℕ → ℕ → ℕ
 without flags named = bit_and flags (255 - named)
+
+-- a flag is there after a Set where it was there and isn't named
+abbrev pub ClearsNamed : Type 0
+ClearsNamed = (flags named place : ℕ) → named < 2 ^ 8 → place < 8 → has (without flags named) place ≡ (has flags place && not (has named place))
 
 -- the countdown begins anew, the timer goes on only where bit 6 is set, and the named flags are cleared
 abbrev pub live_after_set : SetWatchdog → Live → Live
@@ -139,12 +151,12 @@ abbrev pub words : KindWords (Unit {0}) SetWatchdog
 words = record {
   name = λ alone. key.Watchdog;
   key_of = λ op. tt;
-  get_request = λ alone. ipmi_request 0x06 0x25 [];
-  set_body = watchdog_body;
-  set_request = λ op. ipmi_request 0x06 0x24 (watchdog_body op);
+  get_asked = λ alone. ipmi_request application get_watchdog_timer [];
+  set_data = watchdog_body;
+  set_asked = λ op. ipmi_request application set_watchdog_timer (watchdog_body op);
   -- the Set reply has no data
-  set_view = λ op. [];
-  live_after = live_after_set;
+  set_reply = λ op. [];
+  next_live = live_after_set;
   is_reply = λ op reply. length reply ≡ 8;
   restorable = λ op. IsStopped;
   inverse = λ op reply. if is_stopped reply then Some (undo_watchdog reply) else None;

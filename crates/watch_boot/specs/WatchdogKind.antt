@@ -1,5 +1,5 @@
 -- Watchdog as one value, and where it stands among all kinds.
-use Rattle.cfg_records.specs.declared.op.SetWatchdog.{SetWatchdog}
+use Rattle.cfg_records.specs.declared.watchdog.SetWatchdog.{SetWatchdog}
 use Rattle.cfg_records.specs.Kind.{Kind}
 use Rattle.cfg_records.specs.Member.{Member}
 use Rattle.watch_boot.specs.declared.watchdog.WatchdogLimits.{WatchdogLimits}

@@ -5,9 +5,10 @@ use Rattle.std.proofs.lemmas.Bool.Decides.{nat_tests}
 use Rattle.std.proofs.lemmas.Nat.{le_bytes_2}
 use Rattle.std.proofs.lemmas.Nat.Bits.{bit_at_and, bit_at_not, bit_at-lt}
 use Rattle.std.specs.Int.{bit_at, w8, w16, to_le_bytes, from_le_bytes}
+use Rattle.two_wire.specs.Codes.{invalid_data_field}
 use Rattle.cfg_records.specs.Masks.{has}
 use Rattle.cfg_records.specs.declared.key.Key.TheVariants as key
-use Rattle.cfg_records.specs.declared.op.SetWatchdog.{SetWatchdog}
+use Rattle.cfg_records.specs.declared.watchdog.SetWatchdog.{SetWatchdog}
 use Rattle.cfg_records.specs.declared.live.Live.{Live}
 use Rattle.cfg_records.specs.Keys.{is_length}
 use Rattle.cfg_records.specs.MaskLaws.{both}
@@ -16,7 +17,7 @@ use Rattle.cfg_records.specs.InverseLaws.{some_where, made_where, tested_same, s
 use Rattle.cfg_records.specs.Kind.{KindLaws, RecordLaws}
 use Rattle.cfg_records.specs.Refusals.{refused_field}
 use Rattle.cfg_records.specs.Watchdog.{IsWatchdog, IsWatchdog-prop, watchdog_value}
-use Rattle.watch_boot.specs.Watchdog.{use_in, kept_use, without_bit_6, interrupt_in, action_in, kept_actions, SetsWatchdog, settings_of, is_accepted, shown_use, watchdog_view, without, configuration, IsStopped, is_stopped, undo_watchdog, words, record_words}
+use Rattle.watch_boot.specs.Watchdog.{use_in, kept_use, without_bit_6, interrupt_in, action_in, kept_actions, SetsWatchdog, settings_of, is_accepted, shown_use, watchdog_view, without, ClearsNamed, configuration, IsStopped, is_stopped, undo_watchdog, words, record_words}
 
 -- ---- what a Set makes
 
@@ -53,13 +54,13 @@ accepted_sets op h =
 sets_accepted : (op : SetWatchdog) (new : List ℕ) → SetsWatchdog op new → is_accepted op ≡ true
 sets_accepted op new s = both _ _ (both _ _ (both _ _ (to_le _ _ s.a_use) (to_le _ _ s.known_use)) (to_le _ _ s.known_interrupt)) (to_le _ _ s.known_action)
 
-decided : (op : SetWatchdog) (b : Bool) → is_accepted op ≡ b → Decides (if b then Ok (settings_of op) else Err 0xCC) (SetsWatchdog op)
+decided : (op : SetWatchdog) (b : Bool) → is_accepted op ≡ b → Decides (if b then Ok (settings_of op) else Err invalid_data_field) (SetsWatchdog op)
 decided op true is = accepted_sets op is
 decided op false is = λ new s. let accepted : is_accepted op ≡ true = sets_accepted op new s in cc
 
-refused : (made : List ℕ) (code : ℕ) (b : Bool) → (if b then Ok made else Err 0xCC) ≡ Err code → IsRefusal code
+refused : (made : List ℕ) (code : ℕ) (b : Bool) → (if b then Ok made else Err invalid_data_field) ≡ Err code → IsRefusal code
 refused made code true is = cc
-refused made code false is = refused_field code (Err 0xCC) refl is
+refused made code false is = refused_field code (Err invalid_data_field) refl is
 
 five_of : (a b c n : ℕ) → length (watchdog_value a b c n) ≡ 5
 five_of a b c n = refl
@@ -163,10 +164,6 @@ told_settings value other live v w same =
     five_members value v.five ∙ five_bytes _ _ _ _ _ _ _ _ _ _ use_is (at 1) (at 2) (at 3) (at 4) ∙ sym (five_members other w.five)
 
 -- ---- the flags
-
--- a flag is there after a Set where it was there and isn't named
-abbrev pub ClearsNamed : Type 0
-ClearsNamed = (flags named place : ℕ) → named < 2 ^ 8 → place < 8 → has (without flags named) place ≡ (has flags place && not (has named place))
 
 one_of_two : (a b : ℕ) → a < 2 → b < 2 → (min a (1 - b) == 1) ≡ ((a == 1) && not (b == 1))
 one_of_two zero zero small also = refl

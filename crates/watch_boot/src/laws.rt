@@ -1,5 +1,5 @@
 //! What holds of the watchdog.
-ghost use Rattle.watch_boot.specs.WatchdogLaws.{ClearsNamed};
+ghost use Rattle.watch_boot.specs.Watchdog.{ClearsNamed};
 
 /// A flag is there after a Set where it was there and the Set doesn't name it.
 pub fn named_flags_are_cleared()

@@ -5,4 +5,4 @@ use Rattle.cfg_records.proofs.sample.temperature.Goals as goal
 
 pub invariant_of-result-2 : goal.invariant_of-result-2
 unfolding is_clear is_in_order
-invariant_of-result-2 c = record { numbered = lit< tt; valid = tests_pass _ _ refl refl refl }
+invariant_of-result-2 c = record { valid = tests_pass _ _ refl refl refl }
