@@ -2,7 +2,7 @@
 ghost use Rattle.std.specs.Prelude.{◌≡◌};
 ghost use Rattle.bmc_core.specs.Outs.{sent};
 ghost use Rattle.bmc_core.specs.Port.{Hears};
-ghost use Rattle.bmc_core.specs.State.{state};
+ghost use Rattle.bmc_board.specs.State.{state_of};
 ghost use Rattle.bench_port.specs.Serve.{frame_of, first};
 
 use crate::slot::Slot;
@@ -21,7 +21,7 @@ fn board(alloc: Global) -> Result<Board<PlainStore>, AllocError> {
 
 /// Hands a frame to the port, which fills in what it sends.
 fn serve_one<S: Store>(port: &mut Port, board: &mut Board<S>, frame: &Slot, out: &mut Out)
-    ensures { Hears board.old.setup port.old (state (S.records board.old.store) board.old.live) (frame_of frame.now) out.new port.new (state (S.records board.new.store) board.new.live) }
+    ensures { Hears board.old.setup port.old (state_of S.records board.old) (frame_of frame.now) out.new port.new (state_of S.records board.new) }
 {
     port.on_frame(board, frame.as_slice(), out);
 }

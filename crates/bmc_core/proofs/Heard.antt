@@ -10,7 +10,7 @@ use Rattle.cfg_records.specs.declared.board_file.BoardFile.{BoardFile}
 use Rattle.bmc_core.specs.declared.out.Reason.TheVariants.{Frame}
 use Rattle.bmc_core.specs.declared.out.Out.{Out}
 use Rattle.bmc_core.specs.declared.port.At.{At}
-use Rattle.bmc_core.specs.State.{State}
+use Rattle.bmc_board.specs.State.{State}
 use Rattle.bmc_core.specs.Outs.{ignored}
 use Rattle.bmc_core.specs.IpmbPort.{IsTo, IsAnswered, HearsFrame}
 

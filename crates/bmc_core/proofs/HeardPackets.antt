@@ -12,7 +12,7 @@ use Rattle.cfg_records.specs.declared.board_file.BoardFile.{BoardFile}
 use Rattle.bmc_core.specs.declared.out.Out.{Out}
 use Rattle.bmc_core.specs.declared.out.Reason.TheVariants as reason
 use Rattle.bmc_core.specs.declared.port.Port.{Port}
-use Rattle.bmc_core.specs.State.{State}
+use Rattle.bmc_board.specs.State.{State}
 use Rattle.bmc_core.specs.Outs.{ignored, waiting}
 use Rattle.bmc_core.specs.SmbusPort.{Ignores, HearsMessage, HearsOurs, HearsPacket, with_packet}
 

@@ -13,8 +13,8 @@ use Rattle.cfg_records.specs.declared.board_file.BoardFile.{BoardFile}
 use Rattle.bmc_core.specs.declared.out.Out.{Out}
 use Rattle.bmc_core.specs.declared.out.Reason.TheVariants.{Frame, NotOurs, NotRequest}
 use Rattle.bmc_core.specs.declared.port.At.{At}
-use Rattle.bmc_core.specs.State.{State}
-use Rattle.bmc_core.specs.Answer.{answer_of}
+use Rattle.bmc_board.specs.State.{State}
+use Rattle.bmc_board.specs.Answer.{answer_of}
 use Rattle.bmc_core.specs.Outs.{ignored, answered}
 
 -- what a request asks of the board

@@ -1,15 +1,3 @@
-pub mod Table
-pub mod Request
-pub mod State
-pub mod Row
-pub mod PldmTypes
-pub mod Answer
-pub mod Room
-pub mod Gives
-pub mod AnswerLaws
-pub mod Decode
-pub mod Undo
-pub mod Quiet
 pub mod Outs
 pub mod IpmbPort
 pub mod SmbusPort

@@ -5,7 +5,7 @@ use Rattle.two_wire.specs.declared.Bus.TheVariants.{Ipmb, Smbus}
 use Rattle.cfg_records.specs.declared.board_file.BoardFile.{BoardFile}
 use Rattle.bmc_core.specs.declared.out.Out.{Out}
 use Rattle.bmc_core.specs.declared.port.Port.{Port}
-use Rattle.bmc_core.specs.State.{State}
+use Rattle.bmc_board.specs.State.{State}
 use Rattle.bmc_core.specs.IpmbPort.{HearsFrame}
 use Rattle.bmc_core.specs.SmbusPort.{HearsPacket}
 

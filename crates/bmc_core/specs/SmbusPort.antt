@@ -22,8 +22,8 @@ use Rattle.bmc_core.specs.declared.out.Reason.{Reason}
 use Rattle.bmc_core.specs.declared.out.Reason.TheVariants as reason
 use Rattle.bmc_core.specs.declared.out.Done.TheVariants as done
 use Rattle.bmc_core.specs.declared.port.Port.{Port}
-use Rattle.bmc_core.specs.State.{State}
-use Rattle.bmc_core.specs.Answer.{answer_of}
+use Rattle.bmc_board.specs.State.{State}
+use Rattle.bmc_board.specs.Answer.{answer_of}
 use Rattle.bmc_core.specs.Outs.{ignored, waiting, sent}
 
 -- nothing is sent for this reason, and neither the port nor the board changes

@@ -1,12 +1,12 @@
 //! The ports that requests come to.
 ghost use Rattle.std.specs.Prelude.{◌≡◌, [], IfOk};
-ghost use Rattle.bmc_core.specs.State.{state};
+ghost use Rattle.bmc_board.specs.State.{state_of};
 ghost use Rattle.bmc_core.specs.Port.{Hears};
 
 mod ipmb;
 mod smbus;
 
-use crate::board::Board;
+use bmc_board::Board;
 use crate::out::Out;
 use cfg_records::Store;
 use mctp_net::{Assembler, Endpoint, EndpointId};
@@ -49,7 +49,7 @@ impl Port {
 
     /// Takes what is heard on the bus, and fills in what is to be sent. It takes no memory.
     pub fn on_frame<S: Store>(&mut self, board: &mut Board<S>, bytes: &[u8], out: &mut Out)
-        ensures heard { Hears board.old.setup self.old (state (S.records board.old.store) board.old.live) bytes.now out.new self.new (state (S.records board.new.store) board.new.live) }
+        ensures heard { Hears board.old.setup self.old (state_of S.records board.old) bytes.now out.new self.new (state_of S.records board.new) }
         ensures setup { board.new.setup ≡ board.old.setup }
     {
         match self.bus {

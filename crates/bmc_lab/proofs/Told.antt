@@ -2,20 +2,19 @@
 use Rattle.std.proofs.Common.{◌≡◌, ℕ, List, [], Result, Ok, Err, IfOk, string_bytes, subst, ◌∙◌, ap}
 use Rattle.two_wire.specs.declared.Bus.{Bus}
 use Rattle.cfg_records.specs.declared.board_file.BoardFile.{BoardFile}
-use Rattle.cfg_records.specs.declared.live.Live.{Live}
 use Rattle.cfg_records.specs.Records.{Records, records_of}
 use Rattle.cfg_records.specs.Boards.{pairs_of}
-use Rattle.cfg_records.specs.Opening.{opening as no_activity}
 use Rattle.cfg_records.specs.Sample.{IsSampleBoard}
+use Rattle.bmc_board.specs.declared.activity.Activity.{Activity}
 use Rattle.bmc_core.specs.declared.out.Out.{Out}
 use Rattle.bmc_core.specs.declared.port.At.{At}
 use Rattle.bmc_core.specs.declared.port.Port.{Port}
-use Rattle.bmc_core.specs.State.{State, state}
+use Rattle.bmc_board.specs.State.{State, state, opening, opened}
 use Rattle.bmc_core.specs.Outs.{sent}
 use Rattle.bmc_core.specs.Port.{Hears}
 use Rattle.bmc_lab.specs.declared.report.Report.{Report}
 use Rattle.bmc_lab.specs.Report.{text_of, status_of}
-use Rattle.bmc_lab.specs.Run.{controller, fresh_port, opening, Tells}
+use Rattle.bmc_lab.specs.Run.{controller, fresh_port, Tells}
 
 -- a port that is made for the controller's place is fresh
 pub is_fresh : (port : Port) (bus : Bus) (at : At) → at ≡ controller → port.bus ≡ bus → port.at ≡ at → port.endpoint ≡ at.eid → port.assembler ≡ [] → port ≡ fresh_port bus
@@ -25,16 +24,16 @@ is_fresh port bus at place same stands named empty =
     λ i. record { bus = same i; at = where_it_is i; endpoint = eid i; assembler = empty i }
 
 -- a fresh port, over a board that stands as the file says, hears as a fresh controller does
-pub as_opened : (port : Port) (bus : Bus) (setup file : BoardFile) (records : Records) (live : Live) (bytes : List ℕ) (out : Out) (next : Port) (after : State) → port ≡ fresh_port bus → setup ≡ file → records ≡ records_of (pairs_of file) → live ≡ no_activity
-    → Hears setup port (state records live) bytes out next after → Hears file (fresh_port bus) (opening file) bytes out next after
-as_opened port bus setup file records live bytes out next after fresh same begins idle heard =
-    subst (λ (p : Port). Hears file p (opening file) bytes out next after) fresh
-    (subst (λ (f : BoardFile). Hears f port (opening file) bytes out next after) same
-    (subst (λ (l : Live). Hears setup port (state (records_of (pairs_of file)) l) bytes out next after) idle
-    (subst (λ (r : Records). Hears setup port (state r live) bytes out next after) begins heard)))
+pub as_opened : (port : Port) (bus : Bus) (setup file : BoardFile) (records : Records) (activity : Activity) (bytes : List ℕ) (out : Out) (next : Port) (after : State) → port ≡ fresh_port bus → setup ≡ file → records ≡ records_of (pairs_of file) → activity ≡ opening
+    → Hears setup port (state records activity) bytes out next after → Hears file (fresh_port bus) (opened file) bytes out next after
+as_opened port bus setup file records activity bytes out next after fresh same begins idle heard =
+    subst (λ (p : Port). Hears file p (opened file) bytes out next after) fresh
+    (subst (λ (f : BoardFile). Hears f port (opened file) bytes out next after) same
+    (subst (λ (a : Activity). Hears setup port (state (records_of (pairs_of file)) a) bytes out next after) idle
+    (subst (λ (r : Records). Hears setup port (state r activity) bytes out next after) begins heard)))
 
 -- a report of what the port did tells it
-pub told : {E : Type 0} (r : Result Report E) (bus : Bus) (bytes : List ℕ) (file : BoardFile) (out : Out) (next : Port) (after : State) → IsSampleBoard file → Hears file (fresh_port bus) (opening file) bytes out next after
+pub told : {E : Type 0} (r : Result Report E) (bus : Bus) (bytes : List ℕ) (file : BoardFile) (out : Out) (next : Port) (after : State) → IsSampleBoard file → Hears file (fresh_port bus) (opened file) bytes out next after
     → IfOk r (λ report. string_bytes report.text ≡ text_of out) → IfOk r (λ report. report.status ≡ status_of (sent out)) → IfOk r (λ report. Tells bus bytes (string_bytes report.text) report.status)
 told (Ok report) bus bytes file out next after is_sample is_heard is_said is_ended = record { file = file; sample = is_sample; out = out; next = next; after = after; heard = is_heard; said = is_said; ended = is_ended }
 told (Err e) bus bytes file out next after is_sample is_heard is_said is_ended = tt

@@ -2,14 +2,11 @@
 use Rattle.std.specs.Prelude.{◌≡◌, ℕ, List, []}
 use Rattle.two_wire.specs.declared.Bus.{Bus}
 use Rattle.cfg_records.specs.declared.board_file.BoardFile.{BoardFile}
-use Rattle.cfg_records.specs.Records.{records_of}
-use Rattle.cfg_records.specs.Boards.{pairs_of}
-use Rattle.cfg_records.specs.Opening.{opening as no_activity}
 use Rattle.cfg_records.specs.Sample.{IsSampleBoard}
 use Rattle.bmc_core.specs.declared.out.Out.{Out}
 use Rattle.bmc_core.specs.declared.port.At.{At}
 use Rattle.bmc_core.specs.declared.port.Port.{Port}
-use Rattle.bmc_core.specs.State.{State, state}
+use Rattle.bmc_board.specs.State.{State, opened}
 use Rattle.bmc_core.specs.Outs.{sent}
 use Rattle.bmc_core.specs.Port.{Hears}
 use Rattle.bmc_lab.specs.declared.status.Status.{Status}
@@ -23,10 +20,6 @@ controller = record { wire = 0x20; eid = 0x0A }
 abbrev pub fresh_port : Bus → Port
 fresh_port bus = record { bus = bus; at = controller; endpoint = 0x0A; assembler = [] }
 
--- the state of a board of this file that has heard nothing yet
-abbrev pub opening : BoardFile → State
-opening file = state (records_of (pairs_of file)) no_activity
-
 -- what is said of the bytes: what a fresh controller with the sample board does with them where it hears them on the bus
 pub record Tells (bus : Bus) (bytes text : List ℕ) (status : Status) : Type 0 where
   pub file : BoardFile
@@ -34,6 +27,6 @@ pub record Tells (bus : Bus) (bytes text : List ℕ) (status : Status) : Type 0 
   pub out : Out
   pub next : Port
   pub after : State
-  pub heard : Hears file (fresh_port bus) (opening file) bytes out next after
+  pub heard : Hears file (fresh_port bus) (opened file) bytes out next after
   pub said : text ≡ text_of out
   pub ended : status ≡ status_of (sent out)

@@ -5,8 +5,8 @@ ghost use Rattle.bmc_lab.specs.declared.status.Status.{Status as End};
 ghost use Rattle.bmc_lab.specs.Report.{byte_of};
 ghost use Rattle.bmc_lab.specs.Run.{controller, Tells};
 
+use crate::ending::Ending;
 use crate::report::Report;
-use crate::status::Status;
 use bmc_core::{At, Board, Out, Port};
 use cfg_records::{PlainStore, sample_board};
 use mctp_net::EndpointId;
@@ -43,16 +43,6 @@ fn frame_report(alloc: Global, bus: Bus, bytes: &[u8]) -> Result<Report, AllocEr
     Report::new(alloc, &out)
 }
 
-/// Writes the text, and gives the status, or that of a write that failed.
-fn finish<W: io::Write>(to: &mut W, text: &[u8], status: Status) -> u8
-    ensures { (result ≡ 6) ⊎ ((result ≡ byte_of status) × Appends (W.contents to.old) (W.contents to.new) text.now) }
-{
-    match to.write_all(text) {
-        Ok(()) => u8::from(status),
-        Err(_) => u8::from(Status::Output),
-    }
-}
-
 /// Sends one frame to a fresh controller with the sample board. Writes each reply frame to `out` in upper-case hexadecimal on a
 /// line, or `ignored` and the reason's name, or `waiting` where others of its message are to come, and gives the status: 0 where a
 /// frame was sent, 1 where none was, 5 with `memory` on `err` where memory was refused, and 6 where a write failed.
@@ -67,8 +57,6 @@ pub fn frame_run<W: io::Write, E: io::Write>(
         ⊎ (((result ≡ 5) × Appends (E.contents err.old) (E.contents err.new) (codes "memory\n") × Keeps (W.contents out.old) (W.contents out.new))
         ⊎ ((text : List ℕ) × (status : End) × Tells bus bytes.now text status × (result ≡ byte_of status) × Appends (W.contents out.old) (W.contents out.new) text × Keeps (E.contents err.old) (E.contents err.new))) }
 {
-    match frame_report(alloc, bus, bytes) {
-        Ok(report) => finish(out, report.text.as_bytes(), report.status),
-        Err(_) => finish(err, b"memory\n", Status::Memory),
-    }
+    let report = frame_report(alloc, bus, bytes);
+    u8::from(Ending::of(&report).write(out, err))
 }

@@ -1,19 +1,10 @@
 //! The words of the command line.
-use bmc_lab::Status;
+use bmc_lab::{AskedFrame, Status, asked_frame};
 use clap::error::{Error, ErrorKind};
 use clap::{Arg, Command};
-use hex::FromHexError;
 use std::alloc::{AllocError, Global};
 use std::rt::Env;
 use std::{env, io};
-use two_wire::Bus;
-
-/// The frame that the program is to send, and on which bus.
-#[derive(Drop)]
-pub struct AskedFrame {
-    pub bus: Bus,
-    pub bytes: Vec<u8>,
-}
 
 /// `bmclab frame [--bus ipmb|smbus] HEX`.
 fn command<'a>(alloc: Global) -> Result<Command<'a>, AllocError> {
@@ -33,25 +24,6 @@ fn refusal(error: &Error) -> Status {
     }
 }
 
-/// The bus of this name, and IPMB where none is named.
-fn bus_of(name: Option<&str>) -> Result<Bus, Status> {
-    match name {
-        None | Some("ipmb") => Ok(Bus::Ipmb),
-        Some("smbus") => Ok(Bus::Smbus),
-        Some(_) => Err(Status::RefusedWords),
-    }
-}
-
-/// The bytes of an even number of hexadecimal digits, at least two.
-fn bytes_of(alloc: Global, digits: &str) -> Result<Vec<u8>, Status> {
-    match hex::decode(alloc, digits) {
-        Ok(bytes) if bytes.is_empty() => Err(Status::RefusedWords),
-        Ok(bytes) => Ok(bytes),
-        Err(FromHexError::OutOfMemory) => Err(Status::Memory),
-        Err(_) => Err(Status::RefusedWords),
-    }
-}
-
 /// The frame that the words name.
 fn read(alloc: Global, words: &[String]) -> Result<AskedFrame, Status> {
     let Ok(command) = command(alloc) else {
@@ -67,10 +39,7 @@ fn read(alloc: Global, words: &[String]) -> Result<AskedFrame, Status> {
     let Some(digits) = frame.get_str("HEX") else {
         return Err(Status::RefusedWords);
     };
-    Ok(AskedFrame {
-        bus: bus_of(frame.get_str("bus"))?,
-        bytes: bytes_of(alloc, digits)?,
-    })
+    asked_frame(alloc, frame.get_str("bus"), digits)
 }
 
 /// The frame that the program is to send.

@@ -1,15 +1,15 @@
 -- The open request goes through where its frames come, and a cut's packets, in order, are the message.
-use Rattle.std.proofs.Common.{◌≡◌, ℕ, zero, suc, ◌+◌, ◌<◌, ◌≤◌, Bool, true, false, ◌||◌, ◌&&◌, eqb, ltb, not, cond, List, [], ◌∷◌, ◌++◌, length, Option, Some, None, refl, sym, ◌∙◌, ap, subst, arith, inl, inr, append_assoc, append-nil}
+use Rattle.std.proofs.Common.{◌≡◌, ℕ, zero, suc, ◌+◌, ◌≤◌, true, false, ◌||◌, eqb, ltb, not, List, [], ◌∷◌, ◌++◌, length, Option, Some, None, refl, sym, ◌∙◌, ap, subst, arith, append_assoc, append-nil}
 use Rattle.std.specs.Prelude.{slice_get}
-use Rattle.std.proofs.lemmas.Bool.{cond-true, cond-false, and_from, or_from, le-ltb, eq-eqb, ne_eqb, not_from_true, not_from_false, cases_lt}
+use Rattle.std.proofs.lemmas.Bool.{cond-true, cond-false, and_from, or_from, le-ltb, eq-eqb, ne_eqb, not_from_true}
 use Rattle.std.proofs.lemmas.Option.{none-some}
-use Rattle.bus_model.specs.Request.{Kept, carried_since}
+use Rattle.bus_model.specs.Request.{carried_since}
 use Rattle.bus_model.specs.Carried.{Outcome, IsNew, outcome, outcome_of, is_busy}
 use Rattle.bus_model.specs.Numbering.{Bus, ipmb, smbus}
-use Rattle.bus_model.specs.BusState.{request_of, Content, Ask, Reply, Frame, BusState, is_open, new_bytes, carried_content, taken_content}
+use Rattle.bus_model.specs.BusState.{request_of, Content, Reply, BusState, is_open, new_bytes, carried_content, taken_content}
 use Rattle.bus_model.specs.Effect.{IsKeptFor}
-use Rattle.bus_model.specs.Packet.{Packet, IsCut, IsCutFrom}
-use Rattle.bus_model.specs.Assembly.{Sent, Step, Waits, Whole, Drops, joined, takes, message_of}
+use Rattle.bus_model.specs.Packet.{Packet, IsCutFrom}
+use Rattle.bus_model.specs.Assembly.{Sent, Step, Waits, Whole, joined, takes, message_of}
 use Rattle.bus_model.specs.PacketBus.{rules_of}
 use Rattle.bus_model.specs.PacketSchedule.{JoinRule}
 use Rattle.bus_model.specs.CleanLink.{GoesThrough, OpenGoesThrough, OpenGoesThroughInPackets, sent_in, Completes, CutIsWhole}

@@ -18,6 +18,7 @@ pub mod PacketLaws
 pub mod Resume
 pub mod CleanLink
 pub mod Slots
+pub mod Answering
 pub mod Cutting
 pub mod Decides
 pub mod PacketDecides

@@ -1,11 +1,10 @@
 -- Any list of exactly the log's requesters, each once, decides who is busy.
-use Rattle.std.proofs.Common.{◌≡◌, ℕ, suc, ◌≤◌, Bool, true, false, not, ◌&&◌, eqb, leb, List, [], ◌∷◌, length, refl, sym, ◌∙◌, ap, subst, arith, inl, inr}
+use Rattle.std.proofs.Common.{◌≡◌, ℕ, suc, ◌≤◌, Bool, true, not, ◌&&◌, eqb, leb, List, [], ◌∷◌, length, refl, sym, ◌∙◌, ap, subst, arith, inl, inr}
 use Rattle.std.specs.Prelude.{filter, ◌==◌}
 use Rattle.std.proofs.lemmas.Bool.{cond_both, cases_Bool, or_cases, not-true, both_ways, false≢true, false_from_ne_true}
-use Rattle.bus_model.specs.Request.{Entry}
 use Rattle.bus_model.specs.Carried.{requesters}
 use Rattle.bus_model.specs.Repeat.{In, AllDifferent}
-use Rattle.bus_model.specs.Slots.{AreSlots, SlotsDecide}
+use Rattle.bus_model.specs.Slots.{SlotsDecide}
 use Rattle.bus_model.proofs.Requesters.{has, in_has, has_in, filter_other, requesters_of}
 use Rattle.bus_model.proofs.Windows.{fewer}
 

@@ -16,6 +16,8 @@ pub mod PacketEffect
 pub mod Resume
 pub mod CleanLink
 pub mod Slots
+pub mod Bytes
+pub mod Answering
 pub mod Example
 pub mod PacketExample
 pub mod Circle

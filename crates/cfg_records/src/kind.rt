@@ -38,9 +38,9 @@ pub trait RecordKind<'a> {
         requires room { length (B.bytes reply.old) + length (kind.words.set_reply op.now) ≤ B.capacity }
         ensures { B.bytes reply.new ≡ B.bytes reply.old ++ kind.words.set_reply op.now };
 
-    /// What isn't configuration, after the operation was carried out.
-    fn next_live(op: &Self::Op, live: &Live) -> Live
-        ensures { result ≡ kind.words.next_live op.now live.now };
+    /// Changes what isn't configuration as the operation does, once it was carried out.
+    fn next_live(op: &Self::Op, live: &mut Live)
+        ensures { live.new ≡ kind.words.next_live op.now live.old };
 
     /// Appends the data of the Get reply.
     fn get_data<B: Buffer>(&self, value: &[u8], live: &Live, reply: &mut B)

@@ -14,6 +14,3 @@ pub use message::{Header, Msg, Party, Request, Response, Sequence};
 pub use reading::read_frame;
 pub use sameness::same_request;
 pub use writing::{begin_response, end_response, write_request, write_response};
-
-#[cfg(test)]
-mod tests;

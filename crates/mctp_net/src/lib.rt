@@ -29,6 +29,3 @@ pub use some_bytes::SomeBytes;
 pub use splitting::split;
 pub use taken::{DropCause, Taken};
 pub use writing::write_packet;
-
-#[cfg(test)]
-mod tests;

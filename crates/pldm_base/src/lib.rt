@@ -24,6 +24,3 @@ pub use sameness::same_request;
 pub use table::{GET_FIRST_PART, GET_NEXT_PART, PART_LENGTH, Part, TransferFlag};
 pub use transfer::part;
 pub use writing::{begin_pldm_reply, write_pldm, write_pldm_reply};
-
-#[cfg(test)]
-mod tests;

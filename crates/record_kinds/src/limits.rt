@@ -101,7 +101,7 @@ impl<'a> RecordKind<'a> for Limits {
         of_each_kind!(by_op [op, set_reply(reply)])
     }
 
-    fn next_live(op: &Op, live: &Live) -> Live {
+    fn next_live(op: &Op, live: &mut Live) {
         of_each_kind!(by_op [op, next_live(live)])
     }
 

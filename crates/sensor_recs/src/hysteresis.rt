@@ -62,9 +62,7 @@ impl<'a> RecordKind<'a> for HysteresisLimits {
 
     fn set_reply<B: Buffer>(_op: &SetHysteresis, _reply: &mut B) {}
 
-    fn next_live(_op: &SetHysteresis, live: &Live) -> Live {
-        *live
-    }
+    fn next_live(_op: &SetHysteresis, _live: &mut Live) {}
 
     fn get_data<B: Buffer>(&self, value: &[u8], _live: &Live, reply: &mut B) {
         reply.extend_from_slice(value);

@@ -107,9 +107,7 @@ impl<'a> RecordKind<'a> for ThresholdLimits {
 
     fn set_reply<B: Buffer>(_op: &SetThresholds, _reply: &mut B) {}
 
-    fn next_live(_op: &SetThresholds, live: &Live) -> Live {
-        *live
-    }
+    fn next_live(_op: &SetThresholds, _live: &mut Live) {}
 
     fn get_data<B: Buffer>(&self, value: &[u8], _live: &Live, reply: &mut B) {
         let shown = choose(self.masks.readable, value, &ZEROS);

@@ -23,6 +23,3 @@ pub use data::Data;
 pub use laws::{all_bytes_have_a_pec, one_pec};
 pub use number::{Below, Lun, NetFn};
 pub use packet_error::pec;
-
-#[cfg(test)]
-mod tests;

@@ -4,3 +4,8 @@ pub mod Calls
 pub mod Buses
 pub mod Orderly
 pub mod Joined
+pub mod LineLaws
+pub mod World
+pub mod Headline
+pub mod Registers
+pub mod Example

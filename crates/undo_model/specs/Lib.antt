@@ -5,3 +5,9 @@ pub mod Machine
 pub mod Resume
 pub mod Wires
 pub mod Joined
+pub mod Line
+pub mod World
+pub mod Headline
+pub mod Registers
+pub mod TwoBuses
+pub mod Example

@@ -62,9 +62,7 @@ impl<'a> RecordKind<'a> for PowerPolicyLimits {
         reply.push(SUPPORTED);
     }
 
-    fn next_live(_op: &SetPowerPolicy, live: &Live) -> Live {
-        *live
-    }
+    fn next_live(_op: &SetPowerPolicy, _live: &mut Live) {}
 
     fn get_data<B: Buffer>(&self, value: &[u8], live: &Live, reply: &mut B) {
         reply.extend_from_slice(&[(value[0] << 5) | live.chassis.number(), 0, 0]);

@@ -111,7 +111,8 @@ fn settings_are_undone_from_a_timer_that_is_stopped(rt: HostRuntime) -> Result<(
 fn a_set_begins_the_countdown_anew(rt: HostRuntime) -> Result<(), Fail> {
     let new = applied(&WatchdogLimits, &LATER, &SETTINGS).ok_or("refused")?;
     assert!(rt; new.is(&[0x84, 0x11, 0x05, 0x70, 0x17]));
-    let live = WatchdogLimits::next_live(&LATER, &running());
+    let mut live = running();
+    WatchdogLimits::next_live(&LATER, &mut live);
     assert!(rt; live.running && live.countdown == 6000 && live.expired == 0x08);
     let stop = SetWatchdog {
         timer_use: 0x04,
@@ -120,7 +121,8 @@ fn a_set_begins_the_countdown_anew(rt: HostRuntime) -> Result<(), Fail> {
         flags_to_clear: 0,
         initial: 1,
     };
-    assert!(rt; !WatchdogLimits::next_live(&stop, &running()).running);
+    WatchdogLimits::next_live(&stop, &mut live);
+    assert!(rt; !live.running);
     Ok(())
 }
 

@@ -65,16 +65,13 @@ fn set(op: &SetWatchdog, new: &mut Value) -> Result<(), Code>
     Ok(())
 }
 
-/// What isn't configuration, after the operation.
-fn live_after_set(op: &SetWatchdog, live: &Live) -> Live
-    ensures { result ≡ live_after_set op.now live.now }
+/// Changes what isn't configuration as the operation does.
+fn live_after_set(op: &SetWatchdog, live: &mut Live)
+    ensures { live.new ≡ live_after_set op.now live.old }
 {
-    Live {
-        chassis: live.chassis,
-        countdown: op.initial,
-        expired: live.expired & !op.flags_to_clear,
-        running: live.running && has(op.timer_use, RUNNING_PLACE),
-    }
+    live.countdown = op.initial;
+    live.expired &= !op.flags_to_clear;
+    live.running = live.running && has(op.timer_use, RUNNING_PLACE);
 }
 
 /// The data of the request that carries out the operation.
@@ -159,8 +156,8 @@ impl<'a> RecordKind<'a> for WatchdogLimits {
 
     fn set_reply<B: Buffer>(_op: &SetWatchdog, _reply: &mut B) {}
 
-    fn next_live(op: &SetWatchdog, live: &Live) -> Live {
-        live_after_set(op, live)
+    fn next_live(op: &SetWatchdog, live: &mut Live) {
+        live_after_set(op, live);
     }
 
     fn get_data<B: Buffer>(&self, value: &[u8], live: &Live, reply: &mut B) {

@@ -1,14 +1,14 @@
 //! A port on IPMB.
 ghost use Rattle.std.specs.Prelude.{◌≡◌};
-ghost use Rattle.bmc_core.specs.Request.{asked_by};
-ghost use Rattle.bmc_core.specs.State.{state};
+ghost use Rattle.bmc_board.specs.Request.{asked_by};
+ghost use Rattle.bmc_board.specs.State.{state_of};
 ghost use Rattle.bmc_core.specs.IpmbPort.{HearsFrame, IsAnswered, asked_in};
 ghost use Rattle.bmc_core.specs.Outs.{answered};
 
-use crate::board::Board;
+use bmc_board::Board;
 use crate::out::{Done, Out, Reason};
 use crate::port::Port;
-use crate::request::{self, read_ipmi};
+use bmc_board::request::{self, read_ipmi};
 use cfg_records::Store;
 use ipmb_frame::{Msg, Request, begin_response, end_response, read_frame};
 use two_wire::{Code, Frame};
@@ -28,7 +28,7 @@ fn asked_in(request: &Request) -> Result<request::Request, Code>
 
 /// Has the request carried out, and makes the frame its response.
 fn respond<S: Store>(board: &mut Board<S>, request: &Request, frame: &mut Frame)
-    ensures answer { IsAnswered board.old.setup (state (S.records board.old.store) board.old.live) request.now (answered frame.new) (state (S.records board.new.store) board.new.live) }
+    ensures answer { IsAnswered board.old.setup (state_of S.records board.old) request.now (answered frame.new) (state_of S.records board.new) }
     ensures setup { board.new.setup ≡ board.old.setup }
 {
     let header = &request.header;
@@ -41,7 +41,7 @@ fn respond<S: Store>(board: &mut Board<S>, request: &Request, frame: &mut Frame)
 
 /// Has the request carried out, and sends the response.
 fn answer<S: Store>(board: &mut Board<S>, request: &Request, out: &mut Out)
-    ensures answer { IsAnswered board.old.setup (state (S.records board.old.store) board.old.live) request.now out.new (state (S.records board.new.store) board.new.live) }
+    ensures answer { IsAnswered board.old.setup (state_of S.records board.old) request.now out.new (state_of S.records board.new) }
     ensures setup { board.new.setup ≡ board.old.setup }
 {
     out.done = Done::Answered;
@@ -55,7 +55,7 @@ fn answer<S: Store>(board: &mut Board<S>, request: &Request, out: &mut Out)
 impl Port {
     /// Takes what is heard on the bus, and fills in what is to be sent.
     pub(super) fn on_ipmb<S: Store>(&self, board: &mut Board<S>, bytes: &[u8], out: &mut Out)
-        ensures heard { HearsFrame self.now.at board.old.setup (state (S.records board.old.store) board.old.live) bytes.now out.new (state (S.records board.new.store) board.new.live) }
+        ensures heard { HearsFrame self.now.at board.old.setup (state_of S.records board.old) bytes.now out.new (state_of S.records board.new) }
         ensures setup { board.new.setup ≡ board.old.setup }
     {
         let message = match read_frame(bytes) {

@@ -1,10 +1,10 @@
 //! A port on the System Management Bus.
 ghost use Rattle.std.specs.Prelude.{◌≡◌, ◌≤◌, ◌∷◌, length};
 ghost use Rattle.mctp_net.specs.Control.{request_of};
-ghost use Rattle.bmc_core.specs.State.{State as AnyState, state};
+ghost use Rattle.bmc_board.specs.State.{State as AnyState, state_of};
 ghost use Rattle.bmc_core.specs.SmbusPort.{HearsPacket, HearsOurs, HearsMessage, HearsControl, HearsPldm, AreFramesOf, reply_message, pldm_asked, pldm_reply};
 
-use crate::board::Board;
+use bmc_board::Board;
 use crate::out::{Done, Frames, Out, Reason};
 use crate::port::Port;
 use cfg_records::{Answered, Asked, Store};
@@ -55,7 +55,7 @@ fn pldm_body(bytes: &PldmBytes) -> SomeBytes<256>
 impl Port {
     /// Takes what is heard on the bus, and fills in what is to be sent.
     pub(super) fn on_smbus<S: Store>(&mut self, board: &mut Board<S>, bytes: &[u8], out: &mut Out)
-        ensures heard { HearsPacket board.old.setup self.old (state (S.records board.old.store) board.old.live) bytes.now out.new self.new (state (S.records board.new.store) board.new.live) }
+        ensures heard { HearsPacket board.old.setup self.old (state_of S.records board.old) bytes.now out.new self.new (state_of S.records board.new) }
         ensures setup { board.new.setup ≡ board.old.setup }
     {
         let packet = match read_packet(bytes) {
@@ -70,7 +70,7 @@ impl Port {
     }
 
     fn on_packet<S: Store>(&mut self, board: &mut Board<S>, packet: &Packet, out: &mut Out)
-        ensures heard { HearsOurs board.old.setup self.old (state (S.records board.old.store) board.old.live) packet.now out.new self.new (state (S.records board.new.store) board.new.live) }
+        ensures heard { HearsOurs board.old.setup self.old (state_of S.records board.old) packet.now out.new self.new (state_of S.records board.new) }
         ensures setup { board.new.setup ≡ board.old.setup }
     {
         let own = self.endpoint.eid().byte();
@@ -82,7 +82,7 @@ impl Port {
     }
 
     fn on_message<S: Store>(&mut self, board: &mut Board<S>, message: &Message, out: &mut Out)
-        ensures heard { HearsMessage board.old.setup self.old (state (S.records board.old.store) board.old.live) message.now out.new self.new (state (S.records board.new.store) board.new.live) }
+        ensures heard { HearsMessage board.old.setup self.old (state_of S.records board.old) message.now out.new self.new (state_of S.records board.new) }
         ensures setup { board.new.setup ≡ board.old.setup }
     {
         if !message.envelope.tag_owner {
@@ -115,7 +115,7 @@ impl Port {
         out: &mut Out,
     )
         requires { length bytes.now ≤ 255 }
-        ensures heard { HearsPldm board.old.setup self.now (state (S.records board.old.store) board.old.live) message.now bytes.now out.new self.now (state (S.records board.new.store) board.new.live) }
+        ensures heard { HearsPldm board.old.setup self.now (state_of S.records board.old) message.now bytes.now out.new self.now (state_of S.records board.new) }
         ensures setup { board.new.setup ≡ board.old.setup }
     {
         let request = match read_pldm(&PldmBytes::from_slice(bytes)) {

@@ -1,8 +1,5 @@
 //! Worked packets on the sample board.
-use super::{
-    Lab, expect_frame, expect_ignored, expect_not_sent, expect_nothing, expect_reply, expect_run,
-    expect_sent, hear_in, open_lab,
-};
+use super::{Lab, go_on, open_lab, talk};
 use bmc_core::{Done, Out, Reason};
 use ipmb_frame::FrameFault;
 use mctp_net::{DropCause, PacketFault};
@@ -11,84 +8,86 @@ use std::process::Abort;
 use std::test::Fail;
 use two_wire::{Bus, pec};
 
+const ANSWERED: Done = Done::Answered;
+
+const NOT_REQUEST: Done = Done::Ignored(Reason::NotRequest);
+
 /// GetTID, from EID 08h at 30h.
-const GET_TID: &str = "20 0F 09 31 01 0A 08 C8 01 80 00 02 BE";
+const GET_TID: &str = "200F0931010A08C801800002BE";
 
 /// GetTID's reply.
-const TERMINUS: &str = "30 0F 0B 21 01 08 0A C0 01 00 00 02 00 05 1C";
+const TERMINUS: &str = "300F0B2101080AC00100000200051C";
 
-/// The first of two packets of a GetTID with 61 bytes of data, up to its 60 bytes of data.
-const FIRST: &str = "20 0F 45 31 01 0A 08 88 01 80 00 02";
+/// The first of two packets of a GetTID with 61 bytes of data 00h.
+pub const FIRST: &str =
+    "200F4531010A08880180000200000000000000000000000000000000000000000000000000000000000000000000000000000000000000000000000000000000000000000000000044";
 
-/// 60 bytes 00h.
-const ZEROS: &str =
-    "00 00 00 00 00 00 00 00 00 00 00 00 00 00 00 00 00 00 00 00 00 00 00 00 00 00 00 00 00 00 00 00 00 00 00 00 00 00 00 00 00 00 00 00 00 00 00 00 00 00 00 00 00 00 00 00 00 00 00 00";
+fn faulty(fault: PacketFault) -> Done {
+    Done::Ignored(Reason::Packet(fault))
+}
+
+fn dropped(cause: DropCause) -> Done {
+    Done::Ignored(Reason::Dropped(cause))
+}
+
+fn no_pldm(fault: PldmFault) -> Done {
+    Done::Ignored(Reason::Pldm(fault))
+}
 
 #[test]
 fn an_endpoint_says_its_identifier(rt: HostRuntime) -> Result<(), Fail> {
-    let mut lab = open_lab(rt.alloc(), Bus::Smbus)?;
-    expect_frame(
+    let reply = "300F0C2101080AC0000002000A000040";
+    talk(
         &rt,
         rt.alloc(),
-        &mut lab,
-        "20 0F 08 31 01 00 08 C8 00 80 02 50",
-        Done::Control,
-        "30 0F 0C 21 01 08 0A C0 00 00 02 00 0A 00 00 40",
-    );
+        Bus::Smbus,
+        &[("200F0831010008C800800250", Done::Control, reply)],
+    )?;
     Ok(())
 }
 
 #[test]
 fn the_terminus_and_its_types_are_told_over_smbus(rt: HostRuntime) -> Result<(), Fail> {
-    let mut lab = open_lab(rt.alloc(), Bus::Smbus)?;
-    expect_reply(&rt, rt.alloc(), &mut lab, GET_TID, TERMINUS);
-    expect_reply(
+    let types = "300F122101080AC001000004000D0000000000000094";
+    talk(
         &rt,
         rt.alloc(),
-        &mut lab,
-        "20 0F 09 31 01 0A 08 C8 01 80 00 04 AC",
-        "30 0F 12 21 01 08 0A C0 01 00 00 04 00 0D 00 00 00 00 00 00 00 94",
-    );
-    // Bit 5 of the first byte is ignored.
-    expect_reply(
-        &rt,
-        rt.alloc(),
-        &mut lab,
-        "20 0F 09 31 01 0A 08 C8 01 A0 00 02 FD",
-        TERMINUS,
-    );
-    // A type that the controller doesn't know.
-    expect_reply(
-        &rt,
-        rt.alloc(),
-        &mut lab,
-        "20 0F 09 31 01 0A 08 C8 01 80 01 02 AB",
-        "30 0F 0A 21 01 08 0A C0 01 00 01 02 20 95",
-    );
+        Bus::Smbus,
+        &[
+            (GET_TID, ANSWERED, TERMINUS),
+            ("200F0931010A08C801800004AC", ANSWERED, types),
+            // Bit 5 of the first byte is ignored.
+            ("200F0931010A08C801A00002FD", ANSWERED, TERMINUS),
+            // A type that the controller doesn't know.
+            (
+                "200F0931010A08C801800102AB",
+                ANSWERED,
+                "300F0A2101080AC0010001022095",
+            ),
+        ],
+    )?;
     Ok(())
 }
 
 #[test]
 fn an_identifier_that_was_taken_is_the_endpoints_from_then_on(rt: HostRuntime) -> Result<(), Fail> {
-    let mut lab = open_lab(rt.alloc(), Bus::Smbus)?;
-    expect_frame(
+    let taken = "300F0C21010809C0000101000009007E";
+    let not_ours = dropped(DropCause::NotOurs);
+    talk(
         &rt,
         rt.alloc(),
-        &mut lab,
-        "20 0F 0A 31 01 0A 08 C8 00 81 01 00 09 18",
-        Done::Control,
-        "30 0F 0C 21 01 08 09 C0 00 01 01 00 00 09 00 7E",
-    );
-    let other = Reason::Dropped(DropCause::NotOurs);
-    expect_ignored(&rt, rt.alloc(), &mut lab, GET_TID, other);
-    // Tag 3 and instance 5.
-    expect_reply(
-        &rt,
-        rt.alloc(),
-        &mut lab,
-        "20 0F 09 31 01 09 08 CB 01 85 00 02 BE",
-        "30 0F 0B 21 01 08 09 C3 01 05 00 02 00 05 A2",
-    );
+        Bus::Smbus,
+        &[
+            ("200F0A31010A08C8008101000918", Done::Control, taken),
+            (GET_TID, not_ours, ""),
+            // Tag 3 and instance 5.
+            (
+                "200F0931010908CB01850002BE",
+                ANSWERED,
+                "300F0B21010809C3010500020005A2",
+            ),
+        ],
+    )?;
     Ok(())
 }
 
@@ -96,38 +95,47 @@ fn an_identifier_that_was_taken_is_the_endpoints_from_then_on(rt: HostRuntime) -
 fn a_message_of_two_packets_is_answered_to_where_the_last_came_from(
     rt: HostRuntime,
 ) -> Result<(), Fail> {
-    let mut lab = open_lab(rt.alloc(), Bus::Smbus)?;
-    let first = format!(in rt.alloc(); "{FIRST} {ZEROS} 44")?;
-    expect_nothing(&rt, rt.alloc(), &mut lab, first.as_str(), Done::Waiting);
-    // GetTID with 61 bytes of data: a wrong length.
-    expect_reply(
+    talk(
         &rt,
         rt.alloc(),
-        &mut lab,
-        "20 0F 06 33 01 0A 08 58 00 F5",
-        "32 0F 0A 21 01 08 0A C0 01 00 00 02 03 38",
-    );
+        Bus::Smbus,
+        &[
+            (FIRST, Done::Waiting, ""),
+            // GetTID with 61 bytes of data: a wrong length.
+            (
+                "200F0633010A085800F5",
+                ANSWERED,
+                "320F0A2101080AC0010000020338",
+            ),
+        ],
+    )?;
     Ok(())
 }
 
 #[test]
 fn each_packet_fault_is_a_reason(rt: HostRuntime) -> Result<(), Fail> {
-    let mut lab = open_lab(rt.alloc(), Bus::Smbus)?;
-    for (digits, fault) in [
-        ("20 0F 05 31 01 0A 08 C8 00", PacketFault::Short),
-        (
-            "20 0E 09 31 01 0A 08 C8 01 80 00 02 A1",
-            PacketFault::NotMctp,
-        ),
-        ("20 0F 08 31 01 0A 08 C8 01 80 00 02 D6", PacketFault::Count),
-        ("20 0F 09 31 01 0A 08 C8 01 80 00 02 BF", PacketFault::Pec),
-        (
-            "20 0F 09 31 02 0A 08 C8 01 80 00 02 8B",
-            PacketFault::Version,
-        ),
-    ] {
-        expect_ignored(&rt, rt.alloc(), &mut lab, digits, Reason::Packet(fault));
-    }
+    talk(
+        &rt,
+        rt.alloc(),
+        Bus::Smbus,
+        &[
+            ("200F0531010A08C800", faulty(PacketFault::Short), ""),
+            (
+                "200E0931010A08C801800002A1",
+                faulty(PacketFault::NotMctp),
+                "",
+            ),
+            ("200F0831010A08C801800002D6", faulty(PacketFault::Count), ""),
+            ("200F0931010A08C801800002BF", faulty(PacketFault::Pec), ""),
+            (
+                "200F0931020A08C8018000028B",
+                faulty(PacketFault::Version),
+                "",
+            ),
+            // The packet error code and the version are wrong.
+            ("200F0931020A08C8018000028A", faulty(PacketFault::Pec), ""),
+        ],
+    )?;
     Ok(())
 }
 
@@ -135,37 +143,47 @@ fn each_packet_fault_is_a_reason(rt: HostRuntime) -> Result<(), Fail> {
 fn each_message_that_is_no_request_of_the_controller_has_its_reason(
     rt: HostRuntime,
 ) -> Result<(), Fail> {
-    let mut lab = open_lab(rt.alloc(), Bus::Smbus)?;
-    for (digits, reason) in [
-        // To the two-wire address 22h.
-        ("22 0F 09 31 01 0A 08 C8 01 80 00 02 04", Reason::NotOurs),
-        // Under a tag that the sender doesn't own, whatever the type is.
-        ("20 0F 09 31 01 0A 08 C0 01 80 00 02 A7", Reason::NotRequest),
-        ("20 0F 06 31 01 0A 08 C0 7E 93", Reason::NotRequest),
-        // A control message that is no request, and one that is too short.
-        ("20 0F 08 31 01 0A 08 C8 00 00 02 FB", Reason::NotRequest),
-        ("20 0F 07 31 01 0A 08 C8 00 80 4F", Reason::NotRequest),
-        ("20 0F 06 31 01 0A 08 C8 7E 3B", Reason::MessageType),
-        (
-            "20 0F 08 31 01 0A 08 C8 01 80 00 28",
-            Reason::Pldm(PldmFault::Short),
-        ),
-        (
-            "20 0F 09 31 01 0A 08 C8 01 80 40 02 E5",
-            Reason::Pldm(PldmFault::Version),
-        ),
-        (
-            "20 0F 09 31 01 0A 08 C8 01 00 00 02 B5",
-            Reason::Pldm(PldmFault::NotRequest),
-        ),
-        (
-            "20 0F 09 31 01 0A 08 C8 01 C0 00 02 38",
-            Reason::Pldm(PldmFault::NotRequest),
-        ),
-    ] {
-        expect_ignored(&rt, rt.alloc(), &mut lab, digits, reason);
-    }
-    expect_reply(&rt, rt.alloc(), &mut lab, GET_TID, TERMINUS);
+    talk(
+        &rt,
+        rt.alloc(),
+        Bus::Smbus,
+        &[
+            // To the two-wire address 22h.
+            (
+                "220F0931010A08C80180000204",
+                Done::Ignored(Reason::NotOurs),
+                "",
+            ),
+            // Under a tag that the sender doesn't own, whatever the type is.
+            ("200F0931010A08C001800002A7", NOT_REQUEST, ""),
+            ("200F0631010A08C07E93", NOT_REQUEST, ""),
+            // A control message that is no request, and one that is too short.
+            ("200F0831010A08C8000002FB", NOT_REQUEST, ""),
+            ("200F0731010A08C800804F", NOT_REQUEST, ""),
+            (
+                "200F0631010A08C87E3B",
+                Done::Ignored(Reason::MessageType),
+                "",
+            ),
+            ("200F0831010A08C801800028", no_pldm(PldmFault::Short), ""),
+            (
+                "200F0931010A08C801804002E5",
+                no_pldm(PldmFault::Version),
+                "",
+            ),
+            (
+                "200F0931010A08C801000002B5",
+                no_pldm(PldmFault::NotRequest),
+                "",
+            ),
+            (
+                "200F0931010A08C801C0000238",
+                no_pldm(PldmFault::NotRequest),
+                "",
+            ),
+            (GET_TID, ANSWERED, TERMINUS),
+        ],
+    )?;
     Ok(())
 }
 
@@ -174,37 +192,35 @@ fn one_out_serves_for_many_calls(rt: HostRuntime) -> Result<(), Fail> {
     let mut ipmb = open_lab(rt.alloc(), Bus::Ipmb)?;
     let mut smbus = open_lab(rt.alloc(), Bus::Smbus)?;
     let mut out = Out::new();
-    let device_id = "20 18 C8 2C 00 01 D3";
-    hear_in(&rt, rt.alloc(), &mut ipmb, device_id, &mut out);
-    let reply = "2C 1C B8 20 00 01 00 20 01 01 05 02 07 CD AB 00 34 12 F1";
-    expect_sent(&rt, rt.alloc(), &out, Done::Answered, reply);
-    // A wrong checksum, and nothing is left of the reply.
-    let wrong = "20 18 C8 2C 00 01 D4";
-    hear_in(&rt, rt.alloc(), &mut ipmb, wrong, &mut out);
-    let body_sum = Reason::Frame(FrameFault::BodySum);
-    expect_not_sent(&rt, &out, wrong, Done::Ignored(body_sum));
-    // The frame of a longer reply, then of a shorter one.
-    hear_in(&rt, rt.alloc(), &mut ipmb, device_id, &mut out);
-    hear_in(&rt, rt.alloc(), &mut ipmb, "20 18 C8 2C 00 22 B2", &mut out);
-    let unset = "2C 1C B8 20 00 22 80 3E";
-    expect_sent(&rt, rt.alloc(), &out, Done::Answered, unset);
-    // A packet after frames, one of a message that isn't whole, and a frame again.
-    hear_in(&rt, rt.alloc(), &mut smbus, GET_TID, &mut out);
-    expect_sent(&rt, rt.alloc(), &out, Done::Answered, TERMINUS);
-    let first = format!(in rt.alloc(); "{FIRST} {ZEROS} 44")?;
-    hear_in(&rt, rt.alloc(), &mut smbus, first.as_str(), &mut out);
-    expect_not_sent(&rt, &out, first.as_str(), Done::Waiting);
-    hear_in(&rt, rt.alloc(), &mut smbus, GET_TID, &mut out);
-    let other_type = "20 0F 06 31 01 0A 08 C8 7E 3B";
-    hear_in(&rt, rt.alloc(), &mut smbus, other_type, &mut out);
-    expect_not_sent(&rt, &out, other_type, Done::Ignored(Reason::MessageType));
-    hear_in(&rt, rt.alloc(), &mut ipmb, device_id, &mut out);
-    expect_sent(&rt, rt.alloc(), &out, Done::Answered, reply);
+    let reply = "2C1CB820000100200101050207CDAB003412F1";
+    let body_sum = Done::Ignored(Reason::Frame(FrameFault::BodySum));
+    let frames = [
+        ("2018C82C0001D3", ANSWERED, reply),
+        // A wrong checksum, and nothing is left of the reply.
+        ("2018C82C0001D4", body_sum, ""),
+        // The frame of a longer reply, then of a shorter one.
+        ("2018C82C0001D3", ANSWERED, reply),
+        ("2018C82C0022B2", ANSWERED, "2C1CB8200022803E"),
+    ];
+    let packets = [
+        // A packet after frames, and one of a message that isn't whole.
+        (GET_TID, ANSWERED, TERMINUS),
+        (FIRST, Done::Waiting, ""),
+        (GET_TID, ANSWERED, TERMINUS),
+        (
+            "200F0631010A08C87E3B",
+            Done::Ignored(Reason::MessageType),
+            "",
+        ),
+    ];
+    go_on(&rt, rt.alloc(), &mut ipmb, &mut out, &frames)?;
+    go_on(&rt, rt.alloc(), &mut smbus, &mut out, &packets)?;
+    go_on(&rt, rt.alloc(), &mut ipmb, &mut out, &frames)?;
     Ok(())
 }
 
-/// The port hears a packet of 64 bytes of payload that is no end, from this endpoint and with these flags.
-fn hear_unit(rt: &impl Abort, lab: &mut Lab, source: u8, flags: u8) -> Done {
+/// The port does this with a packet of 64 bytes of payload that is no end, from this endpoint and with these flags.
+fn expect_unit(rt: &impl Abort, lab: &mut Lab, source: u8, flags: u8, done: Done) {
     let mut frame = [0u8; 73];
     frame[..8].copy_from_slice(&[0x20, 0x0F, 0x45, 0x31, 0x01, 0x0A, source, flags]);
     frame[8] = 0x01;
@@ -212,64 +228,54 @@ fn hear_unit(rt: &impl Abort, lab: &mut Lab, source: u8, flags: u8) -> Done {
     let mut out = Out::new();
     lab.port.on_frame(&mut lab.board, &frame, &mut out);
     assert!(rt; out.frames.as_slice().is_empty());
-    out.done
+    assert_eq!(rt; out.done, done, "from {source:02X} with {flags:02X}");
 }
 
 #[test]
 fn each_drop_cause_is_a_reason(rt: HostRuntime) -> Result<(), Fail> {
-    let mut lab = open_lab(rt.alloc(), Bus::Smbus)?;
-    for (digits, cause) in [
-        ("20 0F 09 31 01 0B 08 C8 01 80 00 02 61", DropCause::NotOurs),
-        ("20 0F 09 31 01 0A 08 58 01 80 00 02 1B", DropCause::NoStart),
-        (
-            "20 0F 09 31 01 0A 08 D8 01 80 00 02 8C",
-            DropCause::OutOfSequence,
-        ),
-        (
-            "20 0F 09 31 01 0A 08 88 01 80 00 02 76",
-            DropCause::UnitSize,
-        ),
-    ] {
-        expect_ignored(&rt, rt.alloc(), &mut lab, digits, Reason::Dropped(cause));
-    }
+    let mut lab = talk(
+        &rt,
+        rt.alloc(),
+        Bus::Smbus,
+        &[
+            (
+                "200F0931010B08C80180000261",
+                dropped(DropCause::NotOurs),
+                "",
+            ),
+            // To the broadcast identifier.
+            (
+                "200F093101FF08C801800002A9",
+                dropped(DropCause::NotOurs),
+                "",
+            ),
+            (
+                "200F0931010A0858018000021B",
+                dropped(DropCause::NoStart),
+                "",
+            ),
+            (
+                "200F0931010A08D8018000028C",
+                dropped(DropCause::OutOfSequence),
+                "",
+            ),
+            (
+                "200F0931010A08880180000276",
+                dropped(DropCause::UnitSize),
+                "",
+            ),
+        ],
+    )?;
     for flags in [0x88, 0x18, 0x28, 0x38] {
-        assert_eq!(rt; hear_unit(&rt, &mut lab, 0x08, flags), Done::Waiting);
+        expect_unit(&rt, &mut lab, 0x08, flags, Done::Waiting);
     }
-    let long = Done::Ignored(Reason::Dropped(DropCause::TooLong));
-    assert_eq!(rt; hear_unit(&rt, &mut lab, 0x08, 0x08), long);
+    expect_unit(&rt, &mut lab, 0x08, 0x08, dropped(DropCause::TooLong));
     for source in 0x10..0x18 {
-        assert_eq!(rt; hear_unit(&rt, &mut lab, source, 0x88), Done::Waiting);
+        expect_unit(&rt, &mut lab, source, 0x88, Done::Waiting);
     }
-    let full = Done::Ignored(Reason::Dropped(DropCause::NoSlot));
-    assert_eq!(rt; hear_unit(&rt, &mut lab, 0x18, 0x88), full);
+    expect_unit(&rt, &mut lab, 0x18, 0x88, dropped(DropCause::NoSlot));
     // A message in one packet needs no room.
-    expect_reply(&rt, rt.alloc(), &mut lab, GET_TID, TERMINUS);
-    Ok(())
-}
-
-#[test]
-fn a_run_on_smbus_says_what_was_sent_or_why_nothing_was(rt: HostRuntime) -> Result<(), Fail> {
-    let first = format!(in rt.alloc(); "{FIRST} {ZEROS} 44")?;
-    for (digits, line, status) in [
-        (
-            "200F0831010008C800800250",
-            "300F0C2101080AC0000002000A000040\n",
-            0,
-        ),
-        (
-            "200F0931010A08C801800002BE",
-            "300F0B2101080AC00100000200051C\n",
-            0,
-        ),
-        (first.as_str(), "waiting\n", 1),
-        ("200F0931010B08C80180000261", "ignored NotOurs\n", 1),
-        ("220F0931010A08C80180000204", "ignored NotOurs\n", 1),
-        ("200F0631010A08C87E3B", "ignored MessageType\n", 1),
-        ("200F0931010A08C801C0000238", "ignored NotRequest\n", 1),
-        ("200F0931010A08C801800002BF", "ignored Pec\n", 1),
-        ("2010D02C08260510000000005A0037", "ignored NotMctp\n", 1),
-    ] {
-        expect_run(&rt, rt.alloc(), Bus::Smbus, digits, line, status);
-    }
+    let whole = [(GET_TID, ANSWERED, TERMINUS)];
+    go_on(&rt, rt.alloc(), &mut lab, &mut Out::new(), &whole)?;
     Ok(())
 }

@@ -1,5 +1,5 @@
 use Rattle.std.proofs.Common.{◌≡◌, refl, ◌∙◌}
-use Rattle.bmc_core.specs.State.{state}
+use Rattle.bmc_board.specs.State.{state_of}
 use Rattle.bmc_core.proofs.HeardPackets.{takes, is_with_packet, hears_waiting, hears_dropped, hears_whole}
 use Rattle.bmc_core.proofs.port.Port.on_packet.Goals as goal
 
@@ -8,7 +8,7 @@ returns-in-Waiting-clause-heard g c =
     let port = c.args.self.now in
     let p = c.args.packet.now in
     let own : c.byte-own.result ≡ port.endpoint = c.byte-own.ensures.value ∙ c.eid.ensures in
-    hears_waiting c.args.board.now.setup port (state (g.S.Store.records c.args.board.now.store) c.args.board.now.live) p c.wait.new.self _ _
+    hears_waiting c.args.board.now.setup port (state_of g.S.Store.records c.args.board.now) p c.wait.new.self _ _
     (takes port c.byte-own.result p _ own c.in-Waiting.ensures.dropped c.in-Waiting.ensures.whole c.in-Waiting.ensures.waiting)
     c.wait.ensures (is_with_packet port c.byte-own.result p c.take.new.self own c.in-Waiting.ensures.after) refl
 
@@ -17,7 +17,7 @@ returns-in-Dropped-clause-heard g c =
     let port = c.args.self.now in
     let p = c.args.packet.now in
     let own : c.byte-own.result ≡ port.endpoint = c.byte-own.ensures.value ∙ c.eid.ensures in
-    hears_dropped c.args.board.now.setup port (state (g.S.Store.records c.args.board.now.store) c.args.board.now.live) p c.in-Dropped.cause c.ignore.new.self _ _
+    hears_dropped c.args.board.now.setup port (state_of g.S.Store.records c.args.board.now) p c.in-Dropped.cause c.ignore.new.self _ _
     (takes port c.byte-own.result p _ own c.in-Dropped.ensures.dropped c.in-Dropped.ensures.whole c.in-Dropped.ensures.waiting)
     c.ignore.ensures (is_with_packet port c.byte-own.result p c.take.new.self own c.in-Dropped.ensures.after) refl
 
@@ -26,6 +26,6 @@ returns-in-Whole-clause-heard g c =
     let port = c.args.self.now in
     let p = c.args.packet.now in
     let own : c.byte-own.result ≡ port.endpoint = c.byte-own.ensures.value ∙ c.eid.ensures in
-    hears_whole c.args.board.now.setup port (state (g.S.Store.records c.args.board.now.store) c.args.board.now.live) p c.in-Whole.message _ c.on_message.new.out _ _
+    hears_whole c.args.board.now.setup port (state_of g.S.Store.records c.args.board.now) p c.in-Whole.message _ c.on_message.new.out _ _
     (takes port c.byte-own.result p _ own c.in-Whole.ensures.dropped c.in-Whole.ensures.whole c.in-Whole.ensures.waiting)
     (is_with_packet port c.byte-own.result p c.take.new.self own c.in-Whole.ensures.after) c.on_message.ensures.heard

@@ -1,6 +1,6 @@
 use Rattle.std.proofs.Common.{◌∙◌, ap}
 use Rattle.cfg_records.specs.declared.message.Asked.TheVariants.{Ipmi}
-use Rattle.bmc_core.specs.Request.{asked_by}
+use Rattle.bmc_board.specs.Request.{asked_by}
 use Rattle.bmc_core.proofs.port.ipmb.asked_in.Goals as goal
 
 pub returns : goal.returns

@@ -1,0 +1,145 @@
+-- What every answer has in common.
+use Rattle.std.proofs.Common.{◌≡◌, ◌≢◌, ℕ, ◌≤◌, List, [], length, Option, Some, None, Result, Ok, Err, Bool, refl, subst, arith}
+use Rattle.two_wire.specs.Codes.{success}
+use Rattle.record_kinds.specs.Limits.{key_of}
+use Rattle.cfg_records.specs.Meaning.{Decides, room_for}
+use Rattle.cfg_records.specs.declared.key.Key.{Key}
+use Rattle.cfg_records.specs.declared.key.Key.TheVariants as key
+use Rattle.cfg_records.specs.declared.sensor.Sensor.{Sensor}
+use Rattle.cfg_records.specs.declared.op.Op.{Op}
+use Rattle.cfg_records.specs.declared.live.Live.{Live as LivePart}
+use Rattle.cfg_records.specs.declared.message.Asked.{Asked}
+use Rattle.cfg_records.specs.declared.board_file.BoardFile.{BoardFile}
+use Rattle.record_kinds.specs.declared.limits.Limits.{Limits}
+use Rattle.record_kinds.specs.declared.limits.Limits.TheVariants as kinds
+use Rattle.record_kinds.specs.Limits.{is_of, sets, outcome, get_asked, set_asked}
+use Rattle.record_kinds.specs.LimitsLaws as laws
+use Rattle.std.specs.Option.{option_map}
+use Rattle.record_kinds.specs.Boards.{sensor_at, limits_at}
+use Rattle.record_kinds.specs.Sound.{IsSound, IsSoundAt, valid_at, sound_with}
+use Rattle.bmc_board.specs.declared.request.Request.{Request}
+use Rattle.bmc_board.specs.declared.request.Request.TheVariants.{Live, Get, Set}
+use Rattle.bmc_board.specs.Table.{is_changing}
+use Rattle.bmc_board.specs.Request.{asked_by}
+use Rattle.bmc_board.specs.State.{State, IsUnchanged}
+use Rattle.bmc_board.specs.Replies.{done, refused, unknown_code}
+use Rattle.bmc_board.specs.Room.{longest_reply}
+use Rattle.bmc_board.specs.Live.{live_answer}
+use Rattle.bmc_board.specs.AnyLive.{IsLive}
+use Rattle.bmc_board.specs.Answer.{Given, get_answer, set_result, set_answer, serve, reply, answer_of}
+use Rattle.bmc_board.specs.AnyAnswer.{IsCode, NeverBusy, RefusedIsUnchanged, StaysSound, AnswersFit}
+use Rattle.bmc_board.proofs.AskedFacts.{code_of, IsRight, asked_right}
+use Rattle.bmc_board.proofs.LiveFacts.{refusal_code, unknown_is_refused, are_live}
+
+-- ---- its code is not a busy controller's, and a refusal changes nothing
+
+record IsProper (before : State) (given : Given) : Type 0 where
+  has_code : IsCode given.0.code
+  unchanged : given.0.code ≢ success → IsUnchanged before given.1
+
+done_proper : (before after : State) (body : List ℕ) → IsProper before (done body, after)
+done_proper before after body = record { has_code = code_of success refl; unchanged = λ fault. absurd (fault refl) }
+
+refused_proper : (before : State) (fault : ℕ) → IsCode fault → IsProper before (refused fault, before)
+refused_proper before fault is = record { has_code = is; unchanged = λ _. refl }
+
+get_proper : (limits : Option Limits) (value : Option (List ℕ)) (live : LivePart) (unknown : ℕ) (before : State) → IsCode unknown → IsProper before (get_answer limits value live unknown, before)
+get_proper (Some limits) (Some value) live unknown before is = done_proper before before _
+get_proper (Some limits) None live unknown before is = refused_proper before unknown is
+get_proper None (Some value) live unknown before is = refused_proper before unknown is
+get_proper None None live unknown before is = refused_proper before unknown is
+
+result_proper : (limits : Limits) (old : List ℕ) (op : Op) (before : State) (r : Result (List ℕ) ℕ) → outcome limits op old ≡ r → IsProper before (set_result r op before)
+result_proper limits old op before (Ok new) e = done_proper before _ _
+result_proper limits old op before (Err fault) e = refused_proper before fault (refusal_code fault ((laws.record_laws limits).refuses op old fault e))
+
+set_proper : (limits : Option Limits) (value : Option (List ℕ)) (unknown : ℕ) (op : Op) (before : State) → IsCode unknown → IsProper before (set_answer limits value unknown op before)
+set_proper (Some limits) (Some old) unknown op before is = result_proper limits old op before (outcome limits op old) refl
+set_proper (Some limits) None unknown op before is = refused_proper before unknown is
+set_proper None (Some old) unknown op before is = refused_proper before unknown is
+set_proper None None unknown op before is = refused_proper before unknown is
+
+unknown_is_code : (setup : BoardFile) (key : Key) → IsCode (unknown_code setup key)
+unknown_is_code setup key = refusal_code _ (unknown_is_refused setup key)
+
+serve_proper : (setup : BoardFile) (before : State) (request : Request) → IsProper before (serve setup before request)
+serve_proper setup before (Live command) = let is = are_live setup before.records before.activity command in record { has_code = is.has_code; unchanged = is.unchanged }
+serve_proper setup before (Get key) = get_proper _ _ before.activity.live _ before (unknown_is_code setup key)
+serve_proper setup before (Set op) = set_proper _ _ _ op before (unknown_is_code setup (key_of op))
+
+reply_proper : (setup : BoardFile) (before : State) (room : ℕ) (changing : Bool) (r : Result Request ℕ) → IsRight room changing r → IsProper before (reply setup before r)
+reply_proper setup before room changing (Ok request) right = serve_proper setup before request
+reply_proper setup before room changing (Err fault) right = refused_proper before fault right
+
+answer_proper : (setup : BoardFile) (before : State) (asked : Asked) → IsProper before (answer_of setup before asked)
+answer_proper setup before asked = reply_proper setup before (room_for asked) (is_changing asked) (asked_by asked) (asked_right asked)
+
+pub never_busy : NeverBusy
+never_busy setup before asked = (answer_proper setup before asked).has_code
+
+pub refused_is_unchanged : RefusedIsUnchanged
+refused_is_unchanged setup before asked = (answer_proper setup before asked).unchanged
+
+-- ---- limits are those of a record with the key
+
+of_sensor : (sensor : Option Sensor) (to : Sensor → Limits) (limits : Limits) (key : Key) → option_map to sensor ≡ Some limits → ((s : Sensor) → is_of (to s) key) → is_of limits key
+of_sensor (Some s) to limits key e of = let same : to s ≡ limits = cc in subst (λ (l : Limits). is_of l key) same (of s)
+of_sensor None to limits key e of = cc
+
+of_alone : (own limits : Limits) (key : Key) → (let s : Option Limits = Some own in s) ≡ Some limits → is_of own key → is_of limits key
+of_alone own limits key e of = let same : own ≡ limits = cc in subst (λ (l : Limits). is_of l key) same of
+
+pub limits_are_of : (file : BoardFile) (key : Key) (limits : Limits) → limits_at file key ≡ Some limits → is_of limits key
+limits_are_of file (key.Thresholds number) limits e = of_sensor (sensor_at file.sensors.items number) (λ s. kinds.Thresholds (record { masks = s.thresholds.masks })) limits (key.Thresholds number) e (λ s. tt)
+limits_are_of file (key.Hysteresis number) limits e = of_sensor (sensor_at file.sensors.items number) (λ s. kinds.Hysteresis (record {})) limits (key.Hysteresis number) e (λ s. tt)
+limits_are_of file key.PowerPolicy limits e = of_alone (kinds.PowerPolicy (record {})) limits key.PowerPolicy e tt
+limits_are_of file key.Watchdog limits e = of_alone (kinds.Watchdog (record {})) limits key.Watchdog e tt
+
+-- ---- its data fits the frame or message that carries it, and each record keeps a valid value
+
+record IsFit (setup : BoardFile) (room : ℕ) (given : Given) : Type 0 where
+  short : length given.0.body ≤ room
+  sound : IsSound setup given.1.records
+
+refused_fit : (setup : BoardFile) (room fault : ℕ) (before : State) → IsSound setup before.records → IsFit setup room (refused fault, before)
+refused_fit setup room fault before sound = record { short = omega arith; sound = sound }
+
+get_short : (limits : Option Limits) (value : Option (List ℕ)) (live : LivePart) (unknown : ℕ) (key : Key) (room : ℕ) → ((l : Limits) → limits ≡ Some l → is_of l key) → IsSoundAt limits value → room_for (get_asked key) ≤ room
+    → length (get_answer limits value live unknown).body ≤ room
+get_short (Some l) (Some v) live unknown key room of sound le = omega (arith, (laws.record_laws l).get_short key v live (of l refl) sound)
+get_short (Some l) None live unknown key room of sound le = omega arith
+get_short None (Some v) live unknown key room of sound le = omega arith
+get_short None None live unknown key room of sound le = omega arith
+
+result_fit : (setup : BoardFile) (room : ℕ) (limits : Limits) (old : List ℕ) (op : Op) (before : State) (r : Result (List ℕ) ℕ) → IsSound setup before.records → limits_at setup (key_of op) ≡ Some limits → before.records (key_of op) ≡ Some old
+    → Decides r (sets limits op old) → room_for (set_asked op) ≤ room → IsFit setup room (set_result r op before)
+result_fit setup room limits old op before (Ok new) sound at had is le = record {
+  short = omega (arith, laws.kind_laws.set_short op);
+  sound = sound_with setup before.records (key_of op) limits new sound at ((laws.record_laws limits).keeps op old new (valid_at _ _ limits old at had (sound (key_of op))) is);
+}
+result_fit setup room limits old op before (Err fault) sound at had is le = refused_fit setup room fault before sound
+
+set_fit : (setup : BoardFile) (room : ℕ) (limits : Option Limits) (value : Option (List ℕ)) (unknown : ℕ) (op : Op) (before : State) → IsSound setup before.records → limits_at setup (key_of op) ≡ limits → before.records (key_of op) ≡ value
+    → room_for (set_asked op) ≤ room → IsFit setup room (set_answer limits value unknown op before)
+set_fit setup room (Some l) (Some old) unknown op before sound at had le = result_fit setup room l old op before (outcome l op old) sound at had ((laws.record_laws l).decides op old) le
+set_fit setup room (Some l) None unknown op before sound at had le = refused_fit setup room unknown before sound
+set_fit setup room None (Some old) unknown op before sound at had le = refused_fit setup room unknown before sound
+set_fit setup room None None unknown op before sound at had le = refused_fit setup room unknown before sound
+
+serve_fit : (setup : BoardFile) (before : State) (request : Request) (room : ℕ) → IsSound setup before.records → longest_reply request ≤ room → IsFit setup room (serve setup before request)
+serve_fit setup before (Live command) room sound has = record { short = omega (arith, (are_live setup before.records before.activity command).short, has); sound = sound }
+serve_fit setup before (Get key) room sound has = record { short = get_short (limits_at setup key) (before.records key) before.activity.live (unknown_code setup key) key room (limits_are_of setup key) (sound key) has; sound = sound }
+serve_fit setup before (Set op) room sound has = set_fit setup room _ _ _ op before sound refl refl has
+
+reply_fit : (setup : BoardFile) (before : State) (room : ℕ) (changing : Bool) (r : Result Request ℕ) → IsRight room changing r → IsSound setup before.records → IsFit setup room (reply setup before r)
+reply_fit setup before room changing (Ok request) right sound = serve_fit setup before request room sound right.0
+reply_fit setup before room changing (Err fault) right sound = refused_fit setup room fault before sound
+
+answer_fit : (setup : BoardFile) (before : State) (asked : Asked) → IsSound setup before.records → IsFit setup (room_for asked) (answer_of setup before asked)
+answer_fit setup before asked sound = reply_fit setup before (room_for asked) (is_changing asked) (asked_by asked) (asked_right asked) sound
+
+pub answers_fit : AnswersFit
+answers_fit setup before asked sound = (answer_fit setup before asked sound).short
+
+pub stays_sound : StaysSound
+stays_sound setup before asked sound = (answer_fit setup before asked sound).sound

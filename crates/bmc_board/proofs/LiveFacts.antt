@@ -1,0 +1,62 @@
+-- What every live command has in common: a line for each.
+use Rattle.std.proofs.Common.{◌≡◌, ◌≢◌, ◌≤◌, ℕ, List, [], length, Option, Some, None, Bool, true, false, if◌then◌else◌, refl, arith, lit≤}
+use Rattle.two_wire.specs.Codes.{success, uninitialized_watchdog}
+use Rattle.cfg_records.specs.Meaning.{IsRefusal}
+use Rattle.cfg_records.specs.Records.{Records}
+use Rattle.cfg_records.specs.declared.key.Key.{Key}
+use Rattle.cfg_records.specs.declared.key.Key.TheVariants as key
+use Rattle.cfg_records.specs.declared.message.Answered.{Answered}
+use Rattle.cfg_records.specs.declared.board_file.BoardFile.{BoardFile}
+use Rattle.watch_boot.specs.Watchdog.{was_set, live_after_reset}
+use Rattle.bmc_board.specs.declared.activity.Activity.{Activity}
+use Rattle.bmc_board.specs.declared.live.LiveCommand.TheVariants as live
+use Rattle.bmc_board.specs.Replies.{done, refused, unknown_code}
+use Rattle.bmc_board.specs.AnyAnswer.{IsCode, UnknownIsRefused}
+use Rattle.bmc_board.specs.Live.{reset_answer, longest_live_reply}
+use Rattle.bmc_board.specs.AnyLive.{IsLive, AreLive}
+use Rattle.bmc_board.proofs.AskedFacts.{code_of}
+
+-- ---- codes
+
+-- the code of a refusal isn't a busy controller's
+pub refusal_code : (code : ℕ) → IsRefusal code → IsCode code
+refusal_code code is = record { not_busy = is.not_busy; is_ready = is.is_ready }
+
+not_present_refuses : IsRefusal 0xCB
+not_present_refuses = record {
+  is_fault = omega arith;
+  is_byte = omega arith;
+  not_busy = λ same. omega arith;
+  is_ready = λ same. omega arith;
+}
+
+pub unknown_is_refused : UnknownIsRefused
+unknown_is_refused setup (key.Thresholds sensor) = not_present_refuses
+unknown_is_refused setup (key.Hysteresis sensor) = not_present_refuses
+unknown_is_refused setup key.PowerPolicy = not_present_refuses
+unknown_is_refused setup key.Watchdog = not_present_refuses
+
+-- ---- live commands
+
+-- a command that is always carried out
+is_done : (records : Records) (before after : Activity) (body : List ℕ) → length body ≤ longest_live_reply → IsLive records before (done body, after)
+is_done records before after body short = record { has_code = code_of success refl; short = short; unchanged = λ fault. absurd (fault refl) }
+
+is_refused : (records : Records) (before : Activity) (fault : ℕ) → IsCode fault → IsLive records before (refused fault, before)
+is_refused records before fault is = record { has_code = is; short = omega arith; unchanged = λ _. refl }
+
+reset_where : (records : Records) (value : List ℕ) (before : Activity) (b : Bool)
+    → IsLive records before (if b then (done [], record before { live = live_after_reset value before.live }) else (refused uninitialized_watchdog, before))
+reset_where records value before true = is_done records before _ [] (omega arith)
+reset_where records value before false = is_refused records before _ (code_of uninitialized_watchdog refl)
+
+resets : (records : Records) (value : Option (List ℕ)) (unknown : ℕ) (before : Activity) → IsCode unknown → IsLive records before (reset_answer value unknown before)
+resets records (Some value) unknown before is = reset_where records value before (was_set value)
+resets records None unknown before is = is_refused records before unknown is
+
+pub are_live : AreLive
+are_live setup records before live.GetDeviceId = is_done records before before _ (lit≤ tt)
+are_live setup records before live.GetSelfTestResults = is_done records before before _ (lit≤ tt)
+are_live setup records before live.ResetWatchdog = resets records (records key.Watchdog) _ before (refusal_code _ (unknown_is_refused setup key.Watchdog))
+are_live setup records before live.GetTid = is_done records before before _ (lit≤ tt)
+are_live setup records before live.GetPldmTypes = is_done records before before _ (lit≤ tt)

@@ -1,0 +1,59 @@
+-- The answer to each request and the state that it leaves, as a function.
+use Rattle.std.specs.Prelude.{ℕ, List, Option, Some, None, Result, Ok, Err}
+use Rattle.record_kinds.specs.Limits.{key_of}
+use Rattle.cfg_records.specs.Records.{with_record}
+use Rattle.cfg_records.specs.declared.op.Op.{Op}
+use Rattle.cfg_records.specs.declared.message.Asked.{Asked}
+use Rattle.cfg_records.specs.declared.message.Answered.{Answered}
+use Rattle.cfg_records.specs.declared.live.Live.{Live as LivePart}
+use Rattle.cfg_records.specs.declared.board_file.BoardFile.{BoardFile}
+use Rattle.record_kinds.specs.declared.limits.Limits.{Limits}
+use Rattle.record_kinds.specs.Limits.{outcome, view, set_reply, next_live}
+use Rattle.record_kinds.specs.Boards.{limits_at}
+use Rattle.bmc_board.specs.declared.activity.Activity.{Activity}
+use Rattle.bmc_board.specs.declared.request.Request.{Request}
+use Rattle.bmc_board.specs.declared.request.Request.TheVariants.{Live, Get, Set}
+use Rattle.bmc_board.specs.Request.{asked_by}
+use Rattle.bmc_board.specs.State.{State, state}
+use Rattle.bmc_board.specs.Replies.{done, refused, unknown_code}
+use Rattle.bmc_board.specs.Live.{live_answer}
+
+-- an answer, with the state after it
+abbrev pub Given : Type 0
+Given = Answered × State
+
+-- a live command leaves the records
+abbrev pub with_records : State → Answered × Activity → Given
+with_records before given = (given.0, state before.records given.1)
+
+-- the answer to a Get
+abbrev pub get_answer : Option Limits → Option (List ℕ) → LivePart → ℕ → Answered
+get_answer (Some limits) (Some value) live unknown = done (view limits value live)
+get_answer _ _ live unknown = refused unknown
+
+-- the activity after a Set that was carried out
+abbrev pub activity_after : Op → Activity → Activity
+activity_after op before = record before { live = next_live op before.live }
+
+-- what comes of a Set: its reply, and the state that it leaves
+abbrev pub set_result : Result (List ℕ) ℕ → Op → State → Given
+set_result (Ok new) op before = (done (set_reply op), state (with_record before.records (key_of op) new) (activity_after op before.activity))
+set_result (Err fault) op before = (refused fault, before)
+
+abbrev pub set_answer : Option Limits → Option (List ℕ) → ℕ → Op → State → Given
+set_answer (Some limits) (Some old) unknown op before = set_result (outcome limits op old) op before
+set_answer _ _ unknown op before = (refused unknown, before)
+
+-- one line for each form of what can be asked for
+abbrev pub serve : BoardFile → State → Request → Given
+serve setup before (Live command) = with_records before (live_answer setup before.records before.activity command)
+serve setup before (Get key) = (get_answer (limits_at setup key) (before.records key) before.activity.live (unknown_code setup key), before)
+serve setup before (Set op) = set_answer (limits_at setup (key_of op)) (before.records (key_of op)) (unknown_code setup (key_of op)) op before
+
+abbrev pub reply : BoardFile → State → Result Request ℕ → Given
+reply setup before (Ok request) = serve setup before request
+reply setup before (Err fault) = (refused fault, before)
+
+-- a board's answer to a request, and its state after it
+abbrev pub answer_of : BoardFile → State → Asked → Given
+answer_of setup before asked = reply setup before (asked_by asked)

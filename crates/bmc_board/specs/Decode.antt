@@ -1,0 +1,42 @@
+-- The requests that get a record and that change one are read as that Get and that Set. The operation that undoes a change has 0 in
+-- each bit that is ignored.
+use Rattle.std.specs.Prelude.{◌≡◌, ℕ, List, Some, Ok}
+use Rattle.cfg_records.specs.declared.key.Key.{Key}
+use Rattle.cfg_records.specs.declared.op.Op.{Op}
+use Rattle.cfg_records.specs.declared.message.Asked.{Asked}
+use Rattle.cfg_records.specs.declared.message.Asked.TheVariants.{Ipmi, Pldm}
+use Rattle.record_kinds.specs.Limits.{get_asked, set_asked, inverse, is_plain}
+use Rattle.bmc_board.specs.declared.request.Request.{Request}
+use Rattle.bmc_board.specs.declared.request.Request.TheVariants.{Get, Set}
+use Rattle.bmc_board.specs.Request.{asked_by}
+
+-- the same request, from another requester
+abbrev pub sent_by : ℕ → Asked → Asked
+sent_by from (Ipmi other net_fn lun number body) = Ipmi from net_fn lun number body
+sent_by from (Pldm other kind number body) = Pldm from kind number body
+
+-- who asks makes no difference
+abbrev pub IsReadFromAll : Type 0
+IsReadFromAll = (from : ℕ) (asked : Asked) → asked_by (sent_by from asked) ≡ asked_by asked
+
+-- nobody asks, and logical unit 0 is asked
+abbrev pub IsFromNobody : Asked → Type 0
+IsFromNobody (Ipmi from net_fn lun number body) = (from ≡ 0) × (lun ≡ 0)
+IsFromNobody (Pldm from kind number body) = from ≡ 0
+
+-- a controller reads this in the request
+pub record Asks (asked : Asked) (request : Request) : Type 0 where
+  pub is_read : asked_by asked ≡ Ok request
+  pub from_nobody : IsFromNobody asked
+
+-- the request for a record is read as a Get of that record
+abbrev pub GetsAreRead : Type 0
+GetsAreRead = (key : Key) → Asks (get_asked key) (Get key)
+
+-- the request for an operation is read as that operation
+abbrev pub SetsAreRead : Type 0
+SetsAreRead = (op : Op) → Asks (set_asked op) (Set op)
+
+-- what undoes an operation has 0 in each bit that a controller ignores
+abbrev pub UndosArePlain : Type 0
+UndosArePlain = (op made : Op) (reply : List ℕ) → inverse op reply ≡ Some made → is_plain made

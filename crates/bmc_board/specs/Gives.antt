@@ -1,0 +1,10 @@
+-- What a call that appends a reply's data gives.
+use Rattle.std.specs.Prelude.{◌≡◌, ℕ, List, ◌++◌, Result, Ok, Err}
+use Rattle.two_wire.specs.Codes.{success}
+use Rattle.cfg_records.specs.declared.message.Answered.{Answered}
+use Rattle.bmc_board.specs.Replies.{refused}
+
+-- the answer: its data stand behind the bytes that were there, or its code is given and nothing was appended
+abbrev pub Gives : {A : Type 0} → Result A ℕ → List ℕ → List ℕ → Answered → Type 0
+Gives (Ok _) old new answer = (answer.code ≡ success) × (new ≡ old ++ answer.body)
+Gives (Err code) old new answer = (answer ≡ refused code) × (new ≡ old)

@@ -1,0 +1,15 @@
+pub mod Table
+pub mod Request
+pub mod State
+pub mod Replies
+pub mod Live
+pub mod Answer
+pub mod Row
+pub mod Room
+pub mod Gives
+pub mod AnyAnswer
+pub mod AnyLive
+pub mod PldmTypes
+pub mod Decode
+pub mod Undo
+pub mod Quiet

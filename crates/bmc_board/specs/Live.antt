@@ -1,0 +1,46 @@
+-- What live commands do: commands that ask for no configuration record (IPMI 2.0, sections 20.1, 20.4 and 27.5; DSP0240, "GetTID" and "GetPLDMTypes").
+use Rattle.std.specs.Prelude.{ℕ, ◌/◌, ◌%◌, List, [], ◌∷◌, Option, Some, None, if◌then◌else◌}
+use Rattle.two_wire.specs.Codes.{uninitialized_watchdog}
+use Rattle.cfg_records.specs.Records.{Records}
+use Rattle.cfg_records.specs.declared.key.Key.TheVariants as key
+use Rattle.cfg_records.specs.declared.message.Answered.{Answered}
+use Rattle.cfg_records.specs.declared.device.Device.{Device}
+use Rattle.cfg_records.specs.declared.board_file.BoardFile.{BoardFile}
+use Rattle.watch_boot.specs.Watchdog.{was_set, live_after_reset}
+use Rattle.bmc_board.specs.declared.activity.Activity.{Activity}
+use Rattle.bmc_board.specs.declared.live.LiveCommand.{LiveCommand}
+use Rattle.bmc_board.specs.declared.live.LiveCommand.TheVariants as live
+use Rattle.bmc_board.specs.Replies.{done, refused, unknown_code}
+
+-- what Get Device ID replies: three bytes of the device, its revisions, IPMI 2.0, what it supports, and whose it is, the lowest
+-- byte of a number first
+abbrev pub device_data : Device → List ℕ
+device_data d =
+    d.id ∷ d.revision ∷ d.major ∷ d.minor.byte ∷ 0x02 ∷ d.support
+    ∷ d.manufacturer.number % 256 ∷ d.manufacturer.number / 256 % 256 ∷ d.manufacturer.number / 65536 ∷ d.product % 256 ∷ d.product / 256 ∷ []
+
+-- what Get Self Test Results replies: no error was found
+abbrev pub no_error : List ℕ
+no_error = 0x55 ∷ 0x00 ∷ []
+
+-- what GetPLDMTypes replies: eight bytes, the lowest first, with a bit for each type, 0, 2 and 3
+abbrev pub pldm_types : List ℕ
+pldm_types = 0x0D ∷ 0 ∷ 0 ∷ 0 ∷ 0 ∷ 0 ∷ 0 ∷ 0 ∷ []
+
+-- the watchdog timer starts where it was set once
+abbrev pub reset_answer : Option (List ℕ) → ℕ → Activity → Answered × Activity
+reset_answer (Some value) unknown before =
+    if was_set value then (done [], record before { live = live_after_reset value before.live }) else (refused uninitialized_watchdog, before)
+reset_answer None unknown before = (refused unknown, before)
+
+-- the reply to each live command, and what it leaves of what isn't configuration
+abbrev pub live_answer : BoardFile → Records → Activity → LiveCommand → Answered × Activity
+live_answer setup records before live.GetDeviceId = (done (device_data setup.device), before)
+live_answer setup records before live.GetSelfTestResults = (done no_error, before)
+live_answer setup records before live.ResetWatchdog = reset_answer (records key.Watchdog) (unknown_code setup key.Watchdog) before
+live_answer setup records before live.GetTid = (done (setup.tid ∷ []), before)
+live_answer setup records before live.GetPldmTypes = (done pldm_types, before)
+
+-- the reply to a live command has at most so many bytes of data, which fit any frame
+abbrev pub longest_live_reply : ℕ
+longest_live_reply = 24

@@ -1,0 +1,55 @@
+-- The command relation: the answer to each request, and the state that it leaves.
+use Rattle.std.specs.Prelude.{◌≡◌, ℕ, List, Option, Some, None, Result, Ok, Err, ◌⊎◌}
+use Rattle.record_kinds.specs.Limits.{key_of}
+use Rattle.cfg_records.specs.Records.{with_record}
+use Rattle.cfg_records.specs.declared.op.Op.{Op}
+use Rattle.cfg_records.specs.declared.message.Asked.{Asked}
+use Rattle.cfg_records.specs.declared.message.Answered.{Answered}
+use Rattle.cfg_records.specs.declared.board_file.BoardFile.{BoardFile}
+use Rattle.record_kinds.specs.declared.limits.Limits.{Limits}
+use Rattle.record_kinds.specs.Limits.{sets, outcome, set_reply}
+use Rattle.record_kinds.specs.Boards.{limits_at}
+use Rattle.bmc_board.specs.declared.request.Request.{Request}
+use Rattle.bmc_board.specs.declared.request.Request.TheVariants.{Set}
+use Rattle.bmc_board.specs.Request.{asked_by}
+use Rattle.bmc_board.specs.State.{State, state}
+use Rattle.bmc_board.specs.Replies.{done, refused, unknown_code}
+use Rattle.bmc_board.specs.Answer.{Given, activity_after, serve}
+
+-- a Set that its kind accepts writes the new value
+pub record IsCarriedOut (limits : Limits) (old : List ℕ) (op : Op) (before : State) (answered : Answered) (after : State) : Type 0 where
+  pub new : List ℕ
+  pub is_set : sets limits op old new
+  pub replied : answered ≡ done (set_reply op)
+  pub left : after ≡ state (with_record before.records (key_of op) new) (activity_after op before.activity)
+
+-- a Set that its kind doesn't accept changes nothing
+pub record IsRefused (limits : Limits) (old : List ℕ) (op : Op) (before : State) (answered : Answered) (after : State) : Type 0 where
+  pub fault : ℕ
+  pub no_value : (new : List ℕ) → ¬ sets limits op old new
+  pub has_fault : outcome limits op old ≡ Err fault
+  pub replied : answered ≡ refused fault
+  pub left : after ≡ before
+
+-- a Set of a record
+abbrev pub Sets : Option Limits → Option (List ℕ) → ℕ → Op → State → Answered → State → Type 0
+Sets (Some limits) (Some old) unknown op before answered after = IsCarriedOut limits old op before answered after ⊎ IsRefused limits old op before answered after
+Sets _ _ unknown op before answered after = (answered ≡ refused unknown) × (after ≡ before)
+
+-- the answer, with the state after it, is this
+abbrev pub Is : Answered → State → Given → Type 0
+Is answered after given = (let here : Given = (answered, after) in here) ≡ given
+
+-- a Set is served as its kind's relation says, anything else by its function
+abbrev pub Serves : BoardFile → State → Request → Answered → State → Type 0
+Serves setup before (Set op) answered after = Sets (limits_at setup (key_of op)) (before.records (key_of op)) (unknown_code setup (key_of op)) op before answered after
+Serves setup before request answered after = Is answered after (serve setup before request)
+
+-- a request that asks for something is served, and any other refused
+abbrev pub Replies : BoardFile → State → Result Request ℕ → Answered → State → Type 0
+Replies setup before (Ok request) answered after = Serves setup before request answered after
+Replies setup before (Err fault) answered after = Is answered after (refused fault, before)
+
+-- a board of this setup answers the request so, and goes from one state to the other
+abbrev pub Row : BoardFile → State → Asked → Answered → State → Type 0
+Row setup before asked answered after = Replies setup before (asked_by asked) answered after

@@ -1,0 +1,76 @@
+-- The tables of commands (IPMI 2.0, sections 20.1, 20.4, 27.5 to 27.7, 28.2, 28.8 and 35.6 to 35.9; DSP0240, "GetTID" and "GetPLDMTypes"): one line each.
+use Rattle.std.specs.Prelude.{ℕ, List, [], ◌∷◌, Option, Some, None, Bool, true, false, find, nat_le, ◌==◌, ◌&&◌, ◌||◌}
+use Rattle.cfg_records.specs.declared.message.Asked.{Asked}
+use Rattle.cfg_records.specs.declared.message.Asked.TheVariants.{Ipmi, Pldm}
+use Rattle.bmc_board.specs.declared.command.Command.{Command}
+use Rattle.bmc_board.specs.declared.command.Command.TheVariants as command
+use Rattle.bmc_board.specs.declared.command.Lengths.{Lengths}
+use Rattle.bmc_board.specs.declared.command.Lengths.TheVariants.{Exactly, Between, AtLeast, OneOf}
+use Rattle.bmc_board.specs.declared.command.Line.{Line}
+use Rattle.bmc_board.specs.declared.live.LiveCommand.TheVariants as live
+
+-- a line stands under a group, which is a network function or a PLDM type, and a command number
+pub record Listed : Type 0 where
+  pub group : ℕ
+  pub number : ℕ
+  pub line : Line
+
+abbrev pub listed : ℕ → ℕ → Lengths → Bool → Command → Listed
+listed group number lengths changing command = record { group = group; number = number; line = record { command = command; lengths = lengths; changing = changing } }
+
+-- IPMI: network function, number, lengths, whether it sets the configuration, command
+abbrev pub table : List Listed
+table =
+    listed 0x00 0x01 (Exactly 0) false command.GetChassisStatus ∷
+    listed 0x00 0x06 (Exactly 1) true command.SetPowerRestorePolicy ∷
+    listed 0x04 0x24 (Exactly 4) true command.SetSensorHysteresis ∷
+    listed 0x04 0x25 (Exactly 2) false command.GetSensorHysteresis ∷
+    listed 0x04 0x26 (Exactly 8) true command.SetSensorThresholds ∷
+    listed 0x04 0x27 (Exactly 1) false command.GetSensorThresholds ∷
+    listed 0x06 0x01 (Exactly 0) false (command.Live live.GetDeviceId) ∷
+    listed 0x06 0x04 (Exactly 0) false (command.Live live.GetSelfTestResults) ∷
+    listed 0x06 0x22 (Exactly 0) false (command.Live live.ResetWatchdog) ∷
+    listed 0x06 0x24 (Exactly 6) true command.SetWatchdogTimer ∷
+    listed 0x06 0x25 (Exactly 0) false command.GetWatchdogTimer ∷
+    []
+
+-- PLDM: type, number, lengths, whether it sets the configuration, command
+abbrev pub pldm_table : List Listed
+pldm_table =
+    listed 0x00 0x02 (Exactly 0) false (command.Live live.GetTid) ∷
+    listed 0x00 0x04 (Exactly 0) false (command.Live live.GetPldmTypes) ∷
+    []
+
+abbrev pub line_in : Option Listed → Option Line
+line_in (Some l) = Some l.line
+line_in None = None
+
+-- the line of these numbers
+abbrev pub line_under : ℕ → ℕ → List Listed → Option Line
+line_under group number lines = line_in (find (λ l. (l.group == group) && (l.number == number)) lines)
+
+abbrev pub line_of : ℕ → ℕ → Option Line
+line_of net_fn number = line_under net_fn number table
+
+abbrev pub pldm_line_of : ℕ → ℕ → Option Line
+pldm_line_of kind number = line_under kind number pldm_table
+
+-- the data may have this length
+abbrev pub is_allowed : Lengths → ℕ → Bool
+is_allowed (Exactly exact) length = length == exact
+is_allowed (Between least most) length = nat_le least length && nat_le length most
+is_allowed (AtLeast least) length = nat_le least length
+is_allowed (OneOf first second third) length = (length == first) || (length == second) || (length == third)
+
+-- the PLDM types that the controller knows: base, platform monitoring and control, BIOS (DSP0240)
+abbrev pub is_pldm_type : ℕ → Bool
+is_pldm_type kind = (kind == 0) || (kind == 2) || (kind == 3)
+
+abbrev pub changes : Option Line → Bool
+changes (Some line) = line.changing
+changes None = false
+
+-- the request's command sets the configuration
+abbrev pub is_changing : Asked → Bool
+is_changing (Ipmi from net_fn lun number body) = changes (line_of net_fn number)
+is_changing (Pldm from kind number body) = changes (pldm_line_of kind number)

@@ -1,0 +1,196 @@
+//! What a board does with requests.
+ghost use Rattle.std.specs.Prelude.{◌≡◌, ◌≢◌, ◌+◌, ◌≤◌, ℕ, List, IfOk, [], length};
+ghost use Rattle.two_wire.specs.Codes.{success, node_busy, pldm_not_ready};
+ghost use Rattle.cfg_records.specs.Records.{records_of};
+ghost use Rattle.cfg_records.specs.Boards.{pairs_of};
+ghost use Rattle.cfg_records.specs.Meaning.{room_for};
+ghost use Rattle.cfg_records.specs.declared.message.Answered.{Answered as Reply};
+ghost use Rattle.bmc_board.specs.Gives.{Gives};
+ghost use Rattle.bmc_board.specs.Replies.{done, unknown_code};
+
+use crate::activity::Activity;
+use crate::board::Board;
+use crate::live::{LiveCommand, NO_ERROR, PLDM_TYPES, device_data};
+use crate::request::{Request, read_request};
+use cfg_records::{Answered, Asked, BoardFile, Key, Op, RecordKind, Store, Value};
+use record_kinds::{Limits, Setup};
+use std::alloc::{AllocError, Global};
+use two_wire::{Buffer, Bytes, Code, code};
+use watch_boot::watchdog;
+
+/// The code for a record that isn't there.
+fn unknown_code(_setup: &Setup, key: &Key) -> Code
+    ensures { result ≡ unknown_code _setup.now key.now }
+{
+    match key {
+        Key::Thresholds(_) | Key::Hysteresis(_) => code::NOT_PRESENT,
+        // These are on every board.
+        Key::PowerPolicy | Key::Watchdog => code::NOT_PRESENT,
+    }
+}
+
+/// Appends the data of a reply that is always given.
+fn show<B: Buffer>(shown: &[u8], to: &mut B) -> Result<(), Code>
+    requires { length (B.bytes to.old) + length shown.now ≤ B.capacity }
+    ensures { Gives result (B.bytes to.old) (B.bytes to.new) (done shown.now) }
+{
+    to.extend_from_slice(shown);
+    Ok(())
+}
+
+/// The answer of a call that appended its data to nothing.
+fn answered(done: Result<(), Code>, body: Bytes<251>) -> Answered
+    ensures { (answer : Reply) → Gives done [] body answer → result ≡ answer }
+{
+    match done {
+        Ok(()) => Answered { code: 0, body },
+        Err(code) => Answered::refused(code),
+    }
+}
+
+impl<S: Store> Board<S> {
+    ghost use Rattle.bmc_board.specs.State.{opening, state_of, IsUnchanged};
+    ghost use Rattle.bmc_board.specs.Live.{reset_answer, longest_live_reply};
+    ghost use Rattle.bmc_board.specs.Room.{longest_reply};
+    ghost use Rattle.bmc_board.specs.Row.{Row};
+    ghost use Rattle.bmc_board.specs.Answer.{serve as serve_of, reply as reply_of, answer_of};
+
+    /// A board of this file over this store of its records.
+    pub fn open(_alloc: Global, file: BoardFile, store: S) -> Result<Self, AllocError>
+        requires { S.records store ≡ records_of (pairs_of file) }
+        ensures setup { IfOk result (λ board. board.setup ≡ file) }
+        ensures records { IfOk result (λ board. S.records board.store ≡ records_of (pairs_of file)) }
+        ensures activity { IfOk result (λ board. board.activity ≡ opening) }
+    {
+        Ok(Board {
+            setup: Setup::new(file),
+            activity: Activity::opening(),
+            store,
+            made: Value::new(),
+        })
+    }
+
+    /// Where its records are.
+    pub fn store(&self) -> &S
+        ensures { result.now ≡ self.now.store }
+    {
+        &self.store
+    }
+
+    /// Starts the watchdog timer, where it was set once.
+    fn reset_watchdog(&mut self) -> Result<(), Code>
+        ensures answer { (bytes : List ℕ) → Gives result bytes bytes (reset_answer (S.records self.old.store Key.Watchdog) (unknown_code self.old.setup Key.Watchdog) self.old.activity).0 }
+        ensures left { self.new.activity ≡ (reset_answer (S.records self.old.store Key.Watchdog) (unknown_code self.old.setup Key.Watchdog) self.old.activity).1 }
+        ensures records { S.records self.new.store ≡ S.records self.old.store }
+        ensures setup { self.new.setup ≡ self.old.setup }
+    {
+        let Some(value) = self.store.get(&Key::Watchdog) else {
+            return Err(unknown_code(&self.setup, &Key::Watchdog));
+        };
+        match watchdog::reset(value, &self.activity.live) {
+            Some(live) => {
+                self.activity.live = live;
+                Ok(())
+            }
+            None => Err(code::UNINITIALIZED_WATCHDOG),
+        }
+    }
+
+    /// Carries out a live command, and appends the data of the reply.
+    fn live<B: Buffer>(&mut self, command: LiveCommand, to: &mut B) -> Result<(), Code>
+        requires room { length (B.bytes to.old) + longest_live_reply ≤ B.capacity }
+        ensures answer { Gives result (B.bytes to.old) (B.bytes to.new) (serve_of self.old.setup (state_of S.records self.old) (Request.Live command)).0 }
+        ensures left { state_of S.records self.new ≡ (serve_of self.old.setup (state_of S.records self.old) (Request.Live command)).1 }
+        ensures setup { self.new.setup ≡ self.old.setup }
+    {
+        match command {
+            LiveCommand::GetDeviceId => show(&device_data(self.setup.device()), to),
+            LiveCommand::GetSelfTestResults => show(&NO_ERROR, to),
+            LiveCommand::ResetWatchdog => self.reset_watchdog(),
+            LiveCommand::GetTid => show(&[self.setup.tid()], to),
+            LiveCommand::GetPldmTypes => show(&PLDM_TYPES, to),
+        }
+    }
+
+    /// Appends what a Get of the key's record replies.
+    fn get<B: Buffer>(&self, key: &Key, to: &mut B) -> Result<(), Code>
+        requires room { length (B.bytes to.old) + longest_reply (Request.Get key.now) ≤ B.capacity }
+        ensures { Gives result (B.bytes to.old) (B.bytes to.new) (serve_of self.now.setup (state_of S.records self.now) (Request.Get key.now)).0 }
+    {
+        match (self.setup.limits(key), self.store.get(key)) {
+            (Some(limits), Some(value)) => {
+                limits.get_data(value, &self.activity.live, to);
+                Ok(())
+            }
+            _ => Err(unknown_code(&self.setup, key)),
+        }
+    }
+
+    /// Carries out the operation, where its record takes it, and appends what the Set replies.
+    fn set<B: Buffer>(&mut self, op: &Op, to: &mut B) -> Result<(), Code>
+        requires room { length (B.bytes to.old) + longest_reply (Request.Set op.now) ≤ B.capacity }
+        ensures answer { Gives result (B.bytes to.old) (B.bytes to.new) (serve_of self.old.setup (state_of S.records self.old) (Request.Set op.now)).0 }
+        ensures left { state_of S.records self.new ≡ (serve_of self.old.setup (state_of S.records self.old) (Request.Set op.now)).1 }
+        ensures setup { self.new.setup ≡ self.old.setup }
+    {
+        let key = Limits::key(op);
+        match (self.setup.limits(&key), self.store.get(&key)) {
+            (Some(limits), Some(value)) => {
+                limits.apply(op, value, &mut self.made)?;
+                let _ = self.store.put(&key, self.made.as_slice());
+                Limits::next_live(op, &mut self.activity.live);
+                Limits::set_reply(op, to);
+                Ok(())
+            }
+            _ => Err(unknown_code(&self.setup, &key)),
+        }
+    }
+
+    /// Does what is asked, and appends the data of the reply.
+    fn serve<B: Buffer>(&mut self, request: &Request, to: &mut B) -> Result<(), Code>
+        requires room { length (B.bytes to.old) + longest_reply request.now ≤ B.capacity }
+        ensures answer { Gives result (B.bytes to.old) (B.bytes to.new) (serve_of self.old.setup (state_of S.records self.old) request.now).0 }
+        ensures left { state_of S.records self.new ≡ (serve_of self.old.setup (state_of S.records self.old) request.now).1 }
+        ensures setup { self.new.setup ≡ self.old.setup }
+    {
+        match request {
+            Request::Live(command) => self.live(*command, to),
+            Request::Get(key) => self.get(key, to),
+            Request::Set(op) => self.set(op, to),
+        }
+    }
+
+    /// Does what is asked, where that could be read, and appends the data of the reply.
+    pub fn reply<B: Buffer>(
+        &mut self,
+        request: Result<Request, Code>,
+        to: &mut B,
+    ) -> Result<(), Code>
+        requires room { IfOk request (λ r. length (B.bytes to.old) + longest_reply r ≤ B.capacity) }
+        ensures answer { Gives result (B.bytes to.old) (B.bytes to.new) (reply_of self.old.setup (state_of S.records self.old) request).0 }
+        ensures left { state_of S.records self.new ≡ (reply_of self.old.setup (state_of S.records self.old) request).1 }
+        ensures setup { self.new.setup ≡ self.old.setup }
+    {
+        self.serve(&request?, to)
+    }
+
+    /// The answer to a request. It takes no memory.
+    pub fn answer(&mut self, asked: &Asked) -> Answered
+        // The answer and the state after it stand in the command relation, and are its function's.
+        ensures row { Row self.old.setup (state_of S.records self.old) asked.now result (state_of S.records self.new) }
+        ensures answer { (result, state_of S.records self.new) ≡ answer_of self.old.setup (state_of S.records self.old) asked.now }
+        ensures setup { self.new.setup ≡ self.old.setup }
+
+        // A refusal changes nothing.
+        ensures refused { result.code ≢ success → IsUnchanged (state_of S.records self.old) (state_of S.records self.new) }
+        // The codes of a busy controller are not a board's.
+        ensures not_busy { result.code ≢ node_busy }
+        ensures ready { result.code ≢ pldm_not_ready }
+        // The data fits the frame or message that carries it.
+        ensures fits { length result.body ≤ room_for asked.now }
+    {
+        let mut body = Bytes::new();
+        let done = self.reply(read_request(asked), &mut body);
+        answered(done, body)
+    }
+}

@@ -1,0 +1,127 @@
+//! The tables of commands.
+ghost use Rattle.std.specs.Prelude.{◌≡◌, None, Some};
+ghost use Rattle.bmc_board.specs.Table.{line_of, pldm_line_of, is_allowed, is_changing, is_pldm_type};
+
+use crate::live::LiveCommand;
+use cfg_records::Asked;
+
+/// A command of the tables.
+#[derive(Clone, Copy, Debug, PartialEq, Eq)]
+pub enum Command {
+    /// A live command, which takes no data.
+    Live(LiveCommand),
+    SetSensorHysteresis,
+    GetSensorHysteresis,
+    SetSensorThresholds,
+    GetSensorThresholds,
+    GetChassisStatus,
+    SetPowerRestorePolicy,
+    SetWatchdogTimer,
+    GetWatchdogTimer,
+}
+
+/// How many bytes of data a command takes.
+#[derive(Clone, Copy, Debug, PartialEq, Eq)]
+pub enum Lengths {
+    Exactly(u8),
+    /// The least and the greatest.
+    Between(u8, u8),
+    AtLeast(u8),
+    OneOf(u8, u8, u8),
+}
+
+/// What its table says of a command: how many bytes of data it takes, and whether it sets the configuration.
+#[derive(Clone, Copy, Debug, PartialEq, Eq)]
+pub struct Line {
+    pub command: Command,
+    pub lengths: Lengths,
+    pub changing: bool,
+}
+
+impl Lengths {
+    /// Whether the command takes so many bytes.
+    pub fn allow(self, length: usize) -> bool
+        ensures { result ≡ is_allowed self length }
+    {
+        match self {
+            Lengths::Exactly(exact) => length == exact as usize,
+            Lengths::Between(least, most) => least as usize <= length && length <= most as usize,
+            Lengths::AtLeast(least) => least as usize <= length,
+            Lengths::OneOf(first, second, third) => {
+                length == first as usize || length == second as usize || length == third as usize
+            }
+        }
+    }
+}
+
+const fn entry(command: Command, lengths: Lengths, changing: bool) -> Line
+    ensures { result ≡ record { command = command; lengths = lengths; changing = changing } }
+{
+    Line {
+        command,
+        lengths,
+        changing,
+    }
+}
+
+/// The line of IPMI's table for the network function and the command number, if they are listed.
+pub fn find_line(net_fn: u8, number: u8) -> Option<Line>
+    ensures { result ≡ line_of net_fn number }
+{
+    use Command::*;
+    use Lengths::*;
+    use LiveCommand::*;
+    Some(match (net_fn, number) {
+        (0x00, 0x01) => entry(GetChassisStatus, Exactly(0), false),
+        (0x00, 0x06) => entry(SetPowerRestorePolicy, Exactly(1), true),
+        (0x04, 0x24) => entry(SetSensorHysteresis, Exactly(4), true),
+        (0x04, 0x25) => entry(GetSensorHysteresis, Exactly(2), false),
+        (0x04, 0x26) => entry(SetSensorThresholds, Exactly(8), true),
+        (0x04, 0x27) => entry(GetSensorThresholds, Exactly(1), false),
+        (0x06, 0x01) => entry(Live(GetDeviceId), Exactly(0), false),
+        (0x06, 0x04) => entry(Live(GetSelfTestResults), Exactly(0), false),
+        (0x06, 0x22) => entry(Live(ResetWatchdog), Exactly(0), false),
+        (0x06, 0x24) => entry(SetWatchdogTimer, Exactly(6), true),
+        (0x06, 0x25) => entry(GetWatchdogTimer, Exactly(0), false),
+        _ => return None,
+    })
+}
+
+/// The line of PLDM's table for the type and the command number, if they are listed.
+pub fn find_pldm_line(kind: u8, number: u8) -> Option<Line>
+    ensures { result ≡ pldm_line_of kind number }
+{
+    use Command::*;
+    use Lengths::*;
+    use LiveCommand::*;
+    Some(match (kind, number) {
+        (0x00, 0x02) => entry(Live(GetTid), Exactly(0), false),
+        (0x00, 0x04) => entry(Live(GetPldmTypes), Exactly(0), false),
+        _ => return None,
+    })
+}
+
+/// Whether the PLDM type is one of the controller's: base, platform monitoring and control, BIOS.
+pub fn is_pldm_type(kind: u8) -> bool
+    ensures { result ≡ is_pldm_type kind }
+{
+    matches!(kind, 0 | 2 | 3)
+}
+
+/// Whether the request's command sets the configuration, be the request valid or not.
+pub fn changing(asked: &Asked) -> bool
+    ensures { result ≡ is_changing asked.now }
+{
+    let line = match asked {
+        Asked::Ipmi {
+            net_fn,
+            command,
+            ..
+        } => find_line(net_fn.number(), *command),
+        Asked::Pldm { kind, command, .. } => find_pldm_line(kind.number(), *command),
+    };
+    match line {
+        Some(line) => line.changing,
+        None => false,
+    }
+}

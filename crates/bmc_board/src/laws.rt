@@ -1,0 +1,71 @@
+//! What holds of the definitions alone.
+ghost use Rattle.bmc_board.specs.AnyAnswer.{HasAnswer, HasOneAnswer, NeverBusy, UnknownIsRefused, RefusedIsUnchanged, StaysSound, AnswersFit};
+ghost use Rattle.bmc_board.specs.AnyLive.{AreLive};
+ghost use Rattle.bmc_board.specs.Decode.{IsReadFromAll, GetsAreRead, SetsAreRead, UndosArePlain};
+ghost use Rattle.bmc_board.specs.Undo.{IsAReply, IsUndone, IsSteady, IsShownAsBefore};
+ghost use Rattle.bmc_board.specs.PldmTypes.{TypesAreNamed};
+ghost use Rattle.bmc_board.specs.Quiet.{KeepsRecords};
+
+/// Each request has an answer and a state after it, and no other.
+pub fn one_answer()
+    ensures answered { HasAnswer }
+    ensures once { HasOneAnswer }
+{}
+
+/// No command answers the codes of a busy controller, and none answers success where a record isn't there.
+pub fn codes_law()
+    ensures answers { NeverBusy }
+    ensures unknown { UnknownIsRefused }
+{}
+
+/// What a refused request leaves is what was there.
+pub fn refusal_law()
+    ensures { RefusedIsUnchanged }
+{}
+
+/// Where each record has a value that its limits allow, each has one after any answer, and the answer's data fits the frame or message
+/// that carries it.
+pub fn sound_law()
+    ensures records { StaysSound }
+    ensures fits { AnswersFit }
+{}
+
+/// A live command leaves the records, by the form of its definition. Its code isn't a busy controller's, its data fits any frame, and
+/// where it refuses it changes nothing.
+pub fn live_law()
+    ensures { AreLive }
+{}
+
+/// The request that gets a record is read as that Get, and the request that carries out an operation as that Set. Both are from
+/// nobody, to logical unit 0, and mean the same from anyone. What undoes an operation has 0 in each bit that a controller ignores.
+pub fn decode_law()
+    ensures gets { GetsAreRead }
+    ensures sets { SetsAreRead }
+    ensures anyone { IsReadFromAll }
+    ensures plain { UndosArePlain }
+{}
+
+/// What a Get replies is a reply from which `inverse` makes an operation wherever one undoes it. Where a record was got and then set,
+/// and the Set has an inverse from the Get reply, the request of that inverse is carried out, and then every record of the board is
+/// what it was before, whoever asks, and whatever became of what isn't configuration.
+pub fn undo_law()
+    ensures reply { IsAReply }
+    ensures undone { IsUndone }
+{}
+
+/// Two Gets of a record show the same configuration where the records of the board are the same: so do a Get of any record before
+/// a change and a Get of it after the undo.
+pub fn conf_law()
+    ensures steady { IsSteady }
+    ensures undone { IsShownAsBefore }
+{}
+
+/// A request whose command sets no configuration leaves every record as it is, be it carried out or refused.
+pub fn quiet_law()
+    ensures { KeepsRecords }
+{}
+
+/// GetPLDMTypes names exactly the types whose requests aren't refused for their type.
+pub fn pldm_types_law()
+    ensures { TypesAreNamed }
+{}

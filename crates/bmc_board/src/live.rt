@@ -1,0 +1,42 @@
+//! Live commands: those that ask for no configuration record.
+ghost use Rattle.std.specs.Prelude.{◌≡◌, ◌/◌, ◌%◌};
+ghost use Rattle.bmc_board.specs.Live.{device_data};
+
+use cfg_records::Device;
+
+/// A command that asks for no record, and leaves all of them.
+#[derive(Clone, Copy, Debug, PartialEq, Eq)]
+pub enum LiveCommand {
+    GetDeviceId,
+    GetSelfTestResults,
+    ResetWatchdog,
+    GetTid,
+    GetPldmTypes,
+}
+
+/// What Get Self Test Results replies (IPMI 2.0, section 20.4): no error was found.
+pub(crate) const NO_ERROR: [u8; 2] = [0x55, 0x00];
+
+/// What GetPLDMTypes replies (DSP0240): a bit for each type, the lowest byte first.
+pub(crate) const PLDM_TYPES: [u8; 8] = [0x0D, 0, 0, 0, 0, 0, 0, 0];
+
+/// What Get Device ID replies (IPMI 2.0, section 20.1).
+pub(crate) fn device_data(device: &Device) -> [u8; 11]
+    ensures { result ≡ device_data device.now }
+{
+    let manufacturer = device.manufacturer.number;
+    let product = device.product;
+    [
+        device.id,
+        device.revision,
+        device.major,
+        device.minor.byte,
+        0x02,
+        device.support,
+        (manufacturer % 256) as u8,
+        (manufacturer / 256 % 256) as u8,
+        (manufacturer / 65536) as u8,
+        (product % 256) as u8,
+        (product / 256) as u8,
+    ]
+}

@@ -1,8 +1,0 @@
-use Rattle.bmc_core.specs.AnswerLaws.{has_answer, has_one_answer}
-use Rattle.bmc_core.proofs.laws.one_answer.Goals as goal
-
-pub returns-clause-answered : goal.returns-clause-answered
-returns-clause-answered c = has_answer
-
-pub returns-clause-once : goal.returns-clause-once
-returns-clause-once c = has_one_answer

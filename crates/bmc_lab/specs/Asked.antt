@@ -1,0 +1,21 @@
+-- The frame that words of the command line name.
+use Rattle.std.specs.Prelude.{◌≡◌, ◌≢◌, ℕ, List, [], Option, None, Some, Ok, codes}
+use Rattle.hex.specs.Hex.{decode_of}
+use Rattle.two_wire.specs.declared.Bus.{Bus}
+use Rattle.two_wire.specs.declared.Bus.TheVariants.{Ipmb, Smbus}
+
+-- a bus's name
+abbrev pub name_of : Bus → List ℕ
+name_of Ipmb = codes "ipmb"
+name_of Smbus = codes "smbus"
+
+-- the word means the bus: it is the bus's name, or it is left out and the bus is IPMB
+abbrev pub Means : Option (List ℕ) → Bus → Type 0
+Means None bus = bus ≡ Ipmb
+Means (Some word) bus = word ≡ name_of bus
+
+-- the words name the bus and the bytes: the digits are two hexadecimal ones for each byte, and there is a byte
+pub record Asks (word : Option (List ℕ)) (digits : List ℕ) (bus : Bus) (bytes : List ℕ) : Type 0 where
+  pub means : Means word bus
+  pub spelt : decode_of digits ≡ Ok bytes
+  pub some : bytes ≢ []

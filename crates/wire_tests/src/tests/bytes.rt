@@ -1,0 +1,73 @@
+//! Bytes, their check bytes, addresses, and bounded numbers.
+ghost use Rattle.std.specs.Prelude.{◌+◌, ◌≤◌, length};
+
+use super::bytes_of;
+use std::test::Fail;
+use two_wire::{Address, Buffer, Bytes, Code, Data, Lun, NetFn, code, pec, sum8};
+
+#[test]
+fn the_check_bytes_of_heads_bodies_and_packets(rt: HostRuntime) {
+    for (text, sum) in [("20 18", 0xC8), ("2C 00 01", 0xD3), ("", 0)] {
+        assert_eq!(rt; sum8(bytes_of(text).as_slice()), sum, "{text}");
+    }
+    for (text, code) in [
+        ("31 32 33 34 35 36 37 38 39", 0xF4),
+        ("20 0F 08 31 01 00 08 C8 00 80 02", 0x50),
+        ("", 0),
+    ] {
+        assert_eq!(rt; pec(bytes_of(text).as_slice()), code, "{text}");
+    }
+}
+
+#[test]
+fn codes_are_those_of_the_standards(rt: HostRuntime) {
+    let ipmi = [0x80, 0xC0, 0xC1, 0xC2, 0xC7, 0xCB, 0xCC];
+    for (code, byte) in code::of_ipmi().iter().zip(ipmi.iter()) {
+        assert_eq!(rt; code.value(), *byte);
+    }
+    let pldm = [0x02, 0x03, 0x04, 0x05, 0x20];
+    for (code, byte) in code::of_pldm().iter().zip(pldm.iter()) {
+        assert_eq!(rt; code.value(), *byte);
+    }
+}
+
+/// Through the trait alone.
+fn add<B: Buffer>(to: &mut B)
+    requires { length (B.bytes to.old) + 3 ≤ B.capacity }
+{
+    to.push(4);
+    to.extend_from_slice(&[5, 6]);
+}
+
+#[test]
+fn bytes_grow_at_their_end_and_are_replaced(rt: HostRuntime) {
+    let mut bytes = Bytes::<6>::new();
+    assert!(rt; bytes.is_empty());
+    bytes.push(1);
+    bytes.extend_from_slice(&[2, 3]);
+    assert_eq!(rt; bytes.len(), 3);
+    add(&mut bytes);
+    assert_eq!(rt; bytes.as_slice(), [1, 2, 3, 4, 5, 6].as_slice());
+    assert!(rt; bytes.copy().is(&[1, 2, 3, 4, 5, 6]) && !bytes.is(&[1, 2]));
+    bytes = Bytes::from_slice(&[1, 2]);
+    bytes.replace(&[5, 6, 7, 8]);
+    assert!(rt; bytes.is(&[5, 6, 7, 8]));
+    bytes.replace(&[9]);
+    assert!(rt; bytes.is(&[9]));
+}
+
+#[test]
+fn addresses_numbers_codes_and_data_keep_their_value(rt: HostRuntime) -> Result<(), Fail> {
+    assert_eq!(rt; Address::new(0x2C).ok_or("2Ch")?.byte(), 0x2C);
+    assert!(rt; Address::new(0x2D).is_none());
+    assert_eq!(rt;
+        (Lun::new(3).number(), NetFn::new(0x06).number()),
+        (3, 0x06)
+    );
+    assert_eq!(rt; Code::new(0x80).ok_or("80h")?.value(), 0x80);
+    assert!(rt; Code::new(0).is_none());
+    assert_eq!(rt; code::INVALID_LENGTH.value(), 0xC7);
+    let frame = [1, 2, 3, 4];
+    assert_eq!(rt; Data::<4>::new(&frame[1..3]).as_slice(), [2, 3].as_slice());
+    Ok(())
+}
