@@ -29,9 +29,8 @@ use Rattle.bmc_core.specs.Table.{line_of, is_allowed, is_pldm_type, pldm_line_of
 use Rattle.bmc_core.specs.Request.{request_of, asked_at, asked_by, ipmi_refusals, pldm_refusals}
 use Rattle.bmc_core.specs.State.{State, state}
 use Rattle.bmc_core.specs.Row.{done, refused}
-use Rattle.bmc_core.specs.AnswerLaws.{Given}
 use Rattle.bmc_core.specs.Room.{longest_reply}
-use Rattle.bmc_core.specs.Answer.{get_answer, reset_answer, set_result, set_answer, serve, reply, answer_of}
+use Rattle.bmc_core.specs.Answer.{Given, get_answer, reset_answer, set_result, set_answer, serve, reply, answer_of}
 
 -- ---- a refusal changes nothing
 

@@ -1,5 +1,5 @@
 -- The answer to each request and the state that it leaves, as a function.
-use Rattle.std.specs.Prelude.{ℕ, List, [], if◌then◌else◌, Option, Some, None, Result, Ok, Err, ◌∷◌}
+use Rattle.std.specs.Prelude.{◌≡◌, ℕ, List, [], if◌then◌else◌, Option, Some, None, Result, Ok, Err, ◌∷◌}
 use Rattle.cfg_records.specs.Keys.{key_of}
 use Rattle.cfg_records.specs.Records.{with_record}
 use Rattle.cfg_records.specs.declared.op.Op.{Op}
@@ -17,7 +17,11 @@ use Rattle.bmc_core.specs.declared.request.Request.{Request}
 use Rattle.bmc_core.specs.declared.request.Request.TheVariants.{GetDeviceId, ResetWatchdog, Get, Set, GetTid, GetPldmTypes}
 use Rattle.bmc_core.specs.Request.{asked_by}
 use Rattle.bmc_core.specs.State.{State, state}
-use Rattle.bmc_core.specs.Row.{done, refused, device_data, pldm_types, unknown_code}
+use Rattle.bmc_core.specs.Row.{done, refused, device_data, pldm_types, unknown_code, Row}
+
+-- an answer, with the state after it
+abbrev pub Given : Type 0
+Given = Answered × State
 
 -- the answer to a Get
 abbrev pub get_answer : Option Limits → Option (List ℕ) → Live → ℕ → Answered
@@ -54,3 +58,11 @@ reply setup before (Err fault) = (refused fault, before)
 -- a board's answer to a request, and its state after it
 abbrev pub answer_of : BoardFile → State → Asked → Answered × State
 answer_of setup before asked = reply setup before (asked_by asked)
+
+-- it stands in the command relation
+abbrev pub HasAnswer : Type 0
+HasAnswer = (setup : BoardFile) (before : State) (asked : Asked) → Row setup before asked (answer_of setup before asked).0 (answer_of setup before asked).1
+
+-- and no other does
+abbrev pub HasOneAnswer : Type 0
+HasOneAnswer = (setup : BoardFile) (before : State) (asked : Asked) (answered : Answered) (after : State) → Row setup before asked answered after → (let p : Given = (answered, after) in p) ≡ answer_of setup before asked

@@ -20,11 +20,7 @@ use Rattle.bmc_core.specs.declared.request.Request.TheVariants.{GetDeviceId, Res
 use Rattle.bmc_core.specs.Request.{asked_by}
 use Rattle.bmc_core.specs.State.{State, state}
 use Rattle.bmc_core.specs.Row.{done, refused, Gets, Resets, Sets, Serves, Replies, Row}
-use Rattle.bmc_core.specs.Answer.{get_answer, reset_answer, set_result, set_answer, serve, reply, answer_of}
-
--- an answer, with the state after it
-abbrev pub Given : Type 0
-Given = Answered × State
+use Rattle.bmc_core.specs.Answer.{Given, get_answer, reset_answer, set_result, set_answer, serve, reply, answer_of, HasAnswer, HasOneAnswer}
 
 -- two parts that are equal make equal pairs
 pair : (a b : Answered) (s t : State) → a ≡ b → s ≡ t → (let p : Given = (a, s) in p) ≡ (let q : Given = (b, t) in q)
@@ -76,9 +72,6 @@ replies : (setup : BoardFile) (before : State) (r : Result Request ℕ) → Repl
 replies setup before (Ok request) = serves setup before request
 replies setup before (Err fault) = (refl, refl)
 
-abbrev pub HasAnswer : Type 0
-HasAnswer = (setup : BoardFile) (before : State) (asked : Asked) → Row setup before asked (answer_of setup before asked).0 (answer_of setup before asked).1
-
 pub has_answer : HasAnswer
 has_answer setup before asked = replies setup before (asked_by asked)
 
@@ -128,9 +121,6 @@ serves_once setup before (Set op) answered after h = sets_once _ _ _ op before a
 replies_once : (setup : BoardFile) (before : State) (r : Result Request ℕ) (answered : Answered) (after : State) → Replies setup before r answered after → (let p : Given = (answered, after) in p) ≡ reply setup before r
 replies_once setup before (Ok request) answered after h = serves_once setup before request answered after h
 replies_once setup before (Err fault) answered after h = pair _ _ _ _ h.0 h.1
-
-abbrev pub HasOneAnswer : Type 0
-HasOneAnswer = (setup : BoardFile) (before : State) (asked : Asked) (answered : Answered) (after : State) → Row setup before asked answered after → (let p : Given = (answered, after) in p) ≡ answer_of setup before asked
 
 pub has_one_answer : HasOneAnswer
 has_one_answer setup before asked answered after h = replies_once setup before (asked_by asked) answered after h

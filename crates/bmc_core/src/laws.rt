@@ -1,7 +1,7 @@
 //! What holds of the definitions alone.
 ghost use Rattle.std.specs.Prelude.{◌≡◌, List, ℕ};
 ghost use Rattle.mctp_net.specs.declared.message.Message.{Message};
-ghost use Rattle.bmc_core.specs.AnswerLaws.{HasAnswer, HasOneAnswer};
+ghost use Rattle.bmc_core.specs.Answer.{HasAnswer, HasOneAnswer};
 ghost use Rattle.bmc_core.specs.Decode.{GetsAreRead, SetsAreRead, UndosArePlain};
 ghost use Rattle.bmc_core.specs.Undo.{IsUndone, IsSteady, IsShownAsBefore};
 ghost use Rattle.bmc_core.specs.PldmTypes.{TypesAreNamed};

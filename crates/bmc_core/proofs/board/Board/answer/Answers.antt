@@ -3,8 +3,8 @@ use Rattle.bmc_core.specs.declared.request.Request.{Request}
 use Rattle.bmc_core.specs.State.{State, state}
 use Rattle.bmc_core.specs.Row.{Row}
 use Rattle.bmc_core.specs.Gives.{Gives}
-use Rattle.bmc_core.specs.Answer.{reply, answer_of}
-use Rattle.bmc_core.specs.AnswerLaws.{Given, has_answer}
+use Rattle.bmc_core.specs.Answer.{Given, reply, answer_of}
+use Rattle.bmc_core.specs.AnswerLaws.{has_answer}
 use Rattle.cfg_records.specs.Meaning.{room_for}
 use Rattle.bmc_core.proofs.AnswerFacts.{answer_fits}
 use Rattle.bmc_core.proofs.board.Board.answer.Goals as goal
