@@ -13,6 +13,3 @@ pub use command::{Command, Lengths, Line, changing};
 pub use out::{Done, Frames, Out, Reason};
 pub use port::{At, Port};
 pub use request::{Request, read_request};
-
-#[cfg(test)]
-mod tests;

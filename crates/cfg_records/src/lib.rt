@@ -33,6 +33,3 @@ pub use store::{NoKey, Store};
 pub use thresholds::ThresholdMasks;
 pub use value::{RecordData, Value};
 pub use watchdog::Watchdog;
-
-#[cfg(test)]
-mod tests;
