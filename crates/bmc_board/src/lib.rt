@@ -13,6 +13,3 @@ pub use board::Board;
 pub use command::{Command, Lengths, Line, changing};
 pub use live::LiveCommand;
 pub use request::{Request, read_request};
-
-#[cfg(test)]
-mod tests;

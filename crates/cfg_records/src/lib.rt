@@ -42,6 +42,3 @@ pub use store::{NoKey, Store};
 pub use thresholds::ThresholdMasks;
 pub use value::{RecordData, Value};
 pub use watchdog::{SetWatchdog, Watchdog};
-
-#[cfg(test)]
-mod tests;

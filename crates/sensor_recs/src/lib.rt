@@ -7,6 +7,3 @@ pub mod thresholds;
 
 pub use hysteresis::HysteresisLimits;
 pub use thresholds::ThresholdLimits;
-
-#[cfg(test)]
-mod tests;

@@ -7,6 +7,3 @@ pub mod watchdog;
 
 pub use power_policy::PowerPolicyLimits;
 pub use watchdog::WatchdogLimits;
-
-#[cfg(test)]
-mod tests;

@@ -1,5 +1,5 @@
 //! Records, stores and the sample board.
-use crate::{
+use cfg_records::{
     Answered, Asked, Bcd, Hysteresis, Key, Live, ManufacturerId, NoKey, PlainStore, PowerPolicy,
     Sensor, Sensors, Store, StoreFault, ThresholdMasks, Thresholds, Value, Watchdog, sample_board,
 };
@@ -57,10 +57,19 @@ fn a_store_refuses_a_key_twice_before_a_bad_value(rt: HostRuntime) -> Result<(),
 
 #[test]
 fn a_sensor_has_its_thresholds_in_order(rt: HostRuntime) -> Result<(), Fail> {
-    let masks = ThresholdMasks::new(0x18, 0x38).ok_or("masks")?;
-    assert!(rt; Thresholds::new(masks, [0, 0, 0, 0x90, 0xA0, 0xB0]).is_some());
-    assert!(rt; Thresholds::new(masks, [0, 0, 0, 0x90, 0xB0, 0xA0]).is_none());
-    assert!(rt; Thresholds::new(masks, [1, 0, 0, 0x90, 0xA0, 0xB0]).is_none());
+    let all = ThresholdMasks::new(0x3F, 0x3F).ok_or("masks")?;
+    let upper = ThresholdMasks::new(0x18, 0x38).ok_or("masks")?;
+    for (masks, thresholds, are_thresholds) in [
+        (upper, [0, 0, 0, 0x90, 0xA0, 0xB0], true),
+        (upper, [0, 0, 0, 0x90, 0xB0, 0xA0], false),
+        (upper, [1, 0, 0, 0x90, 0xA0, 0xB0], false),
+        (all, [0x14, 0x0A, 0x05, 0x50, 0x5F, 0x6E], true),
+        // Lower non-recoverable above lower critical.
+        (all, [0x14, 0x0A, 0x0B, 0x50, 0x5F, 0x6E], false),
+    ] {
+        let made = Thresholds::new(masks, thresholds);
+        assert_eq!(rt; made.is_some(), are_thresholds, "{thresholds:?}");
+    }
     assert!(rt; ThresholdMasks::new(0x40, 0).is_none());
     Ok(())
 }
@@ -144,11 +153,20 @@ fn requests_and_replies_are_compared_whole(rt: HostRuntime) {
 
 #[test]
 fn a_watchdog_has_no_reserved_bits(rt: HostRuntime) {
-    assert!(rt; Watchdog::new(0x85, 0x33, 0xFF, 0xFFFF).is_some());
-    assert!(rt; Watchdog::new(0x06, 0, 0, 0).is_none());
-    assert!(rt; Watchdog::new(0x41, 0, 0, 0).is_none());
-    assert!(rt; Watchdog::new(1, 0x40, 0, 0).is_none());
-    assert!(rt; Watchdog::new(1, 0x08, 0, 0).is_none());
+    for (timer_use, actions, is_watchdog) in [
+        (0x85, 0x33, true),
+        (0x06, 0, false),
+        (0x41, 0, false),
+        (1, 0x40, false),
+        (1, 0x08, false),
+    ] {
+        let watchdog = Watchdog::new(timer_use, actions, 0xFF, 0xFFFF);
+        assert_eq!(rt;
+            watchdog.is_some(),
+            is_watchdog,
+            "{timer_use:02X} {actions:02X}"
+        );
+    }
 }
 
 #[test]

@@ -1,8 +1,8 @@
 //! Thresholds and hysteresis.
-use crate::{HysteresisLimits, ThresholdLimits};
 use cfg_records::{
     Live, RecordData, RecordKind, SetHysteresis, SetThresholds, ThresholdMasks, Thresholds, Value,
 };
+use sensor_recs::{HysteresisLimits, ThresholdLimits};
 use std::test::Fail;
 use two_wire::code::INVALID_DATA_FIELD;
 
@@ -22,22 +22,15 @@ fn undo_data<'a, K: RecordKind<'a>>(op: &K::Op, reply: &'a [u8]) -> Option<Recor
 }
 
 #[test]
-fn a_threshold_that_is_not_read_is_not_undone(rt: HostRuntime) {
-    let op = SetThresholds {
+fn a_threshold_is_undone_from_its_reply_where_it_is_read(rt: HostRuntime) -> Result<(), Fail> {
+    let mut op = SetThresholds {
         sensor: 7,
         mask: 0x20,
         values: [0, 0, 0, 0, 0, 0xB8],
     };
     assert!(rt; ThresholdLimits::inverse(&op, &FAN_REPLY).is_none());
-}
-
-#[test]
-fn a_threshold_is_undone_from_its_reply(rt: HostRuntime) -> Result<(), Fail> {
-    let op = SetThresholds {
-        sensor: 7,
-        mask: 0x10,
-        values: [0, 0, 0, 0, 0xA8, 0],
-    };
+    op.mask = 0x10;
+    op.values = [0, 0, 0, 0, 0xA8, 0];
     let undo = undo_data::<ThresholdLimits>(&op, &FAN_REPLY).ok_or("undo")?;
     assert!(rt; undo.is(&[0x07, 0x10, 0, 0, 0, 0, 0xA0, 0]));
     Ok(())

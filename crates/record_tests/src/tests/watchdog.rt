@@ -1,12 +1,12 @@
 //! The power restore policy and the watchdog.
 
-use crate::watchdog::reset;
-use crate::{PowerPolicyLimits, WatchdogLimits};
 use cfg_records::{
     Asked, Live, RecordData, RecordKind, SetPowerPolicy, SetWatchdog, Value, there_and_back,
 };
 use std::test::Fail;
 use two_wire::{Below, NetFn};
+use watch_boot::watchdog::reset;
+use watch_boot::{PowerPolicyLimits, WatchdogLimits};
 
 /// Settings of a watchdog: for the operating system, a reset after 3000 times 100 ms.
 const SETTINGS: [u8; 5] = [0x04, 0x01, 0x0A, 0xB8, 0x0B];
@@ -46,14 +46,26 @@ fn undo_data<'a, K: RecordKind<'a>>(op: &K::Op, reply: &'a [u8]) -> Option<Recor
     Some(K::set_data(&undo))
 }
 
+/// Whether these data were given, or none.
+fn is_data<const LENGTH: usize>(given: Option<RecordData>, wanted: Option<[u8; LENGTH]>) -> bool {
+    match (given, wanted) {
+        (Some(given), Some(wanted)) => given.is(&wanted),
+        (None, None) => true,
+        _ => false,
+    }
+}
+
 #[test]
-fn a_policy_is_undone_from_the_chassis_status(rt: HostRuntime) -> Result<(), Fail> {
+fn a_policy_is_undone_from_the_chassis_status(rt: HostRuntime) {
     let op = SetPowerPolicy { policy: 2 };
-    let undo = undo_data::<PowerPolicyLimits>(&op, &[0x20, 0, 0]).ok_or("undo")?;
-    assert!(rt; undo.is(&[0x01]));
-    assert!(rt; undo_data::<PowerPolicyLimits>(&op, &[0x60, 0, 0]).is_none());
-    assert!(rt; undo_data::<PowerPolicyLimits>(&op, &[0x20, 0]).is_none());
-    Ok(())
+    for (reply, undo) in [
+        (&[0x20, 0, 0][..], Some([0x01])),
+        (&[0x60, 0, 0], None),
+        (&[0x20, 0], None),
+    ] {
+        let given = undo_data::<PowerPolicyLimits>(&op, reply);
+        assert!(rt; is_data(given, undo), "{reply:?}");
+    }
 }
 
 #[test]
@@ -93,18 +105,30 @@ fn chassis_bits_leave_the_policy_bits(rt: HostRuntime) {
     live.chassis = Below::new(0x1F);
     PowerPolicyLimits.get_data(&[1], &live, &mut reply);
     assert!(rt; reply.is(&[0x20, 0, 0, 0x3F, 0, 0]));
+    // What was before is unknown.
+    reply = RecordData::new();
+    PowerPolicyLimits.get_data(&[3], &Live::opening(), &mut reply);
+    assert!(rt; reply.is(&[0x60, 0, 0]));
 }
 
 #[test]
-fn settings_are_undone_from_a_timer_that_is_stopped(rt: HostRuntime) -> Result<(), Fail> {
+fn settings_are_undone_from_a_timer_that_is_stopped(rt: HostRuntime) {
     let stopped = [0x84, 0x01, 0x0A, 0x10, 0xB8, 0x0B, 0x00, 0x00];
-    let undo = undo_data::<WatchdogLimits>(&LATER, &stopped).ok_or("undo")?;
-    assert!(rt; undo.is(&[0x84, 0x01, 0x0A, 0x00, 0xB8, 0x0B]));
-    let running = [0x44, 0x01, 0x0A, 0x00, 0xB8, 0x0B, 0x10, 0x00];
-    assert!(rt; undo_data::<WatchdogLimits>(&LATER, &running).is_none());
-    assert!(rt; undo_data::<WatchdogLimits>(&LATER, &[0; 8]).is_none());
-    assert!(rt; undo_data::<WatchdogLimits>(&LATER, &stopped[..7]).is_none());
-    Ok(())
+    for (reply, undo) in [
+        (&stopped[..], Some([0x84, 0x01, 0x0A, 0x00, 0xB8, 0x0B])),
+        // Bits 7 and 3 of the actions are no settings.
+        (
+            &[0x84, 0x99, 0x0A, 0x10, 0xB8, 0x0B, 0x00, 0x00],
+            Some([0x84, 0x11, 0x0A, 0x00, 0xB8, 0x0B]),
+        ),
+        // A timer that runs, settings that were never set, and a reply that is too short.
+        (&[0x44, 0x01, 0x0A, 0x00, 0xB8, 0x0B, 0x10, 0x00], None),
+        (&[0; 8], None),
+        (&stopped[..7], None),
+    ] {
+        let given = undo_data::<WatchdogLimits>(&LATER, reply);
+        assert!(rt; is_data(given, undo), "{reply:?}");
+    }
 }
 
 #[test]
@@ -137,8 +161,12 @@ fn a_get_shows_the_settings_and_the_timer(rt: HostRuntime) {
 
 #[test]
 fn a_reset_starts_a_timer_that_was_set(rt: HostRuntime) -> Result<(), Fail> {
-    let live = reset(&SETTINGS, &Live::opening()).ok_or("never set")?;
+    let live = reset(&SETTINGS, &running()).ok_or("never set")?;
     assert!(rt; live.running && live.countdown == 3000);
+    // The flags stay.
+    assert_eq!(rt; live.expired, 0x18);
+    let live = reset(&SETTINGS, &Live::opening()).ok_or("never set")?;
+    assert!(rt; live.running && live.countdown == 3000 && live.expired == 0);
     assert!(rt; reset(&[0; 5], &Live::opening()).is_none());
     Ok(())
 }

@@ -1,13 +1,12 @@
-//! A change and its undo, and what a refusal leaves, on the sample board.
-ghost use Rattle.record_kinds.specs.Limits.{key_of};
-
-use crate::{Board, Lengths};
+//! A change and its undo, on the sample board.
+use bmc_board::{Board, Lengths};
 use cfg_records::{
     Answered, Asked, Key, Op, PlainStore, RecordKind, SetHysteresis, SetPowerPolicy, SetThresholds,
     SetWatchdog, Store, sample_board,
 };
 use record_kinds::Limits;
 use std::alloc::Global;
+use std::process::Abort;
 use std::test::Fail;
 use two_wire::{NetFn, code};
 
@@ -48,50 +47,96 @@ fn set<S: Store>(board: &mut Board<S>, op: &Op) -> u8 {
     board.answer(&sent_by(0x40, Limits::set_asked(op))).code
 }
 
-/// The record is changed, and changed back from what the Get replied: what a Get replies before, between and after. The requesters
-/// at 2Ch and at 40h ask in turn.
-fn there_and_back<S: Store>(
+/// The change is carried out, and undone from what a Get replied: a Get replies `before` before and after that, and `between`
+/// in between. The requesters at 2Ch and at 40h ask in turn.
+fn expect_undone<S: Store>(
+    rt: &impl Abort,
     board: &mut Board<S>,
     op: &Op,
-) -> Result<(Answered, Answered, Answered), Fail> {
-    let before = shown(board, op);
-    let undo = Limits::inverse(op, before.body.as_slice()).ok_or("undo")?;
-    if set(board, op) != 0 {
-        return Err("the change is refused".into());
-    }
-    let between = shown(board, op);
-    if set(board, &undo) != 0 {
-        return Err("the undo is refused".into());
-    }
-    let after = shown(board, op);
-    Ok((before, between, after))
-}
-
-#[test]
-fn a_change_of_thresholds_is_undone(rt: HostRuntime) -> Result<(), Fail> {
-    let op = Op::Thresholds(SetThresholds {
-        sensor: 5,
-        mask: 0x10,
-        values: [0, 0, 0, 0, 0x5A, 0],
-    });
-    let (before, between, after) = there_and_back(&mut board(rt.alloc())?, &op)?;
-    assert!(rt; before.is(&Answered::done(&[0x3F, 0x14, 0x0A, 0x05, 0x50, 0x5F, 0x6E])));
-    assert!(rt; between.is(&Answered::done(&[0x3F, 0x14, 0x0A, 0x05, 0x50, 0x5A, 0x6E])));
-    assert!(rt; after.is(&before));
+    before: &[u8],
+    between: &[u8],
+) -> Result<(), Fail> {
+    let was = shown(board, op);
+    assert_eq!(rt; was.code, 0);
+    assert_eq!(rt; was.body.as_slice(), before);
+    let undo = Limits::inverse(op, was.body.as_slice()).ok_or("undo")?;
+    assert_eq!(rt; set(board, op), 0);
+    let changed = shown(board, op);
+    assert_eq!(rt; changed.code, 0);
+    assert_eq!(rt; changed.body.as_slice(), between);
+    assert_eq!(rt; set(board, &undo), 0);
+    assert!(rt; shown(board, op).is(&was));
     Ok(())
 }
 
 #[test]
-fn a_change_of_hysteresis_is_undone(rt: HostRuntime) -> Result<(), Fail> {
-    let op = Op::Hysteresis(SetHysteresis {
+fn a_change_is_undone(rt: HostRuntime) -> Result<(), Fail> {
+    let thresholds = Op::Thresholds(SetThresholds {
+        sensor: 5,
+        mask: 0x10,
+        values: [0, 0, 0, 0, 0x5A, 0],
+    });
+    let hysteresis = Op::Hysteresis(SetHysteresis {
         sensor: 5,
         positive: 3,
         negative: 1,
     });
-    let (before, between, after) = there_and_back(&mut board(rt.alloc())?, &op)?;
-    assert!(rt; before.is(&Answered::done(&[2, 2])));
-    assert!(rt; between.is(&Answered::done(&[3, 1])));
-    assert!(rt; after.is(&before));
+    let power_up = Op::PowerPolicy(SetPowerPolicy { policy: 2 });
+    let stay_off = Op::PowerPolicy(SetPowerPolicy { policy: 0 });
+    let mut board = board(rt.alloc())?;
+    for (op, before, between) in [
+        (
+            &thresholds,
+            &[0x3F, 0x14, 0x0A, 0x05, 0x50, 0x5F, 0x6E][..],
+            &[0x3F, 0x14, 0x0A, 0x05, 0x50, 0x5A, 0x6E][..],
+        ),
+        (&hysteresis, &[2, 2], &[3, 1]),
+        (&power_up, &[0x20, 0, 0], &[0x40, 0, 0]),
+        (&stay_off, &[0x20, 0, 0], &[0, 0, 0]),
+    ] {
+        expect_undone(&rt, &mut board, op, before, between)?;
+    }
+    Ok(())
+}
+
+/// Settings for the operating system, which leave the timer stopped.
+fn watchdog_for(initial: u16) -> Op {
+    Op::Watchdog(SetWatchdog {
+        timer_use: 0x04,
+        actions: 0x01,
+        pre_timeout: 10,
+        flags_to_clear: 0,
+        initial,
+    })
+}
+
+#[test]
+fn a_change_of_a_watchdog_that_was_set_is_undone(rt: HostRuntime) -> Result<(), Fail> {
+    let mut board = board(rt.alloc())?;
+    let first = watchdog_for(3000);
+    let never_set = shown(&mut board, &first);
+    assert!(rt; never_set.is(&Answered::done(&[0; 8])));
+    assert!(rt; Limits::inverse(&first, never_set.body.as_slice()).is_none());
+    assert_eq!(rt; set(&mut board, &first), 0);
+    let before = [4, 1, 10, 0, 0xB8, 0x0B, 0xB8, 0x0B];
+    let between = [4, 1, 10, 0, 0x70, 0x17, 0x70, 0x17];
+    expect_undone(&rt, &mut board, &watchdog_for(6000), &before, &between)?;
+    // Other settings, which don't stop a timer.
+    let other = Op::Watchdog(SetWatchdog {
+        timer_use: 0xC4,
+        actions: 0x11,
+        pre_timeout: 5,
+        flags_to_clear: 0x10,
+        initial: 6000,
+    });
+    let between = [0x84, 0x11, 5, 0, 0x70, 0x17, 0x70, 0x17];
+    expect_undone(&rt, &mut board, &other, &before, &between)?;
+    // While the timer runs, nothing has an undo.
+    let reset = Asked::ipmi(NetFn::new(0x06), 0x22, &[]);
+    assert_eq!(rt; board.answer(&reset).code, 0);
+    let running = shown(&mut board, &other);
+    assert!(rt; running.is(&Answered::done(&[0x44, 1, 10, 0, 0xB8, 0x0B, 0xB8, 0x0B])));
+    assert!(rt; Limits::inverse(&other, running.body.as_slice()).is_none());
     Ok(())
 }
 
@@ -117,45 +162,9 @@ fn a_sensor_that_is_not_there_is_refused(rt: HostRuntime) -> Result<(), Fail> {
         negative: 1,
     });
     let mut board = board(rt.alloc())?;
-    assert!(rt; shown(&mut board, &op).is(&Answered::refused(code::NOT_PRESENT)));
-    let answered = board.answer(&Limits::set_asked(&op));
-    assert!(rt; answered.is(&Answered::refused(code::NOT_PRESENT)));
-    Ok(())
-}
-
-#[test]
-fn a_change_of_the_power_policy_is_undone(rt: HostRuntime) -> Result<(), Fail> {
-    let op = Op::PowerPolicy(SetPowerPolicy { policy: 2 });
-    let (before, between, after) = there_and_back(&mut board(rt.alloc())?, &op)?;
-    assert!(rt; before.is(&Answered::done(&[0x20, 0, 0])));
-    assert!(rt; between.is(&Answered::done(&[0x40, 0, 0])));
-    assert!(rt; after.is(&before));
-    Ok(())
-}
-
-/// Settings for the operating system, which leave the timer stopped.
-fn watchdog_for(initial: u16) -> Op {
-    Op::Watchdog(SetWatchdog {
-        timer_use: 0x04,
-        actions: 0x01,
-        pre_timeout: 10,
-        flags_to_clear: 0,
-        initial,
-    })
-}
-
-#[test]
-fn a_change_of_the_watchdog_is_undone(rt: HostRuntime) -> Result<(), Fail> {
-    let mut board = board(rt.alloc())?;
-    // A watchdog that was never set can't be brought back.
-    let never_set = shown(&mut board, &watchdog_for(1));
-    assert!(rt; never_set.is(&Answered::done(&[0; 8])));
-    assert!(rt; Limits::inverse(&watchdog_for(1), never_set.body.as_slice()).is_none());
-    assert_eq!(rt; set(&mut board, &watchdog_for(3000)), 0);
-    let (before, between, after) = there_and_back(&mut board, &watchdog_for(6000))?;
-    assert!(rt; before.is(&Answered::done(&[4, 1, 10, 0, 0xB8, 0x0B, 0xB8, 0x0B])));
-    assert!(rt; between.is(&Answered::done(&[4, 1, 10, 0, 0x70, 0x17, 0x70, 0x17])));
-    assert!(rt; after.is(&before));
+    let refused = Answered::refused(code::NOT_PRESENT);
+    assert!(rt; shown(&mut board, &op).is(&refused));
+    assert!(rt; board.answer(&Limits::set_asked(&op)).is(&refused));
     Ok(())
 }
 
