@@ -9,7 +9,7 @@ use arrayvec::ArrayVec;
 use two_wire::Frame;
 
 /// The frames of a message, one for each of its packets.
-pub fn split(message: &Message) -> ArrayVec<Frame, 4>
+pub fn split(message: &Message<'_>) -> ArrayVec<Frame, 4>
     ensures { (ps : List AnyPacket) × IsCutOf message.now ps × AreWritten ps result.items }
 {
     let count = message.body.as_slice().len().div_ceil(64);
@@ -21,7 +21,7 @@ pub fn split(message: &Message) -> ArrayVec<Frame, 4>
 }
 
 // The packet of this number.
-fn piece(message: &Message, number: usize) -> Packet
+fn piece<'a>(message: &Message<'a>, number: usize) -> Packet<'a>
     requires { 64 * number < length message.now.body }
     ensures value { result ≡ piece_of message.now number }
     ensures fits { length message.now.body ≤ 256 }
@@ -32,7 +32,7 @@ fn piece(message: &Message, number: usize) -> Packet
         start: number == 0,
         end: body.len() <= 64 * number + 64,
         sequence: Sequence::new(number as u8),
-        payload: Payload::from_slice(run(body, number)),
+        payload: Payload::new(run(body, number)),
     }
 }
 

@@ -1,6 +1,6 @@
 //! Control requests and their replies.
 use crate::{
-    Assembler, ControlReply, Endpoint, EndpointId, Envelope, Message, SomeBytes, Taken,
+    Assembler, ControlReply, Endpoint, EndpointId, Envelope, Message, SomeData, Taken,
     read_packet, split,
 };
 use std::process::Abort;
@@ -69,12 +69,14 @@ fn what_is_no_control_request_has_no_reply(rt: HostRuntime) -> Result<(), Fail> 
 fn get_endpoint_id_is_answered_over_the_bus(rt: HostRuntime) -> Result<(), Fail> {
     let mut endpoint = endpoint().ok_or("the endpoint")?;
     let mut assembler = Assembler::new(rt.alloc())?;
-    let packet = read_packet(&[
+    let bytes = [
         0x20, 0x0F, 0x08, 0x31, 0x01, 0x00, 0x08, 0xC8, 0x00, 0x80, 0x02, 0x50,
-    ])?;
-    let Taken::Whole(request) = assembler.take(endpoint.eid().byte(), &packet) else {
+    ];
+    let packet = read_packet(&bytes)?;
+    if assembler.take(endpoint.eid().byte(), &packet) != Taken::Whole {
         return Err("no message".into());
-    };
+    }
+    let request = assembler.message(&packet);
     let reply = endpoint.control(request.body.as_slice()).ok_or("no reply")?;
     assert!(rt; !reply.is_empty());
     let Envelope {
@@ -93,7 +95,7 @@ fn get_endpoint_id_is_answered_over_the_bus(rt: HostRuntime) -> Result<(), Fail>
             tag_owner: false,
             tag,
         },
-        body: SomeBytes::from_slice(reply.as_slice()),
+        body: SomeData::new(reply.as_slice()),
     });
     assert_eq!(rt; frames.len(), 1);
     assert!(rt;

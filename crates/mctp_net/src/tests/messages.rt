@@ -1,6 +1,6 @@
 //! Messages through packets and back, and packets that are dropped.
 use crate::{
-    Assembler, DropCause, Envelope, Message, Packet, Payload, Sequence, SomeBytes, Tag, Taken,
+    Assembler, DropCause, Envelope, Message, Packet, Payload, Sequence, SomeData, Tag, Taken,
     read_packet, split,
 };
 use std::test::Fail;
@@ -19,23 +19,26 @@ fn envelope(source_eid: u8) -> Option<Envelope> {
     })
 }
 
-fn message(length: usize) -> Option<Message> {
+fn content() -> [u8; 256] {
     let mut bytes = [0u8; 256];
     for (place, byte) in bytes.iter_mut().enumerate() {
         *byte = (place % 251) as u8;
     }
-    let body = bytes.get(..length)?;
-    if body.is_empty() {
+    bytes
+}
+
+fn message(body: &[u8]) -> Option<Message<'_>> {
+    if body.is_empty() || body.len() > 256 {
         return None;
     }
     Some(Message {
         envelope: envelope(8)?,
-        body: SomeBytes::from_slice(body),
+        body: SomeData::new(body),
     })
 }
 
 // A packet of 64 bytes that is no end.
-fn unit(source_eid: u8, number: u8) -> Option<Packet> {
+fn unit(source_eid: u8, number: u8) -> Option<Packet<'static>> {
     if number > 3 {
         return None;
     }
@@ -44,37 +47,46 @@ fn unit(source_eid: u8, number: u8) -> Option<Packet> {
         start: number == 0,
         end: false,
         sequence: Sequence::new(number),
-        payload: Payload::from_slice(&BYTES),
+        payload: Payload::new(&BYTES),
     })
 }
 
-fn last(source_eid: u8, number: u8) -> Option<Packet> {
+fn last(source_eid: u8, number: u8) -> Option<Packet<'static>> {
     let mut packet = unit(source_eid, number)?;
     packet.end = true;
-    packet.payload = Payload::from_slice(&BYTES[..1]);
+    packet.payload = Payload::new(&BYTES[..1]);
     Some(packet)
 }
 
 #[test]
 fn messages_come_back(rt: HostRuntime) -> Result<(), Fail> {
     let mut assembler = Assembler::new(rt.alloc())?;
+    let bytes = content();
     for (length, packets) in [(1, 1), (64, 1), (65, 2), (255, 4), (256, 4)] {
-        let message = message(length).ok_or("the message")?;
-        let frames = split(&message);
+        let body = &bytes[..length];
+        let frames = split(&message(body).ok_or("the message")?);
         assert_eq!(rt; frames.len(), packets);
         let mut taken = Taken::Waiting;
         for frame in frames.as_slice() {
             assert_eq!(rt; taken, Taken::Waiting);
-            taken = assembler.take(0x0A, &read_packet(frame.as_slice())?);
+            let packet = read_packet(frame.as_slice())?;
+            taken = assembler.take(0x0A, &packet);
+            if taken == Taken::Whole {
+                let whole = assembler.message(&packet);
+                assert_eq!(rt; whole.body.as_slice(), body);
+                let envelope = whole.envelope;
+                assert_eq!(rt; envelope.source_eid, 8);
+            }
         }
-        assert_eq!(rt; taken, Taken::Whole(message));
+        assert_eq!(rt; taken, Taken::Whole);
     }
     Ok(())
 }
 
 #[test]
 fn a_message_of_65_bytes_is_two_frames(rt: HostRuntime) -> Result<(), Fail> {
-    let frames = split(&message(65).ok_or("the message")?);
+    let bytes = content();
+    let frames = split(&message(&bytes[..65]).ok_or("the message")?);
     assert_eq!(rt; frames.len(), 2);
     let first = frames.as_slice()[0].as_slice();
     assert_eq!(rt; first.len(), 73);
@@ -102,9 +114,10 @@ fn a_ninth_assembly_has_no_slot(rt: HostRuntime) -> Result<(), Fail> {
     );
     for eid in 8..16 {
         let packet = last(eid, 1).ok_or("an end")?;
-        let Taken::Whole(message) = assembler.take(0x0A, &packet) else {
+        if assembler.take(0x0A, &packet) != Taken::Whole {
             return Err("no message".into());
-        };
+        }
+        let message = assembler.message(&packet);
         assert_eq!(rt; message.body.as_slice().len(), 65);
     }
     Ok(())
@@ -146,7 +159,7 @@ fn each_drop_cause_once(rt: HostRuntime) -> Result<(), Fail> {
         Taken::Dropped(DropCause::NoStart)
     );
     let mut short = unit(8, 0).ok_or("a start")?;
-    short.payload = Payload::from_slice(&BYTES[..63]);
+    short.payload = Payload::new(&BYTES[..63]);
     assert_eq!(rt;
         assembler.take(0x0A, &short),
         Taken::Dropped(DropCause::UnitSize)
