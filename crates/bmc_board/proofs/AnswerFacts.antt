@@ -1,7 +1,7 @@
 -- What every answer has in common.
 use Rattle.std.proofs.Common.{◌≡◌, ◌≢◌, ℕ, ◌≤◌, List, [], length, Option, Some, None, Result, Ok, Err, Bool, refl, subst, arith}
 use Rattle.two_wire.specs.Codes.{success}
-use Rattle.cfg_records.specs.Keys.{key_of}
+use Rattle.record_kinds.specs.Limits.{key_of}
 use Rattle.cfg_records.specs.Meaning.{Decides, room_for}
 use Rattle.cfg_records.specs.declared.key.Key.{Key}
 use Rattle.cfg_records.specs.declared.key.Key.TheVariants as key

@@ -1,6 +1,6 @@
 -- The function of answers meets the command relation, and the relation has no other answer.
 use Rattle.std.proofs.Common.{◌≡◌, ℕ, List, Option, Some, None, Result, Ok, Err, refl, ap, ◌∙◌, inl, inr}
-use Rattle.cfg_records.specs.Keys.{key_of}
+use Rattle.record_kinds.specs.Limits.{key_of}
 use Rattle.cfg_records.specs.Records.{with_record}
 use Rattle.cfg_records.specs.Meaning.{Decides}
 use Rattle.cfg_records.specs.declared.op.Op.{Op}

@@ -1,7 +1,7 @@
 -- A change and its undo, at any record.
 use Rattle.std.proofs.Common.{◌≡◌, ◌≢◌, ℕ, ◌<◌, List, Option, Some, None, Result, Ok, refl, ap, sym, ◌∙◌, subst, arith, inl, inr}
 use Rattle.two_wire.specs.Codes.{success}
-use Rattle.cfg_records.specs.Keys.{key_of}
+use Rattle.record_kinds.specs.Limits.{key_of}
 use Rattle.cfg_records.specs.Records.{Records, with_record}
 use Rattle.cfg_records.specs.RecordLaws.{with_record_same, with_record_back}
 use Rattle.cfg_records.specs.declared.key.Key.{Key}

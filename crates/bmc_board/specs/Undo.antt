@@ -2,7 +2,7 @@
 -- each moment.
 use Rattle.std.specs.Prelude.{◌≡◌, ℕ, Some}
 use Rattle.two_wire.specs.Codes.{success}
-use Rattle.cfg_records.specs.Keys.{key_of}
+use Rattle.record_kinds.specs.Limits.{key_of}
 use Rattle.cfg_records.specs.declared.key.Key.{Key}
 use Rattle.cfg_records.specs.declared.op.Op.{Op}
 use Rattle.cfg_records.specs.declared.message.Answered.{Answered}

@@ -1,5 +1,5 @@
 //! A change and its undo, and what a refusal leaves, on the sample board.
-ghost use Rattle.cfg_records.specs.Keys.{key_of};
+ghost use Rattle.record_kinds.specs.Limits.{key_of};
 
 use crate::{Board, Lengths};
 use cfg_records::{
@@ -40,7 +40,7 @@ fn sent_by(requester: u8, asked: Asked) -> Asked {
 
 /// What a Get replies of the record that the operation changes, to the requester at 2Ch.
 fn shown<S: Store>(board: &mut Board<S>, op: &Op) -> Answered {
-    board.answer(&sent_by(0x2C, Limits::get_asked(&op.key())))
+    board.answer(&sent_by(0x2C, Limits::get_asked(&Limits::key(op))))
 }
 
 /// The completion code of the Set, to the requester at 40h.

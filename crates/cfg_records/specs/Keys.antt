@@ -1,19 +1,10 @@
--- The names of records: which one an operation changes, and how long their values are.
+-- The names of records, and how long their values are.
 use Rattle.std.specs.Prelude.{ℕ, Bool, ◌==◌}
 use Rattle.std.specs.Ordering.{is_eq}
 use Rattle.std.specs.declared.cmp.Ordering.{Ordering}
 use Rattle.cfg_records.specs.declared.key.Key.{Key}
 use Rattle.cfg_records.specs.declared.key.Key.TheVariants as key
-use Rattle.cfg_records.specs.declared.op.Op.{Op}
-use Rattle.cfg_records.specs.declared.op.Op.TheVariants as op
 use Rattle.cfg_records.specs.contracts.key.KeyOrd.TheImpl as key_ord
-
--- the record that an operation changes
-abbrev pub key_of : Op → Key
-key_of (op.Thresholds o) = key.Thresholds o.sensor
-key_of (op.Hysteresis o) = key.Hysteresis o.sensor
-key_of (op.PowerPolicy o) = key.PowerPolicy
-key_of (op.Watchdog o) = key.Watchdog
 
 -- a value of the key's kind may have this length
 abbrev pub is_length : Key → ℕ → Bool

@@ -4,6 +4,7 @@ ghost use Rattle.cfg_records.specs.declared.live.Live.{Live};
 ghost use Rattle.cfg_records.specs.Meaning.{Decides, told};
 ghost use Rattle.cfg_records.specs.Kind.{Kind};
 
+use crate::key::Key;
 use crate::live::Live;
 use crate::message::Asked;
 use crate::value::{RecordData, Value};
@@ -19,6 +20,10 @@ pub trait RecordKind<'a> {
 
     /// What the kind says of its records, and that it holds.
     ghost kind: { Kind Self.Key Self.Op Self };
+
+    /// The name of the record that the operation changes.
+    fn key(op: &Self::Op) -> Key
+        ensures { result ≡ kind.words.name (kind.words.key_of op.now) };
 
     /// Makes `new` the value that the operation makes of this one, or gives the code that refuses it.
     fn apply(&self, op: &Self::Op, value: &[u8], new: &mut Value) -> Result<(), Code>

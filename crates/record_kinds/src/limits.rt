@@ -89,6 +89,10 @@ impl<'a> RecordKind<'a> for Limits {
 
     ghost kind = { all.kind };
 
+    fn key(op: &Op) -> Key {
+        of_each_kind!(by_op [op, key()])
+    }
+
     fn apply(&self, op: &Op, value: &[u8], new: &mut Value) -> Result<(), Code> {
         of_each_kind!(by_both [self, op, value, new])
     }

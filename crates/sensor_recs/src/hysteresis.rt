@@ -3,7 +3,7 @@ ghost use Rattle.std.specs.Prelude.{◌≡◌};
 ghost use Rattle.sensor_recs.specs.Hysteresis.{both_bytes, hysteresis_body};
 
 use crate::request::sensor_request;
-use cfg_records::{Asked, Live, RecordData, RecordKind, Sensor, SetHysteresis, Value};
+use cfg_records::{Asked, Key, Live, RecordData, RecordKind, Sensor, SetHysteresis, Value};
 use two_wire::{Buffer, Code};
 
 /// The number of the command that sets it.
@@ -50,6 +50,10 @@ impl<'a> RecordKind<'a> for HysteresisLimits {
     type Op = SetHysteresis;
 
     ghost kind = { hysteresis.kind };
+
+    fn key(op: &SetHysteresis) -> Key {
+        Key::Hysteresis(op.sensor)
+    }
 
     fn apply(&self, op: &SetHysteresis, _value: &[u8], new: &mut Value) -> Result<(), Code> {
         new.replace(&both_bytes(op));

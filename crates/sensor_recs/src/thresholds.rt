@@ -5,7 +5,7 @@ ghost use Rattle.sensor_recs.specs.Thresholds.{choose, thresholds_body, shows_al
 use crate::request::sensor_request;
 use cfg_records::mask::{has, is_within};
 use cfg_records::{
-    Asked, Live, RecordData, RecordKind, Sensor, SetThresholds, ThresholdMasks, Value,
+    Asked, Key, Live, RecordData, RecordKind, Sensor, SetThresholds, ThresholdMasks, Value,
 };
 use two_wire::code::INVALID_DATA_FIELD;
 use two_wire::{Buffer, Code};
@@ -96,6 +96,10 @@ impl<'a> RecordKind<'a> for ThresholdLimits {
     type Op = SetThresholds;
 
     ghost kind = { thresholds.kind };
+
+    fn key(op: &SetThresholds) -> Key {
+        Key::Thresholds(op.sensor)
+    }
 
     fn apply(&self, op: &SetThresholds, value: &[u8], new: &mut Value) -> Result<(), Code> {
         self.set(op, value, new)

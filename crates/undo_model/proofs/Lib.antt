@@ -8,3 +8,4 @@ pub mod LineLaws
 pub mod World
 pub mod Headline
 pub mod Registers
+pub mod Example

@@ -9,3 +9,5 @@ pub mod Line
 pub mod World
 pub mod Headline
 pub mod Registers
+pub mod TwoBuses
+pub mod Example

@@ -2,9 +2,8 @@
 -- and is refused where the low half would be above the high one, so by what the register held before. Register 2 never shows
 -- its low half, so a Set of that can't be undone. Each reply to a Get ends with the count of requests so far, which isn't
 -- configuration. Even registers are reached over IPMB, odd ones over SMBus.
-use Rattle.std.specs.Prelude.{◌≡◌, ℕ, zero, suc, ◌%◌, ◌≤◌, ◌<◌, Bool, true, false, ◌==◌, nat_le, nat_lt, ◌&&◌, List, [], ◌∷◌, Option, Some, None, if◌then◌else◌, slice_get, slice_set, unwrap_or, refl}
+use Rattle.std.specs.Prelude.{◌≡◌, ℕ, zero, suc, ◌%◌, ◌≤◌, ◌<◌, Bool, ◌==◌, nat_le, nat_lt, ◌&&◌, List, [], ◌∷◌, Option, Some, None, if◌then◌else◌, slice_get, slice_set, unwrap_or, refl}
 use Rattle.two_wire.specs.Codes.{success, not_present, invalid_data_field}
-use Rattle.two_wire.specs.declared.Bus.{Bus}
 use Rattle.two_wire.specs.declared.Bus.TheVariants.{Ipmb, Smbus}
 use Rattle.undo_model.specs.Family.{Answered, Family}
 use Rattle.undo_model.specs.Wires.{Wires}

@@ -104,8 +104,6 @@ place = record {
   op = op.PowerPolicy;
   own_key = own_key;
   own_op = own_op;
-  key_is = λ o. refl;
   finds_key = λ own. refl;
   finds_op = λ o. refl;
-  op_there = elim [ op.PowerPolicy o ↦ λ here. refl | _ ↦ λ here. here ];
 }

@@ -189,8 +189,6 @@ place = record {
   op = op.Watchdog;
   own_key = own_key;
   own_op = own_op;
-  key_is = λ o. refl;
   finds_key = λ own. refl;
   finds_op = λ o. refl;
-  op_there = elim [ op.Watchdog o ↦ λ here. refl | _ ↦ λ here. here ];
 }

@@ -3,7 +3,7 @@ ghost use Rattle.std.specs.Prelude.{◌≡◌, OnErr, length};
 ghost use Rattle.cfg_records.specs.Meaning.{told};
 ghost use Rattle.watch_boot.specs.PowerPolicy.{policy_outcome};
 
-use cfg_records::{Asked, Live, RecordData, RecordKind, SetPowerPolicy, Value};
+use cfg_records::{Asked, Key, Live, RecordData, RecordKind, SetPowerPolicy, Value};
 use two_wire::code::INVALID_DATA_FIELD;
 use two_wire::{Buffer, Code, NetFn};
 
@@ -49,6 +49,10 @@ impl<'a> RecordKind<'a> for PowerPolicyLimits {
     type Op = SetPowerPolicy;
 
     ghost kind = { power_policy.kind };
+
+    fn key(_op: &SetPowerPolicy) -> Key {
+        Key::PowerPolicy
+    }
 
     fn apply(&self, op: &SetPowerPolicy, value: &[u8], new: &mut Value) -> Result<(), Code> {
         set(op, value, new)

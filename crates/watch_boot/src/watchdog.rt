@@ -6,7 +6,7 @@ ghost use Rattle.cfg_records.specs.Watchdog.{IsWatchdog};
 ghost use Rattle.watch_boot.specs.Watchdog.{kept_use, kept_actions, is_accepted, watchdog_outcome, live_after_set, watchdog_body, shown_use, watchdog_view, WasSet, live_after_reset};
 
 use cfg_records::mask::has;
-use cfg_records::{Asked, Live, RecordData, RecordKind, SetWatchdog, Value};
+use cfg_records::{Asked, Key, Live, RecordData, RecordKind, SetWatchdog, Value};
 use two_wire::code::INVALID_DATA_FIELD;
 use two_wire::{Buffer, Code, NetFn};
 
@@ -145,6 +145,10 @@ impl<'a> RecordKind<'a> for WatchdogLimits {
     type Op = SetWatchdog;
 
     ghost kind = { watchdog.kind };
+
+    fn key(_op: &SetWatchdog) -> Key {
+        Key::Watchdog
+    }
 
     fn apply(&self, op: &SetWatchdog, _value: &[u8], new: &mut Value) -> Result<(), Code> {
         set(op, new)

@@ -133,7 +133,7 @@ impl<S: Store> Board<S> {
         ensures left { state_of S.records self.new ≡ (serve_of self.old.setup (state_of S.records self.old) (Request.Set op.now)).1 }
         ensures setup { self.new.setup ≡ self.old.setup }
     {
-        let key = op.key();
+        let key = Limits::key(op);
         match (self.setup.limits(&key), self.store.get(&key)) {
             (Some(limits), Some(value)) => {
                 limits.apply(op, value, &mut self.made)?;

@@ -64,6 +64,17 @@ fn hysteresis_is_set_over_ipmb_and_got_again(rt: HostRuntime) -> Result<(), Fail
 }
 
 #[test]
+fn the_self_test_found_no_error(rt: HostRuntime) -> Result<(), Fail> {
+    talk(
+        &rt,
+        rt.alloc(),
+        Bus::Ipmb,
+        &[("2018C82C0004D0", ANSWERED, "2C1CB820000400550087")],
+    )?;
+    Ok(())
+}
+
+#[test]
 fn a_watchdog_that_was_never_set_is_not_reset(rt: HostRuntime) -> Result<(), Fail> {
     talk(
         &rt,

@@ -1,4 +1,4 @@
-use Rattle.std.proofs.Common.{◌≡◌, ◌++◌, ◌∷◌, [], ◌+◌, List, take, sym, ◌∙◌, ap, subst, arith, refl}
+use Rattle.std.proofs.Common.{◌≡◌, ◌++◌, ◌∷◌, [], ◌+◌, take, sym, ◌∙◌, ap, subst, arith, refl}
 use Rattle.std.proofs.lemmas.List.{take_more}
 use Rattle.std.proofs.Math.Seq.{take-length}
 use Rattle.cfg_records.specs.Distinct.{NamesDiffer}

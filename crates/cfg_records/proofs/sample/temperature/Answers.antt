@@ -1,4 +1,4 @@
-use Rattle.std.proofs.Common.{refl, lit<}
+use Rattle.std.proofs.Common.{refl}
 use Rattle.cfg_records.specs.Thresholds.{is_clear, is_in_order}
 use Rattle.cfg_records.specs.ThresholdLaws.{tests_pass}
 use Rattle.cfg_records.proofs.sample.temperature.Goals as goal

@@ -1,0 +1,22 @@
+-- The two buses between a manager and a controller: IPMB in whole messages, SMBus in whole messages or in packets.
+use Rattle.std.specs.Prelude.{ℕ, List}
+use Rattle.two_wire.specs.declared.Bus.{Bus}
+use Rattle.two_wire.specs.declared.Bus.TheVariants.{Ipmb, Smbus}
+use Rattle.bus_model.specs.Numbering.{ipmb, smbus}
+use Rattle.bus_model.specs.Packet.{Packet}
+use Rattle.undo_model.specs.Line.{Line, whole, packets}
+
+-- the addresses of both ends of a bus
+pub record Addresses : Type 0 where
+  pub manager : ℕ
+  pub controller : ℕ
+
+-- both buses in whole messages
+abbrev pub in_messages : (Bus → Addresses) → Bus → Line
+in_messages at Ipmb = whole (ipmb (at Ipmb).manager (at Ipmb).controller 0)
+in_messages at Smbus = whole (smbus (at Smbus).manager (at Smbus).controller 0)
+
+-- SMBus in packets, for a way to cut messages
+abbrev pub with_packets : (Bus → Addresses) → (List ℕ → List Packet) → Bus → Line
+with_packets at split Ipmb = whole (ipmb (at Ipmb).manager (at Ipmb).controller 0)
+with_packets at split Smbus = packets (record { manager = (at Smbus).manager; controller = (at Smbus).controller; first = 0; split = split })
