@@ -19,6 +19,18 @@ fn the_check_bytes_of_heads_bodies_and_packets(rt: HostRuntime) {
     }
 }
 
+#[test]
+fn codes_are_those_of_the_standards(rt: HostRuntime) {
+    let ipmi = [0x80, 0xC0, 0xC1, 0xC2, 0xC7, 0xCB, 0xCC];
+    for (code, byte) in code::of_ipmi().iter().zip(ipmi.iter()) {
+        assert_eq!(rt; code.value(), *byte);
+    }
+    let pldm = [0x02, 0x03, 0x04, 0x05, 0x20];
+    for (code, byte) in code::of_pldm().iter().zip(pldm.iter()) {
+        assert_eq!(rt; code.value(), *byte);
+    }
+}
+
 /// Through the trait alone.
 fn add<B: Buffer>(to: &mut B)
     requires { length (B.bytes to.old) + 3 ≤ B.capacity }
