@@ -1,5 +1,5 @@
 -- What a port does with a packet.
-use Rattle.std.proofs.Common.{◌≡◌, ◌↔◌, ℕ, List, Result, Ok, Err, Option, Some, None, find, ap, sym, ◌∙◌, subst}
+use Rattle.std.proofs.Common.{◌≡◌, ◌↔◌, ℕ, List, Result, Ok, Err, Option, Some, None, find, refl, ap, sym, ◌∙◌, subst}
 use Rattle.mctp_net.specs.declared.fault.PacketFault.{PacketFault}
 use Rattle.mctp_net.specs.declared.packet.Packet.{Packet}
 use Rattle.mctp_net.specs.declared.message.Message.{Message}
@@ -7,64 +7,64 @@ use Rattle.mctp_net.specs.declared.taken.DropCause.{DropCause}
 use Rattle.mctp_net.specs.declared.taken.Taken.{Taken}
 use Rattle.mctp_net.specs.declared.taken.Taken.TheVariants.{Waiting, Whole, Dropped}
 use Rattle.mctp_net.specs.Grammar.{IsPacket, has_fault, faults}
-use Rattle.mctp_net.specs.Assembly.{drop_cause, dropped_for, kept_after, IsTaken, MakesWhole}
+use Rattle.mctp_net.specs.Assembly.{drop_cause, dropped_for, after as kept_after, message_of, IsTaken, MakesWhole}
+use Rattle.mctp_net.specs.Places.{Kept, seen}
 use Rattle.cfg_records.specs.declared.board_file.BoardFile.{BoardFile}
 use Rattle.bmc_core.specs.declared.out.Out.{Out}
 use Rattle.bmc_core.specs.declared.out.Reason.TheVariants as reason
 use Rattle.bmc_core.specs.declared.port.Port.{Port}
 use Rattle.bmc_board.specs.State.{State}
 use Rattle.bmc_core.specs.Outs.{ignored, waiting}
-use Rattle.bmc_core.specs.SmbusPort.{Ignores, HearsMessage, HearsOurs, HearsPacket, with_packet}
+use Rattle.bmc_core.specs.SmbusPort.{Ignores, HasTaken, HearsMessage, HearsOurs, HearsPacket}
 
--- what becomes of a packet at the port
-pub record Takes (port : Port) (p : Packet) (taken : Taken) : Type 0 where
-  pub is_dropped : dropped_for taken ≡ drop_cause port.endpoint port.assembler p
-  pub is_whole : (m : Message) → (taken ≡ Whole m) ↔ MakesWhole port.endpoint port.assembler p m
-  pub is_waiting : (taken ≡ Waiting) ↔ IsTaken port.endpoint port.assembler p
+-- what becomes of a packet at the port, which is then the next one
+pub record Takes (port : Port) (p : Packet) (taken : Taken) (next : Port) : Type 0 where
+  pub is_dropped : dropped_for taken ≡ drop_cause port.endpoint (seen port.assembler) p
+  pub is_whole : (m : Message) → ((taken ≡ Whole) × (m ≡ message_of (seen next.assembler) p)) ↔ MakesWhole port.endpoint (seen port.assembler) p m
+  pub is_waiting : (taken ≡ Waiting) ↔ IsTaken port.endpoint (seen port.assembler) p
+  pub has_taken : HasTaken port p next
 
 -- what `take` says, where it is given the endpoint's identifier
-pub takes : (port : Port) (own : ℕ) (p : Packet) (taken : Taken) → own ≡ port.endpoint
-    → dropped_for taken ≡ drop_cause own port.assembler p
-    → ((m : Message) → (taken ≡ Whole m) ↔ MakesWhole own port.assembler p m)
-    → ((taken ≡ Waiting) ↔ IsTaken own port.assembler p)
-    → Takes port p taken
-takes port own p taken same d w t =
-    subst (λ (n : ℕ). Takes (record port { endpoint = n }) p taken) same (record { is_dropped = d; is_whole = w; is_waiting = t })
-
--- the port after `take`
-pub is_with_packet : (port : Port) (own : ℕ) (p : Packet) (kept : List Packet) → own ≡ port.endpoint → kept ≡ kept_after own port.assembler p → record port { assembler = kept } ≡ with_packet port p
-is_with_packet port own p kept same after =
-    ap (λ (k : List Packet). let q : Port = record port { assembler = k } in q) (after ∙ ap (λ (n : ℕ). kept_after n port.assembler p) same)
+pub takes : (port : Port) (own : ℕ) (p : Packet) (taken : Taken) (kept : Kept) → own ≡ port.endpoint
+    → dropped_for taken ≡ drop_cause own (seen port.assembler) p
+    → ((m : Message) → ((taken ≡ Whole) × (m ≡ message_of (seen kept) p)) ↔ MakesWhole own (seen port.assembler) p m)
+    → ((taken ≡ Waiting) ↔ IsTaken own (seen port.assembler) p)
+    → seen kept ≡ kept_after own (seen port.assembler) p
+    → Takes port p taken (record port { assembler = kept })
+takes port own p taken kept same d w t after = record {
+  is_dropped = subst (λ (n : ℕ). dropped_for taken ≡ drop_cause n (seen port.assembler) p) same d;
+  is_whole = subst (λ (n : ℕ). (m : Message) → ((taken ≡ Whole) × (m ≡ message_of (seen kept) p)) ↔ MakesWhole n (seen port.assembler) p m) same w;
+  is_waiting = subst (λ (n : ℕ). (taken ≡ Waiting) ↔ IsTaken n (seen port.assembler) p) same t;
+  has_taken = record { kept = after ∙ ap (λ (n : ℕ). kept_after n (seen port.assembler) p) same; stays = refl };
+}
 
 pub hears_waiting : (setup : BoardFile) (port : Port) (before : State) (p : Packet) (out : Out) (next : Port) (after : State)
-    → Takes port p Waiting → out ≡ waiting → next ≡ with_packet port p → after ≡ before → HearsOurs setup port before p out next after
-hears_waiting setup port before p out next after h sent stays left = record {
-  dropped = λ cause is. let d : (let o : Option DropCause = None in o) ≡ drop_cause port.endpoint port.assembler p = h.is_dropped in cc;
-  taken = λ is. (sent, stays, left);
-  whole = λ m is. let e : Waiting ≡ Whole m = (h.is_whole m).1 is in cc;
+    → Takes port p Waiting next → out ≡ waiting → after ≡ before → HearsOurs setup port before p out next after
+hears_waiting setup port before p out next after h sent left = record {
+  dropped = λ cause is. let d : (let o : Option DropCause = None in o) ≡ drop_cause port.endpoint (seen port.assembler) p = h.is_dropped in cc;
+  taken = λ is. (sent, h.has_taken, left);
+  whole = λ m is. let e : Waiting ≡ Whole = ((h.is_whole m).1 is).0 in cc;
 }
 
 pub hears_dropped : (setup : BoardFile) (port : Port) (before : State) (p : Packet) (cause : DropCause) (out : Out) (next : Port) (after : State)
-    → Takes port p (Dropped cause) → out ≡ ignored (reason.Dropped cause) → next ≡ with_packet port p → after ≡ before → HearsOurs setup port before p out next after
-hears_dropped setup port before p cause out next after h sent stays left = record {
+    → Takes port p (Dropped cause) next → out ≡ ignored (reason.Dropped cause) → after ≡ before → HearsOurs setup port before p out next after
+hears_dropped setup port before p cause out next after h sent left = record {
   dropped = λ other is.
-      let d : Some cause ≡ drop_cause port.endpoint port.assembler p = h.is_dropped in
+      let d : Some cause ≡ drop_cause port.endpoint (seen port.assembler) p = h.is_dropped in
       let same : cause ≡ other = cc in
-      record { sent = sent ∙ ap (λ (c : DropCause). ignored (reason.Dropped c)) same; stays = stays; left = left };
+      record { sent = sent ∙ ap (λ (c : DropCause). ignored (reason.Dropped c)) same; dropped = h.has_taken; left = left };
   taken = λ is. let e : Dropped cause ≡ Waiting = h.is_waiting.1 is in cc;
-  whole = λ m is. let e : Dropped cause ≡ Whole m = (h.is_whole m).1 is in cc;
+  whole = λ m is. let e : Dropped cause ≡ Whole = ((h.is_whole m).1 is).0 in cc;
 }
 
-pub hears_whole : (setup : BoardFile) (port : Port) (before : State) (p : Packet) (m : Message) (taken : Port) (out : Out) (next : Port) (after : State)
-    → Takes port p (Whole m) → taken ≡ with_packet port p → HearsMessage setup taken before m out next after → HearsOurs setup port before p out next after
-hears_whole setup port before p m taken out next after h stays heard = record {
-  dropped = λ cause is. let d : (let o : Option DropCause = None in o) ≡ drop_cause port.endpoint port.assembler p = h.is_dropped in cc;
-  taken = λ is. let e : Whole m ≡ Waiting = h.is_waiting.1 is in cc;
-  whole = λ other is.
-      let e : Whole m ≡ Whole other = (h.is_whole other).1 is in
-      let same : m ≡ other = cc in
-      subst (λ (q : Message). HearsMessage setup (with_packet port p) before q out next after) same
-      (subst (λ (t : Port). HearsMessage setup t before m out next after) stays heard);
+pub hears_whole : (setup : BoardFile) (port : Port) (before : State) (p : Packet) (taken : Port) (out : Out) (next : Port) (after : State)
+    → Takes port p Whole taken → HearsMessage setup taken before (message_of (seen taken.assembler) p) out next after → HearsOurs setup port before p out next after
+hears_whole setup port before p taken out next after h heard = record {
+  dropped = λ cause is. let d : (let o : Option DropCause = None in o) ≡ drop_cause port.endpoint (seen port.assembler) p = h.is_dropped in cc;
+  taken = λ is. let e : Whole ≡ Waiting = h.is_waiting.1 is in cc;
+  whole = λ m is.
+      let same : m ≡ message_of (seen taken.assembler) p = ((h.is_whole m).1 is).1 in
+      (taken, h.has_taken, subst (λ (q : Message). HearsMessage setup taken before q out next after) (sym same) heard);
 }
 
 -- the packet that was read is the only one that the bytes are

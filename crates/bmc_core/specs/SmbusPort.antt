@@ -7,7 +7,8 @@ use Rattle.mctp_net.specs.declared.message.Message.{Message}
 use Rattle.mctp_net.specs.declared.taken.DropCause.{DropCause}
 use Rattle.mctp_net.specs.Grammar.{IsPacket, has_fault, faults}
 use Rattle.mctp_net.specs.Cut.{IsCutOf, AreWritten}
-use Rattle.mctp_net.specs.Assembly.{drop_cause, kept_after, IsTaken, MakesWhole}
+use Rattle.mctp_net.specs.Assembly.{drop_cause, after as kept_after, IsTaken, MakesWhole}
+use Rattle.mctp_net.specs.Places.{seen}
 use Rattle.mctp_net.specs.Control.{Request as ControlRequest, request_of as control_request_of, reply_to as control_reply_to, eid_after}
 use Rattle.pldm_base.specs.declared.fault.PldmFault.{PldmFault}
 use Rattle.pldm_base.specs.declared.message.PldmRequest.{PldmRequest}
@@ -106,15 +107,23 @@ pub record HearsMessage (setup : BoardFile) (port : Port) (before : State) (m : 
 
 -- ---- packets
 
--- the port, once it has taken or dropped the packet
-abbrev pub with_packet : Port → Packet → Port
-with_packet port p = record port { assembler = kept_after port.endpoint port.assembler p }
+-- the port has taken or dropped the packet: its assembler keeps what is kept after it, and nothing else changes
+pub record HasTaken (port : Port) (p : Packet) (next : Port) : Type 0 where
+  pub kept : seen next.assembler ≡ kept_after port.endpoint (seen port.assembler) p
+  pub stays : next ≡ record port { assembler = next.assembler }
+
+-- nothing is sent for this reason, the port has dropped the packet, and the board doesn't change
+pub record Drops (why : Reason) (port : Port) (before : State) (p : Packet) (out : Out) (next : Port) (after : State) : Type 0 where
+  pub sent : out ≡ ignored why
+  pub dropped : HasTaken port p next
+  pub left : after ≡ before
 
 -- a packet to the port's address is dropped, or it's taken and others are to come, or it ends one message
 pub record HearsOurs (setup : BoardFile) (port : Port) (before : State) (p : Packet) (out : Out) (next : Port) (after : State) : Type 0 where
-  pub dropped : (cause : DropCause) → drop_cause port.endpoint port.assembler p ≡ Some cause → Ignores (reason.Dropped cause) (with_packet port p) before out next after
-  pub taken : IsTaken port.endpoint port.assembler p → (out ≡ waiting) × (next ≡ with_packet port p) × (after ≡ before)
-  pub whole : (m : Message) → MakesWhole port.endpoint port.assembler p m → HearsMessage setup (with_packet port p) before m out next after
+  pub dropped : (cause : DropCause) → drop_cause port.endpoint (seen port.assembler) p ≡ Some cause → Drops (reason.Dropped cause) port before p out next after
+  pub taken : IsTaken port.endpoint (seen port.assembler) p → (out ≡ waiting) × HasTaken port p next × (after ≡ before)
+  pub whole : (m : Message) → MakesWhole port.endpoint (seen port.assembler) p m
+      → (taken : Port) × HasTaken port p taken × HearsMessage setup taken before m out next after
 
 -- A port of a board with this setup hears the bytes: it sends and does so, and it and the board go from one state to the other. Bytes
 -- have a fault, or else are one packet.

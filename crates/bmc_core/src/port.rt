@@ -1,5 +1,7 @@
 //! The ports that requests come to.
-ghost use Rattle.std.specs.Prelude.{◌≡◌, [], IfOk};
+ghost use Rattle.std.specs.Prelude.{◌≡◌, IfOk};
+ghost use Rattle.mctp_net.specs.Assembly.{nothing};
+ghost use Rattle.mctp_net.specs.Places.{seen};
 ghost use Rattle.bmc_board.specs.State.{state_of};
 ghost use Rattle.bmc_core.specs.Port.{Hears};
 
@@ -37,7 +39,7 @@ impl Port {
         ensures bus { IfOk result (λ port. port.bus ≡ bus) }
         ensures place { IfOk result (λ port. port.at ≡ at) }
         ensures endpoint { IfOk result (λ port. port.endpoint ≡ at.eid) }
-        ensures packets { IfOk result (λ port. port.assembler ≡ []) }
+        ensures packets { IfOk result (λ port. seen port.assembler ≡ nothing) }
     {
         Ok(Port {
             bus,

@@ -9,7 +9,6 @@ use cfg_records::{PlainStore, sample_board};
 use mctp_net::EndpointId;
 use std::alloc::{AllocError, Global};
 use std::process::Abort;
-use std::test::Fail;
 use two_wire::{Address, Bus};
 
 /// A board and its port, with the sample board's records.
@@ -45,26 +44,19 @@ fn digits_of(alloc: Global, out: &Out) -> Result<String, AllocError> {
 type Turn<'a> = (&'a str, Done, &'a str);
 
 /// The port of the lab does with each turn's bytes what the turn says.
-fn go_on(
-    rt: &impl Abort,
-    alloc: Global,
-    lab: &mut Lab,
-    out: &mut Out,
-    turns: &[Turn],
-) -> Result<(), Fail> {
+fn go_on(rt: &impl Abort, alloc: Global, lab: &mut Lab, out: &mut Out, turns: &[Turn]) {
     for (heard, done, sent) in turns {
-        let bytes = hex::decode(alloc, *heard)?;
+        let bytes = hex::decode(alloc, *heard).expect(rt, "hexadecimal digits");
         lab.port.on_frame(&mut lab.board, bytes.as_slice(), out);
         assert_eq!(rt; out.done, *done, "{heard}");
-        let digits = digits_of(alloc, out)?;
+        let digits = digits_of(alloc, out).expect(rt, "memory");
         assert_eq!(rt; digits.as_str(), *sent, "{heard}");
     }
-    Ok(())
 }
 
 /// A fresh lab's port does what the turns say.
-fn talk(rt: &impl Abort, alloc: Global, bus: Bus, turns: &[Turn]) -> Result<Lab, Fail> {
+fn talk(rt: &impl Abort, alloc: Global, bus: Bus, turns: &[Turn]) -> Result<Lab, AllocError> {
     let mut lab = open_lab(alloc, bus)?;
-    go_on(rt, alloc, &mut lab, &mut Out::new(), turns)?;
+    go_on(rt, alloc, &mut lab, &mut Out::new(), turns);
     Ok(lab)
 }

@@ -1,10 +1,10 @@
 -- What it means that there is no cause to drop a packet.
-use Rattle.std.proofs.Common.{◌≡◌, ℕ, ◌<◌, ◌==◌, ◌&&◌, Bool, true, false, not, nat_le, cond, List, length, refl, sym, ◌∙◌, ap, arith, Some, None}
+use Rattle.std.proofs.Common.{◌≡◌, ℕ, ◌<◌, ◌==◌, ◌&&◌, Bool, true, false, not, nat_le, cond, length, refl, sym, ◌∙◌, ap, arith, Some, None}
 use Rattle.std.proofs.lemmas.Bool.{eqb-true, eq-eqb}
 use Rattle.std.proofs.lemmas.Bool.Decides.{nat_tests}
 use Rattle.mctp_net.specs.declared.packet.Packet.{Packet}
 use Rattle.mctp_net.specs.declared.taken.DropCause.TheVariants.{NotOurs, NoStart, TooLong, OutOfSequence, UnitSize, NoSlot}
-use Rattle.mctp_net.specs.Assembly.{taken_under, others, joined_to, open_count, is_ours, fails, drop_cause}
+use Rattle.mctp_net.specs.Assembly.{Assemblies, name_of, taken_under, joined_to, open_beside, is_ours, fails, drop_cause}
 use Rattle.mctp_net.specs.Sound.{Fits}
 
 -- no test holds where the first that holds is none
@@ -30,24 +30,24 @@ fails_beside true b h k = h
 fails_beside false b h k = absurd cc
 
 -- where the packet is a start, nothing is joined to it; where it isn't, what was taken under its name is
-pub joined-start : (p : Packet) (kept : List Packet) → p.start ≡ true → length (joined_to p kept) ≡ 0
-joined-start p kept e = rw e refl
+pub joined-start : (p : Packet) (a : Assemblies) → p.start ≡ true → length (joined_to p a) ≡ 0
+joined-start p a e = rw e refl
 
-pub joined-more : (p : Packet) (kept : List Packet) → p.start ≡ false → joined_to p kept ≡ taken_under p kept
-joined-more p kept e = rw e refl
+pub joined-more : (p : Packet) (a : Assemblies) → p.start ≡ false → joined_to p a ≡ taken_under p a
+joined-more p a e = rw e refl
 
 -- a packet that isn't dropped is the endpoint's and fits
-pub passes : (own : ℕ) (kept : List Packet) (p : Packet) → drop_cause own kept p ≡ None → (is_ours own p ≡ true) × Fits kept p
-passes own kept p h =
-    let no : (fails own kept p NotOurs ≡ false) × (fails own kept p NoStart ≡ false) × (fails own kept p TooLong ≡ false) × (fails own kept p OutOfSequence ≡ false) × (fails own kept p UnitSize ≡ false) × (fails own kept p NoSlot ≡ false) =
-    none_of (fails own kept p NotOurs) (fails own kept p NoStart) (fails own kept p TooLong) (fails own kept p OutOfSequence) (fails own kept p UnitSize) (fails own kept p NoSlot) h in (
+pub passes : (own : ℕ) (a : Assemblies) (p : Packet) → drop_cause own a p ≡ None → (is_ours own p ≡ true) × Fits a p
+passes own a p h =
+    let no : (fails own a p NotOurs ≡ false) × (fails own a p NoStart ≡ false) × (fails own a p TooLong ≡ false) × (fails own a p OutOfSequence ≡ false) × (fails own a p UnitSize ≡ false) × (fails own a p NoSlot ≡ false) =
+    none_of (fails own a p NotOurs) (fails own a p NoStart) (fails own a p TooLong) (fails own a p OutOfSequence) (fails own a p UnitSize) (fails own a p NoSlot) h in (
       holds_if (is_ours own p) no.0,
       record {
-        few = short (length (joined_to p kept)) no.2;
-        numbered = eqb-true p.sequence (length (joined_to p kept)) (holds_if (p.sequence == length (joined_to p kept)) no.3);
+        few = short (length (joined_to p a)) no.2;
+        numbered = eqb-true p.sequence (length (joined_to p a)) (holds_if (p.sequence == length (joined_to p a)) no.3);
         started = begins p.start refl no.1;
         full = λ more. eqb-true (length p.payload) 64 (holds_if (length p.payload == 64) (fails_beside (not p.end) (not (length p.payload == 64)) no.4 (ap not more)));
-        slots = λ start more. free (open_count (others p kept)) (fails_beside (p.start && not p.end) (nat_le 8 (open_count (others p kept))) no.5 (rw (start, more) refl));
+        slots = λ start more. free (open_beside (name_of p.envelope) a) (fails_beside (p.start && not p.end) (nat_le 8 (open_beside (name_of p.envelope) a)) no.5 (rw (start, more) refl));
       },
     )
   where
@@ -57,10 +57,10 @@ passes own kept p h =
     free : (n : ℕ) → nat_le 8 n ≡ false → n < 8
     free n h = grind (arith, nat_tests)
 
-    begins : (a : Bool) → p.start ≡ a → fails own kept p NoStart ≡ false → p.start ≡ (length (joined_to p kept) == 0)
-    begins true e h = e ∙ sym (ap (λ n. n == 0) (joined-start p kept e))
+    begins : (b : Bool) → p.start ≡ b → fails own a p NoStart ≡ false → p.start ≡ (length (joined_to p a) == 0)
+    begins true e h = e ∙ sym (ap (λ n. n == 0) (joined-start p a e))
     begins false e h =
-        e ∙ sym (fails_beside (not p.start) (length (taken_under p kept) == 0) h (ap not e)) ∙ sym (ap (λ ps. length ps == 0) (joined-more p kept e))
+        e ∙ sym (fails_beside (not p.start) (length (taken_under p a) == 0) h (ap not e)) ∙ sym (ap (λ ps. length ps == 0) (joined-more p a e))
 
 -- tests that fail
 none_for : (a b c d e f : Bool) → a ≡ false → b ≡ false → c ≡ false → d ≡ false → e ≡ false → f ≡ false
@@ -68,22 +68,22 @@ none_for : (a b c d e f : Bool) → a ≡ false → b ≡ false → c ≡ false 
 none_for a b c d e f h i j k l m = rw (h, i, j, k, l, m) refl
 
 -- a packet that is the endpoint's and fits isn't dropped
-pub passes_back : (own : ℕ) (kept : List Packet) (p : Packet) → is_ours own p ≡ true → Fits kept p → drop_cause own kept p ≡ None
-passes_back own kept p ours fits =
-    none_for (fails own kept p NotOurs) (fails own kept p NoStart) (fails own kept p TooLong) (fails own kept p OutOfSequence) (fails own kept p UnitSize) (fails own kept p NoSlot)
-    (ap not ours) (begins p.start refl) (let few : length (joined_to p kept) < 4 = fits.few in grind (arith, nat_tests)) (ap not (eq-eqb p.sequence (length (joined_to p kept)) fits.numbered)) (sized p.end refl) (free p.start p.end refl refl)
+pub passes_back : (own : ℕ) (a : Assemblies) (p : Packet) → is_ours own p ≡ true → Fits a p → drop_cause own a p ≡ None
+passes_back own a p ours fits =
+    none_for (fails own a p NotOurs) (fails own a p NoStart) (fails own a p TooLong) (fails own a p OutOfSequence) (fails own a p UnitSize) (fails own a p NoSlot)
+    (ap not ours) (begins p.start refl) (let few : length (joined_to p a) < 4 = fits.few in grind (arith, nat_tests)) (ap not (eq-eqb p.sequence (length (joined_to p a)) fits.numbered)) (sized p.end refl) (free p.start p.end refl refl)
   where
-    begins : (a : Bool) → p.start ≡ a → fails own kept p NoStart ≡ false
+    begins : (b : Bool) → p.start ≡ b → fails own a p NoStart ≡ false
     begins true e = rw e refl
     begins false e =
-        let none : (length (taken_under p kept) == 0) ≡ false = sym (ap (λ ps. length ps == 0) (joined-more p kept e)) ∙ sym fits.started ∙ e in
+        let none : (length (taken_under p a) == 0) ≡ false = sym (ap (λ ps. length ps == 0) (joined-more p a e)) ∙ sym fits.started ∙ e in
         rw (e, none) refl
 
-    sized : (a : Bool) → p.end ≡ a → fails own kept p UnitSize ≡ false
+    sized : (b : Bool) → p.end ≡ b → fails own a p UnitSize ≡ false
     sized true e = rw e refl
     sized false e = rw (e, eq-eqb (length p.payload) 64 (fits.full e)) refl
 
-    free : (a b : Bool) → p.start ≡ a → p.end ≡ b → fails own kept p NoSlot ≡ false
+    free : (b c : Bool) → p.start ≡ b → p.end ≡ c → fails own a p NoSlot ≡ false
     free true true d e = rw (d, e) refl
-    free true false d e = let room : open_count (others p kept) < 8 = fits.slots d e in let no : nat_le 8 (open_count (others p kept)) ≡ false = grind (arith, nat_tests) in rw (d, e, no) refl
-    free false b d e = rw d refl
+    free true false d e = let room : open_beside (name_of p.envelope) a < 8 = fits.slots d e in let no : nat_le 8 (open_beside (name_of p.envelope) a) ≡ false = grind (arith, nat_tests) in rw (d, e, no) refl
+    free false c d e = rw d refl

@@ -1,7 +1,7 @@
 -- A message's packets are a cut of it.
 use Rattle.std.proofs.Common.{◌≡◌, ℕ, zero, suc, ◌+◌, ◌-◌, ◌*◌, ◌/◌, ◌<◌, ◌≤◌, List, [], ◌∷◌, ◌++◌, length, map, take, drop, min, ⊎_elim, refl, sym, ◌∙◌, ap, arith, length-drop}
 use Rattle.std.specs.List.{range_with_len, All}
-use Rattle.std.proofs.lemmas.List.{take-append-drop, length-take, drop-drop, drop_all, take_all}
+use Rattle.std.proofs.lemmas.List.{length-map, take-append-drop, length-take, drop-drop, drop_all, take_all}
 use Rattle.std.proofs.lemmas.Bool.{cases_lt}
 use Rattle.std.proofs.lemmas.List.Elements.{All-nil, All-cons}
 use Rattle.std.proofs.lemmas.List.FromFn.{length-map-range_with_len, map-range_with_len_more}
@@ -9,7 +9,7 @@ use Rattle.std.proofs.lemmas.Bool.Decides.{nat_tests}
 use Rattle.mctp_net.specs.declared.packet.Packet.{Packet}
 use Rattle.mctp_net.specs.declared.message.Message.{Message}
 use Rattle.mctp_net.specs.Grammar.{IsSpelled}
-use Rattle.mctp_net.specs.Cut.{IsPiece, EachFrom, carried, IsCutOf, AreWritten}
+use Rattle.mctp_net.specs.Cut.{piece, IsPiece, EachFrom, carried, IsCutOf, AreWritten}
 use Rattle.mctp_net.specs.Pieces.{piece_of}
 
 -- the first packets of a message
@@ -21,7 +21,7 @@ abbrev pub count_of : Message → ℕ
 count_of m = (length m.body + 63) / 64
 
 -- a packet of the message is the one of its number
-piece_is : (m : Message) (count number : ℕ) → count ≡ count_of m → number < count → IsPiece count number (piece_of m number)
+piece_is : (m : Message) (count number : ℕ) → count ≡ count_of m → number < count → IsPiece count number (piece (piece_of m number))
 piece_is m count number is low =
     let n : length (take 64 (drop (64 * number) m.body)) ≡ min 64 (length m.body - 64 * number) = length-take 64 (drop (64 * number) m.body) ∙ ap (min 64) (length-drop (64 * number) m.body) in
     record {
@@ -34,15 +34,15 @@ piece_is m count number is low =
     }
 
 -- each packet of the message is
-pieces_are : (m : Message) (count from so_many : ℕ) → count ≡ count_of m → from + so_many ≡ count → EachFrom (IsPiece count) from (map (piece_of m) (range_with_len from so_many))
+pieces_are : (m : Message) (count from so_many : ℕ) → count ≡ count_of m → from + so_many ≡ count → EachFrom (IsPiece count) from (map piece (map (piece_of m) (range_with_len from so_many)))
 pieces_are m count from zero is sum = tt
 pieces_are m count from (suc so_many) is sum = (piece_is m count from is (omega arith), pieces_are m count (from + 1) so_many is (omega arith))
 
 -- what the packets from one on carry is the rest of the bytes
-joined_from : (m : Message) (from so_many : ℕ) → length m.body ≤ 64 * (from + so_many) → drop (64 * from) m.body ≡ carried (map (piece_of m) (range_with_len from so_many))
+joined_from : (m : Message) (from so_many : ℕ) → length m.body ≤ 64 * (from + so_many) → drop (64 * from) m.body ≡ carried (map piece (map (piece_of m) (range_with_len from so_many)))
 joined_from m from zero all = drop_all (64 * from) m.body (omega arith)
 joined_from m from (suc so_many) all =
-    let next : drop (64 * (from + 1)) m.body ≡ carried (map (piece_of m) (range_with_len (from + 1) so_many)) = joined_from m (from + 1) so_many (omega arith) in
+    let next : drop (64 * (from + 1)) m.body ≡ carried (map piece (map (piece_of m) (range_with_len (from + 1) so_many))) = joined_from m (from + 1) so_many (omega arith) in
     let at : 64 * from + 64 ≡ 64 * (from + 1) = omega arith in
     let rest : drop 64 (drop (64 * from) m.body) ≡ drop (64 * (from + 1)) m.body = drop-drop 64 (64 * from) m.body ∙ ap (λ n. drop n m.body) at in
     sym (take-append-drop 64 (drop (64 * from) m.body)) ∙ ap (λ bytes. take 64 (drop (64 * from) m.body) ++ bytes) (rest ∙ next)
@@ -55,7 +55,7 @@ enveloped_from m from (suc so_many) = All-cons (λ p. p.envelope ≡ m.envelope)
 -- the packets are a cut of the message
 pub is_cut : (m : Message) (count : ℕ) → count ≡ count_of m → 0 < length m.body → length m.body ≤ 256 → IsCutOf m (pieces_of m count)
 is_cut m count is some fits =
-    let n : length (pieces_of m count) ≡ count = length-map-range_with_len (piece_of m) 0 count in
+    let n : length (map piece (pieces_of m count)) ≡ count = length-map (pieces_of m count) piece ∙ length-map-range_with_len (piece_of m) 0 count in
     record {
       cut = record {
         some = omega arith;

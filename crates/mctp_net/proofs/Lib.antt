@@ -1,7 +1,9 @@
 pub mod Packets
 pub mod PacketLaws
 pub mod Cuts
-pub mod Filters
+pub mod Runs
+pub mod PlaceLists
+pub mod Placed
 pub mod Names
 pub mod Soundness
 pub mod Causes

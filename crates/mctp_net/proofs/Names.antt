@@ -1,42 +1,42 @@
--- Packets of one name.
-use Rattle.std.proofs.Common.{◌≡◌, Bool, true, false, not, List, [], refl, sym, ◌∙◌, ap, arith}
+-- Names, and where they are looked for.
+use Rattle.std.proofs.Common.{◌≡◌, Bool, true, false, not, Option, Some, None, refl, sym, ◌∙◌, ap, subst, arith}
 use Rattle.std.proofs.lemmas.Bool.Decides.{nat_tests}
-use Rattle.mctp_net.specs.declared.packet.Envelope.{Envelope}
-use Rattle.mctp_net.specs.declared.packet.Packet.{Packet}
+use Rattle.mctp_net.specs.declared.packet.Name.{Name}
 use Rattle.mctp_net.specs.Grammar.{bit}
-use Rattle.mctp_net.specs.Assembly.{same_name, taken_under, others}
-use Rattle.mctp_net.proofs.Filters.{filter_implied, filter_none, filter_agree}
+use Rattle.mctp_net.specs.Assembly.{is_name}
+use Rattle.mctp_net.specs.Places.{is_at}
+use Rattle.mctp_net.proofs.PacketLaws.{bit-one}
 
--- what a name is made of
-name_parts : (d e : Envelope) → same_name d e ≡ true → (d.source_eid ≡ e.source_eid) × (bit d.tag_owner ≡ bit e.tag_owner) × (d.tag ≡ e.tag)
-name_parts d e h = (grind (arith, nat_tests), grind (arith, nat_tests), grind (arith, nat_tests))
+-- names that are the same are one
+pub name-one : (m n : Name) → is_name m n ≡ true → m ≡ n
+name-one m n h =
+    let source : m.source_eid ≡ n.source_eid = grind (arith, nat_tests) in
+    let owns : bit m.tag_owner ≡ bit n.tag_owner = grind (arith, nat_tests) in
+    let tag : m.tag ≡ n.tag = grind (arith, nat_tests) in
+    let owner : m.tag_owner ≡ n.tag_owner = bit-one m.tag_owner n.tag_owner owns in
+    λ i. record { source_eid = source i; tag_owner = owner i; tag = tag i }
 
-pub same_name-self : (d : Envelope) → same_name d d ≡ true
-same_name-self d = grind (arith, nat_tests)
+pub name-self : (n : Name) → is_name n n ≡ true
+name-self n = grind (arith, nat_tests)
 
-pub same_name-on : (d e f : Envelope) → same_name d e ≡ true → same_name d f ≡ same_name e f
-same_name-on d e f h = let parts : (d.source_eid ≡ e.source_eid) × (bit d.tag_owner ≡ bit e.tag_owner) × (d.tag ≡ e.tag) = name_parts d e h in cc
-
-pub same_name-back : (d e : Envelope) → same_name d e ≡ true → same_name e d ≡ true
-same_name-back d e h = sym (same_name-on d e d h) ∙ same_name-self d
-
--- the packets under one name
-pub taken_under-same : (p q : Packet) (kept : List Packet) → same_name p.envelope q.envelope ≡ true → taken_under p kept ≡ taken_under q kept
-taken_under-same p q kept h = filter_agree (λ x. same_name p.envelope x.envelope) (λ x. same_name q.envelope x.envelope) (λ x. same_name-on p.envelope q.envelope x.envelope h) kept
-
--- none is left under a name that is closed
-pub taken_under-others_same : (p : Packet) (kept : List Packet) → taken_under p (others p kept) ≡ []
-taken_under-others_same p kept =
-    filter_none (λ x. same_name p.envelope x.envelope) (λ x. not (same_name p.envelope x.envelope)) (λ x h. ap not h) kept
-
--- another name's are all left
-pub taken_under-others : (p q : Packet) (kept : List Packet) → same_name q.envelope p.envelope ≡ false → taken_under q (others p kept) ≡ taken_under q kept
-taken_under-others p q kept h =
-    filter_implied (λ x. same_name q.envelope x.envelope) (λ x. not (same_name p.envelope x.envelope)) (λ x k. differs x k (same_name p.envelope x.envelope) refl) kept
+-- what has one name hasn't another
+pub other-name_at : (o : Option Name) (m n : Name) → is_at o (Some m) ≡ true → is_name n m ≡ false → is_at o (Some n) ≡ false
+other-name_at None m n h differ = refl
+other-name_at (Some k) m n h differ = by_name (is_name k n) refl
   where
-    differs : (x : Packet) → same_name q.envelope x.envelope ≡ true → (a : Bool) → same_name p.envelope x.envelope ≡ a → not (same_name p.envelope x.envelope) ≡ true
-    differs x k false e = ap not e
-    differs x k true e =
-        let back : same_name x.envelope p.envelope ≡ true = same_name-back p.envelope x.envelope e in
-        let yes : same_name q.envelope p.envelope ≡ true = same_name-on q.envelope x.envelope p.envelope k ∙ back in
-        absurd (let no : true ≡ false = sym yes ∙ h in cc)
+    by_name : (b : Bool) → is_name k n ≡ b → is_name k n ≡ false
+    by_name true e = absurd (
+        let same : n ≡ m = sym (name-one k n e) ∙ name-one k m h in
+        let yes : is_name n m ≡ true = subst (λ (x : Name). is_name n x ≡ true) same (name-self n) in
+        let no : true ≡ false = sym yes ∙ differ in cc)
+    by_name false e = e
+
+-- what is free has no name
+pub free_at : (o : Option Name) (n : Name) → is_at o None ≡ true → is_at o (Some n) ≡ false
+free_at None n h = refl
+free_at (Some m) n h = absurd cc
+
+-- what has a name isn't free
+pub used_at : (o : Option Name) (n : Name) → is_at o (Some n) ≡ true → is_at o None ≡ false
+used_at None n h = absurd cc
+used_at (Some m) n h = refl

@@ -17,13 +17,13 @@ push-front xs ys x y e =
     sym (take-append_seam xs (x ∷ [])) ∙ (rw (n, e) (take-append_seam ys (y ∷ [])))
 
 -- a flag is its number
-bit-one : (a b : Bool) → bit a ≡ bit b → a ≡ b
+pub bit-one : (a b : Bool) → bit a ≡ bit b → a ≡ b
 bit-one true true e = refl
 bit-one false false e = refl
 bit-one true false e = absurd (omega arith)
 bit-one false true e = absurd (omega arith)
 
-bit-lt : (a : Bool) → bit a < 2
+pub bit-lt : (a : Bool) → bit a < 2
 bit-lt true = omega arith
 bit-lt false = omega arith
 

@@ -1,49 +1,48 @@
 -- Which packets make a message whole.
-use Rattle.std.proofs.Common.{◌≡◌, ℕ, suc, ◌+◌, ◌<◌, ◌≤◌, ◌==◌, Bool, true, false, cond, List, [], ◌∷◌, ◌++◌, length, take, drop, get_or, refl, sym, ◌∙◌, ap, subst, arith, length-append, None}
+use Rattle.std.proofs.Common.{◌≡◌, ℕ, suc, ◌+◌, ◌<◌, ◌≤◌, ◌==◌, Bool, true, false, cond, List, [], ◌∷◌, ◌++◌, length, refl, sym, ◌∙◌, ap, subst, arith, length-append, Some, None}
+use Rattle.std.proofs.lemmas.Grind.{flat_map-append}
 use Rattle.std.proofs.lemmas.Bool.{eq-eqb}
 use Rattle.std.proofs.lemmas.Bool.Decides.{nat_tests}
-use Rattle.std.proofs.lemmas.Grind.{flat_map-append}
-use Rattle.std.proofs.Math.Seq.{drop-cons}
-use Rattle.std.proofs.lemmas.List.{take-append-drop}
-use Rattle.std.proofs.lemmas.List.Elements.{filter-append}
+use Rattle.std.proofs.lemmas.List.{append-nil}
 use Rattle.mctp_net.specs.declared.packet.Packet.{Packet}
 use Rattle.mctp_net.specs.declared.message.Message.{Message}
+use Rattle.mctp_net.specs.declared.taken.DropCause.{DropCause}
 use Rattle.mctp_net.specs.declared.taken.Taken.TheVariants as taken
-use Rattle.mctp_net.specs.Cut.{IsPiece, EachFrom, carried, IsCut}
-use Rattle.mctp_net.specs.Assembly.{same_name, taken_under, joined_to, is_ours, drop_cause, MakesWhole}
-use Rattle.mctp_net.specs.Sound.{IsWaitingAt, IsSound, Fits}
-use Rattle.mctp_net.proofs.Soundness.{each_push}
-use Rattle.mctp_net.proofs.Causes.{passes_back}
+use Rattle.mctp_net.specs.Cut.{Piece, piece, IsPiece, EachFrom, carried, IsCut}
+use Rattle.mctp_net.specs.Assembly.{Assemblies, taken_under, joined_to, is_ours, drop_cause, ended, message_of, MakesWhole}
+use Rattle.mctp_net.specs.Sound.{IsWaitingAt, Fits}
+use Rattle.mctp_net.proofs.Soundness.{each_push, joined-waiting}
+use Rattle.mctp_net.proofs.Causes.{passes, passes_back}
 
--- the last packet of a list has its place
-pub each_last : (P : ℕ → Packet → Type 0) (from : ℕ) (ps : List Packet) (p : Packet) → EachFrom P from (ps ++ p ∷ []) → P (from + length ps) p
+-- the last piece of a list has its place
+pub each_last : (P : ℕ → Piece → Type 0) (from : ℕ) (ps : List Piece) (p : Piece) → EachFrom P from (ps ++ p ∷ []) → P (from + length ps) p
 each_last P from [] p h = let e : from ≡ from + 0 = omega arith in subst (λ n. P n p) e h.0
 each_last P from (q ∷ qs) p h = let e : from + 1 + length qs ≡ from + suc (length qs) = omega arith in subst (λ n. P n p) e (each_last P (from + 1) qs p h.1)
 
 -- a packet that makes a message whole fits
-pub whole-fits : (own : ℕ) (kept : List Packet) (p : Packet) (m : Message) → MakesWhole own kept p m → Fits kept p × (p.end ≡ true)
-whole-fits own kept p m h =
-    let front : List Packet = joined_to p kept in
-    let count : length (front ++ p ∷ []) ≡ length front + 1 = length-append front (p ∷ []) in
-    let piece : IsPiece (length (front ++ p ∷ [])) (0 + length front) p = each_last (IsPiece (length (front ++ p ∷ []))) 0 front p h.cut.pieces in
+pub whole-fits : (own : ℕ) (a : Assemblies) (p : Packet) (m : Message) → MakesWhole own a p m → Fits a p × (p.end ≡ true)
+whole-fits own a p m h =
+    let front : List Piece = joined_to p a in
+    let count : length (front ++ piece p ∷ []) ≡ length front + 1 = length-append front (piece p ∷ []) in
+    let at : IsPiece (length (front ++ piece p ∷ [])) (0 + length front) (piece p) = each_last (IsPiece (length (front ++ piece p ∷ []))) 0 front (piece p) h.cut.pieces in
     let place : 0 + length front ≡ length front = omega arith in
-    let last : (0 + length front + 1 == length (front ++ p ∷ [])) ≡ true = eq-eqb (0 + length front + 1) (length (front ++ p ∷ [])) (omega arith) in
-    let end : p.end ≡ true = piece.ended ∙ last in (
+    let last : (0 + length front + 1 == length (front ++ piece p ∷ [])) ≡ true = eq-eqb (0 + length front + 1) (length (front ++ piece p ∷ [])) (omega arith) in
+    let end : p.end ≡ true = at.ended ∙ last in (
       record {
         few = omega (arith, h.cut.few);
-        numbered = piece.numbered ∙ place;
-        started = piece.started ∙ ap (λ n. n == 0) place;
+        numbered = at.numbered ∙ place;
+        started = at.started ∙ ap (λ n. n == 0) place;
         full = λ more. absurd (let no : true ≡ false = sym end ∙ more in cc);
         slots = λ start more. absurd (let no : true ≡ false = sym end ∙ more in cc);
       },
       end,
     )
 
-pub whole-passes : (own : ℕ) (kept : List Packet) (p : Packet) (m : Message) → MakesWhole own kept p m → drop_cause own kept p ≡ None
-whole-passes own kept p m h = passes_back own kept p h.ours (whole-fits own kept p m h).0
+pub whole-passes : (own : ℕ) (a : Assemblies) (p : Packet) (m : Message) → MakesWhole own a p m → drop_cause own a p ≡ None
+whole-passes own a p m h = passes_back own a p h.ours (whole-fits own a p m h).0
 
--- packets that wait are pieces of a longer cut
-pieces-waiting : (count from : ℕ) (ps : List Packet) → from + length ps < count → EachFrom IsWaitingAt from ps → EachFrom (IsPiece count) from ps
+-- pieces that wait are pieces of a longer cut
+pieces-waiting : (count from : ℕ) (ps : List Piece) → from + length ps < count → EachFrom IsWaitingAt from ps → EachFrom (IsPiece count) from ps
 pieces-waiting count from [] low h = tt
 pieces-waiting count from (p ∷ ps) low h =
     let more : from + 1 < count = omega arith in
@@ -59,26 +58,18 @@ pieces-waiting count from (p ∷ ps) low h =
       pieces-waiting count (from + 1) ps (omega arith) h.1,
     )
 
--- what is joined to a packet waits
-joined-waiting : (kept : List Packet) (p : Packet) → IsSound kept → EachFrom IsWaitingAt 0 (joined_to p kept)
-joined-waiting kept p h = by_start p.start refl
-  where
-    by_start : (a : Bool) → p.start ≡ a → EachFrom IsWaitingAt 0 (cond p.start [] (taken_under p kept))
-    by_start true e = rw e tt
-    by_start false e = rw e (h.fronts p)
-
 -- a packet that fits and is an end ends a cut
-pub ends-cut : (kept : List Packet) (p : Packet) → IsSound kept → Fits kept p → p.end ≡ true → 0 < length p.payload → length p.payload ≤ 64
-    → IsCut (carried (joined_to p kept ++ p ∷ [])) (joined_to p kept ++ p ∷ [])
-ends-cut kept p h fits end some most =
-    let front : List Packet = joined_to p kept in
-    let count : length (front ++ p ∷ []) ≡ length front + 1 = length-append front (p ∷ []) in
+ends-cut : (a : Assemblies) (p : Packet) → EachFrom IsWaitingAt 0 (taken_under p a) → Fits a p → p.end ≡ true → 0 < length p.payload → length p.payload ≤ 64
+    → IsCut (carried (joined_to p a ++ piece p ∷ [])) (joined_to p a ++ piece p ∷ [])
+ends-cut a p waits fits end some most =
+    let front : List Piece = joined_to p a in
+    let count : length (front ++ piece p ∷ []) ≡ length front + 1 = length-append front (piece p ∷ []) in
     let place : 0 + length front ≡ length front = omega arith in
-    let last : (0 + length front + 1 == length (front ++ p ∷ [])) ≡ true = eq-eqb (0 + length front + 1) (length (front ++ p ∷ [])) (omega arith) in
+    let last : (0 + length front + 1 == length (front ++ piece p ∷ [])) ≡ true = eq-eqb (0 + length front + 1) (length (front ++ piece p ∷ [])) (omega arith) in
     record {
       some = omega arith;
       few = omega (arith, fits.few);
-      pieces = each_push (IsPiece (length (front ++ p ∷ []))) 0 front p (pieces-waiting (length (front ++ p ∷ [])) 0 front (omega arith) (joined-waiting kept p h)) (record {
+      pieces = each_push (IsPiece (length (front ++ piece p ∷ []))) 0 front (piece p) (pieces-waiting (length (front ++ piece p ∷ [])) 0 front (omega arith) (joined-waiting p a waits)) (record {
         numbered = fits.numbered ∙ sym place;
         started = fits.started ∙ ap (λ n. n == 0) (sym place);
         ended = end ∙ sym last;
@@ -89,28 +80,49 @@ ends-cut kept p h fits end some most =
       joined = refl;
     }
 
--- the message that such a packet ends is the one that it makes whole
-pub whole-both : (own : ℕ) (kept : List Packet) (p : Packet) (body : List ℕ) (m : Message) → IsSound kept → is_ours own p ≡ true → Fits kept p → p.end ≡ true → 0 < length p.payload → length p.payload ≤ 64
-    → body ≡ carried (joined_to p kept ++ p ∷ [])
-    → (taken.Whole (record { envelope = p.envelope; body = body }) ≡ taken.Whole m → MakesWhole own kept p m) × (MakesWhole own kept p m → taken.Whole (record { envelope = p.envelope; body = body }) ≡ taken.Whole m)
-whole-both own kept p body m h ours fits end some most is =
-    let made : Message = record { envelope = p.envelope; body = body } in
-    let cut : IsCut body (joined_to p kept ++ p ∷ []) = rw is (ends-cut kept p h fits end some most) in
-    let makes : MakesWhole own kept p made = record { ours = ours; enveloped = refl; cut = cut } in (
-      λ e. (let same : made ≡ m = cc in subst (MakesWhole own kept p) same makes),
-      λ w. (let bodies : body ≡ m.body = is ∙ sym w.cut.joined in λ i. taken.Whole (record { envelope = sym w.enveloped i; body = bodies i })),
-    )
+-- the message that an end shows is what its pieces carry
+pub ended-body : (a : Assemblies) (p : Packet) → (message_of (ended p a) p).body ≡ carried (joined_to p a ++ piece p ∷ [])
+ended-body a p = by_start p.start
+  where
+    by_start : (b : Bool) → cond b p.payload (cond b [] (carried (taken_under p a ++ piece p ∷ []))) ≡ carried (cond b [] (taken_under p a) ++ piece p ∷ [])
+    by_start true = sym (append-nil p.payload)
+    by_start false = refl
 
--- one more packet under the name leaves room
-pub carried-room : (p x : Packet) (kept : List Packet) (i : ℕ) → i < length kept → x ≡ get_or kept i x → same_name p.envelope x.envelope ≡ true
-    → length (carried (taken_under p (take i kept))) + length x.payload ≤ length (carried (taken_under p kept))
-carried-room p x kept i low is named =
-    let rest : List Packet = drop (suc i) kept in
-    let at : drop i kept ≡ x ∷ rest = drop-cons kept i x low ∙ ap (λ y. y ∷ rest) (sym is) in
-    let kept_is : kept ≡ take i kept ++ x ∷ rest = sym (take-append-drop i kept) ∙ ap (λ ps. take i kept ++ ps) at in
-    let here : taken_under p (x ∷ rest) ≡ x ∷ taken_under p rest = rw named refl in
-    let all : taken_under p kept ≡ taken_under p (take i kept) ++ x ∷ taken_under p rest =
-    ap (taken_under p) kept_is ∙ filter-append (λ q. same_name p.envelope q.envelope) (take i kept) (x ∷ rest) ∙ ap (λ ps. taken_under p (take i kept) ++ ps) here in
-    let bytes : carried (taken_under p kept) ≡ carried (taken_under p (take i kept)) ++ (x.payload ++ carried (taken_under p rest)) =
-    ap carried all ∙ flat_map-append (λ q. q.payload) (taken_under p (take i kept)) (x ∷ taken_under p rest) in
-    omega (arith, ap length bytes, length-append (carried (taken_under p (take i kept))) (x.payload ++ carried (taken_under p rest)), length-append x.payload (carried (taken_under p rest)))
+-- the message that such a packet ends is the one that it makes whole
+pub whole-made : (own : ℕ) (a : Assemblies) (p : Packet) → EachFrom IsWaitingAt 0 (taken_under p a) → is_ours own p ≡ true → Fits a p → p.end ≡ true → 0 < length p.payload → length p.payload ≤ 64
+    → MakesWhole own a p (message_of (ended p a) p)
+whole-made own a p waits ours fits end some most = record {
+  ours = ours;
+  enveloped = refl;
+  cut = subst (λ bytes. IsCut bytes (joined_to p a ++ piece p ∷ [])) (sym (ended-body a p)) (ends-cut a p waits fits end some most);
+}
+
+-- and no other is
+pub whole-one : (own : ℕ) (a : Assemblies) (p : Packet) (m : Message) → MakesWhole own a p m → m ≡ message_of (ended p a) p
+whole-one own a p m h =
+    let body : m.body ≡ (message_of (ended p a) p).body = h.cut.joined ∙ sym (ended-body a p) in
+    λ i. record { envelope = h.enveloped i; body = body i }
+
+-- what is dropped makes nothing whole
+pub not-whole : (own : ℕ) (a : Assemblies) (p : Packet) (m : Message) (cause : DropCause) → Some cause ≡ drop_cause own a p → MakesWhole own a p m → ⊥
+not-whole own a p m cause is h = let none : drop_cause own a p ≡ None = whole-passes own a p m h in let bad : Some cause ≡ None = is ∙ none in cc
+
+-- nor does what is no end
+pub waits-on : (own : ℕ) (a : Assemblies) (p : Packet) (m : Message) → p.end ≡ false → MakesWhole own a p m → ⊥
+waits-on own a p m more h = let bad : true ≡ false = sym (whole-fits own a p m h).1 ∙ more in cc
+
+-- the message that an end shows is the one that it makes whole
+pub whole-shown : (own : ℕ) (a b : Assemblies) (p : Packet) → EachFrom IsWaitingAt 0 (taken_under p a) → drop_cause own a p ≡ None → p.end ≡ true → 0 < length p.payload → length p.payload ≤ 64 → b ≡ ended p a
+    → (m : Message) → ((taken.Whole ≡ taken.Whole) × (m ≡ message_of b p) → MakesWhole own a p m) × (MakesWhole own a p m → (taken.Whole ≡ taken.Whole) × (m ≡ message_of b p))
+whole-shown own a b p waits none end some most is m =
+    let may : (is_ours own p ≡ true) × Fits a p = passes own a p none in
+    let shown : message_of b p ≡ message_of (ended p a) p = ap (λ c. message_of c p) is in
+    let made : MakesWhole own a p (message_of b p) = subst (MakesWhole own a p) (sym shown) (whole-made own a p waits may.0 may.1 end some most) in
+    (λ e. subst (MakesWhole own a p) (sym e.1) made, λ w. (refl, whole-one own a p m w ∙ sym shown))
+
+pub shown-some : (a b : Assemblies) (p : Packet) → 0 < length p.payload → b ≡ ended p a → 0 < length (message_of b p).body
+shown-some a b p some is =
+    let body : length (message_of b p).body ≡ length (carried (joined_to p a ++ piece p ∷ [])) = ap (λ c. length (message_of c p).body) is ∙ ap length (ended-body a p) in
+    let parts : length (carried (joined_to p a ++ piece p ∷ [])) ≡ length (carried (joined_to p a)) + length (carried (piece p ∷ [])) =
+    ap length (flat_map-append (λ (q : Piece). q.payload) (joined_to p a) (piece p ∷ [])) ∙ length-append (carried (joined_to p a)) (carried (piece p ∷ [])) in
+    omega (arith, body, parts, ap length (append-nil p.payload))

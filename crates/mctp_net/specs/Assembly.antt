@@ -1,5 +1,6 @@
--- Messages put together from packets. An assembler keeps the packets of all open assemblies in the order in which they came.
-use Rattle.std.specs.Prelude.{◌≡◌, ℕ, ◌==◌, ◌||◌, ◌&&◌, Bool, true, not, nat_le, if◌then◌else◌, List, [], ◌∷◌, ◌++◌, length, filter, find, Option, Some, None, false, codes}
+-- Messages put together from packets.
+use Rattle.std.specs.Prelude.{◌≡◌, ℕ, ◌+◌, ◌-◌, ◌==◌, ◌||◌, ◌&&◌, Bool, true, not, nat_lt, nat_le, if◌then◌else◌, List, [], ◌∷◌, ◌++◌, length, find, Option, Some, None, false, codes}
+use Rattle.mctp_net.specs.declared.packet.Name.{Name}
 use Rattle.mctp_net.specs.declared.packet.Envelope.{Envelope}
 use Rattle.mctp_net.specs.declared.packet.Packet.{Packet}
 use Rattle.mctp_net.specs.declared.message.Message.{Message}
@@ -8,41 +9,57 @@ use Rattle.mctp_net.specs.declared.taken.DropCause.TheVariants.{NotOurs, NoStart
 use Rattle.mctp_net.specs.declared.taken.Taken.{Taken}
 use Rattle.mctp_net.specs.declared.taken.Taken.TheVariants as taken
 use Rattle.mctp_net.specs.Sizes.{unit_size, most_assemblies}
+use Rattle.mctp_net.specs.Sizes.{unit_size, most_assemblies}
 use Rattle.mctp_net.specs.Grammar.{bit}
-use Rattle.mctp_net.specs.Cut.{IsCut}
+use Rattle.mctp_net.specs.Cut.{Piece, piece, carried, IsCut}
 
--- two packets are of one name: source endpoint, tag owner and tag
-abbrev pub same_name : Envelope → Envelope → Bool
-same_name d e = d.source_eid == e.source_eid && bit d.tag_owner == bit e.tag_owner && d.tag == e.tag
+-- a message's name: source endpoint, tag owner and tag
+abbrev pub name_of : Envelope → Name
+name_of e = record { source_eid = e.source_eid; tag_owner = e.tag_owner; tag = e.tag }
 
--- the packets that were taken under the packet's name
-abbrev pub taken_under : Packet → List Packet → List Packet
-taken_under p kept = filter (λ q. same_name p.envelope q.envelope) kept
+-- two names are the same
+abbrev pub is_name : Name → Name → Bool
+is_name m n = m.source_eid == n.source_eid && bit m.tag_owner == bit n.tag_owner && m.tag == n.tag
 
--- those that were taken under other names
-abbrev pub others : Packet → List Packet → List Packet
-others p kept = filter (λ q. not (same_name p.envelope q.envelope)) kept
+-- What an assembler keeps: the pieces that wait under each name, and how many names have some; and the bytes of the message that the
+-- last packet ended, where several packets made it.
+pub record Assemblies : Type 0 where
+  pub under : Name → List Piece
+  pub open_count : ℕ
+  pub made : List ℕ
 
--- the packets to which the packet is joined: none where it is a start, which closes the open assembly of its name
-abbrev pub joined_to : Packet → List Packet → List Packet
-joined_to p kept = if p.start then [] else taken_under p kept
+-- nothing is open
+abbrev pub nothing : Assemblies
+nothing = record { under = λ n. []; open_count = 0; made = [] }
 
--- how many assemblies are open: each has one start
-abbrev pub open_count : List Packet → ℕ
-open_count kept = length (filter (λ q. q.start) kept)
+-- pieces wait
+abbrev pub is_open : List Piece → Bool
+is_open ps = nat_lt 0 (length ps)
+
+-- the pieces that wait under the packet's name
+abbrev pub taken_under : Packet → Assemblies → List Piece
+taken_under p a = a.under (name_of p.envelope)
+
+-- the pieces to which the packet is joined: none where it is a start, which closes the open assembly of its name
+abbrev pub joined_to : Packet → Assemblies → List Piece
+joined_to p a = if p.start then [] else taken_under p a
+
+-- how many assemblies of other names are open
+abbrev pub open_beside : Name → Assemblies → ℕ
+open_beside n a = a.open_count - bit (is_open (a.under n))
 
 -- the packet goes to this endpoint, or to whichever has the address
 abbrev pub is_ours : ℕ → Packet → Bool
 is_ours own p = p.envelope.destination_eid == own || p.envelope.destination_eid == 0
 
 -- the packet is dropped for this cause, if for no earlier one
-abbrev pub fails : ℕ → List Packet → Packet → DropCause → Bool
-fails own kept p NotOurs = not (is_ours own p)
-fails own kept p NoStart = not p.start && length (taken_under p kept) == 0
-fails own kept p TooLong = nat_le 4 (length (joined_to p kept))
-fails own kept p OutOfSequence = not (p.sequence == length (joined_to p kept))
-fails own kept p UnitSize = not p.end && not (length p.payload == unit_size)
-fails own kept p NoSlot = p.start && not p.end && nat_le most_assemblies (open_count (others p kept))
+abbrev pub fails : ℕ → Assemblies → Packet → DropCause → Bool
+fails own a p NotOurs = not (is_ours own p)
+fails own a p NoStart = not p.start && length (taken_under p a) == 0
+fails own a p TooLong = nat_le 4 (length (joined_to p a))
+fails own a p OutOfSequence = not (p.sequence == length (joined_to p a))
+fails own a p UnitSize = not p.end && not (length p.payload == unit_size)
+fails own a p NoSlot = p.start && not p.end && nat_le most_assemblies (open_beside (name_of p.envelope) a)
 
 -- the causes in their order
 abbrev pub causes : List DropCause
@@ -58,56 +75,84 @@ cause_name UnitSize = codes "UnitSize"
 cause_name NoSlot = codes "NoSlot"
 
 -- the first cause to drop the packet
-abbrev pub drop_cause : ℕ → List Packet → Packet → Option DropCause
-drop_cause own kept p = find (fails own kept p) causes
+abbrev pub drop_cause : ℕ → Assemblies → Packet → Option DropCause
+drop_cause own a p = find (fails own a p) causes
 
--- the packets that are kept with a packet that is taken and isn't an end
-abbrev pub kept_with : List Packet → Packet → List Packet
-kept_with kept p = (if p.start then others p kept else kept) ++ p ∷ []
+-- the same, but that these pieces wait under the name
+abbrev pub with_under : Name → List Piece → Assemblies → Assemblies
+with_under n ps a = record {
+  under = λ m. if is_name m n then ps else a.under m;
+  open_count = open_beside n a + bit (is_open ps);
+  made = [];
+}
 
--- the packets that are kept after a packet, where it's dropped for the cause or for none
-abbrev pub kept_where : Option DropCause → List Packet → Packet → List Packet
-kept_where (Some NotOurs) kept p = kept
-kept_where (Some NoStart) kept p = kept
-kept_where (Some TooLong) kept p = others p kept
-kept_where (Some OutOfSequence) kept p = others p kept
-kept_where (Some UnitSize) kept p = others p kept
-kept_where (Some NoSlot) kept p = others p kept
-kept_where None kept p = if p.end then others p kept else kept_with kept p
+-- the same, and nothing was made
+abbrev pub unmade : Assemblies → Assemblies
+unmade a = record { under = a.under; open_count = a.open_count; made = [] }
 
--- the packets that are kept after a packet
-abbrev pub kept_after : ℕ → List Packet → Packet → List Packet
-kept_after own kept p = kept_where (drop_cause own kept p) kept p
+-- the assembly of the packet's name is closed
+abbrev pub closed : Packet → Assemblies → Assemblies
+closed p a = with_under (name_of p.envelope) [] a
 
--- what is open under the packet's name after it, where it's dropped for the cause or for none
-abbrev pub named_where : Option DropCause → List Packet → Packet → List Packet
-named_where (Some NotOurs) kept p = taken_under p kept
-named_where (Some NoStart) kept p = taken_under p kept
-named_where (Some TooLong) kept p = []
-named_where (Some OutOfSequence) kept p = []
-named_where (Some UnitSize) kept p = []
-named_where (Some NoSlot) kept p = []
-named_where None kept p = if p.end then [] else joined_to p kept ++ p ∷ []
+-- the packet waits behind those to which it's joined
+abbrev pub kept_with : Packet → Assemblies → Assemblies
+kept_with p a = with_under (name_of p.envelope) (joined_to p a ++ piece p ∷ []) a
 
--- with the packets to which it's joined, the packet makes the message whole
-pub record MakesWhole (own : ℕ) (kept : List Packet) (p : Packet) (m : Message) : Type 0 where
+-- the packet ends its message, whose assembly is closed; a message of one packet lies in its packet
+abbrev pub ended : Packet → Assemblies → Assemblies
+ended p a = record {
+  under = (closed p a).under;
+  open_count = (closed p a).open_count;
+  made = if p.start then [] else carried (taken_under p a ++ piece p ∷ []);
+}
+
+-- what is kept after a packet, where it's dropped for the cause or for none
+abbrev pub after_where : Option DropCause → Packet → Assemblies → Assemblies
+after_where (Some NotOurs) p a = unmade a
+after_where (Some NoStart) p a = unmade a
+after_where (Some TooLong) p a = closed p a
+after_where (Some OutOfSequence) p a = closed p a
+after_where (Some UnitSize) p a = closed p a
+after_where (Some NoSlot) p a = closed p a
+after_where None p a = if p.end then ended p a else kept_with p a
+
+-- what is kept after a packet
+abbrev pub after : ℕ → Assemblies → Packet → Assemblies
+after own a p = after_where (drop_cause own a p) p a
+
+-- what waits under the packet's name after it, where it's dropped for the cause or for none
+abbrev pub named_where : Option DropCause → Packet → Assemblies → List Piece
+named_where (Some NotOurs) p a = taken_under p a
+named_where (Some NoStart) p a = taken_under p a
+named_where (Some TooLong) p a = []
+named_where (Some OutOfSequence) p a = []
+named_where (Some UnitSize) p a = []
+named_where (Some NoSlot) p a = []
+named_where None p a = if p.end then [] else joined_to p a ++ piece p ∷ []
+
+-- the message that the packet, the last that came, ended
+abbrev pub message_of : Assemblies → Packet → Message
+message_of a p = record { envelope = p.envelope; body = if p.start then p.payload else a.made }
+
+-- with the pieces to which it's joined, the packet makes the message whole
+pub record MakesWhole (own : ℕ) (a : Assemblies) (p : Packet) (m : Message) : Type 0 where
   pub ours : is_ours own p ≡ true
   pub enveloped : m.envelope ≡ p.envelope
-  pub cut : IsCut m.body (joined_to p kept ++ p ∷ [])
+  pub cut : IsCut m.body (joined_to p a ++ piece p ∷ [])
 
 -- the cause for which the packet was dropped, if it was
 abbrev pub dropped_for : Taken → Option DropCause
 dropped_for taken.Waiting = None
-dropped_for (taken.Whole m) = None
+dropped_for taken.Whole = None
 dropped_for (taken.Dropped cause) = Some cause
 
 -- the packet is taken, and others are to come
-pub record IsTaken (own : ℕ) (kept : List Packet) (p : Packet) : Type 0 where
-  pub kept_on : drop_cause own kept p ≡ None
+pub record IsTaken (own : ℕ) (a : Assemblies) (p : Packet) : Type 0 where
+  pub kept_on : drop_cause own a p ≡ None
   pub more : p.end ≡ false
 
 -- the packets come one after another: each but the last is taken, and the last makes the message whole
-abbrev pub ComesBack : ℕ → List Packet → List Packet → Message → Type 0
-ComesBack own kept [] m = ⊥
-ComesBack own kept (p ∷ []) m = MakesWhole own kept p m
-ComesBack own kept (p ∷ q ∷ rest) m = IsTaken own kept p × ComesBack own (kept_after own kept p) (q ∷ rest) m
+abbrev pub ComesBack : ℕ → Assemblies → List Packet → Message → Type 0
+ComesBack own a [] m = ⊥
+ComesBack own a (p ∷ []) m = MakesWhole own a p m
+ComesBack own a (p ∷ q ∷ rest) m = IsTaken own a p × ComesBack own (after own a p) (q ∷ rest) m

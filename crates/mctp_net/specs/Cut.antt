@@ -1,13 +1,24 @@
 -- Messages cut into packets.
-use Rattle.std.specs.Prelude.{◌≡◌, ℕ, ◌+◌, ◌<◌, ◌≤◌, ◌==◌, List, [], ◌∷◌, length, All}
+use Rattle.std.specs.Prelude.{◌≡◌, ℕ, ◌+◌, ◌<◌, ◌≤◌, ◌==◌, Bool, List, [], ◌∷◌, length, map, All}
 use Rattle.std.specs.List.{flat_map, AllZip}
 use Rattle.mctp_net.specs.declared.packet.Packet.{Packet}
 use Rattle.mctp_net.specs.declared.message.Message.{Message}
 use Rattle.mctp_net.specs.Sizes.{unit_size}
 use Rattle.mctp_net.specs.Grammar.{IsSpelled}
 
--- the packet is the one of this number, of so many
-pub record IsPiece (count number : ℕ) (p : Packet) : Type 0 where
+-- what a packet is to its message: the marks of start and end, the sequence number and the bytes that it carries
+pub record Piece : Type 0 where
+  pub start : Bool
+  pub end : Bool
+  pub sequence : ℕ
+  pub payload : List ℕ
+
+-- the piece that a packet is
+abbrev pub piece : Packet → Piece
+piece p = record { start = p.start; end = p.end; sequence = p.sequence; payload = p.payload }
+
+-- the piece is the one of this number, of so many
+pub record IsPiece (count number : ℕ) (p : Piece) : Type 0 where
   pub numbered : p.sequence ≡ number
   pub started : p.start ≡ (number == 0)
   pub ended : p.end ≡ (number + 1 == count)
@@ -15,18 +26,18 @@ pub record IsPiece (count number : ℕ) (p : Packet) : Type 0 where
   pub fits : length p.payload ≤ unit_size
   pub full : number + 1 < count → length p.payload ≡ unit_size
 
--- each packet meets the relation with its number, where the first has this one
-abbrev pub EachFrom : (ℕ → Packet → Type 0) → ℕ → List Packet → Type 0
+-- each piece meets the relation with its number, where the first has this one
+abbrev pub EachFrom : (ℕ → Piece → Type 0) → ℕ → List Piece → Type 0
 EachFrom P number [] = Unit {0}
 EachFrom P number (p ∷ ps) = P number p × EachFrom P (number + 1) ps
 
--- the bytes that the packets carry
-abbrev pub carried : List Packet → List ℕ
+-- the bytes that the pieces carry
+abbrev pub carried : List Piece → List ℕ
 carried ps = flat_map (λ p. p.payload) ps
 
--- The packets are a cut of the bytes: at most four runs, all but the last of a unit, numbered from 0, the first marked
+-- The pieces are a cut of the bytes: at most four runs, all but the last of a unit, numbered from 0, the first marked
 -- as start and the last as end.
-pub record IsCut (body : List ℕ) (ps : List Packet) : Type 0 where
+pub record IsCut (body : List ℕ) (ps : List Piece) : Type 0 where
   pub some : 0 < length ps
   pub few : length ps ≤ 4
   pub pieces : EachFrom (IsPiece (length ps)) 0 ps
@@ -34,7 +45,7 @@ pub record IsCut (body : List ℕ) (ps : List Packet) : Type 0 where
 
 -- the packets are the message's
 pub record IsCutOf (m : Message) (ps : List Packet) : Type 0 where
-  pub cut : IsCut m.body ps
+  pub cut : IsCut m.body (map piece ps)
   pub enveloped : All (λ p. p.envelope ≡ m.envelope) ps
 
 -- the frames are the packets, each with the ignored bits 0

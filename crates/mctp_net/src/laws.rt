@@ -1,10 +1,11 @@
 //! What holds of the definitions alone.
 ghost use Rattle.std.specs.Prelude.{◌≡◌, ◌<◌, ◌≤◌, ◌⊎◌, List, [], ℕ, All, length, true, false, find, None};
 ghost use Rattle.mctp_net.specs.declared.packet.Packet.{Packet};
+ghost use Rattle.mctp_net.specs.declared.packet.Name.{Name};
 ghost use Rattle.mctp_net.specs.declared.message.Message.{Message};
 ghost use Rattle.mctp_net.specs.Grammar.{IsPacket, HasFault, has_fault, faults};
 ghost use Rattle.mctp_net.specs.Cut.{IsCutOf};
-ghost use Rattle.mctp_net.specs.Assembly.{is_ours, same_name, taken_under, open_count, drop_cause, named_where, kept_after, ComesBack};
+ghost use Rattle.mctp_net.specs.Assembly.{Assemblies, nothing, name_of, is_name, is_ours, open_beside, drop_cause, named_where, after, ComesBack};
 ghost use Rattle.mctp_net.specs.Sound.{IsSound};
 
 /// Bytes are at most one packet.
@@ -28,25 +29,24 @@ pub fn one_cut()
     ensures { (m : Message) (ps qs : List Packet) → IsCutOf m ps → IsCutOf m qs → ps ≡ qs }
 {}
 
-/// The packets of a cut make their message whole, where they go to this endpoint, and where fewer than eight assemblies
-/// are open if they are more than one.
+/// The packets of a cut make their message whole, where they go to this endpoint, and where fewer than eight assemblies of
+/// other names are open if they are more than one.
 pub fn comes_back()
-    ensures { (own : ℕ) (kept : List Packet) (m : Message) (ps : List Packet) → IsCutOf m ps
-        → All (λ p. is_ours own p ≡ true) ps → (1 < length ps → open_count kept < 8) → ComesBack own kept ps m }
+    ensures { (own : ℕ) (a : Assemblies) (m : Message) (ps : List Packet) → IsCutOf m ps
+        → All (λ p. is_ours own p ≡ true) ps → (1 < length ps → open_beside (name_of m.envelope) a < 8) → ComesBack own a ps m }
 {}
 
-/// Whatever packets come, under each name those that are kept are the first of a cut, and at most eight assemblies are
-/// open.
+/// Whatever packets come, under each name those that wait are the first of a cut, and at most eight assemblies are open.
 pub fn stays_sound()
-    ensures none { IsSound [] }
-    ensures next { (own : ℕ) (kept : List Packet) (p : Packet) → IsSound kept → IsSound (kept_after own kept p) }
+    ensures none { IsSound nothing }
+    ensures next { (own : ℕ) (a : Assemblies) (p : Packet) → IsSound a → IsSound (after own a p) }
 {}
 
-/// A packet changes what is open under its own name alone: unless it is dropped as NotOurs or NoStart, its assembly is
-/// longer by it, or closed.
+/// A packet changes what waits under its own name alone: unless it is dropped as NotOurs or NoStart, its assembly is longer
+/// by it, or closed.
 pub fn each_name_alone()
-    ensures same { (own : ℕ) (kept : List Packet) (p q : Packet) → same_name q.envelope p.envelope ≡ true
-        → taken_under q (kept_after own kept p) ≡ named_where (drop_cause own kept p) kept p }
-    ensures other { (own : ℕ) (kept : List Packet) (p q : Packet) → same_name q.envelope p.envelope ≡ false
-        → taken_under q (kept_after own kept p) ≡ taken_under q kept }
+    ensures same { (own : ℕ) (a : Assemblies) (p : Packet)
+        → (after own a p).under (name_of p.envelope) ≡ named_where (drop_cause own a p) p a }
+    ensures other { (own : ℕ) (a : Assemblies) (p : Packet) (n : Name) → is_name n (name_of p.envelope) ≡ false
+        → (after own a p).under n ≡ a.under n }
 {}

@@ -9,8 +9,10 @@ mod fault;
 mod laws;
 mod message;
 mod packet;
+mod place;
+mod placing;
 mod reading;
-mod some_bytes;
+mod some_data;
 mod splitting;
 mod taken;
 mod writing;
@@ -23,9 +25,9 @@ pub use laws::{
     comes_back, each_name_alone, fault_or_packet, has_cut, one_cut, one_packet, stays_sound,
 };
 pub use message::Message;
-pub use packet::{Envelope, Packet, Payload, Sequence, Tag, UNIT_SIZE};
+pub use packet::{Envelope, Name, Packet, Payload, Sequence, Tag, UNIT_SIZE};
 pub use reading::read_packet;
-pub use some_bytes::SomeBytes;
+pub use some_data::SomeData;
 pub use splitting::split;
 pub use taken::{DropCause, Taken};
 pub use writing::write_packet;

@@ -1,7 +1,7 @@
 //! Packets.
 ghost use Rattle.std.specs.Prelude.{◌≡◌};
 
-use crate::SomeBytes;
+use crate::SomeData;
 use two_wire::{Address, Below};
 
 /// The number that tells the messages of one source apart.
@@ -13,8 +13,18 @@ pub type Sequence = Below<4>;
 /// How many bytes of a message each packet carries but the last, which may carry fewer.
 pub const UNIT_SIZE: usize = 64;
 
-/// The bytes of a message that one packet carries.
-pub type Payload = SomeBytes<{ UNIT_SIZE }>;
+/// The bytes of a message that one packet carries, where they lie.
+pub type Payload<'a> = SomeData<'a, { UNIT_SIZE }>;
+
+/// What tells the messages that are put together at one time apart.
+#[derive(Clone, Copy, Debug, PartialEq, Eq)]
+pub struct Name {
+    /// The endpoint from which the message comes.
+    pub source_eid: u8,
+    /// Whether the source chose the tag.
+    pub tag_owner: bool,
+    pub tag: Tag,
+}
 
 /// Between whom a message goes, and under which tag.
 #[derive(Clone, Copy, Debug, PartialEq, Eq)]
@@ -33,6 +43,21 @@ pub struct Envelope {
     pub tag: Tag,
 }
 
+impl Envelope {
+    ghost use Rattle.mctp_net.specs.Assembly.{name_of};
+
+    /// The name of the message.
+    pub fn name(&self) -> Name
+        ensures { result ≡ name_of self.now }
+    {
+        Name {
+            source_eid: self.source_eid,
+            tag_owner: self.tag_owner,
+            tag: self.tag,
+        }
+    }
+}
+
 /// A packet of a message on the System Management Bus (DSP0237, "MCTP packet encapsulation"):
 ///
 /// ```text
@@ -46,22 +71,13 @@ pub struct Envelope {
 ///
 /// The count is that of the bytes from the source on, without the packet error code (PEC). Bits 7:4 of the version byte,
 /// `i`, are ignored where a packet is read, and 0 where one is written.
-#[derive(Clone, Debug, PartialEq, Eq, Drop)]
-pub struct Packet {
+#[derive(Debug, Drop)]
+pub struct Packet<'a> {
     pub envelope: Envelope,
     /// Whether it is the first of its message.
     pub start: bool,
     /// Whether it is the last of its message.
     pub end: bool,
     pub sequence: Sequence,
-    pub payload: Payload,
-}
-
-impl Packet {
-    /// The same packet once more.
-    pub fn copy(&self) -> Packet
-        ensures { result ≡ self.now }
-    {
-        self.clone().unwrap()
-    }
+    pub payload: Payload<'a>,
 }

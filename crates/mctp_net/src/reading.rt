@@ -7,8 +7,8 @@ ghost use Rattle.mctp_net.specs.Grammar.{IsPacket, has_fault, faults};
 use crate::{Envelope, Packet, PacketFault, Payload, Sequence, Tag};
 use two_wire::{Address, pec};
 
-/// The packet that a frame is.
-pub fn read_packet(bytes: &[u8]) -> Result<Packet, PacketFault>
+/// The packet that a frame is, with its payload where it lies.
+pub fn read_packet(bytes: &[u8]) -> Result<Packet<'_>, PacketFault>
     // An error is the first fault that the bytes have, in the order of the faults.
     ensures fault { result_err result ≡ find (has_fault bytes.now) faults }
     // What is read is what the bytes are.
@@ -46,7 +46,7 @@ fn first_fault(bytes: &[u8]) -> Option<PacketFault>
 }
 
 // The packet of bytes that have no fault.
-fn packet_of(bytes: &[u8]) -> Packet
+fn packet_of(bytes: &[u8]) -> Packet<'_>
     requires { find (has_fault bytes.now) faults ≡ None }
     ensures { IsPacket result bytes.now }
 {
@@ -64,7 +64,7 @@ fn packet_of(bytes: &[u8]) -> Packet
         start: flags & 0x80 != 0,
         end: flags & 0x40 != 0,
         sequence: Sequence::new(flags >> 4 & 3),
-        payload: Payload::from_slice(&bytes[8..bytes.len() - 1]),
+        payload: Payload::new(&bytes[8..bytes.len() - 1]),
     }
 }
 

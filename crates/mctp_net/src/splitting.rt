@@ -10,7 +10,7 @@ use arrayvec::ArrayVec;
 use two_wire::Frame;
 
 /// The frames of a message, one for each of its packets.
-pub fn split(message: &Message) -> ArrayVec<Frame, 4>
+pub fn split(message: &Message<'_>) -> ArrayVec<Frame, 4>
     ensures { (ps : List AnyPacket) × IsCutOf message.now ps × AreWritten ps result.items }
 {
     let count = message.body.as_slice().len().div_ceil(UNIT_SIZE);
@@ -22,7 +22,7 @@ pub fn split(message: &Message) -> ArrayVec<Frame, 4>
 }
 
 // The packet of this number.
-fn piece(message: &Message, number: usize) -> Packet
+fn piece<'a>(message: &Message<'a>, number: usize) -> Packet<'a>
     requires { UNIT_SIZE * number < length message.now.body }
     ensures value { result ≡ piece_of message.now number }
     ensures fits { length message.now.body ≤ 256 }
@@ -33,7 +33,7 @@ fn piece(message: &Message, number: usize) -> Packet
         start: number == 0,
         end: body.len() <= UNIT_SIZE * number + UNIT_SIZE,
         sequence: Sequence::new(number as u8),
-        payload: Payload::from_slice(run(body, number)),
+        payload: Payload::new(run(body, number)),
     }
 }
 

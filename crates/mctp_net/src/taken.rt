@@ -1,5 +1,4 @@
 //! What becomes of a packet.
-use crate::Message;
 use std::error::Error;
 use std::fmt;
 
@@ -42,12 +41,12 @@ impl fmt::Display for DropCause {
 impl Error for DropCause {}
 
 /// What becomes of a packet.
-#[derive(Clone, Debug, PartialEq, Eq, Drop)]
+#[derive(Clone, Copy, Debug, PartialEq, Eq)]
 pub enum Taken {
     /// It's taken, and others are to come.
     Waiting,
-    /// It ends this message.
-    Whole(Message),
+    /// It ends a message, which `Assembler::message` shows.
+    Whole,
     /// It's dropped.
     Dropped(DropCause),
 }

@@ -6,7 +6,7 @@ use crate::{Envelope, Packet};
 use two_wire::{Frame, pec};
 
 /// The frame of a packet.
-pub fn write_packet(packet: &Packet) -> Frame
+pub fn write_packet(packet: &Packet<'_>) -> Frame
     // The bits that a reader ignores are 0.
     ensures { IsSpelled packet.now 0 result }
 {
@@ -33,7 +33,7 @@ pub fn write_packet(packet: &Packet) -> Frame
 }
 
 // The byte of flags.
-fn flags(packet: &Packet) -> u8
+fn flags(packet: &Packet<'_>) -> u8
     ensures value { result ≡ flags_of packet.now }
     ensures sequence { packet.now.sequence < 4 }
     ensures tag { packet.now.envelope.tag < 8 }

@@ -9,3 +9,4 @@ pub mod World
 pub mod Headline
 pub mod Registers
 pub mod Example
+pub mod Resume

@@ -1,16 +1,17 @@
 //! A port on the System Management Bus.
-ghost use Rattle.std.specs.Prelude.{◌≡◌, ◌≤◌, ◌∷◌, length};
-ghost use Rattle.mctp_net.specs.Control.{request_of};
-ghost use Rattle.bmc_board.specs.State.{State as AnyState, state_of};
-ghost use Rattle.bmc_core.specs.SmbusPort.{HearsPacket, HearsOurs, HearsMessage, HearsControl, HearsPldm, AreFramesOf, reply_message, pldm_asked, pldm_reply};
+ghost use Rattle.std.specs.Prelude.{◌≡◌, ◌<◌, ◌≤◌, length};
+ghost use Rattle.mctp_net.specs.Assembly.{message_of};
+ghost use Rattle.mctp_net.specs.Places.{seen};
+ghost use Rattle.bmc_board.specs.State.{state_of};
+ghost use Rattle.bmc_core.specs.SmbusPort.{HearsPacket, HearsOurs, HearsMessage, HearsPldm, AreFramesOf, reply_message, pldm_asked, pldm_reply};
 
 use bmc_board::Board;
 use crate::out::{Done, Frames, Out, Reason};
 use crate::port::Port;
 use cfg_records::{Answered, Asked, Store};
-use mctp_net::{Envelope, Message, Packet, SomeBytes, Taken, read_packet, split};
+use mctp_net::{Envelope, Message, Packet, SomeData, Taken, read_packet, split};
 use pldm_base::{PldmBytes, PldmReply, PldmRequest, read_pldm, write_pldm_reply};
-use two_wire::Bytes;
+use two_wire::{Bytes, Data};
 
 /// The type of a control message (DSP0239, "MCTP message type codes").
 const CONTROL: u8 = 0x00;
@@ -19,7 +20,7 @@ const CONTROL: u8 = 0x00;
 const PLDM: u8 = 0x01;
 
 /// What a request asks of the board, in this message.
-fn asked_in(message: &Message, request: &PldmRequest) -> Asked
+fn asked_in(message: &Message<'_>, request: &PldmRequest<'_>) -> Asked
     ensures { result ≡ pldm_asked message.now request.now }
 {
     let header = request.header;
@@ -27,29 +28,19 @@ fn asked_in(message: &Message, request: &PldmRequest) -> Asked
         from: message.envelope.source_eid,
         kind: header.pldm_type,
         command: header.command,
-        body: request.body.copy(),
+        body: Bytes::from_slice(request.body.as_slice()),
     }
 }
 
 /// The reply that gives the answer to the request.
-fn reply_to(request: &PldmRequest, answered: &Answered) -> PldmReply
+fn reply_to<'a>(request: &PldmRequest<'_>, answered: &'a Answered) -> PldmReply<'a>
     ensures { result ≡ pldm_reply request.now answered.now }
 {
     PldmReply {
         header: request.header,
         code: answered.code,
-        body: answered.body.copy(),
+        body: Data::new(answered.body.as_slice()),
     }
-}
-
-/// The body of a message with these bytes of PLDM.
-fn pldm_body(bytes: &PldmBytes) -> SomeBytes<256>
-    ensures { result ≡ 1 ∷ bytes.now }
-{
-    let mut body = Bytes::new();
-    body.push(PLDM);
-    body.extend_from_slice(bytes.as_slice());
-    SomeBytes::from_bytes(body)
 }
 
 impl Port {
@@ -69,7 +60,7 @@ impl Port {
         self.on_packet(board, &packet, out)
     }
 
-    fn on_packet<S: Store>(&mut self, board: &mut Board<S>, packet: &Packet, out: &mut Out)
+    fn on_packet<S: Store>(&mut self, board: &mut Board<S>, packet: &Packet<'_>, out: &mut Out)
         ensures heard { HearsOurs board.old.setup self.old (state_of S.records board.old) packet.now out.new self.new (state_of S.records board.new) }
         ensures setup { board.new.setup ≡ board.old.setup }
     {
@@ -77,40 +68,36 @@ impl Port {
         match self.assembler.take(own, packet) {
             Taken::Waiting => out.wait(),
             Taken::Dropped(cause) => out.ignore(Reason::Dropped(cause)),
-            Taken::Whole(message) => self.on_message(board, &message, out),
+            Taken::Whole => self.on_whole(board, packet, out),
         }
     }
 
-    fn on_message<S: Store>(&mut self, board: &mut Board<S>, message: &Message, out: &mut Out)
-        ensures heard { HearsMessage board.old.setup self.old (state_of S.records board.old) message.now out.new self.new (state_of S.records board.new) }
+    fn on_whole<S: Store>(&mut self, board: &mut Board<S>, packet: &Packet<'_>, out: &mut Out)
+        requires { 0 < length (message_of (seen self.old.assembler) packet.now).body }
+        ensures heard { HearsMessage board.old.setup self.old (state_of S.records board.old) (message_of (seen self.old.assembler) packet.now) out.new self.new (state_of S.records board.new) }
         ensures setup { board.new.setup ≡ board.old.setup }
     {
+        let message = self.assembler.message(packet);
         if !message.envelope.tag_owner {
             return out.ignore(Reason::NotRequest);
         }
         match message.body.as_slice() {
-            [CONTROL, ..] => self.on_control(message, out),
-            [PLDM, bytes @ ..] => self.on_pldm(board, message, bytes, out),
+            [CONTROL, ..] => match self.endpoint.control(message.body.as_slice()) {
+                Some(reply) => {
+                    out.frames = self.reply(&message, SomeData::new(reply.as_slice()));
+                    out.done = Done::Control;
+                }
+                None => out.ignore(Reason::NotRequest),
+            },
+            [PLDM, bytes @ ..] => self.on_pldm(board, &message, bytes, out),
             _ => out.ignore(Reason::MessageType),
-        }
-    }
-
-    fn on_control(&mut self, message: &Message, out: &mut Out)
-        ensures { (before : AnyState) → HearsControl (request_of message.now.body) self.old before message.now out.new self.new before }
-    {
-        match self.endpoint.control(message.body.as_slice()) {
-            Some(reply) => {
-                out.frames = self.reply(message, SomeBytes::from_slice(reply.as_slice()));
-                out.done = Done::Control;
-            }
-            None => out.ignore(Reason::NotRequest),
         }
     }
 
     fn on_pldm<S: Store>(
         &self,
         board: &mut Board<S>,
-        message: &Message,
+        message: &Message<'_>,
         bytes: &[u8],
         out: &mut Out,
     )
@@ -118,18 +105,20 @@ impl Port {
         ensures heard { HearsPldm board.old.setup self.now (state_of S.records board.old) message.now bytes.now out.new self.now (state_of S.records board.new) }
         ensures setup { board.new.setup ≡ board.old.setup }
     {
-        let request = match read_pldm(&PldmBytes::from_slice(bytes)) {
+        let request = match read_pldm(&PldmBytes::new(bytes)) {
             Ok(request) => request,
             Err(fault) => return out.ignore(Reason::Pldm(fault)),
         };
         let answered = board.answer(&asked_in(message, &request));
-        let reply = write_pldm_reply(&reply_to(&request, &answered));
-        out.frames = self.reply(message, pldm_body(&reply));
+        let mut body = Bytes::<256>::new();
+        body.push(PLDM);
+        write_pldm_reply(&reply_to(&request, &answered), &mut body);
+        out.frames = self.reply(message, SomeData::new(body.as_slice()));
         out.done = Done::Answered;
     }
 
     /// The frames of the reply to a message, which has this body.
-    fn reply(&self, message: &Message, body: SomeBytes<256>) -> Frames
+    fn reply(&self, message: &Message<'_>, body: SomeData<'_, 256>) -> Frames
         ensures { AreFramesOf (reply_message self.now message.now body) result.list.items }
     {
         let Envelope {

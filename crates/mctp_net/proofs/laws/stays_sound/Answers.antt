@@ -1,4 +1,4 @@
-use Rattle.mctp_net.proofs.ComingBack.{sound-after}
+use Rattle.mctp_net.proofs.Soundness.{sound-after}
 use Rattle.mctp_net.proofs.laws.stays_sound.Goals as goal
 
 pub returns-clause-next : goal.returns-clause-next

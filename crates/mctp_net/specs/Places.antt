@@ -1,0 +1,83 @@
+-- The places in which an assembler keeps what waits.
+use Rattle.std.specs.Prelude.{◌≡◌, ◌⊎◌, ℕ, ◌+◌, ◌/◌, ◌%◌, ◌<◌, ◌≤◌, zero, suc, ◌==◌, Bool, true, false, not, if◌then◌else◌, List, [], ◌∷◌, length, take, drop, filter, slice_index_or, All, Option, Some, None, slice_get}
+use Rattle.std.specs.List.{flat_map}
+use Rattle.std.specs.Option.{option_map_or}
+use Rattle.mctp_net.specs.Sizes.{unit_size, most_assemblies}
+use Rattle.mctp_net.specs.declared.packet.Name.{Name}
+use Rattle.mctp_net.specs.declared.place.Place.{Place}
+use Rattle.mctp_net.specs.Cut.{Piece}
+use Rattle.mctp_net.specs.Assembly.{Assemblies, is_name}
+
+-- both are one name, or none
+abbrev pub is_at : Option Name → Option Name → Bool
+is_at (Some m) (Some n) = is_name m n
+is_at (Some m) None = false
+is_at None (Some n) = false
+is_at None None = true
+
+-- so many pieces that wait, from this number on: runs of a unit
+abbrev pub runs_from : ℕ → ℕ → List ℕ → List Piece
+runs_from number zero bytes = []
+runs_from number (suc count) bytes = record { start = number == 0; end = false; sequence = number; payload = take unit_size bytes } ∷ runs_from (number + 1) count (drop unit_size bytes)
+
+-- the pieces that wait in a place
+abbrev pub runs : List ℕ → List Piece
+runs bytes = runs_from 0 (length bytes / unit_size) bytes
+
+-- what a place has of a name's pieces
+abbrev pub part : Name → Place → List Piece
+part n s = if is_at s.name (Some n) then runs s.bytes else []
+
+-- what waits under each name
+abbrev pub under_in : List Place → Name → List Piece
+under_in ps n = flat_map (part n) ps
+
+-- a place with nothing in it
+abbrev pub free_place : Place
+free_place = record { name = None; bytes = [] }
+
+-- somebody's message is in the place
+abbrev pub is_used : Place → Bool
+is_used s = not (is_at s.name None)
+
+-- how many places are used
+abbrev pub open_in : List Place → ℕ
+open_in ps = length (filter is_used ps)
+
+-- the bytes in this place, or none
+abbrev pub made_in : List Place → Option ℕ → List ℕ
+made_in ps None = []
+made_in ps (Some i) = option_map_or (λ s. s.bytes) (slice_get ps i) []
+
+-- what is kept in the places
+abbrev pub assemblies_in : List Place → Option ℕ → Assemblies
+assemblies_in ps made = record { under = under_in ps; open_count = open_in ps; made = made_in ps made }
+
+-- what an assembler is
+pub record Kept : Type 0 where
+  pub places : List Place
+  pub made : Option ℕ
+
+-- what it keeps
+abbrev pub seen : Kept → Assemblies
+seen k = assemblies_in k.places k.made
+
+-- a place that is used has some runs of a unit
+abbrev pub IsFilled : Place → Type 0
+IsFilled s = is_used s ≡ true → (0 < length s.bytes) × (length s.bytes % unit_size ≡ 0)
+
+-- there are eight places, each of another name or free
+pub record AreSound (ps : List Place) : Type 0 where
+  pub eight : length ps ≡ most_assemblies
+  pub filled : All IsFilled ps
+  pub fits : All (λ s. length s.bytes ≤ 256) ps
+  pub apart : (n : Name) → length (filter (λ s. is_at s.name (Some n)) ps) ≤ 1
+
+-- the place is the one of the name, or a free one; none where there is none
+abbrev pub IsPlaceOf : Option Name → List Place → Option ℕ → Type 0
+IsPlaceOf name ps None = filter (λ s. is_at s.name name) ps ≡ []
+IsPlaceOf name ps (Some i) = (i < length ps) × ((d : Place) → is_at (slice_index_or ps i d).name name ≡ true)
+
+-- the place is the name's, or it's free and the name has none
+abbrev pub IsRoomFor : Name → List Place → ℕ → Type 0
+IsRoomFor name ps i = IsPlaceOf (Some name) ps (Some i) ⊎ (IsPlaceOf (Some name) ps None × IsPlaceOf None ps (Some i))

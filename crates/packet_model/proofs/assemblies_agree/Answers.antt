@@ -1,0 +1,9 @@
+use Rattle.packet_model.proofs.Steps.{takes-agrees}
+use Rattle.packet_model.proofs.Waiting.{waits-alike}
+use Rattle.packet_model.proofs.assemblies_agree.Goals as goal
+
+pub returns-clause-step : goal.returns-clause-step
+returns-clause-step c = takes-agrees
+
+pub returns-clause-waits : goal.returns-clause-waits
+returns-clause-waits c = waits-alike

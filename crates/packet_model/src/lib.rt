@@ -1,0 +1,26 @@
+//! The assembler of `mctp_net` and the packets of `bus_model` are of one assembly. There is no code here: each law is the
+//! contract of a function without a body.
+#![tactic(auto)]
+
+ghost use Rattle.std.specs.Prelude.{◌≡◌, ◌++◌, ◌∷◌, [], ℕ, List, map};
+ghost use Rattle.mctp_net.specs.declared.packet.Name.{Name};
+ghost use Rattle.mctp_net.specs.declared.packet.Packet.{Packet};
+ghost use Rattle.mctp_net.specs.declared.message.Message.{Message};
+ghost use Rattle.mctp_net.specs.Cut.{piece, IsCutOf};
+ghost use Rattle.mctp_net.specs.Assembly.{Assemblies, name_of, taken_under, drop_cause, after};
+ghost use Rattle.bus_model.specs.Packet.{packets_of};
+ghost use Rattle.bus_model.specs.Assembly.{Name as ModelName, Sent, takes, waiting};
+ghost use Rattle.packet_model.specs.Seen.{seen, seen_name, AreSeen, WaitsAlike, Agrees, model_after};
+
+/// A packet's step under its name is the model's, and afterwards the same waits in both under every name.
+pub fn assemblies_agree()
+    ensures step { (own : ℕ) (a : Assemblies) (p : Packet) (s : Sent) (taken : List Sent) → s.packet ≡ seen (piece p)
+        → AreSeen taken (taken_under p a) → Agrees (drop_cause own a p) p.end (waiting taken s ++ s ∷ []) (takes taken s) }
+    ensures waits { (own : ℕ) (a : Assemblies) (p : Packet) (s : Sent) (port : ModelName → List Sent) → s.packet ≡ seen (piece p)
+        → WaitsAlike port a → WaitsAlike (model_after (drop_cause own a p) (seen_name (name_of p.envelope)) s port) (after own a p) }
+{}
+
+/// The packets of a message are those of the model's cut.
+pub fn cuts_agree()
+    ensures { (m : Message) (ps : List Packet) → IsCutOf m ps → map (λ (p : Packet). seen (piece p)) ps ≡ packets_of m.body }
+{}
