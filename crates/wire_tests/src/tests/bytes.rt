@@ -71,15 +71,3 @@ fn addresses_numbers_codes_and_data_keep_their_value(rt: HostRuntime) -> Result<
     assert_eq!(rt; Data::<4>::new(&frame[1..3]).as_slice(), [2, 3].as_slice());
     Ok(())
 }
-
-#[test]
-fn codes_are_those_of_the_standards(rt: HostRuntime) {
-    let ipmi = [0x80, 0xC0, 0xC1, 0xC2, 0xC7, 0xCB, 0xCC];
-    for (code, byte) in code::of_ipmi().iter().zip(ipmi.iter()) {
-        assert_eq!(rt; code.value(), *byte);
-    }
-    let pldm = [0x02, 0x03, 0x04, 0x05, 0x20];
-    for (code, byte) in code::of_pldm().iter().zip(pldm.iter()) {
-        assert_eq!(rt; code.value(), *byte);
-    }
-}
