@@ -1,4 +1,4 @@
--- What live commands do: commands that ask for no configuration record (IPMI 2.0, sections 20.1, 20.4 and 27.5; DSP0240, "GetTID" and "GetPLDMTypes").
+-- What live commands do: commands that ask for no configuration record (IPMI 2.0; DSP0240, "GetTID" and "GetPLDMTypes").
 use Rattle.std.specs.Prelude.{ℕ, ◌/◌, ◌%◌, List, [], ◌∷◌, Option, Some, None, if◌then◌else◌}
 use Rattle.two_wire.specs.Codes.{uninitialized_watchdog}
 use Rattle.cfg_records.specs.Records.{Records}

@@ -1,4 +1,4 @@
--- The tables of commands (IPMI 2.0, sections 20.1, 20.4, 27.5 to 27.7, 28.2, 28.8 and 35.6 to 35.9; DSP0240, "GetTID" and "GetPLDMTypes"): one line each.
+-- The tables of commands (IPMI 2.0; DSP0240, "GetTID" and "GetPLDMTypes"): one line each.
 use Rattle.std.specs.Prelude.{ℕ, List, [], ◌∷◌, Option, Some, None, Bool, true, false, find, nat_le, ◌==◌, ◌&&◌, ◌||◌}
 use Rattle.cfg_records.specs.declared.message.Asked.{Asked}
 use Rattle.cfg_records.specs.declared.message.Asked.TheVariants.{Ipmi, Pldm}

@@ -14,13 +14,13 @@ pub enum LiveCommand {
     GetPldmTypes,
 }
 
-/// What Get Self Test Results replies (IPMI 2.0, section 20.4): no error was found.
+/// What Get Self Test Results replies (IPMI 2.0): no error was found.
 pub(crate) const NO_ERROR: [u8; 2] = [0x55, 0x00];
 
 /// What GetPLDMTypes replies (DSP0240): a bit for each type, the lowest byte first.
 pub(crate) const PLDM_TYPES: [u8; 8] = [0x0D, 0, 0, 0, 0, 0, 0, 0];
 
-/// What Get Device ID replies (IPMI 2.0, section 20.1).
+/// What Get Device ID replies (IPMI 2.0).
 pub(crate) fn device_data(device: &Device) -> [u8; 11]
     ensures { result ≡ device_data device.now }
 {

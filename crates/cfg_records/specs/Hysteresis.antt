@@ -1,4 +1,4 @@
--- The hysteresis of a sensor (IPMI 2.0, sections 35.6 and 35.7). A value has two bytes: for rising and for falling thresholds.
+-- The hysteresis of a sensor (IPMI 2.0). A value has two bytes: for rising and for falling thresholds.
 use Rattle.std.specs.Prelude.{ℕ, List, [], ◌∷◌}
 use Rattle.cfg_records.specs.declared.hysteresis.Hysteresis.{Hysteresis}
 

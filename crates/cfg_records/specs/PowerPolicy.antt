@@ -1,4 +1,4 @@
--- The power restore policy (IPMI 2.0, section 28.8). A value has one byte: 0 stay off, 1 as before, 2 power up, 3 unknown.
+-- The power restore policy (IPMI 2.0). A value has one byte: 0 stay off, 1 as before, 2 power up, 3 unknown.
 use Rattle.std.specs.Prelude.{◌≡◌, ℕ, ◌≤◌, List, length, slice_index}
 use Rattle.std.proofs.Props.{props}
 

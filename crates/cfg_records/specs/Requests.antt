@@ -3,7 +3,7 @@ use Rattle.std.specs.Prelude.{ℕ, List}
 use Rattle.cfg_records.specs.declared.message.Asked.{Asked}
 use Rattle.cfg_records.specs.declared.message.Asked.TheVariants.{Ipmi}
 
--- the network functions of requests (IPMI 2.0, section 5.1)
+-- the network functions of requests (IPMI 2.0)
 abbrev pub chassis : ℕ
 chassis = 0x00
 

@@ -1,4 +1,4 @@
--- The thresholds of a sensor (IPMI 2.0, section 35.8). A value has six bytes, one at each place of a mask: lower
+-- The thresholds of a sensor (IPMI 2.0). A value has six bytes, one at each place of a mask: lower
 -- non-critical, lower critical, lower non-recoverable, upper non-critical, upper critical, upper non-recoverable.
 use Rattle.std.specs.Prelude.{◌≡◌, ℕ, ◌<◌, ◌≤◌, List, [], ◌∷◌, length, slice_index, Bool, ◌||◌, not, nat_le, ◌==◌, IsTrue, IsFalse}
 use Rattle.std.proofs.Props.{props}

@@ -16,7 +16,7 @@ pub struct ManufacturerId {
     ghost three_bytes: { number < 2 ^ 24 },
 }
 
-/// What Get Device ID gives (IPMI 2.0, section 20.1). The minor revision is in decimal digits.
+/// What Get Device ID gives (IPMI 2.0). The minor revision is in decimal digits.
 #[derive(Clone, Copy, Debug, PartialEq, Eq)]
 pub struct Device {
     pub id: u8,

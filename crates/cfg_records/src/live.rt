@@ -7,11 +7,11 @@ use two_wire::Below;
 /// What a board shows beside its records, and what operations may change beside them.
 #[derive(Clone, Copy, Debug, PartialEq, Eq)]
 pub struct Live {
-    /// Bits 4:0 of the chassis status (IPMI 2.0, section 28.2).
+    /// Bits 4:0 of the chassis status (IPMI 2.0).
     pub chassis: Below<32>,
     /// What is left of the watchdog's countdown, in 100 ms.
     pub countdown: u16,
-    /// The expiration flags of the watchdog, by their bits (IPMI 2.0, section 27.7).
+    /// The expiration flags of the watchdog, by their bits (IPMI 2.0).
     pub expired: u8,
     /// Whether the watchdog timer runs.
     pub running: bool,

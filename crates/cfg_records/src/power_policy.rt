@@ -5,7 +5,7 @@ ghost use Rattle.cfg_records.specs.PowerPolicy.{IsPowerPolicy, IsPowerPolicy-pro
 use crate::key::Key;
 use crate::value::Value;
 
-/// What a board does when power comes back (IPMI 2.0, section 28.8): 0 stay off, 1 as before, 2 power up, 3 unknown.
+/// What a board does when power comes back (IPMI 2.0): 0 stay off, 1 as before, 2 power up, 3 unknown.
 #[derive(Clone, Copy, Debug)]
 pub struct PowerPolicy {
     pub number: u8,

@@ -9,7 +9,6 @@ use Rattle.mctp_net.specs.declared.taken.DropCause.TheVariants.{NotOurs, NoStart
 use Rattle.mctp_net.specs.declared.taken.Taken.{Taken}
 use Rattle.mctp_net.specs.declared.taken.Taken.TheVariants as taken
 use Rattle.mctp_net.specs.Sizes.{unit_size, most_assemblies}
-use Rattle.mctp_net.specs.Sizes.{unit_size, most_assemblies}
 use Rattle.mctp_net.specs.Grammar.{bit}
 use Rattle.mctp_net.specs.Cut.{Piece, piece, carried, IsCut}
 

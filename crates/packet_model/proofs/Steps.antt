@@ -92,7 +92,7 @@ module _ (own : ℕ) (a : Assemblies) (p : Packet) (s : Sent) (ss : List Sent) (
           subst (λ (r : Result). Agrees (drop_cause own a p) p.end joined_now r)
           (sym (takes-joined ss p.start start-is (test-is ∙ e) ∙ ap (λ (b : Bool). joined (cond b [] ss) s) (sym start-is) ∙ joined-is))
           (subst (λ (b : Bool). Agrees (first_of (fails own a p NotOurs) b (fails own a p TooLong) (fails own a p OutOfSequence) (fails own a p UnitSize) (fails own a p NoSlot)) p.end joined_now
-              (by_tests (nat_le 4 (length (joined_to p a))) (p.sequence == length (joined_to p a)) p.end (length p.payload == 64) joined_now)) (sym e)
+          (by_tests (nat_le 4 (length (joined_to p a))) (p.sequence == length (joined_to p a)) p.end (length p.payload == 64) joined_now)) (sym e)
           (tests-agree (fails own a p NotOurs) (nat_le 4 (length (joined_to p a))) (p.sequence == length (joined_to p a)) p.end (length p.payload == 64) (fails own a p NoSlot) joined_now))
 
 pub takes-agrees : (own : ℕ) (a : Assemblies) (p : Packet) (s : Sent) (taken : List Sent) → s.packet ≡ seen (piece p) → AreSeen taken (taken_under p a)

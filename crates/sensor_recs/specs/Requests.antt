@@ -1,4 +1,4 @@
--- Requests to sensors (IPMI 2.0, section 35).
+-- Requests to sensors (IPMI 2.0).
 use Rattle.std.specs.Prelude.{ℕ, List}
 use Rattle.cfg_records.specs.declared.message.Asked.{Asked}
 use Rattle.cfg_records.specs.Requests.{sensor_event, ipmi_request}

@@ -1,4 +1,4 @@
--- Completion codes, by the words of their standards: IPMI 2.0, section 5.2, and DSP0240.
+-- Completion codes, by the words of their standards: IPMI 2.0 and DSP0240.
 use Rattle.std.specs.Prelude.{ℕ}
 
 -- the request was carried out

@@ -1,4 +1,4 @@
--- The power restore policy, as a kind of record (IPMI 2.0, sections 28.2 and 28.8): Get Chassis Status shows it in bits 6:5
+-- The power restore policy, as a kind of record (IPMI 2.0): Get Chassis Status shows it in bits 6:5
 -- of its first byte.
 use Rattle.std.specs.Prelude.{◌≡◌, ◌≢◌, ℕ, ◌+◌, ◌*◌, ◌/◌, ◌%◌, ◌<◌, ◌≤◌, List, [], ◌∷◌, length, slice_index, nat_le, ◌==◌, ◌&&◌, not, Bool, if◌then◌else◌, Result, Ok, Err, Option, Some, None, refl}
 use Rattle.two_wire.specs.Codes.{invalid_data_field}

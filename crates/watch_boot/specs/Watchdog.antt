@@ -1,4 +1,4 @@
--- The watchdog timer, as a kind of record (IPMI 2.0, sections 27.5 to 27.7).
+-- The watchdog timer, as a kind of record (IPMI 2.0).
 use Rattle.std.specs.Prelude.{◌≡◌, ℕ, ◌+◌, ◌-◌, ◌*◌, ◌/◌, ◌%◌, ◌^◌, ◌<◌, ◌≤◌, List, [], ◌∷◌, length, slice_index, bit_and, nat_le, ◌&&◌, ◌==◌, not, Bool, true, IsFalse, if◌then◌else◌, Result, Ok, Err, Option, Some, None, refl}
 use Rattle.std.specs.Int.{w16, to_le_bytes, from_le_bytes}
 use Rattle.two_wire.specs.Codes.{invalid_data_field}

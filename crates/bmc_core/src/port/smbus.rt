@@ -5,9 +5,9 @@ ghost use Rattle.mctp_net.specs.Places.{seen};
 ghost use Rattle.bmc_board.specs.State.{state_of};
 ghost use Rattle.bmc_core.specs.SmbusPort.{HearsPacket, HearsOurs, HearsMessage, HearsPldm, AreFramesOf, reply_message, pldm_asked, pldm_reply};
 
-use bmc_board::Board;
 use crate::out::{Done, Frames, Out, Reason};
 use crate::port::Port;
+use bmc_board::Board;
 use cfg_records::{Answered, Asked, Store};
 use mctp_net::{Envelope, Message, Packet, SomeData, Taken, read_packet, split};
 use pldm_base::{PldmBytes, PldmReply, PldmRequest, read_pldm, write_pldm_reply};

@@ -1,7 +1,7 @@
 //! Control requests and their replies.
 use super::bytes_of;
 use mctp_net::{
-    Assembler, Endpoint, EndpointId, Envelope, Message, SomeBytes, Taken, read_packet, split,
+    Assembler, Endpoint, EndpointId, Envelope, Message, SomeData, Taken, read_packet, split,
 };
 use std::test::Fail;
 
@@ -47,10 +47,12 @@ fn control_requests_have_their_replies(rt: HostRuntime) -> Result<(), Fail> {
 fn get_endpoint_id_is_answered_over_the_bus(rt: HostRuntime) -> Result<(), Fail> {
     let mut endpoint = Endpoint::new(EndpointId::new(0x0A).ok_or("an identifier")?);
     let mut assembler = Assembler::new(rt.alloc())?;
-    let packet = read_packet(bytes_of("20 0F 08 31 01 00 08 C8 00 80 02 50").as_slice())?;
-    let Taken::Whole(request) = assembler.take(endpoint.eid().byte(), &packet) else {
+    let frame = bytes_of("20 0F 08 31 01 00 08 C8 00 80 02 50");
+    let packet = read_packet(frame.as_slice())?;
+    if assembler.take(endpoint.eid().byte(), &packet) != Taken::Whole {
         return Err("no message".into());
-    };
+    }
+    let request = assembler.message(&packet);
     let reply = endpoint.control(request.body.as_slice()).ok_or("no reply")?;
     assert!(rt; !reply.is_empty());
     let Envelope {
@@ -69,7 +71,7 @@ fn get_endpoint_id_is_answered_over_the_bus(rt: HostRuntime) -> Result<(), Fail>
             tag_owner: false,
             tag,
         },
-        body: SomeBytes::from_slice(reply.as_slice()),
+        body: SomeData::new(reply.as_slice()),
     });
     let [frame] = frames.as_slice() else {
         return Err("other than one frame".into());

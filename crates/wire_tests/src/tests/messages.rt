@@ -2,9 +2,8 @@
 ghost use Rattle.std.specs.Prelude.{◌≤◌};
 
 use super::bytes_of;
-use mctp_net::{
-    Assembler, DropCause, Envelope, Message, SomeBytes, Tag, Taken, read_packet, split,
-};
+use arrayvec::ArrayVec;
+use mctp_net::{Assembler, DropCause, Envelope, Message, SomeData, Tag, Taken, read_packet, split};
 use std::process::Abort;
 use std::test::Fail;
 use two_wire::{Address, Frame, pec};
@@ -39,10 +38,12 @@ type Turn = (u8, u8, u8, u8, Result<Option<usize>, DropCause>);
 fn go_on(rt: &impl Abort, assembler: &mut Assembler, turns: &[Turn]) -> Result<(), Fail> {
     for (destination, source, flags, length, comes) in turns {
         let frame = frame_of(*destination, *source, *flags, (*length).min(64));
-        let come = match assembler.take(0x0A, &read_packet(frame.as_slice())?) {
+        let packet = read_packet(frame.as_slice())?;
+        let come = match assembler.take(0x0A, &packet) {
             Taken::Waiting => Ok(None),
             Taken::Dropped(cause) => Err(cause),
-            Taken::Whole(message) => {
+            Taken::Whole => {
+                let message = assembler.message(&packet);
                 let body = message.body.as_slice();
                 assert!(rt; body.iter().all(|byte| *byte == *flags % 16));
                 Ok(Some(body.len()))
@@ -53,49 +54,67 @@ fn go_on(rt: &impl Abort, assembler: &mut Assembler, turns: &[Turn]) -> Result<(
     Ok(())
 }
 
-fn message(length: usize) -> Option<Message> {
+/// Bytes that tell their places apart.
+fn content() -> [u8; 256] {
     let mut bytes = [0u8; 256];
     for (place, byte) in bytes.iter_mut().enumerate() {
         *byte = (place % 251) as u8;
     }
-    let body = bytes.get(..length)?;
-    if body.is_empty() {
-        return None;
-    }
-    let envelope = Envelope {
+    bytes
+}
+
+/// From endpoint 08h at 30h to endpoint 0Ah at 20h, under tag 3 of the source's own.
+fn envelope() -> Option<Envelope> {
+    Some(Envelope {
         destination: Address::new(0x20)?,
         source: Address::new(0x30)?,
         destination_eid: 0x0A,
         source_eid: 8,
         tag_owner: true,
         tag: Tag::new(3),
-    };
-    Some(Message {
-        envelope,
-        body: SomeBytes::from_slice(body),
     })
+}
+
+/// The frames of the message of these bytes.
+fn frames_of(body: &[u8]) -> Option<ArrayVec<Frame, 4>> {
+    if body.is_empty() || body.len() > 256 {
+        return None;
+    }
+    Some(split(&Message {
+        envelope: envelope()?,
+        body: SomeData::new(body),
+    }))
 }
 
 #[test]
 fn messages_come_back(rt: HostRuntime) -> Result<(), Fail> {
     let mut assembler = Assembler::new(rt.alloc())?;
+    let bytes = content();
     for (length, packets) in [(1, 1), (64, 1), (65, 2), (255, 4), (256, 4)] {
-        let message = message(length).ok_or("the message")?;
-        let frames = split(&message);
+        let body = &bytes[..length];
+        let frames = frames_of(body).ok_or("the frames")?;
         assert_eq!(rt; frames.len(), packets);
-        let mut taken = Taken::Waiting;
-        for frame in frames.as_slice() {
-            assert_eq!(rt; taken, Taken::Waiting);
-            taken = assembler.take(0x0A, &read_packet(frame.as_slice())?);
+        for (place, frame) in frames.as_slice().iter().enumerate() {
+            let packet = read_packet(frame.as_slice())?;
+            let taken = assembler.take(0x0A, &packet);
+            if place + 1 < packets {
+                assert_eq!(rt; taken, Taken::Waiting);
+                continue;
+            }
+            let whole = taken == Taken::Whole;
+            assert!(rt; whole);
+            let message = assembler.message(&packet);
+            assert_eq!(rt; message.body.as_slice(), body);
+            let come = message.envelope;
+            assert_eq!(rt; Some(come), envelope());
         }
-        assert_eq!(rt; taken, Taken::Whole(message));
     }
     Ok(())
 }
 
 #[test]
 fn a_message_of_65_bytes_is_two_frames(rt: HostRuntime) -> Result<(), Fail> {
-    let frames = split(&message(65).ok_or("the message")?);
+    let frames = frames_of(&content()[..65]).ok_or("the frames")?;
     let [first, last] = frames.as_slice() else {
         return Err("other than two frames".into());
     };
@@ -116,6 +135,8 @@ fn a_ninth_assembly_has_no_slot(rt: HostRuntime) -> Result<(), Fail> {
     }
     let no_slot = Err(DropCause::NoSlot);
     go_on(&rt, &mut assembler, &[(0x0A, 16, 0x8B, 64, no_slot)])?;
+    // A message of one packet takes none.
+    go_on(&rt, &mut assembler, &[(0x0A, 16, 0xCB, 64, Ok(Some(64)))])?;
     for source in 8..16 {
         go_on(
             &rt,
