@@ -13,3 +13,4 @@ pub mod Resume
 pub mod TwoBuses
 pub mod Clean
 pub mod RecordsRun
+pub mod NumberedLaws

@@ -13,3 +13,4 @@ pub mod TwoBuses
 pub mod Example
 pub mod Clean
 pub mod RecordsRun
+pub mod Numbered
