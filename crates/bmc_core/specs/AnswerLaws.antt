@@ -9,7 +9,6 @@ use Rattle.cfg_records.specs.Records.{with_record}
 use Rattle.cfg_records.specs.Meaning.{Decides}
 use Rattle.cfg_records.specs.declared.op.Op.{Op}
 use Rattle.cfg_records.specs.declared.live.Live.{Live}
-use Rattle.cfg_records.specs.declared.message.Asked.{Asked}
 use Rattle.cfg_records.specs.declared.message.Answered.{Answered}
 use Rattle.cfg_records.specs.declared.board_file.BoardFile.{BoardFile}
 use Rattle.record_kinds.specs.declared.limits.Limits.{Limits}
@@ -19,8 +18,8 @@ use Rattle.bmc_core.specs.declared.request.Request.{Request}
 use Rattle.bmc_core.specs.declared.request.Request.TheVariants.{GetDeviceId, ResetWatchdog, Get, Set, GetTid, GetPldmTypes}
 use Rattle.bmc_core.specs.Request.{asked_by}
 use Rattle.bmc_core.specs.State.{State, state}
-use Rattle.bmc_core.specs.Row.{done, refused, Gets, Resets, Sets, Serves, Replies, Row}
-use Rattle.bmc_core.specs.Answer.{Given, get_answer, reset_answer, set_result, set_answer, serve, reply, answer_of, HasAnswer, HasOneAnswer}
+use Rattle.bmc_core.specs.Row.{done, refused, Gets, Resets, Sets, Serves, Replies}
+use Rattle.bmc_core.specs.Answer.{Given, get_answer, reset_answer, set_result, set_answer, serve, reply, HasAnswer, HasOneAnswer}
 
 -- two parts that are equal make equal pairs
 pair : (a b : Answered) (s t : State) → a ≡ b → s ≡ t → (let p : Given = (a, s) in p) ≡ (let q : Given = (b, t) in q)

@@ -4,7 +4,6 @@ use Rattle.record_kinds.specs.Limits.{sets}
 use Rattle.record_kinds.specs.Boards.{limits_at}
 use Rattle.record_kinds.specs.Sound.{sound_put, valid_at}
 use Rattle.cfg_records.specs.declared.key.Key.{Key}
-use Rattle.cfg_records.specs.Keys.{key_of}
 use Rattle.record_kinds.specs.Limits.{is_of}
 use Rattle.bmc_core.proofs.AnswerFacts.{limits_are_of}
 use Rattle.bmc_core.proofs.board.Board.set.Goals as goal
