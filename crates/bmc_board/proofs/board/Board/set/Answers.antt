@@ -1,7 +1,8 @@
-use Rattle.std.proofs.Common.{◌≡◌, List, ℕ, Option, Some, sym, ◌∙◌, subst}
+use Rattle.std.proofs.Common.{rules, ◌≡◌, List, ℕ, Option, Some, sym, ◌∙◌, subst}
+use Rattle.cfg_records.specs.Keys.{key_of}
 use Rattle.cfg_records.specs.Records.{Records, with_record}
 use Rattle.cfg_records.specs.declared.key.Key.{Key}
-use Rattle.record_kinds.specs.Limits.{is_of, sets}
+use Rattle.record_kinds.specs.Limits.{is_of, valid, sets}
 use Rattle.record_kinds.specs.Boards.{limits_at}
 use Rattle.record_kinds.specs.Sound.{IsSound, valid_at, sound_set}
 use Rattle.bmc_board.proofs.AnswerFacts.{limits_are_of}
@@ -14,7 +15,9 @@ apply-requires g c =
     let limits = c.in-Some-Some.limits in
     let at : limits_at file key ≡ Some limits = sym c.limits.ensures ∙ c.in-Some-Some.is-0 in
     let had : g.S.Store.records c.args.self.now.store key ≡ Some c.value.result.now = c.value.ensures key (sym c.find.ensures.place ∙ c.in-Some-Some.is-1) in
-    (subst (λ (k : Key). is_of limits k) c.key-key.ensures (limits_are_of file key limits at), valid_at _ _ limits c.value.result.now at had (c.args.self.now.sound key))
+    let of_record : is_of limits (key_of c.args.op.now) = subst (λ (k : Key). is_of limits k) c.key-key.ensures (limits_are_of file key limits at) in
+    let is_valid : valid limits c.value.result.now = valid_at _ _ limits c.value.result.now at had (c.args.self.now.sound key) in
+    search rules
 
 pub invariant_of-self-in-Some-Some : goal.invariant_of-self-in-Some-Some
 invariant_of-self-in-Some-Some g c =
