@@ -1,11 +1,11 @@
 -- A plan of numbered steps, and the plain manager's state seen as the machine.
-use Rattle.std.specs.Prelude.{◌≡◌, ℕ, zero, suc, ◌+◌, ◌<◌, ◌%◌, Bool, true, false, ◌==◌, ◌&&◌, List, [], ◌∷◌, Option, Some, None, if◌then◌else◌}
+use Rattle.std.specs.Prelude.{ℕ, zero, suc, ◌<◌, ◌%◌, Bool, true, false, ◌==◌, ◌&&◌, List, [], ◌∷◌, Option, Some, None, if◌then◌else◌}
 use Rattle.std.specs.Option.{option_map}
 use Rattle.two_wire.specs.declared.Bus.{Bus}
 use Rattle.two_wire.specs.declared.Bus.TheVariants.{Ipmb, Smbus}
 use Rattle.undo_model.specs.Family.{Answered, Family}
 use Rattle.undo_model.specs.Plan.{Why, Stop, Refused, NotRestorable, GetRefused}
-use Rattle.undo_model.specs.Machine.{Counts, count_of, Task, Gets, Sets, Undoes, Stage, AtStart, Opened, AtEnd, AtHalt, AtUndone, AtRefused, Machine, Sending, Turn, bus_at, reply_of}
+use Rattle.undo_model.specs.Machine.{Counts, count_of, Gets, Sets, Undoes, Stage, AtStart, Opened, AtEnd, AtHalt, AtUndone, AtRefused, Machine, Sending, Turn, bus_at, takes, reply_of}
 use Rattle.undo_model.specs.Wires.{number_of}
 use Rattle.undo_model.specs.World.{same_bus}
 use Rattle.undo_model.specs.declared.manager.Asked.{Asked}
@@ -146,3 +146,8 @@ is_to_open bus number counts _ = false
 -- the manager hears a reply: it takes none but to the open request
 abbrev pub heard_of : Bus → ℕ → Answered → Machine numbered → Option (Turn numbered)
 heard_of bus number a m = if is_to_open bus number m.counts m.stage then reply_of numbered a m else None
+
+-- the reply to the open request is taken, whether it is heeded or not
+abbrev pub taken_of : Answered → Stage numbered → Machine numbered → Option (Turn numbered)
+taken_of a (Opened heeded task) m = Some (takes numbered a task m)
+taken_of a _ m = None

@@ -1,9 +1,11 @@
 //! A plain, slow manager of a plan of numbered steps, whose contract is the machine.
 
-ghost use Rattle.std.specs.Prelude.{◌≡◌, ◌<◌, slice_get, true, Some};
+ghost use Rattle.std.specs.Prelude.{◌≡◌, ◌<◌, ◌+◌, ◌^◌, ◌&&◌, ◌==◌, slice_get, true, Some};
 ghost use Rattle.std.specs.Option.{option_map};
-ghost use Rattle.undo_model.specs.Machine.{count_of, sends_at, enters, first_stage, undo_stage, start_of, undo_of, stop_of, quiet_of, again_of, stage_after, undo_after, Gets, Sets, Undoes};
-ghost use Rattle.undo_model.specs.Numbered.{numbered, plan_from, backs, acknowledged, stage_of, machine, sending_of, turn_of, has_open, answer_of, Do, Reverse};
+ghost use Rattle.undo_model.specs.Machine.{count_of, one_answered, sends_at, enters, first_stage, undo_stage, start_of, undo_of, stop_of, quiet_of, again_of, stage_after, undo_after, Gets, Sets, Undoes};
+ghost use Rattle.undo_model.specs.Numbered.{numbered, plan_from, backs, acknowledged, stage_of, machine, sending_of, turn_of, has_open, answer_of, is_to_open, heard_of, taken_of, IsWithin, Do, Reverse};
+ghost use Rattle.undo_model.specs.Wires.{number_of};
+ghost use Rattle.undo_model.specs.World.{same_bus};
 ghost use Rattle.undo_model.specs.declared.manager.Asked.TheVariants.{Back};
 
 use two_wire::Bus;
@@ -308,5 +310,133 @@ impl Manager {
         } else {
             State::Undone { all }
         }
+    }
+
+    /// The manager once its open request was answered on the bus.
+    fn answered(self, bus: Bus) -> Manager
+        requires ipmb { self.ipmb + 1 < 2 ^ 16 }
+        requires smbus { self.smbus + 1 < 2 ^ 16 }
+        ensures counts { machine result ≡ record (machine self) { counts = one_answered bus (record { ipmb = self.ipmb; smbus = self.smbus }) } }
+        ensures steps { result.steps ≡ self.steps }
+        ensures state { result.state ≡ self.state }
+    {
+        match bus {
+            Bus::Ipmb => Manager {
+                ipmb: self.ipmb + 1,
+                ..self
+            },
+            Bus::Smbus => Manager {
+                smbus: self.smbus + 1,
+                ..self
+            },
+        }
+    }
+
+    /// Enters a state once a request was answered.
+    fn moved(self, asked: Asked, state: State) -> Move
+        requires ipmb { self.ipmb + 1 < 2 ^ 16 }
+        requires smbus { self.smbus + 1 < 2 ^ 16 }
+        ensures { turn_of result ≡ enters numbered (stage_of true state) (record (machine self) {
+          undo = backs (acknowledged self.steps state);
+          counts = one_answered (numbered.bus_of asked) (record { ipmb = self.ipmb; smbus = self.smbus });
+        }) }
+    {
+        let answered = self.answered(asked.bus());
+        let manager = Manager {
+            state,
+            heeded: true,
+            resent: 0,
+            ..answered
+        };
+        let sends = manager.request();
+        Move { manager, sends }
+    }
+
+    /// Takes the reply to the open request.
+    fn taken(self, code: u8, can_undo: bool) -> Option<Move>
+        requires ipmb { self.ipmb + 1 < 2 ^ 16 }
+        requires smbus { self.smbus + 1 < 2 ^ 16 }
+        requires within { IsWithin self.steps self.state }
+        ensures { option_map turn_of result ≡ taken_of (answer_of code can_undo) (stage_of self.heeded self.state) (machine self) }
+    {
+        match self.state {
+            State::Getting(step) => {
+                let state = self.after_get(step, code, can_undo);
+                Some(self.moved(Asked::Get(step), state))
+            }
+            State::Setting(step) => {
+                let state = self.after_set(step, code, can_undo);
+                Some(self.moved(Asked::Set(step), state))
+            }
+            State::Undoing { step, all } => {
+                let state = self.after_undo(step, all, code, can_undo);
+                Some(self.moved(Asked::Back(step), state))
+            }
+            _ => None,
+        }
+    }
+
+    /// Whether a reply on the bus, under the number, is one to this request.
+    fn is_for(self, asked: Asked, bus: Bus, number: u8) -> bool
+        ensures { result ≡ (same_bus bus (numbered.bus_of asked) && (number == number_of (numbered.bus_of asked) (count_of (numbered.bus_of asked) (record { ipmb = self.ipmb; smbus = self.smbus })))) }
+    {
+        let own = asked.bus();
+        is_same_bus(bus, own) && number == number_on(own, self.count(own))
+    }
+
+    /// Whether it is one to the open request.
+    fn is_reply(self, bus: Bus, number: u8) -> bool
+        ensures { result ≡ is_to_open bus number (record { ipmb = self.ipmb; smbus = self.smbus }) (stage_of self.heeded self.state) }
+    {
+        match self.state {
+            State::Getting(step) => self.is_for(Asked::Get(step), bus, number),
+            State::Setting(step) => self.is_for(Asked::Set(step), bus, number),
+            State::Undoing { step, .. } => self.is_for(Asked::Back(step), bus, number),
+            _ => false,
+        }
+    }
+
+    /// Hears a reply on a bus, under a number. None: it isn't one to the open request, or that isn't heeded, or the controller is
+    /// busy.
+    #[tactic(auto, using(crate::proofs::NumberedLaws::heeded_takes))]
+    pub fn hear(self, bus: Bus, number: u8, code: u8, can_undo: bool) -> Option<Move>
+        requires ipmb { self.ipmb + 1 < 2 ^ 16 }
+        requires smbus { self.smbus + 1 < 2 ^ 16 }
+        requires within { IsWithin self.steps self.state }
+        ensures { option_map turn_of result ≡ heard_of bus number (answer_of code can_undo) (machine self) }
+    {
+        if !self.is_reply(bus, number) {
+            return None;
+        }
+        if !self.heeded || code == 0xC0 || code == 0x04 {
+            return None;
+        }
+        self.taken(code, can_undo)
+    }
+}
+
+/// Whether the two are the same bus.
+fn is_same_bus(one: Bus, other: Bus) -> bool
+    ensures { result ≡ same_bus one other }
+{
+    match one {
+        Bus::Ipmb => match other {
+            Bus::Ipmb => true,
+            Bus::Smbus => false,
+        },
+        Bus::Smbus => match other {
+            Bus::Ipmb => false,
+            Bus::Smbus => true,
+        },
+    }
+}
+
+/// The number of a count: a sequence number, or an instance.
+fn number_on(bus: Bus, count: u16) -> u8
+    ensures { result ≡ number_of bus count }
+{
+    match bus {
+        Bus::Ipmb => (count % 64) as u8,
+        Bus::Smbus => (count % 32) as u8,
     }
 }
