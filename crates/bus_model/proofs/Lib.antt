@@ -16,6 +16,9 @@ pub mod PacketSteps
 pub mod PacketEnds
 pub mod PacketLaws
 pub mod Resume
+pub mod CleanLink
+pub mod Slots
+pub mod Answering
 pub mod Cutting
 pub mod Decides
 pub mod PacketDecides

@@ -64,7 +64,7 @@ abbrev pub is_packet_honest : Bool → PacketBus → Ends → PacketEvent → Bo
 is_packet_honest any b x (Plain e) = is_plain e && is_honest (rules_of b) x.bus e
 is_packet_honest any b x (PacketReachesPort which place answer) = port_test any b x place (slice_get x.bus.frames which)
 is_packet_honest any b x (PacketReachesManager which place) = live_if (rules_of b) x.bus (slice_get x.bus.frames which)
-is_packet_honest any b x (OtherPacket name packet number answer) = not (name.source == b.manager)
+is_packet_honest any b x (OtherPacket name packet answer) = not (name.source == b.manager)
 is_packet_honest any b x (OtherReplyPacket name packet number) = not (name.source == b.controller)
 is_packet_honest any b x (Closes name) = true
 is_packet_honest any b x Clears = true
@@ -121,7 +121,7 @@ is_packet_honest-tells : (any : Bool) (b : PacketBus) (x : Ends) (e : PacketEven
 is_packet_honest-tells any b x (Plain e) t = let parts = and_parts _ _ t in (is_plain-tells e parts.0, is_honest-tells (rules_of b) x.bus e parts.1)
 is_packet_honest-tells any b x (PacketReachesPort which place answer) t = port_test-tells any b x place (slice_get x.bus.frames which) t
 is_packet_honest-tells any b x (PacketReachesManager which place) t = live_if-tells (rules_of b) x.bus (slice_get x.bus.frames which) t
-is_packet_honest-tells any b x (OtherPacket name packet number answer) t = eqb-false _ _ (not-true _ t)
+is_packet_honest-tells any b x (OtherPacket name packet answer) t = eqb-false _ _ (not-true _ t)
 is_packet_honest-tells any b x (OtherReplyPacket name packet number) t = eqb-false _ _ (not-true _ t)
 is_packet_honest-tells any b x (Closes name) t = tt
 is_packet_honest-tells any b x Clears t = tt

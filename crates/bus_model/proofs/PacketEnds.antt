@@ -3,7 +3,7 @@ use Rattle.std.proofs.Common.{◌≡◌, ℕ, ◌+◌, ◌<◌, ◌≤◌, Bool,
 use Rattle.std.specs.Prelude.{slice_get, IfSome}
 use Rattle.std.proofs.lemmas.Bool.{cond_both, cases_Bool, and_parts, eqb-true, ltb-true}
 use Rattle.std.proofs.lemmas.Option.{slice_get_within}
-use Rattle.bus_model.specs.Request.{Entry}
+use Rattle.bus_model.specs.Request.{Request, Entry}
 use Rattle.bus_model.specs.Numbering.{Bus, tag_of}
 use Rattle.bus_model.specs.BusState.{BusState, Frame, Content, Ask, Reply, Event, Begins, SendsAgain, ReachesPort, ReachesManager, OtherAsks, OtherReplies, IsIdle, Resumes, is_open, begins, sends_again, request_of, hears, taken_content, takes_if, happens}
 use Rattle.bus_model.specs.Schedule.{IsLive, IsHonest}
@@ -12,13 +12,13 @@ use Rattle.bus_model.specs.Effect.{SameRequests}
 use Rattle.bus_model.specs.Repeat.{In}
 use Rattle.bus_model.specs.Packet.{Packet, IsCutting}
 use Rattle.bus_model.specs.Assembly.{Name, Sent, Step, Waits, Whole, Drops, IsWhole, takes, waiting, message_of}
-use Rattle.bus_model.specs.PacketBus.{PacketBus, rules_of, request_name, reply_name, Ends, PacketEvent, Plain, PacketReachesPort, PacketReachesManager, OtherPacket, OtherReplyPacket, Closes, Clears, PacketResumes, set_at, is_awaited, whole_comes, whole_returns, whole_other, port_takes, manager_takes, packet_comes, packet_returns, packet_at_port, packet_at_manager, packet_happens, packet_run}
+use Rattle.bus_model.specs.PacketBus.{PacketBus, rules_of, request_name, reply_name, Ends, PacketEvent, Plain, PacketReachesPort, PacketReachesManager, OtherPacket, OtherReplyPacket, Closes, Clears, PacketResumes, set_at, is_awaited, whole_comes, whole_returns, other_request, hears_other, port_takes, manager_takes, packet_comes, packet_returns, packet_at_port, packet_at_manager, packet_happens, packet_run}
 use Rattle.bus_model.specs.PacketSchedule.{RecentWhereWhole, PacketMayJoin, JoinsAtPort, IsPlain, IsPacketHonest, AllPacketHonest}
 use Rattle.bus_model.specs.PacketEffect.{step_of, whole_request, whole_reply, completed_request, completed_reply, PortEffect, ManagerEffect, FrameAtPort, FrameAtManager, HasPacketEffect}
 use Rattle.bus_model.proofs.Lists.{length_more}
 use Rattle.bus_model.proofs.NumberLaws.{smbus_numbers}
 use Rattle.bus_model.proofs.Sound.{Fits}
-use Rattle.bus_model.proofs.Strangers.{ignored, packet_ignored}
+use Rattle.bus_model.proofs.Strangers.{ignored, packet_ignored, not_of}
 use Rattle.bus_model.proofs.Steps.{Holds, start_holds, happens_holds, comes_holds, returns_holds}
 use Rattle.bus_model.proofs.Effects.{comes_effect, returns_effect, has_effect}
 use Rattle.bus_model.proofs.BusGrows.{BusGrows, stays, comes_grow, takes_grow, happens_grows, begun_at, kept_at, reply_at, reply_within, kept_within}
@@ -148,14 +148,11 @@ module _ (b : PacketBus) (cutting : IsCutting b.split) (before : List Entry) whe
         longer = none.1;
       }
 
-  whole_other_keeps : (s : BusState) (h : Holds rules s) → LogShows rules before s → (name : Name) (number : ℕ) (answer : List ℕ) (st : Step) → (name.source ≡ b.manager → ⊥)
-      → Keeps s (whole_other rules name number answer st s) × SameRequests s (whole_other rules name number answer st s)
-  whole_other_keeps s h shows name number answer Waits other = (keeps_still s h shows, same_requests s)
-  whole_other_keeps s h shows name number answer Drops other = (keeps_still s h shows, same_requests s)
-  whole_other_keeps s h shows name number answer (Whole ss) other =
-      let e = OtherAsks (record { requester = name.source; number = number; bytes = message_of ss }) answer in
-      cond_both name.owner (happens rules s e) s (λ new. Keeps s new × SameRequests s new)
-      (λ _. (plain_keeps s h shows e tt other, has_effect rules (smbus_numbers b.manager b.controller b.first) s e h other)) (λ _. (keeps_still s h shows, same_requests s))
+  other_keeps : (s : BusState) (h : Holds rules s) → LogShows rules before s → (answer : List ℕ) (asked : Option Request) → IfSome asked (λ r. r.requester ≡ b.manager → ⊥)
+      → Keeps s (hears_other rules answer asked s) × SameRequests s (hears_other rules answer asked s)
+  other_keeps s h shows answer None other = (keeps_still s h shows, same_requests s)
+  other_keeps s h shows answer (Some r) other =
+      (plain_keeps s h shows (OtherAsks r answer) tt other, has_effect rules (smbus_numbers b.manager b.controller b.first) s (OtherAsks r answer) h other)
 
   -- a packet reaches the port
   port_step : (x : Ends) → EndsHold x → (answer : List ℕ) (n idles : ℕ) (bytes : List ℕ) (place : ℕ) (o : Option Packet) → slice_get (b.split bytes) place ≡ o → (h : Holds rules x.bus) → h.floor ≤ n → length x.bus.begun ≤ n + 8 → slice_get x.bus.begun n ≡ Some bytes
@@ -289,12 +286,12 @@ module _ (b : PacketBus) (cutting : IsCutting b.split) (before : List Entry) whe
   frame_at_manager x ok which place None e live = (ok, same_requests x.bus)
   frame_at_manager x ok which place (Some f) e live = reply_step x ok place f.request f.idles f.content live.0 (ok.holds.sound.frames which f e).fits
 
-  other_step : (x : Ends) → EndsHold x → (name : Name) (packet : Packet) (number : ℕ) (answer : List ℕ) → (name.source ≡ b.manager → ⊥)
-      → EndsHold (packet_happens b x (OtherPacket name packet number answer)) × SameRequests x.bus (packet_happens b x (OtherPacket name packet number answer)).bus
-  other_step x ok name packet number answer other =
+  other_step : (x : Ends) → EndsHold x → (name : Name) (packet : Packet) (answer : List ℕ) → (name.source ≡ b.manager → ⊥)
+      → EndsHold (packet_happens b x (OtherPacket name packet answer)) × SameRequests x.bus (packet_happens b x (OtherPacket name packet answer)).bus
+  other_step x ok name packet answer other =
       let r = takes (x.port name) (record { request = 0; idles = 0; packet = packet }) in
-      let new = whole_other rules name number answer r.0 x.bus in
-      let w = whole_other_keeps x.bus ok.holds ok.shows name number answer r.0 other in (
+      let new = hears_other rules answer (other_request name r.0) x.bus in
+      let w = other_keeps x.bus ok.holds ok.shows answer (other_request name r.0) (not_of b.manager name r.0 other) in (
         after_step x ok new (set_at name r.1 x.port) w.0
             (at_other b.manager true (λ tag taken. IsAssembly b.first b.split cutting (begun_at new) tag taken) name r.1 x.port other (port_grows x.bus new w.0.grows x.port ok.port)),
         w.1,
@@ -318,7 +315,7 @@ module _ (b : PacketBus) (cutting : IsCutting b.split) (before : List Entry) whe
       (after_step x ok new x.port w (port_grows x.bus new w.grows x.port ok.port), has_effect rules (smbus_numbers b.manager b.controller b.first) x.bus e ok.holds honest.1)
   packet_step x (PacketReachesPort which place answer) ok honest = frame_at_port x ok which place answer _ refl honest
   packet_step x (PacketReachesManager which place) ok honest = frame_at_manager x ok which place _ refl honest
-  packet_step x (OtherPacket name packet number answer) ok honest = other_step x ok name packet number answer honest
+  packet_step x (OtherPacket name packet answer) ok honest = other_step x ok name packet answer honest
   packet_step x (OtherReplyPacket name packet number) ok honest =
       subst (λ (y : Ends). EndsHold y × SameRequests x.bus y.bus) (sym (packet_ignored b x name packet number honest)) (ok, same_requests x.bus)
   packet_step x (Closes name) ok honest = (

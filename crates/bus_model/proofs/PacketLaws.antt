@@ -51,7 +51,7 @@ module _ (rule : JoinRule) (asks : AsksNoLess rule) (b : PacketBus) where
   event_implies x (Plain e) honest = honest
   event_implies x (PacketReachesPort which place answer) honest = frame_implies x place (slice_get x.bus.frames which) honest
   event_implies x (PacketReachesManager which place) honest = honest
-  event_implies x (OtherPacket name packet number answer) honest = honest
+  event_implies x (OtherPacket name packet answer) honest = honest
   event_implies x (OtherReplyPacket name packet number) honest = honest
   event_implies x (Closes name) honest = honest
   event_implies x Clears honest = honest

@@ -17,7 +17,7 @@ abbrev pub has : ℕ → List ℕ → Bool
 has q qs = list_any (λ p. p == q) qs
 
 -- filtering another out leaves it, filtering it out takes it away
-filter_other : (q p : ℕ) (qs : List ℕ) → (p ≡ q → ⊥) → has q (filter (λ x. not (x == p)) qs) ≡ has q qs
+pub filter_other : (q p : ℕ) (qs : List ℕ) → (p ≡ q → ⊥) → has q (filter (λ x. not (x == p)) qs) ≡ has q qs
 filter_other q p [] other = refl
 filter_other q p (x ∷ xs) other =
     elim (cases_eq x p) [

@@ -1,24 +1,22 @@
 -- A manager that goes on from the number which comes next does what the bus says of it.
-use Rattle.std.proofs.Common.{◌≡◌, ℕ, zero, suc, ◌+◌, ◌-◌, ◌%◌, ◌≤◌, Bool, false, ◌&&◌, eqb, ltb, cond, List, [], ◌∷◌, ◌++◌, length, drop, Option, Some, None, refl, sym, ◌∙◌, ap, subst, arith, inl, inr}
+use Rattle.std.proofs.Common.{◌≡◌, ℕ, zero, suc, ◌+◌, ◌-◌, ◌≤◌, Bool, false, ◌&&◌, eqb, ltb, cond, List, [], ◌∷◌, length, drop, Option, Some, None, refl, sym, ◌∙◌, ap, arith, inl, inr}
 use Rattle.std.specs.Prelude.{slice_get}
 use Rattle.std.proofs.lemmas.Bool.{lt-ltb, le-ltb, ltb-false, cases_lt, cond_both}
 use Rattle.std.proofs.lemmas.List.{length-drop}
-use Rattle.bus_model.specs.Request.{Kept, Entry}
+use Rattle.bus_model.specs.Request.{Request}
 use Rattle.bus_model.specs.Numbering.{Bus, ipmb, smbus, tag_of}
 use Rattle.bus_model.specs.BusState.{BusState, Frame, Content, Ask, Reply, Event, Begins, SendsAgain, ReachesPort, ReachesManager, OtherAsks, OtherReplies, IsIdle, Resumes, is_open, begins, sends_again, comes, at_port, taken_content, taken_now, taken_from, takes_if, happens, run}
-use Rattle.bus_model.specs.Schedule.{AllHonest}
-use Rattle.bus_model.specs.Start.{NothingUnderWay, EmptyWindow, NothingWaits}
 use Rattle.bus_model.specs.Repeat.{In}
-use Rattle.bus_model.specs.Packet.{Packet, IsCutting}
-use Rattle.bus_model.specs.Assembly.{Name, is_name, Sent, Step, Waits, Whole, Drops, takes, message_of}
-use Rattle.bus_model.specs.PacketBus.{PacketBus, rules_of, request_name, reply_name, Ends, PacketEvent, Plain, PacketReachesPort, PacketReachesManager, OtherPacket, OtherReplyPacket, Closes, Clears, PacketResumes, set_at, is_awaited, whole_comes, whole_returns, whole_other, port_takes, manager_takes, packet_comes, packet_returns, packet_at_port, packet_at_manager, packet_happens, packet_run}
-use Rattle.bus_model.specs.PacketSchedule.{JoinRule, AllPacketHonest}
+use Rattle.bus_model.specs.Packet.{Packet}
+use Rattle.bus_model.specs.Assembly.{is_name, Sent, Step, Waits, Whole, Drops, takes, message_of}
+use Rattle.bus_model.specs.PacketBus.{PacketBus, rules_of, request_name, reply_name, Ends, PacketEvent, Plain, PacketReachesPort, PacketReachesManager, OtherPacket, OtherReplyPacket, Closes, Clears, PacketResumes, set_at, is_awaited, whole_comes, whole_returns, other_request, hears_other, port_takes, manager_takes, packet_comes, packet_returns, packet_at_port, packet_at_manager, packet_happens, packet_run}
+use Rattle.bus_model.specs.PacketSchedule.{JoinRule}
 use Rattle.bus_model.specs.Resume.{known_since, ActsAs, GoesOn, GoesOnInPackets, TagsGoOn, NothingWaitsWhereClosed}
 use Rattle.bus_model.proofs.Lists.{length_more}
 use Rattle.bus_model.proofs.NumberLaws.{IsNumbering, ipmb_numbers, smbus_numbers}
 use Rattle.bus_model.proofs.Steps.{Holds, start_holds, run_holds}
 use Rattle.bus_model.proofs.WholeMessages.{honest_prefix, honest_rest}
-use Rattle.bus_model.proofs.PacketEnds.{EndsHold, packet_run_holds, start_ends_hold}
+use Rattle.bus_model.proofs.PacketEnds.{packet_run_holds, start_ends_hold}
 use Rattle.bus_model.proofs.PacketLaws.{AsksNoLess, all_imply, packet_prefix, packet_rest}
 
 -- what stands past the first few
@@ -183,18 +181,15 @@ module _ (b : PacketBus) where
   packet_at_manager_longer place None x = stays_long x.bus
   packet_at_manager_longer place (Some f) x = packet_returns_longer place f.request f.idles f.content x
 
-  whole_other_longer : (name : Name) (number : ℕ) (answer : List ℕ) (st : Step) (s : BusState) → Longer s (whole_other rules name number answer st s)
-  whole_other_longer name number answer Waits s = stays_long s
-  whole_other_longer name number answer Drops s = stays_long s
-  whole_other_longer name number answer (Whole ss) s =
-      let e : Event = OtherAsks (record { requester = name.source; number = number; bytes = message_of ss }) answer in
-      cond_both name.owner (happens rules s e) s (Longer s) (λ _. stays_long s) (λ _. stays_long s)
+  other_longer : (answer : List ℕ) (asked : Option Request) (s : BusState) → Longer s (hears_other rules answer asked s)
+  other_longer answer None s = stays_long s
+  other_longer answer (Some r) s = stays_long s
 
   packet_longer : (x : Ends) (e : PacketEvent) → Longer x.bus (packet_happens b x e).bus
   packet_longer x (Plain e) = happens_longer rules x.bus e
   packet_longer x (PacketReachesPort which place answer) = packet_at_port_longer answer place (slice_get x.bus.frames which) x
   packet_longer x (PacketReachesManager which place) = packet_at_manager_longer place (slice_get x.bus.frames which) x
-  packet_longer x (OtherPacket name packet number answer) = whole_other_longer name number answer (takes (x.port name) (record { request = 0; idles = 0; packet = packet })).0 x.bus
+  packet_longer x (OtherPacket name packet answer) = other_longer answer (other_request name (takes (x.port name) (record { request = 0; idles = 0; packet = packet })).0) x.bus
   packet_longer x (OtherReplyPacket name packet number) =
       let n = length x.bus.taken in
       cond_both (is_open x.bus && is_name name (reply_name b n)) (manager_takes b number n 0 (Some packet) x) x (λ (y : Ends). Longer x.bus y.bus)

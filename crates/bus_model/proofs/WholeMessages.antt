@@ -3,7 +3,7 @@ use Rattle.std.proofs.Common.{refl, ℕ, ◌++◌, List, [], ◌∷◌}
 use Rattle.std.proofs.lemmas.Bool.{or_parts}
 use Rattle.bus_model.specs.Request.{Entry}
 use Rattle.bus_model.specs.Numbering.{Bus, ipmb, smbus}
-use Rattle.bus_model.specs.BusState.{BusState, Event, opening, is_open, happens, run}
+use Rattle.bus_model.specs.BusState.{BusState, Event, is_open, happens, run}
 use Rattle.bus_model.specs.Schedule.{AllHonest, NoneOpenIsHonest}
 use Rattle.bus_model.specs.AtMostOnce.{AtMostOnce, AlwaysAtMostOnce}
 use Rattle.bus_model.specs.Effect.{EventsHaveEffects}

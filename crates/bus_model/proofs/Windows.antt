@@ -7,7 +7,7 @@ use Rattle.bus_model.specs.Request.{Kept, Entry, carried_since}
 use Rattle.bus_model.specs.Carried.{kept_for, requesters, is_busy, outcome_of, log_after, HeardRequest, HeardIdle}
 use Rattle.bus_model.specs.Repeat.{EightSuffice}
 
-fewer : (p : ℕ) (qs : List ℕ) → length (filter (λ q. not (q == p)) qs) ≤ length qs
+pub fewer : (p : ℕ) (qs : List ℕ) → length (filter (λ q. not (q == p)) qs) ≤ length qs
 fewer p [] = omega arith
 fewer p (x ∷ xs) =
     let rest = fewer p xs in

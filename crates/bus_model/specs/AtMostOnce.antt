@@ -1,5 +1,5 @@
 -- What holds of a bus: every request of the manager is carried out at most once, in the order begun.
-use Rattle.std.specs.Prelude.{◌≡◌, ℕ, ◌+◌, ◌≤◌, List, [], ◌++◌, length, Some, slice_get}
+use Rattle.std.specs.Prelude.{◌≡◌, ℕ, ◌+◌, ◌≤◌, List, ◌++◌, length, Some, slice_get}
 use Rattle.bus_model.specs.Request.{Kept, Entry, carried_by}
 use Rattle.bus_model.specs.Numbering.{Bus}
 use Rattle.bus_model.specs.BusState.{BusState, Event, request_of, run}

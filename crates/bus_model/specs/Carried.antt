@@ -18,9 +18,13 @@ requesters [] = []
 requesters (Carried k ∷ log) = if list_any (λ q. q == k.request.requester) (requesters log) then requesters log else k.request.requester ∷ requesters log
 requesters (Idled p ∷ log) = filter (λ q. not (q == p)) (requesters log)
 
--- a ninth window would be needed: it isn't one of them, and they are eight
+-- a requester has no window among these, and they are eight or more
+abbrev pub has_no_slot : ℕ → List ℕ → Bool
+has_no_slot q slots = not (list_any (λ p. p == q) slots) && nat_le 8 (length slots)
+
+-- a ninth window would be needed
 abbrev pub is_busy : ℕ → List Entry → Bool
-is_busy q log = not (list_any (λ p. p == q) (requesters log)) && nat_le 8 (length (requesters log))
+is_busy q log = has_no_slot q (requesters log)
 
 -- what a port does with a request
 pub data Outcome : Type 0 where

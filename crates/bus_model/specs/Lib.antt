@@ -14,6 +14,10 @@ pub mod PacketBus
 pub mod PacketSchedule
 pub mod PacketEffect
 pub mod Resume
+pub mod CleanLink
+pub mod Slots
+pub mod Bytes
+pub mod Answering
 pub mod Example
 pub mod PacketExample
 pub mod Circle

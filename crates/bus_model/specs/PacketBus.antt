@@ -1,8 +1,9 @@
 -- A bus on which messages go in packets, with the assemblies at both ends, and what an event does to it.
 use Rattle.std.specs.Prelude.{ℕ, Bool, true, false, ◌==◌, ◌&&◌, length, List, [], ◌∷◌, Option, Some, None, if◌then◌else◌, slice_get}
-use Rattle.bus_model.specs.Request.{Entry}
+use Rattle.bus_model.specs.Request.{Request, Entry}
 use Rattle.bus_model.specs.Numbering.{Bus, smbus, tag_of}
 use Rattle.bus_model.specs.BusState.{BusState, Frame, Content, Ask, Reply, Event, OtherAsks, Resumes, opening, is_open, request_of, hears, taken_content, takes_if, happens}
+use Rattle.bus_model.specs.Bytes.{request_in}
 use Rattle.bus_model.specs.Packet.{Packet}
 use Rattle.bus_model.specs.Assembly.{Name, is_name, Sent, Step, Waits, Whole, Drops, takes, first_request, message_of}
 
@@ -39,8 +40,8 @@ pub data PacketEvent : Type 0 where
   PacketReachesPort : (which place : ℕ) (answer : List ℕ) → PacketEvent
   -- packet `place` of frame `which` reaches the manager
   PacketReachesManager : (which place : ℕ) → PacketEvent
-  -- somebody else's packet reaches the port; `number` is the instance that a message which it completes has
-  OtherPacket : (name : Name) (packet : Packet) (number : ℕ) (answer : List ℕ) → PacketEvent
+  -- somebody else's packet reaches the port, where the board would answer this if it completes a request
+  OtherPacket : (name : Name) (packet : Packet) (answer : List ℕ) → PacketEvent
   -- somebody else's packet reaches the manager; `number` is the instance that a reply which it completes has
   OtherReplyPacket : (name : Name) (packet : Packet) (number : ℕ) → PacketEvent
   -- the port closes an assembly, as where it has no slot for a start of that name
@@ -67,14 +68,16 @@ whole_returns b number Waits s = s
 whole_returns b number Drops s = s
 whole_returns b number (Whole ss) s = takes_if (taken_content b (Reply number (Some (message_of ss))) s) s
 
--- another's whole message is a request only with its tag owner bit set
-abbrev pub whole_other : Bus → Name → ℕ → List ℕ → Step → BusState → BusState
-whole_other b name number answer Waits s = s
-whole_other b name number answer Drops s = s
-whole_other b name number answer (Whole ss) s =
-    if name.owner
-    then happens b s (OtherAsks (record { requester = name.source; number = number; bytes = message_of ss }) answer)
-    else s
+-- the request that another's packet completes: a whole message under a tag of its source's own, if that is a request
+abbrev pub other_request : Name → Step → Option Request
+other_request name Waits = None
+other_request name Drops = None
+other_request name (Whole ss) = if name.owner then request_in name.source (message_of ss) else None
+
+-- the port hears a request of another, if there is one; control messages, other types and malformed requests take no window
+abbrev pub hears_other : Bus → List ℕ → Option Request → BusState → BusState
+hears_other b answer None s = s
+hears_other b answer (Some r) s = happens b s (OtherAsks r answer)
 
 -- the port takes a packet of request n, if there is such a packet
 abbrev pub port_takes : PacketBus → List ℕ → ℕ → ℕ → Option Packet → Ends → Ends
@@ -95,10 +98,10 @@ manager_takes b number n idles (Some p) x =
     record x { bus = whole_returns (rules_of b) number r.0 x.bus; manager = set_at (reply_name b n) r.1 x.manager }
 
 -- the port takes a packet of another requester
-abbrev pub other_takes : PacketBus → Name → Packet → ℕ → List ℕ → Ends → Ends
-other_takes b name p number answer x =
+abbrev pub other_takes : PacketBus → Name → Packet → List ℕ → Ends → Ends
+other_takes b name p answer x =
     let r = takes (x.port name) (record { request = 0; idles = 0; packet = p }) in
-    record x { bus = whole_other (rules_of b) name number answer r.0 x.bus; port = set_at name r.1 x.port }
+    record x { bus = hears_other (rules_of b) answer (other_request name r.0) x.bus; port = set_at name r.1 x.port }
 
 -- the manager takes a packet of another only under the open request's reply's name
 abbrev pub other_returns : PacketBus → Name → Packet → ℕ → Ends → Ends
@@ -133,7 +136,7 @@ abbrev pub packet_happens : PacketBus → Ends → PacketEvent → Ends
 packet_happens b x (Plain e) = record x { bus = happens (rules_of b) x.bus e }
 packet_happens b x (PacketReachesPort which place answer) = packet_at_port b answer place (slice_get x.bus.frames which) x
 packet_happens b x (PacketReachesManager which place) = packet_at_manager b place (slice_get x.bus.frames which) x
-packet_happens b x (OtherPacket name packet number answer) = other_takes b name packet number answer x
+packet_happens b x (OtherPacket name packet answer) = other_takes b name packet answer x
 packet_happens b x (OtherReplyPacket name packet number) = other_returns b name packet number x
 packet_happens b x (Closes name) = record x { port = set_at name [] x.port }
 packet_happens b x Clears = record x { manager = λ name. [] }

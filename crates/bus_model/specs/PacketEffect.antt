@@ -3,11 +3,11 @@ use Rattle.std.specs.Prelude.{◌≡◌, List, [], ◌∷◌, ◌++◌, ℕ, Opt
 use Rattle.bus_model.specs.Request.{Request}
 use Rattle.bus_model.specs.Carried.{outcome}
 use Rattle.bus_model.specs.Numbering.{Bus}
-use Rattle.bus_model.specs.BusState.{BusState, Frame, Content, Ask, Reply, request_of, new_bytes, taken_content}
+use Rattle.bus_model.specs.BusState.{BusState, Frame, Content, Ask, Reply, OtherAsks, request_of, new_bytes, taken_content, happens}
 use Rattle.bus_model.specs.Effect.{SameRequests, IsCarried, IsTaken, HasEffect}
 use Rattle.bus_model.specs.Packet.{Packet, IsCutting}
 use Rattle.bus_model.specs.Assembly.{Name, Sent, Step, Waits, Whole, Drops, takes, first_request, message_of}
-use Rattle.bus_model.specs.PacketBus.{PacketBus, rules_of, request_name, reply_name, is_awaited, Ends, PacketEvent, Plain, PacketReachesPort, PacketReachesManager, OtherPacket, OtherReplyPacket, Closes, Clears, PacketResumes, packet_happens, packet_run}
+use Rattle.bus_model.specs.PacketBus.{PacketBus, rules_of, request_name, reply_name, is_awaited, other_request, Ends, PacketEvent, Plain, PacketReachesPort, PacketReachesManager, OtherPacket, OtherReplyPacket, Closes, Clears, PacketResumes, packet_happens, packet_run}
 use Rattle.bus_model.specs.Start.{NothingUnderWay, NothingWaits, EmptyWindow}
 use Rattle.bus_model.specs.PacketSchedule.{JoinRule, AllPacketHonest}
 
@@ -86,11 +86,20 @@ HasPacketEffect b x (PacketReachesPort which place answer) =
     FrameAtPort b x place answer (packet_happens b x (PacketReachesPort which place answer)).bus (slice_get x.bus.frames which)
 HasPacketEffect b x (PacketReachesManager which place) =
     FrameAtManager b x place (packet_happens b x (PacketReachesManager which place)).bus (slice_get x.bus.frames which)
-HasPacketEffect b x (OtherPacket name packet number answer) = SameRequests x.bus (packet_happens b x (OtherPacket name packet number answer)).bus
+HasPacketEffect b x (OtherPacket name packet answer) = SameRequests x.bus (packet_happens b x (OtherPacket name packet answer)).bus
 HasPacketEffect b x (OtherReplyPacket name packet number) = SameRequests x.bus (packet_happens b x (OtherReplyPacket name packet number)).bus
 HasPacketEffect b x (Closes name) = SameRequests x.bus (packet_happens b x (Closes name)).bus
 HasPacketEffect b x Clears = SameRequests x.bus (packet_happens b x Clears).bus
 HasPacketEffect b x PacketResumes = SameRequests x.bus (packet_happens b x PacketResumes).bus
+
+-- Another's packet that completes no request leaves the bus as it is, its log too: one that waits or is dropped, and one that ends
+-- a control message, a message of another type, a malformed request or a reply. One that completes a request is that
+-- requester's asking.
+abbrev pub OthersAsk : Type 0
+OthersAsk = (b : PacketBus) (x : Ends) (name : Name) (packet : Packet) (answer : List ℕ)
+    → let new = (packet_happens b x (OtherPacket name packet answer)).bus in
+    MatchOption (other_request name (takes (x.port name) (record { request = 0; idles = 0; packet = packet })).0) (new ≡ x.bus)
+    (λ r. (r.requester ≡ name.source) × (new ≡ happens (rules_of b) x.bus (OtherAsks r answer)))
 
 -- of every event of every honest schedule of packets, by the rule, from a start
 abbrev pub EventsHavePacketEffects : JoinRule → Type 0

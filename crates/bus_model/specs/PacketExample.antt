@@ -31,7 +31,7 @@ packet_rounds (suc n) frame = Plain (Begins (long n)) ∷ both_reach_port frame 
 
 -- a start of another requester under the same tag, which is an assembly of its own
 abbrev pub other_start : PacketEvent
-other_start = OtherPacket (record { source = 5; owner = true; tag = 4 }) (record { first = true; last = false; sequence = 0; payload = replicate 64 5 }) 0 []
+other_start = OtherPacket (record { source = 5; owner = true; tag = 4 }) (record { first = true; last = false; sequence = 0; payload = replicate 64 5 }) []
 
 -- a reply of another to the manager, under the second request's tag and number
 abbrev pub other_reply : PacketEvent

@@ -56,7 +56,7 @@ IsPacketHonest rule b x (PacketReachesPort which place answer) =
     IfSome (slice_get x.bus.frames which) (λ f. IsLive (rules_of b) x.bus f × JoinsAtPort rule b x place f.request f.idles f.content)
 IsPacketHonest rule b x (PacketReachesManager which place) =
     IfSome (slice_get x.bus.frames which) (IsLive (rules_of b) x.bus)
-IsPacketHonest rule b x (OtherPacket name packet number answer) = name.source ≢ b.manager
+IsPacketHonest rule b x (OtherPacket name packet answer) = name.source ≢ b.manager
 IsPacketHonest rule b x (OtherReplyPacket name packet number) = name.source ≢ b.controller
 IsPacketHonest rule b x (Closes name) = Unit {0}
 IsPacketHonest rule b x Clears = Unit {0}

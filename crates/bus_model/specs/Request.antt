@@ -2,7 +2,8 @@
 use Rattle.std.specs.Prelude.{ℕ, ◌+◌, Bool, ◌==◌, ◌&&◌, List, [], ◌∷◌, ◌++◌, if◌then◌else◌}
 use Rattle.std.specs.Str.{bytes_eq}
 
--- a request as a port hears it: who asks, the sequence number (IPMB) or instance (PLDM), and the bytes beside them
+-- a request as a port hears it: who asks, the sequence number (IPMB) or instance (PLDM), and the bytes: all but addresses and
+-- check bytes, the number included, with PLDM's ignored bit 0
 pub record Request : Type 0 where
   pub requester : ℕ
   pub number : ℕ

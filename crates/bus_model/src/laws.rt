@@ -10,7 +10,13 @@ ghost use Rattle.bus_model.specs.AtMostOnce.{AlwaysAtMostOnce};
 ghost use Rattle.bus_model.specs.Effect.{EventsHaveEffects};
 ghost use Rattle.bus_model.specs.Packet.{IsCutting, CutsAll, packets_of};
 ghost use Rattle.bus_model.specs.PacketSchedule.{LiveWhereJoined, OneRequestWhereJoined, RecentWhereWhole, AlwaysAtMostOnceInPackets, RuleImplies, NoneOpenIsPacketHonest};
-ghost use Rattle.bus_model.specs.PacketEffect.{EventsHavePacketEffects};
+ghost use Rattle.bus_model.specs.PacketEffect.{EventsHavePacketEffects, OthersAsk};
+ghost use Rattle.bus_model.specs.Bytes.{ReadsRequests};
+ghost use Rattle.bus_model.specs.CleanLink.{OpenGoesThrough, OpenGoesThroughInPackets, CutIsWhole};
+ghost use Rattle.bus_model.specs.Slots.{SlotsDecide};
+ghost use Rattle.bus_model.specs.declared.numbers.Numbers.{Numbers};
+ghost use Rattle.bus_model.specs.declared.numbers.Numbers.TheVariants.{Ipmb, Pldm};
+ghost use Rattle.bus_model.specs.Answering.{TestIsModel, TestIsModelInPackets, BusyFails};
 ghost use Rattle.bus_model.specs.Resume.{GoesOn, GoesOnInPackets, TagsGoOn, NothingWaitsWhereClosed};
 
 /// Over every honest schedule of whole messages the manager's requests are carried out at most once, in the order begun,
@@ -44,6 +50,31 @@ pub fn resumed_manager_goes_on_in_packets()
     ensures nothing_waits { NothingWaitsWhereClosed RecentWhereWhole }
 {}
 
+/// What a link without loss gives. The open request's first frame that comes is carried out, unless the controller is busy; any
+/// frame that comes with its reply is taken; and the packets of a message, one after another, are the message.
+pub fn open_request_goes_through()
+    ensures ipmb { (manager controller first : ℕ) → OpenGoesThrough (ipmb manager controller first) }
+    ensures smbus { (manager controller first : ℕ) → OpenGoesThrough (smbus manager controller first) }
+    ensures in_packets { OpenGoesThroughInPackets RecentWhereWhole }
+    ensures cut { CutIsWhole }
+{}
+
+/// Of what is live, the manager's test on bytes (number, command, the next netFn or the same type, a code that isn't the busy
+/// one) takes exactly what the model takes by the number. So the model needn't look at commands.
+pub fn test_on_bytes_is_the_model()
+    ensures ipmb { (manager controller first : ℕ) → TestIsModel Ipmb (ipmb manager controller first) }
+    ensures smbus { (manager controller first : ℕ) → TestIsModel Pldm (smbus manager controller first) }
+    ensures in_packets { TestIsModelInPackets Pldm RecentWhereWhole }
+    ensures busy { (kind : Numbers) → BusyFails kind }
+{}
+
+/// What another requester's packets do at the port. A message that they make is a request only where it is one by its bytes;
+/// control messages, other types and malformed requests leave the bus and its log as they are, so they take no window.
+pub fn only_requests_take_windows()
+    ensures read { ReadsRequests }
+    ensures packets { OthersAsk }
+{}
+
 /// Whether a frame is live can be tested: the test is what the plain program of live frames computes.
 pub fn live_test_tells()
     ensures { TestTells }
@@ -67,6 +98,11 @@ pub fn rule_is_its_sentence()
 /// The rule never lets in more than eight requesters at a time.
 pub fn eight_windows_suffice()
     ensures { (is_above : ℕ → ℕ → Bool) → EightSuffice is_above }
+{}
+
+/// A port that keeps a list of its requesters, each once and in any order, tells by it who is busy.
+pub fn slots_decide_who_is_busy()
+    ensures { SlotsDecide }
 {}
 
 /// A port that keeps one row for each number of each requester, and looks at no list, does what the rule says.
