@@ -10,3 +10,5 @@ pub mod Headline
 pub mod Registers
 pub mod Example
 pub mod Resume
+pub mod TwoBuses
+pub mod Clean

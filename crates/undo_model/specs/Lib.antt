@@ -11,3 +11,4 @@ pub mod Headline
 pub mod Registers
 pub mod TwoBuses
 pub mod Example
+pub mod Clean
