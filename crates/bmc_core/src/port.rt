@@ -6,8 +6,8 @@ ghost use Rattle.bmc_core.specs.Port.{Hears};
 mod ipmb;
 mod smbus;
 
-use bmc_board::Board;
 use crate::out::Out;
+use bmc_board::Board;
 use cfg_records::Store;
 use mctp_net::{Assembler, Endpoint, EndpointId};
 use std::alloc::{AllocError, Global};

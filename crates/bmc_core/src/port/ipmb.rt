@@ -5,9 +5,9 @@ ghost use Rattle.bmc_board.specs.State.{state_of};
 ghost use Rattle.bmc_core.specs.IpmbPort.{HearsFrame, IsAnswered, asked_in};
 ghost use Rattle.bmc_core.specs.Outs.{answered};
 
-use bmc_board::Board;
 use crate::out::{Done, Out, Reason};
 use crate::port::Port;
+use bmc_board::Board;
 use bmc_board::request::{self, read_ipmi};
 use cfg_records::Store;
 use ipmb_frame::{Msg, Request, begin_response, end_response, read_frame};

@@ -4,9 +4,9 @@ ghost use Rattle.mctp_net.specs.Control.{request_of};
 ghost use Rattle.bmc_board.specs.State.{State as AnyState, state_of};
 ghost use Rattle.bmc_core.specs.SmbusPort.{HearsPacket, HearsOurs, HearsMessage, HearsControl, HearsPldm, AreFramesOf, reply_message, pldm_asked, pldm_reply};
 
-use bmc_board::Board;
 use crate::out::{Done, Frames, Out, Reason};
 use crate::port::Port;
+use bmc_board::Board;
 use cfg_records::{Answered, Asked, Store};
 use mctp_net::{Envelope, Message, Packet, SomeBytes, Taken, read_packet, split};
 use pldm_base::{PldmBytes, PldmReply, PldmRequest, read_pldm, write_pldm_reply};
