@@ -84,7 +84,7 @@ impl Port {
         match message.body.as_slice() {
             [CONTROL, ..] => match self.endpoint.control(message.body.as_slice()) {
                 Some(reply) => {
-                    out.frames = self.reply(&message, SomeData::new(reply.as_slice()));
+                    out.frames = self.reply(&message, reply.as_slice());
                     out.done = Done::Control;
                 }
                 None => out.ignore(Reason::NotRequest),
@@ -113,13 +113,15 @@ impl Port {
         let mut body = Bytes::<256>::new();
         body.push(PLDM);
         write_pldm_reply(&reply_to(&request, &answered), &mut body);
-        out.frames = self.reply(message, SomeData::new(body.as_slice()));
+        out.frames = self.reply(message, body.as_slice());
         out.done = Done::Answered;
     }
 
     /// The frames of the reply to a message, which has this body.
-    fn reply(&self, message: &Message<'_>, body: SomeData<'_, 256>) -> Frames
-        ensures { AreFramesOf (reply_message self.now message.now body) result.list.items }
+    fn reply(&self, message: &Message<'_>, body: &[u8]) -> Frames
+        requires some { 0 < length body.now }
+        requires fits { length body.now ≤ 256 }
+        ensures { AreFramesOf (reply_message self.now message.now body.now) result.list.items }
     {
         let Envelope {
             source,
@@ -135,6 +137,7 @@ impl Port {
             tag_owner: false,
             tag,
         };
+        let body = SomeData::new(body);
         Frames::from(split(&Message { envelope, body }))
     }
 }
