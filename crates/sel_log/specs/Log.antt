@@ -1,4 +1,4 @@
--- The System Event Log (IPMI 2.0, section 31): a list of records with a capacity.
+-- The System Event Log (IPMI 2.0): a list of records with a capacity.
 use Rattle.std.specs.Prelude.{ℕ, ◌+◌, ◌-◌, ◌*◌, ◌==◌, ◌≤◌, nat_le, Bool, true, false, List, [], ◌∷◌, ◌++◌, length, Option, is_some, Result, Ok, Err, if◌then◌else◌}
 use Rattle.std.specs.List.{find, slice_get}
 use Rattle.two_wire.specs.Codes.{out_of_space, reservation_canceled}

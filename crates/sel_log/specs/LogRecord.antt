@@ -1,4 +1,4 @@
--- Records of the System Event Log (IPMI 2.0, section 32.1).
+-- Records of the System Event Log (IPMI 2.0).
 use Rattle.std.specs.Prelude.{ℕ, nat_lt, Bool, List, ◌∷◌, ◌++◌, take, drop, slice_index, if◌then◌else◌}
 use Rattle.std.specs.Int.{w16, w32, to_le_bytes, from_le_bytes}
 

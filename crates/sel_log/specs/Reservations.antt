@@ -1,4 +1,4 @@
--- Reservations (IPMI 2.0, sections 31.4 and 33.11): a number stands for its requester's hold on a list until the list is cleared or
+-- Reservations (IPMI 2.0): a number stands for its requester's hold on a list until the list is cleared or
 -- another number is given. 0000h is no reservation.
 use Rattle.std.specs.Prelude.{ℕ, ◌+◌, ◌==◌, ◌&&◌, Bool, not, if◌then◌else◌}
 use Rattle.sel_log.specs.declared.reservations.Reservations.{Reservations}
