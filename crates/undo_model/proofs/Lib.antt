@@ -12,3 +12,5 @@ pub mod Example
 pub mod Resume
 pub mod TwoBuses
 pub mod Clean
+pub mod RecordsRun
+pub mod NumberedLaws

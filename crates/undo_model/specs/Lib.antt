@@ -12,3 +12,5 @@ pub mod Registers
 pub mod TwoBuses
 pub mod Example
 pub mod Clean
+pub mod RecordsRun
+pub mod Numbered

@@ -8,6 +8,7 @@ ghost use Rattle.undo_model.specs.Laws.{IsFamily};
 ghost use Rattle.undo_model.specs.TwoBuses.{Addresses, in_messages, with_packets};
 ghost use Rattle.undo_model.specs.Headline.{AlwaysStands, UndoneForGood, StopsOnlyIfTold};
 ghost use Rattle.undo_model.specs.Resume.{GoesOnAlike};
+ghost use Rattle.undo_model.specs.RecordsRun.{RecordsStand};
 ghost use Rattle.undo_model.specs.Clean.{AnswersByRow, AlwaysRunsClean};
 ghost use Rattle.undo_model.specs.Family.{Answered};
 ghost use Rattle.undo_model.specs.Registers.{Board, Asked, registers, wires};
@@ -16,6 +17,12 @@ ghost use Rattle.undo_model.specs.Registers.{Board, Asked, registers, wires};
 /// nothing is undone.
 pub fn registers_are_a_family()
     ensures { IsFamily registers }
+{}
+
+/// Where the open request is carried out at most once, its reply is taken, and nothing else changes a record, the phase says at every moment
+/// what the records are, and a plan that halted has the cause that it names. This knows no bus.
+pub fn records_stand()
+    ensures { RecordsStand registers }
 {}
 
 /// At every moment of every honest schedule of both buses the manager's phase says what the records are, and a plan that halted has the
