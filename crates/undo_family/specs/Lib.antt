@@ -3,3 +3,4 @@ pub mod Wires
 pub mod WireLaws
 pub mod Spelled
 pub mod Board
+pub mod Example

@@ -7,6 +7,7 @@ ghost use Rattle.bus_model.specs.Packet.{Packet, IsCutting};
 ghost use Rattle.undo_model.specs.Laws.{IsFamily};
 ghost use Rattle.undo_model.specs.TwoBuses.{Addresses, in_messages, with_packets};
 ghost use Rattle.undo_model.specs.Headline.{AlwaysStands, UndoneForGood, StopsOnlyIfTold};
+ghost use Rattle.undo_model.specs.RecordsRun.{RecordsStand};
 ghost use Rattle.undo_model.specs.Resume.{GoesOnAlike};
 ghost use Rattle.undo_model.specs.Clean.{AnswersByRow, AlwaysRunsClean};
 ghost use Rattle.undo_family.specs.Family.{family, answer};
@@ -17,6 +18,12 @@ ghost use Rattle.undo_family.specs.Board.{StartsValid, QuietMay, AnswersMay};
 /// The kinds of record and the command relation meet the laws of a family, whatever the board's file is.
 pub fn records_are_a_family()
     ensures { (setup : BoardFile) (at : Bus → Addresses) → IsFamily (family setup at) }
+{}
+
+/// Where the open request is carried out at most once, its reply is taken, and nothing else changes a record, the phase says at every moment
+/// what the records are, and a plan that halted has the cause that it names. This knows no bus.
+pub fn records_stand()
+    ensures { (setup : BoardFile) (at : Bus → Addresses) → RecordsStand (family setup at) }
 {}
 
 /// At every moment of every honest schedule of both buses the manager's phase says what the records are, and a plan that halted has the

@@ -2,4 +2,5 @@
 //! no code here: each theorem is the contract of a function without a body.
 #![tactic(auto)]
 
+pub mod examples;
 pub mod laws;
