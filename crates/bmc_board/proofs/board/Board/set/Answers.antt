@@ -1,8 +1,7 @@
 use Rattle.std.proofs.Common.{rules, ◌≡◌, List, ℕ, Option, Some, sym, ◌∙◌, subst}
-use Rattle.cfg_records.specs.Keys.{key_of}
 use Rattle.cfg_records.specs.Records.{Records, with_record}
 use Rattle.cfg_records.specs.declared.key.Key.{Key}
-use Rattle.record_kinds.specs.Limits.{is_of, valid, sets}
+use Rattle.record_kinds.specs.Limits.{key_of, is_of, valid, sets}
 use Rattle.record_kinds.specs.Boards.{limits_at}
 use Rattle.record_kinds.specs.Sound.{IsSound, valid_at, sound_set}
 use Rattle.bmc_board.proofs.AnswerFacts.{limits_are_of}
