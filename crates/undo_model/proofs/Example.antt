@@ -47,7 +47,7 @@ outside_packets_tells : (e : PacketEvent) → is_outside_packets e ≡ true → 
 outside_packets_tells (Plain e) t = outside_tells e t
 outside_packets_tells (PacketReachesPort which place answer) t = tt
 outside_packets_tells (PacketReachesManager which place) t = tt
-outside_packets_tells (OtherPacket name packet number answer) t = tt
+outside_packets_tells (OtherPacket name packet answer) t = tt
 outside_packets_tells (OtherReplyPacket name packet number) t = tt
 outside_packets_tells (Closes name) t = tt
 outside_packets_tells Clears t = tt

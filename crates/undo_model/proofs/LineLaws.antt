@@ -126,7 +126,7 @@ module _ (b : PacketBus) (cutting : IsCutting b.split) where
   to_manager_packets x (Plain e) h outside t honest = plain_to_manager x e h outside t honest
   to_manager_packets x (PacketReachesPort which place answer) h outside t honest = absurd (false≢true t)
   to_manager_packets x (PacketReachesManager which place) h outside t honest = at_manager x place _ (slice_get x.bus.frames which) (effect x (PacketReachesManager which place) h honest)
-  to_manager_packets x (OtherPacket name packet number answer) h outside t honest = absurd (false≢true t)
+  to_manager_packets x (OtherPacket name packet answer) h outside t honest = absurd (false≢true t)
   to_manager_packets x (OtherReplyPacket name packet number) h outside t honest = (effect x (OtherReplyPacket name packet number) h honest)
   to_manager_packets x (Closes name) h outside t honest = absurd (false≢true t)
   to_manager_packets x Clears h outside t honest = absurd (false≢true t)
@@ -149,7 +149,7 @@ module _ (b : PacketBus) (cutting : IsCutting b.split) where
   on_bus_packets x (PacketReachesPort which place answer) h outside t honest =
       exchanged _ answer x.bus _ (at_port x place answer _ (slice_get x.bus.frames which) (effect x (PacketReachesPort which place answer) h honest))
   on_bus_packets x (PacketReachesManager which place) h outside t honest = absurd (true≢false t)
-  on_bus_packets x (OtherPacket name packet number answer) h outside t honest = (effect x (OtherPacket name packet number answer) h honest)
+  on_bus_packets x (OtherPacket name packet answer) h outside t honest = (effect x (OtherPacket name packet answer) h honest)
   on_bus_packets x (OtherReplyPacket name packet number) h outside t honest = absurd (true≢false t)
   on_bus_packets x (Closes name) h outside t honest = (effect x (Closes name) h honest)
   on_bus_packets x Clears h outside t honest = (effect x Clears h honest)
