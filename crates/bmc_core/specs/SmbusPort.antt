@@ -47,9 +47,9 @@ reply_envelope port e = record {
   tag = e.tag;
 }
 
--- a port's reply to a message
-abbrev pub reply_message : Port → Message → List ℕ → Message
-reply_message port m body = record { envelope = reply_envelope port m.envelope; body = body }
+-- a port's reply to a message of this envelope
+abbrev pub reply_message : Port → Envelope → List ℕ → Message
+reply_message port e body = record { envelope = reply_envelope port e; body = body }
 
 -- the frames are the packets of the message
 abbrev pub AreFramesOf : Message → List (List ℕ) → Type 0
@@ -58,46 +58,46 @@ AreFramesOf m frames = (ps : List Packet) × IsCutOf m ps × AreWritten ps frame
 -- ---- control messages, whose type is 00h
 
 -- the endpoint's reply is sent, from the identifier that it has then
-pub record AnswersControl (port : Port) (before : State) (m : Message) (r : ControlRequest) (out : Out) (next : Port) (after : State) : Type 0 where
+pub record AnswersControl (port : Port) (before : State) (e : Envelope) (r : ControlRequest) (out : Out) (next : Port) (after : State) : Type 0 where
   pub named : next ≡ record port { endpoint = eid_after port.endpoint r.command r.content }
-  pub sent : AreFramesOf (reply_message next m (control_reply_to port.endpoint r)) (sent out)
+  pub sent : AreFramesOf (reply_message next e (control_reply_to port.endpoint r)) (sent out)
   pub did : out.done ≡ done.Control
   pub left : after ≡ before
 
-abbrev pub HearsControl : Option ControlRequest → Port → State → Message → Out → Port → State → Type 0
-HearsControl (Some r) port before m out next after = AnswersControl port before m r out next after
-HearsControl None port before m out next after = Ignores reason.NotRequest port before out next after
+abbrev pub HearsControl : Option ControlRequest → Port → State → Envelope → Out → Port → State → Type 0
+HearsControl (Some r) port before e out next after = AnswersControl port before e r out next after
+HearsControl None port before e out next after = Ignores reason.NotRequest port before out next after
 
 -- ---- PLDM messages, whose type is 01h
 
--- what a request asks of the board
-abbrev pub pldm_asked : Message → PldmRequest → Asked
-pldm_asked m r = Pldm m.envelope.source_eid r.header.pldm_type r.header.command r.body
+-- what a request asks of the board, in a message of this envelope
+abbrev pub pldm_asked : Envelope → PldmRequest → Asked
+pldm_asked e r = Pldm e.source_eid r.header.pldm_type r.header.command r.body
 
 -- the reply that gives the answer to a request
 abbrev pub pldm_reply : PldmRequest → Reply → PldmReply
 pldm_reply r reply = record { header = r.header; code = reply.code; body = reply.body }
 
 -- the reply to the request is sent, with the board's answer
-pub record AnswersPldm (setup : BoardFile) (port : Port) (before : State) (m : Message) (r : PldmRequest) (out : Out) (next : Port) (after : State) : Type 0 where
+pub record AnswersPldm (setup : BoardFile) (port : Port) (before : State) (e : Envelope) (r : PldmRequest) (out : Out) (next : Port) (after : State) : Type 0 where
   pub body : List ℕ
-  pub spelled : SpellsReply 0 (pldm_reply r (answer_of setup before (pldm_asked m r)).0) body
-  pub sent : AreFramesOf (reply_message port m (1 ∷ body)) (sent out)
+  pub spelled : SpellsReply 0 (pldm_reply r (answer_of setup before (pldm_asked e r)).0) body
+  pub sent : AreFramesOf (reply_message port e (1 ∷ body)) (sent out)
   pub did : out.done ≡ done.Answered
   pub stays : next ≡ port
-  pub left : after ≡ (answer_of setup before (pldm_asked m r)).1
+  pub left : after ≡ (answer_of setup before (pldm_asked e r)).1
 
 -- the bytes behind the type have a fault, or else are one request
-pub record HearsPldm (setup : BoardFile) (port : Port) (before : State) (m : Message) (bytes : List ℕ) (out : Out) (next : Port) (after : State) : Type 0 where
+pub record HearsPldm (setup : BoardFile) (port : Port) (before : State) (e : Envelope) (bytes : List ℕ) (out : Out) (next : Port) (after : State) : Type 0 where
   pub faulty : (fault : PldmFault) → find (has_pldm_fault bytes) pldm_faults ≡ Some fault → Ignores (reason.Pldm fault) port before out next after
-  pub request : (r : PldmRequest) → IsRequest r bytes → AnswersPldm setup port before m r out next after
+  pub request : (r : PldmRequest) → IsRequest r bytes → AnswersPldm setup port before e r out next after
 
 -- ---- messages
 
 -- a message whose sender owns its tag, by its bytes: a type, and what follows it
 pub record HearsOwned (setup : BoardFile) (port : Port) (before : State) (m : Message) (kind : ℕ) (rest : List ℕ) (out : Out) (next : Port) (after : State) : Type 0 where
-  pub control : kind ≡ 0 → HearsControl (control_request_of m.body) port before m out next after
-  pub pldm : kind ≡ 1 → HearsPldm setup port before m rest out next after
+  pub control : kind ≡ 0 → HearsControl (control_request_of m.body) port before m.envelope out next after
+  pub pldm : kind ≡ 1 → HearsPldm setup port before m.envelope rest out next after
   pub other : kind ≢ 0 → kind ≢ 1 → Ignores reason.MessageType port before out next after
 
 -- a whole message

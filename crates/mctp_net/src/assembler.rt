@@ -73,18 +73,25 @@ impl Assembler {
     }
 
     /// The message that this packet ended, which is the last that was taken.
-    pub fn message<'a>(&'a self, packet: &Packet<'a>) -> Message<'a>
+    pub fn message<'a>(&'a self, packet: &'a Packet<'_>) -> Message<'a>
         requires { 0 < length (message_of (seen self.now) packet.now).body }
         ensures { result ≡ message_of (seen self.now) packet.now }
     {
-        let body = if packet.start {
+        Message {
+            envelope: packet.envelope,
+            body: SomeData::new(self.body(packet)),
+        }
+    }
+
+    /// The bytes of that message.
+    pub fn body<'a>(&'a self, packet: &'a Packet<'_>) -> &'a [u8]
+        ensures value { result.now ≡ (message_of (seen self.now) packet.now).body }
+        ensures fits { length result.now ≤ 256 }
+    {
+        if packet.start {
             packet.payload.as_slice()
         } else {
             self.made()
-        };
-        Message {
-            envelope: packet.envelope,
-            body: SomeData::new(body),
         }
     }
 

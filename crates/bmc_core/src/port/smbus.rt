@@ -19,13 +19,13 @@ const CONTROL: u8 = 0x00;
 /// The type of a PLDM message.
 const PLDM: u8 = 0x01;
 
-/// What a request asks of the board, in this message.
-fn asked_in(message: &Message<'_>, request: &PldmRequest<'_>) -> Asked
-    ensures { result ≡ pldm_asked message.now request.now }
+/// What a request asks of the board, in a message of this envelope.
+fn asked_in(envelope: &Envelope, request: &PldmRequest<'_>) -> Asked
+    ensures { result ≡ pldm_asked envelope.now request.now }
 {
     let header = request.header;
     Asked::Pldm {
-        from: message.envelope.source_eid,
+        from: envelope.source_eid,
         kind: header.pldm_type,
         command: header.command,
         body: Bytes::from_slice(request.body.as_slice()),
@@ -77,19 +77,24 @@ impl Port {
         ensures heard { HearsMessage board.old.setup self.old (state_of S.records board.old) (message_of (seen self.old.assembler) packet.now) out.new self.new (state_of S.records board.new) }
         ensures setup { board.new.setup ≡ board.old.setup }
     {
-        let message = self.assembler.message(packet);
-        if !message.envelope.tag_owner {
+        let envelope = packet.envelope;
+        if !envelope.tag_owner {
             return out.ignore(Reason::NotRequest);
         }
-        match message.body.as_slice() {
-            [CONTROL, ..] => match self.endpoint.control(message.body.as_slice()) {
+        let body = self.assembler.body(&*packet);
+        match body {
+            [CONTROL, ..] => match self.endpoint.control(body) {
                 Some(reply) => {
-                    out.frames = self.reply(&message, reply.as_slice());
+                    out.frames = self.reply(&envelope, reply.as_slice());
                     out.done = Done::Control;
                 }
                 None => out.ignore(Reason::NotRequest),
             },
-            [PLDM, bytes @ ..] => self.on_pldm(board, &message, bytes, out),
+            [PLDM, bytes @ ..] => {
+                // The assembler isn't lent while the port is.
+                let bytes = Bytes::<255>::from_slice(bytes);
+                self.on_pldm(board, &envelope, bytes.as_slice(), out)
+            }
             _ => out.ignore(Reason::MessageType),
         }
     }
@@ -97,38 +102,38 @@ impl Port {
     fn on_pldm<S: Store>(
         &self,
         board: &mut Board<S>,
-        message: &Message<'_>,
+        envelope: &Envelope,
         bytes: &[u8],
         out: &mut Out,
     )
         requires { length bytes.now ≤ 255 }
-        ensures heard { HearsPldm board.old.setup self.now (state_of S.records board.old) message.now bytes.now out.new self.now (state_of S.records board.new) }
+        ensures heard { HearsPldm board.old.setup self.now (state_of S.records board.old) envelope.now bytes.now out.new self.now (state_of S.records board.new) }
         ensures setup { board.new.setup ≡ board.old.setup }
     {
         let request = match read_pldm(&PldmBytes::new(bytes)) {
             Ok(request) => request,
             Err(fault) => return out.ignore(Reason::Pldm(fault)),
         };
-        let answered = board.answer(&asked_in(message, &request));
+        let answered = board.answer(&asked_in(envelope, &request));
         let mut body = Bytes::<256>::new();
         body.push(PLDM);
         write_pldm_reply(&reply_to(&request, &answered), &mut body);
-        out.frames = self.reply(message, body.as_slice());
+        out.frames = self.reply(envelope, body.as_slice());
         out.done = Done::Answered;
     }
 
-    /// The frames of the reply to a message, which has this body.
-    fn reply(&self, message: &Message<'_>, body: &[u8]) -> Frames
+    /// The frames of the reply to a message of this envelope, which has this body.
+    fn reply(&self, to: &Envelope, body: &[u8]) -> Frames
         requires some { 0 < length body.now }
         requires fits { length body.now ≤ 256 }
-        ensures { AreFramesOf (reply_message self.now message.now body.now) result.list.items }
+        ensures { AreFramesOf (reply_message self.now to.now body.now) result.list.items }
     {
         let Envelope {
             source,
             source_eid,
             tag,
             ..
-        } = message.envelope;
+        } = *to;
         let envelope = Envelope {
             destination: source,
             source: self.at.wire,
