@@ -2,7 +2,8 @@
 use super::open_lab;
 use bmc_core::{Board, changing};
 use cfg_records::{
-    Answered, Asked, BoardFile, Hysteresis, PlainStore, Sensor, ThresholdMasks, sample_board,
+    Answered, Asked, BoardFile, Distinct, Hysteresis, PlainStore, Sensor, ThresholdMasks,
+    Thresholds, sample_board,
 };
 use std::alloc::Global;
 use std::test::Fail;
@@ -108,12 +109,18 @@ fn setting_commands_are_marked(rt: HostRuntime) -> Result<(), Fail> {
 
 /// A sensor whose thresholds are all this one, as its positive hysteresis is.
 fn sensor(number: u8, threshold: u8) -> Option<Sensor> {
+    if number == 0xFF {
+        return None;
+    }
     let masks = ThresholdMasks::new(0x3F, 0x3F)?;
-    let hysteresis = Hysteresis {
-        positive: threshold,
-        negative: 1,
-    };
-    Sensor::new(number, masks, [threshold; 6], hysteresis)
+    Some(Sensor {
+        number,
+        thresholds: Thresholds::new(masks, [threshold; 6])?,
+        hysteresis: Hysteresis {
+            positive: threshold,
+            negative: 1,
+        },
+    })
 }
 
 /// A board of 32 sensors with the numbers 223 to 254, and with thresholds 0 to 31.
@@ -123,14 +130,13 @@ fn full_board(alloc: Global) -> Result<BoardFile, Fail> {
     for place in 0..32 {
         sensors.push(sensor(223 + place, place).ok_or("a sensor")?)?;
     }
-    let file = BoardFile::new(
-        sample.tid,
-        sample.device,
-        sensors,
-        sample.policy,
-        sample.watchdog,
-    );
-    Ok(file.ok_or("a board file")?)
+    Ok(BoardFile {
+        tid: sample.tid,
+        device: sample.device,
+        sensors: Distinct::new(sensors).ok_or("the sensors")?,
+        policy: sample.policy,
+        watchdog: sample.watchdog,
+    })
 }
 
 #[test]
