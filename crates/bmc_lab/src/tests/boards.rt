@@ -1,11 +1,9 @@
 //! What a board answers, and a board of as many sensors as there can be.
-ghost use Rattle.std.specs.Prelude.{◌<◌};
-
 use super::open_lab;
 use bmc_core::{Board, changing};
 use cfg_records::{
-    Answered, Asked, BoardFile, Hysteresis, PlainStore, Sensor, Sensors, ThresholdMasks, Thresholds,
-    sample_board,
+    Answered, Asked, BoardFile, Distinct, Hysteresis, PlainStore, Sensor, ThresholdMasks,
+    Thresholds, sample_board,
 };
 use std::alloc::Global;
 use std::test::Fail;
@@ -110,9 +108,10 @@ fn setting_commands_are_marked(rt: HostRuntime) -> Result<(), Fail> {
 }
 
 /// A sensor whose thresholds are all this one, as its positive hysteresis is.
-fn sensor(number: u8, threshold: u8) -> Option<Sensor>
-    requires { number < 255 }
-{
+fn sensor(number: u8, threshold: u8) -> Option<Sensor> {
+    if number == 0xFF {
+        return None;
+    }
     let masks = ThresholdMasks::new(0x3F, 0x3F)?;
     Some(Sensor {
         number,
@@ -134,7 +133,7 @@ fn full_board(alloc: Global) -> Result<BoardFile, Fail> {
     Ok(BoardFile {
         tid: sample.tid,
         device: sample.device,
-        sensors: Sensors::new(sensors).ok_or("sensors")?,
+        sensors: Distinct::new(sensors).ok_or("the sensors")?,
         policy: sample.policy,
         watchdog: sample.watchdog,
     })
