@@ -16,7 +16,7 @@ use Rattle.record_kinds.specs.Limits.{is_of, sets, outcome, get_asked, set_asked
 use Rattle.record_kinds.specs.LimitsLaws as laws
 use Rattle.std.specs.Option.{option_map}
 use Rattle.record_kinds.specs.Boards.{sensor_at, limits_at}
-use Rattle.record_kinds.specs.Sound.{IsSound, IsSoundAt, valid_at, sound_with}
+use Rattle.record_kinds.specs.Sound.{IsSound, IsSoundAt, sound_set}
 use Rattle.bmc_board.specs.declared.request.Request.{Request}
 use Rattle.bmc_board.specs.declared.request.Request.TheVariants.{Live, Get, Set}
 use Rattle.bmc_board.specs.Table.{is_changing}
@@ -115,7 +115,7 @@ result_fit : (setup : BoardFile) (room : ℕ) (limits : Limits) (old : List ℕ)
     → Decides r (sets limits op old) → room_for (set_asked op) ≤ room → IsFit setup room (set_result r op before)
 result_fit setup room limits old op before (Ok new) sound at had is le = record {
   short = omega (arith, laws.kind_laws.set_short op);
-  sound = sound_with setup before.records (key_of op) limits new sound at ((laws.record_laws limits).keeps op old new (valid_at _ _ limits old at had (sound (key_of op))) is);
+  sound = sound_set setup before.records (key_of op) limits op old new sound at had is;
 }
 result_fit setup room limits old op before (Err fault) sound at had is le = refused_fit setup room fault before sound
 

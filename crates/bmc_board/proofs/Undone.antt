@@ -37,7 +37,7 @@ read_as setup before asked request answered after is row = subst (λ (r : Result
 pub get_served : (setup : BoardFile) (before : State) (from : ℕ) (key : Key) (answered : Answered) (after : State) → Row setup before (sent_by from (get_asked key)) answered after → Serves setup before (Get key) answered after
 get_served setup before from key answered after row = read_as setup before (sent_by from (get_asked key)) (Get key) answered after (is_read_from_all from (get_asked key) ∙ (gets_are_read key).is_read) row
 
-set_served : (setup : BoardFile) (before : State) (from : ℕ) (op : Op) (answered : Answered) (after : State) → Row setup before (sent_by from (set_asked op)) answered after → Serves setup before (Set op) answered after
+pub set_served : (setup : BoardFile) (before : State) (from : ℕ) (op : Op) (answered : Answered) (after : State) → Row setup before (sent_by from (set_asked op)) answered after → Serves setup before (Set op) answered after
 set_served setup before from op answered after row = read_as setup before (sent_by from (set_asked op)) (Set op) answered after (is_read_from_all from (set_asked op) ∙ (sets_are_read op).is_read) row
 
 -- ---- requests that are carried out
@@ -65,7 +65,7 @@ shows None (Some value) live unknown shown is_fault gets carried = absurd (not_r
 shows None None live unknown shown is_fault gets carried = absurd (not_refused shown unknown is_fault gets carried)
 
 -- a Set that was carried out wasn't refused by its record
-carried_out : (limits : Limits) (old : List ℕ) (unknown : ℕ) (op : Op) (before : State) (changed : Answered) (after : State) → Sets (Some limits) (Some old) unknown op before changed after → changed.code ≡ success → IsCarriedOut limits old op before changed after
+pub carried_out : (limits : Limits) (old : List ℕ) (unknown : ℕ) (op : Op) (before : State) (changed : Answered) (after : State) → Sets (Some limits) (Some old) unknown op before changed after → changed.code ≡ success → IsCarriedOut limits old op before changed after
 carried_out limits old unknown op before changed after (inl is) carried = is
 carried_out limits old unknown op before changed after (inr is) carried =
     let fault : 0 < is.fault = ((laws.record_laws limits).refuses op old is.fault is.has_fault).is_fault in

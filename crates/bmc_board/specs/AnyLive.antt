@@ -1,12 +1,14 @@
 -- What holds of every live command.
-use Rattle.std.specs.Prelude.{◌≢◌, ◌≤◌, length}
+use Rattle.std.specs.Prelude.{◌≡◌, ◌≢◌, ◌≤◌, length}
 use Rattle.two_wire.specs.Codes.{success}
 use Rattle.cfg_records.specs.Records.{Records}
 use Rattle.cfg_records.specs.declared.message.Answered.{Answered}
 use Rattle.cfg_records.specs.declared.board_file.BoardFile.{BoardFile}
 use Rattle.bmc_board.specs.declared.activity.Activity.{Activity}
 use Rattle.bmc_board.specs.declared.live.LiveCommand.{LiveCommand}
-use Rattle.bmc_board.specs.State.{state, IsUnchanged}
+use Rattle.bmc_board.specs.declared.request.Request.TheVariants.{Live}
+use Rattle.bmc_board.specs.State.{State, state, IsUnchanged}
+use Rattle.bmc_board.specs.Answer.{serve}
 use Rattle.bmc_board.specs.AnyAnswer.{IsCode}
 use Rattle.bmc_board.specs.Live.{live_answer, longest_live_reply}
 
@@ -19,3 +21,7 @@ pub record IsLive (records : Records) (before : Activity) (given : Answered × A
 -- so is each live command
 abbrev pub AreLive : Type 0
 AreLive = (setup : BoardFile) (records : Records) (before : Activity) (command : LiveCommand) → IsLive records before (live_answer setup records before command)
+
+-- it leaves the records
+abbrev pub LeaveRecords : Type 0
+LeaveRecords = (setup : BoardFile) (before : State) (command : LiveCommand) → (serve setup before (Live command)).1.records ≡ before.records

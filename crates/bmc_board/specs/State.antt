@@ -16,7 +16,7 @@ abbrev pub state : Records → Activity → State
 state records activity = record { records = records; activity = activity }
 
 -- a board's state, over a store that has these records
-abbrev pub state_of : {S : Type 0} {g : _} → (S → Records) → Board S g → State
+abbrev pub state_of : {S : Type 0} {g h : _} → (S → Records) → Board S g h → State
 state_of records board = state (records board.store) board.activity
 
 -- what isn't configuration, as a board begins

@@ -1,6 +1,6 @@
 //! What holds of the definitions alone.
 ghost use Rattle.bmc_board.specs.AnyAnswer.{HasAnswer, HasOneAnswer, NeverBusy, UnknownIsRefused, RefusedIsUnchanged, StaysSound, AnswersFit};
-ghost use Rattle.bmc_board.specs.AnyLive.{AreLive};
+ghost use Rattle.bmc_board.specs.AnyLive.{AreLive, LeaveRecords};
 ghost use Rattle.bmc_board.specs.Decode.{IsReadFromAll, GetsAreRead, SetsAreRead, UndosArePlain};
 ghost use Rattle.bmc_board.specs.Undo.{IsAReply, IsUndone, IsSteady, IsShownAsBefore};
 ghost use Rattle.bmc_board.specs.PldmTypes.{TypesAreNamed};
@@ -30,10 +30,11 @@ pub fn sound_law()
     ensures fits { AnswersFit }
 {}
 
-/// A live command leaves the records, by the form of its definition. Its code isn't a busy controller's, its data fits any frame, and
+/// A live command leaves the records. Its code isn't a busy controller's, its data fits any frame, and
 /// where it refuses it changes nothing.
 pub fn live_law()
-    ensures { AreLive }
+    ensures answers { AreLive }
+    ensures records { LeaveRecords }
 {}
 
 /// The request that gets a record is read as that Get, and the request that carries out an operation as that Set. Both are from

@@ -6,3 +6,4 @@ pub mod Numbers
 pub mod Pairs
 pub mod BoardPairs
 pub mod Operations
+pub mod Placed

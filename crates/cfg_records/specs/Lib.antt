@@ -18,6 +18,8 @@ pub mod AllKindsLaws
 pub mod Member
 pub mod MemberLaws
 pub mod Records
+pub mod Places
+pub mod PlacesLaws
 pub mod RecordLaws
 pub mod Boards
 pub mod Distinct

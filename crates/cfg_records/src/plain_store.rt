@@ -1,7 +1,10 @@
-//! Records in a map.
+//! Records in a list, found by their keys.
 ghost use Rattle.std.specs.Prelude.{◌≡◌, ◌↔◌, IfOk, OnOk, Err, IsTrue, All, length};
 ghost use Rattle.cfg_records.specs.Boards.{pairs_of};
 ghost use Rattle.cfg_records.specs.Keys.{key_cmp};
+ghost use Rattle.std.specs.BTreeMap as btree;
+ghost use Rattle.cfg_records.specs.Places.{ArePlaced};
+ghost use Rattle.cfg_records.specs.PlacesLaws.{ArePlaced-prop};
 ghost use Rattle.cfg_records.specs.Records.{records_of, KeysDiffer, LengthsFit};
 
 use crate::board_file::BoardFile;
@@ -22,10 +25,12 @@ pub enum StoreFault {
     BadValue,
 }
 
-/// Records in a map.
+/// Records in a list, and for each key its record's place there.
 #[derive(Drop)]
 pub struct PlainStore {
-    records: BTreeMap<Key, Value>,
+    records: Vec<(Key, Value)>,
+    places: BTreeMap<Key, usize>,
+    ghost placed: { ArePlaced records.items (btree.get key_cmp places) } by { ArePlaced-prop records.items (btree.get key_cmp places) },
 }
 
 impl PlainStore {
@@ -40,18 +45,22 @@ impl PlainStore {
         ensures bad_keys { result ≡ Err StoreFault.BadValue → KeysDiffer pairs.now }
         ensures bad { result ≡ Err StoreFault.BadValue → ¬ LengthsFit pairs.now }
     {
-        let mut records = BTreeMap::new(alloc);
+        let mut records = Vec::new(alloc);
+        let mut places = BTreeMap::new(alloc);
         for (key, value) in pairs {
-            match records.insert(*key, value.copy()) {
+            match places.insert(*key, records.len()) {
                 Err(_) => return Err(StoreFault::Memory),
                 Ok(Some(_)) => return Err(StoreFault::TwiceTheSameKey),
                 Ok(None) => {}
             }
+            let Ok(()) = records.push((*key, value.copy())) else {
+                return Err(StoreFault::Memory);
+            };
         }
         if !lengths_fit(pairs) {
             return Err(StoreFault::BadValue);
         }
-        Ok(PlainStore { records })
+        Ok(PlainStore { records, places })
     }
 
     /// A store of the records that a board begins with.
@@ -75,23 +84,23 @@ fn lengths_fit(pairs: &[(Key, Value)]) -> bool
 
 impl Store for PlainStore {
     ghost use Rattle.std.specs.BTreeMap as btree;
+    ghost use Rattle.cfg_records.specs.Places.{value_at};
 
-    ghost records = { λ s key. btree.get key_cmp s.records key };
+    type Place = usize;
 
-    fn get(&self, key: &Key) -> Option<&[u8]> {
-        match self.records.get(key) {
-            Some(value) => Some(value.as_slice()),
-            None => None,
-        }
+    ghost records = { λ s key. value_at s.records.items (btree.get key_cmp s.places key) };
+
+    ghost places = { λ s key. btree.get key_cmp s.places key };
+
+    fn find(&self, key: &Key) -> Option<usize> {
+        self.places.get(key).copied()
     }
 
-    fn put(&mut self, key: &Key, value: &[u8]) -> Result<(), NoKey> {
-        match self.records.get_mut(key) {
-            Some(place) => {
-                place.replace(value);
-                Ok(())
-            }
-            None => Err(NoKey),
-        }
+    fn value(&self, place: usize) -> &[u8] {
+        self.records[place].1.as_slice()
+    }
+
+    fn write(&mut self, place: usize, value: &[u8]) {
+        self.records[place].1.replace(value);
     }
 }

@@ -1,5 +1,5 @@
 -- Each record has limits, and a value that they allow.
-use Rattle.std.specs.Prelude.{◌≡◌, ℕ, List, Option, Some, None, Bool, true, false, if◌then◌else◌, Result, Ok, Err, OnOk, OnErr}
+use Rattle.std.specs.Prelude.{◌≡◌, ℕ, List, Option, Some, None, Bool, true, false, if◌then◌else◌}
 use Rattle.std.proofs.Common.{subst, sym, refl}
 use Rattle.std.proofs.Props.{props}
 use Rattle.cfg_records.specs.declared.key.Key.{Key}
@@ -59,9 +59,7 @@ sound_where file records key limits new sound at is_valid k false e = sound k
 pub sound_with : (file : BoardFile) (records : Records) (key : Key) (limits : Limits) (new : List ℕ) → IsSound file records → limits_at file key ≡ Some limits → valid limits new → IsSound file (with_record records key new)
 sound_with file records key limits new sound at is_valid = λ k. sound_where file records key limits new sound at is_valid k (same_key key k) refl
 
--- an operation that a record accepts keeps the records sound, whether or not it is written
-pub sound_put : {T E : Type 0} (r : Result T E) (file : BoardFile) (records after : Records) (key : Key) (limits : Limits) (op : Op) (old new : List ℕ) → IsSound file records → limits_at file key ≡ Some limits → records key ≡ Some old
-    → sets limits op old new → OnOk r (after ≡ with_record records key new) → OnErr r (after ≡ records) → IsSound file after
-sound_put (Ok x) file records after key limits op old new sound at had done ok err =
-    subst (IsSound file) (sym ok) (sound_with file records key limits new sound at ((record_laws limits).keeps op old new (valid_at _ _ limits old at had (sound key)) done))
-sound_put (Err x) file records after key limits op old new sound at had done ok err = subst (IsSound file) (sym err) sound
+-- an operation that a record accepts keeps the records sound
+pub sound_set : (file : BoardFile) (records : Records) (key : Key) (limits : Limits) (op : Op) (old new : List ℕ) → IsSound file records → limits_at file key ≡ Some limits → records key ≡ Some old
+    → sets limits op old new → IsSound file (with_record records key new)
+sound_set file records key limits op old new sound at had done = sound_with file records key limits new sound at ((record_laws limits).keeps op old new (valid_at _ _ limits old at had (sound key)) done)

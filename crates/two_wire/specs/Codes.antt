@@ -19,6 +19,12 @@ invalid_command = 0xC1
 abbrev pub invalid_for_lun : ℕ
 invalid_for_lun = 0xC2
 
+abbrev pub out_of_space : ℕ
+out_of_space = 0xC4
+
+abbrev pub reservation_canceled : ℕ
+reservation_canceled = 0xC5
+
 abbrev pub invalid_length : ℕ
 invalid_length = 0xC7
 

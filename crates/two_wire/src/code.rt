@@ -35,6 +35,12 @@ pub const INVALID_COMMAND: Code = Code { value: 0xC1 };
 /// IPMI: the command isn't one of the addressed logical unit's.
 pub const INVALID_FOR_LUN: Code = Code { value: 0xC2 };
 
+/// IPMI: what the request would store has no room.
+pub const OUT_OF_SPACE: Code = Code { value: 0xC4 };
+
+/// IPMI: the reservation isn't the present one.
+pub const RESERVATION_CANCELED: Code = Code { value: 0xC5 };
+
 /// IPMI: the command doesn't take so many bytes of data.
 pub const INVALID_LENGTH: Code = Code { value: 0xC7 };
 
@@ -60,14 +66,16 @@ pub const PLDM_UNSUPPORTED_COMMAND: Code = Code { value: 0x05 };
 pub const PLDM_INVALID_TYPE: Code = Code { value: 0x20 };
 
 /// The codes of IPMI, from the lowest, each by its constant. The clause ties a constant to the name that contracts have for it.
-pub fn of_ipmi() -> [Code; 7]
-    ensures { result ≡ codes.uninitialized_watchdog ∷ codes.node_busy ∷ codes.invalid_command ∷ codes.invalid_for_lun ∷ codes.invalid_length ∷ codes.not_present ∷ codes.invalid_data_field ∷ [] }
+pub fn of_ipmi() -> [Code; 9]
+    ensures { result ≡ codes.uninitialized_watchdog ∷ codes.node_busy ∷ codes.invalid_command ∷ codes.invalid_for_lun ∷ codes.out_of_space ∷ codes.reservation_canceled ∷ codes.invalid_length ∷ codes.not_present ∷ codes.invalid_data_field ∷ [] }
 {
     [
         UNINITIALIZED_WATCHDOG,
         NODE_BUSY,
         INVALID_COMMAND,
         INVALID_FOR_LUN,
+        OUT_OF_SPACE,
+        RESERVATION_CANCELED,
         INVALID_LENGTH,
         NOT_PRESENT,
         INVALID_DATA_FIELD,

@@ -11,7 +11,7 @@ use Rattle.undo_model.specs.Plan.{Stands, Halts}
 use Rattle.undo_model.specs.Machine.{Task, Stage, AtStart, Opened, AtEnd, AtHalt, AtUndone, AtRefused, asked_of, bus_at, phase_at, stage_after, undo_after}
 use Rattle.undo_model.specs.Wires.{Wires}
 use Rattle.undo_model.specs.Joined.{OthersStill, IsClosed, request_bytes, Orderly, IsOpen, AreOpen, answer_in, answer_on, answer_at, Enters}
-use Rattle.undo_model.proofs.StageSound.{TaskSound, StageSound, stage_stands, stage_halts}
+use Rattle.undo_model.proofs.StageSound.{TaskSound, StageSound, task_made, stage_stands, stage_halts}
 use Rattle.undo_model.proofs.Calls.{carried_sound, carried_valid, taken_good}
 use Rattle.undo_model.proofs.Buses.{cases_bus, each_bus}
 use Rattle.undo_model.proofs.Orderly.{not_closed, closed_still, orderly_still, orderly_begun, orderly_carried, orderly_taken, closed_taken, answer_still, answer_kept, answer_carried, answer_begun, open_still, open_begun, open_carried}
@@ -79,11 +79,12 @@ module _ (F : Family) (laws : IsFamily F) (W : Wires F) (first : Bus → ℕ) (p
         let n = length (on bus).taken in
         let opened : slice_get (on bus).begun n ≡ Some (request_bytes F W first bus n asked) = (h.are_open bus).0 (sym is) in
         let same : bytes ≡ request_bytes F W first bus n asked = same_Some _ _ (sym c.opened ∙ opened) in
-        let asks : W.asked_from bus bytes ≡ asked = ap (W.asked_from bus) same ∙ ap (λ (x : Bus). W.asked_from x (request_bytes F W first bus n asked)) (sym is) ∙ W.same _ asked in
-        let row_is : F.Row board asked a after = subst (λ (x : F.Asked). F.Row board x a after) asks row in
         let no_reply : answer_on F W first (bus_at F task) (on (bus_at F task)) ≡ None =
         ap (λ (x : Bus). answer_on F W first x (on x)) is ∙ ap (answer_in F W first bus) c.first in
         let t : TaskSound F plan start own task None undo (F.records board) = subst (λ (o : Option Answered). TaskSound F plan start own task o undo (F.records board)) no_reply h.sound.0 in
+        let made = task_made F plan start own undo (F.records board) task t in
+        let asks : W.asked_from bus bytes ≡ asked = ap (W.asked_from bus) same ∙ ap (λ (x : Bus). W.asked_from x (request_bytes F W first bus n asked)) (sym is) ∙ W.same _ asked made in
+        let row_is : F.Row board asked a after = subst (λ (x : F.Asked). F.Row board x a after) asks row in
         let reply : answer_on F W first (bus_at F task) (now (bus_at F task)) ≡ Some a =
         ap (λ (x : Bus). answer_on F W first x (now x)) is ∙ answer_carried F W first bus (on bus) (now bus) bytes a c in
         let told : StageSound F plan start own (Opened heeded task) (Some a) stopped undo (F.records after) =

@@ -10,3 +10,7 @@ pub mod Headline
 pub mod Registers
 pub mod Example
 pub mod Resume
+pub mod TwoBuses
+pub mod Clean
+pub mod RecordsRun
+pub mod NumberedLaws

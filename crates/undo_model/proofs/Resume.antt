@@ -1,19 +1,17 @@
 -- A manager that goes on from a list does what the one would have done from which the list was taken.
-use Rattle.std.proofs.Common.{◌≡◌, ℕ, ◌+◌, suc, Bool, true, false, List, [], ◌∷◌, length, Option, Some, None, refl, sym, ◌∙◌, ap, subst, arith}
+use Rattle.std.proofs.Common.{◌≡◌, Bool, true, false, List, [], ◌∷◌, length, Option, Some, None, refl, sym, ap, subst, arith}
 use Rattle.std.specs.Prelude.{nat_lt, if◌then◌else◌, ◌==◌}
 use Rattle.std.specs.Option.{option_map}
-use Rattle.std.proofs.lemmas.Bool.{cond_both}
 use Rattle.std.proofs.lemmas.Option.{none-some}
 use Rattle.two_wire.specs.Codes.{success}
 use Rattle.two_wire.specs.declared.Bus.{Bus}
 use Rattle.two_wire.specs.declared.Bus.TheVariants.{Ipmb, Smbus}
 use Rattle.undo_model.specs.Family.{Answered, Family}
 use Rattle.undo_model.specs.Laws.{is_busy}
-use Rattle.undo_model.specs.Plan.{Phase, Stop}
-use Rattle.undo_model.specs.Machine.{Counts, count_of, one_answered, Task, Gets, Sets, Undoes, Stage, AtStart, Opened, AtEnd, AtHalt, AtUndone, AtRefused, Machine, Sending, Turn, asked_of, bus_at, sending, sends_at, enters, phase_at, phase_of, undo_stage, starts, undoes, quiets, agains, stops, replies, takes}
-use Rattle.undo_model.specs.Resume.{UndoList, list_of, resumed, Call, CallStart, CallQuiet, CallStop, CallAgain, CallUndo, Replies, Request, turn_of, after, request_of, goes_out, trace, IsOver, GoesOnAlike}
+use Rattle.undo_model.specs.Machine.{Counts, count_of, one_answered, Task, Gets, Sets, Undoes, Stage, AtStart, Opened, AtEnd, AtHalt, AtUndone, AtRefused, Machine, Turn, asked_of, bus_at, sending, sends_at, enters, phase_at, phase_of, undo_stage, starts, undoes, quiets, agains, stops, replies}
+use Rattle.undo_model.specs.Resume.{list_of, resumed, Call, CallStart, CallQuiet, CallStop, CallAgain, CallUndo, Replies, turn_of, after, request_of, goes_out, trace, IsOver, GoesOnAlike}
 use Rattle.undo_model.specs.Wires.{number_of}
-use Rattle.undo_model.proofs.World.{next_number, round}
+use Rattle.undo_model.proofs.World.{round}
 
 module _ (F : Family) where
   -- it is past the plan: undoing, or at the end of that

@@ -1,12 +1,13 @@
 -- What holds of a manager's stage and the records, and what the phase then says.
-use Rattle.std.proofs.Common.{◌≡◌, ℕ, suc, Bool, true, false, List, ◌∷◌, length, Option, Some, None, ◌⊎◌, inl, inr}
+use Rattle.std.proofs.Common.{◌≡◌, ℕ, suc, refl, Bool, true, false, List, ◌∷◌, length, Option, Some, None, ◌⊎◌, inl, inr}
 use Rattle.std.specs.Prelude.{slice_get, ◌≢◌, IfSome}
 use Rattle.std.proofs.lemmas.Bool.{cases_eq}
 use Rattle.two_wire.specs.Codes.{success}
 use Rattle.undo_model.specs.Family.{Answered, Family}
 use Rattle.undo_model.specs.Laws.{Showed, is_busy}
 use Rattle.undo_model.specs.Plan.{IsAfter, Stands, Gave, Because, Halts}
-use Rattle.undo_model.specs.Machine.{Task, Gets, Sets, Undoes, Stage, AtStart, Opened, AtEnd, AtHalt, AtUndone, AtRefused, phase_at}
+use Rattle.undo_model.specs.Machine.{Task, Gets, Sets, Undoes, Stage, AtStart, Opened, AtEnd, AtHalt, AtUndone, AtRefused, asked_of, phase_at}
+use Rattle.undo_model.specs.Wires.{IsMade}
 use Rattle.undo_model.proofs.Undoable.{CanUndo, after_of, Ready}
 
 -- `plan` is what the records are compared with, `own` what the manager goes through; the reply is the one that is kept for the
@@ -37,6 +38,12 @@ module _ (F : Family) (plan : List F.Op) (start : F.Records) where
   StageSound own (AtRefused k code) reply stopped undo r = ⊥
 
   module _ (own : List F.Op) (undo : List F.Asked) (r : F.Records) where
+    -- the request of a task is one that a manager makes
+    pub task_made : (task : Task F) → TaskSound own task None undo r → IsMade F (asked_of F task)
+    task_made (Gets k op) t = inl (F.key_of op, refl)
+    task_made (Sets k op back) t = inr (op, refl)
+    task_made (Undoes first rest) t = inr (t.2.back, t.2.request)
+
     put_after : (k : ℕ) (op back : F.Op) (a : Answered) → TaskSound own (Sets k op back) (Some a) undo r → IsAfter F plan start k r ⊎ IsAfter F plan start (suc k) r
     put_after k op back a t = elim (cases_eq a.code success) [
       | inl e ↦ inr (after_of F plan start (suc k) (F.set_asked back ∷ undo) r (t.1 e))

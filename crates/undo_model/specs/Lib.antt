@@ -11,3 +11,6 @@ pub mod Headline
 pub mod Registers
 pub mod TwoBuses
 pub mod Example
+pub mod Clean
+pub mod RecordsRun
+pub mod Numbered

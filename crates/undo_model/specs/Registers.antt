@@ -161,6 +161,6 @@ wires = record {
   asked_from = λ bus. asked_from;
   reply_to = λ bus bytes a. number_in bytes ∷ a.code ∷ a.body;
   answered_from = λ bus. answered_from;
-  same = read_back;
+  same = λ number asked made. read_back number asked;
   same_reply = λ bus bytes a. refl;
 }

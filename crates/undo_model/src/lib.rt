@@ -1,3 +1,7 @@
 //! A plan that changes a controller's records, and its undo: where they stand, over both buses, whatever frames are lost,
 //! repeated or delayed.
 #![tactic(auto)]
+
+pub mod examples;
+pub mod laws;
+pub mod manager;

@@ -134,10 +134,10 @@ impl<S: Store> Board<S> {
         ensures setup { self.new.setup ≡ self.old.setup }
     {
         let key = Limits::key(op);
-        match (self.setup.limits(&key), self.store.get(&key)) {
-            (Some(limits), Some(value)) => {
-                limits.apply(op, value, &mut self.made)?;
-                let _ = self.store.put(&key, self.made.as_slice());
+        match (self.setup.limits(&key), self.store.find(&key)) {
+            (Some(limits), Some(place)) => {
+                limits.apply(op, self.store.value(place), &mut self.made)?;
+                self.store.write(place, self.made.as_slice());
                 Limits::next_live(op, &mut self.activity.live);
                 Limits::set_reply(op, to);
                 Ok(())

@@ -1,5 +1,5 @@
 use Rattle.bmc_board.proofs.LiveFacts.{are_live}
 use Rattle.bmc_board.proofs.laws.live_law.Goals as goal
 
-pub returns : goal.returns
-returns c = are_live
+pub returns-clause-answers : goal.returns-clause-answers
+returns-clause-answers c = are_live

@@ -1,30 +1,34 @@
-use Rattle.std.proofs.Common.{◌≡◌, Some, sym, ◌∙◌, ap, subst}
-use Rattle.std.specs.Option.{option_copied}
-use Rattle.record_kinds.specs.Limits.{sets}
-use Rattle.record_kinds.specs.Boards.{limits_at}
-use Rattle.record_kinds.specs.Sound.{sound_put, valid_at}
+use Rattle.std.proofs.Common.{rules, ◌≡◌, List, ℕ, Option, Some, sym, ◌∙◌, subst}
+use Rattle.cfg_records.specs.Records.{Records, with_record}
 use Rattle.cfg_records.specs.declared.key.Key.{Key}
-use Rattle.record_kinds.specs.Limits.{is_of}
+use Rattle.record_kinds.specs.Limits.{key_of, is_of, valid, sets}
+use Rattle.record_kinds.specs.Boards.{limits_at}
+use Rattle.record_kinds.specs.Sound.{IsSound, valid_at, sound_set}
 use Rattle.bmc_board.proofs.AnswerFacts.{limits_are_of}
 use Rattle.bmc_board.proofs.board.Board.set.Goals as goal
 
 pub apply-requires : goal.apply-requires
 apply-requires g c =
+    let file = c.args.self.now.setup in
+    let key : Key = c.key-key.result in
     let limits = c.in-Some-Some.limits in
-    let key = c.key-key.result in
-    let old = c.in-Some-Some.value.now in
-    let had : g.S.Store.records c.args.self.now.store key ≡ Some old = sym c.get.ensures ∙ ap option_copied c.in-Some-Some.is-1 in
-    let at : limits_at c.args.self.now.setup key ≡ Some limits = sym c.limits.ensures ∙ c.in-Some-Some.is-0 in
-    (subst (λ (k : Key). is_of limits k) c.key-key.ensures (limits_are_of c.args.self.now.setup c.key-key.result limits (sym c.limits.ensures ∙ c.in-Some-Some.is-0)), valid_at _ _ limits old at had (c.args.self.now.sound key))
+    let at : limits_at file key ≡ Some limits = sym c.limits.ensures ∙ c.in-Some-Some.is-0 in
+    let had : g.S.Store.records c.args.self.now.store key ≡ Some c.value.result.now = c.value.ensures key (sym c.find.ensures.place ∙ c.in-Some-Some.is-1) in
+    let of_record : is_of limits (key_of c.args.op.now) = subst (λ (k : Key). is_of limits k) c.key-key.ensures (limits_are_of file key limits at) in
+    let is_valid : valid limits c.value.result.now = valid_at _ _ limits c.value.result.now at had (c.args.self.now.sound key) in
+    search rules
 
 pub invariant_of-self-in-Some-Some : goal.invariant_of-self-in-Some-Some
 invariant_of-self-in-Some-Some g c =
     let file = c.args.self.now.setup in
-    let key = c.key-key.result in
+    let key : Key = c.key-key.result in
     let limits = c.in-Some-Some.limits in
-    let old = c.in-Some-Some.value.now in
-    let new = c.as_slice.result.now in
-    let had : g.S.Store.records c.args.self.now.store key ≡ Some old = sym c.get.ensures ∙ ap option_copied c.in-Some-Some.is-1 in
+    let old : List ℕ = c.value.result.now in
+    let new : List ℕ = c.as_slice.result.now in
+    let records : Records = g.S.Store.records c.args.self.now.store in
     let at : limits_at file key ≡ Some limits = sym c.limits.ensures ∙ c.in-Some-Some.is-0 in
+    let place_is = sym c.find.ensures.place ∙ c.in-Some-Some.is-1 in
+    let had : records key ≡ Some old = c.value.ensures key place_is in
     let done : sets limits c.args.op.now old new = subst (sets limits c.args.op.now old) (sym c.as_slice.ensures.value) c.in_ok-apply-in-Some-Some.ensures.decides in
-    record { sound = sound_put c.put.result file (g.S.Store.records c.args.self.now.store) (g.S.Store.records c.put.new.self) key limits c.args.op.now old new c.args.self.now.sound at had done c.put.ensures.ok c.put.ensures.err }
+    let wrote : g.S.Store.records c.write.new.self ≡ with_record records key new = c.write.ensures key place_is in
+    record { sound = subst (IsSound file) (sym wrote) (sound_set file records key limits c.args.op.now old new c.args.self.now.sound at had done) }

@@ -1,0 +1,35 @@
+use Rattle.std.proofs.Common.{◌≡◌, ℕ, List, Option, Some, slice_get, sym, ap, ◌∙◌, arith}
+use Rattle.std.specs.BTreeMap as btree
+use Rattle.std.proofs.lemmas.Option.{get_or_from_slice_get}
+use Rattle.cfg_records.specs.Keys.{key_cmp}
+use Rattle.cfg_records.specs.declared.key.Key.{Key}
+use Rattle.cfg_records.specs.Records.{Records, Pair, with_record}
+use Rattle.cfg_records.specs.Places.{value_at}
+use Rattle.cfg_records.proofs.Placed.{Stands, stands, inside, written, still_placed}
+use Rattle.cfg_records.proofs.plain_store.PlainStoreStore.write.Goals as goal
+
+pub index_mut-requires : goal.index_mut-requires
+index_mut-requires c =
+    let places : Key → Option ℕ = btree.get key_cmp c.args.self.now.places in
+    omega (arith, inside c.args.self.now.records.items places c.args.self.now.placed c.requires.0 c.args.place c.requires.1, c.args.self.now.records.ok.0)
+
+pub invariant_of-self : goal.invariant_of-self
+invariant_of-self c =
+    let pairs : List Pair = c.args.self.now.records.items in
+    let places : Key → Option ℕ = btree.get key_cmp c.args.self.now.places in
+    let place : ℕ = c.args.place in
+    let key : Key = c.requires.0 in
+    let had : Stands key (slice_get pairs place) = stands key (slice_get pairs place) (c.args.self.now.placed key place c.requires.1) in
+    let read : c.index_mut.result.now ≡ had.pair = c.index_mut.ensures.value ∙ get_or_from_slice_get pairs place had.pair c.index_mut.result.now had.is_it in
+    let new : Pair = (c.index_mut.result.now.0, c.replace.new.self) in
+    record { placed = still_placed pairs places place new had.pair c.args.self.now.placed had.is_it (ap (λ (p : Pair). p.0) read) }
+
+pub returns : goal.returns
+returns c = λ key at.
+    let pairs : List Pair = c.args.self.now.records.items in
+    let places : Key → Option ℕ = btree.get key_cmp c.args.self.now.places in
+    let place : ℕ = c.args.place in
+    let had : Stands key (slice_get pairs place) = stands key (slice_get pairs place) (c.args.self.now.placed key place at) in
+    let new : Pair = (c.index_mut.result.now.0, c.replace.new.self) in
+    let before : Records = λ (k : Key). value_at pairs (places k) in
+    written pairs places key place new had.pair c.args.self.now.placed at had.is_it ∙ ap (with_record before key) c.replace.ensures

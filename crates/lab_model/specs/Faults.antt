@@ -1,0 +1,124 @@
+-- What is wrong with an event, which a lab doesn't take then.
+use Rattle.std.specs.Prelude.{◌≡◌, ℕ, ◌+◌, Bool, true, false, not, ◌==◌, nat_le, ◌&&◌, ◌||◌, List, [], ◌∷◌, length, find, Option, Some, None, if◌then◌else◌, slice_get}
+use Rattle.std.specs.Option.{is_none}
+use Rattle.two_wire.specs.declared.Bus.{Bus}
+use Rattle.two_wire.specs.declared.Bus.TheVariants.{Ipmb, Smbus}
+use Rattle.ipmb_frame.specs.Fault.{has_fault as has_frame_fault, faults as frame_faults}
+use Rattle.mctp_net.specs.Grammar.{has_fault as has_packet_fault, faults as packet_faults}
+use Rattle.pldm_base.specs.declared.message.PldmRequest.{PldmRequest}
+use Rattle.pldm_base.specs.Message.{request_in as pldm_request_in}
+use Rattle.cfg_records.specs.declared.board_file.BoardFile.{BoardFile}
+use Rattle.bmc_board.specs.Table.{is_changing}
+use Rattle.undo_model.specs.Family.{Family}
+use Rattle.undo_model.specs.Machine.{Machine, count_of, open_bus}
+use Rattle.undo_model.specs.World.{same_bus}
+use Rattle.lab_model.specs.PortSteps.{asked_in, pldm_asked}
+use Rattle.lab_model.specs.ManagerSteps.{Names, own_on, peer_on, Plans}
+use Rattle.lab_model.specs.Lab.{Way, ToPort, ToManager, ToOthers, LabFrame, Event, Calls, ToBmc, ToMgr, OtherIpmb, OtherSmbus, Noise, Idles, Lab, idles_on, step}
+
+pub data Fault : Type 0 where
+  -- there is no such frame
+  NoFrame : Fault
+  -- the frame doesn't go to that end
+  WrongWay : Fault
+  -- too many newer requests were begun, or the manager's window was forgotten since
+  Aged : Fault
+  -- another requester's command sets the configuration
+  Changing : Fault
+  -- it comes from the manager's or the controller's address
+  Impersonates : Fault
+  -- the noise reads as a frame
+  Forged : Fault
+  -- a request of the manager is open, on either bus
+  StillOpen : Fault
+  -- 65,536 frames were sent
+  Room : Fault
+
+-- the faults in their order
+abbrev pub faults : List Fault
+faults = NoFrame ∷ WrongWay ∷ Aged ∷ Changing ∷ Impersonates ∷ Forged ∷ StillOpen ∷ Room ∷ []
+
+-- how many newer requests, once begun, make a frame too old
+abbrev pub span_of : Bus → ℕ
+span_of Ipmb = 32
+span_of Smbus = 8
+
+-- both are the same way
+abbrev pub same_way : Way → Way → Bool
+same_way ToPort ToPort = true
+same_way ToManager ToManager = true
+same_way ToOthers ToOthers = true
+same_way _ _ = false
+
+-- the bus of the open request is this
+abbrev pub is_open_bus : Bus → Option Bus → Bool
+is_open_bus on None = false
+is_open_bus on (Some other) = same_bus on other
+
+-- how many requests a machine began on a bus: those that were answered, and the open one
+abbrev pub begun_on : (F : Family) → Bus → Machine F → ℕ
+begun_on F on m = count_of on m.counts + (if is_open_bus on (open_bus F m) then 1 else 0)
+
+-- a request of the manager is open, on either bus
+abbrev pub has_open : (F : Family) → Machine F → Bool
+has_open F m = not (is_none (open_bus F m))
+
+-- the address or endpoint is the manager's or the controller's
+abbrev pub is_own : Bus → Names → ℕ → Bool
+is_own on names from = from == own_on on names || from == peer_on on names
+
+-- the PLDM request, if there is one, has a command that sets the configuration
+abbrev pub pldm_changes : ℕ → Option PldmRequest → Bool
+pldm_changes from None = false
+pldm_changes from (Some r) = is_changing (pldm_asked from r)
+
+-- a message from this endpoint is such a request
+abbrev pub message_changes : ℕ → List ℕ → Bool
+message_changes from [] = false
+message_changes from (kind ∷ rest) = kind == 1 && pldm_changes from (pldm_request_in rest)
+
+-- the bytes read as a frame of the bus
+abbrev pub is_frame : Bus → List ℕ → Bool
+is_frame Ipmb bytes = is_none (find (has_frame_fault bytes) frame_faults)
+is_frame Smbus bytes = is_none (find (has_packet_fault bytes) packet_faults)
+
+module _ (P : Plans) where
+  -- fewer newer requests than the span were begun on its bus, and the manager's window there wasn't forgotten since it was sent
+  abbrev pub is_live : Lab P → LabFrame → Bool
+  is_live x f = nat_le (begun_on P.family f.on x.manager.machine) (f.request + span_of f.on) && f.idles == idles_on P f.on x
+
+  -- 65,536 frames were sent
+  abbrev pub is_full : Lab P → Bool
+  is_full x = nat_le 65536 (length x.frames)
+
+  -- a delivery of the frame, if there is one, has the fault
+  abbrev pub delivery_fault : Way → Lab P → Option LabFrame → Fault → Bool
+  delivery_fault way x None NoFrame = true
+  delivery_fault way x (Some f) WrongWay = not (same_way f.way way)
+  delivery_fault way x (Some f) Aged = not (is_live x f)
+  delivery_fault way x f Room = is_full x
+  delivery_fault way x _ _ = false
+
+  -- the event has the fault
+  abbrev pub has_fault : Lab P → Event → Fault → Bool
+  has_fault x (ToBmc number) fault = delivery_fault ToPort x (slice_get x.frames number) fault
+  has_fault x (ToMgr number) fault = delivery_fault ToManager x (slice_get x.frames number) fault
+  has_fault x (OtherIpmb r) Changing = is_changing (asked_in r)
+  has_fault x (OtherIpmb r) Impersonates = is_own Ipmb x.manager.names r.header.requester.address
+  has_fault x (OtherIpmb r) Room = is_full x
+  has_fault x (OtherSmbus m) Changing = message_changes m.envelope.source_eid m.body
+  has_fault x (OtherSmbus m) Impersonates = is_own Smbus x.manager.names m.envelope.source_eid
+  has_fault x (OtherSmbus m) Room = is_full x
+  has_fault x (Noise on bytes) Forged = is_frame on bytes
+  has_fault x (Idles on requester) StillOpen = requester == own_on on x.manager.names && has_open P.family x.manager.machine
+  has_fault x (Calls call) Room = is_full x
+  has_fault x _ _ = false
+
+  -- the first fault of an event
+  abbrev pub fault_of : Lab P → Event → Option Fault
+  fault_of x e = find (has_fault x e) faults
+
+  -- the lab takes every event of a schedule, where it happens
+  abbrev pub AllTaken : BoardFile → List Event → Lab P → Type 0
+  AllTaken setup [] x = Unit {0}
+  AllTaken setup (e ∷ es) x = (fault_of x e ≡ None) × AllTaken setup es (step P setup x e)

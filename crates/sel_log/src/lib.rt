@@ -1,0 +1,16 @@
+//! The System Event Log: a list of records with a capacity, its reservations and its clock.
+#![tactic(auto)]
+
+mod clock;
+mod info;
+mod log_record;
+mod reservations;
+mod sel;
+#[cfg(test)]
+mod tests;
+
+pub use clock::Clock;
+pub use info::Info;
+pub use log_record::LogRecord;
+pub use reservations::Reservations;
+pub use sel::{Entry, FIRST_RECORD, LAST_RECORD, Sel, SelFault};

@@ -1,0 +1,4 @@
+pub mod IsFamily
+pub mod Spelled
+pub mod Board
+pub mod Example

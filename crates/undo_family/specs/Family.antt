@@ -1,0 +1,87 @@
+-- The records of a board and its commands, as a family of kinds of record.
+use Rattle.std.specs.Prelude.{◌≡◌, ℕ, List, [], Option, Some, None}
+use Rattle.two_wire.specs.declared.Bus.{Bus}
+use Rattle.two_wire.specs.declared.Bus.TheVariants.{Ipmb, Smbus}
+use Rattle.cfg_records.specs.declared.key.Key.{Key}
+use Rattle.cfg_records.specs.declared.op.Op.{Op}
+use Rattle.cfg_records.specs.declared.live.Live.{Live}
+use Rattle.cfg_records.specs.declared.message.Asked.{Asked}
+use Rattle.cfg_records.specs.declared.message.Asked.TheVariants.{Ipmi, Pldm}
+use Rattle.cfg_records.specs.declared.message.Answered.{Answered as BoardAnswer}
+use Rattle.cfg_records.specs.declared.board_file.BoardFile.{BoardFile}
+use Rattle.cfg_records.specs.Records.{Records, with_record}
+use Rattle.record_kinds.specs.declared.limits.Limits.{Limits}
+use Rattle.record_kinds.specs.Limits.{key_of, get_asked, set_asked, restorable, inverse, valid, sets, view, conf}
+use Rattle.record_kinds.specs.Boards.{limits_at}
+use Rattle.bmc_board.specs.State.{State}
+use Rattle.bmc_board.specs.Answer.{answer_of}
+use Rattle.bmc_board.specs.Row.{Row}
+use Rattle.bmc_board.specs.Decode.{sent_by}
+use Rattle.undo_model.specs.Family.{Answered, Family}
+use Rattle.undo_model.specs.TwoBuses.{Addresses}
+
+-- the limits allow the value
+abbrev pub Allows : Option Limits → List ℕ → Type 0
+Allows (Some limits) value = valid limits value
+Allows None value = ⊥
+
+-- within the limits the operation is accepted at the first value, and makes it the second
+abbrev pub SetsWithin : Option Limits → Op → List ℕ → List ℕ → Type 0
+SetsWithin (Some limits) op old new = sets limits op old new
+SetsWithin None op old new = ⊥
+
+-- a Get within the limits replies these data at this value, for some state of what isn't configuration
+abbrev pub ShowsWithin : Option Limits → List ℕ → List ℕ → Type 0
+ShowsWithin (Some limits) value body = (live : Live) × (body ≡ view limits value live)
+ShowsWithin None value body = ⊥
+
+-- what of the data is configuration
+abbrev pub conf_within : Option Limits → List ℕ → List ℕ
+conf_within (Some limits) body = conf limits body
+conf_within None body = []
+
+-- IPMI goes over IPMB, and PLDM over SMBus
+abbrev pub bus_of : Asked → Bus
+bus_of (Ipmi from net_fn lun command body) = Ipmb
+bus_of (Pldm from kind command body) = Smbus
+
+-- the request from the manager, by its address on the bus of the request
+abbrev pub from_manager : (Bus → Addresses) → Asked → Asked
+from_manager at asked = sent_by (at (bus_of asked)).manager asked
+
+-- an answer, in the words of the board
+abbrev pub board_answer : Answered → BoardAnswer
+board_answer a = record { code = a.code; body = a.body }
+
+-- and in those of the family
+abbrev pub family_answer : BoardAnswer → Answered
+family_answer a = record { code = a.code; body = a.body }
+
+-- the family of a board with this file, for a manager with these addresses
+abbrev pub family : BoardFile → (Bus → Addresses) → Family
+family setup at = record {
+  Key = Key;
+  Op = Op;
+  Value = List ℕ;
+  key_of = key_of;
+  Records = Records;
+  get = λ records key. records key;
+  put = with_record;
+  Valid = λ key value. Allows (limits_at setup key) value;
+  Sets = λ op old new. SetsWithin (limits_at setup (key_of op)) op old new;
+  Shows = λ key value body. ShowsWithin (limits_at setup key) value body;
+  conf = λ key body. conf_within (limits_at setup key) body;
+  Restorable = restorable;
+  inverse = inverse;
+  Board = State;
+  records = λ board. board.records;
+  Asked = Asked;
+  bus_of = bus_of;
+  get_asked = λ key. from_manager at (get_asked key);
+  set_asked = λ op. from_manager at (set_asked op);
+  Row = λ board asked a after. Row setup board asked (board_answer a) after;
+}
+
+-- what the board answers to a request, and the state that it leaves
+abbrev pub answer : BoardFile → State → Asked → Answered × State
+answer setup board asked = (family_answer (answer_of setup board asked).0, (answer_of setup board asked).1)

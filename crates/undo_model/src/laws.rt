@@ -1,0 +1,59 @@
+//! What holds of a plan and its undo, at a board of registers. Each theorem is proved over any family of kinds of record, as a lemma
+//! (`proofs/Headline.antt`, `proofs/Resume.antt`, `proofs/Clean.antt`), and stands here as the contract of a function that does nothing.
+
+ghost use Rattle.std.specs.Prelude.{ℕ, List};
+ghost use Rattle.two_wire.specs.declared.Bus.{Bus};
+ghost use Rattle.bus_model.specs.Packet.{Packet, IsCutting};
+ghost use Rattle.undo_model.specs.Laws.{IsFamily};
+ghost use Rattle.undo_model.specs.TwoBuses.{Addresses, in_messages, with_packets};
+ghost use Rattle.undo_model.specs.Headline.{AlwaysStands, UndoneForGood, StopsOnlyIfTold};
+ghost use Rattle.undo_model.specs.Resume.{GoesOnAlike};
+ghost use Rattle.undo_model.specs.RecordsRun.{RecordsStand};
+ghost use Rattle.undo_model.specs.Clean.{AnswersByRow, AlwaysRunsClean};
+ghost use Rattle.undo_model.specs.Family.{Answered};
+ghost use Rattle.undo_model.specs.Registers.{Board, Asked, registers, wires};
+
+/// The registers are a family of kinds of record: masked Sets, refusals that depend on the old value, and replies from which
+/// nothing is undone.
+pub fn registers_are_a_family()
+    ensures { IsFamily registers }
+{}
+
+/// Where the open request is carried out at most once, its reply is taken, and nothing else changes a record, the phase says at every moment
+/// what the records are, and a plan that halted has the cause that it names. This knows no bus.
+pub fn records_stand()
+    ensures { RecordsStand registers }
+{}
+
+/// At every moment of every honest schedule of both buses the manager's phase says what the records are, and a plan that halted has the
+/// cause that it names. SMBus goes in whole messages, or in packets, cut in any way that a receiver can join.
+pub fn phases_stand()
+    ensures messages { (at : Bus → Addresses) → AlwaysStands registers (in_messages at) wires }
+    ensures packets { (at : Bus → Addresses) (split : List ℕ → List Packet) → IsCutting split → AlwaysStands registers (with_packets at split) wires }
+{}
+
+/// Once a plan is undone, and at every moment from then on, every record is what it was before the plan, and each Get shows the
+/// same configuration.
+pub fn undone_is_for_good()
+    ensures messages { (at : Bus → Addresses) → UndoneForGood registers (in_messages at) wires }
+    ensures packets { (at : Bus → Addresses) (split : List ℕ → List Packet) → IsCutting split → UndoneForGood registers (with_packets at split) wires }
+{}
+
+/// A plan halts because of a stop only where it was stopped, or where another manager went on from its list.
+pub fn stops_only_if_told()
+    ensures messages { (at : Bus → Addresses) → StopsOnlyIfTold registers (in_messages at) wires }
+    ensures packets { (at : Bus → Addresses) (split : List ℕ → List Packet) → IsCutting split → StopsOnlyIfTold registers (with_packets at split) wires }
+{}
+
+/// A manager that goes on from a list is halted after as many steps as the list undoes. From `undo` on it goes through the same phases and
+/// sends the same requests, under the same numbers, as the manager from which the list was taken.
+pub fn resumed_goes_on_alike()
+    ensures { GoesOnAlike registers }
+{}
+
+/// On a link without loss a plan takes two requests for each step and ends done, or halts at the first step whose Get is refused, whose Get
+/// shows what can't be restored, or whose Set is refused. Its undo takes one request for each step that was done, and ends with the
+/// records of the start.
+pub fn plans_run_clean()
+    ensures { (answer : Board → Asked → Answered × Board) → AnswersByRow registers answer → AlwaysRunsClean registers answer }
+{}
