@@ -1,0 +1,4 @@
+pub mod Spelling
+pub mod Breaches
+pub mod Example
+pub mod Parts

@@ -1,45 +1,28 @@
 -- Requests and replies as bytes: all of a message but addresses and check bytes, the number included. On SMBus a message from its type
--- byte on, with PLDM's ignored bit 0.
-use Rattle.std.specs.Prelude.{◌≡◌, ◌≢◌, ℕ, ◌+◌, ◌/◌, ◌%◌, ◌<◌, true, List, [], ◌∷◌, drop, slice_index, Option, Some, None}
+-- byte on, with PLDM's ignored bit 0. `undo_family` has those of the manager's requests and of replies.
+use Rattle.std.specs.Prelude.{◌≡◌, ◌≢◌, ℕ, ◌+◌, ◌<◌, true, List, [], ◌∷◌, Option, Some, None}
 use Rattle.two_wire.specs.declared.Bus.{Bus}
 use Rattle.two_wire.specs.declared.Bus.TheVariants as bus
 use Rattle.cfg_records.specs.declared.message.Asked.{Asked}
 use Rattle.cfg_records.specs.declared.message.Asked.TheVariants.{Ipmi, Pldm}
-use Rattle.cfg_records.specs.declared.message.Answered.{Answered}
 use Rattle.ipmb_frame.specs.declared.message.Request.{Request}
 use Rattle.ipmb_frame.specs.declared.message.Response.{Response}
 use Rattle.ipmb_frame.specs.Grammar.{packed, request_bytes}
 use Rattle.pldm_base.specs.declared.message.PldmRequest.{PldmRequest}
 use Rattle.pldm_base.specs.Message.{request_bytes as pldm_request_bytes}
-use Rattle.bus_model.specs.declared.numbers.Numbers.{Numbers}
-use Rattle.bus_model.specs.declared.numbers.Numbers.TheVariants as numbers
 use Rattle.bus_model.specs.Request.{Request as Heard}
-use Rattle.bus_model.specs.Bytes.{ipmb_request, pldm_request, busy_code, answers, IsRequestOn, IsReplyOn}
+use Rattle.bus_model.specs.Bytes.{busy_code, answers, IsRequestOn, IsReplyOn}
 use Rattle.bmc_board.specs.Decode.{sent_by}
-
--- the bus on which a request goes
-abbrev pub bus_of : Asked → Bus
-bus_of (Ipmi from net_fn lun command body) = bus.Ipmb
-bus_of (Pldm from kind command body) = bus.Smbus
-
--- how a bus numbers requests
-abbrev pub numbers_of : Bus → Numbers
-numbers_of bus.Ipmb = numbers.Ipmb
-numbers_of bus.Smbus = numbers.Pldm
+use Rattle.undo_model.specs.Family.{Answered as Told}
+use Rattle.undo_family.specs.Family.{bus_of}
+use Rattle.undo_family.specs.Spelled.{numbers_of}
+use Rattle.undo_family.specs.Wires.{bytes_of, asked_from, reply_to, answered_from}
 
 -- ---- requests
 
--- the bytes of a request of the manager under a number; the manager's logical unit is 0
-abbrev pub bytes_of : ℕ → Asked → List ℕ
-bytes_of number (Ipmi from net_fn lun command body) =
-    ipmb_request (record { net_fn = net_fn; responder_lun = lun; requester_lun = 0; command = command }) number body
-bytes_of number (Pldm from kind command body) = pldm_request (record { pldm_type = kind; command = command }) number body
-
 -- what bytes ask on a bus, where they come from this requester
-abbrev pub asked_from : ℕ → Bus → List ℕ → Option Asked
-asked_from from bus.Ipmb (first ∷ second ∷ command ∷ body) = Some (Ipmi from (first / 4) (first % 4) command body)
-asked_from from bus.Smbus (kind ∷ flags ∷ pldm_type ∷ command ∷ body) = Some (Pldm from pldm_type command body)
-asked_from from on _ = None
+abbrev pub asked_by_bytes : ℕ → Bus → List ℕ → Asked
+asked_by_bytes from on bytes = sent_by from (asked_from (λ other. record { manager = from; controller = from }) on bytes)
 
 -- a logical unit is below 4
 abbrev pub Fits : Asked → Type 0
@@ -61,20 +44,8 @@ pldm_heard_in from r = record { requester = from; number = r.header.instance; by
 
 -- ---- replies
 
--- The bytes of the reply that gives the answer to a request of these bytes. IPMB: the next netFn and the requester's logical unit, the
--- number and the responder's logical unit. SMBus: the instance, with request and datagram bit clear, and the type.
-abbrev pub reply_to : Bus → List ℕ → Answered → List ℕ
-reply_to bus.Ipmb bytes a =
-    packed (slice_index bytes 0 / 4 + 1) (slice_index bytes 1 % 4) ∷ packed (slice_index bytes 1 / 4) (slice_index bytes 0 % 4) ∷ slice_index bytes 2 ∷ a.code ∷ a.body
-reply_to bus.Smbus bytes a = 1 ∷ slice_index bytes 1 % 32 ∷ slice_index bytes 2 ∷ slice_index bytes 3 ∷ a.code ∷ a.body
-
--- the answer that the bytes of a reply give
-abbrev pub answered_from : Bus → List ℕ → Answered
-answered_from bus.Ipmb reply = record { code = slice_index reply 3; body = drop 4 reply }
-answered_from bus.Smbus reply = record { code = slice_index reply 4; body = drop 5 reply }
-
 -- the answer of a port that is busy
-abbrev pub busy_on : Bus → Answered
+abbrev pub busy_on : Bus → Told
 busy_on on = record { code = busy_code (numbers_of on); body = [] }
 
 -- what a port replies to a request: the reply, or where there is none, that it is busy
@@ -88,27 +59,27 @@ response_bytes r =
     packed (r.header.net_fn + 1) r.header.requester.lun ∷ packed r.header.sequence r.header.responder.lun ∷ r.header.command ∷ r.code ∷ r.body
 
 -- the response to a request that gives the answer
-abbrev pub response_to : Request → Answered → Response
+abbrev pub response_to : Request → Told → Response
 response_to r a = record { header = r.header; code = a.code; body = a.body }
 
 -- ---- what holds of them
 
 -- a request's bytes are read as that request, from whoever sent it; a reply's as that answer
 pub record AreReadBack : Type 0 where
-  pub request : (from number : ℕ) (asked : Asked) → Fits asked → asked_from from (bus_of asked) (bytes_of number asked) ≡ Some (sent_by from asked)
-  pub reply : (on : Bus) (bytes : List ℕ) (a : Answered) → answered_from on (reply_to on bytes a) ≡ a
+  pub request : (from number : ℕ) (asked : Asked) → Fits asked → asked_by_bytes from (bus_of asked) (bytes_of number asked) ≡ sent_by from asked
+  pub reply : (on : Bus) (bytes : List ℕ) (a : Told) → answered_from on (reply_to on bytes a) ≡ a
 
 -- they are a request's and a reply's of the model
 pub record AreTheModels : Type 0 where
   pub request : (number : ℕ) (asked : Asked) → Fits asked → IsNumber (bus_of asked) number → IsRequestOn (numbers_of (bus_of asked)) number (bytes_of number asked)
-  pub reply : (on : Bus) (number : ℕ) (bytes : List ℕ) (a : Answered) → IsRequestOn (numbers_of on) number bytes → IsReplyOn (numbers_of on) a.code bytes (reply_to on bytes a)
+  pub reply : (on : Bus) (number : ℕ) (bytes : List ℕ) (a : Told) → IsRequestOn (numbers_of on) number bytes → IsReplyOn (numbers_of on) a.code bytes (reply_to on bytes a)
 
 -- the reply to a request passes the manager's test against it, unless its code is the busy one
 abbrev pub Accepts : Type 0
-Accepts = (on : Bus) (number : ℕ) (bytes : List ℕ) (a : Answered) → IsRequestOn (numbers_of on) number bytes → a.code ≢ busy_code (numbers_of on)
+Accepts = (on : Bus) (number : ℕ) (bytes : List ℕ) (a : Told) → IsRequestOn (numbers_of on) number bytes → a.code ≢ busy_code (numbers_of on)
     → answers (numbers_of on) bytes (reply_to on bytes a) ≡ true
 
 -- a reply that passes it has the open request's number
 abbrev pub IsNumbered : Type 0
-IsNumbered = (on : Bus) (m n : ℕ) (opened bytes : List ℕ) (a : Answered) → IsRequestOn (numbers_of on) m opened → IsRequestOn (numbers_of on) n bytes
+IsNumbered = (on : Bus) (m n : ℕ) (opened bytes : List ℕ) (a : Told) → IsRequestOn (numbers_of on) m opened → IsRequestOn (numbers_of on) n bytes
     → answers (numbers_of on) opened (reply_to on bytes a) ≡ true → n ≡ m

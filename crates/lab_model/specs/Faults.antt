@@ -14,7 +14,7 @@ use Rattle.undo_model.specs.Machine.{Machine, count_of, open_bus}
 use Rattle.undo_model.specs.World.{same_bus}
 use Rattle.lab_model.specs.PortSteps.{asked_in, pldm_asked}
 use Rattle.lab_model.specs.ManagerSteps.{Names, own_on, peer_on, Plans}
-use Rattle.lab_model.specs.Lab.{Way, ToPort, ToManager, ToOthers, LabFrame, Event, Calls, ToBmc, ToMgr, OtherIpmb, OtherSmbus, Noise, Idles, Lab, idles_on, step}
+use Rattle.lab_model.specs.Lab.{Way, ToPort, ToManager, ToOthers, LabFrame, Event, Calls, ToBmc, ToMgr, OtherIpmb, OtherSmbus, Noise, Idles, OnBench, Lab, idles_on, step}
 
 pub data Fault : Type 0 where
   -- there is no such frame
@@ -34,9 +34,18 @@ pub data Fault : Type 0 where
   -- 65,536 frames were sent
   Room : Fault
 
--- the faults in their order
-abbrev pub faults : List Fault
-faults = NoFrame ∷ WrongWay ∷ Aged ∷ Changing ∷ Impersonates ∷ Forged ∷ StillOpen ∷ Room ∷ []
+-- a fault, and whether an event has it
+pub record Check : Type 0 where
+  pub fault : Fault
+  pub holds : Bool
+
+abbrev pub check : Fault → Bool → Check
+check fault holds = record { fault = fault; holds = holds }
+
+-- the first of the faults that an event has
+abbrev pub first_of : List Check → Option Fault
+first_of [] = None
+first_of (c ∷ cs) = if c.holds then Some c.fault else first_of cs
 
 -- how many newer requests, once begun, make a frame too old
 abbrev pub span_of : Bus → ℕ
@@ -91,32 +100,26 @@ module _ (P : Plans) where
   abbrev pub is_full : Lab P → Bool
   is_full x = nat_le 65536 (length x.frames)
 
-  -- a delivery of the frame, if there is one, has the fault
-  abbrev pub delivery_fault : Way → Lab P → Option LabFrame → Fault → Bool
-  delivery_fault way x None NoFrame = true
-  delivery_fault way x (Some f) WrongWay = not (same_way f.way way)
-  delivery_fault way x (Some f) Aged = not (is_live x f)
-  delivery_fault way x f Room = is_full x
-  delivery_fault way x _ _ = false
+  -- the faults of a delivery to an end, of the frame, if there is one
+  abbrev pub delivery : Way → Lab P → Option LabFrame → List Check
+  delivery way x None = check NoFrame true ∷ []
+  delivery way x (Some f) = check WrongWay (not (same_way f.way way)) ∷ check Aged (not (is_live x f)) ∷ check Room (is_full x) ∷ []
 
-  -- the event has the fault
-  abbrev pub has_fault : Lab P → Event → Fault → Bool
-  has_fault x (ToBmc number) fault = delivery_fault ToPort x (slice_get x.frames number) fault
-  has_fault x (ToMgr number) fault = delivery_fault ToManager x (slice_get x.frames number) fault
-  has_fault x (OtherIpmb r) Changing = is_changing (asked_in r)
-  has_fault x (OtherIpmb r) Impersonates = is_own Ipmb x.manager.names r.header.requester.address
-  has_fault x (OtherIpmb r) Room = is_full x
-  has_fault x (OtherSmbus m) Changing = message_changes m.envelope.source_eid m.body
-  has_fault x (OtherSmbus m) Impersonates = is_own Smbus x.manager.names m.envelope.source_eid
-  has_fault x (OtherSmbus m) Room = is_full x
-  has_fault x (Noise on bytes) Forged = is_frame on bytes
-  has_fault x (Idles on requester) StillOpen = requester == own_on on x.manager.names && has_open P.family x.manager.machine
-  has_fault x (Calls call) Room = is_full x
-  has_fault x _ _ = false
+  -- the faults of each event, in their order
+  abbrev pub checks : Lab P → Event → List Check
+  checks x (Calls call) = check Room (is_full x) ∷ []
+  checks x (ToBmc number) = delivery ToPort x (slice_get x.frames number)
+  checks x (ToMgr number) = delivery ToManager x (slice_get x.frames number)
+  checks x (OtherIpmb r) = check Changing (is_changing (asked_in r)) ∷ check Impersonates (is_own Ipmb x.manager.names r.header.requester.address) ∷ check Room (is_full x) ∷ []
+  checks x (OtherSmbus m) =
+      check Changing (message_changes m.envelope.source_eid m.body) ∷ check Impersonates (is_own Smbus x.manager.names m.envelope.source_eid) ∷ check Room (is_full x) ∷ []
+  checks x (Noise on bytes) = check Forged (is_frame on bytes) ∷ []
+  checks x (Idles on requester) = check StillOpen (requester == own_on on x.manager.names && has_open P.family x.manager.machine) ∷ []
+  checks x (OnBench activity) = []
 
   -- the first fault of an event
   abbrev pub fault_of : Lab P → Event → Option Fault
-  fault_of x e = find (has_fault x e) faults
+  fault_of x e = first_of (checks x e)
 
   -- the lab takes every event of a schedule, where it happens
   abbrev pub AllTaken : BoardFile → List Event → Lab P → Type 0

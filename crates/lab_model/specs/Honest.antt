@@ -1,5 +1,5 @@
 -- What the links and the other requesters are trusted with, in words of the lab.
-use Rattle.std.specs.Prelude.{◌≡◌, ◌≢◌, ◌⊎◌, ℕ, ◌+◌, ◌<◌, ◌≤◌, false, List, ◌∷◌, All, length, Some, None, slice_get}
+use Rattle.std.specs.Prelude.{◌≡◌, ◌≢◌, ◌⊎◌, ℕ, ◌+◌, ◌<◌, ◌≤◌, false, List, ◌∷◌, All, Some, None, slice_get}
 use Rattle.two_wire.specs.declared.Bus.{Bus}
 use Rattle.two_wire.specs.declared.Bus.TheVariants.{Ipmb, Smbus}
 use Rattle.ipmb_frame.specs.declared.message.Msg.{Msg}
@@ -55,10 +55,9 @@ module _ (P : Plans) where
   IsHonest x (Idles on requester) = requester ≡ own_on on x.manager.names → open_bus P.family x.manager.machine ≡ None
   IsHonest x (OnBench activity) = Unit {0}
 
-  -- the bytes of an event are bytes
+  -- noise is bytes
   abbrev pub HasBytes : Event → Type 0
   HasBytes (Noise on bytes) = All (λ b. b < 256) bytes
-  HasBytes (OtherSmbus m) = All (λ b. b < 256) m.body × (length m.body ≤ 256)
   HasBytes _ = Unit {0}
 
   -- a lab takes honest events alone, and refuses an honest one only for want of room

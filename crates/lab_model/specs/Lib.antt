@@ -6,3 +6,5 @@ pub mod Lab
 pub mod Faults
 pub mod Own
 pub mod Honest
+pub mod Example
+pub mod Cuts

@@ -1,5 +1,5 @@
 -- What each call and each frame makes of the manager, and what it sends.
-use Rattle.std.specs.Prelude.{◌≡◌, ℕ, ◌%◌, Bool, true, not, ◌==◌, ◌&&◌, List, [], ◌∷◌, map, Option, Some, None, if◌then◌else◌}
+use Rattle.std.specs.Prelude.{◌≡◌, refl, ℕ, ◌%◌, Bool, true, not, ◌==◌, ◌&&◌, List, [], ◌∷◌, map, Option, Some, None, if◌then◌else◌}
 use Rattle.std.specs.Option.{option_map}
 use Rattle.two_wire.specs.declared.Bus.{Bus}
 use Rattle.two_wire.specs.declared.Bus.TheVariants.{Ipmb, Smbus}
@@ -9,14 +9,18 @@ use Rattle.mctp_net.specs.declared.taken.DropCause.{DropCause}
 use Rattle.mctp_net.specs.Assembly.{Assemblies, nothing, drop_cause, after as kept_after, message_of}
 use Rattle.cfg_records.specs.declared.message.Asked.{Asked}
 use Rattle.cfg_records.specs.declared.message.Asked.TheVariants.{Ipmi, Pldm}
-use Rattle.cfg_records.specs.declared.message.Answered.{Answered}
+use Rattle.cfg_records.specs.declared.board_file.BoardFile.{BoardFile}
 use Rattle.bus_model.specs.Bytes.{answers}
-use Rattle.undo_model.specs.Family.{Answered as Told, Family}
+use Rattle.undo_model.specs.Family.{Family}
 use Rattle.undo_model.specs.Machine.{count_of, Task, asked_of, bus_at, Stage, Opened, Machine, Sending, Turn, start_of, quiet_of, stop_of, again_of, undo_of, reply_of}
 use Rattle.undo_model.specs.Wires.{number_of}
 use Rattle.undo_model.specs.World.{same_bus}
+use Rattle.undo_model.specs.TwoBuses.{Addresses}
+use Rattle.undo_family.specs.Family.{bus_of, family}
+use Rattle.undo_family.specs.Spelled.{numbers_of}
+use Rattle.undo_family.specs.Wires.{bytes_of, answered_from}
 use Rattle.lab_model.specs.Values.{Value, Asks, Tells, Part, parts_of}
-use Rattle.lab_model.specs.Bytes.{bus_of, numbers_of, bytes_of, answered_from, response_bytes}
+use Rattle.lab_model.specs.Bytes.{response_bytes}
 
 -- the addresses and endpoints of the manager and of the controller
 pub record Names : Type 0 where
@@ -42,6 +46,14 @@ pub record Plans : Type 1 where
   pub family : Family
   pub asked : family.Asked → Asked
   pub on_its_bus : (a : family.Asked) → family.bus_of a ≡ bus_of (asked a)
+
+-- both ends' addresses on a bus
+abbrev pub addresses : Names → Bus → Addresses
+addresses names on = record { manager = own_on on names; controller = peer_on on names }
+
+-- plans on the records of a board with this file
+abbrev pub board_plans : BoardFile → Names → Plans
+board_plans setup names = record { family = family setup (addresses names); asked = λ a. a; on_its_bus = λ a. refl }
 
 -- ---- what a request is on the wires
 
@@ -92,10 +104,6 @@ abbrev pub is_part : Names → ℕ → Packet → Bool
 is_part names count p =
     (p.envelope.destination == names.own_wire && p.envelope.source == names.peer_wire)
     && (p.envelope.source_eid == names.peer_eid && (not p.envelope.tag_owner && p.envelope.tag == count % 8))
-
--- an answer, as a plan knows it
-abbrev pub as_told : Answered → Told
-as_told a = record { code = a.code; body = a.body }
 
 module _ (P : Plans) where
   -- a manager: its machine, the names, and the packets that wait at it
@@ -165,7 +173,7 @@ module _ (P : Plans) where
   tested on reply m None = rests m
   tested on reply m (Some task) =
       if answers (numbers_of on) (open_bytes on m task) reply
-      then taken_or m (reply_of P.family (as_told (answered_from on reply)) m.machine)
+      then taken_or m (reply_of P.family (answered_from on reply) m.machine)
       else rests m
 
   -- the bytes of a reply from the controller come

@@ -15,12 +15,15 @@ use Rattle.cfg_records.specs.declared.message.Asked.TheVariants.{Ipmi, Pldm}
 use Rattle.cfg_records.specs.declared.message.Answered.{Answered}
 use Rattle.cfg_records.specs.declared.board_file.BoardFile.{BoardFile}
 use Rattle.bus_model.specs.Request.{Request as Heard, Kept, Entry, Idled}
+use Rattle.two_wire.specs.declared.Bus.{Bus}
 use Rattle.bus_model.specs.Numbering.{is_above}
 use Rattle.bus_model.specs.Carried.{Outcome, Repeats, IsBusy, IsNew, outcome, log_after, reply_after}
 use Rattle.bmc_board.specs.State.{State}
 use Rattle.bmc_board.specs.Answer.{answer_of}
 use Rattle.lab_model.specs.Values.{Value, Asks, Tells, Part, parts_of}
-use Rattle.lab_model.specs.Bytes.{heard_in, pldm_heard_in, reply_to, answered_from, said, response_to}
+use Rattle.undo_family.specs.Family.{family_answer}
+use Rattle.undo_family.specs.Wires.{reply_to, answered_from}
+use Rattle.lab_model.specs.Bytes.{heard_in, pldm_heard_in, said, response_to}
 
 -- a port: its two-wire address, its endpoint's identifier, the packets that wait at it, and what it did, newest first
 pub record PortState : Type 0 where
@@ -37,6 +40,10 @@ pub record Turn : Type 0 where
   pub log : List Entry
   pub left : State
   pub replied : Option (List ℕ)
+
+-- the reply to a request, as bytes
+abbrev pub spelled : Bus → Heard → Answered → List ℕ
+spelled on r a = reply_to on r.bytes (family_answer a)
 
 -- the board after it: another only where the request is new
 abbrev pub left_by : Outcome → State → State → State
@@ -70,7 +77,7 @@ asked_in r = Ipmi r.header.requester.address r.header.net_fn r.header.responder.
 
 -- what comes of a request on IPMB
 abbrev pub request_turn : BoardFile → PortState → State → Request → Turn
-request_turn setup port before r = turn (is_above 64) (heard_in r) (reply_to Ipmb (heard_in r).bytes) setup (asked_in r) port.log before
+request_turn setup port before r = turn (is_above 64) (heard_in r) (spelled Ipmb (heard_in r)) setup (asked_in r) port.log before
 
 -- the response to it
 abbrev pub response_after : Request → Option (List ℕ) → Value
@@ -114,7 +121,7 @@ pldm_asked from r = Pldm from r.header.pldm_type r.header.command r.body
 -- what comes of a PLDM request
 abbrev pub pldm_turn : BoardFile → PortState → State → ℕ → PldmRequest → Turn
 pldm_turn setup port before from r =
-    turn (is_above 32) (pldm_heard_in from r) (reply_to Smbus (pldm_heard_in from r).bytes) setup (pldm_asked from r) port.log before
+    turn (is_above 32) (pldm_heard_in from r) (spelled Smbus (pldm_heard_in from r)) setup (pldm_asked from r) port.log before
 
 -- a PLDM message
 abbrev pub hears_pldm : BoardFile → PortState → State → Message → Option PldmRequest → Deed

@@ -1,8 +1,39 @@
 //! Laws of the definitions.
 
-ghost use Rattle.lab_model.specs.Bytes.{AreReadBack};
+ghost use Rattle.cfg_records.specs.declared.board_file.BoardFile.{BoardFile};
+ghost use Rattle.lab_model.specs.ManagerSteps.{Names, board_plans};
+ghost use Rattle.lab_model.specs.Bytes.{AreReadBack, AreTheModels, Accepts, IsNumbered};
+ghost use Rattle.lab_model.specs.Honest.{FaultsAreBreaches};
+ghost use Rattle.lab_model.specs.Cuts.{PartsAreCuts, PartsAreHeard};
 
 /// A request's bytes are read as that request, and a reply's as its answer.
 pub fn bytes_are_read_back()
     ensures { AreReadBack }
+{}
+
+/// The bytes of requests and replies are those of which the model of a bus speaks.
+pub fn bytes_are_the_models()
+    ensures { AreTheModels }
+{}
+
+/// The manager's test against a request takes the reply to it, unless that has the busy code. What it takes has the request's number.
+pub fn test_takes_the_reply()
+    ensures accepts { Accepts }
+    ensures numbered { IsNumbered }
+{}
+
+/// An event has a fault only where it breaks what the links are trusted with, or where there is no room; an event without a fault
+/// breaks nothing.
+pub fn faults_are_breaches()
+    ensures { (setup : BoardFile) (names : Names) → FaultsAreBreaches (board_plans setup names) }
+{}
+
+/// The packets of a message are a cut of it, and those of the model of a bus.
+pub fn parts_are_cuts()
+    ensures { PartsAreCuts }
+{}
+
+/// All packets of a message to the port's endpoint, one after another, are heard as the message, where there is a slot for it.
+pub fn parts_are_heard()
+    ensures { PartsAreHeard }
 {}

@@ -3,4 +3,5 @@
 //! body.
 #![tactic(auto)]
 
+pub mod examples;
 pub mod laws;

@@ -1,0 +1,24 @@
+-- The runs compute.
+use Rattle.std.proofs.Common.{refl}
+use Rattle.cfg_records.specs.Masks.{is_within}
+use Rattle.cfg_records.specs.Thresholds.{is_in_order, is_clear}
+use Rattle.lab_model.specs.PortSteps.{turn, hears_request, hears_message, hears_part, hears_parts}
+use Rattle.lab_model.specs.ManagerSteps.{called, hears_response, hears_packet}
+use Rattle.lab_model.specs.Lab.{step, run}
+use Rattle.lab_model.specs.Example.{ShowsFaults, TwoStepsUndone, RepliesOnce, SettlesAgain}
+
+pub shows_faults : ShowsFaults
+unfolding step run turn hears_request hears_message hears_part hears_parts called hears_response hears_packet is_within is_in_order is_clear
+shows_faults = record { no_frame = refl; wrong_way = refl; changing = refl; impersonates = refl; forged = refl; still_open = refl; on_the_other_bus = refl }
+
+pub replies_once : RepliesOnce
+unfolding step run turn hears_request hears_message hears_part hears_parts called hears_response hears_packet is_within is_in_order is_clear
+replies_once = record { taken = (refl, (refl, (refl, (refl, (refl, (refl, (refl, (refl, tt)))))))); done = refl; frames = refl; again = refl; first_reply = refl; kept_reply = refl; late = refl }
+
+pub settles_again : SettlesAgain
+unfolding step run turn hears_request hears_message hears_part hears_parts called hears_response hears_packet is_within is_in_order is_clear
+settles_again = record { taken = (refl, (refl, (refl, (refl, (refl, (refl, (refl, (refl, (refl, (refl, (refl, tt))))))))))); unsettled_first = refl; done = refl; undone = refl; frames = refl; same = refl }
+
+pub two_steps_undone : TwoStepsUndone
+unfolding step run turn hears_request hears_message hears_part hears_parts called hears_response hears_packet is_within is_in_order is_clear
+two_steps_undone = record { taken = (refl, (refl, (refl, (refl, (refl, (refl, (refl, (refl, (refl, (refl, (refl, (refl, (refl, (refl, tt)))))))))))))); undone = refl; frames = refl; undoes = refl; same = refl }

@@ -1,0 +1,6 @@
+use Rattle.lab_model.specs.ManagerSteps.{board_plans}
+use Rattle.lab_model.proofs.Breaches.{faults_are_breaches}
+use Rattle.lab_model.proofs.laws.faults_are_breaches.Goals as goal
+
+pub returns : goal.returns
+returns c = λ setup names. faults_are_breaches (board_plans setup names)

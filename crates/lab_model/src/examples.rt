@@ -1,0 +1,23 @@
+//! Runs that compute, so that no definition is about nothing: each is the contract of a function without a body.
+
+ghost use Rattle.lab_model.specs.Example.{ShowsFaults, TwoStepsUndone, RepliesOnce, SettlesAgain};
+
+/// Frames that weren't sent, that go another way or that are somebody else's, noise that is a frame, and an idle while a request is open.
+pub fn faults_are_shown()
+    ensures { ShowsFaults }
+{}
+
+/// A plan of two steps on thresholds, and its undo, each frame once: twelve frames.
+pub fn two_steps_are_undone()
+    ensures { TwoStepsUndone }
+{}
+
+/// A Set whose reply is lost is sent again: the reply that was kept is taken, and a late copy of it changes nothing.
+pub fn kept_reply_is_taken()
+    ensures { RepliesOnce }
+{}
+
+/// A Set without retries is unsettled, is sent again, and is undone.
+pub fn unsettled_set_is_undone()
+    ensures { SettlesAgain }
+{}
