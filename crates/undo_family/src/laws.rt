@@ -54,8 +54,8 @@ pub fn stops_only_if_told()
     ensures packets { (setup : BoardFile) (at : Bus → Addresses) (split : List ℕ → List Packet) → IsCutting split → StopsOnlyIfTold (family setup at) (with_packets at split) (wires setup at) }
 {}
 
-/// A manager that goes on from a list is halted after as many steps as the list undoes. From `undo` on it goes through the same phases and
-/// sends the same requests, under the same numbers, as the manager from which the list was taken.
+/// A manager that goes on from a list is halted after as many steps as the list undoes, with no request open, and gives that same list. From
+/// `undo` on it goes through the same phases and sends the same requests, under the same numbers, as the manager from which the list was taken.
 pub fn resumed_goes_on_alike()
     ensures { (setup : BoardFile) (at : Bus → Addresses) → GoesOnAlike (family setup at) }
 {}
