@@ -41,8 +41,8 @@ pub fn halts_by_given_answers()
     ensures packets { (setup : BoardFile) (at : Bus → Addresses) (split : List ℕ → List Packet) → IsCutting split → HaltsByGiven (family setup at) (with_packets at split) (wires setup at) }
 {}
 
-/// Once a plan is undone, and at every moment from then on, every record is what it was before the plan, and each Get shows the same
-/// configuration.
+/// Once a plan is undone, and at every moment from then on, every record is what it was before the plan, and each Get as the
+/// manager asks it shows the same configuration.
 pub fn undone_is_for_good()
     ensures messages { (setup : BoardFile) (at : Bus → Addresses) → UndoneForGood (family setup at) (in_messages at) (wires setup at) }
     ensures packets { (setup : BoardFile) (at : Bus → Addresses) (split : List ℕ → List Packet) → IsCutting split → UndoneForGood (family setup at) (with_packets at split) (wires setup at) }
@@ -60,9 +60,9 @@ pub fn resumed_goes_on_alike()
     ensures { (setup : BoardFile) (at : Bus → Addresses) → GoesOnAlike (family setup at) }
 {}
 
-/// On a link without loss a plan takes two requests for each step and ends done, or halts at the first step whose Get is refused, whose Get
-/// shows what can't be restored, or whose Set is refused. Its undo takes one request for each step that was done, and ends with the
-/// records of the start.
+/// Where the board answers each request at once and the manager takes each reply, a plan takes two requests for each step and ends done, or
+/// halts at the first step whose Get is refused, whose Get shows what can't be restored, or whose Set is refused. Its undo takes one request
+/// for each step that was done, and ends with the records of the start. This knows no bus.
 pub fn plans_run_clean()
     ensures answers { (setup : BoardFile) (at : Bus → Addresses) → AnswersByRow (family setup at) (answer setup) }
     ensures clean { (setup : BoardFile) (at : Bus → Addresses) → AlwaysRunsClean (family setup at) (answer setup) }
