@@ -1,4 +1,4 @@
--- A link without loss: each request is carried out at once, and the manager takes the reply.
+-- A link without loss, and no bus: the board answers each request at once, and the manager takes the reply.
 use Rattle.std.specs.Prelude.{◌≡◌, ◌≢◌, ℕ, zero, suc, ◌+◌, List, [], ◌∷◌, ◌++◌, length, Option, Some, None, IfSome}
 use Rattle.two_wire.specs.Codes.{success}
 use Rattle.undo_model.specs.Family.{Answered, Family, AllValid}
