@@ -2,3 +2,4 @@ pub mod Spelling
 pub mod Breaches
 pub mod Example
 pub mod Parts
+pub mod LongExample

@@ -11,7 +11,7 @@ use Rattle.bmc_board.specs.declared.activity.Activity.{Activity}
 use Rattle.bmc_board.specs.State.{State, state, opened as opened_board}
 use Rattle.undo_model.specs.Machine.{opened as opened_machine}
 use Rattle.lab_model.specs.Values.{Value, Asks, Tells, Part, parts_of}
-use Rattle.lab_model.specs.PortSteps.{PortState, Deed, hears, hears_parts, idles}
+use Rattle.lab_model.specs.PortSteps.{PortState, Deed, hears, hears_parts, idles, quiet_port}
 use Rattle.lab_model.specs.ManagerSteps.{Names, own_on, Plans, Call, ManagerState, ManagerDeed, Sent, called, manager_hears}
 
 -- to whom a frame goes
@@ -135,10 +135,6 @@ module _ (P : Plans) (setup : BoardFile) where
   unfoldable pub run : List Event → Lab P → Lab P
   run [] x = x
   run (e ∷ es) x = run es (step x e)
-
-  -- a port that has heard nothing yet
-  abbrev pub quiet_port : ℕ → ℕ → PortState
-  quiet_port wire eid = record { wire = wire; eid = eid; kept = nothing; log = [] }
 
   -- a lab as it begins: a board that has heard nothing, and a manager with a plan
   abbrev pub opening : Names → List P.family.Op → (retries : ℕ) → Lab P

@@ -8,3 +8,4 @@ pub mod Own
 pub mod Honest
 pub mod Example
 pub mod Cuts
+pub mod LongExample

@@ -6,7 +6,7 @@ use Rattle.mctp_net.specs.declared.packet.Envelope.{Envelope}
 use Rattle.mctp_net.specs.declared.packet.Packet.{Packet}
 use Rattle.mctp_net.specs.declared.message.Message.{Message}
 use Rattle.mctp_net.specs.declared.taken.DropCause.{DropCause}
-use Rattle.mctp_net.specs.Assembly.{Assemblies, drop_cause, after as kept_after, message_of}
+use Rattle.mctp_net.specs.Assembly.{Assemblies, nothing, drop_cause, after as kept_after, message_of}
 use Rattle.mctp_net.specs.Control.{Request as ControlRequest, request_of as control_request_of, reply_to as control_reply_to, eid_after}
 use Rattle.pldm_base.specs.declared.message.PldmRequest.{PldmRequest}
 use Rattle.pldm_base.specs.Message.{request_in as pldm_request_in}
@@ -31,6 +31,10 @@ pub record PortState : Type 0 where
   pub eid : ℕ
   pub kept : Assemblies
   pub log : List Entry
+
+-- a port that has heard nothing yet
+abbrev pub quiet_port : (wire eid : ℕ) → PortState
+quiet_port wire eid = record { wire = wire; eid = eid; kept = nothing; log = [] }
 
 -- ---- one request
 

@@ -1,6 +1,7 @@
 //! Runs that compute, so that no definition is about nothing: each is the contract of a function without a body.
 
 ghost use Rattle.lab_model.specs.Example.{ShowsFaults, TwoStepsUndone, RepliesOnce, SettlesAgain};
+ghost use Rattle.lab_model.specs.LongExample.{CopiesAge, NinthIsBusy, AnswersPackets, JoinsPackets};
 
 /// Frames that weren't sent, that go another way or that are somebody else's, noise that is a frame, and an idle while a request is open.
 pub fn faults_are_shown()
@@ -20,4 +21,24 @@ pub fn kept_reply_is_taken()
 /// A Set without retries is unsettled, is sent again, and is undone.
 pub fn unsettled_set_is_undone()
     ensures { SettlesAgain }
+{}
+
+/// A late copy of a request gets the reply that was kept, and changes nothing; a later one isn't taken.
+pub fn copies_age()
+    ensures { CopiesAge }
+{}
+
+/// A ninth requester finds the port busy.
+pub fn ninth_requester_finds_it_busy()
+    ensures { NinthIsBusy }
+{}
+
+/// A PLDM request and a control request, each in one packet, with the packets of their replies.
+pub fn packets_are_answered()
+    ensures { AnswersPackets }
+{}
+
+/// A message of four packets that come out of order, twice, with other requesters' messages in between.
+pub fn packets_are_joined()
+    ensures { JoinsPackets }
 {}
