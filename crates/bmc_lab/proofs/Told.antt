@@ -1,6 +1,8 @@
 -- What is said of a run, once it is known what the port did.
-use Rattle.std.proofs.Common.{◌≡◌, ℕ, List, [], Result, Ok, Err, IfOk, string_bytes, subst, ◌∙◌, ap}
+use Rattle.std.proofs.Common.{◌≡◌, ℕ, List, Result, Ok, Err, IfOk, string_bytes, subst, ◌∙◌, ap}
 use Rattle.two_wire.specs.declared.Bus.{Bus}
+use Rattle.mctp_net.specs.Assembly.{nothing}
+use Rattle.mctp_net.specs.Places.{seen}
 use Rattle.cfg_records.specs.declared.board_file.BoardFile.{BoardFile}
 use Rattle.cfg_records.specs.Records.{Records, records_of}
 use Rattle.cfg_records.specs.Boards.{pairs_of}
@@ -14,26 +16,27 @@ use Rattle.bmc_core.specs.Outs.{sent}
 use Rattle.bmc_core.specs.Port.{Hears}
 use Rattle.bmc_lab.specs.declared.report.Report.{Report}
 use Rattle.bmc_lab.specs.Report.{text_of, status_of}
-use Rattle.bmc_lab.specs.Run.{controller, fresh_port, Tells}
+use Rattle.bmc_lab.specs.Run.{controller, IsFresh, Tells}
 
 -- a port that is made for the controller's place is fresh
-pub is_fresh : (port : Port) (bus : Bus) (at : At) → at ≡ controller → port.bus ≡ bus → port.at ≡ at → port.endpoint ≡ at.eid → port.assembler ≡ [] → port ≡ fresh_port bus
-is_fresh port bus at place same stands named empty =
-    let where_it_is : port.at ≡ controller = stands ∙ place in
-    let eid : port.endpoint ≡ 0x0A = named ∙ ap (λ (a : At). a.eid) place in
-    λ i. record { bus = same i; at = where_it_is i; endpoint = eid i; assembler = empty i }
+pub is_fresh : (port : Port) (bus : Bus) (at : At) → at ≡ controller → port.bus ≡ bus → port.at ≡ at → port.endpoint ≡ at.eid → seen port.assembler ≡ nothing → IsFresh bus port
+is_fresh port bus at place same stands named empty = record {
+  stands_on = same;
+  place = stands ∙ place;
+  named = named ∙ ap (λ (a : At). a.eid) place;
+  empty = empty;
+}
 
--- a fresh port, over a board that stands as the file says, hears as a fresh controller does
-pub as_opened : (port : Port) (bus : Bus) (setup file : BoardFile) (records : Records) (activity : Activity) (bytes : List ℕ) (out : Out) (next : Port) (after : State) → port ≡ fresh_port bus → setup ≡ file → records ≡ records_of (pairs_of file) → activity ≡ opening
-    → Hears setup port (state records activity) bytes out next after → Hears file (fresh_port bus) (opened file) bytes out next after
-as_opened port bus setup file records activity bytes out next after fresh same begins idle heard =
-    subst (λ (p : Port). Hears file p (opened file) bytes out next after) fresh
-    (subst (λ (f : BoardFile). Hears f port (opened file) bytes out next after) same
+-- a port, over a board that stands as the file says, hears as one of a board that was opened
+pub as_opened : (port : Port) (setup file : BoardFile) (records : Records) (activity : Activity) (bytes : List ℕ) (out : Out) (next : Port) (after : State) → setup ≡ file → records ≡ records_of (pairs_of file) → activity ≡ opening
+    → Hears setup port (state records activity) bytes out next after → Hears file port (opened file) bytes out next after
+as_opened port setup file records activity bytes out next after same begins idle heard =
+    subst (λ (f : BoardFile). Hears f port (opened file) bytes out next after) same
     (subst (λ (a : Activity). Hears setup port (state (records_of (pairs_of file)) a) bytes out next after) idle
-    (subst (λ (r : Records). Hears setup port (state r activity) bytes out next after) begins heard)))
+    (subst (λ (r : Records). Hears setup port (state r activity) bytes out next after) begins heard))
 
 -- a report of what the port did tells it
-pub told : {E : Type 0} (r : Result Report E) (bus : Bus) (bytes : List ℕ) (file : BoardFile) (out : Out) (next : Port) (after : State) → IsSampleBoard file → Hears file (fresh_port bus) (opened file) bytes out next after
+pub told : {E : Type 0} (r : Result Report E) (bus : Bus) (bytes : List ℕ) (file : BoardFile) (port : Port) (out : Out) (next : Port) (after : State) → IsSampleBoard file → IsFresh bus port → Hears file port (opened file) bytes out next after
     → IfOk r (λ report. string_bytes report.text ≡ text_of out) → IfOk r (λ report. report.status ≡ status_of (sent out)) → IfOk r (λ report. Tells bus bytes (string_bytes report.text) report.status)
-told (Ok report) bus bytes file out next after is_sample is_heard is_said is_ended = record { file = file; sample = is_sample; out = out; next = next; after = after; heard = is_heard; said = is_said; ended = is_ended }
-told (Err e) bus bytes file out next after is_sample is_heard is_said is_ended = tt
+told (Ok report) bus bytes file port out next after is_sample is_new is_heard is_said is_ended = record { file = file; sample = is_sample; port = port; fresh = is_new; out = out; next = next; after = after; heard = is_heard; said = is_said; ended = is_ended }
+told (Err e) bus bytes file port out next after is_sample is_new is_heard is_said is_ended = tt

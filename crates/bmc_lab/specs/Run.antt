@@ -1,6 +1,8 @@
 -- One frame sent to a fresh controller with the sample board.
-use Rattle.std.specs.Prelude.{◌≡◌, ℕ, List, []}
+use Rattle.std.specs.Prelude.{◌≡◌, ℕ, List}
 use Rattle.two_wire.specs.declared.Bus.{Bus}
+use Rattle.mctp_net.specs.Assembly.{nothing}
+use Rattle.mctp_net.specs.Places.{seen}
 use Rattle.cfg_records.specs.declared.board_file.BoardFile.{BoardFile}
 use Rattle.cfg_records.specs.Sample.{IsSampleBoard}
 use Rattle.bmc_core.specs.declared.out.Out.{Out}
@@ -16,17 +18,22 @@ use Rattle.bmc_lab.specs.Report.{text_of, status_of}
 abbrev pub controller : At
 controller = record { wire = 0x20; eid = 0x0A }
 
--- the controller's port on a bus, which has taken no packet yet
-abbrev pub fresh_port : Bus → Port
-fresh_port bus = record { bus = bus; at = controller; endpoint = 0x0A; assembler = [] }
+-- a controller's port on a bus, which has taken no packet yet
+pub record IsFresh (bus : Bus) (port : Port) : Type 0 where
+  pub stands_on : port.bus ≡ bus
+  pub place : port.at ≡ controller
+  pub named : port.endpoint ≡ controller.eid
+  pub empty : seen port.assembler ≡ nothing
 
 -- what is said of the bytes: what a fresh controller with the sample board does with them where it hears them on the bus
 pub record Tells (bus : Bus) (bytes text : List ℕ) (status : Status) : Type 0 where
   pub file : BoardFile
   pub sample : IsSampleBoard file
+  pub port : Port
+  pub fresh : IsFresh bus port
   pub out : Out
   pub next : Port
   pub after : State
-  pub heard : Hears file (fresh_port bus) (opened file) bytes out next after
+  pub heard : Hears file port (opened file) bytes out next after
   pub said : text ≡ text_of out
   pub ended : status ≡ status_of (sent out)

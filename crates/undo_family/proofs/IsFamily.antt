@@ -75,6 +75,9 @@ refuses_within (Some l) op value body of is_valid shown none can =
     not_some (inverse op body) none ((laws.kind_laws.invertible op body).1 (reply, can))
 refuses_within None op value body of is_valid shown none can = absurd is_valid
 
+restores_from : (op back : Op) (body : List ℕ) → inverse op body ≡ Some back → restorable op body
+restores_from op back body is = ((laws.kind_laws.invertible op body).0 (subst IsSome (sym is) refl)).1
+
 -- ---- the map of records
 
 valid_where : (setup : BoardFile) (records : Records) (key : Key) (new : List ℕ) → ((k : Key) (v : List ℕ) → records k ≡ Some v → Allows (limits_at setup k) v) → Allows (limits_at setup key) new
@@ -181,6 +184,7 @@ is_family setup at = record {
       subst (λ (k : Key). SetsWithin (limits_at setup k) back new old)
       (sym (same_key_within (limits_at setup (key_of op)) op back old body (limits_are_of setup (key_of op)) is_valid shown is))
       (undoes_within (limits_at setup (key_of op)) op back old new body is_valid is_set shown is);
+  restores = λ op back value body is_valid shown is. restores_from op back body is;
   refuses = λ op value body is_valid shown none. refuses_within (limits_at setup (key_of op)) op value body (limits_are_of setup (key_of op)) is_valid shown none;
   steady = λ key value body other is_valid shown again. steady_within (limits_at setup key) value body other shown again;
   gets_keep = λ board after key a row. ap (λ (g : Given). g.1.records) (get_served setup at board key (board_answer a) after row);

@@ -7,6 +7,7 @@ ghost use Rattle.bus_model.specs.Packet.{Packet, IsCutting};
 ghost use Rattle.undo_model.specs.Laws.{IsFamily};
 ghost use Rattle.undo_model.specs.TwoBuses.{Addresses, in_messages, with_packets};
 ghost use Rattle.undo_model.specs.Headline.{AlwaysStands, UndoneForGood, StopsOnlyIfTold};
+ghost use Rattle.undo_model.specs.Giving.{HaltsByGiven};
 ghost use Rattle.undo_model.specs.RecordsRun.{RecordsStand};
 ghost use Rattle.undo_model.specs.Resume.{GoesOnAlike};
 ghost use Rattle.undo_model.specs.Clean.{AnswersByRow, AlwaysRunsClean};
@@ -33,8 +34,15 @@ pub fn phases_stand()
     ensures packets { (setup : BoardFile) (at : Bus → Addresses) (split : List ℕ → List Packet) → IsCutting split → AlwaysStands (family setup at) (with_packets at split) (wires setup at) }
 {}
 
-/// Once a plan is undone, and at every moment from then on, every record is what it was before the plan, and each Get shows the same
-/// configuration.
+/// A halt has its cause among the answers that the board gave in that schedule. This is said of any list that has all the answers of a
+/// schedule: take just those.
+pub fn halts_by_given_answers()
+    ensures messages { (setup : BoardFile) (at : Bus → Addresses) → HaltsByGiven (family setup at) (in_messages at) (wires setup at) }
+    ensures packets { (setup : BoardFile) (at : Bus → Addresses) (split : List ℕ → List Packet) → IsCutting split → HaltsByGiven (family setup at) (with_packets at split) (wires setup at) }
+{}
+
+/// Once a plan is undone, and at every moment from then on, every record is what it was before the plan, and each Get as the
+/// manager asks it shows the same configuration.
 pub fn undone_is_for_good()
     ensures messages { (setup : BoardFile) (at : Bus → Addresses) → UndoneForGood (family setup at) (in_messages at) (wires setup at) }
     ensures packets { (setup : BoardFile) (at : Bus → Addresses) (split : List ℕ → List Packet) → IsCutting split → UndoneForGood (family setup at) (with_packets at split) (wires setup at) }
@@ -46,15 +54,15 @@ pub fn stops_only_if_told()
     ensures packets { (setup : BoardFile) (at : Bus → Addresses) (split : List ℕ → List Packet) → IsCutting split → StopsOnlyIfTold (family setup at) (with_packets at split) (wires setup at) }
 {}
 
-/// A manager that goes on from a list is halted after as many steps as the list undoes. From `undo` on it goes through the same phases and
-/// sends the same requests, under the same numbers, as the manager from which the list was taken.
+/// A manager that goes on from a list is halted after as many steps as the list undoes, with no request open, and gives that same list. From
+/// `undo` on it goes through the same phases and sends the same requests, under the same numbers, as the manager from which the list was taken.
 pub fn resumed_goes_on_alike()
     ensures { (setup : BoardFile) (at : Bus → Addresses) → GoesOnAlike (family setup at) }
 {}
 
-/// On a link without loss a plan takes two requests for each step and ends done, or halts at the first step whose Get is refused, whose Get
-/// shows what can't be restored, or whose Set is refused. Its undo takes one request for each step that was done, and ends with the
-/// records of the start.
+/// Where the board answers each request at once and the manager takes each reply, a plan takes two requests for each step and ends done, or
+/// halts at the first step whose Get is refused, whose Get shows what can't be restored, or whose Set is refused. Its undo takes one request
+/// for each step that was done, and ends with the records of the start. This knows no bus.
 pub fn plans_run_clean()
     ensures answers { (setup : BoardFile) (at : Bus → Addresses) → AnswersByRow (family setup at) (answer setup) }
     ensures clean { (setup : BoardFile) (at : Bus → Addresses) → AlwaysRunsClean (family setup at) (answer setup) }

@@ -108,7 +108,7 @@ module _ (F : Family) (laws : IsFamily F) (plan : List F.Op) (start : F.Records)
   gets_good a k op stopped undo r t valid =
       cond_both (eqb a.code success) (set_stage F stopped k op (F.inverse op a.body)) (AtHalt k (GetRefused a.code)) (λ s. Good s None stopped undo r)
       (λ e. set_good stopped k op (F.inverse op a.body) a undo r t valid (eqb-true _ _ e) refl)
-      (λ f. (t.1, (a.body, record { op = op; step = t.0.step; gave = t.2 })))
+      (λ f. (t.1, (eqb-false _ _ f, a.body, record { op = op; step = t.0.step; gave = t.2 })))
 
   sets_good : (a : Answered) (k : ℕ) (op back : F.Op) (stopped : Bool) (undo : List F.Asked) (r : F.Records) → TaskSound F plan start own (Sets k op back) (Some a) undo r
       → Good (stage_after F stopped own a (Sets k op back)) None stopped (undo_after F a (Sets k op back) undo) r
@@ -117,7 +117,7 @@ module _ (F : Family) (laws : IsFamily F) (plan : List F.Op) (start : F.Records)
         | inl e ↦ subst (λ (c : Bool). Good (if c then next_stage F stopped (suc k) (slice_get own (suc k)) else AtHalt k (Refused a.code)) None stopped (if c then F.set_asked back ∷ undo else undo) r) (sym (eq-eqb a.code success e))
             (next_good stopped (suc k) (slice_get own (suc k)) (F.set_asked back ∷ undo) r (slice_get_within plan k op t.0.step) t.0.same refl (t.1 e))
         | inr ne ↦ subst (λ (c : Bool). Good (if c then next_stage F stopped (suc k) (slice_get own (suc k)) else AtHalt k (Refused a.code)) None stopped (if c then F.set_asked back ∷ undo else undo) r) (sym (ne_eqb a.code success ne))
-            (let refused = t.2 ne in (refused.0, (a.body, record { op = op; step = t.0.step; gave = refused.1 })))
+            (let refused = t.2 ne in (refused.0, (ne, a.body, record { op = op; step = t.0.step; gave = refused.1 })))
       ]
 
   undoes_good : (a : Answered) (first : F.Asked) (rest : List F.Asked) (stopped : Bool) (undo : List F.Asked) (r : F.Records) → TaskSound F plan start own (Undoes first rest) (Some a) undo r

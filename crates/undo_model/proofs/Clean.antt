@@ -7,7 +7,7 @@ use Rattle.two_wire.specs.Codes.{success}
 use Rattle.two_wire.specs.declared.Bus.{Bus}
 use Rattle.two_wire.specs.declared.Bus.TheVariants.{Ipmb, Smbus}
 use Rattle.undo_model.specs.Family.{Answered, Family, AllValid}
-use Rattle.undo_model.specs.Laws.{IsFamily}
+use Rattle.undo_model.specs.Laws.{Showed, IsFamily}
 use Rattle.undo_model.specs.Plan.{Why, Refused, NotRestorable, GetRefused, Phase, Done, Halted, Undone, IsAfter}
 use Rattle.undo_model.specs.Machine.{Counts, one_answered, Task, Gets, Sets, Undoes, Stage, AtStart, Opened, AtEnd, AtHalt, AtUndone, AtRefused, Machine, Turn, asked_of, bus_at, enters, first_stage, undo_stage, next_stage, set_stage, stage_after, undo_after, takes, phase_at, undoes, undo_of, opened}
 use Rattle.undo_model.specs.Clean.{Moment, answered_in_all, AnswersByRow, one, clean, got, did, told, Goes, GoAll, Sticks, EndsIn, IsAtRest, AlwaysRunsClean}
@@ -46,6 +46,21 @@ module _ (F : Family) (laws : IsFamily F) (answer : F.Board → F.Asked → Answ
       let row = by_row b (asked_of F task) in
       let valid = carried_valid F laws plan start m.plan b r.1 r.0 task m.undo h.sound.0 h.valid row in
       record { sound = taken_good F laws plan start m.plan r.0 task m.stopped m.undo (F.records r.1) (carried_sound F laws plan start m.plan b r.1 r.0 task m.undo h.sound.0 row) valid; valid = valid }
+
+  -- ---- what a Get shows
+
+  shows : (op : F.Op) (b : F.Board) → (got F answer b op).0.code ≡ success → Showed F (F.key_of op) (got F answer b op).0.body (F.records b)
+  shows op b read = let r = got F answer b op in laws.gets_show b r.1 (F.key_of op) r.0 (by_row b (F.get_asked (F.key_of op))) read
+
+  restorable : (op back : F.Op) (b : F.Board) → AllValid F (F.records b) → (got F answer b op).0.code ≡ success → F.inverse op (got F answer b op).0.body ≡ Some back → F.Restorable op (got F answer b op).0.body
+  restorable op back b valid read is =
+      let s = shows op b read in
+      laws.restores op back s.value (got F answer b op).0.body (valid (F.key_of op) s.value s.found) s.shows is
+
+  not_restorable : (op : F.Op) (b : F.Board) → AllValid F (F.records b) → (got F answer b op).0.code ≡ success → F.inverse op (got F answer b op).0.body ≡ None → ¬ F.Restorable op (got F answer b op).0.body
+  not_restorable op b valid read is =
+      let s = shows op b read in
+      laws.refuses op s.value (got F answer b op).0.body (valid (F.key_of op) s.value s.found) s.shows is
 
   -- ---- the undo
 
@@ -172,11 +187,11 @@ module _ (F : Family) (laws : IsFamily F) (answer : F.Board → F.Asked → Answ
   abbrev Goes_on : List F.Op → ℕ → Type 0
   Goes_on ops k = (m : Machine F) (b : F.Board) → Before ops k m → Good (next_stage F false k (slice_get ops 0)) m b → Runs ops k m b (next_stage F false k (slice_get ops 0))
 
-  after_set : (op back : F.Op) (ops : List F.Op) (k : ℕ) (m : Machine F) (b : F.Board) → Goes_on ops (suc k) → Before (op ∷ ops) k m → (got F answer b op).0.code ≡ success → F.inverse op (got F answer b op).0.body ≡ Some back
+  after_set : (op back : F.Op) (ops : List F.Op) (k : ℕ) (m : Machine F) (b : F.Board) → Goes_on ops (suc k) → Before (op ∷ ops) k m → (got F answer b op).0.code ≡ success → F.Restorable op (got F answer b op).0.body
       → let r = got F answer b op in
       let m1 = replied (Gets k op) m r.0 in
       one F answer (at_stage (Opened true (Gets k op)) m b) ≡ at_stage (Opened true (Sets k op back)) m1 r.1 → Good (Opened true (Sets k op back)) m1 r.1 → Runs (op ∷ ops) k m b (Opened true (Gets k op))
-  after_set op back ops k m b on before read inverse first good1 =
+  after_set op back ops k m b on before read can first good1 =
       let r = got F answer b op in
       let m1 = replied (Gets k op) m r.0 in
       let task : Task F = Sets k op back in
@@ -205,24 +220,24 @@ module _ (F : Family) (laws : IsFamily F) (answer : F.Board → F.Asked → Answ
               within = omega arith;
               here = λ n. let far : suc k + n ≡ k + suc n = omega arith in ap (slice_get m.plan) far ∙ before.here (suc n);
             } in
-            goes_first op ops k m b (Opened true (Gets k op)) (next_stage F false (suc k) (slice_get ops 0)) m2 s.1 (record { read = read; back = back; can_undo = inverse; done = e; left = refl })
+            goes_first op ops k m b (Opened true (Gets k op)) (next_stage F false (suc k) (slice_get ops 0)) m2 s.1 (record { read = read; can_undo = can; done = e; left = refl })
             (second ∙ ap (λ (x : Stage F). at_stage x m2 s.1) stage_is) sum
             (on m2 s.1 after (subst (λ (x : Stage F). Good x m2 s.1) stage_is good2))
         | inr ne ↦
             let not : eqb s.0.code success ≡ false = ne_eqb s.0.code success ne in
             let stage_is : (if eqb s.0.code success then goes_on else halted) ≡ halted = ap (λ (c : Bool). if c then goes_on else halted) not in
             let good = subst (λ (x : Stage F). Good x m2 s.1) stage_is good2 in
-            sticks op ops k m b (Opened true (Gets k op)) (Refused s.0.code) 2 m2 s.1 (read, back, inverse, refl, ne, refl) (second ∙ ap (λ (x : Stage F). at_stage x m2 s.1) stage_is) good.sound.0 good.valid sum
+            sticks op ops k m b (Opened true (Gets k op)) (Refused s.0.code) 2 m2 s.1 (read, can, refl, ne, refl) (second ∙ ap (λ (x : Stage F). at_stage x m2 s.1) stage_is) good.sound.0 good.valid sum
       ]
 
-  after_get : (op : F.Op) (ops : List F.Op) (k : ℕ) (m : Machine F) (b : F.Board) (o : Option F.Op) → Goes_on ops (suc k) → Before (op ∷ ops) k m → (got F answer b op).0.code ≡ success → F.inverse op (got F answer b op).0.body ≡ o
+  after_get : (op : F.Op) (ops : List F.Op) (k : ℕ) (m : Machine F) (b : F.Board) (o : Option F.Op) → Goes_on ops (suc k) → Before (op ∷ ops) k m → AllValid F (F.records b) → (got F answer b op).0.code ≡ success → F.inverse op (got F answer b op).0.body ≡ o
       → let r = got F answer b op in
       let m1 = replied (Gets k op) m r.0 in
       one F answer (at_stage (Opened true (Gets k op)) m b) ≡ at_stage (set_stage F false k op o) m1 r.1 → Good (set_stage F false k op o) m1 r.1 → Runs (op ∷ ops) k m b (Opened true (Gets k op))
-  after_get op ops k m b (Some back) on before read inverse first good1 = after_set op back ops k m b on before read inverse first good1
-  after_get op ops k m b None on before read inverse first good1 =
+  after_get op ops k m b (Some back) on before valid read inverse first good1 = after_set op back ops k m b on before read (restorable op back b valid read inverse) first good1
+  after_get op ops k m b None on before valid read inverse first good1 =
       let r = got F answer b op in
-      sticks op ops k m b (Opened true (Gets k op)) NotRestorable 1 (replied (Gets k op) m r.0) r.1 (read, inverse, refl) first good1.sound.0 good1.valid (one_more_answered (bus_at F (Gets k op)) m.counts)
+      sticks op ops k m b (Opened true (Gets k op)) NotRestorable 1 (replied (Gets k op) m r.0) r.1 (read, not_restorable op b valid read inverse, refl) first good1.sound.0 good1.valid (one_more_answered (bus_at F (Gets k op)) m.counts)
 
   first_step : (op : F.Op) (ops : List F.Op) (k : ℕ) (m : Machine F) (b : F.Board) → Goes_on ops (suc k) → Before (op ∷ ops) k m → Good (Opened true (Gets k op)) m b → Runs (op ∷ ops) k m b (Opened true (Gets k op))
   first_step op ops k m b on before good0 =
@@ -237,7 +252,7 @@ module _ (F : Family) (laws : IsFamily F) (answer : F.Board → F.Asked → Answ
         | inl e ↦
             let stage_is : (if eqb r.0.code success then goes_on else halted) ≡ set_stage F false k op (F.inverse op r.0.body) =
             ap (λ (c : Bool). if c then goes_on else halted) (eq-eqb r.0.code success e) ∙ ap (λ (c : Bool). set_stage F c k op (F.inverse op r.0.body)) before.going in
-            after_get op ops k m b (F.inverse op r.0.body) on before e refl (first ∙ ap (λ (x : Stage F). at_stage x m1 r.1) stage_is) (subst (λ (x : Stage F). Good x m1 r.1) stage_is good1)
+            after_get op ops k m b (F.inverse op r.0.body) on before good0.valid e refl (first ∙ ap (λ (x : Stage F). at_stage x m1 r.1) stage_is) (subst (λ (x : Stage F). Good x m1 r.1) stage_is good1)
         | inr ne ↦
             let stage_is : (if eqb r.0.code success then goes_on else halted) ≡ halted = ap (λ (c : Bool). if c then goes_on else halted) (ne_eqb r.0.code success ne) in
             let good = subst (λ (x : Stage F). Good x m1 r.1) stage_is good1 in

@@ -14,3 +14,4 @@ pub mod TwoBuses
 pub mod Clean
 pub mod RecordsRun
 pub mod NumberedLaws
+pub mod Giving

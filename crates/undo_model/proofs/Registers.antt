@@ -73,6 +73,17 @@ refuses w (high ∷ requests ∷ []) e r = refuses_high w high w.low refl e r
 refuses w (high ∷ low ∷ requests ∷ []) e r = none-some _ (sym e)
 refuses w (a ∷ b ∷ c ∷ d ∷ more) e r = r
 
+restores_high : (w to : Write) (high : ℕ) (o : Option ℕ) → w.low ≡ o → inverse_of_high w.register o w.high high ≡ Some to → w.low ≡ None
+restores_high w to high None is e = is
+restores_high w to high (Some x) is e = absurd (none-some to e)
+
+restores : (w to : Write) (body : List ℕ) → inverse w body ≡ Some to → IsRestorable w body
+restores w to [] e = none-some to e
+restores w to (a ∷ []) e = none-some to e
+restores w to (high ∷ requests ∷ []) e = restores_high w to high w.low refl e
+restores w to (high ∷ low ∷ requests ∷ []) e = tt
+restores w to (a ∷ b ∷ c ∷ d ∷ more) e = none-some to e
+
 steady_at : (v : Halves) (m n : ℕ) (b : Bool) → configuration (if b then v.high ∷ m ∷ [] else v.high ∷ v.low ∷ m ∷ []) ≡ configuration (if b then v.high ∷ n ∷ [] else v.high ∷ v.low ∷ n ∷ [])
 steady_at v m n true = refl
 steady_at v m n false = refl
@@ -165,6 +176,7 @@ registers_are_family = record {
   sets_one = λ w old new other sets again. sets.0 ∙ sym again.0;
   same_key = λ w to v body valid shows e. (inverse_back w to v body shows e).register;
   undoes = λ w to v new body valid sets shows e. ((inverse_back w to v body shows e).value ∙ ap (written to) (sym sets.0), valid);
+  restores = λ w to v body valid shows e. restores w to body e;
   refuses = λ w v body valid shows e. refuses w body e;
   steady = λ key v body other valid shows again. ap configuration shows.1 ∙ steady_at v shows.0 again.0 (key == 2) ∙ sym (ap configuration again.1);
   gets_keep = λ b after key a row. registers_after after b.registers (suc b.requests) row.1;

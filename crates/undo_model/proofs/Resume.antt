@@ -199,8 +199,11 @@ module _ (F : Family) where
   -- ---- the list is taken where the plan ended or halted
 
   pub goes_on_alike : GoesOnAlike F
-  goes_on_alike = record { halted = λ retries list. refl; alike = from }
+  goes_on_alike = record { halted = λ retries list. refl; none_open = λ retries list. refl; same_list = λ retries m. listed m; alike = from }
     where
+      listed : (m : Machine F) → list_of F (resumed F m.retries (list_of F m)) ≡ list_of F m
+      listed m = λ i. record { requests = m.undo; next = record { ipmb = round Ipmb m.counts i; smbus = round Smbus m.counts i } }
+
       begun : (m : Machine F) → AreAlike (Some (enters F (undo_stage F m.undo) m)) (Some (enters F (undo_stage F m.undo) (resumed F m.retries (list_of F m))))
       begun m = (
         record {

@@ -1,4 +1,4 @@
--- A link without loss: each request is carried out at once, and the manager takes the reply.
+-- A link without loss, and no bus: the board answers each request at once, and the manager takes the reply.
 use Rattle.std.specs.Prelude.{◌≡◌, ◌≢◌, ℕ, zero, suc, ◌+◌, List, [], ◌∷◌, ◌++◌, length, Option, Some, None, IfSome}
 use Rattle.two_wire.specs.Codes.{success}
 use Rattle.undo_model.specs.Family.{Answered, Family, AllValid}
@@ -46,8 +46,7 @@ module _ (F : Family) (answer : F.Board → F.Asked → Answered × F.Board) whe
   -- a step is carried out, and can be undone
   pub record Goes (b : F.Board) (op : F.Op) (after : F.Board) : Type 0 where
     pub read : (got b op).0.code ≡ success
-    pub back : F.Op
-    pub can_undo : F.inverse op (got b op).0.body ≡ Some back
+    pub can_undo : F.Restorable op (got b op).0.body
     pub done : (did b op).0.code ≡ success
     pub left : after ≡ (did b op).1
 
@@ -60,9 +59,9 @@ module _ (F : Family) (answer : F.Board → F.Asked → Answered × F.Board) whe
   abbrev pub Sticks : F.Board → F.Op → Why → ℕ → Type 0
   Sticks b op Stop n = ⊥
   Sticks b op (GetRefused code) n = ((got b op).0.code ≡ code) × (code ≢ success) × (n ≡ 1)
-  Sticks b op NotRestorable n = ((got b op).0.code ≡ success) × (F.inverse op (got b op).0.body ≡ None) × (n ≡ 1)
+  Sticks b op NotRestorable n = ((got b op).0.code ≡ success) × (¬ F.Restorable op (got b op).0.body) × (n ≡ 1)
   Sticks b op (Refused code) n =
-      ((got b op).0.code ≡ success) × (back : F.Op) × (F.inverse op (got b op).0.body ≡ Some back) × ((did b op).0.code ≡ code) × (code ≢ success) × (n ≡ 2)
+      ((got b op).0.code ≡ success) × F.Restorable op (got b op).0.body × ((did b op).0.code ≡ code) × (code ≢ success) × (n ≡ 2)
 
   -- the phase after k steps, where these are left: done, or halted at the first of them
   abbrev pub EndsIn : ℕ → List F.Op → F.Board → Phase → ℕ → Type 0

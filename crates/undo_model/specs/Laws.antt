@@ -28,7 +28,9 @@ pub record IsFamily (F : Family) : Type 0 where
       → F.key_of back ≡ F.key_of op
   pub undoes : (op back : F.Op) (v w : F.Value) (body : List ℕ) → F.Valid (F.key_of op) v → F.Sets op v w → F.Shows (F.key_of op) v body → F.inverse op body ≡ Some back
       → F.Sets back w v
-  -- the kinds: data of a Get from which nothing undoes the operation aren't restorable
+  -- the kinds: from the data of a Get something undoes the operation exactly where they are restorable
+  pub restores : (op back : F.Op) (v : F.Value) (body : List ℕ) → F.Valid (F.key_of op) v → F.Shows (F.key_of op) v body → F.inverse op body ≡ Some back
+      → F.Restorable op body
   pub refuses : (op : F.Op) (v : F.Value) (body : List ℕ) → F.Valid (F.key_of op) v → F.Shows (F.key_of op) v body → F.inverse op body ≡ None → ¬ F.Restorable op body
   -- the kinds: two Gets of a record show the same configuration where it has the same value
   pub steady : (key : F.Key) (v : F.Value) (body other : List ℕ) → F.Valid key v → F.Shows key v body → F.Shows key v other → F.conf key body ≡ F.conf key other

@@ -14,3 +14,4 @@ pub mod Example
 pub mod Clean
 pub mod RecordsRun
 pub mod Numbered
+pub mod Giving

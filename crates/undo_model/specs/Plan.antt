@@ -1,5 +1,5 @@
 -- A plan, the records after its steps, and what a manager's phase says of the records.
-use Rattle.std.specs.Prelude.{◌≡◌, ℕ, zero, suc, Bool, true, List, length, Some, ◌⊎◌, slice_get}
+use Rattle.std.specs.Prelude.{◌≡◌, ◌≢◌, ℕ, zero, suc, Bool, true, List, length, Some, ◌⊎◌, slice_get}
 use Rattle.two_wire.specs.Codes.{success}
 use Rattle.undo_model.specs.Family.{Answered, Family, SetsTo}
 
@@ -67,8 +67,8 @@ pub record GaveSet (F : Family) (plan : List F.Op) (k : ℕ) (a : Answered) (r :
 -- what made a plan halt after k steps, at the records that these left; `stopped` says whether it was to stop
 abbrev pub Because : (F : Family) → Bool → List F.Op → ℕ → Why → F.Records → Type 0
 Because F stopped plan k Stop r = stopped ≡ true
-Because F stopped plan k (Refused code) r = (body : List ℕ) × GaveSet F plan k (record { code = code; body = body }) r
-Because F stopped plan k (GetRefused code) r = (body : List ℕ) × GaveGet F plan k (record { code = code; body = body }) r
+Because F stopped plan k (Refused code) r = (code ≢ success) × (body : List ℕ) × GaveSet F plan k (record { code = code; body = body }) r
+Because F stopped plan k (GetRefused code) r = (code ≢ success) × (body : List ℕ) × GaveGet F plan k (record { code = code; body = body }) r
 Because F stopped plan k NotRestorable r = (body : List ℕ) × (got : GaveGet F plan k (record { code = success; body = body }) r) × (¬ F.Restorable got.op body)
 
 -- a halted plan has a cause

@@ -4,7 +4,7 @@ use Rattle.std.specs.Option.{option_map}
 use Rattle.two_wire.specs.declared.Bus.{Bus}
 use Rattle.undo_model.specs.Family.{Answered, Family}
 use Rattle.undo_model.specs.Plan.{Stop, Phase, Done, Halted}
-use Rattle.undo_model.specs.Machine.{Counts, Machine, AtHalt, Sending, Turn, phase_of, start_of, quiet_of, stop_of, again_of, undo_of, reply_of}
+use Rattle.undo_model.specs.Machine.{Counts, Machine, AtHalt, Sending, Turn, open_bus, phase_of, start_of, quiet_of, stop_of, again_of, undo_of, reply_of}
 use Rattle.undo_model.specs.Wires.{number_of}
 
 -- what is kept of a manager: the requests that undo, the last step's first, and the next sequence number and instance
@@ -78,8 +78,10 @@ module _ (F : Family) where
   IsOver (Halted k why) = Unit {0}
   IsOver _ = ⊥
 
-  -- a manager that goes on from a list is halted after as many steps as the list undoes; from `undo` on it goes through the same
-  -- phases, and sends the same requests under the same numbers, for the same calls
+  -- a manager that goes on from a list is halted after as many steps as the list undoes, with no request open, and gives that list
+  -- itself; from `undo` on it goes through the same phases, and sends the same requests under the same numbers, for the same calls
   pub record GoesOnAlike : Type 0 where
     pub halted : (retries : ℕ) (list : UndoList F) → phase_of F (resumed F retries list) ≡ Halted (length list.requests) Stop
+    pub none_open : (retries : ℕ) (list : UndoList F) → open_bus F (resumed F retries list) ≡ None
+    pub same_list : (retries : ℕ) (m : Machine F) → list_of F (resumed F retries (list_of F m)) ≡ list_of F m
     pub alike : (m : Machine F) → IsOver (phase_of F m) → (calls : List Call) → trace (CallUndo ∷ calls) (resumed F m.retries (list_of F m)) ≡ trace (CallUndo ∷ calls) m

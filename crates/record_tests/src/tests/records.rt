@@ -1,4 +1,6 @@
 //! Records, stores and the sample board.
+ghost use Rattle.std.specs.Prelude.{◌<◌};
+
 use cfg_records::{
     Answered, Asked, Bcd, Hysteresis, Key, Live, ManufacturerId, NoKey, PlainStore, PowerPolicy,
     Sensor, Sensors, Store, StoreFault, ThresholdMasks, Thresholds, Value, Watchdog, sample_board,
