@@ -3,3 +3,4 @@ pub mod Breaches
 pub mod Example
 pub mod Parts
 pub mod LongExample
+pub mod Stepping

@@ -9,3 +9,4 @@ pub mod Honest
 pub mod Example
 pub mod Cuts
 pub mod LongExample
+pub mod Stepwise

@@ -1,9 +1,15 @@
 //! Laws of the definitions.
 
+ghost use Rattle.std.specs.Prelude.{ℕ, Bool, List};
+ghost use Rattle.cfg_records.specs.declared.message.Asked.{Asked};
+ghost use Rattle.cfg_records.specs.declared.message.Answered.{Answered};
 ghost use Rattle.cfg_records.specs.declared.board_file.BoardFile.{BoardFile};
+ghost use Rattle.bus_model.specs.Request.{Request, Entry};
+ghost use Rattle.bmc_board.specs.State.{State};
 ghost use Rattle.lab_model.specs.ManagerSteps.{Names, board_plans};
 ghost use Rattle.lab_model.specs.Bytes.{AreReadBack, AreTheModels, Accepts, IsNumbered};
 ghost use Rattle.lab_model.specs.Honest.{FaultsAreBreaches};
+ghost use Rattle.lab_model.specs.Stepwise.{TurnsBy, RunsBy};
 ghost use Rattle.lab_model.specs.Cuts.{PartsAreCuts, PartsAreHeard};
 
 /// A request's bytes are read as that request, and a reply's as its answer.
@@ -36,4 +42,11 @@ pub fn parts_are_cuts()
 /// All packets of a message to the port's endpoint, one after another, are heard as the message, where there is a slot for it.
 pub fn parts_are_heard()
     ensures { PartsAreHeard }
+{}
+
+/// What a turn is, by what is done with the request; and what a run is, event by event.
+pub fn steps_are_these()
+    ensures turns { (above : ℕ → ℕ → Bool) (r : Request) (spell : Answered → List ℕ) (setup : BoardFile) (asked : Asked) (log : List Entry) (before : State)
+        → TurnsBy above r spell setup asked log before }
+    ensures runs { (setup : BoardFile) (names : Names) → RunsBy (board_plans setup names) setup }
 {}
