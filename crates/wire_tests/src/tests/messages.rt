@@ -115,7 +115,7 @@ fn messages_come_back(rt: HostRuntime) -> Result<(), Fail> {
 #[test]
 fn a_message_of_65_bytes_is_two_frames(rt: HostRuntime) -> Result<(), Fail> {
     let bytes = content();
-    let body = &bytes[..65];
+    let body = bytes.get(..65).ok_or("65 bytes")?;
     let frames = frames_of(body).ok_or("the frames")?;
     let [first, last] = frames.as_slice() else {
         return Err("other than two frames".into());
