@@ -1,0 +1,169 @@
+//! Frames that come to a manager.
+use crate::Why;
+use crate::manager::{Manager, undo_stage};
+use crate::sending::Sent;
+use crate::stage::{Stage, Task, bus_of};
+use cfg_records::{Asked, RecordKind};
+use ipmb_frame::{Msg, Response, read_frame};
+use mctp_net::{Packet, Taken, read_packet};
+use pldm_base::{PldmBytes, PldmReply, read_pldm_reply};
+use plans::NextNumbers;
+use record_kinds::Limits;
+use two_wire::{Below, Bus, Code, code};
+
+/// A reply that passed the test against the open request.
+#[derive(Clone, Copy)]
+struct Reply<'a> {
+    code: u8,
+    body: &'a [u8],
+}
+
+impl Manager {
+    /// Hears the bytes of a frame.
+    pub fn on_frame(&mut self, bus: Bus, bytes: &[u8]) -> Option<Sent> {
+        match bus {
+            Bus::Ipmb => match read_frame(bytes) {
+                Ok(Msg::Response(response)) => self.on_response(&response),
+                _ => None,
+            },
+            Bus::Smbus => match read_packet(bytes) {
+                Ok(packet) => self.on_packet(&packet),
+                Err(_) => None,
+            },
+        }
+    }
+
+    /// The open request, where it is heeded and on this bus.
+    fn heeded_on(&self, bus: Bus) -> Option<Asked> {
+        let Stage::Opened { heeded: true, task } = &self.stage else {
+            return None;
+        };
+        let asked = task.asked(&self.steps, &self.undo)?;
+        if bus_of(&asked) == bus { Some(asked) } else { None }
+    }
+
+    fn on_response(&mut self, response: &Response<'_>) -> Option<Sent> {
+        let asked = self.heeded_on(Bus::Ipmb)?;
+        let header = &response.header;
+        let ours = header.requester.address == self.names.own_address
+            && header.responder.address == self.names.peer_address
+            && header.sequence == self.counts.sequence();
+        match asked {
+            Asked::Ipmi {
+                net_fn, command, ..
+            } if ours && net_fn == header.net_fn && command == header.command => {
+                self.on_reply(Reply {
+                    code: response.code,
+                    body: response.body.as_slice(),
+                })
+            }
+            _ => None,
+        }
+    }
+
+    fn on_packet(&mut self, packet: &Packet<'_>) -> Option<Sent> {
+        let asked = self.heeded_on(Bus::Smbus)?;
+        let envelope = &packet.envelope;
+        let ours = envelope.destination == self.names.own_wire
+            && envelope.source == self.names.peer_wire
+            && envelope.source_eid == self.names.peer_eid
+            && !envelope.tag_owner
+            && envelope.tag == self.counts.tag();
+        if !ours {
+            return None;
+        }
+        let Taken::Whole = self.joined.take(self.names.own_eid, packet) else {
+            return None;
+        };
+        let bytes: two_wire::Bytes<256> = two_wire::Bytes::from_slice(self.joined.body(packet));
+        let body = bytes.as_slice();
+        if body[0] != 1 {
+            return None;
+        }
+        let pldm = PldmBytes::new(&body[1..]);
+        let Ok(reply) = read_pldm_reply(&pldm) else {
+            return None;
+        };
+        self.on_pldm(&asked, &reply)
+    }
+
+    fn on_pldm(&mut self, asked: &Asked, reply: &PldmReply<'_>) -> Option<Sent> {
+        let header = &reply.header;
+        match asked {
+            Asked::Pldm { kind, command, .. }
+                if *kind == header.pldm_type
+                    && *command == header.command
+                    && header.instance == self.counts.instance() =>
+            {
+                self.on_reply(Reply {
+                    code: reply.code,
+                    body: reply.body.as_slice(),
+                })
+            }
+            _ => None,
+        }
+    }
+
+    /// Takes the reply to the open request. The codes of a busy controller count as none.
+    fn on_reply(&mut self, reply: Reply<'_>) -> Option<Sent> {
+        if reply.code == code::NODE_BUSY.value() || reply.code == code::PLDM_NOT_READY.value() {
+            return None;
+        }
+        let bus = self.open_bus()?;
+        match bus {
+            Bus::Ipmb => self.counts.ipmb += 1,
+            Bus::Smbus => self.counts.smbus += 1,
+        }
+        self.undo.next = NextNumbers {
+            ipmb: self.counts.sequence(),
+            smbus: self.counts.instance(),
+        };
+        let stage = std::mem::replace(&mut self.stage, Stage::AtStart);
+        let Stage::Opened { task, .. } = stage else {
+            return None;
+        };
+        let next = match task {
+            Task::Gets(step) => self.after_get(step, reply),
+            Task::Sets(step, back) => self.after_set(step, back, reply.code),
+            Task::Undoes(step) => after_undo(step, reply.code),
+        };
+        self.enter(next)
+    }
+
+    fn after_get(&self, step: usize, reply: Reply<'_>) -> Stage {
+        if let Some(code) = Code::new(reply.code) {
+            return Stage::AtHalt(step, Why::GetRefused(code));
+        }
+        let back = match self.steps.as_slice().get(step) {
+            Some(op) => Limits::inverse(op, reply.body),
+            None => None,
+        };
+        match back {
+            None => Stage::AtHalt(step, Why::NotRestorable),
+            Some(_) if self.stopped => Stage::AtHalt(step, Why::Stop),
+            Some(back) => Stage::Opened {
+                heeded: true,
+                task: Task::Sets(step, Limits::set_asked(&back)),
+            },
+        }
+    }
+
+    fn after_set(&mut self, step: usize, back: Asked, code: u8) -> Stage {
+        if let Some(code) = Code::new(code) {
+            return Stage::AtHalt(step, Why::Refused(code));
+        }
+        self.undo.push(back);
+        let next = step + 1;
+        if self.stopped && next < self.steps.as_slice().len() {
+            return Stage::AtHalt(next, Why::Stop);
+        }
+        self.step_stage(next)
+    }
+}
+
+fn after_undo(step: usize, code: u8) -> Stage {
+    match Code::new(code) {
+        Some(code) => Stage::AtRefused(step, code),
+        None => undo_stage(step),
+    }
+}

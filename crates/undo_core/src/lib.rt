@@ -1,0 +1,15 @@
+//! A manager that runs a plan on a controller's records over two buses, and takes it back.
+#![tactic(auto)]
+
+mod calls;
+mod hearing;
+mod manager;
+mod phase;
+mod sending;
+mod stage;
+#[cfg(test)]
+mod tests;
+
+pub use manager::{Manager, OpenFault};
+pub use phase::{Phase, Why, WrongPhase};
+pub use sending::Sent;

@@ -1,0 +1,66 @@
+//! Phases of a manager.
+use std::fmt::{Display, Error, Formatter, Write};
+use two_wire::Code;
+
+/// Why a plan halted.
+#[derive(Clone, Copy, Debug, PartialEq, Eq)]
+pub enum Why {
+    /// The manager was told to stop.
+    Stop,
+    /// The controller refused the Set with this code.
+    Refused(Code),
+    /// The Get showed what can't be restored.
+    NotRestorable,
+    /// The controller refused the Get with this code.
+    GetRefused(Code),
+}
+
+/// Where a manager is with its plan. Steps count from 0.
+#[derive(Clone, Copy, Debug, PartialEq, Eq)]
+pub enum Phase {
+    Fresh,
+    /// It gets the record that the step changes.
+    Getting(usize),
+    /// It carries the step out.
+    Setting(usize),
+    Done,
+    Halted(usize, Why),
+    /// No reply came to the open request of the step.
+    Unsettled(usize),
+    /// It undoes the step.
+    Undoing(usize),
+    Undone,
+    /// The controller refused the request that undoes the step with this code.
+    UndoRefused(usize, Code),
+}
+
+/// The phase isn't one for the call, which changed nothing.
+#[derive(Clone, Copy, Debug, PartialEq, Eq)]
+pub struct WrongPhase;
+
+impl Display for Why {
+    fn fmt<W: Write>(&self, f: &mut Formatter<W>) -> Result<(), Error> {
+        match self {
+            Why::Stop => f.write_str("Stop"),
+            Why::Refused(code) => write!(f, "Refused {:02X}", code.value()),
+            Why::NotRestorable => f.write_str("NotRestorable"),
+            Why::GetRefused(code) => write!(f, "GetRefused {:02X}", code.value()),
+        }
+    }
+}
+
+impl Display for Phase {
+    fn fmt<W: Write>(&self, f: &mut Formatter<W>) -> Result<(), Error> {
+        match self {
+            Phase::Fresh => f.write_str("Fresh"),
+            Phase::Getting(step) => write!(f, "Getting {step}"),
+            Phase::Setting(step) => write!(f, "Setting {step}"),
+            Phase::Done => f.write_str("Done"),
+            Phase::Halted(step, why) => write!(f, "Halted {step} {why}"),
+            Phase::Unsettled(step) => write!(f, "Unsettled {step}"),
+            Phase::Undoing(step) => write!(f, "Undoing {step}"),
+            Phase::Undone => f.write_str("Undone"),
+            Phase::UndoRefused(step, code) => write!(f, "UndoRefused {step} {:02X}", code.value()),
+        }
+    }
+}
