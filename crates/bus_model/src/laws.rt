@@ -75,7 +75,7 @@ pub fn only_requests_take_windows()
     ensures packets { OthersAsk }
 {}
 
-/// Whether a frame is live can be tested: the test is what the plain program of live frames computes.
+/// A test decides if a frame is live: the plain program of live frames computes it.
 pub fn live_test_tells()
     ensures { TestTells }
 {}

@@ -1,4 +1,4 @@
--- What the board does is what may happen on a bus.
+-- Each answer of the board may happen on a bus.
 use Rattle.std.proofs.Common.{◌≡◌, ℕ, List, Option, Some, None, sym, subst}
 use Rattle.two_wire.specs.declared.Bus.{Bus}
 use Rattle.cfg_records.specs.declared.board_file.BoardFile.{BoardFile}

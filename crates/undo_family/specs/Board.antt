@@ -1,4 +1,4 @@
--- What the board does is what may happen on a bus.
+-- Each answer of the board may happen on a bus.
 use Rattle.std.specs.Prelude.{◌≡◌, false, Some, None}
 use Rattle.two_wire.specs.declared.Bus.{Bus}
 use Rattle.cfg_records.specs.Records.{Records}

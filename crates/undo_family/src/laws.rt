@@ -85,7 +85,7 @@ pub fn quiet_requests_may_come()
     ensures packets { (setup : BoardFile) (at : Bus → Addresses) (split : List ℕ → List Packet) → QuietMay setup at (with_packets at split) }
 {}
 
-/// What the board answers to a request of the manager is what a schedule may have.
+/// A schedule may have each answer of the board to a request of the manager.
 pub fn answers_may_come()
     ensures messages { (setup : BoardFile) (at : Bus → Addresses) → AnswersMay setup at (in_messages at) }
     ensures packets { (setup : BoardFile) (at : Bus → Addresses) (split : List ℕ → List Packet) → AnswersMay setup at (with_packets at split) }

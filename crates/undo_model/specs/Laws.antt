@@ -20,7 +20,7 @@ pub record IsFamily (F : Family) : Type 0 where
   -- the kinds: an operation keeps a value valid, and makes one value
   pub sets_valid : (op : F.words.Op) (v w : F.Value) → F.Valid (F.words.key_of op) v → F.Sets op v w → F.Valid (F.words.key_of op) w
   pub sets_one : (op : F.words.Op) (v w x : F.Value) → F.Sets op v w → F.Sets op v x → w ≡ x
-  -- the kinds: what undoes an operation is on the same record, and brings the old value back
+  -- the kinds: the operation that undoes another is on the same record, and brings the old value back
   pub same_key : (op back : F.words.Op) (v : F.Value) (body : List ℕ) → F.Valid (F.words.key_of op) v → F.Shows (F.words.key_of op) v body → F.words.inverse op body ≡ Some back
       → F.words.key_of back ≡ F.words.key_of op
   pub undoes : (op back : F.words.Op) (v w : F.Value) (body : List ℕ) → F.Valid (F.words.key_of op) v → F.Sets op v w → F.Shows (F.words.key_of op) v body → F.words.inverse op body ≡ Some back
