@@ -13,7 +13,7 @@ use Rattle.pldm_base.specs.Message.{request_bytes as pldm_request_bytes}
 use Rattle.bus_model.specs.Request.{Request as Heard}
 use Rattle.bus_model.specs.Bytes.{busy_code, is_busy_code, answers, IsRequestOn, IsReplyOn}
 use Rattle.bmc_board.specs.Decode.{sent_by}
-use Rattle.undo_model.specs.Family.{Answered as Told}
+use Rattle.undo_model.specs.Words.{Answered as Told}
 use Rattle.undo_family.specs.Family.{bus_of}
 use Rattle.undo_family.specs.Spelled.{numbers_of}
 use Rattle.undo_family.specs.Wires.{bytes_of, asked_from, reply_to, answered_from}
