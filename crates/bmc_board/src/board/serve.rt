@@ -49,7 +49,7 @@ fn answered(done: Result<(), Code>, body: Bytes<251>) -> Answered
 }
 
 impl<S: Store> Board<S> {
-    ghost use Rattle.bmc_board.specs.State.{opening, state_of, IsUnchanged};
+    ghost use Rattle.bmc_board.specs.State.{opened, state_of, IsUnchanged};
     ghost use Rattle.bmc_board.specs.Live.{reset_answer, longest_live_reply};
     ghost use Rattle.bmc_board.specs.Room.{longest_reply};
     ghost use Rattle.bmc_board.specs.Row.{Row};
@@ -59,8 +59,7 @@ impl<S: Store> Board<S> {
     pub fn open(_alloc: Global, file: BoardFile, store: S) -> Result<Self, AllocError>
         requires { S.records store ≡ records_of (pairs_of file) }
         ensures setup { IfOk result (λ board. board.setup ≡ file) }
-        ensures records { IfOk result (λ board. S.records board.store ≡ records_of (pairs_of file)) }
-        ensures activity { IfOk result (λ board. board.activity ≡ opening) }
+        ensures state { IfOk result (λ board. state_of S.records board ≡ opened file) }
     {
         Ok(Board {
             setup: Setup::new(file),
