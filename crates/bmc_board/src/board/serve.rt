@@ -22,10 +22,11 @@ use watch_boot::watchdog;
 fn unknown_code(_setup: &Setup, key: &Key) -> Code
     ensures { result ≡ unknown_code _setup.now key.now }
 {
+    // Each key is named, so that a new one isn't forgotten. The last two are on every board.
     match key {
-        Key::Thresholds(_) | Key::Hysteresis(_) => code::NOT_PRESENT,
-        // These are on every board.
-        Key::PowerPolicy | Key::Watchdog => code::NOT_PRESENT,
+        Key::Thresholds(_) | Key::Hysteresis(_) | Key::PowerPolicy | Key::Watchdog => {
+            code::NOT_PRESENT
+        }
     }
 }
 
