@@ -7,4 +7,4 @@ mod undo_list;
 
 pub use names::Names;
 pub use plan::{MOST_STEPS, Plan, Retries, Steps};
-pub use undo_list::{NextNumbers, UndoList};
+pub use undo_list::{NextNumbers, Requests, UndoList};

@@ -19,6 +19,7 @@ pub struct Steps {
 
 impl Model for Steps {
     ghost use Rattle.std.specs.Prelude.{List, length, ◌≤◌};
+    ghost use Rattle.cfg_records.specs.declared.op.Op.{Op};
 
     ghost Value = { List Op };
 

@@ -1,5 +1,5 @@
 //! The calls of a manager.
-use crate::manager::{Manager, undo_stage};
+use crate::manager::Manager;
 use crate::sending::Sent;
 use crate::stage::{Stage, Task};
 use crate::WrongPhase;
@@ -36,6 +36,7 @@ impl Manager {
             Stage::Opened {
                 heeded: true,
                 task: Task::Gets(_) | Task::Sets(_, _),
+                ..
             } => {
                 self.stopped = true;
                 Ok(None)
@@ -64,6 +65,7 @@ impl Manager {
             _ => return Err(WrongPhase),
         }
         self.joined.clear();
-        Ok(self.enter(undo_stage(self.undo.len())))
+        let stage = self.undo_stage(self.undo.requests.len());
+        Ok(self.enter(stage))
     }
 }

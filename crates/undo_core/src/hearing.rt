@@ -1,8 +1,8 @@
 //! Frames that come to a manager.
 use crate::Why;
-use crate::manager::{Manager, undo_stage};
+use crate::manager::Manager;
 use crate::sending::Sent;
-use crate::stage::{Stage, Task, bus_of};
+use crate::stage::{Stage, Task};
 use cfg_records::{Asked, RecordKind};
 use ipmb_frame::{Msg, Response, read_frame};
 use mctp_net::{Packet, Taken, read_packet};
@@ -33,17 +33,8 @@ impl Manager {
         }
     }
 
-    /// The open request, where it is heeded and on this bus.
-    fn heeded_on(&self, bus: Bus) -> Option<Asked> {
-        let Stage::Opened { heeded: true, task } = &self.stage else {
-            return None;
-        };
-        let asked = task.asked(&self.steps, &self.undo)?;
-        if bus_of(&asked) == bus { Some(asked) } else { None }
-    }
-
     fn on_response(&mut self, response: &Response<'_>) -> Option<Sent> {
-        let asked = self.heeded_on(Bus::Ipmb)?;
+        let asked = self.stage.heeded_on(Bus::Ipmb)?;
         let header = &response.header;
         let ours = header.requester.address == self.names.own_address
             && header.responder.address == self.names.peer_address
@@ -51,7 +42,7 @@ impl Manager {
         match asked {
             Asked::Ipmi {
                 net_fn, command, ..
-            } if ours && net_fn == header.net_fn && command == header.command => {
+            } if ours && *net_fn == header.net_fn && *command == header.command => {
                 self.on_reply(Reply {
                     code: response.code,
                     body: response.body.as_slice(),
@@ -62,7 +53,7 @@ impl Manager {
     }
 
     fn on_packet(&mut self, packet: &Packet<'_>) -> Option<Sent> {
-        let asked = self.heeded_on(Bus::Smbus)?;
+        let _open = self.stage.heeded_on(Bus::Smbus)?;
         let envelope = &packet.envelope;
         let ours = envelope.destination == self.names.own_wire
             && envelope.source == self.names.peer_wire
@@ -84,12 +75,12 @@ impl Manager {
         let Ok(reply) = read_pldm_reply(&pldm) else {
             return None;
         };
-        self.on_pldm(&asked, &reply)
+        self.on_pldm(&reply)
     }
 
-    fn on_pldm(&mut self, asked: &Asked, reply: &PldmReply<'_>) -> Option<Sent> {
+    fn on_pldm(&mut self, reply: &PldmReply<'_>) -> Option<Sent> {
         let header = &reply.header;
-        match asked {
+        match self.stage.heeded_on(Bus::Smbus)? {
             Asked::Pldm { kind, command, .. }
                 if *kind == header.pldm_type
                     && *command == header.command
@@ -125,7 +116,7 @@ impl Manager {
         let next = match task {
             Task::Gets(step) => self.after_get(step, reply),
             Task::Sets(step, back) => self.after_set(step, back, reply.code),
-            Task::Undoes(step) => after_undo(step, reply.code),
+            Task::Undoes(step) => self.after_undo(step, reply.code),
         };
         self.enter(next)
     }
@@ -141,9 +132,18 @@ impl Manager {
         match back {
             None => Stage::AtHalt(step, Why::NotRestorable),
             Some(_) if self.stopped => Stage::AtHalt(step, Why::Stop),
-            Some(back) => Stage::Opened {
+            Some(back) => self.set_stage(step, Limits::set_asked(&back)),
+        }
+    }
+
+    /// The stage in which the step is carried out. The request undoes it.
+    fn set_stage(&self, step: usize, back: Asked) -> Stage {
+        match self.steps.as_slice().get(step) {
+            None => Stage::AtEnd,
+            Some(op) => Stage::Opened {
                 heeded: true,
-                task: Task::Sets(step, Limits::set_asked(&back)),
+                task: Task::Sets(step, back),
+                asked: Limits::set_asked(op),
             },
         }
     }
@@ -152,18 +152,18 @@ impl Manager {
         if let Some(code) = Code::new(code) {
             return Stage::AtHalt(step, Why::Refused(code));
         }
-        self.undo.push(back);
+        self.undo.requests.push(back);
         let next = step + 1;
         if self.stopped && next < self.steps.as_slice().len() {
             return Stage::AtHalt(next, Why::Stop);
         }
         self.step_stage(next)
     }
-}
 
-fn after_undo(step: usize, code: u8) -> Stage {
-    match Code::new(code) {
-        Some(code) => Stage::AtRefused(step, code),
-        None => undo_stage(step),
+    fn after_undo(&self, step: usize, code: u8) -> Stage {
+        match Code::new(code) {
+            Some(code) => Stage::AtRefused(step, code),
+            None => self.undo_stage(step),
+        }
     }
 }

@@ -1,10 +1,12 @@
 //! A manager.
 use crate::Phase;
 use crate::Why;
-use crate::sending::{Counts, Sent, frames_of};
-use crate::stage::{Stage, Task, bus_of};
+use crate::sending::{Counts, Sent, bus_of, frames_of};
+use crate::stage::{Stage, Task};
+use cfg_records::RecordKind;
 use mctp_net::Assembler;
-use plans::{Names, NextNumbers, Plan, Retries, Steps, UndoList};
+use plans::{Names, NextNumbers, Plan, Requests, Retries, Steps, UndoList};
+use record_kinds::Limits;
 use std::alloc::Global;
 use two_wire::{Below, Bus};
 
@@ -44,9 +46,10 @@ impl Manager {
             ipmb: Below::new(0),
             smbus: Below::new(0),
         };
-        let Ok(undo) = UndoList::new(alloc, next) else {
+        let Ok(requests) = Requests::new(alloc) else {
             return Err(OpenFault::Memory);
         };
+        let undo = UndoList { requests, next };
         let Plan { steps, .. } = plan;
         Self::made(alloc, steps, undo, names, retries, Stage::AtStart)
     }
@@ -61,7 +64,7 @@ impl Manager {
         let Some(steps) = Steps::new(Vec::new(alloc)) else {
             return Err(OpenFault::Memory);
         };
-        let stage = Stage::AtHalt(undo.len(), Why::Stop);
+        let stage = Stage::AtHalt(undo.requests.len(), Why::Stop);
         Self::made(alloc, steps, undo, names, retries, stage)
     }
 
@@ -104,11 +107,7 @@ impl Manager {
 
     /// The bus on which a request is open, also one that isn't heeded.
     pub fn open_bus(&self) -> Option<Bus> {
-        let Stage::Opened { task, .. } = &self.stage else {
-            return None;
-        };
-        let asked = task.asked(&self.steps, &self.undo)?;
-        Some(bus_of(&asked))
+        self.stage.open().map(bus_of)
     }
 
     /// The requests that undo the steps that were done, and the numbers of the next requests.
@@ -125,33 +124,34 @@ impl Manager {
 
     /// The frames of the open request.
     pub(crate) fn open_frames(&self) -> Option<Sent> {
-        let Stage::Opened { task, .. } = &self.stage else {
-            return None;
-        };
-        let asked = task.asked(&self.steps, &self.undo)?;
-        Some(frames_of(&self.names, self.counts, &asked))
+        let asked = self.stage.open()?;
+        Some(frames_of(&self.names, self.counts, asked))
     }
 
     /// The stage of a step: its Get, or the plan's end.
     pub(crate) fn step_stage(&self, step: usize) -> Stage {
-        if step < self.steps.as_slice().len() {
-            Stage::Opened {
+        match self.steps.as_slice().get(step) {
+            None => Stage::AtEnd,
+            Some(op) => Stage::Opened {
                 heeded: true,
                 task: Task::Gets(step),
-            }
-        } else {
-            Stage::AtEnd
+                asked: Limits::get_asked(&Limits::key(op)),
+            },
         }
     }
-}
 
-/// The stage in which the first `left` steps are still to be undone.
-pub(crate) fn undo_stage(left: usize) -> Stage {
-    if left == 0 {
-        return Stage::AtUndone;
-    }
-    Stage::Opened {
-        heeded: true,
-        task: Task::Undoes(left - 1),
+    /// The stage in which this many steps are still to be undone.
+    pub(crate) fn undo_stage(&self, left: usize) -> Stage {
+        if left == 0 {
+            return Stage::AtUndone;
+        }
+        match self.undo.requests.get(left - 1) {
+            None => Stage::AtUndone,
+            Some(request) => Stage::Opened {
+                heeded: true,
+                task: Task::Undoes(left - 1),
+                asked: request.copy(),
+            },
+        }
     }
 }

@@ -1,11 +1,19 @@
 //! Requests as the frames that are sent.
+ghost use Rattle.std.specs.Prelude.{◌≡◌, ◌%◌, true, [], ◌∷◌, ℕ, map};
+ghost use Rattle.lab_model.specs.Values.{written};
+ghost use Rattle.lab_model.specs.ManagerSteps.{values_of};
+ghost use Rattle.undo_model.specs.Machine.{count_of};
+ghost use Rattle.undo_family.specs.Family.{bus_of as bus_of_request};
+ghost use Rattle.cfg_records.specs.declared.message.Asked.TheVariants as asked_as;
+ghost use Rattle.undo_core.specs.Counted.{counts_of};
+
 use arrayvec::ArrayVec;
 use cfg_records::Asked;
 use ipmb_frame::{Party, Request, Sequence, write_request};
 use mctp_net::{Envelope, Message, SomeData, Tag, split};
-use pldm_base::{Instance, PldmRequest, write_pldm};
+use pldm_base::{Instance, PldmRequest, PldmType, write_pldm};
 use plans::Names;
-use two_wire::{Bus, Bytes, Data, Frame, Lun};
+use two_wire::{Bus, Bytes, Data, Frame, Lun, NetFn};
 
 /// The message type of PLDM (DSP0239).
 const PLDM_TYPE: u8 = 0x01;
@@ -27,24 +35,42 @@ pub struct Sent {
 
 impl Counts {
     /// The sequence number of the request on IPMB.
-    pub fn sequence(self) -> Sequence {
+    pub fn sequence(self) -> Sequence
+        ensures { result ≡ self.ipmb % 64 }
+    {
         Sequence::new((self.ipmb % 64) as u8)
     }
 
     /// The instance of the request on SMBus.
-    pub fn instance(self) -> Instance {
+    pub fn instance(self) -> Instance
+        ensures { result ≡ self.smbus % 32 }
+    {
         Instance::new((self.smbus % 32) as u8)
     }
 
     /// The tag of its message.
-    pub fn tag(self) -> Tag {
+    pub fn tag(self) -> Tag
+        ensures { result ≡ self.smbus % 8 }
+    {
         Tag::new((self.smbus % 8) as u8)
     }
 }
 
+/// The bus on which a request goes.
+pub fn bus_of(asked: &Asked) -> Bus
+    ensures { result ≡ bus_of_request asked.now }
+{
+    match asked {
+        Asked::Ipmi { .. } => Bus::Ipmb,
+        Asked::Pldm { .. } => Bus::Smbus,
+    }
+}
+
 /// The frames of a manager's request of this count.
-pub fn frames_of(names: &Names, counts: Counts, asked: &Asked) -> Sent {
-    let mut frames = ArrayVec::new();
+pub fn frames_of(names: &Names, counts: Counts, asked: &Asked) -> Sent
+    ensures bus { result.bus ≡ bus_of_request asked.now }
+    ensures frames { result.frames.items ≡ map written (values_of names.now (count_of (bus_of_request asked.now) (counts_of counts)) asked.now) }
+{
     match asked {
         Asked::Ipmi {
             net_fn,
@@ -53,21 +79,8 @@ pub fn frames_of(names: &Names, counts: Counts, asked: &Asked) -> Sent {
             body,
             ..
         } => {
-            let header = ipmb_frame::Header {
-                responder: Party {
-                    address: names.peer_address,
-                    lun: *lun,
-                },
-                requester: Party {
-                    address: names.own_address,
-                    lun: Lun::new(0),
-                },
-                net_fn: *net_fn,
-                sequence: counts.sequence(),
-                command: *command,
-            };
-            let body = Data::new(body.as_slice());
-            frames.push(write_request(&Request { header, body }));
+            let mut frames = ArrayVec::new();
+            frames.push(request_frame(names, counts, *net_fn, *lun, *command, body));
             Sent {
                 bus: Bus::Ipmb,
                 frames,
@@ -78,30 +91,77 @@ pub fn frames_of(names: &Names, counts: Counts, asked: &Asked) -> Sent {
             command,
             body,
             ..
-        } => {
-            let mut bytes: Bytes<256> = Bytes::new();
-            bytes.push(PLDM_TYPE);
-            let header = pldm_base::Header {
-                instance: counts.instance(),
-                pldm_type: *kind,
-                command: *command,
-            };
-            let body = Data::new(body.as_slice());
-            write_pldm(&PldmRequest { header, body }, &mut bytes);
-            let message = Message {
-                envelope: envelope_of(names, counts),
-                body: SomeData::new(bytes.as_slice()),
-            };
-            Sent {
-                bus: Bus::Smbus,
-                frames: split(&message),
-            }
-        }
+        } => Sent {
+            bus: Bus::Smbus,
+            frames: message_frames(names, counts, *kind, *command, body),
+        },
     }
 }
 
+/// The frame of a request on IPMB, of this network function, logical unit and command.
+fn request_frame(
+    names: &Names,
+    counts: Counts,
+    net_fn: NetFn,
+    lun: Lun,
+    command: u8,
+    body: &Bytes<25>,
+) -> Frame
+    ensures { (from : ℕ) → result ∷ [] ≡ map written (values_of names.now counts.ipmb (asked_as.Ipmi from net_fn lun command body.now)) }
+{
+    let header = ipmb_frame::Header {
+        responder: Party {
+            address: names.peer_address,
+            lun,
+        },
+        requester: Party {
+            address: names.own_address,
+            lun: Lun::new(0),
+        },
+        net_fn,
+        sequence: counts.sequence(),
+        command,
+    };
+    let body = Data::new(body.as_slice());
+    write_request(&Request { header, body })
+}
+
+/// The frames of a PLDM request, of this type and command.
+fn message_frames(
+    names: &Names,
+    counts: Counts,
+    kind: PldmType,
+    command: u8,
+    body: &Bytes<252>,
+) -> ArrayVec<Frame, 4>
+    ensures { (from : ℕ) → result.items ≡ map written (values_of names.now counts.smbus (asked_as.Pldm from kind command body.now)) }
+{
+    let header = pldm_base::Header {
+        instance: counts.instance(),
+        pldm_type: kind,
+        command,
+    };
+    let mut bytes: Bytes<256> = Bytes::new();
+    bytes.push(PLDM_TYPE);
+    let body = Data::new(body.as_slice());
+    write_pldm(&PldmRequest { header, body }, &mut bytes);
+    split(&Message {
+        envelope: envelope_of(names, counts),
+        body: SomeData::new(bytes.as_slice()),
+    })
+}
+
 /// Between whom the message of a request goes, and under which tag.
-fn envelope_of(names: &Names, counts: Counts) -> Envelope {
+fn envelope_of(names: &Names, counts: Counts) -> Envelope
+    ensures { result ≡ record {
+        destination = names.now.peer_wire;
+        source = names.now.own_wire;
+        destination_eid = names.now.peer_eid;
+        source_eid = names.now.own_eid;
+        tag_owner = true;
+        tag = counts.smbus % 8;
+    } }
+{
     Envelope {
         destination: names.peer_wire,
         source: names.own_wire,

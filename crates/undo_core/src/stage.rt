@@ -1,18 +1,17 @@
 //! How far a manager is.
+use crate::sending::bus_of;
 use crate::{Phase, Why};
-use cfg_records::{Asked, RecordKind};
-use plans::{Steps, UndoList};
-use record_kinds::Limits;
+use cfg_records::Asked;
 use two_wire::{Bus, Code};
 
-/// One request, and the reply to it.
+/// One step of the way there or back.
 #[derive(Debug, Drop)]
 pub enum Task {
     /// It gets the record that the step changes.
     Gets(usize),
     /// It carries the step out. The request undoes it.
     Sets(usize, Asked),
-    /// It undoes the step, by the request of the same place in the undo list.
+    /// It undoes the step.
     Undoes(usize),
 }
 
@@ -20,8 +19,12 @@ pub enum Task {
 #[derive(Debug, Drop)]
 pub enum Stage {
     AtStart,
-    /// The request of a task is open. Where it isn't heeded, no reply to it is taken.
-    Opened { heeded: bool, task: Task },
+    /// A task's request is open. Where it isn't heeded, no reply to it is taken.
+    Opened {
+        heeded: bool,
+        task: Task,
+        asked: Asked,
+    },
     AtEnd,
     AtHalt(usize, Why),
     AtUndone,
@@ -32,9 +35,7 @@ impl Task {
     /// The step that it is about.
     fn step(&self) -> usize {
         match self {
-            Task::Gets(step) => *step,
-            Task::Sets(step, _) => *step,
-            Task::Undoes(step) => *step,
+            Task::Gets(step) | Task::Sets(step, _) | Task::Undoes(step) => *step,
         }
     }
 
@@ -46,24 +47,6 @@ impl Task {
             Task::Undoes(step) => Phase::Undoing(*step),
         }
     }
-
-    /// Its request.
-    pub fn asked(&self, steps: &Steps, undo: &UndoList) -> Option<Asked> {
-        match self {
-            Task::Gets(step) => {
-                let op = steps.as_slice().get(*step)?;
-                Some(Limits::get_asked(&Limits::key(op)))
-            }
-            Task::Sets(step, _) => {
-                let op = steps.as_slice().get(*step)?;
-                Some(Limits::set_asked(op))
-            }
-            Task::Undoes(step) => {
-                let request = undo.get(*step)?;
-                Some(request.copy())
-            }
-        }
-    }
 }
 
 impl Stage {
@@ -71,20 +54,39 @@ impl Stage {
     pub fn phase(&self) -> Phase {
         match self {
             Stage::AtStart => Phase::Fresh,
-            Stage::Opened { heeded: true, task } => task.phase(),
-            Stage::Opened { heeded: false, task } => Phase::Unsettled(task.step()),
+            Stage::Opened {
+                heeded: true, task, ..
+            } => task.phase(),
+            Stage::Opened {
+                heeded: false,
+                task,
+                ..
+            } => Phase::Unsettled(task.step()),
             Stage::AtEnd => Phase::Done,
             Stage::AtHalt(step, why) => Phase::Halted(*step, *why),
             Stage::AtUndone => Phase::Undone,
             Stage::AtRefused(step, code) => Phase::UndoRefused(*step, *code),
         }
     }
-}
 
-/// The bus on which a request goes.
-pub fn bus_of(asked: &Asked) -> Bus {
-    match asked {
-        Asked::Ipmi { .. } => Bus::Ipmb,
-        Asked::Pldm { .. } => Bus::Smbus,
+    /// The open request.
+    pub fn open(&self) -> Option<&Asked> {
+        match self {
+            Stage::Opened { asked, .. } => Some(asked),
+            _ => None,
+        }
+    }
+
+    /// The open request, where it is heeded and goes on this bus.
+    pub fn heeded_on(&self, bus: Bus) -> Option<&Asked> {
+        match self {
+            Stage::Opened {
+                heeded: true,
+                asked,
+                ..
+            } if bus_of(asked) == bus => Some(asked),
+            _ => None,
+        }
     }
 }
+

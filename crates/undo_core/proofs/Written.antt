@@ -1,0 +1,23 @@
+-- The frames of a message are those of its packets.
+use Rattle.std.proofs.Common.{◌≡◌, ℕ, ◌<◌, ◌≤◌, List, [], ◌∷◌, length, map, refl, sym, ◌∙◌, ap, subst}
+use Rattle.std.specs.List.{AllZip}
+use Rattle.mctp_net.specs.declared.packet.Packet.{Packet}
+use Rattle.mctp_net.specs.declared.message.Message.{Message}
+use Rattle.mctp_net.specs.Grammar.{IsSpelled}
+use Rattle.mctp_net.specs.Cut.{IsCutOf, AreWritten}
+use Rattle.mctp_net.proofs.OneCut.{cut-one}
+use Rattle.lab_model.specs.Values.{Value, Part, written, parts_of}
+use Rattle.lab_model.proofs.Parts.{parts_are_cuts}
+
+-- each frame is its packet's
+packets_written : (ps : List Packet) (frames : List (List ℕ)) → AreWritten ps frames → frames ≡ map written (map (λ p. Part p) ps)
+packets_written [] [] all = refl
+packets_written [] (frame ∷ frames) all = absurd all
+packets_written (p ∷ ps) [] all = absurd all
+packets_written (p ∷ ps) (frame ∷ frames) all = λ i. all.0.spelled i ∷ packets_written ps frames all.1 i
+
+-- so the frames of any cut are those of the message's parts
+pub message_written : (m : Message) (ps : List Packet) (frames : List (List ℕ)) → 0 < length m.body → length m.body ≤ 256 → IsCutOf m ps → AreWritten ps frames
+    → frames ≡ map written (map (λ p. Part p) (parts_of m))
+message_written m ps frames some fits cut all =
+    packets_written ps frames all ∙ ap (λ (qs : List Packet). map written (map (λ p. Part p) qs)) (cut-one m ps (parts_of m) cut (parts_are_cuts.cut m some fits))
