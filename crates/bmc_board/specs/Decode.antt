@@ -37,6 +37,6 @@ GetsAreRead = (key : Key) → Asks (get_asked key) (Get key)
 abbrev pub SetsAreRead : Type 0
 SetsAreRead = (op : Op) → Asks (set_asked op) (Set op)
 
--- what undoes an operation has 0 in each bit that a controller ignores
+-- the operation that undoes another has 0 in each bit that a controller ignores
 abbrev pub UndosArePlain : Type 0
 UndosArePlain = (op made : Op) (reply : List ℕ) → inverse op reply ≡ Some made → is_plain made
