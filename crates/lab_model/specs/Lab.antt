@@ -137,12 +137,12 @@ module _ (P : Plans) (setup : BoardFile) where
   run (e ∷ es) x = run es (step x e)
 
   -- a lab as it begins: a board that has heard nothing, and a manager with a plan
-  abbrev pub opening : Names → List P.family.Op → (retries : ℕ) → Lab P
+  abbrev pub opening : Names → List P.words.Op → (retries : ℕ) → Lab P
   opening names plan retries = record {
     board = opened_board setup;
     ipmb = quiet_port names.peer_address names.peer_eid;
     smbus = quiet_port names.peer_wire names.peer_eid;
-    manager = record { machine = opened_machine P.family plan retries; names = names; joined = nothing };
+    manager = record { machine = opened_machine P.words plan retries; names = names; joined = nothing };
     frames = [];
     opened = λ tag. 0;
   }

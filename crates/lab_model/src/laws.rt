@@ -23,7 +23,7 @@ pub fn bytes_are_the_models()
     ensures { AreTheModels }
 {}
 
-/// The manager's test against a request takes the reply to it, unless that has the busy code. What it takes has the request's number.
+/// The manager's test against a request takes the reply to it, unless that has a code of a busy port. What it takes has the request's number.
 pub fn test_takes_the_reply()
     ensures accepts { Accepts }
     ensures numbered { IsNumbered }
@@ -32,7 +32,7 @@ pub fn test_takes_the_reply()
 /// An event has a fault only where it breaks what the links are trusted with, or where there is no room; an event without a fault
 /// breaks nothing.
 pub fn faults_are_breaches()
-    ensures { (setup : BoardFile) (names : Names) → FaultsAreBreaches (board_plans setup names) }
+    ensures { (names : Names) → FaultsAreBreaches (board_plans names) }
 {}
 
 /// The packets of a message are a cut of it, and those of the model of a bus.
@@ -49,7 +49,7 @@ pub fn parts_are_heard()
 pub fn steps_are_these()
     ensures turns { (above : ℕ → ℕ → Bool) (r : Request) (spell : Answered → List ℕ) (setup : BoardFile) (asked : Asked) (log : List Entry) (before : State)
         → TurnsBy above r spell setup asked log before }
-    ensures runs { (setup : BoardFile) (names : Names) → RunsBy (board_plans setup names) setup }
+    ensures runs { (setup : BoardFile) (names : Names) → RunsBy (board_plans names) setup }
 {}
 
 /// A request on IPMB and a packet on SMBus leave at a port what the model's events leave: the log, and what waits.

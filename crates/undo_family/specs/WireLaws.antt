@@ -4,14 +4,13 @@ use Rattle.two_wire.specs.declared.Bus.{Bus}
 use Rattle.two_wire.specs.declared.Bus.TheVariants.{Ipmb, Smbus}
 use Rattle.cfg_records.specs.declared.message.Asked.{Asked}
 use Rattle.cfg_records.specs.declared.message.Asked.TheVariants.{Ipmi, Pldm}
-use Rattle.cfg_records.specs.declared.board_file.BoardFile.{BoardFile}
 use Rattle.record_kinds.specs.Limits.{get_asked, set_asked}
 use Rattle.bmc_board.specs.Decode.{IsFromNobody}
 use Rattle.bmc_board.proofs.Decoded.{gets_are_read, sets_are_read}
-use Rattle.undo_model.specs.Family.{Answered}
+use Rattle.undo_model.specs.Words.{Answered}
 use Rattle.undo_model.specs.TwoBuses.{Addresses}
 use Rattle.undo_model.specs.Wires.{IsMade, Wires}
-use Rattle.undo_family.specs.Family.{bus_of, from_manager, family}
+use Rattle.undo_family.specs.Family.{bus_of, from_manager, manager_words}
 use Rattle.undo_family.specs.Wires.{bytes_of, asked_from, reply_to, answered_from}
 
 -- the request is the manager's, to logical unit 0
@@ -24,9 +23,9 @@ of_nobody at (Ipmi from net_fn lun command body) is = (refl, is.1)
 of_nobody at (Pldm from kind command body) is = refl
 
 -- so is each that it makes
-pub managers : (setup : BoardFile) (at : Bus → Addresses) (asked : Asked) → IsMade (family setup at) asked → IsManagers at asked
-managers setup at asked (inl is) = subst (IsManagers at) (sym is.1) (of_nobody at (get_asked is.0) (gets_are_read is.0).from_nobody)
-managers setup at asked (inr is) = subst (IsManagers at) (sym is.1) (of_nobody at (set_asked is.0) (sets_are_read is.0).from_nobody)
+pub managers : (at : Bus → Addresses) (asked : Asked) → IsMade (manager_words at) asked → IsManagers at asked
+managers at asked (inl is) = subst (IsManagers at) (sym is.1) (of_nobody at (get_asked is.0) (gets_are_read is.0).from_nobody)
+managers at asked (inr is) = subst (IsManagers at) (sym is.1) (of_nobody at (set_asked is.0) (sets_are_read is.0).from_nobody)
 
 pub upper : (n lun : ℕ) → lun ≡ 0 → (4 * n + lun) / 4 ≡ n
 upper n lun zero = omega (arith, zero)
@@ -43,12 +42,12 @@ reply_read Ipmb bytes a = refl
 reply_read Smbus bytes a = refl
 
 -- how the manager's requests and the board's replies are bytes
-abbrev pub wires : (setup : BoardFile) (at : Bus → Addresses) → Wires (family setup at)
-wires setup at = record {
+abbrev pub wires : (at : Bus → Addresses) → Wires (manager_words at)
+wires at = record {
   bytes_of = bytes_of;
   asked_from = asked_from at;
   reply_to = reply_to;
   answered_from = answered_from;
-  same = λ number asked made. read_back at number asked (managers setup at asked made);
+  same = λ number asked made. read_back at number asked (managers at asked made);
   same_reply = reply_read;
 }

@@ -1,8 +1,7 @@
 -- The steps of a numbered plan.
 use Rattle.std.proofs.Common.{◌≡◌, ℕ, zero, suc, ◌+◌, ◌<◌, ◌≤◌, Bool, true, false, if◌then◌else◌, length, Some, None, refl, ◌∙◌, ap, arith}
 use Rattle.std.specs.Prelude.{slice_get}
-use Rattle.undo_model.specs.Family.{Answered}
-use Rattle.undo_model.specs.Laws.{is_busy}
+use Rattle.undo_model.specs.Words.{Answered, is_busy}
 use Rattle.undo_model.specs.Machine.{Machine, Gets, Sets, Undoes, replies, takes}
 use Rattle.undo_model.specs.Numbered.{Do, Reverse, numbered, stage_of, taken_of, plan_from, backs}
 use Rattle.undo_model.specs.declared.manager.Asked.TheVariants.{Back}

@@ -1,3 +1,5 @@
+pub mod Words
+pub mod Phase
 pub mod Family
 pub mod Laws
 pub mod Plan

@@ -3,11 +3,10 @@ use Rattle.std.specs.Prelude.{ℕ, zero, suc, ◌<◌, ◌%◌, Bool, true, fals
 use Rattle.std.specs.Option.{option_map}
 use Rattle.two_wire.specs.declared.Bus.{Bus}
 use Rattle.two_wire.specs.declared.Bus.TheVariants.{Ipmb, Smbus}
-use Rattle.undo_model.specs.Family.{Answered, Family}
-use Rattle.undo_model.specs.Plan.{Why, Stop, Refused, NotRestorable, GetRefused}
-use Rattle.undo_model.specs.Machine.{Counts, count_of, Gets, Sets, Undoes, Stage, AtStart, Opened, AtEnd, AtHalt, AtUndone, AtRefused, Machine, Sending, Turn, bus_at, takes, reply_of}
+use Rattle.undo_model.specs.Words.{Answered, Words}
+use Rattle.undo_model.specs.Phase.{Why, Stop, Refused, NotRestorable, GetRefused}
+use Rattle.undo_model.specs.Machine.{Counts, count_of, Gets, Sets, Undoes, Stage, AtStart, Opened, AtEnd, AtHalt, AtUndone, AtRefused, Machine, Sending, Turn, bus_at, takes, reply_of, same_bus}
 use Rattle.undo_model.specs.Wires.{number_of}
-use Rattle.undo_model.specs.World.{same_bus}
 use Rattle.undo_model.specs.declared.manager.Asked.{Asked}
 use Rattle.undo_model.specs.declared.manager.Asked.TheVariants.{Get, Set, Back}
 use Rattle.undo_model.specs.declared.manager.Reason.{Reason}
@@ -42,29 +41,17 @@ step_asked (Get step) = step
 step_asked (Set step) = step
 step_asked (Back step) = step
 
--- steps with even numbers go over IPMB; nothing is asked of records here
-abbrev pub numbered : Family
+-- steps with even numbers go over IPMB
+abbrev pub numbered : Words
 numbered = record {
   Key = ℕ;
   Op = Act;
-  Value = Unit {0};
   key_of = step_of;
-  Records = Unit {0};
-  get = λ r key. None;
-  put = λ r key v. r;
-  Valid = λ key v. Unit {0};
-  Sets = λ op v w. Unit {0};
-  Shows = λ key v body. Unit {0};
-  conf = λ key body. body;
-  Restorable = λ op body. Unit {0};
-  inverse = reverse;
-  Board = Unit {0};
-  records = λ b. b;
   Asked = Asked;
   bus_of = λ asked. if step_asked asked % 2 == 0 then Ipmb else Smbus;
   get_asked = Get;
   set_asked = request_for;
-  Row = λ b asked a after. Unit {0};
+  inverse = reverse;
 }
 
 -- so many steps from a number on

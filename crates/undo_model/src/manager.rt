@@ -2,10 +2,9 @@
 
 ghost use Rattle.std.specs.Prelude.{◌≡◌, ◌<◌, ◌+◌, ◌^◌, ◌&&◌, ◌==◌, slice_get, true, Some};
 ghost use Rattle.std.specs.Option.{option_map};
-ghost use Rattle.undo_model.specs.Machine.{count_of, one_answered, sends_at, enters, first_stage, undo_stage, start_of, undo_of, stop_of, quiet_of, again_of, stage_after, undo_after, Gets, Sets, Undoes};
+ghost use Rattle.undo_model.specs.Machine.{count_of, one_answered, sends_at, enters, first_stage, undo_stage, start_of, undo_of, stop_of, quiet_of, again_of, stage_after, undo_after, Gets, Sets, Undoes, same_bus};
 ghost use Rattle.undo_model.specs.Numbered.{numbered, plan_from, backs, acknowledged, stage_of, machine, sending_of, turn_of, has_open, answer_of, is_to_open, heard_of, taken_of, IsWithin, Do, Reverse};
 ghost use Rattle.undo_model.specs.Wires.{number_of};
-ghost use Rattle.undo_model.specs.World.{same_bus};
 ghost use Rattle.undo_model.specs.declared.manager.Asked.TheVariants.{Back};
 
 use two_wire::Bus;
