@@ -11,6 +11,7 @@ ghost use Rattle.lab_model.specs.Bytes.{AreReadBack, AreTheModels, Accepts, IsNu
 ghost use Rattle.lab_model.specs.Honest.{FaultsAreBreaches};
 ghost use Rattle.lab_model.specs.Stepwise.{TurnsBy, RunsBy};
 ghost use Rattle.lab_model.specs.Cuts.{PartsAreCuts, PartsAreHeard};
+ghost use Rattle.lab_model.specs.PortEvents.{RequestsLeaveLog, PartsLeaveLog};
 
 /// A request's bytes are read as that request, and a reply's as its answer.
 pub fn bytes_are_read_back()
@@ -49,4 +50,10 @@ pub fn steps_are_these()
     ensures turns { (above : ℕ → ℕ → Bool) (r : Heard) (spell : Answered → List ℕ) (setup : BoardFile) (asked : Asked) (log : List Entry) (before : State)
         → TurnsBy above r spell setup asked log before }
     ensures runs { (setup : BoardFile) (names : Names) → RunsBy (board_plans names) setup }
+{}
+
+/// A request on IPMB and a packet on SMBus leave at a port what the model's events leave: the log, and what waits.
+pub fn packets_leave_log()
+    ensures requests { RequestsLeaveLog }
+    ensures packets { PartsLeaveLog }
 {}
