@@ -13,7 +13,7 @@ use Rattle.cfg_records.specs.declared.board_file.BoardFile.{BoardFile}
 use Rattle.bmc_core.specs.declared.out.Out.{Out}
 use Rattle.bmc_core.specs.declared.out.Reason.TheVariants.{Frame, NotOurs, NotRequest}
 use Rattle.bmc_core.specs.declared.port.At.{At}
-use Rattle.bmc_board.specs.State.{State}
+use Rattle.bmc_board.specs.State.{State, IsUnchanged}
 use Rattle.bmc_board.specs.Answer.{answer_of}
 use Rattle.bmc_core.specs.Outs.{ignored, answered}
 
@@ -39,7 +39,7 @@ pub record IsAnswered (setup : BoardFile) (before : State) (request : Request) (
 -- A port at this place, of a board with this setup, hears the bytes: it sends and does so, and the board goes from one state to the
 -- other. Bytes have a fault, or else are one message (`fault_or_message`).
 pub record HearsFrame (at : At) (setup : BoardFile) (before : State) (bytes : List ℕ) (out : Out) (after : State) : Type 0 where
-  pub faulty : (fault : FrameFault) → find (has_fault bytes) faults ≡ Some fault → (out ≡ ignored (Frame fault)) × (after ≡ before)
-  pub not_ours : (m : Msg) → IsMessage m bytes → ¬ IsTo at bytes → (out ≡ ignored NotOurs) × (after ≡ before)
-  pub no_request : (r : Response) → IsResponse r bytes → IsTo at bytes → (out ≡ ignored NotRequest) × (after ≡ before)
+  pub faulty : (fault : FrameFault) → find (has_fault bytes) faults ≡ Some fault → (out ≡ ignored (Frame fault)) × IsUnchanged before after
+  pub not_ours : (m : Msg) → IsMessage m bytes → ¬ IsTo at bytes → (out ≡ ignored NotOurs) × IsUnchanged before after
+  pub no_request : (r : Response) → IsResponse r bytes → IsTo at bytes → (out ≡ ignored NotRequest) × IsUnchanged before after
   pub request : (r : Request) → IsRequest r bytes → IsTo at bytes → IsAnswered setup before r out after

@@ -59,8 +59,8 @@ pub fn open_request_goes_through()
     ensures cut { CutIsWhole }
 {}
 
-/// Of what is live, the manager's test on bytes (number, command, the next netFn or the same type, a code that isn't the busy
-/// one) takes exactly what the model takes by the number. So the model needn't look at commands.
+/// Of what is live, the manager's test on bytes (number, command, the next netFn or the same type, a code that isn't one of a
+/// busy port) takes exactly what the model takes by the number. So the model needn't look at commands.
 pub fn test_on_bytes_is_the_model()
     ensures ipmb { (manager controller first : ℕ) → TestIsModel Ipmb (ipmb manager controller first) }
     ensures smbus { (manager controller first : ℕ) → TestIsModel Pldm (smbus manager controller first) }

@@ -23,7 +23,7 @@ use Rattle.record_kinds.specs.Boards.{limits_at}
 use Rattle.bmc_board.specs.declared.request.Request.{Request}
 use Rattle.bmc_board.specs.declared.request.Request.TheVariants.{Get, Set}
 use Rattle.bmc_board.specs.Request.{asked_by}
-use Rattle.bmc_board.specs.State.{State}
+use Rattle.bmc_board.specs.State.{State, IsUnchanged}
 use Rattle.bmc_board.specs.Replies.{refused, unknown_code}
 use Rattle.bmc_board.specs.Answer.{Given, answer_of}
 use Rattle.bmc_board.specs.AnyAnswer.{IsCode}
@@ -137,7 +137,7 @@ told_where limits old unknown op before answered after (inr is) = record {
 
 -- a record that isn't there
 told_absent : (limits : Option Limits) (value : Option (List ℕ)) (unknown : ℕ) (op : Op) (before : State) (answered : BoardAnswer) (after : State) → unknown ≢ success → ((old new : List ℕ) → value ≡ Some old → ¬ SetsWithin limits op old new)
-    → (answered ≡ refused unknown) × (after ≡ before) → Tells limits value op before.records answered.code after.records
+    → (answered ≡ refused unknown) × IsUnchanged before after → Tells limits value op before.records answered.code after.records
 told_absent limits value unknown op before answered after fault none is = record {
   does = λ carried. absurd (fault (sym (ap (λ (a : BoardAnswer). a.code) is.0) ∙ carried));
   keeps = λ _. ap (λ (s : State). s.records) is.1;
