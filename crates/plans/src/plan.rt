@@ -1,7 +1,8 @@
 //! Plans.
-ghost use Rattle.std.specs.Prelude.{◌≡◌, ◌≤◌, ◌↔◌, IsSome, IfSome, length};
+ghost use Rattle.std.specs.Prelude.{◌≡◌, ◌≤◌, ◌↔◌, [], IsSome, IfSome, length};
 
 use cfg_records::Op;
+use std::alloc::Global;
 use std::marker::Model;
 use two_wire::Below;
 
@@ -38,6 +39,15 @@ impl Steps {
             return None;
         }
         Some(Steps { ops })
+    }
+
+    /// No step.
+    pub fn none(alloc: Global) -> Self
+        ensures { result ≡ [] }
+    {
+        Steps {
+            ops: Vec::new(alloc),
+        }
     }
 
     /// The steps.

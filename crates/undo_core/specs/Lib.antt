@@ -1,1 +1,4 @@
 pub mod Counted
+pub mod Bounds
+pub mod Phases
+pub mod Shown

@@ -1,4 +1,7 @@
 //! The calls of a manager.
+ghost use Rattle.lab_model.specs.ManagerSteps.{Start, Quiet, Stop, Again, Undo};
+ghost use Rattle.undo_core.specs.Shown.{Calls};
+
 use crate::manager::Manager;
 use crate::sending::Sent;
 use crate::stage::{Stage, Task};
@@ -6,16 +9,21 @@ use crate::WrongPhase;
 
 impl Manager {
     /// Begins the plan.
-    pub fn start(&mut self) -> Result<Option<Sent>, WrongPhase> {
+    pub fn start(&mut self) -> Result<Option<Sent>, WrongPhase>
+        ensures { Calls Start self.old self.new result }
+    {
         let Stage::AtStart = self.stage else {
             return Err(WrongPhase);
         };
-        let stage = self.step_stage(0);
-        Ok(self.enter(stage))
+        self.stage = self.step_stage(0);
+        self.resent = 0;
+        Ok(self.open_frames())
     }
 
     /// No reply came: sends the open request's frames again, or leaves it unsettled where that was done as often as it may be.
-    pub fn quiet(&mut self) -> Result<Option<Sent>, WrongPhase> {
+    pub fn quiet(&mut self) -> Result<Option<Sent>, WrongPhase>
+        ensures { Calls Quiet self.old self.new result }
+    {
         let Stage::Opened { heeded, .. } = &mut self.stage else {
             return Err(WrongPhase);
         };
@@ -31,7 +39,9 @@ impl Manager {
     }
 
     /// Halts the plan before the next Set.
-    pub fn stop(&mut self) -> Result<Option<Sent>, WrongPhase> {
+    pub fn stop(&mut self) -> Result<Option<Sent>, WrongPhase>
+        ensures { Calls Stop self.old self.new result }
+    {
         match &self.stage {
             Stage::Opened {
                 heeded: true,
@@ -46,7 +56,9 @@ impl Manager {
     }
 
     /// Sends the unsettled request again, and heeds it again.
-    pub fn again(&mut self) -> Result<Option<Sent>, WrongPhase> {
+    pub fn again(&mut self) -> Result<Option<Sent>, WrongPhase>
+        ensures { Calls Again self.old self.new result }
+    {
         let Stage::Opened { heeded, .. } = &mut self.stage else {
             return Err(WrongPhase);
         };
@@ -59,13 +71,16 @@ impl Manager {
     }
 
     /// Begins the undo, once the plan ended or halted.
-    pub fn undo(&mut self) -> Result<Option<Sent>, WrongPhase> {
+    pub fn undo(&mut self) -> Result<Option<Sent>, WrongPhase>
+        ensures { Calls Undo self.old self.new result }
+    {
         match self.stage {
             Stage::AtEnd | Stage::AtHalt(_, _) => {}
             _ => return Err(WrongPhase),
         }
         self.joined.clear();
-        let stage = self.undo_stage(self.undo.requests.len());
-        Ok(self.enter(stage))
+        self.stage = self.undo_stage(self.undo.requests.len());
+        self.resent = 0;
+        Ok(self.open_frames())
     }
 }

@@ -1,7 +1,11 @@
 //! Frames that come to a manager.
+ghost use Rattle.std.specs.Prelude.{◌≡◌, ◌≤◌, ◌<◌, ℕ, length};
+ghost use Rattle.undo_model.specs.Words.{is_busy as is_busy_code};
+ghost use Rattle.undo_core.specs.Shown.{Takes};
+
 use crate::Why;
 use crate::manager::Manager;
-use crate::sending::Sent;
+use crate::sending::{Sent, bus_of};
 use crate::stage::{Stage, Task};
 use cfg_records::{Asked, RecordKind};
 use ipmb_frame::{Msg, Response, read_frame};
@@ -9,7 +13,7 @@ use mctp_net::{Packet, Taken, read_packet};
 use pldm_base::{PldmBytes, PldmReply, read_pldm_reply};
 use plans::NextNumbers;
 use record_kinds::Limits;
-use two_wire::{Below, Bus, Code, code};
+use two_wire::{Bus, Code, code};
 
 /// A reply that passed the test against the open request.
 #[derive(Clone, Copy)]
@@ -96,11 +100,30 @@ impl Manager {
     }
 
     /// Takes the reply to the open request. The codes of a busy controller count as none.
-    fn on_reply(&mut self, reply: Reply<'_>) -> Option<Sent> {
-        if reply.code == code::NODE_BUSY.value() || reply.code == code::PLDM_NOT_READY.value() {
+    fn on_reply(&mut self, reply: Reply<'_>) -> Option<Sent>
+        ensures { Takes (record { code = reply.code; body = reply.body.now }) self.old self.new result }
+    {
+        if is_busy(reply.code) {
             return None;
         }
-        let bus = self.open_bus()?;
+        let Stage::Opened {
+            heeded: true,
+            task,
+            asked,
+        } = &self.stage
+        else {
+            return None;
+        };
+        let bus = bus_of(asked);
+        let done = match task {
+            Task::Sets(_, back) if reply.code == 0 => Some(back.copy()),
+            _ => None,
+        };
+        self.stage = self.stage_after(task, reply);
+        self.resent = 0;
+        if let Some(request) = done {
+            self.undo.requests.push(request);
+        }
         match bus {
             Bus::Ipmb => self.counts.ipmb += 1,
             Bus::Smbus => self.counts.smbus += 1,
@@ -109,16 +132,16 @@ impl Manager {
             ipmb: self.counts.sequence(),
             smbus: self.counts.instance(),
         };
-        let stage = std::mem::replace(&mut self.stage, Stage::AtStart);
-        let Stage::Opened { task, .. } = stage else {
-            return None;
-        };
-        let next = match task {
-            Task::Gets(step) => self.after_get(step, reply),
-            Task::Sets(step, back) => self.after_set(step, back, reply.code),
-            Task::Undoes(step) => self.after_undo(step, reply.code),
-        };
-        self.enter(next)
+        self.open_frames()
+    }
+
+    /// The stage after the reply to a task's request.
+    fn stage_after(&self, task: &Task, reply: Reply<'_>) -> Stage {
+        match task {
+            Task::Gets(step) => self.after_get(*step, reply),
+            Task::Sets(step, _) => self.after_set(*step, reply.code),
+            Task::Undoes(step) => self.after_undo(*step, reply.code),
+        }
     }
 
     fn after_get(&self, step: usize, reply: Reply<'_>) -> Stage {
@@ -148,11 +171,10 @@ impl Manager {
         }
     }
 
-    fn after_set(&mut self, step: usize, back: Asked, code: u8) -> Stage {
+    fn after_set(&self, step: usize, code: u8) -> Stage {
         if let Some(code) = Code::new(code) {
             return Stage::AtHalt(step, Why::Refused(code));
         }
-        self.undo.requests.push(back);
         let next = step + 1;
         if self.stopped && next < self.steps.as_slice().len() {
             return Stage::AtHalt(next, Why::Stop);
@@ -166,4 +188,11 @@ impl Manager {
             None => self.undo_stage(step),
         }
     }
+}
+
+/// Whether the code is one of a busy controller.
+fn is_busy(code: u8) -> bool
+    ensures { result ≡ is_busy_code code }
+{
+    code == code::NODE_BUSY.value() || code == code::PLDM_NOT_READY.value()
 }

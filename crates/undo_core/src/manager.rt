@@ -1,4 +1,7 @@
 //! A manager.
+ghost use Rattle.std.specs.Prelude.{◌≡◌, ◌+◌, ◌≤◌, ◌<◌, ◌↔◌, length, IfOk, Err, Some, ℕ};
+ghost use Rattle.undo_core.specs.Bounds.{steps_needed, undone_needed, most_backs, replies_left};
+
 use crate::Phase;
 use crate::Why;
 use crate::sending::{Counts, Sent, bus_of, frames_of};
@@ -37,6 +40,10 @@ pub struct Manager {
     pub(crate) counts: Counts,
     /// The packets that wait.
     pub(crate) joined: Assembler,
+    ghost planned: { steps_needed stage ≤ length steps },
+    ghost kept: { undone_needed stage ≤ length undo.requests },
+    ghost few: { length undo.requests ≤ most_backs stage },
+    ghost counted: { counts.ipmb + counts.smbus + replies_left (length steps) (length undo.requests) stage ≤ 1024 },
 }
 
 impl Manager {
@@ -46,12 +53,27 @@ impl Manager {
             ipmb: Below::new(0),
             smbus: Below::new(0),
         };
+        let Some(retries) = retries_of(retries) else {
+            return Err(OpenFault::Retries);
+        };
+        let Ok(joined) = Assembler::new(alloc) else {
+            return Err(OpenFault::Memory);
+        };
         let Ok(requests) = Requests::new(alloc) else {
             return Err(OpenFault::Memory);
         };
-        let undo = UndoList { requests, next };
         let Plan { steps, .. } = plan;
-        Self::made(alloc, steps, undo, names, retries, Stage::AtStart)
+        Ok(Manager {
+            steps,
+            retries,
+            names,
+            stage: Stage::AtStart,
+            stopped: false,
+            resent: 0,
+            undo: UndoList { requests, next },
+            counts: Counts { ipmb: 0, smbus: 0 },
+            joined,
+        })
     }
 
     /// A manager that goes on from a list of requests that undo. It is halted.
@@ -61,24 +83,9 @@ impl Manager {
         names: Names,
         retries: u8,
     ) -> Result<Self, OpenFault> {
-        let Some(steps) = Steps::new(Vec::new(alloc)) else {
-            return Err(OpenFault::Memory);
-        };
-        let stage = Stage::AtHalt(undo.requests.len(), Why::Stop);
-        Self::made(alloc, steps, undo, names, retries, stage)
-    }
-
-    fn made(
-        alloc: Global,
-        steps: Steps,
-        undo: UndoList,
-        names: Names,
-        retries: u8,
-        stage: Stage,
-    ) -> Result<Self, OpenFault> {
-        if retries > MOST_RETRIES {
+        let Some(retries) = retries_of(retries) else {
             return Err(OpenFault::Retries);
-        }
+        };
         let Ok(joined) = Assembler::new(alloc) else {
             return Err(OpenFault::Memory);
         };
@@ -86,13 +93,12 @@ impl Manager {
             ipmb: u16::from(undo.next.ipmb.number()),
             smbus: u16::from(undo.next.smbus.number()),
         };
-        let stopped = matches!(stage, Stage::AtHalt(_, _));
         Ok(Manager {
-            steps,
-            retries: Retries::new(retries),
+            steps: Steps::none(alloc),
+            retries,
             names,
-            stage,
-            stopped,
+            stage: Stage::AtHalt(undo.requests.len(), Why::Stop),
+            stopped: true,
             resent: 0,
             undo,
             counts,
@@ -113,13 +119,6 @@ impl Manager {
     /// The requests that undo the steps that were done, and the numbers of the next requests.
     pub fn undo_list(&self) -> &UndoList {
         &self.undo
-    }
-
-    /// A stage is entered: its request is opened, and wasn't sent again yet.
-    pub(crate) fn enter(&mut self, stage: Stage) -> Option<Sent> {
-        self.stage = stage;
-        self.resent = 0;
-        self.open_frames()
     }
 
     /// The frames of the open request.
@@ -154,4 +153,12 @@ impl Manager {
             },
         }
     }
+}
+
+/// So many retries, where they may be so many.
+fn retries_of(number: u8) -> Option<Retries> {
+    if number > MOST_RETRIES {
+        return None;
+    }
+    Some(Retries::new(number))
 }

@@ -30,6 +30,8 @@ pub struct Counts {
 #[derive(Debug, Drop)]
 pub struct Sent {
     pub bus: Bus,
+    /// Which of the manager's requests on that bus it is, counted from 0.
+    pub request: u16,
     pub frames: ArrayVec<Frame, 4>,
 }
 
@@ -69,6 +71,7 @@ pub fn bus_of(asked: &Asked) -> Bus
 /// The frames of a manager's request of this count.
 pub fn frames_of(names: &Names, counts: Counts, asked: &Asked) -> Sent
     ensures bus { result.bus ≡ bus_of_request asked.now }
+    ensures request { result.request ≡ count_of (bus_of_request asked.now) (counts_of counts) }
     ensures frames { result.frames.items ≡ map written (values_of names.now (count_of (bus_of_request asked.now) (counts_of counts)) asked.now) }
 {
     match asked {
@@ -83,6 +86,7 @@ pub fn frames_of(names: &Names, counts: Counts, asked: &Asked) -> Sent
             frames.push(request_frame(names, counts, *net_fn, *lun, *command, body));
             Sent {
                 bus: Bus::Ipmb,
+                request: counts.ipmb,
                 frames,
             }
         }
@@ -93,6 +97,7 @@ pub fn frames_of(names: &Names, counts: Counts, asked: &Asked) -> Sent
             ..
         } => Sent {
             bus: Bus::Smbus,
+            request: counts.smbus,
             frames: message_frames(names, counts, *kind, *command, body),
         },
     }

@@ -1,4 +1,12 @@
 //! How far a manager is.
+ghost use Rattle.std.specs.Prelude.{◌≡◌, List, Option};
+ghost use Rattle.cfg_records.specs.declared.op.Op.{Op};
+ghost use Rattle.cfg_records.specs.declared.message.Asked.{Asked as AnyAsked};
+ghost use Rattle.plans.specs.declared.names.Names.{Names};
+ghost use Rattle.undo_model.specs.Machine as machine;
+ghost use Rattle.undo_core.specs.Phases.{phase_of};
+ghost use Rattle.undo_core.specs.Shown.{words_of, own, IsTask, IsStage};
+
 use crate::sending::bus_of;
 use crate::{Phase, Why};
 use cfg_records::Asked;
@@ -33,14 +41,20 @@ pub enum Stage {
 
 impl Task {
     /// The step that it is about.
-    fn step(&self) -> usize {
+    fn step(&self) -> usize
+        ensures { (names : Names) (plan : List Op) (requests : List AnyAsked) (of : machine.Task (words_of names)) → IsTask names plan requests self.now of
+            → result ≡ machine.task_step (words_of names) of }
+    {
         match self {
             Task::Gets(step) | Task::Sets(step, _) | Task::Undoes(step) => *step,
         }
     }
 
     /// The phase while its request is heeded.
-    fn phase(&self) -> Phase {
+    fn phase(&self) -> Phase
+        ensures { (names : Names) (plan : List Op) (requests : List AnyAsked) (of : machine.Task (words_of names)) → IsTask names plan requests self.now of
+            → phase_of result ≡ machine.task_phase (words_of names) of }
+    {
         match self {
             Task::Gets(step) => Phase::Getting(*step),
             Task::Sets(step, _) => Phase::Setting(*step),
@@ -51,7 +65,10 @@ impl Task {
 
 impl Stage {
     /// The phase.
-    pub fn phase(&self) -> Phase {
+    pub fn phase(&self) -> Phase
+        ensures { (names : Names) (plan : List Op) (requests : List AnyAsked) (at : machine.Stage (words_of names)) → IsStage names plan requests self.now at
+            → phase_of result ≡ machine.phase_at (words_of names) at }
+    {
         match self {
             Stage::AtStart => Phase::Fresh,
             Stage::Opened {

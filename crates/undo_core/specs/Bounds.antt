@@ -1,0 +1,55 @@
+-- How far a manager's numbers go.
+use Rattle.std.specs.Prelude.{ℕ, suc, ◌+◌, ◌-◌, ◌*◌}
+use Rattle.undo_core.specs.declared.stage.Task.{Task}
+use Rattle.undo_core.specs.declared.stage.Task.TheVariants.{Gets, Sets, Undoes}
+use Rattle.undo_core.specs.declared.stage.Stage.{Stage}
+use Rattle.undo_core.specs.declared.stage.Stage.TheVariants.{AtStart, Opened, AtEnd, AtHalt, AtUndone, AtRefused}
+
+-- the most requests that a list which undoes has, and the most steps of a plan
+pub most_steps : ℕ
+most_steps = 256
+
+-- how many steps the plan has at least
+abbrev pub task_steps : Task → ℕ
+task_steps (Gets k) = suc k
+task_steps (Sets k back) = suc k
+task_steps (Undoes k) = 0
+
+abbrev pub steps_needed : Stage → ℕ
+steps_needed (Opened heeded task asked) = task_steps task
+steps_needed _ = 0
+
+-- how many requests that undo there are at least
+abbrev pub task_undone : Task → ℕ
+task_undone (Gets k) = 0
+task_undone (Sets k back) = 0
+task_undone (Undoes k) = suc k
+
+abbrev pub undone_needed : Stage → ℕ
+undone_needed (Opened heeded task asked) = task_undone task
+undone_needed _ = 0
+
+-- how many there are at most
+abbrev pub task_backs : Task → ℕ
+task_backs (Gets k) = k
+task_backs (Sets k back) = k
+task_backs (Undoes k) = 256
+
+abbrev pub most_backs : Stage → ℕ
+most_backs AtStart = 0
+most_backs (Opened heeded task asked) = task_backs task
+most_backs _ = 256
+
+-- how many replies may still be taken, of a plan of so many steps, with so many requests that undo
+abbrev pub task_left : ℕ → ℕ → Task → ℕ
+task_left steps backs (Gets k) = 3 * (steps - k) + backs
+task_left steps backs (Sets k back) = 3 * (steps - k) - 1 + backs
+task_left steps backs (Undoes k) = suc k
+
+abbrev pub replies_left : ℕ → ℕ → Stage → ℕ
+replies_left steps backs AtStart = 3 * steps
+replies_left steps backs (Opened heeded task asked) = task_left steps backs task
+replies_left steps backs AtEnd = backs
+replies_left steps backs (AtHalt k why) = backs
+replies_left steps backs AtUndone = 0
+replies_left steps backs (AtRefused k code) = 0

@@ -1,0 +1,90 @@
+-- The machine that a manager shows, and the packets that wait at it.
+use Rattle.std.specs.Prelude.{◌≡◌, Result, Ok, Err, ℕ, suc, ◌%◌, ◌<◌, Bool, List, [], ◌∷◌, length, map, take, reverse, Option, Some, None, slice_get}
+use Rattle.cfg_records.specs.declared.op.Op.{Op}
+use Rattle.cfg_records.specs.declared.message.Asked.{Asked}
+use Rattle.plans.specs.declared.names.Names.{Names}
+use Rattle.mctp_net.specs.Places.{seen}
+use Rattle.undo_model.specs.Words.{Answered, Words}
+use Rattle.undo_model.specs.Machine as machine
+use Rattle.undo_model.specs.Machine.{reply_of}
+use Rattle.undo_core.specs.declared.phase.WrongPhase.{WrongPhase}
+use Rattle.undo_family.specs.Family.{from_manager}
+use Rattle.lab_model.specs.Values.{written}
+use Rattle.lab_model.specs.ManagerSteps.{addresses, board_plans, Sent as AllSent, Call, ManagerState, ManagerDeed, called, taken_or}
+use Rattle.undo_core.specs.declared.stage.Task.{Task}
+use Rattle.undo_core.specs.declared.stage.Task.TheVariants as task
+use Rattle.undo_core.specs.declared.stage.Stage.{Stage}
+use Rattle.undo_core.specs.declared.stage.Stage.TheVariants as stage
+use Rattle.undo_core.specs.declared.sending.Sent.{Sent}
+use Rattle.undo_core.specs.declared.manager.Manager.{Manager}
+use Rattle.undo_core.specs.Counted.{counts_of}
+use Rattle.undo_core.specs.Phases.{why_of}
+
+-- the words of a manager with these names
+abbrev pub words_of : Names → Words
+words_of names = (board_plans names).words
+
+-- a request as the machine has it: from the manager
+abbrev pub own : Names → Asked → Asked
+own names asked = from_manager (addresses names) asked
+
+-- requests that undo, the last first
+abbrev pub backs : Names → List Asked → List Asked
+backs names requests = map (own names) (reverse requests)
+
+-- a task of the machine is this one, of the plan, with these requests that undo
+abbrev pub IsTask : (names : Names) → List Op → List Asked → Task → machine.Task (words_of names) → Type 0
+IsTask names plan requests (task.Gets k) (machine.Gets j op) = (j ≡ k) × (slice_get plan k ≡ Some op)
+IsTask names plan requests (task.Sets k back) (machine.Sets j op undo) = (j ≡ k) × (slice_get plan k ≡ Some op) × (own names back ≡ (words_of names).setting undo)
+IsTask names plan requests (task.Undoes k) (machine.Undoes first rest) = (k < length requests) × (backs names (take (suc k) requests) ≡ first ∷ rest)
+IsTask names plan requests _ _ = ⊥
+
+-- a stage of the machine is this one
+abbrev pub IsStage : (names : Names) → List Op → List Asked → Stage → machine.Stage (words_of names) → Type 0
+IsStage names plan requests stage.AtStart machine.AtStart = Unit {0}
+IsStage names plan requests (stage.Opened heeded task asked) (machine.Opened heeds of part) =
+    (heeds ≡ heeded) × IsTask names plan requests task of × (part ≡ machine.first_part (words_of names) of) × (own names asked ≡ part.asked)
+IsStage names plan requests stage.AtEnd machine.AtEnd = Unit {0}
+IsStage names plan requests (stage.AtHalt k why) (machine.AtHalt j cause) = (j ≡ k) × (cause ≡ why_of why)
+IsStage names plan requests stage.AtUndone machine.AtUndone = Unit {0}
+IsStage names plan requests (stage.AtRefused k code) (machine.AtRefused j number) = (j ≡ k) × (number ≡ code)
+IsStage names plan requests _ _ = ⊥
+
+-- the manager shows this machine, and these packets wait at it
+pub record Shows (names : Names) (m : Manager) (s : ManagerState (board_plans names)) : Type 0 where
+  pub named : m.names ≡ names
+  pub is_named : s.names ≡ names
+  pub plan : s.machine.plan ≡ m.steps
+  pub retries : s.machine.retries ≡ m.retries
+  pub stage : IsStage names m.steps m.undo.requests m.stage s.machine.stage
+  pub stopped : s.machine.stopped ≡ m.stopped
+  pub resent : s.machine.resent ≡ m.resent
+  pub undo : s.machine.undo ≡ backs names m.undo.requests
+  pub counts : s.machine.counts ≡ counts_of m.counts
+  pub sequence : m.undo.next.ipmb ≡ m.counts.ipmb % 64
+  pub instance : m.undo.next.smbus ≡ m.counts.smbus % 32
+  pub joined : s.joined ≡ seen m.joined
+
+-- frames that the manager sends
+abbrev pub IsSent : Option Sent → Option AllSent → Type 0
+IsSent (Some r) (Some s) = (r.bus ≡ s.on) × (r.request ≡ s.request) × (r.frames.items ≡ map written s.values)
+IsSent None None = Unit {0}
+IsSent _ _ = ⊥
+
+-- the manager is then the deed's, and sends what the deed sends
+abbrev pub Does : (names : Names) → Manager → Option Sent → ManagerDeed (board_plans names) → Type 0
+Does names m sent deed = Shows names m deed.manager × IsSent sent deed.sent
+
+-- a call is the deed, or it is refused where there is none, and then nothing changes
+abbrev pub IsCalled : (names : Names) → ManagerState (board_plans names) → Manager → Result (Option Sent) WrongPhase → Option (ManagerDeed (board_plans names)) → Type 0
+IsCalled names before m (Ok sent) (Some deed) = Does names m sent deed
+IsCalled names before m (Err wrong) None = Shows names m before
+IsCalled names before m _ _ = ⊥
+
+-- whatever machine the manager showed, the call is the machine's
+abbrev pub Calls : Call → Manager → Manager → Result (Option Sent) WrongPhase → Type 0
+Calls call old new result = (names : Names) (s : ManagerState (board_plans names)) → Shows names old s → IsCalled names s new result (called (board_plans names) call s)
+
+-- whatever machine the manager showed, a reply that passed the test is taken as the machine takes it
+abbrev pub Takes : Answered → Manager → Manager → Option Sent → Type 0
+Takes a old new sent = (names : Names) (s : ManagerState (board_plans names)) → Shows names old s → Does names new sent (taken_or (board_plans names) s (reply_of (words_of names) a s.machine))
