@@ -4,8 +4,10 @@
 mod calls;
 mod hearing;
 mod manager;
+mod opening;
 mod phase;
 mod sending;
+mod showing;
 mod stage;
 #[cfg(test)]
 mod tests;

@@ -1,5 +1,7 @@
 //! How far a manager is.
-ghost use Rattle.std.specs.Prelude.{◌≡◌, List, Option};
+ghost use Rattle.std.specs.Prelude.{◌≡◌, Bool, true, List, Option, IfSome, IsSome};
+ghost use Rattle.undo_family.specs.Family.{bus_of as bus_of_request};
+ghost use Rattle.undo_core.specs.declared.stage.Stage.TheVariants.{Opened as IsOpened};
 ghost use Rattle.cfg_records.specs.declared.op.Op.{Op};
 ghost use Rattle.cfg_records.specs.declared.message.Asked.{Asked as AnyAsked};
 ghost use Rattle.plans.specs.declared.names.Names.{Names};
@@ -87,7 +89,10 @@ impl Stage {
     }
 
     /// The open request.
-    pub fn open(&self) -> Option<&Asked> {
+    pub fn open(&self) -> Option<&Asked>
+        ensures some { IfSome result (λ asked. (heeded : Bool) × (task : Task) × (self.now ≡ IsOpened heeded task asked.now)) }
+        ensures none { (heeded : Bool) (task : Task) (asked : AnyAsked) → self.now ≡ IsOpened heeded task asked → IsSome result }
+    {
         match self {
             Stage::Opened { asked, .. } => Some(asked),
             _ => None,
@@ -95,7 +100,10 @@ impl Stage {
     }
 
     /// The open request, where it is heeded and goes on this bus.
-    pub fn heeded_on(&self, bus: Bus) -> Option<&Asked> {
+    pub fn heeded_on(&self, bus: Bus) -> Option<&Asked>
+        ensures some { IfSome result (λ asked. (task : Task) × (self.now ≡ IsOpened true task asked.now) × (bus_of_request asked.now ≡ bus)) }
+        ensures none { (task : Task) (asked : AnyAsked) → self.now ≡ IsOpened true task asked → bus_of_request asked ≡ bus → IsSome result }
+    {
         match self {
             Stage::Opened {
                 heeded: true,

@@ -1,0 +1,89 @@
+//! Where a manager is, and the stages that it enters.
+ghost use Rattle.std.specs.Prelude.{◌≡◌, ◌%◌, ◌+◌, ◌≤◌, ◌<◌, ◌↔◌, length, IfOk, SomeIff, Err, Some, ℕ};
+ghost use Rattle.std.specs.Prelude.{false, List, [], ◌∷◌, take, slice_get, option_map};
+ghost use Rattle.cfg_records.specs.declared.op.Op.{Op};
+ghost use Rattle.cfg_records.specs.declared.message.Asked.{Asked as AnyAsked};
+ghost use Rattle.plans.specs.declared.names.Names.{Names as AnyNames};
+ghost use Rattle.undo_model.specs.Machine as machine;
+ghost use Rattle.lab_model.specs.ManagerSteps.{ManagerState, board_plans, sent_of};
+ghost use Rattle.undo_core.specs.Counted.{counts_of};
+ghost use Rattle.undo_core.specs.Phases.{phase_of};
+ghost use Rattle.undo_core.specs.Shown.{words_of, backs, IsStage, Shows, IsSent};
+
+use crate::Phase;
+use crate::manager::Manager;
+use crate::sending::{Sent, bus_of, frames_of};
+use crate::stage::{Stage, Task};
+use cfg_records::RecordKind;
+use plans::UndoList;
+use record_kinds::Limits;
+use two_wire::Bus;
+
+impl Manager {
+    /// The phase.
+    pub fn phase(&self) -> Phase
+        ensures { (names : AnyNames) (s : ManagerState (board_plans names)) → Shows names self.now s → phase_of result ≡ machine.phase_of (words_of names) s.machine }
+    {
+        self.stage.phase()
+    }
+
+    /// The bus on which a request is open, also one that isn't heeded.
+    pub fn open_bus(&self) -> Option<Bus>
+        ensures { (names : AnyNames) (s : ManagerState (board_plans names)) → Shows names self.now s → result ≡ machine.open_bus (words_of names) s.machine }
+    {
+        match self.stage.open() {
+            Some(asked) => Some(bus_of(asked)),
+            None => None,
+        }
+    }
+
+    /// The requests that undo the steps that were done, and the numbers of the next requests.
+    pub fn undo_list(&self) -> &UndoList
+        ensures requests { (names : AnyNames) (s : ManagerState (board_plans names)) → Shows names self.now s → backs names result.now.requests ≡ s.machine.undo }
+        ensures sequence { (names : AnyNames) (s : ManagerState (board_plans names)) → Shows names self.now s → result.now.next.ipmb ≡ s.machine.counts.ipmb % 64 }
+        ensures instance { (names : AnyNames) (s : ManagerState (board_plans names)) → Shows names self.now s → result.now.next.smbus ≡ s.machine.counts.smbus % 32 }
+    {
+        &self.undo
+    }
+
+    /// The frames of the open request.
+    pub(crate) fn open_frames(&self) -> Option<Sent>
+        ensures { (names : AnyNames) (plan : List Op) (requests : List AnyAsked) (at : machine.Stage (words_of names)) → self.now.names ≡ names → IsStage names plan requests self.now.stage at
+            → IsSent result (option_map (sent_of (board_plans names) names) (machine.sends_at (words_of names) at (counts_of self.now.counts))) }
+    {
+        let asked = self.stage.open()?;
+        Some(frames_of(&self.names, self.counts, asked))
+    }
+
+    /// The stage of a step: its Get, or the plan's end.
+    pub(crate) fn step_stage(&self, step: usize) -> Stage
+        ensures { (names : AnyNames) (requests : List AnyAsked) → IsStage names self.now.steps requests result (machine.next_stage (words_of names) false step (slice_get self.now.steps step)) }
+    {
+        match self.steps.as_slice().get(step) {
+            None => Stage::AtEnd,
+            Some(op) => Stage::Opened {
+                heeded: true,
+                task: Task::Gets(step),
+                asked: Limits::get_asked(&Limits::key(op)),
+            },
+        }
+    }
+
+    /// The stage in which this many steps are still to be undone.
+    pub(crate) fn undo_stage(&self, left: usize) -> Stage
+        requires { left ≤ length self.now.undo.requests }
+        ensures { (names : AnyNames) (plan : List Op) → IsStage names plan self.now.undo.requests result (machine.undo_stage (words_of names) (backs names (take left self.now.undo.requests))) }
+    {
+        if left == 0 {
+            return Stage::AtUndone;
+        }
+        match self.undo.requests.get(left - 1) {
+            None => Stage::AtUndone,
+            Some(request) => Stage::Opened {
+                heeded: true,
+                task: Task::Undoes(left - 1),
+                asked: request.copy(),
+            },
+        }
+    }
+}
