@@ -15,7 +15,7 @@ impl Manager {
         let Stage::AtStart = self.stage else {
             return Err(WrongPhase);
         };
-        self.stage = self.step_stage(0);
+        self.stage = self.step_stage(false, 0);
         self.resent = 0;
         Ok(self.open_frames())
     }

@@ -1,5 +1,13 @@
 //! Frames that come to a manager.
-ghost use Rattle.std.specs.Prelude.{◌≡◌, ◌≤◌, ◌<◌, ℕ, length};
+ghost use Rattle.std.specs.Prelude.{◌≡◌, ◌≤◌, ◌<◌, ◌==◌, ℕ, suc, length, take, slice_get, List, Some, if◌then◌else◌};
+ghost use Rattle.two_wire.specs.Codes.{success};
+ghost use Rattle.cfg_records.specs.declared.op.Op.{Op};
+ghost use Rattle.cfg_records.specs.declared.message.Asked.{Asked as AnyAsked};
+ghost use Rattle.record_kinds.specs.Limits.{inverse};
+ghost use Rattle.plans.specs.declared.names.Names.{Names};
+ghost use Rattle.undo_model.specs.Phase.{Refused, GetRefused};
+ghost use Rattle.undo_model.specs.Machine as machine;
+ghost use Rattle.undo_core.specs.Shown.{words_of, own, backs, IsStage};
 ghost use Rattle.undo_model.specs.Words.{is_busy as is_busy_code};
 ghost use Rattle.undo_core.specs.Shown.{Takes};
 
@@ -144,45 +152,54 @@ impl Manager {
         }
     }
 
-    fn after_get(&self, step: usize, reply: Reply<'_>) -> Stage {
+    fn after_get(&self, step: usize, reply: Reply<'_>) -> Stage
+        requires { step < length self.now.steps }
+        ensures { (names : Names) (requests : List AnyAsked) (op : Op) → slice_get self.now.steps step ≡ Some op
+            → IsStage names self.now.steps requests result (if reply.entry.code == success then machine.set_stage (words_of names) self.now.stopped step op (inverse op reply.entry.body.now) else machine.AtHalt step (GetRefused reply.entry.code)) }
+    {
         if let Some(code) = Code::new(reply.code) {
             return Stage::AtHalt(step, Why::GetRefused(code));
         }
-        let back = match self.steps.as_slice().get(step) {
-            Some(op) => Limits::inverse(op, reply.body),
-            None => None,
+        let op = &self.steps.as_slice()[step];
+        let Some(back) = Limits::inverse(op, reply.body) else {
+            return Stage::AtHalt(step, Why::NotRestorable);
         };
-        match back {
-            None => Stage::AtHalt(step, Why::NotRestorable),
-            Some(_) if self.stopped => Stage::AtHalt(step, Why::Stop),
-            Some(back) => self.set_stage(step, Limits::set_asked(&back)),
+        if self.stopped {
+            return Stage::AtHalt(step, Why::Stop);
         }
+        self.set_stage(step, Limits::set_asked(&back))
     }
 
     /// The stage in which the step is carried out. The request undoes it.
-    fn set_stage(&self, step: usize, back: Asked) -> Stage {
-        match self.steps.as_slice().get(step) {
-            None => Stage::AtEnd,
-            Some(op) => Stage::Opened {
-                heeded: true,
-                task: Task::Sets(step, back),
-                asked: Limits::set_asked(op),
-            },
+    fn set_stage(&self, step: usize, back: Asked) -> Stage
+        requires { step < length self.now.steps }
+        ensures { (names : Names) (requests : List AnyAsked) (op undo : Op) → slice_get self.now.steps step ≡ Some op → own names back ≡ (words_of names).setting undo
+            → IsStage names self.now.steps requests result (machine.begun (words_of names) (machine.Sets step op undo)) }
+    {
+        Stage::Opened {
+            heeded: true,
+            task: Task::Sets(step, back),
+            asked: Limits::set_asked(&self.steps.as_slice()[step]),
         }
     }
 
-    fn after_set(&self, step: usize, code: u8) -> Stage {
+    fn after_set(&self, step: usize, code: u8) -> Stage
+        requires { step < length self.now.steps }
+        ensures { (names : Names) (requests : List AnyAsked) → IsStage names self.now.steps requests result
+            (if code == success then machine.next_stage (words_of names) self.now.stopped (suc step) (slice_get self.now.steps (suc step)) else machine.AtHalt step (Refused code)) }
+    {
         if let Some(code) = Code::new(code) {
             return Stage::AtHalt(step, Why::Refused(code));
         }
-        let next = step + 1;
-        if self.stopped && next < self.steps.as_slice().len() {
-            return Stage::AtHalt(next, Why::Stop);
-        }
-        self.step_stage(next)
+        let _steps = self.steps.as_slice();
+        self.step_stage(self.stopped, step + 1)
     }
 
-    fn after_undo(&self, step: usize, code: u8) -> Stage {
+    fn after_undo(&self, step: usize, code: u8) -> Stage
+        requires { step < length self.now.undo.requests }
+        ensures { (names : Names) (plan : List Op) → IsStage names plan self.now.undo.requests result
+            (if code == success then machine.undo_stage (words_of names) (backs names (take step self.now.undo.requests)) else machine.AtRefused step code) }
+    {
         match Code::new(code) {
             Some(code) => Stage::AtRefused(step, code),
             None => self.undo_stage(step),

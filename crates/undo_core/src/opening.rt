@@ -70,18 +70,20 @@ impl Manager {
         let Ok(joined) = Assembler::new(alloc) else {
             return Err(OpenFault::Memory);
         };
+        let UndoList { requests, next } = undo;
         let counts = Counts {
-            ipmb: u16::from(undo.next.ipmb.number()),
-            smbus: u16::from(undo.next.smbus.number()),
+            ipmb: u16::from(next.ipmb.number()),
+            smbus: u16::from(next.smbus.number()),
         };
+        let stage = Stage::AtHalt(requests.len(), Why::Stop);
         Ok(Manager {
             steps: Steps::none(alloc),
             retries,
             names,
-            stage: Stage::AtHalt(undo.requests.len(), Why::Stop),
+            stage,
             stopped: true,
             resent: 0,
-            undo,
+            undo: UndoList { requests, next },
             counts,
             joined,
         })

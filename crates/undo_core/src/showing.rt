@@ -10,7 +10,7 @@ ghost use Rattle.undo_core.specs.Counted.{counts_of};
 ghost use Rattle.undo_core.specs.Phases.{phase_of};
 ghost use Rattle.undo_core.specs.Shown.{words_of, backs, IsStage, Shows, IsSent};
 
-use crate::Phase;
+use crate::{Phase, Why};
 use crate::manager::Manager;
 use crate::sending::{Sent, bus_of, frames_of};
 use crate::stage::{Stage, Task};
@@ -55,17 +55,22 @@ impl Manager {
         Some(frames_of(&self.names, self.counts, asked))
     }
 
-    /// The stage of a step: its Get, or the plan's end.
-    pub(crate) fn step_stage(&self, step: usize) -> Stage
-        ensures { (names : AnyNames) (requests : List AnyAsked) → IsStage names self.now.steps requests result (machine.next_stage (words_of names) false step (slice_get self.now.steps step)) }
+    /// The stage of a step: its Get, or the plan's end, or a halt before it.
+    pub(crate) fn step_stage(&self, stopped: bool, step: usize) -> Stage
+        ensures { (names : AnyNames) (requests : List AnyAsked) → IsStage names self.now.steps requests result (machine.next_stage (words_of names) stopped step (slice_get self.now.steps step)) }
     {
         match self.steps.as_slice().get(step) {
             None => Stage::AtEnd,
-            Some(op) => Stage::Opened {
-                heeded: true,
-                task: Task::Gets(step),
-                asked: Limits::get_asked(&Limits::key(op)),
-            },
+            Some(op) => {
+                if stopped {
+                    return Stage::AtHalt(step, Why::Stop);
+                }
+                Stage::Opened {
+                    heeded: true,
+                    task: Task::Gets(step),
+                    asked: Limits::get_asked(&Limits::key(op)),
+                }
+            }
         }
     }
 

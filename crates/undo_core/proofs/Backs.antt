@@ -1,0 +1,45 @@
+-- Requests that undo, the last first.
+use Rattle.std.proofs.Common.{◌≡◌, ℕ, suc, ◌-◌, ◌<◌, true, subst, arith, List, [], ◌∷◌, ◌++◌, length, map, take, Option, Some, refl, sym, ◌∙◌, ap}
+use Rattle.std.specs.Prelude.{reverse, slice_get, get_or}
+use Rattle.std.proofs.Math.Seq.{take-suc}
+use Rattle.std.proofs.lemmas.List.{map-append, reverse-append}
+use Rattle.std.proofs.lemmas.Option.{slice_get_within, slice_get-get_or, slice_get_read}
+use Rattle.cfg_records.specs.declared.message.Asked.{Asked}
+use Rattle.plans.specs.declared.names.Names.{Names}
+use Rattle.std.proofs.lemmas.Option.{same_Some}
+use Rattle.cfg_records.specs.declared.op.Op.{Op}
+use Rattle.undo_model.specs.Machine as machine
+use Rattle.undo_core.specs.declared.stage.Stage.TheVariants.{Opened}
+use Rattle.undo_core.specs.declared.stage.Task.TheVariants.{Undoes}
+use Rattle.undo_core.specs.Shown.{words_of, own, backs, IsStage}
+
+-- a list's element, read by its place and got
+pub same_read : {A : Type 0} (shown xs : List A) (k : ℕ) (read got : A) → shown ≡ xs → read ≡ get_or shown k read → slice_get xs k ≡ Some got → read ≡ got
+same_read {A} shown xs k read got same there is =
+    let within = slice_get_within xs k got is in
+    same_Some read got (sym (slice_get_read xs (length xs) k read refl within (there ∙ ap (λ (l : List A). get_or l k read) same)) ∙ is)
+
+-- one request more comes first
+pub backs_push : (names : Names) (requests : List Asked) (request : Asked) → backs names (requests ++ request ∷ []) ≡ own names request ∷ backs names requests
+backs_push names requests request = ap (map (own names)) (reverse-append requests (request ∷ []))
+
+-- so does the next of a list
+pub backs_take : (names : Names) (requests : List Asked) (k : ℕ) (request : Asked) → slice_get requests k ≡ Some request
+    → backs names (take (suc k) requests) ≡ own names request ∷ backs names (take k requests)
+backs_take names requests k request there =
+    let within = slice_get_within requests k request there in
+    let is : get_or requests k request ≡ request = same_Some _ _ (sym (slice_get-get_or requests k request within) ∙ there) in
+    ap (backs names) (take-suc requests k request within ∙ ap (λ (r : Asked). take k requests ++ r ∷ []) is) ∙ backs_push names (take k requests) request
+
+-- the stage in which a list is gone through, where it isn't empty
+pub undoes_next : (names : Names) (plan : List Op) (requests : List Asked) (left : ℕ) (request copied : Asked) → 0 < left → slice_get requests (left - 1) ≡ Some request → copied ≡ request
+    → IsStage names plan requests (Opened true (Undoes (left - 1)) copied) (machine.undo_stage (words_of names) (backs names (take left requests)))
+undoes_next names plan requests left request copied some there same =
+    let k = left - 1 in
+    let is : suc k ≡ left = omega (arith, some) in
+    let taken = backs_take names requests k request there in
+    let list : backs names (take left requests) ≡ own names copied ∷ backs names (take k requests) =
+    ap (λ (n : ℕ). backs names (take n requests)) (sym is) ∙ taken ∙ ap (λ (r : Asked). own names r ∷ backs names (take k requests)) (sym same) in
+    let here : IsStage names plan requests (Opened true (Undoes k) copied) (machine.undo_stage (words_of names) (own names copied ∷ backs names (take k requests))) =
+    (refl, (slice_get_within requests k request there, taken ∙ ap (λ (r : Asked). own names r ∷ backs names (take k requests)) (sym same)), refl, refl) in
+    subst (λ (xs : List Asked). IsStage names plan requests (Opened true (Undoes k) copied) (machine.undo_stage (words_of names) xs)) (sym list) here
