@@ -1,5 +1,5 @@
 //! Where a manager is, and the stages that it enters.
-ghost use Rattle.std.specs.Prelude.{◌≡◌, ◌%◌, ◌+◌, ◌≤◌, ◌<◌, ◌↔◌, length, IfOk, SomeIff, Err, Some, ℕ};
+ghost use Rattle.std.specs.Prelude.{◌≡◌, ◌%◌, ◌+◌, ◌-◌, ◌*◌, ◌≤◌, ◌<◌, ◌↔◌, length, IfOk, SomeIff, Err, Some, ℕ};
 ghost use Rattle.std.specs.Prelude.{false, List, [], ◌∷◌, take, slice_get, option_map};
 ghost use Rattle.cfg_records.specs.declared.op.Op.{Op};
 ghost use Rattle.cfg_records.specs.declared.message.Asked.{Asked as AnyAsked};
@@ -9,6 +9,7 @@ ghost use Rattle.lab_model.specs.ManagerSteps.{ManagerState, board_plans, sent_o
 ghost use Rattle.undo_core.specs.Counted.{counts_of};
 ghost use Rattle.undo_core.specs.Phases.{phase_of};
 ghost use Rattle.undo_core.specs.Shown.{words_of, backs, IsStage, Shows, IsSent};
+ghost use Rattle.undo_core.specs.Bounds.{steps_needed, undone_needed, most_backs, replies_left};
 
 use crate::{Phase, Why};
 use crate::manager::Manager;
@@ -57,7 +58,12 @@ impl Manager {
 
     /// The stage of a step: its Get, or the plan's end, or a halt before it.
     pub(crate) fn step_stage(&self, stopped: bool, step: usize) -> Stage
-        ensures { (names : AnyNames) (requests : List AnyAsked) → IsStage names self.now.steps requests result (machine.next_stage (words_of names) stopped step (slice_get self.now.steps step)) }
+        requires { step ≤ length self.now.steps }
+        ensures stage { (names : AnyNames) (requests : List AnyAsked) → IsStage names self.now.steps requests result (machine.next_stage (words_of names) stopped step (slice_get self.now.steps step)) }
+        ensures planned { steps_needed result ≤ length self.now.steps }
+        ensures kept { undone_needed result ≡ 0 }
+        ensures few { step ≤ most_backs result }
+        ensures left { (undone : ℕ) → replies_left (length self.now.steps) undone result ≤ 3 * (length self.now.steps - step) + undone }
     {
         match self.steps.as_slice().get(step) {
             None => Stage::AtEnd,
