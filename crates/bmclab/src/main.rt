@@ -1,6 +1,8 @@
 //! The program `bmclab`: words in, lines out.
 #![tactic(auto)]
 
+#[cfg(test)]
+mod tests;
 mod words;
 
 use bmc_lab::{Console, Ending, frame_run};
