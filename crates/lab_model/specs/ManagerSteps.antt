@@ -7,6 +7,7 @@ use Rattle.ipmb_frame.specs.declared.message.Response.{Response}
 use Rattle.mctp_net.specs.declared.packet.Packet.{Packet}
 use Rattle.mctp_net.specs.declared.taken.DropCause.{DropCause}
 use Rattle.mctp_net.specs.Assembly.{Assemblies, nothing, drop_cause, after as kept_after, message_of}
+use Rattle.plans.specs.declared.names.Names.{Names}
 use Rattle.cfg_records.specs.declared.message.Asked.{Asked}
 use Rattle.cfg_records.specs.declared.message.Asked.TheVariants.{Ipmi, Pldm}
 use Rattle.bus_model.specs.Bytes.{answers}
@@ -19,15 +20,6 @@ use Rattle.undo_family.specs.Spelled.{numbers_of}
 use Rattle.undo_family.specs.Wires.{bytes_of, answered_from}
 use Rattle.lab_model.specs.Values.{Value, Asks, Tells, Part, parts_of}
 use Rattle.lab_model.specs.Bytes.{response_bytes}
-
--- the addresses and endpoints of the manager and of the controller
-pub record Names : Type 0 where
-  pub own_address : ℕ
-  pub peer_address : ℕ
-  pub own_wire : ℕ
-  pub peer_wire : ℕ
-  pub own_eid : ℕ
-  pub peer_eid : ℕ
 
 -- by which the manager is known as a requester on a bus
 abbrev pub own_on : Bus → Names → ℕ
