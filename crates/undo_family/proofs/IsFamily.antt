@@ -175,6 +175,7 @@ free setup before asked a after row =
 
 pub is_family : (setup : BoardFile) (at : Bus → Addresses) → IsFamily (family setup at)
 is_family setup at = record {
+  single = record { none_next = λ series body. refl; shows_it = λ series body. refl };
   put_back = λ records key old new had. with_record_back records key new old had;
   get_put = λ records key old new had. with_record_same records key new;
   put_valid = λ records key new all is. λ k v found. valid_where setup records key new all is k (same_key key k) refl v found;
