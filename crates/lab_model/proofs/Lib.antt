@@ -7,3 +7,5 @@ pub mod Stepping
 pub mod PortPart
 pub mod PortEvents
 pub mod ManagerEvents
+pub mod PacketExample
+pub mod FullExample

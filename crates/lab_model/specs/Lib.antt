@@ -12,3 +12,5 @@ pub mod LongExample
 pub mod Stepwise
 pub mod PortEvents
 pub mod ManagerEvents
+pub mod PacketExample
+pub mod FullExample
