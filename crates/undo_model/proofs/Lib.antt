@@ -16,3 +16,4 @@ pub mod Clean
 pub mod RecordsRun
 pub mod NumberedLaws
 pub mod Giving
+pub mod SeriesExample
