@@ -6,6 +6,7 @@ pub mod Lab
 pub mod Faults
 pub mod Own
 pub mod Honest
+pub mod Clean
 pub mod Example
 pub mod Cuts
 pub mod LongExample
