@@ -7,7 +7,7 @@ ghost use Rattle.bus_model.specs.Packet.{Packet, IsCutting};
 ghost use Rattle.undo_model.specs.Laws.{IsFamily};
 ghost use Rattle.undo_model.specs.TwoBuses.{Addresses, in_messages, with_packets};
 ghost use Rattle.undo_model.specs.Headline.{AlwaysStands, UndoneForGood, StopsOnlyIfTold};
-ghost use Rattle.undo_model.specs.Giving.{HaltsByGiven};
+ghost use Rattle.undo_model.specs.Giving.{HaltsByAnswers};
 ghost use Rattle.undo_model.specs.RecordsRun.{RecordsStand};
 ghost use Rattle.undo_model.specs.Resume.{GoesOnAlike};
 ghost use Rattle.undo_model.specs.Clean.{AnswersByRow, AlwaysRunsClean};
@@ -34,11 +34,11 @@ pub fn phases_stand()
     ensures packets { (setup : BoardFile) (at : Bus → Addresses) (split : List ℕ → List Packet) → IsCutting split → AlwaysStands (family setup at) (with_packets at split) (wires at) }
 {}
 
-/// A halt has its cause among the answers that the board gave in that schedule. This is said of any list that has all the answers of a
-/// schedule: take just those.
+/// A halt has its cause in its own schedule. Refused, GetRefused and NotRestorable come only where the board gave that answer to the Set or to the
+/// Get of that step, at the records after the steps before it; Stop comes only where the manager was told to stop, or another went on from its list.
 pub fn halts_by_given_answers()
-    ensures messages { (setup : BoardFile) (at : Bus → Addresses) → HaltsByGiven (family setup at) (in_messages at) (wires at) }
-    ensures packets { (setup : BoardFile) (at : Bus → Addresses) (split : List ℕ → List Packet) → IsCutting split → HaltsByGiven (family setup at) (with_packets at split) (wires at) }
+    ensures messages { (setup : BoardFile) (at : Bus → Addresses) → HaltsByAnswers (family setup at) (in_messages at) (wires at) }
+    ensures packets { (setup : BoardFile) (at : Bus → Addresses) (split : List ℕ → List Packet) → IsCutting split → HaltsByAnswers (family setup at) (with_packets at split) (wires at) }
 {}
 
 /// Once a plan is undone, and at every moment from then on, every record is what it was before the plan, and each Get as the

@@ -7,7 +7,7 @@ ghost use Rattle.bus_model.specs.Packet.{Packet, IsCutting};
 ghost use Rattle.undo_model.specs.Laws.{IsFamily};
 ghost use Rattle.undo_model.specs.TwoBuses.{Addresses, in_messages, with_packets};
 ghost use Rattle.undo_model.specs.Headline.{AlwaysStands, UndoneForGood, StopsOnlyIfTold};
-ghost use Rattle.undo_model.specs.Giving.{HaltsByGiven};
+ghost use Rattle.undo_model.specs.Giving.{HaltsByAnswers};
 ghost use Rattle.undo_model.specs.Resume.{GoesOnAlike};
 ghost use Rattle.undo_model.specs.RecordsRun.{RecordsStand};
 ghost use Rattle.undo_model.specs.Clean.{AnswersByRow, AlwaysRunsClean};
@@ -33,11 +33,11 @@ pub fn phases_stand()
     ensures packets { (at : Bus → Addresses) (split : List ℕ → List Packet) → IsCutting split → AlwaysStands registers (with_packets at split) wires }
 {}
 
-/// A halt has its cause among the answers that the board gave in that schedule. This is said of any list that has all the answers of a
-/// schedule: take just those.
+/// A halt has its cause in its own schedule. Refused, GetRefused and NotRestorable come only where the board gave that answer to the Set or to the
+/// Get of that step, at the records after the steps before it; Stop comes only where the manager was told to stop, or another went on from its list.
 pub fn halts_by_given_answers()
-    ensures messages { (at : Bus → Addresses) → HaltsByGiven registers (in_messages at) wires }
-    ensures packets { (at : Bus → Addresses) (split : List ℕ → List Packet) → IsCutting split → HaltsByGiven registers (with_packets at split) wires }
+    ensures messages { (at : Bus → Addresses) → HaltsByAnswers registers (in_messages at) wires }
+    ensures packets { (at : Bus → Addresses) (split : List ℕ → List Packet) → IsCutting split → HaltsByAnswers registers (with_packets at split) wires }
 {}
 
 /// Once a plan is undone, and at every moment from then on, every record is what it was before the plan, and each Get as the
