@@ -5,12 +5,13 @@ ghost use Rattle.two_wire.specs.declared.Bus.{Bus};
 ghost use Rattle.cfg_records.specs.declared.board_file.BoardFile.{BoardFile};
 ghost use Rattle.bus_model.specs.Packet.{Packet, IsCutting};
 ghost use Rattle.undo_model.specs.Laws.{IsFamily};
-ghost use Rattle.undo_model.specs.TwoBuses.{Addresses, in_messages, with_packets};
+ghost use Rattle.undo_model.specs.TwoBuses.{Addresses, in_messages, with_packets, messages_come};
 ghost use Rattle.undo_model.specs.Headline.{AlwaysStands, UndoneForGood, StopsOnlyIfTold};
 ghost use Rattle.undo_model.specs.Giving.{HaltsByAnswers};
 ghost use Rattle.undo_model.specs.RecordsRun.{RecordsStand};
 ghost use Rattle.undo_model.specs.Resume.{GoesOnAlike};
 ghost use Rattle.undo_model.specs.Clean.{AnswersByRow, AlwaysRunsClean};
+ghost use Rattle.undo_model.specs.CleanBuses.{AlwaysRunsOverBuses};
 ghost use Rattle.undo_family.specs.Family.{manager_words, family, answer};
 ghost use Rattle.undo_family.specs.WireLaws.{wires};
 ghost use Rattle.undo_family.specs.Spelled.{AreSpelled};
@@ -66,6 +67,12 @@ pub fn resumed_goes_on_alike()
 pub fn plans_run_clean()
     ensures answers { (setup : BoardFile) (at : Bus → Addresses) → AnswersByRow (family setup at) (answer setup) }
     ensures clean { (setup : BoardFile) (at : Bus → Addresses) → AlwaysRunsClean (family setup at) (answer setup) }
+{}
+
+/// Over two buses that lose nothing a plan runs just so: each request is delivered once, each reply is delivered once, nobody else asks, and such a
+/// schedule is honest. The port of each bus is to have a place for the manager at the start.
+pub fn plans_run_clean_over_buses()
+    ensures { (setup : BoardFile) (at : Bus → Addresses) → AlwaysRunsOverBuses (family setup at) (in_messages at) (messages_come at) (wires at) (answer setup) }
 {}
 
 /// The manager's requests are requests on their bus, IPMI on IPMB and PLDM on SMBus, each under its number; and a reply to one is a reply

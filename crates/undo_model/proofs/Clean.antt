@@ -23,25 +23,25 @@ one_more_answered Smbus c = omega arith
 
 module _ (F : Family) (laws : IsFamily F) (answer : F.Board → F.words.Asked → Answered × F.Board) (by_row : AnswersByRow F answer) (plan : List F.words.Op) (start : F.Records) where
   -- a stage that was just entered
-  abbrev at_stage : Stage F.words → Machine F.words → F.Board → Moment F
+  abbrev pub at_stage : Stage F.words → Machine F.words → F.Board → Moment F
   at_stage stage m b = record { turn = enters F.words stage m; board = b }
 
-  record Good (stage : Stage F.words) (m : Machine F.words) (b : F.Board) : Type 0 where
-    sound : StageSound F plan start m.plan stage None m.stopped m.undo (F.records b)
-    valid : AllValid F (F.records b)
+  pub record Good (stage : Stage F.words) (m : Machine F.words) (b : F.Board) : Type 0 where
+    pub sound : StageSound F plan start m.plan stage None m.stopped m.undo (F.records b)
+    pub valid : AllValid F (F.records b)
 
   -- the machine after the reply to a task
-  abbrev replied : Task F.words → Machine F.words → Answered → Machine F.words
+  abbrev pub replied : Task F.words → Machine F.words → Answered → Machine F.words
   replied task m a = record m { stage = Opened true task; resent = 0; undo = undo_after F.words a task m.undo; counts = one_answered (bus_at F.words task) m.counts }
 
-  one_task : (task : Task F.words) (m : Machine F.words) (b : F.Board) → let r = answer b (asked_of F.words task) in
+  pub one_task : (task : Task F.words) (m : Machine F.words) (b : F.Board) → let r = answer b (asked_of F.words task) in
       one F answer (at_stage (Opened true task) m b) ≡ at_stage (stage_after F.words m.stopped m.plan r.0 task) (replied task m r.0) r.1
   one_task task m b =
       let r = answer b (asked_of F.words task) in
       let before : Machine F.words = record m { stage = Opened true task; resent = 0 } in
       ap (λ (busy : Bool). told F answer (if busy then None else Some (takes F.words r.0 task before)) r.1 (at_stage (Opened true task) m b)) (laws.never_busy b r.1 (asked_of F.words task) r.0 (by_row b (asked_of F.words task)))
 
-  one_good : (task : Task F.words) (m : Machine F.words) (b : F.Board) → Good (Opened true task) m b → let r = answer b (asked_of F.words task) in
+  pub one_good : (task : Task F.words) (m : Machine F.words) (b : F.Board) → Good (Opened true task) m b → let r = answer b (asked_of F.words task) in
       Good (stage_after F.words m.stopped m.plan r.0 task) (replied task m r.0) r.1
   one_good task m b h =
       let r = answer b (asked_of F.words task) in

@@ -15,3 +15,5 @@ pub mod Clean
 pub mod RecordsRun
 pub mod NumberedLaws
 pub mod Giving
+pub mod Delivery
+pub mod CleanBuses

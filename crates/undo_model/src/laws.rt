@@ -5,12 +5,13 @@ ghost use Rattle.std.specs.Prelude.{ℕ, List};
 ghost use Rattle.two_wire.specs.declared.Bus.{Bus};
 ghost use Rattle.bus_model.specs.Packet.{Packet, IsCutting};
 ghost use Rattle.undo_model.specs.Laws.{IsFamily};
-ghost use Rattle.undo_model.specs.TwoBuses.{Addresses, in_messages, with_packets};
+ghost use Rattle.undo_model.specs.TwoBuses.{Addresses, in_messages, with_packets, messages_come};
 ghost use Rattle.undo_model.specs.Headline.{AlwaysStands, UndoneForGood, StopsOnlyIfTold};
 ghost use Rattle.undo_model.specs.Giving.{HaltsByAnswers};
 ghost use Rattle.undo_model.specs.Resume.{GoesOnAlike};
 ghost use Rattle.undo_model.specs.RecordsRun.{RecordsStand};
 ghost use Rattle.undo_model.specs.Clean.{AnswersByRow, AlwaysRunsClean};
+ghost use Rattle.undo_model.specs.CleanBuses.{AlwaysRunsOverBuses};
 ghost use Rattle.undo_model.specs.Words.{Answered};
 ghost use Rattle.undo_model.specs.Registers.{Board, Asked, register_words, registers, wires};
 
@@ -64,4 +65,10 @@ pub fn resumed_goes_on_alike()
 /// for each step that was done, and ends with the records of the start. This knows no bus.
 pub fn plans_run_clean()
     ensures { (answer : Board → Asked → Answered × Board) → AnswersByRow registers answer → AlwaysRunsClean registers answer }
+{}
+
+/// Over two buses that lose nothing a plan runs just so: each request is delivered once, each reply is delivered once, nobody else asks, and such a
+/// schedule is honest. The port of each bus is to have a place for the manager at the start.
+pub fn plans_run_clean_over_buses()
+    ensures { (at : Bus → Addresses) (answer : Board → Asked → Answered × Board) → AnswersByRow registers answer → AlwaysRunsOverBuses registers (in_messages at) (messages_come at) wires answer }
 {}
