@@ -42,8 +42,8 @@ pub fn halts_by_given_answers()
     ensures packets { (setup : BoardFile) (at : Bus → Addresses) (split : List ℕ → List Packet) → IsCutting split → HaltsByAnswers (family setup at) (with_packets at split) (wires at) }
 {}
 
-/// Once a plan is undone, and at every moment from then on, every record is what it was before the plan, and each Get as the
-/// manager asks it shows the same configuration.
+/// Once a plan is undone, and at every moment from then on, every record is what it was before the plan, and each Get that is carried out,
+/// whoever asks it, shows the same configuration.
 pub fn undone_is_for_good()
     ensures messages { (setup : BoardFile) (at : Bus → Addresses) → UndoneForGood (family setup at) (in_messages at) (wires at) }
     ensures packets { (setup : BoardFile) (at : Bus → Addresses) (split : List ℕ → List Packet) → IsCutting split → UndoneForGood (family setup at) (with_packets at split) (wires at) }

@@ -52,7 +52,7 @@ module _ (F : Family) (laws : IsFamily F) (answer : F.Board → F.words.Asked �
   -- ---- what a Get shows
 
   shows : (op : F.words.Op) (b : F.Board) → (got F answer b op).0.code ≡ success → Showed F (F.words.key_of op) (got F answer b op).0.body (F.records b)
-  shows op b read = let r = got F answer b op in laws.gets_show b r.1 (F.words.key_of op) r.0 (by_row b (F.words.get_asked (F.words.key_of op))) read
+  shows op b read = let r = got F answer b op in laws.gets_show b r.1 (F.words.get_asked (F.words.key_of op)) (F.words.key_of op) r.0 (laws.gets_are (F.words.key_of op)) (by_row b (F.words.get_asked (F.words.key_of op))) read
 
   restorable : (op back : F.words.Op) (b : F.Board) → AllValid F (F.records b) → (got F answer b op).0.code ≡ success → F.words.inverse op (got F answer b op).0.body ≡ Some back → F.Restorable op (got F answer b op).0.body
   restorable op back b valid read is =

@@ -47,8 +47,9 @@ module _ (F : Family) (laws : IsFamily F) (given : List (Giving F)) where
     restores = laws.restores;
     refuses = laws.refuses;
     steady = laws.steady;
-    gets_keep = λ b after key a row. laws.gets_keep b after key a row.0;
-    gets_show = λ b after key a row carried. showed key a.body (F.records b) (laws.gets_show b after key a row.0 carried);
+    gets_are = laws.gets_are;
+    gets_keep = λ b after asked key a is row. laws.gets_keep b after asked key a is row.0;
+    gets_show = λ b after asked key a is row carried. showed key a.body (F.records b) (laws.gets_show b after asked key a is row.0 carried);
     sets_do = λ b after op a row carried. does op (F.records b) (F.records after) (laws.sets_do b after op a row.0 carried);
     refusals_keep = λ b after op a row. laws.refusals_keep b after op a row.0;
     refusals_say = λ b after op a row ne r s. laws.refusals_say b after op a row.0 ne r (did op (F.records b) r s);

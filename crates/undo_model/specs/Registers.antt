@@ -123,6 +123,7 @@ registers = record {
   Restorable = IsRestorable;
   Board = Board;
   records = λ b. b.registers;
+  IsGet = λ asked register. asked ≡ AskGet register;
   Row = Row;
 }
 

@@ -41,8 +41,8 @@ pub fn halts_by_given_answers()
     ensures packets { (at : Bus → Addresses) (split : List ℕ → List Packet) → IsCutting split → HaltsByAnswers registers (with_packets at split) wires }
 {}
 
-/// Once a plan is undone, and at every moment from then on, every record is what it was before the plan, and each Get as the
-/// manager asks it shows the same configuration.
+/// Once a plan is undone, and at every moment from then on, every record is what it was before the plan, and each Get that is carried out,
+/// whoever asks it, shows the same configuration.
 pub fn undone_is_for_good()
     ensures messages { (at : Bus → Addresses) → UndoneForGood registers (in_messages at) wires }
     ensures packets { (at : Bus → Addresses) (split : List ℕ → List Packet) → IsCutting split → UndoneForGood registers (with_packets at split) wires }
