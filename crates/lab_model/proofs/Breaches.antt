@@ -18,7 +18,8 @@ use Rattle.undo_model.specs.Machine.{open_bus}
 use Rattle.pldm_base.specs.declared.message.PldmRequest.{PldmRequest}
 use Rattle.pldm_base.specs.Message.{IsRequest, request_in}
 use Rattle.pldm_base.proofs.InBytes.{request-in, request-in_back}
-use Rattle.lab_model.specs.ManagerSteps.{Names, own_on, peer_on, Plans}
+use Rattle.plans.specs.declared.names.Names.{Names}
+use Rattle.lab_model.specs.ManagerSteps.{own_on, peer_on, Plans}
 use Rattle.lab_model.specs.Lab.{Way, ToPort, ToManager, ToOthers, LabFrame, Event, Calls, ToBmc, ToMgr, OtherIpmb, OtherSmbus, Noise, Idles, OnBench, Lab}
 use Rattle.lab_model.specs.Faults.{Fault, Room, Check, first_of, same_way, is_own, pldm_changes, message_changes, is_frame, is_live, delivery, checks, fault_of}
 use Rattle.lab_model.specs.Honest.{IsAnother, ChangesNothing, IsNoFrame, IsLive, IsDelivered, IsHonest, HasBytes, FaultsAreBreaches}

@@ -16,7 +16,8 @@ use Rattle.cfg_records.specs.ThresholdLaws.{tests_pass}
 use Rattle.undo_model.specs.Phase.{Phase, Done, Undone, Unsettled}
 use Rattle.undo_model.specs.Machine.{phase_of}
 use Rattle.lab_model.specs.Values.{written}
-use Rattle.lab_model.specs.ManagerSteps.{Names, Plans, board_plans, Start, Quiet, Again, Undo}
+use Rattle.plans.specs.declared.names.Names.{Names}
+use Rattle.lab_model.specs.ManagerSteps.{Plans, board_plans, Start, Quiet, Again, Undo}
 use Rattle.lab_model.specs.Lab.{LabFrame, Event, Calls, ToBmc, ToMgr, OtherIpmb, Noise, Idles, Lab, run, opening}
 use Rattle.lab_model.specs.Faults.{Fault, NoFrame, WrongWay, Changing, Impersonates, Forged, StillOpen, fault_of, AllTaken}
 

@@ -12,7 +12,8 @@ use Rattle.bmc_board.specs.Table.{is_changing}
 use Rattle.undo_model.specs.Words.{Words}
 use Rattle.undo_model.specs.Machine.{Machine, count_of, open_bus, same_bus}
 use Rattle.lab_model.specs.PortSteps.{asked_in, pldm_asked}
-use Rattle.lab_model.specs.ManagerSteps.{Names, own_on, peer_on, Plans}
+use Rattle.plans.specs.declared.names.Names.{Names}
+use Rattle.lab_model.specs.ManagerSteps.{own_on, peer_on, Plans}
 use Rattle.lab_model.specs.Lab.{Way, ToPort, ToManager, ToOthers, LabFrame, Event, Calls, ToBmc, ToMgr, OtherIpmb, OtherSmbus, Noise, Idles, OnBench, Lab, idles_on, step}
 
 pub data Fault : Type 0 where

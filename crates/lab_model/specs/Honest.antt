@@ -11,7 +11,8 @@ use Rattle.pldm_base.specs.Message.{IsRequest}
 use Rattle.bmc_board.specs.Table.{is_changing}
 use Rattle.undo_model.specs.Machine.{open_bus}
 use Rattle.lab_model.specs.PortSteps.{asked_in, pldm_asked}
-use Rattle.lab_model.specs.ManagerSteps.{Names, own_on, peer_on, Plans}
+use Rattle.plans.specs.declared.names.Names.{Names}
+use Rattle.lab_model.specs.ManagerSteps.{own_on, peer_on, Plans}
 use Rattle.lab_model.specs.Lab.{Way, ToPort, ToManager, LabFrame, Event, Calls, ToBmc, ToMgr, OtherIpmb, OtherSmbus, Noise, Idles, OnBench, Lab, idles_on}
 use Rattle.lab_model.specs.Faults.{Fault, Room, span_of, begun_on, fault_of}
 

@@ -12,7 +12,8 @@ use Rattle.bmc_board.specs.State.{State, state, opened as opened_board}
 use Rattle.undo_model.specs.Machine.{opened as opened_machine}
 use Rattle.lab_model.specs.Values.{Value, Asks, Tells, Part, parts_of}
 use Rattle.lab_model.specs.PortSteps.{PortState, Deed, hears, hears_parts, idles, quiet_port}
-use Rattle.lab_model.specs.ManagerSteps.{Names, own_on, Plans, Call, ManagerState, ManagerDeed, Sent, called, manager_hears}
+use Rattle.plans.specs.declared.names.Names.{Names}
+use Rattle.lab_model.specs.ManagerSteps.{own_on, Plans, Call, ManagerState, ManagerDeed, Sent, called, manager_hears}
 
 -- to whom a frame goes
 pub data Way : Type 0 where

@@ -10,3 +10,4 @@ pub mod Example
 pub mod Cuts
 pub mod LongExample
 pub mod Stepwise
+pub mod PortEvents

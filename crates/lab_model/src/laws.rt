@@ -4,13 +4,15 @@ ghost use Rattle.std.specs.Prelude.{ℕ, Bool, List};
 ghost use Rattle.cfg_records.specs.declared.message.Asked.{Asked};
 ghost use Rattle.cfg_records.specs.declared.message.Answered.{Answered};
 ghost use Rattle.cfg_records.specs.declared.board_file.BoardFile.{BoardFile};
-ghost use Rattle.bus_model.specs.Request.{Request, Entry};
+ghost use Rattle.bus_model.specs.Request.{Request as Heard, Entry};
 ghost use Rattle.bmc_board.specs.State.{State};
-ghost use Rattle.lab_model.specs.ManagerSteps.{Names, board_plans};
+ghost use Rattle.plans.specs.declared.names.Names.{Names};
+ghost use Rattle.lab_model.specs.ManagerSteps.{board_plans};
 ghost use Rattle.lab_model.specs.Bytes.{AreReadBack, AreTheModels, Accepts, IsNumbered};
 ghost use Rattle.lab_model.specs.Honest.{FaultsAreBreaches};
 ghost use Rattle.lab_model.specs.Stepwise.{TurnsBy, RunsBy};
 ghost use Rattle.lab_model.specs.Cuts.{PartsAreCuts, PartsAreHeard};
+ghost use Rattle.lab_model.specs.PortEvents.{RequestsLeaveLog, PartsLeaveLog};
 
 /// A request's bytes are read as that request, and a reply's as its answer.
 pub fn bytes_are_read_back()
@@ -46,7 +48,13 @@ pub fn parts_are_heard()
 
 /// What a turn is, by what is done with the request; and what a run is, event by event.
 pub fn steps_are_these()
-    ensures turns { (above : ℕ → ℕ → Bool) (r : Request) (spell : Answered → List ℕ) (setup : BoardFile) (asked : Asked) (log : List Entry) (before : State)
+    ensures turns { (above : ℕ → ℕ → Bool) (r : Heard) (spell : Answered → List ℕ) (setup : BoardFile) (asked : Asked) (log : List Entry) (before : State)
         → TurnsBy above r spell setup asked log before }
     ensures runs { (setup : BoardFile) (names : Names) → RunsBy (board_plans names) setup }
+{}
+
+/// A request on IPMB and a packet on SMBus leave at a port what the model's events leave: the log, and what waits.
+pub fn packets_leave_log()
+    ensures requests { RequestsLeaveLog }
+    ensures packets { PartsLeaveLog }
 {}

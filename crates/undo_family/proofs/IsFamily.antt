@@ -23,7 +23,7 @@ use Rattle.record_kinds.specs.Boards.{limits_at}
 use Rattle.bmc_board.specs.declared.request.Request.{Request}
 use Rattle.bmc_board.specs.declared.request.Request.TheVariants.{Get, Set}
 use Rattle.bmc_board.specs.Request.{asked_by}
-use Rattle.bmc_board.specs.State.{State}
+use Rattle.bmc_board.specs.State.{State, IsUnchanged}
 use Rattle.bmc_board.specs.Replies.{refused, unknown_code}
 use Rattle.bmc_board.specs.Answer.{Given, answer_of}
 use Rattle.bmc_board.specs.AnyAnswer.{IsCode}
@@ -135,7 +135,7 @@ told_where limits old unknown op before answered after (inr is) = record {
 
 -- a record that isn't there
 told_absent : (limits : Option Limits) (value : Option (List ℕ)) (unknown : ℕ) (op : Op) (before : State) (answered : BoardAnswer) (after : State) → unknown ≢ success → ((old new : List ℕ) → value ≡ Some old → ¬ SetsWithin limits op old new)
-    → (answered ≡ refused unknown) × (after ≡ before) → Tells limits value op before.records answered.code after.records
+    → (answered ≡ refused unknown) × IsUnchanged before after → Tells limits value op before.records answered.code after.records
 told_absent limits value unknown op before answered after fault none is = record {
   does = λ carried. absurd (fault (sym (ap (λ (a : BoardAnswer). a.code) is.0) ∙ carried));
   keeps = λ _. ap (λ (s : State). s.records) is.1;
@@ -173,6 +173,7 @@ free setup before asked a after row =
 
 pub is_family : (setup : BoardFile) (at : Bus → Addresses) → IsFamily (family setup at)
 is_family setup at = record {
+  single = record { none_next = λ series body. refl; shows_it = λ series body. refl };
   put_back = λ records key old new had. with_record_back records key new old had;
   get_put = λ records key old new had. with_record_same records key new;
   put_valid = λ records key new all is. λ k v found. valid_where setup records key new all is k (same_key key k) refl v found;

@@ -12,11 +12,11 @@ use Rattle.bus_model.specs.Start.{NothingUnderWay}
 use Rattle.bus_model.specs.Effect.{SameRequests, IsBegun, IsCarried, IsTaken}
 use Rattle.bus_model.proofs.Lists.{length_more}
 use Rattle.undo_model.specs.Words.{Answered, is_busy}
-use Rattle.undo_model.specs.Phase.{Phase, Undone, GetRefused, Refused}
+use Rattle.undo_model.specs.Phase.{Phase, Undone}
 use Rattle.undo_model.specs.Family.{Family}
 use Rattle.undo_model.specs.Laws.{IsFamily}
 use Rattle.undo_model.specs.Plan.{IsAfter}
-use Rattle.undo_model.specs.Machine.{Counts, count_of, one_answered, Task, Gets, Sets, Undoes, Stage, AtStart, Opened, AtEnd, AtHalt, AtUndone, AtRefused, Machine, Turn, asked_of, bus_at, same_bus, sending, sends_at, enters, takes, replies as machine_replies, reply_of, set_stage, next_stage, undo_stage, stage_after, first_stage, phase_at, undo_of, opened}
+use Rattle.undo_model.specs.Machine.{Counts, count_of, one_answered, Task, Part, first_part, begun, refused, finished, Gets, Sets, Undoes, Stage, AtStart, Opened, AtEnd, AtHalt, AtUndone, AtRefused, Machine, Turn, bus_at, same_bus, sending, sends_at, enters, takes, replies as machine_replies, reply_of, set_stage, next_stage, undo_stage, first_stage, phase_at, undo_of, opened}
 use Rattle.undo_model.specs.Wires.{number_of, Wires}
 use Rattle.undo_model.specs.Line.{Exchange, Line}
 use Rattle.undo_model.specs.Joined.{IsClosed}
@@ -28,13 +28,14 @@ use Rattle.undo_model.specs.CleanBuses.{reach_port, asks, replies, exchange, exc
 use Rattle.undo_model.proofs.Undoable.{CanUndo}
 use Rattle.undo_model.proofs.StageSound.{task_made}
 use Rattle.undo_model.proofs.Calls.{first_good, undo_good}
+use Rattle.undo_model.proofs.Single.{stage_after_one, one_stage, one_undo}
 use Rattle.undo_model.proofs.Buses.{each_bus}
 use Rattle.undo_model.proofs.Orderly.{closed_taken}
 use Rattle.undo_model.proofs.LineLaws.{IsLine}
 use Rattle.undo_model.proofs.Delivery.{HasCarried, HasBrought, LosesNothing}
 use Rattle.undo_model.proofs.World.{count_here, count_there, here, there, WorldHolds, happens_holds, run_holds}
 use Rattle.undo_model.proofs.Headline.{run_on, opening_holds}
-use Rattle.undo_model.proofs.Clean.{at_stage, Good, replied, one_task, one_good, always_runs_clean}
+use Rattle.undo_model.proofs.Clean.{at_stage, Good, replied, one_task, task_good, always_runs_clean}
 
 same_bus-itself : (bus : Bus) → same_bus bus bus ≡ true
 same_bus-itself Ipmb = refl
@@ -56,7 +57,7 @@ taken_after old mid new reply s t =
 
 -- a stage that is heeded, if a request is open in it
 abbrev IsHeeded : (F : Family) → Stage F.words → Type 0
-IsHeeded F (Opened false task) = ⊥
+IsHeeded F (Opened false task part) = ⊥
 IsHeeded F _ = Unit {0}
 
 set_heeded : (F : Family) (stopped : Bool) (k : ℕ) (op : F.words.Op) (o : Option F.words.Op) → IsHeeded F (set_stage F.words stopped k op o)
@@ -69,14 +70,23 @@ next_heeded F stopped k None = tt
 next_heeded F true k (Some op) = tt
 next_heeded F false k (Some op) = tt
 
-undo_heeded : (F : Family) (list : List F.words.Asked) → IsHeeded F (undo_stage F.words list)
+undo_heeded : (F : Family) (list : List F.words.Series) → IsHeeded F (undo_stage F.words list)
 undo_heeded F [] = tt
 undo_heeded F (u ∷ us) = tt
 
-after_heeded : (F : Family) (stopped : Bool) (plan : List F.words.Op) (a : Answered) (task : Task F.words) → IsHeeded F (stage_after F.words stopped plan a task)
-after_heeded F stopped plan a (Gets k op) = cond_both (eqb a.code success) (set_stage F.words stopped k op (F.words.inverse op a.body)) (AtHalt k (GetRefused a.code)) (IsHeeded F) (λ _. set_heeded F stopped k op (F.words.inverse op a.body)) (λ _. tt)
-after_heeded F stopped plan a (Sets k op back) = cond_both (eqb a.code success) (next_stage F.words stopped (suc k) (slice_get plan (suc k))) (AtHalt k (Refused a.code)) (IsHeeded F) (λ _. next_heeded F stopped (suc k) (slice_get plan (suc k))) (λ _. tt)
-after_heeded F stopped plan a (Undoes u us) = cond_both (eqb a.code success) (undo_stage F.words us) (AtRefused (length us) a.code) (IsHeeded F) (λ _. undo_heeded F us) (λ _. tt)
+finished_heeded : (F : Family) (stopped : Bool) (plan : List F.words.Op) (shown : List ℕ) (task : Task F.words) → IsHeeded F (finished F.words stopped plan shown task)
+finished_heeded F stopped plan shown (Gets k op) = set_heeded F stopped k op (F.words.inverse op shown)
+finished_heeded F stopped plan shown (Sets k op back) = next_heeded F stopped (suc k) (slice_get plan (suc k))
+finished_heeded F stopped plan shown (Undoes u us) = undo_heeded F us
+
+refused_heeded : (F : Family) (code : ℕ) (task : Task F.words) → IsHeeded F (refused F.words code task)
+refused_heeded F code (Gets k op) = tt
+refused_heeded F code (Sets k op back) = tt
+refused_heeded F code (Undoes u us) = tt
+
+after_heeded : (F : Family) (stopped : Bool) (plan : List F.words.Op) (a : Answered) (task : Task F.words) → IsHeeded F (stage_after_one F.words stopped plan a task)
+after_heeded F stopped plan a task =
+    cond_both (eqb a.code success) (finished F.words stopped plan a.body task) (refused F.words a.code task) (IsHeeded F) (λ _. finished_heeded F stopped plan a.body task) (λ _. refused_heeded F a.code task)
 
 module _ (F : Family) (L : Bus → Line) (W : Wires F.words) where
   pub all_append : (es fs : List (Happening F L)) (w : World F L) → AllMay F L W es w → AllMay F L W fs (run F L W es w) → AllMay F L W (es ++ fs) w
@@ -154,34 +164,34 @@ module _ (F : Family) (laws : IsFamily F) (L : Bus → Line) (lines : (bus : Bus
   -- ---- its reply reaches the manager
 
   -- the machine took it; `mid` are the buses before a next request is begun
-  record Took (bus : Bus) (task : Task F.words) (reply : List ℕ) (w v : World F L) : Type 0 where
+  record Took (bus : Bus) (task : Task F.words) (part : Part F.words) (reply : List ℕ) (w v : World F L) : Type 0 where
     mid : States L
-    is : let t = takes F.words (W.answered_from bus reply) task w.machine in v ≡ world_of t.machine (begins F L W t.sends mid) w.board
+    is : let t = takes F.words (W.answered_from bus reply) task part w.machine in v ≡ world_of t.machine (begins F L W t.sends mid) w.board
     place : (D bus).HasPlace (mid bus)
     held : (lines bus).Holds (mid bus)
     taken : IsTaken (request_on w.on bus) (request_on mid bus) reply
     others : (other : Bus) → (other ≡ bus → ⊥) → mid other ≡ w.on other
 
-  comes : (bus : Bus) (e : (L bus).Event) (task : Task F.words) (w : World F L) → w.machine.stage ≡ Opened true task → bus ≡ bus_at F.words task → happens F L W w (ToManager bus e) ≡ world.brought F L W bus e ((L bus).brings (w.on bus) e) w
-  comes bus e task w at is =
-      let on_it : same_bus bus (bus_at F.words task) ≡ true = ap (same_bus bus) (sym is) ∙ same_bus-itself bus in
+  comes : (bus : Bus) (e : (L bus).Event) (task : Task F.words) (part : Part F.words) (w : World F L) → w.machine.stage ≡ Opened true task part → bus ≡ bus_at F.words part → happens F L W w (ToManager bus e) ≡ world.brought F L W bus e ((L bus).brings (w.on bus) e) w
+  comes bus e task part w at is =
+      let on_it : same_bus bus (bus_at F.words part) ≡ true = ap (same_bus bus) (sym is) ∙ same_bus-itself bus in
       ap (λ (s : Stage F.words). world.returns F L W bus e s w) at ∙ ap (λ (t : Bool). world.looks F L W bus e t w) on_it
 
-  takes_reply : (bus : Bus) (es : List (L bus).Event) (task : Task F.words) (reply : List ℕ) (w : World F L) → w.machine.stage ≡ Opened true task → bus ≡ bus_at F.words task → (lines bus).Holds (w.on bus)
+  takes_reply : (bus : Bus) (es : List (L bus).Event) (task : Task F.words) (part : Part F.words) (reply : List ℕ) (w : World F L) → w.machine.stage ≡ Opened true task part → bus ≡ bus_at F.words part → (lines bus).Holds (w.on bus)
       → HasBrought (L bus) es (w.on bus) reply (D bus).HasPlace → is_busy (W.answered_from bus reply).code ≡ false
       → let all = map (λ (e : (L bus).Event). ToManager bus e) es in
-      AllMay F L W all w × Took bus task reply w (run F L W all w)
-  takes_reply bus [] task reply w at is held h free = absurd h
-  takes_reply bus (e ∷ []) task reply w at is held h free =
+      AllMay F L W all w × Took bus task part reply w (run F L W all w)
+  takes_reply bus [] task part reply w at is held h free = absurd h
+  takes_reply bus (e ∷ []) task part reply w at is held h free =
       let s = w.on bus in
       let t = (L bus).happens s e in
       let a = W.answered_from bus reply in
-      let turn = takes F.words a task w.machine in
+      let turn = takes F.words a task part w.machine in
       let effect : IsTaken ((L bus).requests s) ((L bus).requests t) reply =
       subst (λ (o : Option (List ℕ)). MatchOption o (SameRequests ((L bus).requests s) ((L bus).requests t)) (IsTaken ((L bus).requests s) ((L bus).requests t))) h.3 ((lines bus).to_manager s e held h.0 h.1 h.2) in
       let heard : reply_of F.words a w.machine ≡ Some turn = ap (λ (y : Stage F.words). machine_replies F.words a y w.machine) at ∙ ap (λ (b : Bool). if b then None else Some turn) free in
       let becomes : happens F L W w (ToManager bus e) ≡ world_of turn.machine (begins F L W turn.sends (moved F L W bus e w)) w.board =
-      comes bus e task w at is ∙ ap (λ (o : Option (List ℕ)). world.brought F L W bus e o w) h.3 ∙ ap (λ (o : Option (Turn F.words)). world.answered F L W bus e o w) heard in
+      comes bus e task part w at is ∙ ap (λ (o : Option (List ℕ)). world.brought F L W bus e o w) h.3 ∙ ap (λ (o : Option (Turn F.words)). world.answered F L W bus e o w) heard in
       (
         (((h.0, h.2), h.1), tt),
         record {
@@ -193,16 +203,16 @@ module _ (F : Family) (laws : IsFamily F) (L : Bus → Line) (lines : (bus : Bus
           others = λ other ne. is_there bus other t w.on ne;
         },
       )
-  takes_reply bus (e ∷ f ∷ es) task reply w at is held h free =
+  takes_reply bus (e ∷ f ∷ es) task part reply w at is held h free =
       let s = w.on bus in
       let t = (L bus).happens s e in
       let effect : SameRequests ((L bus).requests s) ((L bus).requests t) =
       subst (λ (o : Option (List ℕ)). MatchOption o (SameRequests ((L bus).requests s) ((L bus).requests t)) (IsTaken ((L bus).requests s) ((L bus).requests t))) h.3 ((lines bus).to_manager s e held h.0 h.1 h.2) in
       let next = world_of w.machine (update L bus t w.on) w.board in
-      let becomes : happens F L W w (ToManager bus e) ≡ next = comes bus e task w at is ∙ ap (λ (o : Option (List ℕ)). world.brought F L W bus e o w) h.3 in
+      let becomes : happens F L W w (ToManager bus e) ≡ next = comes bus e task part w at is ∙ ap (λ (o : Option (List ℕ)). world.brought F L W bus e o w) h.3 in
       let all = map (λ (y : (L bus).Event). ToManager bus y) (f ∷ es) in
       let same : SameRequests ((L bus).requests s) (request_on next.on bus) = subst (λ (y : (L bus).State). SameRequests ((L bus).requests s) ((L bus).requests y)) (sym (is_here bus t w.on)) effect in
-      let r = takes_reply bus (f ∷ es) task reply next at is (subst (lines bus).Holds (sym (is_here bus t w.on)) ((lines bus).keeps s e held h.2))
+      let r = takes_reply bus (f ∷ es) task part reply next at is (subst (lines bus).Holds (sym (is_here bus t w.on)) ((lines bus).keeps s e held h.2))
       (subst (λ (y : (L bus).State). HasBrought (L bus) (f ∷ es) y reply (D bus).HasPlace) (sym (is_here bus t w.on)) h.4) free in
       (
         (((h.0, h.2), h.1), subst (AllMay F L W all) (sym becomes) r.0),
@@ -223,10 +233,10 @@ module _ (F : Family) (laws : IsFamily F) (L : Bus → Line) (lines : (bus : Bus
 
   -- the request of the stage was just sent, and there is a place for each that comes
   abbrev Ready : Stage F.words → Counts → States L → Type 0
-  Ready (Opened true task) counts on =
-      (clean_lines (bus_at F.words task)).Asked (on (bus_at F.words task)) (bytes_sent F L W (sending F.words task counts))
-      × ((other : Bus) → (other ≡ bus_at F.words task → ⊥) → (D other).HasPlace (on other))
-  Ready (Opened false task) counts on = ⊥
+  Ready (Opened true task part) counts on =
+      (clean_lines (bus_at F.words part)).Asked (on (bus_at F.words part)) (bytes_sent F L W (sending F.words part counts))
+      × ((other : Bus) → (other ≡ bus_at F.words part → ⊥) → (D other).HasPlace (on other))
+  Ready (Opened false task part) counts on = ⊥
   Ready AtStart counts on = HavePlace on
   Ready AtEnd counts on = HavePlace on
   Ready (AtHalt k why) counts on = HavePlace on
@@ -244,14 +254,15 @@ module _ (F : Family) (laws : IsFamily F) (L : Bus → Line) (lines : (bus : Bus
     place : HavePlace on
     exact : AreExact counts on
 
-  opens_ready : (task : Task F.words) (m : Machine F.words) (on : States L) (b : F.Board) → Good F laws answer by_row plan start (Opened true task) m b → Rests m.counts on
-      → let now = begins F L W (sends_at F.words (Opened true task) m.counts) on in Ready (Opened true task) m.counts now × AreExact m.counts now
+  opens_ready : (task : Task F.words) (m : Machine F.words) (on : States L) (b : F.Board) → Good F laws answer by_row plan start (begun F.words task) m b → Rests m.counts on
+      → let now = begins F L W (sends_at F.words (begun F.words task) m.counts) on in Ready (begun F.words task) m.counts now × AreExact m.counts now
   opens_ready task m on b good r =
-      let bus = bus_at F.words task in
-      let bytes = bytes_sent F L W (sending F.words task m.counts) in
+      let part = first_part F.words task in
+      let bus = bus_at F.words part in
+      let bytes = bytes_sent F L W (sending F.words part m.counts) in
       let s = (L bus).happens (on bus) ((L bus).begins bytes) in
       let made = task_made F plan start m.plan m.undo (F.records b) task good.sound.0 in
-      let asked = (clean_lines bus).begun (on bus) bytes (r.held bus) (r.closed bus) (r.place bus) (can.requests (number_of bus (count_of bus m.counts)) (asked_of F.words task) made) in
+      let asked = (clean_lines bus).begun (on bus) bytes (r.held bus) (r.closed bus) (r.place bus) (can.requests (number_of bus (count_of bus m.counts)) part.asked made) in
       let begun : IsBegun (request_on on bus) ((L bus).requests s) bytes = (lines bus).begun (on bus) bytes (r.held bus) (r.closed bus) in
       (
         (subst (λ (y : (L bus).State). (clean_lines bus).Asked y bytes) (sym (is_here bus s on)) asked, λ other ne. subst (D other).HasPlace (sym (is_there bus other s on ne)) (r.place other)),
@@ -262,8 +273,11 @@ module _ (F : Family) (laws : IsFamily F) (L : Bus → Line) (lines : (bus : Bus
 
   enters_ready : (stage : Stage F.words) (m : Machine F.words) (on : States L) (b : F.Board) → IsHeeded F stage → Good F laws answer by_row plan start stage m b → Rests m.counts on
       → let now = begins F L W (sends_at F.words stage m.counts) on in Ready stage m.counts now × AreExact m.counts now
-  enters_ready (Opened true task) m on b heeded good r = opens_ready task m on b good r
-  enters_ready (Opened false task) m on b heeded good r = absurd heeded
+  enters_ready (Opened true task part) m on b heeded good r =
+      let is : first_part F.words task ≡ part = sym good.sound.2 in
+      subst (λ (p : Part F.words). Good F laws answer by_row plan start (Opened true task p) m b → let now = begins F L W (sends_at F.words (Opened true task p) m.counts) on in Ready (Opened true task p) m.counts now × AreExact m.counts now) is
+      (λ here_good. opens_ready task m on b here_good r) good
+  enters_ready (Opened false task part) m on b heeded good r = absurd heeded
   enters_ready AtStart m on b heeded good r = (r.place, r.exact)
   enters_ready AtEnd m on b heeded good r = (r.place, r.exact)
   enters_ready (AtHalt k why) m on b heeded good r = (r.place, r.exact)
@@ -289,42 +303,44 @@ module _ (F : Family) (laws : IsFamily F) (L : Bus → Line) (lines : (bus : Bus
     is : w ≡ world_of (enters F.words stage machine).machine now board
     going : Going stage machine now board
 
-  exchange_task : (task : Task F.words) (m : Machine F.words) (on : States L) (b : F.Board) → Going (Opened true task) m on b
-      → let w = world_of (enters F.words (Opened true task) m).machine on b in
-      let es = exchange F L D W answer (Opened true task) w in
-      AllMay F L W es w × Follows (one F answer (at_stage F laws answer by_row plan start (Opened true task) m b)) (run F L W es w)
+  exchange_task : (task : Task F.words) (m : Machine F.words) (on : States L) (b : F.Board) → Going (begun F.words task) m on b
+      → let w = world_of (enters F.words (begun F.words task) m).machine on b in
+      let es = exchange F L D W answer (begun F.words task) w in
+      AllMay F L W es w × Follows (one F answer (at_stage F laws answer by_row plan start (begun F.words task) m b)) (run F L W es w)
   exchange_task task m on b g =
-      let w = world_of (enters F.words (Opened true task) m).machine on b in
-      let bus = bus_at F.words task in
-      let asked = asked_of F.words task in
+      let w = world_of (enters F.words (begun F.words task) m).machine on b in
+      let part = first_part F.words task in
+      let bus = bus_at F.words part in
+      let asked = part.asked in
       let number = number_of bus (count_of bus m.counts) in
       let r = answer b asked in
-      let bytes = bytes_sent F L W (sending F.words task m.counts) in
+      let bytes = bytes_sent F L W (sending F.words part m.counts) in
       let reply = W.reply_to bus bytes r.0 in
       let made = task_made F plan start m.plan m.undo (F.records b) task g.good.sound.0 in
       let can_ask = can.requests number asked made in
       let can_answer = can.answers number asked b made in
       let may_board : BoardMay F L W bus (Some (record { bytes = bytes; reply = reply })) b r.1 = (r.0, refl, subst (λ (y : F.words.Asked). F.Row b y r.0 r.1) (sym (W.same number asked made)) (by_row b asked)) in
-      let to = asks F L D W answer task w in
+      let to = asks F L D W answer part w in
       let there = reaches bus ((D bus).to_port (on bus) reply) (record { bytes = bytes; reply = reply }) r.1 w (g.holds.holds bus) ((clean_lines bus).carried (on bus) bytes reply (g.holds.holds bus) g.ready.0 can_ask can_answer) may_board in
       let v = world_of w.machine there.1.now r.1 in
       let holds_v : Holds v = subst Holds there.1.is (run_holds F laws L lines W first plan start to w g.holds there.0) in
       let told : W.answered_from bus reply ≡ r.0 = W.same_reply bus bytes r.0 in
       let free : is_busy (W.answered_from bus reply).code ≡ false = ap (λ (a : Answered). is_busy a.code) told ∙ laws.never_busy b r.1 asked r.0 (by_row b asked) in
-      let back = takes_reply bus ((D bus).to_manager (there.1.now bus)) task reply v refl refl (holds_v.holds bus) ((clean_lines bus).brought (there.1.now bus) reply (holds_v.holds bus) there.1.answered can_answer) free in
+      let back = takes_reply bus ((D bus).to_manager (there.1.now bus)) task part reply v refl refl (holds_v.holds bus) ((clean_lines bus).brought (there.1.now bus) reply (holds_v.holds bus) there.1.answered can_answer) free in
       let mid = back.1.mid in
-      let es = exchange F L D W answer (Opened true task) w in
+      let es = exchange F L D W answer (begun F.words task) w in
       let may : AllMay F L W es w = all_append F L W to (replies F L D W answer bus (run F L W to w)) w there.0
       (subst (λ (y : World F L). AllMay F L W (replies F L D W answer bus y) y) (sym there.1.is) back.0) in
-      let next = stage_after F.words m.stopped m.plan r.0 task in
+      let next = stage_after_one F.words m.stopped m.plan r.0 task in
       let then_m = replied F laws answer by_row plan start task m r.0 in
       let on_after = begins F L W (sends_at F.words next then_m.counts) mid in
       let is : run F L W es w ≡ world_of (enters F.words next then_m).machine on_after r.1 =
       run_on F L W to (replies F L D W answer bus (run F L W to w)) w
       ∙ ap (λ (y : World F L). run F L W (replies F L D W answer bus y) y) there.1.is
       ∙ back.1.is
-      ∙ ap (λ (a : Answered). let t = takes F.words a task w.machine in world_of t.machine (begins F L W t.sends mid) r.1) told in
-      let good = one_good F laws answer by_row plan start task m b g.good in
+      ∙ ap (λ (a : Answered). let t = takes F.words a task part w.machine in world_of t.machine (begins F L W t.sends mid) r.1) told
+      ∙ (λ i. let t = enters F.words (one_stage F.words laws.single m.stopped m.plan r.0 task i) (record then_m { undo = one_undo F.words laws.single r.0 task m.undo i }) in world_of t.machine (begins F L W t.sends mid) r.1) in
+      let good = task_good F laws answer by_row plan start task m b g.good in
       let place : HavePlace mid = each_bus (λ any. (D any).HasPlace (mid any)) bus back.1.place
       (λ other ne. subst (D other).HasPlace (sym (back.1.others other ne ∙ there.1.others other ne)) (g.ready.1 other ne)) in
       let more : length (request_on mid bus).taken ≡ length (request_on there.1.now bus).taken + 1 = ap (λ (l : List (List ℕ)). length l) back.1.taken.taken ∙ length_more (request_on there.1.now bus).taken reply in
@@ -358,8 +374,10 @@ module _ (F : Family) (laws : IsFamily F) (L : Bus → Line) (lines : (bus : Bus
       AllMay F L W (exchange F L D W answer stage w) w × Follows (one F answer (at_stage F laws answer by_row plan start stage m b)) (run F L W (exchange F L D W answer stage w) w)
 
   exchange_any : (stage : Stage F.words) (m : Machine F.words) (on : States L) (b : F.Board) → Going stage m on b → Exchanged stage m on b
-  exchange_any (Opened true task) m on b g = exchange_task task m on b g
-  exchange_any (Opened false task) m on b g = absurd g.ready
+  exchange_any (Opened true task part) m on b g =
+      let is : first_part F.words task ≡ part = sym g.good.sound.2 in
+      subst (λ (p : Part F.words). Going (Opened true task p) m on b → Exchanged (Opened true task p) m on b) is (λ here_going. exchange_task task m on b here_going) g
+  exchange_any (Opened false task part) m on b g = absurd g.ready
   exchange_any AtStart m on b g = (tt, record { stage = AtStart; machine = m; now = on; board = b; same = refl; is = refl; going = g })
   exchange_any AtEnd m on b g = (tt, record { stage = AtEnd; machine = m; now = on; board = b; same = refl; is = refl; going = g })
   exchange_any (AtHalt k why) m on b g = (tt, record { stage = AtHalt k why; machine = m; now = on; board = b; same = refl; is = refl; going = g })
@@ -409,7 +427,7 @@ module _ (F : Family) (laws : IsFamily F) (L : Bus → Line) (lines : (bus : Bus
 
   ended : (stage : Stage F.words) (m : Machine F.words) (on : States L) (b : F.Board) (phase : Phase) (n : ℕ) → Going stage m on b → IsAtRest F answer (at_stage F laws answer by_row plan start stage m b) phase n
       → HasEnded F L D W answer (world_of (enters F.words stage m).machine on b) phase n
-  ended (Opened heeded task) m on b phase n g r = absurd (none-some _ (sym r.rests))
+  ended (Opened heeded task part) m on b phase n g r = absurd (none-some _ (sym r.rests))
   ended AtStart m on b phase n g r = ended_so AtStart m on b phase n g g.holds.joined.are_open r.phase_is r.count
   ended AtEnd m on b phase n g r = ended_so AtEnd m on b phase n g g.holds.joined.are_open r.phase_is r.count
   ended (AtHalt k why) m on b phase n g r = ended_so (AtHalt k why) m on b phase n g g.holds.joined.are_open r.phase_is r.count
@@ -458,7 +476,7 @@ module _ (F : Family) (laws : IsFamily F) (L : Bus → Line) (lines : (bus : Bus
   undoing AtEnd m on b k n g r taken = undoing_so AtEnd m on b k n (length plan) g g.holds.joined.are_open g.ready g.good.sound refl r
   undoing (AtHalt j why) m on b k n g r taken = undoing_so (AtHalt j why) m on b k n j g g.holds.joined.are_open g.ready g.good.sound.0 refl r
   undoing AtStart m on b k n g r taken = absurd (taken refl)
-  undoing (Opened heeded task) m on b k n g r taken = absurd (taken refl)
+  undoing (Opened heeded task part) m on b k n g r taken = absurd (taken refl)
   undoing AtUndone m on b k n g r taken = absurd (taken refl)
   undoing (AtRefused j code) m on b k n g r taken = absurd (taken refl)
 

@@ -37,6 +37,7 @@ module _ (F : Family) (laws : IsFamily F) (given : List (Giving F)) where
 
   giving_is_family : IsFamily (giving F given)
   giving_is_family = record {
+    single = laws.single;
     put_back = laws.put_back;
     get_put = laws.get_put;
     put_valid = laws.put_valid;
@@ -89,7 +90,7 @@ module _ (F : Family) (laws : IsFamily F) (given : List (Giving F)) where
     resumes_same retries AtEnd w = refl
     resumes_same retries (AtHalt k why) w = refl
     resumes_same retries AtStart w = refl
-    resumes_same retries (Opened heeded task) w = refl
+    resumes_same retries (Opened heeded task part) w = refl
     resumes_same retries AtUndone w = refl
     resumes_same retries (AtRefused k code) w = refl
 
@@ -106,8 +107,8 @@ module _ (F : Family) (laws : IsFamily F) (given : List (Giving F)) where
     looks_same bus e true w = brought_same bus e ((L bus).brings (w.on bus) e) w
 
     returns_same : (bus : Bus) (e : (L bus).Event) (stage : Stage F.words) (w : World F L) → as_given (world.returns F L W bus e stage w) ≡ world.returns (giving F given) L W bus e stage (as_given w)
-    returns_same bus e (Opened true task) w = looks_same bus e (same_bus bus (bus_at F.words task)) w
-    returns_same bus e (Opened false task) w = refl
+    returns_same bus e (Opened true task part) w = looks_same bus e (same_bus bus (bus_at F.words part)) w
+    returns_same bus e (Opened false task part) w = refl
     returns_same bus e AtStart w = refl
     returns_same bus e AtEnd w = refl
     returns_same bus e (AtHalt k why) w = refl

@@ -1,4 +1,5 @@
 pub mod Undoable
+pub mod Single
 pub mod StageSound
 pub mod Calls
 pub mod Buses

@@ -6,7 +6,7 @@ use Rattle.undo_model.specs.Words.{Answered}
 use Rattle.undo_model.specs.Phase.{Phase, Undone}
 use Rattle.undo_model.specs.Family.{Family}
 use Rattle.undo_model.specs.Plan.{IsAfter}
-use Rattle.undo_model.specs.Machine.{Task, Stage, Opened, asked_of, bus_at, sending, phase_of}
+use Rattle.undo_model.specs.Machine.{Part, Stage, Opened, bus_at, sending, phase_of}
 use Rattle.undo_model.specs.Wires.{IsMade, Wires}
 use Rattle.undo_model.specs.Line.{Line}
 use Rattle.undo_model.specs.Joined.{IsClosed}
@@ -23,11 +23,11 @@ module _ (F : Family) (L : Bus → Line) (D : (bus : Bus) → Delivery (L bus)) 
   reach_port bus (e ∷ f ∷ es) board after = OnBus bus e board ∷ reach_port bus (f ∷ es) board after
 
   -- the open request reaches the port, and the board answers it
-  abbrev pub asks : Task F.words → World F L → List (Happening F L)
-  asks task w =
-      let bus = bus_at F.words task in
-      let a = answer w.board (asked_of F.words task) in
-      reach_port bus ((D bus).to_port (w.on bus) (W.reply_to bus (bytes_sent F L W (sending F.words task w.machine.counts)) a.0)) w.board a.1
+  abbrev pub asks : Part F.words → World F L → List (Happening F L)
+  asks part w =
+      let bus = bus_at F.words part in
+      let a = answer w.board part.asked in
+      reach_port bus ((D bus).to_port (w.on bus) (W.reply_to bus (bytes_sent F L W (sending F.words part w.machine.counts)) a.0)) w.board a.1
 
   -- what was sent back reaches the manager
   abbrev pub replies : Bus → World F L → List (Happening F L)
@@ -35,7 +35,7 @@ module _ (F : Family) (L : Bus → Line) (D : (bus : Bus) → Delivery (L bus)) 
 
   -- so it goes with the open request, if one is open
   abbrev pub exchange : Stage F.words → World F L → List (Happening F L)
-  exchange (Opened true task) w = asks task w ++ replies (bus_at F.words task) (run F L W (asks task w) w)
+  exchange (Opened true task part) w = asks part w ++ replies (bus_at F.words part) (run F L W (asks part w) w)
   exchange _ w = []
 
   -- and so with as many requests as this

@@ -2,7 +2,7 @@
 use Rattle.std.specs.Prelude.{◌≡◌, ◌≢◌, ℕ, List, [], ◌∷◌, ◌++◌, Option, Some, None, Contains, slice_get}
 use Rattle.two_wire.specs.Codes.{success}
 use Rattle.two_wire.specs.declared.Bus.{Bus}
-use Rattle.undo_model.specs.Words.{Answered}
+use Rattle.undo_model.specs.Words.{Answered, get_asked, set_asked}
 use Rattle.undo_model.specs.Phase.{Stop, Refused, NotRestorable, GetRefused, Phase, Halted}
 use Rattle.undo_model.specs.Family.{Family}
 use Rattle.undo_model.specs.Plan.{IsAfter}
@@ -47,12 +47,12 @@ module _ (F : Family) (L : Bus → Line) (W : Wires F.words) where
   pub record GaveGetIn (given : List (Giving F)) (plan : List F.words.Op) (start : F.Records) (k : ℕ) (a : Answered) : Type 0 where
     pub op : F.words.Op
     pub step : slice_get plan k ≡ Some op
-    pub gave : GaveIn given plan start k (F.words.get_asked (F.words.key_of op)) a
+    pub gave : GaveIn given plan start k (get_asked F.words (F.words.key_of op)) a
 
   pub record GaveSetIn (given : List (Giving F)) (plan : List F.words.Op) (start : F.Records) (k : ℕ) (a : Answered) : Type 0 where
     pub op : F.words.Op
     pub step : slice_get plan k ≡ Some op
-    pub gave : GaveIn given plan start k (F.words.set_asked op) a
+    pub gave : GaveIn given plan start k (set_asked F.words op) a
 
   -- what made a plan halt in a schedule from a world: an answer that the board gave in it, or a stop
   abbrev pub CausedIn : List (Happening F L) → World F L → List F.words.Op → F.Records → Phase → Type 0

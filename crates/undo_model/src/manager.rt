@@ -3,9 +3,9 @@
 ghost use Rattle.std.specs.Prelude.{◌≡◌, ◌<◌, ◌+◌, ◌^◌, ◌&&◌, ◌==◌, slice_get, true, Some};
 ghost use Rattle.std.specs.Option.{option_map};
 ghost use Rattle.undo_model.specs.Machine.{count_of, one_answered, sends_at, enters, first_stage, undo_stage, start_of, undo_of, stop_of, quiet_of, again_of, stage_after, undo_after, Gets, Sets, Undoes, same_bus};
-ghost use Rattle.undo_model.specs.Numbered.{numbered, plan_from, backs, acknowledged, stage_of, machine, sending_of, turn_of, has_open, answer_of, is_to_open, heard_of, taken_of, IsWithin, Do, Reverse};
+ghost use Rattle.undo_model.specs.Numbered.{numbered, part_of, plan_from, backs, acknowledged, stage_of, machine, sending_of, turn_of, has_open, answer_of, is_to_open, heard_of, taken_of, IsWithin, Do, Reverse};
 ghost use Rattle.undo_model.specs.Wires.{number_of};
-ghost use Rattle.undo_model.specs.declared.manager.Asked.TheVariants.{Back};
+ghost use Rattle.undo_model.specs.declared.manager.Asked.TheVariants.{Get, Set, Back};
 
 use two_wire::Bus;
 
@@ -251,7 +251,7 @@ impl Manager {
 
     /// After the reply to a step's Get.
     fn after_get(self, step: usize, code: u8, can_undo: bool) -> State
-        ensures stage { stage_of true result ≡ stage_after numbered self.stopped (plan_from 0 self.steps) (answer_of code can_undo) (Gets step (Do step)) }
+        ensures stage { stage_of true result ≡ stage_after numbered self.stopped (plan_from 0 self.steps) (answer_of code can_undo) (Gets step (Do step)) (part_of (Get step)) }
         ensures same { acknowledged self.steps result ≡ step }
     {
         if code != 0 {
@@ -269,8 +269,8 @@ impl Manager {
     #[tactic(auto, using(crate::proofs::NumberedLaws::step_at, crate::proofs::NumberedLaws::no_step_at))]
     fn after_set(self, step: usize, code: u8, can_undo: bool) -> State
         requires { step < self.steps }
-        ensures stage { stage_of true result ≡ stage_after numbered self.stopped (plan_from 0 self.steps) (answer_of code can_undo) (Sets step (Do step) (Reverse step)) }
-        ensures undo { backs (acknowledged self.steps result) ≡ undo_after numbered (answer_of code can_undo) (Sets step (Do step) (Reverse step)) (backs step) }
+        ensures stage { stage_of true result ≡ stage_after numbered self.stopped (plan_from 0 self.steps) (answer_of code can_undo) (Sets step (Do step) (Reverse step)) (part_of (Set step)) }
+        ensures undo { backs (acknowledged self.steps result) ≡ undo_after numbered (answer_of code can_undo) (Sets step (Do step) (Reverse step)) (part_of (Set step)) (backs step) }
     {
         if code != 0 {
             State::Halted(step, Reason::Refused(code))
@@ -286,7 +286,7 @@ impl Manager {
     /// After the reply to the request that undoes a step.
     #[tactic(auto, using(crate::proofs::NumberedLaws::count_backs))]
     fn after_undo(self, step: usize, all: usize, code: u8, can_undo: bool) -> State
-        ensures stage { stage_of true result ≡ stage_after numbered self.stopped (plan_from 0 self.steps) (answer_of code can_undo) (Undoes (Back step) (backs step)) }
+        ensures stage { stage_of true result ≡ stage_after numbered self.stopped (plan_from 0 self.steps) (answer_of code can_undo) (Undoes (Back step) (backs step)) (part_of (Back step)) }
         ensures same { acknowledged self.steps result ≡ all }
     {
         if code != 0 {

@@ -22,10 +22,11 @@ use watch_boot::watchdog;
 fn unknown_code(_setup: &Setup, key: &Key) -> Code
     ensures { result ≡ unknown_code _setup.now key.now }
 {
+    // Each key is named, so that a new one isn't forgotten. The last two are on every board.
     match key {
-        Key::Thresholds(_) | Key::Hysteresis(_) => code::NOT_PRESENT,
-        // These are on every board.
-        Key::PowerPolicy | Key::Watchdog => code::NOT_PRESENT,
+        Key::Thresholds(_) | Key::Hysteresis(_) | Key::PowerPolicy | Key::Watchdog => {
+            code::NOT_PRESENT
+        }
     }
 }
 
@@ -49,7 +50,7 @@ fn answered(done: Result<(), Code>, body: Bytes<251>) -> Answered
 }
 
 impl<S: Store> Board<S> {
-    ghost use Rattle.bmc_board.specs.State.{opening, state_of, IsUnchanged};
+    ghost use Rattle.bmc_board.specs.State.{opened, state_of, IsUnchanged};
     ghost use Rattle.bmc_board.specs.Live.{reset_answer, longest_live_reply};
     ghost use Rattle.bmc_board.specs.Room.{longest_reply};
     ghost use Rattle.bmc_board.specs.Row.{Row};
@@ -59,8 +60,7 @@ impl<S: Store> Board<S> {
     pub fn open(_alloc: Global, file: BoardFile, store: S) -> Result<Self, AllocError>
         requires { S.records store ≡ records_of (pairs_of file) }
         ensures setup { IfOk result (λ board. board.setup ≡ file) }
-        ensures records { IfOk result (λ board. S.records board.store ≡ records_of (pairs_of file)) }
-        ensures activity { IfOk result (λ board. board.activity ≡ opening) }
+        ensures state { IfOk result (λ board. state_of S.records board ≡ opened file) }
     {
         Ok(Board {
             setup: Setup::new(file),

@@ -7,14 +7,14 @@ ghost use Rattle.bmc_core.specs.Outs.{answered};
 
 use crate::out::{Done, Out, Reason};
 use crate::port::Port;
-use bmc_board::Board;
-use bmc_board::request::{self, read_ipmi};
+use bmc_board::request::read_ipmi;
+use bmc_board::{Board, Request};
 use cfg_records::Store;
-use ipmb_frame::{Msg, Request, begin_response, end_response, read_frame};
+use ipmb_frame::{Msg, Request as IpmbRequest, begin_response, end_response, read_frame};
 use two_wire::{Code, Frame};
 
 /// What a request asks of the board.
-fn asked_in(request: &Request) -> Result<request::Request, Code>
+fn asked_in(request: &IpmbRequest) -> Result<Request, Code>
     ensures { result ≡ asked_by (asked_in request.now) }
 {
     let header = &request.header;
@@ -27,7 +27,7 @@ fn asked_in(request: &Request) -> Result<request::Request, Code>
 }
 
 /// Has the request carried out, and makes the frame its response.
-fn respond<S: Store>(board: &mut Board<S>, request: &Request, frame: &mut Frame)
+fn respond<S: Store>(board: &mut Board<S>, request: &IpmbRequest, frame: &mut Frame)
     ensures answer { IsAnswered board.old.setup (state_of S.records board.old) request.now (answered frame.new) (state_of S.records board.new) }
     ensures setup { board.new.setup ≡ board.old.setup }
 {
@@ -40,7 +40,7 @@ fn respond<S: Store>(board: &mut Board<S>, request: &Request, frame: &mut Frame)
 }
 
 /// Has the request carried out, and sends the response.
-fn answer<S: Store>(board: &mut Board<S>, request: &Request, out: &mut Out)
+fn answer<S: Store>(board: &mut Board<S>, request: &IpmbRequest, out: &mut Out)
     ensures answer { IsAnswered board.old.setup (state_of S.records board.old) request.now out.new (state_of S.records board.new) }
     ensures setup { board.new.setup ≡ board.old.setup }
 {
