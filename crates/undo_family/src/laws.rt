@@ -5,7 +5,7 @@ ghost use Rattle.two_wire.specs.declared.Bus.{Bus};
 ghost use Rattle.cfg_records.specs.declared.board_file.BoardFile.{BoardFile};
 ghost use Rattle.bus_model.specs.Packet.{Packet, IsCutting};
 ghost use Rattle.undo_model.specs.Laws.{IsFamily};
-ghost use Rattle.undo_model.specs.TwoBuses.{Addresses, in_messages, with_packets, messages_come};
+ghost use Rattle.undo_model.specs.TwoBuses.{Addresses, in_messages, with_packets, messages_come, packets_come};
 ghost use Rattle.undo_model.specs.Headline.{AlwaysStands, UndoneForGood, StopsOnlyIfTold};
 ghost use Rattle.undo_model.specs.Giving.{HaltsByAnswers};
 ghost use Rattle.undo_model.specs.RecordsRun.{RecordsStand};
@@ -70,9 +70,10 @@ pub fn plans_run_clean()
 {}
 
 /// Over two buses that lose nothing a plan runs just so: each request is delivered once, each reply is delivered once, nobody else asks, and such a
-/// schedule is honest. The port of each bus is to have a place for the manager at the start.
+/// schedule is honest. The port of each bus is to have a place for the manager at the start, and what is sent in packets is to be cut.
 pub fn plans_run_clean_over_buses()
-    ensures { (setup : BoardFile) (at : Bus → Addresses) → AlwaysRunsOverBuses (family setup at) (in_messages at) (messages_come at) (wires at) (answer setup) }
+    ensures messages { (setup : BoardFile) (at : Bus → Addresses) → AlwaysRunsOverBuses (family setup at) (in_messages at) (messages_come at) (wires at) (answer setup) }
+    ensures packets { (setup : BoardFile) (at : Bus → Addresses) (split : List ℕ → List Packet) → IsCutting split → AlwaysRunsOverBuses (family setup at) (with_packets at split) (packets_come at split) (wires at) (answer setup) }
 {}
 
 /// The manager's requests are requests on their bus, IPMI on IPMB and PLDM on SMBus, each under its number; and a reply to one is a reply

@@ -131,8 +131,7 @@ module _ (F : Family) (laws : IsFamily F) (L : Bus → Line) (lines : (bus : Bus
       let s = w.on bus in
       let t = (L bus).happens s e in
       let effect : IsCarried ((L bus).requests s) ((L bus).requests t) x.bytes x.reply =
-      subst (λ (o : Option Exchange). MatchOption o (SameRequests ((L bus).requests s) ((L bus).requests t)) (λ y. IsCarried ((L bus).requests s) ((L bus).requests t) y.bytes y.reply)) h.3 ((lines bus).on_bus s e held h.0 h.1 h.2) in
-      (
+      subst (λ (o : Option Exchange). MatchOption o (SameRequests ((L bus).requests s) ((L bus).requests t)) (λ y. IsCarried ((L bus).requests s) ((L bus).requests t) y.bytes y.reply)) h.3 ((lines bus).on_bus s e held h.0 h.1 h.2) in (
         (((h.0, h.2), h.1, subst (λ (o : Option Exchange). BoardMay F L W bus o w.board after) (sym h.3) may), tt),
         record {
           now = update L bus t w.on;
@@ -149,8 +148,7 @@ module _ (F : Family) (laws : IsFamily F) (L : Bus → Line) (lines : (bus : Bus
       subst (λ (o : Option Exchange). MatchOption o (SameRequests ((L bus).requests s) ((L bus).requests t)) (λ y. IsCarried ((L bus).requests s) ((L bus).requests t) y.bytes y.reply)) h.3 ((lines bus).on_bus s e held h.0 h.1 h.2) in
       let next = world_of w.machine (update L bus t w.on) w.board in
       let r = reaches bus (f ∷ es) x after next (subst (lines bus).Holds (sym (is_here bus t w.on)) ((lines bus).keeps s e held h.2))
-      (subst (λ (y : (L bus).State). HasCarried (L bus) (f ∷ es) y x (λ z. (clean_lines bus).Answered z x.reply)) (sym (is_here bus t w.on)) h.4) may in
-      (
+      (subst (λ (y : (L bus).State). HasCarried (L bus) (f ∷ es) y x (λ z. (clean_lines bus).Answered z x.reply)) (sym (is_here bus t w.on)) h.4) may in (
         (((h.0, h.2), h.1, subst (λ (o : Option Exchange). BoardMay F L W bus o w.board w.board) (sym h.3) refl), r.0),
         record {
           now = r.1.now;
@@ -191,8 +189,7 @@ module _ (F : Family) (laws : IsFamily F) (L : Bus → Line) (lines : (bus : Bus
       subst (λ (o : Option (List ℕ)). MatchOption o (SameRequests ((L bus).requests s) ((L bus).requests t)) (IsTaken ((L bus).requests s) ((L bus).requests t))) h.3 ((lines bus).to_manager s e held h.0 h.1 h.2) in
       let heard : reply_of F.words a w.machine ≡ Some turn = ap (λ (y : Stage F.words). machine_replies F.words a y w.machine) at ∙ ap (λ (b : Bool). if b then None else Some turn) free in
       let becomes : happens F L W w (ToManager bus e) ≡ world_of turn.machine (begins F L W turn.sends (moved F L W bus e w)) w.board =
-      comes bus e task part w at is ∙ ap (λ (o : Option (List ℕ)). world.brought F L W bus e o w) h.3 ∙ ap (λ (o : Option (Turn F.words)). world.answered F L W bus e o w) heard in
-      (
+      comes bus e task part w at is ∙ ap (λ (o : Option (List ℕ)). world.brought F L W bus e o w) h.3 ∙ ap (λ (o : Option (Turn F.words)). world.answered F L W bus e o w) heard in (
         (((h.0, h.2), h.1), tt),
         record {
           mid = update L bus t w.on;
@@ -213,8 +210,7 @@ module _ (F : Family) (laws : IsFamily F) (L : Bus → Line) (lines : (bus : Bus
       let all = map (λ (y : (L bus).Event). ToManager bus y) (f ∷ es) in
       let same : SameRequests ((L bus).requests s) (request_on next.on bus) = subst (λ (y : (L bus).State). SameRequests ((L bus).requests s) ((L bus).requests y)) (sym (is_here bus t w.on)) effect in
       let r = takes_reply bus (f ∷ es) task part reply next at is (subst (lines bus).Holds (sym (is_here bus t w.on)) ((lines bus).keeps s e held h.2))
-      (subst (λ (y : (L bus).State). HasBrought (L bus) (f ∷ es) y reply (D bus).HasPlace) (sym (is_here bus t w.on)) h.4) free in
-      (
+      (subst (λ (y : (L bus).State). HasBrought (L bus) (f ∷ es) y reply (D bus).HasPlace) (sym (is_here bus t w.on)) h.4) free in (
         (((h.0, h.2), h.1), subst (AllMay F L W all) (sym becomes) r.0),
         record {
           mid = r.1.mid;
@@ -263,12 +259,11 @@ module _ (F : Family) (laws : IsFamily F) (L : Bus → Line) (lines : (bus : Bus
       let s = (L bus).happens (on bus) ((L bus).begins bytes) in
       let made = task_made F plan start m.plan m.undo (F.records b) task good.sound.0 in
       let asked = (clean_lines bus).begun (on bus) bytes (r.held bus) (r.closed bus) (r.place bus) (can.requests (number_of bus (count_of bus m.counts)) part.asked made) in
-      let begun : IsBegun (request_on on bus) ((L bus).requests s) bytes = (lines bus).begun (on bus) bytes (r.held bus) (r.closed bus) in
-      (
+      let begun : IsBegun (request_on on bus) ((L bus).requests s) bytes = (lines bus).begun (on bus) bytes (r.held bus) (r.closed bus) in (
         (subst (λ (y : (L bus).State). (clean_lines bus).Asked y bytes) (sym (is_here bus s on)) asked, λ other ne. subst (D other).HasPlace (sym (is_there bus other s on ne)) (r.place other)),
         each_bus (λ any. length (request_on (update L bus s on) any).taken ≡ count_of any m.counts) bus
-        (ap (λ (y : (L bus).State). length ((L bus).requests y).taken) (is_here bus s on) ∙ ap (λ (l : List (List ℕ)). length l) begun.taken ∙ r.exact bus)
-        (λ other ne. ap (λ (y : (L other).State). length ((L other).requests y).taken) (is_there bus other s on ne) ∙ r.exact other),
+            (ap (λ (y : (L bus).State). length ((L bus).requests y).taken) (is_here bus s on) ∙ ap (λ (l : List (List ℕ)). length l) begun.taken ∙ r.exact bus)
+            (λ other ne. ap (λ (y : (L other).State). length ((L other).requests y).taken) (is_there bus other s on ne) ∙ r.exact other),
       )
 
   enters_ready : (stage : Stage F.words) (m : Machine F.words) (on : States L) (b : F.Board) → IsHeeded F stage → Good F laws answer by_row plan start stage m b → Rests m.counts on
@@ -318,7 +313,7 @@ module _ (F : Family) (laws : IsFamily F) (L : Bus → Line) (lines : (bus : Bus
       let reply = W.reply_to bus bytes r.0 in
       let made = task_made F plan start m.plan m.undo (F.records b) task g.good.sound.0 in
       let can_ask = can.requests number asked made in
-      let can_answer = can.answers number asked b made in
+      let can_answer = can.answers number asked b g.good.valid made in
       let may_board : BoardMay F L W bus (Some (record { bytes = bytes; reply = reply })) b r.1 = (r.0, refl, subst (λ (y : F.words.Asked). F.Row b y r.0 r.1) (sym (W.same number asked made)) (by_row b asked)) in
       let to = asks F L D W answer part w in
       let there = reaches bus ((D bus).to_port (on bus) reply) (record { bytes = bytes; reply = reply }) r.1 w (g.holds.holds bus) ((clean_lines bus).carried (on bus) bytes reply (g.holds.holds bus) g.ready.0 can_ask can_answer) may_board in
@@ -354,8 +349,7 @@ module _ (F : Family) (laws : IsFamily F) (L : Bus → Line) (lines : (bus : Bus
         place = place;
         exact = exact;
       } in
-      let ready = enters_ready next then_m mid r.1 (after_heeded F m.stopped m.plan r.0 task) good rests in
-      (
+      let ready = enters_ready next then_m mid r.1 (after_heeded F m.stopped m.plan r.0 task) good rests in (
         may,
         record {
           stage = next;
@@ -394,8 +388,7 @@ module _ (F : Family) (laws : IsFamily F) (L : Bus → Line) (lines : (bus : Bus
       let w = world_of (enters F.words stage m).machine on b in
       let es = exchange F L D W answer stage w in
       let e = exchange_any stage m on b g in
-      let rest = exchange_all n e.1.stage e.1.machine e.1.now e.1.board e.1.going in
-      (
+      let rest = exchange_all n e.1.stage e.1.machine e.1.now e.1.board e.1.going in (
         all_append F L W es (exchanges F L D W answer n (run F L W es w)) w e.0 (subst (λ (y : World F L). AllMay F L W (exchanges F L D W answer n y) y) (sym e.1.is) rest.0),
         record {
           stage = rest.1.stage;

@@ -58,28 +58,28 @@ has_window q k log is =
 
 module _ (b : Rules) (numbers : IsNumbering b) (wide : 1 ≤ b.span) where
   -- the request of these bytes is open and not carried out yet, the newest frame is its own, and there is a place for it
-  record JustAsked (s : BusState) (bytes : List ℕ) : Type 0 where
-    frame : Frame
-    at : slice_get s.frames (newest s) ≡ Some frame
-    live : IsLive b s frame
-    own : frame.request ≡ length s.taken
-    holds : frame.content ≡ Ask bytes
-    is_now : is_open s ≡ true
-    first : slice_get s.carried (length s.taken) ≡ None
-    free : is_busy b.manager s.log ≡ false
+  pub record JustAsked (s : BusState) (bytes : List ℕ) : Type 0 where
+    pub frame : Frame
+    pub at : slice_get s.frames (newest s) ≡ Some frame
+    pub live : IsLive b s frame
+    pub own : frame.request ≡ length s.taken
+    pub holds : frame.content ≡ Ask bytes
+    pub is_now : is_open s ≡ true
+    pub first : slice_get s.carried (length s.taken) ≡ None
+    pub free : is_busy b.manager s.log ≡ false
 
   -- the newest frame is the reply to the open request
-  record JustAnswered (s : BusState) (answer : List ℕ) : Type 0 where
-    frame : Frame
-    at : slice_get s.frames (newest s) ≡ Some frame
-    live : IsLive b s frame
-    own : frame.request ≡ length s.taken
-    number : ℕ
-    holds : frame.content ≡ Reply number (Some answer)
-    is_now : is_open s ≡ true
-    free : is_busy b.manager s.log ≡ false
+  pub record JustAnswered (s : BusState) (answer : List ℕ) : Type 0 where
+    pub frame : Frame
+    pub at : slice_get s.frames (newest s) ≡ Some frame
+    pub live : IsLive b s frame
+    pub own : frame.request ≡ length s.taken
+    pub number : ℕ
+    pub holds : frame.content ≡ Reply number (Some answer)
+    pub is_now : is_open s ≡ true
+    pub free : is_busy b.manager s.log ≡ false
 
-  just_begun : (s : BusState) (bytes : List ℕ) → Holds b s → IsClosed s → is_busy b.manager s.log ≡ false → JustAsked (happens b s (Begins bytes)) bytes
+  pub just_begun : (s : BusState) (bytes : List ℕ) → Holds b s → IsClosed s → is_busy b.manager s.log ≡ false → JustAsked (happens b s (Begins bytes)) bytes
   just_begun s bytes h closed free =
       let answered = h.sound.answered in let below = h.sound.below in
       let new : BusState = begins b bytes s in
@@ -99,6 +99,24 @@ module _ (b : Rules) (numbers : IsNumbering b) (wide : 1 ≤ b.span) where
       } in
       subst (λ (t : Bool). JustAsked (if t then s else new) bytes) (sym (le-ltb _ _ closed)) asked
 
+  -- where it is carried out its reply is sent
+  pub answered_after : (s : BusState) (bytes answer : List ℕ) → JustAsked s bytes → JustAnswered (heard b numbers s (length s.taken) (record { request = request_of b (length s.taken) bytes; reply = answer }) IsNew) answer
+  answered_after s bytes answer a =
+      let n = length s.taken in
+      let k : Kept = record { request = request_of b n bytes; reply = answer } in
+      let f : Frame = record { request = n; idles = idles_of b.manager s.log; content = Reply (b.number_of n) (Some answer) } in
+      let recent : length s.begun ≤ n + b.span = subst (λ (m : ℕ). length s.begun ≤ m + b.span) a.own a.live.0 in
+      record {
+        frame = f;
+        at = newest_is s.frames f;
+        live = (recent, refl);
+        own = refl;
+        number = b.number_of n;
+        holds = refl;
+        is_now = a.is_now;
+        free = has_window b.manager k s.log refl;
+      }
+
   -- where the newest frame asks, it is carried out
   just_carried : (s : BusState) (bytes answer : List ℕ) → Holds b s → JustAsked s bytes → HasCarried (whole b) (ReachesPort (newest s) answer ∷ []) s (record { bytes = bytes; reply = answer }) (λ t. JustAnswered t answer)
   just_carried s bytes answer h a =
@@ -115,20 +133,7 @@ module _ (b : Rules) (numbers : IsNumbering b) (wide : 1 ≤ b.span) where
       let carries : exchange (carried_now b (slice_get s.frames which) s) answer ≡ Some (record { bytes = bytes; reply = answer }) =
       ap (λ (o : Option Frame). exchange (carried_now b o s) answer) a.at
       ∙ ap (λ (o : Option (List ℕ)). exchange o answer) ((goes_through b numbers s h).carried which a.frame bytes a.at a.own a.holds a.first a.free) in
-      let f : Frame = record { request = n; idles = idles_of b.manager s.log; content = Reply (b.number_of n) (Some answer) } in
-      let live = a.live.0 in
-      let recent : length s.begun ≤ n + b.span = subst (λ (m : ℕ). length s.begun ≤ m + b.span) a.own live in
-      let answered : JustAnswered new answer = record {
-        frame = f;
-        at = newest_is s.frames f;
-        live = (recent, refl);
-        own = refl;
-        number = b.number_of n;
-        holds = refl;
-        is_now = a.is_now;
-        free = has_window b.manager k s.log refl;
-      } in
-      (tt, refl, subst (λ (o : Option Frame). IfSome o (IsLive b s)) (sym a.at) a.live, carries, subst (λ (t : BusState). JustAnswered t answer) (sym becomes) answered)
+      (tt, refl, subst (λ (o : Option Frame). IfSome o (IsLive b s)) (sym a.at) a.live, carries, subst (λ (t : BusState). JustAnswered t answer) (sym becomes) (answered_after s bytes answer a))
 
   -- where it answers, the answer is taken
   just_brought : (s : BusState) (answer : List ℕ) → Holds b s → JustAnswered s answer → HasBrought (whole b) (ReachesManager (newest s) ∷ []) s answer (λ t. is_busy b.manager t.log ≡ false)

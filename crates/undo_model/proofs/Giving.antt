@@ -158,7 +158,7 @@ module _ (F : Family) (laws : IsFamily F) (given : List (Giving F)) where
     all_may_given (e ∷ es) w all may = (
       may_given w e (λ g one. all g (Contains-append_left (given_at F L W w e) (given_in F L W es (happens F L W w e)) g one)) may.0,
       subst (AllMay (giving F given) L W (all_given es)) (happens_same w e)
-      (all_may_given es (happens F L W w e) (λ g one. all g (Contains-append_right (given_at F L W w e) (given_in F L W es (happens F L W w e)) g one)) may.1),
+          (all_may_given es (happens F L W w e) (λ g one. all g (Contains-append_right (given_at F L W w e) (given_in F L W es (happens F L W w e)) g one)) may.1),
     )
 
     -- ---- what holds of that run holds of this one

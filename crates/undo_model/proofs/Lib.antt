@@ -18,3 +18,6 @@ pub mod NumberedLaws
 pub mod Giving
 pub mod Delivery
 pub mod CleanBuses
+pub mod SeriesExample
+pub mod PacketDelivery
+pub mod RegistersFit

@@ -4,7 +4,7 @@ use Rattle.two_wire.specs.declared.Bus.{Bus}
 use Rattle.two_wire.specs.declared.Bus.TheVariants.{Ipmb, Smbus}
 use Rattle.undo_model.specs.Words.{Answered}
 use Rattle.undo_model.specs.Phase.{Phase, Undone}
-use Rattle.undo_model.specs.Family.{Family}
+use Rattle.undo_model.specs.Family.{Family, AllValid}
 use Rattle.undo_model.specs.Plan.{IsAfter}
 use Rattle.undo_model.specs.Machine.{Part, Stage, Opened, bus_at, sending, phase_of}
 use Rattle.undo_model.specs.Wires.{IsMade, Wires}
@@ -43,10 +43,10 @@ module _ (F : Family) (L : Bus → Line) (D : (bus : Bus) → Delivery (L bus)) 
   exchanges zero w = []
   exchanges (suc n) w = exchange w.machine.stage w ++ exchanges n (run F L W (exchange w.machine.stage w) w)
 
-  -- each request that the manager makes, and each answer of the board to one, can be sent on its bus
+  -- each request that the manager makes, and each answer to one of a board with valid records, can be sent on its bus
   pub record AllCanBeSent : Type 0 where
     pub requests : (number : ℕ) (asked : F.words.Asked) → IsMade F.words asked → (D (F.words.bus_of asked)).CanSend (W.bytes_of number asked)
-    pub answers : (number : ℕ) (asked : F.words.Asked) (b : F.Board) → IsMade F.words asked
+    pub answers : (number : ℕ) (asked : F.words.Asked) (b : F.Board) → AllValid F (F.records b) → IsMade F.words asked
         → (D (F.words.bus_of asked)).CanSend (W.reply_to (F.words.bus_of asked) (W.bytes_of number asked) (answer b asked).0)
 
   -- the manager is in the phase, so many requests of it were begun on both buses, and each was answered

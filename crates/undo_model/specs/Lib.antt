@@ -19,3 +19,4 @@ pub mod Numbered
 pub mod Giving
 pub mod Delivery
 pub mod CleanBuses
+pub mod SeriesExample

@@ -3,15 +3,15 @@
 
 ghost use Rattle.std.specs.Prelude.{ℕ, List};
 ghost use Rattle.two_wire.specs.declared.Bus.{Bus};
-ghost use Rattle.bus_model.specs.Packet.{Packet, IsCutting};
+ghost use Rattle.bus_model.specs.Packet.{Packet, IsCutting, packets_of};
 ghost use Rattle.undo_model.specs.Laws.{IsFamily};
-ghost use Rattle.undo_model.specs.TwoBuses.{Addresses, in_messages, with_packets, messages_come};
+ghost use Rattle.undo_model.specs.TwoBuses.{Addresses, in_messages, with_packets, messages_come, packets_come};
 ghost use Rattle.undo_model.specs.Headline.{AlwaysStands, UndoneForGood, StopsOnlyIfTold};
 ghost use Rattle.undo_model.specs.Giving.{HaltsByAnswers};
 ghost use Rattle.undo_model.specs.Resume.{GoesOnAlike};
 ghost use Rattle.undo_model.specs.RecordsRun.{RecordsStand};
 ghost use Rattle.undo_model.specs.Clean.{AnswersByRow, AlwaysRunsClean};
-ghost use Rattle.undo_model.specs.CleanBuses.{AlwaysRunsOverBuses};
+ghost use Rattle.undo_model.specs.CleanBuses.{AllCanBeSent, AlwaysRunsOverBuses};
 ghost use Rattle.undo_model.specs.Words.{Answered};
 ghost use Rattle.undo_model.specs.Registers.{Board, Asked, register_words, registers, wires};
 
@@ -68,7 +68,10 @@ pub fn plans_run_clean()
 {}
 
 /// Over two buses that lose nothing a plan runs just so: each request is delivered once, each reply is delivered once, nobody else asks, and such a
-/// schedule is honest. The port of each bus is to have a place for the manager at the start.
+/// schedule is honest. The port of each bus is to have a place for the manager at the start, and what is sent in packets is to be cut: what the
+/// registers say is.
 pub fn plans_run_clean_over_buses()
-    ensures { (at : Bus → Addresses) (answer : Board → Asked → Answered × Board) → AnswersByRow registers answer → AlwaysRunsOverBuses registers (in_messages at) (messages_come at) wires answer }
+    ensures messages { (at : Bus → Addresses) (answer : Board → Asked → Answered × Board) → AnswersByRow registers answer → AlwaysRunsOverBuses registers (in_messages at) (messages_come at) wires answer }
+    ensures packets { (at : Bus → Addresses) (split : List ℕ → List Packet) → IsCutting split → (answer : Board → Asked → Answered × Board) → AnswersByRow registers answer → AlwaysRunsOverBuses registers (with_packets at split) (packets_come at split) wires answer }
+    ensures cut { (at : Bus → Addresses) (answer : Board → Asked → Answered × Board) → AnswersByRow registers answer → AllCanBeSent registers (with_packets at packets_of) (packets_come at packets_of) wires answer }
 {}
