@@ -6,3 +6,7 @@ pub mod LongExample
 pub mod Stepping
 pub mod PortPart
 pub mod PortEvents
+pub mod ManagerEvents
+pub mod PacketExample
+pub mod FullExample
+pub mod FrameMarks

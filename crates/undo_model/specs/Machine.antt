@@ -1,5 +1,5 @@
 -- A manager as a machine: what each call and each reply makes of it, and which request it then sends.
-use Rattle.std.specs.Prelude.{ℕ, suc, ◌+◌, ◌==◌, nat_lt, Bool, true, false, List, [], ◌∷◌, ◌++◌, length, Option, Some, None, if◌then◌else◌, slice_get}
+use Rattle.std.specs.Prelude.{ℕ, suc, ◌+◌, ◌==◌, nat_le, nat_lt, Bool, true, false, List, [], ◌∷◌, ◌++◌, length, Option, Some, None, if◌then◌else◌, slice_get}
 use Rattle.two_wire.specs.Codes.{success}
 use Rattle.two_wire.specs.declared.Bus.{Bus}
 use Rattle.two_wire.specs.declared.Bus.TheVariants.{Ipmb, Smbus}
@@ -289,3 +289,11 @@ opened M plan retries = record {
   undo = [];
   counts = record { ipmb = 0; smbus = 0 };
 }
+
+-- a manager may be opened with so many retries
+abbrev pub most_retries : ℕ
+most_retries = 15
+
+-- a manager is opened: none with more retries
+abbrev pub open_of : (M : Words) → List M.Op → ℕ → Option (Machine M)
+open_of M plan retries = if nat_le retries most_retries then Some (opened M plan retries) else None

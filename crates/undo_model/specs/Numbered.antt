@@ -4,13 +4,15 @@ use Rattle.std.specs.Option.{option_map}
 use Rattle.two_wire.specs.declared.Bus.{Bus}
 use Rattle.two_wire.specs.declared.Bus.TheVariants.{Ipmb, Smbus}
 use Rattle.undo_model.specs.Words.{Answered, Words}
-use Rattle.undo_model.specs.Phase.{Why, Stop, Refused, NotRestorable, GetRefused}
+use Rattle.undo_model.specs.Phase.{Why, Stop, Refused, NotRestorable, GetRefused, Phase, Fresh, Getting, Setting, Done, Halted, Unsettled, Undoing, Undone, UndoRefused}
 use Rattle.undo_model.specs.Machine.{Counts, count_of, Part, Gets, Sets, Undoes, Stage, AtStart, Opened, AtEnd, AtHalt, AtUndone, AtRefused, Machine, Sending, Turn, bus_at, takes, reply_of, same_bus}
 use Rattle.undo_model.specs.Wires.{number_of}
 use Rattle.undo_model.specs.declared.manager.Asked.{Asked}
 use Rattle.undo_model.specs.declared.manager.Asked.TheVariants.{Get, Set, Back}
 use Rattle.undo_model.specs.declared.manager.Reason.{Reason}
 use Rattle.undo_model.specs.declared.manager.Reason.TheVariants as reason
+use Rattle.undo_model.specs.declared.manager.Phase.{Phase as Seen}
+use Rattle.undo_model.specs.declared.manager.Phase.TheVariants as seen
 use Rattle.undo_model.specs.declared.manager.State.{State}
 use Rattle.undo_model.specs.declared.manager.State.TheVariants as state
 use Rattle.undo_model.specs.declared.manager.Manager.{Manager}
@@ -73,6 +75,18 @@ why_of reason.Stop = Stop
 why_of (reason.Refused code) = Refused code
 why_of reason.NotRestorable = NotRestorable
 why_of (reason.GetRefused code) = GetRefused code
+
+-- the phase that the plain manager gives
+abbrev pub phase_seen : Seen → Phase
+phase_seen seen.Fresh = Fresh
+phase_seen (seen.Getting k) = Getting k
+phase_seen (seen.Setting k) = Setting k
+phase_seen seen.Done = Done
+phase_seen (seen.Halted k why) = Halted k (why_of why)
+phase_seen (seen.Unsettled k) = Unsettled k
+phase_seen (seen.Undoing k) = Undoing k
+phase_seen seen.Undone = Undone
+phase_seen (seen.UndoRefused k code) = UndoRefused k code
 
 -- the request, as the only one of a task
 abbrev pub part_of : Asked → Part numbered

@@ -32,7 +32,7 @@ pub record Words : Type 1 where
   pub next : Series → List (List ℕ) → Option Asked
   -- what the data of all its replies show together
   pub joined : Series → List (List ℕ) → List ℕ
-  -- the operation that undoes it, from what its record's Get shows
+  -- the operation that undoes another, from what the Get of that one's record shows
   pub inverse : Op → List ℕ → Option Op
 
 -- the request that gets a record, and the one that carries an operation out: the first of each series
