@@ -11,10 +11,10 @@ ghost use Rattle.undo_core.specs.Phases.{phase_of};
 ghost use Rattle.undo_core.specs.Shown.{words_of, backs, IsStage, Shows, IsSent};
 ghost use Rattle.undo_core.specs.Bounds.{steps_needed, undone_needed, most_backs, replies_left};
 
-use crate::{Phase, Why};
 use crate::manager::Manager;
 use crate::sending::{Sent, bus_of, frames_of};
 use crate::stage::{Stage, Task};
+use crate::{Phase, Why};
 use cfg_records::RecordKind;
 use plans::UndoList;
 use record_kinds::Limits;
@@ -83,7 +83,11 @@ impl Manager {
     /// The stage in which this many steps are still to be undone.
     pub(crate) fn undo_stage(&self, left: usize) -> Stage
         requires { left ≤ length self.now.undo.requests }
-        ensures { (names : AnyNames) (plan : List Op) → IsStage names plan self.now.undo.requests result (machine.undo_stage (words_of names) (backs names (take left self.now.undo.requests))) }
+        ensures stage { (names : AnyNames) (plan : List Op) → IsStage names plan self.now.undo.requests result (machine.undo_stage (words_of names) (backs names (take left self.now.undo.requests))) }
+        ensures planned { steps_needed result ≡ 0 }
+        ensures kept { undone_needed result ≤ left }
+        ensures few { most_backs result ≡ 256 }
+        ensures left { (steps undone : ℕ) → replies_left steps undone result ≤ left }
     {
         if left == 0 {
             return Stage::AtUndone;
