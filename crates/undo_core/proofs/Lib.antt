@@ -1,3 +1,4 @@
 pub mod Written
 pub mod Backs
 pub mod Calling
+pub mod Replies

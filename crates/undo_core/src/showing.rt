@@ -83,7 +83,11 @@ impl Manager {
     /// The stage in which this many steps are still to be undone.
     pub(crate) fn undo_stage(&self, left: usize) -> Stage
         requires { left ≤ length self.now.undo.requests }
-        ensures { (names : AnyNames) (plan : List Op) → IsStage names plan self.now.undo.requests result (machine.undo_stage (words_of names) (backs names (take left self.now.undo.requests))) }
+        ensures stage { (names : AnyNames) (plan : List Op) → IsStage names plan self.now.undo.requests result (machine.undo_stage (words_of names) (backs names (take left self.now.undo.requests))) }
+        ensures planned { steps_needed result ≡ 0 }
+        ensures kept { undone_needed result ≤ left }
+        ensures few { most_backs result ≡ 256 }
+        ensures left { (steps undone : ℕ) → replies_left steps undone result ≤ left }
     {
         if left == 0 {
             return Stage::AtUndone;

@@ -7,5 +7,5 @@ use Rattle.undo_core.specs.Shown.{words_of, own, backs, IsStage}
 use Rattle.undo_core.proofs.Backs.{undoes_next}
 use Rattle.undo_core.proofs.manager.Manager.undo_stage.Goals as goal
 
-pub returns-in-Some : goal.returns-in-Some
-returns-in-Some c names plan = undoes_next names plan c.args.self.now.undo.requests c.args.left c.in-Some.request.now c.copy.result (omega (arith, c.if-left-eq0.false)) (search rules) c.copy.ensures
+pub returns-in-Some-clause-stage : goal.returns-in-Some-clause-stage
+returns-in-Some-clause-stage c names plan = undoes_next names plan c.args.self.now.undo.requests c.args.left c.in-Some.request.now c.copy.result (omega (arith, c.if-left-eq0.false)) (search rules) c.copy.ensures
