@@ -2,3 +2,4 @@ pub mod Written
 pub mod Backs
 pub mod Calling
 pub mod Replies
+pub mod Heard

@@ -1,5 +1,5 @@
 //! Frames that come to a manager.
-ghost use Rattle.std.specs.Prelude.{◌≡◌, ◌+◌, ◌-◌, ◌*◌, ◌≤◌, ◌<◌, ◌==◌, ℕ, suc, length, take, slice_get, List, Some, if◌then◌else◌};
+ghost use Rattle.std.specs.Prelude.{◌≡◌, ◌&&◌, not, ◌+◌, ◌-◌, ◌*◌, ◌≤◌, ◌<◌, ◌==◌, ℕ, suc, length, take, slice_get, List, Some, if◌then◌else◌};
 ghost use Rattle.two_wire.specs.Codes.{success};
 ghost use Rattle.cfg_records.specs.declared.op.Op.{Op};
 ghost use Rattle.cfg_records.specs.declared.message.Asked.{Asked as AnyAsked};
@@ -10,14 +10,20 @@ ghost use Rattle.undo_model.specs.Machine as machine;
 ghost use Rattle.undo_core.specs.Shown.{words_of, own, backs, IsTask, IsStage};
 ghost use Rattle.undo_core.specs.Bounds.{task_steps, steps_needed, task_undone, undone_needed, task_backs, most_backs, task_left, replies_left, done_by, with_done};
 ghost use Rattle.undo_model.specs.Words.{is_busy as is_busy_code};
-ghost use Rattle.undo_core.specs.Shown.{Takes};
+ghost use Rattle.undo_core.specs.Shown.{Shows, Does, Takes, taken_if};
+ghost use Rattle.two_wire.specs.declared.Bus.TheVariants.{Ipmb as IsIpmb, Smbus as IsSmbus};
+ghost use Rattle.bus_model.specs.Bytes.{ipmb_answers};
+ghost use Rattle.undo_family.specs.Family.{bus_of as bus_of_request};
+ghost use Rattle.undo_family.specs.Wires.{bytes_of};
+ghost use Rattle.lab_model.specs.Bytes.{response_bytes};
+ghost use Rattle.lab_model.specs.ManagerSteps.{ManagerState, board_plans, hears_response, is_answer as is_answer_of};
 
 use crate::Why;
 use crate::manager::Manager;
 use crate::sending::{Sent, bus_of};
 use crate::stage::{Stage, Task};
 use cfg_records::{Asked, RecordKind};
-use ipmb_frame::{Msg, Response, read_frame};
+use ipmb_frame::{Msg, Response, Sequence, read_frame};
 use mctp_net::{Packet, Taken, read_packet};
 use pldm_base::{PldmBytes, PldmReply, read_pldm_reply};
 use plans::NextNumbers;
@@ -46,23 +52,37 @@ impl Manager {
         }
     }
 
-    fn on_response(&mut self, response: &Response<'_>) -> Option<Sent> {
-        let asked = self.stage.heeded_on(Bus::Ipmb)?;
-        let header = &response.header;
-        let ours = header.requester.address == self.names.own_address
-            && header.responder.address == self.names.peer_address
-            && header.sequence == self.counts.sequence();
-        match asked {
-            Asked::Ipmi {
-                net_fn, command, ..
-            } if ours && *net_fn == header.net_fn && *command == header.command => {
-                self.on_reply(Reply {
-                    code: response.code,
-                    body: response.body.as_slice(),
-                })
-            }
-            _ => None,
+    /// Hears a response.
+    fn on_response(&mut self, response: &Response<'_>) -> Option<Sent>
+        ensures { (names : Names) (s : ManagerState (board_plans names)) → Shows names self.old s → Does names self.new result (hears_response (board_plans names) response.now s) }
+    {
+        if !self.is_answered_by(response) {
+            return None;
         }
+        self.on_reply(Reply {
+            code: response.code,
+            body: response.body.as_slice(),
+        })
+    }
+
+    /// Whether the response comes from the controller, and answers the open request.
+    fn is_answered_by(&self, response: &Response<'_>) -> bool
+        ensures { (names : Names) (s : ManagerState (board_plans names)) → Shows names self.now s
+            → hears_response (board_plans names) response.now s ≡ taken_if names result (record { code = response.now.code; body = response.now.body }) s }
+    {
+        let Some(asked) = self.stage.heeded_on(Bus::Ipmb) else {
+            return false;
+        };
+        self.is_answer(response) && is_answer_to(asked, self.counts.sequence(), response)
+    }
+
+    /// Whether the response goes from the controller to the manager.
+    fn is_answer(&self, response: &Response<'_>) -> bool
+        ensures { result ≡ is_answer_of self.now.names response.now }
+    {
+        let header = &response.header;
+        header.requester.address == self.names.own_address
+            && header.responder.address == self.names.peer_address
     }
 
     fn on_packet(&mut self, packet: &Packet<'_>) -> Option<Sent> {
@@ -230,6 +250,27 @@ impl Manager {
             Some(code) => Stage::AtRefused(step, code),
             None => self.undo_stage(step),
         }
+    }
+}
+
+/// Whether the response has the number, the network function and the command of the request.
+fn is_answer_to(asked: &Asked, sequence: Sequence, response: &Response<'_>) -> bool
+    ensures { (names : Names) → bus_of_request asked.now ≡ IsIpmb
+        → ipmb_answers (bytes_of sequence (own names asked.now)) (response_bytes response.now) ≡ (result && not (is_busy_code response.now.code)) }
+{
+    let header = response.header;
+    let _luns = (header.responder.lun.number(), header.requester.lun.number());
+    match asked {
+        Asked::Ipmi {
+            net_fn,
+            lun,
+            command,
+            ..
+        } => {
+            let _lun = lun.number();
+            header.net_fn == *net_fn && header.sequence == sequence && header.command == *command
+        }
+        Asked::Pldm { .. } => false,
     }
 }
 
