@@ -1,3 +1,5 @@
 pub mod Written
 pub mod Backs
 pub mod Calling
+pub mod Replies
+pub mod Heard

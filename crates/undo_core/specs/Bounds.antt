@@ -1,5 +1,7 @@
 -- How far a manager's numbers go.
-use Rattle.std.specs.Prelude.{ℕ, suc, ◌+◌, ◌-◌, ◌*◌}
+use Rattle.std.specs.Prelude.{ℕ, suc, ◌+◌, ◌-◌, ◌*◌, ◌==◌, List, [], ◌∷◌, ◌++◌, Option, Some, None, if◌then◌else◌}
+use Rattle.two_wire.specs.Codes.{success}
+use Rattle.cfg_records.specs.declared.message.Asked.{Asked}
 use Rattle.undo_core.specs.declared.stage.Task.{Task}
 use Rattle.undo_core.specs.declared.stage.Task.TheVariants.{Gets, Sets, Undoes}
 use Rattle.undo_core.specs.declared.stage.Stage.{Stage}
@@ -8,6 +10,17 @@ use Rattle.undo_core.specs.declared.stage.Stage.TheVariants.{AtStart, Opened, At
 -- the most requests that a list which undoes has, and the most steps of a plan
 pub most_steps : ℕ
 most_steps = 256
+
+-- the request that is kept once a request of the task was answered with this code
+abbrev pub done_by : Task → ℕ → Option Asked
+done_by (Gets k) code = None
+done_by (Sets k back) code = if code == success then Some back else None
+done_by (Undoes k) code = None
+
+-- the requests that are kept then
+abbrev pub with_done : Option Asked → List Asked → List Asked
+with_done None requests = requests
+with_done (Some request) requests = requests ++ request ∷ []
 
 -- how many steps the plan has at least
 abbrev pub task_steps : Task → ℕ

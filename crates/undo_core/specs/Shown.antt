@@ -1,5 +1,5 @@
 -- The machine that a manager shows, and the packets that wait at it.
-use Rattle.std.specs.Prelude.{◌≡◌, Result, Ok, Err, ℕ, suc, ◌%◌, ◌<◌, Bool, List, [], ◌∷◌, length, map, take, reverse, Option, Some, None, slice_get}
+use Rattle.std.specs.Prelude.{◌≡◌, Result, Ok, Err, ℕ, suc, ◌%◌, ◌<◌, Bool, List, [], ◌∷◌, length, map, take, reverse, Option, Some, None, slice_get, if◌then◌else◌}
 use Rattle.cfg_records.specs.declared.op.Op.{Op}
 use Rattle.cfg_records.specs.declared.message.Asked.{Asked}
 use Rattle.plans.specs.declared.names.Names.{Names}
@@ -10,7 +10,7 @@ use Rattle.undo_model.specs.Machine.{reply_of}
 use Rattle.undo_core.specs.declared.phase.WrongPhase.{WrongPhase}
 use Rattle.undo_family.specs.Family.{from_manager}
 use Rattle.lab_model.specs.Values.{written}
-use Rattle.lab_model.specs.ManagerSteps.{addresses, board_plans, Sent as AllSent, Call, ManagerState, ManagerDeed, called, taken_or}
+use Rattle.lab_model.specs.ManagerSteps.{addresses, board_plans, Sent as AllSent, Call, ManagerState, ManagerDeed, called, rests, taken_or}
 use Rattle.undo_core.specs.declared.stage.Task.{Task}
 use Rattle.undo_core.specs.declared.stage.Task.TheVariants as task
 use Rattle.undo_core.specs.declared.stage.Stage.{Stage}
@@ -88,3 +88,7 @@ Calls call old new result = (names : Names) (s : ManagerState (board_plans names
 -- whatever machine the manager showed, a reply that passed the test is taken as the machine takes it
 abbrev pub Takes : Answered → Manager → Manager → Option Sent → Type 0
 Takes a old new sent = (names : Names) (s : ManagerState (board_plans names)) → Shows names old s → Does names new sent (taken_or (board_plans names) s (reply_of (words_of names) a s.machine))
+
+-- the reply of the controller is taken where it passed the test against the open request
+abbrev pub taken_if : (names : Names) → Bool → Answered → ManagerState (board_plans names) → ManagerDeed (board_plans names)
+taken_if names passes a s = if passes then taken_or (board_plans names) s (reply_of (words_of names) a s.machine) else rests (board_plans names) s

@@ -1,8 +1,8 @@
 //! Requests as the frames that are sent.
-ghost use Rattle.std.specs.Prelude.{◌≡◌, ◌%◌, true, [], ◌∷◌, ℕ, map};
+ghost use Rattle.std.specs.Prelude.{◌≡◌, ◌+◌, ◌%◌, ◌<◌, suc, true, [], ◌∷◌, ℕ, map};
 ghost use Rattle.lab_model.specs.Values.{written};
 ghost use Rattle.lab_model.specs.ManagerSteps.{values_of};
-ghost use Rattle.undo_model.specs.Machine.{count_of};
+ghost use Rattle.undo_model.specs.Machine.{count_of, one_answered};
 ghost use Rattle.undo_family.specs.Family.{bus_of as bus_of_request};
 ghost use Rattle.cfg_records.specs.declared.message.Asked.TheVariants as asked_as;
 ghost use Rattle.undo_core.specs.Counted.{counts_of};
@@ -36,6 +36,24 @@ pub struct Sent {
 }
 
 impl Counts {
+    /// The counts once the request that is open on this bus was answered.
+    pub fn after(self, bus: Bus) -> Counts
+        requires { self.ipmb + self.smbus < 1024 }
+        ensures counts { counts_of result ≡ one_answered bus (counts_of self) }
+        ensures sum { result.ipmb + result.smbus ≡ suc (self.ipmb + self.smbus) }
+    {
+        match bus {
+            Bus::Ipmb => Counts {
+                ipmb: self.ipmb + 1,
+                smbus: self.smbus,
+            },
+            Bus::Smbus => Counts {
+                ipmb: self.ipmb,
+                smbus: self.smbus + 1,
+            },
+        }
+    }
+
     /// The sequence number of the request on IPMB.
     pub fn sequence(self) -> Sequence
         ensures { result ≡ self.ipmb % 64 }

@@ -8,6 +8,7 @@ ghost use Rattle.plans.specs.declared.names.Names.{Names};
 ghost use Rattle.undo_model.specs.Machine as machine;
 ghost use Rattle.undo_core.specs.Phases.{phase_of};
 ghost use Rattle.undo_core.specs.Shown.{words_of, own, IsTask, IsStage};
+ghost use Rattle.undo_core.specs.Bounds.{done_by};
 
 use crate::sending::bus_of;
 use crate::{Phase, Why};
@@ -49,6 +50,16 @@ impl Task {
     {
         match self {
             Task::Gets(step) | Task::Sets(step, _) | Task::Undoes(step) => *step,
+        }
+    }
+
+    /// The request that undoes the step which this completion code acknowledges.
+    pub(crate) fn done(&self, code: u8) -> Option<Asked>
+        ensures { result ≡ done_by self.now code }
+    {
+        match self {
+            Task::Sets(_, back) if code == 0 => Some(back.copy()),
+            _ => None,
         }
     }
 

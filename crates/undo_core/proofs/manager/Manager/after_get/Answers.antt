@@ -8,13 +8,13 @@ use Rattle.undo_core.specs.Shown.{words_of, own, backs, IsStage}
 use Rattle.undo_core.proofs.Backs.{same_read}
 use Rattle.undo_core.proofs.manager.Manager.after_get.Goals as goal
 
-pub returns : goal.returns
-returns c names requests op there =
+pub returns-clause-stage : goal.returns-clause-stage
+returns-clause-stage c names requests op there =
     let zero : c.args.reply.code ≡ 0 = search rules in
     let is_op : c.index-as_slice-step.result ≡ op = same_read c.as_slice.result.now c.args.self.now.steps c.args.step c.index-as_slice-step.result op c.as_slice.ensures.value c.index-as_slice-step.is there in
     let made : inverse op c.args.reply.body.now ≡ Some c.in-Some-inverse.back = ap (λ (o : Op). inverse o c.args.reply.body.now) (sym is_op) ∙ sym c.in-Some-inverse.ensures in
     let goes : c.args.self.now.stopped ≡ false = search rules in
-    let here = c.set_stage.ensures names requests op c.in-Some-inverse.back there (search rules) in
+    let here = c.set_stage.ensures.stage names requests op c.in-Some-inverse.back there (search rules) in
     let same : (if c.args.reply.code == success then machine.set_stage (words_of names) c.args.self.now.stopped c.args.step op (inverse op c.args.reply.body.now) else machine.AtHalt c.args.step (GetRefused c.args.reply.code))
         ≡ machine.begun (words_of names) (machine.Sets c.args.step op c.in-Some-inverse.back) =
     λ i. if zero i == success then machine.set_stage (words_of names) (goes i) c.args.step op (made i) else machine.AtHalt c.args.step (GetRefused (zero i)) in

@@ -1,0 +1,160 @@
+-- What a manager hears is heard as the machine hears it.
+use Rattle.std.proofs.Common.{◌≡◌, ℕ, ◌+◌, ◌*◌, ◌/◌, ◌%◌, ◌<◌, ◌==◌, ◌&&◌, not, Bool, true, false, if◌then◌else◌, List, Option, Some, None, refl, sym, ◌∙◌, ap, subst, arith, inl, inr}
+use Rattle.std.proofs.lemmas.Bool.{cases_Bool, eqb-true, eq-eqb, true≢false}
+use Rattle.two_wire.specs.declared.Bus.{Bus}
+use Rattle.two_wire.specs.declared.Bus.TheVariants.{Ipmb, Smbus}
+use Rattle.ipmb_frame.specs.declared.message.Response.{Response}
+use Rattle.ipmb_frame.specs.declared.message.Header.{Header}
+use Rattle.cfg_records.specs.declared.op.Op.{Op}
+use Rattle.cfg_records.specs.declared.message.Asked.{Asked}
+use Rattle.cfg_records.specs.declared.message.Asked.TheVariants.{Ipmi, Pldm}
+use Rattle.plans.specs.declared.names.Names.{Names}
+use Rattle.bus_model.specs.Bytes.{answers, ipmb_answers, is_busy_code}
+use Rattle.undo_family.specs.Family.{bus_of}
+use Rattle.undo_family.specs.Spelled.{numbers_of}
+use Rattle.undo_family.specs.Wires.{bytes_of, answered_from}
+use Rattle.undo_model.specs.Words.{Answered, is_busy}
+use Rattle.undo_model.specs.Wires.{number_of}
+use Rattle.undo_model.specs.Machine as machine
+use Rattle.lab_model.specs.Bytes.{response_bytes}
+use Rattle.lab_model.specs.ManagerSteps.{board_plans, ManagerState, ManagerDeed, heeded_on, tested, rests, taken_or, is_answer, hears_response, hears_reply}
+use Rattle.undo_core.specs.declared.stage.Task.{Task}
+use Rattle.undo_core.specs.declared.stage.Stage.{Stage}
+use Rattle.undo_core.specs.declared.stage.Stage.TheVariants as stage
+use Rattle.undo_core.specs.declared.manager.Manager.{Manager}
+use Rattle.undo_core.specs.Counted.{counts_of}
+use Rattle.undo_core.specs.Shown.{words_of, own, IsStage, Shows, taken_if}
+
+-- ---- the test on bytes, by fields
+
+high : (n lun : ℕ) → lun < 4 → (4 * n + lun) / 4 ≡ n
+high n lun below = omega (arith, below)
+
+same_next : (m n : ℕ) → (m + 1 == n + 1) ≡ (m == n)
+same_next m n = elim (cases_Bool (m + 1 == n + 1)) [
+  | inl t ↦ let e : m ≡ n = omega (arith, eqb-true (m + 1) (n + 1) t) in t ∙ sym (eq-eqb m n e)
+  | inr f ↦ elim (cases_Bool (m == n)) [
+    | inl t ↦ absurd (true≢false (sym (eq-eqb (m + 1) (n + 1) (ap (λ (k : ℕ). k + 1) (eqb-true m n t))) ∙ f))
+    | inr g ↦ f ∙ sym g
+  ]
+]
+
+regroup : (a b c d : Bool) → ((a && b) && (c && d)) ≡ ((a && b && c) && d)
+regroup true true c d = refl
+regroup true false c d = refl
+regroup false b c d = refl
+
+pub ipmb_by_fields : (asked_fn lun asked_command sequence : ℕ) (body : List ℕ) (r : Response) → lun < 4 → r.header.requester.lun < 4 → r.header.responder.lun < 4 → (from : ℕ)
+    → ipmb_answers (bytes_of sequence (Ipmi from asked_fn lun asked_command body)) (response_bytes r)
+    ≡ ((r.header.net_fn == asked_fn && r.header.sequence == sequence && r.header.command == asked_command) && not (is_busy_code r.code))
+ipmb_by_fields asked_fn lun asked_command sequence body r in_lun in_requester in_responder from =
+    let h = r.header in
+    let bits : (4 * sequence + 0) / 4 ≡ sequence = omega arith in
+    (λ i. ((high (h.net_fn + 1) h.requester.lun in_requester i == high asked_fn lun in_lun i + 1) && (high h.sequence h.responder.lun in_responder i == bits i))
+        && ((h.command == asked_command) && not (is_busy_code r.code)))
+    ∙ ap (λ (b : Bool). (b && (h.sequence == sequence)) && ((h.command == asked_command) && not (is_busy_code r.code))) (same_next h.net_fn asked_fn)
+    ∙ regroup (h.net_fn == asked_fn) (h.sequence == sequence) (h.command == asked_command) (not (is_busy_code r.code))
+
+-- ---- the open request
+
+-- it is the one that the machine heeds on its bus
+abbrev pub Heeds : (names : Names) → Bus → Asked → machine.Stage (words_of names) → Type 0
+Heeds names on asked t = (part : machine.Part (words_of names)) × (heeded_on (board_plans names) on t ≡ Some part) × (own names asked ≡ part.asked)
+
+own_bus : (names : Names) (asked : Asked) → bus_of (own names asked) ≡ bus_of asked
+own_bus names (Ipmi from net_fn lun command body) = refl
+own_bus names (Pldm from kind command body) = refl
+
+same_is_true : (on : Bus) → machine.same_bus on on ≡ true
+same_is_true Ipmb = refl
+same_is_true Smbus = refl
+
+heeds_stage : (names : Names) (plan : List Op) (requests : List Asked) (on : Bus) (r : Task) (asked : Asked) (t : machine.Stage (words_of names))
+    → IsStage names plan requests (stage.Opened true r asked) t → bus_of asked ≡ on → Heeds names on asked t
+heeds_stage names plan requests on r asked machine.AtStart is goes = absurd is
+heeds_stage names plan requests on r asked (machine.Opened heeds of part) is goes =
+    let same : machine.same_bus on (bus_of part.asked) ≡ true = ap (machine.same_bus on) (ap bus_of (sym is.3) ∙ own_bus names asked ∙ goes) ∙ same_is_true on in
+    (part,
+    ap (λ (h : Bool). heeded_on (board_plans names) on (machine.Opened h of part)) is.0 ∙ ap (λ (b : Bool). if b then Some part else None) same,
+    is.3)
+heeds_stage names plan requests on r asked machine.AtEnd is goes = absurd is
+heeds_stage names plan requests on r asked (machine.AtHalt k why) is goes = absurd is
+heeds_stage names plan requests on r asked machine.AtUndone is goes = absurd is
+heeds_stage names plan requests on r asked (machine.AtRefused k code) is goes = absurd is
+
+-- a busy controller's reply is none
+busy_is_none : (names : Names) (a : Answered) (t : machine.Stage (words_of names)) (m : machine.Machine (words_of names)) → is_busy a.code ≡ true → machine.replies (words_of names) a t m ≡ None
+busy_is_none names a machine.AtStart m busy = refl
+busy_is_none names a (machine.Opened true of part) m busy = ap (λ (b : Bool). if b then None else Some (machine.takes (words_of names) a of part m)) busy
+busy_is_none names a (machine.Opened false of part) m busy = refl
+busy_is_none names a machine.AtEnd m busy = refl
+busy_is_none names a (machine.AtHalt k why) m busy = refl
+busy_is_none names a machine.AtUndone m busy = refl
+busy_is_none names a (machine.AtRefused k code) m busy = refl
+
+either : {A : Type 0} (mine passes busy : Bool) (x r : A) → (busy ≡ true → x ≡ r)
+    → (if mine then (if passes && not busy then x else r) else r) ≡ (if mine && passes then x else r)
+either true true true x r same = sym (same refl)
+either true true false x r same = refl
+either true false busy x r same = refl
+either false passes busy x r same = refl
+
+-- ---- a response
+
+pub heard_response : (names : Names) (m : Manager) (s : ManagerState (board_plans names)) (r : Response) (t : Task) (asked : Asked) (passes : Bool) → Shows names m s
+    → m.stage ≡ stage.Opened true t asked → bus_of asked ≡ Ipmb
+    → ipmb_answers (bytes_of (m.counts.ipmb % 64) (own names asked)) (response_bytes r) ≡ (passes && not (is_busy_code r.code))
+    → hears_response (board_plans names) r s ≡ taken_if names (is_answer m.names r && passes) (record { code = r.code; body = r.body }) s
+unfolding hears_response
+heard_response names m s r t asked passes shows was goes test =
+    let P = board_plans names in
+    let a : Answered = record { code = r.code; body = r.body } in
+    let is : Heeds names Ipmb asked s.machine.stage =
+    heeds_stage names m.steps m.undo.requests Ipmb t asked s.machine.stage (subst (λ (x : Stage). IsStage names m.steps m.undo.requests x s.machine.stage) was shows.stage) goes in
+    let taken = taken_or P s (machine.reply_of (words_of names) a s.machine) in
+    let tests : answers (numbers_of Ipmb) (bytes_of (number_of Ipmb s.machine.counts.ipmb) is.0.asked) (response_bytes r) ≡ (passes && not (is_busy_code r.code)) =
+    (λ i. ipmb_answers (bytes_of ((shows.counts i).ipmb % 64) (sym is.2 i)) (response_bytes r)) ∙ test in
+    ap (λ (o : Option (machine.Part (words_of names))). if is_answer s.names r then tested P Ipmb (response_bytes r) s o else rests P s) is.1
+    ∙ (λ i. if is_answer ((shows.is_named ∙ sym shows.named) i) r then (if tests i then taken else rests P s) else rests P s)
+    ∙ either (is_answer m.names r) passes (is_busy_code r.code) taken (rests P s) (λ busy. ap (taken_or P s) (busy_is_none names a s.machine.stage s.machine busy))
+
+-- no request is heeded on the bus
+none_stage : (names : Names) (plan : List Op) (requests : List Asked) (on : Bus) (r : Stage) (t : machine.Stage (words_of names)) → IsStage names plan requests r t
+    → ((k : Task) (asked : Asked) → r ≡ stage.Opened true k asked → bus_of asked ≡ on → ⊥) → heeded_on (board_plans names) on t ≡ None
+none_stage names plan requests on r machine.AtStart is other = refl
+none_stage names plan requests on (stage.Opened heeded k asked) (machine.Opened false of part) is other = refl
+none_stage names plan requests on (stage.Opened heeded k asked) (machine.Opened true of part) is other = at on (bus_of part.asked) (λ same.
+    other k asked (ap (λ (h : Bool). stage.Opened h k asked) (sym is.0)) (sym (own_bus names asked) ∙ ap bus_of is.3 ∙ same)) where
+  at : (on goes : Bus) → (goes ≡ on → ⊥) → (if machine.same_bus on goes then Some part else None) ≡ None
+  at Ipmb Ipmb apart = absurd (apart refl)
+  at Ipmb Smbus apart = refl
+  at Smbus Ipmb apart = refl
+  at Smbus Smbus apart = absurd (apart refl)
+none_stage names plan requests on stage.AtStart (machine.Opened heeds of part) is other = absurd is
+none_stage names plan requests on stage.AtEnd (machine.Opened heeds of part) is other = absurd is
+none_stage names plan requests on (stage.AtHalt k why) (machine.Opened heeds of part) is other = absurd is
+none_stage names plan requests on stage.AtUndone (machine.Opened heeds of part) is other = absurd is
+none_stage names plan requests on (stage.AtRefused k code) (machine.Opened heeds of part) is other = absurd is
+none_stage names plan requests on r machine.AtEnd is other = refl
+none_stage names plan requests on r (machine.AtHalt k why) is other = refl
+none_stage names plan requests on r machine.AtUndone is other = refl
+none_stage names plan requests on r (machine.AtRefused k code) is other = refl
+
+pub no_response : (names : Names) (m : Manager) (s : ManagerState (board_plans names)) (r : Response) → Shows names m s
+    → ((k : Task) (asked : Asked) → m.stage ≡ stage.Opened true k asked → bus_of asked ≡ Ipmb → ⊥) → hears_response (board_plans names) r s ≡ rests (board_plans names) s
+unfolding hears_response
+no_response names m s r shows other =
+    ap (λ (o : Option (machine.Part (words_of names))). if is_answer s.names r then tested (board_plans names) Ipmb (response_bytes r) s o else rests (board_plans names) s)
+    (none_stage names m.steps m.undo.requests Ipmb m.stage s.machine.stage shows.stage other)
+    ∙ at (is_answer s.names r) where
+  at : (b : Bool) → (if b then rests (board_plans names) s else rests (board_plans names) s) ≡ rests (board_plans names) s
+  at true = refl
+  at false = refl
+
+-- one from elsewhere is nothing
+pub other_response : (names : Names) (m : Manager) (s : ManagerState (board_plans names)) (r : Response) → Shows names m s → is_answer m.names r ≡ false
+    → hears_response (board_plans names) r s ≡ rests (board_plans names) s
+unfolding hears_response
+other_response names m s r shows other =
+    (λ i. if is_answer ((shows.is_named ∙ sym shows.named) i) r then hears_reply (board_plans names) Ipmb (response_bytes r) s else rests (board_plans names) s)
+    ∙ ap (λ (b : Bool). if b then hears_reply (board_plans names) Ipmb (response_bytes r) s else rests (board_plans names) s) other
