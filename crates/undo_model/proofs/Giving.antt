@@ -2,7 +2,7 @@
 use Rattle.std.proofs.Common.{ℕ, List}
 use Rattle.two_wire.specs.declared.Bus.{Bus}
 use Rattle.undo_model.specs.Family.{Family, SetsTo}
-use Rattle.undo_model.specs.Laws.{Showed, IsFamily}
+use Rattle.undo_model.specs.IsFamily.{Showed, IsFamily}
 use Rattle.undo_model.specs.Wires.{Wires}
 use Rattle.undo_model.specs.Line.{Line}
 use Rattle.undo_model.specs.Giving.{Giving, giving, HaltsByGiven}
