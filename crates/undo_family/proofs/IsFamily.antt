@@ -92,10 +92,8 @@ valid_where setup records key new all is k false e v at = all k v at
 read_as : (setup : BoardFile) (before : State) (asked : Asked) (request : Request) (answered : BoardAnswer) (after : State) → asked_by asked ≡ Ok request → Row setup before asked answered after → Serves setup before request answered after
 read_as setup before asked request answered after is row = subst (λ (r : Result Request ℕ). Replies setup before r answered after) is row
 
-get_served : (setup : BoardFile) (at : Bus → Addresses) (before : State) (key : Key) (answered : BoardAnswer) (after : State) → Row setup before (from_manager at (get_asked key)) answered after → Serves setup before (Get key) answered after
-get_served setup at before key answered after row =
-    let from = (at (bus_of (get_asked key))).manager in
-    read_as setup before (from_manager at (get_asked key)) (Get key) answered after (is_read_from_all from (get_asked key) ∙ (gets_are_read key).is_read) row
+get_is_read : (at : Bus → Addresses) (key : Key) → asked_by (from_manager at (get_asked key)) ≡ Ok (Get key)
+get_is_read at key = is_read_from_all (at (bus_of (get_asked key))).manager (get_asked key) ∙ (gets_are_read key).is_read
 
 set_served : (setup : BoardFile) (at : Bus → Addresses) (before : State) (op : Op) (answered : BoardAnswer) (after : State) → Row setup before (from_manager at (set_asked op)) answered after → Serves setup before (Set op) answered after
 set_served setup at before op answered after row =
@@ -108,10 +106,10 @@ shows_within : (limits : Option Limits) (value : Option (List ℕ)) (live : Live
 shows_within limits value live shown s =
     subst (λ (l : Option Limits). ShowsWithin l s.old shown.body) (sym s.limits_are) (live, ap (λ (a : BoardAnswer). a.body) s.body_is)
 
-get_shows : (setup : BoardFile) (at : Bus → Addresses) (before : State) (key : Key) (a : Answered) (after : State) → Row setup before (from_manager at (get_asked key)) (board_answer a) after → a.code ≡ success
+get_shows : (setup : BoardFile) (at : Bus → Addresses) (before : State) (asked : Asked) (key : Key) (a : Answered) (after : State) → asked_by asked ≡ Ok (Get key) → Row setup before asked (board_answer a) after → a.code ≡ success
     → Showed (family setup at) key a.body before.records
-get_shows setup at before key a after row carried =
-    let served = get_served setup at before key (board_answer a) after row in
+get_shows setup at before asked key a after is row carried =
+    let served = read_as setup before asked (Get key) (board_answer a) after is row in
     let s = shows (limits_at setup key) (before.records key) before.activity.live (unknown_code setup key) (board_answer a) (unknown_is_fault setup key) (ap (λ (g : Given). g.0) served) carried in
     record { value = s.old; found = s.value_is; shows = shows_within (limits_at setup key) (before.records key) before.activity.live (board_answer a) s }
 
@@ -189,8 +187,9 @@ is_family setup at = record {
   restores = λ op back value body is_valid shown is. restores_from op back body is;
   refuses = λ op value body is_valid shown none. refuses_within (limits_at setup (key_of op)) op value body (limits_are_of setup (key_of op)) is_valid shown none;
   steady = λ key value body other is_valid shown again. steady_within (limits_at setup key) value body other shown again;
-  gets_keep = λ board after key a row. ap (λ (g : Given). g.1.records) (get_served setup at board key (board_answer a) after row);
-  gets_show = λ board after key a row carried. get_shows setup at board key a after row carried;
+  gets_are = get_is_read at;
+  gets_keep = λ board after asked key a is row. ap (λ (g : Given). g.1.records) (read_as setup board asked (Get key) (board_answer a) after is row);
+  gets_show = λ board after asked key a is row carried. get_shows setup at board asked key a after is row carried;
   sets_do = λ board after op a row carried. set_does setup at board op a.code after (set_tells setup at board op a after row) carried;
   refusals_keep = λ board after op a row ne. (set_tells setup at board op a after row).keeps ne;
   refusals_say = λ board after op a row ne r s. (set_tells setup at board op a after row).says ne s.before s.after s.found s.sets;

@@ -1,5 +1,5 @@
 -- The records of a board and its commands, as a family of kinds of record.
-use Rattle.std.specs.Prelude.{◌≡◌, ℕ, List, [], Option, Some, None, slice_get, unwrap_or}
+use Rattle.std.specs.Prelude.{◌≡◌, ℕ, List, [], Option, Some, None, Ok, slice_get, unwrap_or}
 use Rattle.two_wire.specs.declared.Bus.{Bus}
 use Rattle.two_wire.specs.declared.Bus.TheVariants.{Ipmb, Smbus}
 use Rattle.cfg_records.specs.declared.key.Key.{Key}
@@ -13,6 +13,7 @@ use Rattle.cfg_records.specs.Records.{Records, with_record}
 use Rattle.record_kinds.specs.declared.limits.Limits.{Limits}
 use Rattle.record_kinds.specs.Limits.{key_of, get_asked, set_asked, restorable, inverse, valid, sets, view, conf}
 use Rattle.record_kinds.specs.Boards.{limits_at}
+use Rattle.bmc_board.specs.Request.{Get, asked_by}
 use Rattle.bmc_board.specs.State.{State}
 use Rattle.bmc_board.specs.Answer.{answer_of}
 use Rattle.bmc_board.specs.Row.{Row}
@@ -91,6 +92,7 @@ family setup at = record {
   Restorable = restorable;
   Board = State;
   records = λ board. board.records;
+  IsGet = λ asked key. asked_by asked ≡ Ok (Get key);
   Row = λ board asked a after. Row setup board asked (board_answer a) after;
 }
 

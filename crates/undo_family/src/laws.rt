@@ -5,12 +5,13 @@ ghost use Rattle.two_wire.specs.declared.Bus.{Bus};
 ghost use Rattle.cfg_records.specs.declared.board_file.BoardFile.{BoardFile};
 ghost use Rattle.bus_model.specs.Packet.{Packet, IsCutting};
 ghost use Rattle.undo_model.specs.IsFamily.{IsFamily};
-ghost use Rattle.undo_model.specs.TwoBuses.{Addresses, in_messages, with_packets};
+ghost use Rattle.undo_model.specs.TwoBuses.{Addresses, in_messages, with_packets, messages_come, packets_come};
 ghost use Rattle.undo_model.specs.Headline.{AlwaysStands, UndoneForGood, StopsOnlyIfTold};
-ghost use Rattle.undo_model.specs.Giving.{HaltsByGiven};
+ghost use Rattle.undo_model.specs.Giving.{HaltsByAnswers};
 ghost use Rattle.undo_model.specs.RecordsRun.{RecordsStand};
 ghost use Rattle.undo_model.specs.Resume.{GoesOnAlike};
 ghost use Rattle.undo_model.specs.Clean.{AnswersByRow, AlwaysRunsClean};
+ghost use Rattle.undo_model.specs.CleanBuses.{AlwaysRunsOverBuses};
 ghost use Rattle.undo_family.specs.Family.{manager_words, family, answer};
 ghost use Rattle.undo_family.specs.ManagerWires.{wires};
 ghost use Rattle.undo_family.specs.Spelled.{AreSpelled};
@@ -34,15 +35,15 @@ pub fn phases_stand()
     ensures packets { (setup : BoardFile) (at : Bus → Addresses) (split : List ℕ → List Packet) → IsCutting split → AlwaysStands (family setup at) (with_packets at split) (wires at) }
 {}
 
-/// A halt has its cause among the answers that the board gave in that schedule. This is said of any list that has all the answers of a
-/// schedule: take just those.
+/// A halt has its cause in its own schedule. Refused, GetRefused and NotRestorable come only where the board gave that answer to the Set or to the
+/// Get of that step, at the records after the steps before it; Stop comes only where the manager was told to stop, or another went on from its list.
 pub fn halts_by_given_answers()
-    ensures messages { (setup : BoardFile) (at : Bus → Addresses) → HaltsByGiven (family setup at) (in_messages at) (wires at) }
-    ensures packets { (setup : BoardFile) (at : Bus → Addresses) (split : List ℕ → List Packet) → IsCutting split → HaltsByGiven (family setup at) (with_packets at split) (wires at) }
+    ensures messages { (setup : BoardFile) (at : Bus → Addresses) → HaltsByAnswers (family setup at) (in_messages at) (wires at) }
+    ensures packets { (setup : BoardFile) (at : Bus → Addresses) (split : List ℕ → List Packet) → IsCutting split → HaltsByAnswers (family setup at) (with_packets at split) (wires at) }
 {}
 
-/// Once a plan is undone, and at every moment from then on, every record is what it was before the plan, and each Get as the
-/// manager asks it shows the same configuration.
+/// Once a plan is undone, and at every moment from then on, every record is what it was before the plan, and each Get that is carried out,
+/// whoever asks it, shows the same configuration.
 pub fn undone_is_for_good()
     ensures messages { (setup : BoardFile) (at : Bus → Addresses) → UndoneForGood (family setup at) (in_messages at) (wires at) }
     ensures packets { (setup : BoardFile) (at : Bus → Addresses) (split : List ℕ → List Packet) → IsCutting split → UndoneForGood (family setup at) (with_packets at split) (wires at) }
@@ -66,6 +67,13 @@ pub fn resumed_goes_on_alike()
 pub fn plans_run_clean()
     ensures answers { (setup : BoardFile) (at : Bus → Addresses) → AnswersByRow (family setup at) (answer setup) }
     ensures clean { (setup : BoardFile) (at : Bus → Addresses) → AlwaysRunsClean (family setup at) (answer setup) }
+{}
+
+/// Over two buses that lose nothing a plan runs just so: each request is delivered once, each reply is delivered once, nobody else asks, and such a
+/// schedule is honest. The port of each bus is to have a place for the manager at the start, and what is sent in packets is to be cut.
+pub fn plans_run_clean_over_buses()
+    ensures messages { (setup : BoardFile) (at : Bus → Addresses) → AlwaysRunsOverBuses (family setup at) (in_messages at) (messages_come at) (wires at) (answer setup) }
+    ensures packets { (setup : BoardFile) (at : Bus → Addresses) (split : List ℕ → List Packet) → IsCutting split → AlwaysRunsOverBuses (family setup at) (with_packets at split) (packets_come at split) (wires at) (answer setup) }
 {}
 
 /// The manager's requests are requests on their bus, IPMI on IPMB and PLDM on SMBus, each under its number; and a reply to one is a reply

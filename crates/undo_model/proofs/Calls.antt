@@ -23,8 +23,8 @@ module _ (F : Family) (laws : IsFamily F) (plan : List F.words.Op) (start : F.Re
   got : (b after : F.Board) (a : Answered) (k : ℕ) (op : F.words.Op) (undo : List F.words.Series) → TaskSound F plan start own (Gets k op) None undo (F.records b) → F.Row b (get_asked F.words (F.words.key_of op)) a after
       → TaskSound F plan start own (Gets k op) (Some a) undo (F.records after)
   got b after a k op undo t row =
-      let same : F.records b ≡ F.records after = sym (laws.gets_keep b after (F.words.key_of op) a row) in
-      (t.0, subst (CanUndo F plan start k undo) same t.1, (b, after, same, row), λ e. subst (Showed F (F.words.key_of op) a.body) same (laws.gets_show b after (F.words.key_of op) a row e))
+      let same : F.records b ≡ F.records after = sym (laws.gets_keep b after (get_asked F.words (F.words.key_of op)) (F.words.key_of op) a (laws.gets_are (F.words.key_of op)) row) in
+      (t.0, subst (CanUndo F plan start k undo) same t.1, (b, after, same, row), λ e. subst (Showed F (F.words.key_of op) a.body) same (laws.gets_show b after (get_asked F.words (F.words.key_of op)) (F.words.key_of op) a (laws.gets_are (F.words.key_of op)) row e))
 
   set : (b after : F.Board) (a : Answered) (k : ℕ) (op back : F.words.Op) (undo : List F.words.Series) → TaskSound F plan start own (Sets k op back) None undo (F.records b) → F.Row b (set_asked F.words op) a after
       → TaskSound F plan start own (Sets k op back) (Some a) undo (F.records after)
@@ -66,7 +66,7 @@ module _ (F : Family) (laws : IsFamily F) (plan : List F.words.Op) (start : F.Re
   -- a task's request keeps the records valid
   pub carried_valid : (b after : F.Board) (a : Answered) (task : Task F.words) (undo : List F.words.Series) → TaskSound F plan start own task None undo (F.records b) → AllValid F (F.records b)
       → F.Row b (first_part F.words task).asked a after → AllValid F (F.records after)
-  carried_valid b after a (Gets k op) undo t valid row = subst (AllValid F) (sym (laws.gets_keep b after (F.words.key_of op) a row)) valid
+  carried_valid b after a (Gets k op) undo t valid row = subst (AllValid F) (sym (laws.gets_keep b after (get_asked F.words (F.words.key_of op)) (F.words.key_of op) a (laws.gets_are (F.words.key_of op)) row)) valid
   carried_valid b after a (Sets k op back) undo t valid row = set_valid b after a op valid row
   carried_valid b after a (Undoes first rest) undo t valid row = set_valid b after a t.2.back valid (subst (λ (x : F.words.Series). F.Row b (F.words.first x) a after) t.2.series row)
 

@@ -24,18 +24,18 @@ one_more_answered Smbus c = omega arith
 
 module _ (F : Family) (laws : IsFamily F) (answer : F.Board → F.words.Asked → Answered × F.Board) (by_row : AnswersByRow F answer) (plan : List F.words.Op) (start : F.Records) where
   -- a stage that was just entered
-  abbrev at_stage : Stage F.words → Machine F.words → F.Board → Moment F
+  abbrev pub at_stage : Stage F.words → Machine F.words → F.Board → Moment F
   at_stage stage m b = record { turn = enters F.words stage m; board = b }
 
-  record Good (stage : Stage F.words) (m : Machine F.words) (b : F.Board) : Type 0 where
-    sound : StageSound F plan start m.plan stage None m.stopped m.undo (F.records b)
-    valid : AllValid F (F.records b)
+  pub record Good (stage : Stage F.words) (m : Machine F.words) (b : F.Board) : Type 0 where
+    pub sound : StageSound F plan start m.plan stage None m.stopped m.undo (F.records b)
+    pub valid : AllValid F (F.records b)
 
   -- the machine after the reply to a task
-  abbrev replied : Task F.words → Machine F.words → Answered → Machine F.words
+  abbrev pub replied : Task F.words → Machine F.words → Answered → Machine F.words
   replied task m a = record m { stage = begun F.words task; resent = 0; undo = undo_after_one F.words a task m.undo; counts = one_answered (bus_at F.words (first_part F.words task)) m.counts }
 
-  one_task : (task : Task F.words) (m : Machine F.words) (b : F.Board) → let r = answer b (first_part F.words task).asked in
+  pub one_task : (task : Task F.words) (m : Machine F.words) (b : F.Board) → let r = answer b (first_part F.words task).asked in
       one F answer (at_stage (begun F.words task) m b) ≡ at_stage (stage_after_one F.words m.stopped m.plan r.0 task) (replied task m r.0) r.1
   one_task task m b =
       let part = first_part F.words task in
@@ -46,7 +46,7 @@ module _ (F : Family) (laws : IsFamily F) (answer : F.Board → F.words.Asked �
       ap (λ (busy : Bool). told F answer (if busy then None else Some (takes F.words r.0 task part before)) r.1 (at_stage (begun F.words task) m b)) (laws.never_busy b r.1 part.asked r.0 (by_row b part.asked))
       ∙ (λ i. at_stage (stage i) (record before { undo = undo i; counts = one_answered (bus_at F.words part) m.counts }) r.1)
 
-  task_good : (task : Task F.words) (m : Machine F.words) (b : F.Board) → Good (begun F.words task) m b → let r = answer b (first_part F.words task).asked in
+  pub task_good : (task : Task F.words) (m : Machine F.words) (b : F.Board) → Good (begun F.words task) m b → let r = answer b (first_part F.words task).asked in
       Good (stage_after_one F.words m.stopped m.plan r.0 task) (replied task m r.0) r.1
   task_good task m b h =
       let r = answer b (first_part F.words task).asked in
@@ -57,7 +57,7 @@ module _ (F : Family) (laws : IsFamily F) (answer : F.Board → F.words.Asked �
   -- ---- what a Get shows
 
   shows : (op : F.words.Op) (b : F.Board) → (got F answer b op).0.code ≡ success → Showed F (F.words.key_of op) (got F answer b op).0.body (F.records b)
-  shows op b read = let r = got F answer b op in laws.gets_show b r.1 (F.words.key_of op) r.0 (by_row b (get_asked F.words (F.words.key_of op))) read
+  shows op b read = let r = got F answer b op in laws.gets_show b r.1 (get_asked F.words (F.words.key_of op)) (F.words.key_of op) r.0 (laws.gets_are (F.words.key_of op)) (by_row b (get_asked F.words (F.words.key_of op))) read
 
   restorable : (op back : F.words.Op) (b : F.Board) → AllValid F (F.records b) → (got F answer b op).0.code ≡ success → F.words.inverse op (got F answer b op).0.body ≡ Some back → F.Restorable op (got F answer b op).0.body
   restorable op back b valid read is =

@@ -14,11 +14,11 @@ use Rattle.bus_model.specs.PacketSchedule.{LiveWhereJoined}
 use Rattle.bus_model.proofs.Decides.{is_honest, is_honest-tells}
 use Rattle.bus_model.proofs.PacketDecides.{is_packet_honest, all_packet_honest-tells}
 use Rattle.bus_model.proofs.PacketLaws.{event_implies, live_is_recent}
-use Rattle.undo_model.specs.Words.{Answered}
+use Rattle.undo_model.specs.Wires.{Wires}
 use Rattle.undo_model.specs.Line.{Exchange, Line, whole, packets, IsOutsideWhole, IsOutsidePackets}
 use Rattle.undo_model.specs.World.{World, Happening, Start, Quiet, Stop, Again, Undo, Resume, ToManager, OnBus, OnBench, BoardMay, May, AllMay, happens, opening}
-use Rattle.undo_model.specs.Registers.{Halves, Board, answer, asked_from, registers, wires}
-use Rattle.undo_model.specs.Example.{EndsUndone, board, plan, messages, quiet_messages, by_message, mixed, quiet_mixed, by_packet, run_and_undo, run_resume_undo}
+use Rattle.undo_model.specs.Registers.{Halves, Asked, Board, answer, register_words, registers, wires}
+use Rattle.undo_model.specs.Example.{EndsUndone, board, plan, messages, quiet_messages, by_message, mixed, quiet_mixed, long_wires, by_packet, run_and_undo, run_resume_undo}
 
 -- ---- an event is honest, and none of the manager's doing
 
@@ -96,23 +96,21 @@ same_board-tells b c t =
     let requests : b.requests ≡ c.requests = eqb-true b.requests c.requests parts.1 in
     λ i. record { registers = halves i; requests = requests i }
 
--- what a board answers to bytes, and what it becomes
-abbrev answered : Board → List ℕ → Answered
-answered b bytes = (answer b (asked_from bytes)).0
+-- what a board becomes
+abbrev board_after : Board → Asked → Board
+board_after b asked = record { registers = (answer b asked).1; requests = suc b.requests }
 
-abbrev board_after : Board → List ℕ → Board
-board_after b bytes = record { registers = (answer b (asked_from bytes)).1; requests = suc b.requests }
-
-module _ (L : Bus → Line) (T : Tests L) where
+module _ (L : Bus → Line) (T : Tests L) (W : Wires register_words) where
   abbrev board_may : Bus → Option Exchange → Board → Board → Bool
   board_may bus None b after = same_halves after.registers b.registers
-  board_may bus (Some x) b after = bytes_eq x.reply (wires.reply_to bus x.bytes (answered b x.bytes)) && same_board after (board_after b x.bytes)
+  board_may bus (Some x) b after = bytes_eq x.reply (W.reply_to bus x.bytes (answer b (W.asked_from bus x.bytes)).0) && same_board after (board_after b (W.asked_from bus x.bytes))
 
-  board_may-tells : (bus : Bus) (o : Option Exchange) (b after : Board) → board_may bus o b after ≡ true → BoardMay registers L wires bus o b after
+  board_may-tells : (bus : Bus) (o : Option Exchange) (b after : Board) → board_may bus o b after ≡ true → BoardMay registers L W bus o b after
   board_may-tells bus None b after t = same_halves-tells after.registers b.registers t
   board_may-tells bus (Some x) b after t =
       let parts = and_parts _ _ t in
-      (answered b x.bytes, (bytes_eq-Decides x.reply (wires.reply_to bus x.bytes (answered b x.bytes))).0 parts.0, (refl, same_board-tells after (board_after b x.bytes) parts.1))
+      let asked = W.asked_from bus x.bytes in
+      ((answer b asked).0, (bytes_eq-Decides x.reply (W.reply_to bus x.bytes (answer b asked).0)).0 parts.0, (refl, same_board-tells after (board_after b asked) parts.1))
 
   abbrev may : World registers L → Happening registers L → Bool
   may w (ToManager bus e) = T.test bus (w.on bus) e && (L bus).is_to_manager e
@@ -125,7 +123,7 @@ module _ (L : Bus → Line) (T : Tests L) where
   may w Undo = true
   may w (Resume retries) = true
 
-  may-tells : (w : World registers L) (e : Happening registers L) → may w e ≡ true → May registers L wires w e
+  may-tells : (w : World registers L) (e : Happening registers L) → may w e ≡ true → May registers L W w e
   may-tells w (ToManager bus e) t = let parts = and_parts _ _ t in (T.tells bus (w.on bus) e parts.0, parts.1)
   may-tells w (OnBus bus e after) t =
       let parts = and_parts _ _ t in
@@ -141,11 +139,11 @@ module _ (L : Bus → Line) (T : Tests L) where
 
   abbrev all_may : List (Happening registers L) → World registers L → Bool
   all_may [] w = true
-  all_may (e ∷ es) w = may w e && all_may es (happens registers L wires w e)
+  all_may (e ∷ es) w = may w e && all_may es (happens registers L W w e)
 
-  all_may-tells : (events : List (Happening registers L)) (w : World registers L) → all_may events w ≡ true → AllMay registers L wires events w
+  all_may-tells : (events : List (Happening registers L)) (w : World registers L) → all_may events w ≡ true → AllMay registers L W events w
   all_may-tells [] w t = tt
-  all_may-tells (e ∷ es) w t = let parts = and_parts _ _ t in (may-tells w e parts.0, all_may-tells es (happens registers L wires w e) parts.1)
+  all_may-tells (e ∷ es) w t = let parts = and_parts _ _ t in (may-tells w e parts.0, all_may-tells es (happens registers L W w e) parts.1)
 
 -- ---- the runs
 
@@ -160,16 +158,16 @@ message_tells Smbus s e t = whole_tells (smbus 8 10 0) s e t
 abbrev message_tests : Tests messages
 message_tests = record { test = message_test; tells = message_tells }
 
-pub message_run : EndsUndone messages quiet_messages (run_and_undo messages by_message)
+pub message_run : EndsUndone messages wires quiet_messages (run_and_undo messages by_message)
 message_run = record {
-  may = all_may-tells messages message_tests (run_and_undo messages by_message) (opening registers messages plan 1 quiet_messages (board 1 9 0)) refl;
+  may = all_may-tells messages message_tests wires (run_and_undo messages by_message) (opening registers messages plan 1 quiet_messages (board 1 9 0)) refl;
   phase = refl;
   records = refl;
 }
 
-pub message_resume : EndsUndone messages quiet_messages (run_resume_undo messages by_message)
+pub message_resume : EndsUndone messages wires quiet_messages (run_resume_undo messages by_message)
 message_resume = record {
-  may = all_may-tells messages message_tests (run_resume_undo messages by_message) (opening registers messages plan 1 quiet_messages (board 1 9 0)) refl;
+  may = all_may-tells messages message_tests wires (run_resume_undo messages by_message) (opening registers messages plan 1 quiet_messages (board 1 9 0)) refl;
   phase = refl;
   records = refl;
 }
@@ -188,16 +186,16 @@ mixed_tells Smbus x e t = packets_tell packet_bus x e t
 abbrev mixed_tests : Tests mixed
 mixed_tests = record { test = mixed_test; tells = mixed_tells }
 
-pub mixed_run : EndsUndone mixed quiet_mixed (run_and_undo mixed by_packet)
+pub mixed_run : EndsUndone mixed long_wires quiet_mixed (run_and_undo mixed by_packet)
 mixed_run = record {
-  may = all_may-tells mixed mixed_tests (run_and_undo mixed by_packet) (opening registers mixed plan 1 quiet_mixed (board 1 9 0)) refl;
+  may = all_may-tells mixed mixed_tests long_wires (run_and_undo mixed by_packet) (opening registers mixed plan 1 quiet_mixed (board 1 9 0)) refl;
   phase = refl;
   records = refl;
 }
 
-pub mixed_resume : EndsUndone mixed quiet_mixed (run_resume_undo mixed by_packet)
+pub mixed_resume : EndsUndone mixed long_wires quiet_mixed (run_resume_undo mixed by_packet)
 mixed_resume = record {
-  may = all_may-tells mixed mixed_tests (run_resume_undo mixed by_packet) (opening registers mixed plan 1 quiet_mixed (board 1 9 0)) refl;
+  may = all_may-tells mixed mixed_tests long_wires (run_resume_undo mixed by_packet) (opening registers mixed plan 1 quiet_mixed (board 1 9 0)) refl;
   phase = refl;
   records = refl;
 }

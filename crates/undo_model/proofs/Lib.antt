@@ -16,4 +16,8 @@ pub mod Clean
 pub mod RecordsRun
 pub mod NumberedLaws
 pub mod Giving
+pub mod Delivery
+pub mod CleanBuses
 pub mod SeriesExample
+pub mod PacketDelivery
+pub mod RegistersFit

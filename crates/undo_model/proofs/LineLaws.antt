@@ -37,7 +37,7 @@ pub record IsLine (L : Line) : Type 1 where
   pub on_bus : (s : L.State) (e : L.Event) → Holds s → L.IsOutside e → L.is_to_manager e ≡ false → L.IsHonest s e
       → MatchOption (L.carries s e) (SameRequests (L.requests s) (L.requests (L.happens s e))) (λ x. IsCarried (L.requests s) (L.requests (L.happens s e)) x.bytes x.reply)
 
-closed_is : (s : BusState) → IsClosed s → is_open s ≡ false
+pub closed_is : (s : BusState) → IsClosed s → is_open s ≡ false
 closed_is s closed = le-ltb _ _ closed
 
 exchanged : (o : Option (List ℕ)) (answer : List ℕ) (old new : BusState) → MatchOption o (SameRequests old new) (λ bytes. IsCarried old new bytes answer)
@@ -52,7 +52,7 @@ module _ (b : Rules) (numbers : IsNumbering b) where
   begun_whole s bytes h closed =
       subst (λ (o : Bool). MatchBool o (SameRequests s ((whole b).happens s (Begins bytes))) (IsBegun s ((whole b).happens s (Begins bytes)) bytes)) (closed_is s closed) (begins_effect b numbers s h bytes)
 
-  to_manager_whole : (s : BusState) (e : Event) → Holds b s → (whole b).IsOutside e → (whole b).is_to_manager e ≡ true → (whole b).IsHonest s e
+  pub to_manager_whole : (s : BusState) (e : Event) → Holds b s → (whole b).IsOutside e → (whole b).is_to_manager e ≡ true → (whole b).IsHonest s e
       → MatchOption ((whole b).brings s e) (SameRequests s ((whole b).happens s e)) (IsTaken s ((whole b).happens s e))
   to_manager_whole s (Begins bytes) h outside t honest = absurd outside
   to_manager_whole s SendsAgain h outside t honest = absurd outside
@@ -63,7 +63,7 @@ module _ (b : Rules) (numbers : IsNumbering b) where
   to_manager_whole s (IsIdle requester) h outside t honest = absurd (false≢true t)
   to_manager_whole s Resumes h outside t honest = absurd outside
 
-  on_bus_whole : (s : BusState) (e : Event) → Holds b s → (whole b).IsOutside e → (whole b).is_to_manager e ≡ false → (whole b).IsHonest s e
+  pub on_bus_whole : (s : BusState) (e : Event) → Holds b s → (whole b).IsOutside e → (whole b).is_to_manager e ≡ false → (whole b).IsHonest s e
       → MatchOption ((whole b).carries s e) (SameRequests s ((whole b).happens s e)) (λ x. IsCarried s ((whole b).happens s e) x.bytes x.reply)
   on_bus_whole s (Begins bytes) h outside t honest = absurd outside
   on_bus_whole s SendsAgain h outside t honest = absurd outside
@@ -74,7 +74,7 @@ module _ (b : Rules) (numbers : IsNumbering b) where
   on_bus_whole s (IsIdle requester) h outside t honest = has_effect b numbers s (IsIdle requester) h honest
   on_bus_whole s Resumes h outside t honest = absurd outside
 
-  pub whole_is_line : IsLine (whole b)
+  unfoldable pub whole_is_line : IsLine (whole b)
   whole_is_line = record {
     Holds = Holds b;
     starts = λ s start. (start_holds b s start.0 start.1, start.0);
@@ -93,13 +93,13 @@ module _ (b : Rules) (numbers : IsNumbering b) where
 
 module _ (b : PacketBus) (cutting : IsCutting b.split) where
   -- over a port that did this before the start
-  abbrev AllHold : Ends → Type 0
+  abbrev pub AllHold : Ends → Type 0
   AllHold x = (before : List Entry) × EndsHold b cutting before x
 
-  step : (x : Ends) (e : PacketEvent) → AllHold x → IsPacketHonest RecentWhereWhole b x e → AllHold (packet_happens b x e)
+  pub step : (x : Ends) (e : PacketEvent) → AllHold x → IsPacketHonest RecentWhereWhole b x e → AllHold (packet_happens b x e)
   step x e h honest = (h.0, (packet_step b cutting h.0 x e h.1 honest).0)
 
-  effect : (x : Ends) (e : PacketEvent) → AllHold x → IsPacketHonest RecentWhereWhole b x e → HasPacketEffect b x e
+  pub effect : (x : Ends) (e : PacketEvent) → AllHold x → IsPacketHonest RecentWhereWhole b x e → HasPacketEffect b x e
   effect x e h honest = (packet_step b cutting h.0 x e h.1 honest).1
 
   at_manager : (x : Ends) (place : ℕ) (new : BusState) (o : Option Frame) → FrameAtManager b x place new o → MatchOption (brought_at b x place o) (SameRequests x.bus new) (IsTaken x.bus new)
@@ -121,7 +121,7 @@ module _ (b : PacketBus) (cutting : IsCutting b.split) where
   plain_to_manager x (IsIdle requester) h outside t honest = absurd (false≢true t)
   plain_to_manager x Resumes h outside t honest = absurd outside
 
-  to_manager_packets : (x : Ends) (e : PacketEvent) → AllHold x → (packets b).IsOutside e → (packets b).is_to_manager e ≡ true → IsPacketHonest RecentWhereWhole b x e
+  pub to_manager_packets : (x : Ends) (e : PacketEvent) → AllHold x → (packets b).IsOutside e → (packets b).is_to_manager e ≡ true → IsPacketHonest RecentWhereWhole b x e
       → MatchOption ((packets b).brings x e) (SameRequests x.bus (packet_happens b x e).bus) (IsTaken x.bus (packet_happens b x e).bus)
   to_manager_packets x (Plain e) h outside t honest = plain_to_manager x e h outside t honest
   to_manager_packets x (PacketReachesPort which place answer) h outside t honest = absurd (false≢true t)
@@ -143,7 +143,7 @@ module _ (b : PacketBus) (cutting : IsCutting b.split) where
   plain_on_bus x (IsIdle requester) h outside t honest = (effect x (Plain (IsIdle requester)) h honest)
   plain_on_bus x Resumes h outside t honest = absurd outside
 
-  on_bus_packets : (x : Ends) (e : PacketEvent) → AllHold x → (packets b).IsOutside e → (packets b).is_to_manager e ≡ false → IsPacketHonest RecentWhereWhole b x e
+  pub on_bus_packets : (x : Ends) (e : PacketEvent) → AllHold x → (packets b).IsOutside e → (packets b).is_to_manager e ≡ false → IsPacketHonest RecentWhereWhole b x e
       → MatchOption ((packets b).carries x e) (SameRequests x.bus (packet_happens b x e).bus) (λ y. IsCarried x.bus (packet_happens b x e).bus y.bytes y.reply)
   on_bus_packets x (Plain e) h outside t honest = plain_on_bus x e h outside t honest
   on_bus_packets x (PacketReachesPort which place answer) h outside t honest =
@@ -155,7 +155,7 @@ module _ (b : PacketBus) (cutting : IsCutting b.split) where
   on_bus_packets x Clears h outside t honest = (effect x Clears h honest)
   on_bus_packets x PacketResumes h outside t honest = absurd outside
 
-  pub packets_are_line : IsLine (packets b)
+  unfoldable pub packets_are_line : IsLine (packets b)
   packets_are_line = record {
     Holds = AllHold;
     starts = λ x start. ((x.bus.log, start_ends_hold b cutting x start.0 start.1 start.2), start.0);

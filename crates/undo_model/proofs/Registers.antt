@@ -181,8 +181,9 @@ registers_are_family = record {
   restores = λ w to v body valid shows e. restores w to body e;
   refuses = λ w v body valid shows e. refuses w body e;
   steady = λ key v body other valid shows again. ap configuration shows.1 ∙ steady_at v shows.0 again.0 (key == 2) ∙ sym (ap configuration again.1);
-  gets_keep = λ b after key a row. registers_after after b.registers (suc b.requests) row.1;
-  gets_show = λ b after key a row. get_shows b key a (slice_get b.registers key) refl row.0;
+  gets_are = λ key. refl;
+  gets_keep = λ b after asked key a is row. registers_after after b.registers (suc b.requests) (subst (λ (x : Asked). Row b x a after) is row).1;
+  gets_show = λ b after asked key a is row. get_shows b key a (slice_get b.registers key) refl (subst (λ (x : Asked). Row b x a after) is row).0;
   sets_do = λ b after w a row. does b after w a (slice_get b.registers w.register) refl (tells b after w a row);
   refusals_keep = λ b after w a row. keeps b after w a (slice_get b.registers w.register) (tells b after w a row);
   refusals_say = λ b after w a row. says b after w a (slice_get b.registers w.register) refl (tells b after w a row);

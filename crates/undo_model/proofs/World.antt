@@ -40,11 +40,11 @@ pub round : (bus : Bus) (c : Counts) → number_of bus (count_of bus (record { i
 round Ipmb c = omega arith
 round Smbus c = omega arith
 
-count_here : (bus : Bus) (c : Counts) → count_of bus (one_answered bus c) ≡ count_of bus c + 1
+pub count_here : (bus : Bus) (c : Counts) → count_of bus (one_answered bus c) ≡ count_of bus c + 1
 count_here Ipmb c = omega arith
 count_here Smbus c = omega arith
 
-count_there : (bus other : Bus) (c : Counts) → (other ≡ bus → ⊥) → count_of other (one_answered bus c) ≡ count_of other c
+pub count_there : (bus other : Bus) (c : Counts) → (other ≡ bus → ⊥) → count_of other (one_answered bus c) ≡ count_of other c
 count_there Ipmb Ipmb c ne = absurd (ne refl)
 count_there Ipmb Smbus c ne = refl
 count_there Smbus Ipmb c ne = refl
@@ -57,11 +57,11 @@ module _ (F : Family) (laws : IsFamily F) (L : Bus → Line) (lines : (bus : Bus
   abbrev pub AllHold : States L → Type 0
   AllHold on = (bus : Bus) → (lines bus).Holds (on bus)
 
-  here : (bus : Bus) (s : (L bus).State) (on : States L) → update L bus s on bus ≡ s
+  pub here : (bus : Bus) (s : (L bus).State) (on : States L) → update L bus s on bus ≡ s
   here Ipmb s on = refl
   here Smbus s on = refl
 
-  there : (bus other : Bus) (s : (L bus).State) (on : States L) → (other ≡ bus → ⊥) → update L bus s on other ≡ on other
+  pub there : (bus other : Bus) (s : (L bus).State) (on : States L) → (other ≡ bus → ⊥) → update L bus s on other ≡ on other
   there Ipmb Ipmb s on ne = absurd (ne refl)
   there Ipmb Smbus s on ne = refl
   there Smbus Ipmb s on ne = refl

@@ -1,5 +1,6 @@
--- Runs that compute: a plan of two steps, one over each bus, and its undo.
-use Rattle.std.specs.Prelude.{◌≡◌, ℕ, List, [], ◌∷◌, ◌++◌, Some, None}
+-- Runs that compute: a plan of two steps, one over each bus, and its undo. Frames are lost on both buses and both ways.
+use Rattle.std.specs.Prelude.{◌≡◌, ℕ, List, [], ◌∷◌, ◌++◌, drop, Some, None, refl}
+use Rattle.std.proofs.Common.{ap, ◌∙◌, replicate}
 use Rattle.two_wire.specs.declared.Bus.{Bus}
 use Rattle.two_wire.specs.declared.Bus.TheVariants.{Ipmb, Smbus}
 use Rattle.bus_model.specs.BusState.{ReachesPort, ReachesManager, OtherAsks, opening as opening_bus}
@@ -7,6 +8,7 @@ use Rattle.bus_model.specs.Packet.{packets_of}
 use Rattle.bus_model.specs.PacketBus.{Plain, PacketReachesPort, PacketReachesManager, opening_ends}
 use Rattle.undo_model.specs.Phase.{Undone}
 use Rattle.undo_model.specs.Machine.{phase_of}
+use Rattle.undo_model.specs.Wires.{Wires}
 use Rattle.undo_model.specs.Line.{Line}
 use Rattle.undo_model.specs.TwoBuses.{Addresses, in_messages, with_packets}
 use Rattle.undo_model.specs.World.{States, Happening, Start, Quiet, Again, Undo, Resume, ToManager, OnBus, AllMay, run, opening}
@@ -26,43 +28,47 @@ addresses Ipmb = record { manager = 44; controller = 32 }
 addresses Smbus = record { manager = 8; controller = 10 }
 
 -- a run that may happen, from the board at the start, ends undone, with the records of the start
-pub record EndsUndone (L : Bus → Line) (on : States L) (events : List (Happening registers L)) : Type 0 where
-  pub may : AllMay registers L wires events (opening registers L plan 1 on (board 1 9 0))
-  pub phase : phase_of register_words (run registers L wires events (opening registers L plan 1 on (board 1 9 0))).machine ≡ Undone
-  pub records : (run registers L wires events (opening registers L plan 1 on (board 1 9 0))).board.registers ≡ (board 1 9 0).registers
+pub record EndsUndone (L : Bus → Line) (W : Wires register_words) (on : States L) (events : List (Happening registers L)) : Type 0 where
+  pub may : AllMay registers L W events (opening registers L plan 1 on (board 1 9 0))
+  pub phase : phase_of register_words (run registers L W events (opening registers L plan 1 on (board 1 9 0))).machine ≡ Undone
+  pub records : (run registers L W events (opening registers L plan 1 on (board 1 9 0))).board.registers ≡ (board 1 9 0).registers
 
--- how frames come to both ends of a bus, and how somebody else asks there
+-- how a frame comes to an end of a bus
 pub record Reaches (L : Bus → Line) : Type 0 where
-  pub port : (bus : Bus) → ℕ → List ℕ → (L bus).Event
-  pub manager : (bus : Bus) → ℕ → (L bus).Event
-  pub other : (bus : Bus) → (L bus).Event
+  -- all of it to the port, which would answer so; the board is the first before, and the second after
+  pub port : Bus → ℕ → List ℕ → Board → Board → List (Happening registers L)
+  -- all of it to the manager
+  pub manager : Bus → ℕ → List (Happening registers L)
+  -- what is left of one of which a part is lost: nothing in whole messages, the first packet in packets
+  pub rest_to_port : ℕ → Board → List (Happening registers L)
+  pub rest_to_manager : ℕ → List (Happening registers L)
+  -- somebody else asks on SMBus
+  pub other : Board → List (Happening registers L)
 
 module _ (L : Bus → Line) (R : Reaches L) where
-  -- a frame reaches the port, or the manager
-  abbrev pub to_port : Bus → ℕ → List ℕ → Board → Happening registers L
-  to_port bus which answer after = OnBus bus (R.port bus which answer) after
-
-  abbrev pub to_manager : Bus → ℕ → Happening registers L
-  to_manager bus which = ToManager bus (R.manager bus which)
-
-  -- The Get of register 0 is carried out, and its reply (frame 1) delayed. A retry is answered by the kept reply (frame 3).
-  -- Nothing comes, so the request is unsettled, and what comes then is ignored. It is sent again (frame 4), and the kept
-  -- reply taken. A late copy of the Get repeats, and its reply (frame 6) comes while the Set is open: it isn't taken.
+  -- The Get of register 0 is lost (frame 0). It is sent again (frame 1) and carried out, and its reply is lost (frame 2). Nothing comes, so
+  -- the request is unsettled; it is sent again (frame 3), the kept reply comes (frame 4) and is taken. The Set (frame 5) is carried out, its
+  -- reply lost (frame 6), and a retry (frame 7) is answered by the kept reply (frame 8).
   abbrev pub first_step : List (Happening registers L)
   first_step =
-      Start ∷ to_port Ipmb 0 (0 ∷ 0 ∷ 5 ∷ 1 ∷ 0 ∷ []) (board 1 9 1) ∷ Quiet ∷ to_port Ipmb 2 [] (board 1 9 1) ∷ Quiet ∷ to_manager Ipmb 1
-      ∷ Again ∷ to_manager Ipmb 3 ∷ to_port Ipmb 4 [] (board 1 9 1) ∷ to_port Ipmb 5 (1 ∷ 0 ∷ []) (board 3 9 2) ∷ to_manager Ipmb 6 ∷ to_manager Ipmb 7 ∷ []
+      Start ∷ Quiet ∷ R.port Ipmb 1 (0 ∷ 0 ∷ 5 ∷ 1 ∷ 0 ∷ []) (board 1 9 0) (board 1 9 1)
+      ++ Quiet ∷ Again ∷ R.port Ipmb 3 [] (board 1 9 1) (board 1 9 1) ++ R.manager Ipmb 4
+      ++ R.port Ipmb 5 (1 ∷ 0 ∷ []) (board 1 9 1) (board 3 9 2) ++ Quiet ∷ R.port Ipmb 7 [] (board 3 9 2) (board 3 9 2) ++ R.manager Ipmb 8
 
-  -- Somebody else asks. Then the Get and the Set of register 1 are carried out, and a late copy of the Set of register 0 comes:
-  -- it repeats, and changes nothing.
+  -- On SMBus too: the Get of register 1 is lost (frame 0), then its reply (frame 2), and it is unsettled and sent again (frame 3). The Set
+  -- (frame 5) goes through. Somebody else asks in between, and at the end a late copy of the Set of register 0 comes: it repeats, and
+  -- changes nothing.
   abbrev pub second_step : List (Happening registers L)
   second_step =
-      OnBus Smbus (R.other Smbus) (board 3 9 2) ∷ to_port Smbus 0 (0 ∷ 0 ∷ 9 ∷ 2 ∷ 2 ∷ []) (board 3 9 3) ∷ to_manager Smbus 1
-      ∷ to_port Smbus 2 (1 ∷ 0 ∷ []) (board 3 7 4) ∷ to_manager Smbus 3 ∷ to_port Ipmb 5 [] (board 3 7 4) ∷ []
+      R.rest_to_port 0 (board 3 9 2) ++ R.other (board 3 9 2) ++ Quiet ∷ R.port Smbus 1 (0 ∷ 0 ∷ 9 ∷ 2 ∷ 2 ∷ []) (board 3 9 2) (board 3 9 3)
+      ++ R.rest_to_manager 2 ++ Quiet ∷ Again ∷ R.port Smbus 3 [] (board 3 9 3) (board 3 9 3) ++ R.manager Smbus 4
+      ++ R.port Smbus 5 (1 ∷ 0 ∷ []) (board 3 9 3) (board 3 7 4) ++ R.manager Smbus 6 ++ R.port Ipmb 5 [] (board 3 7 4) (board 3 7 4)
 
-  -- the undo, register 1 first
+  -- The undo, register 1 first. The reply to the late copy (frame 9 on IPMB) comes while the undo of register 0 is open: it isn't taken.
   abbrev pub undo_steps : List (Happening registers L)
-  undo_steps = Undo ∷ to_port Smbus 4 (2 ∷ 0 ∷ []) (board 3 9 5) ∷ to_manager Smbus 5 ∷ to_port Ipmb 9 (2 ∷ 0 ∷ []) (board 1 9 6) ∷ to_manager Ipmb 10 ∷ []
+  undo_steps =
+      Undo ∷ R.port Smbus 7 (2 ∷ 0 ∷ []) (board 3 7 4) (board 3 9 5) ++ R.manager Smbus 8
+      ++ R.port Ipmb 10 (2 ∷ 0 ∷ []) (board 3 9 5) (board 1 9 6) ++ R.manager Ipmb 9 ++ R.manager Ipmb 11
 
   -- a run and its undo
   abbrev pub run_and_undo : List (Happening registers L)
@@ -81,20 +87,22 @@ abbrev pub quiet_messages : States messages
 quiet_messages Ipmb = opening_bus []
 quiet_messages Smbus = opening_bus []
 
-abbrev pub port_by_message : (bus : Bus) → ℕ → List ℕ → (messages bus).Event
-port_by_message Ipmb which answer = ReachesPort which answer
-port_by_message Smbus which answer = ReachesPort which answer
+abbrev pub port_by_message : Bus → ℕ → List ℕ → Board → Board → List (Happening registers messages)
+port_by_message Ipmb which answer before after = OnBus Ipmb (ReachesPort which answer) after ∷ []
+port_by_message Smbus which answer before after = OnBus Smbus (ReachesPort which answer) after ∷ []
 
-abbrev pub manager_by_message : (bus : Bus) → ℕ → (messages bus).Event
-manager_by_message Ipmb which = ReachesManager which
-manager_by_message Smbus which = ReachesManager which
-
-abbrev pub other_by_message : (bus : Bus) → (messages bus).Event
-other_by_message Ipmb = OtherAsks (record { requester = 66; number = 0; bytes = 9 ∷ [] }) []
-other_by_message Smbus = OtherAsks (record { requester = 66; number = 0; bytes = 9 ∷ [] }) []
+abbrev pub manager_by_message : Bus → ℕ → List (Happening registers messages)
+manager_by_message Ipmb which = ToManager Ipmb (ReachesManager which) ∷ []
+manager_by_message Smbus which = ToManager Smbus (ReachesManager which) ∷ []
 
 abbrev pub by_message : Reaches messages
-by_message = record { port = port_by_message; manager = manager_by_message; other = other_by_message }
+by_message = record {
+  port = port_by_message;
+  manager = manager_by_message;
+  rest_to_port = λ which before. [];
+  rest_to_manager = λ which. [];
+  other = λ before. OnBus Smbus (OtherAsks (record { requester = 66; number = 0; bytes = 9 ∷ [] }) []) before ∷ [];
+}
 
 -- ---- with packets on SMBus
 
@@ -105,17 +113,45 @@ abbrev pub quiet_mixed : States mixed
 quiet_mixed Ipmb = opening_bus []
 quiet_mixed Smbus = opening_ends []
 
-abbrev pub port_by_packet : (bus : Bus) → ℕ → List ℕ → (mixed bus).Event
-port_by_packet Ipmb which answer = ReachesPort which answer
-port_by_packet Smbus which answer = PacketReachesPort which 0 answer
+-- Messages on SMBus begin with 64 bytes of which the registers know nothing, so each is two packets.
+abbrev pub filler : List ℕ
+filler = replicate 64 0
 
-abbrev pub manager_by_packet : (bus : Bus) → ℕ → (mixed bus).Event
-manager_by_packet Ipmb which = ReachesManager which
-manager_by_packet Smbus which = PacketReachesManager which 0
+abbrev pub filled : Bus → List ℕ → List ℕ
+filled Ipmb bytes = bytes
+filled Smbus bytes = filler ++ bytes
 
-abbrev pub other_by_packet : (bus : Bus) → (mixed bus).Event
-other_by_packet Ipmb = OtherAsks (record { requester = 66; number = 0; bytes = 9 ∷ [] }) []
-other_by_packet Smbus = Plain (OtherAsks (record { requester = 66; number = 0; bytes = 9 ∷ [] }) [])
+abbrev pub unfilled : Bus → List ℕ → List ℕ
+unfilled Ipmb bytes = bytes
+unfilled Smbus bytes = drop 64 bytes
+
+pub unfilled_back : (bus : Bus) (bytes : List ℕ) → unfilled bus (filled bus bytes) ≡ bytes
+unfilled_back Ipmb bytes = refl
+unfilled_back Smbus bytes = refl
+
+abbrev pub long_wires : Wires register_words
+long_wires = record {
+  bytes_of = λ number asked. filled (register_words.bus_of asked) (wires.bytes_of number asked);
+  asked_from = λ bus bytes. wires.asked_from bus (unfilled bus bytes);
+  reply_to = λ bus bytes a. filled bus (wires.reply_to bus (unfilled bus bytes) a);
+  answered_from = λ bus bytes. wires.answered_from bus (unfilled bus bytes);
+  same = λ number asked made. ap (wires.asked_from (register_words.bus_of asked)) (unfilled_back (register_words.bus_of asked) (wires.bytes_of number asked)) ∙ wires.same number asked made;
+  same_reply = λ bus bytes a. ap (wires.answered_from bus) (unfilled_back bus (wires.reply_to bus (unfilled bus bytes) a));
+}
+
+abbrev pub port_by_packet : Bus → ℕ → List ℕ → Board → Board → List (Happening registers mixed)
+port_by_packet Ipmb which answer before after = OnBus Ipmb (ReachesPort which answer) after ∷ []
+port_by_packet Smbus which answer before after = OnBus Smbus (PacketReachesPort which 0 []) before ∷ OnBus Smbus (PacketReachesPort which 1 (filler ++ answer)) after ∷ []
+
+abbrev pub manager_by_packet : Bus → ℕ → List (Happening registers mixed)
+manager_by_packet Ipmb which = ToManager Ipmb (ReachesManager which) ∷ []
+manager_by_packet Smbus which = ToManager Smbus (PacketReachesManager which 0) ∷ ToManager Smbus (PacketReachesManager which 1) ∷ []
 
 abbrev pub by_packet : Reaches mixed
-by_packet = record { port = port_by_packet; manager = manager_by_packet; other = other_by_packet }
+by_packet = record {
+  port = port_by_packet;
+  manager = manager_by_packet;
+  rest_to_port = λ which before. OnBus Smbus (PacketReachesPort which 0 []) before ∷ [];
+  rest_to_manager = λ which. ToManager Smbus (PacketReachesManager which 0) ∷ [];
+  other = λ before. OnBus Smbus (Plain (OtherAsks (record { requester = 66; number = 0; bytes = 9 ∷ [] }) [])) before ∷ [];
+}

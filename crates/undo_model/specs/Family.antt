@@ -25,6 +25,8 @@ pub record Family : Type 1 where
   -- a board, and its records
   pub Board : Type 0
   pub records : Board → Records
+  -- the request, whoever asks it, is a Get of the record
+  pub IsGet : words.Asked → words.Key → Type 0
   -- a board answers the request so, and becomes the other
   pub Row : Board → words.Asked → Answered → Board → Type 0
 

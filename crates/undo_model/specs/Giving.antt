@@ -1,11 +1,16 @@
--- The answers that a board gave in a schedule.
-use Rattle.std.specs.Prelude.{List, Contains}
+-- The answers that the board gave to the manager in a schedule, and a halt that one of them caused.
+use Rattle.std.specs.Prelude.{◌≡◌, ◌≢◌, ℕ, List, [], ◌∷◌, ◌++◌, Option, Some, None, Contains, slice_get}
+use Rattle.two_wire.specs.Codes.{success}
 use Rattle.two_wire.specs.declared.Bus.{Bus}
-use Rattle.undo_model.specs.Words.{Answered}
+use Rattle.undo_model.specs.Words.{Answered, get_asked, set_asked}
+use Rattle.undo_model.specs.Phase.{Stop, Refused, NotRestorable, GetRefused, Phase, Halted}
 use Rattle.undo_model.specs.Family.{Family}
+use Rattle.undo_model.specs.Plan.{IsAfter}
+use Rattle.undo_model.specs.Machine.{phase_of}
 use Rattle.undo_model.specs.Wires.{Wires}
-use Rattle.undo_model.specs.Line.{Line}
-use Rattle.undo_model.specs.Headline.{AlwaysStands}
+use Rattle.undo_model.specs.Line.{Exchange, Line}
+use Rattle.undo_model.specs.World.{States, World, Happening, OnBus, happens, run, AllMay, opening}
+use Rattle.undo_model.specs.Headline.{AnyMakesStop, IsStart}
 
 -- a board answered a request, and became another
 pub record Giving (F : Family) : Type 0 where
@@ -14,11 +19,52 @@ pub record Giving (F : Family) : Type 0 where
   pub answered : Answered
   pub after : F.Board
 
--- the family whose board answers by the command relation, and gives no answer but these
-abbrev pub giving : (F : Family) → List (Giving F) → Family
-giving F given = record F { Row = λ b asked a after. F.Row b asked a after × Contains given (record { before = b; asked = asked; answered = a; after = after }) }
+module _ (F : Family) (L : Bus → Line) (W : Wires F.words) where
+  -- the answer by which a board became another, if a request of the manager was carried out then
+  abbrev pub given_by : Bus → Option Exchange → F.Board → F.Board → List (Giving F)
+  given_by bus None before after = []
+  given_by bus (Some x) before after = record { before = before; asked = W.asked_from bus x.bytes; answered = W.answered_from bus x.reply; after = after } ∷ []
 
--- Where a board gives only the answers of a list, a halt has its cause in the list: the answer that `Halts` names is one of it. Take
--- as the list what the board answered in the schedule: then the cause is an answer that it gave in that schedule.
-abbrev pub HaltsByGiven : (F : Family) (L : Bus → Line) → Wires F.words → Type 0
-HaltsByGiven F L W = (given : List (Giving F)) → AlwaysStands (giving F given) L W
+  -- the answer that the board gives as this happens, if it gives one
+  abbrev pub given_at : World F L → Happening F L → List (Giving F)
+  given_at w (OnBus bus e after) = given_by bus ((L bus).carries (w.on bus) e) w.board after
+  given_at w _ = []
+
+  -- all answers that the board gave to the manager in a schedule, in order
+  abbrev pub given_in : List (Happening F L) → World F L → List (Giving F)
+  given_in [] w = []
+  given_in (e ∷ es) w = given_at w e ++ given_in es (happens F L W w e)
+
+  -- one of them is this answer to this request, which the board gave by the command relation at the records after k steps
+  pub record GaveIn (given : List (Giving F)) (plan : List F.words.Op) (start : F.Records) (k : ℕ) (asked : F.words.Asked) (a : Answered) : Type 0 where
+    pub before : F.Board
+    pub after : F.Board
+    pub is_one : Contains given (record { before = before; asked = asked; answered = a; after = after })
+    pub row : F.Row before asked a after
+    pub at : IsAfter F plan start k (F.records before)
+
+  -- the answer that the board gave to the Get of the plan's step k, and to its Set, each at the records after k steps
+  pub record GaveGetIn (given : List (Giving F)) (plan : List F.words.Op) (start : F.Records) (k : ℕ) (a : Answered) : Type 0 where
+    pub op : F.words.Op
+    pub step : slice_get plan k ≡ Some op
+    pub gave : GaveIn given plan start k (get_asked F.words (F.words.key_of op)) a
+
+  pub record GaveSetIn (given : List (Giving F)) (plan : List F.words.Op) (start : F.Records) (k : ℕ) (a : Answered) : Type 0 where
+    pub op : F.words.Op
+    pub step : slice_get plan k ≡ Some op
+    pub gave : GaveIn given plan start k (set_asked F.words op) a
+
+  -- what made a plan halt in a schedule from a world: an answer that the board gave in it, or a stop
+  abbrev pub CausedIn : List (Happening F L) → World F L → List F.words.Op → F.Records → Phase → Type 0
+  CausedIn events w plan start (Halted k Stop) = AnyMakesStop F L events
+  CausedIn events w plan start (Halted k (Refused code)) = (code ≢ success) × (body : List ℕ) × GaveSetIn (given_in events w) plan start k (record { code = code; body = body })
+  CausedIn events w plan start (Halted k (GetRefused code)) = (code ≢ success) × (body : List ℕ) × GaveGetIn (given_in events w) plan start k (record { code = code; body = body })
+  CausedIn events w plan start (Halted k NotRestorable) =
+      (body : List ℕ) × (got : GaveGetIn (given_in events w) plan start k (record { code = success; body = body })) × (¬ F.Restorable got.op body)
+  CausedIn events w plan start _ = Unit {0}
+
+  -- a halt has its cause among the answers of its own schedule
+  abbrev pub HaltsByAnswers : Type 0
+  HaltsByAnswers = (plan : List F.words.Op) (retries : ℕ) (on : States L) (board : F.Board) → IsStart F L W on board
+      → (events later : List (Happening F L)) → AllMay F L W (events ++ later) (opening F L plan retries on board)
+      → CausedIn events (opening F L plan retries on board) plan (F.records board) (phase_of F.words (run F L W events (opening F L plan retries on board)).machine)

@@ -2,7 +2,7 @@
 use Rattle.std.specs.Prelude.{◌≡◌, ℕ, List, [], ◌∷◌, ◌++◌, ◌⊎◌}
 use Rattle.two_wire.specs.Codes.{success}
 use Rattle.two_wire.specs.declared.Bus.{Bus}
-use Rattle.undo_model.specs.Words.{Answered, get_asked}
+use Rattle.undo_model.specs.Words.{Answered}
 use Rattle.undo_model.specs.Family.{Family, AllValid}
 use Rattle.undo_model.specs.Phase.{Stop, Halted, Undone}
 use Rattle.undo_model.specs.Plan.{Stands, Halts}
@@ -21,10 +21,10 @@ abbrev pub AnyMakesStop : (F : Family) (L : Bus → Line) → List (Happening F 
 AnyMakesStop F L [] = ⊥
 AnyMakesStop F L (e ∷ es) = MakesStop F L e ⊎ AnyMakesStop F L es
 
--- two Gets of a record, as the manager asks them, show the same configuration: one at the first board, one at the second
+-- any two Gets of a record, whoever asks them, show the same configuration: one at the first board, one at the second
 abbrev pub ShowsSame : (F : Family) → F.Board → F.Board → Type 0
-ShowsSame F b c = (key : F.words.Key) (shown again : Answered) (b' c' : F.Board)
-    → F.Row b (get_asked F.words key) shown b' → shown.code ≡ success → F.Row c (get_asked F.words key) again c' → again.code ≡ success
+ShowsSame F b c = (key : F.words.Key) (one other : F.words.Asked) → F.IsGet one key → F.IsGet other key → (shown again : Answered) (b' c' : F.Board)
+    → F.Row b one shown b' → shown.code ≡ success → F.Row c other again c' → again.code ≡ success
     → F.conf key again.body ≡ F.conf key shown.body
 
 -- from a board whose records are valid, and a start on both buses, so long as each thing may happen where it does
@@ -40,8 +40,8 @@ module _ (F : Family) (L : Bus → Line) (W : Wires F.words) where
       → let w = run F L W events (opening F L plan retries on board) in
       Stands F plan (F.records board) (phase_of F.words w.machine) (F.records w.board) × Halts F w.machine.stopped plan (phase_of F.words w.machine) (F.records w.board)
 
-  -- once a plan is undone, and at every moment from then on, all records are what they were at the start, and each Get as
-  -- the manager asks it shows the same configuration as at the start
+  -- once a plan is undone, and at every moment from then on, all records are what they were at the start, and each Get, whoever
+  -- asks it, shows the same configuration as at the start
   abbrev pub UndoneForGood : Type 0
   UndoneForGood = (plan : List F.words.Op) (retries : ℕ) (on : States L) (board : F.Board) → IsStart on board
       → (events later : List (Happening F L)) → AllMay F L W (events ++ later) (opening F L plan retries on board)

@@ -33,9 +33,11 @@ pub record IsFamily (F : Family) : Type 0 where
   pub refuses : (op : F.words.Op) (v : F.Value) (body : List ℕ) → F.Valid (F.words.key_of op) v → F.Shows (F.words.key_of op) v body → F.words.inverse op body ≡ None → ¬ F.Restorable op body
   -- the kinds: two Gets of a record show the same configuration where it has the same value
   pub steady : (key : F.words.Key) (v : F.Value) (body other : List ℕ) → F.Valid key v → F.Shows key v body → F.Shows key v other → F.conf key body ≡ F.conf key other
-  -- the command relation: a Get changes no record, and shows the value where it is carried out
-  pub gets_keep : (b after : F.Board) (key : F.words.Key) (a : Answered) → F.Row b (get_asked F.words key) a after → F.records after ≡ F.records b
-  pub gets_show : (b after : F.Board) (key : F.words.Key) (a : Answered) → F.Row b (get_asked F.words key) a after → a.code ≡ success → Showed F key a.body (F.records b)
+  -- the command relation: the request with which a manager gets a record is a Get of it. Whoever asks, a Get changes no record, and
+  -- shows the value where it is carried out
+  pub gets_are : (key : F.words.Key) → F.IsGet (get_asked F.words key) key
+  pub gets_keep : (b after : F.Board) (asked : F.words.Asked) (key : F.words.Key) (a : Answered) → F.IsGet asked key → F.Row b asked a after → F.records after ≡ F.records b
+  pub gets_show : (b after : F.Board) (asked : F.words.Asked) (key : F.words.Key) (a : Answered) → F.IsGet asked key → F.Row b asked a after → a.code ≡ success → Showed F key a.body (F.records b)
   -- the command relation: a Set that is carried out does its operation; one that is refused changes no record, and its
   -- operation isn't accepted there
   pub sets_do : (b after : F.Board) (op : F.words.Op) (a : Answered) → F.Row b (set_asked F.words op) a after → a.code ≡ success → SetsTo F op (F.records b) (F.records after)

@@ -17,4 +17,6 @@ pub mod Clean
 pub mod RecordsRun
 pub mod Numbered
 pub mod Giving
+pub mod Delivery
+pub mod CleanBuses
 pub mod SeriesExample

@@ -127,6 +127,7 @@ registers = record {
   Restorable = IsRestorable;
   Board = Board;
   records = λ b. b.registers;
+  IsGet = λ asked register. asked ≡ AskGet register;
   Row = Row;
 }
 

@@ -3,14 +3,15 @@
 
 ghost use Rattle.std.specs.Prelude.{ℕ, List};
 ghost use Rattle.two_wire.specs.declared.Bus.{Bus};
-ghost use Rattle.bus_model.specs.Packet.{Packet, IsCutting};
+ghost use Rattle.bus_model.specs.Packet.{Packet, IsCutting, packets_of};
 ghost use Rattle.undo_model.specs.IsFamily.{IsFamily};
-ghost use Rattle.undo_model.specs.TwoBuses.{Addresses, in_messages, with_packets};
+ghost use Rattle.undo_model.specs.TwoBuses.{Addresses, in_messages, with_packets, messages_come, packets_come};
 ghost use Rattle.undo_model.specs.Headline.{AlwaysStands, UndoneForGood, StopsOnlyIfTold};
-ghost use Rattle.undo_model.specs.Giving.{HaltsByGiven};
+ghost use Rattle.undo_model.specs.Giving.{HaltsByAnswers};
 ghost use Rattle.undo_model.specs.Resume.{GoesOnAlike};
 ghost use Rattle.undo_model.specs.RecordsRun.{RecordsStand};
 ghost use Rattle.undo_model.specs.Clean.{AnswersByRow, AlwaysRunsClean};
+ghost use Rattle.undo_model.specs.CleanBuses.{AllCanBeSent, AlwaysRunsOverBuses};
 ghost use Rattle.undo_model.specs.Words.{Answered};
 ghost use Rattle.undo_model.specs.Registers.{Board, Asked, register_words, registers, wires};
 
@@ -33,15 +34,15 @@ pub fn phases_stand()
     ensures packets { (at : Bus → Addresses) (split : List ℕ → List Packet) → IsCutting split → AlwaysStands registers (with_packets at split) wires }
 {}
 
-/// A halt has its cause among the answers that the board gave in that schedule. This is said of any list that has all the answers of a
-/// schedule: take just those.
+/// A halt has its cause in its own schedule. Refused, GetRefused and NotRestorable come only where the board gave that answer to the Set or to the
+/// Get of that step, at the records after the steps before it; Stop comes only where the manager was told to stop, or another went on from its list.
 pub fn halts_by_given_answers()
-    ensures messages { (at : Bus → Addresses) → HaltsByGiven registers (in_messages at) wires }
-    ensures packets { (at : Bus → Addresses) (split : List ℕ → List Packet) → IsCutting split → HaltsByGiven registers (with_packets at split) wires }
+    ensures messages { (at : Bus → Addresses) → HaltsByAnswers registers (in_messages at) wires }
+    ensures packets { (at : Bus → Addresses) (split : List ℕ → List Packet) → IsCutting split → HaltsByAnswers registers (with_packets at split) wires }
 {}
 
-/// Once a plan is undone, and at every moment from then on, every record is what it was before the plan, and each Get as the
-/// manager asks it shows the same configuration.
+/// Once a plan is undone, and at every moment from then on, every record is what it was before the plan, and each Get that is carried out,
+/// whoever asks it, shows the same configuration.
 pub fn undone_is_for_good()
     ensures messages { (at : Bus → Addresses) → UndoneForGood registers (in_messages at) wires }
     ensures packets { (at : Bus → Addresses) (split : List ℕ → List Packet) → IsCutting split → UndoneForGood registers (with_packets at split) wires }
@@ -64,4 +65,13 @@ pub fn resumed_goes_on_alike()
 /// for each step that was done, and ends with the records of the start. This knows no bus.
 pub fn plans_run_clean()
     ensures { (answer : Board → Asked → Answered × Board) → AnswersByRow registers answer → AlwaysRunsClean registers answer }
+{}
+
+/// Over two buses that lose nothing a plan runs just so: each request is delivered once, each reply is delivered once, nobody else asks, and such a
+/// schedule is honest. The port of each bus is to have a place for the manager at the start, and what is sent in packets is to be cut: what the
+/// registers say is.
+pub fn plans_run_clean_over_buses()
+    ensures messages { (at : Bus → Addresses) (answer : Board → Asked → Answered × Board) → AnswersByRow registers answer → AlwaysRunsOverBuses registers (in_messages at) (messages_come at) wires answer }
+    ensures packets { (at : Bus → Addresses) (split : List ℕ → List Packet) → IsCutting split → (answer : Board → Asked → Answered × Board) → AnswersByRow registers answer → AlwaysRunsOverBuses registers (with_packets at split) (packets_come at split) wires answer }
+    ensures cut { (at : Bus → Addresses) (answer : Board → Asked → Answered × Board) → AnswersByRow registers answer → AllCanBeSent registers (with_packets at packets_of) (packets_come at packets_of) wires answer }
 {}

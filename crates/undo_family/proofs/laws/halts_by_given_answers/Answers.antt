@@ -1,13 +1,13 @@
 use Rattle.undo_family.proofs.laws.halts_by_given_answers.Goals as goal
 use Rattle.undo_model.specs.TwoBuses.{in_messages, with_packets}
 use Rattle.undo_model.proofs.TwoBuses.{message_lines, packet_lines}
-use Rattle.undo_model.proofs.Giving.{halts_by_given}
+use Rattle.undo_model.proofs.Giving.{halts_by_answers}
 use Rattle.undo_family.specs.Family.{family}
 use Rattle.undo_family.specs.ManagerWires.{wires}
 use Rattle.undo_family.proofs.IsFamily.{is_family}
 
 pub returns-clause-messages : goal.returns-clause-messages
-returns-clause-messages c setup at = halts_by_given (family setup at) (is_family setup at) (in_messages at) (message_lines at) (wires at)
+returns-clause-messages c setup at = halts_by_answers (family setup at) (is_family setup at) (in_messages at) (message_lines at) (wires at)
 
 pub returns-clause-packets : goal.returns-clause-packets
-returns-clause-packets c setup at split cutting = halts_by_given (family setup at) (is_family setup at) (with_packets at split) (packet_lines at split cutting) (wires at)
+returns-clause-packets c setup at split cutting = halts_by_answers (family setup at) (is_family setup at) (with_packets at split) (packet_lines at split cutting) (wires at)

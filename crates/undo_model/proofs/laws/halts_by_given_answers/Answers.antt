@@ -3,10 +3,10 @@ use Rattle.undo_model.specs.TwoBuses.{in_messages, with_packets}
 use Rattle.undo_model.specs.Registers.{registers, wires}
 use Rattle.undo_model.proofs.Registers.{registers_are_family}
 use Rattle.undo_model.proofs.TwoBuses.{message_lines, packet_lines}
-use Rattle.undo_model.proofs.Giving.{halts_by_given}
+use Rattle.undo_model.proofs.Giving.{halts_by_answers}
 
 pub returns-clause-messages : goal.returns-clause-messages
-returns-clause-messages c at = halts_by_given registers registers_are_family (in_messages at) (message_lines at) wires
+returns-clause-messages c at = halts_by_answers registers registers_are_family (in_messages at) (message_lines at) wires
 
 pub returns-clause-packets : goal.returns-clause-packets
-returns-clause-packets c at split cutting = halts_by_given registers registers_are_family (with_packets at split) (packet_lines at split cutting) wires
+returns-clause-packets c at split cutting = halts_by_answers registers registers_are_family (with_packets at split) (packet_lines at split cutting) wires
