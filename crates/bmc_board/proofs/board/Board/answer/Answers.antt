@@ -4,7 +4,7 @@ use Rattle.bmc_board.specs.State.{State, state_of}
 use Rattle.bmc_board.specs.Row.{Row}
 use Rattle.bmc_board.specs.Gives.{Gives}
 use Rattle.bmc_board.specs.Answer.{Given, reply, answer_of}
-use Rattle.two_wire.specs.Codes.{pldm_not_ready}
+use Rattle.two_wire.specs.Codes.{node_busy, pldm_not_ready}
 use Rattle.cfg_records.specs.Meaning.{room_for}
 use Rattle.cfg_records.specs.declared.message.Answered.{Answered}
 use Rattle.bmc_board.proofs.OneAnswer.{has_answer}
@@ -35,6 +35,17 @@ returns-clause-fits g c =
     subst (λ (old : List ℕ). Gives c.reply-done.result old c.reply-done.new.to (given read).0) c.new-shown.ensures c.reply-done.ensures.answer in
     let said : c.answered.result ≡ (answer_of setup before c.args.asked.now).0 = c.answered.ensures _ gives ∙ ap (λ (r : Result Request ℕ). (given r).0) c.read_request-command.ensures in
     subst (λ (b : List ℕ). length b ≤ room_for c.args.asked.now) (sym (ap (λ a. a.body) said)) (answers_fit setup before c.args.asked.now c.args.self.now.sound)
+
+pub returns-clause-not_busy : goal.returns-clause-not_busy
+returns-clause-not_busy g c =
+    let setup = c.args.self.now.setup in
+    let before : State = state_of g.S.Store.records c.args.self.now in
+    let given : Result Request ℕ → Given = λ r. reply setup before r in
+    let read : Result Request ℕ = asked_of c.read_request-command.result.0 c.read_request-command.result.1.now in
+    let gives : Gives c.reply-done.result [] c.reply-done.new.to (given read).0 =
+    subst (λ (old : List ℕ). Gives c.reply-done.result old c.reply-done.new.to (given read).0) c.new-shown.ensures c.reply-done.ensures.answer in
+    let said : c.answered.result ≡ (answer_of setup before c.args.asked.now).0 = c.answered.ensures _ gives ∙ ap (λ (r : Result Request ℕ). (given r).0) c.read_request-command.ensures in
+    subst (λ (a : Answered). a.code ≢ node_busy) (sym said) (never_busy setup before c.args.asked.now).not_busy
 
 pub returns-clause-ready : goal.returns-clause-ready
 returns-clause-ready g c =
