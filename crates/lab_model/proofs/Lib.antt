@@ -7,3 +7,6 @@ pub mod Stepping
 pub mod PortPart
 pub mod PortEvents
 pub mod ManagerEvents
+pub mod PacketExample
+pub mod FullExample
+pub mod FrameMarks

@@ -27,7 +27,7 @@ use Rattle.bus_model.specs.PacketBus.{PacketBus, rules_of, reply_name, is_awaite
 use Rattle.bus_model.specs.PacketEffect.{step_of, whole_reply, completed_reply, taken_of, ManagerEffect, FrameAtManager, HasPacketEffect}
 use Rattle.bus_model.specs.Packet.{Packet as ModelPacket}
 use Rattle.bus_model.proofs.Answering.{busy_fails}
-use Rattle.undo_model.specs.Machine.{Task, reply_of}
+use Rattle.undo_model.specs.Machine.{Part as TaskPart, reply_of}
 use Rattle.undo_model.specs.Line.{brings_whole, brings_packets, brought_at}
 use Rattle.undo_family.specs.Spelled.{numbers_of}
 use Rattle.undo_family.specs.Wires.{answered_from}
@@ -42,9 +42,9 @@ use Rattle.lab_model.specs.ManagerEvents.{SaysBusy, HoldsReply, HoldsPart, name_
 
 -- ---- the test
 
-module _ (P : Plans) (m : ManagerState P) (task : Task P.words) (on : Bus) where
+module _ (P : Plans) (m : ManagerState P) (open_part : TaskPart P.words) (on : Bus) where
   abbrev opened : List ℕ
-  opened = open_bytes P on m task
+  opened = open_bytes P on m open_part
 
   -- a reply is taken where it passes
   by_test : (reply : List ℕ) (t : Bool) → cond t (taken_or P m (reply_of P.words (answered_from on reply) m.machine)) (rests P m)
@@ -52,32 +52,32 @@ module _ (P : Plans) (m : ManagerState P) (task : Task P.words) (on : Bus) where
   by_test reply true = refl
   by_test reply false = refl
 
-  -- while the task is heeded, what is heard is what the test takes
-  heard-by_test : (reply : List ℕ) → heeded_on P on m.machine.stage ≡ Some task
+  -- while the request is heeded, what is heard is what the test takes
+  heard-by_test : (reply : List ℕ) → heeded_on P on m.machine.stage ≡ Some open_part
       → hears_reply P on reply m ≡ takes_if P on (let none : Option (List ℕ) = None in cond (answers (numbers_of on) opened reply) (Some reply) none) m
   heard-by_test reply heeded = ap (tested P on reply m) heeded ∙ by_test reply (answers (numbers_of on) opened reply)
 
   -- no busy reply is taken
-  heard-busy : (reply : List ℕ) → heeded_on P on m.machine.stage ≡ Some task → SaysBusy (numbers_of on) reply → hears_reply P on reply m ≡ rests P m
+  heard-busy : (reply : List ℕ) → heeded_on P on m.machine.stage ≡ Some open_part → SaysBusy (numbers_of on) reply → hears_reply P on reply m ≡ rests P m
   heard-busy reply heeded busy =
       heard-by_test reply heeded
       ∙ ap (λ (t : Bool). takes_if P on (let none : Option (List ℕ) = None in cond t (Some reply) none) m) (busy_fails (numbers_of on) busy.0 opened busy.1 reply busy.2 busy.3)
 
 -- ---- IPMB
 
-module _ (P : Plans) (m : ManagerState P) (task : Task P.words) (b : Rules) (s : BusState) (which : ℕ) (r : Response) (agree : TestsAgree numbers.Ipmb b s)
-    (at : IsOpenOn P Ipmb m task s) (is : IsRepliesResponse m.names b s which r) where
+module _ (P : Plans) (m : ManagerState P) (open_part : TaskPart P.words) (b : Rules) (s : BusState) (which : ℕ) (r : Response) (agree : TestsAgree numbers.Ipmb b s)
+    (at : IsOpenOn P Ipmb m open_part s) (is : IsRepliesResponse m.names b s which r) where
   heard-response : hears_response P r m ≡ hears_reply P Ipmb (response_bytes r) m
   unfolding hears_response
   heard-response = ap (λ (t : Bool). cond t (hears_reply P Ipmb (response_bytes r) m) (rests P m)) is.answers
 
-  taken-is : brings_whole b s (ReachesManager which) ≡ taken_by_test numbers.Ipmb (open_bytes P Ipmb m task) is.frame.content
-  taken-is = ap (λ (o : Option Frame). taken_now b o s) is.sent ∙ agree which is.frame (open_bytes P Ipmb m task) is.sent is.live at.opened
+  taken-is : brings_whole b s (ReachesManager which) ≡ taken_by_test numbers.Ipmb (open_bytes P Ipmb m open_part) is.frame.content
+  taken-is = ap (λ (o : Option Frame). taken_now b o s) is.sent ∙ agree which is.frame (open_bytes P Ipmb m open_part) is.sent is.live at.opened
 
-  by_content : (c : Content) → HoldsReply numbers.Ipmb (response_bytes r) c → hears_reply P Ipmb (response_bytes r) m ≡ takes_if P Ipmb (taken_by_test numbers.Ipmb (open_bytes P Ipmb m task) c) m
+  by_content : (c : Content) → HoldsReply numbers.Ipmb (response_bytes r) c → hears_reply P Ipmb (response_bytes r) m ≡ takes_if P Ipmb (taken_by_test numbers.Ipmb (open_bytes P Ipmb m open_part) c) m
   by_content (Ask asked) held = absurd held
-  by_content (Reply number None) held = heard-busy P m task Ipmb (response_bytes r) at.heeded held
-  by_content (Reply number (Some reply)) held = ap (λ (bytes : List ℕ). hears_reply P Ipmb bytes m) held ∙ heard-by_test P m task Ipmb reply at.heeded
+  by_content (Reply number None) held = heard-busy P m open_part Ipmb (response_bytes r) at.heeded held
+  by_content (Reply number (Some reply)) held = ap (λ (bytes : List ℕ). hears_reply P Ipmb bytes m) held ∙ heard-by_test P m open_part Ipmb reply at.heeded
 
   brings-response : BringsResponse P m b s which r
   brings-response = heard-response ∙ by_content is.frame.content is.held ∙ ap (λ (o : Option (List ℕ)). takes_if P Ipmb o m) (sym taken-is)
@@ -169,8 +169,8 @@ part_fields false v w o t h = absurd cc
 tag_alone : (u v w o t : Bool) → u ≡ true → v ≡ true → w ≡ true → o ≡ false → ((u && v) && (w && (not o && t))) ≡ t
 tag_alone u v w o t a b c d = rw (a, b, c, d) refl
 
-module _ (P : Plans) (m : ManagerState P) (task : Task P.words) (b : PacketBus) (x : Ends) (which place : ℕ) (p : Packet) (agree : TestsAgree numbers.Pldm (rules_of b) x.bus)
-    (effect : HasPacketEffect b x (PacketReachesManager which place)) (at : IsOpenOn P Smbus m task x.bus) (is : IsManagerOf P m b x) (r : IsRepliesPart m.names b x which place p) where
+module _ (P : Plans) (m : ManagerState P) (open_part : TaskPart P.words) (b : PacketBus) (x : Ends) (which place : ℕ) (p : Packet) (agree : TestsAgree numbers.Pldm (rules_of b) x.bus)
+    (effect : HasPacketEffect b x (PacketReachesManager which place)) (at : IsOpenOn P Smbus m open_part x.bus) (is : IsManagerOf P m b x) (r : IsRepliesPart m.names b x which place p) where
   abbrev event : PacketEvent
   event = PacketReachesManager which place
 
@@ -191,7 +191,7 @@ module _ (P : Plans) (m : ManagerState P) (task : Task P.words) (b : PacketBus) 
 
   -- the packet is looked at in the lab where it is in the model
   is-open : is_open x.bus ≡ true
-  is-open = let within : length x.bus.taken < length x.bus.begun = slice_get_within x.bus.begun (length x.bus.taken) (open_bytes P Smbus m task) at.opened in grind (arith, nat_tests)
+  is-open = let within : length x.bus.taken < length x.bus.begun = slice_get_within x.bus.begun (length x.bus.taken) (open_bytes P Smbus m open_part) at.opened in grind (arith, nat_tests)
 
   awaited-is : is_awaited b n x.bus ≡ is_part m.names count p
   awaited-is =
@@ -310,7 +310,7 @@ module _ (P : Plans) (m : ManagerState P) (task : Task P.words) (b : PacketBus) 
         (joined-is None none
         ∙ ap (λ (t : Bool). cond t (hears_reply P Smbus (message_of kept p).body next) (rests P next)) ends
         ∙ ap (λ (bytes : List ℕ). hears_reply P Smbus bytes next) body
-        ∙ heard-busy P next task Smbus p.payload at.heeded held.3)
+        ∙ heard-busy P next open_part Smbus p.payload at.heeded held.3)
         (subst (λ (name : ModelName). WaitsAlike (set_at name [] x.manager) kept) r.named (subst (λ (ss : List Sent). WaitsAlike (set_at (name_in p) ss x.manager) kept) left (alike-by None none)))
         alone-after tt
       where
@@ -363,10 +363,10 @@ module _ (P : Plans) (m : ManagerState P) (task : Task P.words) (b : PacketBus) 
           subst (λ (name : ModelName). IsSent (whole_reply number (takes (x.manager name) sent_as).0)) (sym r.named) of_part
 
       -- the manager's test takes what the model takes
-      test-is : taken_content (rules_of b) content x.bus ≡ taken_by_test numbers.Pldm (open_bytes P Smbus m task) content
+      test-is : taken_content (rules_of b) content x.bus ≡ taken_by_test numbers.Pldm (open_bytes P Smbus m open_part) content
       test-is =
-          subst (λ (c : Content). taken_content (rules_of b) c x.bus ≡ taken_by_test numbers.Pldm (open_bytes P Smbus m task) c) held_is
-          (agree which r.frame (open_bytes P Smbus m task) r.sent r.live at.opened)
+          subst (λ (c : Content). taken_content (rules_of b) c x.bus ≡ taken_by_test numbers.Pldm (open_bytes P Smbus m open_part) c) held_is
+          (agree which r.frame (open_bytes P Smbus m open_part) r.sent r.live at.opened)
 
       abbrev brought : Step × List Sent → Option (List ℕ)
       brought q = taken_of (rules_of b) (whole_reply number q.0) x.bus
@@ -380,13 +380,13 @@ module _ (P : Plans) (m : ManagerState P) (task : Task P.words) (b : PacketBus) 
           let whole_is : Reply number (Some (model_message_of all)) ≡ content = subst (λ (q : Step × List Sent). IsSent (whole_reply number q.0)) h as-sent in
           let bytes_are : model_message_of all ≡ reply = cc in
           let body : (message_of kept p).body ≡ reply = sym (whole-bytes m.names.own_eid m.joined p sent_as (x.manager (name_in p)) refl (is.waits _) none ends) ∙ bytes_are in
-          let test : Option (List ℕ) = (let none_taken : Option (List ℕ) = None in cond (answers numbers.Pldm (open_bytes P Smbus m task) reply) (Some reply) none_taken) in
+          let test : Option (List ℕ) = (let none_taken : Option (List ℕ) = None in cond (answers numbers.Pldm (open_bytes P Smbus m open_part) reply) (Some reply) none_taken) in
           built kept taken_ends test ends-are
           (brings-are ∙ ap brought h ∙ ap (λ (c : Content). taken_content (rules_of b) c x.bus) whole_is ∙ test-is)
           (joined-is None none
           ∙ ap (λ (t : Bool). cond t (hears_reply P Smbus (message_of kept p).body next) (rests P next)) ends
           ∙ ap (λ (bytes : List ℕ). hears_reply P Smbus bytes next) body
-          ∙ heard-by_test P next task Smbus reply at.heeded)
+          ∙ heard-by_test P next open_part Smbus reply at.heeded)
           (alike-by None none) alone-after (for_any test (none-open none ends))
         where
           for_any : {A : Type 0} (o : Option (List ℕ)) → A → IfSome o (λ q. A)
@@ -423,7 +423,7 @@ module _ (P : Plans) (m : ManagerState P) (task : Task P.words) (b : PacketBus) 
 
 unheeded-response : (P : Plans) (m : ManagerState P) (r : Response) → heeded_on P Ipmb m.machine.stage ≡ None → hears_response P r m ≡ rests P m
 unfolding hears_response
-unheeded-response P m r none = ap (λ (o : Option (Task P.words)). cond (is_answer m.names r) (tested P Ipmb (response_bytes r) m o) (rests P m)) none ∙ either (is_answer m.names r)
+unheeded-response P m r none = ap (λ (o : Option (TaskPart P.words)). cond (is_answer m.names r) (tested P Ipmb (response_bytes r) m o) (rests P m)) none ∙ either (is_answer m.names r)
   where
     either : (t : Bool) → cond t (rests P m) (rests P m) ≡ rests P m
     either true = refl
@@ -435,8 +435,8 @@ unheeded-part P m p none = ap (joins_for P p m) none
 
 pub replies_are_brought : (P : Plans) → RepliesAreBrought P
 replies_are_brought P = record {
-  responses = λ m task b s which r agree at is. brings-response P m task b s which r agree at is;
-  parts = λ m task b x which place p agree effect at is r. brings-part P m task b x which place p agree effect at is r;
+  responses = λ m open_part b s which r agree at is. brings-response P m open_part b s which r agree at is;
+  parts = λ m open_part b x which place p agree effect at is r. brings-part P m open_part b x which place p agree effect at is r;
   unheeded_response = unheeded-response P;
   unheeded_part = unheeded-part P;
 }

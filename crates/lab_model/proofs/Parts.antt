@@ -190,8 +190,8 @@ module _ (setup : BoardFile) (before : State) where
       ap (λ e. (after port.eid port.kept p).under (name_of e)) (sym same) ∙ own-name port.eid port.kept p ∙ ap (λ (c : Option DropCause). named_where c p port.kept) cause in
       goes_on port p (q ∷ rest) (dropped port p NoSlot cause)
       ∙ no_start (with_kept port (after port.eid port.kept p)) (name_of m.envelope) (q ∷ rest)
-          (later_all port.eid count 0 m (q ∷ rest) h.cut.pieces.1 (All-tail (λ x. x.envelope ≡ m.envelope) p (q ∷ rest) h.enveloped) (All-tail (λ x. is_ours port.eid x ≡ true) p (q ∷ rest) ours))
-          empty
+      (later_all port.eid count 0 m (q ∷ rest) h.cut.pieces.1 (All-tail (λ x. x.envelope ≡ m.envelope) p (q ∷ rest) h.enveloped) (All-tail (λ x. is_ours port.eid x ≡ true) p (q ∷ rest) ours))
+      empty
 
   -- all of them, by where the message goes and by the slots
   abbrev Outcome : PortState → Message → Bool → Type 0

@@ -19,6 +19,7 @@ use Rattle.lab_model.specs.Values.{written}
 use Rattle.plans.specs.declared.names.Names.{Names}
 use Rattle.lab_model.specs.ManagerSteps.{Plans, board_plans, Start, Quiet, Again, Undo}
 use Rattle.lab_model.specs.Lab.{LabFrame, Event, Calls, ToBmc, ToMgr, OtherIpmb, Noise, Idles, Lab, run, opening}
+use Rattle.lab_model.specs.Clean.{IsClean}
 use Rattle.lab_model.specs.Faults.{Fault, NoFrame, WrongWay, Changing, Impersonates, Forged, StillOpen, fault_of, AllTaken}
 
 -- ---- the board
@@ -93,8 +94,11 @@ abbrev pub exchange : ℕ → List Event
 exchange n = ToBmc n ∷ ToMgr (n + 1) ∷ []
 
 -- each frame once, in order, and the undo
+abbrev pub run_two : List Event
+run_two = Calls Start ∷ exchange 0 ++ exchange 2 ++ exchange 4 ++ exchange 6
+
 abbrev pub clean_two : List Event
-clean_two = Calls Start ∷ exchange 0 ++ exchange 2 ++ exchange 4 ++ exchange 6 ++ Calls Undo ∷ exchange 8 ++ exchange 10
+clean_two = run_two ++ Calls Undo ∷ exchange 8 ++ exchange 10
 
 -- the Set's reply is lost, and the kept one is taken
 abbrev pub retried : List Event
@@ -144,6 +148,7 @@ pub record ShowsFaults : Type 0 where
 
 -- a clean run of two steps and its undo: twelve frames, none refused, and the records as they were
 pub record TwoStepsUndone : Type 0 where
+  pub clean : IsClean plans board_file clean_two (start two_steps 3)
   pub taken : AllTaken plans board_file clean_two (start two_steps 3)
   pub undone : phase_after two_steps 3 clean_two ≡ Undone
   pub frames : length (after two_steps 3 clean_two).frames ≡ 12

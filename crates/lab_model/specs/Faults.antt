@@ -8,7 +8,9 @@ use Rattle.mctp_net.specs.Grammar.{has_fault as has_packet_fault, faults as pack
 use Rattle.pldm_base.specs.declared.message.PldmRequest.{PldmRequest}
 use Rattle.pldm_base.specs.Message.{request_in as pldm_request_in}
 use Rattle.cfg_records.specs.declared.board_file.BoardFile.{BoardFile}
+use Rattle.bus_model.specs.Circle.{span_of}
 use Rattle.bmc_board.specs.Table.{is_changing}
+use Rattle.undo_family.specs.Spelled.{numbers_of}
 use Rattle.undo_model.specs.Words.{Words}
 use Rattle.undo_model.specs.Machine.{Machine, count_of, open_bus, same_bus}
 use Rattle.lab_model.specs.PortSteps.{asked_in, pldm_asked}
@@ -46,11 +48,6 @@ check fault holds = record { fault = fault; holds = holds }
 abbrev pub first_of : List Check → Option Fault
 first_of [] = None
 first_of (c ∷ cs) = if c.holds then Some c.fault else first_of cs
-
--- how many newer requests, once begun, make a frame too old
-abbrev pub span_of : Bus → ℕ
-span_of Ipmb = 32
-span_of Smbus = 8
 
 -- both are the same way
 abbrev pub same_way : Way → Way → Bool
@@ -94,7 +91,7 @@ is_frame Smbus bytes = is_none (find (has_packet_fault bytes) packet_faults)
 module _ (P : Plans) where
   -- fewer newer requests than the span were begun on its bus, and the manager's window there wasn't forgotten since it was sent
   abbrev pub is_live : Lab P → LabFrame → Bool
-  is_live x f = nat_le (begun_on P.words f.on x.manager.machine) (f.request + span_of f.on) && f.idles == idles_on P f.on x
+  is_live x f = nat_le (begun_on P.words f.on x.manager.machine) (f.request + span_of (numbers_of f.on)) && f.idles == idles_on P f.on x
 
   -- 65,536 frames were sent
   abbrev pub is_full : Lab P → Bool

@@ -8,13 +8,15 @@ use Rattle.mctp_net.specs.declared.packet.Packet.{Packet}
 use Rattle.mctp_net.specs.Grammar.{IsPacket}
 use Rattle.pldm_base.specs.declared.message.PldmRequest.{PldmRequest}
 use Rattle.pldm_base.specs.Message.{IsRequest}
+use Rattle.bus_model.specs.Circle.{span_of}
 use Rattle.bmc_board.specs.Table.{is_changing}
+use Rattle.undo_family.specs.Spelled.{numbers_of}
 use Rattle.undo_model.specs.Machine.{open_bus}
 use Rattle.lab_model.specs.PortSteps.{asked_in, pldm_asked}
 use Rattle.plans.specs.declared.names.Names.{Names}
 use Rattle.lab_model.specs.ManagerSteps.{own_on, peer_on, Plans}
 use Rattle.lab_model.specs.Lab.{Way, ToPort, ToManager, LabFrame, Event, Calls, ToBmc, ToMgr, OtherIpmb, OtherSmbus, Noise, Idles, OnBench, Lab, idles_on}
-use Rattle.lab_model.specs.Faults.{Fault, Room, span_of, begun_on, fault_of}
+use Rattle.lab_model.specs.Faults.{Fault, Room, begun_on, fault_of}
 
 -- neither the manager nor the controller is known so on the bus
 abbrev pub IsAnother : Bus → Names → ℕ → Type 0
@@ -33,7 +35,7 @@ module _ (P : Plans) where
   -- fewer newer requests of the manager than the span were begun on the frame's bus, and the manager's window there wasn't forgotten
   -- since it was sent
   pub record IsLive (x : Lab P) (f : LabFrame) : Type 0 where
-    pub recent : begun_on P.words f.on x.manager.machine ≤ f.request + span_of f.on
+    pub recent : begun_on P.words f.on x.manager.machine ≤ f.request + span_of (numbers_of f.on)
     pub remembered : f.idles ≡ idles_on P f.on x
 
   -- the frame of this number was sent, it's live, and it's delivered to the end for which it is meant

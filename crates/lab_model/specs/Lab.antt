@@ -10,8 +10,8 @@ use Rattle.bus_model.specs.Request.{idles_of}
 use Rattle.bmc_board.specs.declared.activity.Activity.{Activity}
 use Rattle.bmc_board.specs.State.{State, state, opened as opened_board}
 use Rattle.undo_model.specs.Machine.{opened as opened_machine}
-use Rattle.lab_model.specs.Values.{Value, Asks, Tells, Part, parts_of}
-use Rattle.lab_model.specs.PortSteps.{PortState, Deed, hears, hears_parts, idles, quiet_port}
+use Rattle.lab_model.specs.Values.{Value, Asks, Tells, Part}
+use Rattle.lab_model.specs.PortSteps.{PortState, Deed, hears, hears_all, idles, quiet_port}
 use Rattle.plans.specs.declared.names.Names.{Names}
 use Rattle.lab_model.specs.ManagerSteps.{own_on, Plans, Call, ManagerState, ManagerDeed, Sent, called, manager_hears}
 
@@ -127,7 +127,7 @@ module _ (P : Plans) (setup : BoardFile) where
   step x (ToBmc number) = delivered (slice_get x.frames number) x
   step x (ToMgr number) = returned (slice_get x.frames number) x
   step x (OtherIpmb r) = port_does P Ipmb ToOthers 0 (hears setup x.ipmb x.board (Asks r)) x
-  step x (OtherSmbus m) = port_does P Smbus ToOthers 0 (hears_parts setup x.smbus x.board (parts_of m)) x
+  step x (OtherSmbus m) = port_does P Smbus ToOthers 0 (hears_all setup x.smbus x.board m) x
   step x (Noise on bytes) = x
   step x (Idles on requester) = with_port P on (idles requester (port_on P on x)) x
   step x (OnBench activity) = record x { board = state x.board.records activity }

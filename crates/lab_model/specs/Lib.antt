@@ -6,9 +6,13 @@ pub mod Lab
 pub mod Faults
 pub mod Own
 pub mod Honest
+pub mod Clean
 pub mod Example
 pub mod Cuts
 pub mod LongExample
 pub mod Stepwise
 pub mod PortEvents
 pub mod ManagerEvents
+pub mod PacketExample
+pub mod FullExample
+pub mod Marks

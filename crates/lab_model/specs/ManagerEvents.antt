@@ -16,12 +16,13 @@ use Rattle.bus_model.specs.Bytes.{is_busy_code, IsReplyOn}
 use Rattle.bus_model.specs.Answering.{TestsAgree}
 use Rattle.bus_model.specs.PacketBus.{PacketBus, rules_of, reply_name, Ends, PacketReachesManager, packet_happens}
 use Rattle.bus_model.specs.PacketEffect.{HasPacketEffect}
-use Rattle.undo_model.specs.Machine.{Task, reply_of}
+use Rattle.undo_model.specs.Machine.{Part as TaskPart, reply_of}
 use Rattle.undo_model.specs.Line.{brings_whole, brings_packets}
 use Rattle.undo_family.specs.Wires.{answered_from}
 use Rattle.packet_model.specs.Seen.{seen, WaitsAlike}
+use Rattle.plans.specs.declared.names.Names.{Names}
 use Rattle.lab_model.specs.Bytes.{response_bytes}
-use Rattle.lab_model.specs.ManagerSteps.{Names, Plans, ManagerState, ManagerDeed, is_answer, rests, taken_or, heeded_on, open_count, open_bytes, hears_response, hears_packet}
+use Rattle.lab_model.specs.ManagerSteps.{Plans, ManagerState, ManagerDeed, is_answer, rests, taken_or, heeded_on, open_count, open_bytes, hears_response, hears_packet}
 use Rattle.lab_model.specs.PortEvents.{name_in}
 
 -- the bytes are a reply's that says that the port is busy
@@ -69,10 +70,10 @@ module _ (P : Plans) where
   takes_if on None m = rests P m
   takes_if on (Some reply) m = taken_or P m (reply_of P.words (answered_from on reply) m.machine)
 
-  -- the manager's open task on the bus is heeded, and the model's open request has its bytes
-  pub record IsOpenOn (on : Bus) (m : ManagerState P) (task : Task P.words) (s : BusState) : Type 0 where
-    pub heeded : heeded_on P on m.machine.stage ≡ Some task
-    pub opened : slice_get s.begun (length s.taken) ≡ Some (open_bytes P on m task)
+  -- the manager's open request on the bus is heeded, and the model's has its bytes
+  pub record IsOpenOn (on : Bus) (m : ManagerState P) (open_part : TaskPart P.words) (s : BusState) : Type 0 where
+    pub heeded : heeded_on P on m.machine.stage ≡ Some open_part
+    pub opened : slice_get s.begun (length s.taken) ≡ Some (open_bytes P on m open_part)
 
   -- What waits at the model's manager waits at the lab's, under every name, and that is of the open request alone, which has the count
   -- and the controller of the model.
@@ -97,10 +98,10 @@ module _ (P : Plans) where
   -- What comes of a live reply, where the manager's test takes what the model takes and the event does what it does in each honest
   -- schedule. While no request is heeded on the bus nothing comes of anything.
   pub record RepliesAreBrought : Type 0 where
-    pub responses : (m : ManagerState P) (task : Task P.words) (b : Rules) (s : BusState) (which : ℕ) (r : Response) → TestsAgree numbers.Ipmb b s
-        → IsOpenOn Ipmb m task s → IsRepliesResponse m.names b s which r → BringsResponse m b s which r
-    pub parts : (m : ManagerState P) (task : Task P.words) (b : PacketBus) (x : Ends) (which place : ℕ) (p : Packet) → TestsAgree numbers.Pldm (rules_of b) x.bus
-        → HasPacketEffect b x (PacketReachesManager which place) → IsOpenOn Smbus m task x.bus → IsManagerOf m b x → IsRepliesPart m.names b x which place p
+    pub responses : (m : ManagerState P) (open_part : TaskPart P.words) (b : Rules) (s : BusState) (which : ℕ) (r : Response) → TestsAgree numbers.Ipmb b s
+        → IsOpenOn Ipmb m open_part s → IsRepliesResponse m.names b s which r → BringsResponse m b s which r
+    pub parts : (m : ManagerState P) (open_part : TaskPart P.words) (b : PacketBus) (x : Ends) (which place : ℕ) (p : Packet) → TestsAgree numbers.Pldm (rules_of b) x.bus
+        → HasPacketEffect b x (PacketReachesManager which place) → IsOpenOn Smbus m open_part x.bus → IsManagerOf m b x → IsRepliesPart m.names b x which place p
         → BringsPart m b x which place p
     pub unheeded_response : (m : ManagerState P) (r : Response) → heeded_on P Ipmb m.machine.stage ≡ None → hears_response P r m ≡ rests P m
     pub unheeded_part : (m : ManagerState P) (p : Packet) → heeded_on P Smbus m.machine.stage ≡ None → hears_packet P p m ≡ rests P m

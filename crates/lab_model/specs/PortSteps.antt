@@ -166,6 +166,10 @@ hears_parts setup port before (p ∷ ps) =
     let rest = hears_parts setup first.port first.board ps in
     record { port = rest.port; board = rest.board; sent = first.sent ++ rest.sent }
 
+-- all packets of a message come, one after another, if they go to the port's address
+abbrev pub hears_all : BoardFile → PortState → State → Message → Deed
+hears_all setup port before m = if m.envelope.destination == port.wire then hears_parts setup port before (parts_of m) else stays port before
+
 -- ---- any frame
 
 -- the port hears the frames to its address, and a response is nothing to it

@@ -2,6 +2,8 @@
 
 ghost use Rattle.lab_model.specs.Example.{ShowsFaults, TwoStepsUndone, RepliesOnce, SettlesAgain};
 ghost use Rattle.lab_model.specs.LongExample.{CopiesAge, NinthIsBusy, AnswersPackets, JoinsPackets};
+ghost use Rattle.lab_model.specs.PacketExample.{SetsInPackets, TakesPackets};
+ghost use Rattle.lab_model.specs.FullExample.{FillsUp};
 
 /// Frames that weren't sent, that go another way or that are somebody else's, noise that is a frame, and an idle while a request is open.
 pub fn faults_are_shown()
@@ -41,4 +43,19 @@ pub fn packets_are_answered()
 /// A message of four packets that come out of order, twice, with other requesters' messages in between.
 pub fn packets_are_joined()
     ensures { JoinsPackets }
+{}
+
+/// A manager sends a request of four packets twice, which come out of order, with other requesters' messages in between; and takes the reply.
+pub fn set_in_packets_is_answered()
+    ensures { SetsInPackets }
+{}
+
+/// The manager takes a reply of two packets, in order, and drops what waits where the port says that it is busy.
+pub fn reply_in_packets_is_taken()
+    ensures { TakesPackets }
+{}
+
+/// A lab sends 65,536 frames, and refuses the event after that.
+pub fn lab_fills_up()
+    ensures { FillsUp }
 {}

@@ -1,5 +1,5 @@
 -- What a window has under each number.
-use Rattle.std.proofs.Common.{◌≡◌, ℕ, suc, zero, ◌-◌, ◌*◌, ◌%◌, ◌^◌, ◌<◌, ◌≤◌, min, Bool, true, false, eqb, ◌/◌, ◌≢◌, ◌&&◌, List, [], ◌∷◌, length, get_or, take, drop, Option, Some, None, cond, refl, sym, ◌∙◌, ap, subst, inl, inr, arith, bit_and, bit_or}
+use Rattle.std.proofs.Common.{◌≡◌, ℕ, suc, zero, ◌-◌, ◌*◌, ◌%◌, ◌^◌, ◌<◌, ◌≤◌, min, Bool, true, false, eqb, ◌/◌, ◌≢◌, List, [], ◌∷◌, length, get_or, Option, Some, None, cond, refl, sym, ◌∙◌, ap, subst, inl, inr, arith, bit_and, bit_or}
 use Rattle.std.specs.Prelude.{slice_get}
 use Rattle.std.specs.Int.{bit_at, w64}
 use Rattle.std.specs.Str.{bytes_eq}
@@ -7,8 +7,6 @@ use Rattle.std.proofs.Math.ListN.{set}
 use Rattle.std.proofs.lemmas.Bool.{eq-eqb, ne_eqb, cases_eq, cond-true, cond-false}
 use Rattle.std.proofs.lemmas.Nat.Bits.{bit_at_set_same, bit_at_set_other, bit_at_and, bit_at_not, bit_at-lt, shr_and_one}
 use Rattle.std.proofs.lemmas.Option.{slice_get_read}
-use Rattle.std.proofs.lemmas.List.{take_all}
-use lib.Pointwise.{pointwise}
 use Rattle.bus_model.specs.Numbering.{is_next}
 use Rattle.windows.specs.Circle.{next_bit}
 use Rattle.windows.specs.Window.{Pair, Room, pair_at, reply_to, IsKept}
@@ -94,10 +92,3 @@ found_here numbers number shift place bytes p b room old is same at bit many on 
     ∙ ap (λ (n : ℕ). reply_to bytes (pair_at room n)) (sym same)
     ∙ found room shift bytes p b (bit_set room.used shift bit)
     (ap (slice_get room.places) (sym at) ∙ slice_get_read room.places numbers place p (sym many) (omega arith) read) tells
-
--- the bytes of a slice that has one
-pub is_bytes : (s : List ℕ) (first : ℕ) (rest : List ℕ) → 1 ≤ length s → first ≡ get_or s 0 0 → pointwise eqb rest (take (length s - 1) (drop 1 s)) ≡ bytes_eq (first ∷ rest) s
-is_bytes [] first rest some head = absurd (omega arith)
-is_bytes (x ∷ xs) first rest some head =
-    ap (pointwise eqb rest) (take_all (length (x ∷ xs) - 1) xs (omega arith))
-    ∙ ap (λ (t : Bool). t && pointwise eqb rest xs) (sym (eq-eqb first x head))

@@ -19,7 +19,8 @@ use two_wire::Below;
 type Slot = Below<8>;
 
 /// The requests that a port carried out, with their replies, for at most eight requesters. There are 64 `NUMBERS` on IPMB, and
-/// 32 of PLDM. A request and a reply have at most `CAP` bytes.
+/// 32 of PLDM. A reply has at most `CAP` bytes, and so has
+/// a request behind its first.
 #[derive(Drop)]
 pub struct Windows<const NUMBERS: u8, const CAP: usize> {
     /// The window that each requester has, by its byte.
@@ -95,7 +96,7 @@ impl<const NUMBERS: u8, const CAP: usize> Windows<NUMBERS, CAP> {
     /// Gives the requester, which has no window, a free one, and keeps the request there.
     fn begin(&mut self, request: &Request<'_, NUMBERS>, reply: &[u8])
         requires none { slot_of self.old request.now.requester ≡ None }
-        requires room { length request.now.rest.now < CAP }
+        requires room { length request.now.rest.now ≤ CAP }
         requires fits { length reply.now ≤ CAP }
         ensures carried { (reading : Reading) (log : List Entry) → Keeps NUMBERS reading self.old log
             → outcome (is_above NUMBERS) (request_of reading request.now) log ≡ IsNew
@@ -114,7 +115,7 @@ impl<const NUMBERS: u8, const CAP: usize> Windows<NUMBERS, CAP> {
 
     /// Keeps a request that was carried out, with its reply. For a ninth requester nothing changes.
     pub fn keep(&mut self, request: &Request<'_, NUMBERS>, reply: &[u8])
-        requires room { length request.now.rest.now < CAP }
+        requires room { length request.now.rest.now ≤ CAP }
         requires fits { length reply.now ≤ CAP }
         ensures carried { (reading : Reading) (log : List Entry) → Keeps NUMBERS reading self.old log
             → outcome (is_above NUMBERS) (request_of reading request.now) log ≡ IsNew

@@ -31,7 +31,7 @@ fn hear<const NUMBERS: u8, const CAP: usize>(
     command: u8,
     reply: u8,
 ) -> Done
-    requires { 2 ≤ CAP }
+    requires { 1 ≤ CAP }
 {
     let request = Request {
         requester,

@@ -12,37 +12,47 @@ use two_wire::{Bytes, Data};
 /// A request that was carried out, and its reply, as bytes.
 #[derive(Drop)]
 struct Place<const CAP: usize> {
-    request: Bytes<CAP>,
+    /// The request's first byte.
+    first: u8,
+    /// The request's other bytes.
+    rest: Bytes<CAP>,
     reply: Bytes<CAP>,
 }
 
 impl<const CAP: usize> Model for Place<CAP> {
+    ghost use Rattle.std.specs.Prelude.{◌∷◌};
     ghost use Rattle.windows.specs.Window.{Pair};
 
     ghost Value = { Pair };
 
-    ghost view = { λ p. record { request = p.request; reply = p.reply } };
+    ghost view = { λ p. record { request = p.first ∷ p.rest; reply = p.reply } };
 }
 
 impl<const CAP: usize> Place<CAP> {
+    /// A place in which nothing was put.
+    fn new() -> Self {
+        Place {
+            first: 0,
+            rest: Bytes::new(),
+            reply: Bytes::new(),
+        }
+    }
+
     /// Whether the request is of these bytes.
     fn is(&self, first: u8, rest: &[u8]) -> bool
         ensures { result ≡ bytes_eq (first ∷ rest.now) self.now.request }
     {
-        match self.request.as_slice() {
-            [head, tail @ ..] => first == *head && rest == tail,
-            [] => false,
-        }
+        first == self.first && rest == self.rest.as_slice()
     }
 
     /// Puts this request and its reply in place of those that are there.
     fn set(&mut self, first: u8, rest: &[u8], reply: &[u8])
-        requires room { length rest.now < CAP }
+        requires room { length rest.now ≤ CAP }
         requires fits { length reply.now ≤ CAP }
         ensures { self.new ≡ record { request = first ∷ rest.now; reply = reply.now } }
     {
-        self.request.replace(&[first]);
-        self.request.extend_from_slice(rest);
+        self.first = first;
+        self.rest.replace(rest);
         self.reply.replace(reply);
     }
 }
@@ -76,10 +86,7 @@ impl<const NUMBERS: u8, const CAP: usize> Window<NUMBERS, CAP> {
     {
         let mut places = Vec::with_capacity(alloc, usize::from(NUMBERS))?;
         for _number in 0..NUMBERS {
-            places.push(Place {
-                request: Bytes::new(),
-                reply: Bytes::new(),
-            })?;
+            places.push(Place::new())?;
         }
         Ok(Window { used: 0, places })
     }
@@ -103,7 +110,7 @@ impl<const NUMBERS: u8, const CAP: usize> Window<NUMBERS, CAP> {
     /// Keeps a request and its reply at its number, and forgets the next half of the circle.
     pub fn keep(&mut self, number: u8, first: u8, rest: &[u8], reply: &[u8])
         requires on { number < NUMBERS }
-        requires room { length rest.now < CAP }
+        requires room { length rest.now ≤ CAP }
         requires fits { length reply.now ≤ CAP }
         ensures { IsKept NUMBERS number (record { request = first ∷ rest.now; reply = reply.now }) self.old self.new }
     {
