@@ -31,10 +31,7 @@ not_present_refuses = record {
 }
 
 pub unknown_is_refused : UnknownIsRefused
-unknown_is_refused setup (key.Thresholds sensor) = not_present_refuses
-unknown_is_refused setup (key.Hysteresis sensor) = not_present_refuses
-unknown_is_refused setup key.PowerPolicy = not_present_refuses
-unknown_is_refused setup key.Watchdog = not_present_refuses
+unknown_is_refused setup _ = not_present_refuses
 
 -- ---- live commands
 

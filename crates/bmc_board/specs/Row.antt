@@ -9,10 +9,10 @@ use Rattle.cfg_records.specs.declared.board_file.BoardFile.{BoardFile}
 use Rattle.record_kinds.specs.declared.limits.Limits.{Limits}
 use Rattle.record_kinds.specs.Limits.{sets, outcome, set_reply}
 use Rattle.record_kinds.specs.Boards.{limits_at}
-use Rattle.bmc_board.specs.declared.request.Request.{Request}
-use Rattle.bmc_board.specs.declared.request.Request.TheVariants.{Set}
+use Rattle.bmc_board.specs.Request.{Request}
+use Rattle.bmc_board.specs.Request.{Set}
 use Rattle.bmc_board.specs.Request.{asked_by}
-use Rattle.bmc_board.specs.State.{State, state}
+use Rattle.bmc_board.specs.State.{State, state, IsUnchanged}
 use Rattle.bmc_board.specs.Replies.{done, refused, unknown_code}
 use Rattle.bmc_board.specs.Answer.{Given, activity_after, serve}
 
@@ -29,12 +29,12 @@ pub record IsRefused (limits : Limits) (old : List ℕ) (op : Op) (before : Stat
   pub no_value : (new : List ℕ) → ¬ sets limits op old new
   pub has_fault : outcome limits op old ≡ Err fault
   pub replied : answered ≡ refused fault
-  pub left : after ≡ before
+  pub left : IsUnchanged before after
 
 -- a Set of a record
 abbrev pub Sets : Option Limits → Option (List ℕ) → ℕ → Op → State → Answered → State → Type 0
 Sets (Some limits) (Some old) unknown op before answered after = IsCarriedOut limits old op before answered after ⊎ IsRefused limits old op before answered after
-Sets _ _ unknown op before answered after = (answered ≡ refused unknown) × (after ≡ before)
+Sets _ _ unknown op before answered after = (answered ≡ refused unknown) × IsUnchanged before after
 
 -- the answer, with the state after it, is this
 abbrev pub Is : Answered → State → Given → Type 0

@@ -27,6 +27,6 @@ opening = record { live = live_at_opening }
 abbrev pub opened : BoardFile → State
 opened file = state (records_of (pairs_of file)) opening
 
--- what a refusal leaves is what was there
+-- a refused request, and anything that is no request, leaves what was there
 abbrev pub IsUnchanged : State → State → Type 0
 IsUnchanged before after = after ≡ before

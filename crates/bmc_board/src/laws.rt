@@ -18,7 +18,7 @@ pub fn codes_law()
     ensures unknown { UnknownIsRefused }
 {}
 
-/// What a refused request leaves is what was there.
+/// A refused request leaves what was there.
 pub fn refusal_law()
     ensures { RefusedIsUnchanged }
 {}
@@ -46,9 +46,9 @@ pub fn decode_law()
     ensures plain { UndosArePlain }
 {}
 
-/// What a Get replies is a reply from which `inverse` makes an operation wherever one undoes it. Where a record was got and then set,
-/// and the Set has an inverse from the Get reply, the request of that inverse is carried out, and then every record of the board is
-/// what it was before, whoever asks, and whatever became of what isn't configuration.
+/// A Get replies data from which `inverse` makes an operation wherever one undoes it. Where a record was got and then set, and the Set
+/// has an inverse from the Get reply, the request of that inverse is carried out, and then every record of the board is what it was
+/// before, whoever asks, and whatever became of the activity.
 pub fn undo_law()
     ensures reply { IsAReply }
     ensures undone { IsUndone }

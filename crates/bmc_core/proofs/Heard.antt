@@ -1,7 +1,7 @@
 -- What a port does with a request's IPMB frame.
 use Rattle.std.proofs.Common.{◌≡◌, ℕ, List, Result, Ok, Err, Option, Some, None, find, refl, ap, subst}
 use Rattle.ipmb_frame.specs.declared.fault.FrameFault.{FrameFault}
-use Rattle.ipmb_frame.specs.declared.message.Request.{Request}
+use Rattle.ipmb_frame.specs.declared.message.Request.{Request as IpmbRequest}
 use Rattle.ipmb_frame.specs.declared.message.Msg.{Msg}
 use Rattle.ipmb_frame.specs.declared.message.Msg.TheVariants as msg
 use Rattle.ipmb_frame.specs.Fault.{has_fault, faults}
@@ -15,11 +15,11 @@ use Rattle.bmc_core.specs.Outs.{ignored}
 use Rattle.bmc_core.specs.IpmbPort.{IsTo, IsAnswered, HearsFrame}
 
 -- the request that was read is the only message that the bytes are
-same_request : (bytes : List ℕ) (read request : Request) → ((m : Msg) → IsMessage m bytes → (let r : Result Msg FrameFault = Ok (msg.Request read) in r) ≡ Ok m) → IsMessage (msg.Request request) bytes → read ≡ request
+same_request : (bytes : List ℕ) (read request : IpmbRequest) → ((m : Msg) → IsMessage m bytes → (let r : Result Msg FrameFault = Ok (msg.Request read) in r) ≡ Ok m) → IsMessage (msg.Request request) bytes → read ≡ request
 same_request bytes read request whole is = let one : (let r : Result Msg FrameFault = Ok (msg.Request read) in r) ≡ Ok (msg.Request request) = whole (msg.Request request) is in cc
 
 -- the response to the request that was read is sent
-pub hears_request : (at : At) (setup : BoardFile) (before : State) (bytes : List ℕ) (read : Request) (after : State) (out : Out)
+pub hears_request : (at : At) (setup : BoardFile) (before : State) (bytes : List ℕ) (read : IpmbRequest) (after : State) (out : Out)
     → (let n : Option FrameFault = None in n) ≡ find (has_fault bytes) faults
     → ((m : Msg) → IsMessage m bytes → (let r : Result Msg FrameFault = Ok (msg.Request read) in r) ≡ Ok m)
     → IsTo at bytes
@@ -29,7 +29,7 @@ hears_request at setup before bytes read after out faultless whole ours answer =
   faulty = λ fault is. cc;
   not_ours = λ m is away. absurd (away ours);
   no_request = λ r is _. let other : (let r : Result Msg FrameFault = Ok (msg.Request read) in r) ≡ Ok (msg.Response r) = whole (msg.Response r) is in cc;
-  request = λ r is _. subst (λ (q : Request). IsAnswered setup before q out after) (same_request bytes read r whole is) answer;
+  request = λ r is _. subst (λ (q : IpmbRequest). IsAnswered setup before q out after) (same_request bytes read r whole is) answer;
 }
 
 -- bytes with a fault are ignored

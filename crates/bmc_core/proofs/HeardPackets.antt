@@ -13,7 +13,7 @@ use Rattle.cfg_records.specs.declared.board_file.BoardFile.{BoardFile}
 use Rattle.bmc_core.specs.declared.out.Out.{Out}
 use Rattle.bmc_core.specs.declared.out.Reason.TheVariants as reason
 use Rattle.bmc_core.specs.declared.port.Port.{Port}
-use Rattle.bmc_board.specs.State.{State}
+use Rattle.bmc_board.specs.State.{State, IsUnchanged}
 use Rattle.bmc_core.specs.Outs.{ignored, waiting}
 use Rattle.bmc_core.specs.SmbusPort.{Ignores, HasTaken, HearsMessage, HearsOurs, HearsPacket}
 
@@ -39,7 +39,7 @@ takes port own p taken kept same d w t after = record {
 }
 
 pub hears_waiting : (setup : BoardFile) (port : Port) (before : State) (p : Packet) (out : Out) (next : Port) (after : State)
-    → Takes port p Waiting next → out ≡ waiting → after ≡ before → HearsOurs setup port before p out next after
+    → Takes port p Waiting next → out ≡ waiting → IsUnchanged before after → HearsOurs setup port before p out next after
 hears_waiting setup port before p out next after h sent left = record {
   dropped = λ cause is. let d : (let o : Option DropCause = None in o) ≡ drop_cause port.endpoint (seen port.assembler) p = h.is_dropped in cc;
   taken = λ is. (sent, h.has_taken, left);
@@ -47,7 +47,7 @@ hears_waiting setup port before p out next after h sent left = record {
 }
 
 pub hears_dropped : (setup : BoardFile) (port : Port) (before : State) (p : Packet) (cause : DropCause) (out : Out) (next : Port) (after : State)
-    → Takes port p (Dropped cause) next → out ≡ ignored (reason.Dropped cause) → after ≡ before → HearsOurs setup port before p out next after
+    → Takes port p (Dropped cause) next → out ≡ ignored (reason.Dropped cause) → IsUnchanged before after → HearsOurs setup port before p out next after
 hears_dropped setup port before p cause out next after h sent left = record {
   dropped = λ other is.
       let d : Some cause ≡ drop_cause port.endpoint (seen port.assembler) p = h.is_dropped in

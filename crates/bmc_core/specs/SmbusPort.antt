@@ -23,7 +23,7 @@ use Rattle.bmc_core.specs.declared.out.Reason.{Reason}
 use Rattle.bmc_core.specs.declared.out.Reason.TheVariants as reason
 use Rattle.bmc_core.specs.declared.out.Done.TheVariants as done
 use Rattle.bmc_core.specs.declared.port.Port.{Port}
-use Rattle.bmc_board.specs.State.{State}
+use Rattle.bmc_board.specs.State.{State, IsUnchanged}
 use Rattle.bmc_board.specs.Answer.{answer_of}
 use Rattle.bmc_core.specs.Outs.{ignored, waiting, sent}
 
@@ -31,7 +31,7 @@ use Rattle.bmc_core.specs.Outs.{ignored, waiting, sent}
 pub record Ignores (why : Reason) (port : Port) (before : State) (out : Out) (next : Port) (after : State) : Type 0 where
   pub sent : out ≡ ignored why
   pub stays : next ≡ port
-  pub left : after ≡ before
+  pub left : IsUnchanged before after
 
 -- ---- replies
 
@@ -62,7 +62,7 @@ pub record AnswersControl (port : Port) (before : State) (e : Envelope) (r : Con
   pub named : next ≡ record port { endpoint = eid_after port.endpoint r.command r.content }
   pub sent : AreFramesOf (reply_message next e (control_reply_to port.endpoint r)) (sent out)
   pub did : out.done ≡ done.Control
-  pub left : after ≡ before
+  pub left : IsUnchanged before after
 
 abbrev pub HearsControl : Option ControlRequest → Port → State → Envelope → Out → Port → State → Type 0
 HearsControl (Some r) port before e out next after = AnswersControl port before e r out next after
@@ -116,12 +116,12 @@ pub record HasTaken (port : Port) (p : Packet) (next : Port) : Type 0 where
 pub record Drops (why : Reason) (port : Port) (before : State) (p : Packet) (out : Out) (next : Port) (after : State) : Type 0 where
   pub sent : out ≡ ignored why
   pub dropped : HasTaken port p next
-  pub left : after ≡ before
+  pub left : IsUnchanged before after
 
 -- a packet to the port's address is dropped, or it's taken and others are to come, or it ends one message
 pub record HearsOurs (setup : BoardFile) (port : Port) (before : State) (p : Packet) (out : Out) (next : Port) (after : State) : Type 0 where
   pub dropped : (cause : DropCause) → drop_cause port.endpoint (seen port.assembler) p ≡ Some cause → Drops (reason.Dropped cause) port before p out next after
-  pub taken : IsTaken port.endpoint (seen port.assembler) p → (out ≡ waiting) × HasTaken port p next × (after ≡ before)
+  pub taken : IsTaken port.endpoint (seen port.assembler) p → (out ≡ waiting) × HasTaken port p next × IsUnchanged before after
   pub whole : (m : Message) → MakesWhole port.endpoint (seen port.assembler) p m
       → (taken : Port) × HasTaken port p taken × HearsMessage setup taken before m out next after
 

@@ -4,14 +4,11 @@ use Rattle.two_wire.specs.declared.Bus.{Bus}
 use Rattle.mctp_net.specs.Assembly.{nothing}
 use Rattle.mctp_net.specs.Places.{seen}
 use Rattle.cfg_records.specs.declared.board_file.BoardFile.{BoardFile}
-use Rattle.cfg_records.specs.Records.{Records, records_of}
-use Rattle.cfg_records.specs.Boards.{pairs_of}
 use Rattle.cfg_records.specs.Sample.{IsSampleBoard}
-use Rattle.bmc_board.specs.declared.activity.Activity.{Activity}
 use Rattle.bmc_core.specs.declared.out.Out.{Out}
 use Rattle.bmc_core.specs.declared.port.At.{At}
 use Rattle.bmc_core.specs.declared.port.Port.{Port}
-use Rattle.bmc_board.specs.State.{State, state, opening, opened}
+use Rattle.bmc_board.specs.State.{State, opened}
 use Rattle.bmc_core.specs.Outs.{sent}
 use Rattle.bmc_core.specs.Port.{Hears}
 use Rattle.bmc_lab.specs.declared.report.Report.{Report}
@@ -27,13 +24,12 @@ is_fresh port bus at place same stands named empty = record {
   empty = empty;
 }
 
--- a port, over a board that stands as the file says, hears as one of a board that was opened
-pub as_opened : (port : Port) (setup file : BoardFile) (records : Records) (activity : Activity) (bytes : List ℕ) (out : Out) (next : Port) (after : State) → setup ≡ file → records ≡ records_of (pairs_of file) → activity ≡ opening
-    → Hears setup port (state records activity) bytes out next after → Hears file port (opened file) bytes out next after
-as_opened port setup file records activity bytes out next after same begins idle heard =
+-- a port, over a board of this file that was opened, hears as one of the file's opened state
+pub as_opened : (port : Port) (setup file : BoardFile) (before : State) (bytes : List ℕ) (out : Out) (next : Port) (after : State) → setup ≡ file → before ≡ opened file
+    → Hears setup port before bytes out next after → Hears file port (opened file) bytes out next after
+as_opened port setup file before bytes out next after same begins heard =
     subst (λ (f : BoardFile). Hears f port (opened file) bytes out next after) same
-    (subst (λ (a : Activity). Hears setup port (state (records_of (pairs_of file)) a) bytes out next after) idle
-    (subst (λ (r : Records). Hears setup port (state r activity) bytes out next after) begins heard))
+    (subst (λ (s : State). Hears setup port s bytes out next after) begins heard)
 
 -- a report of what the port did tells it
 pub told : {E : Type 0} (r : Result Report E) (bus : Bus) (bytes : List ℕ) (file : BoardFile) (port : Port) (out : Out) (next : Port) (after : State) → IsSampleBoard file → IsFresh bus port → Hears file port (opened file) bytes out next after

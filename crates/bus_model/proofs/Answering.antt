@@ -1,7 +1,7 @@
 -- The manager's test on bytes takes of live content what the model takes by the number.
-use Rattle.std.proofs.Common.{◌≡◌, ◌≢◌, ℕ, ◌+◌, ◌*◌, ◌/◌, ◌%◌, ◌<◌, ◌≤◌, Bool, true, false, ◌&&◌, eqb, cond, List, [], ◌∷◌, length, Option, Some, None, refl, sym, ◌∙◌, ap, subst, arith, inl, inr}
+use Rattle.std.proofs.Common.{◌≡◌, ℕ, ◌+◌, ◌*◌, ◌/◌, ◌%◌, ◌<◌, ◌≤◌, Bool, true, false, ◌&&◌, eqb, cond, List, [], ◌∷◌, length, Option, Some, None, refl, sym, ◌∙◌, ap, subst, arith, inl, inr}
 use Rattle.std.specs.Prelude.{slice_get, slice_index}
-use Rattle.std.proofs.lemmas.Bool.{and_parts, and_from, and_right, eqb-true, eq-eqb, ne_eqb, lt-ltb, cond_both, cond-true, cases_Bool, true≢false, not_from_false}
+use Rattle.std.proofs.lemmas.Bool.{and_parts, and_from, and_right, eqb-true, eq-eqb, lt-ltb, cond_both, cond-true, cases_Bool, true≢false, not_from_false, not_from_true}
 use Rattle.std.proofs.lemmas.Option.{same_Some, slice_get_within}
 use Rattle.bus_model.specs.declared.numbers.Numbers.{Numbers}
 use Rattle.bus_model.specs.declared.numbers.Numbers.TheVariants.{Ipmb, Pldm}
@@ -9,7 +9,7 @@ use Rattle.bus_model.specs.Numbering.{Bus, ipmb, smbus}
 use Rattle.bus_model.specs.BusState.{BusState, Content, Ask, Reply, is_open, taken_content}
 use Rattle.bus_model.specs.PacketBus.{rules_of}
 use Rattle.bus_model.specs.PacketSchedule.{JoinRule}
-use Rattle.bus_model.specs.Bytes.{IpmbHeader, ipmb_request, ipmb_reply, IsIpmbRequest, IsIpmbReply, ipmb_answers, PldmHeader, pldm_request, pldm_reply, IsPldmRequest, IsPldmReply, pldm_answers, busy_code, IsRequestOn, IsReplyOn, answers}
+use Rattle.bus_model.specs.Bytes.{IpmbHeader, ipmb_request, ipmb_reply, IsIpmbRequest, IsIpmbReply, ipmb_answers, PldmHeader, pldm_request, pldm_reply, IsPldmRequest, IsPldmReply, pldm_answers, is_busy_code, IsRequestOn, IsReplyOn, answers}
 use Rattle.bus_model.specs.Answering.{AreWritten, taken_by_test, TestsAgree, TestIsModel, TestIsModelInPackets, BusyFails}
 use Rattle.bus_model.proofs.NumberLaws.{IsNumbering, ipmb_numbers, smbus_numbers}
 use Rattle.bus_model.proofs.Sound.{Fits}
@@ -19,7 +19,7 @@ use Rattle.bus_model.proofs.PacketLaws.{AsksNoLess, all_imply}
 
 -- ---- the tests
 
-ipmb_accepts : (code : ℕ) (request reply : List ℕ) → code ≢ 192 → IsIpmbReply code request reply → ipmb_answers request reply ≡ true
+ipmb_accepts : (code : ℕ) (request reply : List ℕ) → is_busy_code code ≡ false → IsIpmbReply code request reply → ipmb_answers request reply ≡ true
 ipmb_accepts code request reply free r =
     let h = r.header in
     let in_one = r.is_header.responder in let in_other = r.is_header.requester in
@@ -28,7 +28,7 @@ ipmb_accepts code request reply free r =
     let same : (4 * r.number + h.responder_lun) / 4 ≡ (4 * r.number + h.requester_lun) / 4 = omega arith in
     ap (λ (x : List ℕ). ipmb_answers x reply) r.request_spelled
     ∙ ap (ipmb_answers asked) r.reply_spelled
-    ∙ and_from _ _ (and_from _ _ (eq-eqb _ _ next) (eq-eqb _ _ same)) (and_from _ _ (eq-eqb h.command h.command refl) (not_from_false _ (ne_eqb code 192 free)))
+    ∙ and_from _ _ (and_from _ _ (eq-eqb _ _ next) (eq-eqb _ _ same)) (and_from _ _ (eq-eqb h.command h.command refl) (not_from_false _ free))
 
 -- bits 7:2 of two bytes
 same_upper : (m n low other : ℕ) → low < 4 → other < 4 → (4 * m + low) / 4 ≡ (4 * n + other) / 4 → m ≡ n
@@ -52,7 +52,7 @@ ipmb_numbered code m n opened asked reply o a r passes =
     ap (λ (x : List ℕ). ipmb_answers x (ipmb_reply h r.number code r.body)) (sym o.spelled) ∙ ap (ipmb_answers opened) (sym r.reply_spelled) ∙ passes in
     own ∙ same_upper r.number m h.responder_lun o.header.requester_lun r.is_header.responder o.is_header.requester (eqb-true _ _ (and_parts _ _ (and_parts _ _ here).0).1)
 
-pldm_accepts : (code : ℕ) (request reply : List ℕ) → code ≢ 4 → IsPldmReply code request reply → pldm_answers request reply ≡ true
+pldm_accepts : (code : ℕ) (request reply : List ℕ) → is_busy_code code ≡ false → IsPldmReply code request reply → pldm_answers request reply ≡ true
 pldm_accepts code request reply free r =
     let h = r.header in
     let small = r.instance in
@@ -62,7 +62,7 @@ pldm_accepts code request reply free r =
     ap (λ (x : List ℕ). pldm_answers x reply) r.request_spelled
     ∙ ap (pldm_answers asked) r.reply_spelled
     ∙ and_from _ _ (and_from _ _ (and_from _ _ refl (eq-eqb _ _ clear)) (eq-eqb _ _ same))
-    (and_from _ _ (and_from _ _ (eq-eqb h.pldm_type h.pldm_type refl) (eq-eqb h.command h.command refl)) (not_from_false _ (ne_eqb code 4 free)))
+    (and_from _ _ (and_from _ _ (eq-eqb h.pldm_type h.pldm_type refl) (eq-eqb h.command h.command refl)) (not_from_false _ free))
 
 pldm_numbered : (code m n : ℕ) (opened asked reply : List ℕ) → IsPldmRequest m opened → IsPldmRequest n asked → IsPldmReply code asked reply → pldm_answers opened reply ≡ true → n ≡ m
 pldm_numbered code m n opened asked reply o a r passes =
@@ -73,7 +73,7 @@ pldm_numbered code m n opened asked reply o a r passes =
     ap (λ (x : List ℕ). pldm_answers x (pldm_reply h r.number code r.body)) (sym o.spelled) ∙ ap (pldm_answers opened) (sym r.reply_spelled) ∙ passes in
     own ∙ same_instance r.number m r.instance o.instance (eqb-true _ _ (and_parts _ _ (and_parts _ _ here).0).1)
 
-accepts : (kind : Numbers) (code : ℕ) (request reply : List ℕ) → code ≢ busy_code kind → IsReplyOn kind code request reply → answers kind request reply ≡ true
+accepts : (kind : Numbers) (code : ℕ) (request reply : List ℕ) → is_busy_code code ≡ false → IsReplyOn kind code request reply → answers kind request reply ≡ true
 accepts Ipmb code request reply free r = ipmb_accepts code request reply free r
 accepts Pldm code request reply free r = pldm_accepts code request reply free r
 
@@ -81,22 +81,22 @@ numbered : (kind : Numbers) (code m n : ℕ) (opened asked reply : List ℕ) →
 numbered Ipmb code m n opened asked reply o a r passes = ipmb_numbered code m n opened asked reply o a r passes
 numbered Pldm code m n opened asked reply o a r passes = pldm_numbered code m n opened asked reply o a r passes
 
-ipmb_busy : (opened : List ℕ) (h : IpmbHeader) (number : ℕ) (body : List ℕ) → ipmb_answers opened (ipmb_reply h number 192 body) ≡ false
-ipmb_busy [] h number body = refl
-ipmb_busy (f ∷ []) h number body = refl
-ipmb_busy (f ∷ n ∷ []) h number body = refl
-ipmb_busy (f ∷ n ∷ c ∷ rest) h number body = and_right _ _ (and_right _ _ refl)
+ipmb_busy : (code : ℕ) (opened : List ℕ) (h : IpmbHeader) (number : ℕ) (body : List ℕ) → is_busy_code code ≡ true → ipmb_answers opened (ipmb_reply h number code body) ≡ false
+ipmb_busy code [] h number body busy = refl
+ipmb_busy code (f ∷ []) h number body busy = refl
+ipmb_busy code (f ∷ n ∷ []) h number body busy = refl
+ipmb_busy code (f ∷ n ∷ c ∷ rest) h number body busy = and_right _ _ (and_right _ _ (not_from_true _ busy))
 
-pldm_busy : (opened : List ℕ) (h : PldmHeader) (number : ℕ) (body : List ℕ) → pldm_answers opened (pldm_reply h number 4 body) ≡ false
-pldm_busy [] h number body = refl
-pldm_busy (k ∷ []) h number body = refl
-pldm_busy (k ∷ f ∷ []) h number body = refl
-pldm_busy (k ∷ f ∷ t ∷ []) h number body = refl
-pldm_busy (k ∷ f ∷ t ∷ c ∷ rest) h number body = and_right _ _ (and_right _ _ refl)
+pldm_busy : (code : ℕ) (opened : List ℕ) (h : PldmHeader) (number : ℕ) (body : List ℕ) → is_busy_code code ≡ true → pldm_answers opened (pldm_reply h number code body) ≡ false
+pldm_busy code [] h number body busy = refl
+pldm_busy code (k ∷ []) h number body busy = refl
+pldm_busy code (k ∷ f ∷ []) h number body busy = refl
+pldm_busy code (k ∷ f ∷ t ∷ []) h number body busy = refl
+pldm_busy code (k ∷ f ∷ t ∷ c ∷ rest) h number body busy = and_right _ _ (and_right _ _ (not_from_true _ busy))
 
 pub busy_fails : (kind : Numbers) → BusyFails kind
-busy_fails Ipmb opened request reply r = ap (ipmb_answers opened) r.reply_spelled ∙ ipmb_busy opened r.header r.number r.body
-busy_fails Pldm opened request reply r = ap (pldm_answers opened) r.reply_spelled ∙ pldm_busy opened r.header r.number r.body
+busy_fails Ipmb code opened request reply busy r = ap (ipmb_answers opened) r.reply_spelled ∙ ipmb_busy code opened r.header r.number r.body busy
+busy_fails Pldm code opened request reply busy r = ap (pldm_answers opened) r.reply_spelled ∙ pldm_busy code opened r.header r.number r.body busy
 
 -- ---- what is taken
 

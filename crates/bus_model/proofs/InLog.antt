@@ -1,4 +1,4 @@
--- What the port's log shows of the manager is what it had carried before, and then what the bus counts as carried.
+-- The port's log shows of the manager the requests that it had carried out before, and then those that the bus counts as carried.
 use Rattle.std.proofs.Common.{◌≡◌, ℕ, ◌++◌, Bool, List, [], ◌∷◌, length, Option, Some, None, refl, sym, ◌∙◌, ap, append_assoc, append-nil}
 use Rattle.std.specs.Prelude.{slice_get, cond}
 use Rattle.std.proofs.lemmas.Bool.{cond_both, eq-eqb, ne_eqb}

@@ -1,4 +1,4 @@
--- A packet of a recent message at an end: what is whole is that message, and what waits is the beginning of one.
+-- A packet of a recent message at an end: a whole message is that one, and the packets that wait are the beginning of one.
 use Rattle.std.proofs.Common.{◌≡◌, ℕ, suc, zero, ◌+◌, ◌<◌, ◌≤◌, Bool, true, false, ◌||◌, eqb, ltb, not, List, [], ◌∷◌, ◌++◌, length, Option, Some, cond, refl, sym, ◌∙◌, ap, subst, ◌⊎◌, inl, inr}
 use Rattle.std.specs.Prelude.{slice_get, unwrap_or}
 use Rattle.std.proofs.lemmas.Bool.{cond_both, and_parts, and_from, eqb-true, eq-eqb, both_ways}
@@ -140,7 +140,7 @@ module _ (first : ℕ) (split : List ℕ → List Packet) (cutting : IsCutting s
     whole_is s bytes Drops e h = tt
     whole_is s bytes (Whole ss) e h = h ∙ e
 
-    -- a packet of a recent message: what is whole is that message, and what waits is an assembly still
+    -- a packet of a recent message: a whole message is that one, and the packets that wait are an assembly still
     pub assembly_step : (taken : List Sent) (s : Sent) (bytes : List ℕ) → IsAssembly lookup (tag_of first s.request) taken → lookup s.request ≡ Some bytes → In s.packet (split bytes) → begun ≤ s.request + 8
         → (IsWhole (takes taken s).0 → (t : Sent) → In t (waiting taken s) → begun ≤ t.request + 8)
         → WholeIs bytes (takes taken s).0 × IsAssembly lookup (tag_of first s.request) (takes taken s).1 × FirstIs s.request (takes taken s).0

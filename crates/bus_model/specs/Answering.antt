@@ -1,5 +1,5 @@
 -- The manager's test on bytes, and what the model takes by the number alone.
-use Rattle.std.specs.Prelude.{◌≡◌, ◌≢◌, ℕ, false, List, length, Option, Some, None, if◌then◌else◌, slice_get}
+use Rattle.std.specs.Prelude.{◌≡◌, ℕ, true, false, List, length, Option, Some, None, if◌then◌else◌, slice_get}
 use Rattle.bus_model.specs.declared.numbers.Numbers.{Numbers}
 use Rattle.bus_model.specs.Request.{Kept}
 use Rattle.bus_model.specs.Numbering.{Bus}
@@ -9,13 +9,13 @@ use Rattle.bus_model.specs.Start.{NothingUnderWay, EmptyWindow, NothingWaits}
 use Rattle.bus_model.specs.Packet.{IsCutting}
 use Rattle.bus_model.specs.PacketBus.{PacketBus, rules_of, Ends, PacketEvent, packet_run}
 use Rattle.bus_model.specs.PacketSchedule.{JoinRule, AllPacketHonest}
-use Rattle.bus_model.specs.Bytes.{busy_code, IsRequestOn, IsReplyOn, answers}
+use Rattle.bus_model.specs.Bytes.{is_busy_code, IsRequestOn, IsReplyOn, answers}
 
 -- the manager's requests are requests' bytes, each under its number, and what is kept for them are replies' with other codes
--- than the busy one
+-- than those of a busy port
 pub record AreWritten (kind : Numbers) (b : Bus) (s : BusState) : Type 0 where
   pub requests : (n : ℕ) (bytes : List ℕ) → slice_get s.begun n ≡ Some bytes → IsRequestOn kind (b.number_of n) bytes
-  pub replies : (n : ℕ) (k : Kept) → slice_get s.carried n ≡ Some k → (code : ℕ) × (code ≢ busy_code kind) × IsReplyOn kind code k.request.bytes k.reply
+  pub replies : (n : ℕ) (k : Kept) → slice_get s.carried n ≡ Some k → (code : ℕ) × (is_busy_code code ≡ false) × IsReplyOn kind code k.request.bytes k.reply
 
 -- what the manager takes of content, where these are the open request's bytes: it looks at bytes alone
 abbrev pub taken_by_test : Numbers → List ℕ → Content → Option (List ℕ)
@@ -39,6 +39,6 @@ TestIsModelInPackets kind rule = (b : PacketBus) → IsCutting b.split → (star
     → NothingUnderWay start.bus → NothingWaits b start → EmptyWindow (rules_of b) start.bus.log
     → AllPacketHonest rule b events start → AreWritten kind (rules_of b) (packet_run b events start).bus → TestsAgree kind (rules_of b) (packet_run b events start).bus
 
--- no busy answer passes the test, whatever it answers
+-- no reply with either code of a busy port passes the test, on either bus, whatever it answers
 abbrev pub BusyFails : Numbers → Type 0
-BusyFails kind = (opened request reply : List ℕ) → IsReplyOn kind (busy_code kind) request reply → answers kind opened reply ≡ false
+BusyFails kind = (code : ℕ) (opened request reply : List ℕ) → is_busy_code code ≡ true → IsReplyOn kind code request reply → answers kind opened reply ≡ false

@@ -75,7 +75,7 @@ hears b n k s =
     let o = outcome b.is_above k.request s.log in
     sent b n (Reply k.request.number (reply_after o k)) (record s { carried = carried_after o k s.carried; log = log_after o k s.log })
 
--- content comes to the port; what is no request is ignored there
+-- content comes to the port, which ignores all but requests
 abbrev pub comes : Bus → List ℕ → ℕ → Content → BusState → BusState
 comes b answer n (Ask bytes) s = hears b n (record { request = request_of b n bytes; reply = answer }) s
 comes b answer n (Reply number reply) s = s

@@ -1,8 +1,15 @@
 -- Requests and replies as the bytes of each bus: all but addresses and check bytes, the number included.
-use Rattle.std.specs.Prelude.{◌≡◌, ◌↔◌, ℕ, ◌+◌, ◌*◌, ◌/◌, ◌%◌, ◌<◌, Bool, false, ◌==◌, ◌&&◌, not, List, ◌∷◌, Option, Some, None, if◌then◌else◌}
+use Rattle.std.specs.Prelude.{◌≡◌, ◌↔◌, ℕ, ◌+◌, ◌*◌, ◌/◌, ◌%◌, ◌<◌, Bool, false, ◌==◌, ◌&&◌, ◌||◌, not, List, ◌∷◌, Option, Some, None, if◌then◌else◌}
+use Rattle.two_wire.specs.Codes.{node_busy, pldm_not_ready}
 use Rattle.bus_model.specs.declared.numbers.Numbers.{Numbers}
 use Rattle.bus_model.specs.declared.numbers.Numbers.TheVariants.{Ipmb, Pldm}
 use Rattle.bus_model.specs.Request.{Request}
+
+-- ---- the codes of a busy port
+
+-- A manager takes a reply with either code as none, whichever bus it comes on: IPMI's "node busy", or PLDM's "not ready".
+abbrev pub is_busy_code : ℕ → Bool
+is_busy_code code = (code == node_busy) || (code == pldm_not_ready)
 
 -- ---- IPMB
 
@@ -44,10 +51,10 @@ pub record IsIpmbReply (code : ℕ) (request reply : List ℕ) : Type 0 where
   pub reply_spelled : reply ≡ ipmb_reply header number code body
 
 -- The manager's test on the open request's bytes and a reply's: the next netFn, the same rqSeq, the same command, and a code
--- that isn't C0h. It doesn't look at LUNs.
+-- that isn't one of a busy port. It doesn't look at LUNs.
 abbrev pub ipmb_answers : List ℕ → List ℕ → Bool
 ipmb_answers (asked_fn ∷ asked_number ∷ asked_command ∷ asked) (net_fn ∷ number ∷ command ∷ code ∷ body) =
-    ((net_fn / 4 == asked_fn / 4 + 1) && (number / 4 == asked_number / 4)) && ((command == asked_command) && not (code == 192))
+    ((net_fn / 4 == asked_fn / 4 + 1) && (number / 4 == asked_number / 4)) && ((command == asked_command) && not (is_busy_code code))
 ipmb_answers _ _ = false
 
 -- ---- PLDM, from the message's type byte, 01h
@@ -83,10 +90,10 @@ pub record IsPldmReply (code : ℕ) (request reply : List ℕ) : Type 0 where
   pub reply_spelled : reply ≡ pldm_reply header number code body
 
 -- the manager's test: type 01h, request and datagram bit clear, and the same instance, PLDM type and command, and a code that
--- isn't 04h
+-- isn't one of a busy port
 abbrev pub pldm_answers : List ℕ → List ℕ → Bool
 pldm_answers (asked_kind ∷ asked_flags ∷ asked_type ∷ asked_command ∷ asked) (kind ∷ flags ∷ pldm_type ∷ command ∷ code ∷ body) =
-    (((kind == 1) && (flags / 64 == 0)) && (flags % 32 == asked_flags % 32)) && (((pldm_type == asked_type) && (command == asked_command)) && not (code == 4))
+    (((kind == 1) && (flags / 64 == 0)) && (flags % 32 == asked_flags % 32)) && (((pldm_type == asked_type) && (command == asked_command)) && not (is_busy_code code))
 pldm_answers _ _ = false
 
 -- The request that a whole message to the port is: with its instance, and the ignored bit 0. None where the message is of another
@@ -117,10 +124,10 @@ ReadsRequests = (source : ℕ) (r : Request) (bytes : List ℕ) → (request_in 
 
 -- ---- either
 
--- the completion code that says that the port is busy
+-- the completion code with which a port of the bus says that it is busy
 abbrev pub busy_code : Numbers → ℕ
-busy_code Ipmb = 192
-busy_code Pldm = 4
+busy_code Ipmb = node_busy
+busy_code Pldm = pldm_not_ready
 
 -- the bytes are a request's under this number
 abbrev pub IsRequestOn : Numbers → ℕ → List ℕ → Type 0

@@ -108,7 +108,7 @@ abbrev pub other_returns : PacketBus → Name → Packet → ℕ → Ends → En
 other_returns b name p number x =
     if is_open x.bus && is_name name (reply_name b (length x.bus.taken)) then manager_takes b number (length x.bus.taken) 0 (Some p) x else x
 
--- a packet of this content comes to the port; what is of no request is ignored there
+-- a packet of this content comes to the port, which ignores packets of anything but a request
 abbrev pub packet_comes : PacketBus → List ℕ → ℕ → ℕ → ℕ → Content → Ends → Ends
 packet_comes b answer place n idles (Ask bytes) x = port_takes b answer n idles (slice_get (b.split bytes) place) x
 packet_comes b answer place n idles (Reply number reply) x = x

@@ -20,6 +20,6 @@ abbrev pub IsOnCircle : ℕ → PortHeard → Type 0
 IsOnCircle circle (Request asked) = asked.number < circle
 IsOnCircle circle (Idle requester) = Unit {0}
 
--- what is done with each request of the list is what the rule says
+-- each request of the list is handled by the rule
 abbrev pub AreByRule : Numbers → List PortHeard → List PortOutcome → Type 0
 AreByRule numbers heard done = map outcome_of_program done ≡ outcomes (is_above (circle_of numbers)) [] (heard_from 0 heard)

@@ -78,7 +78,7 @@ outcome_of_program PlaceCarried = IsNew
 outcome_of_program (RepeatsPlace place) = Repeats (place ∷ [])
 outcome_of_program Busy = IsBusy
 
--- whatever log the rows keep, they then keep it with the request carried out
+-- each log that the rows keep, they then keep with the request carried out
 abbrev pub KeepsCarried : Rows → Rows → Asked → ℕ → Type 0
 KeepsCarried old new asked place = (log : List Entry) → Keeps old log → Keeps new (Carried (kept_of (record { asked = asked; place = place })) ∷ log)
 
@@ -86,7 +86,7 @@ KeepsCarried old new asked place = (log : List Entry) → Keeps old log → Keep
 abbrev pub KeepsIdle : Rows → Rows → ℕ → Type 0
 KeepsIdle old new requester = (log : List Entry) → Keeps old log → Keeps new (Idled requester ∷ log)
 
--- what is done with a request is what the rule says, for every log that the rows keep, and they keep what it leaves
+-- for every log that the rows keep, a request is handled by the rule, and the rows keep the log that it leaves
 abbrev pub HearsByRule : Rows → Rows → Asked → ℕ → PortOutcome → Type 0
 HearsByRule old new asked place o =
     (log : List Entry) → AllOnCircle (circle_of old.numbers) log → Keeps old log

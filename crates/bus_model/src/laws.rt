@@ -59,8 +59,8 @@ pub fn open_request_goes_through()
     ensures cut { CutIsWhole }
 {}
 
-/// Of what is live, the manager's test on bytes (number, command, the next netFn or the same type, a code that isn't the busy
-/// one) takes exactly what the model takes by the number. So the model needn't look at commands.
+/// Of what is live, the manager's test on bytes (number, command, the next netFn or the same type, a code that isn't one of a
+/// busy port) takes exactly what the model takes by the number. So the model needn't look at commands.
 pub fn test_on_bytes_is_the_model()
     ensures ipmb { (manager controller first : ℕ) → TestIsModel Ipmb (ipmb manager controller first) }
     ensures smbus { (manager controller first : ℕ) → TestIsModel Pldm (smbus manager controller first) }
@@ -75,7 +75,7 @@ pub fn only_requests_take_windows()
     ensures packets { OthersAsk }
 {}
 
-/// Whether a frame is live can be tested: the test is what the plain program of live frames computes.
+/// A test decides if a frame is live: the plain program of live frames computes it.
 pub fn live_test_tells()
     ensures { TestTells }
 {}

@@ -6,7 +6,7 @@ use Rattle.std.proofs.lemmas.Bool.Decides.{nat_tests}
 use Rattle.cfg_records.specs.declared.key.Key.{Key}
 use Rattle.cfg_records.specs.Keys.{same_key}
 use Rattle.cfg_records.specs.KeyLaws.{exact_key, same_key_self}
-use Rattle.cfg_records.specs.Records.{Records, Pair, value_of, with_record}
+use Rattle.cfg_records.specs.Records.{Pair, value_of, with_record}
 use Rattle.cfg_records.specs.Places.{value_at, has_key, ArePlaced}
 
 -- ---- lists

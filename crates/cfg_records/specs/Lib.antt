@@ -8,8 +8,9 @@ pub mod ThresholdLaws
 pub mod Hysteresis
 pub mod PowerPolicy
 pub mod Watchdog
+pub mod PartLaws
 pub mod Meaning
-pub mod Refusals
+pub mod RefusalLaws
 pub mod Requests
 pub mod Opening
 pub mod Kind

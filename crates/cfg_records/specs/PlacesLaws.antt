@@ -1,4 +1,4 @@
--- That the places of a list are those of its keys is proved in one way at most.
+-- A list has at most one proof that its places are those of its keys.
 use Rattle.std.proofs.Props.{props}
 use Rattle.std.specs.Prelude.{ℕ, List, Option}
 use Rattle.cfg_records.specs.declared.key.Key.{Key}

@@ -11,7 +11,7 @@ use crate::key::Key;
 #[derive(Clone, Copy, Debug, PartialEq, Eq)]
 pub struct NoKey;
 
-/// Records by their keys. Which keys there are never changes.
+/// Records by their keys. Which keys there are never changes, nor where each key's record lies.
 pub trait Store: Drop {
     ghost use Rattle.cfg_records.specs.declared.key.Key.{Key};
 
@@ -37,7 +37,8 @@ pub trait Store: Drop {
     /// Writes the value that lies there.
     fn write(&mut self, place: Self::Place, value: &[u8])
         requires { (key : Key) × (places self.old key ≡ Some place) × IsTrue (is_length key (length value.now)) }
-        ensures { (key : Key) → places self.old key ≡ Some place → records self.new ≡ with_record (records self.old) key value.now };
+        ensures records { (key : Key) → places self.old key ≡ Some place → records self.new ≡ with_record (records self.old) key value.now }
+        ensures places { places self.new ≡ places self.old };
 
     /// The key's value, where it lies.
     fn get(&self, key: &Key) -> Option<&[u8]>
@@ -55,6 +56,7 @@ pub trait Store: Drop {
         ensures absent { IsErr result ↔ IsNone (records self.old key.now) }
         ensures ok { OnOk result (records self.new ≡ with_record (records self.old) key.now value.now) }
         ensures err { OnErr result (records self.new ≡ records self.old) }
+        ensures places { places self.new ≡ places self.old }
     {
         match self.find(key) {
             Some(place) => {

@@ -13,7 +13,7 @@ use two_wire::{Address, Data, Lun, NetFn};
 pub fn read_frame(bytes: &[u8]) -> Result<Msg<'_>, FrameFault>
     // An error is the first fault that the bytes have, in the order of the faults.
     ensures fault { result_err result ≡ find (has_fault bytes.now) faults }
-    // What is read is what the bytes are.
+    // The bytes are the frame that is read.
     ensures read { IfOk result (λ m. IsMessage m bytes.now) }
     // A message's bytes are read as that message.
     ensures whole { (m : Message) → IsMessage m bytes.now → result ≡ Ok m }

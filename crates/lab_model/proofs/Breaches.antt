@@ -18,7 +18,8 @@ use Rattle.undo_model.specs.Machine.{open_bus}
 use Rattle.pldm_base.specs.declared.message.PldmRequest.{PldmRequest}
 use Rattle.pldm_base.specs.Message.{IsRequest, request_in}
 use Rattle.pldm_base.proofs.InBytes.{request-in, request-in_back}
-use Rattle.lab_model.specs.ManagerSteps.{Names, own_on, peer_on, Plans}
+use Rattle.plans.specs.declared.names.Names.{Names}
+use Rattle.lab_model.specs.ManagerSteps.{own_on, peer_on, Plans}
 use Rattle.lab_model.specs.Lab.{Way, ToPort, ToManager, ToOthers, LabFrame, Event, Calls, ToBmc, ToMgr, OtherIpmb, OtherSmbus, Noise, Idles, OnBench, Lab}
 use Rattle.lab_model.specs.Faults.{Fault, Room, Check, first_of, same_way, is_own, pldm_changes, message_changes, is_frame, is_live, delivery, checks, fault_of}
 use Rattle.lab_model.specs.Honest.{IsAnother, ChangesNothing, IsNoFrame, IsLive, IsDelivered, IsHonest, HasBytes, FaultsAreBreaches}
@@ -192,7 +193,7 @@ module _ (P : Plans) where
       (quiet_message m.envelope.source_eid m.body held.0, another Smbus x.manager.names m.envelope.source_eid held.1.0)
   taken x (Noise on bytes) small h = is_noise on bytes (none_hold (checks P x (Noise on bytes)) h).0
   taken x (Idles on requester) small h = λ same.
-      still_closed (requester == own_on on x.manager.names) (open_bus P.family x.manager.machine) (none_hold (checks P x (Idles on requester)) h).0 (eq-eqb _ _ same)
+      still_closed (requester == own_on on x.manager.names) (open_bus P.words x.manager.machine) (none_hold (checks P x (Idles on requester)) h).0 (eq-eqb _ _ same)
   taken x (OnBench activity) small h = tt
 
   breaches : (x : Lab P) (e : Event) → HasBytes P e → AllBreach (IsHonest P x e) (checks P x e)
@@ -204,11 +205,11 @@ module _ (P : Plans) where
   breaches x (Noise on bytes) small = (λ t. inr (λ h. is_no_noise on bytes small t h), tt)
   breaches x (Idles on requester) small = (λ t. inr (λ h. still_open t h), tt)
     where
-      still_open : (requester == own_on on x.manager.names && not (is_none (open_bus P.family x.manager.machine))) ≡ true
-          → (requester ≡ own_on on x.manager.names → open_bus P.family x.manager.machine ≡ None) → ⊥
+      still_open : (requester == own_on on x.manager.names && not (is_none (open_bus P.words x.manager.machine))) ≡ true
+          → (requester ≡ own_on on x.manager.names → open_bus P.words x.manager.machine ≡ None) → ⊥
       still_open t h =
           let parts = and_parts (requester == own_on on x.manager.names) _ t in
-          is_not _ parts.1 (framed (open_bus P.family x.manager.machine) (h (eqb-true _ _ parts.0)))
+          is_not _ parts.1 (framed (open_bus P.words x.manager.machine) (h (eqb-true _ _ parts.0)))
   breaches x (OnBench activity) small = tt
 
   pub faults_are_breaches : FaultsAreBreaches P

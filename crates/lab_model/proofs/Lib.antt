@@ -4,3 +4,6 @@ pub mod Example
 pub mod Parts
 pub mod LongExample
 pub mod Stepping
+pub mod PortPart
+pub mod PortEvents
+pub mod ManagerEvents

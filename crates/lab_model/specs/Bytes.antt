@@ -1,6 +1,6 @@
 -- Requests and replies as bytes: all of a message but addresses and check bytes, the number included. On SMBus a message from its type
 -- byte on, with PLDM's ignored bit 0. `undo_family` has those of the manager's requests and of replies.
-use Rattle.std.specs.Prelude.{◌≡◌, ◌≢◌, ℕ, ◌+◌, ◌<◌, true, List, [], ◌∷◌, Option, Some, None}
+use Rattle.std.specs.Prelude.{◌≡◌, ℕ, ◌+◌, ◌<◌, true, false, List, [], ◌∷◌, Option, Some, None}
 use Rattle.two_wire.specs.declared.Bus.{Bus}
 use Rattle.two_wire.specs.declared.Bus.TheVariants as bus
 use Rattle.cfg_records.specs.declared.message.Asked.{Asked}
@@ -11,9 +11,9 @@ use Rattle.ipmb_frame.specs.Grammar.{packed, request_bytes}
 use Rattle.pldm_base.specs.declared.message.PldmRequest.{PldmRequest}
 use Rattle.pldm_base.specs.Message.{request_bytes as pldm_request_bytes}
 use Rattle.bus_model.specs.Request.{Request as Heard}
-use Rattle.bus_model.specs.Bytes.{busy_code, answers, IsRequestOn, IsReplyOn}
+use Rattle.bus_model.specs.Bytes.{busy_code, is_busy_code, answers, IsRequestOn, IsReplyOn}
 use Rattle.bmc_board.specs.Decode.{sent_by}
-use Rattle.undo_model.specs.Family.{Answered as Told}
+use Rattle.undo_model.specs.Words.{Answered as Told}
 use Rattle.undo_family.specs.Family.{bus_of}
 use Rattle.undo_family.specs.Spelled.{numbers_of}
 use Rattle.undo_family.specs.Wires.{bytes_of, asked_from, reply_to, answered_from}
@@ -74,9 +74,9 @@ pub record AreTheModels : Type 0 where
   pub request : (number : ℕ) (asked : Asked) → Fits asked → IsNumber (bus_of asked) number → IsRequestOn (numbers_of (bus_of asked)) number (bytes_of number asked)
   pub reply : (on : Bus) (number : ℕ) (bytes : List ℕ) (a : Told) → IsRequestOn (numbers_of on) number bytes → IsReplyOn (numbers_of on) a.code bytes (reply_to on bytes a)
 
--- the reply to a request passes the manager's test against it, unless its code is the busy one
+-- the reply to a request passes the manager's test against it, unless its code is one of a busy port
 abbrev pub Accepts : Type 0
-Accepts = (on : Bus) (number : ℕ) (bytes : List ℕ) (a : Told) → IsRequestOn (numbers_of on) number bytes → a.code ≢ busy_code (numbers_of on)
+Accepts = (on : Bus) (number : ℕ) (bytes : List ℕ) (a : Told) → IsRequestOn (numbers_of on) number bytes → is_busy_code a.code ≡ false
     → answers (numbers_of on) bytes (reply_to on bytes a) ≡ true
 
 -- a reply that passes it has the open request's number

@@ -13,10 +13,11 @@ use Rattle.cfg_records.specs.declared.sensor.Sensor.{Sensor}
 use Rattle.cfg_records.specs.Distinct.{NamesDiffer}
 use Rattle.cfg_records.specs.Thresholds.{IsThresholds, is_clear, is_in_order}
 use Rattle.cfg_records.specs.ThresholdLaws.{tests_pass}
-use Rattle.undo_model.specs.Plan.{Phase, Done, Undone, Unsettled}
+use Rattle.undo_model.specs.Phase.{Phase, Done, Undone, Unsettled}
 use Rattle.undo_model.specs.Machine.{phase_of}
 use Rattle.lab_model.specs.Values.{written}
-use Rattle.lab_model.specs.ManagerSteps.{Names, Plans, board_plans, Start, Quiet, Again, Undo}
+use Rattle.plans.specs.declared.names.Names.{Names}
+use Rattle.lab_model.specs.ManagerSteps.{Plans, board_plans, Start, Quiet, Again, Undo}
 use Rattle.lab_model.specs.Lab.{LabFrame, Event, Calls, ToBmc, ToMgr, OtherIpmb, Noise, Idles, Lab, run, opening}
 use Rattle.lab_model.specs.Faults.{Fault, NoFrame, WrongWay, Changing, Impersonates, Forged, StillOpen, fault_of, AllTaken}
 
@@ -111,7 +112,7 @@ other_request from net_fn command body = record {
 }
 
 abbrev pub plans : Plans
-plans = board_plans board_file names
+plans = board_plans names
 
 -- the lab at the start
 abbrev pub start : List Op → ℕ → Lab plans
@@ -121,7 +122,7 @@ abbrev pub after : List Op → ℕ → List Event → Lab plans
 after plan retries events = run plans board_file events (start plan retries)
 
 abbrev pub phase_after : List Op → ℕ → List Event → Phase
-phase_after plan retries events = phase_of plans.family (after plan retries events).manager.machine
+phase_after plan retries events = phase_of plans.words (after plan retries events).manager.machine
 
 -- the bytes of the frame of a number
 abbrev pub bytes_at : Lab plans → ℕ → Option (List ℕ)

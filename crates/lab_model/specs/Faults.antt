@@ -9,11 +9,11 @@ use Rattle.pldm_base.specs.declared.message.PldmRequest.{PldmRequest}
 use Rattle.pldm_base.specs.Message.{request_in as pldm_request_in}
 use Rattle.cfg_records.specs.declared.board_file.BoardFile.{BoardFile}
 use Rattle.bmc_board.specs.Table.{is_changing}
-use Rattle.undo_model.specs.Family.{Family}
-use Rattle.undo_model.specs.Machine.{Machine, count_of, open_bus}
-use Rattle.undo_model.specs.World.{same_bus}
+use Rattle.undo_model.specs.Words.{Words}
+use Rattle.undo_model.specs.Machine.{Machine, count_of, open_bus, same_bus}
 use Rattle.lab_model.specs.PortSteps.{asked_in, pldm_asked}
-use Rattle.lab_model.specs.ManagerSteps.{Names, own_on, peer_on, Plans}
+use Rattle.plans.specs.declared.names.Names.{Names}
+use Rattle.lab_model.specs.ManagerSteps.{own_on, peer_on, Plans}
 use Rattle.lab_model.specs.Lab.{Way, ToPort, ToManager, ToOthers, LabFrame, Event, Calls, ToBmc, ToMgr, OtherIpmb, OtherSmbus, Noise, Idles, OnBench, Lab, idles_on, step}
 
 pub data Fault : Type 0 where
@@ -65,12 +65,12 @@ is_open_bus on None = false
 is_open_bus on (Some other) = same_bus on other
 
 -- how many requests a machine began on a bus: those that were answered, and the open one
-abbrev pub begun_on : (F : Family) → Bus → Machine F → ℕ
-begun_on F on m = count_of on m.counts + (if is_open_bus on (open_bus F m) then 1 else 0)
+abbrev pub begun_on : (M : Words) → Bus → Machine M → ℕ
+begun_on M on m = count_of on m.counts + (if is_open_bus on (open_bus M m) then 1 else 0)
 
 -- a request of the manager is open, on either bus
-abbrev pub has_open : (F : Family) → Machine F → Bool
-has_open F m = not (is_none (open_bus F m))
+abbrev pub has_open : (M : Words) → Machine M → Bool
+has_open M m = not (is_none (open_bus M m))
 
 -- the address or endpoint is the manager's or the controller's
 abbrev pub is_own : Bus → Names → ℕ → Bool
@@ -94,7 +94,7 @@ is_frame Smbus bytes = is_none (find (has_packet_fault bytes) packet_faults)
 module _ (P : Plans) where
   -- fewer newer requests than the span were begun on its bus, and the manager's window there wasn't forgotten since it was sent
   abbrev pub is_live : Lab P → LabFrame → Bool
-  is_live x f = nat_le (begun_on P.family f.on x.manager.machine) (f.request + span_of f.on) && f.idles == idles_on P f.on x
+  is_live x f = nat_le (begun_on P.words f.on x.manager.machine) (f.request + span_of f.on) && f.idles == idles_on P f.on x
 
   -- 65,536 frames were sent
   abbrev pub is_full : Lab P → Bool
@@ -114,7 +114,7 @@ module _ (P : Plans) where
   checks x (OtherSmbus m) =
       check Changing (message_changes m.envelope.source_eid m.body) ∷ check Impersonates (is_own Smbus x.manager.names m.envelope.source_eid) ∷ check Room (is_full x) ∷ []
   checks x (Noise on bytes) = check Forged (is_frame on bytes) ∷ []
-  checks x (Idles on requester) = check StillOpen (requester == own_on on x.manager.names && has_open P.family x.manager.machine) ∷ []
+  checks x (Idles on requester) = check StillOpen (requester == own_on on x.manager.names && has_open P.words x.manager.machine) ∷ []
   checks x (OnBench activity) = []
 
   -- the first fault of an event

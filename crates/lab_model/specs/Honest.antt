@@ -11,7 +11,8 @@ use Rattle.pldm_base.specs.Message.{IsRequest}
 use Rattle.bmc_board.specs.Table.{is_changing}
 use Rattle.undo_model.specs.Machine.{open_bus}
 use Rattle.lab_model.specs.PortSteps.{asked_in, pldm_asked}
-use Rattle.lab_model.specs.ManagerSteps.{Names, own_on, peer_on, Plans}
+use Rattle.plans.specs.declared.names.Names.{Names}
+use Rattle.lab_model.specs.ManagerSteps.{own_on, peer_on, Plans}
 use Rattle.lab_model.specs.Lab.{Way, ToPort, ToManager, LabFrame, Event, Calls, ToBmc, ToMgr, OtherIpmb, OtherSmbus, Noise, Idles, OnBench, Lab, idles_on}
 use Rattle.lab_model.specs.Faults.{Fault, Room, span_of, begun_on, fault_of}
 
@@ -32,7 +33,7 @@ module _ (P : Plans) where
   -- fewer newer requests of the manager than the span were begun on the frame's bus, and the manager's window there wasn't forgotten
   -- since it was sent
   pub record IsLive (x : Lab P) (f : LabFrame) : Type 0 where
-    pub recent : begun_on P.family f.on x.manager.machine ≤ f.request + span_of f.on
+    pub recent : begun_on P.words f.on x.manager.machine ≤ f.request + span_of f.on
     pub remembered : f.idles ≡ idles_on P f.on x
 
   -- the frame of this number was sent, it's live, and it's delivered to the end for which it is meant
@@ -52,7 +53,7 @@ module _ (P : Plans) where
   IsHonest x (OtherIpmb r) = (is_changing (asked_in r) ≡ false) × IsAnother Ipmb x.manager.names r.header.requester.address
   IsHonest x (OtherSmbus m) = ChangesNothing m.envelope.source_eid m.body × IsAnother Smbus x.manager.names m.envelope.source_eid
   IsHonest x (Noise on bytes) = IsNoFrame on bytes
-  IsHonest x (Idles on requester) = requester ≡ own_on on x.manager.names → open_bus P.family x.manager.machine ≡ None
+  IsHonest x (Idles on requester) = requester ≡ own_on on x.manager.names → open_bus P.words x.manager.machine ≡ None
   IsHonest x (OnBench activity) = Unit {0}
 
   -- noise is bytes

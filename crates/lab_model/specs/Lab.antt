@@ -12,7 +12,8 @@ use Rattle.bmc_board.specs.State.{State, state, opened as opened_board}
 use Rattle.undo_model.specs.Machine.{opened as opened_machine}
 use Rattle.lab_model.specs.Values.{Value, Asks, Tells, Part, parts_of}
 use Rattle.lab_model.specs.PortSteps.{PortState, Deed, hears, hears_parts, idles, quiet_port}
-use Rattle.lab_model.specs.ManagerSteps.{Names, own_on, Plans, Call, ManagerState, ManagerDeed, Sent, called, manager_hears}
+use Rattle.plans.specs.declared.names.Names.{Names}
+use Rattle.lab_model.specs.ManagerSteps.{own_on, Plans, Call, ManagerState, ManagerDeed, Sent, called, manager_hears}
 
 -- to whom a frame goes
 pub data Way : Type 0 where
@@ -137,12 +138,12 @@ module _ (P : Plans) (setup : BoardFile) where
   run (e ∷ es) x = run es (step x e)
 
   -- a lab as it begins: a board that has heard nothing, and a manager with a plan
-  abbrev pub opening : Names → List P.family.Op → (retries : ℕ) → Lab P
+  abbrev pub opening : Names → List P.words.Op → (retries : ℕ) → Lab P
   opening names plan retries = record {
     board = opened_board setup;
     ipmb = quiet_port names.peer_address names.peer_eid;
     smbus = quiet_port names.peer_wire names.peer_eid;
-    manager = record { machine = opened_machine P.family plan retries; names = names; joined = nothing };
+    manager = record { machine = opened_machine P.words plan retries; names = names; joined = nothing };
     frames = [];
     opened = λ tag. 0;
   }

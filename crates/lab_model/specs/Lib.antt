@@ -10,3 +10,5 @@ pub mod Example
 pub mod Cuts
 pub mod LongExample
 pub mod Stepwise
+pub mod PortEvents
+pub mod ManagerEvents

@@ -9,7 +9,7 @@ use Rattle.cfg_records.specs.declared.key.Key.TheVariants as key
 use Rattle.cfg_records.specs.declared.op.Op.{Op}
 use Rattle.cfg_records.specs.declared.op.Op.TheVariants as op
 use Rattle.bmc_board.specs.State.{opened}
-use Rattle.undo_model.specs.Plan.{Getting}
+use Rattle.undo_model.specs.Phase.{Getting}
 use Rattle.lab_model.specs.Values.{Value, Asks, Tells, Part, written, parts_of}
 use Rattle.lab_model.specs.PortSteps.{hears, quiet_port}
 use Rattle.lab_model.specs.ManagerSteps.{Start}

@@ -7,29 +7,19 @@ use Rattle.ipmb_frame.specs.declared.message.Response.{Response}
 use Rattle.mctp_net.specs.declared.packet.Packet.{Packet}
 use Rattle.mctp_net.specs.declared.taken.DropCause.{DropCause}
 use Rattle.mctp_net.specs.Assembly.{Assemblies, nothing, drop_cause, after as kept_after, message_of}
+use Rattle.plans.specs.declared.names.Names.{Names}
 use Rattle.cfg_records.specs.declared.message.Asked.{Asked}
 use Rattle.cfg_records.specs.declared.message.Asked.TheVariants.{Ipmi, Pldm}
-use Rattle.cfg_records.specs.declared.board_file.BoardFile.{BoardFile}
 use Rattle.bus_model.specs.Bytes.{answers}
-use Rattle.undo_model.specs.Family.{Family}
-use Rattle.undo_model.specs.Machine.{count_of, Task, asked_of, bus_at, Stage, Opened, Machine, Sending, Turn, start_of, quiet_of, stop_of, again_of, undo_of, reply_of}
+use Rattle.undo_model.specs.Words.{Words}
+use Rattle.undo_model.specs.Machine.{count_of, Part as TaskPart, bus_at, Stage, Opened, Machine, Sending, Turn, start_of, quiet_of, stop_of, again_of, undo_of, reply_of, same_bus}
 use Rattle.undo_model.specs.Wires.{number_of}
-use Rattle.undo_model.specs.World.{same_bus}
 use Rattle.undo_model.specs.TwoBuses.{Addresses}
-use Rattle.undo_family.specs.Family.{bus_of, family}
+use Rattle.undo_family.specs.Family.{bus_of, manager_words}
 use Rattle.undo_family.specs.Spelled.{numbers_of}
 use Rattle.undo_family.specs.Wires.{bytes_of, answered_from}
 use Rattle.lab_model.specs.Values.{Value, Asks, Tells, Part, parts_of}
 use Rattle.lab_model.specs.Bytes.{response_bytes}
-
--- the addresses and endpoints of the manager and of the controller
-pub record Names : Type 0 where
-  pub own_address : ℕ
-  pub peer_address : ℕ
-  pub own_wire : ℕ
-  pub peer_wire : ℕ
-  pub own_eid : ℕ
-  pub peer_eid : ℕ
 
 -- by which the manager is known as a requester on a bus
 abbrev pub own_on : Bus → Names → ℕ
@@ -41,19 +31,19 @@ abbrev pub peer_on : Bus → Names → ℕ
 peer_on Ipmb names = names.peer_address
 peer_on Smbus names = names.peer_eid
 
--- a family of records, and its requests as requests of a board
+-- a manager's words, and its requests as requests of a board
 pub record Plans : Type 1 where
-  pub family : Family
-  pub asked : family.Asked → Asked
-  pub on_its_bus : (a : family.Asked) → family.bus_of a ≡ bus_of (asked a)
+  pub words : Words
+  pub asked : words.Asked → Asked
+  pub on_its_bus : (a : words.Asked) → words.bus_of a ≡ bus_of (asked a)
 
 -- both ends' addresses on a bus
 abbrev pub addresses : Names → Bus → Addresses
 addresses names on = record { manager = own_on on names; controller = peer_on on names }
 
--- plans on the records of a board with this file
-abbrev pub board_plans : BoardFile → Names → Plans
-board_plans setup names = record { family = family setup (addresses names); asked = λ a. a; on_its_bus = λ a. refl }
+-- plans on the records of a board, whatever its file is
+abbrev pub board_plans : Names → Plans
+board_plans names = record { words = manager_words (addresses names); asked = λ a. a; on_its_bus = λ a. refl }
 
 -- ---- what a request is on the wires
 
@@ -108,7 +98,7 @@ is_part names count p =
 module _ (P : Plans) where
   -- a manager: its machine, the names, and the packets that wait at it
   pub record ManagerState : Type 0 where
-    pub machine : Machine P.family
+    pub machine : Machine P.words
     pub names : Names
     pub joined : Assemblies
 
@@ -122,22 +112,22 @@ module _ (P : Plans) where
   rests m = record { manager = m; sent = None }
 
   -- the frames of a request
-  abbrev pub sent_of : Names → Sending P.family → Sent
+  abbrev pub sent_of : Names → Sending P.words → Sent
   sent_of names s = record { on = s.bus; request = s.count; values = values_of names s.count (P.asked s.asked) }
 
   -- the machine goes on
-  abbrev pub goes_on : ManagerState → Turn P.family → ManagerDeed
+  abbrev pub goes_on : ManagerState → Turn P.words → ManagerDeed
   goes_on m t = record { manager = record m { machine = t.machine }; sent = option_map (sent_of m.names) t.sends }
 
   -- ---- calls
 
   -- what a call makes of the machine: none where the phase isn't one for the call
-  abbrev pub turn_of : Call → Machine P.family → Option (Turn P.family)
-  turn_of Start machine = start_of P.family machine
-  turn_of Quiet machine = quiet_of P.family machine
-  turn_of Stop machine = stop_of P.family machine
-  turn_of Again machine = again_of P.family machine
-  turn_of Undo machine = undo_of P.family machine
+  abbrev pub turn_of : Call → Machine P.words → Option (Turn P.words)
+  turn_of Start machine = start_of P.words machine
+  turn_of Quiet machine = quiet_of P.words machine
+  turn_of Stop machine = stop_of P.words machine
+  turn_of Again machine = again_of P.words machine
+  turn_of Undo machine = undo_of P.words machine
 
   -- as the undo begins, the packets that wait are dropped
   abbrev pub waits_after : Call → Assemblies → Assemblies
@@ -150,30 +140,30 @@ module _ (P : Plans) where
 
   -- ---- frames
 
-  -- the open task, where it is heeded and on this bus
-  abbrev pub heeded_on : Bus → Stage P.family → Option (Task P.family)
-  heeded_on on (Opened true task) = if same_bus on (bus_at P.family task) then Some task else None
+  -- the open request, where it is heeded and on this bus
+  abbrev pub heeded_on : Bus → Stage P.words → Option (TaskPart P.words)
+  heeded_on on (Opened true task part) = if same_bus on (bus_at P.words part) then Some part else None
   heeded_on on _ = None
 
   -- the number of requests that were answered on a bus, which is the open one's count
   abbrev pub open_count : Bus → ManagerState → ℕ
   open_count on m = count_of on m.machine.counts
 
-  -- the bytes of the open task's request
-  abbrev pub open_bytes : Bus → ManagerState → Task P.family → List ℕ
-  open_bytes on m task = bytes_of (number_of on (open_count on m)) (P.asked (asked_of P.family task))
+  -- the bytes of the open request
+  abbrev pub open_bytes : Bus → ManagerState → TaskPart P.words → List ℕ
+  open_bytes on m part = bytes_of (number_of on (open_count on m)) (P.asked part.asked)
 
   -- a reply is taken by the machine, or ignored
-  abbrev pub taken_or : ManagerState → Option (Turn P.family) → ManagerDeed
+  abbrev pub taken_or : ManagerState → Option (Turn P.words) → ManagerDeed
   taken_or m None = rests m
   taken_or m (Some t) = goes_on m t
 
-  -- the bytes of a reply come while the task is open, if one is: they are taken where they pass the test
-  abbrev pub tested : Bus → List ℕ → ManagerState → Option (Task P.family) → ManagerDeed
+  -- the bytes of a reply come while the request is open, if one is: they are taken where they pass the test
+  abbrev pub tested : Bus → List ℕ → ManagerState → Option (TaskPart P.words) → ManagerDeed
   tested on reply m None = rests m
-  tested on reply m (Some task) =
-      if answers (numbers_of on) (open_bytes on m task) reply
-      then taken_or m (reply_of P.family (answered_from on reply) m.machine)
+  tested on reply m (Some part) =
+      if answers (numbers_of on) (open_bytes on m part) reply
+      then taken_or m (reply_of P.words (answered_from on reply) m.machine)
       else rests m
 
   -- the bytes of a reply from the controller come
@@ -193,10 +183,10 @@ module _ (P : Plans) where
   abbrev pub joins : Packet → ManagerState → ManagerDeed
   joins p m = ends_reply p (drop_cause m.names.own_eid m.joined p) (record m { joined = kept_after m.names.own_eid m.joined p })
 
-  -- a packet comes while the task is open, if one is
-  abbrev pub joins_for : Packet → ManagerState → Option (Task P.family) → ManagerDeed
+  -- a packet comes while the request is open, if one is
+  abbrev pub joins_for : Packet → ManagerState → Option (TaskPart P.words) → ManagerDeed
   joins_for p m None = rests m
-  joins_for p m (Some task) = if is_part m.names (open_count Smbus m) p then joins p m else rests m
+  joins_for p m (Some part) = if is_part m.names (open_count Smbus m) p then joins p m else rests m
 
   -- a packet comes
   unfoldable pub hears_packet : Packet → ManagerState → ManagerDeed

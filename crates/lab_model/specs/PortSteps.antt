@@ -168,7 +168,7 @@ hears_parts setup port before (p ∷ ps) =
 
 -- ---- any frame
 
--- what comes to the port's address is heard there, and a response is nothing to it
+-- the port hears the frames to its address, and a response is nothing to it
 abbrev pub hears : BoardFile → PortState → State → Value → Deed
 hears setup port before (Asks r) = if r.header.responder.address == port.wire then hears_request setup port before r else stays port before
 hears setup port before (Tells r) = stays port before

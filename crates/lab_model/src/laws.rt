@@ -4,13 +4,16 @@ ghost use Rattle.std.specs.Prelude.{ℕ, Bool, List};
 ghost use Rattle.cfg_records.specs.declared.message.Asked.{Asked};
 ghost use Rattle.cfg_records.specs.declared.message.Answered.{Answered};
 ghost use Rattle.cfg_records.specs.declared.board_file.BoardFile.{BoardFile};
-ghost use Rattle.bus_model.specs.Request.{Request, Entry};
+ghost use Rattle.bus_model.specs.Request.{Request as Heard, Entry};
 ghost use Rattle.bmc_board.specs.State.{State};
-ghost use Rattle.lab_model.specs.ManagerSteps.{Names, board_plans};
+ghost use Rattle.plans.specs.declared.names.Names.{Names};
+ghost use Rattle.lab_model.specs.ManagerSteps.{board_plans};
 ghost use Rattle.lab_model.specs.Bytes.{AreReadBack, AreTheModels, Accepts, IsNumbered};
 ghost use Rattle.lab_model.specs.Honest.{FaultsAreBreaches};
 ghost use Rattle.lab_model.specs.Stepwise.{TurnsBy, RunsBy};
 ghost use Rattle.lab_model.specs.Cuts.{PartsAreCuts, PartsAreHeard};
+ghost use Rattle.lab_model.specs.PortEvents.{RequestsLeaveLog, PartsLeaveLog};
+ghost use Rattle.lab_model.specs.ManagerEvents.{RepliesAreBrought};
 
 /// A request's bytes are read as that request, and a reply's as its answer.
 pub fn bytes_are_read_back()
@@ -22,7 +25,7 @@ pub fn bytes_are_the_models()
     ensures { AreTheModels }
 {}
 
-/// The manager's test against a request takes the reply to it, unless that has the busy code. What it takes has the request's number.
+/// The manager's test against a request takes the reply to it, unless that has a code of a busy port. What it takes has the request's number.
 pub fn test_takes_the_reply()
     ensures accepts { Accepts }
     ensures numbered { IsNumbered }
@@ -31,7 +34,7 @@ pub fn test_takes_the_reply()
 /// An event has a fault only where it breaks what the links are trusted with, or where there is no room; an event without a fault
 /// breaks nothing.
 pub fn faults_are_breaches()
-    ensures { (setup : BoardFile) (names : Names) → FaultsAreBreaches (board_plans setup names) }
+    ensures { (names : Names) → FaultsAreBreaches (board_plans names) }
 {}
 
 /// The packets of a message are a cut of it, and those of the model of a bus.
@@ -46,7 +49,18 @@ pub fn parts_are_heard()
 
 /// What a turn is, by what is done with the request; and what a run is, event by event.
 pub fn steps_are_these()
-    ensures turns { (above : ℕ → ℕ → Bool) (r : Request) (spell : Answered → List ℕ) (setup : BoardFile) (asked : Asked) (log : List Entry) (before : State)
+    ensures turns { (above : ℕ → ℕ → Bool) (r : Heard) (spell : Answered → List ℕ) (setup : BoardFile) (asked : Asked) (log : List Entry) (before : State)
         → TurnsBy above r spell setup asked log before }
-    ensures runs { (setup : BoardFile) (names : Names) → RunsBy (board_plans setup names) setup }
+    ensures runs { (setup : BoardFile) (names : Names) → RunsBy (board_plans names) setup }
+{}
+
+/// A request on IPMB and a packet on SMBus leave at a port what the model's events leave: the log, and what waits.
+pub fn packets_leave_log()
+    ensures requests { RequestsLeaveLog }
+    ensures packets { PartsLeaveLog }
+{}
+
+/// The manager takes of a live reply, whole or in packets, what the model's event brings it, and nothing while it heeds no request.
+pub fn replies_are_brought()
+    ensures { (names : Names) → RepliesAreBrought (board_plans names) }
 {}

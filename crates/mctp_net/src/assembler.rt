@@ -49,7 +49,7 @@ impl Assembler {
         ensures some { result ≡ IsWhole → 0 < length (message_of (seen self.new) packet.now).body }
         // It's waiting exactly where it's taken and is no end.
         ensures waiting { (result ≡ IsWaiting) ↔ IsTaken own (seen self.old) packet.now }
-        // What waits under other names stays.
+        // Packets that wait under other names stay.
         ensures after { seen self.new ≡ after own (seen self.old) packet.now }
     {
         let place = place_of(self.places.as_slice(), Some(packet.envelope.name()));

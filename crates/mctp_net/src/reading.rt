@@ -11,7 +11,7 @@ use two_wire::{Address, pec};
 pub fn read_packet(bytes: &[u8]) -> Result<Packet<'_>, PacketFault>
     // An error is the first fault that the bytes have, in the order of the faults.
     ensures fault { result_err result ≡ find (has_fault bytes.now) faults }
-    // What is read is what the bytes are.
+    // The bytes are the packet that is read.
     ensures read { IfOk result (λ p. IsPacket p bytes.now) }
     // A packet's bytes are read as that packet.
     ensures whole { (p : AnyPacket) → IsPacket p bytes.now → result ≡ Ok p }

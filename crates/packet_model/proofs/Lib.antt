@@ -1,3 +1,4 @@
 pub mod Steps
 pub mod Waiting
 pub mod Cutting
+pub mod WholeBytes

@@ -1,10 +1,9 @@
 -- What an assembler keeps, as the model of the bus sees it.
-use Rattle.std.specs.Prelude.{◌≡◌, ℕ, Bool, true, false, List, [], ◌∷◌, map, Option, Some, None, ⊤}
+use Rattle.std.specs.Prelude.{◌≡◌, Bool, true, false, List, [], map, Option, Some, None, ⊤}
 use Rattle.mctp_net.specs.declared.packet.Name.{Name}
-use Rattle.mctp_net.specs.declared.packet.Packet.{Packet}
 use Rattle.mctp_net.specs.declared.taken.DropCause.{DropCause}
 use Rattle.mctp_net.specs.declared.taken.DropCause.TheVariants.{NotOurs, NoStart, TooLong, OutOfSequence, UnitSize, NoSlot}
-use Rattle.mctp_net.specs.Cut.{Piece, piece}
+use Rattle.mctp_net.specs.Cut.{Piece}
 use Rattle.mctp_net.specs.Assembly.{Assemblies}
 use Rattle.bus_model.specs.Packet.{Packet as ModelPacket}
 use Rattle.bus_model.specs.Assembly.{Name as ModelName, Sent, Step, Waits, Whole, Drops, takes}

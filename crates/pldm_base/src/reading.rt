@@ -14,11 +14,11 @@ use two_wire::Data;
 pub fn read_pldm<'a>(bytes: &PldmBytes<'a>) -> Result<PldmRequest<'a>, PldmFault>
     // An error is the first fault that the bytes have, in the order of the faults.
     ensures fault { result_err result ≡ find (has_fault bytes.now) faults }
-    // What is read is what the bytes are.
+    // The bytes are the request that is read.
     ensures read { IfOk result (λ r. IsRequest r bytes.now) }
     // A request's bytes are read as that request.
     ensures whole { (r : Request) → IsRequest r bytes.now → result ≡ Ok r }
-    // What is read is the request in the bytes.
+    // The request that is read is the one in the bytes.
     ensures value { result_ok result ≡ request_in bytes.now }
 {
     parse_request(bytes.as_slice())
@@ -28,11 +28,11 @@ pub fn read_pldm<'a>(bytes: &PldmBytes<'a>) -> Result<PldmRequest<'a>, PldmFault
 pub fn read_pldm_reply<'a>(bytes: &PldmBytes<'a>) -> Result<PldmReply<'a>, PldmReplyFault>
     // An error is the first fault that the bytes have, in the order of the faults.
     ensures fault { result_err result ≡ find (has_reply_fault bytes.now) reply_faults }
-    // What is read is what the bytes are.
+    // The bytes are the reply that is read.
     ensures read { IfOk result (λ r. IsReply r bytes.now) }
     // A reply's bytes are read as that reply.
     ensures whole { (r : Reply) → IsReply r bytes.now → result ≡ Ok r }
-    // What is read is the reply in the bytes.
+    // The reply that is read is the one in the bytes.
     ensures value { result_ok result ≡ reply_in bytes.now }
 {
     parse_reply(bytes.as_slice())

@@ -1,4 +1,4 @@
--- What the board does is what may happen on a bus.
+-- Each answer of the board may happen on a bus.
 use Rattle.std.proofs.Common.{◌≡◌, ℕ, List, Option, Some, None, sym, subst}
 use Rattle.two_wire.specs.declared.Bus.{Bus}
 use Rattle.cfg_records.specs.declared.board_file.BoardFile.{BoardFile}
@@ -35,10 +35,10 @@ starts_valid setup at = record {
 
 pub quiet_may : (setup : BoardFile) (at : Bus → Addresses) (L : Bus → Line) → QuietMay setup at L
 quiet_may setup at L bus e w asked a after is quiet row =
-    (is.0, is.1, subst (λ (o : Option Exchange). BoardMay (family setup at) L (wires setup at) bus o w.board after) (sym is.2) (keeps_records setup w.board asked a after quiet row))
+    (is.0, is.1, subst (λ (o : Option Exchange). BoardMay (family setup at) L (wires at) bus o w.board after) (sym is.2) (keeps_records setup w.board asked a after quiet row))
 
 pub answers_may : (setup : BoardFile) (at : Bus → Addresses) (L : Bus → Line) → AnswersMay setup at L
 answers_may setup at L bus e w x is replies =
     let asked = asked_from at bus x.bytes in
     let given = answer setup w.board asked in
-    (is.0, is.1, subst (λ (o : Option Exchange). BoardMay (family setup at) L (wires setup at) bus o w.board given.1) (sym is.2) (given.0, replies, has_answer setup w.board asked))
+    (is.0, is.1, subst (λ (o : Option Exchange). BoardMay (family setup at) L (wires at) bus o w.board given.1) (sym is.2) (given.0, replies, has_answer setup w.board asked))

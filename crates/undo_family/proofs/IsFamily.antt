@@ -20,10 +20,10 @@ use Rattle.record_kinds.specs.declared.limits.Limits.{Limits}
 use Rattle.record_kinds.specs.Limits.{key_of, get_asked, set_asked, restorable, inverse, is_reply, is_of, sets, conf}
 use Rattle.record_kinds.specs.LimitsLaws as laws
 use Rattle.record_kinds.specs.Boards.{limits_at}
-use Rattle.bmc_board.specs.declared.request.Request.{Request}
-use Rattle.bmc_board.specs.declared.request.Request.TheVariants.{Get, Set}
+use Rattle.bmc_board.specs.Request.{Request}
+use Rattle.bmc_board.specs.Request.{Get, Set}
 use Rattle.bmc_board.specs.Request.{asked_by}
-use Rattle.bmc_board.specs.State.{State}
+use Rattle.bmc_board.specs.State.{State, IsUnchanged}
 use Rattle.bmc_board.specs.Replies.{refused, unknown_code}
 use Rattle.bmc_board.specs.Answer.{Given, answer_of}
 use Rattle.bmc_board.specs.AnyAnswer.{IsCode}
@@ -32,8 +32,9 @@ use Rattle.bmc_board.proofs.AnswerFacts.{limits_are_of, never_busy}
 use Rattle.bmc_board.proofs.Decoded.{is_read_from_all, gets_are_read, sets_are_read}
 use Rattle.bmc_board.proofs.OneAnswer.{has_one_answer}
 use Rattle.bmc_board.proofs.Undone.{unknown_is_fault, Shows, shows}
-use Rattle.undo_model.specs.Family.{Answered, SetsTo}
-use Rattle.undo_model.specs.Laws.{is_busy, Showed, IsFamily}
+use Rattle.undo_model.specs.Words.{Answered, is_busy}
+use Rattle.undo_model.specs.Family.{SetsTo}
+use Rattle.undo_model.specs.Laws.{Showed, IsFamily}
 use Rattle.undo_model.specs.TwoBuses.{Addresses}
 use Rattle.undo_family.specs.Family.{Allows, SetsWithin, ShowsWithin, conf_within, bus_of, from_manager, board_answer, family}
 
@@ -136,7 +137,7 @@ told_where limits old unknown op before answered after (inr is) = record {
 
 -- a record that isn't there
 told_absent : (limits : Option Limits) (value : Option (List ℕ)) (unknown : ℕ) (op : Op) (before : State) (answered : BoardAnswer) (after : State) → unknown ≢ success → ((old new : List ℕ) → value ≡ Some old → ¬ SetsWithin limits op old new)
-    → (answered ≡ refused unknown) × (after ≡ before) → Tells limits value op before.records answered.code after.records
+    → (answered ≡ refused unknown) × IsUnchanged before after → Tells limits value op before.records answered.code after.records
 told_absent limits value unknown op before answered after fault none is = record {
   does = λ carried. absurd (fault (sym (ap (λ (a : BoardAnswer). a.code) is.0) ∙ carried));
   keeps = λ _. ap (λ (s : State). s.records) is.1;
@@ -174,6 +175,7 @@ free setup before asked a after row =
 
 pub is_family : (setup : BoardFile) (at : Bus → Addresses) → IsFamily (family setup at)
 is_family setup at = record {
+  single = record { none_next = λ series body. refl; shows_it = λ series body. refl };
   put_back = λ records key old new had. with_record_back records key new old had;
   get_put = λ records key old new had. with_record_same records key new;
   put_valid = λ records key new all is. λ k v found. valid_where setup records key new all is k (same_key key k) refl v found;

@@ -3,9 +3,8 @@ use Rattle.std.proofs.Common.{◌≡◌, ℕ, ◌+◌, ◌%◌, ◌<◌, refl, s
 use Rattle.two_wire.specs.declared.Bus.{Bus}
 use Rattle.cfg_records.specs.declared.message.Asked.{Asked}
 use Rattle.cfg_records.specs.declared.message.Asked.TheVariants.{Ipmi, Pldm}
-use Rattle.cfg_records.specs.declared.board_file.BoardFile.{BoardFile}
 use Rattle.bus_model.specs.Bytes.{ipmb_reply, pldm_reply, IsRequestOn, IsReplyOn}
-use Rattle.undo_model.specs.Family.{Answered}
+use Rattle.undo_model.specs.Words.{Answered}
 use Rattle.undo_model.specs.TwoBuses.{Addresses}
 use Rattle.undo_model.specs.Wires.{number_of}
 use Rattle.undo_family.specs.Family.{bus_of}
@@ -59,8 +58,8 @@ reply at n (Pldm from kind command body) a is = record {
   reply_spelled = λ i. pldm_reply (record { pldm_type = kind; command = command }) (instance_back (n % 32) (small n) i) a.code a.body;
 }
 
-pub are_spelled : (setup : BoardFile) (at : Bus → Addresses) → AreSpelled setup at
-are_spelled setup at = record {
-  requests = λ n asked made. request at n asked (managers setup at asked made);
-  replies = λ n asked a made. reply at n asked a (managers setup at asked made);
+pub are_spelled : (at : Bus → Addresses) → AreSpelled at
+are_spelled at = record {
+  requests = λ n asked made. request at n asked (managers at asked made);
+  replies = λ n asked a made. reply at n asked a (managers at asked made);
 }

@@ -1,4 +1,4 @@
--- What the board does is what may happen on a bus.
+-- Each answer of the board may happen on a bus.
 use Rattle.std.specs.Prelude.{◌≡◌, false, Some, None}
 use Rattle.two_wire.specs.declared.Bus.{Bus}
 use Rattle.cfg_records.specs.Records.{Records}
@@ -24,19 +24,19 @@ pub record StartsValid (setup : BoardFile) (at : Bus → Addresses) : Type 0 whe
 
 -- what happens on a bus has another's request carried out, or none
 abbrev pub IsOthers : (setup : BoardFile) (at : Bus → Addresses) (L : Bus → Line) (bus : Bus) → (L bus).Event → World (family setup at) L → Type 0
-IsOthers setup at L bus e w = IsHonestOn (family setup at) L (wires setup at) bus e w × ((L bus).is_to_manager e ≡ false) × ((L bus).carries (w.on bus) e ≡ None)
+IsOthers setup at L bus e w = IsHonestOn (family setup at) L (wires at) bus e w × ((L bus).is_to_manager e ≡ false) × ((L bus).carries (w.on bus) e ≡ None)
 
 -- another's request may be answered by the board at any moment, where its command sets no configuration
 abbrev pub QuietMay : BoardFile → (Bus → Addresses) → (Bus → Line) → Type 0
 QuietMay setup at L = (bus : Bus) (e : (L bus).Event) (w : World (family setup at) L) (asked : Asked) (a : BoardAnswer) (after : State)
-    → IsOthers setup at L bus e w → is_changing asked ≡ false → Row setup w.board asked a after → May (family setup at) L (wires setup at) w (OnBus bus e after)
+    → IsOthers setup at L bus e w → is_changing asked ≡ false → Row setup w.board asked a after → May (family setup at) L (wires at) w (OnBus bus e after)
 
 -- what happens on a bus has the manager's request carried out, with this reply
 abbrev pub IsManagers : (setup : BoardFile) (at : Bus → Addresses) (L : Bus → Line) (bus : Bus) → (L bus).Event → World (family setup at) L → Exchange → Type 0
-IsManagers setup at L bus e w x = IsHonestOn (family setup at) L (wires setup at) bus e w × ((L bus).is_to_manager e ≡ false) × ((L bus).carries (w.on bus) e ≡ Some x)
+IsManagers setup at L bus e w x = IsHonestOn (family setup at) L (wires at) bus e w × ((L bus).is_to_manager e ≡ false) × ((L bus).carries (w.on bus) e ≡ Some x)
 
 -- the manager's request may be answered as the board answers it
 abbrev pub AnswersMay : BoardFile → (Bus → Addresses) → (Bus → Line) → Type 0
 AnswersMay setup at L = (bus : Bus) (e : (L bus).Event) (w : World (family setup at) L) (x : Exchange) → IsManagers setup at L bus e w x
     → let given = answer setup w.board (asked_from at bus x.bytes) in
-    x.reply ≡ reply_to bus x.bytes given.0 → May (family setup at) L (wires setup at) w (OnBus bus e given.1)
+    x.reply ≡ reply_to bus x.bytes given.0 → May (family setup at) L (wires at) w (OnBus bus e given.1)

@@ -9,12 +9,12 @@ use Rattle.cfg_records.specs.Records.{Records, with_record}
 use Rattle.bmc_board.specs.State.{State, state, opening as activity}
 use Rattle.bus_model.specs.BusState.{ReachesPort, ReachesManager}
 use Rattle.undo_model.specs.Family.{AllValid}
-use Rattle.undo_model.specs.Plan.{Undone}
+use Rattle.undo_model.specs.Phase.{Undone}
 use Rattle.undo_model.specs.Machine.{phase_of}
 use Rattle.undo_model.specs.World.{World, Happening, Start, Undo, ToManager, OnBus, AllMay, run, opening}
 use Rattle.undo_model.specs.Headline.{IsStart}
 use Rattle.undo_model.specs.Example.{addresses, messages, quiet_messages}
-use Rattle.undo_family.specs.Family.{family}
+use Rattle.undo_family.specs.Family.{manager_words, family}
 use Rattle.undo_family.specs.WireLaws.{wires}
 
 -- the policy is 0, stay off, and the other records are these
@@ -53,13 +53,13 @@ module _ (setup : BoardFile) (others : Records) where
 
   -- after the first so many events
   abbrev pub after : ℕ → World (family setup addresses) messages
-  after n = run (family setup addresses) messages (wires setup addresses) (take n events) start
+  after n = run (family setup addresses) messages (wires addresses) (take n events) start
 
   -- The run may happen on each board that begins with policy 0, whatever its file and its other records are. The manager's requests are
   -- IPMI's bytes, the policy was 1 before the undo, and the run ends undone.
   pub record EndsUndone : Type 0 where
-    pub starts : AllValid (family setup addresses) others → IsStart (family setup addresses) messages (wires setup addresses) quiet_messages (board others)
-    pub may : AllMay (family setup addresses) messages (wires setup addresses) events start
+    pub starts : AllValid (family setup addresses) others → IsStart (family setup addresses) messages (wires addresses) quiet_messages (board others)
+    pub may : AllMay (family setup addresses) messages (wires addresses) events start
     pub sent : ((after 9).on Ipmb).begun ≡ (0x00 ∷ 0x00 ∷ 0x01 ∷ []) ∷ (0x00 ∷ 0x04 ∷ 0x06 ∷ 0x01 ∷ []) ∷ (0x00 ∷ 0x08 ∷ 0x06 ∷ 0x00 ∷ []) ∷ []
     pub set : (after 6).board.records key.PowerPolicy ≡ Some (1 ∷ [])
-    pub undone : phase_of (family setup addresses) (after 9).machine ≡ Undone
+    pub undone : phase_of (manager_words addresses) (after 9).machine ≡ Undone

@@ -1,5 +1,5 @@
 -- The records of a board and its commands, as a family of kinds of record.
-use Rattle.std.specs.Prelude.{◌≡◌, ℕ, List, [], Option, Some, None}
+use Rattle.std.specs.Prelude.{◌≡◌, ℕ, List, [], Option, Some, None, slice_get, unwrap_or}
 use Rattle.two_wire.specs.declared.Bus.{Bus}
 use Rattle.two_wire.specs.declared.Bus.TheVariants.{Ipmb, Smbus}
 use Rattle.cfg_records.specs.declared.key.Key.{Key}
@@ -17,7 +17,8 @@ use Rattle.bmc_board.specs.State.{State}
 use Rattle.bmc_board.specs.Answer.{answer_of}
 use Rattle.bmc_board.specs.Row.{Row}
 use Rattle.bmc_board.specs.Decode.{sent_by}
-use Rattle.undo_model.specs.Family.{Answered, Family}
+use Rattle.undo_model.specs.Words.{Answered, Words}
+use Rattle.undo_model.specs.Family.{Family}
 use Rattle.undo_model.specs.TwoBuses.{Addresses}
 
 -- the limits allow the value
@@ -57,13 +58,29 @@ board_answer a = record { code = a.code; body = a.body }
 abbrev pub family_answer : BoardAnswer → Answered
 family_answer a = record { code = a.code; body = a.body }
 
--- the family of a board with this file, for a manager with these addresses
-abbrev pub family : BoardFile → (Bus → Addresses) → Family
-family setup at = record {
+-- The words of a manager with these addresses; it knows no board's file. A Get and a Set are one request each, which shows what its
+-- reply shows.
+abbrev pub manager_words : (Bus → Addresses) → Words
+manager_words at = record {
   Key = Key;
   Op = Op;
-  Value = List ℕ;
   key_of = key_of;
+  Asked = Asked;
+  bus_of = bus_of;
+  Series = Asked;
+  getting = λ key. from_manager at (get_asked key);
+  setting = λ op. from_manager at (set_asked op);
+  first = λ asked. asked;
+  next = λ asked bodies. None;
+  joined = λ asked bodies. unwrap_or (slice_get bodies 0) [];
+  inverse = inverse;
+}
+
+-- the family of a board with this file, for that manager
+abbrev pub family : BoardFile → (Bus → Addresses) → Family
+family setup at = record {
+  words = manager_words at;
+  Value = List ℕ;
   Records = Records;
   get = λ records key. records key;
   put = with_record;
@@ -72,13 +89,8 @@ family setup at = record {
   Shows = λ key value body. ShowsWithin (limits_at setup key) value body;
   conf = λ key body. conf_within (limits_at setup key) body;
   Restorable = restorable;
-  inverse = inverse;
   Board = State;
   records = λ board. board.records;
-  Asked = Asked;
-  bus_of = bus_of;
-  get_asked = λ key. from_manager at (get_asked key);
-  set_asked = λ op. from_manager at (set_asked op);
   Row = λ board asked a after. Row setup board asked (board_answer a) after;
 }
 

@@ -3,14 +3,13 @@ use Rattle.std.specs.Prelude.{ℕ}
 use Rattle.two_wire.specs.declared.Bus.{Bus}
 use Rattle.two_wire.specs.declared.Bus.TheVariants as bus
 use Rattle.cfg_records.specs.declared.message.Asked.{Asked}
-use Rattle.cfg_records.specs.declared.board_file.BoardFile.{BoardFile}
 use Rattle.bus_model.specs.declared.numbers.Numbers.{Numbers}
 use Rattle.bus_model.specs.declared.numbers.Numbers.TheVariants as numbers
 use Rattle.bus_model.specs.Bytes.{IsRequestOn, IsReplyOn}
-use Rattle.undo_model.specs.Family.{Answered}
+use Rattle.undo_model.specs.Words.{Answered}
 use Rattle.undo_model.specs.TwoBuses.{Addresses}
 use Rattle.undo_model.specs.Wires.{number_of, IsMade}
-use Rattle.undo_family.specs.Family.{bus_of, family}
+use Rattle.undo_family.specs.Family.{bus_of, manager_words}
 use Rattle.undo_family.specs.Wires.{bytes_of, reply_to}
 
 -- sequence numbers on IPMB, instances of PLDM on SMBus
@@ -19,8 +18,8 @@ numbers_of bus.Ipmb = numbers.Ipmb
 numbers_of bus.Smbus = numbers.Pldm
 
 -- the manager's requests are requests under their numbers, and a reply to one is a reply to it, with the answer's code
-pub record AreSpelled (setup : BoardFile) (at : Bus → Addresses) : Type 0 where
-  pub requests : (n : ℕ) (asked : Asked) → IsMade (family setup at) asked
+pub record AreSpelled (at : Bus → Addresses) : Type 0 where
+  pub requests : (n : ℕ) (asked : Asked) → IsMade (manager_words at) asked
       → let number = number_of (bus_of asked) n in IsRequestOn (numbers_of (bus_of asked)) number (bytes_of number asked)
-  pub replies : (n : ℕ) (asked : Asked) (a : Answered) → IsMade (family setup at) asked
+  pub replies : (n : ℕ) (asked : Asked) (a : Answered) → IsMade (manager_words at) asked
       → let bytes = bytes_of (number_of (bus_of asked) n) asked in IsReplyOn (numbers_of (bus_of asked)) a.code bytes (reply_to (bus_of asked) bytes a)

@@ -5,7 +5,7 @@ use Rattle.two_wire.specs.declared.Bus.TheVariants.{Ipmb, Smbus}
 use Rattle.cfg_records.specs.declared.message.Asked.{Asked}
 use Rattle.cfg_records.specs.declared.message.Asked.TheVariants.{Ipmi, Pldm}
 use Rattle.bus_model.specs.Bytes.{IpmbHeader, ipmb_request, ipmb_reply, PldmHeader, pldm_request, pldm_reply}
-use Rattle.undo_model.specs.Family.{Answered}
+use Rattle.undo_model.specs.Words.{Answered}
 use Rattle.undo_model.specs.TwoBuses.{Addresses}
 
 -- ---- what bytes say

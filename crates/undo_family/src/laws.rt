@@ -11,7 +11,7 @@ ghost use Rattle.undo_model.specs.Giving.{HaltsByGiven};
 ghost use Rattle.undo_model.specs.RecordsRun.{RecordsStand};
 ghost use Rattle.undo_model.specs.Resume.{GoesOnAlike};
 ghost use Rattle.undo_model.specs.Clean.{AnswersByRow, AlwaysRunsClean};
-ghost use Rattle.undo_family.specs.Family.{family, answer};
+ghost use Rattle.undo_family.specs.Family.{manager_words, family, answer};
 ghost use Rattle.undo_family.specs.WireLaws.{wires};
 ghost use Rattle.undo_family.specs.Spelled.{AreSpelled};
 ghost use Rattle.undo_family.specs.Board.{StartsValid, QuietMay, AnswersMay};
@@ -30,34 +30,34 @@ pub fn records_stand()
 /// At every moment of every honest schedule of both buses the manager's phase says what the records are, and a plan that halted has the
 /// cause that it names. SMBus goes in whole messages, or in packets, cut in any way that a receiver can join.
 pub fn phases_stand()
-    ensures messages { (setup : BoardFile) (at : Bus → Addresses) → AlwaysStands (family setup at) (in_messages at) (wires setup at) }
-    ensures packets { (setup : BoardFile) (at : Bus → Addresses) (split : List ℕ → List Packet) → IsCutting split → AlwaysStands (family setup at) (with_packets at split) (wires setup at) }
+    ensures messages { (setup : BoardFile) (at : Bus → Addresses) → AlwaysStands (family setup at) (in_messages at) (wires at) }
+    ensures packets { (setup : BoardFile) (at : Bus → Addresses) (split : List ℕ → List Packet) → IsCutting split → AlwaysStands (family setup at) (with_packets at split) (wires at) }
 {}
 
 /// A halt has its cause among the answers that the board gave in that schedule. This is said of any list that has all the answers of a
 /// schedule: take just those.
 pub fn halts_by_given_answers()
-    ensures messages { (setup : BoardFile) (at : Bus → Addresses) → HaltsByGiven (family setup at) (in_messages at) (wires setup at) }
-    ensures packets { (setup : BoardFile) (at : Bus → Addresses) (split : List ℕ → List Packet) → IsCutting split → HaltsByGiven (family setup at) (with_packets at split) (wires setup at) }
+    ensures messages { (setup : BoardFile) (at : Bus → Addresses) → HaltsByGiven (family setup at) (in_messages at) (wires at) }
+    ensures packets { (setup : BoardFile) (at : Bus → Addresses) (split : List ℕ → List Packet) → IsCutting split → HaltsByGiven (family setup at) (with_packets at split) (wires at) }
 {}
 
 /// Once a plan is undone, and at every moment from then on, every record is what it was before the plan, and each Get as the
 /// manager asks it shows the same configuration.
 pub fn undone_is_for_good()
-    ensures messages { (setup : BoardFile) (at : Bus → Addresses) → UndoneForGood (family setup at) (in_messages at) (wires setup at) }
-    ensures packets { (setup : BoardFile) (at : Bus → Addresses) (split : List ℕ → List Packet) → IsCutting split → UndoneForGood (family setup at) (with_packets at split) (wires setup at) }
+    ensures messages { (setup : BoardFile) (at : Bus → Addresses) → UndoneForGood (family setup at) (in_messages at) (wires at) }
+    ensures packets { (setup : BoardFile) (at : Bus → Addresses) (split : List ℕ → List Packet) → IsCutting split → UndoneForGood (family setup at) (with_packets at split) (wires at) }
 {}
 
 /// A plan halts because of a stop only where it was stopped, or where another manager went on from its list.
 pub fn stops_only_if_told()
-    ensures messages { (setup : BoardFile) (at : Bus → Addresses) → StopsOnlyIfTold (family setup at) (in_messages at) (wires setup at) }
-    ensures packets { (setup : BoardFile) (at : Bus → Addresses) (split : List ℕ → List Packet) → IsCutting split → StopsOnlyIfTold (family setup at) (with_packets at split) (wires setup at) }
+    ensures messages { (setup : BoardFile) (at : Bus → Addresses) → StopsOnlyIfTold (family setup at) (in_messages at) (wires at) }
+    ensures packets { (setup : BoardFile) (at : Bus → Addresses) (split : List ℕ → List Packet) → IsCutting split → StopsOnlyIfTold (family setup at) (with_packets at split) (wires at) }
 {}
 
 /// A manager that goes on from a list is halted after as many steps as the list undoes, with no request open, and gives that same list. From
 /// `undo` on it goes through the same phases and sends the same requests, under the same numbers, as the manager from which the list was taken.
 pub fn resumed_goes_on_alike()
-    ensures { (setup : BoardFile) (at : Bus → Addresses) → GoesOnAlike (family setup at) }
+    ensures { (at : Bus → Addresses) → GoesOnAlike (manager_words at) }
 {}
 
 /// Where the board answers each request at once and the manager takes each reply, a plan takes two requests for each step and ends done, or
@@ -71,7 +71,7 @@ pub fn plans_run_clean()
 /// The manager's requests are requests on their bus, IPMI on IPMB and PLDM on SMBus, each under its number; and a reply to one is a reply
 /// to it, with the answer's code.
 pub fn bytes_are_of_the_buses()
-    ensures { (setup : BoardFile) (at : Bus → Addresses) → AreSpelled setup at }
+    ensures { (at : Bus → Addresses) → AreSpelled at }
 {}
 
 /// A board starts with valid records, as the other theorems ask, and its limits allow only such.
@@ -85,7 +85,7 @@ pub fn quiet_requests_may_come()
     ensures packets { (setup : BoardFile) (at : Bus → Addresses) (split : List ℕ → List Packet) → QuietMay setup at (with_packets at split) }
 {}
 
-/// What the board answers to a request of the manager is what a schedule may have.
+/// A schedule may have each answer of the board to a request of the manager.
 pub fn answers_may_come()
     ensures messages { (setup : BoardFile) (at : Bus → Addresses) → AnswersMay setup at (in_messages at) }
     ensures packets { (setup : BoardFile) (at : Bus → Addresses) (split : List ℕ → List Packet) → AnswersMay setup at (with_packets at split) }

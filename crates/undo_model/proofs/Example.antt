@@ -14,7 +14,7 @@ use Rattle.bus_model.specs.PacketSchedule.{LiveWhereJoined}
 use Rattle.bus_model.proofs.Decides.{is_honest, is_honest-tells}
 use Rattle.bus_model.proofs.PacketDecides.{is_packet_honest, all_packet_honest-tells}
 use Rattle.bus_model.proofs.PacketLaws.{event_implies, live_is_recent}
-use Rattle.undo_model.specs.Family.{Answered}
+use Rattle.undo_model.specs.Words.{Answered}
 use Rattle.undo_model.specs.Line.{Exchange, Line, whole, packets, IsOutsideWhole, IsOutsidePackets}
 use Rattle.undo_model.specs.World.{World, Happening, Start, Quiet, Stop, Again, Undo, Resume, ToManager, OnBus, OnBench, BoardMay, May, AllMay, happens, opening}
 use Rattle.undo_model.specs.Registers.{Halves, Board, answer, asked_from, registers, wires}

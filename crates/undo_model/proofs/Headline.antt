@@ -7,15 +7,17 @@ use Rattle.two_wire.specs.declared.Bus.{Bus}
 use Rattle.two_wire.specs.declared.Bus.TheVariants.{Ipmb, Smbus}
 use Rattle.bus_model.specs.BusState.{BusState}
 use Rattle.bus_model.specs.Start.{NothingUnderWay}
-use Rattle.undo_model.specs.Family.{Answered, Family, AllValid}
-use Rattle.undo_model.specs.Laws.{IsFamily, is_busy}
-use Rattle.undo_model.specs.Plan.{Stop, Phase, Halted, Undone, Stands, Halts}
-use Rattle.undo_model.specs.Machine.{count_of, Gets, Sets, Undoes, Stage, AtStart, Opened, AtEnd, AtHalt, AtUndone, AtRefused, Machine, Turn, phase_at, phase_of, bus_at, sending, starts, undoes, quiets, agains, stops, replies, takes, reply_of}
+use Rattle.undo_model.specs.Words.{Answered, is_busy}
+use Rattle.undo_model.specs.Family.{Family, AllValid}
+use Rattle.undo_model.specs.Laws.{IsFamily}
+use Rattle.undo_model.specs.Phase.{Stop, Phase, Halted, Undone}
+use Rattle.undo_model.specs.Plan.{Stands, Halts}
+use Rattle.undo_model.specs.Machine.{count_of, Gets, Sets, Undoes, Stage, AtStart, Opened, AtEnd, AtHalt, AtUndone, AtRefused, Machine, Turn, phase_at, phase_of, bus_at, sending, starts, undoes, quiets, agains, stops, replies, takes, reply_of, same_bus}
 use Rattle.undo_model.specs.Wires.{number_of, Wires}
 use Rattle.undo_model.specs.Joined.{IsClosed, Orderly}
 use Rattle.undo_model.specs.Line.{Line}
 use Rattle.undo_model.specs.World as world
-use Rattle.undo_model.specs.World.{same_bus, States, World, Happening, Start, Quiet, Stop as StopCall, Again, Undo, Resume, ToManager, OnBus, OnBench, happens, run, AllMay, opening}
+use Rattle.undo_model.specs.World.{States, World, Happening, Start, Quiet, Stop as StopCall, Again, Undo, Resume, ToManager, OnBus, OnBench, happens, run, AllMay, opening}
 use Rattle.undo_model.specs.Headline.{MakesStop, AnyMakesStop, ShowsSame, IsStart, AlwaysStands, UndoneForGood, StopsOnlyIfTold}
 use Rattle.undo_model.proofs.LineLaws.{IsLine}
 use Rattle.undo_model.proofs.Joined.{joined_stands, joined_halts}
@@ -27,18 +29,18 @@ abbrev IsUndone : Phase → Type 0
 IsUndone Undone = Unit {0}
 IsUndone _ = ⊥
 
-undone_stage : (F : Family) (stage : Stage F) → IsUndone (phase_at F stage) → stage ≡ AtUndone
+undone_stage : (F : Family) (stage : Stage F.words) → IsUndone (phase_at F.words stage) → stage ≡ AtUndone
 undone_stage F AtUndone h = refl
 undone_stage F AtStart h = absurd h
-undone_stage F (Opened true (Gets k op)) h = absurd h
-undone_stage F (Opened true (Sets k op back)) h = absurd h
-undone_stage F (Opened true (Undoes u us)) h = absurd h
-undone_stage F (Opened false task) h = absurd h
+undone_stage F (Opened true (Gets k op) part) h = absurd h
+undone_stage F (Opened true (Sets k op back) part) h = absurd h
+undone_stage F (Opened true (Undoes u us) part) h = absurd h
+undone_stage F (Opened false task part) h = absurd h
 undone_stage F AtEnd h = absurd h
 undone_stage F (AtHalt k why) h = absurd h
 undone_stage F (AtRefused k code) h = absurd h
 
-module _ (F : Family) (L : Bus → Line) (W : Wires F) where
+module _ (F : Family) (L : Bus → Line) (W : Wires F.words) where
   -- a prefix of what may happen may happen
   pub may_prefix : (events later : List (Happening F L)) (w : World F L) → AllMay F L W (events ++ later) w → AllMay F L W events w
   may_prefix [] later w may = tt
@@ -54,13 +56,13 @@ module _ (F : Family) (L : Bus → Line) (W : Wires F) where
   IsAtUndone w = w.machine.stage ≡ AtUndone
 
   undone_once : (w : World F L) (e : Happening F L) → IsAtUndone w → IsAtUndone (happens F L W w e)
-  undone_once w Start at = subst (λ (s : Stage F). IsAtUndone (world.opens F L W (starts F s w.machine) w)) (sym at) at
-  undone_once w Quiet at = subst (λ (s : Stage F). IsAtUndone (world.repeats F L W (quiets F s w.machine) w)) (sym at) at
-  undone_once w StopCall at = subst (λ (s : Stage F). IsAtUndone (world.opens F L W (stops F s w.machine) w)) (sym at) at
-  undone_once w Again at = subst (λ (s : Stage F). IsAtUndone (world.repeats F L W (agains F s w.machine) w)) (sym at) at
-  undone_once w Undo at = subst (λ (s : Stage F). IsAtUndone (world.opens F L W (undoes F s w.machine) w)) (sym at) at
-  undone_once w (Resume retries) at = subst (λ (s : Stage F). IsAtUndone (world.resumes F L W retries s w)) (sym at) at
-  undone_once w (ToManager bus e) at = subst (λ (s : Stage F). IsAtUndone (world.returns F L W bus e s w)) (sym at) at
+  undone_once w Start at = subst (λ (s : Stage F.words). IsAtUndone (world.opens F L W (starts F.words s w.machine) w)) (sym at) at
+  undone_once w Quiet at = subst (λ (s : Stage F.words). IsAtUndone (world.repeats F L W (quiets F.words s w.machine) w)) (sym at) at
+  undone_once w StopCall at = subst (λ (s : Stage F.words). IsAtUndone (world.opens F L W (stops F.words s w.machine) w)) (sym at) at
+  undone_once w Again at = subst (λ (s : Stage F.words). IsAtUndone (world.repeats F L W (agains F.words s w.machine) w)) (sym at) at
+  undone_once w Undo at = subst (λ (s : Stage F.words). IsAtUndone (world.opens F L W (undoes F.words s w.machine) w)) (sym at) at
+  undone_once w (Resume retries) at = subst (λ (s : Stage F.words). IsAtUndone (world.resumes F L W retries s w)) (sym at) at
+  undone_once w (ToManager bus e) at = subst (λ (s : Stage F.words). IsAtUndone (world.returns F L W bus e s w)) (sym at) at
   undone_once w (OnBus bus e after) at = at
   undone_once w (OnBench after) at = at
 
@@ -73,68 +75,68 @@ module _ (F : Family) (L : Bus → Line) (W : Wires F) where
   abbrev SameStop : World F L → World F L → Type 0
   SameStop w new = new.machine.stopped ≡ w.machine.stopped
 
-  start_stop : (stage : Stage F) (w : World F L) → SameStop w (world.opens F L W (starts F stage w.machine) w)
+  start_stop : (stage : Stage F.words) (w : World F L) → SameStop w (world.opens F L W (starts F.words stage w.machine) w)
   start_stop AtStart w = refl
-  start_stop (Opened heeded task) w = refl
+  start_stop (Opened heeded task part) w = refl
   start_stop AtEnd w = refl
   start_stop (AtHalt k why) w = refl
   start_stop AtUndone w = refl
   start_stop (AtRefused k code) w = refl
 
-  undo_stop : (stage : Stage F) (w : World F L) → SameStop w (world.opens F L W (undoes F stage w.machine) w)
+  undo_stop : (stage : Stage F.words) (w : World F L) → SameStop w (world.opens F L W (undoes F.words stage w.machine) w)
   undo_stop AtStart w = refl
-  undo_stop (Opened heeded task) w = refl
+  undo_stop (Opened heeded task part) w = refl
   undo_stop AtEnd w = refl
   undo_stop (AtHalt k why) w = refl
   undo_stop AtUndone w = refl
   undo_stop (AtRefused k code) w = refl
 
-  again_stop : (stage : Stage F) (w : World F L) → SameStop w (world.repeats F L W (agains F stage w.machine) w)
+  again_stop : (stage : Stage F.words) (w : World F L) → SameStop w (world.repeats F L W (agains F.words stage w.machine) w)
   again_stop AtStart w = refl
-  again_stop (Opened true task) w = refl
-  again_stop (Opened false task) w = refl
+  again_stop (Opened true task part) w = refl
+  again_stop (Opened false task part) w = refl
   again_stop AtEnd w = refl
   again_stop (AtHalt k why) w = refl
   again_stop AtUndone w = refl
   again_stop (AtRefused k code) w = refl
 
-  quiet_stop : (stage : Stage F) (w : World F L) → SameStop w (world.repeats F L W (quiets F stage w.machine) w)
-  quiet_stop (Opened true task) w =
+  quiet_stop : (stage : Stage F.words) (w : World F L) → SameStop w (world.repeats F L W (quiets F.words stage w.machine) w)
+  quiet_stop (Opened true task part) w =
       cond_both (nat_lt w.machine.resent w.machine.retries)
-      (Some (record { machine = record (w.machine) { resent = w.machine.resent + 1 }; sends = Some (sending F task w.machine.counts) }))
-      (Some (record { machine = record (w.machine) { stage = Opened false task }; sends = None }))
+      (Some (record { machine = record (w.machine) { resent = w.machine.resent + 1 }; sends = Some (sending F.words part w.machine.counts) }))
+      (Some (record { machine = record (w.machine) { stage = Opened false task part }; sends = None }))
       (λ o. SameStop w (world.repeats F L W o w)) (λ _. refl) (λ _. refl)
-  quiet_stop (Opened false task) w = refl
+  quiet_stop (Opened false task part) w = refl
   quiet_stop AtStart w = refl
   quiet_stop AtEnd w = refl
   quiet_stop (AtHalt k why) w = refl
   quiet_stop AtUndone w = refl
   quiet_stop (AtRefused k code) w = refl
 
-  reply_stop : (stage : Stage F) (a : Answered) (m : Machine F) → IfSome (replies F a stage m) (λ t. t.machine.stopped ≡ m.stopped)
-  reply_stop (Opened true task) a m = cond_both (is_busy a.code) None (Some (takes F a task m)) (λ o. IfSome o (λ t. t.machine.stopped ≡ m.stopped)) (λ _. tt) (λ _. refl)
-  reply_stop (Opened false task) a m = tt
+  reply_stop : (stage : Stage F.words) (a : Answered) (m : Machine F.words) → IfSome (replies F.words a stage m) (λ t. t.machine.stopped ≡ m.stopped)
+  reply_stop (Opened true task part) a m = cond_both (is_busy a.code) None (Some (takes F.words a task part m)) (λ o. IfSome o (λ t. t.machine.stopped ≡ m.stopped)) (λ _. tt) (λ _. refl)
+  reply_stop (Opened false task part) a m = tt
   reply_stop AtStart a m = tt
   reply_stop AtEnd a m = tt
   reply_stop (AtHalt k why) a m = tt
   reply_stop AtUndone a m = tt
   reply_stop (AtRefused k code) a m = tt
 
-  answered_stop : (bus : Bus) (e : (L bus).Event) (o : Option (Turn F)) (w : World F L) → IfSome o (λ t. t.machine.stopped ≡ w.machine.stopped) → SameStop w (world.answered F L W bus e o w)
+  answered_stop : (bus : Bus) (e : (L bus).Event) (o : Option (Turn F.words)) (w : World F L) → IfSome o (λ t. t.machine.stopped ≡ w.machine.stopped) → SameStop w (world.answered F L W bus e o w)
   answered_stop bus e None w h = refl
   answered_stop bus e (Some t) w h = h
 
   brought_stop : (bus : Bus) (e : (L bus).Event) (o : Option (List ℕ)) (w : World F L) → SameStop w (world.brought F L W bus e o w)
   brought_stop bus e None w = refl
-  brought_stop bus e (Some reply) w = answered_stop bus e (reply_of F (W.answered_from bus reply) w.machine) w (reply_stop w.machine.stage (W.answered_from bus reply) w.machine)
+  brought_stop bus e (Some reply) w = answered_stop bus e (reply_of F.words (W.answered_from bus reply) w.machine) w (reply_stop w.machine.stage (W.answered_from bus reply) w.machine)
 
   looks_stop : (bus : Bus) (e : (L bus).Event) (b : Bool) (w : World F L) → SameStop w (world.looks F L W bus e b w)
   looks_stop bus e false w = refl
   looks_stop bus e true w = brought_stop bus e ((L bus).brings (w.on bus) e) w
 
-  returns_stop : (bus : Bus) (e : (L bus).Event) (stage : Stage F) (w : World F L) → SameStop w (world.returns F L W bus e stage w)
-  returns_stop bus e (Opened true task) w = looks_stop bus e (same_bus bus (bus_at F task)) w
-  returns_stop bus e (Opened false task) w = refl
+  returns_stop : (bus : Bus) (e : (L bus).Event) (stage : Stage F.words) (w : World F L) → SameStop w (world.returns F L W bus e stage w)
+  returns_stop bus e (Opened true task part) w = looks_stop bus e (same_bus bus (bus_at F.words part)) w
+  returns_stop bus e (Opened false task part) w = refl
   returns_stop bus e AtStart w = refl
   returns_stop bus e AtEnd w = refl
   returns_stop bus e (AtHalt k why) w = refl
@@ -160,11 +162,11 @@ module _ (F : Family) (L : Bus → Line) (W : Wires F) where
         | inr told ↦ inl told
       ]
 
-module _ (F : Family) (laws : IsFamily F) (L : Bus → Line) (lines : (bus : Bus) → IsLine (L bus)) (W : Wires F) where
+module _ (F : Family) (laws : IsFamily F) (L : Bus → Line) (lines : (bus : Bus) → IsLine (L bus)) (W : Wires F.words) where
   abbrev first : Bus → ℕ
   first bus = 0
 
-  abbrev Holds : List F.Op → F.Records → World F L → Type 0
+  abbrev Holds : List F.words.Op → F.Records → World F L → Type 0
   Holds plan start w = WorldHolds F laws L lines W first plan start w
 
   none_begun : (bus : Bus) (s : BusState) → NothingUnderWay s → Orderly F W first bus s
@@ -183,7 +185,7 @@ module _ (F : Family) (laws : IsFamily F) (L : Bus → Line) (lines : (bus : Bus
   closed_first : (s : BusState) → NothingUnderWay s → IsClosed s
   closed_first s none = let b : length s.begun ≡ 0 = ap (λ (x : List (List ℕ)). length x) none.begun in omega arith
 
-  pub opening_holds : (plan : List F.Op) (retries : ℕ) (on : States L) (board : F.Board) → IsStart F L W on board → Holds plan (F.records board) (opening F L plan retries on board)
+  pub opening_holds : (plan : List F.words.Op) (retries : ℕ) (on : States L) (board : F.Board) → IsStart F L W on board → Holds plan (F.records board) (opening F L plan retries on board)
   opening_holds plan retries on board start =
       let none : (bus : Bus) → NothingUnderWay ((L bus).requests (on bus)) = (λ bus. ((lines bus).starts (on bus) (start.on_bus bus)).1) in
       record {
@@ -201,15 +203,15 @@ module _ (F : Family) (laws : IsFamily F) (L : Bus → Line) (lines : (bus : Bus
       counts Ipmb s none = ap (λ (x : List (List ℕ)). number_of Ipmb (0 + length x)) none.taken
       counts Smbus s none = ap (λ (x : List (List ℕ)). number_of Smbus (0 + length x)) none.taken
 
-  holds_after : (plan : List F.Op) (retries : ℕ) (on : States L) (board : F.Board) → IsStart F L W on board → (events : List (Happening F L)) → AllMay F L W events (opening F L plan retries on board)
+  holds_after : (plan : List F.words.Op) (retries : ℕ) (on : States L) (board : F.Board) → IsStart F L W on board → (events : List (Happening F L)) → AllMay F L W events (opening F L plan retries on board)
       → Holds plan (F.records board) (run F L W events (opening F L plan retries on board))
   holds_after plan retries on board start events may =
       run_holds F laws L lines W first plan (F.records board) events (opening F L plan retries on board) (opening_holds plan retries on board start) may
 
-  pub stands_at : (plan : List F.Op) (start : F.Records) (w : World F L) → Holds plan start w → Stands F plan start (phase_of F w.machine) (F.records w.board)
+  pub stands_at : (plan : List F.words.Op) (start : F.Records) (w : World F L) → Holds plan start w → Stands F plan start (phase_of F.words w.machine) (F.records w.board)
   stands_at plan start w h = joined_stands F laws W first plan start w.machine.plan w.machine.stage w.machine.stopped w.machine.undo (λ bus. (L bus).requests (w.on bus)) w.board h.joined
 
-  pub halts_at : (plan : List F.Op) (start : F.Records) (w : World F L) → Holds plan start w → Halts F w.machine.stopped plan (phase_of F w.machine) (F.records w.board)
+  pub halts_at : (plan : List F.words.Op) (start : F.Records) (w : World F L) → Holds plan start w → Halts F w.machine.stopped plan (phase_of F.words w.machine) (F.records w.board)
   halts_at plan start w h = joined_halts F laws W first plan start w.machine.plan w.machine.stage w.machine.stopped w.machine.undo (λ bus. (L bus).requests (w.on bus)) w.board h.joined
 
   pub always_stands : AlwaysStands F L W
@@ -236,7 +238,7 @@ module _ (F : Family) (laws : IsFamily F) (L : Bus → Line) (lines : (bus : Bus
       let h = holds_after plan retries on board start (events ++ later) may in
       let stands = stands_at plan (F.records board) (run F L W (events ++ later) w0) h in
       let same : F.records (run F L W (events ++ later) w0).board ≡ F.records board =
-      subst (λ (s : Stage F). Stands F plan (F.records board) (phase_at F s) (F.records (run F L W (events ++ later) w0).board)) still stands in
+      subst (λ (s : Stage F.words). Stands F plan (F.records board) (phase_at F.words s) (F.records (run F L W (events ++ later) w0).board)) still stands in
       (same, shows_same board (run F L W (events ++ later) w0).board start.valid same)
 
   pub stops_only_if_told : StopsOnlyIfTold F L W

@@ -7,7 +7,8 @@ use Rattle.bus_model.specs.Request.{Kept}
 use Rattle.bus_model.specs.BusState.{BusState}
 use Rattle.bus_model.specs.Effect.{IsKeptFor, SameRequests, IsBegun, IsCarried, IsTaken}
 use Rattle.bus_model.proofs.Lists.{at_end, one_more, length_more}
-use Rattle.undo_model.specs.Family.{Answered, Family}
+use Rattle.undo_model.specs.Words.{Answered}
+use Rattle.undo_model.specs.Family.{Family}
 use Rattle.undo_model.specs.Wires.{Wires}
 use Rattle.undo_model.proofs.Undoable.{past_none}
 use Rattle.undo_model.specs.Joined.{IsClosed, request_bytes, IsWritten, IsAnswered, Orderly, answer_in, answer_on}
@@ -23,7 +24,7 @@ closed_still old new same le =
     let t : length new.taken ≡ length old.taken = ap (λ (x : List (List ℕ)). length x) same.taken in
     omega arith
 
-module _ (F : Family) (W : Wires F) (first : Bus → ℕ) (bus : Bus) where
+module _ (F : Family) (W : Wires F.words) (first : Bus → ℕ) (bus : Bus) where
   abbrev Ordered : BusState → Type 0
   Ordered = Orderly F W first bus
 
@@ -41,7 +42,7 @@ module _ (F : Family) (W : Wires F) (first : Bus → ℕ) (bus : Bus) where
         replied = λ n k e. h.replied n k (ap (λ (x : List Kept). slice_get x n) (sym same.carried) ∙ e);
       }
 
-  pub orderly_begun : (old new : BusState) (asked : F.Asked) → F.bus_of asked ≡ bus → Ordered old → IsBegun old new (request_bytes F W first bus (length old.begun) asked) → Ordered new
+  pub orderly_begun : (old new : BusState) (asked : F.words.Asked) → F.words.bus_of asked ≡ bus → Ordered old → IsBegun old new (request_bytes F W first bus (length old.begun) asked) → Ordered new
   orderly_begun old new asked on h e =
       let bytes = request_bytes F W first bus (length old.begun) asked in
       let b : length new.begun ≡ length old.begun + 1 = ap (λ (x : List (List ℕ)). length x) e.begun ∙ length_more old.begun bytes in
@@ -128,13 +129,13 @@ module _ (F : Family) (W : Wires F) (first : Bus → ℕ) (bus : Bus) where
 
   -- ---- the open request
 
-  pub open_still : (old new : BusState) (asked : F.Asked) → SameRequests old new → slice_get old.begun (length old.taken) ≡ Some (request_bytes F W first bus (length old.taken) asked)
+  pub open_still : (old new : BusState) (asked : F.words.Asked) → SameRequests old new → slice_get old.begun (length old.taken) ≡ Some (request_bytes F W first bus (length old.taken) asked)
       → slice_get new.begun (length new.taken) ≡ Some (request_bytes F W first bus (length new.taken) asked)
   open_still old new asked same e =
       ap (λ (x : List (List ℕ)). slice_get x (length new.taken)) same.begun
       ∙ ap (λ (x : List (List ℕ)). slice_get old.begun (length x)) same.taken ∙ e ∙ ap (λ (x : List (List ℕ)). Some (request_bytes F W first bus (length x) asked)) (sym same.taken)
 
-  pub open_begun : (old new : BusState) (asked : F.Asked) → IsBegun old new (request_bytes F W first bus (length old.begun) asked)
+  pub open_begun : (old new : BusState) (asked : F.words.Asked) → IsBegun old new (request_bytes F W first bus (length old.begun) asked)
       → slice_get new.begun (length new.taken) ≡ Some (request_bytes F W first bus (length new.taken) asked)
   open_begun old new asked e =
       let bytes = request_bytes F W first bus (length old.begun) asked in
@@ -142,7 +143,7 @@ module _ (F : Family) (W : Wires F) (first : Bus → ℕ) (bus : Bus) where
       ap (λ (x : List (List ℕ)). slice_get x (length new.taken)) e.begun ∙ ap (slice_get (old.begun ++ bytes ∷ [])) t ∙ at_end old.begun bytes
       ∙ ap (λ (n : ℕ). Some (request_bytes F W first bus n asked)) (sym t)
 
-  pub open_carried : (old new : BusState) (bytes reply : List ℕ) (asked : F.Asked) → IsCarried old new bytes reply → slice_get old.begun (length old.taken) ≡ Some (request_bytes F W first bus (length old.taken) asked)
+  pub open_carried : (old new : BusState) (bytes reply : List ℕ) (asked : F.words.Asked) → IsCarried old new bytes reply → slice_get old.begun (length old.taken) ≡ Some (request_bytes F W first bus (length old.taken) asked)
       → slice_get new.begun (length new.taken) ≡ Some (request_bytes F W first bus (length new.taken) asked)
   open_carried old new bytes reply asked c e =
       ap (λ (x : List (List ℕ)). slice_get x (length new.taken)) c.begun

@@ -4,8 +4,9 @@ use Rattle.std.specs.Prelude.{◌≢◌, ◌==◌, slice_get, slice_set, unwrap_
 use Rattle.std.proofs.lemmas.Bool.{and_parts, and_from, leb-true, ltb-true, le-leb, lt-ltb, cond_both, false≢true}
 use Rattle.std.proofs.lemmas.Option.{same_Some, none-some}
 use Rattle.two_wire.specs.Codes.{success, not_present, invalid_data_field}
-use Rattle.undo_model.specs.Family.{Answered, AllValid, SetsTo}
-use Rattle.undo_model.specs.Laws.{Showed, IsFamily, is_busy}
+use Rattle.undo_model.specs.Words.{Answered, is_busy}
+use Rattle.undo_model.specs.Family.{AllValid, SetsTo}
+use Rattle.undo_model.specs.Laws.{Showed, IsFamily}
 use Rattle.undo_model.specs.Registers.{Halves, Write, Asked, AskGet, AskSet, Board, IsValid, is_valid, written, shown, configuration, back, inverse, inverse_of_high, IsRestorable, replied, get_answer, set_answer, answer, Row, registers}
 
 -- ---- the map
@@ -169,6 +170,7 @@ free b (AskSet w) = set_free w (slice_get b.registers w.register) b.registers
 
 pub registers_are_family : IsFamily registers
 registers_are_family = record {
+  single = record { none_next = λ series body. refl; shows_it = λ series body. refl };
   put_back = put_back;
   get_put = get_put;
   put_valid = put_valid;

@@ -1,4 +1,4 @@
--- Requests that lead back from the records after some steps of a plan to those at its start.
+-- What leads back from the records after some steps of a plan to those at its start.
 use Rattle.std.proofs.Common.{◌≡◌, ℕ, zero, suc, ◌≤◌, List, [], ◌∷◌, length, Some, None, refl, sym, ◌∙◌, ap, subst, arith}
 use Rattle.std.specs.Prelude.{slice_get}
 use Rattle.std.proofs.lemmas.Option.{same_Some, none-some}
@@ -11,57 +11,57 @@ past_none [] n e = omega arith
 past_none (x ∷ xs) zero e = absurd (none-some x (sym e))
 past_none (x ∷ xs) (suc n) e = let h = past_none xs n e in omega arith
 
--- the request leads back over step k
-pub record LeadsBack (F : Family) (plan : List F.Op) (k : ℕ) (u : F.Asked) (before r : F.Records) : Type 0 where
-  pub op : F.Op
-  pub back : F.Op
+-- the series leads back over step k
+pub record LeadsBack (F : Family) (plan : List F.words.Op) (k : ℕ) (u : F.words.Series) (before r : F.Records) : Type 0 where
+  pub op : F.words.Op
+  pub back : F.words.Op
   pub step : slice_get plan k ≡ Some op
   pub done : SetsTo F op before r
   pub undone : SetsTo F back r before
-  pub request : u ≡ F.set_asked back
+  pub series : u ≡ F.words.setting back
 
--- the requests, in order, lead back over the first k steps
-abbrev pub CanUndo : (F : Family) → List F.Op → F.Records → ℕ → List F.Asked → F.Records → Type 0
+-- the series, in order, lead back over the first k steps
+abbrev pub CanUndo : (F : Family) → List F.words.Op → F.Records → ℕ → List F.words.Series → F.Records → Type 0
 CanUndo F plan start zero [] r = r ≡ start
 CanUndo F plan start zero (u ∷ us) r = ⊥
 CanUndo F plan start (suc k) [] r = ⊥
 CanUndo F plan start (suc k) (u ∷ us) r = (before : F.Records) × CanUndo F plan start k us before × LeadsBack F plan k u before r
 
-pub after_of : (F : Family) (plan : List F.Op) (start : F.Records) (k : ℕ) (us : List F.Asked) (r : F.Records) → CanUndo F plan start k us r → IsAfter F plan start k r
+pub after_of : (F : Family) (plan : List F.words.Op) (start : F.Records) (k : ℕ) (us : List F.words.Series) (r : F.Records) → CanUndo F plan start k us r → IsAfter F plan start k r
 after_of F plan start zero [] r h = h
 after_of F plan start zero (u ∷ us) r h = absurd h
 after_of F plan start (suc k) [] r h = absurd h
 after_of F plan start (suc k) (u ∷ us) r h = (h.0, h.2.op, after_of F plan start k us h.0 h.1, h.2.step, h.2.done)
 
-pub length_of : (F : Family) (plan : List F.Op) (start : F.Records) (k : ℕ) (us : List F.Asked) (r : F.Records) → CanUndo F plan start k us r → length us ≡ k
+pub length_of : (F : Family) (plan : List F.words.Op) (start : F.Records) (k : ℕ) (us : List F.words.Series) (r : F.Records) → CanUndo F plan start k us r → length us ≡ k
 length_of F plan start zero [] r h = refl
 length_of F plan start zero (u ∷ us) r h = absurd h
 length_of F plan start (suc k) [] r h = absurd h
 length_of F plan start (suc k) (u ∷ us) r h = ap suc (length_of F plan start k us h.0 h.1)
 
 -- the operation undoes the step, whatever the step makes of the record
-pub record Ready (F : Family) (op back : F.Op) (r : F.Records) : Type 0 where
+pub record Ready (F : Family) (op back : F.words.Op) (r : F.Records) : Type 0 where
   pub value : F.Value
-  pub found : F.get r (F.key_of op) ≡ Some value
+  pub found : F.get r (F.words.key_of op) ≡ Some value
   pub leads_back : (w : F.Value) → F.Sets op value w → F.Sets back w value
-  pub same_key : F.key_of back ≡ F.key_of op
+  pub same_key : F.words.key_of back ≡ F.words.key_of op
 
 module _ (F : Family) (laws : IsFamily F) where
   -- an operation that is accepted leaves one map
-  pub sets_to_one : (op : F.Op) (old r s : F.Records) → SetsTo F op old r → SetsTo F op old s → r ≡ s
+  pub sets_to_one : (op : F.words.Op) (old r s : F.Records) → SetsTo F op old r → SetsTo F op old s → r ≡ s
   sets_to_one op old r s a b =
       let same : a.before ≡ b.before = same_Some _ _ (sym a.found ∙ b.found) in
       let sets : F.Sets op b.before a.after = subst (λ (v : F.Value). F.Sets op v a.after) same a.sets in
-      a.changed ∙ ap (F.put old (F.key_of op)) (laws.sets_one op b.before a.after b.after sets b.sets) ∙ sym b.changed
+      a.changed ∙ ap (F.put old (F.words.key_of op)) (laws.sets_one op b.before a.after b.after sets b.sets) ∙ sym b.changed
 
-  pub sets_to_valid : (op : F.Op) (old r : F.Records) → AllValid F old → SetsTo F op old r → AllValid F r
+  pub sets_to_valid : (op : F.words.Op) (old r : F.Records) → AllValid F old → SetsTo F op old r → AllValid F r
   sets_to_valid op old r valid s =
-      subst (AllValid F) (sym s.changed) (laws.put_valid old (F.key_of op) s.after valid (laws.sets_valid op s.before s.after (valid (F.key_of op) s.before s.found) s.sets))
+      subst (AllValid F) (sym s.changed) (laws.put_valid old (F.words.key_of op) s.after valid (laws.sets_valid op s.before s.after (valid (F.words.key_of op) s.before s.found) s.sets))
 
   -- what was made ready leads back
-  pub sets_back : (op back : F.Op) (old r : F.Records) → Ready F op back old → SetsTo F op old r → SetsTo F back r old
+  pub sets_back : (op back : F.words.Op) (old r : F.Records) → Ready F op back old → SetsTo F op old r → SetsTo F back r old
   sets_back op back old r ready s =
-      let key = F.key_of op in
+      let key = F.words.key_of op in
       let same : s.before ≡ ready.value = same_Some _ _ (sym s.found ∙ ready.found) in
       let sets : F.Sets op ready.value s.after = subst (λ (v : F.Value). F.Sets op v s.after) same s.sets in
       let at : F.get r key ≡ Some s.after = ap (λ (x : F.Records). F.get x key) s.changed ∙ laws.get_put old key ready.value s.after ready.found in
@@ -71,13 +71,13 @@ module _ (F : Family) (laws : IsFamily F) where
         after = ready.value;
         found = ap (F.get r) ready.same_key ∙ at;
         sets = ready.leads_back s.after sets;
-        changed = home ∙ sym (ap (λ (x : F.Key). F.put r x ready.value) ready.same_key);
+        changed = home ∙ sym (ap (λ (x : F.words.Key). F.put r x ready.value) ready.same_key);
       }
 
   -- the inverse that is made from what the Get showed is ready
-  pub ready : (op back : F.Op) (body : List ℕ) (r : F.Records) → AllValid F r → Showed F (F.key_of op) body r → F.inverse op body ≡ Some back → Ready F op back r
+  pub ready : (op back : F.words.Op) (body : List ℕ) (r : F.Records) → AllValid F r → Showed F (F.words.key_of op) body r → F.words.inverse op body ≡ Some back → Ready F op back r
   ready op back body r valid shown e =
-      let is_valid = valid (F.key_of op) shown.value shown.found in
+      let is_valid = valid (F.words.key_of op) shown.value shown.found in
       record {
         value = shown.value;
         found = shown.found;

@@ -5,12 +5,12 @@ use Rattle.two_wire.specs.declared.Bus.TheVariants.{Ipmb, Smbus}
 use Rattle.bus_model.specs.BusState.{ReachesPort, ReachesManager, OtherAsks, opening as opening_bus}
 use Rattle.bus_model.specs.Packet.{packets_of}
 use Rattle.bus_model.specs.PacketBus.{Plain, PacketReachesPort, PacketReachesManager, opening_ends}
-use Rattle.undo_model.specs.Plan.{Undone}
+use Rattle.undo_model.specs.Phase.{Undone}
 use Rattle.undo_model.specs.Machine.{phase_of}
 use Rattle.undo_model.specs.Line.{Line}
 use Rattle.undo_model.specs.TwoBuses.{Addresses, in_messages, with_packets}
 use Rattle.undo_model.specs.World.{States, Happening, Start, Quiet, Again, Undo, Resume, ToManager, OnBus, AllMay, run, opening}
-use Rattle.undo_model.specs.Registers.{Board, Write, registers, wires}
+use Rattle.undo_model.specs.Registers.{Board, Write, register_words, registers, wires}
 
 -- the first register has 5 in its high half, the second 2 in its low half
 abbrev pub board : ℕ → ℕ → ℕ → Board
@@ -28,7 +28,7 @@ addresses Smbus = record { manager = 8; controller = 10 }
 -- a run that may happen, from the board at the start, ends undone, with the records of the start
 pub record EndsUndone (L : Bus → Line) (on : States L) (events : List (Happening registers L)) : Type 0 where
   pub may : AllMay registers L wires events (opening registers L plan 1 on (board 1 9 0))
-  pub phase : phase_of registers (run registers L wires events (opening registers L plan 1 on (board 1 9 0))).machine ≡ Undone
+  pub phase : phase_of register_words (run registers L wires events (opening registers L plan 1 on (board 1 9 0))).machine ≡ Undone
   pub records : (run registers L wires events (opening registers L plan 1 on (board 1 9 0))).board.registers ≡ (board 1 9 0).registers
 
 -- how frames come to both ends of a bus, and how somebody else asks there

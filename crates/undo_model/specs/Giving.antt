@@ -1,7 +1,8 @@
 -- The answers that a board gave in a schedule.
-use Rattle.std.specs.Prelude.{◌≡◌, List, Contains}
+use Rattle.std.specs.Prelude.{List, Contains}
 use Rattle.two_wire.specs.declared.Bus.{Bus}
-use Rattle.undo_model.specs.Family.{Answered, Family}
+use Rattle.undo_model.specs.Words.{Answered}
+use Rattle.undo_model.specs.Family.{Family}
 use Rattle.undo_model.specs.Wires.{Wires}
 use Rattle.undo_model.specs.Line.{Line}
 use Rattle.undo_model.specs.Headline.{AlwaysStands}
@@ -9,7 +10,7 @@ use Rattle.undo_model.specs.Headline.{AlwaysStands}
 -- a board answered a request, and became another
 pub record Giving (F : Family) : Type 0 where
   pub before : F.Board
-  pub asked : F.Asked
+  pub asked : F.words.Asked
   pub answered : Answered
   pub after : F.Board
 
@@ -17,18 +18,7 @@ pub record Giving (F : Family) : Type 0 where
 abbrev pub giving : (F : Family) → List (Giving F) → Family
 giving F given = record F { Row = λ b asked a after. F.Row b asked a after × Contains given (record { before = b; asked = asked; answered = a; after = after }) }
 
--- its bytes are the same
-abbrev pub giving_wires : (F : Family) (given : List (Giving F)) → Wires F → Wires (giving F given)
-giving_wires F given W = record {
-  bytes_of = W.bytes_of;
-  asked_from = W.asked_from;
-  reply_to = W.reply_to;
-  answered_from = W.answered_from;
-  same = W.same;
-  same_reply = W.same_reply;
-}
-
 -- Where a board gives only the answers of a list, a halt has its cause in the list: the answer that `Halts` names is one of it. Take
 -- as the list what the board answered in the schedule: then the cause is an answer that it gave in that schedule.
-abbrev pub HaltsByGiven : (F : Family) (L : Bus → Line) → Wires F → Type 0
-HaltsByGiven F L W = (given : List (Giving F)) → AlwaysStands (giving F given) L (giving_wires F given W)
+abbrev pub HaltsByGiven : (F : Family) (L : Bus → Line) → Wires F.words → Type 0
+HaltsByGiven F L W = (given : List (Giving F)) → AlwaysStands (giving F given) L W

@@ -2,8 +2,10 @@
 use Rattle.std.specs.Prelude.{◌≡◌, ℕ, List, [], ◌∷◌, ◌++◌, ◌⊎◌}
 use Rattle.two_wire.specs.Codes.{success}
 use Rattle.two_wire.specs.declared.Bus.{Bus}
-use Rattle.undo_model.specs.Family.{Answered, Family, AllValid}
-use Rattle.undo_model.specs.Plan.{Stop, Halted, Undone, Stands, Halts}
+use Rattle.undo_model.specs.Words.{Answered, get_asked}
+use Rattle.undo_model.specs.Family.{Family, AllValid}
+use Rattle.undo_model.specs.Phase.{Stop, Halted, Undone}
+use Rattle.undo_model.specs.Plan.{Stands, Halts}
 use Rattle.undo_model.specs.Machine.{phase_of}
 use Rattle.undo_model.specs.Wires.{Wires}
 use Rattle.undo_model.specs.Line.{Line}
@@ -21,34 +23,34 @@ AnyMakesStop F L (e ∷ es) = MakesStop F L e ⊎ AnyMakesStop F L es
 
 -- two Gets of a record, as the manager asks them, show the same configuration: one at the first board, one at the second
 abbrev pub ShowsSame : (F : Family) → F.Board → F.Board → Type 0
-ShowsSame F b c = (key : F.Key) (shown again : Answered) (b' c' : F.Board)
-    → F.Row b (F.get_asked key) shown b' → shown.code ≡ success → F.Row c (F.get_asked key) again c' → again.code ≡ success
+ShowsSame F b c = (key : F.words.Key) (shown again : Answered) (b' c' : F.Board)
+    → F.Row b (get_asked F.words key) shown b' → shown.code ≡ success → F.Row c (get_asked F.words key) again c' → again.code ≡ success
     → F.conf key again.body ≡ F.conf key shown.body
 
 -- from a board whose records are valid, and a start on both buses, so long as each thing may happen where it does
-module _ (F : Family) (L : Bus → Line) (W : Wires F) where
+module _ (F : Family) (L : Bus → Line) (W : Wires F.words) where
   pub record IsStart (on : States L) (board : F.Board) : Type 0 where
     pub on_bus : (bus : Bus) → (L bus).IsStart (on bus)
     pub valid : AllValid F (F.records board)
 
   -- at every moment the phase stands on the records, and a halt has its cause
   abbrev pub AlwaysStands : Type 0
-  AlwaysStands = (plan : List F.Op) (retries : ℕ) (on : States L) (board : F.Board) → IsStart on board
+  AlwaysStands = (plan : List F.words.Op) (retries : ℕ) (on : States L) (board : F.Board) → IsStart on board
       → (events later : List (Happening F L)) → AllMay F L W (events ++ later) (opening F L plan retries on board)
       → let w = run F L W events (opening F L plan retries on board) in
-      Stands F plan (F.records board) (phase_of F w.machine) (F.records w.board) × Halts F w.machine.stopped plan (phase_of F w.machine) (F.records w.board)
+      Stands F plan (F.records board) (phase_of F.words w.machine) (F.records w.board) × Halts F w.machine.stopped plan (phase_of F.words w.machine) (F.records w.board)
 
   -- once a plan is undone, and at every moment from then on, all records are what they were at the start, and each Get as
   -- the manager asks it shows the same configuration as at the start
   abbrev pub UndoneForGood : Type 0
-  UndoneForGood = (plan : List F.Op) (retries : ℕ) (on : States L) (board : F.Board) → IsStart on board
+  UndoneForGood = (plan : List F.words.Op) (retries : ℕ) (on : States L) (board : F.Board) → IsStart on board
       → (events later : List (Happening F L)) → AllMay F L W (events ++ later) (opening F L plan retries on board)
-      → phase_of F (run F L W events (opening F L plan retries on board)).machine ≡ Undone
+      → phase_of F.words (run F L W events (opening F L plan retries on board)).machine ≡ Undone
       → let w = run F L W (events ++ later) (opening F L plan retries on board) in
       (F.records w.board ≡ F.records board) × ShowsSame F board w.board
 
   -- a plan halts with the reason `Stop` only where it was made to
   abbrev pub StopsOnlyIfTold : Type 0
-  StopsOnlyIfTold = (plan : List F.Op) (retries k : ℕ) (on : States L) (board : F.Board) → IsStart on board
+  StopsOnlyIfTold = (plan : List F.words.Op) (retries k : ℕ) (on : States L) (board : F.Board) → IsStart on board
       → (events : List (Happening F L)) → AllMay F L W events (opening F L plan retries on board)
-      → phase_of F (run F L W events (opening F L plan retries on board)).machine ≡ Halted k Stop → AnyMakesStop F L events
+      → phase_of F.words (run F L W events (opening F L plan retries on board)).machine ≡ Halted k Stop → AnyMakesStop F L events

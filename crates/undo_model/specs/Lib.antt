@@ -1,3 +1,5 @@
+pub mod Words
+pub mod Phase
 pub mod Family
 pub mod Laws
 pub mod Plan
@@ -15,3 +17,4 @@ pub mod Clean
 pub mod RecordsRun
 pub mod Numbered
 pub mod Giving
+pub mod SeriesExample

@@ -5,7 +5,8 @@
 use Rattle.std.specs.Prelude.{◌≡◌, ℕ, zero, suc, ◌%◌, ◌≤◌, ◌<◌, Bool, ◌==◌, nat_le, nat_lt, ◌&&◌, List, [], ◌∷◌, Option, Some, None, if◌then◌else◌, slice_get, slice_set, unwrap_or, refl}
 use Rattle.two_wire.specs.Codes.{success, not_present, invalid_data_field}
 use Rattle.two_wire.specs.declared.Bus.TheVariants.{Ipmb, Smbus}
-use Rattle.undo_model.specs.Family.{Answered, Family}
+use Rattle.undo_model.specs.Words.{Answered, Words}
+use Rattle.undo_model.specs.Family.{Family}
 use Rattle.undo_model.specs.Wires.{Wires}
 
 -- what a register holds
@@ -95,12 +96,27 @@ abbrev pub register_of : Asked → ℕ
 register_of (AskGet register) = register
 register_of (AskSet w) = w.register
 
-abbrev pub registers : Family
-registers = record {
+-- what a manager says of them
+abbrev pub register_words : Words
+register_words = record {
   Key = ℕ;
   Op = Write;
-  Value = Halves;
   key_of = λ w. w.register;
+  Asked = Asked;
+  bus_of = λ asked. if register_of asked % 2 == 0 then Ipmb else Smbus;
+  Series = Asked;
+  getting = AskGet;
+  setting = AskSet;
+  first = λ series. series;
+  next = λ series bodies. None;
+  joined = λ series bodies. unwrap_or (slice_get bodies 0) [];
+  inverse = inverse;
+}
+
+abbrev pub registers : Family
+registers = record {
+  words = register_words;
+  Value = Halves;
   Records = List Halves;
   get = slice_get;
   put = slice_set;
@@ -109,13 +125,8 @@ registers = record {
   Shows = λ register v body. (requests : ℕ) × (body ≡ shown register v requests);
   conf = λ register body. configuration body;
   Restorable = IsRestorable;
-  inverse = inverse;
   Board = Board;
   records = λ b. b.registers;
-  Asked = Asked;
-  bus_of = λ asked. if register_of asked % 2 == 0 then Ipmb else Smbus;
-  get_asked = AskGet;
-  set_asked = AskSet;
   Row = Row;
 }
 
@@ -155,7 +166,7 @@ pub read_back : (number : ℕ) (asked : Asked) → asked_from (bytes_of number a
 read_back number (AskGet register) = refl
 read_back number (AskSet w) = λ i. AskSet (record { register = w.register; low = read_half w.low i; high = read_half w.high i })
 
-abbrev pub wires : Wires registers
+abbrev pub wires : Wires register_words
 wires = record {
   bytes_of = bytes_of;
   asked_from = λ bus. asked_from;

@@ -1,30 +1,30 @@
--- A manager that goes on from a list of requests that undo.
+-- A manager that goes on from a list of what undoes.
 use Rattle.std.specs.Prelude.{◌≡◌, ℕ, ◌%◌, true, List, [], ◌∷◌, length, Option, Some, None}
 use Rattle.std.specs.Option.{option_map}
 use Rattle.two_wire.specs.declared.Bus.{Bus}
-use Rattle.undo_model.specs.Family.{Answered, Family}
-use Rattle.undo_model.specs.Plan.{Stop, Phase, Done, Halted}
+use Rattle.undo_model.specs.Words.{Answered, Words}
+use Rattle.undo_model.specs.Phase.{Stop, Phase, Done, Halted}
 use Rattle.undo_model.specs.Machine.{Counts, Machine, AtHalt, Sending, Turn, open_bus, phase_of, start_of, quiet_of, stop_of, again_of, undo_of, reply_of}
 use Rattle.undo_model.specs.Wires.{number_of}
 
--- what is kept of a manager: the requests that undo, the last step's first, and the next sequence number and instance
-pub record UndoList (F : Family) : Type 0 where
-  pub requests : List F.Asked
+-- what is kept of a manager: what undoes each step, the last step's first, and the next sequence number and instance
+pub record UndoList (M : Words) : Type 0 where
+  pub series : List M.Series
   pub next : Counts
 
 -- the list of a manager; sequence numbers count modulo 64 and instances modulo 32
-abbrev pub list_of : (F : Family) → Machine F → UndoList F
-list_of F m = record { requests = m.undo; next = record { ipmb = m.counts.ipmb % 64; smbus = m.counts.smbus % 32 } }
+abbrev pub list_of : (M : Words) → Machine M → UndoList M
+list_of M m = record { series = m.undo; next = record { ipmb = m.counts.ipmb % 64; smbus = m.counts.smbus % 32 } }
 
 -- the manager that goes on from it: halted after as many steps as the list undoes, as if it was to stop
-abbrev pub resumed : (F : Family) → ℕ → UndoList F → Machine F
-resumed F retries list = record {
+abbrev pub resumed : (M : Words) → ℕ → UndoList M → Machine M
+resumed M retries list = record {
   plan = [];
   retries = retries;
-  stage = AtHalt (length list.requests) Stop;
+  stage = AtHalt (length list.series) Stop;
   stopped = true;
   resent = 0;
-  undo = list.requests;
+  undo = list.series;
   counts = list.next;
 }
 
@@ -40,37 +40,37 @@ pub data Call : Type 0 where
   Replies : (answered : Answered) → Call
 
 -- a request as it goes out: under its number
-pub record Request (F : Family) : Type 0 where
+pub record Request (M : Words) : Type 0 where
   pub bus : Bus
   pub number : ℕ
-  pub asked : F.Asked
+  pub asked : M.Asked
 
-module _ (F : Family) where
-  abbrev pub turn_of : Call → Machine F → Option (Turn F)
-  turn_of CallStart m = start_of F m
-  turn_of CallQuiet m = quiet_of F m
-  turn_of CallStop m = stop_of F m
-  turn_of CallAgain m = again_of F m
-  turn_of CallUndo m = undo_of F m
-  turn_of (Replies a) m = reply_of F a m
+module _ (M : Words) where
+  abbrev pub turn_of : Call → Machine M → Option (Turn M)
+  turn_of CallStart m = start_of M m
+  turn_of CallQuiet m = quiet_of M m
+  turn_of CallStop m = stop_of M m
+  turn_of CallAgain m = again_of M m
+  turn_of CallUndo m = undo_of M m
+  turn_of (Replies a) m = reply_of M a m
 
   -- the machine after it
-  abbrev pub after : Option (Turn F) → Machine F → Machine F
+  abbrev pub after : Option (Turn M) → Machine M → Machine M
   after None m = m
   after (Some t) m = t.machine
 
-  abbrev pub request_of : Sending F → Request F
+  abbrev pub request_of : Sending M → Request M
   request_of s = record { bus = s.bus; number = number_of s.bus s.count; asked = s.asked }
 
   -- the request that goes out then
-  abbrev pub goes_out : Option (Turn F) → Option (Request F)
+  abbrev pub goes_out : Option (Turn M) → Option (Request M)
   goes_out None = None
   goes_out (Some t) = option_map request_of t.sends
 
   -- the phase after each call, and the request that goes out
-  abbrev pub trace : List Call → Machine F → List (Phase × Option (Request F))
+  abbrev pub trace : List Call → Machine M → List (Phase × Option (Request M))
   trace [] m = []
-  trace (c ∷ cs) m = (phase_of F (after (turn_of c m) m), goes_out (turn_of c m)) ∷ trace cs (after (turn_of c m) m)
+  trace (c ∷ cs) m = (phase_of M (after (turn_of c m) m), goes_out (turn_of c m)) ∷ trace cs (after (turn_of c m) m)
 
   -- the plan ended or halted
   abbrev pub IsOver : Phase → Type 0
@@ -81,7 +81,7 @@ module _ (F : Family) where
   -- a manager that goes on from a list is halted after as many steps as the list undoes, with no request open, and gives that list
   -- itself; from `undo` on it goes through the same phases, and sends the same requests under the same numbers, for the same calls
   pub record GoesOnAlike : Type 0 where
-    pub halted : (retries : ℕ) (list : UndoList F) → phase_of F (resumed F retries list) ≡ Halted (length list.requests) Stop
-    pub none_open : (retries : ℕ) (list : UndoList F) → open_bus F (resumed F retries list) ≡ None
-    pub same_list : (retries : ℕ) (m : Machine F) → list_of F (resumed F retries (list_of F m)) ≡ list_of F m
-    pub alike : (m : Machine F) → IsOver (phase_of F m) → (calls : List Call) → trace (CallUndo ∷ calls) (resumed F m.retries (list_of F m)) ≡ trace (CallUndo ∷ calls) m
+    pub halted : (retries : ℕ) (list : UndoList M) → phase_of M (resumed M retries list) ≡ Halted (length list.series) Stop
+    pub none_open : (retries : ℕ) (list : UndoList M) → open_bus M (resumed M retries list) ≡ None
+    pub same_list : (retries : ℕ) (m : Machine M) → list_of M (resumed M retries (list_of M m)) ≡ list_of M m
+    pub alike : (m : Machine M) → IsOver (phase_of M m) → (calls : List Call) → trace (CallUndo ∷ calls) (resumed M m.retries (list_of M m)) ≡ trace (CallUndo ∷ calls) m

@@ -2,18 +2,12 @@
 use Rattle.std.specs.Prelude.{◌≡◌, ℕ, Bool, true, false, List, [], ◌∷◌, Option, Some, None}
 use Rattle.two_wire.specs.declared.Bus.{Bus}
 use Rattle.two_wire.specs.declared.Bus.TheVariants.{Ipmb, Smbus}
-use Rattle.undo_model.specs.Family.{Answered, Family}
-use Rattle.undo_model.specs.Machine.{Stage, Opened, AtEnd, AtHalt, Machine, Sending, Turn, bus_at, start_of, quiet_of, stop_of, again_of, undo_of, reply_of, opened}
+use Rattle.undo_model.specs.Words.{Answered}
+use Rattle.undo_model.specs.Family.{Family}
+use Rattle.undo_model.specs.Machine.{Stage, Opened, AtEnd, AtHalt, Machine, Sending, Turn, bus_at, start_of, quiet_of, stop_of, again_of, undo_of, reply_of, opened, same_bus}
 use Rattle.undo_model.specs.Resume.{list_of, resumed}
 use Rattle.undo_model.specs.Wires.{number_of, Wires}
 use Rattle.undo_model.specs.Line.{Exchange, Line}
-
--- the two are the same bus
-abbrev pub same_bus : Bus → Bus → Bool
-same_bus Ipmb Ipmb = true
-same_bus Ipmb Smbus = false
-same_bus Smbus Ipmb = false
-same_bus Smbus Smbus = true
 
 -- both buses
 abbrev pub States : (Bus → Line) → Type 0
@@ -27,7 +21,7 @@ update L Smbus s on Ipmb = on Ipmb
 update L Smbus s on Smbus = s
 
 pub record World (F : Family) (L : Bus → Line) : Type 0 where
-  pub machine : Machine F
+  pub machine : Machine F.words
   pub on : States L
   pub board : F.Board
 
@@ -48,36 +42,36 @@ pub data Happening (F : Family) (L : Bus → Line) : Type 0 where
   -- the board becomes another by itself
   OnBench : (after : F.Board) → Happening F L
 
-module _ (F : Family) (L : Bus → Line) (W : Wires F) where
+module _ (F : Family) (L : Bus → Line) (W : Wires F.words) where
   -- the bytes of a request that is sent
-  abbrev pub bytes_sent : Sending F → List ℕ
+  abbrev pub bytes_sent : Sending F.words → List ℕ
   bytes_sent s = W.bytes_of (number_of s.bus s.count) s.asked
 
   -- a request is begun, if one is sent
-  abbrev pub begins : Option (Sending F) → States L → States L
+  abbrev pub begins : Option (Sending F.words) → States L → States L
   begins None on = on
   begins (Some s) on = update L s.bus ((L s.bus).happens (on s.bus) ((L s.bus).begins (bytes_sent s))) on
 
   -- the open request is sent again, if one is sent
-  abbrev pub sends_again : Option (Sending F) → States L → States L
+  abbrev pub sends_again : Option (Sending F.words) → States L → States L
   sends_again None on = on
   sends_again (Some s) on = update L s.bus ((L s.bus).happens (on s.bus) (L s.bus).sends_again) on
 
   -- a call that may open a request
-  abbrev pub opens : Option (Turn F) → World F L → World F L
+  abbrev pub opens : Option (Turn F.words) → World F L → World F L
   opens None w = w
   opens (Some t) w = record w { machine = t.machine; on = begins t.sends w.on }
 
   -- a call that may send the open request again
-  abbrev pub repeats : Option (Turn F) → World F L → World F L
+  abbrev pub repeats : Option (Turn F.words) → World F L → World F L
   repeats None w = w
   repeats (Some t) w = record w { machine = t.machine; on = sends_again t.sends w.on }
 
   -- another manager is in the place of this one
   abbrev pub replaced : ℕ → World F L → World F L
-  replaced retries w = record w { machine = resumed F retries (list_of F w.machine); on = λ bus. (L bus).happens (w.on bus) (L bus).resumes }
+  replaced retries w = record w { machine = resumed F.words retries (list_of F.words w.machine); on = λ bus. (L bus).happens (w.on bus) (L bus).resumes }
 
-  abbrev pub resumes : ℕ → Stage F → World F L → World F L
+  abbrev pub resumes : ℕ → Stage F.words → World F L → World F L
   resumes retries AtEnd w = replaced retries w
   resumes retries (AtHalt k why) w = replaced retries w
   resumes retries _ w = w
@@ -87,30 +81,30 @@ module _ (F : Family) (L : Bus → Line) (W : Wires F) where
   moved bus e w = update L bus ((L bus).happens (w.on bus) e) w.on
 
   -- the manager takes the reply that came, unless it ignores it
-  abbrev pub answered : (bus : Bus) → (L bus).Event → Option (Turn F) → World F L → World F L
+  abbrev pub answered : (bus : Bus) → (L bus).Event → Option (Turn F.words) → World F L → World F L
   answered bus e None w = w
   answered bus e (Some t) w = record w { machine = t.machine; on = begins t.sends (moved bus e w) }
 
   abbrev pub brought : (bus : Bus) → (L bus).Event → Option (List ℕ) → World F L → World F L
   brought bus e None w = record w { on = moved bus e w }
-  brought bus e (Some reply) w = answered bus e (reply_of F (W.answered_from bus reply) w.machine) w
+  brought bus e (Some reply) w = answered bus e (reply_of F.words (W.answered_from bus reply) w.machine) w
 
   -- the manager looks at what comes on the bus of its open request, while that is heeded
   abbrev pub looks : (bus : Bus) → (L bus).Event → Bool → World F L → World F L
   looks bus e false w = w
   looks bus e true w = brought bus e ((L bus).brings (w.on bus) e) w
 
-  abbrev pub returns : (bus : Bus) → (L bus).Event → Stage F → World F L → World F L
-  returns bus e (Opened true task) w = looks bus e (same_bus bus (bus_at F task)) w
+  abbrev pub returns : (bus : Bus) → (L bus).Event → Stage F.words → World F L → World F L
+  returns bus e (Opened true task part) w = looks bus e (same_bus bus (bus_at F.words part)) w
   returns bus e _ w = w
 
   -- the world after it
   abbrev pub happens : World F L → Happening F L → World F L
-  happens w Start = opens (start_of F w.machine) w
-  happens w Quiet = repeats (quiet_of F w.machine) w
-  happens w Stop = opens (stop_of F w.machine) w
-  happens w Again = repeats (again_of F w.machine) w
-  happens w Undo = opens (undo_of F w.machine) w
+  happens w Start = opens (start_of F.words w.machine) w
+  happens w Quiet = repeats (quiet_of F.words w.machine) w
+  happens w Stop = opens (stop_of F.words w.machine) w
+  happens w Again = repeats (again_of F.words w.machine) w
+  happens w Undo = opens (undo_of F.words w.machine) w
   happens w (Resume retries) = resumes retries w.machine.stage w
   happens w (ToManager bus e) = returns bus e w.machine.stage w
   happens w (OnBus bus e after) = record w { on = moved bus e w; board = after }
@@ -143,5 +137,5 @@ module _ (F : Family) (L : Bus → Line) (W : Wires F) where
   AllMay (e ∷ es) w = May w e × AllMay es (happens w e)
 
 -- a manager that was opened with a plan, between these buses and this board
-abbrev pub opening : (F : Family) (L : Bus → Line) → List F.Op → ℕ → States L → F.Board → World F L
-opening F L plan retries on board = record { machine = opened F plan retries; on = on; board = board }
+abbrev pub opening : (F : Family) (L : Bus → Line) → List F.words.Op → ℕ → States L → F.Board → World F L
+opening F L plan retries on board = record { machine = opened F.words plan retries; on = on; board = board }

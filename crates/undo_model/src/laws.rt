@@ -11,8 +11,8 @@ ghost use Rattle.undo_model.specs.Giving.{HaltsByGiven};
 ghost use Rattle.undo_model.specs.Resume.{GoesOnAlike};
 ghost use Rattle.undo_model.specs.RecordsRun.{RecordsStand};
 ghost use Rattle.undo_model.specs.Clean.{AnswersByRow, AlwaysRunsClean};
-ghost use Rattle.undo_model.specs.Family.{Answered};
-ghost use Rattle.undo_model.specs.Registers.{Board, Asked, registers, wires};
+ghost use Rattle.undo_model.specs.Words.{Answered};
+ghost use Rattle.undo_model.specs.Registers.{Board, Asked, register_words, registers, wires};
 
 /// The registers are a family of kinds of record: masked Sets, refusals that depend on the old value, and replies from which
 /// nothing is undone.
@@ -56,7 +56,7 @@ pub fn stops_only_if_told()
 /// A manager that goes on from a list is halted after as many steps as the list undoes, with no request open, and gives that same list. From
 /// `undo` on it goes through the same phases and sends the same requests, under the same numbers, as the manager from which the list was taken.
 pub fn resumed_goes_on_alike()
-    ensures { GoesOnAlike registers }
+    ensures { GoesOnAlike register_words }
 {}
 
 /// Where the board answers each request at once and the manager takes each reply, a plan takes two requests for each step and ends done, or

@@ -1,21 +1,21 @@
 //! A port on IPMB.
 ghost use Rattle.std.specs.Prelude.{◌≡◌};
-ghost use Rattle.bmc_board.specs.Request.{asked_by};
+ghost use Rattle.bmc_board.specs.Request.{asked_by, asked_of};
 ghost use Rattle.bmc_board.specs.State.{state_of};
 ghost use Rattle.bmc_core.specs.IpmbPort.{HearsFrame, IsAnswered, asked_in};
 ghost use Rattle.bmc_core.specs.Outs.{answered};
 
 use crate::out::{Done, Out, Reason};
 use crate::port::Port;
-use bmc_board::Board;
-use bmc_board::request::{self, read_ipmi};
+use bmc_board::request::read_ipmi;
+use bmc_board::{Board, Command};
 use cfg_records::Store;
-use ipmb_frame::{Msg, Request, begin_response, end_response, read_frame};
+use ipmb_frame::{Msg, Request as IpmbRequest, begin_response, end_response, read_frame};
 use two_wire::{Code, Frame};
 
-/// What a request asks of the board.
-fn asked_in(request: &Request) -> Result<request::Request, Code>
-    ensures { result ≡ asked_by (asked_in request.now) }
+/// The command of a request to the board, or the first code that refuses it.
+fn command_in(request: &IpmbRequest) -> Result<Command, Code>
+    ensures { asked_of result request.now.body ≡ asked_by (asked_in request.now) }
 {
     let header = &request.header;
     read_ipmi(
@@ -27,20 +27,20 @@ fn asked_in(request: &Request) -> Result<request::Request, Code>
 }
 
 /// Has the request carried out, and makes the frame its response.
-fn respond<S: Store>(board: &mut Board<S>, request: &Request, frame: &mut Frame)
+fn respond<S: Store>(board: &mut Board<S>, request: &IpmbRequest, frame: &mut Frame)
     ensures answer { IsAnswered board.old.setup (state_of S.records board.old) request.now (answered frame.new) (state_of S.records board.new) }
     ensures setup { board.new.setup ≡ board.old.setup }
 {
     let header = &request.header;
     begin_response(frame, header, 0);
-    if let Err(code) = board.reply(asked_in(request), frame) {
+    if let Err(code) = board.reply(command_in(request), request.body.as_slice(), frame) {
         begin_response(frame, header, code.value());
     }
     end_response(frame);
 }
 
 /// Has the request carried out, and sends the response.
-fn answer<S: Store>(board: &mut Board<S>, request: &Request, out: &mut Out)
+fn answer<S: Store>(board: &mut Board<S>, request: &IpmbRequest, out: &mut Out)
     ensures answer { IsAnswered board.old.setup (state_of S.records board.old) request.now out.new (state_of S.records board.new) }
     ensures setup { board.new.setup ≡ board.old.setup }
 {

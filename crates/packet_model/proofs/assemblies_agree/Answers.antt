@@ -1,5 +1,6 @@
 use Rattle.packet_model.proofs.Steps.{takes-agrees}
 use Rattle.packet_model.proofs.Waiting.{waits-alike}
+use Rattle.packet_model.proofs.WholeBytes.{whole-bytes}
 use Rattle.packet_model.proofs.assemblies_agree.Goals as goal
 
 pub returns-clause-step : goal.returns-clause-step
@@ -7,3 +8,6 @@ returns-clause-step c = takes-agrees
 
 pub returns-clause-waits : goal.returns-clause-waits
 returns-clause-waits c = waits-alike
+
+pub returns-clause-whole : goal.returns-clause-whole
+returns-clause-whole c = whole-bytes

@@ -34,6 +34,7 @@ fn a_store_has_what_was_put(rt: HostRuntime) -> Result<(), Fail> {
     let place = store.find(&key).ok_or("hysteresis")?;
     assert_eq!(rt; store.value(place), [3, 1].as_slice());
     store.write(place, &[4, 2]);
+    assert_eq!(rt; store.find(&key).ok_or("hysteresis")?, place);
     assert_eq!(rt; store.get(&key).ok_or("hysteresis")?, [4, 2].as_slice());
     let missing = Key::Hysteresis(9);
     assert_eq!(rt; store.put(&missing, &[3, 1]), Err(NoKey));

@@ -37,18 +37,23 @@ fn sent_by(requester: u8, asked: Asked) -> Asked {
     }
 }
 
-/// What a Get replies of the record that the operation changes, to the requester at 2Ch.
-fn shown<S: Store>(board: &mut Board<S>, op: &Op) -> Answered {
-    board.answer(&sent_by(0x2C, Limits::get_asked(&Limits::key(op))))
+/// The requesters, each with the other one.
+const IN_TURN: [(u8, u8); 2] = [(0x2C, 0x40), (0x40, 0x2C)];
+
+/// What a Get replies to this requester of the record that the operation changes.
+fn shown<S: Store>(board: &mut Board<S>, requester: u8, op: &Op) -> Answered {
+    board.answer(&sent_by(requester, Limits::get_asked(&Limits::key(op))))
 }
 
-/// The completion code of the Set, to the requester at 40h.
-fn set<S: Store>(board: &mut Board<S>, op: &Op) -> u8 {
-    board.answer(&sent_by(0x40, Limits::set_asked(op))).code
+/// The completion code of this requester's Set.
+fn set<S: Store>(board: &mut Board<S>, requester: u8, op: &Op) -> u8 {
+    board
+        .answer(&sent_by(requester, Limits::set_asked(op)))
+        .code
 }
 
 /// The change is carried out, and undone from what a Get replied: a Get replies `before` before and after that, and `between`
-/// in between. The requesters at 2Ch and at 40h ask in turn.
+/// in between. One requester gets the record and undoes what the other one set, and then the two change places.
 fn expect_undone<S: Store>(
     rt: &impl Abort,
     board: &mut Board<S>,
@@ -56,16 +61,18 @@ fn expect_undone<S: Store>(
     before: &[u8],
     between: &[u8],
 ) -> Result<(), Fail> {
-    let was = shown(board, op);
-    assert_eq!(rt; was.code, 0);
-    assert_eq!(rt; was.body.as_slice(), before);
-    let undo = Limits::inverse(op, was.body.as_slice()).ok_or("undo")?;
-    assert_eq!(rt; set(board, op), 0);
-    let changed = shown(board, op);
-    assert_eq!(rt; changed.code, 0);
-    assert_eq!(rt; changed.body.as_slice(), between);
-    assert_eq!(rt; set(board, &undo), 0);
-    assert!(rt; shown(board, op).is(&was));
+    for (one, other) in IN_TURN {
+        let was = shown(board, one, op);
+        assert_eq!(rt; was.code, 0);
+        assert_eq!(rt; was.body.as_slice(), before);
+        let undo = Limits::inverse(op, was.body.as_slice()).ok_or("undo")?;
+        assert_eq!(rt; set(board, other, op), 0);
+        let changed = shown(board, other, op);
+        assert_eq!(rt; changed.code, 0);
+        assert_eq!(rt; changed.body.as_slice(), between);
+        assert_eq!(rt; set(board, one, &undo), 0);
+        assert!(rt; shown(board, other, op).is(&was));
+    }
     Ok(())
 }
 
@@ -114,10 +121,10 @@ fn watchdog_for(initial: u16) -> Op {
 fn a_change_of_a_watchdog_that_was_set_is_undone(rt: HostRuntime) -> Result<(), Fail> {
     let mut board = board(rt.alloc())?;
     let first = watchdog_for(3000);
-    let never_set = shown(&mut board, &first);
+    let never_set = shown(&mut board, 0x2C, &first);
     assert!(rt; never_set.is(&Answered::done(&[0; 8])));
     assert!(rt; Limits::inverse(&first, never_set.body.as_slice()).is_none());
-    assert_eq!(rt; set(&mut board, &first), 0);
+    assert_eq!(rt; set(&mut board, 0x40, &first), 0);
     let before = [4, 1, 10, 0, 0xB8, 0x0B, 0xB8, 0x0B];
     let between = [4, 1, 10, 0, 0x70, 0x17, 0x70, 0x17];
     expect_undone(&rt, &mut board, &watchdog_for(6000), &before, &between)?;
@@ -134,7 +141,7 @@ fn a_change_of_a_watchdog_that_was_set_is_undone(rt: HostRuntime) -> Result<(), 
     // While the timer runs, nothing has an undo.
     let reset = Asked::ipmi(NetFn::new(0x06), 0x22, &[]);
     assert_eq!(rt; board.answer(&reset).code, 0);
-    let running = shown(&mut board, &other);
+    let running = shown(&mut board, 0x40, &other);
     assert!(rt; running.is(&Answered::done(&[0x44, 1, 10, 0, 0xB8, 0x0B, 0xB8, 0x0B])));
     assert!(rt; Limits::inverse(&other, running.body.as_slice()).is_none());
     Ok(())
@@ -148,7 +155,7 @@ fn a_threshold_that_cannot_be_read_has_no_undo(rt: HostRuntime) -> Result<(), Fa
         values: [0, 0, 0, 0, 0, 0xB8],
     });
     let mut board = board(rt.alloc())?;
-    let reply = shown(&mut board, &op);
+    let reply = shown(&mut board, 0x2C, &op);
     assert!(rt; reply.is(&Answered::done(&[0x18, 0, 0, 0, 0x90, 0xA0, 0])));
     assert!(rt; Limits::inverse(&op, reply.body.as_slice()).is_none());
     Ok(())
@@ -163,7 +170,7 @@ fn a_sensor_that_is_not_there_is_refused(rt: HostRuntime) -> Result<(), Fail> {
     });
     let mut board = board(rt.alloc())?;
     let refused = Answered::refused(code::NOT_PRESENT);
-    assert!(rt; shown(&mut board, &op).is(&refused));
+    assert!(rt; shown(&mut board, 0x2C, &op).is(&refused));
     assert!(rt; board.answer(&Limits::set_asked(&op)).is(&refused));
     Ok(())
 }
@@ -173,7 +180,9 @@ fn all_shown(alloc: Global, board: &mut Board<PlainStore>) -> Result<Vec<u8>, Fa
     let mut all = Vec::new(alloc);
     for key in [
         Key::Thresholds(5),
+        Key::Thresholds(7),
         Key::Hysteresis(5),
+        Key::Hysteresis(7),
         Key::PowerPolicy,
         Key::Watchdog,
     ] {
@@ -187,33 +196,43 @@ fn all_shown(alloc: Global, board: &mut Board<PlainStore>) -> Result<Vec<u8>, Fa
 #[test]
 fn a_refused_change_leaves_records_and_activity(rt: HostRuntime) -> Result<(), Fail> {
     let mut board = board(rt.alloc())?;
-    assert_eq!(rt; set(&mut board, &watchdog_for(3000)), 0);
+    assert_eq!(rt; set(&mut board, 0x2C, &watchdog_for(3000)), 0);
     // Reset Watchdog Timer: it runs.
     assert_eq!(rt;
         board.answer(&Asked::ipmi(NetFn::new(0x06), 0x22, &[])).code,
         0
     );
     let before = all_shown(rt.alloc(), &mut board)?;
-    let refused = code::INVALID_DATA_FIELD.value();
-    // Upper critical above upper non-recoverable, a policy of 4, and a use of 6.
-    for op in [
-        Op::Thresholds(SetThresholds {
-            sensor: 5,
-            mask: 0x10,
-            values: [0, 0, 0, 0, 0x70, 0],
-        }),
-        Op::PowerPolicy(SetPowerPolicy { policy: 4 }),
-        Op::Watchdog(SetWatchdog {
-            timer_use: 0x06,
-            actions: 0,
-            pre_timeout: 0,
-            flags_to_clear: 0xFF,
-            initial: 1,
-        }),
+    // Upper critical above upper non-recoverable, a sensor that isn't there, a policy of 4, and a use of 6.
+    let thresholds = Op::Thresholds(SetThresholds {
+        sensor: 5,
+        mask: 0x10,
+        values: [0, 0, 0, 0, 0x70, 0],
+    });
+    let hysteresis = Op::Hysteresis(SetHysteresis {
+        sensor: 9,
+        positive: 3,
+        negative: 1,
+    });
+    let policy = Op::PowerPolicy(SetPowerPolicy { policy: 4 });
+    let watchdog = Op::Watchdog(SetWatchdog {
+        timer_use: 0x06,
+        actions: 0,
+        pre_timeout: 0,
+        flags_to_clear: 0xFF,
+        initial: 1,
+    });
+    for (op, refused) in [
+        (&thresholds, 0xCC),
+        (&hysteresis, 0xCB),
+        (&policy, 0xCC),
+        (&watchdog, 0xCC),
     ] {
-        assert_eq!(rt; set(&mut board, &op), refused);
-        let after = all_shown(rt.alloc(), &mut board)?;
-        assert_eq!(rt; after.as_slice(), before.as_slice());
+        for requester in [0x2C, 0x40] {
+            assert_eq!(rt; set(&mut board, requester, op), refused);
+            let after = all_shown(rt.alloc(), &mut board)?;
+            assert_eq!(rt; after.as_slice(), before.as_slice());
+        }
     }
     Ok(())
 }

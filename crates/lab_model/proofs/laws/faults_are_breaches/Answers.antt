@@ -3,4 +3,4 @@ use Rattle.lab_model.proofs.Breaches.{faults_are_breaches}
 use Rattle.lab_model.proofs.laws.faults_are_breaches.Goals as goal
 
 pub returns : goal.returns
-returns c = λ setup names. faults_are_breaches (board_plans setup names)
+returns c = λ names. faults_are_breaches (board_plans names)

@@ -6,4 +6,4 @@ pub returns-clause-turns : goal.returns-clause-turns
 returns-clause-turns c = turns_by
 
 pub returns-clause-runs : goal.returns-clause-runs
-returns-clause-runs c = λ setup names. runs_by (board_plans setup names) setup
+returns-clause-runs c = λ setup names. runs_by (board_plans names) setup

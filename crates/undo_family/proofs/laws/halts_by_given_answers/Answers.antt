@@ -7,7 +7,7 @@ use Rattle.undo_family.specs.WireLaws.{wires}
 use Rattle.undo_family.proofs.IsFamily.{is_family}
 
 pub returns-clause-messages : goal.returns-clause-messages
-returns-clause-messages c setup at = halts_by_given (family setup at) (is_family setup at) (in_messages at) (message_lines at) (wires setup at)
+returns-clause-messages c setup at = halts_by_given (family setup at) (is_family setup at) (in_messages at) (message_lines at) (wires at)
 
 pub returns-clause-packets : goal.returns-clause-packets
-returns-clause-packets c setup at split cutting = halts_by_given (family setup at) (is_family setup at) (with_packets at split) (packet_lines at split cutting) (wires setup at)
+returns-clause-packets c setup at split cutting = halts_by_given (family setup at) (is_family setup at) (with_packets at split) (packet_lines at split cutting) (wires at)

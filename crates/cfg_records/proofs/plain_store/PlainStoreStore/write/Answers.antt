@@ -1,4 +1,4 @@
-use Rattle.std.proofs.Common.{◌≡◌, ℕ, List, Option, Some, slice_get, sym, ap, ◌∙◌, arith}
+use Rattle.std.proofs.Common.{◌≡◌, ℕ, List, Option, slice_get, ap, ◌∙◌, arith}
 use Rattle.std.specs.BTreeMap as btree
 use Rattle.std.proofs.lemmas.Option.{get_or_from_slice_get}
 use Rattle.cfg_records.specs.Keys.{key_cmp}
@@ -24,8 +24,8 @@ invariant_of-self c =
     let new : Pair = (c.index_mut.result.now.0, c.replace.new.self) in
     record { placed = still_placed pairs places place new had.pair c.args.self.now.placed had.is_it (ap (λ (p : Pair). p.0) read) }
 
-pub returns : goal.returns
-returns c = λ key at.
+pub returns-clause-records : goal.returns-clause-records
+returns-clause-records c = λ key at.
     let pairs : List Pair = c.args.self.now.records.items in
     let places : Key → Option ℕ = btree.get key_cmp c.args.self.now.places in
     let place : ℕ = c.args.place in
