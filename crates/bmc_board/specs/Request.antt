@@ -1,5 +1,5 @@
 -- What a request asks for.
-use Rattle.std.specs.Prelude.{ℕ, ◌+◌, ◌*◌, List, [], ◌∷◌, length, slice_index, Option, Some, None, Result, Ok, Err, ◌==◌, if◌then◌else◌, refl}
+use Rattle.std.specs.Prelude.{ℕ, ◌+◌, ◌*◌, ◌/◌, ◌%◌, List, [], ◌∷◌, length, slice_index, Option, Some, None, Result, Ok, Err, ◌==◌, if◌then◌else◌, refl}
 use Rattle.two_wire.specs.Codes.{invalid_for_lun, invalid_command, invalid_length, pldm_unsupported_command, pldm_invalid_type, pldm_invalid_length}
 use Rattle.cfg_records.specs.declared.message.Asked.{Asked}
 use Rattle.cfg_records.specs.declared.message.Asked.TheVariants.{Ipmi, Pldm}
@@ -7,6 +7,11 @@ use Rattle.cfg_records.specs.declared.key.Key.TheVariants as key
 use Rattle.cfg_records.specs.declared.op.Op.TheVariants as op
 use Rattle.cfg_records.specs.declared.sensor_thresholds.SetThresholds.{SetThresholds}
 use Rattle.cfg_records.specs.declared.watchdog.SetWatchdog.{SetWatchdog}
+use Rattle.cfg_records.specs.declared.event_enable.EventMasks.{EventMasks}
+use Rattle.cfg_records.specs.declared.event_enable.EventChange.{EventChange}
+use Rattle.cfg_records.specs.declared.event_enable.EventChange.TheVariants.{Leave, Enable, Disable, Reserved}
+use Rattle.cfg_records.specs.declared.event_enable.SetEventEnable.{SetEventEnable}
+use Rattle.cfg_records.specs.EventEnable.{makes_messages, is_scanning}
 use Rattle.bmc_board.specs.declared.command.Command.{Command}
 use Rattle.bmc_board.specs.declared.command.Command.TheVariants as command
 use Rattle.bmc_board.specs.declared.command.Line.{Line}
@@ -28,6 +33,27 @@ thresholds_in body = record {
   six = refl;
 }
 
+-- the assertion and the deassertion mask of a request, each the low byte first
+abbrev pub event_masks_in : List ℕ → EventMasks
+event_masks_in body = record { assertions = byte_at body 2 + 256 * byte_at body 3; deassertions = byte_at body 4 + 256 * byte_at body 5 }
+
+-- what a selection does to the enabled events
+abbrev pub selected : ℕ → EventMasks → EventChange
+selected selection masks = if selection == 0 then Leave else (if selection == 1 then Enable masks else (if selection == 2 then Disable masks else Reserved))
+
+-- what bits 5:4 of the second byte select
+abbrev pub event_change_in : List ℕ → EventChange
+event_change_in body = selected (byte_at body 1 / 16 % 4) (event_masks_in body)
+
+-- sensor, flags (bit 7 event messages, bit 6 scanning) and selection, and two masks
+abbrev pub event_enable_in : List ℕ → SetEventEnable
+event_enable_in body = record {
+  sensor = byte_at body 0;
+  messages = makes_messages (byte_at body 1);
+  scanning = is_scanning (byte_at body 1);
+  change = event_change_in body;
+}
+
 -- timer use, actions, pre-timeout interval, flags to clear, and the countdown, low byte first
 abbrev pub watchdog_in : List ℕ → SetWatchdog
 watchdog_in body = record {
@@ -45,6 +71,8 @@ request_of command.SetSensorHysteresis body = Ok (request.Set (op.Hysteresis (re
 request_of command.GetSensorHysteresis body = Ok (request.Get (key.Hysteresis (byte_at body 0)))
 request_of command.SetSensorThresholds body = Ok (request.Set (op.Thresholds (thresholds_in body)))
 request_of command.GetSensorThresholds body = Ok (request.Get (key.Thresholds (byte_at body 0)))
+request_of command.SetSensorEventEnable body = Ok (request.Set (op.EventEnable (event_enable_in body)))
+request_of command.GetSensorEventEnable body = Ok (request.Get (key.EventEnable (byte_at body 0)))
 request_of command.GetChassisStatus body = Ok (request.Get key.PowerPolicy)
 request_of command.SetPowerRestorePolicy body = Ok (request.Set (op.PowerPolicy (record { policy = byte_at body 0 })))
 request_of command.SetWatchdogTimer body = Ok (request.Set (op.Watchdog (watchdog_in body)))

@@ -1,10 +1,15 @@
 //! What a request asks for.
 ghost use Rattle.std.specs.Prelude.{◌≡◌, ℕ};
-ghost use Rattle.bmc_board.specs.Request.{byte_at, thresholds_in, watchdog_in, request_of, asked_by, asked_at};
+ghost use Rattle.bmc_board.specs.Request.{byte_at, thresholds_in, event_masks_in, event_change_in, event_enable_in, watchdog_in, request_of, asked_by, asked_at};
 
 use crate::command::{Command, Line, find_line, find_pldm_line, is_pldm_type};
 use crate::live::LiveCommand;
-use cfg_records::{Asked, Key, Op, SetHysteresis, SetPowerPolicy, SetThresholds, SetWatchdog};
+use cfg_records::event_enable::{MESSAGES_PLACE, SCANNING_PLACE};
+use cfg_records::mask::has;
+use cfg_records::{
+    Asked, EventChange, EventMasks, Key, Op, SetEventEnable, SetHysteresis, SetPowerPolicy,
+    SetThresholds, SetWatchdog,
+};
 use two_wire::{Below, Code, Lun, NetFn, code};
 
 /// A well-formed request.
@@ -46,6 +51,41 @@ fn set_thresholds(body: &[u8]) -> SetThresholds
     }
 }
 
+/// The assertion and the deassertion mask of a request that sets which events are enabled, each the low byte first.
+fn event_masks(body: &[u8]) -> EventMasks
+    ensures { result ≡ event_masks_in body.now }
+{
+    EventMasks {
+        assertions: u16::from_le_bytes([byte(body, 2), byte(body, 3)]),
+        deassertions: u16::from_le_bytes([byte(body, 4), byte(body, 5)]),
+    }
+}
+
+/// What the selection in bits 5:4 of the second byte does to the enabled events.
+fn event_change(body: &[u8]) -> EventChange
+    ensures { result ≡ event_change_in body.now }
+{
+    match byte(body, 1) / 16 % 4 {
+        0 => EventChange::Leave,
+        1 => EventChange::Enable(event_masks(body)),
+        2 => EventChange::Disable(event_masks(body)),
+        _ => EventChange::Reserved,
+    }
+}
+
+/// Sensor, flags and selection, and two masks.
+fn set_event_enable(body: &[u8]) -> SetEventEnable
+    ensures { result ≡ event_enable_in body.now }
+{
+    let flags = byte(body, 1);
+    SetEventEnable {
+        sensor: byte(body, 0),
+        messages: has(flags, MESSAGES_PLACE),
+        scanning: has(flags, SCANNING_PLACE),
+        change: event_change(body),
+    }
+}
+
 /// Timer use, actions, pre-timeout interval, flags to clear, and the countdown, low byte first.
 fn set_watchdog(body: &[u8]) -> SetWatchdog
     ensures { result ≡ watchdog_in body.now }
@@ -75,6 +115,8 @@ fn request_in(command: Command, body: &[u8]) -> Result<Request, Code>
         Command::GetSensorHysteresis => Ok(Request::Get(Key::Hysteresis(number))),
         Command::SetSensorThresholds => Ok(Request::Set(Op::Thresholds(set_thresholds(body)))),
         Command::GetSensorThresholds => Ok(Request::Get(Key::Thresholds(number))),
+        Command::SetSensorEventEnable => Ok(Request::Set(Op::EventEnable(set_event_enable(body)))),
+        Command::GetSensorEventEnable => Ok(Request::Get(Key::EventEnable(number))),
         Command::GetChassisStatus => Ok(Request::Get(Key::PowerPolicy)),
         Command::SetPowerRestorePolicy => Ok(Request::Set(Op::PowerPolicy(SetPowerPolicy {
             policy: number,

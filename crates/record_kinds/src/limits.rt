@@ -1,6 +1,6 @@
 //! The limits of a record, of whichever kind.
 use cfg_records::{Asked, Key, Live, Op, RecordData, RecordKind, Value};
-use sensor_recs::{HysteresisLimits, ThresholdLimits};
+use sensor_recs::{EventEnableLimits, HysteresisLimits, ThresholdLimits};
 use two_wire::{Buffer, Code};
 use watch_boot::{PowerPolicyLimits, WatchdogLimits};
 
@@ -9,6 +9,7 @@ use watch_boot::{PowerPolicyLimits, WatchdogLimits};
 pub enum Limits {
     Thresholds(ThresholdLimits),
     Hysteresis(HysteresisLimits),
+    EventEnable(EventEnableLimits),
     PowerPolicy(PowerPolicyLimits),
     Watchdog(WatchdogLimits),
 }
@@ -19,6 +20,7 @@ macro_rules! of_each_kind {
         $does! { $how
             Thresholds ThresholdLimits {Key::Thresholds(sensor) => sensor}
             Hysteresis HysteresisLimits {Key::Hysteresis(sensor) => sensor}
+            EventEnable EventEnableLimits {Key::EventEnable(sensor) => sensor}
             PowerPolicy PowerPolicyLimits {Key::PowerPolicy => &()}
             Watchdog WatchdogLimits {Key::Watchdog => &()}
         }

@@ -6,7 +6,7 @@ ghost use Rattle.record_kinds.specs.Places.{ArePlaces};
 
 use crate::limits::Limits;
 use cfg_records::{BoardFile, Device, Key, Sensor};
-use sensor_recs::{HysteresisLimits, ThresholdLimits};
+use sensor_recs::{EventEnableLimits, HysteresisLimits, ThresholdLimits};
 use std::marker::Model;
 use watch_boot::{PowerPolicyLimits, WatchdogLimits};
 
@@ -85,6 +85,7 @@ impl Setup {
         Some(match key {
             Key::Thresholds(n) => Limits::Thresholds(ThresholdLimits::of(self.sensor(*n)?)),
             Key::Hysteresis(n) => Limits::Hysteresis(HysteresisLimits::of(self.sensor(*n)?)),
+            Key::EventEnable(n) => Limits::EventEnable(EventEnableLimits::of(self.sensor(*n)?)),
             Key::PowerPolicy => Limits::PowerPolicy(PowerPolicyLimits),
             Key::Watchdog => Limits::Watchdog(WatchdogLimits),
         })

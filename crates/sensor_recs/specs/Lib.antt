@@ -5,3 +5,6 @@ pub mod ThresholdsKind
 pub mod Hysteresis
 pub mod HysteresisLaws
 pub mod HysteresisKind
+pub mod EventEnable
+pub mod EventEnableLaws
+pub mod EventEnableKind

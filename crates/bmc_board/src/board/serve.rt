@@ -24,9 +24,11 @@ fn unknown_code(_setup: &Setup, key: &Key) -> Code
 {
     // Each key is named, so that a new one isn't forgotten. The last two are on every board.
     match key {
-        Key::Thresholds(_) | Key::Hysteresis(_) | Key::PowerPolicy | Key::Watchdog => {
-            code::NOT_PRESENT
-        }
+        Key::Thresholds(_)
+        | Key::Hysteresis(_)
+        | Key::EventEnable(_)
+        | Key::PowerPolicy
+        | Key::Watchdog => code::NOT_PRESENT,
     }
 }
 
