@@ -16,9 +16,10 @@ use Rattle.record_kinds.specs.Limits.{is_of, sets, outcome, get_asked, set_asked
 use Rattle.record_kinds.specs.LimitsLaws as laws
 use Rattle.std.specs.Option.{option_map}
 use Rattle.record_kinds.specs.Boards.{sensor_at, limits_at}
-use Rattle.record_kinds.specs.Sound.{IsSound, IsSoundAt, sound_set}
-use Rattle.bmc_board.specs.declared.request.Request.{Request}
-use Rattle.bmc_board.specs.declared.request.Request.TheVariants.{Live, Get, Set}
+use Rattle.record_kinds.specs.Sound.{IsSound, IsSoundAt}
+use Rattle.record_kinds.specs.SoundLaws.{sound_set}
+use Rattle.bmc_board.specs.Request.{Request}
+use Rattle.bmc_board.specs.Request.{Live, Get, Set}
 use Rattle.bmc_board.specs.Table.{is_changing}
 use Rattle.bmc_board.specs.Request.{asked_by}
 use Rattle.bmc_board.specs.State.{State, IsUnchanged}

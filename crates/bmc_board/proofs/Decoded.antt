@@ -1,4 +1,4 @@
--- Each request for a record, and each for an operation, is read as what it asks for: a line for each kind.
+-- Each request for a record, and each for an operation, is read as what it asks for: a line for each kind whose data don't show it by themselves.
 use Rattle.std.proofs.Common.{◌≡◌, ℕ, ◌+◌, ◌*◌, ◌/◌, ◌%◌, ap, ◌∙◌, List, [], ◌∷◌, length, Bool, true, false, Result, Ok, refl, arith}
 use Rattle.cfg_records.specs.declared.key.Key.TheVariants as key
 use Rattle.cfg_records.specs.declared.message.Asked.TheVariants.{Ipmi, Pldm}
@@ -12,9 +12,8 @@ use Rattle.cfg_records.specs.declared.event_enable.SetEventEnable.{SetEventEnabl
 use Rattle.cfg_records.specs.declared.op.Op.TheVariants as op
 use Rattle.cfg_records.proofs.Operations.{set_thresholds, same_thresholds}
 use Rattle.record_kinds.specs.Limits.{set_asked}
-use Rattle.bmc_board.specs.declared.request.Request.{Request}
-use Rattle.bmc_board.specs.declared.request.Request.TheVariants as request
-use Rattle.bmc_board.specs.Request.{asked_by}
+use Rattle.bmc_board.specs.Request as request
+use Rattle.bmc_board.specs.Request.{Request, asked_by}
 use Rattle.bmc_board.specs.Decode.{IsReadFromAll, GetsAreRead, SetsAreRead}
 
 -- what holds of all lists of six holds of a list of length six
@@ -82,17 +81,13 @@ events_read sensor false false Reserved = refl
 
 pub gets_are_read : GetsAreRead
 gets_are_read (key.Thresholds sensor) = record { is_read = refl; from_nobody = (refl, refl) }
-gets_are_read (key.Hysteresis sensor) = record { is_read = refl; from_nobody = (refl, refl) }
-gets_are_read (key.EventEnable sensor) = record { is_read = refl; from_nobody = (refl, refl) }
-gets_are_read key.PowerPolicy = record { is_read = refl; from_nobody = (refl, refl) }
-gets_are_read key.Watchdog = record { is_read = refl; from_nobody = (refl, refl) }
+gets_are_read _ = record { is_read = refl; from_nobody = (refl, refl) }
 
 pub sets_are_read : SetsAreRead
 sets_are_read (op.Thresholds o) = record { is_read = thresholds_read o; from_nobody = (refl, refl) }
-sets_are_read (op.Hysteresis o) = record { is_read = refl; from_nobody = (refl, refl) }
 sets_are_read (op.EventEnable o) = record { is_read = events_read o.sensor o.messages o.scanning o.change; from_nobody = (refl, refl) }
-sets_are_read (op.PowerPolicy o) = record { is_read = refl; from_nobody = (refl, refl) }
 sets_are_read (op.Watchdog o) = record { is_read = ap (λ n. Ok (request.Set (set_watchdog o n))) (two_bytes o.initial); from_nobody = (refl, refl) }
+sets_are_read _ = record { is_read = refl; from_nobody = (refl, refl) }
 
 pub is_read_from_all : IsReadFromAll
 is_read_from_all from (Ipmi other net_fn lun number body) = refl

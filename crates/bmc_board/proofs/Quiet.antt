@@ -4,8 +4,8 @@ use Rattle.cfg_records.specs.Meaning.{room_for}
 use Rattle.cfg_records.specs.declared.message.Asked.{Asked}
 use Rattle.cfg_records.specs.declared.message.Answered.{Answered}
 use Rattle.cfg_records.specs.declared.board_file.BoardFile.{BoardFile}
-use Rattle.bmc_board.specs.declared.request.Request.{Request}
-use Rattle.bmc_board.specs.declared.request.Request.TheVariants.{Live, Get, Set}
+use Rattle.bmc_board.specs.Request.{Request}
+use Rattle.bmc_board.specs.Request.{Live, Get, Set}
 use Rattle.bmc_board.specs.Table.{is_changing}
 use Rattle.bmc_board.specs.Request.{asked_by}
 use Rattle.bmc_board.specs.State.{State}

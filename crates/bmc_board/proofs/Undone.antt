@@ -15,9 +15,9 @@ use Rattle.cfg_records.specs.Kind.{RecordLaws}
 use Rattle.record_kinds.specs.Limits.{words, record_words, valid, sets, view, get_asked, set_asked, is_reply, inverse}
 use Rattle.record_kinds.specs.LimitsLaws as laws
 use Rattle.record_kinds.specs.Boards.{limits_at}
-use Rattle.record_kinds.specs.Sound.{valid_at}
-use Rattle.bmc_board.specs.declared.request.Request.{Request}
-use Rattle.bmc_board.specs.declared.request.Request.TheVariants.{Get, Set}
+use Rattle.record_kinds.specs.SoundLaws.{valid_at}
+use Rattle.bmc_board.specs.Request.{Request}
+use Rattle.bmc_board.specs.Request.{Get, Set}
 use Rattle.bmc_board.specs.Request.{asked_by}
 use Rattle.bmc_board.specs.State.{State}
 use Rattle.bmc_board.specs.Replies.{done, refused, unknown_code}

@@ -11,8 +11,8 @@ use Rattle.record_kinds.specs.declared.limits.Limits.{Limits}
 use Rattle.record_kinds.specs.Limits.{outcome, view, set_reply, next_live}
 use Rattle.record_kinds.specs.Boards.{limits_at}
 use Rattle.bmc_board.specs.declared.activity.Activity.{Activity}
-use Rattle.bmc_board.specs.declared.request.Request.{Request}
-use Rattle.bmc_board.specs.declared.request.Request.TheVariants.{Live, Get, Set}
+use Rattle.bmc_board.specs.Request.{Request}
+use Rattle.bmc_board.specs.Request.{Live, Get, Set}
 use Rattle.bmc_board.specs.Request.{asked_by}
 use Rattle.bmc_board.specs.State.{State, state}
 use Rattle.bmc_board.specs.Replies.{done, refused, unknown_code}

@@ -6,7 +6,7 @@ use Rattle.cfg_records.specs.declared.message.Answered.{Answered}
 use Rattle.cfg_records.specs.declared.board_file.BoardFile.{BoardFile}
 use Rattle.bmc_board.specs.declared.activity.Activity.{Activity}
 use Rattle.bmc_board.specs.declared.live.LiveCommand.{LiveCommand}
-use Rattle.bmc_board.specs.declared.request.Request.TheVariants.{Live}
+use Rattle.bmc_board.specs.Request.{Live}
 use Rattle.bmc_board.specs.State.{State, state, IsUnchanged}
 use Rattle.bmc_board.specs.Answer.{serve}
 use Rattle.bmc_board.specs.AnyAnswer.{IsCode}

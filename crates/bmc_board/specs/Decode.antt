@@ -6,8 +6,8 @@ use Rattle.cfg_records.specs.declared.op.Op.{Op}
 use Rattle.cfg_records.specs.declared.message.Asked.{Asked}
 use Rattle.cfg_records.specs.declared.message.Asked.TheVariants.{Ipmi, Pldm}
 use Rattle.record_kinds.specs.Limits.{get_asked, set_asked, inverse, is_plain}
-use Rattle.bmc_board.specs.declared.request.Request.{Request}
-use Rattle.bmc_board.specs.declared.request.Request.TheVariants.{Get, Set}
+use Rattle.bmc_board.specs.Request.{Request}
+use Rattle.bmc_board.specs.Request.{Get, Set}
 use Rattle.bmc_board.specs.Request.{asked_by}
 
 -- the same request, from another requester

@@ -1,82 +1,61 @@
 -- What a request asks for.
-use Rattle.std.specs.Prelude.{ℕ, ◌+◌, ◌*◌, ◌/◌, ◌%◌, List, [], ◌∷◌, length, slice_index, Option, Some, None, Result, Ok, Err, ◌==◌, if◌then◌else◌, refl}
+use Rattle.std.specs.Prelude.{ℕ, List, length, Option, Some, None, Result, Ok, Err, ◌==◌, if◌then◌else◌}
 use Rattle.two_wire.specs.Codes.{invalid_for_lun, invalid_command, invalid_length, pldm_unsupported_command, pldm_invalid_type, pldm_invalid_length}
 use Rattle.cfg_records.specs.declared.message.Asked.{Asked}
 use Rattle.cfg_records.specs.declared.message.Asked.TheVariants.{Ipmi, Pldm}
+use Rattle.cfg_records.specs.declared.key.Key.{Key}
 use Rattle.cfg_records.specs.declared.key.Key.TheVariants as key
+use Rattle.cfg_records.specs.declared.op.Op.{Op}
 use Rattle.cfg_records.specs.declared.op.Op.TheVariants as op
-use Rattle.cfg_records.specs.declared.sensor_thresholds.SetThresholds.{SetThresholds}
-use Rattle.cfg_records.specs.declared.watchdog.SetWatchdog.{SetWatchdog}
-use Rattle.cfg_records.specs.declared.event_enable.EventMasks.{EventMasks}
-use Rattle.cfg_records.specs.declared.event_enable.EventChange.{EventChange}
-use Rattle.cfg_records.specs.declared.event_enable.EventChange.TheVariants.{Leave, Enable, Disable, Reserved}
-use Rattle.cfg_records.specs.declared.event_enable.SetEventEnable.{SetEventEnable}
-use Rattle.cfg_records.specs.EventEnable.{makes_messages, is_scanning}
+use Rattle.cfg_records.specs.Requests.{byte_at}
+use Rattle.sensor_recs.specs.Thresholds.{thresholds_in}
+use Rattle.sensor_recs.specs.Hysteresis.{hysteresis_in}
+use Rattle.sensor_recs.specs.EventEnable.{event_enable_in}
+use Rattle.watch_boot.specs.PowerPolicy.{policy_in}
+use Rattle.watch_boot.specs.Watchdog.{watchdog_in}
 use Rattle.bmc_board.specs.declared.command.Command.{Command}
 use Rattle.bmc_board.specs.declared.command.Command.TheVariants as command
+use Rattle.bmc_board.specs.declared.command.GetCommand.{GetCommand}
+use Rattle.bmc_board.specs.declared.command.GetCommand.TheVariants as get
+use Rattle.bmc_board.specs.declared.command.SetCommand.{SetCommand}
+use Rattle.bmc_board.specs.declared.command.SetCommand.TheVariants as set
 use Rattle.bmc_board.specs.declared.command.Line.{Line}
+use Rattle.bmc_board.specs.declared.live.LiveCommand.{LiveCommand}
 use Rattle.bmc_board.specs.declared.request.Refusals.{Refusals}
-use Rattle.bmc_board.specs.declared.request.Request.{Request}
-use Rattle.bmc_board.specs.declared.request.Request.TheVariants as request
 use Rattle.bmc_board.specs.Table.{line_of, pldm_line_of, is_allowed, is_pldm_type}
 
--- the byte at a place, 00h where it is missing
-abbrev pub byte_at : List ℕ → ℕ → ℕ
-byte_at body place = slice_index body place
+-- what is asked for: to carry out a live command, to show a record, or to change one
+pub data Request : Type 0 where
+  Live : LiveCommand → Request
+  Get : Key → Request
+  Set : Op → Request
 
--- sensor, mask, and a byte for each threshold
-abbrev pub thresholds_in : List ℕ → SetThresholds
-thresholds_in body = record {
-  sensor = byte_at body 0;
-  mask = byte_at body 1;
-  values = byte_at body 2 ∷ byte_at body 3 ∷ byte_at body 4 ∷ byte_at body 5 ∷ byte_at body 6 ∷ byte_at body 7 ∷ [];
-  six = refl;
-}
+-- the record that a command shows
+abbrev pub key_in : GetCommand → List ℕ → Key
+key_in get.GetSensorHysteresis body = key.Hysteresis (byte_at body 0)
+key_in get.GetSensorThresholds body = key.Thresholds (byte_at body 0)
+key_in get.GetSensorEventEnable body = key.EventEnable (byte_at body 0)
+key_in get.GetChassisStatus body = key.PowerPolicy
+key_in get.GetWatchdogTimer body = key.Watchdog
 
--- the assertion and the deassertion mask of a request, each the low byte first
-abbrev pub event_masks_in : List ℕ → EventMasks
-event_masks_in body = record { assertions = byte_at body 2 + 256 * byte_at body 3; deassertions = byte_at body 4 + 256 * byte_at body 5 }
-
--- what a selection does to the enabled events
-abbrev pub selected : ℕ → EventMasks → EventChange
-selected selection masks = if selection == 0 then Leave else (if selection == 1 then Enable masks else (if selection == 2 then Disable masks else Reserved))
-
--- what bits 5:4 of the second byte select
-abbrev pub event_change_in : List ℕ → EventChange
-event_change_in body = selected (byte_at body 1 / 16 % 4) (event_masks_in body)
-
--- sensor, flags (bit 7 event messages, bit 6 scanning) and selection, and two masks
-abbrev pub event_enable_in : List ℕ → SetEventEnable
-event_enable_in body = record {
-  sensor = byte_at body 0;
-  messages = makes_messages (byte_at body 1);
-  scanning = is_scanning (byte_at body 1);
-  change = event_change_in body;
-}
-
--- timer use, actions, pre-timeout interval, flags to clear, and the countdown, low byte first
-abbrev pub watchdog_in : List ℕ → SetWatchdog
-watchdog_in body = record {
-  timer_use = byte_at body 0;
-  actions = byte_at body 1;
-  pre_timeout = byte_at body 2;
-  flags_to_clear = byte_at body 3;
-  initial = byte_at body 4 + 256 * byte_at body 5;
-}
+-- the change that a command makes
+abbrev pub op_in : SetCommand → List ℕ → Op
+op_in set.SetSensorHysteresis body = op.Hysteresis (hysteresis_in body)
+op_in set.SetSensorThresholds body = op.Thresholds (thresholds_in body)
+op_in set.SetSensorEventEnable body = op.EventEnable (event_enable_in body)
+op_in set.SetPowerRestorePolicy body = op.PowerPolicy (policy_in body)
+op_in set.SetWatchdogTimer body = op.Watchdog (watchdog_in body)
 
 -- what a command asks for with data of a length that it takes, or the code that refuses the data
 abbrev pub request_of : Command → List ℕ → Result Request ℕ
-request_of (command.Live live) body = Ok (request.Live live)
-request_of command.SetSensorHysteresis body = Ok (request.Set (op.Hysteresis (record { sensor = byte_at body 0; positive = byte_at body 2; negative = byte_at body 3 })))
-request_of command.GetSensorHysteresis body = Ok (request.Get (key.Hysteresis (byte_at body 0)))
-request_of command.SetSensorThresholds body = Ok (request.Set (op.Thresholds (thresholds_in body)))
-request_of command.GetSensorThresholds body = Ok (request.Get (key.Thresholds (byte_at body 0)))
-request_of command.SetSensorEventEnable body = Ok (request.Set (op.EventEnable (event_enable_in body)))
-request_of command.GetSensorEventEnable body = Ok (request.Get (key.EventEnable (byte_at body 0)))
-request_of command.GetChassisStatus body = Ok (request.Get key.PowerPolicy)
-request_of command.SetPowerRestorePolicy body = Ok (request.Set (op.PowerPolicy (record { policy = byte_at body 0 })))
-request_of command.SetWatchdogTimer body = Ok (request.Set (op.Watchdog (watchdog_in body)))
-request_of command.GetWatchdogTimer body = Ok (request.Get key.Watchdog)
+request_of (command.Live live) body = Ok (Live live)
+request_of (command.Get get) body = Ok (Get (key_in get body))
+request_of (command.Set set) body = Ok (Set (op_in set body))
+
+-- the same of a command that was read, or the code that refused the request
+abbrev pub asked_of : Result Command ℕ → List ℕ → Result Request ℕ
+asked_of (Ok command) body = request_of command body
+asked_of (Err code) body = Err code
 
 -- what refuses a command that isn't listed, and one whose data has a length that it doesn't take
 abbrev pub ipmi_refusals : Refusals

@@ -2,8 +2,8 @@
 use Rattle.std.specs.Prelude.{ℕ}
 use Rattle.cfg_records.specs.Meaning.{room_for}
 use Rattle.record_kinds.specs.Limits.{get_asked, set_asked}
-use Rattle.bmc_board.specs.declared.request.Request.{Request}
-use Rattle.bmc_board.specs.declared.request.Request.TheVariants.{Live, Get, Set}
+use Rattle.bmc_board.specs.Request.{Request}
+use Rattle.bmc_board.specs.Request.{Live, Get, Set}
 use Rattle.bmc_board.specs.Live.{longest_live_reply}
 
 -- the reply to what is asked for has at most so many bytes of data

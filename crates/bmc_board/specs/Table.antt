@@ -4,6 +4,8 @@ use Rattle.cfg_records.specs.declared.message.Asked.{Asked}
 use Rattle.cfg_records.specs.declared.message.Asked.TheVariants.{Ipmi, Pldm}
 use Rattle.bmc_board.specs.declared.command.Command.{Command}
 use Rattle.bmc_board.specs.declared.command.Command.TheVariants as command
+use Rattle.bmc_board.specs.declared.command.GetCommand.TheVariants as get
+use Rattle.bmc_board.specs.declared.command.SetCommand.TheVariants as set
 use Rattle.bmc_board.specs.declared.command.Lengths.{Lengths}
 use Rattle.bmc_board.specs.declared.command.Lengths.TheVariants.{Exactly, Between, AtLeast, OneOf}
 use Rattle.bmc_board.specs.declared.command.Line.{Line}
@@ -21,19 +23,19 @@ listed group number lengths changing command = record { group = group; number = 
 -- IPMI: network function, number, lengths, whether it sets the configuration, command
 abbrev pub table : List Listed
 table =
-    listed 0x00 0x01 (Exactly 0) false command.GetChassisStatus ∷
-    listed 0x00 0x06 (Exactly 1) true command.SetPowerRestorePolicy ∷
-    listed 0x04 0x24 (Exactly 4) true command.SetSensorHysteresis ∷
-    listed 0x04 0x25 (Exactly 2) false command.GetSensorHysteresis ∷
-    listed 0x04 0x26 (Exactly 8) true command.SetSensorThresholds ∷
-    listed 0x04 0x27 (Exactly 1) false command.GetSensorThresholds ∷
-    listed 0x04 0x28 (Between 2 6) true command.SetSensorEventEnable ∷
-    listed 0x04 0x29 (Exactly 1) false command.GetSensorEventEnable ∷
+    listed 0x00 0x01 (Exactly 0) false (command.Get get.GetChassisStatus) ∷
+    listed 0x00 0x06 (Exactly 1) true (command.Set set.SetPowerRestorePolicy) ∷
+    listed 0x04 0x24 (Exactly 4) true (command.Set set.SetSensorHysteresis) ∷
+    listed 0x04 0x25 (Exactly 2) false (command.Get get.GetSensorHysteresis) ∷
+    listed 0x04 0x26 (Exactly 8) true (command.Set set.SetSensorThresholds) ∷
+    listed 0x04 0x27 (Exactly 1) false (command.Get get.GetSensorThresholds) ∷
+    listed 0x04 0x28 (Between 2 6) true (command.Set set.SetSensorEventEnable) ∷
+    listed 0x04 0x29 (Exactly 1) false (command.Get get.GetSensorEventEnable) ∷
     listed 0x06 0x01 (Exactly 0) false (command.Live live.GetDeviceId) ∷
     listed 0x06 0x04 (Exactly 0) false (command.Live live.GetSelfTestResults) ∷
     listed 0x06 0x22 (Exactly 0) false (command.Live live.ResetWatchdog) ∷
-    listed 0x06 0x24 (Exactly 6) true command.SetWatchdogTimer ∷
-    listed 0x06 0x25 (Exactly 0) false command.GetWatchdogTimer ∷
+    listed 0x06 0x24 (Exactly 6) true (command.Set set.SetWatchdogTimer) ∷
+    listed 0x06 0x25 (Exactly 0) false (command.Get get.GetWatchdogTimer) ∷
     []
 
 -- PLDM: type, number, lengths, whether it sets the configuration, command

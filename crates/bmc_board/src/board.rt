@@ -1,5 +1,6 @@
 //! A board.
-ghost use Rattle.record_kinds.specs.Sound.{IsSound, IsSound-prop};
+ghost use Rattle.record_kinds.specs.Sound.{IsSound};
+ghost use Rattle.record_kinds.specs.SoundLaws.{IsSound-prop};
 
 mod serve;
 

@@ -10,16 +10,30 @@ use cfg_records::Asked;
 pub enum Command {
     /// A live command, which takes no data.
     Live(LiveCommand),
-    SetSensorHysteresis,
+    /// A command that shows a record.
+    Get(GetCommand),
+    /// A command that changes a record.
+    Set(SetCommand),
+}
+
+/// A command that shows a record.
+#[derive(Clone, Copy, Debug, PartialEq, Eq)]
+pub enum GetCommand {
     GetSensorHysteresis,
-    SetSensorEventEnable,
     GetSensorEventEnable,
-    SetSensorThresholds,
     GetSensorThresholds,
     GetChassisStatus,
+    GetWatchdogTimer,
+}
+
+/// A command that changes a record.
+#[derive(Clone, Copy, Debug, PartialEq, Eq)]
+pub enum SetCommand {
+    SetSensorHysteresis,
+    SetSensorEventEnable,
+    SetSensorThresholds,
     SetPowerRestorePolicy,
     SetWatchdogTimer,
-    GetWatchdogTimer,
 }
 
 /// How many bytes of data a command takes.
@@ -71,22 +85,24 @@ pub fn find_line(net_fn: u8, number: u8) -> Option<Line>
     ensures { result ≡ line_of net_fn number }
 {
     use Command::*;
+    use GetCommand::*;
     use Lengths::*;
     use LiveCommand::*;
+    use SetCommand::*;
     Some(match (net_fn, number) {
-        (0x00, 0x01) => entry(GetChassisStatus, Exactly(0), false),
-        (0x00, 0x06) => entry(SetPowerRestorePolicy, Exactly(1), true),
-        (0x04, 0x24) => entry(SetSensorHysteresis, Exactly(4), true),
-        (0x04, 0x25) => entry(GetSensorHysteresis, Exactly(2), false),
-        (0x04, 0x26) => entry(SetSensorThresholds, Exactly(8), true),
-        (0x04, 0x27) => entry(GetSensorThresholds, Exactly(1), false),
-        (0x04, 0x28) => entry(SetSensorEventEnable, Between(2, 6), true),
-        (0x04, 0x29) => entry(GetSensorEventEnable, Exactly(1), false),
+        (0x00, 0x01) => entry(Get(GetChassisStatus), Exactly(0), false),
+        (0x00, 0x06) => entry(Set(SetPowerRestorePolicy), Exactly(1), true),
+        (0x04, 0x24) => entry(Set(SetSensorHysteresis), Exactly(4), true),
+        (0x04, 0x25) => entry(Get(GetSensorHysteresis), Exactly(2), false),
+        (0x04, 0x26) => entry(Set(SetSensorThresholds), Exactly(8), true),
+        (0x04, 0x27) => entry(Get(GetSensorThresholds), Exactly(1), false),
+        (0x04, 0x28) => entry(Set(SetSensorEventEnable), Between(2, 6), true),
+        (0x04, 0x29) => entry(Get(GetSensorEventEnable), Exactly(1), false),
         (0x06, 0x01) => entry(Live(GetDeviceId), Exactly(0), false),
         (0x06, 0x04) => entry(Live(GetSelfTestResults), Exactly(0), false),
         (0x06, 0x22) => entry(Live(ResetWatchdog), Exactly(0), false),
-        (0x06, 0x24) => entry(SetWatchdogTimer, Exactly(6), true),
-        (0x06, 0x25) => entry(GetWatchdogTimer, Exactly(0), false),
+        (0x06, 0x24) => entry(Set(SetWatchdogTimer), Exactly(6), true),
+        (0x06, 0x25) => entry(Get(GetWatchdogTimer), Exactly(0), false),
         _ => return None,
     })
 }

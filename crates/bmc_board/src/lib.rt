@@ -12,4 +12,4 @@ pub use activity::Activity;
 pub use board::Board;
 pub use command::{Command, Lengths, Line, changing};
 pub use live::LiveCommand;
-pub use request::{Request, read_request};
+pub use request::read_request;

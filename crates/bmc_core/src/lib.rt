@@ -5,6 +5,6 @@ pub mod laws;
 pub mod out;
 pub mod port;
 
-pub use bmc_board::{Board, Command, Lengths, Line, Request, changing, read_request};
+pub use bmc_board::{Board, Command, Lengths, Line, changing, read_request};
 pub use out::{Done, Frames, Out, Reason};
 pub use port::{At, Port};

@@ -1,20 +1,13 @@
 //! What a run writes, where it writes it, and how it ends.
 ghost use Rattle.std.specs.Prelude.{◌≡◌, ◌⊎◌};
-ghost use Rattle.bmc_lab.specs.Ending.{Ends, complaint_of, Written};
+ghost use Rattle.bmc_lab.specs.Console.{HasFailed, Written};
+ghost use Rattle.bmc_lab.specs.Ending.{Ends, complaint_of};
 
+use crate::console::{Console, Stream};
 use crate::report::Report;
 use crate::status::Status;
 use std::alloc::AllocError;
 use std::io;
-
-/// Where a run writes.
-#[derive(Clone, Copy, Debug, PartialEq, Eq)]
-pub enum Stream {
-    /// Standard output.
-    Output,
-    /// Standard error.
-    Error,
-}
 
 /// What a run writes, where it writes it, and the status that it ends with where all of that was written.
 #[derive(Debug, Drop)]
@@ -62,18 +55,17 @@ impl<'a> Ending<'a> {
         }
     }
 
-    /// Writes the text once, and gives the status, or `Output` where the write failed.
-    pub fn write<W: io::Write, E: io::Write>(&self, out: &mut W, err: &mut E) -> Status
-        ensures { (result ≡ Status.Output)
-            ⊎ ((result ≡ self.now.status) × Written self.now.stream self.now.text.now (W.contents out.old) (W.contents out.new) (E.contents err.old) (E.contents err.new)) }
+    /// Writes the text once, and gives the status, or `Output` where a write failed.
+    pub fn write<W: io::Write, E: io::Write>(&self, console: &mut Console<W, E>) -> Status
+        ensures { ((result ≡ Status.Output) × HasFailed console.new)
+            ⊎ ((result ≡ self.now.status)
+            × Written self.now.stream self.now.text.now (W.contents console.old.out) (W.contents console.new.out) (E.contents console.old.err) (E.contents console.new.err)) }
     {
-        let written = match self.stream {
-            Stream::Output => out.write_all(self.text),
-            Stream::Error => err.write_all(self.text),
-        };
-        match written {
-            Ok(()) => self.status,
-            Err(_) => Status::Output,
+        console.write(self.stream, self.text);
+        if console.has_failed() {
+            Status::Output
+        } else {
+            self.status
         }
     }
 }

@@ -2,9 +2,11 @@
 ghost use Rattle.std.specs.Prelude.{◌≡◌, ◌⊎◌, ℕ, List, IfOk, codes, string_bytes};
 ghost use Rattle.std.specs.Io.KnownBytes.{Appends, Keeps};
 ghost use Rattle.bmc_lab.specs.declared.status.Status.{Status as End};
+ghost use Rattle.bmc_lab.specs.Console.{HasFailed};
 ghost use Rattle.bmc_lab.specs.Report.{byte_of};
 ghost use Rattle.bmc_lab.specs.Run.{controller, Tells};
 
+use crate::console::Console;
 use crate::ending::Ending;
 use crate::report::Report;
 use bmc_core::{At, Board, Out, Port};
@@ -43,20 +45,21 @@ fn frame_report(alloc: Global, bus: Bus, bytes: &[u8]) -> Result<Report, AllocEr
     Report::new(alloc, &out)
 }
 
-/// Sends one frame to a fresh controller with the sample board. Writes each reply frame to `out` in upper-case hexadecimal on a
-/// line, or `ignored` and the reason's name, or `waiting` where others of its message are to come, and gives the status: 0 where a
-/// frame was sent, 1 where none was, 5 with `memory` on `err` where memory was refused, and 6 where a write failed.
+/// Sends one frame to a fresh controller with the sample board. Writes each reply frame to standard output in upper-case
+/// hexadecimal on a line, or `ignored` and the reason's name, or `waiting` where others of its message are to come, and gives the
+/// status: 0 where a frame was sent, 1 where none was, 5 with `memory` on standard error where memory was refused, and 6 where a
+/// write failed.
 pub fn frame_run<W: io::Write, E: io::Write>(
     alloc: Global,
     bus: Bus,
     bytes: &[u8],
-    out: &mut W,
-    err: &mut E,
+    console: &mut Console<W, E>,
 ) -> u8
-    ensures { (result ≡ 6)
-        ⊎ (((result ≡ 5) × Appends (E.contents err.old) (E.contents err.new) (codes "memory\n") × Keeps (W.contents out.old) (W.contents out.new))
-        ⊎ ((text : List ℕ) × (status : End) × Tells bus bytes.now text status × (result ≡ byte_of status) × Appends (W.contents out.old) (W.contents out.new) text × Keeps (E.contents err.old) (E.contents err.new))) }
+    ensures { ((result ≡ 6) × HasFailed console.new)
+        ⊎ (((result ≡ 5) × Appends (E.contents console.old.err) (E.contents console.new.err) (codes "memory\n") × Keeps (W.contents console.old.out) (W.contents console.new.out))
+        ⊎ ((text : List ℕ) × (status : End) × Tells bus bytes.now text status × (result ≡ byte_of status)
+        × Appends (W.contents console.old.out) (W.contents console.new.out) text × Keeps (E.contents console.old.err) (E.contents console.new.err))) }
 {
     let report = frame_report(alloc, bus, bytes);
-    u8::from(Ending::of(&report).write(out, err))
+    u8::from(Ending::of(&report).write(console))
 }

@@ -2,13 +2,15 @@
 #![tactic(auto)]
 
 pub mod asked;
+pub mod console;
 pub mod ending;
 pub mod frame;
 pub mod report;
 pub mod status;
 
 pub use asked::{AskedFrame, asked_frame};
-pub use ending::{Ending, Stream};
+pub use console::{Console, Stream};
+pub use ending::Ending;
 pub use frame::frame_run;
 pub use report::Report;
 pub use status::Status;

@@ -24,8 +24,8 @@ fn refusal(error: &Error) -> Status {
     }
 }
 
-/// The frame that the words name.
-fn read(alloc: Global, words: &[String]) -> Result<AskedFrame, Status> {
+/// The frame that the words name, the program's own name first among them.
+pub fn read(alloc: Global, words: &[String]) -> Result<AskedFrame, Status> {
     let Ok(command) = command(alloc) else {
         return Err(Status::Memory);
     };

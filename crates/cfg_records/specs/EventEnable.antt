@@ -2,7 +2,6 @@
 -- the events that are enabled to be asserted, and that of those to be deasserted, each the low byte first. Bit i of a mask stands for the
 -- event of offset i.
 use Rattle.std.specs.Prelude.{◌≡◌, ℕ, ◌+◌, ◌*◌, ◌/◌, ◌%◌, ◌<◌, List, [], ◌∷◌, length, slice_index, Bool, ◌||◌, not, IsTrue, if◌then◌else◌}
-use Rattle.std.proofs.Props.{props}
 use Rattle.cfg_records.specs.Masks.{has, all_below}
 use Rattle.cfg_records.specs.declared.event_enable.EventMasks.{EventMasks}
 
@@ -53,7 +52,3 @@ pub record IsEventEnable (supported : ℕ) (value : List ℕ) : Type 0 where
   pub is_value : IsEventValue value
   pub assertions : AreWithin (enabled_in value).assertions supported
   pub deassertions : AreWithin (enabled_in value).deassertions supported
-
--- there is one proof at most
-pub IsEventEnable-prop : (supported : ℕ) (value : List ℕ) → IsProp (IsEventEnable supported value)
-IsEventEnable-prop supported value = hlevel props

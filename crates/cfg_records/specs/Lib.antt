@@ -10,8 +10,9 @@ pub mod EventEnable
 pub mod EventLaws
 pub mod PowerPolicy
 pub mod Watchdog
+pub mod PartLaws
 pub mod Meaning
-pub mod Refusals
+pub mod RefusalLaws
 pub mod Requests
 pub mod Opening
 pub mod Kind

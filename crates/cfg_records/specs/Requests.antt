@@ -1,5 +1,5 @@
--- The requests that get and set records.
-use Rattle.std.specs.Prelude.{ℕ, List}
+-- The requests that get and set records, and their data.
+use Rattle.std.specs.Prelude.{ℕ, List, slice_index}
 use Rattle.cfg_records.specs.declared.message.Asked.{Asked}
 use Rattle.cfg_records.specs.declared.message.Asked.TheVariants.{Ipmi}
 
@@ -16,3 +16,7 @@ application = 0x06
 -- the IPMI request of this network function, command and data: from nobody, to logical unit 0
 abbrev pub ipmi_request : ℕ → ℕ → List ℕ → Asked
 ipmi_request net_fn command body = Ipmi 0 net_fn 0 command body
+
+-- the byte at a place of the data, 00h where it is missing
+abbrev pub byte_at : List ℕ → ℕ → ℕ
+byte_at body place = slice_index body place

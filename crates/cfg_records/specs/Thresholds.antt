@@ -1,7 +1,6 @@
 -- The thresholds of a sensor (IPMI 2.0). A value has six bytes, one at each place of a mask: lower
 -- non-critical, lower critical, lower non-recoverable, upper non-critical, upper critical, upper non-recoverable.
 use Rattle.std.specs.Prelude.{◌≡◌, ℕ, ◌<◌, ◌≤◌, List, [], ◌∷◌, length, slice_index, Bool, ◌||◌, not, nat_le, ◌==◌, IsTrue, IsFalse}
-use Rattle.std.proofs.Props.{props}
 use Rattle.cfg_records.specs.Masks.{has, all_below}
 use Rattle.cfg_records.specs.declared.thresholds.ThresholdMasks.{ThresholdMasks}
 
@@ -25,10 +24,6 @@ pub record IsThresholds (masks : ThresholdMasks) (value : List ℕ) : Type 0 whe
   pub six : length value ≡ 6
   pub absent : (place : ℕ) → place < 6 → IsFalse (is_there masks place) → slice_index value place ≡ 0
   pub in_order : IsInOrder masks value
-
--- there is one proof at most
-pub IsThresholds-prop : (masks : ThresholdMasks) (value : List ℕ) → IsProp (IsThresholds masks value)
-IsThresholds-prop masks value = hlevel props
 
 -- the test that two thresholds are in order
 abbrev pub are_in_order : ThresholdMasks → List ℕ → ℕ → ℕ → Bool

@@ -3,7 +3,6 @@
 -- action at it), the pre-timeout interval, and the countdown to begin from, low byte first.
 use Rattle.std.specs.Prelude.{◌≡◌, ℕ, ◌<◌, ◌≤◌, ◌/◌, ◌%◌, List, ◌∷◌, length, slice_index}
 use Rattle.std.specs.Int.{w16, to_le_bytes}
-use Rattle.std.proofs.Props.{props}
 
 -- the value of these settings
 abbrev pub watchdog_value : ℕ → ℕ → ℕ → ℕ → List ℕ
@@ -17,7 +16,3 @@ pub record IsWatchdog (value : List ℕ) : Type 0 where
   pub known_action : slice_index value 1 % 16 ≤ 3
   pub low_byte : slice_index value 3 < 256
   pub high_byte : slice_index value 4 < 256
-
--- there is one proof at most
-pub IsWatchdog-prop : (value : List ℕ) → IsProp (IsWatchdog value)
-IsWatchdog-prop value = hlevel props

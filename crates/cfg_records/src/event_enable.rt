@@ -1,6 +1,7 @@
 //! Which events of a sensor are enabled: in a board file, and as it is set.
 ghost use Rattle.std.specs.Prelude.{◌≡◌, ◌<◌, ◌≤◌, ◌↔◌, IsTrue};
-ghost use Rattle.cfg_records.specs.EventEnable.{IsEventEnable, IsEventEnable-prop, AreWithin, are_within, event_value, flags_byte};
+ghost use Rattle.cfg_records.specs.EventEnable.{IsEventEnable, AreWithin, are_within, event_value, flags_byte};
+ghost use Rattle.cfg_records.specs.PartLaws.{IsEventEnable-prop};
 
 use crate::key::Key;
 use crate::value::Value;

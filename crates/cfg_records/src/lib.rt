@@ -33,7 +33,7 @@ pub use items::Items;
 pub use key::Key;
 pub use kind::{RecordKind, there_and_back};
 pub use live::Live;
-pub use message::{Answered, Asked};
+pub use message::{Answered, Asked, byte_at};
 pub use op::Op;
 pub use plain_store::{PlainStore, StoreFault};
 pub use power_policy::{PowerPolicy, SetPowerPolicy};

@@ -1,5 +1,6 @@
 //! Requests and replies, without their frames.
 ghost use Rattle.std.specs.Prelude.{◌≡◌, ◌≤◌, ◌↔◌, [], length, IsTrue};
+ghost use Rattle.cfg_records.specs.Requests.{byte_at};
 
 use two_wire::{Below, Bytes, Code, Lun, NetFn};
 
@@ -67,6 +68,16 @@ impl Answered {
         ensures { IsTrue result ↔ (self.now ≡ other.now) }
     {
         self.code == other.code && self.body.is(other.body.as_slice())
+    }
+}
+
+/// The byte at a place of a request's data, 00h where it is missing.
+pub fn byte_at(body: &[u8], place: usize) -> u8
+    ensures { result ≡ byte_at body.now place }
+{
+    match body.get(place) {
+        Some(byte) => *byte,
+        None => 0,
     }
 }
 

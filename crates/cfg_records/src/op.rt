@@ -5,8 +5,9 @@ use crate::power_policy::SetPowerPolicy;
 use crate::sensor_thresholds::SetThresholds;
 use crate::watchdog::SetWatchdog;
 
-/// A change of one record, as a request asks for it: any bytes that the request may carry.
-#[derive(Clone, Copy, Debug, PartialEq, Eq)]
+/// A change of one record, as a request asks for it: any bytes that the request may carry. It stays where it is made, and is looked
+/// at there.
+#[derive(Debug, Drop)]
 pub enum Op {
     Thresholds(SetThresholds),
     Hysteresis(SetHysteresis),

@@ -1,6 +1,7 @@
 //! The power restore policy: in a board file, and as it is set.
 ghost use Rattle.std.specs.Prelude.{[], ◌∷◌};
-ghost use Rattle.cfg_records.specs.PowerPolicy.{IsPowerPolicy, IsPowerPolicy-prop};
+ghost use Rattle.cfg_records.specs.PowerPolicy.{IsPowerPolicy};
+ghost use Rattle.cfg_records.specs.PartLaws.{IsPowerPolicy-prop};
 
 use crate::key::Key;
 use crate::value::Value;

@@ -1,6 +1,7 @@
 //! The thresholds of a sensor: in a board file, and as they are set.
 ghost use Rattle.std.specs.Prelude.{◌≡◌, length};
-ghost use Rattle.cfg_records.specs.Thresholds.{IsThresholds, IsThresholds-prop};
+ghost use Rattle.cfg_records.specs.Thresholds.{IsThresholds};
+ghost use Rattle.cfg_records.specs.PartLaws.{IsThresholds-prop};
 
 use crate::key::Key;
 use crate::thresholds::ThresholdMasks;

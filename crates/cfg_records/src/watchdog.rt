@@ -1,5 +1,6 @@
 //! The watchdog timer: in a board file, and as it is set.
-ghost use Rattle.cfg_records.specs.Watchdog.{watchdog_value, IsWatchdog, IsWatchdog-prop};
+ghost use Rattle.cfg_records.specs.Watchdog.{watchdog_value, IsWatchdog};
+ghost use Rattle.cfg_records.specs.PartLaws.{IsWatchdog-prop};
 
 use crate::key::Key;
 use crate::value::Value;

@@ -6,3 +6,4 @@ pub mod LongExample
 pub mod Stepping
 pub mod PortPart
 pub mod PortEvents
+pub mod ManagerEvents

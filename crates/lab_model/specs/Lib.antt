@@ -11,3 +11,4 @@ pub mod Cuts
 pub mod LongExample
 pub mod Stepwise
 pub mod PortEvents
+pub mod ManagerEvents

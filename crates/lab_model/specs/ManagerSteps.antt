@@ -12,7 +12,7 @@ use Rattle.cfg_records.specs.declared.message.Asked.{Asked}
 use Rattle.cfg_records.specs.declared.message.Asked.TheVariants.{Ipmi, Pldm}
 use Rattle.bus_model.specs.Bytes.{answers}
 use Rattle.undo_model.specs.Words.{Words}
-use Rattle.undo_model.specs.Machine.{count_of, Task, asked_of, bus_at, Stage, Opened, Machine, Sending, Turn, start_of, quiet_of, stop_of, again_of, undo_of, reply_of, same_bus}
+use Rattle.undo_model.specs.Machine.{count_of, Part as TaskPart, bus_at, Stage, Opened, Machine, Sending, Turn, start_of, quiet_of, stop_of, again_of, undo_of, reply_of, same_bus}
 use Rattle.undo_model.specs.Wires.{number_of}
 use Rattle.undo_model.specs.TwoBuses.{Addresses}
 use Rattle.undo_family.specs.Family.{bus_of, manager_words}
@@ -140,29 +140,29 @@ module _ (P : Plans) where
 
   -- ---- frames
 
-  -- the open task, where it is heeded and on this bus
-  abbrev pub heeded_on : Bus → Stage P.words → Option (Task P.words)
-  heeded_on on (Opened true task) = if same_bus on (bus_at P.words task) then Some task else None
+  -- the open request, where it is heeded and on this bus
+  abbrev pub heeded_on : Bus → Stage P.words → Option (TaskPart P.words)
+  heeded_on on (Opened true task part) = if same_bus on (bus_at P.words part) then Some part else None
   heeded_on on _ = None
 
   -- the number of requests that were answered on a bus, which is the open one's count
   abbrev pub open_count : Bus → ManagerState → ℕ
   open_count on m = count_of on m.machine.counts
 
-  -- the bytes of the open task's request
-  abbrev pub open_bytes : Bus → ManagerState → Task P.words → List ℕ
-  open_bytes on m task = bytes_of (number_of on (open_count on m)) (P.asked (asked_of P.words task))
+  -- the bytes of the open request
+  abbrev pub open_bytes : Bus → ManagerState → TaskPart P.words → List ℕ
+  open_bytes on m part = bytes_of (number_of on (open_count on m)) (P.asked part.asked)
 
   -- a reply is taken by the machine, or ignored
   abbrev pub taken_or : ManagerState → Option (Turn P.words) → ManagerDeed
   taken_or m None = rests m
   taken_or m (Some t) = goes_on m t
 
-  -- the bytes of a reply come while the task is open, if one is: they are taken where they pass the test
-  abbrev pub tested : Bus → List ℕ → ManagerState → Option (Task P.words) → ManagerDeed
+  -- the bytes of a reply come while the request is open, if one is: they are taken where they pass the test
+  abbrev pub tested : Bus → List ℕ → ManagerState → Option (TaskPart P.words) → ManagerDeed
   tested on reply m None = rests m
-  tested on reply m (Some task) =
-      if answers (numbers_of on) (open_bytes on m task) reply
+  tested on reply m (Some part) =
+      if answers (numbers_of on) (open_bytes on m part) reply
       then taken_or m (reply_of P.words (answered_from on reply) m.machine)
       else rests m
 
@@ -183,10 +183,10 @@ module _ (P : Plans) where
   abbrev pub joins : Packet → ManagerState → ManagerDeed
   joins p m = ends_reply p (drop_cause m.names.own_eid m.joined p) (record m { joined = kept_after m.names.own_eid m.joined p })
 
-  -- a packet comes while the task is open, if one is
-  abbrev pub joins_for : Packet → ManagerState → Option (Task P.words) → ManagerDeed
+  -- a packet comes while the request is open, if one is
+  abbrev pub joins_for : Packet → ManagerState → Option (TaskPart P.words) → ManagerDeed
   joins_for p m None = rests m
-  joins_for p m (Some task) = if is_part m.names (open_count Smbus m) p then joins p m else rests m
+  joins_for p m (Some part) = if is_part m.names (open_count Smbus m) p then joins p m else rests m
 
   -- a packet comes
   unfoldable pub hears_packet : Packet → ManagerState → ManagerDeed

@@ -13,6 +13,7 @@ ghost use Rattle.lab_model.specs.Honest.{FaultsAreBreaches};
 ghost use Rattle.lab_model.specs.Stepwise.{TurnsBy, RunsBy};
 ghost use Rattle.lab_model.specs.Cuts.{PartsAreCuts, PartsAreHeard};
 ghost use Rattle.lab_model.specs.PortEvents.{RequestsLeaveLog, PartsLeaveLog};
+ghost use Rattle.lab_model.specs.ManagerEvents.{RepliesAreBrought};
 
 /// A request's bytes are read as that request, and a reply's as its answer.
 pub fn bytes_are_read_back()
@@ -57,4 +58,9 @@ pub fn steps_are_these()
 pub fn packets_leave_log()
     ensures requests { RequestsLeaveLog }
     ensures packets { PartsLeaveLog }
+{}
+
+/// The manager takes of a live reply, whole or in packets, what the model's event brings it, and nothing while it heeds no request.
+pub fn replies_are_brought()
+    ensures { (names : Names) → RepliesAreBrought (board_plans names) }
 {}

@@ -4,3 +4,4 @@ pub mod LimitsKind
 pub mod Boards
 pub mod Places
 pub mod Sound
+pub mod SoundLaws

@@ -1,4 +1,7 @@
-//! The limits of a record, of whichever kind.
+//! The limits of a record, of whichever kind: a line for each.
+ghost use Rattle.std.specs.Prelude.{◌≡◌};
+
+use crate::setup::Setup;
 use cfg_records::{Asked, Key, Live, Op, RecordData, RecordKind, Value};
 use sensor_recs::{EventEnableLimits, HysteresisLimits, ThresholdLimits};
 use two_wire::{Buffer, Code};
@@ -80,6 +83,23 @@ macro_rules! by_key {
             $($key => $limits::$function($own),)*
         }
     };
+}
+
+impl Setup {
+    ghost use Rattle.record_kinds.specs.Boards.{limits_at};
+
+    /// The limits of the key's record.
+    pub fn limits(&self, key: &Key) -> Option<Limits>
+        ensures { result ≡ limits_at self.now key.now }
+    {
+        Some(match key {
+            Key::Thresholds(n) => Limits::Thresholds(ThresholdLimits::of(self.sensor(*n)?)),
+            Key::Hysteresis(n) => Limits::Hysteresis(HysteresisLimits::of(self.sensor(*n)?)),
+            Key::EventEnable(n) => Limits::EventEnable(EventEnableLimits::of(self.sensor(*n)?)),
+            Key::PowerPolicy => Limits::PowerPolicy(PowerPolicyLimits),
+            Key::Watchdog => Limits::Watchdog(WatchdogLimits),
+        })
+    }
 }
 
 impl<'a> RecordKind<'a> for Limits {

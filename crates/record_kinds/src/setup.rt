@@ -4,11 +4,8 @@ ghost use Rattle.std.specs.Option.{option_copied};
 ghost use Rattle.cfg_records.specs.Distinct.{NamesDiffer};
 ghost use Rattle.record_kinds.specs.Places.{ArePlaces};
 
-use crate::limits::Limits;
-use cfg_records::{BoardFile, Device, Key, Sensor};
-use sensor_recs::{EventEnableLimits, HysteresisLimits, ThresholdLimits};
+use cfg_records::{BoardFile, Device, Sensor};
 use std::marker::Model;
-use watch_boot::{PowerPolicyLimits, WatchdogLimits};
 
 /// The place of a sensor that isn't there.
 const NOWHERE: u8 = 255;
@@ -46,7 +43,7 @@ fn places_of(sensors: &[Sensor]) -> [u8; 256]
 }
 
 impl Setup {
-    ghost use Rattle.record_kinds.specs.Boards.{sensor_at, limits_at};
+    ghost use Rattle.record_kinds.specs.Boards.{sensor_at};
 
     /// The set-up of this board file.
     pub fn new(file: BoardFile) -> Setup
@@ -76,18 +73,5 @@ impl Setup {
     {
         let place = self.places[number as usize];
         self.file.sensors.items.as_slice().get(place as usize)
-    }
-
-    /// The limits of the key's record.
-    pub fn limits(&self, key: &Key) -> Option<Limits>
-        ensures { result ≡ limits_at self.now key.now }
-    {
-        Some(match key {
-            Key::Thresholds(n) => Limits::Thresholds(ThresholdLimits::of(self.sensor(*n)?)),
-            Key::Hysteresis(n) => Limits::Hysteresis(HysteresisLimits::of(self.sensor(*n)?)),
-            Key::EventEnable(n) => Limits::EventEnable(EventEnableLimits::of(self.sensor(*n)?)),
-            Key::PowerPolicy => Limits::PowerPolicy(PowerPolicyLimits),
-            Key::Watchdog => Limits::Watchdog(WatchdogLimits),
-        })
     }
 }

@@ -1,5 +1,5 @@
 -- Which events of a sensor are enabled, as a kind of record (IPMI 2.0).
-use Rattle.std.specs.Prelude.{◌≡◌, ℕ, ◌+◌, ◌/◌, ◌%◌, ◌<◌, List, [], ◌∷◌, length, slice_index, bit_and, bit_or, bit_xor, ◌||◌, ◌&&◌, ◌==◌, not, Bool, true, false, if◌then◌else◌, Result, Ok, Err, Option, Some, None, refl}
+use Rattle.std.specs.Prelude.{◌≡◌, ℕ, ◌+◌, ◌/◌, ◌%◌, ◌<◌, List, [], ◌∷◌, length, slice_index, bit_and, bit_or, bit_xor, ◌||◌, ◌&&◌, ◌==◌, not, Bool, true, false, if◌then◌else◌, Result, Ok, Err, Option, Some, None, refl, ◌*◌}
 use Rattle.two_wire.specs.Codes.{invalid_data_field}
 use Rattle.cfg_records.specs.declared.key.Key.{Key}
 use Rattle.cfg_records.specs.declared.key.Key.TheVariants as key
@@ -12,6 +12,7 @@ use Rattle.cfg_records.specs.declared.event_enable.SetEventEnable.{SetEventEnabl
 use Rattle.cfg_records.specs.Kind.{KindWords, RecordWords}
 use Rattle.cfg_records.specs.AllKinds.{Place}
 use Rattle.cfg_records.specs.Masks.{has}
+use Rattle.cfg_records.specs.Requests.{byte_at}
 use Rattle.cfg_records.specs.EventEnable.{AreWithin, are_within, flags_byte, makes_messages, is_scanning, event_value, enabled_in, IsEventValue, IsEventEnable}
 use Rattle.sensor_recs.specs.Requests.{sensor_request}
 
@@ -109,6 +110,27 @@ masks_of _ = []
 -- the data of the request that carries out the operation
 abbrev pub event_enable_body : SetEventEnable → List ℕ
 event_enable_body op = op.sensor ∷ (flags_byte op.messages op.scanning + selection op.change) ∷ masks_of op.change
+
+-- two masks in such data, each the low byte first
+abbrev pub event_masks_in : List ℕ → EventMasks
+event_masks_in body = record { assertions = byte_at body 2 + 256 * byte_at body 3; deassertions = byte_at body 4 + 256 * byte_at body 5 }
+
+-- what a selection does to the enabled events
+abbrev pub selected : ℕ → EventMasks → EventChange
+selected selection masks = if selection == 0 then Leave else (if selection == 1 then Enable masks else (if selection == 2 then Disable masks else Reserved))
+
+-- what bits 5:4 of the second byte select
+abbrev pub event_change_in : List ℕ → EventChange
+event_change_in body = selected (byte_at body 1 / 16 % 4) (event_masks_in body)
+
+-- the operation that such data say
+abbrev pub event_enable_in : List ℕ → SetEventEnable
+event_enable_in body = record {
+  sensor = byte_at body 0;
+  messages = makes_messages (byte_at body 1);
+  scanning = is_scanning (byte_at body 1);
+  change = event_change_in body;
+}
 
 -- ---- what undoes it
 

@@ -2,7 +2,7 @@
 ghost use Rattle.std.specs.Prelude.{◌≡◌, ◌≤◌, ◌/◌, ◌%◌, ◌&&◌, [], ◌∷◌, OnErr, length};
 ghost use Rattle.cfg_records.specs.Meaning.{told};
 ghost use Rattle.cfg_records.specs.EventEnable.{are_within, enabled_in};
-ghost use Rattle.sensor_recs.specs.EventEnable.{difference, both_masks, events_after, is_accepted, events_outcome, selection, mask_bytes, event_enable_body, undo_change};
+ghost use Rattle.sensor_recs.specs.EventEnable.{difference, both_masks, events_after, is_accepted, events_outcome, selection, mask_bytes, event_enable_body, event_masks_in, event_change_in, event_enable_in, undo_change};
 
 use crate::request::sensor_request;
 use cfg_records::event_enable::{
@@ -11,7 +11,7 @@ use cfg_records::event_enable::{
 use cfg_records::mask::has;
 use cfg_records::{
     Asked, EventChange, EventMasks, Key, Live, RecordData, RecordKind, Sensor, SetEventEnable,
-    Value,
+    Value, byte_at,
 };
 use two_wire::code::INVALID_DATA_FIELD;
 use two_wire::{Buffer, Code};
@@ -127,6 +127,41 @@ fn body(op: &SetEventEnable) -> RecordData
         EventChange::Leave | EventChange::Reserved => {}
     }
     body
+}
+
+/// The assertion and the deassertion mask of a request's data.
+fn event_masks_in(body: &[u8]) -> EventMasks
+    ensures { result ≡ event_masks_in body.now }
+{
+    EventMasks {
+        assertions: u16::from_le_bytes([byte_at(body, 2), byte_at(body, 3)]),
+        deassertions: u16::from_le_bytes([byte_at(body, 4), byte_at(body, 5)]),
+    }
+}
+
+/// What the selection in bits 5:4 of the second byte does to the enabled events.
+fn event_change_in(body: &[u8]) -> EventChange
+    ensures { result ≡ event_change_in body.now }
+{
+    match byte_at(body, 1) / 16 % 4 {
+        0 => EventChange::Leave,
+        1 => EventChange::Enable(event_masks_in(body)),
+        2 => EventChange::Disable(event_masks_in(body)),
+        _ => EventChange::Reserved,
+    }
+}
+
+/// The operation that the data of its request says. Masks that are missing are empty.
+pub fn event_enable_in(body: &[u8]) -> SetEventEnable
+    ensures { result ≡ event_enable_in body.now }
+{
+    let flags = byte_at(body, 1);
+    SetEventEnable {
+        sensor: byte_at(body, 0),
+        messages: has(flags, MESSAGES_PLACE),
+        scanning: has(flags, SCANNING_PLACE),
+        change: event_change_in(body),
+    }
 }
 
 impl EventEnableLimits {

@@ -1,9 +1,11 @@
 //! The hysteresis of a sensor, as a kind of record.
 ghost use Rattle.std.specs.Prelude.{◌≡◌};
-ghost use Rattle.sensor_recs.specs.Hysteresis.{both_bytes, hysteresis_body};
+ghost use Rattle.sensor_recs.specs.Hysteresis.{both_bytes, hysteresis_body, hysteresis_in};
 
 use crate::request::sensor_request;
-use cfg_records::{Asked, Key, Live, RecordData, RecordKind, Sensor, SetHysteresis, Value};
+use cfg_records::{
+    Asked, Key, Live, RecordData, RecordKind, Sensor, SetHysteresis, Value, byte_at,
+};
 use two_wire::{Buffer, Code};
 
 /// The number of the command that sets it.
@@ -40,6 +42,17 @@ fn body(op: &SetHysteresis) -> RecordData
     ensures { result ≡ hysteresis_body op.now }
 {
     RecordData::from_slice(&[op.sensor, HYSTERESIS_MASK, op.positive, op.negative])
+}
+
+/// The operation that the data of its request says.
+pub fn hysteresis_in(body: &[u8]) -> SetHysteresis
+    ensures { result ≡ hysteresis_in body.now }
+{
+    SetHysteresis {
+        sensor: byte_at(body, 0),
+        positive: byte_at(body, 2),
+        negative: byte_at(body, 3),
+    }
 }
 
 impl<'a> RecordKind<'a> for HysteresisLimits {

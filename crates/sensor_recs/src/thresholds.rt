@@ -1,11 +1,11 @@
 //! The thresholds of a sensor, as a kind of record.
 ghost use Rattle.std.specs.Prelude.{◌≡◌, length};
-ghost use Rattle.sensor_recs.specs.Thresholds.{choose, thresholds_body, shows_all};
+ghost use Rattle.sensor_recs.specs.Thresholds.{choose, thresholds_body, thresholds_in, shows_all};
 
 use crate::request::sensor_request;
 use cfg_records::mask::{has, is_within};
 use cfg_records::{
-    Asked, Key, Live, RecordData, RecordKind, Sensor, SetThresholds, ThresholdMasks, Value,
+    Asked, Key, Live, RecordData, RecordKind, Sensor, SetThresholds, ThresholdMasks, Value, byte_at,
 };
 use two_wire::code::INVALID_DATA_FIELD;
 use two_wire::{Buffer, Code};
@@ -50,6 +50,24 @@ fn body(op: &SetThresholds) -> RecordData
     let mut body = RecordData::from_slice(&[op.sensor, op.mask]);
     body.extend_from_slice(&op.values);
     body
+}
+
+/// The operation that the data of its request says.
+pub fn thresholds_in(body: &[u8]) -> SetThresholds
+    ensures { result ≡ thresholds_in body.now }
+{
+    SetThresholds {
+        sensor: byte_at(body, 0),
+        mask: byte_at(body, 1),
+        values: [
+            byte_at(body, 2),
+            byte_at(body, 3),
+            byte_at(body, 4),
+            byte_at(body, 5),
+            byte_at(body, 6),
+            byte_at(body, 7),
+        ],
+    }
 }
 
 /// Whether it is a Get reply that shows each threshold of the mask.

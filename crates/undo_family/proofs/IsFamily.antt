@@ -20,8 +20,8 @@ use Rattle.record_kinds.specs.declared.limits.Limits.{Limits}
 use Rattle.record_kinds.specs.Limits.{key_of, get_asked, set_asked, restorable, inverse, is_reply, is_of, sets, conf}
 use Rattle.record_kinds.specs.LimitsLaws as laws
 use Rattle.record_kinds.specs.Boards.{limits_at}
-use Rattle.bmc_board.specs.declared.request.Request.{Request}
-use Rattle.bmc_board.specs.declared.request.Request.TheVariants.{Get, Set}
+use Rattle.bmc_board.specs.Request.{Request}
+use Rattle.bmc_board.specs.Request.{Get, Set}
 use Rattle.bmc_board.specs.Request.{asked_by}
 use Rattle.bmc_board.specs.State.{State, IsUnchanged}
 use Rattle.bmc_board.specs.Replies.{refused, unknown_code}
@@ -175,6 +175,7 @@ free setup before asked a after row =
 
 pub is_family : (setup : BoardFile) (at : Bus → Addresses) → IsFamily (family setup at)
 is_family setup at = record {
+  single = record { none_next = λ series body. refl; shows_it = λ series body. refl };
   put_back = λ records key old new had. with_record_back records key new old had;
   get_put = λ records key old new had. with_record_same records key new;
   put_valid = λ records key new all is. λ k v found. valid_where setup records key new all is k (same_key key k) refl v found;

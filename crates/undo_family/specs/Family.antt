@@ -1,5 +1,5 @@
 -- The records of a board and its commands, as a family of kinds of record.
-use Rattle.std.specs.Prelude.{◌≡◌, ℕ, List, [], Option, Some, None}
+use Rattle.std.specs.Prelude.{◌≡◌, ℕ, List, [], Option, Some, None, slice_get, unwrap_or}
 use Rattle.two_wire.specs.declared.Bus.{Bus}
 use Rattle.two_wire.specs.declared.Bus.TheVariants.{Ipmb, Smbus}
 use Rattle.cfg_records.specs.declared.key.Key.{Key}
@@ -58,7 +58,8 @@ board_answer a = record { code = a.code; body = a.body }
 abbrev pub family_answer : BoardAnswer → Answered
 family_answer a = record { code = a.code; body = a.body }
 
--- the words of a manager with these addresses; it knows no board's file
+-- The words of a manager with these addresses; it knows no board's file. A Get and a Set are one request each, which shows what its
+-- reply shows.
 abbrev pub manager_words : (Bus → Addresses) → Words
 manager_words at = record {
   Key = Key;
@@ -66,8 +67,12 @@ manager_words at = record {
   key_of = key_of;
   Asked = Asked;
   bus_of = bus_of;
-  get_asked = λ key. from_manager at (get_asked key);
-  set_asked = λ op. from_manager at (set_asked op);
+  Series = Asked;
+  getting = λ key. from_manager at (get_asked key);
+  setting = λ op. from_manager at (set_asked op);
+  first = λ asked. asked;
+  next = λ asked bodies. None;
+  joined = λ asked bodies. unwrap_or (slice_get bodies 0) [];
   inverse = inverse;
 }
 

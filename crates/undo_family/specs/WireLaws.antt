@@ -1,5 +1,6 @@
 -- The manager's requests are read back from their bytes, and answers from those of a reply.
 use Rattle.std.proofs.Common.{◌≡◌, ℕ, ◌+◌, ◌*◌, ◌/◌, ◌%◌, List, refl, sym, subst, arith, inl, inr}
+use Rattle.std.proofs.lemmas.Option.{none-some}
 use Rattle.two_wire.specs.declared.Bus.{Bus}
 use Rattle.two_wire.specs.declared.Bus.TheVariants.{Ipmb, Smbus}
 use Rattle.cfg_records.specs.declared.message.Asked.{Asked}
@@ -9,7 +10,7 @@ use Rattle.bmc_board.specs.Decode.{IsFromNobody}
 use Rattle.bmc_board.proofs.Decoded.{gets_are_read, sets_are_read}
 use Rattle.undo_model.specs.Words.{Answered}
 use Rattle.undo_model.specs.TwoBuses.{Addresses}
-use Rattle.undo_model.specs.Wires.{IsMade, Wires}
+use Rattle.undo_model.specs.Wires.{IsSeries, IsOf, IsMade, Wires}
 use Rattle.undo_family.specs.Family.{bus_of, from_manager, manager_words}
 use Rattle.undo_family.specs.Wires.{bytes_of, asked_from, reply_to, answered_from}
 
@@ -22,10 +23,18 @@ of_nobody : (at : Bus → Addresses) (asked : Asked) → IsFromNobody asked → 
 of_nobody at (Ipmi from net_fn lun command body) is = (refl, is.1)
 of_nobody at (Pldm from kind command body) is = refl
 
--- so is each that it makes
+-- so is each Get and Set that it makes
+made_so : (at : Bus → Addresses) (series : Asked) → IsSeries (manager_words at) series → IsManagers at series
+made_so at series (inl is) = subst (IsManagers at) (sym is.1) (of_nobody at (get_asked is.0) (gets_are_read is.0).from_nobody)
+made_so at series (inr is) = subst (IsManagers at) (sym is.1) (of_nobody at (set_asked is.0) (sets_are_read is.0).from_nobody)
+
+one_of : (at : Bus → Addresses) (series asked : Asked) → IsManagers at series → IsOf (manager_words at) series asked → IsManagers at asked
+one_of at series asked is (inl same) = subst (IsManagers at) (sym same) is
+one_of at series asked is (inr another) = absurd (none-some asked another.1)
+
+-- and so is each request
 pub managers : (at : Bus → Addresses) (asked : Asked) → IsMade (manager_words at) asked → IsManagers at asked
-managers at asked (inl is) = subst (IsManagers at) (sym is.1) (of_nobody at (get_asked is.0) (gets_are_read is.0).from_nobody)
-managers at asked (inr is) = subst (IsManagers at) (sym is.1) (of_nobody at (set_asked is.0) (sets_are_read is.0).from_nobody)
+managers at asked made = one_of at made.0 asked (made_so at made.0 made.1) made.2
 
 pub upper : (n lun : ℕ) → lun ≡ 0 → (4 * n + lun) / 4 ≡ n
 upper n lun zero = omega (arith, zero)

@@ -6,16 +6,17 @@ use Rattle.std.proofs.lemmas.Option.{none-some, slice_get_within}
 use Rattle.two_wire.specs.Codes.{success}
 use Rattle.two_wire.specs.declared.Bus.{Bus}
 use Rattle.two_wire.specs.declared.Bus.TheVariants.{Ipmb, Smbus}
-use Rattle.undo_model.specs.Words.{Answered}
+use Rattle.undo_model.specs.Words.{Answered, get_asked}
 use Rattle.undo_model.specs.Family.{Family, AllValid}
 use Rattle.undo_model.specs.Laws.{Showed, IsFamily}
 use Rattle.undo_model.specs.Phase.{Why, Refused, NotRestorable, GetRefused, Phase, Done, Halted, Undone}
 use Rattle.undo_model.specs.Plan.{IsAfter}
-use Rattle.undo_model.specs.Machine.{Counts, one_answered, Task, Gets, Sets, Undoes, Stage, AtStart, Opened, AtEnd, AtHalt, AtUndone, AtRefused, Machine, Turn, asked_of, bus_at, enters, first_stage, undo_stage, next_stage, set_stage, stage_after, undo_after, takes, phase_at, undoes, undo_of, opened}
+use Rattle.undo_model.specs.Machine.{Counts, one_answered, Task, Gets, Sets, Undoes, Stage, AtStart, Opened, AtEnd, AtHalt, AtUndone, AtRefused, Machine, Turn, first_part, begun, bus_at, enters, first_stage, undo_stage, next_stage, set_stage, takes, phase_at, undoes, undo_of, opened}
 use Rattle.undo_model.specs.Clean.{Moment, answered_in_all, AnswersByRow, one, clean, got, did, told, Goes, GoAll, Sticks, EndsIn, IsAtRest, AlwaysRunsClean}
 use Rattle.undo_model.proofs.Undoable.{past_none, CanUndo, after_of, length_of}
 use Rattle.undo_model.proofs.StageSound.{StageSound}
-use Rattle.undo_model.proofs.Calls.{carried_sound, carried_valid, taken_good, first_good, undo_good}
+use Rattle.undo_model.proofs.Calls.{carried_sound, carried_valid, one_good, first_good, undo_good}
+use Rattle.undo_model.proofs.Single.{stage_after_one, undo_after_one, one_stage, one_undo}
 
 one_more_answered : (bus : Bus) (c : Counts) → answered_in_all (one_answered bus c) ≡ answered_in_all c + 1
 one_more_answered Ipmb c = omega arith
@@ -32,27 +33,31 @@ module _ (F : Family) (laws : IsFamily F) (answer : F.Board → F.words.Asked �
 
   -- the machine after the reply to a task
   abbrev replied : Task F.words → Machine F.words → Answered → Machine F.words
-  replied task m a = record m { stage = Opened true task; resent = 0; undo = undo_after F.words a task m.undo; counts = one_answered (bus_at F.words task) m.counts }
+  replied task m a = record m { stage = begun F.words task; resent = 0; undo = undo_after_one F.words a task m.undo; counts = one_answered (bus_at F.words (first_part F.words task)) m.counts }
 
-  one_task : (task : Task F.words) (m : Machine F.words) (b : F.Board) → let r = answer b (asked_of F.words task) in
-      one F answer (at_stage (Opened true task) m b) ≡ at_stage (stage_after F.words m.stopped m.plan r.0 task) (replied task m r.0) r.1
+  one_task : (task : Task F.words) (m : Machine F.words) (b : F.Board) → let r = answer b (first_part F.words task).asked in
+      one F answer (at_stage (begun F.words task) m b) ≡ at_stage (stage_after_one F.words m.stopped m.plan r.0 task) (replied task m r.0) r.1
   one_task task m b =
-      let r = answer b (asked_of F.words task) in
-      let before : Machine F.words = record m { stage = Opened true task; resent = 0 } in
-      ap (λ (busy : Bool). told F answer (if busy then None else Some (takes F.words r.0 task before)) r.1 (at_stage (Opened true task) m b)) (laws.never_busy b r.1 (asked_of F.words task) r.0 (by_row b (asked_of F.words task)))
+      let part = first_part F.words task in
+      let r = answer b part.asked in
+      let before : Machine F.words = record m { stage = begun F.words task; resent = 0 } in
+      let stage = one_stage F.words laws.single m.stopped m.plan r.0 task in
+      let undo = one_undo F.words laws.single r.0 task m.undo in
+      ap (λ (busy : Bool). told F answer (if busy then None else Some (takes F.words r.0 task part before)) r.1 (at_stage (begun F.words task) m b)) (laws.never_busy b r.1 part.asked r.0 (by_row b part.asked))
+      ∙ (λ i. at_stage (stage i) (record before { undo = undo i; counts = one_answered (bus_at F.words part) m.counts }) r.1)
 
-  one_good : (task : Task F.words) (m : Machine F.words) (b : F.Board) → Good (Opened true task) m b → let r = answer b (asked_of F.words task) in
-      Good (stage_after F.words m.stopped m.plan r.0 task) (replied task m r.0) r.1
-  one_good task m b h =
-      let r = answer b (asked_of F.words task) in
-      let row = by_row b (asked_of F.words task) in
+  task_good : (task : Task F.words) (m : Machine F.words) (b : F.Board) → Good (begun F.words task) m b → let r = answer b (first_part F.words task).asked in
+      Good (stage_after_one F.words m.stopped m.plan r.0 task) (replied task m r.0) r.1
+  task_good task m b h =
+      let r = answer b (first_part F.words task).asked in
+      let row = by_row b (first_part F.words task).asked in
       let valid = carried_valid F laws plan start m.plan b r.1 r.0 task m.undo h.sound.0 h.valid row in
-      record { sound = taken_good F laws plan start m.plan r.0 task m.stopped m.undo (F.records r.1) (carried_sound F laws plan start m.plan b r.1 r.0 task m.undo h.sound.0 row) valid; valid = valid }
+      record { sound = one_good F laws plan start m.plan r.0 task m.stopped m.undo (F.records r.1) (carried_sound F laws plan start m.plan b r.1 r.0 task m.undo h.sound.0 row) valid; valid = valid }
 
   -- ---- what a Get shows
 
   shows : (op : F.words.Op) (b : F.Board) → (got F answer b op).0.code ≡ success → Showed F (F.words.key_of op) (got F answer b op).0.body (F.records b)
-  shows op b read = let r = got F answer b op in laws.gets_show b r.1 (F.words.key_of op) r.0 (by_row b (F.words.get_asked (F.words.key_of op))) read
+  shows op b read = let r = got F answer b op in laws.gets_show b r.1 (F.words.key_of op) r.0 (by_row b (get_asked F.words (F.words.key_of op))) read
 
   restorable : (op back : F.words.Op) (b : F.Board) → AllValid F (F.records b) → (got F answer b op).0.code ≡ success → F.words.inverse op (got F answer b op).0.body ≡ Some back → F.Restorable op (got F answer b op).0.body
   restorable op back b valid read is =
@@ -66,30 +71,30 @@ module _ (F : Family) (laws : IsFamily F) (answer : F.Board → F.words.Asked �
 
   -- ---- the undo
 
-  record Reverts (us : List F.words.Asked) (m : Machine F.words) (b : F.Board) : Type 0 where
+  record Reverts (us : List F.words.Series) (m : Machine F.words) (b : F.Board) : Type 0 where
     last : Machine F.words
     board : F.Board
     ends : clean F answer (length us) (at_stage (undo_stage F.words us) m b) ≡ at_stage AtUndone last board
     good : Good AtUndone last board
     count : answered_in_all last.counts ≡ answered_in_all m.counts + length us
 
-  reverts : (us : List F.words.Asked) (m : Machine F.words) (b : F.Board) → Good (undo_stage F.words us) m b → Reverts us m b
+  reverts : (us : List F.words.Series) (m : Machine F.words) (b : F.Board) → Good (undo_stage F.words us) m b → Reverts us m b
   reverts [] m b h = record { last = m; board = b; ends = refl; good = h; count = omega arith }
   reverts (u ∷ us) m b h =
       let task : Task F.words = Undoes u us in
-      let r = answer b u in
+      let r = answer b (F.words.first u) in
       let next = replied task m r.0 in
-      let good = one_good task m b h in
+      let good = task_good task m b h in
       let step = one_task task m b in
       elim (cases_eq r.0.code success) [
         | inl e ↦
             let is : eqb r.0.code success ≡ true = eq-eqb r.0.code success e in
             let on : Good (undo_stage F.words us) next r.1 = subst (λ (c : Bool). Good (if c then undo_stage F.words us else AtRefused (length us) r.0.code) next r.1) is good in
             let rest = reverts us next r.1 on in
-            let there : one F answer (at_stage (Opened true task) m b) ≡ at_stage (undo_stage F.words us) next r.1 =
+            let there : one F answer (at_stage (begun F.words task) m b) ≡ at_stage (undo_stage F.words us) next r.1 =
             step ∙ ap (λ (c : Bool). at_stage (if c then undo_stage F.words us else AtRefused (length us) r.0.code) next r.1) is in
             let more = rest.count in
-            let here = one_more_answered (bus_at F.words task) m.counts in
+            let here = one_more_answered (bus_at F.words (first_part F.words task)) m.counts in
             record { last = rest.last; board = rest.board; ends = ap (clean F answer (length us)) there ∙ rest.ends; good = rest.good; count = omega arith }
         | inr ne ↦
             let on : Good (AtRefused (length us) r.0.code) next r.1 = subst (λ (c : Bool). Good (if c then undo_stage F.words us else AtRefused (length us) r.0.code) next r.1) (ne_eqb r.0.code success ne) good in
@@ -192,7 +197,7 @@ module _ (F : Family) (laws : IsFamily F) (answer : F.Board → F.words.Asked �
   after_set : (op back : F.words.Op) (ops : List F.words.Op) (k : ℕ) (m : Machine F.words) (b : F.Board) → Goes_on ops (suc k) → Before (op ∷ ops) k m → (got F answer b op).0.code ≡ success → F.Restorable op (got F answer b op).0.body
       → let r = got F answer b op in
       let m1 = replied (Gets k op) m r.0 in
-      one F answer (at_stage (Opened true (Gets k op)) m b) ≡ at_stage (Opened true (Sets k op back)) m1 r.1 → Good (Opened true (Sets k op back)) m1 r.1 → Runs (op ∷ ops) k m b (Opened true (Gets k op))
+      one F answer (at_stage (begun F.words (Gets k op)) m b) ≡ at_stage (begun F.words (Sets k op back)) m1 r.1 → Good (begun F.words (Sets k op back)) m1 r.1 → Runs (op ∷ ops) k m b (begun F.words (Gets k op))
   after_set op back ops k m b on before read can first good1 =
       let r = got F answer b op in
       let m1 = replied (Gets k op) m r.0 in
@@ -201,10 +206,10 @@ module _ (F : Family) (laws : IsFamily F) (answer : F.Board → F.words.Asked �
       let m2 = replied task m1 s.0 in
       let halted : Stage F.words = AtHalt k (Refused s.0.code) in
       let goes_on : Stage F.words = next_stage F.words m.stopped (suc k) (slice_get m.plan (suc k)) in
-      let good2 = one_good task m1 r.1 good1 in
-      let second : one F answer (one F answer (at_stage (Opened true (Gets k op)) m b)) ≡ at_stage (if eqb s.0.code success then goes_on else halted) m2 s.1 = ap (one F answer) first ∙ one_task task m1 r.1 in
-      let c1 = one_more_answered (bus_at F.words (Gets k op)) m.counts in
-      let c2 = one_more_answered (bus_at F.words task) m1.counts in
+      let good2 = task_good task m1 r.1 good1 in
+      let second : one F answer (one F answer (at_stage (begun F.words (Gets k op)) m b)) ≡ at_stage (if eqb s.0.code success then goes_on else halted) m2 s.1 = ap (one F answer) first ∙ one_task task m1 r.1 in
+      let c1 = one_more_answered (bus_at F.words (first_part F.words (Gets k op))) m.counts in
+      let c2 = one_more_answered (bus_at F.words (first_part F.words task)) m1.counts in
       let sum : answered_in_all m2.counts ≡ answered_in_all m.counts + 2 = omega arith in
       elim (cases_eq s.0.code success) [
         | inl e ↦
@@ -222,33 +227,33 @@ module _ (F : Family) (laws : IsFamily F) (answer : F.Board → F.words.Asked �
               within = omega arith;
               here = λ n. let far : suc k + n ≡ k + suc n = omega arith in ap (slice_get m.plan) far ∙ before.here (suc n);
             } in
-            goes_first op ops k m b (Opened true (Gets k op)) (next_stage F.words false (suc k) (slice_get ops 0)) m2 s.1 (record { read = read; can_undo = can; done = e; left = refl })
+            goes_first op ops k m b (begun F.words (Gets k op)) (next_stage F.words false (suc k) (slice_get ops 0)) m2 s.1 (record { read = read; can_undo = can; done = e; left = refl })
             (second ∙ ap (λ (x : Stage F.words). at_stage x m2 s.1) stage_is) sum
             (on m2 s.1 after (subst (λ (x : Stage F.words). Good x m2 s.1) stage_is good2))
         | inr ne ↦
             let not : eqb s.0.code success ≡ false = ne_eqb s.0.code success ne in
             let stage_is : (if eqb s.0.code success then goes_on else halted) ≡ halted = ap (λ (c : Bool). if c then goes_on else halted) not in
             let good = subst (λ (x : Stage F.words). Good x m2 s.1) stage_is good2 in
-            sticks op ops k m b (Opened true (Gets k op)) (Refused s.0.code) 2 m2 s.1 (read, can, refl, ne, refl) (second ∙ ap (λ (x : Stage F.words). at_stage x m2 s.1) stage_is) good.sound.0 good.valid sum
+            sticks op ops k m b (begun F.words (Gets k op)) (Refused s.0.code) 2 m2 s.1 (read, can, refl, ne, refl) (second ∙ ap (λ (x : Stage F.words). at_stage x m2 s.1) stage_is) good.sound.0 good.valid sum
       ]
 
   after_get : (op : F.words.Op) (ops : List F.words.Op) (k : ℕ) (m : Machine F.words) (b : F.Board) (o : Option F.words.Op) → Goes_on ops (suc k) → Before (op ∷ ops) k m → AllValid F (F.records b) → (got F answer b op).0.code ≡ success → F.words.inverse op (got F answer b op).0.body ≡ o
       → let r = got F answer b op in
       let m1 = replied (Gets k op) m r.0 in
-      one F answer (at_stage (Opened true (Gets k op)) m b) ≡ at_stage (set_stage F.words false k op o) m1 r.1 → Good (set_stage F.words false k op o) m1 r.1 → Runs (op ∷ ops) k m b (Opened true (Gets k op))
+      one F answer (at_stage (begun F.words (Gets k op)) m b) ≡ at_stage (set_stage F.words false k op o) m1 r.1 → Good (set_stage F.words false k op o) m1 r.1 → Runs (op ∷ ops) k m b (begun F.words (Gets k op))
   after_get op ops k m b (Some back) on before valid read inverse first good1 = after_set op back ops k m b on before read (restorable op back b valid read inverse) first good1
   after_get op ops k m b None on before valid read inverse first good1 =
       let r = got F answer b op in
-      sticks op ops k m b (Opened true (Gets k op)) NotRestorable 1 (replied (Gets k op) m r.0) r.1 (read, not_restorable op b valid read inverse, refl) first good1.sound.0 good1.valid (one_more_answered (bus_at F.words (Gets k op)) m.counts)
+      sticks op ops k m b (begun F.words (Gets k op)) NotRestorable 1 (replied (Gets k op) m r.0) r.1 (read, not_restorable op b valid read inverse, refl) first good1.sound.0 good1.valid (one_more_answered (bus_at F.words (first_part F.words (Gets k op))) m.counts)
 
-  first_step : (op : F.words.Op) (ops : List F.words.Op) (k : ℕ) (m : Machine F.words) (b : F.Board) → Goes_on ops (suc k) → Before (op ∷ ops) k m → Good (Opened true (Gets k op)) m b → Runs (op ∷ ops) k m b (Opened true (Gets k op))
+  first_step : (op : F.words.Op) (ops : List F.words.Op) (k : ℕ) (m : Machine F.words) (b : F.Board) → Goes_on ops (suc k) → Before (op ∷ ops) k m → Good (begun F.words (Gets k op)) m b → Runs (op ∷ ops) k m b (begun F.words (Gets k op))
   first_step op ops k m b on before good0 =
       let task : Task F.words = Gets k op in
       let r = got F answer b op in
       let m1 = replied task m r.0 in
       let goes_on : Stage F.words = set_stage F.words m.stopped k op (F.words.inverse op r.0.body) in
       let halted : Stage F.words = AtHalt k (GetRefused r.0.code) in
-      let good1 = one_good task m b good0 in
+      let good1 = task_good task m b good0 in
       let first = one_task task m b in
       elim (cases_eq r.0.code success) [
         | inl e ↦
@@ -258,7 +263,7 @@ module _ (F : Family) (laws : IsFamily F) (answer : F.Board → F.words.Asked �
         | inr ne ↦
             let stage_is : (if eqb r.0.code success then goes_on else halted) ≡ halted = ap (λ (c : Bool). if c then goes_on else halted) (ne_eqb r.0.code success ne) in
             let good = subst (λ (x : Stage F.words). Good x m1 r.1) stage_is good1 in
-            sticks op ops k m b (Opened true task) (GetRefused r.0.code) 1 m1 r.1 (refl, ne, refl) (first ∙ ap (λ (x : Stage F.words). at_stage x m1 r.1) stage_is) good.sound.0 good.valid (one_more_answered (bus_at F.words task) m.counts)
+            sticks op ops k m b (begun F.words task) (GetRefused r.0.code) 1 m1 r.1 (refl, ne, refl) (first ∙ ap (λ (x : Stage F.words). at_stage x m1 r.1) stage_is) good.sound.0 good.valid (one_more_answered (bus_at F.words (first_part F.words task)) m.counts)
       ]
 
   runs_from : (ops : List F.words.Op) (k : ℕ) → Goes_on ops k
@@ -295,7 +300,7 @@ module _ (F : Family) (laws : IsFamily F) (answer : F.Board → F.words.Asked �
   at_rest AtEnd m b phase n over is count = record { rests = refl; phase_is = is; count = count }
   at_rest (AtHalt k why) m b phase n over is count = record { rests = refl; phase_is = is; count = count }
   at_rest AtStart m b phase n over is count = absurd over
-  at_rest (Opened heeded task) m b phase n over is count = absurd over
+  at_rest (Opened heeded task part) m b phase n over is count = absurd over
   at_rest AtUndone m b phase n over is count = absurd over
   at_rest (AtRefused k code) m b phase n over is count = absurd over
 
@@ -303,7 +308,7 @@ module _ (F : Family) (laws : IsFamily F) (answer : F.Board → F.words.Asked �
   taken AtEnd m over e = none-some _ (sym e)
   taken (AtHalt k why) m over e = none-some _ (sym e)
   taken AtStart m over e = over
-  taken (Opened heeded task) m over e = over
+  taken (Opened heeded task part) m over e = over
   taken AtUndone m over e = over
   taken (AtRefused k code) m over e = over
 
@@ -329,7 +334,7 @@ module _ (F : Family) (laws : IsFamily F) (answer : F.Board → F.words.Asked �
   undone AtEnd m b k n over can valid count = undo_ends AtEnd m b k n can valid count
   undone (AtHalt j why) m b k n over can valid count = undo_ends (AtHalt j why) m b k n can valid count
   undone AtStart m b k n over can valid count = absurd over
-  undone (Opened heeded task) m b k n over can valid count = absurd over
+  undone (Opened heeded task part) m b k n over can valid count = absurd over
   undone AtUndone m b k n over can valid count = absurd over
   undone (AtRefused j code) m b k n over can valid count = absurd over
 

@@ -21,6 +21,7 @@ module _ (F : Family) (laws : IsFamily F) (given : List (Giving F)) where
 
   giving_is_family : IsFamily (giving F given)
   giving_is_family = record {
+    single = laws.single;
     put_back = laws.put_back;
     get_put = laws.get_put;
     put_valid = laws.put_valid;

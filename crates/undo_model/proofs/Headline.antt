@@ -32,10 +32,10 @@ IsUndone _ = ⊥
 undone_stage : (F : Family) (stage : Stage F.words) → IsUndone (phase_at F.words stage) → stage ≡ AtUndone
 undone_stage F AtUndone h = refl
 undone_stage F AtStart h = absurd h
-undone_stage F (Opened true (Gets k op)) h = absurd h
-undone_stage F (Opened true (Sets k op back)) h = absurd h
-undone_stage F (Opened true (Undoes u us)) h = absurd h
-undone_stage F (Opened false task) h = absurd h
+undone_stage F (Opened true (Gets k op) part) h = absurd h
+undone_stage F (Opened true (Sets k op back) part) h = absurd h
+undone_stage F (Opened true (Undoes u us) part) h = absurd h
+undone_stage F (Opened false task part) h = absurd h
 undone_stage F AtEnd h = absurd h
 undone_stage F (AtHalt k why) h = absurd h
 undone_stage F (AtRefused k code) h = absurd h
@@ -77,7 +77,7 @@ module _ (F : Family) (L : Bus → Line) (W : Wires F.words) where
 
   start_stop : (stage : Stage F.words) (w : World F L) → SameStop w (world.opens F L W (starts F.words stage w.machine) w)
   start_stop AtStart w = refl
-  start_stop (Opened heeded task) w = refl
+  start_stop (Opened heeded task part) w = refl
   start_stop AtEnd w = refl
   start_stop (AtHalt k why) w = refl
   start_stop AtUndone w = refl
@@ -85,7 +85,7 @@ module _ (F : Family) (L : Bus → Line) (W : Wires F.words) where
 
   undo_stop : (stage : Stage F.words) (w : World F L) → SameStop w (world.opens F L W (undoes F.words stage w.machine) w)
   undo_stop AtStart w = refl
-  undo_stop (Opened heeded task) w = refl
+  undo_stop (Opened heeded task part) w = refl
   undo_stop AtEnd w = refl
   undo_stop (AtHalt k why) w = refl
   undo_stop AtUndone w = refl
@@ -93,20 +93,20 @@ module _ (F : Family) (L : Bus → Line) (W : Wires F.words) where
 
   again_stop : (stage : Stage F.words) (w : World F L) → SameStop w (world.repeats F L W (agains F.words stage w.machine) w)
   again_stop AtStart w = refl
-  again_stop (Opened true task) w = refl
-  again_stop (Opened false task) w = refl
+  again_stop (Opened true task part) w = refl
+  again_stop (Opened false task part) w = refl
   again_stop AtEnd w = refl
   again_stop (AtHalt k why) w = refl
   again_stop AtUndone w = refl
   again_stop (AtRefused k code) w = refl
 
   quiet_stop : (stage : Stage F.words) (w : World F L) → SameStop w (world.repeats F L W (quiets F.words stage w.machine) w)
-  quiet_stop (Opened true task) w =
+  quiet_stop (Opened true task part) w =
       cond_both (nat_lt w.machine.resent w.machine.retries)
-      (Some (record { machine = record (w.machine) { resent = w.machine.resent + 1 }; sends = Some (sending F.words task w.machine.counts) }))
-      (Some (record { machine = record (w.machine) { stage = Opened false task }; sends = None }))
+      (Some (record { machine = record (w.machine) { resent = w.machine.resent + 1 }; sends = Some (sending F.words part w.machine.counts) }))
+      (Some (record { machine = record (w.machine) { stage = Opened false task part }; sends = None }))
       (λ o. SameStop w (world.repeats F L W o w)) (λ _. refl) (λ _. refl)
-  quiet_stop (Opened false task) w = refl
+  quiet_stop (Opened false task part) w = refl
   quiet_stop AtStart w = refl
   quiet_stop AtEnd w = refl
   quiet_stop (AtHalt k why) w = refl
@@ -114,8 +114,8 @@ module _ (F : Family) (L : Bus → Line) (W : Wires F.words) where
   quiet_stop (AtRefused k code) w = refl
 
   reply_stop : (stage : Stage F.words) (a : Answered) (m : Machine F.words) → IfSome (replies F.words a stage m) (λ t. t.machine.stopped ≡ m.stopped)
-  reply_stop (Opened true task) a m = cond_both (is_busy a.code) None (Some (takes F.words a task m)) (λ o. IfSome o (λ t. t.machine.stopped ≡ m.stopped)) (λ _. tt) (λ _. refl)
-  reply_stop (Opened false task) a m = tt
+  reply_stop (Opened true task part) a m = cond_both (is_busy a.code) None (Some (takes F.words a task part m)) (λ o. IfSome o (λ t. t.machine.stopped ≡ m.stopped)) (λ _. tt) (λ _. refl)
+  reply_stop (Opened false task part) a m = tt
   reply_stop AtStart a m = tt
   reply_stop AtEnd a m = tt
   reply_stop (AtHalt k why) a m = tt
@@ -135,8 +135,8 @@ module _ (F : Family) (L : Bus → Line) (W : Wires F.words) where
   looks_stop bus e true w = brought_stop bus e ((L bus).brings (w.on bus) e) w
 
   returns_stop : (bus : Bus) (e : (L bus).Event) (stage : Stage F.words) (w : World F L) → SameStop w (world.returns F L W bus e stage w)
-  returns_stop bus e (Opened true task) w = looks_stop bus e (same_bus bus (bus_at F.words task)) w
-  returns_stop bus e (Opened false task) w = refl
+  returns_stop bus e (Opened true task part) w = looks_stop bus e (same_bus bus (bus_at F.words part)) w
+  returns_stop bus e (Opened false task part) w = refl
   returns_stop bus e AtStart w = refl
   returns_stop bus e AtEnd w = refl
   returns_stop bus e (AtHalt k why) w = refl

@@ -1,4 +1,5 @@
 pub mod Undoable
+pub mod Single
 pub mod StageSound
 pub mod Calls
 pub mod Buses
@@ -15,3 +16,4 @@ pub mod Clean
 pub mod RecordsRun
 pub mod NumberedLaws
 pub mod Giving
+pub mod SeriesExample

@@ -3,8 +3,8 @@ use Rattle.std.proofs.Common.{◌≡◌, ℕ, zero, suc, ◌+◌, ◌<◌, ◌�
 use Rattle.std.specs.Prelude.{slice_get}
 use Rattle.undo_model.specs.Words.{Answered, is_busy}
 use Rattle.undo_model.specs.Machine.{Machine, Gets, Sets, Undoes, replies, takes}
-use Rattle.undo_model.specs.Numbered.{Do, Reverse, numbered, stage_of, taken_of, plan_from, backs}
-use Rattle.undo_model.specs.declared.manager.Asked.TheVariants.{Back}
+use Rattle.undo_model.specs.Numbered.{Do, Reverse, numbered, part_of, stage_of, taken_of, plan_from, backs}
+use Rattle.undo_model.specs.declared.manager.Asked.TheVariants.{Get, Set, Back}
 use Rattle.undo_model.specs.declared.manager.State.{State}
 use Rattle.undo_model.specs.declared.manager.State.TheVariants as state
 
@@ -32,10 +32,10 @@ count_backs (suc k) = ap suc (count_backs k)
 -- a heeded reply that isn't busy is taken, and no other
 pub heeded_takes : (a : Answered) (s : State) (m : Machine numbered) → is_busy a.code ≡ false → replies numbered a (stage_of true s) m ≡ taken_of a (stage_of true s) m
 heeded_takes a state.Fresh m free = refl
-heeded_takes a (state.Getting k) m free = ap (λ (b : Bool). if b then None else Some (takes numbered a (Gets k (Do k)) m)) free
-heeded_takes a (state.Setting k) m free = ap (λ (b : Bool). if b then None else Some (takes numbered a (Sets k (Do k) (Reverse k)) m)) free
+heeded_takes a (state.Getting k) m free = ap (λ (b : Bool). if b then None else Some (takes numbered a (Gets k (Do k)) (part_of (Get k)) m)) free
+heeded_takes a (state.Setting k) m free = ap (λ (b : Bool). if b then None else Some (takes numbered a (Sets k (Do k) (Reverse k)) (part_of (Set k)) m)) free
 heeded_takes a state.Ended m free = refl
 heeded_takes a (state.Halted k why) m free = refl
-heeded_takes a (state.Undoing k all) m free = ap (λ (b : Bool). if b then None else Some (takes numbered a (Undoes (Back k) (backs k)) m)) free
+heeded_takes a (state.Undoing k all) m free = ap (λ (b : Bool). if b then None else Some (takes numbered a (Undoes (Back k) (backs k)) (part_of (Back k)) m)) free
 heeded_takes a (state.Undone all) m free = refl
 heeded_takes a (state.Refused k code all) m free = refl

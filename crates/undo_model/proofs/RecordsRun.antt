@@ -5,7 +5,7 @@ use Rattle.std.proofs.lemmas.Bool.{cond_both}
 use Rattle.undo_model.specs.Words.{Answered}
 use Rattle.undo_model.specs.Family.{Family, AllValid}
 use Rattle.undo_model.specs.Laws.{IsFamily}
-use Rattle.undo_model.specs.Machine.{asked_of, Gets, Sets, Undoes, Stage, AtStart, Opened, AtEnd, AtHalt, AtUndone, AtRefused, Machine, Turn, sending, starts, undoes, quiets, agains, stops, replies, takes, start_of, quiet_of, stop_of, again_of, undo_of, reply_of}
+use Rattle.undo_model.specs.Machine.{Part, first_part, Gets, Sets, Undoes, Stage, AtStart, Opened, AtEnd, AtHalt, AtUndone, AtRefused, Machine, Turn, sending, starts, undoes, quiets, agains, stops, replies, takes, start_of, quiet_of, stop_of, again_of, undo_of, reply_of}
 use Rattle.undo_model.specs.Resume.{list_of, resumed}
 use Rattle.undo_model.specs.RecordsRun as desk
 use Rattle.undo_model.specs.RecordsRun.{Desk, DeskEvent, Starts, Quiets, Stops, GoesAgain, Undoes as UndoesAll, Resumes, Carries, Takes, Elsewhere, May, AllMay, run, happens, Answers, at_desk, RecordsStand}
@@ -27,7 +27,7 @@ module _ (F : Family) (laws : IsFamily F) (plan : List F.words.Op) (start : F.Re
 
   starts_sound : (stage : Stage F.words) (m : Machine F.words) (reply : Option Answered) (r : F.Records) → SoundAt stage m reply r → Leaves (starts F.words stage m) None r
   starts_sound AtStart m reply r h = first_good F laws plan start m.plan (slice_get m.plan 0) m.stopped m.undo r refl h.0 h.1
-  starts_sound (Opened heeded task) m reply r h = tt
+  starts_sound (Opened heeded task part) m reply r h = tt
   starts_sound AtEnd m reply r h = tt
   starts_sound (AtHalt k why) m reply r h = tt
   starts_sound AtUndone m reply r h = tt
@@ -37,15 +37,15 @@ module _ (F : Family) (laws : IsFamily F) (plan : List F.words.Op) (start : F.Re
   undoes_sound AtEnd m reply r h = undo_good F laws plan start m.plan m.undo (length plan) m.stopped m.undo r h
   undoes_sound (AtHalt k why) m reply r h = undo_good F laws plan start m.plan m.undo k m.stopped m.undo r h.0
   undoes_sound AtStart m reply r h = tt
-  undoes_sound (Opened heeded task) m reply r h = tt
+  undoes_sound (Opened heeded task part) m reply r h = tt
   undoes_sound AtUndone m reply r h = tt
   undoes_sound (AtRefused k code) m reply r h = tt
 
   stops_sound : (stage : Stage F.words) (m : Machine F.words) (reply : Option Answered) (r : F.Records) → stage ≡ m.stage → SoundAt stage m reply r → Leaves (stops F.words stage m) reply r
-  stops_sound (Opened true (Gets k op)) m reply r e h = subst (λ (s : Stage F.words). StageSound F plan start m.plan s reply true m.undo r) e (stop_good F laws plan start m.plan (Opened true (Gets k op)) reply m.stopped m.undo r h)
-  stops_sound (Opened true (Sets k op back)) m reply r e h = subst (λ (s : Stage F.words). StageSound F plan start m.plan s reply true m.undo r) e (stop_good F laws plan start m.plan (Opened true (Sets k op back)) reply m.stopped m.undo r h)
-  stops_sound (Opened true (Undoes u us)) m reply r e h = tt
-  stops_sound (Opened false task) m reply r e h = tt
+  stops_sound (Opened true (Gets k op) part) m reply r e h = subst (λ (s : Stage F.words). StageSound F plan start m.plan s reply true m.undo r) e (stop_good F laws plan start m.plan (Opened true (Gets k op) part) reply m.stopped m.undo r h)
+  stops_sound (Opened true (Sets k op back) part) m reply r e h = subst (λ (s : Stage F.words). StageSound F plan start m.plan s reply true m.undo r) e (stop_good F laws plan start m.plan (Opened true (Sets k op back) part) reply m.stopped m.undo r h)
+  stops_sound (Opened true (Undoes u us) part) m reply r e h = tt
+  stops_sound (Opened false task part) m reply r e h = tt
   stops_sound AtStart m reply r e h = tt
   stops_sound AtEnd m reply r e h = tt
   stops_sound (AtHalt k why) m reply r e h = tt
@@ -53,10 +53,10 @@ module _ (F : Family) (laws : IsFamily F) (plan : List F.words.Op) (start : F.Re
   stops_sound (AtRefused k code) m reply r e h = tt
 
   quiets_sound : (stage : Stage F.words) (m : Machine F.words) (reply : Option Answered) (r : F.Records) → stage ≡ m.stage → SoundAt stage m reply r → Leaves (quiets F.words stage m) reply r
-  quiets_sound (Opened true task) m reply r e h =
-      cond_both (nat_lt m.resent m.retries) (Some (record { machine = record m { resent = m.resent + 1 }; sends = Some (sending F.words task m.counts) })) (Some (record { machine = record m { stage = Opened false task }; sends = None })) (λ o. Leaves o reply r)
+  quiets_sound (Opened true task part) m reply r e h =
+      cond_both (nat_lt m.resent m.retries) (Some (record { machine = record m { resent = m.resent + 1 }; sends = Some (sending F.words part m.counts) })) (Some (record { machine = record m { stage = Opened false task part }; sends = None })) (λ o. Leaves o reply r)
       (λ _. subst (λ (s : Stage F.words). SoundAt s m reply r) e h) (λ _. h)
-  quiets_sound (Opened false task) m reply r e h = tt
+  quiets_sound (Opened false task part) m reply r e h = tt
   quiets_sound AtStart m reply r e h = tt
   quiets_sound AtEnd m reply r e h = tt
   quiets_sound (AtHalt k why) m reply r e h = tt
@@ -64,8 +64,8 @@ module _ (F : Family) (laws : IsFamily F) (plan : List F.words.Op) (start : F.Re
   quiets_sound (AtRefused k code) m reply r e h = tt
 
   agains_sound : (stage : Stage F.words) (m : Machine F.words) (reply : Option Answered) (r : F.Records) → SoundAt stage m reply r → Leaves (agains F.words stage m) reply r
-  agains_sound (Opened false task) m reply r h = h
-  agains_sound (Opened true task) m reply r h = tt
+  agains_sound (Opened false task part) m reply r h = h
+  agains_sound (Opened true task part) m reply r h = tt
   agains_sound AtStart m reply r h = tt
   agains_sound AtEnd m reply r h = tt
   agains_sound (AtHalt k why) m reply r h = tt
@@ -73,9 +73,9 @@ module _ (F : Family) (laws : IsFamily F) (plan : List F.words.Op) (start : F.Re
   agains_sound (AtRefused k code) m reply r h = tt
 
   replies_sound : (stage : Stage F.words) (m : Machine F.words) (a : Answered) (r : F.Records) → SoundAt stage m (Some a) r → AllValid F r → Leaves (replies F.words a stage m) None r
-  replies_sound (Opened true task) m a r h valid =
-      subst (λ (b : Bool). Leaves (if b then None else Some (takes F.words a task m)) None r) (sym h.1) (taken_good F laws plan start m.plan a task m.stopped m.undo r h.0 valid)
-  replies_sound (Opened false task) m a r h valid = tt
+  replies_sound (Opened true task part) m a r h valid =
+      subst (λ (b : Bool). Leaves (if b then None else Some (takes F.words a task part m)) None r) (sym h.1) (taken_good F laws plan start m.plan a task part m.stopped m.undo r h.2 h.0 valid)
+  replies_sound (Opened false task part) m a r h valid = tt
   replies_sound AtStart m a r h valid = tt
   replies_sound AtEnd m a r h valid = tt
   replies_sound (AtHalt k why) m a r h valid = tt
@@ -99,18 +99,20 @@ module _ (F : Family) (laws : IsFamily F) (plan : List F.words.Op) (start : F.Re
   resumes_hold retries AtEnd w s h = now_sound (length plan) retries w s h
   resumes_hold retries (AtHalt k why) w s h = now_sound k retries w s.0 h
   resumes_hold retries AtStart w s h = h
-  resumes_hold retries (Opened heeded task) w s h = h
+  resumes_hold retries (Opened heeded task part) w s h = h
   resumes_hold retries AtUndone w s h = h
   resumes_hold retries (AtRefused k code) w s h = h
 
   carries_hold : (stage : Stage F.words) (reply : Option Answered) (a : Answered) (after : F.Board) (w : Desk F) → stage ≡ w.machine.stage → SoundAt stage w.machine reply (F.records w.board) → Holds w → Answers F stage w.board a after
       → Holds (desk.carries F stage reply a after w)
-  carries_hold (Opened heeded task) None a after w e s h row = record {
-    sound = subst (λ (x : Stage F.words). SoundAt x w.machine (Some a) (F.records after)) e
-        (carried_sound F laws plan start w.machine.plan w.board after a task w.machine.undo s.0 row, laws.never_busy w.board after (asked_of F.words task) a row);
-    valid = carried_valid F laws plan start w.machine.plan w.board after a task w.machine.undo s.0 h.valid row;
-  }
-  carries_hold (Opened heeded task) (Some told) a after w e s h row = h
+  carries_hold (Opened heeded task part) None a after w e s h row =
+      let first : F.Row w.board (first_part F.words task).asked a after = subst (λ (p : Part F.words). F.Row w.board p.asked a after) s.2 row in
+      record {
+        sound = subst (λ (x : Stage F.words). SoundAt x w.machine (Some a) (F.records after)) e
+            (carried_sound F laws plan start w.machine.plan w.board after a task w.machine.undo s.0 first, laws.never_busy w.board after part.asked a row, s.2);
+        valid = carried_valid F laws plan start w.machine.plan w.board after a task w.machine.undo s.0 h.valid first;
+      }
+  carries_hold (Opened heeded task part) (Some told) a after w e s h row = h
   carries_hold AtStart reply a after w e s h row = h
   carries_hold AtEnd reply a after w e s h row = h
   carries_hold (AtHalt k why) reply a after w e s h row = h

@@ -170,6 +170,7 @@ free b (AskSet w) = set_free w (slice_get b.registers w.register) b.registers
 
 pub registers_are_family : IsFamily registers
 registers_are_family = record {
+  single = record { none_next = λ series body. refl; shows_it = λ series body. refl };
   put_back = put_back;
   get_put = get_put;
   put_valid = put_valid;

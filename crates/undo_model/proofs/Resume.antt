@@ -1,5 +1,5 @@
 -- A manager that goes on from a list does what the one would have done from which the list was taken.
-use Rattle.std.proofs.Common.{◌≡◌, Bool, true, false, List, [], ◌∷◌, length, Option, Some, None, refl, sym, ap, subst, arith}
+use Rattle.std.proofs.Common.{◌≡◌, ℕ, Bool, true, false, List, [], ◌∷◌, length, Option, Some, None, refl, sym, ap, subst, arith}
 use Rattle.std.specs.Prelude.{nat_lt, if◌then◌else◌, ◌==◌}
 use Rattle.std.specs.Option.{option_map}
 use Rattle.std.proofs.lemmas.Option.{none-some}
@@ -7,7 +7,7 @@ use Rattle.two_wire.specs.Codes.{success}
 use Rattle.two_wire.specs.declared.Bus.{Bus}
 use Rattle.two_wire.specs.declared.Bus.TheVariants.{Ipmb, Smbus}
 use Rattle.undo_model.specs.Words.{Answered, is_busy, Words}
-use Rattle.undo_model.specs.Machine.{Counts, count_of, one_answered, Task, Gets, Sets, Undoes, Stage, AtStart, Opened, AtEnd, AtHalt, AtUndone, AtRefused, Machine, Turn, asked_of, bus_at, sending, sends_at, enters, phase_at, phase_of, undo_stage, starts, undoes, quiets, agains, stops, replies}
+use Rattle.undo_model.specs.Machine.{Counts, count_of, one_answered, Part, Gets, Sets, Undoes, Stage, AtStart, Opened, AtEnd, AtHalt, AtUndone, AtRefused, Machine, Turn, bus_at, told_stage, bodies_with, next_asked, sending, sends_at, enters, phase_at, phase_of, undo_stage, starts, undoes, quiets, agains, stops, replies}
 use Rattle.undo_model.specs.Resume.{list_of, resumed, Call, CallStart, CallQuiet, CallStop, CallAgain, CallUndo, Replies, turn_of, after, request_of, goes_out, trace, IsOver, GoesOnAlike}
 use Rattle.undo_model.specs.Wires.{number_of}
 use Rattle.undo_model.proofs.World.{round}
@@ -15,7 +15,7 @@ use Rattle.undo_model.proofs.World.{round}
 module _ (M : Words) where
   -- it is past the plan: undoing, or at the end of that
   abbrev IsPast : Stage M → Type 0
-  IsPast (Opened heeded (Undoes u us)) = Unit {0}
+  IsPast (Opened heeded (Undoes u us) part) = Unit {0}
   IsPast AtUndone = Unit {0}
   IsPast (AtRefused k code) = Unit {0}
   IsPast _ = ⊥
@@ -27,7 +27,7 @@ module _ (M : Words) where
   record Rest : Type 0 where
     plan : List M.Op
     stopped : Bool
-    undo : List M.Asked
+    undo : List M.Series
     counts : Counts
 
   abbrev with_rest : Rest → Machine M → Machine M
@@ -46,11 +46,11 @@ module _ (M : Words) where
   AreAlike None (Some u) = ⊥
   AreAlike (Some t) None = ⊥
 
-  same_request : (task : Task M) (c d : Counts) → SameNumbers c d → option_map (request_of M) (Some (sending M task c)) ≡ option_map (request_of M) (Some (sending M task d))
-  same_request task c d same = λ i. Some (record { bus = bus_at M task; number = same (bus_at M task) i; asked = asked_of M task })
+  same_request : (part : Part M) (c d : Counts) → SameNumbers c d → option_map (request_of M) (Some (sending M part c)) ≡ option_map (request_of M) (Some (sending M part d))
+  same_request part c d same = λ i. Some (record { bus = bus_at M part; number = same (bus_at M part) i; asked = part.asked })
 
   same_sends : (stage : Stage M) (c d : Counts) → SameNumbers c d → option_map (request_of M) (sends_at M stage c) ≡ option_map (request_of M) (sends_at M stage d)
-  same_sends (Opened heeded task) c d same = same_request task c d same
+  same_sends (Opened heeded task part) c d same = same_request part c d same
   same_sends AtStart c d same = refl
   same_sends AtEnd c d same = refl
   same_sends (AtHalt k why) c d same = refl
@@ -61,7 +61,7 @@ module _ (M : Words) where
   entered : (stage : Stage M) (m : Machine M) (r : Rest) → IsPast stage → SameNumbers r.counts m.counts → AreAlike (Some (enters M stage m)) (Some (enters M stage (with_rest r m)))
   entered stage m r past same = (record { rest = r; is = refl; past = past; numbers = same }, same_sends stage r.counts m.counts same)
 
-  undo_past : (undo : List M.Asked) → IsPast (undo_stage M undo)
+  undo_past : (undo : List M.Series) → IsPast (undo_stage M undo)
   undo_past [] = tt
   undo_past (u ∷ us) = tt
 
@@ -75,7 +75,7 @@ module _ (M : Words) where
 
   start_alike : (stage : Stage M) (m : Machine M) (r : Rest) → IsPast stage → AreAlike (starts M stage m) (starts M stage (with_rest r m))
   start_alike AtStart m r past = absurd past
-  start_alike (Opened heeded task) m r past = tt
+  start_alike (Opened heeded task part) m r past = tt
   start_alike AtEnd m r past = tt
   start_alike (AtHalt k why) m r past = tt
   start_alike AtUndone m r past = tt
@@ -83,7 +83,7 @@ module _ (M : Words) where
 
   undo_alike : (stage : Stage M) (m : Machine M) (r : Rest) → IsPast stage → AreAlike (undoes M stage m) (undoes M stage (with_rest r m))
   undo_alike AtStart m r past = tt
-  undo_alike (Opened heeded task) m r past = tt
+  undo_alike (Opened heeded task part) m r past = tt
   undo_alike AtEnd m r past = absurd past
   undo_alike (AtHalt k why) m r past = absurd past
   undo_alike AtUndone m r past = tt
@@ -91,10 +91,10 @@ module _ (M : Words) where
 
   stop_alike : (stage : Stage M) (m : Machine M) (r : Rest) → IsPast stage → AreAlike (stops M stage m) (stops M stage (with_rest r m))
   stop_alike AtStart m r past = tt
-  stop_alike (Opened true (Gets k op)) m r past = absurd past
-  stop_alike (Opened true (Sets k op back)) m r past = absurd past
-  stop_alike (Opened true (Undoes u us)) m r past = tt
-  stop_alike (Opened false task) m r past = tt
+  stop_alike (Opened true (Gets k op) part) m r past = absurd past
+  stop_alike (Opened true (Sets k op back) part) m r past = absurd past
+  stop_alike (Opened true (Undoes u us) part) m r past = tt
+  stop_alike (Opened false task part) m r past = tt
   stop_alike AtEnd m r past = tt
   stop_alike (AtHalt k why) m r past = tt
   stop_alike AtUndone m r past = tt
@@ -102,10 +102,10 @@ module _ (M : Words) where
 
   again_alike : (stage : Stage M) (m : Machine M) (r : Rest) → IsPast stage → SameNumbers r.counts m.counts → AreAlike (agains M stage m) (agains M stage (with_rest r m))
   again_alike AtStart m r past same = tt
-  again_alike (Opened true task) m r past same = tt
-  again_alike (Opened false (Undoes u us)) m r past same = entered (Opened true (Undoes u us)) m r tt same
-  again_alike (Opened false (Gets k op)) m r past same = absurd past
-  again_alike (Opened false (Sets k op back)) m r past same = absurd past
+  again_alike (Opened true task part) m r past same = tt
+  again_alike (Opened false (Undoes u us) part) m r past same = entered (Opened true (Undoes u us) part) m r tt same
+  again_alike (Opened false (Gets k op) part) m r past same = absurd past
+  again_alike (Opened false (Sets k op back) part) m r past same = absurd past
   again_alike AtEnd m r past same = tt
   again_alike (AtHalt k why) m r past same = tt
   again_alike AtUndone m r past same = tt
@@ -117,13 +117,13 @@ module _ (M : Words) where
   either_alike false t t' u u' h k = k
 
   quiet_alike : (stage : Stage M) (m : Machine M) (r : Rest) → stage ≡ m.stage → IsPast stage → SameNumbers r.counts m.counts → AreAlike (quiets M stage m) (quiets M stage (with_rest r m))
-  quiet_alike (Opened true (Undoes u us)) m r e past same =
+  quiet_alike (Opened true (Undoes u us) part) m r e past same =
       either_alike (nat_lt m.resent m.retries) _ _ _ _
-      (record { rest = r; is = refl; past = subst IsPast e tt; numbers = same }, same_request (Undoes u us) r.counts m.counts same)
+      (record { rest = r; is = refl; past = subst IsPast e tt; numbers = same }, same_request part r.counts m.counts same)
       (record { rest = r; is = refl; past = tt; numbers = same }, refl)
-  quiet_alike (Opened true (Gets k op)) m r e past same = absurd past
-  quiet_alike (Opened true (Sets k op back)) m r e past same = absurd past
-  quiet_alike (Opened false task) m r e past same = tt
+  quiet_alike (Opened true (Gets k op) part) m r e past same = absurd past
+  quiet_alike (Opened true (Sets k op back) part) m r e past same = absurd past
+  quiet_alike (Opened false task part) m r e past same = tt
   quiet_alike AtStart m r e past same = tt
   quiet_alike AtEnd m r e past same = tt
   quiet_alike (AtHalt k why) m r e past same = tt
@@ -131,22 +131,44 @@ module _ (M : Words) where
   quiet_alike (AtRefused k code) m r e past same = tt
 
   -- a reply to a request that undoes
-  reverted : (b : Bool) (a : Answered) (u : M.Asked) (us : List M.Asked) (m : Machine M) (r : Rest) → SameNumbers r.counts m.counts
-      → let stage : Stage M = (if b then undo_stage M us else AtRefused (length us) a.code) in
-      let bus = M.bus_of u in
-      AreAlike (Some (enters M stage (record m { counts = one_answered bus m.counts }))) (Some (enters M stage (record (with_rest r m) { counts = one_answered bus r.counts })))
-  reverted true a u us m r same =
-      let bus = M.bus_of u in
-      entered (undo_stage M us) (record m { counts = one_answered bus m.counts }) (record r { counts = one_answered bus r.counts }) (undo_past us) (λ any. next_same bus any r.counts m.counts (same any))
-  reverted false a u us m r same =
-      let bus = M.bus_of u in
+  told_past : (stopped : Bool) (plan : List M.Op) (u : M.Series) (us : List M.Series) (bodies : List (List ℕ)) (o : Option M.Asked) → IsPast (told_stage M stopped plan (Undoes u us) bodies o)
+  told_past stopped plan u us bodies (Some asked) = tt
+  told_past stopped plan u us bodies None = undo_past us
+
+  -- the same stage, whatever the plan is, and whether it is to stop
+  told_same : (stopped any : Bool) (plan other : List M.Op) (u : M.Series) (us : List M.Series) (bodies : List (List ℕ)) (o : Option M.Asked)
+      → told_stage M stopped plan (Undoes u us) bodies o ≡ told_stage M any other (Undoes u us) bodies o
+  told_same stopped any plan other u us bodies (Some asked) = refl
+  told_same stopped any plan other u us bodies None = refl
+
+  told_alike : (bus : Bus) (a : Answered) (u : M.Series) (us : List M.Series) (part : Part M) (o : Option M.Asked) (m : Machine M) (r : Rest) → SameNumbers r.counts m.counts
+      → let bodies = bodies_with M a part in
+      AreAlike (Some (enters M (told_stage M m.stopped m.plan (Undoes u us) bodies o) (record m { counts = one_answered bus m.counts })))
+      (Some (enters M (told_stage M r.stopped r.plan (Undoes u us) bodies o) (record (with_rest r m) { counts = one_answered bus r.counts })))
+  told_alike bus a u us part o m r same =
+      let bodies = bodies_with M a part in
+      subst (λ (s : Stage M). AreAlike (Some (enters M (told_stage M m.stopped m.plan (Undoes u us) bodies o) (record m { counts = one_answered bus m.counts })))
+      (Some (enters M s (record (with_rest r m) { counts = one_answered bus r.counts }))))
+      (told_same m.stopped r.stopped m.plan r.plan u us bodies o)
+      (entered (told_stage M m.stopped m.plan (Undoes u us) bodies o) (record m { counts = one_answered bus m.counts }) (record r { counts = one_answered bus r.counts })
+      (told_past m.stopped m.plan u us bodies o) (λ any. next_same bus any r.counts m.counts (same any)))
+
+  reverted : (b : Bool) (a : Answered) (u : M.Series) (us : List M.Series) (part : Part M) (m : Machine M) (r : Rest) → SameNumbers r.counts m.counts
+      → let bus = bus_at M part in
+      let bodies = bodies_with M a part in
+      let next = next_asked M a (Undoes u us) part in
+      AreAlike (Some (enters M (if b then told_stage M m.stopped m.plan (Undoes u us) bodies next else AtRefused (length us) a.code) (record m { counts = one_answered bus m.counts })))
+      (Some (enters M (if b then told_stage M r.stopped r.plan (Undoes u us) bodies next else AtRefused (length us) a.code) (record (with_rest r m) { counts = one_answered bus r.counts })))
+  reverted true a u us part m r same = told_alike (bus_at M part) a u us part (next_asked M a (Undoes u us) part) m r same
+  reverted false a u us part m r same =
+      let bus = bus_at M part in
       entered (AtRefused (length us) a.code) (record m { counts = one_answered bus m.counts }) (record r { counts = one_answered bus r.counts }) tt (λ any. next_same bus any r.counts m.counts (same any))
 
   reply_alike : (stage : Stage M) (a : Answered) (m : Machine M) (r : Rest) → IsPast stage → SameNumbers r.counts m.counts → AreAlike (replies M a stage m) (replies M a stage (with_rest r m))
-  reply_alike (Opened true (Undoes u us)) a m r past same = either_alike (is_busy a.code) None None _ _ tt (reverted (a.code == success) a u us m r same)
-  reply_alike (Opened true (Gets k op)) a m r past same = absurd past
-  reply_alike (Opened true (Sets k op back)) a m r past same = absurd past
-  reply_alike (Opened false task) a m r past same = tt
+  reply_alike (Opened true (Undoes u us) part) a m r past same = either_alike (is_busy a.code) None None _ _ tt (reverted (a.code == success) a u us part m r same)
+  reply_alike (Opened true (Gets k op) part) a m r past same = absurd past
+  reply_alike (Opened true (Sets k op back) part) a m r past same = absurd past
+  reply_alike (Opened false task part) a m r past same = tt
   reply_alike AtStart a m r past same = tt
   reply_alike AtEnd a m r past same = tt
   reply_alike (AtHalt k why) a m r past same = tt
@@ -201,7 +223,7 @@ module _ (M : Words) where
   goes_on_alike = record { halted = λ retries list. refl; none_open = λ retries list. refl; same_list = λ retries m. listed m; alike = from }
     where
       listed : (m : Machine M) → list_of M (resumed M m.retries (list_of M m)) ≡ list_of M m
-      listed m = λ i. record { requests = m.undo; next = record { ipmb = round Ipmb m.counts i; smbus = round Smbus m.counts i } }
+      listed m = λ i. record { series = m.undo; next = record { ipmb = round Ipmb m.counts i; smbus = round Smbus m.counts i } }
 
       begun : (m : Machine M) → AreAlike (Some (enters M (undo_stage M m.undo) m)) (Some (enters M (undo_stage M m.undo) (resumed M m.retries (list_of M m))))
       begun m = (
@@ -218,10 +240,10 @@ module _ (M : Words) where
       over_alike AtEnd m over = begun m
       over_alike (AtHalt k why) m over = begun m
       over_alike AtStart m over = absurd over
-      over_alike (Opened true (Gets k op)) m over = absurd over
-      over_alike (Opened true (Sets k op back)) m over = absurd over
-      over_alike (Opened true (Undoes u us)) m over = absurd over
-      over_alike (Opened false task) m over = absurd over
+      over_alike (Opened true (Gets k op) part) m over = absurd over
+      over_alike (Opened true (Sets k op back) part) m over = absurd over
+      over_alike (Opened true (Undoes u us) part) m over = absurd over
+      over_alike (Opened false task part) m over = absurd over
       over_alike AtUndone m over = absurd over
       over_alike (AtRefused k code) m over = absurd over
 

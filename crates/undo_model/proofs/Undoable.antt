@@ -1,4 +1,4 @@
--- Requests that lead back from the records after some steps of a plan to those at its start.
+-- What leads back from the records after some steps of a plan to those at its start.
 use Rattle.std.proofs.Common.{◌≡◌, ℕ, zero, suc, ◌≤◌, List, [], ◌∷◌, length, Some, None, refl, sym, ◌∙◌, ap, subst, arith}
 use Rattle.std.specs.Prelude.{slice_get}
 use Rattle.std.proofs.lemmas.Option.{same_Some, none-some}
@@ -11,29 +11,29 @@ past_none [] n e = omega arith
 past_none (x ∷ xs) zero e = absurd (none-some x (sym e))
 past_none (x ∷ xs) (suc n) e = let h = past_none xs n e in omega arith
 
--- the request leads back over step k
-pub record LeadsBack (F : Family) (plan : List F.words.Op) (k : ℕ) (u : F.words.Asked) (before r : F.Records) : Type 0 where
+-- the series leads back over step k
+pub record LeadsBack (F : Family) (plan : List F.words.Op) (k : ℕ) (u : F.words.Series) (before r : F.Records) : Type 0 where
   pub op : F.words.Op
   pub back : F.words.Op
   pub step : slice_get plan k ≡ Some op
   pub done : SetsTo F op before r
   pub undone : SetsTo F back r before
-  pub request : u ≡ F.words.set_asked back
+  pub series : u ≡ F.words.setting back
 
--- the requests, in order, lead back over the first k steps
-abbrev pub CanUndo : (F : Family) → List F.words.Op → F.Records → ℕ → List F.words.Asked → F.Records → Type 0
+-- the series, in order, lead back over the first k steps
+abbrev pub CanUndo : (F : Family) → List F.words.Op → F.Records → ℕ → List F.words.Series → F.Records → Type 0
 CanUndo F plan start zero [] r = r ≡ start
 CanUndo F plan start zero (u ∷ us) r = ⊥
 CanUndo F plan start (suc k) [] r = ⊥
 CanUndo F plan start (suc k) (u ∷ us) r = (before : F.Records) × CanUndo F plan start k us before × LeadsBack F plan k u before r
 
-pub after_of : (F : Family) (plan : List F.words.Op) (start : F.Records) (k : ℕ) (us : List F.words.Asked) (r : F.Records) → CanUndo F plan start k us r → IsAfter F plan start k r
+pub after_of : (F : Family) (plan : List F.words.Op) (start : F.Records) (k : ℕ) (us : List F.words.Series) (r : F.Records) → CanUndo F plan start k us r → IsAfter F plan start k r
 after_of F plan start zero [] r h = h
 after_of F plan start zero (u ∷ us) r h = absurd h
 after_of F plan start (suc k) [] r h = absurd h
 after_of F plan start (suc k) (u ∷ us) r h = (h.0, h.2.op, after_of F plan start k us h.0 h.1, h.2.step, h.2.done)
 
-pub length_of : (F : Family) (plan : List F.words.Op) (start : F.Records) (k : ℕ) (us : List F.words.Asked) (r : F.Records) → CanUndo F plan start k us r → length us ≡ k
+pub length_of : (F : Family) (plan : List F.words.Op) (start : F.Records) (k : ℕ) (us : List F.words.Series) (r : F.Records) → CanUndo F plan start k us r → length us ≡ k
 length_of F plan start zero [] r h = refl
 length_of F plan start zero (u ∷ us) r h = absurd h
 length_of F plan start (suc k) [] r h = absurd h

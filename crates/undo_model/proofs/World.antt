@@ -11,7 +11,7 @@ use Rattle.bus_model.proofs.PacketEnds.{same_requests}
 use Rattle.undo_model.specs.Family.{Family}
 use Rattle.undo_model.specs.Words.{is_busy}
 use Rattle.undo_model.specs.Laws.{IsFamily}
-use Rattle.undo_model.specs.Machine.{Counts, count_of, one_answered, Task, Gets, Sets, Undoes, Stage, AtStart, Opened, AtEnd, AtHalt, AtUndone, AtRefused, Machine, Sending, Turn, asked_of, bus_at, sending, sends_at, first_stage, undo_stage, starts, undoes, quiets, agains, stops, replies, takes, stage_after, undo_after, start_of, undo_of, quiet_of, again_of, stop_of, reply_of, same_bus}
+use Rattle.undo_model.specs.Machine.{Counts, count_of, one_answered, Task, Part, Gets, Sets, Undoes, Stage, AtStart, Opened, AtEnd, AtHalt, AtUndone, AtRefused, Machine, Sending, Turn, bus_at, sending, sends_at, first_stage, undo_stage, starts, undoes, quiets, agains, stops, replies, takes, stage_after, undo_after, start_of, undo_of, quiet_of, again_of, stop_of, reply_of, same_bus}
 use Rattle.undo_model.specs.Resume.{list_of, resumed}
 use Rattle.undo_model.specs.Wires.{number_of, Wires}
 use Rattle.undo_model.specs.Joined.{OthersStill, IsClosed, request_bytes, answer_at, AreCounted}
@@ -97,7 +97,7 @@ module _ (F : Family) (laws : IsFamily F) (L : Bus → Line) (lines : (bus : Bus
 
   -- ---- the invariant, over components
 
-  pub record Holding (own : List F.words.Op) (stage : Stage F.words) (stopped : Bool) (undo : List F.words.Asked) (counts : Counts) (on : States L) (board : F.Board) : Type 0 where
+  pub record Holding (own : List F.words.Op) (stage : Stage F.words) (stopped : Bool) (undo : List F.words.Series) (counts : Counts) (on : States L) (board : F.Board) : Type 0 where
     pub joined : Joined F laws W first plan start own stage stopped undo (requests on) board
     pub counted : AreCounted F W first counts (requests on)
     pub holds : AllHold on
@@ -114,38 +114,38 @@ module _ (F : Family) (laws : IsFamily F) (L : Bus → Line) (lines : (bus : Bus
   Repeats o on board = IfSome o (λ t. HoldsOf t.machine (world.sends_again F L W t.sends on) board)
 
   -- no request is open, and a stage is entered
-  record Resting (own : List F.words.Op) (stage : Stage F.words) (stopped : Bool) (undo : List F.words.Asked) (counts : Counts) (on : States L) (board : F.Board) : Type 0 where
+  record Resting (own : List F.words.Op) (stage : Stage F.words) (stopped : Bool) (undo : List F.words.Series) (counts : Counts) (on : States L) (board : F.Board) : Type 0 where
     closed : Closed F laws W first plan start own stage stopped undo (requests on) board
     counted : AreCounted F W first counts (requests on)
     holds : AllHold on
 
-  opens_task : (own : List F.words.Op) (heeded : Bool) (task : Task F.words) (stopped : Bool) (undo : List F.words.Asked) (counts : Counts) (on : States L) (board : F.Board) → Resting own (Opened heeded task) stopped undo counts on board
-      → Holding own (Opened heeded task) stopped undo counts (world.begins F L W (Some (sending F.words task counts)) on) board
-  opens_task own heeded task stopped undo counts on board h =
-      let bus = bus_at F.words task in
-      let bytes = W.bytes_of (number_of bus (count_of bus counts)) (asked_of F.words task) in
+  opens_task : (own : List F.words.Op) (heeded : Bool) (task : Task F.words) (part : Part F.words) (stopped : Bool) (undo : List F.words.Series) (counts : Counts) (on : States L) (board : F.Board) → Resting own (Opened heeded task part) stopped undo counts on board
+      → Holding own (Opened heeded task part) stopped undo counts (world.begins F L W (Some (sending F.words part counts)) on) board
+  opens_task own heeded task part stopped undo counts on board h =
+      let bus = bus_at F.words part in
+      let bytes = W.bytes_of (number_of bus (count_of bus counts)) part.asked in
       let s = (L bus).happens (on bus) ((L bus).begins bytes) in
       let order = h.closed.orderly bus in
       let answered = order.answered in let below = order.below in let closed = h.closed.closed bus in
       let all : length (requests on bus).begun ≡ length (requests on bus).taken = omega arith in
       let number : number_of bus (count_of bus counts) ≡ number_of bus (first bus + length (requests on bus).begun) = sym (h.counted bus) ∙ ap (λ (n : ℕ). number_of bus (first bus + n)) (sym all) in
       let begun : IsBegun (requests on bus) ((L bus).requests s) bytes = (lines bus).begun (on bus) bytes (h.holds bus) closed in
-      let spelled : IsBegun (requests on bus) ((L bus).requests s) (request_bytes F W first bus (length (requests on bus).begun) (asked_of F.words task)) =
-      subst (λ (n : ℕ). IsBegun (requests on bus) ((L bus).requests s) (W.bytes_of n (asked_of F.words task))) number begun in
+      let spelled : IsBegun (requests on bus) ((L bus).requests s) (request_bytes F W first bus (length (requests on bus).begun) part.asked) =
+      subst (λ (n : ℕ). IsBegun (requests on bus) ((L bus).requests s) (W.bytes_of n part.asked)) number begun in
       let taken : (any : Bus) → number_of any (first any + length (requests (update L bus s on) any).taken) ≡ number_of any (count_of any counts) =
       each_bus (λ any. number_of any (first any + length (requests (update L bus s on) any).taken) ≡ number_of any (count_of any counts)) bus
       (at_here bus s on (λ x. number_of bus (first bus + length x.taken) ≡ number_of bus (count_of bus counts)) (ap (λ (x : List (List ℕ)). number_of bus (first bus + length x)) begun.taken ∙ h.counted bus))
       (λ other ne. ap (λ (x : List (List ℕ)). number_of other (first other + length x)) (others bus s on other ne).taken ∙ h.counted other) in
       record {
-        joined = enters_joined F laws W first plan start own (Opened heeded task) stopped undo (requests on) (requests (update L bus s on)) board h.closed
-            (at_here bus s on (λ x. IsBegun (requests on bus) x (request_bytes F W first bus (length (requests on bus).begun) (asked_of F.words task))) spelled, others bus s on);
+        joined = enters_joined F laws W first plan start own (Opened heeded task part) stopped undo (requests on) (requests (update L bus s on)) board h.closed
+            (at_here bus s on (λ x. IsBegun (requests on bus) x (request_bytes F W first bus (length (requests on bus).begun) part.asked)) spelled, others bus s on);
         counted = taken;
         holds = all_hold bus s on h.holds ((lines bus).keeps (on bus) ((L bus).begins bytes) (h.holds bus) ((lines bus).may_begin (on bus) bytes));
       }
 
-  opens_stage : (own : List F.words.Op) (stage : Stage F.words) (stopped : Bool) (undo : List F.words.Asked) (counts : Counts) (on : States L) (board : F.Board) → Resting own stage stopped undo counts on board
+  opens_stage : (own : List F.words.Op) (stage : Stage F.words) (stopped : Bool) (undo : List F.words.Series) (counts : Counts) (on : States L) (board : F.Board) → Resting own stage stopped undo counts on board
       → Holding own stage stopped undo counts (world.begins F L W (sends_at F.words stage counts) on) board
-  opens_stage own (Opened heeded task) stopped undo counts on board h = opens_task own heeded task stopped undo counts on board h
+  opens_stage own (Opened heeded task part) stopped undo counts on board h = opens_task own heeded task part stopped undo counts on board h
   opens_stage own AtStart stopped undo counts on board h = record { joined = enters_joined F laws W first plan start own AtStart stopped undo (requests on) (requests on) board h.closed (λ bus. same_requests (requests on bus)); counted = h.counted; holds = h.holds }
   opens_stage own AtEnd stopped undo counts on board h = record { joined = enters_joined F laws W first plan start own AtEnd stopped undo (requests on) (requests on) board h.closed (λ bus. same_requests (requests on bus)); counted = h.counted; holds = h.holds }
   opens_stage own (AtHalt k why) stopped undo counts on board h = record { joined = enters_joined F laws W first plan start own (AtHalt k why) stopped undo (requests on) (requests on) board h.closed (λ bus. same_requests (requests on bus)); counted = h.counted; holds = h.holds }
@@ -159,7 +159,7 @@ module _ (F : Family) (laws : IsFamily F) (L : Bus → Line) (lines : (bus : Bus
       let s = h.joined.sound in
       opens_stage m.plan (first_stage F.words (slice_get m.plan 0)) m.stopped m.undo m.counts on board
       (record { closed = record { orderly = h.joined.orderly; closed = h.joined.are_open; sound = first_good F laws plan start m.plan (slice_get m.plan 0) m.stopped m.undo (F.records board) refl s.0 s.1; valid = h.joined.valid }; counted = h.counted; holds = h.holds })
-  starts_hold (Opened heeded task) m on board h = tt
+  starts_hold (Opened heeded task part) m on board h = tt
   starts_hold AtEnd m on board h = tt
   starts_hold (AtHalt k why) m on board h = tt
   starts_hold AtUndone m on board h = tt
@@ -173,7 +173,7 @@ module _ (F : Family) (laws : IsFamily F) (L : Bus → Line) (lines : (bus : Bus
       opens_stage m.plan (undo_stage F.words m.undo) m.stopped m.undo m.counts on board
       (record { closed = record { orderly = h.joined.orderly; closed = h.joined.are_open; sound = undo_good F laws plan start m.plan m.undo k m.stopped m.undo (F.records board) h.joined.sound.0; valid = h.joined.valid }; counted = h.counted; holds = h.holds })
   undoes_hold AtStart m on board h = tt
-  undoes_hold (Opened heeded task) m on board h = tt
+  undoes_hold (Opened heeded task part) m on board h = tt
   undoes_hold AtUndone m on board h = tt
   undoes_hold (AtRefused k code) m on board h = tt
 
@@ -187,10 +187,10 @@ module _ (F : Family) (laws : IsFamily F) (L : Bus → Line) (lines : (bus : Bus
   }
 
   stops_hold : (stage : Stage F.words) (m : Machine F.words) (on : States L) (board : F.Board) → stage ≡ m.stage → Holding m.plan stage m.stopped m.undo m.counts on board → Opens (stops F.words stage m) on board
-  stops_hold (Opened true (Gets k op)) m on board e h = subst (λ (s : Stage F.words). Holding m.plan s true m.undo m.counts on board) e (stop_holds (Opened true (Gets k op)) m on board h)
-  stops_hold (Opened true (Sets k op back)) m on board e h = subst (λ (s : Stage F.words). Holding m.plan s true m.undo m.counts on board) e (stop_holds (Opened true (Sets k op back)) m on board h)
-  stops_hold (Opened true (Undoes u us)) m on board e h = tt
-  stops_hold (Opened false task) m on board e h = tt
+  stops_hold (Opened true (Gets k op) part) m on board e h = subst (λ (s : Stage F.words). Holding m.plan s true m.undo m.counts on board) e (stop_holds (Opened true (Gets k op) part) m on board h)
+  stops_hold (Opened true (Sets k op back) part) m on board e h = subst (λ (s : Stage F.words). Holding m.plan s true m.undo m.counts on board) e (stop_holds (Opened true (Sets k op back) part) m on board h)
+  stops_hold (Opened true (Undoes u us) part) m on board e h = tt
+  stops_hold (Opened false task part) m on board e h = tt
   stops_hold AtStart m on board e h = tt
   stops_hold AtEnd m on board e h = tt
   stops_hold (AtHalt k why) m on board e h = tt
@@ -199,8 +199,8 @@ module _ (F : Family) (laws : IsFamily F) (L : Bus → Line) (lines : (bus : Bus
 
   -- ---- quiet and again
 
-  heeds_hold : (before now : Bool) (task : Task F.words) (m : Machine F.words) (on : States L) (board : F.Board) → Holding m.plan (Opened before task) m.stopped m.undo m.counts on board → Holding m.plan (Opened now task) m.stopped m.undo m.counts on board
-  heeds_hold before now task m on board h =
+  heeds_hold : (before now : Bool) (task : Task F.words) (part : Part F.words) (m : Machine F.words) (on : States L) (board : F.Board) → Holding m.plan (Opened before task part) m.stopped m.undo m.counts on board → Holding m.plan (Opened now task part) m.stopped m.undo m.counts on board
+  heeds_hold before now task part m on board h =
       record { joined = record { orderly = h.joined.orderly; are_open = h.joined.are_open; sound = h.joined.sound; valid = h.joined.valid }; counted = h.counted; holds = h.holds }
 
   sends_hold : (stage : Stage F.words) (m : Machine F.words) (s : Sending F.words) (on : States L) (board : F.Board) → Holding m.plan stage m.stopped m.undo m.counts on board
@@ -215,11 +215,11 @@ module _ (F : Family) (laws : IsFamily F) (L : Bus → Line) (lines : (bus : Bus
       }
 
   quiets_hold : (stage : Stage F.words) (m : Machine F.words) (on : States L) (board : F.Board) → stage ≡ m.stage → Holding m.plan stage m.stopped m.undo m.counts on board → Repeats (quiets F.words stage m) on board
-  quiets_hold (Opened true task) m on board e h =
-      cond_both (nat_lt m.resent m.retries) (Some (record { machine = record m { resent = m.resent + 1 }; sends = Some (sending F.words task m.counts) })) (Some (record { machine = record m { stage = Opened false task }; sends = None })) (λ o. Repeats o on board)
-      (λ _. subst (λ (s : Stage F.words). Holding m.plan s m.stopped m.undo m.counts (world.sends_again F L W (Some (sending F.words task m.counts)) on) board) e (sends_hold (Opened true task) m (sending F.words task m.counts) on board h))
-      (λ _. heeds_hold true false task m on board h)
-  quiets_hold (Opened false task) m on board e h = tt
+  quiets_hold (Opened true task part) m on board e h =
+      cond_both (nat_lt m.resent m.retries) (Some (record { machine = record m { resent = m.resent + 1 }; sends = Some (sending F.words part m.counts) })) (Some (record { machine = record m { stage = Opened false task part }; sends = None })) (λ o. Repeats o on board)
+      (λ _. subst (λ (s : Stage F.words). Holding m.plan s m.stopped m.undo m.counts (world.sends_again F L W (Some (sending F.words part m.counts)) on) board) e (sends_hold (Opened true task part) m (sending F.words part m.counts) on board h))
+      (λ _. heeds_hold true false task part m on board h)
+  quiets_hold (Opened false task part) m on board e h = tt
   quiets_hold AtStart m on board e h = tt
   quiets_hold AtEnd m on board e h = tt
   quiets_hold (AtHalt k why) m on board e h = tt
@@ -227,8 +227,8 @@ module _ (F : Family) (laws : IsFamily F) (L : Bus → Line) (lines : (bus : Bus
   quiets_hold (AtRefused k code) m on board e h = tt
 
   agains_hold : (stage : Stage F.words) (m : Machine F.words) (on : States L) (board : F.Board) → Holding m.plan stage m.stopped m.undo m.counts on board → Repeats (agains F.words stage m) on board
-  agains_hold (Opened false task) m on board h = sends_hold (Opened true task) m (sending F.words task m.counts) on board (heeds_hold false true task m on board h)
-  agains_hold (Opened true task) m on board h = tt
+  agains_hold (Opened false task part) m on board h = sends_hold (Opened true task part) m (sending F.words part m.counts) on board (heeds_hold false true task part m on board h)
+  agains_hold (Opened true task part) m on board h = tt
   agains_hold AtStart m on board h = tt
   agains_hold AtEnd m on board h = tt
   agains_hold (AtHalt k why) m on board h = tt
@@ -237,24 +237,24 @@ module _ (F : Family) (laws : IsFamily F) (L : Bus → Line) (lines : (bus : Bus
 
   -- ---- a reply is taken
 
-  replies_hold : (task : Task F.words) (m : Machine F.words) (bus : Bus) (e : (L bus).Event) (on : States L) (board : F.Board) (reply : List ℕ) → bus ≡ bus_at F.words task → Holding m.plan (Opened true task) m.stopped m.undo m.counts on board
+  replies_hold : (task : Task F.words) (part : Part F.words) (m : Machine F.words) (bus : Bus) (e : (L bus).Event) (on : States L) (board : F.Board) (reply : List ℕ) → bus ≡ bus_at F.words part → Holding m.plan (Opened true task part) m.stopped m.undo m.counts on board
       → (lines bus).Holds ((L bus).happens (on bus) e) → IsTaken (requests on bus) ((L bus).requests ((L bus).happens (on bus) e)) reply
-      → Opens (replies F.words (W.answered_from bus reply) (Opened true task) m) (update L bus ((L bus).happens (on bus) e) on) board
-  replies_hold task m bus e on board reply is h held taken =
+      → Opens (replies F.words (W.answered_from bus reply) (Opened true task part) m) (update L bus ((L bus).happens (on bus) e) on) board
+  replies_hold task part m bus e on board reply is h held taken =
       let a = W.answered_from bus reply in
       let now = update L bus ((L bus).happens (on bus) e) on in
       let t : IsTaken (requests on bus) (requests now bus) reply = at_here bus ((L bus).happens (on bus) e) on (λ x. IsTaken (requests on bus) x reply) taken in
       let others_still : OthersStill bus (requests on) (requests now) = others bus ((L bus).happens (on bus) e) on in
       let busy : is_busy a.code ≡ false = subst (λ (x : Bus). IsTaken (requests on x) (requests now x) reply → is_busy (W.answered_from x reply).code ≡ false) (sym is)
-      (λ t. (told F laws W first plan start m.plan true task m.stopped m.undo (requests on) board (requests now (bus_at F.words task)) reply h.joined t).1) t in
-      let closed : Closed F laws W first plan start m.plan (stage_after F.words m.stopped m.plan a task) m.stopped (undo_after F.words a task m.undo) (requests now) board =
+      (λ t. (told F laws W first plan start m.plan true task part m.stopped m.undo (requests on) board (requests now (bus_at F.words part)) reply h.joined t).1) t in
+      let closed : Closed F laws W first plan start m.plan (stage_after F.words m.stopped m.plan a task part) m.stopped (undo_after F.words a task part m.undo) (requests now) board =
       subst (λ (x : Bus). IsTaken (requests on x) (requests now x) reply → OthersStill x (requests on) (requests now)
-      → Closed F laws W first plan start m.plan (stage_after F.words m.stopped m.plan (W.answered_from x reply) task) m.stopped (undo_after F.words (W.answered_from x reply) task m.undo) (requests now) board) (sym is)
-      (λ t others_still. takes_closed F laws W first plan start m.plan true task m.stopped m.undo (requests on) (requests now) board reply h.joined t others_still) t others_still in
-      let counted : AreCounted F W first (one_answered (bus_at F.words task) m.counts) (requests now) =
+      → Closed F laws W first plan start m.plan (stage_after F.words m.stopped m.plan (W.answered_from x reply) task part) m.stopped (undo_after F.words (W.answered_from x reply) task part m.undo) (requests now) board) (sym is)
+      (λ t others_still. takes_closed F laws W first plan start m.plan true task part m.stopped m.undo (requests on) (requests now) board reply h.joined t others_still) t others_still in
+      let counted : AreCounted F W first (one_answered (bus_at F.words part) m.counts) (requests now) =
       subst (λ (x : Bus). AreCounted F W first (one_answered x m.counts) (requests now)) is (counted_taken m.counts bus (requests on) (requests now) reply t others_still h.counted) in
-      subst (λ (b : Bool). Opens (if b then None else Some (takes F.words a task m)) now board) (sym busy)
-      (opens_stage m.plan (stage_after F.words m.stopped m.plan a task) m.stopped (undo_after F.words a task m.undo) (one_answered (bus_at F.words task) m.counts) now board
+      subst (λ (b : Bool). Opens (if b then None else Some (takes F.words a task part m)) now board) (sym busy)
+      (opens_stage m.plan (stage_after F.words m.stopped m.plan a task part) m.stopped (undo_after F.words a task part m.undo) (one_answered (bus_at F.words part) m.counts) now board
       (record { closed = closed; counted = counted; holds = all_hold bus ((L bus).happens (on bus) e) on h.holds held }))
 
   -- ---- each thing that can happen
@@ -305,26 +305,26 @@ module _ (F : Family) (laws : IsFamily F) (L : Bus → Line) (lines : (bus : Bus
   answered_holds bus e None w h o = h
   answered_holds bus e (Some t) w h o = o
 
-  brought_holds : (task : Task F.words) (bus : Bus) (e : (L bus).Event) (o : Option (List ℕ)) (w : World F L) → Opened true task ≡ w.machine.stage → bus ≡ bus_at F.words task → WorldHolds w → (L bus).IsHonest (w.on bus) e
+  brought_holds : (task : Task F.words) (part : Part F.words) (bus : Bus) (e : (L bus).Event) (o : Option (List ℕ)) (w : World F L) → Opened true task part ≡ w.machine.stage → bus ≡ bus_at F.words part → WorldHolds w → (L bus).IsHonest (w.on bus) e
       → MatchOption o (SameRequests (requests w.on bus) ((L bus).requests ((L bus).happens (w.on bus) e))) (IsTaken (requests w.on bus) ((L bus).requests ((L bus).happens (w.on bus) e)))
       → WorldHolds (world.brought F L W bus e o w)
-  brought_holds task bus e None w at is h honest same = moved_still bus e w h honest same
-  brought_holds task bus e (Some reply) w at is h honest t =
-      let open_now : Holding w.machine.plan (Opened true task) w.machine.stopped w.machine.undo w.machine.counts w.on w.board =
+  brought_holds task part bus e None w at is h honest same = moved_still bus e w h honest same
+  brought_holds task part bus e (Some reply) w at is h honest t =
+      let open_now : Holding w.machine.plan (Opened true task part) w.machine.stopped w.machine.undo w.machine.counts w.on w.board =
       subst (λ (s : Stage F.words). Holding w.machine.plan s w.machine.stopped w.machine.undo w.machine.counts w.on w.board) (sym at) h in
-      let r = replies_hold task w.machine bus e w.on w.board reply is open_now ((lines bus).keeps (w.on bus) e (h.holds bus) honest) t in
+      let r = replies_hold task part w.machine bus e w.on w.board reply is open_now ((lines bus).keeps (w.on bus) e (h.holds bus) honest) t in
       answered_holds bus e (reply_of F.words (W.answered_from bus reply) w.machine) w h
       (subst (λ (s : Stage F.words). Opens (replies F.words (W.answered_from bus reply) s w.machine) (world.moved F L W bus e w) w.board) at r)
 
-  looks_hold : (task : Task F.words) (bus : Bus) (e : (L bus).Event) (b : Bool) (w : World F L) → Opened true task ≡ w.machine.stage → (b ≡ true → bus ≡ bus_at F.words task) → WorldHolds w → IsHonestOn F L W bus e w → (L bus).is_to_manager e ≡ true
+  looks_hold : (task : Task F.words) (part : Part F.words) (bus : Bus) (e : (L bus).Event) (b : Bool) (w : World F L) → Opened true task part ≡ w.machine.stage → (b ≡ true → bus ≡ bus_at F.words part) → WorldHolds w → IsHonestOn F L W bus e w → (L bus).is_to_manager e ≡ true
       → WorldHolds (world.looks F L W bus e b w)
-  looks_hold task bus e false w at is h honest t = h
-  looks_hold task bus e true w at is h honest t =
-      brought_holds task bus e ((L bus).brings (w.on bus) e) w at (is refl) h honest.1 ((lines bus).to_manager (w.on bus) e (h.holds bus) honest.0 t honest.1)
+  looks_hold task part bus e false w at is h honest t = h
+  looks_hold task part bus e true w at is h honest t =
+      brought_holds task part bus e ((L bus).brings (w.on bus) e) w at (is refl) h honest.1 ((lines bus).to_manager (w.on bus) e (h.holds bus) honest.0 t honest.1)
 
   returns_hold : (bus : Bus) (e : (L bus).Event) (stage : Stage F.words) (w : World F L) → stage ≡ w.machine.stage → WorldHolds w → IsHonestOn F L W bus e w → (L bus).is_to_manager e ≡ true → WorldHolds (world.returns F L W bus e stage w)
-  returns_hold bus e (Opened true task) w at h honest t = looks_hold task bus e (same_bus bus (bus_at F.words task)) w at (same_bus-true bus (bus_at F.words task)) h honest t
-  returns_hold bus e (Opened false task) w at h honest t = h
+  returns_hold bus e (Opened true task part) w at h honest t = looks_hold task part bus e (same_bus bus (bus_at F.words part)) w at (same_bus-true bus (bus_at F.words part)) h honest t
+  returns_hold bus e (Opened false task part) w at h honest t = h
   returns_hold bus e AtStart w at h honest t = h
   returns_hold bus e AtEnd w at h honest t = h
   returns_hold bus e (AtHalt k why) w at h honest t = h
@@ -358,7 +358,7 @@ module _ (F : Family) (laws : IsFamily F) (L : Bus → Line) (lines : (bus : Bus
       let j = subst (λ (s : Stage F.words). Holding w.machine.plan s w.machine.stopped w.machine.undo w.machine.counts w.on w.board) (sym at) h in
       replaced_holds retries k w j.joined.are_open j.joined.sound.0 h
   resumes_hold retries AtStart w at h = h
-  resumes_hold retries (Opened heeded task) w at h = h
+  resumes_hold retries (Opened heeded task part) w at h = h
   resumes_hold retries AtUndone w at h = h
   resumes_hold retries (AtRefused k code) w at h = h
 

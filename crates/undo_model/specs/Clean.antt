@@ -1,7 +1,7 @@
 -- A link without loss, and no bus: the board answers each request at once, and the manager takes the reply.
 use Rattle.std.specs.Prelude.{◌≡◌, ◌≢◌, ℕ, zero, suc, ◌+◌, List, [], ◌∷◌, ◌++◌, length, Option, Some, None, IfSome}
 use Rattle.two_wire.specs.Codes.{success}
-use Rattle.undo_model.specs.Words.{Answered}
+use Rattle.undo_model.specs.Words.{Answered, get_asked, set_asked}
 use Rattle.undo_model.specs.Family.{Family, AllValid}
 use Rattle.undo_model.specs.Phase.{Why, Stop, Refused, NotRestorable, GetRefused, Phase, Done, Halted, Undone}
 use Rattle.undo_model.specs.Plan.{IsAfter}
@@ -40,10 +40,10 @@ module _ (F : Family) (answer : F.Board → F.words.Asked → Answered × F.Boar
 
   -- the board's answer to the Get of an operation's record, and to its Set after that
   abbrev pub got : F.Board → F.words.Op → Answered × F.Board
-  got b op = answer b (F.words.get_asked (F.words.key_of op))
+  got b op = answer b (get_asked F.words (F.words.key_of op))
 
   abbrev pub did : F.Board → F.words.Op → Answered × F.Board
-  did b op = answer (got b op).1 (F.words.set_asked op)
+  did b op = answer (got b op).1 (set_asked F.words op)
 
   -- a step is carried out, and can be undone
   pub record Goes (b : F.Board) (op : F.words.Op) (after : F.Board) : Type 0 where

@@ -2,7 +2,7 @@
 use Rattle.std.specs.Prelude.{◌≡◌, ℕ, List, [], ◌∷◌, ◌++◌, ◌⊎◌}
 use Rattle.two_wire.specs.Codes.{success}
 use Rattle.two_wire.specs.declared.Bus.{Bus}
-use Rattle.undo_model.specs.Words.{Answered}
+use Rattle.undo_model.specs.Words.{Answered, get_asked}
 use Rattle.undo_model.specs.Family.{Family, AllValid}
 use Rattle.undo_model.specs.Phase.{Stop, Halted, Undone}
 use Rattle.undo_model.specs.Plan.{Stands, Halts}
@@ -24,7 +24,7 @@ AnyMakesStop F L (e ∷ es) = MakesStop F L e ⊎ AnyMakesStop F L es
 -- two Gets of a record, as the manager asks them, show the same configuration: one at the first board, one at the second
 abbrev pub ShowsSame : (F : Family) → F.Board → F.Board → Type 0
 ShowsSame F b c = (key : F.words.Key) (shown again : Answered) (b' c' : F.Board)
-    → F.Row b (F.words.get_asked key) shown b' → shown.code ≡ success → F.Row c (F.words.get_asked key) again c' → again.code ≡ success
+    → F.Row b (get_asked F.words key) shown b' → shown.code ≡ success → F.Row c (get_asked F.words key) again c' → again.code ≡ success
     → F.conf key again.body ≡ F.conf key shown.body
 
 -- from a board whose records are valid, and a start on both buses, so long as each thing may happen where it does

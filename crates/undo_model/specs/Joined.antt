@@ -6,7 +6,7 @@ use Rattle.bus_model.specs.BusState.{BusState}
 use Rattle.bus_model.specs.Effect.{SameRequests, IsBegun}
 use Rattle.undo_model.specs.Words.{Answered}
 use Rattle.undo_model.specs.Family.{Family}
-use Rattle.undo_model.specs.Machine.{Counts, count_of, Task, Stage, Opened, AtStart, AtEnd, AtHalt, AtUndone, AtRefused, asked_of, bus_at}
+use Rattle.undo_model.specs.Machine.{Counts, count_of, Part, Stage, Opened, AtStart, AtEnd, AtHalt, AtUndone, AtRefused, bus_at}
 use Rattle.undo_model.specs.Wires.{number_of, Wires}
 
 -- no request of the manager moves on the other bus
@@ -42,15 +42,15 @@ module _ (F : Family) (W : Wires F.words) (first : Bus → ℕ) where
     pub written : (n : ℕ) (bytes : List ℕ) → slice_get s.begun n ≡ Some bytes → IsWritten bus n bytes
     pub replied : (n : ℕ) (k : Kept) → slice_get s.carried n ≡ Some k → IsAnswered bus k
 
-  -- the task's request is open on its bus, and none on the other
-  abbrev pub IsOpen : Task F.words → Bus → BusState → Type 0
-  IsOpen task bus s =
-      (bus ≡ bus_at F.words task → slice_get s.begun (length s.taken) ≡ Some (request_bytes bus (length s.taken) (asked_of F.words task)))
-      × (bus ≢ bus_at F.words task → IsClosed s)
+  -- the request is open on its bus, and none on the other
+  abbrev pub IsOpen : Part F.words → Bus → BusState → Type 0
+  IsOpen part bus s =
+      (bus ≡ bus_at F.words part → slice_get s.begun (length s.taken) ≡ Some (request_bytes bus (length s.taken) part.asked))
+      × (bus ≢ bus_at F.words part → IsClosed s)
 
   -- the requests that are open are the stage's
   abbrev pub AreOpen : Stage F.words → Bus → BusState → Type 0
-  AreOpen (Opened heeded task) bus s = IsOpen task bus s
+  AreOpen (Opened heeded task part) bus s = IsOpen part bus s
   AreOpen AtStart bus s = IsClosed s
   AreOpen AtEnd bus s = IsClosed s
   AreOpen (AtHalt k why) bus s = IsClosed s
@@ -68,14 +68,14 @@ module _ (F : Family) (W : Wires F.words) (first : Bus → ℕ) where
 
   -- the answer that is kept for the stage's request
   abbrev pub answer_at : Stage F.words → (Bus → BusState) → Option Answered
-  answer_at (Opened heeded task) on = answer_on (bus_at F.words task) (on (bus_at F.words task))
+  answer_at (Opened heeded task part) on = answer_on (bus_at F.words part) (on (bus_at F.words part))
   answer_at _ on = None
 
   -- what is sent as a stage is entered: its request is begun, if it has one
   abbrev pub Enters : Stage F.words → (Bus → BusState) → (Bus → BusState) → Type 0
-  Enters (Opened heeded task) old new =
-      let bus = bus_at F.words task in
-      IsBegun (old bus) (new bus) (request_bytes bus (length (old bus).begun) (asked_of F.words task)) × OthersStill bus old new
+  Enters (Opened heeded task part) old new =
+      let bus = bus_at F.words part in
+      IsBegun (old bus) (new bus) (request_bytes bus (length (old bus).begun) part.asked) × OthersStill bus old new
   Enters _ old new = (bus : Bus) → SameRequests (old bus) (new bus)
 
   -- the machine's counts give the numbers of the requests that are open or next

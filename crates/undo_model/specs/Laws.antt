@@ -1,7 +1,7 @@
 -- What holds of a family. The kinds of record and the command relation prove it of the records that there are.
 use Rattle.std.specs.Prelude.{◌≡◌, ◌≢◌, List, ℕ, Some, None, false}
 use Rattle.two_wire.specs.Codes.{success}
-use Rattle.undo_model.specs.Words.{Answered, is_busy}
+use Rattle.undo_model.specs.Words.{Answered, is_busy, AreSingle, get_asked, set_asked}
 use Rattle.undo_model.specs.Family.{Family, AllValid, SetsTo}
 
 -- what a Get that is carried out shows: the value that the record has
@@ -12,6 +12,8 @@ pub record Showed (F : Family) (key : F.words.Key) (body : List ℕ) (r : F.Reco
 
 -- the laws of a family; beside each group, who proves it
 pub record IsFamily (F : Family) : Type 0 where
+  -- the manager's words: a Get and a Set are one request each
+  pub single : AreSingle F.words
   -- the map of records: what is put back leaves the map as it was, and what is put is found
   pub put_back : (r : F.Records) (key : F.words.Key) (v w : F.Value) → F.get r key ≡ Some v → F.put (F.put r key w) key v ≡ r
   pub get_put : (r : F.Records) (key : F.words.Key) (v w : F.Value) → F.get r key ≡ Some v → F.get (F.put r key w) key ≡ Some w
@@ -32,12 +34,12 @@ pub record IsFamily (F : Family) : Type 0 where
   -- the kinds: two Gets of a record show the same configuration where it has the same value
   pub steady : (key : F.words.Key) (v : F.Value) (body other : List ℕ) → F.Valid key v → F.Shows key v body → F.Shows key v other → F.conf key body ≡ F.conf key other
   -- the command relation: a Get changes no record, and shows the value where it is carried out
-  pub gets_keep : (b after : F.Board) (key : F.words.Key) (a : Answered) → F.Row b (F.words.get_asked key) a after → F.records after ≡ F.records b
-  pub gets_show : (b after : F.Board) (key : F.words.Key) (a : Answered) → F.Row b (F.words.get_asked key) a after → a.code ≡ success → Showed F key a.body (F.records b)
+  pub gets_keep : (b after : F.Board) (key : F.words.Key) (a : Answered) → F.Row b (get_asked F.words key) a after → F.records after ≡ F.records b
+  pub gets_show : (b after : F.Board) (key : F.words.Key) (a : Answered) → F.Row b (get_asked F.words key) a after → a.code ≡ success → Showed F key a.body (F.records b)
   -- the command relation: a Set that is carried out does its operation; one that is refused changes no record, and its
   -- operation isn't accepted there
-  pub sets_do : (b after : F.Board) (op : F.words.Op) (a : Answered) → F.Row b (F.words.set_asked op) a after → a.code ≡ success → SetsTo F op (F.records b) (F.records after)
-  pub refusals_keep : (b after : F.Board) (op : F.words.Op) (a : Answered) → F.Row b (F.words.set_asked op) a after → a.code ≢ success → F.records after ≡ F.records b
-  pub refusals_say : (b after : F.Board) (op : F.words.Op) (a : Answered) → F.Row b (F.words.set_asked op) a after → a.code ≢ success → (r : F.Records) → ¬ SetsTo F op (F.records b) r
+  pub sets_do : (b after : F.Board) (op : F.words.Op) (a : Answered) → F.Row b (set_asked F.words op) a after → a.code ≡ success → SetsTo F op (F.records b) (F.records after)
+  pub refusals_keep : (b after : F.Board) (op : F.words.Op) (a : Answered) → F.Row b (set_asked F.words op) a after → a.code ≢ success → F.records after ≡ F.records b
+  pub refusals_say : (b after : F.Board) (op : F.words.Op) (a : Answered) → F.Row b (set_asked F.words op) a after → a.code ≢ success → (r : F.Records) → ¬ SetsTo F op (F.records b) r
   -- the command relation: no answer is a code of a busy controller
   pub never_busy : (b after : F.Board) (asked : F.words.Asked) (a : Answered) → F.Row b asked a after → is_busy a.code ≡ false

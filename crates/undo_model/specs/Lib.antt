@@ -17,3 +17,4 @@ pub mod Clean
 pub mod RecordsRun
 pub mod Numbered
 pub mod Giving
+pub mod SeriesExample

@@ -1,16 +1,18 @@
 -- A plan of numbered steps, and the plain manager's state seen as the machine.
-use Rattle.std.specs.Prelude.{ℕ, zero, suc, ◌<◌, ◌%◌, Bool, true, false, ◌==◌, ◌&&◌, List, [], ◌∷◌, Option, Some, None, if◌then◌else◌}
+use Rattle.std.specs.Prelude.{ℕ, zero, suc, ◌<◌, ◌%◌, Bool, true, false, ◌==◌, ◌&&◌, List, [], ◌∷◌, Option, Some, None, if◌then◌else◌, slice_get, unwrap_or}
 use Rattle.std.specs.Option.{option_map}
 use Rattle.two_wire.specs.declared.Bus.{Bus}
 use Rattle.two_wire.specs.declared.Bus.TheVariants.{Ipmb, Smbus}
 use Rattle.undo_model.specs.Words.{Answered, Words}
-use Rattle.undo_model.specs.Phase.{Why, Stop, Refused, NotRestorable, GetRefused}
-use Rattle.undo_model.specs.Machine.{Counts, count_of, Gets, Sets, Undoes, Stage, AtStart, Opened, AtEnd, AtHalt, AtUndone, AtRefused, Machine, Sending, Turn, bus_at, takes, reply_of, same_bus}
+use Rattle.undo_model.specs.Phase.{Why, Stop, Refused, NotRestorable, GetRefused, Phase, Fresh, Getting, Setting, Done, Halted, Unsettled, Undoing, Undone, UndoRefused}
+use Rattle.undo_model.specs.Machine.{Counts, count_of, Part, Gets, Sets, Undoes, Stage, AtStart, Opened, AtEnd, AtHalt, AtUndone, AtRefused, Machine, Sending, Turn, bus_at, takes, reply_of, same_bus}
 use Rattle.undo_model.specs.Wires.{number_of}
 use Rattle.undo_model.specs.declared.manager.Asked.{Asked}
 use Rattle.undo_model.specs.declared.manager.Asked.TheVariants.{Get, Set, Back}
 use Rattle.undo_model.specs.declared.manager.Reason.{Reason}
 use Rattle.undo_model.specs.declared.manager.Reason.TheVariants as reason
+use Rattle.undo_model.specs.declared.manager.Phase.{Phase as Seen}
+use Rattle.undo_model.specs.declared.manager.Phase.TheVariants as seen
 use Rattle.undo_model.specs.declared.manager.State.{State}
 use Rattle.undo_model.specs.declared.manager.State.TheVariants as state
 use Rattle.undo_model.specs.declared.manager.Manager.{Manager}
@@ -41,7 +43,7 @@ step_asked (Get step) = step
 step_asked (Set step) = step
 step_asked (Back step) = step
 
--- steps with even numbers go over IPMB
+-- steps with even numbers go over IPMB, and each task is one request
 abbrev pub numbered : Words
 numbered = record {
   Key = ℕ;
@@ -49,8 +51,12 @@ numbered = record {
   key_of = step_of;
   Asked = Asked;
   bus_of = λ asked. if step_asked asked % 2 == 0 then Ipmb else Smbus;
-  get_asked = Get;
-  set_asked = request_for;
+  Series = Asked;
+  getting = Get;
+  setting = request_for;
+  first = λ series. series;
+  next = λ series bodies. None;
+  joined = λ series bodies. unwrap_or (slice_get bodies 0) [];
   inverse = reverse;
 }
 
@@ -70,13 +76,29 @@ why_of (reason.Refused code) = Refused code
 why_of reason.NotRestorable = NotRestorable
 why_of (reason.GetRefused code) = GetRefused code
 
+-- the phase that the plain manager gives
+abbrev pub phase_seen : Seen → Phase
+phase_seen seen.Fresh = Fresh
+phase_seen (seen.Getting k) = Getting k
+phase_seen (seen.Setting k) = Setting k
+phase_seen seen.Done = Done
+phase_seen (seen.Halted k why) = Halted k (why_of why)
+phase_seen (seen.Unsettled k) = Unsettled k
+phase_seen (seen.Undoing k) = Undoing k
+phase_seen seen.Undone = Undone
+phase_seen (seen.UndoRefused k code) = UndoRefused k code
+
+-- the request, as the only one of a task
+abbrev pub part_of : Asked → Part numbered
+part_of asked = record { asked = asked; before = [] }
+
 abbrev pub stage_of : Bool → State → Stage numbered
 stage_of heeded state.Fresh = AtStart
-stage_of heeded (state.Getting k) = Opened heeded (Gets k (Do k))
-stage_of heeded (state.Setting k) = Opened heeded (Sets k (Do k) (Reverse k))
+stage_of heeded (state.Getting k) = Opened heeded (Gets k (Do k)) (part_of (Get k))
+stage_of heeded (state.Setting k) = Opened heeded (Sets k (Do k) (Reverse k)) (part_of (Set k))
 stage_of heeded state.Ended = AtEnd
 stage_of heeded (state.Halted k why) = AtHalt k (why_of why)
-stage_of heeded (state.Undoing k all) = Opened heeded (Undoes (Back k) (backs k))
+stage_of heeded (state.Undoing k all) = Opened heeded (Undoes (Back k) (backs k)) (part_of (Back k))
 stage_of heeded (state.Undone all) = AtUndone
 stage_of heeded (state.Refused k code all) = AtRefused k code
 
@@ -127,7 +149,7 @@ answer_of code can_undo = record { code = code; body = if can_undo then 0 ∷ []
 
 -- a reply on the bus, under the number, is one to the open request
 abbrev pub is_to_open : Bus → ℕ → Counts → Stage numbered → Bool
-is_to_open bus number counts (Opened heeded task) = same_bus bus (bus_at numbered task) && (number == number_of bus (count_of bus counts))
+is_to_open bus number counts (Opened heeded task part) = same_bus bus (bus_at numbered part) && (number == number_of bus (count_of bus counts))
 is_to_open bus number counts _ = false
 
 -- the manager hears a reply: it takes none but to the open request
@@ -136,5 +158,5 @@ heard_of bus number a m = if is_to_open bus number m.counts m.stage then reply_o
 
 -- the reply to the open request is taken, whether it is heeded or not
 abbrev pub taken_of : Answered → Stage numbered → Machine numbered → Option (Turn numbered)
-taken_of a (Opened heeded task) m = Some (takes numbered a task m)
+taken_of a (Opened heeded task part) m = Some (takes numbered a task part m)
 taken_of a _ m = None

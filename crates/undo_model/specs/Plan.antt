@@ -1,7 +1,7 @@
 -- The records after the steps of a plan, and what a manager's phase says of the records.
 use Rattle.std.specs.Prelude.{◌≡◌, ◌≢◌, ℕ, zero, suc, Bool, true, List, length, Some, ◌⊎◌, slice_get}
 use Rattle.two_wire.specs.Codes.{success}
-use Rattle.undo_model.specs.Words.{Answered}
+use Rattle.undo_model.specs.Words.{Answered, get_asked, set_asked}
 use Rattle.undo_model.specs.Family.{Family, SetsTo}
 use Rattle.undo_model.specs.Phase.{Why, Stop, Refused, NotRestorable, GetRefused, Phase, Fresh, Getting, Setting, Done, Halted, Unsettled, Undoing, Undone, UndoRefused}
 
@@ -31,13 +31,13 @@ Gave F asked a r = (b : F.Board) × (after : F.Board) × (F.records b ≡ r) × 
 pub record GaveGet (F : Family) (plan : List F.words.Op) (k : ℕ) (a : Answered) (r : F.Records) : Type 0 where
   pub op : F.words.Op
   pub step : slice_get plan k ≡ Some op
-  pub gave : Gave F (F.words.get_asked (F.words.key_of op)) a r
+  pub gave : Gave F (get_asked F.words (F.words.key_of op)) a r
 
 -- the same of the Set of the step
 pub record GaveSet (F : Family) (plan : List F.words.Op) (k : ℕ) (a : Answered) (r : F.Records) : Type 0 where
   pub op : F.words.Op
   pub step : slice_get plan k ≡ Some op
-  pub gave : Gave F (F.words.set_asked op) a r
+  pub gave : Gave F (set_asked F.words op) a r
 
 -- what made a plan halt after k steps, at the records that these left; `stopped` says whether it was to stop
 abbrev pub Because : (F : Family) → Bool → List F.words.Op → ℕ → Why → F.Records → Type 0

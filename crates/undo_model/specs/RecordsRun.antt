@@ -4,7 +4,7 @@ use Rattle.std.specs.Prelude.{◌≡◌, ℕ, List, [], ◌∷◌, Option, Some,
 use Rattle.undo_model.specs.Words.{Answered}
 use Rattle.undo_model.specs.Family.{Family, AllValid}
 use Rattle.undo_model.specs.Plan.{Stands, Halts}
-use Rattle.undo_model.specs.Machine.{Stage, Opened, AtEnd, AtHalt, Machine, Turn, asked_of, phase_of, start_of, quiet_of, stop_of, again_of, undo_of, reply_of, opened}
+use Rattle.undo_model.specs.Machine.{Stage, Opened, AtEnd, AtHalt, Machine, Turn, phase_of, start_of, quiet_of, stop_of, again_of, undo_of, reply_of, opened}
 use Rattle.undo_model.specs.Resume.{list_of, resumed}
 
 -- `reply` is the answer to the open request, if that was carried out and the answer isn't taken yet
@@ -46,7 +46,7 @@ module _ (F : Family) where
   resumes retries _ w = w
 
   abbrev pub carries : Stage F.words → Option Answered → Answered → F.Board → Desk F → Desk F
-  carries (Opened heeded task) None a after w = record w { reply = Some a; board = after }
+  carries (Opened heeded task part) None a after w = record w { reply = Some a; board = after }
   carries _ _ a after w = w
 
   abbrev pub takes : Option Answered → Desk F → Desk F
@@ -66,7 +66,7 @@ module _ (F : Family) where
 
   -- the board answers the open request by the command relation
   abbrev pub Answers : Stage F.words → F.Board → Answered → F.Board → Type 0
-  Answers (Opened heeded task) b a after = F.Row b (asked_of F.words task) a after
+  Answers (Opened heeded task part) b a after = F.Row b part.asked a after
   Answers _ b a after = Unit {0}
 
   -- and nothing else changes a record

@@ -104,8 +104,12 @@ register_words = record {
   key_of = λ w. w.register;
   Asked = Asked;
   bus_of = λ asked. if register_of asked % 2 == 0 then Ipmb else Smbus;
-  get_asked = AskGet;
-  set_asked = AskSet;
+  Series = Asked;
+  getting = AskGet;
+  setting = AskSet;
+  first = λ series. series;
+  next = λ series bodies. None;
+  joined = λ series bodies. unwrap_or (slice_get bodies 0) [];
   inverse = inverse;
 }
 

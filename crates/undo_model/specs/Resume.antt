@@ -1,4 +1,4 @@
--- A manager that goes on from a list of requests that undo.
+-- A manager that goes on from a list of what undoes.
 use Rattle.std.specs.Prelude.{◌≡◌, ℕ, ◌%◌, true, List, [], ◌∷◌, length, Option, Some, None}
 use Rattle.std.specs.Option.{option_map}
 use Rattle.two_wire.specs.declared.Bus.{Bus}
@@ -7,24 +7,24 @@ use Rattle.undo_model.specs.Phase.{Stop, Phase, Done, Halted}
 use Rattle.undo_model.specs.Machine.{Counts, Machine, AtHalt, Sending, Turn, open_bus, phase_of, start_of, quiet_of, stop_of, again_of, undo_of, reply_of}
 use Rattle.undo_model.specs.Wires.{number_of}
 
--- what is kept of a manager: the requests that undo, the last step's first, and the next sequence number and instance
+-- what is kept of a manager: what undoes each step, the last step's first, and the next sequence number and instance
 pub record UndoList (M : Words) : Type 0 where
-  pub requests : List M.Asked
+  pub series : List M.Series
   pub next : Counts
 
 -- the list of a manager; sequence numbers count modulo 64 and instances modulo 32
 abbrev pub list_of : (M : Words) → Machine M → UndoList M
-list_of M m = record { requests = m.undo; next = record { ipmb = m.counts.ipmb % 64; smbus = m.counts.smbus % 32 } }
+list_of M m = record { series = m.undo; next = record { ipmb = m.counts.ipmb % 64; smbus = m.counts.smbus % 32 } }
 
 -- the manager that goes on from it: halted after as many steps as the list undoes, as if it was to stop
 abbrev pub resumed : (M : Words) → ℕ → UndoList M → Machine M
 resumed M retries list = record {
   plan = [];
   retries = retries;
-  stage = AtHalt (length list.requests) Stop;
+  stage = AtHalt (length list.series) Stop;
   stopped = true;
   resent = 0;
-  undo = list.requests;
+  undo = list.series;
   counts = list.next;
 }
 
@@ -81,7 +81,7 @@ module _ (M : Words) where
   -- a manager that goes on from a list is halted after as many steps as the list undoes, with no request open, and gives that list
   -- itself; from `undo` on it goes through the same phases, and sends the same requests under the same numbers, for the same calls
   pub record GoesOnAlike : Type 0 where
-    pub halted : (retries : ℕ) (list : UndoList M) → phase_of M (resumed M retries list) ≡ Halted (length list.requests) Stop
+    pub halted : (retries : ℕ) (list : UndoList M) → phase_of M (resumed M retries list) ≡ Halted (length list.series) Stop
     pub none_open : (retries : ℕ) (list : UndoList M) → open_bus M (resumed M retries list) ≡ None
     pub same_list : (retries : ℕ) (m : Machine M) → list_of M (resumed M retries (list_of M m)) ≡ list_of M m
     pub alike : (m : Machine M) → IsOver (phase_of M m) → (calls : List Call) → trace (CallUndo ∷ calls) (resumed M m.retries (list_of M m)) ≡ trace (CallUndo ∷ calls) m

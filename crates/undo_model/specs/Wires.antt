@@ -1,5 +1,5 @@
 -- How requests and replies are bytes on the two buses. The bytes hold all but addresses and check bytes, the number too.
-use Rattle.std.specs.Prelude.{◌≡◌, ℕ, ◌%◌, List, ◌⊎◌}
+use Rattle.std.specs.Prelude.{◌≡◌, ℕ, ◌%◌, List, Some, ◌⊎◌}
 use Rattle.two_wire.specs.declared.Bus.{Bus}
 use Rattle.two_wire.specs.declared.Bus.TheVariants.{Ipmb, Smbus}
 use Rattle.undo_model.specs.Words.{Answered, Words}
@@ -9,9 +9,17 @@ abbrev pub number_of : Bus → ℕ → ℕ
 number_of Ipmb n = n % 64
 number_of Smbus n = n % 32
 
--- a manager makes the request: it gets a record, or carries an operation out
+-- a manager makes the series: it gets a record, or carries an operation out
+abbrev pub IsSeries : (M : Words) → M.Series → Type 0
+IsSeries M series = ((key : M.Key) × (series ≡ M.getting key)) ⊎ ((op : M.Op) × (series ≡ M.setting op))
+
+-- the request is one of the series
+abbrev pub IsOf : (M : Words) → M.Series → M.Asked → Type 0
+IsOf M series asked = (asked ≡ M.first series) ⊎ ((bodies : List (List ℕ)) × (M.next series bodies ≡ Some asked))
+
+-- a manager makes the request
 abbrev pub IsMade : (M : Words) → M.Asked → Type 0
-IsMade M asked = ((key : M.Key) × (asked ≡ M.get_asked key)) ⊎ ((op : M.Op) × (asked ≡ M.set_asked op))
+IsMade M asked = (series : M.Series) × IsSeries M series × IsOf M series asked
 
 -- how requests and replies are written, and what is read of them
 pub record Wires (M : Words) : Type 0 where

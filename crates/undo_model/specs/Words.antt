@@ -1,5 +1,5 @@
 -- The manager's words: what it knows of operations and of requests. It knows no board, no record and no value.
-use Rattle.std.specs.Prelude.{ℕ, List, Option, Bool, ◌==◌, ◌||◌}
+use Rattle.std.specs.Prelude.{◌≡◌, ℕ, List, [], ◌∷◌, Option, None, Bool, ◌==◌, ◌||◌}
 use Rattle.two_wire.specs.Codes.{node_busy, pldm_not_ready}
 use Rattle.two_wire.specs.declared.Bus.{Bus}
 
@@ -22,8 +22,27 @@ pub record Words : Type 1 where
   -- the requests, and the bus on which each goes
   pub Asked : Type 0
   pub bus_of : Asked → Bus
-  -- the request that gets a record, and the one that carries an operation out
-  pub get_asked : Key → Asked
-  pub set_asked : Op → Asked
-  -- the operation that undoes it, from the data of its record's Get
+  -- requests that are sent one after another, each once the one before it was answered: at least one
+  pub Series : Type 0
+  -- the series that gets a record, and the one that carries an operation out
+  pub getting : Key → Series
+  pub setting : Op → Series
+  -- the first request of a series, and the next after replies with these data, none where that was the last
+  pub first : Series → Asked
+  pub next : Series → List (List ℕ) → Option Asked
+  -- what the data of all its replies show together
+  pub joined : Series → List (List ℕ) → List ℕ
+  -- the operation that undoes another, from what the Get of that one's record shows
   pub inverse : Op → List ℕ → Option Op
+
+-- the request that gets a record, and the one that carries an operation out: the first of each series
+abbrev pub get_asked : (M : Words) → M.Key → M.Asked
+get_asked M key = M.first (M.getting key)
+
+abbrev pub set_asked : (M : Words) → M.Op → M.Asked
+set_asked M op = M.first (M.setting op)
+
+-- each series is one request, and shows what its reply shows
+pub record AreSingle (M : Words) : Type 0 where
+  pub none_next : (series : M.Series) (body : List ℕ) → M.next series (body ∷ []) ≡ None
+  pub shows_it : (series : M.Series) (body : List ℕ) → M.joined series (body ∷ []) ≡ body

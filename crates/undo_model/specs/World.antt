@@ -95,7 +95,7 @@ module _ (F : Family) (L : Bus → Line) (W : Wires F.words) where
   looks bus e true w = brought bus e ((L bus).brings (w.on bus) e) w
 
   abbrev pub returns : (bus : Bus) → (L bus).Event → Stage F.words → World F L → World F L
-  returns bus e (Opened true task) w = looks bus e (same_bus bus (bus_at F.words task)) w
+  returns bus e (Opened true task part) w = looks bus e (same_bus bus (bus_at F.words part)) w
   returns bus e _ w = w
 
   -- the world after it

@@ -2,12 +2,15 @@
 
 ghost use Rattle.std.specs.Prelude.{◌≡◌, ◌<◌, ◌+◌, ◌^◌, ◌&&◌, ◌==◌, slice_get, true, Some};
 ghost use Rattle.std.specs.Option.{option_map};
-ghost use Rattle.undo_model.specs.Machine.{count_of, one_answered, sends_at, enters, first_stage, undo_stage, start_of, undo_of, stop_of, quiet_of, again_of, stage_after, undo_after, Gets, Sets, Undoes, same_bus};
-ghost use Rattle.undo_model.specs.Numbered.{numbered, plan_from, backs, acknowledged, stage_of, machine, sending_of, turn_of, has_open, answer_of, is_to_open, heard_of, taken_of, IsWithin, Do, Reverse};
+ghost use Rattle.undo_model.specs.Machine.{count_of, one_answered, sends_at, enters, first_stage, undo_stage, phase_of, open_of, start_of, undo_of, stop_of, quiet_of, again_of, stage_after, undo_after, Gets, Sets, Undoes, same_bus};
+ghost use Rattle.undo_model.specs.Numbered.{numbered, phase_seen, part_of, plan_from, backs, acknowledged, stage_of, machine, sending_of, turn_of, has_open, answer_of, is_to_open, heard_of, taken_of, IsWithin, Do, Reverse};
 ghost use Rattle.undo_model.specs.Wires.{number_of};
-ghost use Rattle.undo_model.specs.declared.manager.Asked.TheVariants.{Back};
+ghost use Rattle.undo_model.specs.declared.manager.Asked.TheVariants.{Get, Set, Back};
 
 use two_wire::Bus;
+
+/// How many retries a manager may have.
+pub const MOST_RETRIES: u8 = 15;
 
 /// A request about a step.
 #[derive(Clone, Copy, PartialEq, Eq, Debug)]
@@ -25,6 +28,22 @@ pub enum Reason {
     Refused(u8),
     NotRestorable,
     GetRefused(u8),
+}
+
+/// Where a manager is with its plan; steps count from 0.
+#[derive(Clone, Copy, PartialEq, Eq, Debug)]
+pub enum Phase {
+    Fresh,
+    Getting(usize),
+    Setting(usize),
+    Done,
+    /// So many steps were acknowledged.
+    Halted(usize, Reason),
+    /// No reply to the open request is awaited.
+    Unsettled(usize),
+    Undoing(usize),
+    Undone,
+    UndoRefused(usize, u8),
 }
 
 /// How far the manager is. `all` is the count of steps that were acknowledged.
@@ -85,6 +104,45 @@ impl Asked {
 }
 
 impl Manager {
+    /// A manager with a plan of so many steps. None: more retries than `MOST_RETRIES`.
+    pub fn open(steps: usize, retries: u8) -> Option<Manager>
+        ensures { option_map machine result ≡ open_of numbered (plan_from 0 steps) retries }
+    {
+        if retries > MOST_RETRIES {
+            return None;
+        }
+        Some(Manager {
+            steps,
+            retries,
+            state: State::Fresh,
+            heeded: true,
+            stopped: false,
+            resent: 0,
+            ipmb: 0,
+            smbus: 0,
+        })
+    }
+
+    /// Where the manager is with its plan.
+    #[tactic(auto, using(crate::proofs::NumberedLaws::count_backs))]
+    pub fn phase(self) -> Phase
+        ensures { phase_seen result ≡ phase_of numbered (machine self) }
+    {
+        match self.state {
+            State::Fresh => Phase::Fresh,
+            State::Ended => Phase::Done,
+            State::Halted(steps, why) => Phase::Halted(steps, why),
+            State::Undone { .. } => Phase::Undone,
+            State::Refused { step, code, .. } => Phase::UndoRefused(step, code),
+            State::Getting(step) if self.heeded => Phase::Getting(step),
+            State::Setting(step) if self.heeded => Phase::Setting(step),
+            State::Undoing { step, .. } if self.heeded => Phase::Undoing(step),
+            State::Getting(step) => Phase::Unsettled(step),
+            State::Setting(step) => Phase::Unsettled(step),
+            State::Undoing { step, .. } => Phase::Unsettled(step),
+        }
+    }
+
     fn count(self, bus: Bus) -> u16
         ensures { result ≡ count_of bus (record { ipmb = self.ipmb; smbus = self.smbus }) }
     {
@@ -251,7 +309,7 @@ impl Manager {
 
     /// After the reply to a step's Get.
     fn after_get(self, step: usize, code: u8, can_undo: bool) -> State
-        ensures stage { stage_of true result ≡ stage_after numbered self.stopped (plan_from 0 self.steps) (answer_of code can_undo) (Gets step (Do step)) }
+        ensures stage { stage_of true result ≡ stage_after numbered self.stopped (plan_from 0 self.steps) (answer_of code can_undo) (Gets step (Do step)) (part_of (Get step)) }
         ensures same { acknowledged self.steps result ≡ step }
     {
         if code != 0 {
@@ -269,8 +327,8 @@ impl Manager {
     #[tactic(auto, using(crate::proofs::NumberedLaws::step_at, crate::proofs::NumberedLaws::no_step_at))]
     fn after_set(self, step: usize, code: u8, can_undo: bool) -> State
         requires { step < self.steps }
-        ensures stage { stage_of true result ≡ stage_after numbered self.stopped (plan_from 0 self.steps) (answer_of code can_undo) (Sets step (Do step) (Reverse step)) }
-        ensures undo { backs (acknowledged self.steps result) ≡ undo_after numbered (answer_of code can_undo) (Sets step (Do step) (Reverse step)) (backs step) }
+        ensures stage { stage_of true result ≡ stage_after numbered self.stopped (plan_from 0 self.steps) (answer_of code can_undo) (Sets step (Do step) (Reverse step)) (part_of (Set step)) }
+        ensures undo { backs (acknowledged self.steps result) ≡ undo_after numbered (answer_of code can_undo) (Sets step (Do step) (Reverse step)) (part_of (Set step)) (backs step) }
     {
         if code != 0 {
             State::Halted(step, Reason::Refused(code))
@@ -286,7 +344,7 @@ impl Manager {
     /// After the reply to the request that undoes a step.
     #[tactic(auto, using(crate::proofs::NumberedLaws::count_backs))]
     fn after_undo(self, step: usize, all: usize, code: u8, can_undo: bool) -> State
-        ensures stage { stage_of true result ≡ stage_after numbered self.stopped (plan_from 0 self.steps) (answer_of code can_undo) (Undoes (Back step) (backs step)) }
+        ensures stage { stage_of true result ≡ stage_after numbered self.stopped (plan_from 0 self.steps) (answer_of code can_undo) (Undoes (Back step) (backs step)) (part_of (Back step)) }
         ensures same { acknowledged self.steps result ≡ all }
     {
         if code != 0 {

@@ -11,7 +11,7 @@ use Rattle.cfg_records.specs.declared.live.Live.{Live}
 use Rattle.cfg_records.specs.Kind.{KindWords, RecordWords}
 use Rattle.cfg_records.specs.AllKinds.{Place}
 use Rattle.cfg_records.specs.PowerPolicy.{IsPowerPolicy}
-use Rattle.cfg_records.specs.Requests.{chassis, ipmi_request}
+use Rattle.cfg_records.specs.Requests.{chassis, ipmi_request, byte_at}
 
 -- the command that sets it, and the one that gets it among other things
 abbrev pub set_power_restore_policy : ℕ
@@ -58,6 +58,10 @@ is_known reply = length reply == 3 && not (shown_policy reply == 3)
 -- the operation that sets what the status shows
 abbrev pub undo_policy : List ℕ → SetPowerPolicy
 undo_policy reply = record { policy = shown_policy reply }
+
+-- the operation that the data of its request says
+abbrev pub policy_in : List ℕ → SetPowerPolicy
+policy_in body = record { policy = byte_at body 0 }
 
 -- ---- the kind
 

@@ -11,8 +11,9 @@ use Rattle.cfg_records.specs.MaskLaws.{both, both_true}
 use Rattle.cfg_records.specs.Meaning.{Decides, IsRefusal}
 use Rattle.cfg_records.specs.InverseLaws.{some_where, made_where, tested_same, same_tested}
 use Rattle.cfg_records.specs.Kind.{KindLaws, RecordLaws}
-use Rattle.cfg_records.specs.Refusals.{refused_field}
-use Rattle.cfg_records.specs.PowerPolicy.{IsPowerPolicy, IsPowerPolicy-prop}
+use Rattle.cfg_records.specs.RefusalLaws.{refused_field}
+use Rattle.cfg_records.specs.PowerPolicy.{IsPowerPolicy}
+use Rattle.cfg_records.specs.PartLaws.{IsPowerPolicy-prop}
 use Rattle.watch_boot.specs.PowerPolicy.{asked_policy, SetsPolicy, next_policy, status, shown_policy, is_known, undo_policy, words, record_words}
 
 at_first : (xs : List ℕ) (x : ℕ) → length xs ≡ 1 → slice_index xs 0 ≡ x → (k : ℕ) → k < length xs → slice_index xs k ≡ slice_index (x ∷ []) k

@@ -12,7 +12,7 @@ use Rattle.cfg_records.specs.Kind.{KindWords, RecordWords}
 use Rattle.cfg_records.specs.AllKinds.{Place}
 use Rattle.cfg_records.specs.Masks.{has}
 use Rattle.cfg_records.specs.Watchdog.{IsWatchdog, watchdog_value}
-use Rattle.cfg_records.specs.Requests.{application, ipmi_request}
+use Rattle.cfg_records.specs.Requests.{application, ipmi_request, byte_at}
 
 -- the commands that set it and get it
 abbrev pub set_watchdog_timer : ℕ
@@ -88,6 +88,16 @@ live_after_set op live = record {
 -- the data of the request, the low byte of the countdown first
 abbrev pub watchdog_body : SetWatchdog → List ℕ
 watchdog_body op = op.timer_use ∷ op.actions ∷ op.pre_timeout ∷ op.flags_to_clear ∷ op.initial % 256 ∷ op.initial / 256 ∷ []
+
+-- the operation that such data say
+abbrev pub watchdog_in : List ℕ → SetWatchdog
+watchdog_in body = record {
+  timer_use = byte_at body 0;
+  actions = byte_at body 1;
+  pre_timeout = byte_at body 2;
+  flags_to_clear = byte_at body 3;
+  initial = byte_at body 4 + 256 * byte_at body 5;
+}
 
 -- ---- Get Watchdog Timer
 

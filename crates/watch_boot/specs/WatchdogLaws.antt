@@ -15,8 +15,9 @@ use Rattle.cfg_records.specs.MaskLaws.{both}
 use Rattle.cfg_records.specs.Meaning.{Decides, IsRefusal}
 use Rattle.cfg_records.specs.InverseLaws.{some_where, made_where, tested_same, same_tested}
 use Rattle.cfg_records.specs.Kind.{KindLaws, RecordLaws}
-use Rattle.cfg_records.specs.Refusals.{refused_field}
-use Rattle.cfg_records.specs.Watchdog.{IsWatchdog, IsWatchdog-prop, watchdog_value}
+use Rattle.cfg_records.specs.RefusalLaws.{refused_field}
+use Rattle.cfg_records.specs.Watchdog.{IsWatchdog, watchdog_value}
+use Rattle.cfg_records.specs.PartLaws.{IsWatchdog-prop}
 use Rattle.watch_boot.specs.Watchdog.{use_in, kept_use, without_bit_6, interrupt_in, action_in, kept_actions, SetsWatchdog, settings_of, is_accepted, shown_use, watchdog_view, ClearsNamed, configuration, IsStopped, is_stopped, undo_watchdog, words, record_words}
 
 -- ---- what a Set makes

@@ -1,9 +1,9 @@
 //! The power restore policy, as a kind of record.
 ghost use Rattle.std.specs.Prelude.{◌≡◌, OnErr, length};
 ghost use Rattle.cfg_records.specs.Meaning.{told};
-ghost use Rattle.watch_boot.specs.PowerPolicy.{policy_outcome};
+ghost use Rattle.watch_boot.specs.PowerPolicy.{policy_outcome, policy_in};
 
-use cfg_records::{Asked, Key, Live, RecordData, RecordKind, SetPowerPolicy, Value};
+use cfg_records::{Asked, Key, Live, RecordData, RecordKind, SetPowerPolicy, Value, byte_at};
 use two_wire::code::INVALID_DATA_FIELD;
 use two_wire::{Buffer, Code, NetFn};
 
@@ -39,6 +39,15 @@ fn set(op: &SetPowerPolicy, old: &[u8], new: &mut Value) -> Result<(), Code>
     let next = if asked == UNKNOWN { old[0] } else { asked };
     new.replace(&[next]);
     Ok(())
+}
+
+/// The operation that the data of its request says.
+pub fn policy_in(body: &[u8]) -> SetPowerPolicy
+    ensures { result ≡ policy_in body.now }
+{
+    SetPowerPolicy {
+        policy: byte_at(body, 0),
+    }
 }
 
 impl<'a> RecordKind<'a> for PowerPolicyLimits {

@@ -3,10 +3,10 @@ ghost use Rattle.std.specs.Prelude.{◌≡◌, ◌+◌, ◌%◌, ◌≤◌, ◌+
 ghost use Rattle.std.specs.Option.{SomeIff};
 ghost use Rattle.cfg_records.specs.Meaning.{told};
 ghost use Rattle.cfg_records.specs.Watchdog.{IsWatchdog};
-ghost use Rattle.watch_boot.specs.Watchdog.{kept_use, kept_actions, is_accepted, watchdog_outcome, live_after_set, watchdog_body, shown_use, watchdog_view, WasSet, live_after_reset};
+ghost use Rattle.watch_boot.specs.Watchdog.{kept_use, kept_actions, is_accepted, watchdog_outcome, live_after_set, watchdog_body, watchdog_in, shown_use, watchdog_view, WasSet, live_after_reset};
 
 use cfg_records::mask::has;
-use cfg_records::{Asked, Key, Live, RecordData, RecordKind, SetWatchdog, Value};
+use cfg_records::{Asked, Key, Live, RecordData, RecordKind, SetWatchdog, Value, byte_at};
 use two_wire::code::INVALID_DATA_FIELD;
 use two_wire::{Buffer, Code, NetFn};
 
@@ -88,6 +88,19 @@ fn body(op: &SetWatchdog) -> RecordData
         low,
         high,
     ])
+}
+
+/// The operation that the data of its request says.
+pub fn watchdog_in(body: &[u8]) -> SetWatchdog
+    ensures { result ≡ watchdog_in body.now }
+{
+    SetWatchdog {
+        timer_use: byte_at(body, 0),
+        actions: byte_at(body, 1),
+        pre_timeout: byte_at(body, 2),
+        flags_to_clear: byte_at(body, 3),
+        initial: u16::from_le_bytes([byte_at(body, 4), byte_at(body, 5)]),
+    }
 }
 
 /// The timer use byte of a Get reply: bit 6 says whether the timer runs.

@@ -6,17 +6,20 @@ ghost use Rattle.cfg_records.specs.Boards.{pairs_of};
 ghost use Rattle.cfg_records.specs.Meaning.{room_for};
 ghost use Rattle.cfg_records.specs.declared.message.Answered.{Answered as Reply};
 ghost use Rattle.bmc_board.specs.Gives.{Gives};
+ghost use Rattle.bmc_board.specs.Request.{key_in};
 ghost use Rattle.bmc_board.specs.Replies.{done, unknown_code};
 
 use crate::activity::Activity;
 use crate::board::Board;
+use crate::command::{Command, GetCommand, SetCommand};
 use crate::live::{LiveCommand, NO_ERROR, PLDM_TYPES, device_data};
-use crate::request::{Request, read_request};
-use cfg_records::{Answered, Asked, BoardFile, Key, Op, RecordKind, Store, Value};
+use crate::request::read_request;
+use cfg_records::{Answered, Asked, BoardFile, Key, Op, RecordKind, Store, Value, byte_at};
 use record_kinds::{Limits, Setup};
+use sensor_recs::{event_enable, hysteresis, thresholds};
 use std::alloc::{AllocError, Global};
 use two_wire::{Buffer, Bytes, Code, code};
-use watch_boot::watchdog;
+use watch_boot::{power_policy, watchdog};
 
 /// The code for a record that isn't there.
 fn unknown_code(_setup: &Setup, key: &Key) -> Code
@@ -29,6 +32,20 @@ fn unknown_code(_setup: &Setup, key: &Key) -> Code
         | Key::EventEnable(_)
         | Key::PowerPolicy
         | Key::Watchdog => code::NOT_PRESENT,
+    }
+}
+
+/// The record that a command shows.
+fn key_in(command: GetCommand, body: &[u8]) -> Key
+    ensures { result ≡ key_in command body.now }
+{
+    use GetCommand::*;
+    match command {
+        GetSensorHysteresis => Key::Hysteresis(byte_at(body, 0)),
+        GetSensorThresholds => Key::Thresholds(byte_at(body, 0)),
+        GetSensorEventEnable => Key::EventEnable(byte_at(body, 0)),
+        GetChassisStatus => Key::PowerPolicy,
+        GetWatchdogTimer => Key::Watchdog,
     }
 }
 
@@ -56,6 +73,8 @@ impl<S: Store> Board<S> {
     ghost use Rattle.bmc_board.specs.Live.{reset_answer, longest_live_reply};
     ghost use Rattle.bmc_board.specs.Room.{longest_reply};
     ghost use Rattle.bmc_board.specs.Row.{Row};
+    ghost use Rattle.bmc_board.specs.Request as request;
+    ghost use Rattle.bmc_board.specs.Request.{op_in, request_of, asked_of};
     ghost use Rattle.bmc_board.specs.Answer.{serve as serve_of, reply as reply_of, answer_of};
 
     /// A board of this file over this store of its records.
@@ -101,8 +120,8 @@ impl<S: Store> Board<S> {
     /// Carries out a live command, and appends the data of the reply.
     fn live<B: Buffer>(&mut self, command: LiveCommand, to: &mut B) -> Result<(), Code>
         requires room { length (B.bytes to.old) + longest_live_reply ≤ B.capacity }
-        ensures answer { Gives result (B.bytes to.old) (B.bytes to.new) (serve_of self.old.setup (state_of S.records self.old) (Request.Live command)).0 }
-        ensures left { state_of S.records self.new ≡ (serve_of self.old.setup (state_of S.records self.old) (Request.Live command)).1 }
+        ensures answer { Gives result (B.bytes to.old) (B.bytes to.new) (serve_of self.old.setup (state_of S.records self.old) (request.Live command)).0 }
+        ensures left { state_of S.records self.new ≡ (serve_of self.old.setup (state_of S.records self.old) (request.Live command)).1 }
         ensures setup { self.new.setup ≡ self.old.setup }
     {
         match command {
@@ -116,8 +135,8 @@ impl<S: Store> Board<S> {
 
     /// Appends what a Get of the key's record replies.
     fn get<B: Buffer>(&self, key: &Key, to: &mut B) -> Result<(), Code>
-        requires room { length (B.bytes to.old) + longest_reply (Request.Get key.now) ≤ B.capacity }
-        ensures { Gives result (B.bytes to.old) (B.bytes to.new) (serve_of self.now.setup (state_of S.records self.now) (Request.Get key.now)).0 }
+        requires room { length (B.bytes to.old) + longest_reply (request.Get key.now) ≤ B.capacity }
+        ensures { Gives result (B.bytes to.old) (B.bytes to.new) (serve_of self.now.setup (state_of S.records self.now) (request.Get key.now)).0 }
     {
         match (self.setup.limits(key), self.store.get(key)) {
             (Some(limits), Some(value)) => {
@@ -129,10 +148,11 @@ impl<S: Store> Board<S> {
     }
 
     /// Carries out the operation, where its record takes it, and appends what the Set replies.
+    #[inline(always)]
     fn set<B: Buffer>(&mut self, op: &Op, to: &mut B) -> Result<(), Code>
-        requires room { length (B.bytes to.old) + longest_reply (Request.Set op.now) ≤ B.capacity }
-        ensures answer { Gives result (B.bytes to.old) (B.bytes to.new) (serve_of self.old.setup (state_of S.records self.old) (Request.Set op.now)).0 }
-        ensures left { state_of S.records self.new ≡ (serve_of self.old.setup (state_of S.records self.old) (Request.Set op.now)).1 }
+        requires room { length (B.bytes to.old) + longest_reply (request.Set op.now) ≤ B.capacity }
+        ensures answer { Gives result (B.bytes to.old) (B.bytes to.new) (serve_of self.old.setup (state_of S.records self.old) (request.Set op.now)).0 }
+        ensures left { state_of S.records self.new ≡ (serve_of self.old.setup (state_of S.records self.old) (request.Set op.now)).1 }
         ensures setup { self.new.setup ≡ self.old.setup }
     {
         let key = Limits::key(op);
@@ -148,32 +168,58 @@ impl<S: Store> Board<S> {
         }
     }
 
-    /// Does what is asked, and appends the data of the reply.
-    fn serve<B: Buffer>(&mut self, request: &Request, to: &mut B) -> Result<(), Code>
-        requires room { length (B.bytes to.old) + longest_reply request.now ≤ B.capacity }
-        ensures answer { Gives result (B.bytes to.old) (B.bytes to.new) (serve_of self.old.setup (state_of S.records self.old) request.now).0 }
-        ensures left { state_of S.records self.new ≡ (serve_of self.old.setup (state_of S.records self.old) request.now).1 }
+    /// Carries out a command that changes a record. The operation is made here, of the data, and stays here.
+    #[inline(never)]
+    fn change<B: Buffer>(
+        &mut self,
+        command: SetCommand,
+        body: &[u8],
+        to: &mut B,
+    ) -> Result<(), Code>
+        requires room { length (B.bytes to.old) + longest_reply (request.Set (op_in command body.now)) ≤ B.capacity }
+        ensures answer { Gives result (B.bytes to.old) (B.bytes to.new) (serve_of self.old.setup (state_of S.records self.old) (request.Set (op_in command body.now))).0 }
+        ensures left { state_of S.records self.new ≡ (serve_of self.old.setup (state_of S.records self.old) (request.Set (op_in command body.now))).1 }
         ensures setup { self.new.setup ≡ self.old.setup }
     {
-        match request {
-            Request::Live(command) => self.live(*command, to),
-            Request::Get(key) => self.get(key, to),
-            Request::Set(op) => self.set(op, to),
+        use SetCommand::*;
+        match command {
+            SetSensorHysteresis => self.set(&Op::Hysteresis(hysteresis::hysteresis_in(body)), to),
+            SetSensorThresholds => self.set(&Op::Thresholds(thresholds::thresholds_in(body)), to),
+            SetSensorEventEnable => {
+                self.set(&Op::EventEnable(event_enable::event_enable_in(body)), to)
+            }
+            SetPowerRestorePolicy => self.set(&Op::PowerPolicy(power_policy::policy_in(body)), to),
+            SetWatchdogTimer => self.set(&Op::Watchdog(watchdog::watchdog_in(body)), to),
         }
     }
 
-    /// Does what is asked, where that could be read, and appends the data of the reply.
-    pub fn reply<B: Buffer>(
-        &mut self,
-        request: Result<Request, Code>,
-        to: &mut B,
-    ) -> Result<(), Code>
-        requires room { IfOk request (λ r. length (B.bytes to.old) + longest_reply r ≤ B.capacity) }
-        ensures answer { Gives result (B.bytes to.old) (B.bytes to.new) (reply_of self.old.setup (state_of S.records self.old) request).0 }
-        ensures left { state_of S.records self.new ≡ (reply_of self.old.setup (state_of S.records self.old) request).1 }
+    /// Carries out a command with this data, of a length that the command takes, and appends the data of the reply.
+    fn serve<B: Buffer>(&mut self, command: Command, body: &[u8], to: &mut B) -> Result<(), Code>
+        requires room { IfOk (request_of command body.now) (λ r. length (B.bytes to.old) + longest_reply r ≤ B.capacity) }
+        ensures answer { Gives result (B.bytes to.old) (B.bytes to.new) (reply_of self.old.setup (state_of S.records self.old) (request_of command body.now)).0 }
+        ensures left { state_of S.records self.new ≡ (reply_of self.old.setup (state_of S.records self.old) (request_of command body.now)).1 }
         ensures setup { self.new.setup ≡ self.old.setup }
     {
-        self.serve(&request?, to)
+        match command {
+            Command::Live(command) => self.live(command, to),
+            Command::Get(command) => self.get(&key_in(command, body), to),
+            Command::Set(command) => self.change(command, body, to),
+        }
+    }
+
+    /// Carries out the command with the request's data, where a command was read, and appends the data of the reply.
+    pub fn reply<B: Buffer>(
+        &mut self,
+        command: Result<Command, Code>,
+        body: &[u8],
+        to: &mut B,
+    ) -> Result<(), Code>
+        requires room { IfOk (asked_of command body.now) (λ r. length (B.bytes to.old) + longest_reply r ≤ B.capacity) }
+        ensures answer { Gives result (B.bytes to.old) (B.bytes to.new) (reply_of self.old.setup (state_of S.records self.old) (asked_of command body.now)).0 }
+        ensures left { state_of S.records self.new ≡ (reply_of self.old.setup (state_of S.records self.old) (asked_of command body.now)).1 }
+        ensures setup { self.new.setup ≡ self.old.setup }
+    {
+        self.serve(command?, body, to)
     }
 
     /// The answer to a request. It takes no memory.
@@ -191,8 +237,9 @@ impl<S: Store> Board<S> {
         // The data fits the frame or message that carries it.
         ensures fits { length result.body ≤ room_for asked.now }
     {
-        let mut body = Bytes::new();
-        let done = self.reply(read_request(asked), &mut body);
-        answered(done, body)
+        let (command, body) = read_request(asked);
+        let mut shown = Bytes::new();
+        let done = self.reply(command, body, &mut shown);
+        answered(done, shown)
     }
 }

@@ -1,6 +1,6 @@
 //! A port on IPMB.
 ghost use Rattle.std.specs.Prelude.{◌≡◌};
-ghost use Rattle.bmc_board.specs.Request.{asked_by};
+ghost use Rattle.bmc_board.specs.Request.{asked_by, asked_of};
 ghost use Rattle.bmc_board.specs.State.{state_of};
 ghost use Rattle.bmc_core.specs.IpmbPort.{HearsFrame, IsAnswered, asked_in};
 ghost use Rattle.bmc_core.specs.Outs.{answered};
@@ -8,14 +8,14 @@ ghost use Rattle.bmc_core.specs.Outs.{answered};
 use crate::out::{Done, Out, Reason};
 use crate::port::Port;
 use bmc_board::request::read_ipmi;
-use bmc_board::{Board, Request};
+use bmc_board::{Board, Command};
 use cfg_records::Store;
 use ipmb_frame::{Msg, Request as IpmbRequest, begin_response, end_response, read_frame};
 use two_wire::{Code, Frame};
 
-/// What a request asks of the board.
-fn asked_in(request: &IpmbRequest) -> Result<Request, Code>
-    ensures { result ≡ asked_by (asked_in request.now) }
+/// The command of a request to the board, or the first code that refuses it.
+fn command_in(request: &IpmbRequest) -> Result<Command, Code>
+    ensures { asked_of result request.now.body ≡ asked_by (asked_in request.now) }
 {
     let header = &request.header;
     read_ipmi(
@@ -33,7 +33,7 @@ fn respond<S: Store>(board: &mut Board<S>, request: &IpmbRequest, frame: &mut Fr
 {
     let header = &request.header;
     begin_response(frame, header, 0);
-    match board.reply(asked_in(request), frame) {
+    match board.reply(command_in(request), request.body.as_slice(), frame) {
         Ok(()) => {}
         Err(code) => begin_response(frame, header, code.value()),
     }

@@ -1,6 +1,6 @@
 //! What a run writes, and how it ends.
 use super::smbus::FIRST;
-use crate::{Ending, Status, Stream, asked_frame, frame_run};
+use crate::{Console, Ending, Status, Stream, asked_frame, frame_run};
 use std::alloc::{AllocError, Global};
 use std::io;
 use std::process::Abort;
@@ -50,12 +50,11 @@ fn expect_run(
     status: u8,
 ) -> Result<(), Fail> {
     let bytes = hex::decode(alloc, digits)?;
-    let mut out = new_paper(alloc, None);
-    let mut err = new_paper(alloc, None);
-    let ended = frame_run(alloc, bus, bytes.as_slice(), &mut out, &mut err);
+    let mut console = Console::new(new_paper(alloc, None), new_paper(alloc, None));
+    let ended = frame_run(alloc, bus, bytes.as_slice(), &mut console);
     assert_eq!(rt; ended, status, "{digits}");
-    assert_eq!(rt; out.text.as_slice(), text.as_bytes(), "{digits}");
-    assert!(rt; err.text.is_empty(), "{digits}");
+    assert_eq!(rt; console.out.text.as_slice(), text.as_bytes(), "{digits}");
+    assert!(rt; console.err.text.is_empty(), "{digits}");
     Ok(())
 }
 
@@ -122,12 +121,18 @@ fn a_write_that_fails_ends_a_run_with_6_and_is_not_repeated(rt: HostRuntime) -> 
     let line = b"2C14C020082600B2\n";
     // The line of 17 bytes takes three calls of a writer that takes 7 at a time.
     for (left, written, status) in [(0, 0, 6), (1, 7, 6), (2, 14, 6), (3, 17, 0)] {
-        let mut out = new_paper(rt.alloc(), Some(left));
-        let mut err = new_paper(rt.alloc(), None);
-        let ended = frame_run(rt.alloc(), Bus::Ipmb, bytes.as_slice(), &mut out, &mut err);
+        let mut console = Console::new(
+            new_paper(rt.alloc(), Some(left)),
+            new_paper(rt.alloc(), None),
+        );
+        let ended = frame_run(rt.alloc(), Bus::Ipmb, bytes.as_slice(), &mut console);
         assert_eq!(rt; ended, status, "with {left} calls");
-        assert_eq!(rt; out.text.as_slice(), &line[..written], "with {left} calls");
-        assert!(rt; err.text.is_empty(), "with {left} calls");
+        assert_eq!(rt;
+            console.out.text.as_slice(),
+            &line[..written],
+            "with {left} calls"
+        );
+        assert!(rt; console.err.text.is_empty(), "with {left} calls");
     }
     Ok(())
 }
@@ -141,11 +146,10 @@ fn a_run_that_is_refused_memory_says_so_and_ends_with_5(rt: HostRuntime) {
         (None, &b"memory\n"[..], Status::Memory),
         (Some(0), &[], Status::Output),
     ] {
-        let mut out = new_paper(rt.alloc(), Some(0));
-        let mut err = new_paper(rt.alloc(), left);
-        assert_eq!(rt; ending.write(&mut out, &mut err), status);
-        assert!(rt; out.text.is_empty());
-        assert_eq!(rt; err.text.as_slice(), text);
+        let mut console = Console::new(new_paper(rt.alloc(), Some(0)), new_paper(rt.alloc(), left));
+        assert_eq!(rt; ending.write(&mut console), status);
+        assert!(rt; console.out.text.is_empty());
+        assert_eq!(rt; console.err.text.as_slice(), text);
     }
     let words = Ending::without_report(Status::RefusedWords);
     assert!(rt; words.text.is_empty());

@@ -1,8 +1,7 @@
 use Rattle.std.proofs.Common.{◌≡◌, ◌≢◌, ◌≤◌, List, ℕ, Result, [], length, sym, ◌∙◌, ap, subst}
 use Rattle.two_wire.specs.Codes.{success}
 use Rattle.cfg_records.specs.Meaning.{room_for}
-use Rattle.cfg_records.specs.declared.message.Answered.{Answered}
-use Rattle.bmc_board.specs.declared.request.Request.{Request}
+use Rattle.bmc_board.specs.Request.{Request, asked_of}
 use Rattle.bmc_board.specs.State.{State, state_of, IsUnchanged}
 use Rattle.bmc_board.specs.Row.{Row}
 use Rattle.bmc_board.specs.Gives.{Gives}
@@ -20,11 +19,12 @@ returns g c =
     let before : State = state_of g.S.Store.records c.args.self.now in
     let after : State = state_of g.S.Store.records c.reply-done.new.self in
     let given : Result Request ℕ → Given = λ r. reply setup before r in
-    let gives : Gives c.reply-done.result [] c.reply-done.new.to (given c.read_request.result).0 =
-    subst (λ (old : List ℕ). Gives c.reply-done.result old c.reply-done.new.to (given c.read_request.result).0) c.new-body.ensures c.reply-done.ensures.answer in
-    let said : c.answered.result ≡ (given c.read_request.result).0 = c.answered.ensures _ gives in
-    let pair : (let p : Given = (c.answered.result, after) in p) ≡ given c.read_request.result = λ i. (said i, c.reply-done.ensures.left i) in
-    let same : (let p : Given = (c.answered.result, after) in p) ≡ answer_of setup before asked = pair ∙ ap given c.read_request.ensures in
+    let read : Result Request ℕ = asked_of c.read_request-command.result.0 c.read_request-command.result.1.now in
+    let gives : Gives c.reply-done.result [] c.reply-done.new.to (given read).0 =
+    subst (λ (old : List ℕ). Gives c.reply-done.result old c.reply-done.new.to (given read).0) c.new-shown.ensures c.reply-done.ensures.answer in
+    let said : c.answered.result ≡ (given read).0 = c.answered.ensures _ gives in
+    let pair : (let p : Given = (c.answered.result, after) in p) ≡ given read = λ i. (said i, c.reply-done.ensures.left i) in
+    let same : (let p : Given = (c.answered.result, after) in p) ≡ answer_of setup before asked = pair ∙ ap given c.read_request-command.ensures in
     let code : IsCode c.answered.result.code = subst (λ (p : Given). IsCode p.0.code) (sym same) (never_busy setup before asked) in
     record {
       row = subst (λ (p : Given). Row setup before asked p.0 p.1) (sym same) (has_answer setup before asked);

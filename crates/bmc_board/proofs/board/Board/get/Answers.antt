@@ -5,7 +5,7 @@ use Rattle.cfg_records.specs.declared.key.Key.{Key}
 use Rattle.record_kinds.specs.Limits.{is_of, valid, view, get_asked}
 use Rattle.record_kinds.specs.LimitsLaws as laws
 use Rattle.record_kinds.specs.Boards.{limits_at}
-use Rattle.record_kinds.specs.Sound.{valid_at}
+use Rattle.record_kinds.specs.SoundLaws.{valid_at}
 use Rattle.bmc_board.proofs.AnswerFacts.{limits_are_of}
 use Rattle.bmc_board.proofs.board.Board.get.Goals as goal
 

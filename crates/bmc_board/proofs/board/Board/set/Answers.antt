@@ -3,7 +3,8 @@ use Rattle.cfg_records.specs.Records.{Records, with_record}
 use Rattle.cfg_records.specs.declared.key.Key.{Key}
 use Rattle.record_kinds.specs.Limits.{key_of, is_of, valid, sets}
 use Rattle.record_kinds.specs.Boards.{limits_at}
-use Rattle.record_kinds.specs.Sound.{IsSound, valid_at, sound_set}
+use Rattle.record_kinds.specs.Sound.{IsSound}
+use Rattle.record_kinds.specs.SoundLaws.{valid_at, sound_set}
 use Rattle.bmc_board.proofs.AnswerFacts.{limits_are_of}
 use Rattle.bmc_board.proofs.board.Board.set.Goals as goal
 

@@ -3,8 +3,7 @@ use Rattle.std.proofs.lemmas.List.{append-nil}
 use Rattle.ipmb_frame.specs.declared.message.Header.{Header}
 use Rattle.ipmb_frame.specs.Grammar.{IsResponse, response_start}
 use Rattle.cfg_records.specs.declared.message.Answered.{Answered as Reply}
-use Rattle.bmc_board.specs.declared.request.Request.{Request}
-use Rattle.bmc_board.specs.Request.{asked_by}
+use Rattle.bmc_board.specs.Request.{Request, asked_of, asked_by}
 use Rattle.bmc_board.specs.State.{State, state_of}
 use Rattle.bmc_board.specs.Gives.{Gives}
 use Rattle.bmc_board.specs.Answer.{Given, reply, answer_of}
@@ -33,9 +32,10 @@ returns-clause-answer g c =
     let before : State = state_of g.S.Store.records c.args.board.now in
     let request = c.args.request.now in
     let given : Result Request ℕ → Given = λ r. reply setup before r in
+    let read : asked_of c.command_in.result c.as_slice.result.now ≡ asked_by (asked_in request) = ap (asked_of c.command_in.result) c.as_slice.ensures.value ∙ c.command_in.ensures in
     let answer : Reply = (answer_of setup before (asked_in request)).0 in
     let gives : Gives c.reply.result c.begin_response.new.frame c.reply.new.to answer =
-    subst (λ (r : Result Request ℕ). Gives c.reply.result c.begin_response.new.frame c.reply.new.to (given r).0) c.asked_in.ensures c.reply.ensures.answer in
+    subst (λ (r : Result Request ℕ). Gives c.reply.result c.begin_response.new.frame c.reply.new.to (given r).0) read c.reply.ensures.answer in
     let started : c.match-reply.frame ≡ response_start request.header answer.code ++ answer.body =
     elim c.match-reply.branch [
       | in-Ok w ↦ w.frame-is ∙ done_frame _ c.reply.result request.header c.begin_response.new.frame c.reply.new.to answer w.in-Ok.is c.begin_response.ensures.started gives
@@ -45,5 +45,5 @@ returns-clause-answer g c =
       frame = c.end_response.new.frame;
       spelled = c.end_response.ensures.response request.header answer.code answer.body c.begin_response.ensures.header (answers_fit setup before (asked_in request) c.args.board.now.sound) started;
       sent = refl;
-      left = c.reply.ensures.left ∙ ap (λ (r : Result Request ℕ). (given r).1) c.asked_in.ensures;
+      left = c.reply.ensures.left ∙ ap (λ (r : Result Request ℕ). (given r).1) read;
     }

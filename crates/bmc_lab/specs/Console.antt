@@ -1,0 +1,15 @@
+-- Standard output and standard error.
+use Rattle.std.specs.Prelude.{ℕ, List, Option, IsTrue}
+use Rattle.std.specs.Io.KnownBytes.{Appends, Keeps}
+use Rattle.bmc_lab.specs.declared.console.Console.{Console}
+use Rattle.bmc_lab.specs.declared.console.Stream.{Stream}
+use Rattle.bmc_lab.specs.declared.console.Stream.TheVariants.{Output, Error}
+
+-- a write failed
+abbrev pub HasFailed : {W E : Type 0} → Console W E → Type 0
+HasFailed console = IsTrue console.failed
+
+-- the stream grows by the text, and the other one stays as it was
+abbrev pub Written : Stream → List ℕ → (out_old out_new err_old err_new : Option (List ℕ)) → Type 0
+Written Output text out_old out_new err_old err_new = Appends out_old out_new text × Keeps err_old err_new
+Written Error text out_old out_new err_old err_new = Keeps out_old out_new × Appends err_old err_new text

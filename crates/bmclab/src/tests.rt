@@ -1,0 +1,56 @@
+//! The words of the command line, as the program gets them.
+use crate::words::read;
+use bmc_lab::{AskedFrame, Status};
+use std::alloc::{AllocError, Global};
+use std::test::Fail;
+use two_wire::Bus;
+
+/// What the words name that follow the program's name.
+fn named(alloc: Global, words: &[&str]) -> Result<Result<AskedFrame, Status>, AllocError> {
+    let mut line = vec![in alloc; String::from_str(alloc, "bmclab")?]?;
+    for word in words {
+        line.push(String::from_str(alloc, *word)?)?;
+    }
+    Ok(read(alloc, line.as_slice()))
+}
+
+#[test]
+fn the_bus_is_the_one_that_is_named(rt: HostRuntime) -> Result<(), Fail> {
+    for (words, bus) in [
+        (&["frame", "2018"][..], Bus::Ipmb),
+        (&["frame", "--bus", "ipmb", "2018"], Bus::Ipmb),
+        (&["frame", "--bus", "smbus", "2018"], Bus::Smbus),
+        (&["frame", "--bus=smbus", "2018"], Bus::Smbus),
+        (&["frame", "2018", "--bus", "smbus"], Bus::Smbus),
+    ] {
+        let Ok(frame) = named(rt.alloc(), words)? else {
+            return Err("refused".into());
+        };
+        assert_eq!(rt; frame.bus, bus, "{words:?}");
+        assert_eq!(rt;
+            frame.bytes.as_slice(),
+            [0x20, 0x18].as_slice(),
+            "{words:?}"
+        );
+    }
+    Ok(())
+}
+
+#[test]
+fn other_lines_are_refused(rt: HostRuntime) -> Result<(), Fail> {
+    for words in [
+        &[][..],
+        &["frame"],
+        &["frame", "--bus", "can", "2018"],
+        &["frame", "--bus"],
+        &["frame", "2018", "2018"],
+        &["frame", "--lun", "0", "2018"],
+        &["send", "2018"],
+        &["help"],
+        &["--help"],
+    ] {
+        let refusal = named(rt.alloc(), words)?.err();
+        assert_eq!(rt; refusal, Some(Status::RefusedWords), "{words:?}");
+    }
+    Ok(())
+}

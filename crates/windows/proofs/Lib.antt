@@ -1,0 +1,5 @@
+pub mod Circles
+pub mod Rooms
+pub mod Tied
+pub mod Tables
+pub mod Finds

@@ -1,0 +1,11 @@
+-- The circles of numbers that windows are for.
+use Rattle.std.specs.Prelude.{ℕ, Bool, ◌==◌, ◌||◌, if◌then◌else◌}
+use Rattle.bus_model.specs.Numbering.{is_next}
+
+-- 64 sequence numbers on IPMB, or 32 instances of PLDM
+abbrev pub is_circle : ℕ → Bool
+is_circle numbers = (numbers == 64) || (numbers == 32)
+
+-- 1 where the number is one of the next half of the circle, which are forgotten when a request is carried out; else 0
+abbrev pub next_bit : ℕ → ℕ → ℕ → ℕ
+next_bit numbers low high = if is_next numbers low high then 1 else 0

@@ -1,0 +1,4 @@
+pub mod Circle
+pub mod Window
+pub mod Keeps
+pub mod Heard
