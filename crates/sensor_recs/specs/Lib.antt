@@ -1,4 +1,5 @@
 pub mod Requests
+pub mod Readings
 pub mod Thresholds
 pub mod ThresholdsLaws
 pub mod ThresholdsKind
