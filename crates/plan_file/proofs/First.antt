@@ -1,11 +1,9 @@
 -- The first of the faults that count.
-use Rattle.std.proofs.Common.{◌≡◌, ℕ, List, [], ◌∷◌, ◌++◌, map, Bool, true, false, cond, Option, Some, None, refl, ap, sym, ◌∙◌}
+use Rattle.std.proofs.Common.{◌≡◌, List, [], ◌∷◌, ◌++◌, map, Bool, true, false, cond, Some, None, refl, ap, sym, ◌∙◌}
 use Rattle.std.proofs.lemmas.List.{append-nil}
 use Rattle.std.specs.List.{filter, find}
-use Rattle.std.specs.Option.{option_map}
 use Rattle.toml.specs.Data.{Members}
 use Rattle.plan_file.specs.declared.row.Row.{Row}
-use Rattle.plan_file.specs.declared.fault.FieldFault.{FieldFault}
 use Rattle.plan_file.specs.declared.fault.FieldFault.TheVariants as fault
 use Rattle.plan_file.specs.Faults.{is_missing, is_mistyped, is_beyond, field_faults, first}
 

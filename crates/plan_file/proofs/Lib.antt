@@ -1,5 +1,5 @@
 pub mod Values
-pub mod Tests
+pub mod TestFacts
 pub mod First
 pub mod Rows
 pub mod Sensors

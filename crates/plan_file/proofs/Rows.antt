@@ -1,5 +1,5 @@
 -- What an item without a fault has in its fields.
-use Rattle.std.proofs.Common.{◌≡◌, ℕ, ◌<◌, ◌≤◌, List, [], ◌∷◌, ◌++◌, map, Bool, true, false, not, ◌&&◌, cond, Option, Some, None, is_none, option_and_then, refl, ap, sym, ◌∙◌, arith, nat_le}
+use Rattle.std.proofs.Common.{◌≡◌, ℕ, ◌<◌, ◌≤◌, List, [], ◌∷◌, ◌++◌, map, Bool, true, false, not, cond, Option, Some, None, refl, sym, ◌∙◌, arith, nat_le}
 use Rattle.std.proofs.lemmas.Bool.{and_parts}
 use Rattle.std.proofs.lemmas.Bool.Decides.{nat_tests}
 use Rattle.std.proofs.lemmas.Option.{same_Some}
@@ -9,11 +9,10 @@ use Rattle.plan_file.specs.declared.field.Field.{Field}
 use Rattle.plan_file.specs.declared.row.Row.{Row}
 use Rattle.plan_file.specs.declared.row.Shape.{Shape}
 use Rattle.plan_file.specs.declared.row.Shape.TheVariants as shape
-use Rattle.plan_file.specs.declared.fault.FieldFault.{FieldFault}
 use Rattle.plan_file.specs.declared.fault.FieldFault.TheVariants as fault
 use Rattle.plan_file.specs.Trees.{in_field, natural, number_in}
 use Rattle.plan_file.specs.Ranges.{passes, has_type, is_between, is_in_range}
-use Rattle.plan_file.specs.Holds.{HasNumber, HasBelow}
+use Rattle.plan_file.specs.Holds.{HasBelow}
 use Rattle.plan_file.specs.Faults.{is_needed, is_missing, is_mistyped, is_beyond, field_faults}
 
 -- the item has no fault in the row's field

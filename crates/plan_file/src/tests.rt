@@ -79,8 +79,8 @@ const fn sensor(place: usize, field: Field) -> Place {
     }
 }
 
-/// The cases of the file's own fields.
-fn top_cases() -> [Case; 3] {
+/// A case for each field: the file's own, `[device]`'s, and the second `[[sensor]]`'s.
+fn cases() -> [Case; 15] {
     [
         Case {
             line: "tid = 5",
@@ -109,12 +109,6 @@ fn top_cases() -> [Case; 3] {
                 "watchdog = [0, 0, 0, 1]",
             ],
         },
-    ]
-}
-
-/// The cases of `[device]`.
-fn board_cases() -> [Case; 7] {
-    [
         Case {
             line: "id = 0x20",
             place: board(Field::Id),
@@ -164,12 +158,6 @@ fn board_cases() -> [Case; 7] {
             beyond: ["product = -1", "product = 0x10000"],
             inside: ["product = 0", "product = 0xFFFF"],
         },
-    ]
-}
-
-/// The cases of the second `[[sensor]]`.
-fn sensor_cases() -> [Case; 5] {
-    [
         Case {
             line: "number = 7",
             place: sensor(1, Field::Number),
@@ -215,7 +203,7 @@ fn sensor_cases() -> [Case; 5] {
 }
 
 /// The sample board's file with a line in another's place.
-fn edited(alloc: Global, old: &str, new: &str) -> Result<String, AllocError> {
+fn edited(alloc: Global, old: &'static str, new: &'static str) -> Result<String, AllocError> {
     let mut text = String::new(alloc);
     for line in SAMPLE.lines() {
         text.push_str(if line == old { new } else { line })?;
@@ -225,7 +213,7 @@ fn edited(alloc: Global, old: &str, new: &str) -> Result<String, AllocError> {
 }
 
 /// The fault of the sample board's file with a line in another's place.
-fn fault(alloc: Global, old: &str, new: &str) -> Result<Option<FileFault>, Fail> {
+fn fault(alloc: Global, old: &'static str, new: &'static str) -> Result<Option<FileFault>, Fail> {
     let text = edited(alloc, old, new)?;
     Ok(read_board(alloc, text.as_str()).err())
 }
@@ -253,8 +241,7 @@ fn the_sample_file_holds_the_sample_board(rt: HostRuntime) -> Result<(), Fail> {
 #[test]
 fn a_field_that_is_left_out_mistyped_or_out_of_range_is_named(rt: HostRuntime) -> Result<(), Fail> {
     let alloc = rt.alloc();
-    let (tops, boards, sensors) = (top_cases(), board_cases(), sensor_cases());
-    for case in tops.iter().chain(boards.iter()).chain(sensors.iter()) {
+    for case in cases() {
         let missing = Some(FileFault::Missing(case.place));
         assert_eq!(rt; fault(alloc, case.line, "")?, missing, "{}", case.line);
         let mistyped = Some(FileFault::WrongType(case.place));

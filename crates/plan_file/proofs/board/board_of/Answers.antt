@@ -1,6 +1,5 @@
-use Rattle.std.proofs.Common.{◌≡◌, ℕ, ◌<◌, ◌≤◌, [], true, Some, Err, map, inl, inr, refl, sym, ◌∙◌, ap, arith, lit<, rules}
+use Rattle.std.proofs.Common.{◌≡◌, ◌≤◌, [], true, Err, map, inl, inr, refl, sym, ◌∙◌, ap, lit<, rules}
 use Rattle.std.proofs.lemmas.Result.{err_from_is_err_and}
-use Rattle.toml.specs.Data.{Members}
 use Rattle.toml.specs.View.{view, table_view}
 use Rattle.plan_file.specs.declared.field.Field.TheVariants as field
 use Rattle.plan_file.specs.declared.fault.Item.TheVariants as item

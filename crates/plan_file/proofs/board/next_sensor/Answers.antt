@@ -1,4 +1,4 @@
-use Rattle.std.proofs.Common.{◌≡◌, length, Some, map, sym, ◌∙◌, ap, rules}
+use Rattle.std.proofs.Common.{◌≡◌, length, map, sym, ◌∙◌, ap, rules}
 use Rattle.std.proofs.lemmas.Result.{err_from_is_err_and}
 use Rattle.toml.specs.View.{view, table_view}
 use Rattle.plan_file.specs.declared.field.Field.TheVariants as field

@@ -1,5 +1,4 @@
-use Rattle.std.proofs.Common.{◌≡◌, ℕ, ◌<◌, ◌≤◌, true, Some, IsSome, is_some, refl, sym, ◌∙◌, ap, arith, lit<, rules}
-use Rattle.toml.specs.Data.{Members}
+use Rattle.std.proofs.Common.{◌≡◌, ◌≤◌, true, is_some, refl, sym, ◌∙◌, ap, arith, lit<}
 use Rattle.toml.specs.View.{view, table_view}
 use Rattle.plan_file.specs.declared.field.Field.TheVariants as field
 use Rattle.plan_file.specs.declared.row.Shape.TheVariants as shape

@@ -1,6 +1,5 @@
-use Rattle.std.proofs.Common.{◌≡◌, ◌∙◌, ap, map, sym, true, false, rules, ◌++◌, ◌∷◌, [], List, ◌==◌}
+use Rattle.std.proofs.Common.{◌≡◌, ◌∙◌, ap, sym, false, ◌++◌, ◌∷◌, [], ◌==◌}
 use Rattle.std.specs.List.{list_any}
-use Rattle.toml.specs.View.{view}
 use Rattle.cfg_records.specs.declared.sensor.Sensor.{Sensor}
 use Rattle.plan_file.proofs.Sensors.{next_zip, next_left, next_differs}
 use Rattle.plan_file.proofs.board.sensors_of.Goals as goal

@@ -1,7 +1,7 @@
-use Rattle.std.proofs.Common.{◌≡◌, None, Option, sym, ◌∙◌, rules}
+use Rattle.std.proofs.Common.{◌≡◌, None, sym, ◌∙◌}
 use Rattle.std.specs.List.{find}
 use Rattle.toml.specs.View.{table_view}
-use Rattle.plan_file.specs.Faults.{is_missing, is_mistyped, is_beyond}
+use Rattle.plan_file.specs.Faults.{is_missing, is_mistyped}
 use Rattle.plan_file.proofs.First.{missing_first, mistyped_first, beyond_first, sound}
 use Rattle.plan_file.proofs.check.first_fault.Goals as goal
 

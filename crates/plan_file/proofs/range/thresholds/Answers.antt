@@ -3,7 +3,7 @@ use Rattle.toml.specs.View.{view, table_view}
 use Rattle.plan_file.specs.Trees.{bytes_in, number_in}
 use Rattle.plan_file.specs.declared.field.Field.TheVariants as field
 use Rattle.plan_file.specs.Ranges.{are_masks}
-use Rattle.plan_file.proofs.Tests.{tests_thresholds}
+use Rattle.plan_file.proofs.TestFacts.{tests_thresholds}
 use Rattle.plan_file.proofs.range.thresholds.Goals as goal
 
 pub returns-in-Some-bytes-clause-made : goal.returns-in-Some-bytes-clause-made

@@ -1,6 +1,4 @@
-use Rattle.std.proofs.Common.{rules}
 use Rattle.toml.proofs.Views.{table_get}
-use Rattle.plan_file.specs.Words.{word}
 use Rattle.plan_file.proofs.tree.in_field.Goals as goal
 
 pub returns : goal.returns

@@ -1,7 +1,6 @@
-use Rattle.std.proofs.Common.{◌≡◌, Some, map, rules, ap, sym, ◌∙◌}
+use Rattle.std.proofs.Common.{◌≡◌, Some, rules}
 use Rattle.toml.specs.Data.{as_array}
 use Rattle.toml.specs.View.{view, array_view}
-use Rattle.plan_file.specs.Trees.{members, list_of}
 use Rattle.plan_file.proofs.Values.{list_of-view}
 use Rattle.plan_file.proofs.tree.members.Goals as goal
 

@@ -1,8 +1,7 @@
-use Rattle.std.proofs.Common.{◌≡◌, ℕ, List, Option, Some, length, map, refl, sym, ◌∙◌, ap, rules}
+use Rattle.std.proofs.Common.{◌≡◌, Some, map, refl, sym, ◌∙◌, rules}
 use Rattle.std.proofs.lemmas.List.{length-map}
-use Rattle.toml.specs.Data.{Data}
 use Rattle.toml.specs.View.{view}
-use Rattle.plan_file.specs.Trees.{members, naturals, naturals_in, of_length}
+use Rattle.plan_file.specs.Trees.{members}
 use Rattle.plan_file.proofs.Values.{all_read, none_read}
 use Rattle.plan_file.proofs.tree.naturals.Goals as goal
 
