@@ -46,7 +46,12 @@ fn upper_critical_rises_and_falls(rt: HostRuntime) -> Result<(), Fail> {
         assert!(rt; &beyond[..3] == [false; 3].as_slice(), "{reading:02X}");
         assert!(rt; &beyond[3..] == upper.as_slice(), "{reading:02X}");
     }
-    assert_eq!(rt; upper_critical(false).offset(), 9);
+    let asserted = Event {
+        place: 4,
+        high: true,
+        deasserted: false,
+    };
+    assert_eq!(rt; asserted.offset(), 9);
     Ok(())
 }
 
