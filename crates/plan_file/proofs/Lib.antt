@@ -2,4 +2,5 @@ pub mod Values
 pub mod TestFacts
 pub mod First
 pub mod Rows
+pub mod Events
 pub mod Sensors

@@ -3,7 +3,9 @@ use Rattle.std.specs.Prelude.{◌≡◌, ◌<◌, ℕ, List, [], ◌∷◌, leng
 use Rattle.std.specs.List.{AllZip}
 use Rattle.toml.specs.Data.{Data, Members}
 use Rattle.toml.specs.Parse.{parse_document}
+use Rattle.cfg_records.specs.EventEnable.{flags_byte}
 use Rattle.cfg_records.specs.declared.device.Device.{Device}
+use Rattle.cfg_records.specs.declared.event_enable.EventEnable.{EventEnable}
 use Rattle.cfg_records.specs.declared.sensor.Sensor.{Sensor}
 use Rattle.cfg_records.specs.declared.watchdog.Watchdog.{Watchdog}
 use Rattle.cfg_records.specs.declared.board_file.BoardFile.{BoardFile}
@@ -38,6 +40,13 @@ pub record HoldsDevice (tree : Members) (device : Device) : Type 0 where
   pub manufacturer : HasNumber field.Manufacturer tree device.manufacturer.number
   pub product : HasNumber field.Product tree device.product
 
+-- the table holds a sensor's events
+pub record HoldsEvents (tree : Members) (events : EventEnable) : Type 0 where
+  pub supported : HasNumber field.Supported tree events.supported
+  pub flags : HasNumber field.Flags tree (flags_byte events.messages events.scanning)
+  pub assertions : HasNumber field.Assert tree events.enabled.assertions
+  pub deassertions : HasNumber field.Deassert tree events.enabled.deassertions
+
 -- the table holds a sensor
 pub record HoldsSensor (tree : Members) (sensor : Sensor) : Type 0 where
   pub numbered : HasNumber field.Number tree sensor.number
@@ -45,6 +54,7 @@ pub record HoldsSensor (tree : Members) (sensor : Sensor) : Type 0 where
   pub settable : HasNumber field.Settable tree sensor.thresholds.masks.settable
   pub values : HasNumbers field.Thresholds tree sensor.thresholds.values
   pub hysteresis : HasNumbers field.Hysteresis tree (sensor.hysteresis.positive ∷ sensor.hysteresis.negative ∷ [])
+  pub events : HoldsEvents tree sensor.events
 
 -- the member of an array holds a sensor
 abbrev pub IsSensorIn : Data → Sensor → Type 0

@@ -3,6 +3,7 @@ use Rattle.std.specs.Prelude.{◌==◌, ℕ, ◌/◌, ◌%◌, Bool, true, false
 use Rattle.std.specs.List.{list_all}
 use Rattle.cfg_records.specs.Masks.{has, all_below}
 use Rattle.cfg_records.specs.Thresholds.{place_of}
+use Rattle.cfg_records.specs.EventEnable.{are_within}
 use Rattle.toml.specs.Data.{Data, Members, as_integer, as_table}
 use Rattle.plan_file.specs.declared.field.Field.TheVariants as field
 use Rattle.plan_file.specs.declared.row.Shape.{Shape}
@@ -32,6 +33,8 @@ has_type (shape.Number least most) d = is_integer d
 has_type shape.Digits d = is_integer d
 has_type shape.Pair d = is_array_of is_integer d
 has_type shape.Thresholds d = is_array_of is_integer d
+has_type shape.Flags d = is_integer d
+has_type shape.Events d = is_integer d
 has_type shape.Watchdog d = is_array_of is_integer d
 has_type shape.Table d = is_table d
 has_type (shape.Tables most) d = is_array_of is_table d
@@ -67,6 +70,14 @@ are_thresholds readable settable values =
     all_below (λ place. is_there readable settable place || (slice_index values place == 0)) 6
     && all_below (λ high. all_below (are_ordered readable settable values high) high) 6
 
+-- a byte with no bits but bits 7 and 6
+abbrev pub are_flags : ℕ → Bool
+are_flags n = nat_lt n 256 && (n % 64 == 0)
+
+-- two masks of sixteen events: each event of the second is supported, by the first
+abbrev pub are_supported : ℕ → ℕ → Bool
+are_supported supported events = (nat_lt supported 65536 && nat_lt events 65536) && are_within events supported
+
 -- the settings of a watchdog timer: a use of at most 5 in bits 2:0 and bit 7, an interrupt and an action of at most 3, a
 -- byte, and two bytes
 abbrev pub are_settings : List ℕ → Bool
@@ -89,6 +100,8 @@ is_in_range tree shape.Pair d = is_some (bytes_in 2 d)
 is_in_range tree shape.Thresholds d =
     are_masks (number_in field.Readable tree) (number_in field.Settable tree)
     && passes (are_thresholds (or_zero (number_in field.Readable tree)) (or_zero (number_in field.Settable tree))) (bytes_in 6 d)
+is_in_range tree shape.Flags d = passes are_flags (natural d)
+is_in_range tree shape.Events d = passes (λ supported. passes (are_supported supported) (natural d)) (number_in field.Supported tree)
 is_in_range tree shape.Watchdog d = passes are_settings (naturals_in 4 d)
 is_in_range tree shape.Table d = true
 is_in_range tree (shape.Tables most) d = nat_le (length (or_none (members d))) most

@@ -7,7 +7,7 @@ ghost use Rattle.toml.specs.View.{view, table_view};
 ghost use Rattle.plan_file.specs.Trees.{in_field, table_of, table_in, members_in};
 ghost use Rattle.plan_file.specs.Ranges.{is_table};
 ghost use Rattle.plan_file.specs.Faults.{field_faults, sensor_faults, first};
-ghost use Rattle.plan_file.specs.Holds.{HasNumber, HasBelow, HoldsDevice, HoldsSensor, IsSensorIn, IsNextFault, number_of, Answers, Reads};
+ghost use Rattle.plan_file.specs.Holds.{HasNumber, HasBelow, HoldsDevice, HoldsEvents, HoldsSensor, IsSensorIn, IsNextFault, number_of, Answers, Reads};
 
 use crate::check::check;
 use crate::fault::{FileFault, Item, Place};
@@ -15,7 +15,12 @@ use crate::field::Field;
 use crate::range::{digits, hysteresis, thresholds, watchdog};
 use crate::row::{DEVICE, SENSOR, TOP};
 use crate::tree::{in_field, members_in, number};
-use cfg_records::{BoardFile, Device, Distinct, ManufacturerId, PowerPolicy, Sensor, Sensors};
+use cfg_records::event_enable::{MESSAGES_PLACE, SCANNING_PLACE};
+use cfg_records::mask::has;
+use cfg_records::{
+    BoardFile, Device, Distinct, EventEnable, EventMasks, ManufacturerId, PowerPolicy, Sensor,
+    Sensors,
+};
 use std::alloc::Global;
 use toml::{Table, Value};
 
@@ -79,6 +84,22 @@ fn device(table: &Table) -> Device
     }
 }
 
+/// The events of the sensor that the table is.
+fn events(table: &Table) -> EventEnable
+    requires { field_faults SENSOR (table_view table.now) ≡ [] }
+    ensures { HoldsEvents (table_view table.now) result }
+{
+    let supported = word_in(table, Field::Supported);
+    let flags = byte_in(table, Field::Flags);
+    let enabled = EventMasks {
+        assertions: word_in(table, Field::Assert),
+        deassertions: word_in(table, Field::Deassert),
+    };
+    let messages = has(flags, MESSAGES_PLACE);
+    let scanning = has(flags, SCANNING_PLACE);
+    EventEnable::new(supported, messages, scanning, enabled).unwrap()
+}
+
 /// The sensor that the table is.
 fn sensor(table: &Table) -> Sensor
     requires { field_faults SENSOR (table_view table.now) ≡ [] }
@@ -90,6 +111,7 @@ fn sensor(table: &Table) -> Sensor
         number: byte_in(table, Field::Number),
         thresholds: thresholds(table, values).unwrap(),
         hysteresis: hysteresis(pair).unwrap(),
+        events: events(table),
     }
 }
 

@@ -24,6 +24,10 @@ pub enum Field {
     Settable,
     Thresholds,
     Hysteresis,
+    Supported,
+    Flags,
+    Assert,
+    Deassert,
 }
 
 impl Field {
@@ -49,6 +53,10 @@ impl Field {
             Field::Settable => "settable",
             Field::Thresholds => "thresholds",
             Field::Hysteresis => "hysteresis",
+            Field::Supported => "supported",
+            Field::Flags => "flags",
+            Field::Assert => "assert",
+            Field::Deassert => "deassert",
         }
     }
 }

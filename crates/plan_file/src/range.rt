@@ -4,13 +4,14 @@ ghost use Rattle.std.specs.List.{list_all};
 ghost use Rattle.cfg_records.specs.Watchdog.{watchdog_value};
 ghost use Rattle.toml.specs.View.{view, table_view};
 ghost use Rattle.plan_file.specs.Trees.{members, or_none, natural, naturals_in, bytes_in, number_in};
-ghost use Rattle.plan_file.specs.Ranges.{passes, is_integer, is_table, is_array_of, has_type, is_between, are_digits, are_masks, are_thresholds, are_settings, is_in_range};
+ghost use Rattle.plan_file.specs.Ranges.{passes, is_integer, is_table, is_array_of, has_type, is_between, are_digits, are_masks, are_thresholds, are_flags, are_settings, is_in_range};
 ghost use Rattle.plan_file.specs.Faults.{is_needed};
 ghost use Rattle.plan_file.specs.Holds.{settings};
 
 use crate::field::Field;
 use crate::row::Shape;
 use crate::tree::{bytes, members, natural, naturals, number};
+use cfg_records::event_enable::are_within;
 use cfg_records::{Bcd, Hysteresis, ThresholdMasks, Thresholds, Watchdog};
 use toml::{Table, Value};
 
@@ -128,6 +129,29 @@ pub fn thresholds(item: &Table, value: &Value) -> Option<Thresholds>
     }
 }
 
+/// Whether the value is a byte with no bits but bits 7 and 6.
+fn are_flags(value: &Value) -> bool
+    ensures { result ≡ passes are_flags (natural (view value.now)) }
+{
+    match natural(value) {
+        Some(number) => number < 256 && number % 64 == 0,
+        None => false,
+    }
+}
+
+/// Whether the value is a mask of events that the sensor that the table is supports.
+fn are_supported(item: &Table, value: &Value) -> bool
+    ensures { result ≡ is_in_range (table_view item.now) Shape.Events (view value.now) }
+{
+    let (Some(supported), Some(events)) = (number(item, Field::Supported), natural(value)) else {
+        return false;
+    };
+    let (Ok(supported), Ok(events)) = (u16::try_from(supported), u16::try_from(events)) else {
+        return false;
+    };
+    are_within(events, supported)
+}
+
 /// The settings of a watchdog timer that the value is.
 pub fn watchdog(value: &Value) -> Option<Watchdog>
     ensures made { is_some result ≡ passes are_settings (naturals_in 4 (view value.now)) }
@@ -159,7 +183,7 @@ impl Shape {
         ensures { result ≡ has_type self.now (view value.now) }
     {
         match self {
-            Shape::Number(..) | Shape::Digits => value.is_integer(),
+            Shape::Number(..) | Shape::Digits | Shape::Flags | Shape::Events => value.is_integer(),
             Shape::Pair | Shape::Thresholds | Shape::Watchdog => are_integers(value),
             Shape::Table => value.is_table(),
             Shape::Tables(_) => are_tables(value),
@@ -175,6 +199,8 @@ impl Shape {
             Shape::Digits => digits(value).is_some(),
             Shape::Pair => hysteresis(value).is_some(),
             Shape::Thresholds => thresholds(item, value).is_some(),
+            Shape::Flags => are_flags(value),
+            Shape::Events => are_supported(item, value),
             Shape::Watchdog => watchdog(value).is_some(),
             Shape::Table => true,
             Shape::Tables(most) => are_at_most(value, *most),

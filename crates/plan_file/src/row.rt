@@ -12,6 +12,10 @@ pub enum Shape {
     Pair,
     /// Six bytes, in a list: thresholds that a sensor with the item's masks can have.
     Thresholds,
+    /// A byte with no bits but bits 7 and 6.
+    Flags,
+    /// A mask of events, each of which the item supports.
+    Events,
     /// The settings of a watchdog timer, in a list: use, actions, pre-timeout interval and countdown.
     Watchdog,
     /// A table.
@@ -48,10 +52,14 @@ pub const DEVICE: [Row; 7] = [
 ];
 
 /// The fields of a `[[sensor]]`.
-pub const SENSOR: [Row; 5] = [
+pub const SENSOR: [Row; 9] = [
     Row(Field::Number, Shape::Number(0, 254)),
     Row(Field::Readable, Shape::Number(0, 63)),
     Row(Field::Settable, Shape::Number(0, 63)),
     Row(Field::Thresholds, Shape::Thresholds),
     Row(Field::Hysteresis, Shape::Pair),
+    Row(Field::Supported, Shape::Number(0, 4095)),
+    Row(Field::Flags, Shape::Flags),
+    Row(Field::Assert, Shape::Events),
+    Row(Field::Deassert, Shape::Events),
 ];

@@ -79,8 +79,9 @@ const fn sensor(place: usize, field: Field) -> Place {
     }
 }
 
-/// A case for each field: the file's own, `[device]`'s, and the second `[[sensor]]`'s.
-fn cases() -> [Case; 15] {
+/// A case for each field: the file's own, `[device]`'s, and the second `[[sensor]]`'s. The line of `deassert` is each
+/// sensor's, and the first counts.
+fn cases() -> [Case; 19] {
     [
         Case {
             line: "tid = 5",
@@ -199,6 +200,34 @@ fn cases() -> [Case; 15] {
             beyond: ["hysteresis = [0]", "hysteresis = [0, 256]"],
             inside: ["hysteresis = [0, 255]", "hysteresis = [255, 0]"],
         },
+        Case {
+            line: "supported = 0xFC0",
+            place: sensor(1, Field::Supported),
+            mistyped: "supported = [0xFC0]",
+            beyond: ["supported = -1", "supported = 4096"],
+            inside: ["supported = 0", "supported = 4095"],
+        },
+        Case {
+            line: "flags = 0",
+            place: sensor(1, Field::Flags),
+            mistyped: "flags = true",
+            beyond: ["flags = 0x20", "flags = 0x100"],
+            inside: ["flags = 0x40", "flags = 0xC0"],
+        },
+        Case {
+            line: "assert = 0",
+            place: sensor(1, Field::Assert),
+            mistyped: "assert = [6]",
+            beyond: ["assert = -1", "assert = 0x20"],
+            inside: ["assert = 0x40", "assert = 0xFC0"],
+        },
+        Case {
+            line: "deassert = 0",
+            place: sensor(0, Field::Deassert),
+            mistyped: "deassert = \"0\"",
+            beyond: ["deassert = -1", "deassert = 0x1000"],
+            inside: ["deassert = 0x40", "deassert = 0xFC0"],
+        },
     ]
 }
 
@@ -234,6 +263,27 @@ fn the_sample_file_holds_the_sample_board(rt: HostRuntime) -> Result<(), Fail> {
         assert!(rt; one.thresholds.masks == other.thresholds.masks);
         assert!(rt; one.thresholds.values == other.thresholds.values);
         assert!(rt; one.hysteresis == other.hysteresis);
+        assert_eq!(rt; one.events.supported, other.events.supported);
+        assert_eq!(rt; one.events.messages, other.events.messages);
+        assert_eq!(rt; one.events.scanning, other.events.scanning);
+        assert!(rt; one.events.enabled == other.events.enabled);
+    }
+    Ok(())
+}
+
+#[test]
+fn flags_say_messages_and_scanning(rt: HostRuntime) -> Result<(), Fail> {
+    let cases = [
+        ("flags = 0x40", false, true),
+        ("flags = 0x80", true, false),
+        ("flags = 0xC0", true, true),
+    ];
+    for (line, messages, scanning) in cases {
+        let text = edited(rt.alloc(), "flags = 0", line)?;
+        let read = read_board(rt.alloc(), text.as_str()).map_err(|_| "a board")?;
+        let sensor = read.sensors.items.as_slice().get(1).ok_or("a sensor")?;
+        assert_eq!(rt; sensor.events.messages, messages, "{line}");
+        assert_eq!(rt; sensor.events.scanning, scanning, "{line}");
     }
     Ok(())
 }
@@ -287,6 +337,22 @@ fn the_first_fault_counts(rt: HostRuntime) -> Result<(), Fail> {
             "readable = 64\nadded = true",
             "Range sensor 1 readable",
         ),
+        (
+            "supported = 0xFFF",
+            "supported = 0x1FF",
+            "Range sensor 0 assert",
+        ),
+        (
+            "supported = 0xFFF",
+            "supported = 4096",
+            "Range sensor 0 supported",
+        ),
+        (
+            "assert = 0x200",
+            "assert = 0x10200",
+            "Range sensor 0 assert",
+        ),
+        ("deassert = 0", "deassert = 0x20", "Range sensor 1 deassert"),
     ];
     for (old, new, want) in cases {
         let found = fault(rt.alloc(), old, new)?.ok_or("a fault")?;
@@ -311,6 +377,7 @@ fn with_sensors(alloc: Global, count: u8) -> Result<String, Fail> {
         )?;
         text.push_str(item.as_str())?;
         text.push_str("thresholds = [0, 0, 0, 0, 0, 0]\nhysteresis = [0, 0]\n")?;
+        text.push_str("supported = 0\nflags = 0\nassert = 0\ndeassert = 0\n")?;
     }
     Ok(text)
 }
