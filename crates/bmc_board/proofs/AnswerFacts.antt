@@ -1,5 +1,5 @@
 -- What every answer has in common.
-use Rattle.std.proofs.Common.{◌≡◌, ◌≢◌, ℕ, ◌≤◌, List, [], length, Option, Some, None, Result, Ok, Err, Bool, refl, subst, arith}
+use Rattle.std.proofs.Common.{◌≡◌, ◌≢◌, ℕ, ◌≤◌, List, length, Option, Some, None, Result, Ok, Err, Bool, refl, subst, arith}
 use Rattle.two_wire.specs.Codes.{success}
 use Rattle.record_kinds.specs.Limits.{key_of}
 use Rattle.cfg_records.specs.Meaning.{Decides, room_for}
@@ -25,8 +25,6 @@ use Rattle.bmc_board.specs.Request.{asked_by}
 use Rattle.bmc_board.specs.State.{State, IsUnchanged}
 use Rattle.bmc_board.specs.Replies.{done, refused, unknown_code}
 use Rattle.bmc_board.specs.Room.{longest_reply}
-use Rattle.bmc_board.specs.Live.{live_answer}
-use Rattle.bmc_board.specs.AnyLive.{IsLive}
 use Rattle.bmc_board.specs.Answer.{Given, get_answer, set_result, set_answer, serve, reply, answer_of}
 use Rattle.bmc_board.specs.AnyAnswer.{IsCode, NeverBusy, RefusedIsUnchanged, StaysSound, AnswersFit}
 use Rattle.bmc_board.proofs.AskedFacts.{code_of, IsRight, asked_right}
@@ -93,6 +91,7 @@ of_alone own limits key e of = let same : own ≡ limits = cc in subst (λ (l : 
 pub limits_are_of : (file : BoardFile) (key : Key) (limits : Limits) → limits_at file key ≡ Some limits → is_of limits key
 limits_are_of file (key.Thresholds number) limits e = of_sensor (sensor_at file.sensors.items number) (λ s. kinds.Thresholds (record { masks = s.thresholds.masks })) limits (key.Thresholds number) e (λ s. tt)
 limits_are_of file (key.Hysteresis number) limits e = of_sensor (sensor_at file.sensors.items number) (λ s. kinds.Hysteresis (record {})) limits (key.Hysteresis number) e (λ s. tt)
+limits_are_of file (key.EventEnable number) limits e = of_sensor (sensor_at file.sensors.items number) (λ s. kinds.EventEnable (record { supported = s.events.supported })) limits (key.EventEnable number) e (λ s. tt)
 limits_are_of file key.PowerPolicy limits e = of_alone (kinds.PowerPolicy (record {})) limits key.PowerPolicy e tt
 limits_are_of file key.Watchdog limits e = of_alone (kinds.Watchdog (record {})) limits key.Watchdog e tt
 

@@ -1,15 +1,19 @@
 -- Each request for a record, and each for an operation, is read as what it asks for: a line for each kind whose data don't show it by themselves.
-use Rattle.std.proofs.Common.{◌≡◌, ℕ, ◌+◌, ◌*◌, ◌/◌, ◌%◌, ap, List, [], ◌∷◌, length, Ok, refl, arith}
+use Rattle.std.proofs.Common.{◌≡◌, ℕ, ◌+◌, ◌*◌, ◌/◌, ◌%◌, ap, ◌∙◌, List, [], ◌∷◌, length, Bool, true, false, Result, Ok, refl, arith}
 use Rattle.cfg_records.specs.declared.key.Key.TheVariants as key
 use Rattle.cfg_records.specs.declared.message.Asked.TheVariants.{Ipmi, Pldm}
 use Rattle.cfg_records.specs.declared.op.Op.{Op}
 use Rattle.cfg_records.specs.declared.sensor_thresholds.SetThresholds.{SetThresholds}
 use Rattle.cfg_records.specs.declared.watchdog.SetWatchdog.{SetWatchdog}
+use Rattle.cfg_records.specs.declared.event_enable.EventMasks.{EventMasks}
+use Rattle.cfg_records.specs.declared.event_enable.EventChange.{EventChange}
+use Rattle.cfg_records.specs.declared.event_enable.EventChange.TheVariants.{Leave, Enable, Disable, Reserved}
+use Rattle.cfg_records.specs.declared.event_enable.SetEventEnable.{SetEventEnable}
 use Rattle.cfg_records.specs.declared.op.Op.TheVariants as op
 use Rattle.cfg_records.proofs.Operations.{set_thresholds, same_thresholds}
 use Rattle.record_kinds.specs.Limits.{set_asked}
 use Rattle.bmc_board.specs.Request as request
-use Rattle.bmc_board.specs.Request.{asked_by}
+use Rattle.bmc_board.specs.Request.{Request, asked_by}
 use Rattle.bmc_board.specs.Decode.{IsReadFromAll, GetsAreRead, SetsAreRead}
 
 -- what holds of all lists of six holds of a list of length six
@@ -42,12 +46,46 @@ two_bytes n = omega arith
 abbrev set_watchdog : SetWatchdog → ℕ → Op
 set_watchdog o initial = op.Watchdog (record { timer_use = o.timer_use; actions = o.actions; pre_timeout = o.pre_timeout; flags_to_clear = o.flags_to_clear; initial = initial })
 
+abbrev set_events : ℕ → Bool → Bool → EventChange → SetEventEnable
+set_events sensor messages scanning change = record { sensor = sensor; messages = messages; scanning = scanning; change = change }
+
+-- the request is read as the operation that it carries out
+abbrev EventsAreRead : SetEventEnable → Type 0
+EventsAreRead o = asked_by (set_asked (op.EventEnable o)) ≡ Ok (request.Set (op.EventEnable o))
+
+-- its masks are read
+masks_read : (to : EventMasks → EventChange) (sensor : ℕ) (messages scanning : Bool) (masks : EventMasks)
+    → Ok (request.Set (op.EventEnable (set_events sensor messages scanning (to (record { assertions = masks.assertions % 256 + 256 * (masks.assertions / 256); deassertions = masks.deassertions % 256 + 256 * (masks.deassertions / 256) })))))
+    ≡ (let asked : Result Request ℕ = Ok (request.Set (op.EventEnable (set_events sensor messages scanning (to masks)))) in asked)
+masks_read to sensor messages scanning masks =
+    ap (λ (a : ℕ). Ok (request.Set (op.EventEnable (set_events sensor messages scanning (to (record { assertions = a; deassertions = masks.deassertions % 256 + 256 * (masks.deassertions / 256) })))))) (two_bytes masks.assertions)
+    ∙ ap (λ (d : ℕ). Ok (request.Set (op.EventEnable (set_events sensor messages scanning (to (record { assertions = masks.assertions; deassertions = d })))))) (two_bytes masks.deassertions)
+
+events_read : (sensor : ℕ) (messages scanning : Bool) (change : EventChange) → EventsAreRead (set_events sensor messages scanning change)
+events_read sensor true true (Enable masks) = masks_read Enable sensor true true masks
+events_read sensor true false (Enable masks) = masks_read Enable sensor true false masks
+events_read sensor false true (Enable masks) = masks_read Enable sensor false true masks
+events_read sensor false false (Enable masks) = masks_read Enable sensor false false masks
+events_read sensor true true (Disable masks) = masks_read Disable sensor true true masks
+events_read sensor true false (Disable masks) = masks_read Disable sensor true false masks
+events_read sensor false true (Disable masks) = masks_read Disable sensor false true masks
+events_read sensor false false (Disable masks) = masks_read Disable sensor false false masks
+events_read sensor true true Leave = refl
+events_read sensor true false Leave = refl
+events_read sensor false true Leave = refl
+events_read sensor false false Leave = refl
+events_read sensor true true Reserved = refl
+events_read sensor true false Reserved = refl
+events_read sensor false true Reserved = refl
+events_read sensor false false Reserved = refl
+
 pub gets_are_read : GetsAreRead
 gets_are_read (key.Thresholds sensor) = record { is_read = refl; from_nobody = (refl, refl) }
 gets_are_read _ = record { is_read = refl; from_nobody = (refl, refl) }
 
 pub sets_are_read : SetsAreRead
 sets_are_read (op.Thresholds o) = record { is_read = thresholds_read o; from_nobody = (refl, refl) }
+sets_are_read (op.EventEnable o) = record { is_read = events_read o.sensor o.messages o.scanning o.change; from_nobody = (refl, refl) }
 sets_are_read (op.Watchdog o) = record { is_read = ap (λ n. Ok (request.Set (set_watchdog o n))) (two_bytes o.initial); from_nobody = (refl, refl) }
 sets_are_read _ = record { is_read = refl; from_nobody = (refl, refl) }
 

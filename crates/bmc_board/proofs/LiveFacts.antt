@@ -1,16 +1,13 @@
 -- What every live command has in common: a line for each.
-use Rattle.std.proofs.Common.{◌≡◌, ◌≢◌, ◌≤◌, ℕ, List, [], length, Option, Some, None, Bool, true, false, if◌then◌else◌, refl, arith, lit≤}
+use Rattle.std.proofs.Common.{◌≤◌, ℕ, List, [], length, Option, Some, None, Bool, true, false, if◌then◌else◌, refl, arith, lit≤}
 use Rattle.two_wire.specs.Codes.{success, uninitialized_watchdog}
 use Rattle.cfg_records.specs.Meaning.{IsRefusal}
 use Rattle.cfg_records.specs.Records.{Records}
-use Rattle.cfg_records.specs.declared.key.Key.{Key}
 use Rattle.cfg_records.specs.declared.key.Key.TheVariants as key
-use Rattle.cfg_records.specs.declared.message.Answered.{Answered}
-use Rattle.cfg_records.specs.declared.board_file.BoardFile.{BoardFile}
 use Rattle.watch_boot.specs.Watchdog.{was_set, live_after_reset}
 use Rattle.bmc_board.specs.declared.activity.Activity.{Activity}
 use Rattle.bmc_board.specs.declared.live.LiveCommand.TheVariants as live
-use Rattle.bmc_board.specs.Replies.{done, refused, unknown_code}
+use Rattle.bmc_board.specs.Replies.{done, refused}
 use Rattle.bmc_board.specs.AnyAnswer.{IsCode, UnknownIsRefused}
 use Rattle.bmc_board.specs.Live.{reset_answer, longest_live_reply}
 use Rattle.bmc_board.specs.AnyLive.{IsLive, AreLive}

@@ -14,7 +14,7 @@ use Rattle.bmc_board.specs.Request.{Live, Get, Set}
 use Rattle.bmc_board.specs.Request.{asked_by}
 use Rattle.bmc_board.specs.State.{State, state}
 use Rattle.bmc_board.specs.Replies.{refused}
-use Rattle.bmc_board.specs.Answer.{Given, activity_after, set_result, set_answer, serve, reply, answer_of}
+use Rattle.bmc_board.specs.Answer.{Given, activity_after, set_result, set_answer, serve, reply}
 use Rattle.bmc_board.specs.Row.{Sets, Is, Serves, Replies}
 use Rattle.bmc_board.specs.AnyAnswer.{HasAnswer, HasOneAnswer}
 

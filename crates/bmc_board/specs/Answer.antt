@@ -1,5 +1,5 @@
 -- The answer to each request and the state that it leaves, as a function.
-use Rattle.std.specs.Prelude.{ℕ, List, Option, Some, None, Result, Ok, Err}
+use Rattle.std.specs.Prelude.{ℕ, List, Option, Some, Result, Ok, Err}
 use Rattle.record_kinds.specs.Limits.{key_of}
 use Rattle.cfg_records.specs.Records.{with_record}
 use Rattle.cfg_records.specs.declared.op.Op.{Op}

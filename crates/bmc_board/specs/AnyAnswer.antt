@@ -1,5 +1,5 @@
 -- What holds of every answer.
-use Rattle.std.specs.Prelude.{◌≡◌, ◌≢◌, ◌≤◌, ℕ, length}
+use Rattle.std.specs.Prelude.{◌≢◌, ◌≤◌, ℕ, length}
 use Rattle.two_wire.specs.Codes.{success, node_busy, pldm_not_ready}
 use Rattle.cfg_records.specs.Meaning.{IsRefusal, room_for}
 use Rattle.cfg_records.specs.declared.key.Key.{Key}

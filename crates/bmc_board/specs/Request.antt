@@ -10,6 +10,7 @@ use Rattle.cfg_records.specs.declared.op.Op.TheVariants as op
 use Rattle.cfg_records.specs.Requests.{byte_at}
 use Rattle.sensor_recs.specs.Thresholds.{thresholds_in}
 use Rattle.sensor_recs.specs.Hysteresis.{hysteresis_in}
+use Rattle.sensor_recs.specs.EventEnable.{event_enable_in}
 use Rattle.watch_boot.specs.PowerPolicy.{policy_in}
 use Rattle.watch_boot.specs.Watchdog.{watchdog_in}
 use Rattle.bmc_board.specs.declared.command.Command.{Command}
@@ -33,6 +34,7 @@ pub data Request : Type 0 where
 abbrev pub key_in : GetCommand → List ℕ → Key
 key_in get.GetSensorHysteresis body = key.Hysteresis (byte_at body 0)
 key_in get.GetSensorThresholds body = key.Thresholds (byte_at body 0)
+key_in get.GetSensorEventEnable body = key.EventEnable (byte_at body 0)
 key_in get.GetChassisStatus body = key.PowerPolicy
 key_in get.GetWatchdogTimer body = key.Watchdog
 
@@ -40,6 +42,7 @@ key_in get.GetWatchdogTimer body = key.Watchdog
 abbrev pub op_in : SetCommand → List ℕ → Op
 op_in set.SetSensorHysteresis body = op.Hysteresis (hysteresis_in body)
 op_in set.SetSensorThresholds body = op.Thresholds (thresholds_in body)
+op_in set.SetSensorEventEnable body = op.EventEnable (event_enable_in body)
 op_in set.SetPowerRestorePolicy body = op.PowerPolicy (policy_in body)
 op_in set.SetWatchdogTimer body = op.Watchdog (watchdog_in body)
 

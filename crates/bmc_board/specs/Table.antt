@@ -29,6 +29,8 @@ table =
     listed 0x04 0x25 (Exactly 2) false (command.Get get.GetSensorHysteresis) ∷
     listed 0x04 0x26 (Exactly 8) true (command.Set set.SetSensorThresholds) ∷
     listed 0x04 0x27 (Exactly 1) false (command.Get get.GetSensorThresholds) ∷
+    listed 0x04 0x28 (Between 2 6) true (command.Set set.SetSensorEventEnable) ∷
+    listed 0x04 0x29 (Exactly 1) false (command.Get get.GetSensorEventEnable) ∷
     listed 0x06 0x01 (Exactly 0) false (command.Live live.GetDeviceId) ∷
     listed 0x06 0x04 (Exactly 0) false (command.Live live.GetSelfTestResults) ∷
     listed 0x06 0x22 (Exactly 0) false (command.Live live.ResetWatchdog) ∷

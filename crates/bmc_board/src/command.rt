@@ -20,6 +20,7 @@ pub enum Command {
 #[derive(Clone, Copy, Debug, PartialEq, Eq)]
 pub enum GetCommand {
     GetSensorHysteresis,
+    GetSensorEventEnable,
     GetSensorThresholds,
     GetChassisStatus,
     GetWatchdogTimer,
@@ -29,6 +30,7 @@ pub enum GetCommand {
 #[derive(Clone, Copy, Debug, PartialEq, Eq)]
 pub enum SetCommand {
     SetSensorHysteresis,
+    SetSensorEventEnable,
     SetSensorThresholds,
     SetPowerRestorePolicy,
     SetWatchdogTimer,
@@ -94,6 +96,8 @@ pub fn find_line(net_fn: u8, number: u8) -> Option<Line>
         (0x04, 0x25) => entry(Get(GetSensorHysteresis), Exactly(2), false),
         (0x04, 0x26) => entry(Set(SetSensorThresholds), Exactly(8), true),
         (0x04, 0x27) => entry(Get(GetSensorThresholds), Exactly(1), false),
+        (0x04, 0x28) => entry(Set(SetSensorEventEnable), Between(2, 6), true),
+        (0x04, 0x29) => entry(Get(GetSensorEventEnable), Exactly(1), false),
         (0x06, 0x01) => entry(Live(GetDeviceId), Exactly(0), false),
         (0x06, 0x04) => entry(Live(GetSelfTestResults), Exactly(0), false),
         (0x06, 0x22) => entry(Live(ResetWatchdog), Exactly(0), false),

@@ -1,10 +1,11 @@
 -- A mask is within a set exactly where it has no bit that the set lacks.
-use Rattle.std.proofs.Common.{◌≡◌, ℕ, ◌-◌, ◌^◌, ◌<◌, min, bit_and, IsTrue, nat_eq, sym, ◌∙◌, ap, arith, w8}
+use Rattle.std.proofs.Common.{◌≡◌, ℕ, ◌-◌, ◌^◌, ◌<◌, min, bit_and, IsTrue, nat_eq, sym, ◌∙◌, ap, arith, w8, w16}
 use Rattle.std.specs.Int.{bit_at}
 use Rattle.std.proofs.lemmas.Nat.{and_le_l}
 use Rattle.std.proofs.lemmas.Nat.Bits.{bit_at_and, bit_at_not, bit_at-zero, bit_at-lt, same_from_bits_below}
 use Rattle.std.proofs.lemmas.Bool.Decides.{nat_tests}
 use Rattle.cfg_records.specs.Masks.{IsWithin}
+use Rattle.cfg_records.specs.EventEnable.{AreWithin}
 
 one_left : (a b : ℕ) → 0 ≡ min a (1 - b) → a ≡ 1 → b < 2 → b ≡ 1
 one_left a b h e l = omega arith
@@ -32,3 +33,20 @@ zero-from_IsWithin mask set fits small h =
     bits_left mask set place small within
     ∙ none_left _ _ (λ e. test_one _ (h place within (one_test _ e))) (bit_at-lt mask place)
     ∙ sym (bit_at-zero place))
+
+-- ---- sets of sixteen events
+
+events_left : (events others offset : ℕ) → others < 2 ^ 16 → offset < 16 → bit_at (bit_and events (65535 - others)) offset ≡ min (bit_at events offset) (1 - bit_at others offset)
+events_left events others offset fits within = bit_at_and events (65535 - others) offset ∙ ap (min (bit_at events offset)) (bit_at_not w16 others offset fits within)
+
+pub AreWithin-from_zero : (events others : ℕ) → others < 2 ^ 16 → bit_and events (65535 - others) ≡ 0 → AreWithin events others
+AreWithin-from_zero events others fits zero offset within there =
+    one_test _ (one_left _ _ (sym (bit_at-zero offset) ∙ sym (ap (λ n. bit_at n offset) zero) ∙ events_left events others offset fits within) (test_one _ there) (bit_at-lt others offset))
+
+pub zero-from_AreWithin : (events others : ℕ) → events < 2 ^ 16 → others < 2 ^ 16 → AreWithin events others → bit_and events (65535 - others) ≡ 0
+zero-from_AreWithin events others small fits h =
+    let below : bit_and events (65535 - others) < 2 ^ 16 = omega (arith, and_le_l events (65535 - others)) in
+    same_from_bits_below 16 _ 0 below (omega arith) (λ offset within.
+    events_left events others offset fits within
+    ∙ none_left _ _ (λ e. test_one _ (h offset within (one_test _ e))) (bit_at-lt events offset)
+    ∙ sym (bit_at-zero offset))

@@ -6,6 +6,7 @@ use Rattle.cfg_records.specs.declared.power_policy.PowerPolicy.{PowerPolicy}
 use Rattle.cfg_records.specs.declared.watchdog.Watchdog.{Watchdog}
 use Rattle.cfg_records.specs.declared.board_file.BoardFile.{BoardFile}
 use Rattle.cfg_records.specs.Hysteresis.{hysteresis_value}
+use Rattle.cfg_records.specs.EventEnable.{event_value}
 use Rattle.cfg_records.specs.Watchdog.{watchdog_value}
 use Rattle.cfg_records.specs.Records.{Pair}
 
@@ -26,6 +27,7 @@ abbrev pub sensor_kinds : List Sensor → List (List Pair)
 sensor_kinds sensors =
     map (λ s. (key.Thresholds s.number, s.thresholds.values)) sensors
     ∷ map (λ s. (key.Hysteresis s.number, hysteresis_value s.hysteresis)) sensors
+    ∷ map (λ s. (key.EventEnable s.number, event_value s.events.messages s.events.scanning s.events.enabled)) sensors
     ∷ []
 
 -- the keys of each kind with their values: a line for each kind that a board has once

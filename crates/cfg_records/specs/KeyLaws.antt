@@ -23,6 +23,7 @@ equal_from_is_eq Greater h = cc
 pub exact_key : (a b : Key) → same_key a b ≡ true → a ≡ b
 exact_key (key.Thresholds a) (key.Thresholds b) h = ap key.Thresholds (exact_unsigned a b (equal_from_is_eq _ h))
 exact_key (key.Hysteresis a) (key.Hysteresis b) h = ap key.Hysteresis (exact_unsigned a b (equal_from_is_eq _ h))
+exact_key (key.EventEnable a) (key.EventEnable b) h = ap key.EventEnable (exact_unsigned a b (equal_from_is_eq _ h))
 exact_key key.PowerPolicy key.PowerPolicy h = refl
 exact_key key.Watchdog key.Watchdog h = refl
 exact_key _ _ h = cc

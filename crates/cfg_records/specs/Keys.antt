@@ -10,6 +10,7 @@ use Rattle.cfg_records.specs.contracts.key.KeyOrd.TheImpl as key_ord
 abbrev pub is_length : Key → ℕ → Bool
 is_length (key.Thresholds sensor) n = n == 6
 is_length (key.Hysteresis sensor) n = n == 2
+is_length (key.EventEnable sensor) n = n == 5
 is_length key.PowerPolicy n = n == 1
 is_length key.Watchdog n = n == 5
 

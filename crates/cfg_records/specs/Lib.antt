@@ -6,6 +6,8 @@ pub mod MaskLaws
 pub mod Thresholds
 pub mod ThresholdLaws
 pub mod Hysteresis
+pub mod EventEnable
+pub mod EventLaws
 pub mod PowerPolicy
 pub mod Watchdog
 pub mod PartLaws

@@ -3,11 +3,15 @@ use Rattle.std.specs.Prelude.{ℕ, List}
 use Rattle.std.proofs.Props.{props}
 use Rattle.cfg_records.specs.declared.thresholds.ThresholdMasks.{ThresholdMasks}
 use Rattle.cfg_records.specs.Thresholds.{IsThresholds}
+use Rattle.cfg_records.specs.EventEnable.{IsEventEnable}
 use Rattle.cfg_records.specs.PowerPolicy.{IsPowerPolicy}
 use Rattle.cfg_records.specs.Watchdog.{IsWatchdog}
 
 pub IsThresholds-prop : (masks : ThresholdMasks) (value : List ℕ) → IsProp (IsThresholds masks value)
 IsThresholds-prop masks value = hlevel props
+
+pub IsEventEnable-prop : (supported : ℕ) (value : List ℕ) → IsProp (IsEventEnable supported value)
+IsEventEnable-prop supported value = hlevel props
 
 pub IsPowerPolicy-prop : (value : List ℕ) → IsProp (IsPowerPolicy value)
 IsPowerPolicy-prop value = hlevel props

@@ -4,6 +4,7 @@ use Rattle.cfg_records.specs.declared.sensor.Sensor.{Sensor}
 use Rattle.cfg_records.specs.declared.watchdog.Watchdog.{Watchdog}
 use Rattle.cfg_records.specs.declared.device.Device.{Device}
 use Rattle.cfg_records.specs.declared.board_file.BoardFile.{BoardFile}
+use Rattle.cfg_records.specs.EventEnable.{event_value}
 
 -- what Get Device ID says of the sample board
 pub record IsSampleDevice (device : Device) : Type 0 where
@@ -16,21 +17,23 @@ pub record IsSampleDevice (device : Device) : Type 0 where
   pub product : device.product ≡ 0x1234
 
 -- a sensor of these words
-pub record IsSensor (sensor : Sensor) (number readable settable : ℕ) (thresholds : List ℕ) (positive negative : ℕ) : Type 0 where
+pub record IsSensor (sensor : Sensor) (number readable settable : ℕ) (thresholds : List ℕ) (positive negative supported : ℕ) (enabled : List ℕ) : Type 0 where
   pub numbered : sensor.number ≡ number
   pub can_be_read : sensor.thresholds.masks.readable ≡ readable
   pub can_be_set : sensor.thresholds.masks.settable ≡ settable
   pub has_thresholds : sensor.thresholds.values ≡ thresholds
   pub rises : sensor.hysteresis.positive ≡ positive
   pub falls : sensor.hysteresis.negative ≡ negative
+  pub supports : sensor.events.supported ≡ supported
+  pub enables : event_value sensor.events.messages sensor.events.scanning sensor.events.enabled ≡ enabled
 
--- a temperature sensor, all of whose thresholds can be read and set
+-- a temperature sensor, all of whose thresholds can be read and set, and which makes messages of the upper critical threshold's crossing
 abbrev pub IsTemperature : Sensor → Type 0
-IsTemperature sensor = IsSensor sensor 5 0x3F 0x3F (0x14 ∷ 0x0A ∷ 0x05 ∷ 0x50 ∷ 0x5F ∷ 0x6E ∷ []) 2 2
+IsTemperature sensor = IsSensor sensor 5 0x3F 0x3F (0x14 ∷ 0x0A ∷ 0x05 ∷ 0x50 ∷ 0x5F ∷ 0x6E ∷ []) 2 2 0xFFF (0xC0 ∷ 0x00 ∷ 0x02 ∷ 0 ∷ 0 ∷ [])
 
 -- a fan sensor with upper thresholds alone, of which the highest can be set and not read
 abbrev pub IsFan : Sensor → Type 0
-IsFan sensor = IsSensor sensor 7 0x18 0x38 (0 ∷ 0 ∷ 0 ∷ 0x90 ∷ 0xA0 ∷ 0xB0 ∷ []) 0 0
+IsFan sensor = IsSensor sensor 7 0x18 0x38 (0 ∷ 0 ∷ 0 ∷ 0x90 ∷ 0xA0 ∷ 0xB0 ∷ []) 0 0 0xFC0 (0 ∷ 0 ∷ 0 ∷ 0 ∷ 0 ∷ [])
 
 -- the sensors of the sample board
 abbrev pub AreSampleSensors : List Sensor → Type 0

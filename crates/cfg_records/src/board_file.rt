@@ -30,7 +30,8 @@ impl BoardFile {
         let sensors = self.sensors.items.as_slice();
         let thresholds = sensors.iter().map(|s| s.thresholds.pair(s.number));
         let hysteresis = sensors.iter().map(|s| s.hysteresis.pair(s.number));
-        thresholds.chain(hysteresis).collect(alloc)
+        let events = sensors.iter().map(|s| s.events.pair(s.number));
+        thresholds.chain(hysteresis).chain(events).collect(alloc)
     }
 
     /// The keys of the board's records, each once, with the values that they begin with: kind after kind.

@@ -9,6 +9,8 @@ pub enum Key {
     Thresholds(u8),
     /// The hysteresis of the sensor of this number.
     Hysteresis(u8),
+    /// Which events of the sensor of this number are enabled.
+    EventEnable(u8),
     /// What the board does when power comes back.
     PowerPolicy,
     /// The settings of the watchdog timer.
@@ -23,6 +25,7 @@ impl Key {
         match self {
             Key::Thresholds(_) => length == 6,
             Key::Hysteresis(_) => length == 2,
+            Key::EventEnable(_) => length == 5,
             Key::PowerPolicy => length == 1,
             Key::Watchdog => length == 5,
         }

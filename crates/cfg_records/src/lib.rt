@@ -5,6 +5,7 @@
 pub mod board_file;
 pub mod device;
 pub mod distinct;
+pub mod event_enable;
 pub mod hysteresis;
 pub mod items;
 pub mod key;
@@ -26,6 +27,7 @@ pub mod watchdog;
 pub use board_file::BoardFile;
 pub use device::{Bcd, Device, ManufacturerId};
 pub use distinct::{Distinct, Numbered};
+pub use event_enable::{EventChange, EventEnable, EventMasks, SetEventEnable};
 pub use hysteresis::{Hysteresis, SetHysteresis};
 pub use items::Items;
 pub use key::Key;

@@ -1,4 +1,5 @@
 //! Changes of one record.
+use crate::event_enable::SetEventEnable;
 use crate::hysteresis::SetHysteresis;
 use crate::power_policy::SetPowerPolicy;
 use crate::sensor_thresholds::SetThresholds;
@@ -10,6 +11,7 @@ use crate::watchdog::SetWatchdog;
 pub enum Op {
     Thresholds(SetThresholds),
     Hysteresis(SetHysteresis),
+    EventEnable(SetEventEnable),
     PowerPolicy(SetPowerPolicy),
     Watchdog(SetWatchdog),
 }

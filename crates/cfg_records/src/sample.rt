@@ -5,6 +5,7 @@ ghost use Rattle.cfg_records.specs.Sample.{IsSampleDevice, IsTemperature, IsFan,
 use crate::board_file::BoardFile;
 use crate::device::{Bcd, Device, ManufacturerId};
 use crate::distinct::Distinct;
+use crate::event_enable::{EventEnable, EventMasks};
 use crate::hysteresis::Hysteresis;
 use crate::power_policy::PowerPolicy;
 use crate::sensor::Sensor;
@@ -30,6 +31,15 @@ fn temperature() -> Sensor
             positive: 2,
             negative: 2,
         },
+        events: EventEnable {
+            supported: 0xFFF,
+            messages: true,
+            scanning: true,
+            enabled: EventMasks {
+                assertions: 0x200,
+                deassertions: 0,
+            },
+        },
     }
 }
 
@@ -49,6 +59,15 @@ fn fan() -> Sensor
         hysteresis: Hysteresis {
             positive: 0,
             negative: 0,
+        },
+        events: EventEnable {
+            supported: 0xFC0,
+            messages: false,
+            scanning: false,
+            enabled: EventMasks {
+                assertions: 0,
+                deassertions: 0,
+            },
         },
     }
 }

@@ -2,6 +2,7 @@
 ghost use Rattle.std.specs.Prelude.{◌<◌};
 
 use crate::distinct::{Distinct, Numbered};
+use crate::event_enable::EventEnable;
 use crate::hysteresis::Hysteresis;
 use crate::sensor_thresholds::Thresholds;
 
@@ -11,6 +12,7 @@ pub struct Sensor {
     pub number: u8,
     pub thresholds: Thresholds,
     pub hysteresis: Hysteresis,
+    pub events: EventEnable,
     ghost numbered: { number < 255 },
 }
 

@@ -1,5 +1,5 @@
 -- Runs of the lab that compute, on a board with one temperature sensor.
-use Rattle.std.specs.Prelude.{◌≡◌, ℕ, ◌+◌, List, [], ◌∷◌, ◌++◌, length, refl, Option, Some, slice_get}
+use Rattle.std.specs.Prelude.{◌≡◌, ℕ, ◌+◌, List, [], ◌∷◌, ◌++◌, length, refl, true, Option, Some, slice_get}
 use Rattle.std.specs.Option.{option_map}
 use Rattle.std.proofs.Common.{lit<, lit≤, arith}
 use Rattle.two_wire.specs.declared.Bus.TheVariants as bus
@@ -10,7 +10,10 @@ use Rattle.cfg_records.specs.declared.op.Op.TheVariants as op
 use Rattle.cfg_records.specs.declared.thresholds.ThresholdMasks.{ThresholdMasks}
 use Rattle.cfg_records.specs.declared.board_file.BoardFile.{BoardFile}
 use Rattle.cfg_records.specs.declared.sensor.Sensor.{Sensor}
+use Rattle.cfg_records.specs.declared.event_enable.EventMasks.{EventMasks}
 use Rattle.cfg_records.specs.Distinct.{NamesDiffer}
+use Rattle.cfg_records.specs.EventEnable.{are_within, event_value, IsEventEnable}
+use Rattle.cfg_records.specs.EventLaws.{tested_events}
 use Rattle.cfg_records.specs.Thresholds.{IsThresholds, is_clear, is_in_order}
 use Rattle.cfg_records.specs.ThresholdLaws.{tests_pass}
 use Rattle.undo_model.specs.Phase.{Phase, Done, Undone, Unsettled}
@@ -35,12 +38,21 @@ pub are_thresholds : IsThresholds masks at_first
 unfolding is_clear is_in_order
 are_thresholds = tests_pass masks at_first refl refl refl
 
+-- the event of upper critical's rise is enabled
+abbrev pub enabled : EventMasks
+enabled = record { assertions = 0x200; deassertions = 0 }
+
+pub are_enabled : IsEventEnable 0xFFF (event_value true true enabled)
+unfolding are_within
+are_enabled = tested_events 0xFFF true true enabled refl refl
+
 -- a temperature sensor
 abbrev pub temperature : Sensor
 temperature = record {
   number = 5;
   thresholds = record { masks = masks; values = at_first; valid = are_thresholds };
   hysteresis = record { positive = 2; negative = 2 };
+  events = record { supported = 0xFFF; messages = true; scanning = true; enabled = enabled; twelve = lit< tt; valid = are_enabled };
   numbered = lit< tt;
 }
 

@@ -42,7 +42,8 @@ pub fn parts_are_cuts()
     ensures { PartsAreCuts }
 {}
 
-/// All packets of a message to the port's endpoint, one after another, are heard as the message, where there is a slot for it.
+/// All packets of a message, one after another, are heard as the message, where it goes to the port's endpoint and there is a slot for it.
+/// Else nothing comes of them but what they leave waiting.
 pub fn parts_are_heard()
     ensures { PartsAreHeard }
 {}

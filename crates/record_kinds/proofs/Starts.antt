@@ -55,6 +55,7 @@ of_sensors file of value limits_of number exact =
 sound_in_kind : (file : BoardFile) (k : Key) → IsSoundAt (limits_at file k) (records_of (pairs_at file (place_of k)) k)
 sound_in_kind file (key.Thresholds number) = of_sensors file key.Thresholds _ _ number (λ m n same. cc) (λ s. s.thresholds.valid)
 sound_in_kind file (key.Hysteresis number) = of_sensors file key.Hysteresis _ _ number (λ m n same. cc) (λ s. refl)
+sound_in_kind file (key.EventEnable number) = of_sensors file key.EventEnable _ _ number (λ m n same. cc) (λ s. s.events.valid)
 sound_in_kind file key.PowerPolicy = file.policy.valid
 sound_in_kind file key.Watchdog = file.watchdog.valid
 

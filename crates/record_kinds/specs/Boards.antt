@@ -20,5 +20,6 @@ of_sensor limits_of file number = option_map limits_of (sensor_at file.sensors.i
 abbrev pub limits_at : BoardFile → Key → Option Limits
 limits_at file (key.Thresholds number) = of_sensor (λ s. limits.Thresholds (record { masks = s.thresholds.masks })) file number
 limits_at file (key.Hysteresis number) = of_sensor (λ s. limits.Hysteresis (record {})) file number
+limits_at file (key.EventEnable number) = of_sensor (λ s. limits.EventEnable (record { supported = s.events.supported })) file number
 limits_at file key.PowerPolicy = Some (limits.PowerPolicy (record {}))
 limits_at file key.Watchdog = Some (limits.Watchdog (record {}))

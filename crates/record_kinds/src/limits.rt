@@ -3,7 +3,7 @@ ghost use Rattle.std.specs.Prelude.{◌≡◌};
 
 use crate::setup::Setup;
 use cfg_records::{Asked, Key, Live, Op, RecordData, RecordKind, Value};
-use sensor_recs::{HysteresisLimits, ThresholdLimits};
+use sensor_recs::{EventEnableLimits, HysteresisLimits, ThresholdLimits};
 use two_wire::{Buffer, Code};
 use watch_boot::{PowerPolicyLimits, WatchdogLimits};
 
@@ -12,6 +12,7 @@ use watch_boot::{PowerPolicyLimits, WatchdogLimits};
 pub enum Limits {
     Thresholds(ThresholdLimits),
     Hysteresis(HysteresisLimits),
+    EventEnable(EventEnableLimits),
     PowerPolicy(PowerPolicyLimits),
     Watchdog(WatchdogLimits),
 }
@@ -22,6 +23,7 @@ macro_rules! of_each_kind {
         $does! { $how
             Thresholds ThresholdLimits {Key::Thresholds(sensor) => sensor}
             Hysteresis HysteresisLimits {Key::Hysteresis(sensor) => sensor}
+            EventEnable EventEnableLimits {Key::EventEnable(sensor) => sensor}
             PowerPolicy PowerPolicyLimits {Key::PowerPolicy => &()}
             Watchdog WatchdogLimits {Key::Watchdog => &()}
         }
@@ -93,6 +95,7 @@ impl Setup {
         Some(match key {
             Key::Thresholds(n) => Limits::Thresholds(ThresholdLimits::of(self.sensor(*n)?)),
             Key::Hysteresis(n) => Limits::Hysteresis(HysteresisLimits::of(self.sensor(*n)?)),
+            Key::EventEnable(n) => Limits::EventEnable(EventEnableLimits::of(self.sensor(*n)?)),
             Key::PowerPolicy => Limits::PowerPolicy(PowerPolicyLimits),
             Key::Watchdog => Limits::Watchdog(WatchdogLimits),
         })

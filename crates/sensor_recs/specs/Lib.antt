@@ -1,7 +1,11 @@
 pub mod Requests
+pub mod Readings
 pub mod Thresholds
 pub mod ThresholdsLaws
 pub mod ThresholdsKind
 pub mod Hysteresis
 pub mod HysteresisLaws
 pub mod HysteresisKind
+pub mod EventEnable
+pub mod EventEnableLaws
+pub mod EventEnableKind

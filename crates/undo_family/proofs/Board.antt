@@ -13,7 +13,7 @@ use Rattle.undo_model.specs.Line.{Exchange, Line}
 use Rattle.undo_model.specs.World.{BoardMay}
 use Rattle.undo_family.specs.Family.{Allows, family, answer}
 use Rattle.undo_family.specs.Wires.{asked_from}
-use Rattle.undo_family.specs.WireLaws.{wires}
+use Rattle.undo_family.specs.ManagerWires.{wires}
 use Rattle.undo_family.specs.Board.{StartsValid, QuietMay, AnswersMay}
 
 -- ---- valid records

@@ -17,7 +17,7 @@ use Rattle.undo_model.specs.World.{World, BoardMay, May}
 use Rattle.undo_model.specs.Example.{addresses, messages, quiet_messages}
 use Rattle.undo_family.specs.Family.{family, answer}
 use Rattle.undo_family.specs.Wires.{asked_from}
-use Rattle.undo_family.specs.WireLaws.{wires}
+use Rattle.undo_family.specs.ManagerWires.{wires}
 use Rattle.undo_family.specs.Example.{with_others, board, with_policy, to_port, to_manager, after, EndsUndone}
 
 module _ (setup : BoardFile) (others : Records) where

@@ -34,7 +34,7 @@ use Rattle.bmc_board.proofs.OneAnswer.{has_one_answer}
 use Rattle.bmc_board.proofs.Undone.{unknown_is_fault, Shows, shows}
 use Rattle.undo_model.specs.Words.{Answered, is_busy}
 use Rattle.undo_model.specs.Family.{SetsTo}
-use Rattle.undo_model.specs.Laws.{Showed, IsFamily}
+use Rattle.undo_model.specs.IsFamily.{Showed, IsFamily}
 use Rattle.undo_model.specs.TwoBuses.{Addresses}
 use Rattle.undo_family.specs.Family.{Allows, SetsWithin, ShowsWithin, conf_within, bus_of, from_manager, board_answer, family}
 

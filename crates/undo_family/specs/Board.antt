@@ -15,7 +15,7 @@ use Rattle.undo_model.specs.Line.{Exchange, Line}
 use Rattle.undo_model.specs.World.{World, OnBus, IsHonestOn, May}
 use Rattle.undo_family.specs.Family.{family, answer}
 use Rattle.undo_family.specs.Wires.{asked_from, reply_to}
-use Rattle.undo_family.specs.WireLaws.{wires}
+use Rattle.undo_family.specs.ManagerWires.{wires}
 
 -- the records that a board's file gives are valid, and so are all that its limits allow
 pub record StartsValid (setup : BoardFile) (at : Bus → Addresses) : Type 0 where

@@ -15,7 +15,7 @@ use Rattle.undo_model.specs.World.{World, Happening, Start, Undo, ToManager, OnB
 use Rattle.undo_model.specs.Headline.{IsStart}
 use Rattle.undo_model.specs.Example.{addresses, messages, quiet_messages}
 use Rattle.undo_family.specs.Family.{manager_words, family}
-use Rattle.undo_family.specs.WireLaws.{wires}
+use Rattle.undo_family.specs.ManagerWires.{wires}
 
 -- the policy is 0, stay off, and the other records are these
 abbrev pub with_others : Records → Records

@@ -10,7 +10,7 @@ use Rattle.bmc_board.specs.Decode.{IsFromNobody}
 use Rattle.bmc_board.proofs.Decoded.{gets_are_read, sets_are_read}
 use Rattle.undo_model.specs.Words.{Answered}
 use Rattle.undo_model.specs.TwoBuses.{Addresses}
-use Rattle.undo_model.specs.Wires.{IsSeries, IsOf, IsMade, Wires}
+use Rattle.undo_model.specs.Wires.{IsSeries, IsOf, IsMade}
 use Rattle.undo_family.specs.Family.{bus_of, from_manager, manager_words}
 use Rattle.undo_family.specs.Wires.{bytes_of, asked_from, reply_to, answered_from}
 
@@ -49,14 +49,3 @@ read_back at number (Pldm from kind command body) is = λ i. Pldm (sym is i) kin
 pub reply_read : (bus : Bus) (bytes : List ℕ) (a : Answered) → answered_from bus (reply_to bus bytes a) ≡ a
 reply_read Ipmb bytes a = refl
 reply_read Smbus bytes a = refl
-
--- how the manager's requests and the board's replies are bytes
-abbrev pub wires : (at : Bus → Addresses) → Wires (manager_words at)
-wires at = record {
-  bytes_of = bytes_of;
-  asked_from = asked_from at;
-  reply_to = reply_to;
-  answered_from = answered_from;
-  same = λ number asked made. read_back at number asked (managers at asked made);
-  same_reply = reply_read;
-}

@@ -4,7 +4,7 @@ ghost use Rattle.std.specs.Prelude.{ℕ, List};
 ghost use Rattle.two_wire.specs.declared.Bus.{Bus};
 ghost use Rattle.cfg_records.specs.declared.board_file.BoardFile.{BoardFile};
 ghost use Rattle.bus_model.specs.Packet.{Packet, IsCutting};
-ghost use Rattle.undo_model.specs.Laws.{IsFamily};
+ghost use Rattle.undo_model.specs.IsFamily.{IsFamily};
 ghost use Rattle.undo_model.specs.TwoBuses.{Addresses, in_messages, with_packets, messages_come, packets_come};
 ghost use Rattle.undo_model.specs.Headline.{AlwaysStands, UndoneForGood, StopsOnlyIfTold};
 ghost use Rattle.undo_model.specs.Giving.{HaltsByAnswers};
@@ -13,7 +13,7 @@ ghost use Rattle.undo_model.specs.Resume.{GoesOnAlike};
 ghost use Rattle.undo_model.specs.Clean.{AnswersByRow, AlwaysRunsClean};
 ghost use Rattle.undo_model.specs.CleanBuses.{AlwaysRunsOverBuses};
 ghost use Rattle.undo_family.specs.Family.{manager_words, family, answer};
-ghost use Rattle.undo_family.specs.WireLaws.{wires};
+ghost use Rattle.undo_family.specs.ManagerWires.{wires};
 ghost use Rattle.undo_family.specs.Spelled.{AreSpelled};
 ghost use Rattle.undo_family.specs.Board.{StartsValid, QuietMay, AnswersMay};
 

@@ -6,7 +6,7 @@ use Rattle.std.proofs.lemmas.Option.{slice_get_within}
 use Rattle.two_wire.specs.Codes.{success}
 use Rattle.undo_model.specs.Words.{Answered, get_asked, set_asked}
 use Rattle.undo_model.specs.Family.{Family, AllValid}
-use Rattle.undo_model.specs.Laws.{Showed, IsFamily}
+use Rattle.undo_model.specs.IsFamily.{Showed, IsFamily}
 use Rattle.undo_model.specs.Phase.{Why, Stop, Refused, NotRestorable, GetRefused}
 use Rattle.undo_model.specs.Plan.{Gave, Because}
 use Rattle.undo_model.specs.Machine.{Task, Gets, Sets, Undoes, Stage, AtStart, Opened, AtEnd, AtHalt, AtUndone, AtRefused, Part, first_part, first_stage, undo_stage, next_stage, set_stage, stage_after, undo_after}

@@ -8,7 +8,7 @@ use Rattle.two_wire.specs.declared.Bus.{Bus}
 use Rattle.two_wire.specs.declared.Bus.TheVariants.{Ipmb, Smbus}
 use Rattle.undo_model.specs.Words.{Answered, get_asked}
 use Rattle.undo_model.specs.Family.{Family, AllValid}
-use Rattle.undo_model.specs.Laws.{Showed, IsFamily}
+use Rattle.undo_model.specs.IsFamily.{Showed, IsFamily}
 use Rattle.undo_model.specs.Phase.{Why, Refused, NotRestorable, GetRefused, Phase, Done, Halted, Undone}
 use Rattle.undo_model.specs.Plan.{IsAfter}
 use Rattle.undo_model.specs.Machine.{Counts, one_answered, Task, Gets, Sets, Undoes, Stage, AtStart, Opened, AtEnd, AtHalt, AtUndone, AtRefused, Machine, Turn, first_part, begun, bus_at, enters, first_stage, undo_stage, next_stage, set_stage, takes, phase_at, undoes, undo_of, opened}

@@ -14,7 +14,7 @@ use Rattle.bus_model.proofs.Lists.{length_more}
 use Rattle.undo_model.specs.Words.{Answered, is_busy}
 use Rattle.undo_model.specs.Phase.{Phase, Undone}
 use Rattle.undo_model.specs.Family.{Family}
-use Rattle.undo_model.specs.Laws.{IsFamily}
+use Rattle.undo_model.specs.IsFamily.{IsFamily}
 use Rattle.undo_model.specs.Plan.{IsAfter}
 use Rattle.undo_model.specs.Machine.{Counts, count_of, one_answered, Task, Part, first_part, begun, refused, finished, Gets, Sets, Undoes, Stage, AtStart, Opened, AtEnd, AtHalt, AtUndone, AtRefused, Machine, Turn, bus_at, same_bus, sending, sends_at, enters, takes, replies as machine_replies, reply_of, set_stage, next_stage, undo_stage, first_stage, phase_at, undo_of, opened}
 use Rattle.undo_model.specs.Wires.{number_of, Wires}

@@ -7,7 +7,7 @@ use Rattle.two_wire.specs.declared.Bus.{Bus}
 use Rattle.undo_model.specs.Words.{Answered}
 use Rattle.undo_model.specs.Phase.{Stop, Refused, NotRestorable, GetRefused, Phase, Fresh, Getting, Setting, Done, Halted, Unsettled, Undoing, Undone, UndoRefused}
 use Rattle.undo_model.specs.Family.{Family, SetsTo}
-use Rattle.undo_model.specs.Laws.{Showed, IsFamily}
+use Rattle.undo_model.specs.IsFamily.{Showed, IsFamily}
 use Rattle.undo_model.specs.Plan.{IsAfter, Stands, GaveGet, GaveSet, Halts}
 use Rattle.undo_model.specs.Machine.{Stage, AtStart, Opened, AtEnd, AtHalt, AtUndone, AtRefused, Turn, bus_at, same_bus, start_of, quiet_of, stop_of, again_of, undo_of, reply_of, phase_of}
 use Rattle.undo_model.specs.Wires.{Wires}

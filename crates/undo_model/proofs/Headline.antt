@@ -9,7 +9,7 @@ use Rattle.bus_model.specs.BusState.{BusState}
 use Rattle.bus_model.specs.Start.{NothingUnderWay}
 use Rattle.undo_model.specs.Words.{Answered, is_busy}
 use Rattle.undo_model.specs.Family.{Family, AllValid}
-use Rattle.undo_model.specs.Laws.{IsFamily}
+use Rattle.undo_model.specs.IsFamily.{IsFamily}
 use Rattle.undo_model.specs.Phase.{Stop, Phase, Halted, Undone}
 use Rattle.undo_model.specs.Plan.{Stands, Halts}
 use Rattle.undo_model.specs.Machine.{count_of, Gets, Sets, Undoes, Stage, AtStart, Opened, AtEnd, AtHalt, AtUndone, AtRefused, Machine, Turn, phase_at, phase_of, bus_at, sending, starts, undoes, quiets, agains, stops, replies, takes, reply_of, same_bus}

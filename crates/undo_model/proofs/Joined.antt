@@ -7,7 +7,7 @@ use Rattle.bus_model.specs.BusState.{BusState}
 use Rattle.bus_model.specs.Effect.{SameRequests, IsCarried, IsTaken}
 use Rattle.undo_model.specs.Words.{Answered, is_busy}
 use Rattle.undo_model.specs.Family.{Family, AllValid}
-use Rattle.undo_model.specs.Laws.{IsFamily}
+use Rattle.undo_model.specs.IsFamily.{IsFamily}
 use Rattle.undo_model.specs.Plan.{Stands, Halts}
 use Rattle.undo_model.specs.Machine.{Task, Part, first_part, Stage, AtStart, Opened, AtEnd, AtHalt, AtUndone, AtRefused, bus_at, phase_at, stage_after, undo_after}
 use Rattle.undo_model.specs.Wires.{IsMade, Wires}

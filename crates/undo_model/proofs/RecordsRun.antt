@@ -4,7 +4,7 @@ use Rattle.std.specs.Prelude.{slice_get, IfSome, nat_lt, if◌then◌else◌}
 use Rattle.std.proofs.lemmas.Bool.{cond_both}
 use Rattle.undo_model.specs.Words.{Answered}
 use Rattle.undo_model.specs.Family.{Family, AllValid}
-use Rattle.undo_model.specs.Laws.{IsFamily}
+use Rattle.undo_model.specs.IsFamily.{IsFamily}
 use Rattle.undo_model.specs.Machine.{Part, first_part, Gets, Sets, Undoes, Stage, AtStart, Opened, AtEnd, AtHalt, AtUndone, AtRefused, Machine, Turn, sending, starts, undoes, quiets, agains, stops, replies, takes, start_of, quiet_of, stop_of, again_of, undo_of, reply_of}
 use Rattle.undo_model.specs.Resume.{list_of, resumed}
 use Rattle.undo_model.specs.RecordsRun as desk

@@ -6,7 +6,7 @@ use Rattle.std.proofs.lemmas.Option.{same_Some, none-some}
 use Rattle.two_wire.specs.Codes.{success, not_present, invalid_data_field}
 use Rattle.undo_model.specs.Words.{Answered, is_busy}
 use Rattle.undo_model.specs.Family.{AllValid, SetsTo}
-use Rattle.undo_model.specs.Laws.{Showed, IsFamily}
+use Rattle.undo_model.specs.IsFamily.{Showed, IsFamily}
 use Rattle.undo_model.specs.Registers.{Halves, Write, Asked, AskGet, AskSet, Board, IsValid, is_valid, written, shown, configuration, back, inverse, inverse_of_high, IsRestorable, replied, get_answer, set_answer, answer, Row, registers}
 
 -- ---- the map

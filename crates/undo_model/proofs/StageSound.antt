@@ -5,7 +5,7 @@ use Rattle.std.proofs.lemmas.Bool.{cases_eq}
 use Rattle.two_wire.specs.Codes.{success}
 use Rattle.undo_model.specs.Words.{Answered, is_busy, get_asked, set_asked}
 use Rattle.undo_model.specs.Family.{Family}
-use Rattle.undo_model.specs.Laws.{Showed}
+use Rattle.undo_model.specs.IsFamily.{Showed}
 use Rattle.undo_model.specs.Plan.{IsAfter, Stands, Gave, Because, Halts}
 use Rattle.undo_model.specs.Machine.{Task, Gets, Sets, Undoes, Stage, AtStart, Opened, AtEnd, AtHalt, AtUndone, AtRefused, Part, first_part, phase_at}
 use Rattle.undo_model.specs.Wires.{IsMade}

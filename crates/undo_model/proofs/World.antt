@@ -10,7 +10,7 @@ use Rattle.bus_model.proofs.Lists.{length_more}
 use Rattle.bus_model.proofs.PacketEnds.{same_requests}
 use Rattle.undo_model.specs.Family.{Family}
 use Rattle.undo_model.specs.Words.{is_busy}
-use Rattle.undo_model.specs.Laws.{IsFamily}
+use Rattle.undo_model.specs.IsFamily.{IsFamily}
 use Rattle.undo_model.specs.Machine.{Counts, count_of, one_answered, Task, Part, Gets, Sets, Undoes, Stage, AtStart, Opened, AtEnd, AtHalt, AtUndone, AtRefused, Machine, Sending, Turn, bus_at, sending, sends_at, first_stage, undo_stage, starts, undoes, quiets, agains, stops, replies, takes, stage_after, undo_after, start_of, undo_of, quiet_of, again_of, stop_of, reply_of, same_bus}
 use Rattle.undo_model.specs.Resume.{list_of, resumed}
 use Rattle.undo_model.specs.Wires.{number_of, Wires}

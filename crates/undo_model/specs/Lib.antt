@@ -1,7 +1,7 @@
 pub mod Words
 pub mod Phase
 pub mod Family
-pub mod Laws
+pub mod IsFamily
 pub mod Plan
 pub mod Machine
 pub mod Resume

@@ -4,7 +4,7 @@
 ghost use Rattle.std.specs.Prelude.{ℕ, List};
 ghost use Rattle.two_wire.specs.declared.Bus.{Bus};
 ghost use Rattle.bus_model.specs.Packet.{Packet, IsCutting, packets_of};
-ghost use Rattle.undo_model.specs.Laws.{IsFamily};
+ghost use Rattle.undo_model.specs.IsFamily.{IsFamily};
 ghost use Rattle.undo_model.specs.TwoBuses.{Addresses, in_messages, with_packets, messages_come, packets_come};
 ghost use Rattle.undo_model.specs.Headline.{AlwaysStands, UndoneForGood, StopsOnlyIfTold};
 ghost use Rattle.undo_model.specs.Giving.{HaltsByAnswers};

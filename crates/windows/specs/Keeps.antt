@@ -8,13 +8,13 @@ use Rattle.bus_model.specs.Slots.{AreSlots}
 use Rattle.windows.specs.Circle.{is_circle}
 use Rattle.windows.specs.Window.{Pair, Room, pair_at}
 
--- eight windows: which one each requester has, whose each one is, and what it holds
+-- eight windows: which one each requester has, which requester has each one, and what it holds
 pub record Held : Type 0 where
   pub slots : List (Option ℕ)
   pub owners : List (Option ℕ)
   pub rooms : List Room
 
--- each byte may have a window; there are eight, for one of the two circles, and of a size that fits
+-- any byte may have one of eight windows; numbers go round one of the two circles, and a place's capacity fits
 pub record AreSound (numbers capacity : ℕ) (held : Held) : Type 0 where
   pub bytes : length held.slots ≡ 256
   pub owners : length held.owners ≡ 8
@@ -22,7 +22,7 @@ pub record AreSound (numbers capacity : ℕ) (held : Held) : Type 0 where
   pub circle : is_circle numbers ≡ true
   pub fits : capacity ≤ 65535
 
--- what the bytes that are kept say: those of a request, from which no other bytes say the same, and those of a reply
+-- how a port reads the bytes that it keeps, of a request and of a reply; it reads no two requests as the same
 pub record Reading : Type 0 where
   pub request : List ℕ → List ℕ
   pub reply : List ℕ → List ℕ
@@ -61,6 +61,6 @@ pub record Keeps (numbers : ℕ) (reading : Reading) (held : Held) (log : List E
   pub rows : (requester number : ℕ) → number < numbers → row reading held requester number ≡ windows_of numbers log requester number
   -- exactly the log's requesters have a window
   pub requesters : AreSlots (somes held.owners) log
-  -- each one its own
+  -- a requester has a window exactly where the window has that requester
   pub own : (requester slot : ℕ) → (slot_of held requester ≡ Some slot) ↔ (owner_of held slot ≡ Some requester)
   pub on_circle : AllOnCircle numbers log

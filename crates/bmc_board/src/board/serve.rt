@@ -16,7 +16,7 @@ use crate::live::{LiveCommand, NO_ERROR, PLDM_TYPES, device_data};
 use crate::request::read_request;
 use cfg_records::{Answered, Asked, BoardFile, Key, Op, RecordKind, Store, Value, byte_at};
 use record_kinds::{Limits, Setup};
-use sensor_recs::{hysteresis, thresholds};
+use sensor_recs::{event_enable, hysteresis, thresholds};
 use std::alloc::{AllocError, Global};
 use two_wire::{Buffer, Bytes, Code, code};
 use watch_boot::{power_policy, watchdog};
@@ -27,9 +27,11 @@ fn unknown_code(_setup: &Setup, key: &Key) -> Code
 {
     // Each key is named, so that a new one isn't forgotten. The last two are on every board.
     match key {
-        Key::Thresholds(_) | Key::Hysteresis(_) | Key::PowerPolicy | Key::Watchdog => {
-            code::NOT_PRESENT
-        }
+        Key::Thresholds(_)
+        | Key::Hysteresis(_)
+        | Key::EventEnable(_)
+        | Key::PowerPolicy
+        | Key::Watchdog => code::NOT_PRESENT,
     }
 }
 
@@ -41,6 +43,7 @@ fn key_in(command: GetCommand, body: &[u8]) -> Key
     match command {
         GetSensorHysteresis => Key::Hysteresis(byte_at(body, 0)),
         GetSensorThresholds => Key::Thresholds(byte_at(body, 0)),
+        GetSensorEventEnable => Key::EventEnable(byte_at(body, 0)),
         GetChassisStatus => Key::PowerPolicy,
         GetWatchdogTimer => Key::Watchdog,
     }
@@ -182,6 +185,9 @@ impl<S: Store> Board<S> {
         match command {
             SetSensorHysteresis => self.set(&Op::Hysteresis(hysteresis::hysteresis_in(body)), to),
             SetSensorThresholds => self.set(&Op::Thresholds(thresholds::thresholds_in(body)), to),
+            SetSensorEventEnable => {
+                self.set(&Op::EventEnable(event_enable::event_enable_in(body)), to)
+            }
             SetPowerRestorePolicy => self.set(&Op::PowerPolicy(power_policy::policy_in(body)), to),
             SetWatchdogTimer => self.set(&Op::Watchdog(watchdog::watchdog_in(body)), to),
         }

@@ -33,8 +33,9 @@ fn respond<S: Store>(board: &mut Board<S>, request: &IpmbRequest, frame: &mut Fr
 {
     let header = &request.header;
     begin_response(frame, header, 0);
-    if let Err(code) = board.reply(command_in(request), request.body.as_slice(), frame) {
-        begin_response(frame, header, code.value());
+    match board.reply(command_in(request), request.body.as_slice(), frame) {
+        Ok(()) => {}
+        Err(code) => begin_response(frame, header, code.value()),
     }
     end_response(frame);
 }

@@ -2,8 +2,8 @@
 use super::open_lab;
 use bmc_core::{Board, changing};
 use cfg_records::{
-    Answered, Asked, BoardFile, Distinct, Hysteresis, PlainStore, Sensor, ThresholdMasks,
-    Thresholds, sample_board,
+    Answered, Asked, BoardFile, Distinct, EventEnable, EventMasks, Hysteresis, PlainStore, Sensor,
+    ThresholdMasks, Thresholds, sample_board,
 };
 use std::alloc::Global;
 use std::test::Fail;
@@ -96,6 +96,8 @@ fn setting_commands_are_marked(rt: HostRuntime) -> Result<(), Fail> {
         (0x04, 0x25, false),
         (0x04, 0x26, true),
         (0x04, 0x27, false),
+        (0x04, 0x28, true),
+        (0x04, 0x29, false),
         (0x06, 0x01, false),
         (0x06, 0x22, false),
         (0x06, 0x24, true),
@@ -107,7 +109,45 @@ fn setting_commands_are_marked(rt: HostRuntime) -> Result<(), Fail> {
     Ok(())
 }
 
-/// A sensor whose thresholds are all this one, as its positive hysteresis is.
+#[test]
+fn masks_that_are_missing_are_empty(rt: HostRuntime) -> Result<(), Fail> {
+    let mut lab = open_lab(rt.alloc(), Bus::Ipmb)?;
+    for (command, body, code, reply) in [
+        // Selection 10: offset 9 of the assertions is in the second byte of the mask.
+        (0x28, &[5, 0xE0, 0xFF][..], 0x00, &[][..]),
+        (0x29, &[5], 0x00, &[0xC0, 0x00, 0x02, 0x00, 0x00]),
+        (0x28, &[5, 0xE0, 0x00, 0x02], 0x00, &[]),
+        (0x29, &[5], 0x00, &[0xC0, 0x00, 0x00, 0x00, 0x00]),
+        (0x28, &[5, 0xD0, 0x00, 0x02], 0x00, &[]),
+        // Selection 00 alone takes events that aren't supported.
+        (0x28, &[5, 0x4F, 0xFF, 0xFF], 0x00, &[]),
+        (0x29, &[5], 0x00, &[0x40, 0x00, 0x02, 0x00, 0x00]),
+        (0x28, &[5, 0x50, 0x00, 0x10], 0xCC, &[]),
+        (0x28, &[5, 0x60, 0x00, 0x00, 0x00, 0x10], 0xCC, &[]),
+        (0x28, &[5, 0x70], 0xCC, &[]),
+        (0x28, &[9, 0x70], 0xCB, &[]),
+        (0x29, &[9], 0xCB, &[]),
+        (0x28, &[5], 0xC7, &[]),
+        (0x28, &[5, 0, 0, 0, 0, 0, 0], 0xC7, &[]),
+        (0x29, &[5], 0x00, &[0x40, 0x00, 0x02, 0x00, 0x00]),
+    ] {
+        let asked = ipmi(0x04, 0, command, body).ok_or("a request")?;
+        let answered = lab.board.answer(&asked);
+        assert_eq!(rt; answered.code, code, "{command:02X} {body:?}");
+        assert_eq!(rt; answered.body.as_slice(), reply, "{command:02X} {body:?}");
+    }
+    Ok(())
+}
+
+/// The events whose offsets are this number's bits, asserted.
+fn events_of(number: u8) -> EventMasks {
+    EventMasks {
+        assertions: u16::from(number),
+        deassertions: 0,
+    }
+}
+
+/// A sensor whose thresholds are all this one, as its positive hysteresis and its mask of assertions are.
 fn sensor(number: u8, threshold: u8) -> Option<Sensor> {
     if number == 0xFF {
         return None;
@@ -120,6 +160,7 @@ fn sensor(number: u8, threshold: u8) -> Option<Sensor> {
             positive: threshold,
             negative: 1,
         },
+        events: EventEnable::new(0xFFF, true, false, events_of(threshold))?,
     })
 }
 
@@ -147,6 +188,7 @@ fn the_last_of_32_sensors_is_shown(rt: HostRuntime) -> Result<(), Fail> {
     for (command, body, reply) in [
         (0x27, &[254][..], &[0x3F, 31, 31, 31, 31, 31, 31][..]),
         (0x25, &[254, 0xFF], &[31, 1]),
+        (0x29, &[254], &[0x80, 31, 0, 0, 0]),
     ] {
         let asked = ipmi(0x04, 0, command, body).ok_or("a request")?;
         assert!(rt;

@@ -64,6 +64,20 @@ fn hysteresis_is_set_over_ipmb_and_got_again(rt: HostRuntime) -> Result<(), Fail
 }
 
 #[test]
+fn events_are_enabled_over_ipmb_and_got_again(rt: HostRuntime) -> Result<(), Fail> {
+    talk(
+        &rt,
+        rt.alloc(),
+        Bus::Ipmb,
+        &[
+            ("2010D02C042805D08002000051", ANSWERED, "2C14C020042800B4"),
+            ("2010D02C0829059E", ANSWERED, "2C14C020082900C0800200006D"),
+        ],
+    )?;
+    Ok(())
+}
+
+#[test]
 fn the_self_test_found_no_error(rt: HostRuntime) -> Result<(), Fail> {
     talk(
         &rt,

@@ -2,8 +2,9 @@
 ghost use Rattle.std.specs.Prelude.{◌<◌};
 
 use cfg_records::{
-    Answered, Asked, Bcd, Hysteresis, Key, Live, ManufacturerId, NoKey, PlainStore, PowerPolicy,
-    Sensor, Sensors, Store, StoreFault, ThresholdMasks, Thresholds, Value, Watchdog, sample_board,
+    Answered, Asked, Bcd, EventEnable, EventMasks, Hysteresis, Key, Live, ManufacturerId, NoKey,
+    PlainStore, PowerPolicy, Sensor, Sensors, Store, StoreFault, ThresholdMasks, Thresholds, Value,
+    Watchdog, sample_board,
 };
 use std::test::Fail;
 use two_wire::{Below, Bytes, Lun, NetFn, code};
@@ -13,15 +14,18 @@ fn the_sample_board_begins_with_its_records(rt: HostRuntime) -> Result<(), Fail>
     let file = sample_board(rt.alloc())?;
     assert_eq!(rt; file.tid, 5);
     let pairs = file.records(rt.alloc())?;
-    assert_eq!(rt; pairs.len(), 6);
+    assert_eq!(rt; pairs.len(), 8);
     assert!(rt; pairs[1].0 == Key::Thresholds(7));
     assert!(rt; pairs[1].1.is(&[0, 0, 0, 0x90, 0xA0, 0xB0]));
     assert!(rt; pairs[2].0 == Key::Hysteresis(5));
     assert!(rt; pairs[2].1.is(&[2, 2]));
-    assert!(rt; pairs[4].0 == Key::PowerPolicy);
-    assert!(rt; pairs[4].1.is(&[1]));
-    assert!(rt; pairs[5].0 == Key::Watchdog);
+    assert!(rt; pairs[4].0 == Key::EventEnable(5));
+    assert!(rt; pairs[4].1.is(&[0xC0, 0, 2, 0, 0]));
     assert!(rt; pairs[5].1.is(&[0, 0, 0, 0, 0]));
+    assert!(rt; pairs[6].0 == Key::PowerPolicy);
+    assert!(rt; pairs[6].1.is(&[1]));
+    assert!(rt; pairs[7].0 == Key::Watchdog);
+    assert!(rt; pairs[7].1.is(&[0, 0, 0, 0, 0]));
     Ok(())
 }
 
@@ -81,7 +85,13 @@ fn a_sensor_has_its_thresholds_in_order(rt: HostRuntime) -> Result<(), Fail> {
     Ok(())
 }
 
-/// A sensor without thresholds.
+/// No event.
+const NO_EVENTS: EventMasks = EventMasks {
+    assertions: 0,
+    deassertions: 0,
+};
+
+/// A sensor without thresholds and events.
 fn bare(number: u8) -> Option<Sensor>
     requires { number < 255 }
 {
@@ -92,7 +102,24 @@ fn bare(number: u8) -> Option<Sensor>
             positive: 0,
             negative: 0,
         },
+        events: EventEnable::new(0, false, false, NO_EVENTS)?,
     })
+}
+
+#[test]
+fn events_are_two_for_each_threshold_and_enabled_ones_are_supported(
+    rt: HostRuntime,
+) -> Result<(), Fail> {
+    let two = EventMasks {
+        assertions: 0x200,
+        deassertions: 0x001,
+    };
+    let events = EventEnable::new(0xFFF, true, false, two).ok_or("events")?;
+    assert!(rt; events.pair(5).1.is(&[0x80, 0x00, 0x02, 0x01, 0x00]));
+    assert!(rt; EventEnable::new(0x201, false, true, two).is_some());
+    assert!(rt; EventEnable::new(0x200, true, true, two).is_none());
+    assert!(rt; EventEnable::new(0x1000, true, true, NO_EVENTS).is_none());
+    Ok(())
 }
 
 #[test]

@@ -1,8 +1,9 @@
-//! Thresholds and hysteresis.
+//! Thresholds, hysteresis and enabled events.
 use cfg_records::{
-    Live, RecordData, RecordKind, SetHysteresis, SetThresholds, ThresholdMasks, Thresholds, Value,
+    EventChange, EventMasks, Live, RecordData, RecordKind, SetEventEnable, SetHysteresis,
+    SetThresholds, ThresholdMasks, Thresholds, Value,
 };
-use sensor_recs::{HysteresisLimits, ThresholdLimits};
+use sensor_recs::{EventEnableLimits, HysteresisLimits, ThresholdLimits};
 use std::test::Fail;
 use two_wire::code::INVALID_DATA_FIELD;
 
@@ -46,6 +47,47 @@ fn hysteresis_is_undone_from_its_reply(rt: HostRuntime) -> Result<(), Fail> {
     let undo = undo_data::<HysteresisLimits>(&op, &[2, 2]).ok_or("undo")?;
     assert!(rt; undo.is(&[0x05, 0xFF, 2, 2]));
     assert!(rt; undo_data::<HysteresisLimits>(&op, &[2]).is_none());
+    Ok(())
+}
+
+/// The events of offsets 7 and 9, asserted, and of offset 0, deasserted.
+const SOME_EVENTS: EventMasks = EventMasks {
+    assertions: 0x280,
+    deassertions: 0x001,
+};
+
+/// An operation on sensor 5's events, which leaves messages and scanning on.
+fn of_events(change: EventChange) -> SetEventEnable {
+    SetEventEnable {
+        sensor: 5,
+        messages: true,
+        scanning: true,
+        change,
+    }
+}
+
+#[test]
+fn events_are_undone_by_the_reverse_of_what_changed(rt: HostRuntime) -> Result<(), Fail> {
+    // Messages alone; offset 9 is enabled, asserted and deasserted.
+    let reply = [0x80, 0x00, 0x02, 0x00, 0x02];
+    for (change, data) in [
+        // The events that weren't enabled are disabled: 7 and 0.
+        (
+            EventChange::Enable(SOME_EVENTS),
+            &[5, 0xA0, 0x80, 0x00, 0x01, 0x00][..],
+        ),
+        // The events that were enabled are enabled: 9.
+        (
+            EventChange::Disable(SOME_EVENTS),
+            &[5, 0x90, 0x00, 0x02, 0x00, 0x00],
+        ),
+        (EventChange::Leave, &[5, 0x80]),
+    ] {
+        let undo = undo_data::<EventEnableLimits>(&of_events(change), &reply).ok_or("undo")?;
+        assert!(rt; undo.is(data), "{data:?}");
+    }
+    let long = [0x80, 0, 2, 0, 2, 0];
+    assert!(rt; undo_data::<EventEnableLimits>(&of_events(EventChange::Leave), &long).is_none());
     Ok(())
 }
 

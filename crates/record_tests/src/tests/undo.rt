@@ -1,8 +1,8 @@
 //! A change and its undo, on the sample board.
 use bmc_board::{Board, Lengths};
 use cfg_records::{
-    Answered, Asked, Key, Op, PlainStore, RecordKind, SetHysteresis, SetPowerPolicy, SetThresholds,
-    SetWatchdog, Store, sample_board,
+    Answered, Asked, EventChange, EventMasks, Key, Op, PlainStore, RecordKind, SetEventEnable,
+    SetHysteresis, SetPowerPolicy, SetThresholds, SetWatchdog, Store, sample_board,
 };
 use record_kinds::Limits;
 use std::alloc::Global;
@@ -88,6 +88,21 @@ fn a_change_is_undone(rt: HostRuntime) -> Result<(), Fail> {
         positive: 3,
         negative: 1,
     });
+    let seven_and_nine = EventMasks {
+        assertions: 0x280,
+        deassertions: 0x001,
+    };
+    let events = |change| {
+        Op::EventEnable(SetEventEnable {
+            sensor: 5,
+            messages: false,
+            scanning: true,
+            change,
+        })
+    };
+    let enabled = events(EventChange::Enable(seven_and_nine));
+    let disabled = events(EventChange::Disable(seven_and_nine));
+    let left = events(EventChange::Leave);
     let power_up = Op::PowerPolicy(SetPowerPolicy { policy: 2 });
     let stay_off = Op::PowerPolicy(SetPowerPolicy { policy: 0 });
     let mut board = board(rt.alloc())?;
@@ -98,6 +113,9 @@ fn a_change_is_undone(rt: HostRuntime) -> Result<(), Fail> {
             &[0x3F, 0x14, 0x0A, 0x05, 0x50, 0x5A, 0x6E][..],
         ),
         (&hysteresis, &[2, 2], &[3, 1]),
+        (&enabled, &[0xC0, 0, 2, 0, 0], &[0x40, 0x80, 2, 1, 0]),
+        (&disabled, &[0xC0, 0, 2, 0, 0], &[0x40, 0, 0, 0, 0]),
+        (&left, &[0xC0, 0, 2, 0, 0], &[0x40, 0, 2, 0, 0]),
         (&power_up, &[0x20, 0, 0], &[0x40, 0, 0]),
         (&stay_off, &[0x20, 0, 0], &[0, 0, 0]),
     ] {
@@ -183,6 +201,8 @@ fn all_shown(alloc: Global, board: &mut Board<PlainStore>) -> Result<Vec<u8>, Fa
         Key::Thresholds(7),
         Key::Hysteresis(5),
         Key::Hysteresis(7),
+        Key::EventEnable(5),
+        Key::EventEnable(7),
         Key::PowerPolicy,
         Key::Watchdog,
     ] {
@@ -203,7 +223,8 @@ fn a_refused_change_leaves_records_and_activity(rt: HostRuntime) -> Result<(), F
         0
     );
     let before = all_shown(rt.alloc(), &mut board)?;
-    // Upper critical above upper non-recoverable, a sensor that isn't there, a policy of 4, and a use of 6.
+    // Upper critical above upper non-recoverable, a sensor that isn't there, a reserved selection of events, events that aren't
+    // supported, a policy of 4, and a use of 6.
     let thresholds = Op::Thresholds(SetThresholds {
         sensor: 5,
         mask: 0x10,
@@ -214,6 +235,21 @@ fn a_refused_change_leaves_records_and_activity(rt: HostRuntime) -> Result<(), F
         positive: 3,
         negative: 1,
     });
+    let unsupported = EventMasks {
+        assertions: 0,
+        deassertions: 0x1000,
+    };
+    let events = |change| {
+        Op::EventEnable(SetEventEnable {
+            sensor: 5,
+            messages: false,
+            scanning: false,
+            change,
+        })
+    };
+    let reserved = events(EventChange::Reserved);
+    let enabled = events(EventChange::Enable(unsupported));
+    let disabled = events(EventChange::Disable(unsupported));
     let policy = Op::PowerPolicy(SetPowerPolicy { policy: 4 });
     let watchdog = Op::Watchdog(SetWatchdog {
         timer_use: 0x06,
@@ -225,6 +261,9 @@ fn a_refused_change_leaves_records_and_activity(rt: HostRuntime) -> Result<(), F
     for (op, refused) in [
         (&thresholds, 0xCC),
         (&hysteresis, 0xCB),
+        (&reserved, 0xCC),
+        (&enabled, 0xCC),
+        (&disabled, 0xCC),
         (&policy, 0xCC),
         (&watchdog, 0xCC),
     ] {

@@ -8,6 +8,9 @@ use Rattle.record_kinds.proofs.limits.LimitsRecordKind.apply.Goals as goal
 pub apply-requires : goal.apply-requires
 apply-requires c = (tt, subst (λ (s : Limits). valid s c.args.value.now) c.in-Thresholds.is c.requires.is_valid)
 
+pub apply-requires-in-EventEnable-op : goal.apply-requires-in-EventEnable-op
+apply-requires-in-EventEnable-op c = (tt, subst (λ (s : Limits). valid s c.args.value.now) c.in-EventEnable.is c.requires.is_valid)
+
 pub apply-requires-in-PowerPolicy-op : goal.apply-requires-in-PowerPolicy-op
 apply-requires-in-PowerPolicy-op c = (tt, subst (λ (s : Limits). valid s c.args.value.now) c.in-PowerPolicy.is c.requires.is_valid)
 
@@ -19,6 +22,9 @@ returns-in-Thresholds-op c = rw (c.in-Thresholds.is, c.in-Thresholds-op.is) c.ap
 
 pub returns-in-Hysteresis-op : goal.returns-in-Hysteresis-op
 returns-in-Hysteresis-op c = rw (c.in-Hysteresis.is, c.in-Hysteresis-op.is) c.apply-in-Hysteresis-op.ensures
+
+pub returns-in-EventEnable-op : goal.returns-in-EventEnable-op
+returns-in-EventEnable-op c = rw (c.in-EventEnable.is, c.in-EventEnable-op.is) c.apply-in-EventEnable-op.ensures
 
 pub returns-in-PowerPolicy-op : goal.returns-in-PowerPolicy-op
 returns-in-PowerPolicy-op c = rw (c.in-PowerPolicy.is, c.in-PowerPolicy-op.is) c.apply-in-PowerPolicy-op.ensures

@@ -1,0 +1,24 @@
+use Rattle.std.proofs.Common.{◌≡◌, ◌+◌, ◌≤◌, ℕ, List, Option, Some, length, sym, ◌∙◌, ap, arith}
+use Rattle.std.specs.Option.{option_copied}
+use Rattle.cfg_records.specs.Meaning.{room_for}
+use Rattle.cfg_records.specs.declared.key.Key.{Key}
+use Rattle.record_kinds.specs.Limits.{is_of, valid, view, get_asked}
+use Rattle.record_kinds.specs.LimitsLaws as laws
+use Rattle.record_kinds.specs.Boards.{limits_at}
+use Rattle.record_kinds.specs.SoundLaws.{valid_at}
+use Rattle.bmc_board.proofs.AnswerFacts.{limits_are_of}
+use Rattle.bmc_board.proofs.board.Board.get.Goals as goal
+
+pub get_data-requires-clause-room : goal.get_data-requires-clause-room
+get_data-requires-clause-room g c =
+    let file = c.args.self.now.setup in
+    let key : Key = c.args.key.now in
+    let limits = c.in-Some-Some.limits in
+    let value : List ℕ = c.in-Some-Some.value.now in
+    let at : limits_at file key ≡ Some limits = sym c.limits.ensures ∙ c.in-Some-Some.is-0 in
+    let had : g.S.Store.records c.args.self.now.store key ≡ Some value = sym c.get.ensures ∙ ap option_copied c.in-Some-Some.is-1 in
+    let of_record : is_of limits key = limits_are_of file key limits at in
+    let is_valid : valid limits value = valid_at _ _ limits value at had (c.args.self.now.sound key) in
+    let short : length (view limits value c.args.self.now.activity.live) ≤ room_for (get_asked key) = (laws.record_laws limits).get_short key value c.args.self.now.activity.live of_record is_valid in
+    let room : length (g.B.Buffer.bytes c.args.to.now) + room_for (get_asked key) ≤ g.B.Buffer.capacity = c.requires.room in
+    omega arith

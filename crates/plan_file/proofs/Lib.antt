@@ -1,0 +1,6 @@
+pub mod Values
+pub mod TestFacts
+pub mod First
+pub mod Rows
+pub mod Events
+pub mod Sensors

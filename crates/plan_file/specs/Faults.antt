@@ -1,0 +1,81 @@
+-- The faults of a board file, in the order in which they count.
+use Rattle.std.specs.Prelude.{ℕ, ◌==◌, Bool, true, false, not, ◌&&◌, List, [], ◌∷◌, ◌++◌, map, filter, length, Option, Some, None, if◌then◌else◌, is_none}
+use Rattle.std.specs.List.{list_any}
+use Rattle.toml.specs.Data.{Data, Members}
+use Rattle.plan_file.specs.declared.field.Field.{Field}
+use Rattle.plan_file.specs.declared.field.Field.TheVariants as field
+use Rattle.plan_file.specs.declared.row.Shape.{Shape}
+use Rattle.plan_file.specs.declared.row.Shape.TheVariants as shape
+use Rattle.plan_file.specs.declared.row.Row.{Row}
+use Rattle.plan_file.specs.declared.row.TheConstants.{TOP, DEVICE, SENSOR}
+use Rattle.plan_file.specs.declared.fault.FieldFault.{FieldFault}
+use Rattle.plan_file.specs.declared.fault.FieldFault.TheVariants as fault
+use Rattle.plan_file.specs.declared.fault.FileFault.{FileFault}
+use Rattle.plan_file.specs.declared.fault.FileFault.TheVariants as file
+use Rattle.plan_file.specs.declared.fault.Item.{Item}
+use Rattle.plan_file.specs.declared.fault.Item.TheVariants as item
+use Rattle.plan_file.specs.Trees.{in_field, number_in, table_of, table_in, members_in}
+use Rattle.plan_file.specs.Ranges.{passes, has_type, is_in_range}
+
+-- an array of tables may be absent, and nothing else
+abbrev pub is_needed : Shape → Bool
+is_needed (shape.Tables most) = false
+is_needed _ = true
+
+-- the item lacks a field that it needs
+abbrev pub is_missing : Members → Row → Bool
+is_missing tree row = is_needed row.1 && is_none (in_field row.0 tree)
+
+-- the item has a value of another type in the field
+abbrev pub is_mistyped : Members → Row → Bool
+is_mistyped tree row = passes (λ d. not (has_type row.1 d)) (in_field row.0 tree)
+
+-- the item has a value in the field that it can't have
+abbrev pub is_beyond : Members → Row → Bool
+is_beyond tree row = passes (λ d. not (is_in_range tree row.1 d)) (in_field row.0 tree)
+
+-- the faults of an item's fields: the missing ones, those of another type, those out of their ranges, each in the table's order
+unfoldable pub field_faults : List Row → Members → List FieldFault
+field_faults rows tree =
+    map (λ row. fault.Missing row.0) (filter (is_missing tree) rows)
+    ++ (map (λ row. fault.WrongType row.0) (filter (is_mistyped tree) rows)
+    ++ map (λ row. fault.Range row.0) (filter (is_beyond tree) rows))
+
+-- the fault of an item of a board file
+abbrev pub fault_at : Item → FieldFault → FileFault
+fault_at item (fault.Missing field) = file.Missing (record { item = item; field = field })
+fault_at item (fault.WrongType field) = file.WrongType (record { item = item; field = field })
+fault_at item (fault.Range field) = file.Range (record { item = item; field = field })
+
+-- the two have one number
+abbrev pub same_number : Option ℕ → Option ℕ → Bool
+same_number (Some a) (Some b) = a == b
+same_number _ _ = false
+
+-- one of the tables before has the number that this one has in the field
+abbrev pub is_taken : Field → List Data → Data → Bool
+is_taken field before d = list_any (λ other. same_number (number_in field (table_of other)) (number_in field (table_of d))) before
+
+-- the faults of an array's items, behind those before: of each its fields' faults, and then Twice where its number is taken
+abbrev pub item_faults : (ℕ → Item) → List Row → Field → List Data → List Data → List FileFault
+item_faults item_at rows named before [] = []
+item_faults item_at rows named before (d ∷ ds) =
+    map (fault_at (item_at (length before))) (field_faults rows (table_of d))
+    ++ ((if is_taken named before d then file.Twice (record { item = item_at (length before); field = named }) ∷ [] else [])
+    ++ item_faults item_at rows named (before ++ d ∷ []) ds)
+
+-- the faults of the sensors that an array has
+abbrev pub sensor_faults : List Data → List FileFault
+sensor_faults ds = item_faults item.Sensor SENSOR field.Number [] ds
+
+-- the faults of a board file: those of its own fields, of `[device]` and of each `[[sensor]]`
+unfoldable pub board_faults : Members → List FileFault
+board_faults tree =
+    map (fault_at item.Top) (field_faults TOP tree)
+    ++ (map (fault_at item.Device) (field_faults DEVICE (table_in field.Device tree))
+    ++ sensor_faults (members_in field.Sensor tree))
+
+-- the fault that counts
+abbrev pub first : {A : Type 0} → List A → Option A
+first [] = None
+first (x ∷ xs) = Some x

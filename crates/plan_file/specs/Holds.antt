@@ -1,0 +1,91 @@
+-- The board that a tree holds.
+use Rattle.std.specs.Prelude.{◌≡◌, ◌<◌, ℕ, List, [], ◌∷◌, length, Some, Result, Ok, Err, MatchOption}
+use Rattle.std.specs.List.{AllZip}
+use Rattle.toml.specs.Data.{Data, Members}
+use Rattle.toml.specs.Parse.{parse_document}
+use Rattle.cfg_records.specs.EventEnable.{flags_byte}
+use Rattle.cfg_records.specs.declared.device.Device.{Device}
+use Rattle.cfg_records.specs.declared.event_enable.EventEnable.{EventEnable}
+use Rattle.cfg_records.specs.declared.sensor.Sensor.{Sensor}
+use Rattle.cfg_records.specs.declared.watchdog.Watchdog.{Watchdog}
+use Rattle.cfg_records.specs.declared.board_file.BoardFile.{BoardFile}
+use Rattle.plan_file.specs.declared.field.Field.{Field}
+use Rattle.plan_file.specs.declared.field.Field.TheVariants as field
+use Rattle.plan_file.specs.declared.fault.FileFault.{FileFault}
+use Rattle.plan_file.specs.declared.fault.FileFault.TheVariants as file
+use Rattle.plan_file.specs.declared.fault.Item.TheVariants as item
+use Rattle.plan_file.specs.declared.row.TheConstants.{SENSOR}
+use Rattle.plan_file.specs.Trees.{number_in, numbers_in, table_of, table_in, members_in}
+use Rattle.plan_file.specs.Faults.{item_faults, board_faults, first}
+
+-- the table has this number in the field
+abbrev pub HasNumber : Field → Members → ℕ → Type 0
+HasNumber field tree n = number_in field tree ≡ Some n
+
+-- the table has a number below the limit in the field
+abbrev pub HasBelow : ℕ → Field → Members → Type 0
+HasBelow limit field tree = (n : ℕ) × (HasNumber field tree n × (n < limit))
+
+-- the table has these numbers in the field
+abbrev pub HasNumbers : Field → Members → List ℕ → Type 0
+HasNumbers field tree ns = numbers_in (length ns) field tree ≡ Some ns
+
+-- the table holds what a board says of itself
+pub record HoldsDevice (tree : Members) (device : Device) : Type 0 where
+  pub id : HasNumber field.Id tree device.id
+  pub revision : HasNumber field.Revision tree device.revision
+  pub major : HasNumber field.Major tree device.major
+  pub minor : HasNumber field.Minor tree device.minor.byte
+  pub support : HasNumber field.Support tree device.support
+  pub manufacturer : HasNumber field.Manufacturer tree device.manufacturer.number
+  pub product : HasNumber field.Product tree device.product
+
+-- the table holds a sensor's events
+pub record HoldsEvents (tree : Members) (events : EventEnable) : Type 0 where
+  pub supported : HasNumber field.Supported tree events.supported
+  pub flags : HasNumber field.Flags tree (flags_byte events.messages events.scanning)
+  pub assertions : HasNumber field.Assert tree events.enabled.assertions
+  pub deassertions : HasNumber field.Deassert tree events.enabled.deassertions
+
+-- the table holds a sensor
+pub record HoldsSensor (tree : Members) (sensor : Sensor) : Type 0 where
+  pub numbered : HasNumber field.Number tree sensor.number
+  pub readable : HasNumber field.Readable tree sensor.thresholds.masks.readable
+  pub settable : HasNumber field.Settable tree sensor.thresholds.masks.settable
+  pub values : HasNumbers field.Thresholds tree sensor.thresholds.values
+  pub hysteresis : HasNumbers field.Hysteresis tree (sensor.hysteresis.positive ∷ sensor.hysteresis.negative ∷ [])
+  pub events : HoldsEvents tree sensor.events
+
+-- the member of an array holds a sensor
+abbrev pub IsSensorIn : Data → Sensor → Type 0
+IsSensorIn d sensor = HoldsSensor (table_of d) sensor
+
+-- a sensor's number
+abbrev pub number_of : Sensor → ℕ
+number_of sensor = sensor.number
+
+-- the fault counts in an array of sensors, where those before the member hold these
+abbrev pub IsNextFault : List Sensor → Data → FileFault → Type 0
+IsNextFault before d why =
+    (seen ds : List Data) → AllZip IsSensorIn seen before → first (item_faults item.Sensor SENSOR field.Number seen (d ∷ ds)) ≡ Some why
+
+-- the settings of a watchdog, as a file lists them
+abbrev pub settings : Watchdog → List ℕ
+settings watchdog = watchdog.timer_use ∷ watchdog.actions ∷ watchdog.pre_timeout ∷ watchdog.initial ∷ []
+
+-- the tree holds a board
+pub record HoldsBoard (tree : Members) (board : BoardFile) : Type 0 where
+  pub terminus : HasNumber field.Tid tree board.tid
+  pub policy : HasNumber field.Policy tree board.policy.number
+  pub watchdog : HasNumbers field.Watchdog tree (settings board.watchdog)
+  pub device : HoldsDevice (table_in field.Device tree) board.device
+  pub sensors : AllZip IsSensorIn (members_in field.Sensor tree) board.sensors.items
+
+-- what the reading of a tree answers: the board that it holds where it has no fault, else its first fault
+abbrev pub Answers : Members → Result BoardFile FileFault → Type 0
+Answers tree (Ok board) = (board_faults tree ≡ []) × HoldsBoard tree board
+Answers tree (Err why) = first (board_faults tree) ≡ Some why
+
+-- what the reading of a text answers where memory suffices: Text where it's no TOML 1.1
+abbrev pub Reads : List ℕ → Result BoardFile FileFault → Type 0
+Reads text answer = MatchOption (parse_document text) (answer ≡ Err file.Text) (λ tree. Answers tree answer)

@@ -1,0 +1,6 @@
+pub mod Words
+pub mod Names
+pub mod Trees
+pub mod Ranges
+pub mod Faults
+pub mod Holds

@@ -1,0 +1,107 @@
+-- The type of a field, and its range.
+use Rattle.std.specs.Prelude.{◌==◌, ℕ, ◌/◌, ◌%◌, Bool, true, false, ◌&&◌, ◌||◌, not, nat_le, nat_lt, List, [], ◌∷◌, length, slice_index, Option, Some, None, is_some}
+use Rattle.std.specs.List.{list_all}
+use Rattle.cfg_records.specs.Masks.{has, all_below}
+use Rattle.cfg_records.specs.Thresholds.{place_of}
+use Rattle.cfg_records.specs.EventEnable.{are_within}
+use Rattle.toml.specs.Data.{Data, Members, as_integer, as_table}
+use Rattle.plan_file.specs.declared.field.Field.TheVariants as field
+use Rattle.plan_file.specs.declared.row.Shape.{Shape}
+use Rattle.plan_file.specs.declared.row.Shape.TheVariants as shape
+use Rattle.plan_file.specs.Trees.{members, natural, naturals_in, bytes_in, number_in, or_none}
+
+-- the value is an integer
+abbrev pub is_integer : Data → Bool
+is_integer d = is_some (as_integer d)
+
+-- the value is a table
+abbrev pub is_table : Data → Bool
+is_table d = is_some (as_table d)
+
+-- there is a value, and it passes
+abbrev pub passes : {A : Type 0} → (A → Bool) → Option A → Bool
+passes test (Some x) = test x
+passes test None = false
+
+-- the value is an array, each of whose members passes
+abbrev pub is_array_of : (Data → Bool) → Data → Bool
+is_array_of test d = passes (list_all test) (members d)
+
+-- the value is of the shape's type
+abbrev pub has_type : Shape → Data → Bool
+has_type (shape.Number least most) d = is_integer d
+has_type shape.Digits d = is_integer d
+has_type shape.Pair d = is_array_of is_integer d
+has_type shape.Thresholds d = is_array_of is_integer d
+has_type shape.Flags d = is_integer d
+has_type shape.Events d = is_integer d
+has_type shape.Watchdog d = is_array_of is_integer d
+has_type shape.Table d = is_table d
+has_type (shape.Tables most) d = is_array_of is_table d
+
+-- ---- ranges
+
+-- a number from the least to the most
+abbrev pub is_between : ℕ → ℕ → ℕ → Bool
+is_between least most n = nat_le least n && nat_le n most
+
+-- a byte of two decimal digits, the tens in its upper half
+abbrev pub are_digits : ℕ → Bool
+are_digits n = nat_lt (n / 16) 10 && nat_lt (n % 16) 10
+
+-- masks of places 0 to 5
+abbrev pub are_masks : Option ℕ → Option ℕ → Bool
+are_masks (Some readable) (Some settable) = nat_lt readable 64 && nat_lt settable 64
+are_masks _ _ = false
+
+-- a sensor of these masks has the threshold at this place: it can be read or set
+abbrev pub is_there : ℕ → ℕ → ℕ → Bool
+is_there readable settable place = has readable place || has settable place
+
+-- the threshold of rank low is not above that of rank high, where the sensor has both
+abbrev pub are_ordered : ℕ → ℕ → List ℕ → ℕ → ℕ → Bool
+are_ordered readable settable values high low =
+    not (is_there readable settable (place_of low))
+    || (not (is_there readable settable (place_of high)) || nat_le (slice_index values (place_of low)) (slice_index values (place_of high)))
+
+-- six thresholds that a sensor of these masks can have: 0 where it has none, and in order
+abbrev pub are_thresholds : ℕ → ℕ → List ℕ → Bool
+are_thresholds readable settable values =
+    all_below (λ place. is_there readable settable place || (slice_index values place == 0)) 6
+    && all_below (λ high. all_below (are_ordered readable settable values high) high) 6
+
+-- a byte with no bits but bits 7 and 6
+abbrev pub are_flags : ℕ → Bool
+are_flags n = nat_lt n 256 && (n % 64 == 0)
+
+-- two masks of sixteen events: each event of the second is supported, by the first
+abbrev pub are_supported : ℕ → ℕ → Bool
+are_supported supported events = (nat_lt supported 65536 && nat_lt events 65536) && are_within events supported
+
+-- the settings of a watchdog timer: a use of at most 5 in bits 2:0 and bit 7, an interrupt and an action of at most 3, a
+-- byte, and two bytes
+abbrev pub are_settings : List ℕ → Bool
+are_settings (timer_use ∷ actions ∷ pre_timeout ∷ initial ∷ []) =
+    (nat_lt timer_use 256 && nat_le (timer_use % 128) 5)
+    && ((nat_lt actions 256 && (nat_le (actions / 16) 3 && nat_le (actions % 16) 3))
+    && (nat_lt pre_timeout 256 && nat_lt initial 65536))
+are_settings _ = false
+
+-- a number, 0 where there is none
+abbrev pub or_zero : Option ℕ → ℕ
+or_zero (Some n) = n
+or_zero None = 0
+
+-- the item can have the value in a field of this shape
+abbrev pub is_in_range : Members → Shape → Data → Bool
+is_in_range tree (shape.Number least most) d = passes (is_between least most) (natural d)
+is_in_range tree shape.Digits d = passes are_digits (natural d)
+is_in_range tree shape.Pair d = is_some (bytes_in 2 d)
+is_in_range tree shape.Thresholds d =
+    are_masks (number_in field.Readable tree) (number_in field.Settable tree)
+    && passes (are_thresholds (or_zero (number_in field.Readable tree)) (or_zero (number_in field.Settable tree))) (bytes_in 6 d)
+is_in_range tree shape.Flags d = passes are_flags (natural d)
+is_in_range tree shape.Events d = passes (λ supported. passes (are_supported supported) (natural d)) (number_in field.Supported tree)
+is_in_range tree shape.Watchdog d = passes are_settings (naturals_in 4 d)
+is_in_range tree shape.Table d = true
+is_in_range tree (shape.Tables most) d = nat_le (length (or_none (members d))) most

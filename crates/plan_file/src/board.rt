@@ -1,0 +1,203 @@
+//! The text of a board file.
+ghost use Rattle.std.specs.Prelude.{◌≡◌, ◌⊎◌, ◌<◌, ◌≤◌, ◌^◌, ◌==◌, ℕ, [], true, false, Some, Err, IsSome, IfOk, IfErr, map, length, option_map, option_and_then};
+ghost use Rattle.std.specs.List.{list_all, list_any, AllZip};
+ghost use Rattle.cfg_records.specs.Distinct.{NamesDiffer};
+ghost use Rattle.toml.specs.Data.{as_table};
+ghost use Rattle.toml.specs.View.{view, table_view};
+ghost use Rattle.plan_file.specs.Trees.{in_field, table_of, table_in, members_in};
+ghost use Rattle.plan_file.specs.Ranges.{is_table};
+ghost use Rattle.plan_file.specs.Faults.{field_faults, sensor_faults, first};
+ghost use Rattle.plan_file.specs.Holds.{HasNumber, HasBelow, HoldsDevice, HoldsEvents, HoldsSensor, IsSensorIn, IsNextFault, number_of, Answers, Reads};
+
+use crate::check::check;
+use crate::fault::{FileFault, Item, Place};
+use crate::field::Field;
+use crate::range::{digits, hysteresis, thresholds, watchdog};
+use crate::row::{DEVICE, SENSOR, TOP};
+use crate::tree::{in_field, members_in, number};
+use cfg_records::event_enable::{MESSAGES_PLACE, SCANNING_PLACE};
+use cfg_records::mask::has;
+use cfg_records::{
+    BoardFile, Device, Distinct, EventEnable, EventMasks, ManufacturerId, PowerPolicy, Sensor,
+    Sensors,
+};
+use std::alloc::Global;
+use toml::{Table, Value};
+
+/// The value that the table has in the field.
+fn value_in<'a>(table: &'a Table, field: Field) -> &'a Value
+    requires { IsSome (in_field field (table_view table.now)) }
+    ensures { in_field field (table_view table.now) ≡ Some (view result.now) }
+{
+    in_field(table, field).unwrap()
+}
+
+/// The number that the table has in the field.
+fn number_in(table: &Table, field: Field) -> u32
+    requires { HasBelow (2 ^ 32) field (table_view table.now) }
+    ensures { HasNumber field (table_view table.now) result }
+{
+    number(table, field).unwrap() as u32
+}
+
+/// The byte that the table has in the field.
+fn byte_in(table: &Table, field: Field) -> u8
+    requires { HasBelow 256 field (table_view table.now) }
+    ensures { HasNumber field (table_view table.now) result }
+{
+    number(table, field).unwrap() as u8
+}
+
+/// The two bytes that the table has in the field.
+fn word_in(table: &Table, field: Field) -> u16
+    requires { HasBelow (2 ^ 16) field (table_view table.now) }
+    ensures { HasNumber field (table_view table.now) result }
+{
+    number(table, field).unwrap() as u16
+}
+
+/// The table that the table has in the field.
+fn table_in<'a>(table: &'a Table, field: Field) -> &'a Table
+    requires { IsSome (option_and_then as_table (in_field field (table_view table.now))) }
+    ensures { table_view result.now ≡ table_in field (table_view table.now) }
+{
+    match in_field(table, field) {
+        Some(value) => value.as_table().unwrap(),
+        None => unreachable!(),
+    }
+}
+
+/// What the table says of its board.
+fn device(table: &Table) -> Device
+    requires { field_faults DEVICE (table_view table.now) ≡ [] }
+    ensures { HoldsDevice (table_view table.now) result }
+{
+    let minor = value_in(table, Field::Minor);
+    Device {
+        id: byte_in(table, Field::Id),
+        revision: byte_in(table, Field::Revision),
+        major: byte_in(table, Field::Major),
+        minor: digits(minor).unwrap(),
+        support: byte_in(table, Field::Support),
+        manufacturer: ManufacturerId::new(number_in(table, Field::Manufacturer)).unwrap(),
+        product: word_in(table, Field::Product),
+    }
+}
+
+/// The events of the sensor that the table is.
+fn events(table: &Table) -> EventEnable
+    requires { field_faults SENSOR (table_view table.now) ≡ [] }
+    ensures { HoldsEvents (table_view table.now) result }
+{
+    let supported = word_in(table, Field::Supported);
+    let flags = byte_in(table, Field::Flags);
+    let enabled = EventMasks {
+        assertions: word_in(table, Field::Assert),
+        deassertions: word_in(table, Field::Deassert),
+    };
+    let messages = has(flags, MESSAGES_PLACE);
+    let scanning = has(flags, SCANNING_PLACE);
+    EventEnable::new(supported, messages, scanning, enabled).unwrap()
+}
+
+/// The sensor that the table is.
+fn sensor(table: &Table) -> Sensor
+    requires { field_faults SENSOR (table_view table.now) ≡ [] }
+    ensures { HoldsSensor (table_view table.now) result }
+{
+    let values = value_in(table, Field::Thresholds);
+    let pair = value_in(table, Field::Hysteresis);
+    Sensor {
+        number: byte_in(table, Field::Number),
+        thresholds: thresholds(table, values).unwrap(),
+        hysteresis: hysteresis(pair).unwrap(),
+        events: events(table),
+    }
+}
+
+/// Whether one of the sensors has the number.
+fn is_taken(sensors: &[Sensor], number: u8) -> bool
+    ensures { result ≡ list_any (λ sensor. sensor.number == number) sensors.now }
+{
+    sensors.iter().any(|sensor| sensor.number == number)
+}
+
+/// The sensor that the value is, behind those before it.
+fn next_sensor(before: &[Sensor], value: &Value) -> Result<Sensor, FileFault>
+    requires { is_table (view value.now) ≡ true }
+    ensures sound { IfOk result (λ _. field_faults SENSOR (table_of (view value.now)) ≡ []) }
+    ensures held { IfOk result (IsSensorIn (view value.now)) }
+    ensures fresh { IfOk result (λ s. list_any (λ other. other.number == s.number) before.now ≡ false) }
+    ensures err { IfErr result (IsNextFault before.now (view value.now)) }
+{
+    let item = Item::Sensor(before.len());
+    let table = value.as_table().unwrap();
+    check(item, &SENSOR, table)?;
+    let sensor = sensor(table);
+    if is_taken(before, sensor.number) {
+        return Err(FileFault::Twice(Place {
+            item,
+            field: Field::Number,
+        }));
+    }
+    Ok(sensor)
+}
+
+/// The sensors that these tables are, up to the first fault.
+fn sensors_of(alloc: Global, values: &[Value]) -> Result<Vec<Sensor>, FileFault>
+    requires { list_all (λ value. is_table (view value)) values.now ≡ true }
+    ensures sound { IfOk result (λ _. sensor_faults (map view values.now) ≡ []) }
+    ensures held { IfOk result (λ sensors. AllZip IsSensorIn (map view values.now) sensors.items) }
+    ensures differ { IfOk result (λ sensors. NamesDiffer number_of sensors.items) }
+    ensures err { IfErr result (λ why. (why ≡ FileFault.Memory) ⊎ (first (sensor_faults (map view values.now)) ≡ Some why)) }
+{
+    let mut sensors = Vec::new(alloc);
+    for value in values {
+        let sensor = next_sensor(sensors.as_slice(), value)?;
+        match sensors.push(sensor) {
+            Ok(()) => {}
+            Err(_) => return Err(FileFault::Memory),
+        }
+    }
+    Ok(sensors)
+}
+
+/// The sensors of the file.
+fn sensors(alloc: Global, tree: &Table) -> Result<Sensors, FileFault>
+    requires { field_faults TOP (table_view tree.now) ≡ [] }
+    ensures sound { IfOk result (λ _. sensor_faults (members_in Field.Sensor (table_view tree.now)) ≡ []) }
+    ensures held { IfOk result (λ sensors. AllZip IsSensorIn (members_in Field.Sensor (table_view tree.now)) sensors.items) }
+    ensures err { IfErr result (λ why. (why ≡ FileFault.Memory) ⊎ (first (sensor_faults (members_in Field.Sensor (table_view tree.now))) ≡ Some why)) }
+{
+    let sensors = sensors_of(alloc, members_in(tree, Field::Sensor))?;
+    Ok(Distinct::new(sensors).unwrap())
+}
+
+/// The board that the tree holds, or its first fault.
+fn board_of(alloc: Global, tree: &Table) -> Result<BoardFile, FileFault>
+    ensures { (result ≡ Err FileFault.Memory) ⊎ Answers (table_view tree.now) result }
+{
+    check(Item::Top, &TOP, tree)?;
+    let board = table_in(tree, Field::Device);
+    check(Item::Device, &DEVICE, board)?;
+    let sensors = sensors(alloc, tree)?;
+    Ok(BoardFile {
+        tid: byte_in(tree, Field::Tid),
+        device: device(board),
+        sensors,
+        policy: PowerPolicy::new(byte_in(tree, Field::Policy)).unwrap(),
+        watchdog: watchdog(value_in(tree, Field::Watchdog)).unwrap(),
+    })
+}
+
+/// The board that the text holds, or why it is no board file: its first fault, in the order in which `TOP`, `DEVICE` and
+/// `SENSOR` list fields. Keys that name no field are ignored.
+pub fn read_board(alloc: Global, text: &str) -> Result<BoardFile, FileFault>
+    ensures { (result ≡ Err FileFault.Memory) ⊎ Reads text.now result }
+{
+    match toml::table_from_str(alloc, text) {
+        Ok(tree) => board_of(alloc, &tree),
+        Err(error) if error.is_memory() => Err(FileFault::Memory),
+        Err(_) => Err(FileFault::Text),
+    }
+}

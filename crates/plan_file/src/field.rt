@@ -1,0 +1,73 @@
+//! The fields of files.
+ghost use Rattle.std.specs.Prelude.{◌≡◌};
+ghost use Rattle.plan_file.specs.Words.{word};
+
+use std::fmt;
+
+/// A field, by what names it in a file. Fields of several items that have one name are one.
+#[derive(Clone, Copy, Debug, PartialEq, Eq)]
+pub enum Field {
+    Tid,
+    Policy,
+    Watchdog,
+    Device,
+    Sensor,
+    Id,
+    Revision,
+    Major,
+    Minor,
+    Support,
+    Manufacturer,
+    Product,
+    Number,
+    Readable,
+    Settable,
+    Thresholds,
+    Hysteresis,
+    Supported,
+    Flags,
+    Assert,
+    Deassert,
+}
+
+impl Field {
+    /// The key that it has in a file.
+    pub fn word(&self) -> &'static str
+        ensures { result.now ≡ word self.now }
+    {
+        match self {
+            Field::Tid => "tid",
+            Field::Policy => "policy",
+            Field::Watchdog => "watchdog",
+            Field::Device => "device",
+            Field::Sensor => "sensor",
+            Field::Id => "id",
+            Field::Revision => "revision",
+            Field::Major => "major",
+            Field::Minor => "minor",
+            Field::Support => "support",
+            Field::Manufacturer => "manufacturer",
+            Field::Product => "product",
+            Field::Number => "number",
+            Field::Readable => "readable",
+            Field::Settable => "settable",
+            Field::Thresholds => "thresholds",
+            Field::Hysteresis => "hysteresis",
+            Field::Supported => "supported",
+            Field::Flags => "flags",
+            Field::Assert => "assert",
+            Field::Deassert => "deassert",
+        }
+    }
+}
+
+impl fmt::Display for Field {
+    ghost use Rattle.std.specs.Prelude.{Some};
+    ghost use Rattle.plan_file.specs.Words.{word};
+
+    ghost output = { λ field. Some (word field) };
+
+    fn fmt<W: fmt::Write>(&self, f: &mut fmt::Formatter<W>) -> fmt::Result {
+        f.write_str(self.word())
+    }
+}

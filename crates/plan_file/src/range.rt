@@ -1,0 +1,209 @@
+//! Which values a field can have: of which type, and in which range.
+ghost use Rattle.std.specs.Prelude.{◌≡◌, ◌∷◌, [], Some, IfSome, map, is_some, option_map, nat_le, length};
+ghost use Rattle.std.specs.List.{list_all};
+ghost use Rattle.cfg_records.specs.Watchdog.{watchdog_value};
+ghost use Rattle.toml.specs.View.{view, table_view};
+ghost use Rattle.plan_file.specs.Trees.{members, or_none, natural, naturals_in, bytes_in, number_in};
+ghost use Rattle.plan_file.specs.Ranges.{passes, is_integer, is_table, is_array_of, has_type, is_between, are_digits, are_masks, are_thresholds, are_flags, are_settings, is_in_range};
+ghost use Rattle.plan_file.specs.Faults.{is_needed};
+ghost use Rattle.plan_file.specs.Holds.{settings};
+
+use crate::field::Field;
+use crate::row::Shape;
+use crate::tree::{bytes, members, natural, naturals, number};
+use cfg_records::event_enable::are_within;
+use cfg_records::{Bcd, Hysteresis, ThresholdMasks, Thresholds, Watchdog};
+use toml::{Table, Value};
+
+/// Whether each of the values is an integer.
+fn all_integers(values: &[Value]) -> bool
+    ensures { result ≡ list_all (λ value. is_integer (view value)) values.now }
+{
+    values.iter().all(|value| value.is_integer())
+}
+
+/// Whether each of the values is a table.
+fn all_tables(values: &[Value]) -> bool
+    ensures { result ≡ list_all (λ value. is_table (view value)) values.now }
+{
+    values.iter().all(|value| value.is_table())
+}
+
+/// Whether the value is an array of integers.
+fn are_integers(value: &Value) -> bool
+    ensures { result ≡ is_array_of is_integer (view value.now) }
+{
+    match members(value) {
+        Some(values) => all_integers(values),
+        None => false,
+    }
+}
+
+/// Whether the value is an array of tables.
+fn are_tables(value: &Value) -> bool
+    ensures { result ≡ is_array_of is_table (view value.now) }
+{
+    match members(value) {
+        Some(values) => all_tables(values),
+        None => false,
+    }
+}
+
+/// Whether the value is a number from the least to the most.
+fn is_between(value: &Value, least: u32, most: u32) -> bool
+    ensures { result ≡ passes (is_between least most) (natural (view value.now)) }
+{
+    match natural(value) {
+        Some(number) => u64::from(least) <= number && number <= u64::from(most),
+        None => false,
+    }
+}
+
+/// Whether the array that the value is has at most so many members.
+fn are_at_most(value: &Value, most: usize) -> bool
+    ensures { result ≡ nat_le (length (or_none (members (view value.now)))) most }
+{
+    match members(value) {
+        Some(values) => values.len() <= most,
+        None => true,
+    }
+}
+
+/// The decimal digits that the value is.
+pub fn digits(value: &Value) -> Option<Bcd>
+    ensures made { is_some result ≡ passes are_digits (natural (view value.now)) }
+    ensures held { IfSome result (λ digits. natural (view value.now) ≡ Some digits.byte) }
+{
+    match natural(value) {
+        Some(number) => match u8::try_from(number) {
+            Ok(byte) => Bcd::new(byte),
+            Err(_) => None,
+        },
+        None => None,
+    }
+}
+
+/// The hysteresis that the value is.
+pub fn hysteresis(value: &Value) -> Option<Hysteresis>
+    ensures made { is_some result ≡ is_some (bytes_in 2 (view value.now)) }
+    ensures held { IfSome result (λ h. bytes_in 2 (view value.now) ≡ Some (h.positive ∷ h.negative ∷ [])) }
+{
+    let Some(bytes) = bytes::<2>(value) else {
+        return None;
+    };
+    let [positive, negative] = bytes;
+    Some(Hysteresis { positive, negative })
+}
+
+/// The masks of the sensor that the table is.
+fn masks(item: &Table) -> Option<ThresholdMasks>
+    ensures made { is_some result ≡ are_masks (number_in Field.Readable (table_view item.now)) (number_in Field.Settable (table_view item.now)) }
+    ensures readable { IfSome result (λ masks. number_in Field.Readable (table_view item.now) ≡ Some masks.readable) }
+    ensures settable { IfSome result (λ masks. number_in Field.Settable (table_view item.now) ≡ Some masks.settable) }
+{
+    let (Some(readable), Some(settable)) = (
+        number(item, Field::Readable),
+        number(item, Field::Settable),
+    ) else {
+        return None;
+    };
+    let (Ok(readable), Ok(settable)) = (u8::try_from(readable), u8::try_from(settable)) else {
+        return None;
+    };
+    ThresholdMasks::new(readable, settable)
+}
+
+/// The thresholds that the value is, of the sensor that the table is.
+pub fn thresholds(item: &Table, value: &Value) -> Option<Thresholds>
+    ensures made { is_some result ≡ is_in_range (table_view item.now) Shape.Thresholds (view value.now) }
+    ensures readable { IfSome result (λ t. number_in Field.Readable (table_view item.now) ≡ Some t.masks.readable) }
+    ensures settable { IfSome result (λ t. number_in Field.Settable (table_view item.now) ≡ Some t.masks.settable) }
+    ensures values { IfSome result (λ t. bytes_in 6 (view value.now) ≡ Some t.values) }
+{
+    let Some(masks) = masks(item) else {
+        return None;
+    };
+    match bytes::<6>(value) {
+        Some(values) => Thresholds::new(masks, values),
+        None => None,
+    }
+}
+
+/// Whether the value is a byte with no bits but bits 7 and 6.
+fn are_flags(value: &Value) -> bool
+    ensures { result ≡ passes are_flags (natural (view value.now)) }
+{
+    match natural(value) {
+        Some(number) => number < 256 && number % 64 == 0,
+        None => false,
+    }
+}
+
+/// Whether the value is a mask of events that the sensor that the table is supports.
+fn are_supported(item: &Table, value: &Value) -> bool
+    ensures { result ≡ is_in_range (table_view item.now) Shape.Events (view value.now) }
+{
+    let (Some(supported), Some(events)) = (number(item, Field::Supported), natural(value)) else {
+        return false;
+    };
+    let (Ok(supported), Ok(events)) = (u16::try_from(supported), u16::try_from(events)) else {
+        return false;
+    };
+    are_within(events, supported)
+}
+
+/// The settings of a watchdog timer that the value is.
+pub fn watchdog(value: &Value) -> Option<Watchdog>
+    ensures made { is_some result ≡ passes are_settings (naturals_in 4 (view value.now)) }
+    ensures held { IfSome result (λ watchdog. naturals_in 4 (view value.now) ≡ Some (settings watchdog)) }
+{
+    let Some(numbers) = naturals::<4>(value) else {
+        return None;
+    };
+    let [timer_use, actions, pre_timeout, initial] = numbers;
+    let (Ok(timer_use), Ok(actions)) = (u8::try_from(timer_use), u8::try_from(actions)) else {
+        return None;
+    };
+    let (Ok(pre_timeout), Ok(initial)) = (u8::try_from(pre_timeout), u16::try_from(initial)) else {
+        return None;
+    };
+    Watchdog::new(timer_use, actions, pre_timeout, initial)
+}
+
+impl Shape {
+    /// Whether an item needs a field of this shape.
+    pub fn is_needed(&self) -> bool
+        ensures { result ≡ is_needed self.now }
+    {
+        !matches!(self, Shape::Tables(_))
+    }
+
+    /// Whether the value is of its type.
+    pub fn has_type(&self, value: &Value) -> bool
+        ensures { result ≡ has_type self.now (view value.now) }
+    {
+        match self {
+            Shape::Number(..) | Shape::Digits | Shape::Flags | Shape::Events => value.is_integer(),
+            Shape::Pair | Shape::Thresholds | Shape::Watchdog => are_integers(value),
+            Shape::Table => value.is_table(),
+            Shape::Tables(_) => are_tables(value),
+        }
+    }
+
+    /// Whether the item can have the value in a field of this shape.
+    pub fn is_in_range(&self, item: &Table, value: &Value) -> bool
+        ensures { result ≡ is_in_range (table_view item.now) self.now (view value.now) }
+    {
+        match self {
+            Shape::Number(least, most) => is_between(value, *least, *most),
+            Shape::Digits => digits(value).is_some(),
+            Shape::Pair => hysteresis(value).is_some(),
+            Shape::Thresholds => thresholds(item, value).is_some(),
+            Shape::Flags => are_flags(value),
+            Shape::Events => are_supported(item, value),
+            Shape::Watchdog => watchdog(value).is_some(),
+            Shape::Table => true,
+            Shape::Tables(most) => are_at_most(value, *most),
+        }
+    }
+}

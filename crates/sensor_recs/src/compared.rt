@@ -1,0 +1,27 @@
+//! What readings of a sensor are compared with, and events.
+ghost use Rattle.std.specs.Prelude.{◌≡◌, length};
+
+use cfg_records::{EventMasks, Hysteresis, ThresholdMasks};
+
+/// What a sensor's readings are compared with, and which of its events count.
+#[derive(Clone, Copy, Debug)]
+pub struct Compared {
+    pub masks: ThresholdMasks,
+    /// One at each place: lower non-critical, lower critical, lower non-recoverable, upper non-critical, upper critical, upper
+    /// non-recoverable.
+    pub thresholds: [u8; 6],
+    pub hysteresis: Hysteresis,
+    /// Whether the sensor makes event messages.
+    pub messages: bool,
+    pub enabled: EventMasks,
+    pub ghost six: { length thresholds ≡ 6 },
+}
+
+/// An event: the threshold at the place was crossed upwards ("going high") or downwards ("going low"). Where it is deasserted,
+/// it was crossed the other way.
+#[derive(Clone, Copy, Debug, Default, PartialEq, Eq)]
+pub struct Event {
+    pub place: u8,
+    pub high: bool,
+    pub deasserted: bool,
+}
