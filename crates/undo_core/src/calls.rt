@@ -4,8 +4,8 @@ ghost use Rattle.undo_core.specs.Shown.{Calls};
 
 use crate::manager::Manager;
 use crate::sending::Sent;
-use crate::stage::{Stage, Task};
-use crate::WrongPhase;
+use crate::stage::Stage;
+use crate::{Phase, WrongPhase};
 
 impl Manager {
     /// Begins the plan.
@@ -42,12 +42,8 @@ impl Manager {
     pub fn stop(&mut self) -> Result<Option<Sent>, WrongPhase>
         ensures { Calls Stop self.old self.new result }
     {
-        match &self.stage {
-            Stage::Opened {
-                heeded: true,
-                task: Task::Gets(_) | Task::Sets(_, _),
-                ..
-            } => {
+        match self.stage.phase() {
+            Phase::Getting(_) | Phase::Setting(_) => {
                 self.stopped = true;
                 Ok(None)
             }

@@ -11,10 +11,10 @@ ghost use Rattle.undo_core.specs.Phases.{phase_of};
 ghost use Rattle.undo_core.specs.Shown.{words_of, backs, IsStage, Shows, IsSent};
 ghost use Rattle.undo_core.specs.Bounds.{steps_needed, undone_needed, most_backs, replies_left};
 
-use crate::{Phase, Why};
 use crate::manager::Manager;
 use crate::sending::{Sent, bus_of, frames_of};
 use crate::stage::{Stage, Task};
+use crate::{Phase, Why};
 use cfg_records::RecordKind;
 use plans::UndoList;
 use record_kinds::Limits;

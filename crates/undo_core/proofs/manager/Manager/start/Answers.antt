@@ -1,8 +1,8 @@
-use Rattle.std.proofs.Common.{rules, ◌≡◌, ◌+◌, ◌<◌, ◌≤◌, false, ℕ, List, Option, Some, None, refl, sym, ◌∙◌, ap, subst, arith}
+use Rattle.std.proofs.Common.{List, refl, sym, ◌∙◌, ap, subst}
 use Rattle.std.specs.Prelude.{slice_get}
 use Rattle.lab_model.specs.ManagerSteps.{Start}
 use Rattle.undo_model.specs.Machine as machine
-use Rattle.undo_core.specs.Shown.{words_of, IsStage, Shows}
+use Rattle.undo_core.specs.Shown.{words_of, IsStage}
 use Rattle.cfg_records.specs.declared.op.Op.{Op}
 use Rattle.undo_core.specs.declared.stage.Stage.{Stage}
 use Rattle.undo_core.proofs.Calling.{refused, made, no_start, shows_start, start_turn, first_is_next, enters_does}
@@ -22,7 +22,17 @@ returns c names s shows =
     made names Start _ s _ _ (start_turn names s.machine begins)
     (enters_does names _ s t _
     (record {
-      named = shows.named; is_named = shows.is_named; plan = shows.plan; retries = shows.retries; stage = at; stopped = shows.stopped; resent = refl;
-      undo = shows.undo; counts = shows.counts; sequence = shows.sequence; instance = shows.instance; joined = shows.joined;
+      named = shows.named;
+      is_named = shows.is_named;
+      plan = shows.plan;
+      retries = shows.retries;
+      stage = at;
+      stopped = shows.stopped;
+      resent = refl;
+      undo = shows.undo;
+      counts = shows.counts;
+      sequence = shows.sequence;
+      instance = shows.instance;
+      joined = shows.joined;
     })
     (c.open_frames.ensures names c.args.self.now.steps c.args.self.now.undo.requests t shows.named at))

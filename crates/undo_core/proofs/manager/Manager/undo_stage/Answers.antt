@@ -1,9 +1,4 @@
-use Rattle.std.proofs.Common.{rules, ◌≡◌, ◌-◌, ◌<◌, ◌≤◌, ℕ, suc, true, List, ◌∷◌, length, take, refl, sym, ◌∙◌, ap, subst, arith}
-use Rattle.cfg_records.specs.declared.op.Op.{Op}
-use Rattle.undo_core.specs.declared.stage.Stage.TheVariants.{Opened}
-use Rattle.undo_core.specs.declared.stage.Task.TheVariants.{Undoes}
-use Rattle.undo_model.specs.Machine as machine
-use Rattle.undo_core.specs.Shown.{words_of, own, backs, IsStage}
+use Rattle.std.proofs.Common.{rules, arith}
 use Rattle.undo_core.proofs.Backs.{undoes_next}
 use Rattle.undo_core.proofs.manager.Manager.undo_stage.Goals as goal
 

@@ -1,0 +1,39 @@
+use Rattle.std.proofs.Common.{◌≡◌, ℕ, List, take, refl, sym, ◌∙◌, ap, subst}
+use Rattle.std.proofs.Math.Seq.{take-length}
+use Rattle.cfg_records.specs.declared.message.Asked.{Asked}
+use Rattle.mctp_net.specs.Assembly.{nothing}
+use Rattle.lab_model.specs.ManagerSteps.{Undo}
+use Rattle.undo_model.specs.Machine as machine
+use Rattle.undo_core.specs.Shown.{words_of, backs, IsStage}
+use Rattle.undo_core.proofs.Calling.{refused, made, no_undo, undo_turn, enters_does}
+use Rattle.undo_core.proofs.manager.Manager.undo.Goals as goal
+
+pub returns-in_default : goal.returns-in_default
+returns-in_default c names s shows = refused names Undo _ s _ shows (no_undo names c.args.self.now s shows c.in_default.not-AtEnd c.in_default.not-AtHalt)
+
+pub returns : goal.returns
+returns c names s shows =
+    let requests = c.args.self.now.undo.requests in
+    let t = machine.undo_stage (words_of names) s.machine.undo in
+    let all : backs names (take c.len.result requests) ≡ s.machine.undo =
+    ap (λ (n : ℕ). backs names (take n requests)) c.len.ensures.value ∙ ap (backs names) (take-length requests) ∙ sym shows.undo in
+    let at : IsStage names c.args.self.now.steps requests c.undo_stage-self.result t =
+    subst (λ (xs : List Asked). IsStage names c.args.self.now.steps requests c.undo_stage-self.result (machine.undo_stage (words_of names) xs)) all
+    (c.undo_stage-self.ensures.stage names c.args.self.now.steps) in
+    made names Undo _ s _ _ (undo_turn names c.args.self.now s shows c.in-AtEnd.is)
+    (enters_does names _ (record s { joined = nothing }) t _
+    (record {
+      named = shows.named;
+      is_named = shows.is_named;
+      plan = shows.plan;
+      retries = shows.retries;
+      stage = at;
+      stopped = shows.stopped;
+      resent = refl;
+      undo = shows.undo;
+      counts = shows.counts;
+      sequence = shows.sequence;
+      instance = shows.instance;
+      joined = sym c.clear.ensures;
+    })
+    (c.open_frames.ensures names c.args.self.now.steps requests t shows.named at))
