@@ -1,15 +1,24 @@
 -- What a manager hears is heard as the machine hears it.
-use Rattle.std.proofs.Common.{◌≡◌, ℕ, ◌+◌, ◌*◌, ◌/◌, ◌%◌, ◌<◌, ◌==◌, ◌&&◌, not, Bool, true, false, if◌then◌else◌, List, Option, Some, None, refl, sym, ◌∙◌, ap, subst, arith, inl, inr}
+use Rattle.std.proofs.Common.{◌≡◌, ℕ, ◌+◌, ◌*◌, ◌/◌, ◌%◌, ◌<◌, ◌==◌, ◌&&◌, not, Bool, true, false, if◌then◌else◌, List, Option, Some, None, Result, Ok, Err, ◌↔◌, refl, sym, ◌∙◌, ap, subst, arith, inl, inr}
 use Rattle.std.proofs.lemmas.Bool.{cases_Bool, eqb-true, eq-eqb, true≢false}
 use Rattle.two_wire.specs.declared.Bus.{Bus}
 use Rattle.two_wire.specs.declared.Bus.TheVariants.{Ipmb, Smbus}
 use Rattle.ipmb_frame.specs.declared.message.Response.{Response}
 use Rattle.ipmb_frame.specs.declared.message.Header.{Header}
+use Rattle.ipmb_frame.specs.declared.message.Msg.{Msg}
+use Rattle.ipmb_frame.specs.declared.message.Msg.TheVariants as msg
+use Rattle.ipmb_frame.specs.declared.fault.FrameFault.{FrameFault}
+use Rattle.mctp_net.specs.declared.fault.PacketFault.{PacketFault}
 use Rattle.cfg_records.specs.declared.op.Op.{Op}
 use Rattle.cfg_records.specs.declared.message.Asked.{Asked}
 use Rattle.cfg_records.specs.declared.message.Asked.TheVariants.{Ipmi, Pldm}
+use Rattle.mctp_net.specs.declared.packet.Packet.{Packet}
+use Rattle.mctp_net.specs.declared.taken.DropCause.{DropCause}
+use Rattle.mctp_net.specs.declared.taken.Taken.{Taken}
+use Rattle.mctp_net.specs.declared.taken.Taken.TheVariants as taken
+use Rattle.mctp_net.specs.Assembly.{Assemblies, drop_cause, after as kept_after, message_of, IsTaken}
 use Rattle.plans.specs.declared.names.Names.{Names}
-use Rattle.bus_model.specs.Bytes.{answers, ipmb_answers, is_busy_code}
+use Rattle.bus_model.specs.Bytes.{answers, ipmb_answers, pldm_answers, is_busy_code}
 use Rattle.undo_family.specs.Family.{bus_of}
 use Rattle.undo_family.specs.Spelled.{numbers_of}
 use Rattle.undo_family.specs.Wires.{bytes_of, answered_from}
@@ -17,7 +26,7 @@ use Rattle.undo_model.specs.Words.{Answered, is_busy}
 use Rattle.undo_model.specs.Wires.{number_of}
 use Rattle.undo_model.specs.Machine as machine
 use Rattle.lab_model.specs.Bytes.{response_bytes}
-use Rattle.lab_model.specs.ManagerSteps.{board_plans, ManagerState, ManagerDeed, heeded_on, tested, rests, taken_or, is_answer, hears_response, hears_reply}
+use Rattle.lab_model.specs.ManagerSteps.{board_plans, ManagerState, ManagerDeed, heeded_on, tested, rests, taken_or, is_answer, is_part, hears_response, hears_reply, hears_packet, joins_for, joins, ends_reply}
 use Rattle.undo_core.specs.declared.stage.Task.{Task}
 use Rattle.undo_core.specs.declared.stage.Stage.{Stage}
 use Rattle.undo_core.specs.declared.stage.Stage.TheVariants as stage
@@ -158,3 +167,90 @@ unfolding hears_response
 other_response names m s r shows other =
     (λ i. if is_answer ((shows.is_named ∙ sym shows.named) i) r then hears_reply (board_plans names) Ipmb (response_bytes r) s else rests (board_plans names) s)
     ∙ ap (λ (b : Bool). if b then hears_reply (board_plans names) Ipmb (response_bytes r) s else rests (board_plans names) s) other
+
+-- ---- a message
+
+-- no request is heeded
+pub no_message : (names : Names) (m : Manager) (s : ManagerState (board_plans names)) (bytes : List ℕ) → Shows names m s
+    → ((k : Task) (asked : Asked) → m.stage ≡ stage.Opened true k asked → bus_of asked ≡ Smbus → ⊥) → hears_reply (board_plans names) Smbus bytes s ≡ rests (board_plans names) s
+no_message names m s bytes shows other =
+    ap (tested (board_plans names) Smbus bytes s) (none_stage names m.steps m.undo.requests Smbus m.stage s.machine.stage shows.stage other)
+
+-- the open request is replied to, or not
+pub heard_message : (names : Names) (m : Manager) (s : ManagerState (board_plans names)) (bytes : List ℕ) (t : Task) (asked : Asked) (passes : Bool) (a : Answered) → Shows names m s
+    → m.stage ≡ stage.Opened true t asked → bus_of asked ≡ Smbus → answered_from Smbus bytes ≡ a
+    → pldm_answers (bytes_of (m.counts.smbus % 32) (own names asked)) bytes ≡ (passes && not (is_busy_code a.code))
+    → hears_reply (board_plans names) Smbus bytes s ≡ taken_if names passes a s
+heard_message names m s bytes t asked passes a shows was goes says test =
+    let P = board_plans names in
+    let is : Heeds names Smbus asked s.machine.stage =
+    heeds_stage names m.steps m.undo.requests Smbus t asked s.machine.stage (subst (λ (x : Stage). IsStage names m.steps m.undo.requests x s.machine.stage) was shows.stage) goes in
+    let taken = taken_or P s (machine.reply_of (words_of names) a s.machine) in
+    let tests : answers (numbers_of Smbus) (bytes_of (number_of Smbus s.machine.counts.smbus) is.0.asked) bytes ≡ (passes && not (is_busy_code a.code)) =
+    (λ i. pldm_answers (bytes_of ((shows.counts i).smbus % 32) (sym is.2 i)) bytes) ∙ test in
+    ap (tested P Smbus bytes s) is.1
+    ∙ (λ i. if tests i then taken_or P s (machine.reply_of (words_of names) (says i) s.machine) else rests P s)
+    ∙ either true passes (is_busy_code a.code) taken (rests P s) (λ busy. ap (taken_or P s) (busy_is_none names a s.machine.stage s.machine busy))
+
+-- ---- a packet
+
+-- no request is heeded
+pub no_packet : (names : Names) (m : Manager) (s : ManagerState (board_plans names)) (p : Packet) → Shows names m s
+    → ((k : Task) (asked : Asked) → m.stage ≡ stage.Opened true k asked → bus_of asked ≡ Smbus → ⊥) → hears_packet (board_plans names) p s ≡ rests (board_plans names) s
+unfolding hears_packet
+no_packet names m s p shows other =
+    ap (joins_for (board_plans names) p s) (none_stage names m.steps m.undo.requests Smbus m.stage s.machine.stage shows.stage other)
+
+-- one is heeded
+pub heard_packet : (names : Names) (m : Manager) (s : ManagerState (board_plans names)) (p : Packet) (t : Task) (asked : Asked) → Shows names m s
+    → m.stage ≡ stage.Opened true t asked → bus_of asked ≡ Smbus
+    → hears_packet (board_plans names) p s ≡ (if is_part m.names m.counts.smbus p then joins (board_plans names) p s else rests (board_plans names) s)
+unfolding hears_packet
+heard_packet names m s p t asked shows was goes =
+    let P = board_plans names in
+    let is : Heeds names Smbus asked s.machine.stage =
+    heeds_stage names m.steps m.undo.requests Smbus t asked s.machine.stage (subst (λ (x : Stage). IsStage names m.steps m.undo.requests x s.machine.stage) was shows.stage) goes in
+    ap (joins_for P p s) is.1
+    ∙ (λ i. if is_part ((shows.is_named ∙ sym shows.named) i) (shows.counts i).smbus p then joins P p s else rests P s)
+
+-- the manager once a packet was joined to those that wait
+abbrev pub joined_with : (names : Names) → Packet → ManagerState (board_plans names) → ManagerState (board_plans names)
+joined_with names p s = record s { joined = kept_after s.names.own_eid s.joined p }
+
+-- a packet that isn't dropped, and is an end, ends a message
+pub whole_joins : (names : Names) (s : ManagerState (board_plans names)) (p : Packet) → drop_cause s.names.own_eid s.joined p ≡ None → p.end ≡ true
+    → joins (board_plans names) p s ≡ hears_reply (board_plans names) Smbus (message_of (kept_after s.names.own_eid s.joined p) p).body (joined_with names p s)
+whole_joins names s p none ended =
+    let after = joined_with names p s in
+    ap (λ (o : Option DropCause). ends_reply (board_plans names) p o after) none
+    ∙ ap (λ (b : Bool). if b then hears_reply (board_plans names) Smbus (message_of after.joined p).body after else rests (board_plans names) after) ended
+
+is_whole : Taken → Bool
+is_whole taken.Waiting = false
+is_whole taken.Whole = true
+is_whole (taken.Dropped cause) = false
+
+-- a packet that makes a message whole is an end
+pub whole_ends : (own : ℕ) (a : Assemblies) (p : Packet) → drop_cause own a p ≡ None → (taken.Whole ≡ taken.Waiting) ↔ IsTaken own a p → p.end ≡ true
+unfolding is_whole
+whole_ends at a p none waits = elim (cases_Bool p.end) [
+  | inl t ↦ t
+  | inr f ↦ absurd (true≢false (ap is_whole (waits.1 (record { kept_on = none; more = f }))))
+]
+
+-- ---- a frame
+
+-- what was read, or else this
+abbrev pub response_read : Response → Result Msg FrameFault → Response
+response_read other (Ok (msg.Response r)) = r
+response_read other (Ok (msg.Request r)) = other
+response_read other (Err fault) = other
+
+abbrev pub packet_read : Packet → Result Packet PacketFault → Packet
+packet_read other (Ok p) = p
+packet_read other (Err fault) = other
+
+-- a packet was read
+abbrev pub is_packet_read : Result Packet PacketFault → Bool
+is_packet_read (Ok p) = true
+is_packet_read (Err fault) = false

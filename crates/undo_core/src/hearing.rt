@@ -1,5 +1,5 @@
 //! Frames that come to a manager.
-ghost use Rattle.std.specs.Prelude.{◌≡◌, ◌&&◌, not, ◌+◌, ◌-◌, ◌*◌, ◌≤◌, ◌<◌, ◌==◌, ℕ, suc, length, take, slice_get, List, Some, if◌then◌else◌};
+ghost use Rattle.std.specs.Prelude.{◌≡◌, ◌&&◌, not, ◌+◌, ◌-◌, ◌*◌, ◌≤◌, ◌<◌, ◌==◌, ℕ, suc, length, take, slice_get, List, Some, None, IfSome, false, if◌then◌else◌};
 ghost use Rattle.two_wire.specs.Codes.{success};
 ghost use Rattle.cfg_records.specs.declared.op.Op.{Op};
 ghost use Rattle.cfg_records.specs.declared.message.Asked.{Asked as AnyAsked};
@@ -12,11 +12,15 @@ ghost use Rattle.undo_core.specs.Bounds.{task_steps, steps_needed, task_undone, 
 ghost use Rattle.undo_model.specs.Words.{is_busy as is_busy_code};
 ghost use Rattle.undo_core.specs.Shown.{Shows, Does, Takes, taken_if};
 ghost use Rattle.two_wire.specs.declared.Bus.TheVariants.{Ipmb as IsIpmb, Smbus as IsSmbus};
-ghost use Rattle.bus_model.specs.Bytes.{ipmb_answers};
+ghost use Rattle.bus_model.specs.Bytes.{ipmb_answers, pldm_answers};
+ghost use Rattle.ipmb_frame.specs.declared.message.Response.{Response as AnyResponse};
+ghost use Rattle.ipmb_frame.specs.Grammar.{IsResponse};
+ghost use Rattle.mctp_net.specs.declared.packet.Packet.{Packet as AnyPacket};
+ghost use Rattle.mctp_net.specs.Grammar.{IsPacket};
 ghost use Rattle.undo_family.specs.Family.{bus_of as bus_of_request};
-ghost use Rattle.undo_family.specs.Wires.{bytes_of};
+ghost use Rattle.undo_family.specs.Wires.{bytes_of, answered_from};
 ghost use Rattle.lab_model.specs.Bytes.{response_bytes};
-ghost use Rattle.lab_model.specs.ManagerSteps.{ManagerState, board_plans, hears_response, is_answer as is_answer_of};
+ghost use Rattle.lab_model.specs.ManagerSteps.{ManagerState, board_plans, hears_response, is_answer as is_answer_of, rests, hears_packet, hears_reply, is_part as is_part_of, joins as joins_packet};
 
 use crate::Why;
 use crate::manager::Manager;
@@ -25,10 +29,10 @@ use crate::stage::{Stage, Task};
 use cfg_records::{Asked, RecordKind};
 use ipmb_frame::{Msg, Response, Sequence, read_frame};
 use mctp_net::{Packet, Taken, read_packet};
-use pldm_base::{PldmBytes, PldmReply, read_pldm_reply};
+use pldm_base::{Instance, PldmBytes, read_pldm_reply};
 use plans::NextNumbers;
 use record_kinds::Limits;
-use two_wire::{Bus, Code, code};
+use two_wire::{Bus, Bytes, Code, code};
 
 /// A reply that passed the test against the open request.
 #[derive(Clone, Copy)]
@@ -39,7 +43,16 @@ struct Reply<'a> {
 
 impl Manager {
     /// Hears the bytes of a frame.
-    pub fn on_frame(&mut self, bus: Bus, bytes: &[u8]) -> Option<Sent> {
+    pub fn on_frame(&mut self, bus: Bus, bytes: &[u8]) -> Option<Sent>
+        // A response on IPMB, and a packet on SMBus, is heard as the machine hears it.
+        ensures response { (r : AnyResponse) → bus ≡ IsIpmb → IsResponse r bytes.now → (names : Names) (s : ManagerState (board_plans names)) → Shows names self.old s
+            → Does names self.new result (hears_response (board_plans names) r s) }
+        ensures packet { (p : AnyPacket) → bus ≡ IsSmbus → IsPacket p bytes.now → (names : Names) (s : ManagerState (board_plans names)) → Shows names self.old s
+            → Does names self.new result (hears_packet (board_plans names) p s) }
+        // Nothing else changes the manager, and it sends nothing then.
+        ensures no_response { bus ≡ IsIpmb → ((r : AnyResponse) → IsResponse r bytes.now → ⊥) → (self.new ≡ self.old) × (result ≡ None) }
+        ensures no_packet { bus ≡ IsSmbus → ((p : AnyPacket) → IsPacket p bytes.now → ⊥) → (self.new ≡ self.old) × (result ≡ None) }
+    {
         match bus {
             Bus::Ipmb => match read_frame(bytes) {
                 Ok(Msg::Response(response)) => self.on_response(&response),
@@ -85,47 +98,55 @@ impl Manager {
             && header.responder.address == self.names.peer_address
     }
 
-    fn on_packet(&mut self, packet: &Packet<'_>) -> Option<Sent> {
-        let _open = self.stage.heeded_on(Bus::Smbus)?;
-        let envelope = &packet.envelope;
-        let ours = envelope.destination == self.names.own_wire
-            && envelope.source == self.names.peer_wire
-            && envelope.source_eid == self.names.peer_eid
-            && !envelope.tag_owner
-            && envelope.tag == self.counts.tag();
-        if !ours {
+    /// Hears a packet.
+    fn on_packet(&mut self, packet: &Packet<'_>) -> Option<Sent>
+        ensures { (names : Names) (s : ManagerState (board_plans names)) → Shows names self.old s → Does names self.new result (hears_packet (board_plans names) packet.now s) }
+    {
+        if !self.joins(packet) {
             return None;
         }
         let Taken::Whole = self.joined.take(self.names.own_eid, packet) else {
             return None;
         };
-        let bytes: two_wire::Bytes<256> = two_wire::Bytes::from_slice(self.joined.body(packet));
-        let body = bytes.as_slice();
-        if body[0] != 1 {
-            return None;
-        }
-        let pldm = PldmBytes::new(&body[1..]);
-        let Ok(reply) = read_pldm_reply(&pldm) else {
-            return None;
-        };
-        self.on_pldm(&reply)
+        let message: Bytes<256> = Bytes::from_slice(self.joined.body(packet));
+        self.on_message(message.as_slice())
     }
 
-    fn on_pldm(&mut self, reply: &PldmReply<'_>) -> Option<Sent> {
-        let header = &reply.header;
-        match self.stage.heeded_on(Bus::Smbus)? {
-            Asked::Pldm { kind, command, .. }
-                if *kind == header.pldm_type
-                    && *command == header.command
-                    && header.instance == self.counts.instance() =>
-            {
-                self.on_reply(Reply {
-                    code: reply.code,
-                    body: reply.body.as_slice(),
-                })
-            }
-            _ => None,
-        }
+    /// Whether the packet comes from the controller while a request is open on its bus.
+    fn joins(&self, packet: &Packet<'_>) -> bool
+        ensures { (names : Names) (s : ManagerState (board_plans names)) → Shows names self.now s
+            → hears_packet (board_plans names) packet.now s ≡ (if result then joins_packet (board_plans names) packet.now s else rests (board_plans names) s) }
+    {
+        let Some(_) = self.stage.heeded_on(Bus::Smbus) else {
+            return false;
+        };
+        self.is_part(packet)
+    }
+
+    /// Whether the packet goes from the controller to the manager, under the open request's tag.
+    fn is_part(&self, packet: &Packet<'_>) -> bool
+        ensures { result ≡ is_part_of self.now.names self.now.counts.smbus packet.now }
+    {
+        let envelope = &packet.envelope;
+        envelope.destination == self.names.own_wire
+            && envelope.source == self.names.peer_wire
+            && envelope.source_eid == self.names.peer_eid
+            && !envelope.tag_owner
+            && envelope.tag == self.counts.tag()
+    }
+
+    /// Hears a whole message.
+    fn on_message(&mut self, message: &[u8]) -> Option<Sent>
+        requires { length message.now ≤ 256 }
+        ensures { (names : Names) (s : ManagerState (board_plans names)) → Shows names self.old s → Does names self.new result (hears_reply (board_plans names) IsSmbus message.now s) }
+    {
+        let Some(asked) = self.stage.heeded_on(Bus::Smbus) else {
+            return None;
+        };
+        let Some(reply) = reply_to(asked, self.counts.instance(), message) else {
+            return None;
+        };
+        self.on_reply(reply)
     }
 
     /// Takes the reply to the open request. The codes of a busy controller count as none.
@@ -272,6 +293,33 @@ fn is_answer_to(asked: &Asked, sequence: Sequence, response: &Response<'_>) -> b
         }
         Asked::Pldm { .. } => false,
     }
+}
+
+/// The reply that a message is, where it has the instance, the type and the command of the request.
+fn reply_to<'a>(asked: &Asked, instance: Instance, message: &'a [u8]) -> Option<Reply<'a>>
+    requires { length message.now ≤ 256 }
+    ensures some { IfSome result (λ r. (answered_from IsSmbus message.now ≡ record { code = r.code; body = r.body.now })
+        × ((names : Names) → bus_of_request asked.now ≡ IsSmbus → pldm_answers (bytes_of instance (own names asked.now)) message.now ≡ not (is_busy_code r.code))) }
+    ensures none { result ≡ None → (names : Names) → bus_of_request asked.now ≡ IsSmbus → pldm_answers (bytes_of instance (own names asked.now)) message.now ≡ false }
+{
+    let Asked::Pldm { kind, command, .. } = asked else {
+        return None;
+    };
+    let kind = kind.number();
+    let [1, bytes @ ..] = message else {
+        return None;
+    };
+    let Ok(reply) = read_pldm_reply(&PldmBytes::new(bytes)) else {
+        return None;
+    };
+    let header = reply.header;
+    if header.instance != instance || header.pldm_type.number() != kind || header.command != *command {
+        return None;
+    }
+    Some(Reply {
+        code: reply.code,
+        body: reply.body.as_slice(),
+    })
 }
 
 /// Whether the code is one of a busy controller.
