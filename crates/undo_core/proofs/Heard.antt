@@ -4,14 +4,13 @@ use Rattle.std.proofs.lemmas.Bool.{cases_Bool, eqb-true, eq-eqb, true≢false}
 use Rattle.two_wire.specs.declared.Bus.{Bus}
 use Rattle.two_wire.specs.declared.Bus.TheVariants.{Ipmb, Smbus}
 use Rattle.ipmb_frame.specs.declared.message.Response.{Response}
-use Rattle.ipmb_frame.specs.declared.message.Header.{Header}
 use Rattle.ipmb_frame.specs.declared.message.Msg.{Msg}
 use Rattle.ipmb_frame.specs.declared.message.Msg.TheVariants as msg
 use Rattle.ipmb_frame.specs.declared.fault.FrameFault.{FrameFault}
 use Rattle.mctp_net.specs.declared.fault.PacketFault.{PacketFault}
 use Rattle.cfg_records.specs.declared.op.Op.{Op}
 use Rattle.cfg_records.specs.declared.message.Asked.{Asked}
-use Rattle.cfg_records.specs.declared.message.Asked.TheVariants.{Ipmi, Pldm}
+use Rattle.cfg_records.specs.declared.message.Asked.TheVariants.{Ipmi}
 use Rattle.mctp_net.specs.declared.packet.Packet.{Packet}
 use Rattle.mctp_net.specs.declared.taken.DropCause.{DropCause}
 use Rattle.mctp_net.specs.declared.taken.Taken.{Taken}
@@ -26,12 +25,12 @@ use Rattle.undo_model.specs.Words.{Answered, is_busy}
 use Rattle.undo_model.specs.Wires.{number_of}
 use Rattle.undo_model.specs.Machine as machine
 use Rattle.lab_model.specs.Bytes.{response_bytes}
-use Rattle.lab_model.specs.ManagerSteps.{board_plans, ManagerState, ManagerDeed, heeded_on, tested, rests, taken_or, is_answer, is_part, hears_response, hears_reply, hears_packet, joins_for, joins, ends_reply}
+use Rattle.lab_model.specs.ManagerSteps.{board_plans, ManagerState, heeded_on, tested, rests, taken_or, is_answer, is_part, hears_response, hears_reply, hears_packet, joins_for, joins, ends_reply}
 use Rattle.undo_core.specs.declared.stage.Task.{Task}
 use Rattle.undo_core.specs.declared.stage.Stage.{Stage}
 use Rattle.undo_core.specs.declared.stage.Stage.TheVariants as stage
 use Rattle.undo_core.specs.declared.manager.Manager.{Manager}
-use Rattle.undo_core.specs.Counted.{counts_of}
+use Rattle.undo_core.proofs.Replies.{own_bus}
 use Rattle.undo_core.specs.Shown.{words_of, own, IsStage, Shows, taken_if}
 
 -- ---- the test on bytes, by fields
@@ -60,7 +59,7 @@ ipmb_by_fields asked_fn lun asked_command sequence body r in_lun in_requester in
     let h = r.header in
     let bits : (4 * sequence + 0) / 4 ≡ sequence = omega arith in
     (λ i. ((high (h.net_fn + 1) h.requester.lun in_requester i == high asked_fn lun in_lun i + 1) && (high h.sequence h.responder.lun in_responder i == bits i))
-        && ((h.command == asked_command) && not (is_busy_code r.code)))
+    && ((h.command == asked_command) && not (is_busy_code r.code)))
     ∙ ap (λ (b : Bool). (b && (h.sequence == sequence)) && ((h.command == asked_command) && not (is_busy_code r.code))) (same_next h.net_fn asked_fn)
     ∙ regroup (h.net_fn == asked_fn) (h.sequence == sequence) (h.command == asked_command) (not (is_busy_code r.code))
 
@@ -70,10 +69,6 @@ ipmb_by_fields asked_fn lun asked_command sequence body r in_lun in_requester in
 abbrev pub Heeds : (names : Names) → Bus → Asked → machine.Stage (words_of names) → Type 0
 Heeds names on asked t = (part : machine.Part (words_of names)) × (heeded_on (board_plans names) on t ≡ Some part) × (own names asked ≡ part.asked)
 
-own_bus : (names : Names) (asked : Asked) → bus_of (own names asked) ≡ bus_of asked
-own_bus names (Ipmi from net_fn lun command body) = refl
-own_bus names (Pldm from kind command body) = refl
-
 same_is_true : (on : Bus) → machine.same_bus on on ≡ true
 same_is_true Ipmb = refl
 same_is_true Smbus = refl
@@ -82,10 +77,11 @@ heeds_stage : (names : Names) (plan : List Op) (requests : List Asked) (on : Bus
     → IsStage names plan requests (stage.Opened true r asked) t → bus_of asked ≡ on → Heeds names on asked t
 heeds_stage names plan requests on r asked machine.AtStart is goes = absurd is
 heeds_stage names plan requests on r asked (machine.Opened heeds of part) is goes =
-    let same : machine.same_bus on (bus_of part.asked) ≡ true = ap (machine.same_bus on) (ap bus_of (sym is.3) ∙ own_bus names asked ∙ goes) ∙ same_is_true on in
-    (part,
-    ap (λ (h : Bool). heeded_on (board_plans names) on (machine.Opened h of part)) is.0 ∙ ap (λ (b : Bool). if b then Some part else None) same,
-    is.3)
+    let same : machine.same_bus on (bus_of part.asked) ≡ true = ap (machine.same_bus on) (ap bus_of (sym is.3) ∙ own_bus names asked ∙ goes) ∙ same_is_true on in (
+      part,
+      ap (λ (h : Bool). heeded_on (board_plans names) on (machine.Opened h of part)) is.0 ∙ ap (λ (b : Bool). if b then Some part else None) same,
+      is.3,
+    )
 heeds_stage names plan requests on r asked machine.AtEnd is goes = absurd is
 heeds_stage names plan requests on r asked (machine.AtHalt k why) is goes = absurd is
 heeds_stage names plan requests on r asked machine.AtUndone is goes = absurd is
@@ -134,11 +130,11 @@ none_stage names plan requests on r machine.AtStart is other = refl
 none_stage names plan requests on (stage.Opened heeded k asked) (machine.Opened false of part) is other = refl
 none_stage names plan requests on (stage.Opened heeded k asked) (machine.Opened true of part) is other = at on (bus_of part.asked) (λ same.
     other k asked (ap (λ (h : Bool). stage.Opened h k asked) (sym is.0)) (sym (own_bus names asked) ∙ ap bus_of is.3 ∙ same)) where
-  at : (on goes : Bus) → (goes ≡ on → ⊥) → (if machine.same_bus on goes then Some part else None) ≡ None
-  at Ipmb Ipmb apart = absurd (apart refl)
-  at Ipmb Smbus apart = refl
-  at Smbus Ipmb apart = refl
-  at Smbus Smbus apart = absurd (apart refl)
+      at : (on goes : Bus) → (goes ≡ on → ⊥) → (if machine.same_bus on goes then Some part else None) ≡ None
+      at Ipmb Ipmb apart = absurd (apart refl)
+      at Ipmb Smbus apart = refl
+      at Smbus Ipmb apart = refl
+      at Smbus Smbus apart = absurd (apart refl)
 none_stage names plan requests on stage.AtStart (machine.Opened heeds of part) is other = absurd is
 none_stage names plan requests on stage.AtEnd (machine.Opened heeds of part) is other = absurd is
 none_stage names plan requests on (stage.AtHalt k why) (machine.Opened heeds of part) is other = absurd is
@@ -156,9 +152,9 @@ no_response names m s r shows other =
     ap (λ (o : Option (machine.Part (words_of names))). if is_answer s.names r then tested (board_plans names) Ipmb (response_bytes r) s o else rests (board_plans names) s)
     (none_stage names m.steps m.undo.requests Ipmb m.stage s.machine.stage shows.stage other)
     ∙ at (is_answer s.names r) where
-  at : (b : Bool) → (if b then rests (board_plans names) s else rests (board_plans names) s) ≡ rests (board_plans names) s
-  at true = refl
-  at false = refl
+      at : (b : Bool) → (if b then rests (board_plans names) s else rests (board_plans names) s) ≡ rests (board_plans names) s
+      at true = refl
+      at false = refl
 
 -- one from elsewhere is nothing
 pub other_response : (names : Names) (m : Manager) (s : ManagerState (board_plans names)) (r : Response) → Shows names m s → is_answer m.names r ≡ false

@@ -1,7 +1,7 @@
 -- The replies that a manager takes are the machine's.
-use Rattle.std.proofs.Common.{◌≡◌, ℕ, suc, ◌%◌, ◌<◌, ◌≤◌, ◌==◌, Bool, true, false, List, [], ◌∷◌, ◌++◌, length, take, map, if◌then◌else◌, Option, Some, None, refl, sym, ◌∙◌, ap, subst, arith}
+use Rattle.std.proofs.Common.{◌≡◌, ℕ, suc, ◌%◌, ◌<◌, ◌≤◌, ◌==◌, Bool, true, false, List, ◌∷◌, length, take, if◌then◌else◌, Option, Some, None, refl, sym, ◌∙◌, ap, subst, arith}
 use Rattle.std.specs.Option.{option_map}
-use Rattle.std.specs.Prelude.{slice_get, get_or, reverse, drop}
+use Rattle.std.specs.Prelude.{get_or, reverse, drop}
 use Rattle.std.proofs.lemmas.List.{length-map, length-reverse, length-take-le}
 use Rattle.std.proofs.lemmas.Option.{slice_get-get_or}
 use Rattle.two_wire.specs.Codes.{success}
@@ -52,7 +52,7 @@ undoes_stage names plan stopped requests k a r (machine.Undoes first rest) is at
 -- ---- a reply is taken
 
 -- a request keeps its bus
-own_bus : (names : Names) (asked : Asked) → bus_of (own names asked) ≡ bus_of asked
+pub own_bus : (names : Names) (asked : Asked) → bus_of (own names asked) ≡ bus_of asked
 own_bus names (Ipmi from net_fn lun command body) = refl
 own_bus names (Pldm from kind command body) = refl
 
@@ -108,8 +108,17 @@ took_task names s a old new sent r asked shows took of is asks =
     (λ i. (sym took.plan i, sym took.undo i, machine.stage_after M (sym shows.stopped i) (sym shows.plan i) a of part)) (took.stage of is) in
     enters_does names new (record s { machine = record s.machine { undo = machine.undo_after M a of part s.machine.undo; counts = machine.one_answered (machine.bus_at M part) s.machine.counts } }) next sent
     (record {
-      named = took.named ∙ shows.named; is_named = shows.is_named; plan = shows.plan ∙ sym took.plan; retries = shows.retries ∙ sym took.retries; stage = at;
-      stopped = shows.stopped ∙ sym took.stopped; resent = sym took.resent; undo = kept; counts = counted; sequence = took.sequence; instance = took.instance;
+      named = took.named ∙ shows.named;
+      is_named = shows.is_named;
+      plan = shows.plan ∙ sym took.plan;
+      retries = shows.retries ∙ sym took.retries;
+      stage = at;
+      stopped = shows.stopped ∙ sym took.stopped;
+      resent = sym took.resent;
+      undo = kept;
+      counts = counted;
+      sequence = took.sequence;
+      instance = took.instance;
       joined = shows.joined ∙ ap seen (sym took.joined);
     })
     (took.sends next (took.named ∙ shows.named) at)

@@ -1,12 +1,10 @@
 -- The frames of a message are those of its packets.
-use Rattle.std.proofs.Common.{◌≡◌, ℕ, ◌<◌, ◌≤◌, List, [], ◌∷◌, length, map, refl, sym, ◌∙◌, ap, subst}
-use Rattle.std.specs.List.{AllZip}
+use Rattle.std.proofs.Common.{◌≡◌, ℕ, ◌<◌, ◌≤◌, List, [], ◌∷◌, length, map, refl, ◌∙◌, ap}
 use Rattle.mctp_net.specs.declared.packet.Packet.{Packet}
 use Rattle.mctp_net.specs.declared.message.Message.{Message}
-use Rattle.mctp_net.specs.Grammar.{IsSpelled}
 use Rattle.mctp_net.specs.Cut.{IsCutOf, AreWritten}
 use Rattle.mctp_net.proofs.OneCut.{cut-one}
-use Rattle.lab_model.specs.Values.{Value, Part, written, parts_of}
+use Rattle.lab_model.specs.Values.{Part, written, parts_of}
 use Rattle.lab_model.proofs.Parts.{parts_are_cuts}
 
 -- each frame is its packet's

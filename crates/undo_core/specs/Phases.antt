@@ -1,5 +1,4 @@
 -- Phases, and the reasons of a halt, as the machine has them.
-use Rattle.std.specs.Prelude.{ℕ}
 use Rattle.undo_model.specs.Phase as model
 use Rattle.undo_core.specs.declared.phase.Why.{Why}
 use Rattle.undo_core.specs.declared.phase.Why.TheVariants as why

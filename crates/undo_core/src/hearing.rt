@@ -24,13 +24,13 @@ ghost use Rattle.lab_model.specs.ManagerSteps.{ManagerState, board_plans, hears_
 
 use crate::Why;
 use crate::manager::Manager;
-use crate::sending::{Sent, bus_of};
+use crate::sending::{PLDM_TYPE, Sent, bus_of};
 use crate::stage::{Stage, Task};
 use cfg_records::{Asked, RecordKind};
 use ipmb_frame::{Msg, Response, Sequence, read_frame};
 use mctp_net::{Packet, Taken, read_packet};
-use pldm_base::{Instance, PldmBytes, read_pldm_reply};
 use plans::NextNumbers;
+use pldm_base::{Instance, PldmBytes, read_pldm_reply};
 use record_kinds::Limits;
 use two_wire::{Bus, Bytes, Code, code};
 
@@ -185,7 +185,7 @@ impl Manager {
         requires undone { task_undone task.now ≤ length self.now.undo.requests }
         ensures stage { (names : Names) (of : machine.Task (words_of names)) → IsTask names self.now.steps self.now.undo.requests task.now of
             → IsStage names self.now.steps (with_done (done_by task.now reply.entry.code) self.now.undo.requests) result
-                (machine.stage_after (words_of names) self.now.stopped self.now.steps (record { code = reply.entry.code; body = reply.entry.body.now }) of (machine.first_part (words_of names) of)) }
+            (machine.stage_after (words_of names) self.now.stopped self.now.steps (record { code = reply.entry.code; body = reply.entry.body.now }) of (machine.first_part (words_of names) of)) }
         ensures planned { steps_needed result ≤ length self.now.steps }
         ensures kept { undone_needed result ≤ task_undone task.now }
         ensures few { task_backs task.now ≤ most_backs result }
@@ -306,14 +306,20 @@ fn reply_to<'a>(asked: &Asked, instance: Instance, message: &'a [u8]) -> Option<
         return None;
     };
     let kind = kind.number();
-    let [1, bytes @ ..] = message else {
+    let [first, bytes @ ..] = message else {
         return None;
     };
+    if *first != PLDM_TYPE {
+        return None;
+    }
     let Ok(reply) = read_pldm_reply(&PldmBytes::new(bytes)) else {
         return None;
     };
     let header = reply.header;
-    if header.instance != instance || header.pldm_type.number() != kind || header.command != *command {
+    if header.instance != instance
+        || header.pldm_type.number() != kind
+        || header.command != *command
+    {
         return None;
     }
     Some(Reply {

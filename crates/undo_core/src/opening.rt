@@ -59,9 +59,9 @@ impl Manager {
     ) -> Result<Self, OpenFault>
         ensures refused { (result ≡ Err OpenFault.Retries) ↔ (15 < retries) }
         ensures resumed { IfOk result (λ m. Shows names m (record {
-            machine = resumed (words_of names) retries (record { series = backs names undo.requests; next = record { ipmb = undo.next.ipmb; smbus = undo.next.smbus } });
-            names = names;
-            joined = nothing;
+          machine = resumed (words_of names) retries (record { series = backs names undo.requests; next = record { ipmb = undo.next.ipmb; smbus = undo.next.smbus } });
+          names = names;
+          joined = nothing;
         })) }
     {
         let Some(retries) = retries_of(retries) else {

@@ -11,12 +11,12 @@ use arrayvec::ArrayVec;
 use cfg_records::Asked;
 use ipmb_frame::{Party, Request, Sequence, write_request};
 use mctp_net::{Envelope, Message, SomeData, Tag, split};
-use pldm_base::{Instance, PldmRequest, PldmType, write_pldm};
 use plans::Names;
+use pldm_base::{Instance, PldmRequest, PldmType, write_pldm};
 use two_wire::{Bus, Bytes, Data, Frame, Lun, NetFn};
 
 /// The message type of PLDM (DSP0239).
-const PLDM_TYPE: u8 = 0x01;
+pub const PLDM_TYPE: u8 = 0x01;
 
 /// How many of a manager's requests were answered on each bus. So it is the number of the open one, counted from 0, and, where
 /// none is open, of the next.
@@ -177,12 +177,12 @@ fn message_frames(
 /// Between whom the message of a request goes, and under which tag.
 fn envelope_of(names: &Names, counts: Counts) -> Envelope
     ensures { result ≡ record {
-        destination = names.now.peer_wire;
-        source = names.now.own_wire;
-        destination_eid = names.now.peer_eid;
-        source_eid = names.now.own_eid;
-        tag_owner = true;
-        tag = counts.smbus % 8;
+      destination = names.now.peer_wire;
+      source = names.now.own_wire;
+      destination_eid = names.now.peer_eid;
+      source_eid = names.now.own_eid;
+      tag_owner = true;
+      tag = counts.smbus % 8;
     } }
 {
     Envelope {

@@ -85,7 +85,9 @@ impl Stage {
         match self {
             Stage::AtStart => Phase::Fresh,
             Stage::Opened {
-                heeded: true, task, ..
+                heeded: true,
+                task,
+                ..
             } => task.phase(),
             Stage::Opened {
                 heeded: false,
@@ -125,4 +127,3 @@ impl Stage {
         }
     }
 }
-

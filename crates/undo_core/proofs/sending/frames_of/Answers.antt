@@ -1,4 +1,4 @@
-use Rattle.std.proofs.Common.{◌≡◌, [], ◌∷◌, ◌++◌, ℕ, List, map, sym, ◌∙◌, ap}
+use Rattle.std.proofs.Common.{[], ◌∷◌, ◌++◌, ℕ, List, map, sym, ◌∙◌, ap}
 use Rattle.cfg_records.specs.declared.message.Asked.{Asked}
 use Rattle.lab_model.specs.Values.{written}
 use Rattle.lab_model.specs.ManagerSteps.{values_of}

@@ -1,7 +1,5 @@
-use Rattle.std.proofs.Common.{◌≡◌, ◌<◌, ◌≤◌, ◌+◌, suc, ◌%◌, true, [], ◌∷◌, ◌++◌, ℕ, List, length, map, refl, sym, ◌∙◌, ap, subst, arith}
-use Rattle.mctp_net.specs.declared.packet.Envelope.{Envelope}
+use Rattle.std.proofs.Common.{◌≡◌, ◌≤◌, ◌+◌, suc, ◌%◌, [], ◌∷◌, ◌++◌, ℕ, List, length, map, ◌∙◌, ap, subst, arith}
 use Rattle.mctp_net.specs.declared.packet.Packet.{Packet}
-use Rattle.pldm_base.specs.Message.{request_bytes}
 use Rattle.bus_model.specs.Bytes.{pldm_request}
 use Rattle.lab_model.specs.Values.{Part, written, parts_of}
 use Rattle.undo_core.proofs.Written.{message_written}

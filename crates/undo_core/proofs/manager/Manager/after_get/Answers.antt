@@ -1,10 +1,10 @@
-use Rattle.std.proofs.Common.{rules, ◌≡◌, ◌<◌, ◌==◌, ℕ, length, slice_get, List, Option, Some, if◌then◌else◌, Bool, true, false, refl, sym, ◌∙◌, ap, subst, arith}
+use Rattle.std.proofs.Common.{rules, ◌≡◌, ◌==◌, Some, if◌then◌else◌, false, sym, ◌∙◌, ap, subst}
 use Rattle.two_wire.specs.Codes.{success}
 use Rattle.cfg_records.specs.declared.op.Op.{Op}
 use Rattle.record_kinds.specs.Limits.{inverse}
 use Rattle.undo_model.specs.Phase.{GetRefused}
 use Rattle.undo_model.specs.Machine as machine
-use Rattle.undo_core.specs.Shown.{words_of, own, backs, IsStage}
+use Rattle.undo_core.specs.Shown.{words_of, IsStage}
 use Rattle.undo_core.proofs.Backs.{same_read}
 use Rattle.undo_core.proofs.manager.Manager.after_get.Goals as goal
 
@@ -16,6 +16,6 @@ returns-clause-stage c names requests op there =
     let goes : c.args.self.now.stopped ≡ false = search rules in
     let here = c.set_stage.ensures.stage names requests op c.in-Some-inverse.back there (search rules) in
     let same : (if c.args.reply.code == success then machine.set_stage (words_of names) c.args.self.now.stopped c.args.step op (inverse op c.args.reply.body.now) else machine.AtHalt c.args.step (GetRefused c.args.reply.code))
-        ≡ machine.begun (words_of names) (machine.Sets c.args.step op c.in-Some-inverse.back) =
+    ≡ machine.begun (words_of names) (machine.Sets c.args.step op c.in-Some-inverse.back) =
     λ i. if zero i == success then machine.set_stage (words_of names) (goes i) c.args.step op (made i) else machine.AtHalt c.args.step (GetRefused (zero i)) in
     subst (IsStage names c.args.self.now.steps requests c.set_stage.result) (sym same) here

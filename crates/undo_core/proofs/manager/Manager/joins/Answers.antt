@@ -1,4 +1,4 @@
-use Rattle.std.proofs.Common.{◌≡◌, Bool, true, false, if◌then◌else◌, sym, ◌∙◌, ap, subst}
+use Rattle.std.proofs.Common.{Bool, if◌then◌else◌, sym, ◌∙◌, ap, subst}
 use Rattle.std.specs.Prelude.{IsSome}
 use Rattle.std.proofs.lemmas.Bool.{true≢false}
 use Rattle.lab_model.specs.ManagerSteps.{board_plans, rests, joins}

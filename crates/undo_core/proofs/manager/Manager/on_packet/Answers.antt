@@ -1,12 +1,12 @@
-use Rattle.std.proofs.Common.{rules, ◌≡◌, ◌↔◌, ℕ, List, Bool, true, false, None, if◌then◌else◌, sym, ◌∙◌, ap, subst}
+use Rattle.std.proofs.Common.{rules, ◌≡◌, ◌↔◌, ℕ, List, Bool, true, None, if◌then◌else◌, sym, ◌∙◌, ap, subst}
 use Rattle.two_wire.specs.declared.Bus.TheVariants.{Smbus}
 use Rattle.mctp_net.specs.declared.taken.Taken.{Taken}
-use Rattle.mctp_net.specs.declared.taken.Taken.TheVariants.{Whole, Waiting}
+use Rattle.mctp_net.specs.declared.taken.Taken.TheVariants.{Waiting}
 use Rattle.mctp_net.specs.Assembly.{Assemblies, drop_cause, dropped_for, after as kept_after, message_of, IsTaken}
 use Rattle.mctp_net.specs.Places.{seen}
 use Rattle.plans.specs.declared.names.Names.{Names}
 use Rattle.lab_model.specs.ManagerSteps.{board_plans, rests, joins, hears_packet, hears_reply}
-use Rattle.undo_core.specs.Shown.{Shows, Does}
+use Rattle.undo_core.specs.Shown.{Does}
 use Rattle.undo_core.proofs.Heard.{joined_with, whole_joins, whole_ends}
 use Rattle.undo_core.proofs.manager.Manager.on_packet.Goals as goal
 
@@ -21,7 +21,7 @@ returns c names s shows =
     let here : drop_cause m.names.own_eid (seen m.joined) p ≡ None = sym c.take.ensures.dropped ∙ ap dropped_for c.in-Whole.is in
     let none : drop_cause s.names.own_eid s.joined p ≡ None = (λ i. drop_cause (own i) (shows.joined i) p) ∙ here in
     let ended : p.end ≡ true = whole_ends m.names.own_eid (seen m.joined) p here
-        (subst (λ (t : Taken). (t ≡ Waiting) ↔ IsTaken m.names.own_eid (seen m.joined) p) c.in-Whole.is c.take.ensures.waiting) in
+    (subst (λ (t : Taken). (t ≡ Waiting) ↔ IsTaken m.names.own_eid (seen m.joined) p) c.in-Whole.is c.take.ensures.waiting) in
     let ours : c.joins.result ≡ true = search rules in
     let after = joined_with names p s in
     let body : c.as_slice.result.now ≡ (message_of after.joined p).body =
@@ -30,6 +30,16 @@ returns c names s shows =
     c.joins.ensures names s shows ∙ ap (λ (b : Bool). if b then joins P p s else rests P s) ours ∙ whole_joins names s p none ended
     ∙ ap (λ (bytes : List ℕ). hears_reply P Smbus bytes after) (sym body) in
     subst (Does names c.on_message.new.self c.on_message.result) (sym hears) (c.on_message.ensures names after (record {
-      named = shows.named; is_named = shows.is_named; plan = shows.plan; retries = shows.retries; stage = shows.stage; stopped = shows.stopped; resent = shows.resent;
-      undo = shows.undo; counts = shows.counts; sequence = shows.sequence; instance = shows.instance; joined = sym kept;
+      named = shows.named;
+      is_named = shows.is_named;
+      plan = shows.plan;
+      retries = shows.retries;
+      stage = shows.stage;
+      stopped = shows.stopped;
+      resent = shows.resent;
+      undo = shows.undo;
+      counts = shows.counts;
+      sequence = shows.sequence;
+      instance = shows.instance;
+      joined = sym kept;
     }))

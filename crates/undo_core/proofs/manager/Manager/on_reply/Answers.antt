@@ -1,4 +1,4 @@
-use Rattle.std.proofs.Common.{rules, ◌≡◌, ◌≤◌, ◌<◌, length, Bool, true, false, List, Option, Some, refl, sym, ◌∙◌, ap, subst, arith}
+use Rattle.std.proofs.Common.{rules, ◌≡◌, ◌≤◌, length, Bool, true, false, Option, refl, sym, ◌∙◌, ap, subst, arith}
 use Rattle.two_wire.specs.declared.Bus.{Bus}
 use Rattle.cfg_records.specs.declared.message.Asked.{Asked}
 use Rattle.undo_family.specs.Family.{bus_of}
@@ -7,7 +7,7 @@ use Rattle.undo_model.specs.Machine.{one_answered}
 use Rattle.undo_core.specs.declared.stage.Stage.{Stage}
 use Rattle.undo_core.specs.declared.stage.Stage.TheVariants.{Opened}
 use Rattle.undo_core.specs.Counted.{counts_of}
-use Rattle.undo_core.specs.Bounds.{most_backs, task_backs, done_by, with_done}
+use Rattle.undo_core.specs.Bounds.{most_backs, task_backs, with_done}
 use Rattle.undo_core.proofs.Replies.{took_reply}
 use Rattle.undo_core.proofs.manager.Manager.on_reply.Goals.{in-Some, in_default-done}
 use Rattle.undo_core.proofs.manager.Manager.on_reply.Goals as goal
@@ -33,7 +33,12 @@ returns c names s shows =
     took_reply names s a c.args.self.now _ c.open_frames.result task asked shows (record {
       was = was;
       free = free;
-      named = refl; plan = refl; retries = refl; stopped = refl; resent = refl; joined = refl;
+      named = refl;
+      plan = refl;
+      retries = refl;
+      stopped = refl;
+      resent = refl;
+      joined = refl;
       undo = elim c.match-done.branch [
         | in-Some w ↦ (λ i. (w.self-is i).1.1.1.1.1.1.1.0.requests) ∙ w.push.ensures ∙ ap kept (sym w.in-Some.is ∙ c.done-done.ensures)
         | in_default-done w ↦ (λ i. (w.self-is i).1.1.1.1.1.1.1.0.requests) ∙ ap kept (sym w.in_default-done.is ∙ c.done-done.ensures)
