@@ -3,6 +3,7 @@ use Rattle.std.specs.Prelude.{ℕ, List, [], ◌∷◌}
 use Rattle.bmc_core.specs.declared.out.Frames.{Frames}
 use Rattle.bmc_core.specs.declared.out.Out.{Out}
 use Rattle.bmc_core.specs.declared.out.Reason.{Reason}
+use Rattle.bmc_core.specs.declared.out.Done.{Done}
 use Rattle.bmc_core.specs.declared.out.Done.TheVariants as done
 
 -- these frames
@@ -20,6 +21,10 @@ ignored reason = record { frames = frames_of []; done = done.Ignored reason }
 -- nothing is sent yet
 abbrev pub waiting : Out
 waiting = record { frames = frames_of []; done = done.Waiting }
+
+-- these frames are sent, and this is what was done
+abbrev pub sends : List (List ℕ) → Done → Out
+sends frames what = record { frames = frames_of frames; done = what }
 
 -- the response is sent
 abbrev pub answered : List ℕ → Out
