@@ -4,9 +4,11 @@
 pub mod laws;
 pub mod out;
 pub mod port;
+pub mod smbus_port;
 pub mod step;
 
 pub use bmc_board::{Board, Command, Lengths, Line, changing, read_request};
 pub use out::{Done, Frames, Out, Reason};
 pub use port::{At, Port};
+pub use smbus_port::{SmbusPending, SmbusPort};
 pub use step::Step;
