@@ -1,5 +1,6 @@
 -- What a port sends and did.
 use Rattle.std.specs.Prelude.{ℕ, List, [], ◌∷◌}
+use Rattle.bus_model.specs.Carried.{Outcome, Repeats, IsBusy, IsNew}
 use Rattle.bmc_core.specs.declared.out.Frames.{Frames}
 use Rattle.bmc_core.specs.declared.out.Out.{Out}
 use Rattle.bmc_core.specs.declared.out.Reason.{Reason}
@@ -29,3 +30,9 @@ sends frames what = record { frames = frames_of frames; done = what }
 -- the response is sent
 abbrev pub answered : List ℕ → Out
 answered frame = record { frames = frames_of (frame ∷ []); done = done.Answered }
+
+-- what was done with a request, as a port says it
+abbrev pub done_by : Outcome → Done
+done_by (Repeats reply) = done.Repeated
+done_by IsBusy = done.Busy
+done_by IsNew = done.Answered
