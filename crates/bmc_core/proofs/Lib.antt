@@ -6,3 +6,4 @@ pub mod IpmbHearing
 pub mod OneReply
 pub mod SmbusReplies
 pub mod SmbusPorts
+pub mod SmbusLists

@@ -5,5 +5,6 @@ pub mod IpmbShown
 pub mod SmbusPort
 pub mod SmbusHeard
 pub mod SmbusShown
+pub mod SmbusRuns
 pub mod Port
 pub mod Names
