@@ -12,3 +12,6 @@ pub use ipmb_port::{IpmbPending, IpmbPort};
 pub use out::{Done, Frames, Out, Reason};
 pub use port::{At, Port};
 pub use step::Step;
+
+#[cfg(test)]
+mod tests;
