@@ -4,3 +4,5 @@ pub mod IpmbDeeds
 pub mod IpmbFrames
 pub mod IpmbHearing
 pub mod OneReply
+pub mod SmbusReplies
+pub mod SmbusPorts

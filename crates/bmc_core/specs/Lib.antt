@@ -3,5 +3,7 @@ pub mod IpmbPort
 pub mod IpmbHeard
 pub mod IpmbShown
 pub mod SmbusPort
+pub mod SmbusHeard
+pub mod SmbusShown
 pub mod Port
 pub mod Names
