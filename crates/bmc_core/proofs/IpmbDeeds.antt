@@ -2,19 +2,21 @@
 use Rattle.std.proofs.Common.{◌≡◌, ℕ, true, false, [], ◌∷◌, List, Some, None, refl, sym, ap, subst}
 use Rattle.std.proofs.lemmas.Bool.{true≢false}
 use Rattle.ipmb_frame.specs.declared.message.Request.{Request}
+use Rattle.cfg_records.specs.declared.message.Answered.{Answered}
 use Rattle.cfg_records.specs.declared.board_file.BoardFile.{BoardFile}
 use Rattle.two_wire.specs.declared.Bus.TheVariants.{Ipmb}
 use Rattle.bus_model.specs.Numbering.{is_above}
-use Rattle.bus_model.specs.Carried.{Outcome, Repeats, IsBusy, IsNew}
+use Rattle.bus_model.specs.Carried.{Outcome, Repeats, IsBusy, IsNew, log_after, reply_after}
 use Rattle.bmc_board.specs.State.{State}
 use Rattle.bmc_board.specs.Answer.{answer_of}
 use Rattle.lab_model.specs.Bytes.{heard_in}
 use Rattle.lab_model.specs.PortSteps.{PortState, Deed, Turn, spelled, asked_in, response_after, hears_request}
+use Rattle.lab_model.specs.Values.{written}
 use Rattle.lab_model.proofs.Stepping.{turns_by}
 use Rattle.bmc_core.specs.declared.out.Out.{Out}
 use Rattle.bmc_core.specs.declared.ipmb_port.IpmbPort.{IpmbPort}
-use Rattle.bmc_core.specs.Outs.{done_by}
-use Rattle.bmc_core.specs.IpmbShown.{Shows, Does, Settles, outcome_at, carries, kept_of, answers}
+use Rattle.bmc_core.specs.Outs.{sends, done_by}
+use Rattle.bmc_core.specs.IpmbShown.{Shows, Does, Settles, outcome_at, after, answers, carries, kept_of, first_answer}
 
 -- what comes of a request after this turn
 abbrev deed_by : PortState → Request → Turn → Deed
@@ -47,7 +49,7 @@ module _ (setup : BoardFile) (p : PortState) (before : State) (r : Request) wher
 
   -- a new one
   pub new_does : (next : IpmbPort) (after : State) (out : Out) → let given = answer_of setup before (asked_in r) in
-      outcome_at p r ≡ IsNew → Shows next (carries p r given.0) → after ≡ given.1 → out ≡ answers r given.0 → Does (hears_request setup p before r) (done_by (outcome_at p r)) next after out
+      outcome_at p r ≡ IsNew → Shows next (carries p r given.0) → after ≡ given.1 → out ≡ first_answer r given.0 → Does (hears_request setup p before r) (done_by (outcome_at p r)) next after out
   new_does next after out is shows left sent =
       subst (λ (o : Outcome). Does (hears_request setup p before r) (done_by o) next after out) (sym is)
       (subst (λ (d : Deed). Does d (done_by IsNew) next after out) (sym (new_deed is)) (record { shows = shows; left = left; sent = sent }))
@@ -57,3 +59,27 @@ pub is_new : (r : Request) (o : Outcome) (out : Out) → Settles r o true out �
 is_new r (Repeats reply) out settles = absurd (true≢false settles.0)
 is_new r IsBusy out settles = absurd (true≢false settles.0)
 is_new r IsNew out settles = refl
+
+-- ---- an answer that is told
+
+module _ (p : PortState) (r : Request) (a : Answered) where
+  -- the rule, where this is done with the request
+  abbrev after_by : Outcome → PortState
+  after_by o = record p { log = log_after o (kept_of r a) p.log }
+
+  abbrev answers_by : Outcome → Out
+  answers_by o = sends (written (response_after r (reply_after o (kept_of r a))) ∷ []) (done_by o)
+
+  settled_told : (port : IpmbPort) (out : Out) (o : Outcome) → Settles r o false out → Shows port p → Shows port (after_by o) × (out ≡ answers_by o)
+  settled_told port out (Repeats reply) settles shows = (shows, settles.1)
+  settled_told port out IsBusy settles shows = (shows, settles.1)
+  settled_told port out IsNew settles shows = absurd (true≢false (sym settles))
+
+  -- to a request that isn't new any more
+  pub told_settled : (port : IpmbPort) (out : Out) → Settles r (outcome_at p r) false out → Shows port p → Shows port (after p r a) × (out ≡ answers p r a)
+  told_settled port out settles shows = settled_told port out (outcome_at p r) settles shows
+
+  -- to a new one
+  pub told_new : (next : IpmbPort) (out : Out) → outcome_at p r ≡ IsNew → Shows next (carries p r a) → out ≡ first_answer r a → Shows next (after p r a) × (out ≡ answers p r a)
+  told_new next out is shows sent =
+      subst (λ (o : Outcome). Shows next (after_by o) × (out ≡ answers_by o)) (sym is) (shows, sent)

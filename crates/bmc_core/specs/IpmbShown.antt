@@ -7,7 +7,7 @@ use Rattle.cfg_records.specs.declared.message.Answered.{Answered}
 use Rattle.cfg_records.specs.declared.board_file.BoardFile.{BoardFile}
 use Rattle.bus_model.specs.Request.{Kept, Carried}
 use Rattle.bus_model.specs.Numbering.{is_above}
-use Rattle.bus_model.specs.Carried.{Outcome, Repeats, IsBusy, IsNew, outcome}
+use Rattle.bus_model.specs.Carried.{Outcome, Repeats, IsBusy, IsNew, outcome, log_after, reply_after}
 use Rattle.two_wire.specs.declared.Bus.TheVariants.{Ipmb}
 use Rattle.bmc_board.specs.State.{State}
 use Rattle.windows.specs.Keeps.{Reading, Keeps}
@@ -98,10 +98,17 @@ Steps p (Err why) next out = (next ≡ step.Done) × (out ≡ sends [] (done.Ign
 abbrev pub kept_of : Request → Answered → Kept
 kept_of r a = record { request = heard_in r; reply = spelled Ipmb (heard_in r) a }
 
--- the lab's port once it carried the request out
+-- the lab's port once the request was answered so: by the rule, which keeps a new one alone
+abbrev pub after : PortState → Request → Answered → PortState
+after p r a = record p { log = log_after (outcome_at p r) (kept_of r a) p.log }
+
+-- what is sent then
+abbrev pub answers : PortState → Request → Answered → Out
+answers p r a = sends (written (response_after r (reply_after (outcome_at p r) (kept_of r a))) ∷ []) (done_by (outcome_at p r))
+
+-- both where the request is new
 abbrev pub carries : PortState → Request → Answered → PortState
 carries p r a = record p { log = Carried (kept_of r a) ∷ p.log }
 
--- the response with the answer is sent
-abbrev pub answers : Request → Answered → Out
-answers r a = sends (written (response_after r (Some (kept_of r a).reply)) ∷ []) done.Answered
+abbrev pub first_answer : Request → Answered → Out
+first_answer r a = sends (written (response_after r (Some (kept_of r a).reply)) ∷ []) done.Answered

@@ -16,7 +16,7 @@ ghost use Rattle.lab_model.specs.PortSteps.{PortState, quiet_port, asked_in, idl
 ghost use Rattle.bmc_core.specs.declared.out.Reason.{Reason as AnyReason};
 ghost use Rattle.bmc_core.specs.Outs.{sends};
 ghost use Rattle.bmc_core.specs.IpmbHeard.{IsHeard};
-ghost use Rattle.bmc_core.specs.IpmbShown.{reading, response, response_frame, response_giving, Shows, Hears, Settles, Steps, outcome_at, carries, answers};
+ghost use Rattle.bmc_core.specs.IpmbShown.{reading, response, response_frame, response_giving, Shows, Hears, Settles, Steps, outcome_at, after, answers, carries, first_answer};
 
 use crate::out::{Done, Out, Reason};
 use crate::step::Step;
@@ -259,7 +259,7 @@ impl IpmbPort {
         requires fits { length heard.now.rest.now ≤ 27 }
         ensures carried { (p : PortState) → Shows self.old p → outcome_at p request.now ≡ IsNew
             → Shows self.new (carries p request.now (answer_of board.old.setup (state_of S.records board.old) (asked_in request.now)).0) }
-        ensures sent { out.new ≡ answers request.now (answer_of board.old.setup (state_of S.records board.old) (asked_in request.now)).0 }
+        ensures sent { out.new ≡ first_answer request.now (answer_of board.old.setup (state_of S.records board.old) (asked_in request.now)).0 }
         ensures left { state_of S.records board.new ≡ (answer_of board.old.setup (state_of S.records board.old) (asked_in request.now)).1 }
         ensures setup { board.new.setup ≡ board.old.setup }
     {
@@ -309,16 +309,18 @@ impl IpmbPort {
         }
     }
 
-    /// Keeps a request that was carried out, which the last `hear` gave, and fills in the response that gives the answer. The answer
-    /// has at most 24 bytes of data, as a board's to this request has.
+    /// Takes the answer to a request that `hear` gave, and fills in what is to be sent. A request that repeats another by now, or for
+    /// which there is no window any more, is answered as such. The answer has at most 24 bytes of data, as a board's to this request.
     pub fn told(&mut self, pending: IpmbPending, answered: &Answered, out: &mut Out)
         requires { length answered.now.body ≤ 24 }
-        ensures carried { (p : PortState) → Shows self.old p → outcome_at p pending ≡ IsNew → Shows self.new (carries p pending answered.now) }
-        ensures busy { (p : PortState) → Shows self.old p → outcome_at p pending ≡ IsBusy → self.new ≡ self.old }
-        ensures sent { out.new ≡ answers pending answered.now }
+        ensures shows { (p : PortState) → Shows self.old p → Shows self.new (after p pending answered.now) }
+        ensures sent { (p : PortState) → Shows self.old p → out.new ≡ answers p pending answered.now }
     {
         let rest = pending.rest();
         let heard = pending.compared(&rest);
+        if !self.is_new(pending.header(), &heard, out) {
+            return;
+        }
         out.done = Done::Answered;
         out.frames.keep_one();
         match out.frames.list.as_mut_slice() {

@@ -14,3 +14,6 @@ pub use out::{Done, Frames, Out, Reason};
 pub use port::{At, Port};
 pub use smbus_port::{SmbusPending, SmbusPort};
 pub use step::Step;
+
+#[cfg(test)]
+mod tests;
