@@ -4,3 +4,4 @@ pub mod IpmbHearing
 pub mod IpmbLists
 pub mod SmbusReplies
 pub mod SmbusPorts
+pub mod SmbusLists

@@ -26,8 +26,8 @@ use Rattle.bmc_core.specs.declared.out.Out.{Out}
 use Rattle.bmc_core.specs.declared.out.Done.TheVariants as done
 use Rattle.bmc_core.specs.declared.out.Reason.TheVariants as reason
 use Rattle.bmc_core.specs.declared.smbus_port.SmbusPort.{SmbusPort}
-use Rattle.bmc_core.specs.Outs.{sends}
-use Rattle.bmc_core.specs.SmbusHeard.{InMessage, Heard, Ignored, Waiting, Control, Asks, control_heard, pldm_heard, typed_heard, message_heard, part_heard, with_part, taken, heard_in, asking, asked_of, asks_of, found, asks, done_with, done_of, kept_with, asks_effect, effect}
+use Rattle.bmc_core.specs.Outs.{sends, done_by}
+use Rattle.bmc_core.specs.SmbusHeard.{InMessage, Heard, Ignored, Waiting, Control, Asks, control_heard, pldm_heard, typed_heard, message_heard, part_heard, with_part, taken, heard_in, asking, asked_of, asks_of, found, asks, done_of, kept_with, asks_effect, effect}
 use Rattle.bmc_core.specs.SmbusShown.{Shows, Hearing, HasEffect, Ends, Does, HearsBytes, frames_from, HasHeard, HasTaken, IsSettled}
 
 -- ---- the bytes
@@ -109,7 +109,7 @@ settled_as p m wire eid before out test is at_wire at_eid so settles =
 
 settled_by : (next : SmbusPort) (out before : Out) (port : PortState) (m : InMessage) (o : Outcome) (k : Kept) → Shows next port
     → IsSettled o (said Smbus (asking m) None) (frames_from port.wire port.eid m.envelope) before out true
-    → (asks_of m o ≡ None) × HasEffect next out (asks_effect port m o k) (done_with o)
+    → (asks_of m o ≡ None) × HasEffect next out (asks_effect port m o k) (done_by o)
 settled_by next out before port m (Repeats reply) k shows is = (refl, record { shows = shows; sent = is.1 })
 settled_by next out before port m IsBusy k shows is = (refl, record { shows = shows; sent = is.1 })
 settled_by next out before port m IsNew k shows is = let no : true ≡ false = is.0 in absurd cc
@@ -132,7 +132,7 @@ pub answered : (next : SmbusPort) (out : Out) (port : PortState) (m : InMessage)
     → out ≡ sends (frames_from port.wire port.eid m.envelope (kept_with m a).reply) done.Answered
     → Ends next out port (Asks m) a
 answered next out port m a is shows sent =
-    subst (λ (o : Outcome). HasEffect next out (asks_effect port m o (kept_with m a)) (done_with o)) (sym is) (record { shows = shows; sent = sent })
+    subst (λ (o : Outcome). HasEffect next out (asks_effect port m o (kept_with m a)) (done_by o)) (sym is) (record { shows = shows; sent = sent })
 
 -- ---- with the board
 

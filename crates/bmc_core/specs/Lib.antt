@@ -4,5 +4,6 @@ pub mod IpmbRuns
 pub mod IpmbShown
 pub mod SmbusHeard
 pub mod SmbusShown
+pub mod SmbusRuns
 pub mod Port
 pub mod Names

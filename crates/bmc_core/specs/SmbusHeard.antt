@@ -22,6 +22,7 @@ use Rattle.bmc_core.specs.declared.out.Done.{Done}
 use Rattle.bmc_core.specs.declared.out.Done.TheVariants as done
 use Rattle.bmc_core.specs.declared.out.Reason.{Reason}
 use Rattle.bmc_core.specs.declared.out.Reason.TheVariants as reason
+use Rattle.bmc_core.specs.Outs.{done_by}
 
 -- ---- what is heard
 
@@ -103,17 +104,12 @@ asks port (Ignored why) = None
 asks port Waiting = None
 asks port (Control e r) = None
 
-abbrev pub done_with : Outcome → Done
-done_with IsNew = done.Answered
-done_with IsBusy = done.Busy
-done_with (Repeats reply) = done.Repeated
-
 -- what is done
 abbrev pub done_of : PortState → Heard → Done
 done_of port (Ignored why) = done.Ignored why
 done_of port Waiting = done.Waiting
 done_of port (Control e r) = done.Control
-done_of port (Asks m) = done_with (found port m)
+done_of port (Asks m) = done_by (found port m)
 
 -- the packets of a reply to a message of this envelope
 abbrev pub reply_parts : PortState → Envelope → List ℕ → List Value

@@ -8,6 +8,7 @@ ghost use Rattle.bmc_core.specs.SmbusShown.{Shows, Hearing, IsStep, Ends, HearsB
 ghost use Rattle.bmc_core.specs.SmbusHeard.{Asks};
 
 mod hearing;
+pub mod laws;
 mod pending;
 mod replying;
 #[cfg(test)]
