@@ -1,6 +1,7 @@
 //! Worked frames on the sample board, and what a run does where memory or a write is refused.
 mod boards;
 mod ipmb;
+mod plans;
 mod runs;
 mod smbus;
 
