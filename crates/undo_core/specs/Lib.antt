@@ -2,3 +2,4 @@ pub mod Counted
 pub mod Bounds
 pub mod Phases
 pub mod Shown
+pub mod Exchange
