@@ -85,14 +85,20 @@ packets_read : (count number : ℕ) (m : Message) (ps : List Packet) → IsEnvel
     → All (λ p. p.envelope ≡ m.envelope) ps → AllZip (IsFrameOn Smbus) (map (λ p. Part p) ps) (map written (map (λ p. Part p) ps))
 packets_read count number m [] env few pieces same = tt
 packets_read count number m (p ∷ ps) env few pieces same =
-    let there : p.envelope ≡ m.envelope = All-head (λ x. x.envelope ≡ m.envelope) p ps same in
-    ((0, lit< tt, record {
-      envelope = subst IsEnvelope (sym there) env;
-      sequence = omega (arith, few, pieces.0.numbered);
-      some = pieces.0.some;
-      fits = pieces.0.fits;
-      spelled = refl;
-    }), packets_read count (number + 1) m ps env (omega (arith, few)) pieces.1 (All-tail (λ x. x.envelope ≡ m.envelope) p ps same))
+    let there : p.envelope ≡ m.envelope = All-head (λ x. x.envelope ≡ m.envelope) p ps same in (
+      (
+        0,
+        lit< tt,
+        record {
+          envelope = subst IsEnvelope (sym there) env;
+          sequence = omega (arith, few, pieces.0.numbered);
+          some = pieces.0.some;
+          fits = pieces.0.fits;
+          spelled = refl;
+        },
+      ),
+      packets_read count (number + 1) m ps env (omega (arith, few)) pieces.1 (All-tail (λ x. x.envelope ≡ m.envelope) p ps same),
+    )
 
 message_read : (m : Message) → IsEnvelope m.envelope → 0 < length m.body → length m.body ≤ 256
     → AreReadAs Smbus (map (λ p. Part p) (parts_of m)) (map written (map (λ p. Part p) (parts_of m)))
@@ -282,16 +288,16 @@ on_smbus names count from kind command body setup port before are can is =
       board = ap (λ (d : Deed). d.board) heard;
       sent = λ a said_so. ap (λ (d : Deed). d.sent) heard
           ∙ (λ i. map (λ (p : Packet). Part p) (parts_of (record {
-        envelope = record {
-          destination = names.own_wire;
-          source = is.place i;
-          destination_eid = names.own_eid;
-          source_eid = is.eid i;
-          tag_owner = false;
-          tag = count % 8;
-        };
-        body = said_so i;
-      })));
+            envelope = record {
+              destination = names.own_wire;
+              source = is.place i;
+              destination_eid = names.own_eid;
+              source_eid = is.eid i;
+              tag_owner = false;
+              tag = count % 8;
+            };
+            body = said_so i;
+          })));
     }
 
 pub requests_are_heard : RequestsAreHeard
@@ -411,10 +417,10 @@ module _ (names : Names) (count from : ℕ) (a : Answered) (at : machine.Machine
         });
         joined = joined;
         taken = ap (then_hears names []) (
-          (λ i. if eq-eqb names.own_address names.own_address refl i && eq-eqb names.peer_address names.peer_address refl i
-          then hears_reply (board_plans names) Ipmb (response_bytes r) now else rests (board_plans names) now)
-          ∙ takes names Ipmb now part (response_bytes r) a heeds test refl)
-        ∙ last_one names (taken_or (board_plans names) now (machine.reply_of (words_of names) a at));
+            (λ i. if eq-eqb names.own_address names.own_address refl i && eq-eqb names.peer_address names.peer_address refl i
+            then hears_reply (board_plans names) Ipmb (response_bytes r) now else rests (board_plans names) now)
+            ∙ takes names Ipmb now part (response_bytes r) a heeds test refl)
+            ∙ last_one names (taken_or (board_plans names) now (machine.reply_of (words_of names) a at));
       }
 
   told_on_smbus : (kind command : ℕ) (body : List ℕ) → let asked : Asked = Pldm from kind command body in
