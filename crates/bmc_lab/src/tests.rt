@@ -1,9 +1,9 @@
 //! Worked frames on the sample board, and what a run does where memory or a write is refused.
 mod boards;
 mod ipmb;
-mod plans;
 mod runs;
 mod smbus;
+mod two_steps;
 
 use bmc_core::{At, Board, Done, Out, Port};
 use cfg_records::{PlainStore, sample_board};

@@ -42,26 +42,42 @@ fn plan(alloc: Global) -> Result<Plan, Fail> {
     })
 }
 
+/// More requests than any run here sends.
+const MOST_REQUESTS: usize = 16;
+
 /// A clean link: each frame that the manager sends comes to the port, and each that the port sends comes to the manager. How many
 /// requests were sent.
 fn drive(rt: &impl Abort, lab: &mut Lab, manager: &mut Manager, first: Option<Sent>) -> usize {
     let mut out = Out::new();
     let mut open = first;
-    let mut requests = 0;
-    while let Some(sent) = open {
-        requests += 1;
-        assert_eq!(rt; sent.bus, Bus::Ipmb);
-        open = None;
-        for frame in sent.frames.as_slice() {
-            lab.port
-                .on_frame(&mut lab.board, frame.as_slice(), &mut out);
-            for reply in out.frames.as_slice() {
-                assert!(rt; open.is_none());
-                open = manager.on_frame(Bus::Ipmb, reply.as_slice());
-            }
-        }
+    for requests in 0..MOST_REQUESTS {
+        let Some(sent) = open else {
+            return requests;
+        };
+        open = exchange(rt, lab, manager, &sent, &mut out);
     }
-    requests
+    MOST_REQUESTS
+}
+
+/// The frames come to the port, and its reply comes to the manager. What that sends then.
+fn exchange(
+    rt: &impl Abort,
+    lab: &mut Lab,
+    manager: &mut Manager,
+    sent: &Sent,
+    out: &mut Out,
+) -> Option<Sent> {
+    let [frame] = sent.frames.as_slice() else {
+        assert!(rt; false, "one frame is a request on IPMB");
+        return None;
+    };
+    assert_eq!(rt; sent.bus, Bus::Ipmb);
+    lab.port.on_frame(&mut lab.board, frame.as_slice(), out);
+    let [reply] = out.frames.as_slice() else {
+        assert!(rt; false, "one frame is a response on IPMB");
+        return None;
+    };
+    manager.on_frame(Bus::Ipmb, reply.as_slice())
 }
 
 /// The calls' first frames.
@@ -116,30 +132,28 @@ fn undoes_both(rt: &impl Abort, alloc: Global, list: &UndoList) -> Result<(), Fa
     Ok(())
 }
 
-/// How many records of the board differ from those of its file.
-fn changed(alloc: Global, lab: &Lab) -> Result<usize, Fail> {
+/// Whether each record of the board is as in its file.
+fn is_as_in_its_file(alloc: Global, lab: &Lab) -> Result<bool, Fail> {
     let store: &PlainStore = lab.board.store();
-    let mut count = 0;
     for (key, value) in sample_board(alloc)?.records(alloc)?.as_slice() {
         let Some(now) = store.get(key) else {
             return Err("no such record".into());
         };
         if now != value.as_slice() {
-            count += 1;
+            return Ok(false);
         }
     }
-    Ok(count)
+    Ok(true)
 }
 
-/// The same list once more.
+/// The same list of two requests once more.
 fn copy_of(alloc: Global, list: &UndoList) -> Result<UndoList, Fail> {
     let mut requests = Requests::new(alloc)?;
-    for place in 0..list.requests.len() {
-        let Some(asked) = list.requests.get(place) else {
-            return Err("no request".into());
-        };
-        requests.push(asked.copy());
-    }
+    let (Some(first), Some(second)) = (list.requests.get(0), list.requests.get(1)) else {
+        return Err("no request".into());
+    };
+    requests.push(first.copy());
+    requests.push(second.copy());
     let next = list.next;
     Ok(UndoList { requests, next })
 }
@@ -150,11 +164,11 @@ fn carried_out(rt: &impl Abort, alloc: Global) -> Result<(Lab, Manager), Fail> {
     let Ok(mut manager) = Manager::open(alloc, plan(alloc)?, names(), 3) else {
         return Err("no manager".into());
     };
-    assert_eq!(rt; changed(alloc, &lab)?, 0);
+    assert!(rt; is_as_in_its_file(alloc, &lab)?);
     let first = sent_by(manager.start())?;
     assert_eq!(rt; drive(rt, &mut lab, &mut manager, first), 4);
     assert_eq!(rt; manager.phase(), Phase::Done);
-    assert_eq!(rt; changed(alloc, &lab)?, 1);
+    assert!(rt; !is_as_in_its_file(alloc, &lab)?);
     Ok((lab, manager))
 }
 
@@ -175,7 +189,7 @@ fn undone(
     assert_eq!(rt; digits.as_str(), "2010D02C10260530000000005A6EA1");
     assert_eq!(rt; drive(rt, lab, manager, Some(first)), 2);
     assert_eq!(rt; manager.phase(), Phase::Undone);
-    assert_eq!(rt; changed(alloc, lab)?, 0);
+    assert!(rt; is_as_in_its_file(alloc, lab)?);
     Ok(())
 }
 
