@@ -1,9 +1,7 @@
-pub mod Heard
-pub mod HeardPackets
 pub mod IpmbDeeds
 pub mod IpmbFrames
 pub mod IpmbHearing
-pub mod OneReply
+pub mod IpmbLists
 pub mod SmbusReplies
 pub mod SmbusPorts
 pub mod SmbusLists

@@ -1,8 +1,7 @@
 pub mod Outs
-pub mod IpmbPort
 pub mod IpmbHeard
+pub mod IpmbRuns
 pub mod IpmbShown
-pub mod SmbusPort
 pub mod SmbusHeard
 pub mod SmbusShown
 pub mod SmbusRuns

@@ -18,6 +18,8 @@ ghost use Rattle.bmc_core.specs.Outs.{sends};
 ghost use Rattle.bmc_core.specs.IpmbHeard.{IsHeard};
 ghost use Rattle.bmc_core.specs.IpmbShown.{reading, response, response_frame, response_giving, Shows, Hears, Settles, Steps, outcome_at, after, answers, carries, first_answer};
 
+pub mod laws;
+
 use crate::out::{Done, Out, Reason};
 use crate::step::Step;
 use bmc_board::request::read_ipmi;

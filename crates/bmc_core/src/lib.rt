@@ -2,7 +2,6 @@
 #![tactic(auto)]
 
 pub mod ipmb_port;
-pub mod laws;
 pub mod out;
 pub mod port;
 pub mod smbus_port;

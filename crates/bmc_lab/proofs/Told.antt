@@ -1,8 +1,6 @@
 -- What is said of a run, once it is known what the port did.
-use Rattle.std.proofs.Common.{◌≡◌, ℕ, List, Result, Ok, Err, IfOk, string_bytes, subst, ◌∙◌, ap}
+use Rattle.std.proofs.Common.{◌≡◌, ℕ, List, Result, Ok, Err, IfOk, string_bytes, subst}
 use Rattle.two_wire.specs.declared.Bus.{Bus}
-use Rattle.mctp_net.specs.Assembly.{nothing}
-use Rattle.mctp_net.specs.Places.{seen}
 use Rattle.cfg_records.specs.declared.board_file.BoardFile.{BoardFile}
 use Rattle.cfg_records.specs.Sample.{IsSampleBoard}
 use Rattle.bmc_core.specs.declared.out.Out.{Out}
@@ -10,18 +8,17 @@ use Rattle.bmc_core.specs.declared.port.At.{At}
 use Rattle.bmc_core.specs.declared.port.Port.{Port}
 use Rattle.bmc_board.specs.State.{State, opened}
 use Rattle.bmc_core.specs.Outs.{sent}
-use Rattle.bmc_core.specs.Port.{Hears}
+use Rattle.lab_model.specs.PortSteps.{quiet_port}
+use Rattle.bmc_core.specs.Port.{bus_of, Shows, Hears}
 use Rattle.bmc_lab.specs.declared.report.Report.{Report}
 use Rattle.bmc_lab.specs.Report.{text_of, status_of}
 use Rattle.bmc_lab.specs.Run.{controller, IsFresh, Tells}
 
 -- a port that is made for the controller's place is fresh
-pub is_fresh : (port : Port) (bus : Bus) (at : At) → at ≡ controller → port.bus ≡ bus → port.at ≡ at → port.endpoint ≡ at.eid → seen port.assembler ≡ nothing → IsFresh bus port
-is_fresh port bus at place same stands named empty = record {
+pub is_fresh : (port : Port) (bus : Bus) (at : At) → at ≡ controller → bus_of port ≡ bus → Shows port (quiet_port at.wire at.eid) → IsFresh bus port
+is_fresh port bus at place same shows = record {
   stands_on = same;
-  place = stands ∙ place;
-  named = named ∙ ap (λ (a : At). a.eid) place;
-  empty = empty;
+  quiet = subst (λ (a : At). Shows port (quiet_port a.wire a.eid)) place shows;
 }
 
 -- a port, over a board of this file that was opened, hears as one of the file's opened state

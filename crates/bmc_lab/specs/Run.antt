@@ -1,8 +1,6 @@
 -- One frame sent to a fresh controller with the sample board.
 use Rattle.std.specs.Prelude.{◌≡◌, ℕ, List}
 use Rattle.two_wire.specs.declared.Bus.{Bus}
-use Rattle.mctp_net.specs.Assembly.{nothing}
-use Rattle.mctp_net.specs.Places.{seen}
 use Rattle.cfg_records.specs.declared.board_file.BoardFile.{BoardFile}
 use Rattle.cfg_records.specs.Sample.{IsSampleBoard}
 use Rattle.bmc_core.specs.declared.out.Out.{Out}
@@ -10,7 +8,8 @@ use Rattle.bmc_core.specs.declared.port.At.{At}
 use Rattle.bmc_core.specs.declared.port.Port.{Port}
 use Rattle.bmc_board.specs.State.{State, opened}
 use Rattle.bmc_core.specs.Outs.{sent}
-use Rattle.bmc_core.specs.Port.{Hears}
+use Rattle.lab_model.specs.PortSteps.{quiet_port}
+use Rattle.bmc_core.specs.Port.{bus_of, Shows, Hears}
 use Rattle.bmc_lab.specs.declared.status.Status.{Status}
 use Rattle.bmc_lab.specs.Report.{text_of, status_of}
 
@@ -18,12 +17,10 @@ use Rattle.bmc_lab.specs.Report.{text_of, status_of}
 abbrev pub controller : At
 controller = record { wire = 0x20; eid = 0x0A }
 
--- a controller's port on a bus, which has taken no packet yet
+-- a controller's port on a bus, which has heard nothing yet
 pub record IsFresh (bus : Bus) (port : Port) : Type 0 where
-  pub stands_on : port.bus ≡ bus
-  pub place : port.at ≡ controller
-  pub named : port.endpoint ≡ controller.eid
-  pub empty : seen port.assembler ≡ nothing
+  pub stands_on : bus_of port ≡ bus
+  pub quiet : Shows port (quiet_port controller.wire controller.eid)
 
 -- what is said of the bytes: what a fresh controller with the sample board does with them where it hears them on the bus
 pub record Tells (bus : Bus) (bytes text : List ℕ) (status : Status) : Type 0 where

@@ -198,15 +198,15 @@ fn one_out_serves_for_many_calls(rt: HostRuntime) -> Result<(), Fail> {
         ("2018C82C0001D3", ANSWERED, reply),
         // A wrong checksum, and nothing is left of the reply.
         ("2018C82C0001D4", body_sum, ""),
-        // The frame of a longer reply, then of a shorter one.
-        ("2018C82C0001D3", ANSWERED, reply),
+        // The same request again: the frame of a longer reply, then of a shorter one.
+        ("2018C82C0001D3", Done::Repeated, reply),
         ("2018C82C0022B2", ANSWERED, "2C1CB8200022803E"),
     ];
     let packets = [
         // A packet after frames, and one of a message that isn't whole.
         (GET_TID, ANSWERED, TERMINUS),
         (FIRST, Done::Waiting, ""),
-        (GET_TID, ANSWERED, TERMINUS),
+        (GET_TID, Done::Repeated, TERMINUS),
         (
             "200F0631010A08C87E3B",
             Done::Ignored(Reason::MessageType),

@@ -1,0 +1,81 @@
+-- What holds of lists of what comes to a port on IPMB.
+use Rattle.std.proofs.Common.{◌≡◌, ◌≢◌, List, [], ◌∷◌, Result, Ok, Err, refl, sym, ◌∙◌, ap}
+use Rattle.ipmb_frame.specs.declared.message.Request.{Request}
+use Rattle.cfg_records.specs.declared.message.Answered.{Answered}
+use Rattle.cfg_records.specs.declared.board_file.BoardFile.{BoardFile}
+use Rattle.bus_model.specs.Request.{Kept}
+use Rattle.bus_model.specs.Numbering.{is_above}
+use Rattle.bus_model.specs.Carried.{Outcome, Repeats, IsBusy, IsNew, log_after, reply_after, outcomes}
+use Rattle.bmc_board.specs.State.{State}
+use Rattle.bmc_board.specs.Answer.{answer_of}
+use Rattle.lab_model.specs.PortSteps.{PortState, Deed, left_by, asked_in, response_after, hears_request, turn}
+use Rattle.bmc_core.specs.IpmbShown.{outcome_at, kept_of}
+use Rattle.bmc_core.specs.IpmbRuns.{told_deed, IsHeardThenTold, logs_with, Coming, Comes, IsTold, IsIdle, port_after, ports_after, brought, done_with_told, KeepsTheRule, Happening, Hears, Idles, Others, Ends, ends_after, all_after, heard_in_all, done_in_all, CarriesTheRule}
+
+-- ---- one request
+
+-- what comes of a request with which this is done, where this is kept of a new one, and leaves this board
+abbrev deed_by : PortState → Request → Outcome → Kept → State → State → Deed
+deed_by p r o k new before = record { port = record p { log = log_after o k p.log }; board = left_by o new before; sent = response_after r (reply_after o k) ∷ [] }
+
+module _ (setup : BoardFile) (p : PortState) (before : State) (r : Request) where
+  deed_is : let given = answer_of setup before (asked_in r) in hears_request setup p before r ≡ deed_by p r (outcome_at p r) (kept_of r given.0) given.1 before
+  unfolding hears_request turn
+  deed_is = refl
+
+  -- of a request that isn't new comes the same, whatever the answer
+  none_new : (o : Outcome) (j k : Kept) (new : State) → o ≢ IsNew
+      → deed_by p r o j new before ≡ record { port = record p { log = log_after o k p.log }; board = before; sent = response_after r (reply_after o k) ∷ [] }
+  none_new (Repeats reply) j k new apart = refl
+  none_new IsBusy j k new apart = refl
+  none_new IsNew j k new apart = absurd (apart refl)
+
+  pub heard_then_told : IsHeardThenTold setup p before r
+  heard_then_told =
+      let given = answer_of setup before (asked_in r) in
+      record {
+        asked = λ is. deed_is ∙ ap (λ (o : Outcome). let d : Deed = record { port = record p { log = log_after (outcome_at p r) (kept_of r given.0) p.log }; board = left_by o given.1 before; sent = response_after r (reply_after (outcome_at p r) (kept_of r given.0)) ∷ [] } in d) is;
+        settled = λ apart a. deed_is ∙ none_new (outcome_at p r) (kept_of r given.0) (kept_of r a) given.1 apart;
+      }
+
+-- ---- lists with no board in them
+
+told_log : (p : PortState) (cs : List Coming) → (ports_after p cs).log ≡ logs_with (brought cs) p.log
+told_log p [] = refl
+told_log p (Comes heard ∷ cs) = told_log p cs
+told_log p (IsTold r a ∷ cs) = told_log (port_after p (IsTold r a)) cs
+told_log p (IsIdle requester ∷ cs) = told_log (port_after p (IsIdle requester)) cs
+
+told_done : (p : PortState) (cs : List Coming) → done_with_told p cs ≡ outcomes (is_above 64) p.log (brought cs)
+told_done p [] = refl
+told_done p (Comes heard ∷ cs) = told_done p cs
+told_done p (IsTold r a ∷ cs) = ap (λ (os : List Outcome). outcome_at p r ∷ os) (told_done (port_after p (IsTold r a)) cs)
+told_done p (IsIdle requester ∷ cs) = told_done (port_after p (IsIdle requester)) cs
+
+pub keeps_the_rule : (p : PortState) (cs : List Coming) → KeepsTheRule p cs
+keeps_the_rule p cs = record { log = told_log p cs; done = told_done p cs }
+
+-- ---- lists at a board
+
+module _ (setup : BoardFile) where
+  all_log : (x : Ends) (es : List Happening) → (all_after setup x es).port.log ≡ logs_with (heard_in_all setup x es) x.port.log
+  all_log x [] = refl
+  all_log x (Hears (Ok r) ∷ es) =
+      let next = ends_after setup x (Hears (Ok r)) in
+      all_log next es ∙ ap (λ (d : Deed). logs_with (heard_in_all setup next es) d.port.log) (deed_is setup x.port x.board r)
+  all_log x (Hears (Err why) ∷ es) = all_log x es
+  all_log x (Idles requester ∷ es) = all_log (ends_after setup x (Idles requester)) es
+  all_log x (Others board ∷ es) = all_log (ends_after setup x (Others board)) es
+
+  all_done : (x : Ends) (es : List Happening) → done_in_all setup x es ≡ outcomes (is_above 64) x.port.log (heard_in_all setup x es)
+  all_done x [] = refl
+  all_done x (Hears (Ok r) ∷ es) =
+      let next = ends_after setup x (Hears (Ok r)) in
+      ap (λ (os : List Outcome). outcome_at x.port r ∷ os)
+      (all_done next es ∙ ap (λ (d : Deed). outcomes (is_above 64) d.port.log (heard_in_all setup next es)) (deed_is setup x.port x.board r))
+  all_done x (Hears (Err why) ∷ es) = all_done x es
+  all_done x (Idles requester ∷ es) = all_done (ends_after setup x (Idles requester)) es
+  all_done x (Others board ∷ es) = all_done (ends_after setup x (Others board)) es
+
+  pub carries_the_rule : (x : Ends) (es : List Happening) → CarriesTheRule setup x es
+  carries_the_rule x es = record { log = all_log x es; done = all_done x es }
