@@ -3,8 +3,10 @@
 
 mod fault;
 mod frames;
+mod laws;
 mod others;
 
 pub use fault::{Fault, Marks};
 pub use frames::{Frames, SentFrame, Way};
+pub use laws::{one_ending, two_steps_are_played};
 pub use others::{idle_fault, noise_fault, request_fault};

@@ -1,0 +1,20 @@
+use Rattle.std.proofs.Common.{refl}
+use Rattle.lab_model.specs.Lab.{run, opening}
+use Rattle.lab_model.specs.Example.{board_file, two_steps}
+use Rattle.lab_model.proofs.Example.{two_steps_undone}
+use Rattle.lab.specs.Meaning.{lab_names}
+use Rattle.lab.specs.Played.{plans, after, told_of}
+use Rattle.lab.specs.Example.{two_and_back}
+use Rattle.lab.proofs.laws.two_steps_are_played.Goals as goal
+
+pub returns : goal.returns
+unfolding run
+returns c bench =
+    let first = opening plans board_file lab_names two_steps 3 in
+    record {
+      told = told_of bench board_file first (after bench board_file two_and_back first);
+      played = (two_steps_undone.taken, refl);
+      undone = two_steps_undone.undone;
+      frames = two_steps_undone.frames;
+      same = two_steps_undone.same;
+    }
