@@ -5,7 +5,6 @@ use cfg_records::{
     SetWatchdog,
 };
 use std::alloc::{AllocError, Global};
-use std::process::Abort;
 use std::test::Fail;
 
 /// A step of each kind. No line stands in it twice but `[[step]]`.
@@ -77,8 +76,8 @@ const fn number(
     }
 }
 
-/// A case for each field of the kinds that have numbers alone.
-fn number_cases() -> [Case; 11] {
+/// A case for each field of a number, a list or a choice.
+fn cases() -> [Case; 20] {
     let limit = |field, line, mistyped, beyond, inside| Case {
         line,
         step: 0,
@@ -171,12 +170,6 @@ fn number_cases() -> [Case; 11] {
             ["policy = -1", "policy = 3"],
             ["policy = 0", "policy = 1"],
         ),
-    ]
-}
-
-/// A case for each other field of a number or a list.
-fn other_cases() -> [Case; 9] {
-    [
         number(
             2,
             "sensor",
@@ -281,37 +274,30 @@ fn called(alloc: Global, case: Case, name: &str) -> Result<String, AllocError> {
     format!(in alloc; "{} {name} {}", case.step, case.field)
 }
 
-fn try_case(rt: &impl Abort, alloc: Global, case: Case) -> Result<(), Fail> {
-    let missing = if case.is_needed {
-        called(alloc, case, "Missing")?
-    } else {
-        String::new(alloc)
-    };
-    assert_eq!(rt; fault(alloc, case.line, "")?, missing, "{}", case.line);
-    let mistyped = called(alloc, case, "WrongType")?;
-    assert_eq!(rt;
-        fault(alloc, case.line, case.mistyped)?,
-        mistyped,
-        "{}",
-        case.mistyped
-    );
-    let beyond = called(alloc, case, "Range")?;
-    for line in case.beyond {
-        assert_eq!(rt; fault(alloc, case.line, line)?, beyond, "{line}");
-    }
-    for line in case.inside {
-        assert_eq!(rt; fault(alloc, case.line, line)?.as_str(), "", "{line}");
-    }
-    Ok(())
-}
-
 #[test]
 fn a_field_that_is_left_out_mistyped_or_out_of_range_is_named(rt: HostRuntime) -> Result<(), Fail> {
-    for case in number_cases() {
-        try_case(&rt, rt.alloc(), case)?;
-    }
-    for case in other_cases() {
-        try_case(&rt, rt.alloc(), case)?;
+    let alloc = rt.alloc();
+    for case in cases() {
+        let missing = if case.is_needed {
+            called(alloc, case, "Missing")?
+        } else {
+            String::new(alloc)
+        };
+        assert_eq!(rt; fault(alloc, case.line, "")?, missing, "{}", case.line);
+        let mistyped = called(alloc, case, "WrongType")?;
+        assert_eq!(rt;
+            fault(alloc, case.line, case.mistyped)?,
+            mistyped,
+            "{}",
+            case.mistyped
+        );
+        for line in case.beyond {
+            let beyond = called(alloc, case, "Range")?;
+            assert_eq!(rt; fault(alloc, case.line, line)?, beyond, "{line}");
+        }
+        for line in case.inside {
+            assert_eq!(rt; fault(alloc, case.line, line)?.as_str(), "", "{line}");
+        }
     }
     Ok(())
 }
@@ -456,29 +442,23 @@ fn events_are_needed_unless_they_are_left(rt: HostRuntime) -> Result<(), Fail> {
     Ok(())
 }
 
-/// The step of this place of the plan of a text.
-fn with_step(
-    rt: &impl Abort,
-    alloc: Global,
-    text: &str,
-    place: usize,
-    check: fn(&Op) -> bool,
-) -> Result<(), Fail> {
+/// Whether the step of this place of the plan of a text passes.
+fn passes(alloc: Global, text: &str, place: usize, test: fn(&Op) -> bool) -> Result<bool, Fail> {
     let plan = read_plan(alloc, text).map_err(|_| "a plan")?;
     let op = plan.steps.as_slice().get(place).ok_or("a step")?;
-    assert!(rt; check(op), "{place}");
-    Ok(())
+    Ok(test(op))
 }
 
 #[test]
 fn each_kind_is_read(rt: HostRuntime) -> Result<(), Fail> {
     let plan = read_plan(rt.alloc(), PLAN).map_err(|_| "a plan")?;
     assert_eq!(rt; plan.steps.as_slice().len(), 5);
-    with_step(&rt, rt.alloc(), PLAN, 0, |op| {
+    let read = passes(rt.alloc(), PLAN, 0, |op| {
         let values = [1, 2, 3, 4, 5, 6];
         matches!(op, Op::Thresholds(set) if *set == SetThresholds { sensor: 5, mask: 0x3F, values })
     })?;
-    with_step(&rt, rt.alloc(), PLAN, 1, |op| {
+    assert!(rt; read);
+    let read = passes(rt.alloc(), PLAN, 1, |op| {
         let want = SetHysteresis {
             sensor: 6,
             positive: 7,
@@ -486,7 +466,8 @@ fn each_kind_is_read(rt: HostRuntime) -> Result<(), Fail> {
         };
         matches!(op, Op::Hysteresis(set) if *set == want)
     })?;
-    with_step(&rt, rt.alloc(), PLAN, 2, |op| {
+    assert!(rt; read);
+    let read = passes(rt.alloc(), PLAN, 2, |op| {
         let events = EventMasks {
             assertions: 0x280,
             deassertions: 0x801,
@@ -499,7 +480,8 @@ fn each_kind_is_read(rt: HostRuntime) -> Result<(), Fail> {
         };
         matches!(op, Op::EventEnable(set) if *set == want)
     })?;
-    with_step(&rt, rt.alloc(), PLAN, 3, |op| {
+    assert!(rt; read);
+    let read = passes(rt.alloc(), PLAN, 3, |op| {
         let want = SetWatchdog {
             timer_use: 0x83,
             actions: 0x21,
@@ -509,9 +491,12 @@ fn each_kind_is_read(rt: HostRuntime) -> Result<(), Fail> {
         };
         matches!(op, Op::Watchdog(set) if *set == want)
     })?;
-    with_step(&rt, rt.alloc(), PLAN, 4, |op| {
+    assert!(rt; read);
+    let read = passes(rt.alloc(), PLAN, 4, |op| {
         matches!(op, Op::PowerPolicy(set) if *set == SetPowerPolicy { policy: 2 })
-    })
+    })?;
+    assert!(rt; read);
+    Ok(())
 }
 
 #[test]
@@ -530,14 +515,17 @@ unr = 0x64
     let plan = read_plan(rt.alloc(), text).map_err(|_| "a plan")?;
     assert_eq!(rt; plan.retries.number(), 3);
     assert_eq!(rt; plan.steps.as_slice().len(), 2);
-    with_step(&rt, rt.alloc(), text, 0, |op| {
+    let read = passes(rt.alloc(), text, 0, |op| {
         let values = [0, 0, 0, 0x4B, 0x5A, 0];
         matches!(op, Op::Thresholds(set) if *set == SetThresholds { sensor: 5, mask: 0x18, values })
     })?;
-    with_step(&rt, rt.alloc(), text, 1, |op| {
+    assert!(rt; read);
+    let read = passes(rt.alloc(), text, 1, |op| {
         let values = [0, 0, 0, 0, 0x5C, 0x64];
         matches!(op, Op::Thresholds(set) if *set == SetThresholds { sensor: 5, mask: 0x30, values })
-    })
+    })?;
+    assert!(rt; read);
+    Ok(())
 }
 
 #[test]
