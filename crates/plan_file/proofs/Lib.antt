@@ -4,3 +4,5 @@ pub mod First
 pub mod Rows
 pub mod Events
 pub mod Sensors
+pub mod UndoLines
+pub mod UndoLists

@@ -4,3 +4,5 @@ pub mod Trees
 pub mod Ranges
 pub mod Faults
 pub mod Holds
+pub mod UndoText
+pub mod UndoNames
