@@ -1,8 +1,7 @@
 -- What is said of a run, once it is known what the port did.
-use Rattle.std.proofs.Common.{◌≡◌, ℕ, List, Result, Ok, Err, IfOk, string_bytes, subst}
+use Rattle.std.proofs.Common.{Option, ◌≡◌, ℕ, List, Result, Ok, Err, IfOk, string_bytes, subst, ◌∙◌, ap}
 use Rattle.two_wire.specs.declared.Bus.{Bus}
 use Rattle.cfg_records.specs.declared.board_file.BoardFile.{BoardFile}
-use Rattle.cfg_records.specs.Sample.{IsSampleBoard}
 use Rattle.bmc_core.specs.declared.out.Out.{Out}
 use Rattle.bmc_core.specs.declared.port.At.{At}
 use Rattle.bmc_core.specs.declared.port.Port.{Port}
@@ -12,7 +11,7 @@ use Rattle.lab_model.specs.PortSteps.{quiet_port}
 use Rattle.bmc_core.specs.Port.{bus_of, Shows, Hears}
 use Rattle.bmc_lab.specs.declared.report.Report.{Report}
 use Rattle.bmc_lab.specs.Report.{text_of, status_of}
-use Rattle.bmc_lab.specs.Run.{controller, IsFresh, Tells}
+use Rattle.bmc_lab.specs.Run.{controller, IsBoardOf, IsFresh, Tells}
 
 -- a port that is made for the controller's place is fresh
 pub is_fresh : (port : Port) (bus : Bus) (at : At) → at ≡ controller → bus_of port ≡ bus → Shows port (quiet_port at.wire at.eid) → IsFresh bus port
@@ -29,7 +28,7 @@ as_opened port setup file before bytes out next after same begins heard =
     (subst (λ (s : State). Hears setup port s bytes out next after) begins heard)
 
 -- a report of what the port did tells it
-pub told : {E : Type 0} (r : Result Report E) (bus : Bus) (bytes : List ℕ) (file : BoardFile) (port : Port) (out : Out) (next : Port) (after : State) → IsSampleBoard file → IsFresh bus port → Hears file port (opened file) bytes out next after
-    → IfOk r (λ report. string_bytes report.text ≡ text_of out) → IfOk r (λ report. report.status ≡ status_of (sent out)) → IfOk r (λ report. Tells bus bytes (string_bytes report.text) report.status)
-told (Ok report) bus bytes file port out next after is_sample is_new is_heard is_said is_ended = record { file = file; sample = is_sample; port = port; fresh = is_new; out = out; next = next; after = after; heard = is_heard; said = is_said; ended = is_ended }
-told (Err e) bus bytes file port out next after is_sample is_new is_heard is_said is_ended = tt
+pub told : {E : Type 0} (r : Result Report E) (board : Option (List ℕ)) (bus : Bus) (bytes : List ℕ) (file : BoardFile) (port : Port) (out : Out) (next : Port) (after : State) → IsBoardOf board file → IsFresh bus port → Hears file port (opened file) bytes out next after
+    → IfOk r (λ report. string_bytes report.text ≡ text_of out) → IfOk r (λ report. report.status ≡ status_of (sent out)) → IfOk r (λ report. Tells board bus bytes (string_bytes report.text) report.status)
+told (Ok report) board bus bytes file port out next after is_board is_new is_heard is_said is_ended = record { file = file; opens = is_board; port = port; fresh = is_new; out = out; next = next; after = after; heard = is_heard; said = is_said; ended = is_ended }
+told (Err e) board bus bytes file port out next after is_board is_new is_heard is_said is_ended = tt

@@ -7,14 +7,17 @@ use Rattle.bmc_core.specs.declared.out.Done.{Done}
 use Rattle.bmc_core.specs.declared.out.Done.TheVariants.{Ignored, Waiting, Answered, Repeated, Busy, Control}
 use Rattle.bmc_core.specs.Names.{reason_name}
 use Rattle.bmc_core.specs.Outs.{sent}
+use Rattle.plan_file.specs.declared.fault.FileFault.{FileFault}
+use Rattle.plan_file.specs.Names.{fault_name}
 use Rattle.bmc_lab.specs.declared.status.Status.{Status}
-use Rattle.bmc_lab.specs.declared.status.Status.TheVariants.{Sent, NotSent, RefusedWords, Memory, Output}
+use Rattle.bmc_lab.specs.declared.status.Status.TheVariants.{Sent, NotSent, RefusedWords, RefusedFile, Memory, Output}
 
 -- the status as the process gives it
 abbrev pub byte_of : Status → ℕ
 byte_of Sent = 0
 byte_of NotSent = 1
 byte_of RefusedWords = 2
+byte_of RefusedFile = 3
 byte_of Memory = 5
 byte_of Output = 6
 
@@ -34,6 +37,14 @@ done_line Control = []
 -- a line for each frame, and why nothing was sent
 abbrev pub text_of : Out → List ℕ
 text_of out = flat_map frame_line (sent out) ++ done_line out.done
+
+-- what is said of a file that can't be read, by the word that names it
+abbrev pub file_line : List ℕ → List ℕ
+file_line word = codes "file " ++ word ++ 10 ∷ []
+
+-- what is said of a board file that is refused
+abbrev pub board_line : FileFault → List ℕ
+board_line why = codes "board " ++ fault_name why ++ 10 ∷ []
 
 -- whether something was sent
 abbrev pub status_of : List (List ℕ) → Status

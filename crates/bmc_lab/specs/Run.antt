@@ -1,5 +1,5 @@
--- One frame sent to a fresh controller with the sample board.
-use Rattle.std.specs.Prelude.{◌≡◌, ℕ, List}
+-- One frame sent to a fresh controller.
+use Rattle.std.specs.Prelude.{◌≡◌, ◌≢◌, ℕ, List, Option, None, Some, Ok, Err}
 use Rattle.two_wire.specs.declared.Bus.{Bus}
 use Rattle.cfg_records.specs.declared.board_file.BoardFile.{BoardFile}
 use Rattle.cfg_records.specs.Sample.{IsSampleBoard}
@@ -10,8 +10,13 @@ use Rattle.bmc_board.specs.State.{State, opened}
 use Rattle.bmc_core.specs.Outs.{sent}
 use Rattle.lab_model.specs.PortSteps.{quiet_port}
 use Rattle.bmc_core.specs.Port.{bus_of, Shows, Hears}
+use Rattle.plan_file.specs.declared.fault.FileFault.{FileFault}
+use Rattle.plan_file.specs.Holds.{Reads}
+use Rattle.bmc_lab.specs.declared.console.Stream.{Stream}
+use Rattle.bmc_lab.specs.declared.console.Stream.TheVariants.{Output, Error}
 use Rattle.bmc_lab.specs.declared.status.Status.{Status}
-use Rattle.bmc_lab.specs.Report.{text_of, status_of}
+use Rattle.bmc_lab.specs.declared.status.Status.TheVariants.{RefusedFile}
+use Rattle.bmc_lab.specs.Report.{text_of, status_of, board_line}
 
 -- the controller is at 20h, with EID 0Ah
 abbrev pub controller : At
@@ -22,10 +27,20 @@ pub record IsFresh (bus : Bus) (port : Port) : Type 0 where
   pub stands_on : bus_of port ≡ bus
   pub quiet : Shows port (quiet_port controller.wire controller.eid)
 
--- what is said of the bytes: what a fresh controller with the sample board does with them where it hears them on the bus
-pub record Tells (bus : Bus) (bytes text : List ℕ) (status : Status) : Type 0 where
+-- the board is the one that the file's text holds, or the sample board where no file is given
+abbrev pub IsBoardOf : Option (List ℕ) → BoardFile → Type 0
+IsBoardOf None file = IsSampleBoard file
+IsBoardOf (Some text) file = Reads text (Ok file)
+
+-- the file's text holds no board, for this fault
+abbrev pub IsFaultOf : Option (List ℕ) → FileFault → Type 0
+IsFaultOf None why = ⊥
+IsFaultOf (Some text) why = Reads text (Err why)
+
+-- what is said of the bytes: what a fresh controller with the board does with them where it hears them on the bus
+pub record Tells (board : Option (List ℕ)) (bus : Bus) (bytes text : List ℕ) (status : Status) : Type 0 where
   pub file : BoardFile
-  pub sample : IsSampleBoard file
+  pub opens : IsBoardOf board file
   pub port : Port
   pub fresh : IsFresh bus port
   pub out : Out
@@ -34,3 +49,8 @@ pub record Tells (bus : Bus) (bytes text : List ℕ) (status : Status) : Type 0 
   pub heard : Hears file port (opened file) bytes out next after
   pub said : text ≡ text_of out
   pub ended : status ≡ status_of (sent out)
+
+-- what a run says, and where: on standard output what the controller did, or on standard error why the file holds no board
+abbrev pub Says : Option (List ℕ) → Bus → List ℕ → Stream → List ℕ → Status → Type 0
+Says board bus bytes Output text status = Tells board bus bytes text status
+Says board bus bytes Error text status = (why : FileFault) × IsFaultOf board why × (text ≡ board_line why) × (status ≡ RefusedFile)

@@ -34,7 +34,7 @@ impl<'a> Ending<'a> {
     {
         match report {
             Ok(report) => Ending {
-                stream: Stream::Output,
+                stream: report.stream,
                 text: report.text.as_bytes(),
                 status: report.status,
             },

@@ -1,17 +1,21 @@
-//! `bmclab frame`: one frame to a fresh controller with the sample board.
-ghost use Rattle.std.specs.Prelude.{◌≡◌, ◌⊎◌, ℕ, List, IfOk, codes, string_bytes};
+//! `bmclab frame`: one frame to a fresh controller with a board.
+ghost use Rattle.std.specs.Prelude.{◌≡◌, ◌⊎◌, ℕ, List, Option, IfOk, IfErr, codes, string_bytes};
+ghost use Rattle.std.specs.Option.{option_copied};
 ghost use Rattle.std.specs.Io.KnownBytes.{Appends, Keeps};
+ghost use Rattle.bmc_lab.specs.declared.console.Stream.{Stream as AnyStream};
+ghost use Rattle.bmc_lab.specs.declared.console.Stream.TheVariants.{Output};
 ghost use Rattle.bmc_lab.specs.declared.status.Status.{Status as End};
-ghost use Rattle.bmc_lab.specs.Console.{HasFailed};
+ghost use Rattle.bmc_lab.specs.Console.{HasFailed, Written};
 ghost use Rattle.bmc_lab.specs.Report.{byte_of};
-ghost use Rattle.bmc_lab.specs.Run.{controller, Tells};
+ghost use Rattle.bmc_lab.specs.Run.{controller, IsBoardOf, IsFaultOf, Tells, Says};
 
 use crate::console::Console;
 use crate::ending::Ending;
 use crate::report::Report;
 use bmc_core::{At, Board, Out, Port};
-use cfg_records::{PlainStore, sample_board};
+use cfg_records::{BoardFile, PlainStore, sample_board};
 use mctp_net::EndpointId;
+use plan_file::{FileFault, read_board};
 use std::alloc::{AllocError, Global};
 use std::io;
 use two_wire::{Address, Bus};
@@ -32,11 +36,30 @@ fn controller_place() -> At
     }
 }
 
-/// What a fresh controller with the sample board does with the bytes where it hears them on the bus.
-fn frame_report(alloc: Global, bus: Bus, bytes: &[u8]) -> Result<Report, AllocError>
-    ensures { IfOk result (λ report. Tells bus bytes.now (string_bytes report.text) report.status) }
+/// The board of the file's text, or the sample board where no file is given.
+fn board_file(alloc: Global, board: Option<&str>) -> Result<BoardFile, FileFault>
+    ensures file { IfOk result (IsBoardOf (option_copied board.entry)) }
+    ensures fault { IfErr result (λ why. (why ≡ FileFault.Memory) ⊎ IsFaultOf (option_copied board.entry) why) }
 {
-    let file = sample_board(alloc)?;
+    match board {
+        Some(text) => read_board(alloc, text),
+        None => match sample_board(alloc) {
+            Ok(file) => Ok(file),
+            Err(_) => Err(FileFault::Memory),
+        },
+    }
+}
+
+/// What a fresh controller with the file's board does with the bytes where it hears them on the bus.
+fn heard_report(
+    alloc: Global,
+    file: BoardFile,
+    bus: Bus,
+    bytes: &[u8],
+) -> Result<Report, AllocError>
+    ensures stream { IfOk result (λ report. report.stream ≡ Output) }
+    ensures told { (board : Option (List ℕ)) → IsBoardOf board file → IfOk result (λ report. Tells board bus bytes.now (string_bytes report.text) report.status) }
+{
     let store = PlainStore::of_file(alloc, &file)?;
     let mut board = Board::open(alloc, file, store)?;
     let mut port = Port::new(alloc, bus, controller_place())?;
@@ -45,21 +68,38 @@ fn frame_report(alloc: Global, bus: Bus, bytes: &[u8]) -> Result<Report, AllocEr
     Report::new(alloc, &out)
 }
 
-/// Sends one frame to a fresh controller with the sample board. Writes each reply frame to standard output in upper-case
-/// hexadecimal on a line, or `ignored` and the reason's name, or `waiting` where others of its message are to come, and gives the
-/// status: 0 where a frame was sent, 1 where none was, 5 with `memory` on standard error where memory was refused, and 6 where a
-/// write failed.
+/// What a fresh controller with the board does with the bytes, or why the file holds no board.
+fn frame_report(
+    alloc: Global,
+    bus: Bus,
+    board: Option<&str>,
+    bytes: &[u8],
+) -> Result<Report, AllocError>
+    ensures { IfOk result (λ report. Says (option_copied board.entry) bus bytes.now report.stream (string_bytes report.text) report.status) }
+{
+    match board_file(alloc, board) {
+        Ok(file) => heard_report(alloc, file, bus, bytes),
+        Err(FileFault::Memory) => Err(AllocError),
+        Err(why) => Report::of_board(alloc, why),
+    }
+}
+
+/// Sends one frame to a fresh controller with the board of this file's text, or with the sample board. Writes each reply frame to
+/// standard output in upper-case hexadecimal on a line, or `ignored` and the reason's name, or `waiting` where others of its
+/// message are to come, and gives the status: 0 where a frame was sent, 1 where none was, 3 with `board` and the fault on standard
+/// error where the text holds no board, 5 with `memory` on standard error where memory was refused, and 6 where a write failed.
 pub fn frame_run<W: io::Write, E: io::Write>(
     alloc: Global,
     bus: Bus,
+    board: Option<&str>,
     bytes: &[u8],
     console: &mut Console<W, E>,
 ) -> u8
     ensures { ((result ≡ 6) × HasFailed console.new)
         ⊎ (((result ≡ 5) × Appends (E.contents console.old.err) (E.contents console.new.err) (codes "memory\n") × Keeps (W.contents console.old.out) (W.contents console.new.out))
-        ⊎ ((text : List ℕ) × (status : End) × Tells bus bytes.now text status × (result ≡ byte_of status)
-        × Appends (W.contents console.old.out) (W.contents console.new.out) text × Keeps (E.contents console.old.err) (E.contents console.new.err))) }
+        ⊎ ((stream : AnyStream) × (text : List ℕ) × (status : End) × Says (option_copied board.entry) bus bytes.now stream text status × (result ≡ byte_of status)
+        × Written stream text (W.contents console.old.out) (W.contents console.new.out) (E.contents console.old.err) (E.contents console.new.err))) }
 {
-    let report = frame_report(alloc, bus, bytes);
+    let report = frame_report(alloc, bus, board, bytes);
     u8::from(Ending::of(&report).write(console))
 }

@@ -1,16 +1,19 @@
 //! What a run says.
 ghost use Rattle.std.specs.Prelude.{◌≡◌, ◌++◌, IfOk, OnOk, string_bytes};
 ghost use Rattle.bmc_core.specs.Outs.{sent};
-ghost use Rattle.bmc_lab.specs.Report.{status_of, frame_line, text_of};
+ghost use Rattle.bmc_lab.specs.Report.{status_of, frame_line, text_of, file_line, board_line};
 
+use crate::console::Stream;
 use crate::status::Status;
 use bmc_core::{Done, Out};
+use plan_file::FileFault;
 use std::alloc::{AllocError, Global};
 use two_wire::Frame;
 
-/// The lines that a run writes, and how it ends.
+/// The lines that a run writes, where it writes them, and how it ends.
 #[derive(Debug, Drop)]
 pub struct Report {
+    pub stream: Stream,
     pub text: String,
     pub status: Status,
 }
@@ -38,6 +41,7 @@ impl Report {
     /// What is said of what a port did: a line for each frame that it sent, and why it ignored what it heard, or that it waits for
     /// the rest of a message.
     pub fn new(alloc: Global, out: &Out) -> Result<Report, AllocError>
+        ensures stream { IfOk result (λ report. report.stream ≡ Stream.Output) }
         ensures text { IfOk result (λ report. string_bytes report.text ≡ text_of out.now) }
         ensures status { IfOk result (λ report. report.status ≡ status_of (sent out.now)) }
     {
@@ -51,8 +55,39 @@ impl Report {
             Done::Answered | Done::Repeated | Done::Busy | Done::Control => {}
         }
         Ok(Report {
+            stream: Stream::Output,
             text,
             status: status(out),
+        })
+    }
+
+    /// What is said of a file that can't be read: `file` and the word that names it.
+    pub fn of_file(alloc: Global, word: &str) -> Result<Report, AllocError>
+        ensures stream { IfOk result (λ report. report.stream ≡ Stream.Error) }
+        ensures text { IfOk result (λ report. string_bytes report.text ≡ file_line word.now) }
+        ensures status { IfOk result (λ report. report.status ≡ Status.RefusedFile) }
+    {
+        let mut text = String::new(alloc);
+        writeln!(text, "file {word}")?;
+        Ok(Report {
+            stream: Stream::Error,
+            text,
+            status: Status::RefusedFile,
+        })
+    }
+
+    /// What is said of a board file that is refused: `board` and the fault.
+    pub fn of_board(alloc: Global, why: FileFault) -> Result<Report, AllocError>
+        ensures stream { IfOk result (λ report. report.stream ≡ Stream.Error) }
+        ensures text { IfOk result (λ report. string_bytes report.text ≡ board_line why) }
+        ensures status { IfOk result (λ report. report.status ≡ Status.RefusedFile) }
+    {
+        let mut text = String::new(alloc);
+        writeln!(text, "board {why}")?;
+        Ok(Report {
+            stream: Stream::Error,
+            text,
+            status: Status::RefusedFile,
         })
     }
 }

@@ -9,6 +9,8 @@ pub enum Status {
     NotSent = 1,
     /// The words of the command line were refused.
     RefusedWords = 2,
+    /// A file was refused.
+    RefusedFile = 3,
     /// Memory was refused.
     Memory = 5,
     /// Writing to standard output or standard error failed.

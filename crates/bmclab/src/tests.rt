@@ -1,12 +1,12 @@
 //! The words of the command line, as the program gets them.
-use crate::words::read;
-use bmc_lab::{AskedFrame, Status};
+use crate::words::{FrameWords, read};
+use bmc_lab::Status;
 use std::alloc::{AllocError, Global};
 use std::test::Fail;
 use two_wire::Bus;
 
 /// What the words name that follow the program's name.
-fn named(alloc: Global, words: &[&str]) -> Result<Result<AskedFrame, Status>, AllocError> {
+fn named(alloc: Global, words: &[&str]) -> Result<Result<FrameWords, Status>, AllocError> {
     let mut line = vec![in alloc; String::from_str(alloc, "bmclab")?]?;
     for word in words {
         line.push(String::from_str(alloc, *word)?)?;
@@ -23,9 +23,10 @@ fn the_bus_is_the_one_that_is_named(rt: HostRuntime) -> Result<(), Fail> {
         (&["frame", "--bus=smbus", "2018"], Bus::Smbus),
         (&["frame", "2018", "--bus", "smbus"], Bus::Smbus),
     ] {
-        let Ok(frame) = named(rt.alloc(), words)? else {
+        let Ok(FrameWords { board, frame }) = named(rt.alloc(), words)? else {
             return Err("refused".into());
         };
+        assert!(rt; board.is_none(), "{words:?}");
         assert_eq!(rt; frame.bus, bus, "{words:?}");
         assert_eq!(rt;
             frame.bytes.as_slice(),
@@ -43,6 +44,17 @@ fn other_lines_are_refused(rt: HostRuntime) -> Result<(), Fail> {
         &["frame"],
         &["frame", "--bus", "can", "2018"],
         &["frame", "--bus"],
+        &["frame", "--board"],
+        &["frame", "--board", "sample.toml"],
+        &[
+            "frame",
+            "--board",
+            "sample.toml",
+            "--board",
+            "sample.toml",
+            "2018",
+        ],
+        &["frame", "--board", "sample.toml", "201"],
         &["frame", "2018", "2018"],
         &["frame", "--lun", "0", "2018"],
         &["send", "2018"],
@@ -51,6 +63,26 @@ fn other_lines_are_refused(rt: HostRuntime) -> Result<(), Fail> {
     ] {
         let refusal = named(rt.alloc(), words)?.err();
         assert_eq!(rt; refusal, Some(Status::RefusedWords), "{words:?}");
+    }
+    Ok(())
+}
+
+#[test]
+fn the_board_file_is_the_one_that_is_named(rt: HostRuntime) -> Result<(), Fail> {
+    for words in [
+        &["frame", "--board", "sample.toml", "2018"][..],
+        &["frame", "--board=sample.toml", "2018"],
+        &["frame", "2018", "--board", "sample.toml"],
+        &["frame", "--bus", "ipmb", "--board", "sample.toml", "2018"],
+    ] {
+        let Ok(FrameWords { board, frame }) = named(rt.alloc(), words)? else {
+            return Err("refused".into());
+        };
+        let Some(word) = board else {
+            return Err("no file".into());
+        };
+        assert_eq!(rt; word.as_str(), "sample.toml", "{words:?}");
+        assert_eq!(rt; frame.bus, Bus::Ipmb, "{words:?}");
     }
     Ok(())
 }

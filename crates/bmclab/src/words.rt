@@ -6,11 +6,20 @@ use std::alloc::{AllocError, Global};
 use std::rt::Env;
 use std::{env, io};
 
-/// `bmclab frame [--bus ipmb|smbus] HEX`.
+/// What the words of `bmclab frame` ask for.
+#[derive(Debug, Drop)]
+pub struct FrameWords {
+    /// The word of the board file, where one is given.
+    pub board: Option<String>,
+    pub frame: AskedFrame,
+}
+
+/// `bmclab frame [--bus ipmb|smbus] [--board FILE] HEX`.
 fn command<'a>(alloc: Global) -> Result<Command<'a>, AllocError> {
     let hex = Arg::new(alloc, "HEX").required(true);
     let bus = Arg::new(alloc, "bus").long("bus");
-    let frame = Command::new(alloc, "frame").arg(bus)?.arg(hex)?;
+    let board = Arg::new(alloc, "board").long("board");
+    let frame = Command::new(alloc, "frame").arg(bus)?.arg(board)?.arg(hex)?;
     Command::new(alloc, "bmclab")
         .subcommand_required(true)
         .subcommand(frame)
@@ -24,8 +33,8 @@ fn refusal(error: &Error) -> Status {
     }
 }
 
-/// The frame that the words name, the program's own name first among them.
-pub fn read(alloc: Global, words: &[String]) -> Result<AskedFrame, Status> {
+/// What the words ask for, the program's own name first among them.
+pub fn read(alloc: Global, words: &[String]) -> Result<FrameWords, Status> {
     let Ok(command) = command(alloc) else {
         return Err(Status::Memory);
     };
@@ -39,11 +48,19 @@ pub fn read(alloc: Global, words: &[String]) -> Result<AskedFrame, Status> {
     let Some(digits) = frame.get_str("HEX") else {
         return Err(Status::RefusedWords);
     };
-    asked_frame(alloc, frame.get_str("bus"), digits)
+    let board = match frame.get_str("board") {
+        Some(word) => match String::from_str(alloc, word) {
+            Ok(word) => Some(word),
+            Err(_) => return Err(Status::Memory),
+        },
+        None => None,
+    };
+    let frame = asked_frame(alloc, frame.get_str("bus"), digits)?;
+    Ok(FrameWords { board, frame })
 }
 
-/// The frame that the program is to send.
-pub fn asked<R: Env + AllocGlobal>(rt: &R) -> Result<AskedFrame, Status> {
+/// What the program is asked for.
+pub fn asked<R: Env + AllocGlobal>(rt: &R) -> Result<FrameWords, Status> {
     let args = match env::args(rt) {
         Ok(args) => args,
         Err(error) if error.kind() == io::ErrorKind::OutOfMemory => return Err(Status::Memory),

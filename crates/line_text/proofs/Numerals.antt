@@ -30,12 +30,13 @@ no_lead word (suc n) low nought long e =
 
 -- what a word without a sign and a leading 0 is parsed as
 pub plain : {E : Type 0} (word : List ℕ) (r : Result ℕ E) → ParsesUnsigned 32 10 word r → get_or word 0 0 ≢ 43 → (get_or word 0 0 ≡ 48 → length word ≤ 1)
-    → IfSome (result_ok r) (λ n. word ≡ decimal n) × IfNone (result_ok r) ((n : ℕ) → n < 2 ^ 32 → word ≢ decimal n)
+    → IfSome (result_ok r) (λ n. (n < 2 ^ 32) × (word ≡ decimal n)) × IfNone (result_ok r) ((n : ℕ) → n < 2 ^ 32 → word ≢ decimal n)
 plain {E = E} word (Ok n) h sign lead =
     let p = parse_plain own {E = E} 32 word (Ok n) h sign in
     let some : 0 < length word = p.0.1 in
     let same = decimal-digits_value own word p.0.0 some (λ z. (let short = lead z in omega (arith, short, some))) (omega (arith, p.0.2)) in
-    (sym (ap decimal p.1 ∙ same), tt)
+    let low : n < 2 ^ 32 = omega (arith, p.0.2, p.1) in
+    ((low, sym (ap decimal p.1 ∙ same)), tt)
 plain word (Err e) h sign lead = (tt, λ n low same. (let found = parse-decimal 32 n word (Err e) low (omega (arith, low)) same h in cc found))
 
 -- what a short word without a sign is parsed as

@@ -17,7 +17,7 @@ fn begins_with(word: &str, first: u8) -> bool
 
 /// The number that the word is in decimal digits, of which the first is 0 only where it's the only one.
 pub fn plain_number(word: &str) -> Option<u32>
-    ensures some { IfSome result (λ number. word.now ≡ decimal number) }
+    ensures some { IfSome result (λ number. (number < 2 ^ 32) × (word.now ≡ decimal number)) }
     ensures none { IfNone result ((number : ℕ) → number < 2 ^ 32 → word.now ≢ decimal number) }
 {
     if begins_with(word, b'+') {

@@ -6,3 +6,5 @@ pub mod Events
 pub mod Sensors
 pub mod Changes
 pub mod Steps
+pub mod UndoLines
+pub mod UndoLists

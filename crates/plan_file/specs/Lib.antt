@@ -8,3 +8,5 @@ pub mod Kinds
 pub mod PlanNames
 pub mod PlanFaults
 pub mod PlanHolds
+pub mod UndoText
+pub mod UndoNames

@@ -1,4 +1,4 @@
-//! The texts of board files and of plans.
+//! The texts of board files, of plans and of undo lists.
 #![tactic(auto)]
 
 mod board;
@@ -17,6 +17,11 @@ mod step;
 #[cfg(test)]
 mod tests;
 mod tree;
+mod undo_laws;
+mod undo_line;
+#[cfg(test)]
+mod undo_tests;
+mod undo_text;
 
 pub use board::read_board;
 pub use fault::{FieldFault, FileFault, Item, Place};
@@ -25,3 +30,5 @@ pub use kind::Kind;
 pub use plan::read_plan;
 pub use plan_fault::{NoGet, OutsidePlan, PlanFault, StepFault};
 pub use row::{DEVICE, Need, PLAN, Row, SENSOR, Shape, TOP};
+pub use undo_laws::one_undo_list;
+pub use undo_text::{UndoFault, read_undo, write_undo};

@@ -1,6 +1,6 @@
 //! What a run writes, and how it ends.
 use super::smbus::FIRST;
-use crate::{Console, Ending, Status, Stream, asked_frame, frame_run};
+use crate::{Console, Ending, Report, Status, Stream, asked_frame, frame_run};
 use std::alloc::{AllocError, Global};
 use std::io;
 use std::process::Abort;
@@ -51,7 +51,7 @@ fn expect_run(
 ) -> Result<(), Fail> {
     let bytes = hex::decode(alloc, digits)?;
     let mut console = Console::new(new_paper(alloc, None), new_paper(alloc, None));
-    let ended = frame_run(alloc, bus, bytes.as_slice(), &mut console);
+    let ended = frame_run(alloc, bus, None, bytes.as_slice(), &mut console);
     assert_eq!(rt; ended, status, "{digits}");
     assert_eq!(rt; console.out.text.as_slice(), text.as_bytes(), "{digits}");
     assert!(rt; console.err.text.is_empty(), "{digits}");
@@ -115,6 +115,118 @@ fn a_run_says_what_was_sent_or_why_nothing_was(rt: HostRuntime) -> Result<(), Fa
     Ok(())
 }
 
+/// The sample board's file.
+const SAMPLE: &str = "tid = 5
+policy = 1
+watchdog = [0, 0, 0, 0]
+[device]
+id = 0x20
+revision = 1
+major = 1
+minor = 0x05
+support = 0x07
+manufacturer = 0xABCD
+product = 0x1234
+[[sensor]]
+number = 5
+readable = 0x3F
+settable = 0x3F
+thresholds = [0x14, 0x0A, 0x05, 0x50, 0x5F, 0x6E]
+hysteresis = [2, 2]
+supported = 0xFFF
+flags = 0xC0
+assert = 0x200
+deassert = 0
+[[sensor]]
+number = 7
+readable = 0x18
+settable = 0x38
+thresholds = [0, 0, 0, 0x90, 0xA0, 0xB0]
+hysteresis = [0, 0]
+supported = 0xFC0
+flags = 0
+assert = 0
+deassert = 0
+";
+
+/// The sample board's file, with the first such words in place of others.
+fn changed(alloc: Global, old: &str, new: &str) -> Result<String, Fail> {
+    let (front, back) = SAMPLE.split_once(old).ok_or("not in the file")?;
+    let mut text = String::from_str(alloc, front)?;
+    text.push_str(new)?;
+    text.push_str(back)?;
+    Ok(text)
+}
+
+#[test]
+fn sample_file_is_answered_for_as_the_sample_board(rt: HostRuntime) -> Result<(), Fail> {
+    for (bus, digits) in [
+        (Bus::Ipmb, "2018C82C0001D3"),
+        (Bus::Ipmb, "2010D02C0C27059C"),
+        (Bus::Ipmb, "2010D02C08260510000000005A0037"),
+        (Bus::Smbus, "200F0931010A08C801800002BE"),
+    ] {
+        let bytes = hex::decode(rt.alloc(), digits)?;
+        let mut given = Console::new(new_paper(rt.alloc(), None), new_paper(rt.alloc(), None));
+        let mut left_out = Console::new(new_paper(rt.alloc(), None), new_paper(rt.alloc(), None));
+        let file = Some(SAMPLE);
+        let ended = frame_run(rt.alloc(), bus, file, bytes.as_slice(), &mut given);
+        let other = frame_run(rt.alloc(), bus, None, bytes.as_slice(), &mut left_out);
+        assert_eq!(rt; ended, 0, "{digits}");
+        assert_eq!(rt; other, 0, "{digits}");
+        let text = left_out.out.text.as_slice();
+        assert_eq!(rt; given.out.text.as_slice(), text, "{digits}");
+        assert!(rt; given.err.text.is_empty(), "{digits}");
+    }
+    Ok(())
+}
+
+#[test]
+fn board_of_the_file_is_the_one_that_answers(rt: HostRuntime) -> Result<(), Fail> {
+    // Get Device ID shows the file's device.
+    let bytes = hex::decode(rt.alloc(), "2018C82C0001D3")?;
+    let file = changed(rt.alloc(), "id = 0x20", "id = 0x21")?;
+    let mut console = Console::new(new_paper(rt.alloc(), None), new_paper(rt.alloc(), None));
+    let file = Some(file.as_str());
+    let ended = frame_run(rt.alloc(), Bus::Ipmb, file, bytes.as_slice(), &mut console);
+    assert_eq!(rt; ended, 0);
+    let line = b"2C1CB820000100210101050207CDAB003412F0\n";
+    assert_eq!(rt; console.out.text.as_slice(), line.as_slice());
+    Ok(())
+}
+
+#[test]
+fn file_without_a_board_is_refused_by_its_first_fault(rt: HostRuntime) -> Result<(), Fail> {
+    for (old, new, line) in [
+        ("policy = 1", "policy = 4", "board Range top policy\n"),
+        ("number = 7", "number = 5", "board Twice sensor 1 number\n"),
+        ("[device]", "[other]", "board Missing top device\n"),
+        ("id = 0x20", "id = true", "board WrongType device id\n"),
+        ("tid = 5", "tid = ", "board Text\n"),
+    ] {
+        let bytes = hex::decode(rt.alloc(), "2018C82C0001D3")?;
+        let file = changed(rt.alloc(), old, new)?;
+        let mut console = Console::new(new_paper(rt.alloc(), None), new_paper(rt.alloc(), None));
+        let file = Some(file.as_str());
+        let ended = frame_run(rt.alloc(), Bus::Ipmb, file, bytes.as_slice(), &mut console);
+        assert_eq!(rt; ended, 3, "{new}");
+        assert_eq!(rt; console.err.text.as_slice(), line.as_bytes(), "{new}");
+        assert!(rt; console.out.text.is_empty(), "{new}");
+    }
+    Ok(())
+}
+
+#[test]
+fn file_that_is_not_read_is_named(rt: HostRuntime) -> Result<(), Fail> {
+    let report = Report::of_file(rt.alloc(), "no.toml");
+    let mut console = Console::new(new_paper(rt.alloc(), None), new_paper(rt.alloc(), None));
+    let ended = Ending::of(&report).write(&mut console);
+    assert_eq!(rt; ended, Status::RefusedFile);
+    assert_eq!(rt; console.err.text.as_slice(), b"file no.toml\n".as_slice());
+    assert!(rt; console.out.text.is_empty());
+    Ok(())
+}
+
 #[test]
 fn a_write_that_fails_ends_a_run_with_6_and_is_not_repeated(rt: HostRuntime) -> Result<(), Fail> {
     let bytes = hex::decode(rt.alloc(), "2010D02C08260510000000005A0037")?;
@@ -125,7 +237,7 @@ fn a_write_that_fails_ends_a_run_with_6_and_is_not_repeated(rt: HostRuntime) -> 
             new_paper(rt.alloc(), Some(left)),
             new_paper(rt.alloc(), None),
         );
-        let ended = frame_run(rt.alloc(), Bus::Ipmb, bytes.as_slice(), &mut console);
+        let ended = frame_run(rt.alloc(), Bus::Ipmb, None, bytes.as_slice(), &mut console);
         assert_eq!(rt; ended, status, "with {left} calls");
         assert_eq!(rt;
             console.out.text.as_slice(),

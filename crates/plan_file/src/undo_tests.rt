@@ -1,0 +1,201 @@
+//! Undo texts: the list of a plan of two steps on thresholds, and bad lines.
+use crate::{UndoFault, read_undo, write_undo};
+use cfg_records::Asked;
+use plans::{NextNumbers, Requests, UndoList};
+use std::alloc::{AllocError, Global};
+use std::test::Fail;
+use two_wire::{Below, NetFn};
+
+/// The text of a plan that sets upper thresholds of sensor 5 twice.
+const TEXT: &str =
+    "undo 1\nnext ipmb 4 smbus 0\nipmb 10260530000000005A6E\nipmb 10260518000000505F00\n";
+
+/// The request that undoes the first step: upper non-critical 50h, upper critical 5Fh.
+const FIRST: [u8; 8] = [0x05, 0x18, 0x00, 0x00, 0x00, 0x50, 0x5F, 0x00];
+
+/// The request that undoes the second step: upper critical 5Ah, upper non-recoverable 6Eh.
+const SECOND: [u8; 8] = [0x05, 0x30, 0x00, 0x00, 0x00, 0x00, 0x5A, 0x6E];
+
+fn set_thresholds(body: &[u8]) -> Asked {
+    Asked::ipmi(NetFn::new(0x04), 0x26, body)
+}
+
+/// The list of that plan.
+fn list(alloc: Global) -> Result<UndoList, AllocError> {
+    let mut requests = Requests::new(alloc)?;
+    requests.push(set_thresholds(&FIRST));
+    requests.push(set_thresholds(&SECOND));
+    Ok(UndoList {
+        requests,
+        next: NextNumbers {
+            ipmb: Below::new(4),
+            smbus: Below::new(0),
+        },
+    })
+}
+
+/// What the text is refused for.
+fn fault(alloc: Global, text: &str) -> Option<UndoFault> {
+    read_undo(alloc, text).err()
+}
+
+#[test]
+fn list_of_two_steps_is_written(rt: HostRuntime) -> Result<(), Fail> {
+    let text = write_undo(rt.alloc(), &list(rt.alloc())?)?;
+    assert_eq!(rt; text.as_str(), TEXT);
+    Ok(())
+}
+
+#[test]
+fn text_is_read_as_its_list(rt: HostRuntime) -> Result<(), Fail> {
+    for text in [
+        TEXT,
+        "undo 1\nnext ipmb 4 smbus 0\nipmb 10260530000000005a6e\nipmb 10260518000000505f00\n",
+    ] {
+        let Ok(read) = read_undo(rt.alloc(), text) else {
+            return Err("refused".into());
+        };
+        let wanted = list(rt.alloc())?;
+        assert_eq!(rt; read.next, wanted.next);
+        assert_eq!(rt; read.requests.len(), 2);
+        for place in 0..2 {
+            let (Some(request), Some(other)) = (
+                read.requests.get(place),
+                wanted.requests.get(place),
+            ) else {
+                return Err("no request".into());
+            };
+            assert!(rt; request.is(other), "{place}");
+        }
+    }
+    Ok(())
+}
+
+#[test]
+fn empty_list_and_requests_of_both_buses_are_read(rt: HostRuntime) -> Result<(), Fail> {
+    for (text, count) in [
+        ("undo 1\nnext ipmb 0 smbus 0\n", 0),
+        (
+            "undo 1\nnext ipmb 63 smbus 31\nsmbus 0307000000000501000106007261636B2D31\n",
+            1,
+        ),
+        ("undo 1\nnext ipmb 63 smbus 31\nsmbus 3FFF\nipmb F8FF\n", 2),
+    ] {
+        let Ok(read) = read_undo(rt.alloc(), text) else {
+            return Err("refused".into());
+        };
+        assert_eq!(rt; read.requests.len(), count, "{text}");
+        let again = write_undo(rt.alloc(), &read)?;
+        assert_eq!(rt; again.as_str(), text);
+    }
+    Ok(())
+}
+
+#[test]
+fn first_bad_line_is_named(rt: HostRuntime) -> Result<(), Fail> {
+    for (text, line) in [
+        ("", 1),
+        ("undo 1", 1),
+        ("undo 2\nnext ipmb 4 smbus 0\n", 1),
+        ("Undo 1\nnext ipmb 4 smbus 0\n", 1),
+        ("undo 1\r\nnext ipmb 4 smbus 0\n", 1),
+        ("undo 1\n", 2),
+        ("undo 1\n\n", 2),
+        ("undo 1\nnext ipmb 4 smbus 0", 2),
+        ("undo 1\nnext ipmb 64 smbus 0\n", 2),
+        ("undo 1\nnext ipmb 4 smbus 32\n", 2),
+        ("undo 1\nnext ipmb 04 smbus 0\n", 2),
+        ("undo 1\nnext ipmb 4 smbus 00\n", 2),
+        ("undo 1\nnext ipmb +4 smbus 0\n", 2),
+        ("undo 1\nnext ipmb 4  smbus 0\n", 2),
+        ("undo 1\nnext ipmb 4 smbus 0 \n", 2),
+        ("undo 1\nnext ipmb  smbus 0\n", 2),
+        ("undo 1\nnext smbus 0 ipmb 4\n", 2),
+        ("undo 1\nnext ipmb 4 smbus 0\nusb 10260530000000005A6E\n", 3),
+        ("undo 1\nnext ipmb 4 smbus 0\n\n", 3),
+        ("undo 1\nnext ipmb 4 smbus 0\nipmb 10260530000000005A6E", 3),
+        ("undo 1\nnext ipmb 4 smbus 0\nipmb 10\n", 3),
+        ("undo 1\nnext ipmb 4 smbus 0\nipmb \n", 3),
+        ("undo 1\nnext ipmb 4 smbus 0\nipmb 102\n", 3),
+        ("undo 1\nnext ipmb 4 smbus 0\nipmb 1026 05\n", 3),
+        ("undo 1\nnext ipmb 4 smbus 0\nipmb 1126\n", 3),
+        ("undo 1\nnext ipmb 4 smbus 0\nipmb 1426\n", 3),
+        ("undo 1\nnext ipmb 4 smbus 0\nIPMB 1026\n", 3),
+        ("undo 1\nnext ipmb 4 smbus 0\nsmbus 03\n", 3),
+        ("undo 1\nnext ipmb 4 smbus 0\nsmbus 4307\n", 3),
+        ("undo 1\nnext ipmb 4 smbus 0\nipmb 1026\nsmbus 8307\n", 4),
+        ("undo 1\nnext ipmb 4 smbus 0\nipmb 1026\n ipmb 1026\n", 4),
+    ] {
+        let why = fault(rt.alloc(), text);
+        assert_eq!(rt; why, Some(UndoFault::Line(line)), "{text:?}");
+    }
+    Ok(())
+}
+
+/// A text of one request, which has so many bytes behind its first.
+fn text_of_length(
+    alloc: Global,
+    bus: &str,
+    first: &str,
+    more: usize,
+) -> Result<String, AllocError> {
+    let mut text = String::from_str(alloc, "undo 1\nnext ipmb 0 smbus 0\n")?;
+    text.push_str(bus)?;
+    text.push_str(" ")?;
+    text.push_str(first)?;
+    for _ in 0..more {
+        text.push_str("00")?;
+    }
+    text.push_str("\n")?;
+    Ok(text)
+}
+
+#[test]
+fn longest_requests_are_read(rt: HostRuntime) -> Result<(), Fail> {
+    for (bus, first, most) in [("ipmb", "F8", 26), ("smbus", "3F", 253)] {
+        let text = text_of_length(rt.alloc(), bus, first, most)?;
+        assert!(rt; fault(rt.alloc(), text.as_str()).is_none(), "{bus}");
+        let longer = text_of_length(rt.alloc(), bus, first, most + 1)?;
+        let why = fault(rt.alloc(), longer.as_str());
+        assert_eq!(rt; why, Some(UndoFault::Line(3)), "{bus}");
+    }
+    Ok(())
+}
+
+#[test]
+fn most_requests_are_256(rt: HostRuntime) -> Result<(), Fail> {
+    let mut text = String::from_str(rt.alloc(), "undo 1\nnext ipmb 0 smbus 0\n")?;
+    for _ in 0..256 {
+        text.push_str("ipmb 1026\n")?;
+    }
+    let Ok(read) = read_undo(rt.alloc(), text.as_str()) else {
+        return Err("refused".into());
+    };
+    assert_eq!(rt; read.requests.len(), 256);
+    text.push_str("ipmb 1026\n")?;
+    let why = fault(rt.alloc(), text.as_str());
+    assert_eq!(rt; why, Some(UndoFault::Line(259)));
+    Ok(())
+}
+
+#[test]
+fn every_prefix_is_refused_or_read(rt: HostRuntime) -> Result<(), Fail> {
+    let mut read = 0;
+    for end in 0..=TEXT.len() {
+        if let Some(prefix) = TEXT.get(..end) {
+            if fault(rt.alloc(), prefix).is_none() {
+                read += 1;
+            }
+        }
+    }
+    // Those that end behind lines 2, 3 and 4.
+    assert_eq!(rt; read, 3);
+    Ok(())
+}
+
+#[test]
+fn faults_are_named(rt: HostRuntime) -> Result<(), Fail> {
+    let line = format!(in rt.alloc(); "{}", UndoFault::Line(3))?;
+    assert_eq!(rt; line.as_str(), "Line 3");
+    Ok(())
+}
