@@ -213,20 +213,20 @@ module _ (setup : BoardFile) (names : Names) (plan : List Op) (start : Records) 
 
     -- a packet that isn't the controller's is nothing to the manager
     others_part : (f : LabFrame) → ComesFromAnother setup names f → Goes setup names x on (manager_does (P setup names) (manager_hears (P setup names) f.value m) x)
+    unfolding hears_packet
     others_part f other =
         subst (λ v. Goes setup names x on (manager_does (P setup names) (manager_hears (P setup names) v m) x)) (sym other.value)
         (rest_goes (hears_packet (P setup names) other.packet m) (by (heeded_on (P setup names) Smbus m.machine.stage) refl))
       where
-        middle : (a b c d : Bool) → b ≡ false → ((a && c) && (b && d)) ≡ false
-        middle true b true d e = ap (λ (t : Bool). t && d) e
-        middle true b false d e = refl
-        middle false b c d e = refl
+        middle : (a b c : Bool) → b ≡ false → (a && (b && c)) ≡ false
+        middle true b c e = ap (λ (t : Bool). t && c) e
+        middle false b c e = refl
 
         not_part : is_part m.names (open_count (P setup names) Smbus m) other.packet ≡ false
-        not_part = middle _ _ _ _ (ap (λ n. other.packet.envelope.source_eid == n.peer_eid) tied.named ∙ other.source)
+        not_part = middle (other.packet.envelope.destination == m.names.own_wire && other.packet.envelope.source == m.names.peer_wire) (other.packet.envelope.source_eid == m.names.peer_eid)
+            (not other.packet.envelope.tag_owner && other.packet.envelope.tag == open_count (P setup names) Smbus m % 8) (ap (λ n. other.packet.envelope.source_eid == n.peer_eid) tied.named ∙ other.source)
 
         by : (o : Option (TaskPart (words setup names))) → heeded_on (P setup names) Smbus m.machine.stage ≡ o → hears_packet (P setup names) other.packet m ≡ rests (P setup names) m
-        unfolding hears_packet
         by None e = ap (joins_for (P setup names) other.packet m) e
         by (Some part) e =
             ap (joins_for (P setup names) other.packet m) e
