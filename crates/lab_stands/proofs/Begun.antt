@@ -1,5 +1,5 @@
 -- A stage is entered, and its request, if it opens one, is sent.
-use Rattle.std.proofs.Common.{◌≡◌, ℕ, suc, zero, ◌+◌, ◌%◌, ◌≤◌, Bool, true, false, cond, List, [], ◌∷◌, ◌++◌, length, Option, Some, None, refl, sym, ◌∙◌, ap, subst, arith, ◌⊎◌, inl, inr}
+use Rattle.std.proofs.Common.{◌≡◌, ℕ, ◌+◌, ◌%◌, ◌≤◌, Bool, false, cond, List, [], ◌∷◌, ◌++◌, length, Option, Some, None, refl, sym, ◌∙◌, ap, subst, arith, ◌⊎◌, inl, inr}
 use Rattle.std.specs.Prelude.{slice_get}
 use Rattle.std.specs.Option.{option_map}
 use Rattle.std.proofs.lemmas.Bool.{le-ltb}
@@ -8,12 +8,11 @@ use Rattle.two_wire.specs.declared.Bus.TheVariants.{Ipmb, Smbus}
 use Rattle.cfg_records.specs.declared.message.Asked.{Asked}
 use Rattle.cfg_records.specs.declared.message.Asked.TheVariants.{Ipmi, Pldm}
 use Rattle.cfg_records.specs.declared.board_file.BoardFile.{BoardFile}
-use Rattle.bus_model.specs.Numbering.{Bus as Rules}
 use Rattle.bus_model.specs.BusState.{BusState, Ask, is_open, begins, sent, sends_again as sends_open}
 use Rattle.bus_model.specs.Request.{idles_of}
 use Rattle.bus_model.specs.Bytes.{IsRequestOn}
 use Rattle.bus_model.proofs.Lists.{one_more}
-use Rattle.undo_model.specs.Machine.{Counts, count_of, Task, Part, Stage, AtStart, Opened, AtEnd, AtHalt, AtUndone, AtRefused, Machine, Sending, sending, sends_at}
+use Rattle.undo_model.specs.Machine.{count_of, Part, Stage, AtStart, Opened, AtEnd, AtHalt, AtUndone, AtRefused, sending, sends_at}
 use Rattle.undo_model.specs.Words.{Words}
 use Rattle.undo_model.specs.Wires.{number_of, IsMade}
 use Rattle.undo_model.specs.World as world
@@ -26,8 +25,8 @@ use Rattle.plans.specs.declared.names.Names.{Names}
 use Rattle.undo_model.specs.TwoBuses.{Addresses}
 use Rattle.lab_model.specs.ManagerSteps.{Sent as SentFrames, addresses, values_of, sent_of}
 use Rattle.lab_model.specs.Lab.{ToPort, Lab, with_frames, sends}
-use Rattle.lab_stands.proofs.Made.{StageMade}
-use Rattle.lab_stands.proofs.Tied.{P, F, L, W, rules_on, requests, IsTied, world_of}
+use Rattle.lab_stands.specs.Made.{StageMade}
+use Rattle.lab_stands.specs.Tied.{P, F, L, W, rules_on, requests, IsTied, world_of}
 use Rattle.lab_stands.proofs.Sent.{put, IsSentTo, sent_tied}
 use Rattle.lab_stands.proofs.Sending.{from_zero}
 

@@ -1,6 +1,6 @@
 -- What the calls of a manager do in a lab, they do in the model's world.
-use Rattle.std.proofs.Common.{◌≡◌, ℕ, suc, zero, ◌+◌, ◌%◌, ◌≤◌, Bool, true, false, cond, List, [], ◌∷◌, ◌++◌, length, Option, Some, None, refl, sym, ◌∙◌, ap, subst, arith, inl, inr}
-use Rattle.std.specs.Prelude.{slice_get, nat_lt, if◌then◌else◌}
+use Rattle.std.proofs.Common.{◌≡◌, ◌+◌, Bool, true, false, List, [], ◌∷◌, length, Option, Some, None, refl, sym, ◌∙◌, ap, subst, arith}
+use Rattle.std.specs.Prelude.{slice_get, nat_lt}
 use Rattle.std.specs.Option.{option_map}
 use Rattle.std.proofs.lemmas.Bool.{cond_both}
 use Rattle.two_wire.specs.declared.Bus.{Bus}
@@ -9,40 +9,33 @@ use Rattle.cfg_records.specs.declared.op.Op.{Op}
 use Rattle.cfg_records.specs.declared.board_file.BoardFile.{BoardFile}
 use Rattle.cfg_records.specs.Records.{Records}
 use Rattle.mctp_net.specs.Assembly.{Assemblies, nothing, open_beside}
-use Rattle.bus_model.specs.PacketBus.{Ends, Plain, Clears}
-use Rattle.bus_model.specs.Packet.{packets_of}
-use Rattle.bus_model.proofs.Cutting.{packets_cut}
-use Rattle.undo_model.specs.Family.{Family}
-use Rattle.undo_model.specs.Machine.{count_of, Task, Gets, Sets, Undoes, Part, Stage, AtStart, Opened, AtEnd, AtHalt, AtUndone, AtRefused, Machine, Turn, sending, starts, undoes, quiets, agains, stops, first_stage, undo_stage, enters, bus_at}
+use Rattle.bus_model.specs.PacketBus.{Clears}
+use Rattle.undo_model.specs.Machine.{count_of, Task, Gets, Sets, Undoes, Part, Stage, AtStart, Opened, AtEnd, AtHalt, AtUndone, AtRefused, Machine, Turn, sending, starts, undoes, quiets, agains, stops, first_stage, undo_stage, enters}
 use Rattle.undo_model.specs.Joined.{IsClosed, AreOpen}
 use Rattle.undo_model.specs.World as world
 use Rattle.undo_model.specs.World.{States, World, Happening, Start, Quiet, Stop, Again, Undo, OnBus, update}
-use Rattle.undo_model.proofs.TwoBuses.{packet_lines}
-use Rattle.undo_model.proofs.World.{WorldHolds}
-use Rattle.undo_family.specs.Family.{bus_of, manager_words}
-use Rattle.undo_family.proofs.IsFamily.{is_family}
+use Rattle.undo_family.specs.Family.{bus_of}
 use Rattle.plans.specs.declared.names.Names.{Names}
 use Rattle.lab_model.specs.ManagerSteps.{Plans, ManagerState, addresses, goes_on, waits_after, Call, called, turn_of}
 use Rattle.lab_model.specs.ManagerSteps as manager
 use Rattle.lab_model.specs.ManagerEvents.{name_awaited}
 use Rattle.lab_model.specs.Lab.{Lab, call_does, sends}
-use Rattle.lab_stands.proofs.Made.{MachineMade, StageMade, IfMade, starts_made, undo_made, quiets_made, agains_made, stops_made}
+use Rattle.lab_stands.specs.Made.{MachineMade, StageMade}
+use Rattle.lab_stands.proofs.Made.{starts_made, undo_made}
 use Rattle.bus_model.specs.BusState.{BusState}
 use Rattle.bus_model.specs.Answering.{AreWritten}
 use Rattle.bus_model.proofs.Lists.{Grows}
 use Rattle.undo_family.specs.Spelled.{numbers_of}
+use Rattle.lab_stands.specs.Each.{Each}
 use Rattle.lab_stands.proofs.Frames.{all_held}
-use Rattle.lab_stands.proofs.Tied.{P, F, L, W, rules_on, requests, IsTied, world_of, Goes}
+use Rattle.lab_stands.specs.Follows.{Holds}
+use Rattle.lab_stands.specs.Tied.{P, F, L, W, rules_on, requests, EntryAnswers, IsTied, world_of, Goes}
 use Rattle.lab_stands.proofs.Begun.{own, words, NoneOpen, enter_tied, again_tied, same_world}
 
 module _ (setup : BoardFile) (names : Names) (plan : List Op) (start : Records) where
-  -- what holds of the model's world at every moment
-  abbrev pub Holds : World (F setup names) (L setup names) → Type 0
-  Holds w = WorldHolds (F setup names) (is_family setup (own setup names)) (L setup names) (packet_lines (own setup names) packets_of packets_cut) (W setup names) (λ bus. 0) plan start w
-
   -- ---- what is open
 
-  pub none_open : (x : Lab (P setup names)) (on : States (L setup names)) → Holds (world_of setup names x on) → ((bus : Bus) → IsClosed (requests setup names on bus)) → NoneOpen setup names on
+  pub none_open : (x : Lab (P setup names)) (on : States (L setup names)) → Holds setup names plan start (world_of setup names x on) → ((bus : Bus) → IsClosed (requests setup names on bus)) → NoneOpen setup names on
   none_open x on h closed bus =
       let order = h.joined.orderly bus in let a = order.answered in let b = order.below in let c = closed bus in omega arith
 
@@ -69,6 +62,7 @@ module _ (setup : BoardFile) (names : Names) (plan : List Op) (start : Records) 
     alone = subst (λ c. open_beside (name_awaited names (count_of Smbus c)) x.manager.joined ≡ 0) (sym same) tied.alone;
     counted = λ bus. ap (count_of bus) same ∙ tied.counted bus;
     written = tied.written;
+    answered = tied.answered;
     made = made;
     frames = tied.frames;
     opened = tied.opened;
@@ -76,7 +70,7 @@ module _ (setup : BoardFile) (names : Names) (plan : List Op) (start : Records) 
 
   -- ---- start
 
-  module _ (x : Lab (P setup names)) (on : States (L setup names)) (tied : IsTied setup names x on) (h : Holds (world_of setup names x on)) where
+  module _ (x : Lab (P setup names)) (on : States (L setup names)) (tied : IsTied setup names x on) (h : Holds setup names plan start (world_of setup names x on)) where
     abbrev machine : Machine (words setup names)
     machine = x.manager.machine
 
@@ -246,6 +240,7 @@ module _ (setup : BoardFile) (names : Names) (plan : List Op) (start : Records) 
       alone = cc;
       counted = by_bus (λ bus s. count_of bus machine.counts ≡ length s.taken) tied.counted;
       written = by_bus (λ bus s. AreWritten (numbers_of bus) (rules_on setup names bus) s) tied.written;
+      answered = by_bus (λ bus s. Each (EntryAnswers setup names bus) s.log) tied.answered;
       made = tied.made;
       frames = all_held setup names on cleared x.frames (by_bus (λ bus s. Grows (requests setup names on bus).frames s.frames) (λ bus n f e. e)) tied.frames;
       opened = tied.opened;

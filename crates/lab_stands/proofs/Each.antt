@@ -1,11 +1,8 @@
--- What holds of each element of a list.
+-- What holds of each element of a list, there and on.
 use Rattle.std.proofs.Common.{◌≡◌, ℕ, suc, zero, List, [], ◌∷◌, ◌++◌, map, Some, refl, subst}
 use Rattle.std.specs.Prelude.{slice_get}
 use Rattle.std.proofs.lemmas.Option.{same_Some, none-some}
-
-abbrev pub Each : {X : Type 0} → (X → Type 0) → List X → Type 0
-Each Q [] = Unit {0}
-Each Q (x ∷ xs) = Q x × Each Q xs
+use Rattle.lab_stands.specs.Each.{Each}
 
 pub each_at : {X : Type 0} (Q : X → Type 0) (xs : List X) (n : ℕ) (x : X) → Each Q xs → slice_get xs n ≡ Some x → Q x
 each_at Q [] n x all e = absurd (none-some x e)

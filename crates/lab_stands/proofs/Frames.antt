@@ -1,6 +1,5 @@
 -- The frames of the model that hold a lab's frames go on holding them.
-use Rattle.std.proofs.Common.{◌≡◌, ℕ, suc, zero, List, [], ◌∷◌, ◌++◌, Some, refl, sym, ◌∙◌, ap, subst, inl, inr}
-use Rattle.std.specs.Prelude.{slice_get}
+use Rattle.std.proofs.Common.{ℕ, List, inl, inr}
 use Rattle.two_wire.specs.declared.Bus.{Bus}
 use Rattle.two_wire.specs.declared.Bus.TheVariants.{Ipmb, Smbus}
 use Rattle.cfg_records.specs.declared.board_file.BoardFile.{BoardFile}
@@ -9,8 +8,9 @@ use Rattle.bus_model.proofs.Lists.{Grows}
 use Rattle.undo_model.specs.World.{States}
 use Rattle.plans.specs.declared.names.Names.{Names}
 use Rattle.lab_model.specs.Lab.{Way, ToPort, ToManager, ToOthers, LabFrame}
-use Rattle.lab_stands.proofs.Each.{Each, each_imply}
-use Rattle.lab_stands.proofs.Tied.{L, IsHeldBy, IsHeld, IsOf, HoldsAskedPart, requests}
+use Rattle.lab_stands.specs.Each.{Each}
+use Rattle.lab_stands.proofs.Each.{each_imply}
+use Rattle.lab_stands.specs.Tied.{L, IsHeldBy, IsHeld, IsOf, requests}
 
 -- ---- what holds a frame holds it on
 
@@ -34,6 +34,10 @@ module _ (setup : BoardFile) (names : Names) where
     heard = h.heard;
     to_port = h.to_port;
     read = h.read;
+    number = h.number;
+    spelled = h.spelled;
+    responds = h.responds;
+    from_manager = h.from_manager;
   }
   held_by ToPort Smbus on now f more h = record {
     which = h.which;

@@ -1,6 +1,5 @@
 pub mod Each
 pub mod Made
-pub mod Tied
 pub mod Frames
 pub mod Sending
 pub mod Sent
@@ -10,3 +9,4 @@ pub mod Live
 pub mod Only
 pub mod Taken
 pub mod Returns
+pub mod Steps

@@ -1,26 +1,23 @@
 -- What is live in a lab is live in the model.
-use Rattle.std.proofs.Common.{◌≡◌, ℕ, suc, zero, ◌+◌, ◌<◌, ◌≤◌, Bool, true, false, cond, List, [], ◌∷◌, ◌++◌, length, Option, Some, None, refl, sym, ◌∙◌, ap, subst, arith, inl, inr}
-use Rattle.std.specs.Prelude.{slice_get}
-use Rattle.std.proofs.lemmas.Option.{slice_get_within}
+use Rattle.std.proofs.Common.{◌≡◌, ℕ, ◌+◌, ◌≤◌, Bool, true, cond, List, length, Option, Some, None, refl, sym, ◌∙◌, ap, subst, arith, inl, inr}
 use Rattle.two_wire.specs.declared.Bus.{Bus}
 use Rattle.two_wire.specs.declared.Bus.TheVariants.{Ipmb, Smbus}
 use Rattle.cfg_records.specs.declared.op.Op.{Op}
 use Rattle.cfg_records.specs.declared.board_file.BoardFile.{BoardFile}
 use Rattle.cfg_records.specs.Records.{Records}
 use Rattle.bus_model.specs.Circle.{span_of}
-use Rattle.bus_model.specs.BusState.{BusState, Frame}
+use Rattle.bus_model.specs.BusState.{Frame}
 use Rattle.bus_model.specs.Schedule.{IsLive as IsLiveThere}
 use Rattle.bus_model.specs.Answering.{TestsAgree}
 use Rattle.bus_model.specs.declared.numbers.Numbers.TheVariants as numbers
+use Rattle.bus_model.proofs.NumberLaws.{IsNumbering, ipmb_numbers, smbus_numbers}
 use Rattle.bus_model.proofs.Steps.{Holds as BusHolds}
 use Rattle.bus_model.proofs.Answering.{tests_agree}
 use Rattle.bus_model.proofs.Cutting.{packets_cut}
-use Rattle.bus_model.specs.Packet.{packets_of}
-use Rattle.undo_model.specs.Machine.{Part, Stage, AtStart, Opened, AtEnd, AtHalt, AtUndone, AtRefused, bus_at, open_bus_at, count_of, same_bus}
-use Rattle.undo_model.specs.Joined.{IsClosed, IsOpen, AreOpen}
+use Rattle.undo_model.specs.Machine.{Stage, AtStart, Opened, AtEnd, AtHalt, AtUndone, AtRefused, bus_at, open_bus_at, count_of, same_bus}
+use Rattle.undo_model.specs.Joined.{IsClosed, AreOpen}
 use Rattle.undo_model.specs.World.{States}
 use Rattle.undo_model.proofs.Buses.{cases_bus}
-use Rattle.undo_model.proofs.World.{same_bus-true}
 use Rattle.undo_model.proofs.TwoBuses.{packet_lines}
 use Rattle.undo_model.proofs.LineLaws.{AllHold, whole_is_line, packets_are_line}
 use Rattle.undo_family.specs.Spelled.{numbers_of}
@@ -28,12 +25,16 @@ use Rattle.plans.specs.declared.names.Names.{Names}
 use Rattle.lab_model.specs.Lab.{LabFrame, Lab, idles_on}
 use Rattle.lab_model.specs.Faults.{is_open_bus, begun_on}
 use Rattle.lab_model.specs.Honest.{IsLive}
-use Rattle.lab_stands.proofs.Tied.{P, F, L, W, ipmb_bus, smbus_bus, rules_on, numbering, requests, IsTied, world_of}
-use Rattle.lab_stands.proofs.Begun.{own, words}
+use Rattle.lab_stands.specs.Tied.{P, F, L, W, ipmb_bus, smbus_bus, rules_on, requests, IsTied, world_of}
+use Rattle.lab_stands.proofs.Begun.{words}
 use Rattle.lab_stands.proofs.Sent.{idles_alike}
-use Rattle.lab_stands.proofs.Calls.{Holds, are_closed}
+use Rattle.lab_stands.specs.Follows.{Holds}
 
 module _ (setup : BoardFile) (names : Names) (plan : List Op) (start : Records) where
+  numbering : (bus : Bus) → IsNumbering (rules_on setup names bus)
+  numbering Ipmb = ipmb_numbers names.own_address names.peer_address 0
+  numbering Smbus = smbus_numbers names.own_eid names.peer_eid 0
+
   -- ---- the invariants of the buses
 
   pub ipmb_holds : (x : Lab (P setup names)) (on : States (L setup names)) → Holds setup names plan start (world_of setup names x on) → BusHolds (ipmb_bus setup names) (on Ipmb)
@@ -46,10 +47,10 @@ module _ (setup : BoardFile) (names : Names) (plan : List Op) (start : Records) 
 
   module _ (x : Lab (P setup names)) (on : States (L setup names)) (tied : IsTied setup names x on) (h : Holds setup names plan start (world_of setup names x on)) where
     pub ipmb_agrees : TestsAgree numbers.Ipmb (ipmb_bus setup names) (on Ipmb)
-    ipmb_agrees = tests_agree numbers.Ipmb (ipmb_bus setup names) (numbering setup names Ipmb) (on Ipmb) (ipmb_holds x on h) (tied.written Ipmb)
+    ipmb_agrees = tests_agree numbers.Ipmb (ipmb_bus setup names) (numbering Ipmb) (on Ipmb) (ipmb_holds x on h) (tied.written Ipmb)
 
     pub smbus_agrees : TestsAgree numbers.Pldm (rules_on setup names Smbus) (on Smbus).bus
-    smbus_agrees = tests_agree numbers.Pldm (rules_on setup names Smbus) (numbering setup names Smbus) (on Smbus).bus (smbus_holds x on h).1.holds (tied.written Smbus)
+    smbus_agrees = tests_agree numbers.Pldm (rules_on setup names Smbus) (numbering Smbus) (on Smbus).bus (smbus_holds x on h).1.holds (tied.written Smbus)
 
     -- ---- how many requests were begun
 

@@ -1,5 +1,5 @@
 -- Each request that a manager sends is one that it makes.
-use Rattle.std.proofs.Common.{◌≡◌, ℕ, ◌+◌, suc, Bool, true, false, cond, List, [], ◌∷◌, Option, Some, None, refl, subst, inl, inr}
+use Rattle.std.proofs.Common.{ℕ, ◌+◌, suc, Bool, true, false, List, [], ◌∷◌, Option, Some, None, refl, inl, inr}
 use Rattle.std.specs.Prelude.{◌==◌, slice_get, nat_lt, IfSome}
 use Rattle.std.proofs.lemmas.Bool.{cond_both}
 use Rattle.two_wire.specs.Codes.{success}
@@ -7,32 +7,26 @@ use Rattle.two_wire.specs.declared.Bus.{Bus}
 use Rattle.cfg_records.specs.declared.op.Op.{Op}
 use Rattle.cfg_records.specs.declared.message.Asked.{Asked}
 use Rattle.undo_model.specs.Words.{Answered, Words, is_busy}
-use Rattle.undo_model.specs.Wires.{IsSeries, IsMade}
 use Rattle.undo_model.specs.TwoBuses.{Addresses}
-use Rattle.undo_model.specs.Machine.{Task, Gets, Sets, Undoes, Part, first_part, Stage, AtStart, Opened, AtEnd, AtHalt, AtUndone, AtRefused, begun, Machine, Turn, sending, series_of, bodies_with, takes, replies, finished, refused, set_stage, next_stage, undo_stage, undo_after, undo_with, first_stage, starts, undoes, quiets, agains, stops}
+use Rattle.undo_model.specs.Machine.{Task, Gets, Sets, Undoes, Part, Stage, AtStart, Opened, AtEnd, AtHalt, AtUndone, AtRefused, begun, Machine, Turn, sending, series_of, bodies_with, takes, replies, finished, refused, set_stage, next_stage, undo_stage, undo_after, first_stage, starts, undoes, quiets, agains, stops}
 use Rattle.undo_family.specs.Family.{manager_words}
+use Rattle.lab_stands.specs.Made as made
 
 module _ (at : Bus → Addresses) where
-  abbrev pub M : Words
+  abbrev M : Words
   M = manager_words at
 
-  abbrev pub AllSeries : List Asked → Type 0
-  AllSeries [] = Unit {0}
-  AllSeries (s ∷ ss) = IsSeries M s × AllSeries ss
+  abbrev AllSeries : List Asked → Type 0
+  AllSeries ss = made.AllSeries at ss
 
-  abbrev pub TaskMade : Task M → Type 0
-  TaskMade (Gets k op) = Unit {0}
-  TaskMade (Sets k op back) = Unit {0}
-  TaskMade (Undoes first rest) = AllSeries rest
+  abbrev TaskMade : Task M → Type 0
+  TaskMade task = made.TaskMade at task
 
-  abbrev pub StageMade : Stage M → Type 0
-  StageMade (Opened heeded task part) = IsMade M part.asked × TaskMade task
-  StageMade _ = Unit {0}
+  abbrev StageMade : Stage M → Type 0
+  StageMade stage = made.StageMade at stage
 
-  -- the open request is one that a manager makes, and so are those that undo
-  pub record MachineMade (m : Machine M) : Type 0 where
-    pub stage : StageMade m.stage
-    pub undo : AllSeries m.undo
+  abbrev MachineMade : Machine M → Type 0
+  MachineMade m = made.MachineMade at m
 
   abbrev pub IfMade : Option (Turn M) → Type 0
   IfMade o = IfSome o (λ t. MachineMade t.machine)

@@ -1,12 +1,11 @@
 -- What comes to the manager on SMBus changes nothing at the port.
-use Rattle.std.proofs.Common.{◌≡◌, ℕ, Bool, List, [], Option, Some, None, refl, cond}
-use Rattle.std.specs.Prelude.{◌==◌, ◌&&◌, slice_get}
+use Rattle.std.proofs.Common.{◌≡◌, ℕ, List, [], Option, Some, None, refl}
+use Rattle.std.specs.Prelude.{slice_get}
 use Rattle.std.proofs.lemmas.Bool.{cond_both}
-use Rattle.bus_model.specs.Request.{Kept, Entry}
 use Rattle.bus_model.specs.Numbering.{Bus as Rules}
-use Rattle.bus_model.specs.BusState.{BusState, Frame, Content, Ask, Reply, is_open, taken_content, takes_if}
+use Rattle.bus_model.specs.BusState.{BusState, Frame, Content, Ask, Reply, taken_content, takes_if}
 use Rattle.bus_model.specs.Packet.{Packet}
-use Rattle.bus_model.specs.Assembly.{Name, Sent, Step, Waits, Whole, Drops, takes, message_of}
+use Rattle.bus_model.specs.Assembly.{Step, Waits, Whole, Drops, message_of}
 use Rattle.bus_model.specs.PacketBus.{PacketBus, rules_of, reply_name, is_awaited, set_at, Ends, PacketReachesManager, whole_returns, manager_takes, packet_returns, packet_at_manager, packet_happens}
 
 -- the bus is the same but for the replies that the manager took

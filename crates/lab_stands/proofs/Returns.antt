@@ -1,19 +1,16 @@
 -- What a frame that comes to the manager does in a lab, it does in the model's world.
-use Rattle.std.proofs.Common.{◌≡◌, ℕ, suc, zero, ◌+◌, ◌%◌, ◌<◌, ◌≤◌, Bool, true, false, cond, not, ◌&&◌, List, [], ◌∷◌, ◌++◌, length, Option, Some, None, refl, sym, ◌∙◌, ap, subst, arith, ◌⊎◌, inl, inr}
-use Rattle.std.specs.Prelude.{◌==◌, slice_get, IfSome, MatchOption, if◌then◌else◌}
+use Rattle.std.proofs.Common.{◌≡◌, ℕ, ◌%◌, Bool, true, false, cond, not, ◌&&◌, List, [], ◌∷◌, length, Option, Some, None, refl, sym, ◌∙◌, ap, subst, inl, inr}
+use Rattle.std.specs.Prelude.{◌==◌, slice_get, IfSome, MatchOption}
 use Rattle.two_wire.specs.declared.Bus.{Bus}
 use Rattle.two_wire.specs.declared.Bus.TheVariants.{Ipmb, Smbus}
-use Rattle.ipmb_frame.specs.declared.message.Response.{Response}
-use Rattle.mctp_net.specs.declared.packet.Packet.{Packet}
 use Rattle.mctp_net.specs.Assembly.{Assemblies, open_beside, is_ours}
 use Rattle.cfg_records.specs.declared.op.Op.{Op}
 use Rattle.cfg_records.specs.declared.board_file.BoardFile.{BoardFile}
 use Rattle.cfg_records.specs.Records.{Records}
 use Rattle.bus_model.specs.Repeat.{In}
 use Rattle.bus_model.specs.Request.{Kept}
-use Rattle.bus_model.specs.Assembly.{Sent}
 use Rattle.bus_model.specs.Answering.{AreWritten}
-use Rattle.bus_model.specs.BusState.{BusState, Frame, Event as BusEvent, ReachesManager, taken_now, takes_if as takes_reply}
+use Rattle.bus_model.specs.BusState.{BusState, Event as BusEvent, ReachesManager, taken_now, takes_if as takes_reply}
 use Rattle.bus_model.specs.Schedule.{IsLive as IsLiveThere}
 use Rattle.bus_model.specs.PacketBus.{Ends, PacketEvent, PacketReachesManager, request_name, packet_happens}
 use Rattle.bus_model.specs.PacketEffect.{HasPacketEffect}
@@ -22,34 +19,35 @@ use Rattle.bus_model.specs.Effect.{SameRequests, IsTaken}
 use Rattle.bus_model.specs.Packet.{packets_of}
 use Rattle.bus_model.proofs.Cutting.{packets_cut}
 use Rattle.bus_model.proofs.Lists.{Grows}
-use Rattle.undo_model.specs.Machine.{Task, Part as TaskPart, Stage, AtStart, Opened, AtEnd, AtHalt, AtUndone, AtRefused, Machine, Turn, bus_at, same_bus, count_of, reply_of}
+use Rattle.undo_model.specs.Machine.{Task, Part as TaskPart, Stage, AtStart, Opened, AtEnd, AtHalt, AtUndone, AtRefused, bus_at, same_bus, count_of, reply_of}
 use Rattle.undo_model.specs.Joined.{OthersStill}
 use Rattle.undo_model.specs.Wires.{number_of}
 use Rattle.undo_model.specs.Line.{brings_whole, brings_packets}
 use Rattle.undo_model.specs.World as world
 use Rattle.undo_model.specs.World.{States, World, ToManager, update}
-use Rattle.undo_model.proofs.Buses.{cases_bus, each_bus}
+use Rattle.undo_model.proofs.Buses.{cases_bus}
 use Rattle.undo_model.proofs.LineLaws.{effect}
 use Rattle.undo_model.proofs.TwoBuses.{packet_lines}
 use Rattle.undo_family.specs.Wires.{answered_from, bytes_of}
 use Rattle.undo_family.specs.Spelled.{numbers_of}
 use Rattle.packet_model.specs.Seen.{WaitsAlike}
 use Rattle.plans.specs.declared.names.Names.{Names}
-use Rattle.lab_model.specs.Values.{Value, Tells, Part}
 use Rattle.lab_model.specs.ManagerSteps.{ManagerState, ManagerDeed, rests, taken_or, heeded_on, open_count, open_bytes, is_answer, is_part, joins, joins_for, goes_on, hears_response, hears_packet, manager_hears}
 use Rattle.lab_model.specs.ManagerEvents.{takes_if, IsOpenOn, IsManagerOf, IsRepliesResponse, IsRepliesPart, BringsPart, name_awaited}
 use Rattle.lab_model.specs.Honest.{IsLive, IsDelivered}
 use Rattle.lab_model.specs.Lab.{ToManager as ToTheManager, LabFrame, Lab, manager_does, returned}
 use Rattle.lab_model.proofs.ManagerEvents.{replies_are_brought}
-use Rattle.lab_stands.proofs.Tied.{P, F, L, W, ipmb_bus, smbus_bus, rules_on, requests, HoldsTold, HoldsToldPart, ComesFromAnother, IsHeldBy, IsHeld, IsTied, world_of, Goes}
+use Rattle.lab_stands.specs.Tied.{P, F, L, W, ipmb_bus, smbus_bus, rules_on, requests, HoldsTold, HoldsToldPart, ComesFromAnother, IsHeldBy, IsHeld, EntryAnswers, IsTied, world_of, Goes}
+use Rattle.lab_stands.specs.Each.{Each}
 use Rattle.lab_stands.proofs.Each.{each_at}
 use Rattle.lab_stands.proofs.Frames.{all_held}
 use Rattle.lab_stands.proofs.Sending.{from_zero}
 use Rattle.lab_stands.proofs.Begun.{own, words}
-use Rattle.lab_stands.proofs.Calls.{Holds, managed, are_closed}
+use Rattle.lab_stands.specs.Follows.{Holds}
+use Rattle.lab_stands.proofs.Calls.{are_closed}
 use Rattle.lab_stands.proofs.Live.{smbus_holds, ipmb_agrees, smbus_agrees, live_there}
 use Rattle.lab_stands.proofs.Only.{SameButTaken, taking, only_manager}
-use Rattle.lab_stands.proofs.Taken.{Took, After, turn as taken_turn, taken_after, reply_is}
+use Rattle.lab_stands.proofs.Taken.{Took, turn as taken_turn, taken_after, reply_is}
 
 module _ (setup : BoardFile) (names : Names) (plan : List Op) (start : Records) where
   module _ (x : Lab (P setup names)) (on : States (L setup names)) (tied : IsTied setup names x on) (h : Holds setup names plan start (world_of setup names x on)) where
@@ -311,6 +309,7 @@ module _ (setup : BoardFile) (names : Names) (plan : List Op) (start : Records) 
             alone = ap (λ n. open_beside (name_awaited n (open_count (P setup names) Smbus m)) joined) (sym tied.named) ∙ alone;
             counted = counted;
             written = written;
+            answered = answered;
             made = tied.made;
             frames = all_held setup names on moved x.frames (each_moved (λ a b. Grows a.frames b.frames) (λ n g e. e) (λ n g e. ap (λ fs. slice_get fs n) only.bus.frames ∙ e)) tied.frames;
             opened = λ n t is. tied.opened n t (subst (λ v. In t (v (request_name (smbus_bus setup names) n))) only.port is);
@@ -319,6 +318,10 @@ module _ (setup : BoardFile) (names : Names) (plan : List Op) (start : Records) 
           counted : (bus : Bus) → count_of bus m.machine.counts ≡ length (requests setup names moved bus).taken
           counted Ipmb = tied.counted Ipmb
           counted Smbus = tied.counted Smbus ∙ ap (λ (l : List (List ℕ)). length l) (sym same.taken)
+
+          answered : (bus : Bus) → Each (EntryAnswers setup names bus) (requests setup names moved bus).log
+          answered Ipmb = tied.answered Ipmb
+          answered Smbus = subst (Each (EntryAnswers setup names Smbus)) (sym (only_manager (smbus_bus setup names) (on Smbus) hold.which hold.place).bus.log) (tied.answered Smbus)
 
           written : (bus : Bus) → AreWritten (numbers_of bus) (rules_on setup names bus) (requests setup names moved bus)
           written Ipmb = tied.written Ipmb

@@ -1,8 +1,8 @@
 -- The frames of a request of the manager are held by the model's frame of it.
-use Rattle.std.proofs.Common.{◌≡◌, ℕ, suc, zero, ◌+◌, ◌*◌, ◌/◌, ◌%◌, ◌<◌, ◌≤◌, Bool, true, false, cond, ◌&&◌, ◌||◌, leb, List, [], ◌∷◌, length, map, Option, Some, None, refl, sym, ◌∙◌, ap, subst, arith, lit<, inl, inr}
-use Rattle.std.specs.Prelude.{◌==◌, slice_get, Result, Ok, Err}
+use Rattle.std.proofs.Common.{◌≡◌, ℕ, suc, zero, ◌+◌, ◌*◌, ◌/◌, ◌%◌, ◌<◌, ◌≤◌, Bool, true, false, cond, ◌&&◌, ◌||◌, leb, List, [], ◌∷◌, length, map, Option, Some, None, refl, sym, ◌∙◌, ap, subst, arith, inl, inr}
+use Rattle.std.specs.Prelude.{◌==◌, slice_get, Ok, Err}
 use Rattle.std.specs.Option.{option_map}
-use Rattle.std.proofs.lemmas.Bool.{cond_both, leb-true, eqb-true, eq-eqb}
+use Rattle.std.proofs.lemmas.Bool.{leb-true, eqb-true, eq-eqb}
 use Rattle.std.proofs.lemmas.Option.{same_Some, none-some, slice_get-map}
 use Rattle.two_wire.specs.declared.Bus.{Bus}
 use Rattle.two_wire.specs.declared.Bus.TheVariants.{Ipmb, Smbus}
@@ -30,16 +30,19 @@ use Rattle.undo_model.specs.Wires.{number_of, IsSeries, IsOf, IsMade}
 use Rattle.undo_model.specs.TwoBuses.{Addresses}
 use Rattle.undo_model.specs.World.{States}
 use Rattle.undo_family.specs.Family.{bus_of, from_manager, manager_words}
-use Rattle.undo_family.specs.Wires.{bytes_of}
-use Rattle.undo_family.specs.WireLaws.{managers, read_back}
+use Rattle.undo_model.specs.Words.{Answered}
+use Rattle.undo_family.specs.Wires.{bytes_of, reply_to}
+use Rattle.undo_family.proofs.Spelled.{are_spelled}
+use Rattle.undo_family.specs.WireLaws.{managers, read_back, upper, lower}
 use Rattle.packet_model.specs.Seen.{seen, seen_name}
 use Rattle.plans.specs.declared.names.Names.{Names}
 use Rattle.lab_model.specs.Values.{Value, Part, parts_of}
 use Rattle.lab_model.specs.ManagerSteps.{addresses, values_of}
 use Rattle.lab_model.specs.Lab.{ToPort, LabFrame}
 use Rattle.lab_model.proofs.Parts.{parts_are_cuts}
-use Rattle.lab_stands.proofs.Each.{Each, each_map, each_by_place}
-use Rattle.lab_stands.proofs.Tied.{L, smbus_bus, IsHeld, requests}
+use Rattle.lab_stands.specs.Each.{Each}
+use Rattle.lab_stands.proofs.Each.{each_map, each_by_place}
+use Rattle.lab_stands.specs.Tied.{L, smbus_bus, IsHeld, requests}
 
 -- ---- types of PLDM
 
@@ -128,6 +131,12 @@ request_bits n = omega arith
 instance_back : (n : ℕ) → (128 + n % 32) % 32 ≡ n % 32
 instance_back n = omega arith
 
+-- the bytes of the response to a request of logical unit 0
+responded : (net_fn lun number command : ℕ) (body : List ℕ) → lun ≡ 0 → (a : Answered)
+    → (4 * (net_fn + 1) + 0) ∷ (4 * number + lun) ∷ command ∷ a.code ∷ a.body ≡ reply_to Ipmb ((4 * net_fn + lun) ∷ (4 * number + 0) ∷ command ∷ body) a
+responded net_fn lun number command body none a = λ i.
+    (4 * (sym (upper net_fn lun none) i + 1) + sym (lower number 0 refl) i) ∷ (4 * sym (upper number 0 refl) i + sym (lower net_fn lun none) i) ∷ command ∷ a.code ∷ a.body
+
 module _ (setup : BoardFile) (names : Names) (now : States (L setup names)) (which count idles : ℕ) (g : Frame) where
   -- a frame of the lab that is sent to the port with the request
   abbrev pub to_port : Bus → Value → LabFrame
@@ -151,28 +160,34 @@ module _ (setup : BoardFile) (names : Names) (now : States (L setup names)) (whi
       → Each (IsHeld setup names now) (map (to_port (bus_of asked)) (values_of names count asked))
   request_held (Ipmi from net_fn lun command body) made sent request same asks =
       let asked : Asked = Ipmi from net_fn lun command body in
-      let own = managers (addresses names) asked made in
-      (record {
-        which = which;
-        frame = g;
-        is_of = record { sent = sent; request = request; idles = same };
-        asked = record {
-          header = record {
-            responder = record { address = names.peer_address; lun = lun };
-            requester = record { address = names.own_address; lun = 0 };
-            net_fn = net_fn;
-            sequence = number_of Ipmb count;
-            command = command;
+      let own = managers (addresses names) asked made in (
+        record {
+          which = which;
+          frame = g;
+          is_of = record { sent = sent; request = request; idles = same };
+          asked = record {
+            header = record {
+              responder = record { address = names.peer_address; lun = lun };
+              requester = record { address = names.own_address; lun = 0 };
+              net_fn = net_fn;
+              sequence = number_of Ipmb count;
+              command = command;
+            };
+            body = body;
           };
-          body = body;
-        };
-        value = refl;
-        bytes = bytes_of (number_of Ipmb count) asked;
-        asks = asks;
-        heard = ap (λ (n : ℕ). let h : Heard = record { requester = names.own_address; number = n % 64; bytes = bytes_of (number_of Ipmb count) asked } in h) (sym request ∙ from_zero g.request);
-        to_port = refl;
-        read = read_back (addresses names) (number_of Ipmb count) asked own ∙ ap (λ (n : ℕ). Ipmi n net_fn lun command body) own.0;
-      }, tt)
+          value = refl;
+          bytes = bytes_of (number_of Ipmb count) asked;
+          asks = asks;
+          heard = ap (λ (n : ℕ). let h : Heard = record { requester = names.own_address; number = n % 64; bytes = bytes_of (number_of Ipmb count) asked } in h) (sym request ∙ from_zero g.request);
+          to_port = refl;
+          read = read_back (addresses names) (number_of Ipmb count) asked own ∙ ap (λ (n : ℕ). Ipmi n net_fn lun command body) own.0;
+          number = number_of Ipmb count;
+          spelled = (are_spelled (addresses names)).requests count asked made;
+          responds = λ a. responded net_fn lun (number_of Ipmb count) command body own.1 a;
+          from_manager = refl;
+        },
+        tt,
+      )
   request_held (Pldm from kind command body) made sent request same asks =
       let asked : Asked = Pldm from kind command body in
       let m : Message = record {

@@ -1,12 +1,11 @@
 -- A request of the manager is sent: its first frames, or the same again.
-use Rattle.std.proofs.Common.{◌≡◌, ℕ, suc, zero, ◌+◌, ◌%◌, List, [], ◌∷◌, ◌++◌, length, map, Option, Some, None, refl, sym, ◌∙◌, ap, subst, arith, inl, inr}
+use Rattle.std.proofs.Common.{◌≡◌, ℕ, ◌%◌, List, [], ◌∷◌, ◌++◌, length, Some, refl, sym, ◌∙◌, ap, subst}
 use Rattle.std.specs.Prelude.{slice_get}
 use Rattle.two_wire.specs.declared.Bus.{Bus}
 use Rattle.two_wire.specs.declared.Bus.TheVariants.{Ipmb, Smbus}
 use Rattle.cfg_records.specs.declared.message.Asked.{Asked}
-use Rattle.cfg_records.specs.declared.message.Asked.TheVariants.{Ipmi, Pldm}
 use Rattle.cfg_records.specs.declared.board_file.BoardFile.{BoardFile}
-use Rattle.bus_model.specs.Request.{Entry, Kept, idles_of}
+use Rattle.bus_model.specs.Request.{Kept, idles_of}
 use Rattle.bus_model.specs.BusState.{BusState, Frame, Ask}
 use Rattle.bus_model.specs.Repeat.{In}
 use Rattle.bus_model.specs.Assembly.{Sent}
@@ -14,23 +13,22 @@ use Rattle.bus_model.specs.PacketBus.{Ends, request_name}
 use Rattle.packet_model.specs.Seen.{WaitsAlike}
 use Rattle.bus_model.specs.Answering.{AreWritten}
 use Rattle.bus_model.specs.Bytes.{IsRequestOn}
-use Rattle.bus_model.proofs.Lists.{Grows, grows, at_end, one_more}
+use Rattle.bus_model.proofs.Lists.{Grows, grows, at_end}
 use Rattle.undo_model.specs.Machine.{count_of}
 use Rattle.undo_model.specs.Wires.{number_of, IsMade}
 use Rattle.undo_model.specs.World.{States, update}
 use Rattle.undo_family.specs.Family.{bus_of, manager_words}
 use Rattle.undo_family.specs.Spelled.{numbers_of}
 use Rattle.undo_family.specs.Wires.{bytes_of}
-use Rattle.undo_family.proofs.Spelled.{are_spelled}
 use Rattle.plans.specs.declared.names.Names.{Names}
-use Rattle.lab_model.specs.Values.{Value}
 use Rattle.lab_model.specs.PortEvents.{IsPortOf}
 use Rattle.lab_model.specs.ManagerSteps.{addresses, values_of, own_on}
-use Rattle.lab_model.specs.Lab.{ToPort, LabFrame, Lab, port_on, idles_on, with_frames}
-use Rattle.lab_stands.proofs.Each.{Each, each_append}
-use Rattle.lab_stands.proofs.Tied.{P, F, L, smbus_bus, rules_on, requests, IsHeld, IsTied}
+use Rattle.lab_model.specs.Lab.{ToPort, Lab, idles_on, with_frames}
+use Rattle.lab_stands.specs.Each.{Each}
+use Rattle.lab_stands.proofs.Each.{each_append}
+use Rattle.lab_stands.specs.Tied.{P, L, smbus_bus, rules_on, requests, IsHeld, EntryAnswers, IsTied}
 use Rattle.lab_stands.proofs.Frames.{Sends, all_held}
-use Rattle.lab_stands.proofs.Sending.{request_held, from_zero}
+use Rattle.lab_stands.proofs.Sending.{request_held}
 
 -- ---- one bus is another
 
@@ -101,6 +99,7 @@ module _ (setup : BoardFile) (names : Names) where
         counted = each_put bus s on (λ any b. count_of any x.manager.machine.counts ≡ length b.taken) tied.counted (tied.counted bus ∙ ap (λ (l : List (List ℕ)). length l) (sym is.taken));
         written = each_put bus s on (λ any b. AreWritten (numbers_of any) (rules_on setup names any) b) tied.written
             (record { requests = is.requests; replies = λ n k e. (tied.written bus).replies n k (ap (λ (l : List Kept). slice_get l n) (sym is.carried) ∙ e) });
+        answered = each_put bus s on (λ any b. Each (EntryAnswers setup names any) b.log) tied.answered (subst (Each (EntryAnswers setup names bus)) (sym is.log) (tied.answered bus));
         made = tied.made;
         frames = each_append (IsHeld setup names now) x.frames _ (all_held setup names on now x.frames sends tied.frames)
             (request_held setup names now (length old.frames) count (idles_on (P setup names) bus x) g asked made there refl (idles_alike bus x on tied) refl);

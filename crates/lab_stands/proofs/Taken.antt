@@ -1,6 +1,6 @@
 -- The manager takes the reply to its open request.
-use Rattle.std.proofs.Common.{◌≡◌, ℕ, suc, zero, ◌+◌, ◌%◌, ◌<◌, ◌≤◌, Bool, true, false, cond, List, [], ◌∷◌, ◌++◌, length, Option, Some, None, refl, sym, ◌∙◌, ap, subst, arith, ◌⊎◌, inl, inr}
-use Rattle.std.specs.Prelude.{slice_get, if◌then◌else◌}
+use Rattle.std.proofs.Common.{◌≡◌, ℕ, ◌+◌, Bool, true, false, cond, List, length, Option, Some, None, refl, sym, ◌∙◌, ap, subst, arith, ◌⊎◌, inl, inr}
+use Rattle.std.specs.Prelude.{slice_get}
 use Rattle.std.specs.Option.{option_map}
 use Rattle.two_wire.specs.declared.Bus.{Bus}
 use Rattle.two_wire.specs.declared.Bus.TheVariants.{Ipmb, Smbus}
@@ -11,37 +11,32 @@ use Rattle.mctp_net.specs.declared.packet.Name.{Name}
 use Rattle.mctp_net.specs.Assembly.{Assemblies, open_beside}
 use Rattle.bus_model.specs.Request.{Kept}
 use Rattle.bus_model.specs.Repeat.{In}
-use Rattle.bus_model.specs.Assembly.{Sent}
-use Rattle.bus_model.specs.BusState.{BusState}
-use Rattle.bus_model.specs.PacketBus.{Ends, request_name}
+use Rattle.bus_model.specs.PacketBus.{request_name}
 use Rattle.bus_model.specs.Effect.{IsTaken}
-use Rattle.bus_model.specs.Answering.{AreWritten}
-use Rattle.bus_model.specs.Packet.{packets_of}
-use Rattle.bus_model.proofs.Cutting.{packets_cut}
-use Rattle.bus_model.proofs.Lists.{Grows, length_more}
+use Rattle.bus_model.proofs.Lists.{length_more}
 use Rattle.undo_model.specs.Words.{Answered, is_busy}
-use Rattle.undo_model.specs.Machine.{Task, Part, Stage, AtStart, Opened, AtEnd, AtHalt, AtUndone, AtRefused, Machine, Turn, bus_at, count_of, one_answered, replies, takes, stage_after, undo_after, reply_of}
+use Rattle.undo_model.specs.Machine.{Task, Part, Opened, Turn, bus_at, count_of, one_answered, replies, takes, reply_of}
 use Rattle.undo_model.specs.Joined.{IsClosed, OthersStill}
 use Rattle.undo_model.specs.World as world
 use Rattle.undo_model.specs.World.{States, World}
-use Rattle.undo_model.proofs.Buses.{cases_bus, each_bus}
+use Rattle.undo_model.proofs.Buses.{each_bus}
 use Rattle.undo_model.proofs.World.{count_here, count_there}
 use Rattle.undo_model.proofs.Joined.{Joined, told}
-use Rattle.undo_model.proofs.TwoBuses.{packet_lines}
 use Rattle.undo_family.specs.Wires.{answered_from}
-use Rattle.undo_family.specs.Spelled.{numbers_of}
 use Rattle.undo_family.proofs.IsFamily.{is_family}
 use Rattle.packet_model.specs.Seen.{WaitsAlike}
 use Rattle.plans.specs.declared.names.Names.{Names}
-use Rattle.lab_model.specs.ManagerSteps.{addresses, goes_on, open_count, sent_of}
+use Rattle.lab_model.specs.ManagerSteps.{goes_on, open_count, sent_of}
 use Rattle.lab_model.specs.ManagerEvents.{name_awaited}
-use Rattle.lab_model.specs.Lab.{Lab, manager_does, sends}
-use Rattle.lab_stands.proofs.Each.{Each}
-use Rattle.lab_stands.proofs.Made.{MachineMade, StageMade, takes_made}
-use Rattle.lab_stands.proofs.Tied.{P, F, L, W, smbus_bus, rules_on, requests, IsHeld, IsTied, world_of}
+use Rattle.lab_model.specs.Lab.{Lab, manager_does}
+use Rattle.lab_stands.specs.Each.{Each}
+use Rattle.lab_stands.specs.Made.{MachineMade, StageMade}
+use Rattle.lab_stands.proofs.Made.{takes_made}
+use Rattle.lab_stands.specs.Tied.{P, F, L, W, smbus_bus, requests, EntryAnswers, IsTied, world_of}
 use Rattle.lab_stands.proofs.Frames.{Sends, all_held}
 use Rattle.lab_stands.proofs.Begun.{own, words, NoneOpen, enter_tied, same_world}
-use Rattle.lab_stands.proofs.Calls.{Holds, managed, are_closed}
+use Rattle.lab_stands.specs.Follows.{Holds}
+use Rattle.lab_stands.proofs.Calls.{managed, are_closed}
 
 module _ (setup : BoardFile) (names : Names) (plan : List Op) (start : Records) where
   module _ (x : Lab (P setup names)) (on now : States (L setup names)) (tied : IsTied setup names x on) (h : Holds setup names plan start (world_of setup names x on)) where
@@ -130,6 +125,7 @@ module _ (setup : BoardFile) (names : Names) (plan : List Op) (start : Records) 
           requests = λ n b e. (tied.written any).requests n b (ap (λ (l : List (List ℕ)). slice_get l n) (sym (begun_same any)) ∙ e);
           replies = λ n k e. (tied.written any).replies n k (ap (λ (l : List Kept). slice_get l n) (sym (carried_same any)) ∙ e);
         };
+        answered = λ any. subst (Each (EntryAnswers setup names any)) (sym (took.logs any)) (tied.answered any);
         made = made;
         frames = all_held setup names on now x.frames same_sends tied.frames;
         opened = λ n t is. tied.opened n t (subst (λ w. In t (w (request_name (smbus_bus setup names) n))) took.port is);

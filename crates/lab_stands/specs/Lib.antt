@@ -1,1 +1,4 @@
-pub mod Headline
+pub mod Each
+pub mod Made
+pub mod Tied
+pub mod Follows

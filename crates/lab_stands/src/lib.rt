@@ -1,5 +1,5 @@
-//! What holds of a plan and its undo at every event of a lab. There is no code here: each theorem is the contract of a function without
-//! a body.
+//! A lab and the model's world: what a lab does at an event, the model of two buses does. There is no code here: each law is the contract
+//! of a function without a body.
 #![tactic(auto)]
 
 pub mod laws;

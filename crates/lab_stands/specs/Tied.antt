@@ -1,6 +1,5 @@
 -- A lab and the two buses of the model that it shows.
-use Rattle.std.proofs.Common.{◌≡◌, ℕ, ◌+◌, ◌%◌, ◌<◌, ◌≤◌, Bool, true, false, List, [], ◌∷◌, ◌++◌, length, map, Option, Some, None, refl, sym, ◌∙◌, ap, subst, arith, ◌⊎◌, inl, inr}
-use Rattle.std.specs.Prelude.{◌==◌, slice_get}
+use Rattle.std.specs.Prelude.{◌≡◌, ℕ, ◌%◌, ◌≤◌, true, false, ◌==◌, ◌⊎◌, List, length, Some, slice_get}
 use Rattle.two_wire.specs.declared.Bus.{Bus}
 use Rattle.two_wire.specs.declared.Bus.TheVariants.{Ipmb, Smbus}
 use Rattle.ipmb_frame.specs.declared.message.Request.{Request}
@@ -8,7 +7,6 @@ use Rattle.ipmb_frame.specs.declared.message.Response.{Response}
 use Rattle.mctp_net.specs.declared.packet.Packet.{Packet}
 use Rattle.mctp_net.specs.Sizes.{unit_size}
 use Rattle.mctp_net.specs.Assembly.{open_beside, is_ours}
-use Rattle.pldm_base.specs.declared.message.PldmRequest.{PldmRequest}
 use Rattle.cfg_records.specs.declared.board_file.BoardFile.{BoardFile}
 use Rattle.bus_model.specs.declared.numbers.Numbers.TheVariants as numbers
 use Rattle.bus_model.specs.Numbering.{Bus as Rules, ipmb}
@@ -18,9 +16,9 @@ use Rattle.bus_model.specs.Assembly.{Sent}
 use Rattle.bus_model.specs.BusState.{BusState, Frame, Ask, request_of}
 use Rattle.bus_model.specs.PacketBus.{PacketBus, rules_of, request_name, reply_name, Ends}
 use Rattle.bus_model.specs.Answering.{AreWritten}
-use Rattle.bus_model.specs.Request.{Request as Heard}
-use Rattle.bus_model.proofs.NumberLaws.{IsNumbering, ipmb_numbers, smbus_numbers}
-use Rattle.bus_model.proofs.Cutting.{packets_cut}
+use Rattle.bus_model.specs.Request.{Kept, Entry, Carried, Idled}
+use Rattle.bus_model.specs.Bytes.{IsRequestOn}
+use Rattle.undo_model.specs.Words.{Answered}
 use Rattle.undo_model.specs.Family.{Family}
 use Rattle.undo_model.specs.Machine.{count_of}
 use Rattle.undo_model.specs.Line.{Line}
@@ -29,18 +27,18 @@ use Rattle.undo_model.specs.TwoBuses.{with_packets}
 use Rattle.undo_model.specs.World.{States, World, Happening, AllMay, run}
 use Rattle.undo_family.specs.Family.{family}
 use Rattle.undo_family.specs.Spelled.{numbers_of}
-use Rattle.undo_family.specs.Wires.{asked_from}
+use Rattle.undo_family.specs.Wires.{asked_from, reply_to}
 use Rattle.undo_family.specs.ManagerWires.{wires}
 use Rattle.packet_model.specs.Seen.{WaitsAlike}
 use Rattle.plans.specs.declared.names.Names.{Names}
-use Rattle.lab_model.specs.Values.{Value, Asks, Tells, Part}
-use Rattle.lab_model.specs.Bytes.{heard_in, response_bytes}
+use Rattle.lab_model.specs.Values.{Asks, Tells, Part}
+use Rattle.lab_model.specs.Bytes.{heard_in, response_bytes, response_to}
 use Rattle.lab_model.specs.PortSteps.{asked_in}
 use Rattle.lab_model.specs.ManagerSteps.{Plans, addresses, board_plans, is_answer, open_count}
 use Rattle.lab_model.specs.PortEvents.{name_in, IsPortOf, IsManagersPart}
 use Rattle.lab_model.specs.ManagerEvents.{HoldsReply, HoldsPart, name_awaited}
-use Rattle.lab_stands.proofs.Each.{Each}
-use Rattle.lab_stands.proofs.Made.{MachineMade}
+use Rattle.lab_stands.specs.Each.{Each}
+use Rattle.lab_stands.specs.Made.{MachineMade}
 use Rattle.lab_model.specs.Lab.{Way, ToPort, ToManager, ToOthers, LabFrame, Lab}
 
 module _ (setup : BoardFile) (names : Names) where
@@ -68,10 +66,6 @@ module _ (setup : BoardFile) (names : Names) where
   rules_on Ipmb = ipmb_bus
   rules_on Smbus = rules_of smbus_bus
 
-  pub numbering : (bus : Bus) → IsNumbering (rules_on bus)
-  numbering Ipmb = ipmb_numbers names.own_address names.peer_address 0
-  numbering Smbus = smbus_numbers names.own_eid names.peer_eid 0
-
   -- the manager's requests on a bus
   abbrev pub requests : States L → Bus → BusState
   requests on bus = (L bus).requests (on bus)
@@ -96,6 +90,11 @@ module _ (setup : BoardFile) (names : Names) where
     pub heard : heard_in asked ≡ request_of ipmb_bus frame.request bytes
     pub to_port : asked.header.responder.address ≡ names.peer_address
     pub read : asked_from (addresses names) Ipmb bytes ≡ asked_in asked
+    -- what a response to it says
+    pub number : ℕ
+    pub spelled : IsRequestOn numbers.Ipmb number bytes
+    pub responds : (a : Answered) → response_bytes (response_to asked a) ≡ reply_to Ipmb bytes a
+    pub from_manager : asked.header.requester.address ≡ names.own_address
 
   -- the value is a response to the manager on IPMB, which the model's frame holds
   pub record HoldsTold (frames : List Frame) (f : LabFrame) : Type 0 where
@@ -150,6 +149,16 @@ module _ (setup : BoardFile) (names : Names) where
   abbrev pub IsHeld : States L → LabFrame → Type 0
   IsHeld on f = IsHeldBy f.way f.on on f
 
+  -- ---- what the ports did
+
+  -- the reply that is kept answers the request
+  abbrev pub IsAnswer : Bus → Kept → Type 0
+  IsAnswer bus k = (a : Answered) × (k.reply ≡ reply_to bus k.request.bytes a)
+
+  abbrev pub EntryAnswers : Bus → Entry → Type 0
+  EntryAnswers bus (Carried k) = IsAnswer bus k
+  EntryAnswers bus (Idled requester) = Unit {0}
+
   -- ---- the tie
 
   pub record IsTied (x : Lab P) (on : States L) : Type 0 where
@@ -162,6 +171,7 @@ module _ (setup : BoardFile) (names : Names) where
     pub alone : open_beside (name_awaited names (open_count P Smbus x.manager)) x.manager.joined ≡ 0
     pub counted : (bus : Bus) → count_of bus x.manager.machine.counts ≡ length (requests on bus).taken
     pub written : (bus : Bus) → AreWritten (numbers_of bus) (rules_on bus) (requests on bus)
+    pub answered : (bus : Bus) → Each (EntryAnswers bus) (requests on bus).log
     pub made : MachineMade (addresses names) x.manager.machine
     pub frames : Each (IsHeld on) x.frames
     -- what waits of the manager's at the port is of the request whose start came last under its tag
