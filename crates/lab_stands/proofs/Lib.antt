@@ -1,0 +1,12 @@
+pub mod Each
+pub mod Made
+pub mod Frames
+pub mod Sending
+pub mod Sent
+pub mod Begun
+pub mod Calls
+pub mod Live
+pub mod Only
+pub mod Taken
+pub mod Returns
+pub mod Steps

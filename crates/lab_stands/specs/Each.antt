@@ -1,0 +1,6 @@
+-- What holds of each element of a list.
+use Rattle.std.specs.Prelude.{List, [], ◌∷◌}
+
+abbrev pub Each : {X : Type 0} → (X → Type 0) → List X → Type 0
+Each Q [] = Unit {0}
+Each Q (x ∷ xs) = Q x × Each Q xs

@@ -1,0 +1,33 @@
+-- What a lab does, the model's world does: the laws of its single steps.
+use Rattle.std.specs.Prelude.{ℕ, List}
+use Rattle.cfg_records.specs.declared.op.Op.{Op}
+use Rattle.cfg_records.specs.declared.board_file.BoardFile.{BoardFile}
+use Rattle.cfg_records.specs.Records.{Records}
+use Rattle.bus_model.specs.Packet.{packets_of}
+use Rattle.bus_model.proofs.Cutting.{packets_cut}
+use Rattle.undo_model.specs.World.{States, World}
+use Rattle.undo_model.proofs.World.{WorldHolds}
+use Rattle.undo_model.proofs.TwoBuses.{packet_lines}
+use Rattle.undo_family.proofs.IsFamily.{is_family}
+use Rattle.plans.specs.declared.names.Names.{Names}
+use Rattle.lab_model.specs.ManagerSteps.{Call, addresses}
+use Rattle.lab_model.specs.Honest.{IsDelivered}
+use Rattle.lab_model.specs.Lab.{Event, Calls, ToMgr, ToManager, Lab, step}
+use Rattle.lab_stands.specs.Tied.{P, F, L, W, IsTied, world_of, Goes}
+
+module _ (setup : BoardFile) (names : Names) (plan : List Op) (start : Records) where
+  -- what holds of the model's world at every moment
+  abbrev pub Holds : World (F setup names) (L setup names) → Type 0
+  Holds w = WorldHolds (F setup names) (is_family setup (addresses names)) (L setup names) (packet_lines (addresses names) packets_of packets_cut) (W setup names) (λ bus. 0) plan start w
+
+  -- what is asked of an event is enough: where a lab shows a world, it shows another after the event, to which that one goes
+  abbrev pub IsFollowed : Lab (P setup names) → Event → Type 0
+  IsFollowed x e = (on : States (L setup names)) → IsTied setup names x on → Holds (world_of setup names x on) → Goes setup names x on (step (P setup names) setup x e)
+
+  -- each call of the manager is followed
+  abbrev pub CallsAreFollowed : Type 0
+  CallsAreFollowed = (x : Lab (P setup names)) (call : Call) → IsFollowed x (Calls call)
+
+  -- each live frame that comes to the manager is followed
+  abbrev pub RepliesAreFollowed : Type 0
+  RepliesAreFollowed = (x : Lab (P setup names)) (number : ℕ) → IsDelivered (P setup names) ToManager x number → IsFollowed x (ToMgr number)

@@ -1,0 +1,4 @@
+pub mod Each
+pub mod Made
+pub mod Tied
+pub mod Follows

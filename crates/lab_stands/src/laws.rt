@@ -1,0 +1,18 @@
+//! What a lab does at an event, the model's world does.
+
+ghost use Rattle.std.specs.Prelude.{List};
+ghost use Rattle.cfg_records.specs.declared.op.Op.{Op};
+ghost use Rattle.cfg_records.specs.declared.board_file.BoardFile.{BoardFile};
+ghost use Rattle.cfg_records.specs.Records.{Records};
+ghost use Rattle.plans.specs.declared.names.Names.{Names};
+ghost use Rattle.lab_stands.specs.Follows.{CallsAreFollowed, RepliesAreFollowed};
+
+/// Where the manager is called, the model's world goes on to one that the lab shows then. So it is in each phase, also where the call is refused.
+pub fn calls_are_followed()
+    ensures { (setup : BoardFile) (names : Names) (plan : List Op) (start : Records) → CallsAreFollowed setup names plan start }
+{}
+
+/// Where a live frame comes to the manager, whole on IPMB or a packet on SMBus, the model's world goes on to one that the lab shows then.
+pub fn replies_are_followed()
+    ensures { (setup : BoardFile) (names : Names) (plan : List Op) (start : Records) → RepliesAreFollowed setup names plan start }
+{}

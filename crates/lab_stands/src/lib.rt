@@ -1,0 +1,5 @@
+//! A lab and the model's world: what a lab does at an event, the model of two buses does. There is no code here: each law is the contract
+//! of a function without a body.
+#![tactic(auto)]
+
+pub mod laws;
