@@ -442,60 +442,44 @@ fn events_are_needed_unless_they_are_left(rt: HostRuntime) -> Result<(), Fail> {
     Ok(())
 }
 
-/// Whether the step of this place of the plan of a text passes.
-fn passes(alloc: Global, text: &str, place: usize, test: fn(&Op) -> bool) -> Result<bool, Fail> {
-    let plan = read_plan(alloc, text).map_err(|_| "a plan")?;
-    let op = plan.steps.as_slice().get(place).ok_or("a step")?;
-    Ok(test(op))
-}
-
 #[test]
 fn each_kind_is_read(rt: HostRuntime) -> Result<(), Fail> {
     let plan = read_plan(rt.alloc(), PLAN).map_err(|_| "a plan")?;
-    assert_eq!(rt; plan.steps.as_slice().len(), 5);
-    let read = passes(rt.alloc(), PLAN, 0, |op| {
-        let values = [1, 2, 3, 4, 5, 6];
-        matches!(op, Op::Thresholds(set) if *set == SetThresholds { sensor: 5, mask: 0x3F, values })
-    })?;
-    assert!(rt; read);
-    let read = passes(rt.alloc(), PLAN, 1, |op| {
-        let want = SetHysteresis {
-            sensor: 6,
-            positive: 7,
-            negative: 8,
-        };
-        matches!(op, Op::Hysteresis(set) if *set == want)
-    })?;
-    assert!(rt; read);
-    let read = passes(rt.alloc(), PLAN, 2, |op| {
-        let events = EventMasks {
-            assertions: 0x280,
-            deassertions: 0x801,
-        };
-        let want = SetEventEnable {
-            sensor: 9,
-            messages: true,
-            scanning: false,
-            change: EventChange::Enable(events),
-        };
-        matches!(op, Op::EventEnable(set) if *set == want)
-    })?;
-    assert!(rt; read);
-    let read = passes(rt.alloc(), PLAN, 3, |op| {
-        let want = SetWatchdog {
-            timer_use: 0x83,
-            actions: 0x21,
-            pre_timeout: 10,
-            flags_to_clear: 0,
-            initial: 3000,
-        };
-        matches!(op, Op::Watchdog(set) if *set == want)
-    })?;
-    assert!(rt; read);
-    let read = passes(rt.alloc(), PLAN, 4, |op| {
-        matches!(op, Op::PowerPolicy(set) if *set == SetPowerPolicy { policy: 2 })
-    })?;
-    assert!(rt; read);
+    let steps = plan.steps.as_slice();
+    assert_eq!(rt; steps.len(), 5);
+    let thresholds = SetThresholds {
+        sensor: 5,
+        mask: 0x3F,
+        values: [1, 2, 3, 4, 5, 6],
+    };
+    assert!(rt; matches!(steps.get(0), Some(Op::Thresholds(set)) if *set == thresholds));
+    let hysteresis = SetHysteresis {
+        sensor: 6,
+        positive: 7,
+        negative: 8,
+    };
+    assert!(rt; matches!(steps.get(1), Some(Op::Hysteresis(set)) if *set == hysteresis));
+    let events = EventMasks {
+        assertions: 0x280,
+        deassertions: 0x801,
+    };
+    let enable = SetEventEnable {
+        sensor: 9,
+        messages: true,
+        scanning: false,
+        change: EventChange::Enable(events),
+    };
+    assert!(rt; matches!(steps.get(2), Some(Op::EventEnable(set)) if *set == enable));
+    let watchdog = SetWatchdog {
+        timer_use: 0x83,
+        actions: 0x21,
+        pre_timeout: 10,
+        flags_to_clear: 0,
+        initial: 3000,
+    };
+    assert!(rt; matches!(steps.get(3), Some(Op::Watchdog(set)) if *set == watchdog));
+    let policy = SetPowerPolicy { policy: 2 };
+    assert!(rt; matches!(steps.get(4), Some(Op::PowerPolicy(set)) if *set == policy));
     Ok(())
 }
 
@@ -514,17 +498,20 @@ unr = 0x64
 ";
     let plan = read_plan(rt.alloc(), text).map_err(|_| "a plan")?;
     assert_eq!(rt; plan.retries.number(), 3);
-    assert_eq!(rt; plan.steps.as_slice().len(), 2);
-    let read = passes(rt.alloc(), text, 0, |op| {
-        let values = [0, 0, 0, 0x4B, 0x5A, 0];
-        matches!(op, Op::Thresholds(set) if *set == SetThresholds { sensor: 5, mask: 0x18, values })
-    })?;
-    assert!(rt; read);
-    let read = passes(rt.alloc(), text, 1, |op| {
-        let values = [0, 0, 0, 0, 0x5C, 0x64];
-        matches!(op, Op::Thresholds(set) if *set == SetThresholds { sensor: 5, mask: 0x30, values })
-    })?;
-    assert!(rt; read);
+    let steps = plan.steps.as_slice();
+    assert_eq!(rt; steps.len(), 2);
+    let first = SetThresholds {
+        sensor: 5,
+        mask: 0x18,
+        values: [0, 0, 0, 0x4B, 0x5A, 0],
+    };
+    assert!(rt; matches!(steps.get(0), Some(Op::Thresholds(set)) if *set == first));
+    let second = SetThresholds {
+        sensor: 5,
+        mask: 0x30,
+        values: [0, 0, 0, 0, 0x5C, 0x64],
+    };
+    assert!(rt; matches!(steps.get(1), Some(Op::Thresholds(set)) if *set == second));
     Ok(())
 }
 

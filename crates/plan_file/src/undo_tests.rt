@@ -180,11 +180,11 @@ fn most_requests_are_256(rt: HostRuntime) -> Result<(), Fail> {
 
 #[test]
 fn every_prefix_is_refused_or_read(rt: HostRuntime) -> Result<(), Fail> {
-    let mut read = 0;
+    let mut read = 0_usize;
     for end in 0..=TEXT.len() {
         if let Some(prefix) = TEXT.get(..end) {
             if fault(rt.alloc(), prefix).is_none() {
-                read += 1;
+                read = read.saturating_add(1);
             }
         }
     }

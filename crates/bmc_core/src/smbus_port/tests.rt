@@ -105,7 +105,7 @@ fn a_ninth_requester_waits_for_an_idle(rt: HostRuntime) -> Result<(), Fail> {
     // The ninth is told that the controller isn't ready.
     let busy = sent(&rt, &lab);
     let start = [0x30, 0x0F, 0x0A, 0x21, 1, 0x11, 0x0A, 0xC0, 1, 0, 0, 2, 4];
-    assert_eq!(rt; busy.as_slice()[..13], start[..]);
+    assert!(rt; busy.as_slice().starts_with(&start));
     // A control message, Get Endpoint ID, has no window.
     let control = packet(0x11, 0xC8, &[0, 0x80, 2]);
     assert_eq!(rt; done(&mut lab, control.as_slice()), Done::Control);
@@ -148,7 +148,7 @@ fn a_kept_reply_goes_where_the_repeat_came_from(rt: HostRuntime) -> Result<(), F
     assert_eq!(rt; done(&mut lab, again.as_slice()), Done::Repeated);
     let reply = sent(&rt, &lab);
     let start = [0x30, 0x0F, 0x0B, 0x21, 1, 8, 9, 0xC3, 1, 0, 0, 2, 0, 5];
-    assert_eq!(rt; reply.as_slice()[..14], start[..]);
+    assert!(rt; reply.as_slice().starts_with(&start));
     Ok(())
 }
 
