@@ -16,7 +16,7 @@ const FIRST: [u8; 8] = [0x05, 0x18, 0x00, 0x00, 0x00, 0x50, 0x5F, 0x00];
 /// The request that undoes the second step: upper critical 5Ah, upper non-recoverable 6Eh.
 const SECOND: [u8; 8] = [0x05, 0x30, 0x00, 0x00, 0x00, 0x00, 0x5A, 0x6E];
 
-fn set_thresholds(body: &[u8]) -> Asked {
+fn set_thresholds(body: &[u8; 8]) -> Asked {
     Asked::ipmi(NetFn::new(0x04), 0x26, body)
 }
 
