@@ -9,4 +9,6 @@ pub mod Live
 pub mod Only
 pub mod Taken
 pub mod Returns
+pub mod Asked
+pub mod Others
 pub mod Steps

@@ -1,5 +1,9 @@
--- What a lab does, the model's world does: the laws of its single steps.
-use Rattle.std.specs.Prelude.{ℕ, List}
+-- What a lab does at an event, the model's world does: the laws of single steps.
+use Rattle.std.specs.Prelude.{◌≡◌, ℕ, List}
+use Rattle.two_wire.specs.declared.Bus.{Bus}
+use Rattle.two_wire.specs.declared.Bus.TheVariants.{Ipmb}
+use Rattle.ipmb_frame.specs.declared.message.Request.{Request}
+use Rattle.bmc_board.specs.declared.activity.Activity.{Activity}
 use Rattle.cfg_records.specs.declared.op.Op.{Op}
 use Rattle.cfg_records.specs.declared.board_file.BoardFile.{BoardFile}
 use Rattle.cfg_records.specs.Records.{Records}
@@ -11,8 +15,8 @@ use Rattle.undo_model.proofs.TwoBuses.{packet_lines}
 use Rattle.undo_family.proofs.IsFamily.{is_family}
 use Rattle.plans.specs.declared.names.Names.{Names}
 use Rattle.lab_model.specs.ManagerSteps.{Call, addresses}
-use Rattle.lab_model.specs.Honest.{IsDelivered}
-use Rattle.lab_model.specs.Lab.{Event, Calls, ToMgr, ToManager, Lab, step}
+use Rattle.lab_model.specs.Honest.{IsDelivered, IsHonest}
+use Rattle.lab_model.specs.Lab.{Event, Calls, ToBmc, ToMgr, OtherIpmb, Noise, Idles, OnBench, ToPort, ToManager, Lab, step}
 use Rattle.lab_stands.specs.Tied.{P, F, L, W, IsTied, world_of, Goes}
 
 module _ (setup : BoardFile) (names : Names) (plan : List Op) (start : Records) where
@@ -31,3 +35,14 @@ module _ (setup : BoardFile) (names : Names) (plan : List Op) (start : Records) 
   -- each live frame that comes to the manager is followed
   abbrev pub RepliesAreFollowed : Type 0
   RepliesAreFollowed = (x : Lab (P setup names)) (number : ℕ) → IsDelivered (P setup names) ToManager x number → IsFollowed x (ToMgr number)
+
+  -- each live frame of the manager that comes to the port on IPMB is followed
+  abbrev pub RequestsAreFollowed : Type 0
+  RequestsAreFollowed = (x : Lab (P setup names)) (number : ℕ) (d : IsDelivered (P setup names) ToPort x number) → d.frame.on ≡ Ipmb → IsFollowed x (ToBmc number)
+
+  -- so is each honest event that is none of the manager's, but for messages of others on SMBus
+  pub record OthersAreFollowed : Type 0 where
+    pub requests : (x : Lab (P setup names)) (r : Request) → IsHonest (P setup names) x (OtherIpmb r) → IsFollowed x (OtherIpmb r)
+    pub noise : (x : Lab (P setup names)) (bus : Bus) (bytes : List ℕ) → IsFollowed x (Noise bus bytes)
+    pub idles : (x : Lab (P setup names)) (bus : Bus) (requester : ℕ) → IsHonest (P setup names) x (Idles bus requester) → IsFollowed x (Idles bus requester)
+    pub bench : (x : Lab (P setup names)) (activity : Activity) → IsFollowed x (OnBench activity)

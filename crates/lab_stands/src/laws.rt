@@ -5,7 +5,7 @@ ghost use Rattle.cfg_records.specs.declared.op.Op.{Op};
 ghost use Rattle.cfg_records.specs.declared.board_file.BoardFile.{BoardFile};
 ghost use Rattle.cfg_records.specs.Records.{Records};
 ghost use Rattle.plans.specs.declared.names.Names.{Names};
-ghost use Rattle.lab_stands.specs.Follows.{CallsAreFollowed, RepliesAreFollowed};
+ghost use Rattle.lab_stands.specs.Follows.{CallsAreFollowed, RepliesAreFollowed, RequestsAreFollowed, OthersAreFollowed};
 
 /// Where the manager is called, the model's world goes on to one that the lab shows then. So it is in each phase, also where the call is refused.
 pub fn calls_are_followed()
@@ -15,4 +15,14 @@ pub fn calls_are_followed()
 /// Where a live frame comes to the manager, whole on IPMB or a packet on SMBus, the model's world goes on to one that the lab shows then.
 pub fn replies_are_followed()
     ensures { (setup : BoardFile) (names : Names) (plan : List Op) (start : Records) → RepliesAreFollowed setup names plan start }
+{}
+
+/// Where a live frame of the manager comes to the port on IPMB, the model's world goes on to one that the lab shows then.
+pub fn requests_are_followed()
+    ensures { (setup : BoardFile) (names : Names) (plan : List Op) (start : Records) → RequestsAreFollowed setup names plan start }
+{}
+
+/// So it does at an honest request of another on IPMB, at noise, where a requester is idle, and where what isn't configuration changes.
+pub fn others_are_followed()
+    ensures { (setup : BoardFile) (names : Names) (plan : List Op) (start : Records) → OthersAreFollowed setup names plan start }
 {}
