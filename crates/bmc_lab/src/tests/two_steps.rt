@@ -1,9 +1,10 @@
 //! A plan of two steps on the sample board, over IPMB.
 use super::{Lab, open_lab};
 use bmc_core::Out;
-use cfg_records::{Asked, Op, PlainStore, SetThresholds, Store, sample_board};
-use plans::{Names, Plan, Requests, Retries, Steps, UndoList};
-use std::alloc::{AllocError, Global};
+use cfg_records::{PlainStore, Store, sample_board};
+use plan_file::{read_plan, read_undo, write_undo};
+use plans::{Names, Plan};
+use std::alloc::Global;
 use std::process::Abort;
 use std::test::Fail;
 use two_wire::{Address, Bus};
@@ -21,25 +22,30 @@ fn names() -> Names {
 }
 
 /// Upper non-critical 4Bh and upper critical 5Ah of sensor 5; then upper critical 5Ch and upper non-recoverable 64h.
+const PLAN: &str = "[[step]]
+kind = \"thresholds\"
+sensor = 5
+unc = 0x4B
+uc = 0x5A
+[[step]]
+kind = \"thresholds\"
+sensor = 5
+uc = 0x5C
+unr = 0x64
+";
+
+/// What undoes both steps, the second first.
+const UNDO: &str = "undo 1
+next ipmb 4 smbus 0
+ipmb 10260530000000005A6E
+ipmb 10260518000000505F00
+";
+
 fn plan(alloc: Global) -> Result<Plan, Fail> {
-    let mut ops = Vec::new(alloc);
-    for (mask, values) in [
-        (0x18, [0, 0, 0, 0x4B, 0x5A, 0]),
-        (0x30, [0, 0, 0, 0, 0x5C, 0x64]),
-    ] {
-        ops.push(Op::Thresholds(SetThresholds {
-            sensor: 5,
-            mask,
-            values,
-        }))?;
-    }
-    let Some(steps) = Steps::new(ops) else {
-        return Err("too many steps".into());
+    let Ok(plan) = read_plan(alloc, PLAN) else {
+        return Err("no plan".into());
     };
-    Ok(Plan {
-        steps,
-        retries: Retries::new(3),
-    })
+    Ok(plan)
 }
 
 /// More requests than any run here sends.
@@ -88,50 +94,6 @@ fn sent_by(called: Result<Option<Sent>, WrongPhase>) -> Result<Option<Sent>, Fai
     Ok(sent)
 }
 
-/// A request without addresses, number and sums, in hexadecimal: netFn with its logical unit, command, data; or PLDM type, command, data.
-fn line(alloc: Global, asked: &Asked) -> Result<String, AllocError> {
-    let mut bytes = Vec::new(alloc);
-    match asked {
-        Asked::Ipmi {
-            net_fn,
-            lun,
-            command,
-            body,
-            ..
-        } => {
-            bytes.push((net_fn.number() << 2) | lun.number())?;
-            bytes.push(*command)?;
-            bytes.extend_from_slice(body.as_slice())?;
-        }
-        Asked::Pldm {
-            kind,
-            command,
-            body,
-            ..
-        } => {
-            bytes.push(kind.number())?;
-            bytes.push(*command)?;
-            bytes.extend_from_slice(body.as_slice())?;
-        }
-    }
-    hex::encode_upper(alloc, bytes.as_slice())
-}
-
-/// The list undoes the two steps, the second first.
-fn undoes_both(rt: &impl Abort, alloc: Global, list: &UndoList) -> Result<(), Fail> {
-    let lines = ["10260530000000005A6E", "10260518000000505F00"];
-    assert_eq!(rt; list.requests.len(), lines.len());
-    for (place, wanted) in lines.iter().enumerate() {
-        let Some(asked) = list.requests.get(lines.len() - 1 - place) else {
-            return Err("no request".into());
-        };
-        assert_eq!(rt; line(alloc, asked)?.as_str(), *wanted);
-    }
-    assert_eq!(rt; list.next.ipmb.number(), 4);
-    assert_eq!(rt; list.next.smbus.number(), 0);
-    Ok(())
-}
-
 /// Whether each record of the board is as in its file.
 fn is_as_in_its_file(alloc: Global, lab: &Lab) -> Result<bool, Fail> {
     let store: &PlainStore = lab.board.store();
@@ -144,18 +106,6 @@ fn is_as_in_its_file(alloc: Global, lab: &Lab) -> Result<bool, Fail> {
         }
     }
     Ok(true)
-}
-
-/// The same list of two requests once more.
-fn copy_of(alloc: Global, list: &UndoList) -> Result<UndoList, Fail> {
-    let mut requests = Requests::new(alloc)?;
-    let (Some(first), Some(second)) = (list.requests.get(0), list.requests.get(1)) else {
-        return Err("no request".into());
-    };
-    requests.push(first.copy());
-    requests.push(second.copy());
-    let next = list.next;
-    Ok(UndoList { requests, next })
 }
 
 /// A fresh board, and a manager that carried the plan out on it.
@@ -197,7 +147,7 @@ fn undone(
 fn a_plan_is_carried_out_and_undone(rt: HostRuntime) -> Result<(), Fail> {
     let alloc = rt.alloc();
     let (mut lab, mut manager) = carried_out(&rt, alloc)?;
-    undoes_both(&rt, alloc, manager.undo_list())?;
+    assert_eq!(rt; write_undo(alloc, manager.undo_list())?.as_str(), UNDO);
     undone(&rt, alloc, &mut lab, &mut manager)
 }
 
@@ -205,12 +155,15 @@ fn a_plan_is_carried_out_and_undone(rt: HostRuntime) -> Result<(), Fail> {
 fn another_manager_undoes_the_plan(rt: HostRuntime) -> Result<(), Fail> {
     let alloc = rt.alloc();
     let (mut lab, manager) = carried_out(&rt, alloc)?;
-    let list = copy_of(alloc, manager.undo_list())?;
+    let text = write_undo(alloc, manager.undo_list())?;
+    let Ok(list) = read_undo(alloc, text.as_str()) else {
+        return Err("no undo list".into());
+    };
     let Ok(mut other) = Manager::resume(alloc, list, names(), 3) else {
         return Err("no manager".into());
     };
     assert_eq!(rt; other.phase(), Phase::Halted(2, Why::Stop));
-    undoes_both(&rt, alloc, other.undo_list())?;
+    assert_eq!(rt; write_undo(alloc, other.undo_list())?.as_str(), UNDO);
     undone(&rt, alloc, &mut lab, &mut other)
 }
 
