@@ -11,4 +11,5 @@ pub mod Taken
 pub mod Returns
 pub mod Asked
 pub mod Others
+pub mod Parts
 pub mod Steps

@@ -1,0 +1,149 @@
+-- What a packet of the manager that comes to the port on SMBus does in a lab, it does in the model's world.
+use Rattle.std.proofs.Common.{◌≡◌, ℕ, suc, zero, ◌+◌, ◌%◌, ◌<◌, ◌≤◌, Bool, true, false, cond, not, ◌&&◌, List, [], ◌∷◌, ◌++◌, length, map, Option, Some, None, refl, sym, ◌∙◌, ap, subst, arith, ◌⊎◌, inl, inr}
+use Rattle.std.specs.Prelude.{◌==◌, slice_get, IfSome, MatchOption}
+use Rattle.std.proofs.lemmas.Bool.{cond_both, and_from, and_parts, eq-eqb, eqb-true, cases_Bool}
+use Rattle.two_wire.specs.declared.Bus.{Bus}
+use Rattle.two_wire.specs.declared.Bus.TheVariants.{Ipmb, Smbus}
+use Rattle.mctp_net.specs.declared.packet.Packet.{Packet}
+use Rattle.mctp_net.specs.declared.message.Message.{Message}
+use Rattle.mctp_net.specs.declared.taken.DropCause.{DropCause}
+use Rattle.mctp_net.specs.declared.taken.DropCause.TheVariants.{NotOurs, NoStart, TooLong, OutOfSequence, UnitSize, NoSlot}
+use Rattle.mctp_net.specs.Cut.{piece}
+use Rattle.mctp_net.specs.Assembly.{is_ours, drop_cause, after as kept_after, message_of}
+use Rattle.cfg_records.specs.declared.op.Op.{Op}
+use Rattle.cfg_records.specs.declared.board_file.BoardFile.{BoardFile}
+use Rattle.cfg_records.specs.Records.{Records}
+use Rattle.bus_model.specs.Repeat.{In}
+use Rattle.bus_model.specs.Assembly.{Name, is_name, Sent, Step, Waits, Whole, Drops, IsWhole, takes, waiting}
+use Rattle.bus_model.specs.BusState.{BusState, Frame, Content, Ask}
+use Rattle.bus_model.specs.Schedule.{IsLive as IsLiveThere}
+use Rattle.bus_model.specs.PacketBus.{PacketBus, Ends, PacketEvent, PacketReachesPort, Closes, request_name, set_at, whole_comes, port_takes, packet_comes, packet_at_port, packet_happens}
+use Rattle.bus_model.specs.PacketSchedule.{RecentWhereWhole, MayJoin, PacketMayJoin, JoinsAtPort, IsPacketHonest}
+use Rattle.bus_model.specs.PacketEffect.{HasPacketEffect}
+use Rattle.bus_model.specs.Packet.{Packet as ModelPacket}
+use Rattle.bus_model.proofs.Cutting.{packets_cut}
+use Rattle.undo_model.specs.World.{States, update}
+use Rattle.undo_model.proofs.LineLaws.{effect}
+use Rattle.packet_model.specs.Seen.{seen, Agrees}
+use Rattle.packet_model.proofs.Steps.{takes-agrees}
+use Rattle.plans.specs.declared.names.Names.{Names}
+use Rattle.lab_model.specs.Values.{Value, Part}
+use Rattle.lab_model.specs.PortSteps.{Deed, PortState, hears_part, ends_message, stays}
+use Rattle.lab_model.specs.PortEvents.{name_in, part_answer_to, event_by, happens_if, IsPortOf, PartsAreEvents}
+use Rattle.lab_model.specs.Own.{JoinsOwn}
+use Rattle.lab_model.specs.Lab.{LabFrame, Lab, opens}
+use Rattle.lab_model.proofs.PortEvents.{parts_leave_log}
+use Rattle.lab_stands.specs.Tied.{P, F, L, W, smbus_bus, rules_on, requests, HoldsAskedPart, IsTied, world_of}
+use Rattle.lab_stands.specs.Follows.{Holds}
+use Rattle.lab_stands.proofs.Sending.{from_zero}
+use Rattle.lab_stands.proofs.Live.{smbus_holds}
+
+module _ (setup : BoardFile) (names : Names) (plan : List Op) (start : Records) where
+  module _ (x : Lab (P setup names)) (on : States (L setup names)) (tied : IsTied setup names x on) (h : Holds setup names plan start (world_of setup names x on)) (f : LabFrame) (hold : HoldsAskedPart setup names (on Smbus) f)
+      (live : IsLiveThere (rules_on setup names Smbus) (on Smbus).bus hold.part.frame) (mine : JoinsOwn (P setup names) x f.request (Part hold.packet)) where
+    abbrev b : PacketBus
+    b = smbus_bus setup names
+
+    abbrev p : Packet
+    p = hold.packet
+
+    abbrev g : Frame
+    g = hold.part.frame
+
+    abbrev ends : Ends
+    ends = on Smbus
+
+    abbrev cause : Option DropCause
+    cause = drop_cause x.smbus.eid x.smbus.kept p
+
+    abbrev pub answer : List ℕ
+    answer = part_answer_to setup x.smbus x.board p
+
+    abbrev pub arrives : PacketEvent
+    arrives = PacketReachesPort hold.which hold.place answer
+
+    abbrev sent : Sent
+    sent = record { request = g.request; idles = g.idles; packet = seen (piece p) }
+
+    abbrev taken : Step × List Sent
+    taken = takes (ends.port (name_in p)) sent
+
+    -- what waits under the packet's name is of the requests under its tag
+    tag_is : p.envelope.tag ≡ g.request % 8
+    tag_is = ap (λ (n : Name). n.tag) hold.part.named ∙ ap (λ (n : ℕ). n % 8) (sym (from_zero g.request))
+
+    agrees : Agrees cause p.end (waiting (ends.port (name_in p)) sent ++ sent ∷ []) taken
+    agrees = takes-agrees x.smbus.eid x.smbus.kept p sent (ends.port (name_in p)) refl (tied.smbus_port.waits _)
+
+    -- ---- it may come
+
+    waits_of : (t : Sent) → In t (ends.port (name_in p)) → t.request ≡ x.opened p.envelope.tag
+    waits_of t is =
+        tied.opened g.request t (subst (λ (n : Name). In t (ends.port n)) hold.part.named is) ∙ ap x.opened (sym tag_is)
+
+    recent : cause ≡ None → (t : Sent) → In t (waiting (ends.port (name_in p)) sent) → length ends.bus.begun ≤ t.request + 8
+    recent none t is = by p.start refl is
+      where
+        by : (s : Bool) → p.start ≡ s → In t (cond s [] (ends.port (name_in p))) → length ends.bus.begun ≤ t.request + 8
+        by true e is = absurd is
+        by false e is =
+            let same : t.request ≡ g.request = waits_of t is ∙ mine e none ∙ sym hold.request in
+            let most = live.0 in
+            omega (arith, same, most)
+
+    may_join : (c : Option DropCause) → cause ≡ c → (c ≡ Some NotOurs → ⊥) → (c ≡ Some NoSlot → ⊥) → Agrees c p.end (waiting (ends.port (name_in p)) sent ++ sent ∷ []) taken
+        → MayJoin RecentWhereWhole (rules_on setup names Smbus) ends.bus (ends.port (name_in p)) sent
+    may_join (Some NotOurs) e ours slot a whole = absurd (ours refl)
+    may_join (Some NoSlot) e ours slot a whole = absurd (slot refl)
+    may_join (Some NoStart) e ours slot a whole = absurd (subst (λ (r : Step × List Sent). IsWhole r.0) a whole)
+    may_join (Some TooLong) e ours slot a whole = absurd (subst (λ (r : Step × List Sent). IsWhole r.0) a whole)
+    may_join (Some OutOfSequence) e ours slot a whole = absurd (subst (λ (r : Step × List Sent). IsWhole r.0) a whole)
+    may_join (Some UnitSize) e ours slot a whole = absurd (subst (λ (r : Step × List Sent). IsWhole r.0) a whole)
+    may_join None e ours slot a whole = recent e
+
+    pub honest_part : (cause ≡ Some NotOurs → ⊥) → (cause ≡ Some NoSlot → ⊥) → IsPacketHonest RecentWhereWhole b ends arrives
+    honest_part ours slot =
+        let here : MayJoin RecentWhereWhole (rules_on setup names Smbus) ends.bus (ends.port (name_in p)) sent = may_join cause refl ours slot agrees in
+        let named : MayJoin RecentWhereWhole (rules_on setup names Smbus) ends.bus (ends.port (request_name b g.request)) sent =
+        subst (λ (n : Name). MayJoin RecentWhereWhole (rules_on setup names Smbus) ends.bus (ends.port n) sent) hold.part.named here in
+        let placed : PacketMayJoin RecentWhereWhole (rules_on setup names Smbus) ends.bus (ends.port (request_name b g.request)) g.request g.idles (slice_get (b.split hold.part.bytes) hold.place) =
+        subst (λ o. PacketMayJoin RecentWhereWhole (rules_on setup names Smbus) ends.bus (ends.port (request_name b g.request)) g.request g.idles o) (sym hold.part.part) named in
+        let joins : JoinsAtPort RecentWhereWhole b ends hold.place g.request g.idles g.content =
+        subst (λ (c : Content). JoinsAtPort RecentWhereWhole b ends hold.place g.request g.idles c) (sym hold.part.asks) placed in
+        subst (λ (o : Option Frame). IfSome o (λ (k : Frame). IsLiveThere (rules_on setup names Smbus) ends.bus k × JoinsAtPort RecentWhereWhole b ends hold.place k.request k.idles k.content)) (sym hold.part.sent) (live, joins)
+
+    pub effect_of : (cause ≡ Some NotOurs → ⊥) → (cause ≡ Some NoSlot → ⊥) → HasPacketEffect b ends arrives
+    effect_of ours slot = effect b packets_cut ends arrives (smbus_holds setup names plan start x on h) (honest_part ours slot)
+
+    -- ---- what it leaves
+
+    -- both ends after it, by what the port's end does with it
+    abbrev pub ends_by : Step × List Sent → Ends
+    ends_by r = record ends { bus = whole_comes (rules_on setup names Smbus) answer g.request r.0 ends.bus; port = set_at (name_in p) r.1 ends.port }
+
+    pub happens_so : packet_happens b ends arrives ≡ ends_by taken
+    happens_so =
+        ap (λ (o : Option Frame). packet_at_port b answer hold.place o ends) hold.part.sent
+        ∙ ap (λ (c : Content). packet_comes b answer hold.place g.request g.idles c ends) hold.part.asks
+        ∙ ap (λ o. port_takes b answer g.request g.idles o ends) hold.part.part
+        ∙ ap (λ (n : Name).
+        let r = takes (ends.port n) sent in
+        let y : Ends = record ends { bus = whole_comes (rules_on setup names Smbus) answer g.request r.0 ends.bus; port = set_at n r.1 ends.port } in y) (sym hold.part.named)
+
+    -- the law of single packets
+    pub leaves : PartsAreEvents setup x.smbus x.board p b ends
+    leaves = parts_leave_log setup x.smbus x.board p b ends hold.small tied.smbus_port
+
+    -- ---- what is opened under each tag
+
+    abbrev opened_after : ℕ → ℕ
+    opened_after = (opens (P setup names) (Part p) f.request x).opened
+
+    opened_at : (tag : ℕ) (s o : Bool) → p.start ≡ s → is_ours x.smbus.eid p ≡ o → opened_after tag ≡ cond (s && o && (tag == p.envelope.tag)) f.request (x.opened tag)
+    opened_at tag s o e m = by (p.start && is_ours x.smbus.eid p) refl
+      where
+        by : (t : Bool) → (p.start && is_ours x.smbus.eid p) ≡ t → opened_after tag ≡ cond (s && o && (tag == p.envelope.tag)) f.request (x.opened tag)
+        by true t = ap (λ (u : Bool). (let z : Lab (P setup names) = cond u (record x { opened = λ k. cond (k == p.envelope.tag) f.request (x.opened k) }) x in z).opened tag) t
+            ∙ ap (λ (u : Bool). cond (u && (tag == p.envelope.tag)) f.request (x.opened tag)) (sym t ∙ ap (λ (u : Bool). u && is_ours x.smbus.eid p) e ∙ ap (λ (u : Bool). s && u) m)
+        by false t = ap (λ (u : Bool). (let z : Lab (P setup names) = cond u (record x { opened = λ k. cond (k == p.envelope.tag) f.request (x.opened k) }) x in z).opened tag) t
+            ∙ ap (λ (u : Bool). cond (u && (tag == p.envelope.tag)) f.request (x.opened tag)) (sym t ∙ ap (λ (u : Bool). u && is_ours x.smbus.eid p) e ∙ ap (λ (u : Bool). s && u) m)
