@@ -10,6 +10,7 @@ use Rattle.mctp_net.specs.declared.taken.DropCause.{DropCause}
 use Rattle.mctp_net.specs.declared.taken.DropCause.TheVariants.{NotOurs, NoStart, TooLong, OutOfSequence, UnitSize, NoSlot}
 use Rattle.mctp_net.specs.Cut.{piece}
 use Rattle.mctp_net.specs.Assembly.{is_ours, drop_cause, after as kept_after, message_of}
+use Rattle.mctp_net.proofs.Causes.{passes}
 use Rattle.cfg_records.specs.declared.op.Op.{Op}
 use Rattle.cfg_records.specs.declared.board_file.BoardFile.{BoardFile}
 use Rattle.cfg_records.specs.Records.{Records}
@@ -41,19 +42,19 @@ use Rattle.lab_stands.proofs.Live.{smbus_holds}
 module _ (setup : BoardFile) (names : Names) (plan : List Op) (start : Records) where
   module _ (x : Lab (P setup names)) (on : States (L setup names)) (tied : IsTied setup names x on) (h : Holds setup names plan start (world_of setup names x on)) (f : LabFrame) (hold : HoldsAskedPart setup names (on Smbus) f)
       (live : IsLiveThere (rules_on setup names Smbus) (on Smbus).bus hold.part.frame) (mine : JoinsOwn (P setup names) x f.request (Part hold.packet)) where
-    abbrev b : PacketBus
+    abbrev pub b : PacketBus
     b = smbus_bus setup names
 
-    abbrev p : Packet
+    abbrev pub p : Packet
     p = hold.packet
 
-    abbrev g : Frame
+    abbrev pub g : Frame
     g = hold.part.frame
 
-    abbrev ends : Ends
+    abbrev pub ends : Ends
     ends = on Smbus
 
-    abbrev cause : Option DropCause
+    abbrev pub cause : Option DropCause
     cause = drop_cause x.smbus.eid x.smbus.kept p
 
     abbrev pub answer : List ℕ
@@ -62,22 +63,22 @@ module _ (setup : BoardFile) (names : Names) (plan : List Op) (start : Records) 
     abbrev pub arrives : PacketEvent
     arrives = PacketReachesPort hold.which hold.place answer
 
-    abbrev sent : Sent
+    abbrev pub sent : Sent
     sent = record { request = g.request; idles = g.idles; packet = seen (piece p) }
 
-    abbrev taken : Step × List Sent
+    abbrev pub taken : Step × List Sent
     taken = takes (ends.port (name_in p)) sent
 
     -- what waits under the packet's name is of the requests under its tag
-    tag_is : p.envelope.tag ≡ g.request % 8
+    pub tag_is : p.envelope.tag ≡ g.request % 8
     tag_is = ap (λ (n : Name). n.tag) hold.part.named ∙ ap (λ (n : ℕ). n % 8) (sym (from_zero g.request))
 
-    agrees : Agrees cause p.end (waiting (ends.port (name_in p)) sent ++ sent ∷ []) taken
+    pub agrees : Agrees cause p.end (waiting (ends.port (name_in p)) sent ++ sent ∷ []) taken
     agrees = takes-agrees x.smbus.eid x.smbus.kept p sent (ends.port (name_in p)) refl (tied.smbus_port.waits _)
 
     -- ---- it may come
 
-    waits_of : (t : Sent) → In t (ends.port (name_in p)) → t.request ≡ x.opened p.envelope.tag
+    pub waits_of : (t : Sent) → In t (ends.port (name_in p)) → t.request ≡ x.opened p.envelope.tag
     waits_of t is =
         tied.opened g.request t (subst (λ (n : Name). In t (ends.port n)) hold.part.named is) ∙ ap x.opened (sym tag_is)
 
@@ -136,10 +137,10 @@ module _ (setup : BoardFile) (names : Names) (plan : List Op) (start : Records) 
 
     -- ---- what is opened under each tag
 
-    abbrev opened_after : ℕ → ℕ
+    abbrev pub opened_after : ℕ → ℕ
     opened_after = (opens (P setup names) (Part p) f.request x).opened
 
-    opened_at : (tag : ℕ) (s o : Bool) → p.start ≡ s → is_ours x.smbus.eid p ≡ o → opened_after tag ≡ cond (s && o && (tag == p.envelope.tag)) f.request (x.opened tag)
+    pub opened_at : (tag : ℕ) (s o : Bool) → p.start ≡ s → is_ours x.smbus.eid p ≡ o → opened_after tag ≡ cond (s && o && (tag == p.envelope.tag)) f.request (x.opened tag)
     opened_at tag s o e m = by (p.start && is_ours x.smbus.eid p) refl
       where
         by : (t : Bool) → (p.start && is_ours x.smbus.eid p) ≡ t → opened_after tag ≡ cond (s && o && (tag == p.envelope.tag)) f.request (x.opened tag)
@@ -147,3 +148,71 @@ module _ (setup : BoardFile) (names : Names) (plan : List Op) (start : Records) 
             ∙ ap (λ (u : Bool). cond (u && (tag == p.envelope.tag)) f.request (x.opened tag)) (sym t ∙ ap (λ (u : Bool). u && is_ours x.smbus.eid p) e ∙ ap (λ (u : Bool). s && u) m)
         by false t = ap (λ (u : Bool). (let z : Lab (P setup names) = cond u (record x { opened = λ k. cond (k == p.envelope.tag) f.request (x.opened k) }) x in z).opened tag) t
             ∙ ap (λ (u : Bool). cond (u && (tag == p.envelope.tag)) f.request (x.opened tag)) (sym t ∙ ap (λ (u : Bool). u && is_ours x.smbus.eid p) e ∙ ap (λ (u : Bool). s && u) m)
+
+    -- ---- the tie after it
+
+    -- what is opened is all that a packet changes of a lab before the port has it
+    opens_is : opens (P setup names) (Part p) f.request x ≡ record x { opened = opened_after }
+    opens_is = by (p.start && is_ours x.smbus.eid p)
+      where
+        by : (t : Bool) → (let z : Lab (P setup names) = cond t (record x { opened = λ k. cond (k == p.envelope.tag) f.request (x.opened k) }) x in z)
+            ≡ record x { opened = (let z : Lab (P setup names) = cond t (record x { opened = λ k. cond (k == p.envelope.tag) f.request (x.opened k) }) x in z).opened }
+        by true = refl
+        by false = refl
+
+    -- under another tag nothing was opened
+    opened_beside : (tag : ℕ) → (tag == p.envelope.tag) ≡ false → opened_after tag ≡ x.opened tag
+    opened_beside tag other = opened_at tag p.start (is_ours x.smbus.eid p) refl refl ∙ by (p.start && is_ours x.smbus.eid p)
+      where
+        by : (t : Bool) → cond (t && (tag == p.envelope.tag)) f.request (x.opened tag) ≡ x.opened tag
+        by true = ap (λ (u : Bool). cond u f.request (x.opened tag)) other
+        by false = refl
+
+    -- names of the manager's requests are told apart by their tags
+    named_by_tag : (n : ℕ) → is_name (request_name b n) (name_in p) ≡ (n % 8 == p.envelope.tag)
+    named_by_tag n =
+        ap (λ (m : Name). is_name (request_name b n) m) hold.part.named
+        ∙ ap (λ (t : Bool). (t && true) && ((0 + n) % 8 == (0 + g.request) % 8)) (eq-eqb names.own_eid names.own_eid refl)
+        ∙ ap (λ (k : ℕ). k % 8 == (0 + g.request) % 8) (sym (from_zero n))
+        ∙ ap (λ (k : ℕ). n % 8 == k % 8) (sym (from_zero g.request))
+        ∙ ap (λ (k : ℕ). n % 8 == k) (sym tag_is)
+
+    -- what waits after it is of the requests that were opened
+    still_opened : (now : List Sent) → ((t : Sent) → In t now → t.request ≡ opened_after p.envelope.tag)
+        → (n : ℕ) (t : Sent) → In t (set_at (name_in p) now ends.port (request_name b n)) → t.request ≡ opened_after (n % 8)
+    still_opened now mine_now n t is = by (n % 8 == p.envelope.tag) refl (subst (λ (u : Bool). In t (cond u now (ends.port (request_name b n)))) (named_by_tag n) is)
+      where
+        by : (u : Bool) → (n % 8 == p.envelope.tag) ≡ u → In t (cond u now (ends.port (request_name b n))) → t.request ≡ opened_after (n % 8)
+        by true e is = mine_now t is ∙ ap opened_after (sym (eqb-true _ _ e))
+        by false e is = tied.opened n t is ∙ sym (opened_beside (n % 8) e)
+
+    -- what is opened under the packet's own tag, where it is taken
+    own_opened : cause ≡ None → f.request ≡ opened_after p.envelope.tag
+    own_opened none = sym (by p.start refl)
+      where
+        ours : is_ours x.smbus.eid p ≡ true
+        ours = (passes x.smbus.eid x.smbus.kept p none).0
+
+        self : (p.envelope.tag == p.envelope.tag) ≡ true
+        self = eq-eqb _ _ refl
+
+        by : (s : Bool) → p.start ≡ s → opened_after p.envelope.tag ≡ f.request
+        by true e = opened_at p.envelope.tag true true e ours ∙ ap (λ (u : Bool). cond u f.request (x.opened p.envelope.tag)) self
+        by false e = opened_at p.envelope.tag false true e ours ∙ mine e none
+
+    in_more : (ss : List Sent) (s t : Sent) → In t (ss ++ s ∷ []) → In t ss ⊎ (s ≡ t)
+    in_more [] s t (inl same) = inr same
+    in_more [] s t (inr never_so) = absurd never_so
+    in_more (q ∷ qs) s t (inl same) = inl (inl same)
+    in_more (q ∷ qs) s t (inr later) = elim (in_more qs s t later) [ inl there ↦ inl (inr there) | inr same ↦ inr same ]
+
+    -- what waits with it, where it waits
+    waiting_opened : cause ≡ None → (t : Sent) → In t (waiting (ends.port (name_in p)) sent ++ sent ∷ []) → t.request ≡ opened_after p.envelope.tag
+    waiting_opened none t is = elim (in_more (waiting (ends.port (name_in p)) sent) sent t is) [
+      | inl there ↦ before p.start refl there
+      | inr same ↦ ap (λ (s : Sent). s.request) (sym same) ∙ hold.request ∙ own_opened none
+    ]
+      where
+        before : (s : Bool) → p.start ≡ s → In t (cond s [] (ends.port (name_in p))) → t.request ≡ opened_after p.envelope.tag
+        before true e is = absurd is
+        before false e is = waits_of t is ∙ mine e none ∙ own_opened none
