@@ -49,6 +49,7 @@ module _ (setup : BoardFile) (names : Names) where
     idles = h.idles;
     small = h.small;
     to_port = h.to_port;
+    from_manager = h.from_manager;
     asked = h.asked;
     rest = h.rest;
     typed = h.typed;

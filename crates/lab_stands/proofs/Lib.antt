@@ -12,4 +12,5 @@ pub mod Returns
 pub mod Asked
 pub mod Others
 pub mod Parts
+pub mod Quiet
 pub mod Steps

@@ -243,6 +243,7 @@ module _ (setup : BoardFile) (names : Names) (now : States (L setup names)) (whi
         idles = same;
         small = small_part m n p at;
         to_port = ap (λ e. e.destination) (part_envelope m n p at);
+        from_manager = ap (λ e. e.source) (part_envelope m n p at);
         asked = pldm_of kind command body;
         rest = (128 + count % 32) ∷ kind ∷ command ∷ body;
         typed = refl;

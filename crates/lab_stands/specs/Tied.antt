@@ -119,6 +119,7 @@ module _ (setup : BoardFile) (names : Names) where
     pub idles : part.frame.idles ≡ f.idles
     pub small : length packet.payload ≤ unit_size
     pub to_port : packet.envelope.destination ≡ names.peer_wire
+    pub from_manager : packet.envelope.source ≡ names.own_wire
     -- what the message asks, and what a reply to it says
     pub asked : PldmRequest
     pub rest : List ℕ
