@@ -18,7 +18,7 @@ use Rattle.bus_model.specs.Repeat.{In}
 use Rattle.bus_model.specs.Assembly.{Name, is_name, Sent, Step, Waits, Whole, Drops, IsWhole, takes, waiting}
 use Rattle.bus_model.specs.BusState.{BusState, Frame, Content, Ask}
 use Rattle.bus_model.specs.Schedule.{IsLive as IsLiveThere}
-use Rattle.bus_model.specs.PacketBus.{PacketBus, Ends, PacketEvent, PacketReachesPort, Closes, request_name, set_at, whole_comes, port_takes, packet_comes, packet_at_port, packet_happens}
+use Rattle.bus_model.specs.PacketBus.{PacketBus, Ends, PacketEvent, PacketReachesPort, OtherPacket, Closes, request_name, set_at, whole_comes, port_takes, packet_comes, packet_at_port, packet_happens}
 use Rattle.bus_model.specs.PacketSchedule.{RecentWhereWhole, MayJoin, PacketMayJoin, JoinsAtPort, IsPacketHonest}
 use Rattle.bus_model.specs.PacketEffect.{HasPacketEffect}
 use Rattle.bus_model.specs.Packet.{Packet as ModelPacket}
@@ -62,6 +62,10 @@ module _ (setup : BoardFile) (names : Names) (plan : List Op) (start : Records) 
 
     abbrev pub arrives : PacketEvent
     arrives = PacketReachesPort hold.which hold.place answer
+
+    -- what the model has of another's packet that is the same
+    abbrev pub others_event : PacketEvent
+    others_event = OtherPacket (name_in p) (seen (piece p)) answer
 
     abbrev pub sent : Sent
     sent = record { request = g.request; idles = g.idles; packet = seen (piece p) }
@@ -152,7 +156,7 @@ module _ (setup : BoardFile) (names : Names) (plan : List Op) (start : Records) 
     -- ---- the tie after it
 
     -- what is opened is all that a packet changes of a lab before the port has it
-    opens_is : opens (P setup names) (Part p) f.request x ≡ record x { opened = opened_after }
+    pub opens_is : opens (P setup names) (Part p) f.request x ≡ record x { opened = opened_after }
     opens_is = by (p.start && is_ours x.smbus.eid p)
       where
         by : (t : Bool) → (let z : Lab (P setup names) = cond t (record x { opened = λ k. cond (k == p.envelope.tag) f.request (x.opened k) }) x in z)
@@ -178,7 +182,7 @@ module _ (setup : BoardFile) (names : Names) (plan : List Op) (start : Records) 
         ∙ ap (λ (k : ℕ). n % 8 == k) (sym tag_is)
 
     -- what waits after it is of the requests that were opened
-    still_opened : (now : List Sent) → ((t : Sent) → In t now → t.request ≡ opened_after p.envelope.tag)
+    pub still_opened : (now : List Sent) → ((t : Sent) → In t now → t.request ≡ opened_after p.envelope.tag)
         → (n : ℕ) (t : Sent) → In t (set_at (name_in p) now ends.port (request_name b n)) → t.request ≡ opened_after (n % 8)
     still_opened now mine_now n t is = by (n % 8 == p.envelope.tag) refl (subst (λ (u : Bool). In t (cond u now (ends.port (request_name b n)))) (named_by_tag n) is)
       where
@@ -187,7 +191,7 @@ module _ (setup : BoardFile) (names : Names) (plan : List Op) (start : Records) 
         by false e is = tied.opened n t is ∙ sym (opened_beside (n % 8) e)
 
     -- what is opened under the packet's own tag, where it is taken
-    own_opened : cause ≡ None → f.request ≡ opened_after p.envelope.tag
+    pub own_opened : cause ≡ None → f.request ≡ opened_after p.envelope.tag
     own_opened none = sym (by p.start refl)
       where
         ours : is_ours x.smbus.eid p ≡ true
@@ -207,7 +211,7 @@ module _ (setup : BoardFile) (names : Names) (plan : List Op) (start : Records) 
     in_more (q ∷ qs) s t (inr later) = elim (in_more qs s t later) [ inl there ↦ inl (inr there) | inr same ↦ inr same ]
 
     -- what waits with it, where it waits
-    waiting_opened : cause ≡ None → (t : Sent) → In t (waiting (ends.port (name_in p)) sent ++ sent ∷ []) → t.request ≡ opened_after p.envelope.tag
+    pub waiting_opened : cause ≡ None → (t : Sent) → In t (waiting (ends.port (name_in p)) sent ++ sent ∷ []) → t.request ≡ opened_after p.envelope.tag
     waiting_opened none t is = elim (in_more (waiting (ends.port (name_in p)) sent) sent t is) [
       | inl there ↦ before p.start refl there
       | inr same ↦ ap (λ (s : Sent). s.request) (sym same) ∙ hold.request ∙ own_opened none

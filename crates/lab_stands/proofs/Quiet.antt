@@ -18,7 +18,7 @@ use Rattle.bus_model.specs.Assembly.{Name, Sent, Step, Waits, Whole, Drops, take
 use Rattle.bus_model.specs.BusState.{BusState, Frame, Content, Ask}
 use Rattle.bus_model.specs.Answering.{AreWritten}
 use Rattle.bus_model.specs.Schedule.{IsLive as IsLiveThere}
-use Rattle.bus_model.specs.PacketBus.{Ends, PacketEvent, Closes, request_name, set_at, packet_happens}
+use Rattle.bus_model.specs.PacketBus.{Ends, PacketEvent, Closes, request_name, set_at, whole_comes, packet_happens}
 use Rattle.bus_model.specs.PacketEffect.{step_of, whole_request, completed_request, carried_of}
 use Rattle.bus_model.proofs.Lists.{Grows}
 use Rattle.undo_model.specs.Machine.{count_of}
@@ -155,3 +155,102 @@ module _ (setup : BoardFile) (names : Names) (plan : List Op) (start : Records) 
         ∙ ap (λ (c : Content). exchange (carried_of (rules_on setup names Smbus) (completed_request b ends hold.place g.request g.idles c) ends.bus) answer) hold.part.asks
         ∙ ap (λ o. exchange (carried_of (rules_on setup names Smbus) (whole_request (rules_on setup names Smbus) g.request (step_of ends.port (request_name b g.request) g.request g.idles o)) ends.bus) answer) hold.part.part
         ∙ ap (λ (n : Name). exchange (carried_of (rules_on setup names Smbus) (whole_request (rules_on setup names Smbus) g.request (takes (ends.port n) sent).0) ends.bus) answer) (sym hold.part.named)
+
+    -- ---- each cause
+
+    deed_is : (c : Option DropCause) → cause ≡ c → hears_part setup x.smbus x.board p ≡ ends_message setup next x.board p c
+    unfolding hears_part
+    deed_is c e = ap (ends_message setup next x.board p) e
+
+    -- the port ends as the law of single packets says
+    quiet_port : (c : Option DropCause) → cause ≡ c → quiet ≡ ends_message setup next x.board p c → (e : Ends) → IsPortOf e (hears_part setup x.smbus x.board p).port → IsPortOf e next
+    quiet_port c e same y is = subst (λ (d : Deed). IsPortOf y d.port) (deed_is c e ∙ sym same) is
+
+    other_after : (c : Option DropCause) → cause ≡ c → IsPortOf (happens_if (part.b setup names plan start x on tied h f hold live mine) (event_by c (name_in p) (part.others_event setup names plan start x on tied h f hold live mine)) ends) (hears_part setup x.smbus x.board p).port
+    other_after c e = subst (λ (k : Option DropCause). IsPortOf (happens_if (part.b setup names plan start x on tied h f hold live mine) (event_by k (name_in p) (part.others_event setup names plan start x on tied h f hold live mine)) ends) (hears_part setup x.smbus x.board p).port) e
+        (part.leaves setup names plan start x on tied h f hold live mine).others
+
+    manager_after : (c : Option DropCause) → cause ≡ c → (cause ≡ Some NotOurs → ⊥) → (cause ≡ Some NoSlot → ⊥)
+        → IsPortOf (happens_if (part.b setup names plan start x on tied h f hold live mine) (event_by c (name_in p) (part.arrives setup names plan start x on tied h f hold live mine)) ends) (hears_part setup x.smbus x.board p).port
+    manager_after c e ours slot = subst (λ (k : Option DropCause). IsPortOf (happens_if (part.b setup names plan start x on tied h f hold live mine) (event_by k (name_in p) (part.arrives setup names plan start x on tied h f hold live mine)) ends) (hears_part setup x.smbus x.board p).port) e
+        ((part.leaves setup names plan start x on tied h f hold live mine).managers hold.which hold.place hold.part (part.effect_of setup names plan start x on tied h f hold live mine ours slot))
+
+    -- the lab goes on with nothing sent
+    finish : (d : Deed) → d ≡ hears_part setup x.smbus x.board p → Goes setup names x on (done_by d) → Goes setup names x on (done_by (hears_part setup x.smbus x.board p))
+    finish d same g = subst (λ (e : Deed). Goes setup names x on (done_by e)) same g
+
+    -- another endpoint's packet, as it is once somebody set the controller's identifier
+    not_ours : cause ≡ Some NotOurs → Goes setup names x on (done_by (hears_part setup x.smbus x.board p))
+    not_ours e = finish quiet (sym (deed_is (Some NotOurs) e)) (record {
+      happenings = [];
+      left = on;
+      may = tt;
+      reaches = refl;
+      tied = record {
+        named = tied.named;
+        ipmb_wire = tied.ipmb_wire;
+        smbus_wire = tied.smbus_wire;
+        ipmb_log = tied.ipmb_log;
+        smbus_port = quiet_port (Some NotOurs) e refl ends (other_after (Some NotOurs) e);
+        waits = tied.waits;
+        alone = tied.alone;
+        counted = tied.counted;
+        written = tied.written;
+        answered = tied.answered;
+        made = tied.made;
+        frames = each_append (IsHeld setup names on) x.frames [] tied.frames tt;
+        opened = λ n t is. tied.opened n t is ∙ sym (still (n % 8));
+      };
+    })
+      where
+        others : is_ours x.smbus.eid p ≡ false
+        others = is_not _ (found_not_ours (fails x.smbus.eid x.smbus.kept p NotOurs) (fails x.smbus.eid x.smbus.kept p NoStart) (fails x.smbus.eid x.smbus.kept p TooLong) (fails x.smbus.eid x.smbus.kept p OutOfSequence) (fails x.smbus.eid x.smbus.kept p UnitSize) (fails x.smbus.eid x.smbus.kept p NoSlot) e)
+
+        still : (tag : ℕ) → opened_after tag ≡ x.opened tag
+        still tag = part.opened_at setup names plan start x on tied h f hold live mine tag p.start false refl others ∙ by p.start
+          where
+            by : (s : Bool) → cond (s && false && (tag == p.envelope.tag)) f.request (x.opened tag) ≡ x.opened tag
+            by true = refl
+            by false = refl
+
+    -- no slot is free
+    no_slot : cause ≡ Some NoSlot → Goes setup names x on (done_by (hears_part setup x.smbus x.board p))
+    no_slot e = finish quiet (sym (deed_is (Some NoSlot) e)) (record {
+      happenings = OnBus Smbus (Closes (name_in p)) x.board ∷ [];
+      left = now (waits_as (set_at (name_in p) [] ends.port));
+      may = (((tt, tt), refl, refl), tt);
+      reaches = refl;
+      tied = leaves_tied quiet (waits_as (set_at (name_in p) [] ends.port))
+          (quiet_leaves (set_at (name_in p) [] ends.port) (quiet_port (Some NoSlot) e refl (waits_as (set_at (name_in p) [] ends.port)) (other_after (Some NoSlot) e))
+          (part.still_opened setup names plan start x on tied h f hold live mine [] (λ t is. absurd is)));
+    })
+
+    -- it is dropped, or waits
+    kept_quiet : (c : Option DropCause) → cause ≡ c → (cause ≡ Some NotOurs → ⊥) → (cause ≡ Some NoSlot → ⊥) → quiet ≡ ends_message setup next x.board p c
+        → event_by c (name_in p) (part.arrives setup names plan start x on tied h f hold live mine) ≡ Some (part.arrives setup names plan start x on tied h f hold live mine)
+        → (step : Step) (after : List Sent) → part.taken setup names plan start x on tied h f hold live mine ≡ (step, after)
+        → whole_request (rules_on setup names Smbus) hold.part.frame.request step ≡ None
+        → whole_comes (rules_on setup names Smbus) (part.answer setup names plan start x on tied h f hold live mine) hold.part.frame.request step ends.bus ≡ ends.bus
+        → ((t : Sent) → In t after → t.request ≡ opened_after p.envelope.tag)
+        → Goes setup names x on (done_by (hears_part setup x.smbus x.board p))
+    kept_quiet c e ours slot same event step after taken none stays_so waits =
+        let arrives = part.arrives setup names plan start x on tied h f hold live mine in
+        let b = part.b setup names plan start x on tied h f hold live mine in
+        let left = waits_as (set_at (name_in p) after ends.port) in
+        let happened : packet_happens b ends arrives ≡ left =
+        part.happens_so setup names plan start x on tied h f hold live mine
+        ∙ ap (part.ends_by setup names plan start x on tied h f hold live mine) taken
+        ∙ ap (λ (s : BusState). let y : Ends = record ends { bus = s; port = set_at (name_in p) after ends.port } in y) stays_so in
+        let port : IsPortOf left next =
+        subst (λ y. IsPortOf y next) happened
+        (quiet_port c e same (packet_happens b ends arrives) (subst (λ o. IsPortOf (happens_if b o ends) (hears_part setup x.smbus x.board p).port) event (manager_after c e ours slot))) in
+        let carried : ((L setup names) Smbus).carries ends arrives ≡ None =
+        carried_so ∙ ap (λ (r : Step × List Sent). exchange (carried_of (rules_on setup names Smbus) (whole_request (rules_on setup names Smbus) hold.part.frame.request r.0) ends.bus) (part.answer setup names plan start x on tied h f hold live mine)) taken
+        ∙ ap (λ o. exchange (carried_of (rules_on setup names Smbus) o ends.bus) (part.answer setup names plan start x on tied h f hold live mine)) none in
+        finish quiet (same ∙ sym (deed_is c e)) (record {
+          happenings = OnBus Smbus arrives x.board ∷ [];
+          left = now left;
+          may = (((tt, part.honest_part setup names plan start x on tied h f hold live mine ours slot), refl, subst (λ o. world.BoardMay (F setup names) (L setup names) (W setup names) Smbus o x.board x.board) (sym carried) refl), tt);
+          reaches = ap (λ (y : Ends). let w : World (F setup names) (L setup names) = record { machine = x.manager.machine; on = now y; board = x.board } in w) happened;
+          tied = leaves_tied quiet left (quiet_leaves (set_at (name_in p) after ends.port) port (part.still_opened setup names plan start x on tied h f hold live mine after waits));
+        })
