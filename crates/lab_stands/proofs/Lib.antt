@@ -13,4 +13,6 @@ pub mod Asked
 pub mod Others
 pub mod Parts
 pub mod Quiet
+pub mod Whole
+pub mod Delivered
 pub mod Steps

@@ -1,40 +1,36 @@
 -- What a packet of the manager that comes to the port on SMBus does in a lab, it does in the model's world.
-use Rattle.std.proofs.Common.{◌≡◌, ℕ, suc, zero, ◌+◌, ◌%◌, ◌<◌, ◌≤◌, Bool, true, false, cond, not, ◌&&◌, List, [], ◌∷◌, ◌++◌, length, map, Option, Some, None, refl, sym, ◌∙◌, ap, subst, arith, ◌⊎◌, inl, inr}
-use Rattle.std.specs.Prelude.{◌==◌, slice_get, IfSome, MatchOption}
-use Rattle.std.proofs.lemmas.Bool.{cond_both, and_from, and_parts, eq-eqb, eqb-true, cases_Bool}
-use Rattle.two_wire.specs.declared.Bus.{Bus}
-use Rattle.two_wire.specs.declared.Bus.TheVariants.{Ipmb, Smbus}
+use Rattle.std.proofs.Common.{◌≡◌, ℕ, ◌+◌, ◌%◌, ◌≤◌, Bool, true, false, cond, ◌&&◌, List, [], ◌∷◌, ◌++◌, length, Option, Some, None, refl, sym, ◌∙◌, ap, subst, arith, ◌⊎◌, inl, inr}
+use Rattle.std.specs.Prelude.{◌==◌, slice_get, IfSome}
+use Rattle.std.proofs.lemmas.Bool.{eq-eqb, eqb-true}
+use Rattle.two_wire.specs.declared.Bus.TheVariants.{Smbus}
 use Rattle.mctp_net.specs.declared.packet.Packet.{Packet}
-use Rattle.mctp_net.specs.declared.message.Message.{Message}
 use Rattle.mctp_net.specs.declared.taken.DropCause.{DropCause}
 use Rattle.mctp_net.specs.declared.taken.DropCause.TheVariants.{NotOurs, NoStart, TooLong, OutOfSequence, UnitSize, NoSlot}
 use Rattle.mctp_net.specs.Cut.{piece}
-use Rattle.mctp_net.specs.Assembly.{is_ours, drop_cause, after as kept_after, message_of}
+use Rattle.mctp_net.specs.Assembly.{is_ours, drop_cause}
 use Rattle.mctp_net.proofs.Causes.{passes}
 use Rattle.cfg_records.specs.declared.op.Op.{Op}
 use Rattle.cfg_records.specs.declared.board_file.BoardFile.{BoardFile}
 use Rattle.cfg_records.specs.Records.{Records}
 use Rattle.bus_model.specs.Repeat.{In}
-use Rattle.bus_model.specs.Assembly.{Name, is_name, Sent, Step, Waits, Whole, Drops, IsWhole, takes, waiting}
-use Rattle.bus_model.specs.BusState.{BusState, Frame, Content, Ask}
+use Rattle.bus_model.specs.Assembly.{Name, is_name, Sent, Step, IsWhole, takes, waiting}
+use Rattle.bus_model.specs.BusState.{Frame, Content}
 use Rattle.bus_model.specs.Schedule.{IsLive as IsLiveThere}
-use Rattle.bus_model.specs.PacketBus.{PacketBus, Ends, PacketEvent, PacketReachesPort, OtherPacket, Closes, request_name, set_at, whole_comes, port_takes, packet_comes, packet_at_port, packet_happens}
+use Rattle.bus_model.specs.PacketBus.{PacketBus, Ends, PacketEvent, PacketReachesPort, OtherPacket, request_name, set_at, whole_comes, port_takes, packet_comes, packet_at_port, packet_happens}
 use Rattle.bus_model.specs.PacketSchedule.{RecentWhereWhole, MayJoin, PacketMayJoin, JoinsAtPort, IsPacketHonest}
 use Rattle.bus_model.specs.PacketEffect.{HasPacketEffect}
-use Rattle.bus_model.specs.Packet.{Packet as ModelPacket}
 use Rattle.bus_model.proofs.Cutting.{packets_cut}
-use Rattle.undo_model.specs.World.{States, update}
+use Rattle.undo_model.specs.World.{States}
 use Rattle.undo_model.proofs.LineLaws.{effect}
 use Rattle.packet_model.specs.Seen.{seen, Agrees}
 use Rattle.packet_model.proofs.Steps.{takes-agrees}
 use Rattle.plans.specs.declared.names.Names.{Names}
-use Rattle.lab_model.specs.Values.{Value, Part}
-use Rattle.lab_model.specs.PortSteps.{Deed, PortState, hears_part, ends_message, stays}
-use Rattle.lab_model.specs.PortEvents.{name_in, part_answer_to, event_by, happens_if, IsPortOf, PartsAreEvents}
+use Rattle.lab_model.specs.Values.{Part}
+use Rattle.lab_model.specs.PortEvents.{name_in, part_answer_to, PartsAreEvents}
 use Rattle.lab_model.specs.Own.{JoinsOwn}
 use Rattle.lab_model.specs.Lab.{LabFrame, Lab, opens}
 use Rattle.lab_model.proofs.PortEvents.{parts_leave_log}
-use Rattle.lab_stands.specs.Tied.{P, F, L, W, smbus_bus, rules_on, requests, HoldsAskedPart, IsTied, world_of}
+use Rattle.lab_stands.specs.Tied.{P, L, smbus_bus, rules_on, HoldsAskedPart, IsTied, world_of}
 use Rattle.lab_stands.specs.Follows.{Holds}
 use Rattle.lab_stands.proofs.Sending.{from_zero}
 use Rattle.lab_stands.proofs.Live.{smbus_holds}

@@ -1,7 +1,6 @@
 -- A packet of the manager that ends no message, at the port on SMBus.
-use Rattle.std.proofs.Common.{◌≡◌, ℕ, suc, zero, ◌+◌, ◌%◌, ◌<◌, ◌≤◌, Bool, true, false, cond, not, ◌&&◌, List, [], ◌∷◌, ◌++◌, length, map, Option, Some, None, refl, sym, ◌∙◌, ap, subst, arith, ◌⊎◌, inl, inr}
-use Rattle.std.specs.Prelude.{◌==◌, slice_get, IfSome, MatchOption}
-use Rattle.std.proofs.lemmas.Bool.{cond_both}
+use Rattle.std.proofs.Common.{◌≡◌, ℕ, ◌%◌, Bool, true, false, cond, not, ◌&&◌, List, [], ◌∷◌, length, map, Option, Some, None, refl, sym, ◌∙◌, ap, subst}
+use Rattle.std.specs.Prelude.{◌==◌}
 use Rattle.two_wire.specs.declared.Bus.{Bus}
 use Rattle.two_wire.specs.declared.Bus.TheVariants.{Ipmb, Smbus}
 use Rattle.mctp_net.specs.declared.packet.Packet.{Packet}
@@ -13,12 +12,11 @@ use Rattle.cfg_records.specs.declared.board_file.BoardFile.{BoardFile}
 use Rattle.cfg_records.specs.Records.{Records}
 use Rattle.bus_model.specs.declared.numbers.Numbers.TheVariants as numbers
 use Rattle.bus_model.specs.Repeat.{In}
-use Rattle.bus_model.specs.Request.{Request as Heard, Kept, Entry}
-use Rattle.bus_model.specs.Assembly.{Name, Sent, Step, Waits, Whole, Drops, takes, waiting}
-use Rattle.bus_model.specs.BusState.{BusState, Frame, Content, Ask}
+use Rattle.bus_model.specs.Assembly.{Name, Sent, Step, takes}
+use Rattle.bus_model.specs.BusState.{BusState, Frame, Content}
 use Rattle.bus_model.specs.Answering.{AreWritten}
 use Rattle.bus_model.specs.Schedule.{IsLive as IsLiveThere}
-use Rattle.bus_model.specs.PacketBus.{Ends, PacketEvent, Closes, request_name, set_at, whole_comes, packet_happens}
+use Rattle.bus_model.specs.PacketBus.{Ends, Closes, request_name, set_at, whole_comes, packet_happens}
 use Rattle.bus_model.specs.PacketEffect.{step_of, whole_request, completed_request, carried_of}
 use Rattle.bus_model.proofs.Lists.{Grows}
 use Rattle.undo_model.specs.Machine.{count_of}
@@ -26,14 +24,14 @@ use Rattle.undo_model.specs.Line.{exchange, carried_at}
 use Rattle.undo_model.specs.World as world
 use Rattle.undo_model.specs.World.{States, World, OnBus, update}
 use Rattle.undo_family.specs.Spelled.{numbers_of}
-use Rattle.packet_model.specs.Seen.{WaitsAlike, Agrees}
+use Rattle.packet_model.specs.Seen.{WaitsAlike}
 use Rattle.packet_model.proofs.Steps.{first_of}
 use Rattle.plans.specs.declared.names.Names.{Names}
-use Rattle.lab_model.specs.Values.{Value, Part}
+use Rattle.lab_model.specs.Values.{Part}
 use Rattle.lab_model.specs.PortSteps.{Deed, PortState, hears_part, ends_message, stays}
 use Rattle.lab_model.specs.PortEvents.{name_in, event_by, happens_if, IsPortOf}
 use Rattle.lab_model.specs.Own.{JoinsOwn}
-use Rattle.lab_model.specs.Lab.{ToManager, LabFrame, Lab, with_port, frame_now, port_does, opens}
+use Rattle.lab_model.specs.Lab.{ToManager, LabFrame, Lab, with_port, frame_now, port_does}
 use Rattle.lab_stands.specs.Each.{Each}
 use Rattle.lab_stands.specs.Tied.{P, F, L, W, rules_on, requests, HoldsAskedPart, IsHeld, EntryAnswers, IsTied, world_of, Goes}
 use Rattle.lab_stands.specs.Follows.{Holds}
@@ -119,10 +117,10 @@ module _ (setup : BoardFile) (names : Names) (plan : List Op) (start : Records) 
 
     -- ---- nothing is sent
 
-    abbrev next : PortState
+    abbrev pub next : PortState
     next = record (x.smbus) { kept = kept_after x.smbus.eid x.smbus.kept p }
 
-    abbrev quiet : Deed
+    abbrev pub quiet : Deed
     quiet = stays next x.board
 
     -- only what waits changes
@@ -158,7 +156,7 @@ module _ (setup : BoardFile) (names : Names) (plan : List Op) (start : Records) 
 
     -- ---- each cause
 
-    deed_is : (c : Option DropCause) → cause ≡ c → hears_part setup x.smbus x.board p ≡ ends_message setup next x.board p c
+    pub deed_is : (c : Option DropCause) → cause ≡ c → hears_part setup x.smbus x.board p ≡ ends_message setup next x.board p c
     unfolding hears_part
     deed_is c e = ap (ends_message setup next x.board p) e
 
@@ -170,17 +168,17 @@ module _ (setup : BoardFile) (names : Names) (plan : List Op) (start : Records) 
     other_after c e = subst (λ (k : Option DropCause). IsPortOf (happens_if (part.b setup names plan start x on tied h f hold live mine) (event_by k (name_in p) (part.others_event setup names plan start x on tied h f hold live mine)) ends) (hears_part setup x.smbus x.board p).port) e
         (part.leaves setup names plan start x on tied h f hold live mine).others
 
-    manager_after : (c : Option DropCause) → cause ≡ c → (cause ≡ Some NotOurs → ⊥) → (cause ≡ Some NoSlot → ⊥)
+    pub manager_after : (c : Option DropCause) → cause ≡ c → (cause ≡ Some NotOurs → ⊥) → (cause ≡ Some NoSlot → ⊥)
         → IsPortOf (happens_if (part.b setup names plan start x on tied h f hold live mine) (event_by c (name_in p) (part.arrives setup names plan start x on tied h f hold live mine)) ends) (hears_part setup x.smbus x.board p).port
     manager_after c e ours slot = subst (λ (k : Option DropCause). IsPortOf (happens_if (part.b setup names plan start x on tied h f hold live mine) (event_by k (name_in p) (part.arrives setup names plan start x on tied h f hold live mine)) ends) (hears_part setup x.smbus x.board p).port) e
         ((part.leaves setup names plan start x on tied h f hold live mine).managers hold.which hold.place hold.part (part.effect_of setup names plan start x on tied h f hold live mine ours slot))
 
     -- the lab goes on with nothing sent
-    finish : (d : Deed) → d ≡ hears_part setup x.smbus x.board p → Goes setup names x on (done_by d) → Goes setup names x on (done_by (hears_part setup x.smbus x.board p))
+    pub finish : (d : Deed) → d ≡ hears_part setup x.smbus x.board p → Goes setup names x on (done_by d) → Goes setup names x on (done_by (hears_part setup x.smbus x.board p))
     finish d same g = subst (λ (e : Deed). Goes setup names x on (done_by e)) same g
 
     -- another endpoint's packet, as it is once somebody set the controller's identifier
-    not_ours : cause ≡ Some NotOurs → Goes setup names x on (done_by (hears_part setup x.smbus x.board p))
+    pub not_ours : cause ≡ Some NotOurs → Goes setup names x on (done_by (hears_part setup x.smbus x.board p))
     not_ours e = finish quiet (sym (deed_is (Some NotOurs) e)) (record {
       happenings = [];
       left = on;
@@ -214,7 +212,7 @@ module _ (setup : BoardFile) (names : Names) (plan : List Op) (start : Records) 
             by false = refl
 
     -- no slot is free
-    no_slot : cause ≡ Some NoSlot → Goes setup names x on (done_by (hears_part setup x.smbus x.board p))
+    pub no_slot : cause ≡ Some NoSlot → Goes setup names x on (done_by (hears_part setup x.smbus x.board p))
     no_slot e = finish quiet (sym (deed_is (Some NoSlot) e)) (record {
       happenings = OnBus Smbus (Closes (name_in p)) x.board ∷ [];
       left = now (waits_as (set_at (name_in p) [] ends.port));
@@ -226,7 +224,7 @@ module _ (setup : BoardFile) (names : Names) (plan : List Op) (start : Records) 
     })
 
     -- it is dropped, or waits
-    kept_quiet : (c : Option DropCause) → cause ≡ c → (cause ≡ Some NotOurs → ⊥) → (cause ≡ Some NoSlot → ⊥) → quiet ≡ ends_message setup next x.board p c
+    pub kept_quiet : (c : Option DropCause) → cause ≡ c → (cause ≡ Some NotOurs → ⊥) → (cause ≡ Some NoSlot → ⊥) → quiet ≡ ends_message setup next x.board p c
         → event_by c (name_in p) (part.arrives setup names plan start x on tied h f hold live mine) ≡ Some (part.arrives setup names plan start x on tied h f hold live mine)
         → (step : Step) (after : List Sent) → part.taken setup names plan start x on tied h f hold live mine ≡ (step, after)
         → whole_request (rules_on setup names Smbus) hold.part.frame.request step ≡ None
