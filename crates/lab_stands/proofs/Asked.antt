@@ -43,16 +43,15 @@ use Rattle.lab_model.specs.PortSteps.{Deed, asked_in, left_by, response_after, h
 use Rattle.lab_model.specs.PortEvents.{answer_to}
 use Rattle.lab_model.specs.ManagerSteps.{addresses, own_on}
 use Rattle.lab_model.specs.ManagerEvents.{HoldsReply}
-use Rattle.lab_model.specs.Lab.{Way, ToPort, ToManager, ToOthers, LabFrame, Lab, port_does, frame_now, with_port, port_on, opens, delivered}
-use Rattle.lab_model.specs.Honest.{IsLive, IsDelivered, IsAnother}
+use Rattle.lab_model.specs.Lab.{Way, ToManager, ToOthers, LabFrame, Lab, port_does, frame_now, with_port}
+use Rattle.lab_model.specs.Honest.{IsAnother}
 use Rattle.lab_model.proofs.Spelling.{are_the_models}
 use Rattle.lab_stands.specs.Each.{Each}
 use Rattle.lab_stands.specs.Tied.{P, F, L, W, ipmb_bus, rules_on, requests, HoldsAsked, IsHeldBy, IsHeld, IsAnswer, EntryAnswers, IsTied, world_of, Goes}
 use Rattle.lab_stands.specs.Follows.{Holds}
-use Rattle.lab_stands.proofs.Each.{each_at, each_append}
+use Rattle.lab_stands.proofs.Each.{each_append}
 use Rattle.lab_stands.proofs.Frames.{all_held}
 use Rattle.lab_stands.proofs.Begun.{own}
-use Rattle.lab_stands.proofs.Live.{live_there}
 
 -- ---- what a port replies answers what it was asked
 
@@ -338,19 +337,3 @@ module _ (setup : BoardFile) (names : Names) (plan : List Op) (start : Records) 
           let there : (r.header.responder.address == x.ipmb.wire) ≡ true = eq-eqb _ _ (ap (λ (q : Request). q.header.responder.address) (sym same) ∙ hold.to_port ∙ sym tied.ipmb_wire) in
           subst (λ (t : Bool). Goes setup names x on (port_does (P setup names) Ipmb ToManager f.request (cond t (hears_request setup x.ipmb x.board r) (stays x.ipmb x.board)) x)) (sym there)
           (subst (λ d. Goes setup names x on (port_does (P setup names) Ipmb ToManager f.request d x)) (sym deed_is) manager_asks)
-
-module _ (setup : BoardFile) (names : Names) (plan : List Op) (start : Records) where
-  module _ (x : Lab (P setup names)) (on : States (L setup names)) (tied : IsTied setup names x on) (h : Holds setup names plan start (world_of setup names x on)) where
-    by_bus : (f : LabFrame) (bus : Bus) → f.on ≡ bus → bus ≡ Ipmb → IsLive (P setup names) x f → IsHeldBy setup names ToPort bus on f → Goes setup names x on (delivered (P setup names) setup (Some f) x)
-    by_bus f Smbus at is live hold = absurd cc
-    by_bus f Ipmb at is live hold =
-        subst (λ bus. Goes setup names x on (port_does (P setup names) bus ToManager f.request (hears setup (port_on (P setup names) bus x) x.board f.value) (opens (P setup names) f.value f.request x))) (sym at)
-        (subst (λ v. Goes setup names x on (port_does (P setup names) Ipmb ToManager f.request (hears setup x.ipmb x.board v) (opens (P setup names) v f.request x))) (sym hold.value)
-        (asked_goes setup names plan start x on tied h hold.asked f hold (live_there setup names plan start x on tied h f hold.frame Ipmb at live hold.is_of.request hold.is_of.idles) refl))
-
-    -- a live frame of the manager comes to the port on IPMB
-    pub delivered_goes : (number : ℕ) (d : IsDelivered (P setup names) ToPort x number) → d.frame.on ≡ Ipmb → Goes setup names x on (delivered (P setup names) setup (slice_get x.frames number) x)
-    delivered_goes number d is =
-        let held = each_at (IsHeld setup names on) x.frames number d.frame tied.frames d.sent in
-        let here = subst (λ way. IsHeldBy setup names way d.frame.on on d.frame) d.meant held in
-        subst (λ o. Goes setup names x on (delivered (P setup names) setup o x)) (sym d.sent) (by_bus d.frame d.frame.on refl is d.live here)

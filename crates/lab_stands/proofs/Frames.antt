@@ -49,6 +49,15 @@ module _ (setup : BoardFile) (names : Names) where
     idles = h.idles;
     small = h.small;
     to_port = h.to_port;
+    from_manager = h.from_manager;
+    asked = h.asked;
+    rest = h.rest;
+    typed = h.typed;
+    says = h.says;
+    heard = h.heard;
+    reads = h.reads;
+    number = h.number;
+    spelled = h.spelled;
   }
   held_by ToManager Ipmb on now f more h = record {
     which = h.which;

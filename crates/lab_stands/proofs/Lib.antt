@@ -11,4 +11,8 @@ pub mod Taken
 pub mod Returns
 pub mod Asked
 pub mod Others
+pub mod Parts
+pub mod Quiet
+pub mod Whole
+pub mod Delivered
 pub mod Steps

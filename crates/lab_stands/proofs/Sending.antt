@@ -1,5 +1,5 @@
 -- The frames of a request of the manager are held by the model's frame of it.
-use Rattle.std.proofs.Common.{◌≡◌, ℕ, suc, zero, ◌+◌, ◌*◌, ◌/◌, ◌%◌, ◌<◌, ◌≤◌, Bool, true, false, cond, ◌&&◌, ◌||◌, leb, List, [], ◌∷◌, length, map, Option, Some, None, refl, sym, ◌∙◌, ap, subst, arith, inl, inr}
+use Rattle.std.proofs.Common.{lit<, ◌≡◌, ℕ, suc, zero, ◌+◌, ◌*◌, ◌/◌, ◌%◌, ◌<◌, ◌≤◌, Bool, true, false, cond, ◌&&◌, ◌||◌, leb, List, [], ◌∷◌, length, map, Option, Some, None, refl, sym, ◌∙◌, ap, subst, arith, inl, inr}
 use Rattle.std.specs.Prelude.{◌==◌, slice_get, Ok, Err}
 use Rattle.std.specs.Option.{option_map}
 use Rattle.std.proofs.lemmas.Bool.{leb-true, eqb-true, eq-eqb}
@@ -11,6 +11,9 @@ use Rattle.mctp_net.specs.declared.message.Message.{Message}
 use Rattle.mctp_net.specs.Sizes.{unit_size}
 use Rattle.mctp_net.specs.Cut.{piece}
 use Rattle.mctp_net.specs.Assembly.{name_of}
+use Rattle.pldm_base.specs.declared.message.PldmRequest.{PldmRequest}
+use Rattle.pldm_base.specs.Message.{IsRequest}
+use Rattle.pldm_base.proofs.InBytes.{request-in_back}
 use Rattle.cfg_records.specs.declared.message.Asked.{Asked}
 use Rattle.cfg_records.specs.declared.message.Asked.TheVariants.{Ipmi, Pldm}
 use Rattle.cfg_records.specs.declared.board_file.BoardFile.{BoardFile}
@@ -98,6 +101,14 @@ small_packet bytes n q e = by (leb (length bytes) 256) refl
     by true t = (cuts_all bytes (leb-true _ _ t)).1 q (stands_in (packets_of bytes) n q e)
     by false t = absurd (none-some q (sym (ap (λ (b : Bool). slice_get (cond b (packets_from 4 0 bytes) []) n) t) ∙ e))
 
+-- a message of which there is a packet can be cut
+fits_packets : (bytes : List ℕ) (n : ℕ) (q : ModelPacket) → slice_get (packets_of bytes) n ≡ Some q → length bytes ≤ 256
+fits_packets bytes n q e = by (leb (length bytes) 256) refl
+  where
+    by : (t : Bool) → leb (length bytes) 256 ≡ t → length bytes ≤ 256
+    by true t = leb-true _ _ t
+    by false t = absurd (none-some q (sym (ap (λ (b : Bool). slice_get (cond b (packets_from 4 0 bytes) []) n) t) ∙ e))
+
 -- a message's packet at a place is the model's there
 pub part_seen : (m : Message) (n : ℕ) (p : Packet) → slice_get (parts_of m) n ≡ Some p → slice_get (packets_of m.body) n ≡ Some (seen (piece p))
 part_seen m n p e =
@@ -128,6 +139,9 @@ high_bits n below = omega (arith, below)
 request_bits : (n : ℕ) → (128 + n % 32) / 64 ≡ 2
 request_bits n = omega arith
 
+below_32 : (n : ℕ) → n % 32 < 32
+below_32 n = omega arith
+
 instance_back : (n : ℕ) → (128 + n % 32) % 32 ≡ n % 32
 instance_back n = omega arith
 
@@ -154,6 +168,13 @@ module _ (setup : BoardFile) (names : Names) (now : States (L setup names)) (whi
       ∙ ap (λ (t : Bool). cond t (Some (record { requester = names.own_eid; number = (128 + count % 32) % 32; bytes = 1 ∷ (128 + (128 + count % 32) % 32) ∷ kind ∷ command ∷ body })) none) (eq-eqb _ _ (request_bits count))
       ∙ ap (λ (n : ℕ). Some (record { requester = names.own_eid; number = n; bytes = 1 ∷ (128 + n) ∷ kind ∷ command ∷ body })) (instance_back count)
       ∙ ap (λ (n : ℕ). Some (record { requester = names.own_eid; number = n % 32; bytes = bytes_of (count % 32) (Pldm from kind command body) })) (from_zero count)
+
+  -- the request of PLDM that a message holds
+  abbrev pldm_of : ℕ → ℕ → List ℕ → PldmRequest
+  pldm_of kind command body = record { header = record { instance = count % 32; pldm_type = kind; command = command }; body = body }
+
+  spells : (kind command : ℕ) (body : List ℕ) → kind < 64 → length (1 ∷ (128 + count % 32) ∷ kind ∷ command ∷ body) ≤ 256 → IsRequest (pldm_of kind command body) ((128 + count % 32) ∷ kind ∷ command ∷ body)
+  spells kind command body small fits = (0, record { bit = lit< tt; header = record { instance = below_32 count; pldm_type = small }; fits = omega (arith, fits); spelled = refl })
 
   pub request_held : (asked : Asked) → IsMade (manager_words (addresses names)) asked → slice_get (requests setup names now (bus_of asked)).frames which ≡ Some g
       → g.request ≡ count → g.idles ≡ idles → g.content ≡ Ask (bytes_of (number_of (bus_of asked) count) asked)
@@ -222,4 +243,13 @@ module _ (setup : BoardFile) (names : Names) (now : States (L setup names)) (whi
         idles = same;
         small = small_part m n p at;
         to_port = ap (λ e. e.destination) (part_envelope m n p at);
+        from_manager = ap (λ e. e.source) (part_envelope m n p at);
+        asked = pldm_of kind command body;
+        rest = (128 + count % 32) ∷ kind ∷ command ∷ body;
+        typed = refl;
+        says = request-in_back (pldm_of kind command body) ((128 + count % 32) ∷ kind ∷ command ∷ body) (spells kind command body (made_type (addresses names) asked made) (fits_packets m.body n _ (part_seen m n p at)));
+        heard = ap (λ (k : ℕ). let h : Heard = record { requester = names.own_eid; number = k % 32; bytes = bytes_of (count % 32) asked } in h) (from_zero count ∙ ap (λ (k : ℕ). 0 + k) (sym request));
+        reads = refl;
+        number = number_of Smbus count;
+        spelled = (are_spelled (addresses names)).requests count asked made;
       })))

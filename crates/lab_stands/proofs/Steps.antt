@@ -18,7 +18,8 @@ use Rattle.lab_stands.specs.Tied.{P, Goes}
 use Rattle.lab_stands.specs.Follows.{CallsAreFollowed, RepliesAreFollowed, RequestsAreFollowed, OthersAreFollowed}
 use Rattle.lab_stands.proofs.Calls.{call_goes}
 use Rattle.lab_stands.proofs.Returns.{returned_goes}
-use Rattle.lab_stands.proofs.Asked.{other_goes, delivered_goes}
+use Rattle.lab_stands.proofs.Asked.{other_goes}
+use Rattle.lab_stands.proofs.Delivered.{delivered_goes}
 use Rattle.lab_stands.proofs.Others.{idle_goes, noise_goes, bench_goes}
 
 module _ (setup : BoardFile) (names : Names) where
@@ -57,7 +58,7 @@ pub replies_followed : (setup : BoardFile) (names : Names) (plan : List Op) (sta
 replies_followed setup names plan start x number d on tied h = subst (Goes setup names x on) (return_step setup names x number) (returned_goes setup names plan start x on tied h number d)
 
 pub requests_followed : (setup : BoardFile) (names : Names) (plan : List Op) (start : Records) → RequestsAreFollowed setup names plan start
-requests_followed setup names plan start x number d is on tied h = subst (Goes setup names x on) (deliver_step setup names x number) (delivered_goes setup names plan start x on tied h number d is)
+requests_followed setup names plan start x number d own on tied h = subst (Goes setup names x on) (deliver_step setup names x number) (delivered_goes setup names plan start x on tied h number d own)
 
 pub others_followed : (setup : BoardFile) (names : Names) (plan : List Op) (start : Records) → OthersAreFollowed setup names plan start
 others_followed setup names plan start = record {

@@ -1,7 +1,6 @@
 -- What a lab does at an event, the model's world does: the laws of single steps.
-use Rattle.std.specs.Prelude.{◌≡◌, ℕ, List}
+use Rattle.std.specs.Prelude.{ℕ, List}
 use Rattle.two_wire.specs.declared.Bus.{Bus}
-use Rattle.two_wire.specs.declared.Bus.TheVariants.{Ipmb}
 use Rattle.ipmb_frame.specs.declared.message.Request.{Request}
 use Rattle.bmc_board.specs.declared.activity.Activity.{Activity}
 use Rattle.cfg_records.specs.declared.op.Op.{Op}
@@ -15,6 +14,7 @@ use Rattle.undo_model.proofs.TwoBuses.{packet_lines}
 use Rattle.undo_family.proofs.IsFamily.{is_family}
 use Rattle.plans.specs.declared.names.Names.{Names}
 use Rattle.lab_model.specs.ManagerSteps.{Call, addresses}
+use Rattle.lab_model.specs.Own.{IsOwn}
 use Rattle.lab_model.specs.Honest.{IsDelivered, IsHonest}
 use Rattle.lab_model.specs.Lab.{Event, Calls, ToBmc, ToMgr, OtherIpmb, Noise, Idles, OnBench, ToPort, ToManager, Lab, step}
 use Rattle.lab_stands.specs.Tied.{P, F, L, W, IsTied, world_of, Goes}
@@ -36,9 +36,9 @@ module _ (setup : BoardFile) (names : Names) (plan : List Op) (start : Records) 
   abbrev pub RepliesAreFollowed : Type 0
   RepliesAreFollowed = (x : Lab (P setup names)) (number : ℕ) → IsDelivered (P setup names) ToManager x number → IsFollowed x (ToMgr number)
 
-  -- each live frame of the manager that comes to the port on IPMB is followed
+  -- each live frame of the manager that comes to the port is followed, unless it joins another request's assembly
   abbrev pub RequestsAreFollowed : Type 0
-  RequestsAreFollowed = (x : Lab (P setup names)) (number : ℕ) (d : IsDelivered (P setup names) ToPort x number) → d.frame.on ≡ Ipmb → IsFollowed x (ToBmc number)
+  RequestsAreFollowed = (x : Lab (P setup names)) (number : ℕ) → IsDelivered (P setup names) ToPort x number → IsOwn (P setup names) x (ToBmc number) → IsFollowed x (ToBmc number)
 
   -- so is each honest event that is none of the manager's, but for messages of others on SMBus
   pub record OthersAreFollowed : Type 0 where

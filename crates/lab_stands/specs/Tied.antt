@@ -1,5 +1,5 @@
 -- A lab and the two buses of the model that it shows.
-use Rattle.std.specs.Prelude.{◌≡◌, ℕ, ◌%◌, ◌≤◌, true, false, ◌==◌, ◌⊎◌, List, length, Some, slice_get}
+use Rattle.std.specs.Prelude.{◌≡◌, ℕ, ◌%◌, ◌≤◌, true, false, ◌==◌, ◌⊎◌, List, ◌∷◌, length, Some, slice_get}
 use Rattle.two_wire.specs.declared.Bus.{Bus}
 use Rattle.two_wire.specs.declared.Bus.TheVariants.{Ipmb, Smbus}
 use Rattle.ipmb_frame.specs.declared.message.Request.{Request}
@@ -32,8 +32,10 @@ use Rattle.undo_family.specs.ManagerWires.{wires}
 use Rattle.packet_model.specs.Seen.{WaitsAlike}
 use Rattle.plans.specs.declared.names.Names.{Names}
 use Rattle.lab_model.specs.Values.{Asks, Tells, Part}
-use Rattle.lab_model.specs.Bytes.{heard_in, response_bytes, response_to}
-use Rattle.lab_model.specs.PortSteps.{asked_in}
+use Rattle.lab_model.specs.Bytes.{heard_in, pldm_heard_in, response_bytes, response_to}
+use Rattle.pldm_base.specs.declared.message.PldmRequest.{PldmRequest}
+use Rattle.pldm_base.specs.Message.{request_in as pldm_request_in}
+use Rattle.lab_model.specs.PortSteps.{asked_in, pldm_asked}
 use Rattle.lab_model.specs.ManagerSteps.{Plans, addresses, board_plans, is_answer, open_count}
 use Rattle.lab_model.specs.PortEvents.{name_in, IsPortOf, IsManagersPart}
 use Rattle.lab_model.specs.ManagerEvents.{HoldsReply, HoldsPart, name_awaited}
@@ -117,6 +119,16 @@ module _ (setup : BoardFile) (names : Names) where
     pub idles : part.frame.idles ≡ f.idles
     pub small : length packet.payload ≤ unit_size
     pub to_port : packet.envelope.destination ≡ names.peer_wire
+    pub from_manager : packet.envelope.source ≡ names.own_wire
+    -- what the message asks, and what a reply to it says
+    pub asked : PldmRequest
+    pub rest : List ℕ
+    pub typed : part.bytes ≡ 1 ∷ rest
+    pub says : pldm_request_in rest ≡ Some asked
+    pub heard : pldm_heard_in names.own_eid asked ≡ request_of (rules_of smbus_bus) part.frame.request part.bytes
+    pub reads : asked_from (addresses names) Smbus part.bytes ≡ pldm_asked names.own_eid asked
+    pub number : ℕ
+    pub spelled : IsRequestOn numbers.Pldm number part.bytes
 
   -- the value is a packet of a reply to the manager on SMBus, which the model's frame holds
   pub record HoldsToldPart (frames : List Frame) (f : LabFrame) : Type 0 where

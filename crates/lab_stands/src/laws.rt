@@ -17,7 +17,8 @@ pub fn replies_are_followed()
     ensures { (setup : BoardFile) (names : Names) (plan : List Op) (start : Records) → RepliesAreFollowed setup names plan start }
 {}
 
-/// Where a live frame of the manager comes to the port on IPMB, the model's world goes on to one that the lab shows then.
+/// Where a live frame of the manager comes to the port, whole on IPMB or a packet on SMBus that joins no other request's assembly, the
+/// model's world goes on to one that the lab shows then.
 pub fn requests_are_followed()
     ensures { (setup : BoardFile) (names : Names) (plan : List Op) (start : Records) → RequestsAreFollowed setup names plan start }
 {}
