@@ -6,6 +6,7 @@ use Rattle.plan_file.specs.declared.field.Field.TheVariants as field
 -- the key of a field
 abbrev pub word : Field → List ℕ
 word field.Tid = codes "tid"
+word field.Enables = codes "enables"
 word field.Policy = codes "policy"
 word field.Watchdog = codes "watchdog"
 word field.Device = codes "device"

@@ -8,6 +8,7 @@ use std::fmt;
 #[derive(Clone, Copy, Debug, PartialEq, Eq)]
 pub enum Field {
     Tid,
+    Enables,
     Policy,
     Watchdog,
     Device,
@@ -37,6 +38,7 @@ impl Field {
     {
         match self {
             Field::Tid => "tid",
+            Field::Enables => "enables",
             Field::Policy => "policy",
             Field::Watchdog => "watchdog",
             Field::Device => "device",
