@@ -1,5 +1,10 @@
 pub mod Outs
 pub mod IpmbPort
+pub mod IpmbHeard
+pub mod IpmbShown
 pub mod SmbusPort
+pub mod SmbusHeard
+pub mod SmbusShown
+pub mod SmbusRuns
 pub mod Port
 pub mod Names

@@ -1,8 +1,10 @@
 -- What a port sends and did.
 use Rattle.std.specs.Prelude.{ℕ, List, [], ◌∷◌}
+use Rattle.bus_model.specs.Carried.{Outcome, Repeats, IsBusy, IsNew}
 use Rattle.bmc_core.specs.declared.out.Frames.{Frames}
 use Rattle.bmc_core.specs.declared.out.Out.{Out}
 use Rattle.bmc_core.specs.declared.out.Reason.{Reason}
+use Rattle.bmc_core.specs.declared.out.Done.{Done}
 use Rattle.bmc_core.specs.declared.out.Done.TheVariants as done
 
 -- these frames
@@ -21,6 +23,16 @@ ignored reason = record { frames = frames_of []; done = done.Ignored reason }
 abbrev pub waiting : Out
 waiting = record { frames = frames_of []; done = done.Waiting }
 
+-- these frames are sent, and this is what was done
+abbrev pub sends : List (List ℕ) → Done → Out
+sends frames what = record { frames = frames_of frames; done = what }
+
 -- the response is sent
 abbrev pub answered : List ℕ → Out
 answered frame = record { frames = frames_of (frame ∷ []); done = done.Answered }
+
+-- what was done with a request, as a port says it
+abbrev pub done_by : Outcome → Done
+done_by (Repeats reply) = done.Repeated
+done_by IsBusy = done.Busy
+done_by IsNew = done.Answered

@@ -56,6 +56,10 @@ pub enum Done {
     Waiting,
     /// The board answered the request.
     Answered,
+    /// It gave the reply that it keeps for the request that this one repeats.
+    Repeated,
+    /// It answered that it's busy: it has a window for eight other requesters.
+    Busy,
     /// Its endpoint answered a control message.
     Control,
 }

@@ -4,7 +4,7 @@ use Rattle.std.specs.List.{flat_map}
 use Rattle.hex.specs.Hex.{encode_upper}
 use Rattle.bmc_core.specs.declared.out.Out.{Out}
 use Rattle.bmc_core.specs.declared.out.Done.{Done}
-use Rattle.bmc_core.specs.declared.out.Done.TheVariants.{Ignored, Waiting, Answered, Control}
+use Rattle.bmc_core.specs.declared.out.Done.TheVariants.{Ignored, Waiting, Answered, Repeated, Busy, Control}
 use Rattle.bmc_core.specs.Names.{reason_name}
 use Rattle.bmc_core.specs.Outs.{sent}
 use Rattle.bmc_lab.specs.declared.status.Status.{Status}
@@ -27,6 +27,8 @@ abbrev pub done_line : Done → List ℕ
 done_line (Ignored reason) = codes "ignored " ++ reason_name reason ++ 10 ∷ []
 done_line Waiting = codes "waiting\n"
 done_line Answered = []
+done_line Repeated = []
+done_line Busy = []
 done_line Control = []
 
 -- a line for each frame, and why nothing was sent

@@ -48,7 +48,7 @@ impl Report {
         match out.done {
             Done::Ignored(reason) => writeln!(text, "ignored {reason}")?,
             Done::Waiting => text.push_str("waiting\n")?,
-            Done::Answered | Done::Control => {}
+            Done::Answered | Done::Repeated | Done::Busy | Done::Control => {}
         }
         Ok(Report {
             text,

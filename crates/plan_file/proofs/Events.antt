@@ -10,6 +10,7 @@ use Rattle.toml.specs.Data.{Data, Members}
 use Rattle.plan_file.specs.declared.field.Field.{Field}
 use Rattle.plan_file.specs.declared.field.Field.TheVariants as field
 use Rattle.plan_file.specs.declared.row.Shape.TheVariants as shape
+use Rattle.plan_file.specs.declared.row.Need.TheVariants as need
 use Rattle.plan_file.specs.Trees.{in_field, natural, number_in}
 use Rattle.plan_file.specs.Ranges.{passes, are_flags, are_supported}
 use Rattle.plan_file.specs.Holds.{HasBelow}
@@ -35,9 +36,9 @@ flags_cases tree field d (Some n) found is within =
     }
 flags_cases tree field d None found is within = cc
 
-pub flags_of : (tree : Members) (field : Field) → Sound tree (record { 0 = field; 1 = shape.Flags }) → Flags tree field
+pub flags_of : (tree : Members) (field : Field) → Sound tree (record { 0 = field; 1 = shape.Flags; 2 = need.Always }) → Flags tree field
 flags_of tree field sound =
-    let v = value_of tree (record { 0 = field; 1 = shape.Flags }) (in_field field tree) refl refl sound in
+    let v = value_of tree (record { 0 = field; 1 = shape.Flags; 2 = need.Always }) (in_field field tree) refl refl sound in
     flags_cases tree field v.value (natural v.value) v.found refl v.within
 
 four_flags : (k : ℕ) → k < 4 → flags_byte (has (64 * k) 7) (has (64 * k) 6) ≡ 64 * k
@@ -79,9 +80,9 @@ events_cases tree named d (Some s) (Some e) found has_s is within =
 events_cases tree named d (Some s) None found has_s is within = cc
 events_cases tree named d None e found has_s is within = cc
 
-pub events_of : (tree : Members) (named : Field) → Sound tree (record { 0 = named; 1 = shape.Events }) → Events tree named
+pub events_of : (tree : Members) (named : Field) → Sound tree (record { 0 = named; 1 = shape.Events; 2 = need.Always }) → Events tree named
 events_of tree named sound =
-    let v = value_of tree (record { 0 = named; 1 = shape.Events }) (in_field named tree) refl refl sound in
+    let v = value_of tree (record { 0 = named; 1 = shape.Events; 2 = need.Always }) (in_field named tree) refl refl sound in
     events_cases tree named v.value (number_in field.Supported tree) (natural v.value) v.found refl refl v.within
 
 -- events fit in two bytes

@@ -5,3 +5,5 @@ pub mod Rows
 pub mod TopRows
 pub mod Events
 pub mod Sensors
+pub mod Changes
+pub mod Steps

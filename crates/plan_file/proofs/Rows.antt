@@ -9,6 +9,7 @@ use Rattle.plan_file.specs.declared.field.Field.{Field}
 use Rattle.plan_file.specs.declared.row.Row.{Row}
 use Rattle.plan_file.specs.declared.row.Shape.{Shape}
 use Rattle.plan_file.specs.declared.row.Shape.TheVariants as shape
+use Rattle.plan_file.specs.declared.row.Need.TheVariants as need
 use Rattle.plan_file.specs.declared.fault.FieldFault.TheVariants as fault
 use Rattle.plan_file.specs.Trees.{in_field, natural, number_in}
 use Rattle.plan_file.specs.Ranges.{passes, has_type, is_between, is_in_range}
@@ -60,7 +61,7 @@ pub not_false : (b : Bool) → not b ≡ false → b ≡ true
 not_false true is = refl
 not_false false is = sym is
 
-pub value_of : (tree : Members) (row : Row) (o : Option Data) → in_field row.0 tree ≡ o → is_needed row.1 ≡ true → Sound tree row → Value tree row.0 row.1
+pub value_of : (tree : Members) (row : Row) (o : Option Data) → in_field row.0 tree ≡ o → is_needed tree row.2 ≡ true → Sound tree row → Value tree row.0 row.1
 value_of tree row (Some d) is needed sound = record {
   value = d;
   found = is;
@@ -83,9 +84,9 @@ number_cases tree field least most d (Some n) found is within = record {
 }
 number_cases tree field least most d None found is within = cc
 
-pub number_of : (tree : Members) (field : Field) (least most : ℕ) → Sound tree (record { 0 = field; 1 = shape.Number least most }) → Number tree field most
+pub number_of : (tree : Members) (field : Field) (least most : ℕ) → Sound tree (record { 0 = field; 1 = shape.Number least most; 2 = need.Always }) → Number tree field most
 number_of tree field least most sound =
-    let v = value_of tree (record { 0 = field; 1 = shape.Number least most }) (in_field field tree) refl refl sound in
+    let v = value_of tree (record { 0 = field; 1 = shape.Number least most; 2 = need.Always }) (in_field field tree) refl refl sound in
     number_cases tree field least most v.value (natural v.value) v.found refl v.within
 
 -- a number below a limit

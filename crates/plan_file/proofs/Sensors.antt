@@ -13,6 +13,7 @@ use Rattle.toml.specs.declared.value.Value.{Value}
 use Rattle.cfg_records.specs.Distinct.{NamesDiffer}
 use Rattle.plan_file.specs.declared.field.Field.{Field}
 use Rattle.plan_file.specs.declared.row.Shape.TheVariants as shape
+use Rattle.plan_file.specs.declared.row.Need.TheVariants as need
 use Rattle.plan_file.specs.Ranges.{passes, is_array_of, is_table}
 use Rattle.plan_file.proofs.Rows.{Sound, value_of, not_false}
 use Rattle.std.specs.List.{list_any, list_all, AllZip}
@@ -119,7 +120,7 @@ members_cases : (o : Option (List Data)) (most : ℕ) → passes (list_all is_ta
 members_cases (Some ds) most typed few = (typed, grind (arith, nat_tests))
 members_cases None most typed few = cc
 
-value_cases : (tree : Members) (field : Field) (most : ℕ) (o : Option Data) → in_field field tree ≡ o → Sound tree (record { 0 = field; 1 = shape.Tables most })
+value_cases : (tree : Members) (field : Field) (most : ℕ) (o : Option Data) → in_field field tree ≡ o → Sound tree (record { 0 = field; 1 = shape.Tables most; 2 = need.Never })
     → (list_all is_table (or_none (option_and_then members o)) ≡ true) × (length (or_none (option_and_then members o)) ≤ most)
 value_cases tree field most None is sound = (refl, omega arith)
 value_cases tree field most (Some d) is sound =
@@ -128,7 +129,7 @@ value_cases tree field most (Some d) is sound =
     (not_false (nat_le (length (or_none (members d))) most) (rw is at sound.within))
 
 -- the members of an array of tables without a fault are so many tables at most
-pub tables_of : (tree : Members) (field : Field) (most : ℕ) → Sound tree (record { 0 = field; 1 = shape.Tables most })
+pub tables_of : (tree : Members) (field : Field) (most : ℕ) → Sound tree (record { 0 = field; 1 = shape.Tables most; 2 = need.Never })
     → (list_all is_table (members_in field tree) ≡ true) × (length (members_in field tree) ≤ most)
 tables_of tree field most sound = value_cases tree field most (in_field field tree) refl sound
 
@@ -136,9 +137,9 @@ table_cases : (d : Data) (o : Option Members) → as_table d ≡ o → is_some o
 table_cases d o is some = rw is some
 
 -- a table that an item without a fault has
-pub table_there : (tree : Members) (field : Field) → Sound tree (record { 0 = field; 1 = shape.Table }) → IsSome (option_and_then as_table (in_field field tree))
+pub table_there : (tree : Members) (field : Field) → Sound tree (record { 0 = field; 1 = shape.Table; 2 = need.Always }) → IsSome (option_and_then as_table (in_field field tree))
 table_there tree field sound =
-    let v = value_of tree (record { 0 = field; 1 = shape.Table }) (in_field field tree) refl refl sound in
+    let v = value_of tree (record { 0 = field; 1 = shape.Table; 2 = need.Always }) (in_field field tree) refl refl sound in
     rw v.found v.typed
 
 -- ---- the faults of a board file

@@ -1,11 +1,11 @@
 -- The faults of a board file, in the order in which they count.
-use Rattle.std.specs.Prelude.{ℕ, ◌==◌, Bool, true, false, not, ◌&&◌, List, [], ◌∷◌, ◌++◌, map, filter, length, Option, Some, None, if◌then◌else◌, is_none}
+use Rattle.std.specs.Prelude.{ℕ, ◌==◌, Bool, true, false, not, ◌&&◌, List, [], ◌∷◌, ◌++◌, map, filter, length, Option, Some, None, if◌then◌else◌, is_none, codes}
 use Rattle.std.specs.List.{list_any}
 use Rattle.toml.specs.Data.{Data, Members}
 use Rattle.plan_file.specs.declared.field.Field.{Field}
 use Rattle.plan_file.specs.declared.field.Field.TheVariants as field
-use Rattle.plan_file.specs.declared.row.Shape.{Shape}
-use Rattle.plan_file.specs.declared.row.Shape.TheVariants as shape
+use Rattle.plan_file.specs.declared.row.Need.{Need}
+use Rattle.plan_file.specs.declared.row.Need.TheVariants as need
 use Rattle.plan_file.specs.declared.row.Row.{Row}
 use Rattle.plan_file.specs.declared.row.TheConstants.{TOP, DEVICE, SENSOR}
 use Rattle.plan_file.specs.declared.fault.FieldFault.{FieldFault}
@@ -15,16 +15,17 @@ use Rattle.plan_file.specs.declared.fault.FileFault.TheVariants as file
 use Rattle.plan_file.specs.declared.fault.Item.{Item}
 use Rattle.plan_file.specs.declared.fault.Item.TheVariants as item
 use Rattle.plan_file.specs.Trees.{in_field, number_in, table_of, table_in, members_in}
-use Rattle.plan_file.specs.Ranges.{passes, has_type, is_in_range}
+use Rattle.plan_file.specs.Ranges.{passes, has_text, has_type, is_in_range}
 
--- an array of tables may be absent, and nothing else
-abbrev pub is_needed : Shape → Bool
-is_needed (shape.Tables most) = false
-is_needed _ = true
+-- the item needs the field
+abbrev pub is_needed : Members → Need → Bool
+is_needed tree need.Always = true
+is_needed tree need.Never = false
+is_needed tree need.UnlessLeave = not (has_text field.Select (codes "leave") tree)
 
 -- the item lacks a field that it needs
 abbrev pub is_missing : Members → Row → Bool
-is_missing tree row = is_needed row.1 && is_none (in_field row.0 tree)
+is_missing tree row = is_needed tree row.2 && is_none (in_field row.0 tree)
 
 -- the item has a value of another type in the field
 abbrev pub is_mistyped : Members → Row → Bool

@@ -4,3 +4,7 @@ pub mod Trees
 pub mod Ranges
 pub mod Faults
 pub mod Holds
+pub mod Kinds
+pub mod PlanNames
+pub mod PlanFaults
+pub mod PlanHolds

@@ -1,15 +1,17 @@
 -- The type of a field, and its range.
-use Rattle.std.specs.Prelude.{◌==◌, ℕ, ◌/◌, ◌%◌, Bool, true, false, ◌&&◌, ◌||◌, not, nat_le, nat_lt, List, [], ◌∷◌, length, slice_index, Option, Some, None, is_some}
+use Rattle.std.specs.Prelude.{◌==◌, ℕ, ◌/◌, ◌%◌, Bool, true, false, ◌&&◌, ◌||◌, not, nat_le, nat_lt, List, [], ◌∷◌, length, slice_index, Option, Some, None, is_some, option_and_then, codes}
+use Rattle.std.specs.Str.{bytes_eq}
 use Rattle.std.specs.List.{list_all}
 use Rattle.cfg_records.specs.Masks.{has, all_below}
 use Rattle.cfg_records.specs.Thresholds.{place_of}
 use Rattle.cfg_records.specs.EventEnable.{are_within}
 use Rattle.cfg_records.specs.GlobalEnables.{are_enables}
-use Rattle.toml.specs.Data.{Data, Members, as_integer, as_table}
+use Rattle.toml.specs.Data.{Data, Members, as_str, as_integer, as_bool, as_table}
+use Rattle.plan_file.specs.declared.field.Field.{Field}
 use Rattle.plan_file.specs.declared.field.Field.TheVariants as field
 use Rattle.plan_file.specs.declared.row.Shape.{Shape}
 use Rattle.plan_file.specs.declared.row.Shape.TheVariants as shape
-use Rattle.plan_file.specs.Trees.{members, natural, naturals_in, bytes_in, number_in, or_none}
+use Rattle.plan_file.specs.Trees.{in_field, members, natural, naturals_in, bytes_in, number_in, or_none}
 
 -- the value is an integer
 abbrev pub is_integer : Data → Bool
@@ -23,6 +25,10 @@ is_table d = is_some (as_table d)
 abbrev pub passes : {A : Type 0} → (A → Bool) → Option A → Bool
 passes test (Some x) = test x
 passes test None = false
+
+-- the table has this text in the field
+abbrev pub has_text : Field → List ℕ → Members → Bool
+has_text field text tree = passes (λ found. bytes_eq found text) (option_and_then as_str (in_field field tree))
 
 -- the value is an array, each of whose members passes
 abbrev pub is_array_of : (Data → Bool) → Data → Bool
@@ -40,6 +46,10 @@ has_type shape.Events d = is_integer d
 has_type shape.Watchdog d = is_array_of is_integer d
 has_type shape.Table d = is_table d
 has_type (shape.Tables most) d = is_array_of is_table d
+has_type shape.Flag d = is_some (as_bool d)
+has_type shape.Text d = is_some (as_str d)
+has_type shape.Select d = is_some (as_str d)
+has_type shape.Offsets d = is_array_of is_integer d
 
 -- ---- ranges
 
@@ -93,6 +103,14 @@ are_settings (timer_use ∷ actions ∷ pre_timeout ∷ initial ∷ []) =
     && (nat_lt pre_timeout 256 && nat_lt initial 65536))
 are_settings _ = false
 
+-- what becomes of events
+abbrev pub is_selection : List ℕ → Bool
+is_selection text = bytes_eq text (codes "leave") || (bytes_eq text (codes "enable") || bytes_eq text (codes "disable"))
+
+-- the offset of an event
+abbrev pub is_offset : Data → Bool
+is_offset d = passes (is_between 0 11) (natural d)
+
 -- a number, 0 where there is none
 abbrev pub or_zero : Option ℕ → ℕ
 or_zero (Some n) = n
@@ -112,3 +130,7 @@ is_in_range tree shape.Events d = passes (λ supported. passes (are_supported su
 is_in_range tree shape.Watchdog d = passes are_settings (naturals_in 4 d)
 is_in_range tree shape.Table d = true
 is_in_range tree (shape.Tables most) d = nat_le (length (or_none (members d))) most
+is_in_range tree shape.Flag d = true
+is_in_range tree shape.Text d = true
+is_in_range tree shape.Select d = passes is_selection (as_str d)
+is_in_range tree shape.Offsets d = is_array_of is_offset d

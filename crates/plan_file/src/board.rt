@@ -41,7 +41,7 @@ fn number_in(table: &Table, field: Field) -> u32
 }
 
 /// The byte that the table has in the field.
-fn byte_in(table: &Table, field: Field) -> u8
+pub fn byte_in(table: &Table, field: Field) -> u8
     requires { HasBelow 256 field (table_view table.now) }
     ensures { HasNumber field (table_view table.now) result }
 {
@@ -49,7 +49,7 @@ fn byte_in(table: &Table, field: Field) -> u8
 }
 
 /// The two bytes that the table has in the field.
-fn word_in(table: &Table, field: Field) -> u16
+pub fn word_in(table: &Table, field: Field) -> u16
     requires { HasBelow (2 ^ 16) field (table_view table.now) }
     ensures { HasNumber field (table_view table.now) result }
 {

@@ -14,7 +14,7 @@ impl Row {
     fn is_missing(&self, item: &Table) -> bool
         ensures { result ≡ is_missing (table_view item.now) self.now }
     {
-        self.1.is_needed() && in_field(item, self.0).is_none()
+        self.2.is_needed(item) && in_field(item, self.0).is_none()
     }
 
     /// Whether the item has a value of another type in the field.

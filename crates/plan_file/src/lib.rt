@@ -1,12 +1,19 @@
-//! The texts of board files.
+//! The texts of board files and of plans.
 #![tactic(auto)]
 
 mod board;
+mod change;
 mod check;
 mod fault;
 mod field;
+mod kind;
+mod plan;
+mod plan_fault;
+#[cfg(test)]
+mod plan_tests;
 mod range;
 mod row;
+mod step;
 #[cfg(test)]
 mod tests;
 mod tree;
@@ -14,4 +21,7 @@ mod tree;
 pub use board::read_board;
 pub use fault::{FieldFault, FileFault, Item, Place};
 pub use field::Field;
-pub use row::{DEVICE, Row, SENSOR, Shape, TOP};
+pub use kind::Kind;
+pub use plan::read_plan;
+pub use plan_fault::{NoGet, OutsidePlan, PlanFault, StepFault};
+pub use row::{DEVICE, Need, PLAN, Row, SENSOR, Shape, TOP};

@@ -2,10 +2,10 @@
 ghost use Rattle.std.specs.Prelude.{◌≡◌, ◌∷◌, [], Some, IfSome, map, is_some, option_map, nat_le, length};
 ghost use Rattle.std.specs.List.{list_all};
 ghost use Rattle.cfg_records.specs.Watchdog.{watchdog_value};
+ghost use Rattle.toml.specs.Data.{as_str};
 ghost use Rattle.toml.specs.View.{view, table_view};
 ghost use Rattle.plan_file.specs.Trees.{members, or_none, natural, naturals_in, bytes_in, number_in};
-ghost use Rattle.plan_file.specs.Ranges.{passes, is_integer, is_table, is_array_of, has_type, is_between, are_digits, is_enables_byte, are_masks, are_thresholds, are_flags, are_settings, is_in_range};
-ghost use Rattle.plan_file.specs.Faults.{is_needed};
+ghost use Rattle.plan_file.specs.Ranges.{passes, is_integer, is_table, is_array_of, has_type, is_between, are_digits, is_enables_byte, are_masks, are_thresholds, are_flags, are_settings, is_selection, is_offset, is_in_range};
 ghost use Rattle.plan_file.specs.Holds.{settings};
 
 use crate::field::Field;
@@ -50,7 +50,7 @@ fn are_tables(value: &Value) -> bool
 }
 
 /// Whether the value is a number from the least to the most.
-fn is_between(value: &Value, least: u32, most: u32) -> bool
+pub fn is_between(value: &Value, least: u32, most: u32) -> bool
     ensures { result ≡ passes (is_between least most) (natural (view value.now)) }
 {
     match natural(value) {
@@ -184,14 +184,34 @@ pub fn watchdog(value: &Value) -> Option<Watchdog>
     Watchdog::new(timer_use, actions, pre_timeout, initial)
 }
 
-impl Shape {
-    /// Whether an item needs a field of this shape.
-    pub fn is_needed(&self) -> bool
-        ensures { result ≡ is_needed self.now }
-    {
-        !matches!(self, Shape::Tables(_))
+/// Whether the value says what becomes of events.
+fn is_selection(value: &Value) -> bool
+    ensures { result ≡ passes is_selection (as_str (view value.now)) }
+{
+    match value.as_str() {
+        Some(word) => word == "leave" || word == "enable" || word == "disable",
+        None => false,
     }
+}
 
+/// Whether each of the values is the offset of an event.
+fn all_offsets(values: &[Value]) -> bool
+    ensures { result ≡ list_all (λ value. is_offset (view value)) values.now }
+{
+    values.iter().all(|value| is_between(value, 0, 11))
+}
+
+/// Whether the value is an array of offsets of events.
+fn are_offsets(value: &Value) -> bool
+    ensures { result ≡ is_array_of is_offset (view value.now) }
+{
+    match members(value) {
+        Some(values) => all_offsets(values),
+        None => false,
+    }
+}
+
+impl Shape {
     /// Whether the value is of its type.
     pub fn has_type(&self, value: &Value) -> bool
         ensures { result ≡ has_type self.now (view value.now) }
@@ -199,9 +219,13 @@ impl Shape {
         match self {
             Shape::Number(..) | Shape::Digits | Shape::Enables => value.is_integer(),
             Shape::Flags | Shape::Events => value.is_integer(),
-            Shape::Pair | Shape::Thresholds | Shape::Watchdog => are_integers(value),
+            Shape::Pair | Shape::Thresholds | Shape::Watchdog | Shape::Offsets => {
+                are_integers(value)
+            }
             Shape::Table => value.is_table(),
             Shape::Tables(_) => are_tables(value),
+            Shape::Flag => value.is_bool(),
+            Shape::Text | Shape::Select => value.is_str(),
         }
     }
 
@@ -220,6 +244,9 @@ impl Shape {
             Shape::Watchdog => watchdog(value).is_some(),
             Shape::Table => true,
             Shape::Tables(most) => are_at_most(value, *most),
+            Shape::Flag | Shape::Text => true,
+            Shape::Select => is_selection(value),
+            Shape::Offsets => are_offsets(value),
         }
     }
 }

@@ -1,5 +1,12 @@
-//! The fields of each item: their names, types and ranges. `docs/BOARD_FILES.md` says what each means.
+//! The fields of each item of a board file, and of a plan's own: their names, types and ranges, and when they are needed.
+//! `docs/BOARD_FILES.md` and `docs/PLAN_FILES.md` say what each means.
+ghost use Rattle.std.specs.Prelude.{◌≡◌};
+ghost use Rattle.toml.specs.View.{table_view};
+ghost use Rattle.plan_file.specs.Faults.{is_needed};
+
 use crate::field::Field;
+use crate::tree::has_text;
+use toml::Table;
 
 /// The type of a field, and its range.
 #[derive(Clone, Copy, Debug, PartialEq, Eq)]
@@ -22,47 +29,87 @@ pub enum Shape {
     Watchdog,
     /// A table.
     Table,
-    /// An array of at most so many tables. It may be absent.
+    /// An array of at most so many tables.
     Tables(usize),
+    /// A boolean.
+    Flag,
+    /// A text.
+    Text,
+    /// A text: `leave`, `enable` or `disable`.
+    Select,
+    /// Offsets of events, each from 0 to 11, in a list.
+    Offsets,
 }
 
-/// A field of an item, with what it can hold.
+/// When an item needs a field.
 #[derive(Clone, Copy, Debug, PartialEq, Eq)]
-pub struct Row(pub Field, pub Shape);
+pub enum Need {
+    Always,
+    Never,
+    /// Where its field `select` isn't the text `leave`.
+    UnlessLeave,
+}
+
+impl Need {
+    /// Whether the item needs the field.
+    pub fn is_needed(&self, item: &Table) -> bool
+        ensures { result ≡ is_needed (table_view item.now) self.now }
+    {
+        match self {
+            Need::Always => true,
+            Need::Never => false,
+            Need::UnlessLeave => !has_text(item, Field::Select, "leave"),
+        }
+    }
+}
+
+/// A field of an item, with what it can hold and when it is needed.
+#[derive(Clone, Copy, Debug, PartialEq, Eq)]
+pub struct Row(pub Field, pub Shape, pub Need);
 
 /// A byte.
-const BYTE: Shape = Shape::Number(0, 255);
+pub const BYTE: Shape = Shape::Number(0, 255);
 
-/// The file's own fields.
+/// A board file's own fields.
 pub const TOP: [Row; 6] = [
-    Row(Field::Tid, BYTE),
-    Row(Field::Enables, Shape::Enables),
-    Row(Field::Policy, Shape::Number(0, 3)),
-    Row(Field::Watchdog, Shape::Watchdog),
-    Row(Field::Device, Shape::Table),
-    Row(Field::Sensor, Shape::Tables(32)),
+    Row(Field::Tid, BYTE, Need::Always),
+    Row(Field::Enables, Shape::Enables, Need::Always),
+    Row(Field::Policy, Shape::Number(0, 3), Need::Always),
+    Row(Field::Watchdog, Shape::Watchdog, Need::Always),
+    Row(Field::Device, Shape::Table, Need::Always),
+    Row(Field::Sensor, Shape::Tables(32), Need::Never),
 ];
 
 /// The fields of `[device]`.
 pub const DEVICE: [Row; 7] = [
-    Row(Field::Id, BYTE),
-    Row(Field::Revision, BYTE),
-    Row(Field::Major, BYTE),
-    Row(Field::Minor, Shape::Digits),
-    Row(Field::Support, BYTE),
-    Row(Field::Manufacturer, Shape::Number(0, 0xFF_FFFF)),
-    Row(Field::Product, Shape::Number(0, 0xFFFF)),
+    Row(Field::Id, BYTE, Need::Always),
+    Row(Field::Revision, BYTE, Need::Always),
+    Row(Field::Major, BYTE, Need::Always),
+    Row(Field::Minor, Shape::Digits, Need::Always),
+    Row(Field::Support, BYTE, Need::Always),
+    Row(
+        Field::Manufacturer,
+        Shape::Number(0, 0xFF_FFFF),
+        Need::Always,
+    ),
+    Row(Field::Product, Shape::Number(0, 0xFFFF), Need::Always),
 ];
 
 /// The fields of a `[[sensor]]`.
 pub const SENSOR: [Row; 9] = [
-    Row(Field::Number, Shape::Number(0, 254)),
-    Row(Field::Readable, Shape::Number(0, 63)),
-    Row(Field::Settable, Shape::Number(0, 63)),
-    Row(Field::Thresholds, Shape::Thresholds),
-    Row(Field::Hysteresis, Shape::Pair),
-    Row(Field::Supported, Shape::Number(0, 4095)),
-    Row(Field::Flags, Shape::Flags),
-    Row(Field::Assert, Shape::Events),
-    Row(Field::Deassert, Shape::Events),
+    Row(Field::Number, Shape::Number(0, 254), Need::Always),
+    Row(Field::Readable, Shape::Number(0, 63), Need::Always),
+    Row(Field::Settable, Shape::Number(0, 63), Need::Always),
+    Row(Field::Thresholds, Shape::Thresholds, Need::Always),
+    Row(Field::Hysteresis, Shape::Pair, Need::Always),
+    Row(Field::Supported, Shape::Number(0, 4095), Need::Always),
+    Row(Field::Flags, Shape::Flags, Need::Always),
+    Row(Field::Assert, Shape::Events, Need::Always),
+    Row(Field::Deassert, Shape::Events, Need::Always),
+];
+
+/// A plan's own fields.
+pub const PLAN: [Row; 2] = [
+    Row(Field::Retries, Shape::Number(0, 15), Need::Never),
+    Row(Field::Step, Shape::Tables(256), Need::Never),
 ];

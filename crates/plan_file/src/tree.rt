@@ -2,6 +2,7 @@
 ghost use Rattle.std.specs.Prelude.{◌≡◌, ◌<◌, ◌^◌, length, map, option_map, option_and_then};
 ghost use Rattle.toml.specs.View.{view, table_view};
 ghost use Rattle.plan_file.specs.Trees.{in_field, members, natural, naturals, naturals_in, all_bytes, bytes_in, number_in, members_in};
+ghost use Rattle.plan_file.specs.Ranges.{has_text};
 
 use crate::field::Field;
 use toml::{Table, Value};
@@ -106,5 +107,18 @@ pub fn members_in(table: &Table, field: Field) -> &[Value]
     match members(value) {
         Some(values) => values,
         None => &[],
+    }
+}
+
+/// Whether the table has this text in the field.
+pub fn has_text(table: &Table, field: Field, text: &str) -> bool
+    ensures { result ≡ has_text field text.now (table_view table.now) }
+{
+    match in_field(table, field) {
+        Some(value) => match value.as_str() {
+            Some(found) => found == text,
+            None => false,
+        },
+        None => false,
     }
 }

@@ -88,7 +88,7 @@ heeds_stage names plan requests on r asked machine.AtUndone is goes = absurd is
 heeds_stage names plan requests on r asked (machine.AtRefused k code) is goes = absurd is
 
 -- a busy controller's reply is none
-busy_is_none : (names : Names) (a : Answered) (t : machine.Stage (words_of names)) (m : machine.Machine (words_of names)) → is_busy a.code ≡ true → machine.replies (words_of names) a t m ≡ None
+pub busy_is_none : (names : Names) (a : Answered) (t : machine.Stage (words_of names)) (m : machine.Machine (words_of names)) → is_busy a.code ≡ true → machine.replies (words_of names) a t m ≡ None
 busy_is_none names a machine.AtStart m busy = refl
 busy_is_none names a (machine.Opened true of part) m busy = ap (λ (b : Bool). if b then None else Some (machine.takes (words_of names) a of part m)) busy
 busy_is_none names a (machine.Opened false of part) m busy = refl

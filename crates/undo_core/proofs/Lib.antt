@@ -3,3 +3,4 @@ pub mod Backs
 pub mod Calling
 pub mod Replies
 pub mod Heard
+pub mod Exchange

@@ -1,4 +1,6 @@
 pub mod Counted
 pub mod Bounds
 pub mod Phases
+pub mod PhaseNames
 pub mod Shown
+pub mod Exchange

@@ -70,9 +70,8 @@ impl Manager {
     pub fn undo(&mut self) -> Result<Option<Sent>, WrongPhase>
         ensures { Calls Undo self.old self.new result }
     {
-        match self.stage {
-            Stage::AtEnd | Stage::AtHalt(_, _) => {}
-            _ => return Err(WrongPhase),
+        if !self.stage.is_over() {
+            return Err(WrongPhase);
         }
         self.joined.clear();
         self.stage = self.undo_stage(self.undo.requests.len());

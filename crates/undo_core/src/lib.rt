@@ -3,6 +3,7 @@
 
 mod calls;
 mod hearing;
+pub mod laws;
 mod manager;
 mod opening;
 mod phase;

@@ -39,17 +39,33 @@ pub enum Phase {
 pub struct WrongPhase;
 
 impl Display for Why {
+    ghost use Rattle.std.specs.Prelude.{Some};
+    ghost use Rattle.undo_core.specs.PhaseNames.{why_name};
+
+    ghost output = { λ why. Some (why_name why) };
+
     fn fmt<W: Write>(&self, f: &mut Formatter<W>) -> Result<(), Error> {
         match self {
             Why::Stop => f.write_str("Stop"),
-            Why::Refused(code) => write!(f, "Refused {:02X}", code.value()),
+            Why::Refused(code) => {
+                let code = code.value();
+                write!(f, "Refused {:X}{:X}", code / 16, code % 16)
+            }
             Why::NotRestorable => f.write_str("NotRestorable"),
-            Why::GetRefused(code) => write!(f, "GetRefused {:02X}", code.value()),
+            Why::GetRefused(code) => {
+                let code = code.value();
+                write!(f, "GetRefused {:X}{:X}", code / 16, code % 16)
+            }
         }
     }
 }
 
 impl Display for Phase {
+    ghost use Rattle.std.specs.Prelude.{Some};
+    ghost use Rattle.undo_core.specs.PhaseNames.{phase_name};
+
+    ghost output = { λ phase. Some (phase_name phase) };
+
     fn fmt<W: Write>(&self, f: &mut Formatter<W>) -> Result<(), Error> {
         match self {
             Phase::Fresh => f.write_str("Fresh"),
@@ -60,7 +76,10 @@ impl Display for Phase {
             Phase::Unsettled(step) => write!(f, "Unsettled {step}"),
             Phase::Undoing(step) => write!(f, "Undoing {step}"),
             Phase::Undone => f.write_str("Undone"),
-            Phase::UndoRefused(step, code) => write!(f, "UndoRefused {step} {:02X}", code.value()),
+            Phase::UndoRefused(step, code) => {
+                let code = code.value();
+                write!(f, "UndoRefused {step} {:X}{:X}", code / 16, code % 16)
+            }
         }
     }
 }

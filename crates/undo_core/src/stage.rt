@@ -1,7 +1,8 @@
 //! How far a manager is.
-ghost use Rattle.std.specs.Prelude.{◌≡◌, Bool, true, List, Option, IfSome, IsSome};
+ghost use Rattle.std.specs.Prelude.{◌≡◌, ◌⊎◌, ℕ, Bool, true, false, List, Option, IfSome, IsSome};
 ghost use Rattle.undo_family.specs.Family.{bus_of as bus_of_request};
-ghost use Rattle.undo_core.specs.declared.stage.Stage.TheVariants.{Opened as IsOpened};
+ghost use Rattle.undo_core.specs.declared.stage.Stage.TheVariants.{Opened as IsOpened, AtEnd as IsAtEnd, AtHalt as IsAtHalt};
+ghost use Rattle.undo_core.specs.declared.phase.Why.{Why as AnyWhy};
 ghost use Rattle.cfg_records.specs.declared.op.Op.{Op};
 ghost use Rattle.cfg_records.specs.declared.message.Asked.{Asked as AnyAsked};
 ghost use Rattle.plans.specs.declared.names.Names.{Names};
@@ -98,6 +99,18 @@ impl Stage {
             Stage::AtHalt(step, why) => Phase::Halted(*step, *why),
             Stage::AtUndone => Phase::Undone,
             Stage::AtRefused(step, code) => Phase::UndoRefused(*step, *code),
+        }
+    }
+
+    /// Whether the plan ended or halted, so that its undo may begin.
+    pub fn is_over(&self) -> bool
+        ensures over { result ≡ true → (self.now ≡ IsAtEnd) ⊎ ((k : ℕ) × (why : AnyWhy) × (self.now ≡ IsAtHalt k why)) }
+        ensures no_end { result ≡ false → self.now ≡ IsAtEnd → ⊥ }
+        ensures no_halt { result ≡ false → (k : ℕ) (why : AnyWhy) → self.now ≡ IsAtHalt k why → ⊥ }
+    {
+        match self {
+            Stage::AtEnd | Stage::AtHalt(_, _) => true,
+            _ => false,
         }
     }
 

@@ -4,6 +4,7 @@ use Rattle.toml.specs.View.{view, table_view}
 use Rattle.plan_file.specs.declared.field.Field.TheVariants as field
 use Rattle.plan_file.specs.declared.fault.Item.TheVariants as item
 use Rattle.plan_file.specs.declared.row.Shape.TheVariants as shape
+use Rattle.plan_file.specs.declared.row.Need.TheVariants as need
 use Rattle.plan_file.specs.declared.row.TheConstants.{DEVICE}
 use Rattle.plan_file.specs.Trees.{in_field, table_in, naturals_in}
 use Rattle.plan_file.specs.Ranges.{passes, are_settings}
@@ -53,14 +54,14 @@ pub value_in-requires : goal.value_in-requires
 value_in-requires c =
     let tree = table_view c.args.tree.now in
     let sound = top_sound tree c.in_ok-check.ensures.ok in
-    let value = value_of tree (record { 0 = field.Watchdog; 1 = shape.Watchdog }) (in_field field.Watchdog tree) refl refl sound.watchdog in
+    let value = value_of tree (record { 0 = field.Watchdog; 1 = shape.Watchdog; 2 = need.Always }) (in_field field.Watchdog tree) refl refl sound.watchdog in
     rw value.found refl
 
 pub unwrap-requires-2 : goal.unwrap-requires-2
 unwrap-requires-2 c =
     let tree = table_view c.args.tree.now in
     let sound = top_sound tree c.in_ok-check.ensures.ok in
-    let value = value_of tree (record { 0 = field.Watchdog; 1 = shape.Watchdog }) (in_field field.Watchdog tree) refl refl sound.watchdog in
+    let value = value_of tree (record { 0 = field.Watchdog; 1 = shape.Watchdog; 2 = need.Always }) (in_field field.Watchdog tree) refl refl sound.watchdog in
     let same = same_value value.value (view c.value_in.result.now) (in_field field.Watchdog tree) value.found c.value_in.ensures in
     let valid : passes are_settings (naturals_in 4 value.value) ≡ true = value.within in
     c.watchdog.ensures.made ∙ ap (λ d. passes are_settings (naturals_in 4 d)) (sym same) ∙ valid

@@ -2,6 +2,7 @@ use Rattle.std.proofs.Common.{◌≡◌, ◌≤◌, true, refl, sym, ◌∙◌, 
 use Rattle.toml.specs.View.{view, table_view}
 use Rattle.plan_file.specs.declared.field.Field.TheVariants as field
 use Rattle.plan_file.specs.declared.row.Shape.TheVariants as shape
+use Rattle.plan_file.specs.declared.row.Need.TheVariants as need
 use Rattle.plan_file.specs.declared.row.TheConstants.{DEVICE}
 use Rattle.plan_file.specs.Trees.{in_field, natural}
 use Rattle.plan_file.specs.Ranges.{passes, are_digits}
@@ -12,7 +13,7 @@ pub value_in-minor-requires : goal.value_in-minor-requires
 value_in-minor-requires c =
     let tree = table_view c.args.table.now in
     let sound = all_sound DEVICE tree c.requires in
-    let minor = value_of tree (record { 0 = field.Minor; 1 = shape.Digits }) (in_field field.Minor tree) refl refl sound.1.1.1.0 in
+    let minor = value_of tree (record { 0 = field.Minor; 1 = shape.Digits; 2 = need.Always }) (in_field field.Minor tree) refl refl sound.1.1.1.0 in
     rw minor.found refl
 
 pub byte_in-requires : goal.byte_in-requires
@@ -28,7 +29,7 @@ pub unwrap-requires : goal.unwrap-requires
 unwrap-requires c =
     let tree = table_view c.args.table.now in
     let sound = all_sound DEVICE tree c.requires in
-    let minor = value_of tree (record { 0 = field.Minor; 1 = shape.Digits }) (in_field field.Minor tree) refl refl sound.1.1.1.0 in
+    let minor = value_of tree (record { 0 = field.Minor; 1 = shape.Digits; 2 = need.Always }) (in_field field.Minor tree) refl refl sound.1.1.1.0 in
     let same = same_value minor.value (view c.value_in-minor.result.now) (in_field field.Minor tree) minor.found c.value_in-minor.ensures in
     let valid : passes are_digits (natural minor.value) ≡ true = minor.within in
     c.digits.ensures.made ∙ ap (λ d. passes are_digits (natural d)) (sym same) ∙ valid

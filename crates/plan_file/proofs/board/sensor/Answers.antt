@@ -2,6 +2,7 @@ use Rattle.std.proofs.Common.{◌≡◌, ◌≤◌, true, is_some, refl, sym, �
 use Rattle.toml.specs.View.{view, table_view}
 use Rattle.plan_file.specs.declared.field.Field.TheVariants as field
 use Rattle.plan_file.specs.declared.row.Shape.TheVariants as shape
+use Rattle.plan_file.specs.declared.row.Need.TheVariants as need
 use Rattle.plan_file.specs.declared.row.TheConstants.{SENSOR}
 use Rattle.plan_file.specs.Trees.{in_field, bytes_in}
 use Rattle.plan_file.specs.Ranges.{is_in_range}
@@ -12,14 +13,14 @@ pub value_in-values-requires : goal.value_in-values-requires
 value_in-values-requires c =
     let tree = table_view c.args.table.now in
     let sound = all_sound SENSOR tree c.requires in
-    let values = value_of tree (record { 0 = field.Thresholds; 1 = shape.Thresholds }) (in_field field.Thresholds tree) refl refl sound.1.1.1.0 in
+    let values = value_of tree (record { 0 = field.Thresholds; 1 = shape.Thresholds; 2 = need.Always }) (in_field field.Thresholds tree) refl refl sound.1.1.1.0 in
     rw values.found refl
 
 pub value_in-pair-requires : goal.value_in-pair-requires
 value_in-pair-requires c =
     let tree = table_view c.args.table.now in
     let sound = all_sound SENSOR tree c.requires in
-    let pair = value_of tree (record { 0 = field.Hysteresis; 1 = shape.Pair }) (in_field field.Hysteresis tree) refl refl sound.1.1.1.1.0 in
+    let pair = value_of tree (record { 0 = field.Hysteresis; 1 = shape.Pair; 2 = need.Always }) (in_field field.Hysteresis tree) refl refl sound.1.1.1.1.0 in
     rw pair.found refl
 
 pub byte_in-requires : goal.byte_in-requires
@@ -29,7 +30,7 @@ pub unwrap-requires : goal.unwrap-requires
 unwrap-requires c =
     let tree = table_view c.args.table.now in
     let sound = all_sound SENSOR tree c.requires in
-    let values = value_of tree (record { 0 = field.Thresholds; 1 = shape.Thresholds }) (in_field field.Thresholds tree) refl refl sound.1.1.1.0 in
+    let values = value_of tree (record { 0 = field.Thresholds; 1 = shape.Thresholds; 2 = need.Always }) (in_field field.Thresholds tree) refl refl sound.1.1.1.0 in
     let same = same_value values.value (view c.value_in-values.result.now) (in_field field.Thresholds tree) values.found c.value_in-values.ensures in
     c.thresholds.ensures.made ∙ ap (is_in_range tree shape.Thresholds) (sym same) ∙ values.within
 
@@ -37,7 +38,7 @@ pub unwrap-requires-2 : goal.unwrap-requires-2
 unwrap-requires-2 c =
     let tree = table_view c.args.table.now in
     let sound = all_sound SENSOR tree c.requires in
-    let pair = value_of tree (record { 0 = field.Hysteresis; 1 = shape.Pair }) (in_field field.Hysteresis tree) refl refl sound.1.1.1.1.0 in
+    let pair = value_of tree (record { 0 = field.Hysteresis; 1 = shape.Pair; 2 = need.Always }) (in_field field.Hysteresis tree) refl refl sound.1.1.1.1.0 in
     let same = same_value pair.value (view c.value_in-pair.result.now) (in_field field.Hysteresis tree) pair.found c.value_in-pair.ensures in
     let valid : is_some (bytes_in 2 pair.value) ≡ true = pair.within in
     c.hysteresis.ensures.made ∙ ap (λ d. is_some (bytes_in 2 d)) (sym same) ∙ valid

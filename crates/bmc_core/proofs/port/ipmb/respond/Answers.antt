@@ -1,14 +1,14 @@
-use Rattle.std.proofs.Common.{◌≡◌, ◌≤◌, ℕ, List, ◌++◌, length, Result, Ok, Err, refl, sym, ◌∙◌, ap, subst}
+use Rattle.std.proofs.Common.{◌≡◌, ℕ, List, ◌++◌, Result, Ok, Err, refl, sym, ◌∙◌, ap, subst}
 use Rattle.std.proofs.lemmas.List.{append-nil}
 use Rattle.ipmb_frame.specs.declared.message.Header.{Header}
-use Rattle.ipmb_frame.specs.Grammar.{IsResponse, response_start}
+use Rattle.ipmb_frame.specs.Grammar.{response_start}
 use Rattle.cfg_records.specs.declared.message.Answered.{Answered as Reply}
 use Rattle.bmc_board.specs.Request.{Request, asked_of, asked_by}
 use Rattle.bmc_board.specs.State.{State, state_of}
 use Rattle.bmc_board.specs.Gives.{Gives}
 use Rattle.bmc_board.specs.Answer.{Given, reply, answer_of}
 use Rattle.bmc_board.proofs.AnswerFacts.{answers_fit}
-use Rattle.bmc_core.specs.IpmbPort.{IsAnswered, asked_in, response_to}
+use Rattle.bmc_core.specs.IpmbPort.{asked_in}
 use Rattle.bmc_core.proofs.port.ipmb.respond.Goals.{in-Ok, in-Err}
 use Rattle.bmc_core.proofs.port.ipmb.respond.Goals as goal
 

@@ -1,4 +1,4 @@
-use Rattle.std.proofs.Common.{◌≡◌, ℕ, List, take, refl, sym, ◌∙◌, ap, subst}
+use Rattle.std.proofs.Common.{rules, ◌≡◌, ℕ, List, take, refl, sym, ◌∙◌, ap, subst}
 use Rattle.std.proofs.Math.Seq.{take-length}
 use Rattle.cfg_records.specs.declared.message.Asked.{Asked}
 use Rattle.mctp_net.specs.Assembly.{nothing}
@@ -8,8 +8,9 @@ use Rattle.undo_core.specs.Shown.{words_of, backs, IsStage}
 use Rattle.undo_core.proofs.Calling.{refused, made, no_undo, undo_turn, enters_does}
 use Rattle.undo_core.proofs.manager.Manager.undo.Goals as goal
 
-pub returns-in_default : goal.returns-in_default
-returns-in_default c names s shows = refused names Undo _ s _ shows (no_undo names c.args.self.now s shows c.in_default.not-AtEnd c.in_default.not-AtHalt)
+pub returns-then-not-is_over : goal.returns-then-not-is_over
+returns-then-not-is_over c names s shows =
+    refused names Undo _ s _ shows (no_undo names c.args.self.now s shows (c.is_over.ensures.no_end (search rules)) (c.is_over.ensures.no_halt (search rules)))
 
 pub returns : goal.returns
 returns c names s shows =
@@ -20,7 +21,7 @@ returns c names s shows =
     let at : IsStage names c.args.self.now.steps requests c.undo_stage-self.result t =
     subst (λ (xs : List Asked). IsStage names c.args.self.now.steps requests c.undo_stage-self.result (machine.undo_stage (words_of names) xs)) all
     (c.undo_stage-self.ensures.stage names c.args.self.now.steps) in
-    made names Undo _ s _ _ (undo_turn names c.args.self.now s shows c.in-AtEnd.is)
+    made names Undo _ s _ _ (undo_turn names c.args.self.now s shows (c.is_over.ensures.over (search rules)))
     (enters_does names _ (record s { joined = nothing }) t _
     (record {
       named = shows.named;

@@ -1,0 +1,85 @@
+-- What a port does with a request is the lab's deed.
+use Rattle.std.proofs.Common.{◌≡◌, ℕ, true, false, [], ◌∷◌, List, Some, None, refl, sym, ap, subst}
+use Rattle.std.proofs.lemmas.Bool.{true≢false}
+use Rattle.ipmb_frame.specs.declared.message.Request.{Request}
+use Rattle.cfg_records.specs.declared.message.Answered.{Answered}
+use Rattle.cfg_records.specs.declared.board_file.BoardFile.{BoardFile}
+use Rattle.two_wire.specs.declared.Bus.TheVariants.{Ipmb}
+use Rattle.bus_model.specs.Numbering.{is_above}
+use Rattle.bus_model.specs.Carried.{Outcome, Repeats, IsBusy, IsNew, log_after, reply_after}
+use Rattle.bmc_board.specs.State.{State}
+use Rattle.bmc_board.specs.Answer.{answer_of}
+use Rattle.lab_model.specs.Bytes.{heard_in}
+use Rattle.lab_model.specs.PortSteps.{PortState, Deed, Turn, spelled, asked_in, response_after, hears_request}
+use Rattle.lab_model.specs.Values.{written}
+use Rattle.lab_model.proofs.Stepping.{turns_by}
+use Rattle.bmc_core.specs.declared.out.Out.{Out}
+use Rattle.bmc_core.specs.declared.ipmb_port.IpmbPort.{IpmbPort}
+use Rattle.bmc_core.specs.Outs.{sends, done_by}
+use Rattle.bmc_core.specs.IpmbShown.{Shows, Does, Settles, outcome_at, after, answers, carries, kept_of, first_answer}
+
+-- what comes of a request after this turn
+abbrev deed_by : PortState → Request → Turn → Deed
+deed_by p r t = record { port = record p { log = t.log }; board = t.left; sent = response_after r t.replied ∷ [] }
+
+module _ (setup : BoardFile) (p : PortState) (before : State) (r : Request) where
+  repeat_deed : (reply : List ℕ) → outcome_at p r ≡ Repeats reply → hears_request setup p before r ≡ record { port = p; board = before; sent = response_after r (Some reply) ∷ [] }
+  unfolding hears_request
+  repeat_deed reply is = ap (deed_by p r) ((turns_by (is_above 64) (heard_in r) (spelled Ipmb (heard_in r)) setup (asked_in r) p.log before).repeats reply is)
+
+  busy_deed : outcome_at p r ≡ IsBusy → hears_request setup p before r ≡ record { port = p; board = before; sent = response_after r None ∷ [] }
+  unfolding hears_request
+  busy_deed is = ap (deed_by p r) ((turns_by (is_above 64) (heard_in r) (spelled Ipmb (heard_in r)) setup (asked_in r) p.log before).busy is)
+
+  new_deed : outcome_at p r ≡ IsNew → let given = answer_of setup before (asked_in r) in
+      hears_request setup p before r ≡ record { port = carries p r given.0; board = given.1; sent = response_after r (Some (kept_of r given.0).reply) ∷ [] }
+  unfolding hears_request
+  new_deed is = ap (deed_by p r) ((turns_by (is_above 64) (heard_in r) (spelled Ipmb (heard_in r)) setup (asked_in r) p.log before).new is)
+
+  settled : (port : IpmbPort) (out : Out) (o : Outcome) → outcome_at p r ≡ o → Settles r o false out → Shows port p → Does (hears_request setup p before r) (done_by o) port before out
+  settled port out (Repeats reply) is settles shows =
+      subst (λ (d : Deed). Does d (done_by (Repeats reply)) port before out) (sym (repeat_deed reply is)) (record { shows = shows; left = refl; sent = settles.1 })
+  settled port out IsBusy is settles shows =
+      subst (λ (d : Deed). Does d (done_by IsBusy) port before out) (sym (busy_deed is)) (record { shows = shows; left = refl; sent = settles.1 })
+  settled port out IsNew is settles shows = absurd (true≢false (sym settles))
+
+  -- a request that isn't new
+  pub settled_does : (port : IpmbPort) (out : Out) → Settles r (outcome_at p r) false out → Shows port p → Does (hears_request setup p before r) (done_by (outcome_at p r)) port before out
+  settled_does port out settles shows = settled port out (outcome_at p r) refl settles shows
+
+  -- a new one
+  pub new_does : (next : IpmbPort) (after : State) (out : Out) → let given = answer_of setup before (asked_in r) in
+      outcome_at p r ≡ IsNew → Shows next (carries p r given.0) → after ≡ given.1 → out ≡ first_answer r given.0 → Does (hears_request setup p before r) (done_by (outcome_at p r)) next after out
+  new_does next after out is shows left sent =
+      subst (λ (o : Outcome). Does (hears_request setup p before r) (done_by o) next after out) (sym is)
+      (subst (λ (d : Deed). Does d (done_by IsNew) next after out) (sym (new_deed is)) (record { shows = shows; left = left; sent = sent }))
+
+-- what is new is new by the rule
+pub is_new : (r : Request) (o : Outcome) (out : Out) → Settles r o true out → o ≡ IsNew
+is_new r (Repeats reply) out settles = absurd (true≢false settles.0)
+is_new r IsBusy out settles = absurd (true≢false settles.0)
+is_new r IsNew out settles = refl
+
+-- ---- an answer that is told
+
+module _ (p : PortState) (r : Request) (a : Answered) where
+  -- the rule, where this is done with the request
+  abbrev after_by : Outcome → PortState
+  after_by o = record p { log = log_after o (kept_of r a) p.log }
+
+  abbrev answers_by : Outcome → Out
+  answers_by o = sends (written (response_after r (reply_after o (kept_of r a))) ∷ []) (done_by o)
+
+  settled_told : (port : IpmbPort) (out : Out) (o : Outcome) → Settles r o false out → Shows port p → Shows port (after_by o) × (out ≡ answers_by o)
+  settled_told port out (Repeats reply) settles shows = (shows, settles.1)
+  settled_told port out IsBusy settles shows = (shows, settles.1)
+  settled_told port out IsNew settles shows = absurd (true≢false (sym settles))
+
+  -- to a request that isn't new any more
+  pub told_settled : (port : IpmbPort) (out : Out) → Settles r (outcome_at p r) false out → Shows port p → Shows port (after p r a) × (out ≡ answers p r a)
+  told_settled port out settles shows = settled_told port out (outcome_at p r) settles shows
+
+  -- to a new one
+  pub told_new : (next : IpmbPort) (out : Out) → outcome_at p r ≡ IsNew → Shows next (carries p r a) → out ≡ first_answer r a → Shows next (after p r a) × (out ≡ answers p r a)
+  told_new next out is shows sent =
+      subst (λ (o : Outcome). Shows next (after_by o) × (out ≡ answers_by o)) (sym is) (shows, sent)

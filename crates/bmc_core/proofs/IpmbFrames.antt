@@ -1,0 +1,75 @@
+-- What of a frame is compared, and what of one is kept.
+use Rattle.std.proofs.Common.{◌≡◌, ℕ, ◌+◌, ◌*◌, ◌-◌, ◌/◌, ◌%◌, ◌<◌, ◌≤◌, List, [], ◌∷◌, ◌++◌, length, take, drop, sym, ◌∙◌, ap, subst, arith}
+use Rattle.std.specs.Prelude.{slice_index}
+use Rattle.std.proofs.Math.Seq.{take-append_seam}
+use Rattle.std.proofs.lemmas.List.{length-append}
+use Rattle.two_wire.specs.Check.{check_byte}
+use Rattle.ipmb_frame.specs.declared.message.Request.{Request}
+use Rattle.ipmb_frame.specs.declared.message.Response.{Response}
+use Rattle.ipmb_frame.specs.Grammar.{packed, request_bytes, request_head, request_tail, response_connection, response_lead, response_head, response_tail, frame, IsRequest, IsResponse}
+use Rattle.cfg_records.specs.declared.message.Answered.{Answered}
+use Rattle.lab_model.specs.Bytes.{heard_in}
+use Rattle.bus_model.specs.Request.{Request as Asking, Kept, Entry, Carried}
+use Rattle.bus_model.specs.Numbering.{is_above}
+use Rattle.bus_model.specs.Carried.{IsNew, outcome}
+use Rattle.windows.specs.declared.request.Request.{Request as Heard}
+use Rattle.windows.specs.Keeps.{Keeps}
+use Rattle.windows.specs.Heard.{request_of, kept_of as kept_as}
+use Rattle.lab_model.specs.PortSteps.{PortState}
+use Rattle.bmc_core.specs.declared.ipmb_port.IpmbPort.{IpmbPort}
+use Rattle.bmc_core.specs.IpmbShown.{reading, response_giving, kept_of, outcome_at, carries, Shows}
+
+-- all but the last byte
+butlast : (xs : List ℕ) (last n : ℕ) → n ≡ length xs → take n (xs ++ last ∷ []) ≡ xs
+butlast xs last n size = ap (λ (k : ℕ). take k (xs ++ last ∷ [])) size ∙ take-append_seam xs (last ∷ [])
+
+-- a frame's second byte, and those from the fifth to the last but one, are the request's bytes
+pub compared : (r : Request) (bytes : List ℕ) → IsRequest r bytes → slice_index bytes 1 ∷ take (length bytes - 1 - 4) (drop 4 bytes) ≡ request_bytes r
+compared r bytes is =
+    let h = r.header in
+    let rest : List ℕ = packed h.sequence h.requester.lun ∷ h.command ∷ r.body in
+    let last : ℕ = check_byte (request_tail r) in
+    let size : length (rest ++ last ∷ []) ≡ length rest + 1 = length-append rest (last ∷ []) in
+    ap (λ (xs : List ℕ). slice_index xs 1 ∷ take (length xs - 1 - 4) (drop 4 xs)) is.spelled
+    ∙ ap (λ (xs : List ℕ). packed h.net_fn h.responder.lun ∷ xs) (butlast rest last (length (frame (request_head r) (request_tail r)) - 1 - 4) (omega (arith, size)))
+
+high : (n lun : ℕ) → lun < 4 → (4 * n + lun) / 4 ≡ n
+high n lun below = omega (arith, below)
+
+low : (n lun : ℕ) → lun < 4 → (4 * n + lun) % 4 ≡ lun
+low n lun below = omega (arith, below)
+
+-- a response's frame has 8 to 32 bytes
+pub frame_size : (r : Response) (bytes : List ℕ) → IsResponse r bytes → (8 ≤ length bytes) × (length bytes ≤ 32)
+frame_size r bytes is =
+    let size : length (r.body ++ check_byte (response_tail r) ∷ []) ≡ length r.body + 1 = length-append r.body (check_byte (response_tail r) ∷ []) in
+    let whole : length bytes ≡ length (frame (response_head r) (response_tail r)) = ap (λ (xs : List ℕ). length xs) is.spelled in
+    (omega (arith, size, whole), omega (arith, size, whole, is.fits))
+
+-- what is kept of the frame of the response that gives the answer is the reply that gives it
+kept_reply : (r : Request) (a : Answered) (bytes : List ℕ) → IsResponse (response_giving r a) bytes → reading.reply (take (length bytes - 1) bytes) ≡ (kept_of r a).reply
+kept_reply r a bytes is =
+    let h = r.header in
+    let start : List ℕ = response_lead h a.code ++ a.body in
+    let head : List ℕ = response_connection h in
+    let whole : List ℕ = head ++ check_byte head ∷ start in
+    let last : ℕ = check_byte start in
+    let size : length (whole ++ last ∷ []) ≡ length whole + 1 = length-append whole (last ∷ []) in
+    ap (λ (xs : List ℕ). reading.reply (take (length xs - 1) xs)) is.spelled
+    ∙ ap (λ (xs : List ℕ). reading.reply xs) (butlast whole last (length (whole ++ last ∷ []) - 1) (omega (arith, size)))
+    ∙ sym (λ i. packed (high h.net_fn h.responder.lun is.header.responder.lun i + 1) (low h.sequence h.requester.lun is.header.requester.lun i)
+    ∷ packed (high h.sequence h.requester.lun is.header.requester.lun i) (low h.net_fn h.responder.lun is.header.responder.lun i) ∷ h.command ∷ a.code ∷ a.body)
+
+-- so a port that keeps the request and this frame is the lab's port that carried the request out
+pub carried_shows : (old next : IpmbPort) (heard : Heard 64) (r : Request) (a : Answered) (bytes given : List ℕ)
+    → request_of reading heard ≡ heard_in r → IsResponse (response_giving r a) bytes → given ≡ bytes → next.wire ≡ old.wire
+    → ((log : List Entry) → Keeps 64 reading old.windows log → outcome (is_above 64) (request_of reading heard) log ≡ IsNew
+    → Keeps 64 reading next.windows (Carried (kept_as reading heard (take (length given - 1) given)) ∷ log))
+    → (p : PortState) → Shows old p → outcome_at p r ≡ IsNew → Shows next (carries p r a)
+carried_shows old next heard r a bytes given same is whole wire carried p shows new =
+    let reply : reading.reply (take (length given - 1) given) ≡ (kept_of r a).reply = ap (λ (xs : List ℕ). reading.reply (take (length xs - 1) xs)) whole ∙ kept_reply r a bytes is in
+    record {
+      wire = wire ∙ shows.wire;
+      keeps = subst (λ (k : Kept). Keeps 64 reading next.windows (Carried k ∷ p.log)) (λ i. record { request = same i; reply = reply i })
+          (carried p.log shows.keeps (ap (λ (q : Asking). outcome (is_above 64) q p.log) same ∙ new));
+    }

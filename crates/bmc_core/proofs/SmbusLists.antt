@@ -1,0 +1,128 @@
+-- What holds of lists of what comes to a port on the System Management Bus.
+use Rattle.std.proofs.Common.{◌≡◌, List, [], ◌∷◌, Option, Some, None, refl, ◌∙◌, ap}
+use Rattle.mctp_net.specs.declared.packet.Packet.{Packet}
+use Rattle.cfg_records.specs.declared.message.Answered.{Answered}
+use Rattle.cfg_records.specs.declared.board_file.BoardFile.{BoardFile}
+use Rattle.bus_model.specs.Request.{Kept, Entry}
+use Rattle.bus_model.specs.Numbering.{is_above}
+use Rattle.bus_model.specs.Carried.{Outcome, Repeats, IsBusy, IsNew, Heard as Brought, log_after, outcomes}
+use Rattle.bmc_board.specs.State.{State}
+use Rattle.bmc_board.specs.Answer.{answer_of}
+use Rattle.lab_model.specs.PortSteps.{PortState, Deed, left_by}
+use Rattle.bmc_core.specs.SmbusHeard.{InMessage, Heard, Ignored, Waiting, Control, Asks, taken, heard_in, asked_of, asks_of, found, asks, kept_with, asks_effect, effect}
+use Rattle.bmc_core.specs.SmbusRuns.{with_board, IsHeardThenTold, logs_with, Coming, Comes, IsTold, IsIdle, once_heard, port_after, ports_after, brought, done_with_told, KeepsTheRule, Happening, Hears, Idles, Others, Ends, ends_after, all_after, heard_then, heard_in_all, done_then, done_in_all, CarriesTheRule}
+use Rattle.bmc_core.proofs.SmbusPorts.{deed_of, packet_deed}
+
+-- ---- one packet
+
+-- a request that is asked is the one that was heard, and is new
+new_one : (n m : InMessage) (o : Outcome) → asks_of n o ≡ Some m → (o ≡ IsNew) × (n ≡ m)
+new_one n m (Repeats reply) is = absurd cc
+new_one n m IsBusy is = absurd cc
+new_one n m IsNew is = (refl, cc)
+
+asked_deed : (setup : BoardFile) (before : State) (port : PortState) (h : Heard) (m : InMessage) → asks port h ≡ Some m
+    → deed_of setup before port h ≡ with_board (answer_of setup before (asked_of m)).1 (effect port (Asks m) (answer_of setup before (asked_of m)).0)
+asked_deed setup before port (Ignored why) m is = absurd cc
+asked_deed setup before port Waiting m is = absurd cc
+asked_deed setup before port (Control e r) m is = absurd cc
+asked_deed setup before port (Asks n) m is =
+    let so = new_one n m (found port n) is in
+    let given = answer_of setup before (asked_of n) in
+    ap (λ (o : Outcome). with_board (left_by o given.1 before) (effect port (Asks n) given.0)) so.0
+    ∙ ap (λ (x : InMessage). with_board (answer_of setup before (asked_of x)).1 (effect port (Asks x) (answer_of setup before (asked_of x)).0)) so.1
+
+-- of a request that isn't new comes the same, whatever the answer
+none_new : (before after : State) (port : PortState) (m : InMessage) (o : Outcome) (j k : Kept) → asks_of m o ≡ None
+    → with_board (left_by o after before) (asks_effect port m o j) ≡ with_board before (asks_effect port m o k)
+none_new before after port m (Repeats reply) j k is = refl
+none_new before after port m IsBusy j k is = refl
+none_new before after port m IsNew j k is = absurd cc
+
+settled_deed : (setup : BoardFile) (before : State) (port : PortState) (h : Heard) (a : Answered) → asks port h ≡ None
+    → deed_of setup before port h ≡ with_board before (effect port h a)
+settled_deed setup before port (Ignored why) a is = refl
+settled_deed setup before port Waiting a is = refl
+settled_deed setup before port (Control e r) a is = refl
+settled_deed setup before port (Asks m) a is =
+    none_new before (answer_of setup before (asked_of m)).1 port m (found port m) (kept_with m (answer_of setup before (asked_of m)).0) (kept_with m a) is
+
+pub heard_then_told : (setup : BoardFile) (port : PortState) (before : State) (p : Packet) → IsHeardThenTold setup port before p
+heard_then_told setup port before p = record {
+  asked = λ m is. packet_deed setup before port p ∙ asked_deed setup before (taken port p) (heard_in port p) m is;
+  settled = λ is a. packet_deed setup before port p ∙ settled_deed setup before (taken port p) (heard_in port p) a is;
+}
+
+-- ---- lists with no board in them
+
+log_stays : (m : InMessage) (o : Outcome) (k : Kept) (log : List Entry) → asks_of m o ≡ None → log_after o k log ≡ log
+log_stays m (Repeats reply) k log is = refl
+log_stays m IsBusy k log is = refl
+log_stays m IsNew k log is = absurd cc
+
+-- what is heard and not told changes no log
+heard_log : (port : PortState) (h : Heard) (o : Option InMessage) → asks port h ≡ o → (once_heard port h o).log ≡ port.log
+heard_log port h (Some m) is = refl
+heard_log port (Ignored why) None is = refl
+heard_log port Waiting None is = refl
+heard_log port (Control e r) None is = refl
+heard_log port (Asks m) None is = log_stays m (found port m) (kept_with m (record { code = 0; body = [] })) port.log is
+
+packet_log : (port : PortState) (p : Packet) → (port_after port (Comes p)).log ≡ port.log
+packet_log port p = heard_log (taken port p) (heard_in port p) (asks (taken port p) (heard_in port p)) refl
+
+told_log : (port : PortState) (cs : List Coming) → (ports_after port cs).log ≡ logs_with (brought cs) port.log
+told_log port [] = refl
+told_log port (Comes p ∷ cs) = told_log (port_after port (Comes p)) cs ∙ ap (logs_with (brought cs)) (packet_log port p)
+told_log port (IsTold m a ∷ cs) = told_log (port_after port (IsTold m a)) cs
+told_log port (IsIdle requester ∷ cs) = told_log (port_after port (IsIdle requester)) cs
+
+told_done : (port : PortState) (cs : List Coming) → done_with_told port cs ≡ outcomes (is_above 32) port.log (brought cs)
+told_done port [] = refl
+told_done port (Comes p ∷ cs) =
+    told_done (port_after port (Comes p)) cs ∙ ap (λ (log : List Entry). outcomes (is_above 32) log (brought cs)) (packet_log port p)
+told_done port (IsTold m a ∷ cs) = ap (λ (os : List Outcome). found port m ∷ os) (told_done (port_after port (IsTold m a)) cs)
+told_done port (IsIdle requester ∷ cs) = told_done (port_after port (IsIdle requester)) cs
+
+pub keeps_the_rule : (port : PortState) (cs : List Coming) → KeepsTheRule port cs
+keeps_the_rule port cs = record { log = told_log port cs; done = told_done port cs }
+
+-- ---- lists at a board
+
+one_log : (setup : BoardFile) (before : State) (port : PortState) (h : Heard) (rest : List Brought)
+    → logs_with rest (deed_of setup before port h).port.log ≡ logs_with (heard_then setup before h rest) port.log
+one_log setup before port (Ignored why) rest = refl
+one_log setup before port Waiting rest = refl
+one_log setup before port (Control e r) rest = refl
+one_log setup before port (Asks m) rest = refl
+
+one_done : (setup : BoardFile) (before : State) (port : PortState) (h : Heard) (rest : List Brought)
+    → done_then port h (outcomes (is_above 32) (deed_of setup before port h).port.log rest) ≡ outcomes (is_above 32) port.log (heard_then setup before h rest)
+one_done setup before port (Ignored why) rest = refl
+one_done setup before port Waiting rest = refl
+one_done setup before port (Control e r) rest = refl
+one_done setup before port (Asks m) rest = refl
+
+module _ (setup : BoardFile) where
+  all_log : (x : Ends) (es : List Happening) → (all_after setup x es).port.log ≡ logs_with (heard_in_all setup x es) x.port.log
+  all_log x [] = refl
+  all_log x (Hears p ∷ es) =
+      let next = ends_after setup x (Hears p) in
+      all_log next es
+      ∙ ap (λ (d : Deed). logs_with (heard_in_all setup next es) d.port.log) (packet_deed setup x.board x.port p)
+      ∙ one_log setup x.board (taken x.port p) (heard_in x.port p) (heard_in_all setup next es)
+  all_log x (Idles requester ∷ es) = all_log (ends_after setup x (Idles requester)) es
+  all_log x (Others board ∷ es) = all_log (ends_after setup x (Others board)) es
+
+  all_done : (x : Ends) (es : List Happening) → done_in_all setup x es ≡ outcomes (is_above 32) x.port.log (heard_in_all setup x es)
+  all_done x [] = refl
+  all_done x (Hears p ∷ es) =
+      let next = ends_after setup x (Hears p) in
+      ap (done_then (taken x.port p) (heard_in x.port p))
+      (all_done next es ∙ ap (λ (d : Deed). outcomes (is_above 32) d.port.log (heard_in_all setup next es)) (packet_deed setup x.board x.port p))
+      ∙ one_done setup x.board (taken x.port p) (heard_in x.port p) (heard_in_all setup next es)
+  all_done x (Idles requester ∷ es) = all_done (ends_after setup x (Idles requester)) es
+  all_done x (Others board ∷ es) = all_done (ends_after setup x (Others board)) es
+
+  pub carries_the_rule : (x : Ends) (es : List Happening) → CarriesTheRule setup x es
+  carries_the_rule x es = record { log = all_log x es; done = all_done x es }

@@ -1,0 +1,225 @@
+-- What a port on the System Management Bus does is what the lab's does.
+use Rattle.std.proofs.Common.{◌≡◌, ℕ, Bool, true, false, cond, List, [], ◌∷◌, find, Option, Some, None, Result, Ok, Err, refl, sym, ◌∙◌, ap, subst}
+use Rattle.std.specs.Prelude.{◌==◌}
+use Rattle.two_wire.specs.declared.Bus.TheVariants.{Smbus}
+use Rattle.mctp_net.specs.declared.fault.PacketFault.{PacketFault}
+use Rattle.mctp_net.specs.declared.packet.Packet.{Packet}
+use Rattle.mctp_net.specs.declared.message.Message.{Message}
+use Rattle.mctp_net.specs.declared.taken.DropCause.{DropCause}
+use Rattle.mctp_net.specs.Assembly.{Assemblies, drop_cause, after as kept_after, message_of}
+use Rattle.mctp_net.specs.Places.{Kept as Assembler, seen}
+use Rattle.mctp_net.specs.Control.{Request as ControlRequest, request_of as control_request_of, reply_to as control_reply_to}
+use Rattle.mctp_net.specs.Grammar.{IsPacket, has_fault, faults}
+use Rattle.pldm_base.specs.declared.fault.PldmFault.{PldmFault}
+use Rattle.pldm_base.specs.declared.message.PldmRequest.{PldmRequest}
+use Rattle.pldm_base.specs.Message.{request_in as pldm_request_in, has_fault as has_pldm_fault, faults as pldm_faults}
+use Rattle.cfg_records.specs.declared.message.Answered.{Answered}
+use Rattle.cfg_records.specs.declared.board_file.BoardFile.{BoardFile}
+use Rattle.bus_model.specs.Carried.{Outcome, Repeats, IsBusy, IsNew}
+use Rattle.bus_model.specs.Request.{Kept, Carried}
+use Rattle.bmc_board.specs.State.{State}
+use Rattle.bmc_board.specs.Answer.{answer_of}
+use Rattle.lab_model.specs.Bytes.{said}
+use Rattle.lab_model.specs.Values.{Part}
+use Rattle.lab_model.specs.PortSteps.{PortState, Deed, stays, left_by, turn, hears_control, hears_pldm, hears_typed, hears_message, hears_part, ends_message, hears}
+use Rattle.bmc_core.specs.declared.out.Out.{Out}
+use Rattle.bmc_core.specs.declared.out.Done.TheVariants as done
+use Rattle.bmc_core.specs.declared.out.Reason.TheVariants as reason
+use Rattle.bmc_core.specs.declared.smbus_port.SmbusPort.{SmbusPort}
+use Rattle.bmc_core.specs.Outs.{sends, done_by}
+use Rattle.bmc_core.specs.SmbusHeard.{InMessage, Heard, Ignored, Waiting, Control, Asks, control_heard, pldm_heard, typed_heard, message_heard, part_heard, with_part, taken, heard_in, asking, asked_of, asks_of, found, asks, done_of, kept_with, asks_effect, effect}
+use Rattle.bmc_core.specs.SmbusShown.{Shows, Hearing, HasEffect, Ends, Does, HearsBytes, frames_from, HasHeard, HasTaken, IsSettled}
+
+-- ---- the bytes
+
+pub hearing_fault : (port : PortState) (bytes : List ℕ) (fault : PacketFault) (Holds : PortState → Heard → Type 0)
+    → Some fault ≡ find (has_fault bytes) faults
+    → ((q : Packet) → IsPacket q bytes → (let r : Result Packet PacketFault = Err fault in r) ≡ Ok q)
+    → Holds port (Ignored (reason.Packet fault))
+    → Hearing port bytes Holds
+hearing_fault port bytes fault Holds first whole heard = record {
+  faulty = λ other is.
+      let same : fault ≡ other = cc in
+      subst (λ (f : PacketFault). Holds port (Ignored (reason.Packet f))) same heard;
+  packet = λ q is. let e : (let r : Result Packet PacketFault = Err fault in r) ≡ Ok q = whole q is in cc;
+}
+
+pub hearing_packet : (port : PortState) (bytes : List ℕ) (p : Packet) (Holds : PortState → Heard → Type 0)
+    → (let n : Option PacketFault = None in n) ≡ find (has_fault bytes) faults
+    → ((q : Packet) → IsPacket q bytes → (let r : Result Packet PacketFault = Ok p in r) ≡ Ok q)
+    → Holds (taken port p) (heard_in port p)
+    → Hearing port bytes Holds
+hearing_packet port bytes p Holds faultless whole heard = record {
+  faulty = λ fault is. cc;
+  packet = λ q is.
+      let e : (let r : Result Packet PacketFault = Ok p in r) ≡ Ok q = whole q is in
+      let same : p ≡ q = cc in
+      subst (λ (r : Packet). Holds (taken port r) (heard_in port r)) same heard;
+}
+
+-- ---- what is heard, and what comes of it
+
+-- the port, once its endpoint has this identifier
+abbrev pub with_eid : PortState → ℕ → PortState
+with_eid port eid = record port { eid = eid }
+
+-- of all but a request comes what is sent, whatever the board would answer
+pub ended : (next : SmbusPort) (out : Out) (port : PortState) (h : Heard) (eid : ℕ) → HasHeard port.wire port.eid h eid out None → Shows next (with_eid port eid)
+    → (asks port h ≡ None) × ((a : Answered) → Ends next out port h a)
+ended next out port (Ignored why) eid is shows = (refl, λ a. record { shows = subst (λ (n : ℕ). Shows next (with_eid port n)) is.0 shows; sent = is.1 })
+ended next out port Waiting eid is shows = (refl, λ a. record { shows = subst (λ (n : ℕ). Shows next (with_eid port n)) is.0 shows; sent = is.1 })
+ended next out port (Control e r) eid is shows = (
+  refl,
+  λ a. record {
+    shows = subst (λ (n : ℕ). Shows next (with_eid port n)) is.0 shows;
+    sent = is.1 ∙ ap (λ (n : ℕ). sends (frames_from port.wire n e (control_reply_to port.eid r)) done.Control) is.0;
+  },
+)
+ended next out port (Asks m) eid is shows = let no : (let n : Option InMessage = None in n) ≡ Some m = is.1 in absurd cc
+
+-- a request is what was heard
+pub asked : (wire own : ℕ) (h : Heard) (eid : ℕ) (out : Out) (m : InMessage) → HasHeard wire own h eid out (Some m) → (eid ≡ own) × (h ≡ Asks m)
+asked wire own (Ignored why) eid out m is = let no : Some m ≡ None = is.2 in absurd cc
+asked wire own Waiting eid out m is = let no : Some m ≡ None = is.2 in absurd cc
+asked wire own (Control e r) eid out m is = let no : Some m ≡ None = is.2 in absurd cc
+asked wire own (Asks n) eid out m is = let yes : Some m ≡ Some n = is.1 in let same : n ≡ m = cc in (is.0, ap Asks same)
+
+-- what is heard in a whole message, where the packet ends it
+pub heard_whole : (port : SmbusPort) (p : PortState) (q : Packet) (assembler : Assembler) (was out : Out) (eid : ℕ) (given : Option InMessage) (body : List ℕ) → Shows port p
+    → HasTaken p q (seen assembler) was true → body ≡ (message_of (seen assembler) q).body
+    → HasHeard port.wire port.endpoint (message_heard (record { envelope = q.envelope; body = body })) eid out given
+    → HasHeard p.wire p.eid (heard_in p q) eid out given
+heard_whole port p q assembler was out eid given body shows took shown heard =
+    let message : message_heard (record { envelope = q.envelope; body = body }) ≡ heard_in p q =
+    (λ i. message_heard (record { envelope = q.envelope; body = shown i })) ∙ ap (λ (a : Assemblies). message_heard (message_of a q)) took.kept ∙ sym took.heard in
+    subst (λ (n : ℕ). HasHeard n p.eid (heard_in p q) eid out given) (sym shows.wire)
+    (subst (λ (n : ℕ). HasHeard port.wire n (heard_in p q) eid out given) (sym shows.eid)
+    (subst (λ (h : Heard). HasHeard port.wire port.endpoint h eid out given) message heard))
+
+-- what was done with a request, from the place that the port has
+pub settled_as : (p : PortState) (m : InMessage) (wire eid : ℕ) (before out : Out) (test is : Bool) → p.wire ≡ wire → p.eid ≡ eid → test ≡ is
+    → IsSettled (found p m) (said Smbus (asking m) None) (frames_from wire eid m.envelope) before out test
+    → IsSettled (found p m) (said Smbus (asking m) None) (frames_from p.wire p.eid m.envelope) before out is
+settled_as p m wire eid before out test is at_wire at_eid so settles =
+    subst (λ (n : ℕ). IsSettled (found p m) (said Smbus (asking m) None) (frames_from n p.eid m.envelope) before out is) (sym at_wire)
+    (subst (λ (n : ℕ). IsSettled (found p m) (said Smbus (asking m) None) (frames_from wire n m.envelope) before out is) (sym at_eid)
+    (subst (λ (t : Bool). IsSettled (found p m) (said Smbus (asking m) None) (frames_from wire eid m.envelope) before out t) so settles))
+
+-- ---- a request that isn't new
+
+settled_by : (next : SmbusPort) (out before : Out) (port : PortState) (m : InMessage) (o : Outcome) (k : Kept) → Shows next port
+    → IsSettled o (said Smbus (asking m) None) (frames_from port.wire port.eid m.envelope) before out true
+    → (asks_of m o ≡ None) × HasEffect next out (asks_effect port m o k) (done_by o)
+settled_by next out before port m (Repeats reply) k shows is = (refl, record { shows = shows; sent = is.1 })
+settled_by next out before port m IsBusy k shows is = (refl, record { shows = shows; sent = is.1 })
+settled_by next out before port m IsNew k shows is = let no : true ≡ false = is.0 in absurd cc
+
+pub settled : (next : SmbusPort) (out before : Out) (port : PortState) (m : InMessage) → Shows next port
+    → IsSettled (found port m) (said Smbus (asking m) None) (frames_from port.wire port.eid m.envelope) before out true
+    → (asks port (Asks m) ≡ None) × ((a : Answered) → Ends next out port (Asks m) a)
+settled next out before port m shows is =
+    ((settled_by next out before port m (found port m) (kept_with m (record { code = 0; body = [] })) shows is).0, λ a. (settled_by next out before port m (found port m) (kept_with m a) shows is).1)
+
+-- ---- a new request
+
+pub new : (o : Outcome) (busy : List ℕ) (frames : List ℕ → List (List ℕ)) (before out : Out) → IsSettled o busy frames before out false → o ≡ IsNew
+new (Repeats reply) busy frames before out is = let no : false ≡ true = is.0 in absurd cc
+new IsBusy busy frames before out is = let no : false ≡ true = is.0 in absurd cc
+new IsNew busy frames before out is = refl
+
+pub answered : (next : SmbusPort) (out : Out) (port : PortState) (m : InMessage) (a : Answered) → found port m ≡ IsNew
+    → Shows next (record port { log = Carried (kept_with m a) ∷ port.log })
+    → out ≡ sends (frames_from port.wire port.eid m.envelope (kept_with m a).reply) done.Answered
+    → Ends next out port (Asks m) a
+answered next out port m a is shows sent =
+    subst (λ (o : Outcome). HasEffect next out (asks_effect port m o (kept_with m a)) (done_by o)) (sym is) (record { shows = shows; sent = sent })
+
+-- ---- with the board
+
+module _ (setup : BoardFile) (before : State) where
+  -- what the board would answer, if it's asked
+  abbrev pub answer_for : Heard → Answered
+  answer_for (Asks m) = (answer_of setup before (asked_of m)).0
+  answer_for _ = record { code = 0; body = [] }
+
+  -- the board after it
+  abbrev pub left_after : PortState → Heard → State
+  left_after port (Asks m) = left_by (found port m) (answer_of setup before (asked_of m)).1 before
+  left_after port _ = before
+
+  -- what the lab's port does
+  abbrev pub deed_of : PortState → Heard → Deed
+  deed_of port h = let e = effect port h (answer_for h) in record { port = e.port; board = left_after port h; sent = e.sent }
+
+  by_test : (test : Bool) (port : PortState) (x y : Deed) (h k : Heard) → x ≡ deed_of port h → y ≡ deed_of port k → cond test x y ≡ deed_of port (cond test h k)
+  by_test true port x y h k one other = one
+  by_test false port x y h k one other = other
+
+  control_deed : (port : PortState) (m : Message) (o : Option ControlRequest) → hears_control port before m o ≡ deed_of port (control_heard m.envelope o)
+  control_deed port m None = refl
+  control_deed port m (Some r) = refl
+
+  pldm_deed : (port : PortState) (m : Message) (o : Option PldmRequest) (f : Option PldmFault) → hears_pldm setup port before m o ≡ deed_of port (pldm_heard m.envelope o f)
+  unfolding turn
+  pldm_deed port m None None = refl
+  pldm_deed port m None (Some fault) = refl
+  pldm_deed port m (Some r) f = refl
+
+  typed_deed : (port : PortState) (m : Message) (body : List ℕ) → hears_typed setup port before m body ≡ deed_of port (typed_heard m body)
+  typed_deed port m [] = refl
+  typed_deed port m (kind ∷ rest) =
+      by_test (kind == 0) port _ _ (control_heard m.envelope (control_request_of m.body))
+      (cond (kind == 1) (pldm_heard m.envelope (pldm_request_in rest) (find (has_pldm_fault rest) pldm_faults)) (Ignored reason.MessageType))
+      (control_deed port m (control_request_of m.body))
+      (by_test (kind == 1) port _ _ (pldm_heard m.envelope (pldm_request_in rest) (find (has_pldm_fault rest) pldm_faults)) (Ignored reason.MessageType)
+      (pldm_deed port m (pldm_request_in rest) (find (has_pldm_fault rest) pldm_faults)) refl)
+
+  message_deed : (port : PortState) (m : Message) → hears_message setup port before m ≡ deed_of port (message_heard m)
+  unfolding hears_message
+  message_deed port m = by_test m.envelope.tag_owner port _ _ (typed_heard m m.body) (Ignored reason.NotRequest) (typed_deed port m m.body) refl
+
+  part_deed : (port : PortState) (p : Packet) (o : Option DropCause) → ends_message setup port before p o ≡ deed_of port (part_heard port p o)
+  part_deed port p (Some cause) = refl
+  part_deed port p None = by_test p.end port _ _ (message_heard (message_of port.kept p)) Waiting (message_deed port (message_of port.kept p)) refl
+
+  taken_deed : (port : PortState) (p : Packet) (ours : Bool)
+      → cond ours (hears_part setup port before p) (stays port before)
+      ≡ deed_of (record port { kept = cond ours (kept_after port.eid port.kept p) port.kept }) (cond ours (part_heard (with_part port p) p (drop_cause port.eid port.kept p)) (Ignored reason.NotOurs))
+  unfolding hears_part
+  taken_deed port p true = part_deed (with_part port p) p (drop_cause port.eid port.kept p)
+  taken_deed port p false = refl
+
+  -- a packet: what the lab's port does with it is what comes of what is heard
+  pub packet_deed : (port : PortState) (p : Packet) → hears setup port before (Part p) ≡ deed_of (taken port p) (heard_in port p)
+  packet_deed port p = taken_deed port p (p.envelope.destination == port.wire)
+
+  pub hears_bytes : (port : PortState) (bytes : List ℕ) (next : SmbusPort) (out : Out) (after : State)
+      → Hearing port bytes (λ t h. Does next out after (deed_of t h) (done_of t h)) → HearsBytes setup port before bytes next out after
+  hears_bytes port bytes next out after h = record {
+    faulty = h.faulty;
+    packet = λ p is. subst (λ (d : Deed). Does next out after d (done_of (taken port p) (heard_in port p))) (sym (packet_deed port p)) (h.packet p is);
+  }
+
+  -- where nothing is asked, the board stays
+  pub left_ended : (port : PortState) (h : Heard) (wire own eid : ℕ) (out : Out) → HasHeard wire own h eid out None → left_after port h ≡ before
+  left_ended port (Ignored why) wire own eid out is = refl
+  left_ended port Waiting wire own eid out is = refl
+  left_ended port (Control e r) wire own eid out is = refl
+  left_ended port (Asks m) wire own eid out is = let no : (let n : Option InMessage = None in n) ≡ Some m = is.1 in absurd cc
+
+  left_where : (o : Outcome) (after : State) (busy : List ℕ) (frames : List ℕ → List (List ℕ)) (was out : Out) → IsSettled o busy frames was out true → left_by o after before ≡ before
+  left_where (Repeats reply) after busy frames was out is = refl
+  left_where IsBusy after busy frames was out is = refl
+  left_where IsNew after busy frames was out is = let no : true ≡ false = is.0 in absurd cc
+
+  pub left_settled : (port : PortState) (m : InMessage) (busy : List ℕ) (frames : List ℕ → List (List ℕ)) (was out : Out)
+      → IsSettled (found port m) busy frames was out true → left_after port (Asks m) ≡ before
+  left_settled port m busy frames was out is = left_where (found port m) (answer_of setup before (asked_of m)).1 busy frames was out is
+
+  pub left_new : (port : PortState) (m : InMessage) → found port m ≡ IsNew → left_after port (Asks m) ≡ (answer_of setup before (asked_of m)).1
+  left_new port m is = ap (λ (o : Outcome). left_by o (answer_of setup before (asked_of m)).1 before) is
+
+  -- what comes of what was heard, with what it leaves of the board
+  pub does : (next : SmbusPort) (out : Out) (after : State) (port : PortState) (h : Heard) → Ends next out port h (answer_for h) → left_after port h ≡ after
+      → Does next out after (deed_of port h) (done_of port h)
+  does next out after port h e left = record { shows = e.shows; sent = e.sent; left = sym left }

@@ -1,0 +1,77 @@
+-- The replies of a port on the System Management Bus: as frames, as bytes, and as they are kept.
+use Rattle.std.proofs.Common.{◌≡◌, ℕ, ◌+◌, ◌%◌, ◌<◌, ◌≤◌, Bool, true, false, if◌then◌else◌, List, [], ◌∷◌, ◌++◌, length, map, Option, Some, None, refl, ◌∙◌, ap, arith}
+use Rattle.two_wire.specs.declared.Bus.TheVariants.{Smbus}
+use Rattle.mctp_net.specs.declared.packet.Packet.{Packet}
+use Rattle.mctp_net.specs.declared.message.Message.{Message}
+use Rattle.mctp_net.specs.Cut.{IsCutOf, AreWritten}
+use Rattle.mctp_net.proofs.OneCut.{cut-one}
+use Rattle.pldm_base.specs.Message.{reply_start}
+use Rattle.cfg_records.specs.declared.message.Answered.{Answered}
+use Rattle.bus_model.specs.Request.{Request as Asking, Kept, Entry, Carried, Idled, carried_since}
+use Rattle.bus_model.specs.Carried.{Outcome, Repeats, IsBusy, IsNew, kept_for, outcome_of, outcome, is_busy}
+use Rattle.lab_model.specs.Values.{Part, written, parts_of}
+use Rattle.lab_model.specs.PortSteps.{spelled}
+use Rattle.lab_model.proofs.Parts.{parts_are_cuts}
+use Rattle.bmc_core.specs.SmbusHeard.{InMessage, asking}
+use Rattle.bmc_core.specs.SmbusShown.{AreReplies}
+
+-- ---- as frames
+
+-- each frame is its packet's
+packets_written : (ps : List Packet) (frames : List (List ℕ)) → AreWritten ps frames → frames ≡ map written (map (λ p. Part p) ps)
+packets_written [] [] all = refl
+packets_written [] (frame ∷ frames) all = absurd all
+packets_written (p ∷ ps) [] all = absurd all
+packets_written (p ∷ ps) (frame ∷ frames) all = λ i. all.0.spelled i ∷ packets_written ps frames all.1 i
+
+-- so the frames of any cut are those of the message's parts
+pub message_written : (m : Message) (ps : List Packet) (frames : List (List ℕ)) → 0 < length m.body → length m.body ≤ 256 → IsCutOf m ps → AreWritten ps frames
+    → frames ≡ map written (map (λ p. Part p) (parts_of m))
+message_written m ps frames some fits cut all =
+    packets_written ps frames all ∙ ap (λ (qs : List Packet). map written (map (λ p. Part p) qs)) (cut-one m ps (parts_of m) cut (parts_are_cuts.cut m some fits))
+
+-- ---- as bytes
+
+instance_back : (number : ℕ) → number < 32 → (128 + number) % 32 ≡ 0 + number
+instance_back number below = omega (arith, below)
+
+-- the reply to a request: its type byte, the start of a reply, and the data
+pub spelled_so : (m : InMessage) (a : Answered) → m.request.header.instance < 32 → spelled Smbus (asking m) a ≡ 1 ∷ (reply_start m.request.header a.code ++ a.body)
+spelled_so m a below = λ i. 1 ∷ instance_back m.request.header.instance below i ∷ m.request.header.pldm_type ∷ m.request.header.command ∷ a.code ∷ a.body
+
+-- ---- as they are kept: each has some bytes
+
+either : {A : Type 0} (P : A → Type 0) (test : Bool) (a b : A) → P a → P b → P (if test then a else b)
+either P true a b one other = one
+either P false a b one other = other
+
+abbrev AllHaveBytes : List Kept → Type 0
+AllHaveBytes [] = Unit {0}
+AllHaveBytes (k ∷ ks) = (0 < length k.reply) × AllHaveBytes ks
+
+abbrev HasBytes : Option (List ℕ) → Type 0
+HasBytes None = Unit {0}
+HasBytes (Some reply) = 0 < length reply
+
+abbrev pub OutcomeHasBytes : Outcome → Type 0
+OutcomeHasBytes (Repeats reply) = 0 < length reply
+OutcomeHasBytes IsBusy = Unit {0}
+OutcomeHasBytes IsNew = Unit {0}
+
+since : (q : ℕ) (log : List Entry) → AreReplies log → AllHaveBytes (carried_since q log)
+since q [] all = tt
+since q (Carried k ∷ log) all = either AllHaveBytes _ (k ∷ carried_since q log) (carried_since q log) (all.0, since q log all.1) (since q log all.1)
+since q (Idled p ∷ log) all = either AllHaveBytes _ [] (carried_since q log) tt (since q log all)
+
+for_one : (above : ℕ → ℕ → Bool) (r : Asking) (newer : List ℕ) (ks : List Kept) → AllHaveBytes ks → HasBytes (kept_for above r newer ks)
+for_one above r newer [] all = tt
+for_one above r newer (k ∷ ks) all = either HasBytes _ (Some k.reply) (kept_for above r (k.request.number ∷ newer) ks) all.0 (for_one above r (k.request.number ∷ newer) ks all.1)
+
+done_so : (o : Option (List ℕ)) (busy : Bool) → HasBytes o → OutcomeHasBytes (outcome_of o busy)
+done_so (Some reply) busy has = has
+done_so None true has = tt
+done_so None false has = tt
+
+pub repeats_bytes : (above : ℕ → ℕ → Bool) (r : Asking) (log : List Entry) → AreReplies log → OutcomeHasBytes (outcome above r log)
+repeats_bytes above r log all =
+    done_so (kept_for above r [] (carried_since r.requester log)) (is_busy r.requester log) (for_one above r [] (carried_since r.requester log) (since r.requester log all))

@@ -1,0 +1,114 @@
+-- The lab's port that a port on IPMB shows, and what each call makes of it.
+use Rattle.std.specs.Prelude.{◌≡◌, ℕ, List, [], ◌∷◌, Bool, true, false, drop, slice_index, map, Some, None, Result, Ok, Err, refl}
+use Rattle.ipmb_frame.specs.declared.message.Header.{Header}
+use Rattle.ipmb_frame.specs.declared.message.Request.{Request}
+use Rattle.ipmb_frame.specs.declared.message.Response.{Response}
+use Rattle.cfg_records.specs.declared.message.Answered.{Answered}
+use Rattle.cfg_records.specs.declared.board_file.BoardFile.{BoardFile}
+use Rattle.bus_model.specs.Request.{Kept, Carried}
+use Rattle.bus_model.specs.Numbering.{is_above}
+use Rattle.bus_model.specs.Carried.{Outcome, Repeats, IsBusy, IsNew, outcome, log_after, reply_after}
+use Rattle.two_wire.specs.declared.Bus.TheVariants.{Ipmb}
+use Rattle.bmc_board.specs.State.{State}
+use Rattle.windows.specs.Keeps.{Reading, Keeps}
+use Rattle.lab_model.specs.Bytes.{heard_in}
+use Rattle.lab_model.specs.Values.{Tells, written}
+use Rattle.lab_model.specs.PortSteps.{PortState, Deed, stays, spelled, response_after, hears_request}
+use Rattle.bmc_core.specs.declared.out.Out.{Out}
+use Rattle.bmc_core.specs.declared.out.Reason.{Reason}
+use Rattle.bmc_core.specs.declared.out.Done.{Done}
+use Rattle.bmc_core.specs.declared.out.Done.TheVariants as done
+use Rattle.bmc_core.specs.declared.step.Step.{Step}
+use Rattle.bmc_core.specs.declared.step.Step.TheVariants as step
+use Rattle.bmc_core.specs.declared.ipmb_port.IpmbPort.{IpmbPort}
+use Rattle.bmc_core.specs.Outs.{sends, done_by}
+use Rattle.bmc_core.specs.IpmbHeard.{IsHeard}
+
+-- A request is kept as it is. A reply is kept as its frame but for the last check byte, and is what stands there beside the addresses and
+-- the first check byte.
+abbrev pub reading : Reading
+reading = record { request = λ bytes. bytes; reply = λ kept. slice_index kept 1 ∷ drop 4 kept; same = λ a b. refl }
+
+-- the port has the lab's address, and keeps what the lab's log leaves
+pub record Shows (port : IpmbPort) (p : PortState) : Type 0 where
+  pub wire : port.wire ≡ p.wire
+  pub keeps : Keeps 64 reading port.windows p.log
+
+-- ---- responses
+
+-- the response of this header, code and data, and its frame
+abbrev pub response : Header → ℕ → List ℕ → Response
+response h code body = record { header = h; code = code; body = body }
+
+abbrev pub response_frame : Header → ℕ → List ℕ → List ℕ
+response_frame h code body = written (Tells (response h code body))
+
+-- the response to the request that gives the answer
+abbrev pub response_giving : Request → Answered → Response
+response_giving r a = response r.header a.code a.body
+
+-- ---- what comes of what is heard
+
+-- the lab's port and the board after it, and what is sent
+abbrev pub deed_of : BoardFile → PortState → State → Result Request Reason → Deed
+deed_of setup p before (Ok r) = hears_request setup p before r
+deed_of setup p before (Err why) = stays p before
+
+-- what the rule does with a request at the lab's port
+abbrev pub outcome_at : PortState → Request → Outcome
+outcome_at p r = outcome (is_above 64) (heard_in r) p.log
+
+-- what was done
+abbrev pub done_of : PortState → Result Request Reason → Done
+done_of p (Ok r) = done_by (outcome_at p r)
+done_of p (Err why) = done.Ignored why
+
+-- the port is then the deed's, the board is the deed's, and the frames are those of what the deed sends
+pub record Does (deed : Deed) (what : Done) (next : IpmbPort) (after : State) (out : Out) : Type 0 where
+  pub shows : Shows next deed.port
+  pub left : after ≡ deed.board
+  pub sent : out ≡ sends (map written deed.sent) what
+
+-- A port of a board with this setup hears the bytes: whatever port of the lab it shows, it and the board go on as that one's deed.
+abbrev pub Hears : BoardFile → IpmbPort → State → List ℕ → Out → IpmbPort → State → Type 0
+Hears setup port before bytes out next after = (p : PortState) → Shows port p → (heard : Result Request Reason) → IsHeard p.wire bytes heard
+    → Does (deed_of setup p before heard) (done_of p heard) next after out
+
+-- ---- before the board is asked
+
+-- a request is new, or else its response is sent
+abbrev pub Settles : Request → Outcome → Bool → Out → Type 0
+Settles r (Repeats reply) new out = (new ≡ false) × (out ≡ sends (written (response_after r (Some reply)) ∷ []) done.Repeated)
+Settles r IsBusy new out = (new ≡ false) × (out ≡ sends (written (response_after r None) ∷ []) done.Busy)
+Settles r IsNew new out = new ≡ true
+
+-- what is to be done next: a new request is to be carried out
+abbrev pub next_of : Bool → Request → Step Request
+next_of true r = step.Ask r
+next_of false r = step.Done
+
+-- what is heard at the lab's port is settled, or is to be carried out
+abbrev pub Steps : PortState → Result Request Reason → Step Request → Out → Type 0
+Steps p (Ok r) next out = (new : Bool) × Settles r (outcome_at p r) new out × (next ≡ next_of new r)
+Steps p (Err why) next out = (next ≡ step.Done) × (out ≡ sends [] (done.Ignored why))
+
+-- ---- once it answered
+
+-- the request, with the reply that gives the answer
+abbrev pub kept_of : Request → Answered → Kept
+kept_of r a = record { request = heard_in r; reply = spelled Ipmb (heard_in r) a }
+
+-- the lab's port once the request was answered so: by the rule, which keeps a new one alone
+abbrev pub after : PortState → Request → Answered → PortState
+after p r a = record p { log = log_after (outcome_at p r) (kept_of r a) p.log }
+
+-- what is sent then
+abbrev pub answers : PortState → Request → Answered → Out
+answers p r a = sends (written (response_after r (reply_after (outcome_at p r) (kept_of r a))) ∷ []) (done_by (outcome_at p r))
+
+-- both where the request is new
+abbrev pub carries : PortState → Request → Answered → PortState
+carries p r a = record p { log = Carried (kept_of r a) ∷ p.log }
+
+abbrev pub first_answer : Request → Answered → Out
+first_answer r a = sends (written (response_after r (Some (kept_of r a).reply)) ∷ []) done.Answered

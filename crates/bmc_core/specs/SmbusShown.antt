@@ -1,0 +1,118 @@
+-- The port of a lab that a port on the System Management Bus shows.
+use Rattle.std.specs.Prelude.{◌≡◌, ℕ, ◌<◌, Bool, true, false, List, [], ◌∷◌, length, map, find, Option, Some, None, refl}
+use Rattle.mctp_net.specs.declared.fault.PacketFault.{PacketFault}
+use Rattle.mctp_net.specs.declared.packet.Envelope.{Envelope}
+use Rattle.mctp_net.specs.declared.packet.Packet.{Packet}
+use Rattle.mctp_net.specs.Assembly.{Assemblies, message_of}
+use Rattle.mctp_net.specs.Control.{reply_to as control_reply_to, eid_after}
+use Rattle.mctp_net.specs.Grammar.{IsPacket, has_fault, faults}
+use Rattle.mctp_net.specs.Places.{seen}
+use Rattle.cfg_records.specs.declared.message.Answered.{Answered}
+use Rattle.cfg_records.specs.declared.board_file.BoardFile.{BoardFile}
+use Rattle.bus_model.specs.Request.{Entry, Carried, Idled}
+use Rattle.bus_model.specs.Carried.{Outcome, Repeats, IsBusy, IsNew}
+use Rattle.windows.specs.Keeps.{Reading, Held, Keeps}
+use Rattle.bmc_board.specs.State.{State}
+use Rattle.lab_model.specs.Values.{Part, written}
+use Rattle.lab_model.specs.PortSteps.{PortState, Deed, stays, hears, quiet_port}
+use Rattle.bmc_core.specs.declared.out.Out.{Out}
+use Rattle.bmc_core.specs.declared.out.Done.{Done}
+use Rattle.bmc_core.specs.declared.out.Done.TheVariants as done
+use Rattle.bmc_core.specs.declared.out.Reason.TheVariants as reason
+use Rattle.bmc_core.specs.declared.step.Step.{Step}
+use Rattle.bmc_core.specs.declared.step.Step.TheVariants as step
+use Rattle.bmc_core.specs.declared.smbus_port.pending.SmbusPending.{SmbusPending}
+use Rattle.bmc_core.specs.declared.smbus_port.SmbusPort.{SmbusPort}
+use Rattle.bmc_core.specs.Outs.{sends, ignored, waiting}
+use Rattle.bmc_core.specs.SmbusHeard.{InMessage, Heard, Ignored, Waiting, Control, Asks, taken, heard_in, asks, done_of, reply_parts, Effect, effect, message_heard}
+
+-- ---- what a port shows
+
+-- How its windows are read: a request is kept behind its type byte, 01h, with its ignored bit 0, and a reply whole.
+abbrev pub pldm_reading : Reading
+pldm_reading = record { request = λ bytes. 1 ∷ bytes; reply = λ bytes. bytes; same = λ a b. refl }
+
+-- each reply that was kept has some bytes
+abbrev pub AreReplies : List Entry → Type 0
+AreReplies [] = Unit {0}
+AreReplies (Carried k ∷ log) = (0 < length k.reply) × AreReplies log
+AreReplies (Idled requester ∷ log) = AreReplies log
+
+-- the windows keep what this log leaves
+pub record AreOf (windows : Held) (log : List Entry) : Type 0 where
+  pub kept : Keeps 32 pldm_reading windows log
+  pub replies : AreReplies log
+
+-- the port shows this one of the lab
+pub record Shows (port : SmbusPort) (p : PortState) : Type 0 where
+  pub wire : p.wire ≡ port.wire
+  pub eid : p.eid ≡ port.endpoint
+  pub kept : p.kept ≡ seen port.assembler
+  pub log : AreOf port.windows p.log
+
+-- ---- what it does with the bytes that it hears
+
+-- Bytes have a fault, or else are one packet: this holds of the port that has taken it, and of what that hears in it.
+pub record Hearing (port : PortState) (bytes : List ℕ) (Holds : PortState → Heard → Type 0) : Type 0 where
+  pub faulty : (fault : PacketFault) → find (has_fault bytes) faults ≡ Some fault → Holds port (Ignored (reason.Packet fault))
+  pub packet : (p : Packet) → IsPacket p bytes → Holds (taken port p) (heard_in port p)
+
+-- the port is then this one, it sends this, and names what was done
+pub record HasEffect (next : SmbusPort) (out : Out) (e : Effect) (what : Done) : Type 0 where
+  pub shows : Shows next e.port
+  pub sent : out ≡ sends (map written e.sent) what
+
+-- what comes of what was heard, where the board would give this answer
+abbrev pub Ends : SmbusPort → Out → PortState → Heard → Answered → Type 0
+Ends next out port h a = HasEffect next out (effect port h a) (done_of port h)
+
+-- the request that waits for its answer
+abbrev pub request_in : SmbusPending → InMessage
+request_in pending = record { envelope = pending.envelope; request = record { header = pending.header; body = pending.body } }
+
+-- a new request is asked of the board, and of all else comes what comes of it, whatever the board would answer
+abbrev pub IsStep : SmbusPort → Out → Step SmbusPending → PortState → Heard → Type 0
+IsStep next out (step.Ask pending) port h = (asks port h ≡ Some (request_in pending)) × Shows next port
+IsStep next out step.Done port h = (asks port h ≡ None) × ((a : Answered) → Ends next out port h a)
+
+-- the port and the board are then those of the deed, it sends what the deed sends, and names what was done
+pub record Does (next : SmbusPort) (out : Out) (after : State) (deed : Deed) (what : Done) : Type 0 where
+  pub shows : Shows next deed.port
+  pub sent : out ≡ sends (map written deed.sent) what
+  pub left : after ≡ deed.board
+
+-- A port of a board with this setup hears the bytes, and it and the board do what the lab's do with the packet. Bytes that are none
+-- change nothing.
+pub record HearsBytes (setup : BoardFile) (port : PortState) (before : State) (bytes : List ℕ) (next : SmbusPort) (out : Out) (after : State) : Type 0 where
+  pub faulty : (fault : PacketFault) → find (has_fault bytes) faults ≡ Some fault → Does next out after (stays port before) (done.Ignored (reason.Packet fault))
+  pub packet : (p : Packet) → IsPacket p bytes → Does next out after (hears setup port before (Part p)) (done_of (taken port p) (heard_in port p))
+
+-- ---- on the way there, with the endpoint apart from the windows
+
+-- the frames of a reply to a message of this envelope, from this place
+abbrev pub frames_from : (wire eid : ℕ) → Envelope → List ℕ → List (List ℕ)
+frames_from wire eid e body = map written (reply_parts (quiet_port wire eid) e body)
+
+-- The endpoint has this identifier then. Of all that is no request comes what is sent, and a request is given.
+abbrev pub HasHeard : (wire eid : ℕ) → Heard → ℕ → Out → Option InMessage → Type 0
+HasHeard wire eid (Ignored why) next out given = (next ≡ eid) × (out ≡ ignored why) × (given ≡ None)
+HasHeard wire eid Waiting next out given = (next ≡ eid) × (out ≡ waiting) × (given ≡ None)
+HasHeard wire eid (Control e r) next out given =
+    (next ≡ eid_after eid r.command r.content) × (out ≡ sends (frames_from wire next e (control_reply_to eid r)) done.Control) × (given ≡ None)
+HasHeard wire eid (Asks m) next out given = (next ≡ eid) × (given ≡ Some m)
+
+-- What is heard in a packet is its message, if it ends one. Else the endpoint has its identifier still, and comes what is sent.
+abbrev pub IsPart : PortState → Packet → Heard → Out → (whole : Bool) → Type 0
+IsPart port p h out true = h ≡ message_heard (message_of port.kept p)
+IsPart port p h out false = HasHeard port.wire port.eid h port.eid out None
+
+-- a packet was taken
+pub record HasTaken (port : PortState) (p : Packet) (left : Assemblies) (out : Out) (whole : Bool) : Type 0 where
+  pub kept : left ≡ (taken port p).kept
+  pub heard : IsPart (taken port p) p (heard_in port p) out whole
+
+-- a request that repeats another, or for which there's no window, was answered, and a new one wasn't
+abbrev pub IsSettled : Outcome → (busy : List ℕ) → (List ℕ → List (List ℕ)) → Out → Out → Bool → Type 0
+IsSettled (Repeats reply) busy frames before out settled = (settled ≡ true) × (out ≡ sends (frames reply) done.Repeated)
+IsSettled IsBusy busy frames before out settled = (settled ≡ true) × (out ≡ sends (frames busy) done.Busy)
+IsSettled IsNew busy frames before out settled = (settled ≡ false) × (out ≡ before)

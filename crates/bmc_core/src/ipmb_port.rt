@@ -1,0 +1,347 @@
+//! A port on IPMB.
+ghost use Rattle.std.specs.Prelude.{◌≡◌, ◌==◌, ◌≤◌, ◌-◌, ℕ, [], ◌∷◌, List, length, take, drop, slice_index, IfOk, Result};
+ghost use Rattle.std.specs.List.{list_any};
+ghost use Rattle.ipmb_frame.specs.declared.message.Request.{Request as AnyRequest};
+ghost use Rattle.ipmb_frame.specs.Grammar.{request_bytes, IsRequest, IsResponse};
+ghost use Rattle.bus_model.specs.Request.{Entry, Carried};
+ghost use Rattle.bus_model.specs.Numbering.{is_above};
+ghost use Rattle.bus_model.specs.Carried.{IsBusy, IsNew, outcome, requesters};
+ghost use Rattle.bmc_board.specs.Request.{asked_by, asked_of};
+ghost use Rattle.bmc_board.specs.Answer.{answer_of};
+ghost use Rattle.bmc_board.specs.State.{state_of};
+ghost use Rattle.windows.specs.Keeps.{Keeps};
+ghost use Rattle.windows.specs.Heard.{request_of, kept_of as kept_as};
+ghost use Rattle.lab_model.specs.Bytes.{heard_in};
+ghost use Rattle.lab_model.specs.PortSteps.{PortState, quiet_port, asked_in, idles};
+ghost use Rattle.bmc_core.specs.declared.out.Reason.{Reason as AnyReason};
+ghost use Rattle.bmc_core.specs.Outs.{sends};
+ghost use Rattle.bmc_core.specs.IpmbHeard.{IsHeard};
+ghost use Rattle.bmc_core.specs.IpmbShown.{reading, response, response_frame, response_giving, Shows, Hears, Settles, Steps, outcome_at, after, answers, carries, first_answer};
+
+use crate::out::{Done, Out, Reason};
+use crate::step::Step;
+use bmc_board::request::read_ipmi;
+use bmc_board::{Board, Command};
+use cfg_records::{Answered, Asked, Store, byte_at};
+use ipmb_frame::{Header, Msg, Request, begin_response, end_response, read_frame};
+use std::alloc::{AllocError, Global};
+use std::marker::Model;
+use two_wire::{Address, Bytes, Code, Frame, code};
+use windows::{Found, Request as Heard, Windows};
+
+/// A port on IPMB, at one address. It keeps the requests that it carried out, with their replies.
+#[derive(Drop)]
+pub struct IpmbPort {
+    wire: Address,
+    /// A response has at most 31 bytes before its last check byte, and a request at most 27 behind the first that is kept.
+    windows: Windows<64, 31>,
+}
+
+/// A request that is to be carried out, and isn't kept yet. Contracts see it as that request.
+#[derive(Debug, Drop)]
+pub struct IpmbPending {
+    header: Header,
+    body: Bytes<25>,
+}
+
+impl Model for IpmbPending {
+    ghost use Rattle.ipmb_frame.specs.declared.message.Request.{Request as AnyRequest};
+
+    ghost Value = { AnyRequest };
+
+    ghost view = { λ p. record { header = p.header; body = p.body } };
+
+    ghost inverse = { λ r. record { header = r.header; body = r.body } };
+}
+
+impl IpmbPending {
+    fn new(request: &Request<'_>) -> IpmbPending
+        ensures { result ≡ request.now }
+    {
+        IpmbPending {
+            header: request.header,
+            body: Bytes::from_slice(request.body.as_slice()),
+        }
+    }
+
+    fn header(&self) -> &Header
+        ensures { result.now ≡ self.now.header }
+    {
+        &self.header
+    }
+
+    /// The request's bytes behind the first that is compared.
+    fn rest(&self) -> Bytes<27>
+        ensures { result ≡ drop 1 (request_bytes self.now) }
+    {
+        let mut rest = Bytes::new();
+        rest.push(self.header.sequence.number() << 2 | self.header.requester.lun.number());
+        rest.push(self.header.command);
+        rest.extend_from_slice(self.body.as_slice());
+        rest
+    }
+
+    /// The request as windows compare it.
+    fn compared<'a>(&self, rest: &'a Bytes<27>) -> Heard<'a, 64>
+        requires { rest.now ≡ drop 1 (request_bytes self.now) }
+        ensures heard { request_of reading result ≡ heard_in self.now }
+        ensures fits { length result.rest.now ≤ 27 }
+    {
+        Heard {
+            requester: self.header.requester.address.byte(),
+            number: self.header.sequence,
+            first: self.header.net_fn.number() << 2 | self.header.responder.lun.number(),
+            rest: rest.as_slice(),
+        }
+    }
+
+    /// What is to be asked of the board.
+    pub fn asked(&self) -> Asked
+        ensures { result ≡ asked_in self.now }
+    {
+        Asked::Ipmi {
+            from: self.header.requester.address.byte(),
+            net_fn: self.header.net_fn,
+            lun: self.header.responder.lun,
+            command: self.header.command,
+            body: self.body.copy(),
+        }
+    }
+}
+
+/// The request to this address that the bytes are, or why nothing is heard in them.
+fn read(wire: Address, bytes: &[u8]) -> Result<Request<'_>, Reason>
+    ensures { IsHeard wire bytes.now result }
+{
+    let message = match read_frame(bytes) {
+        Ok(message) => message,
+        Err(fault) => return Err(Reason::Frame(fault)),
+    };
+    if bytes[0] != wire.byte() {
+        return Err(Reason::NotOurs);
+    }
+    match message {
+        Msg::Response(_) => Err(Reason::NotRequest),
+        Msg::Request(request) => Ok(request),
+    }
+}
+
+/// The request as windows compare it, where it lies in its frame.
+fn in_frame<'a>(request: &Request<'_>, bytes: &'a [u8]) -> Heard<'a, 64>
+    requires { IsRequest request.now bytes.now }
+    ensures heard { request_of reading result ≡ heard_in request.now }
+    ensures fits { length result.rest.now ≤ 27 }
+{
+    Heard {
+        requester: request.header.requester.address.byte(),
+        number: request.header.sequence,
+        first: bytes[1],
+        rest: &bytes[4..bytes.len() - 1],
+    }
+}
+
+/// The command of a request to the board, or the first code that refuses it.
+fn command_in(request: &Request<'_>) -> Result<Command, Code>
+    ensures { asked_of result request.now.body ≡ asked_by (asked_in request.now) }
+{
+    let header = &request.header;
+    read_ipmi(
+        header.responder.lun,
+        header.net_fn,
+        header.command,
+        request.body.as_slice(),
+    )
+}
+
+/// Has the request carried out, and makes the frame its response.
+fn respond<S: Store>(board: &mut Board<S>, request: &Request<'_>, frame: &mut Frame)
+    ensures answer { IsResponse (response_giving request.now (answer_of board.old.setup (state_of S.records board.old) (asked_in request.now)).0) frame.new }
+    ensures left { state_of S.records board.new ≡ (answer_of board.old.setup (state_of S.records board.old) (asked_in request.now)).1 }
+    ensures setup { board.new.setup ≡ board.old.setup }
+{
+    let header = &request.header;
+    begin_response(frame, header, 0);
+    match board.reply(command_in(request), request.body.as_slice(), frame) {
+        Ok(()) => {}
+        Err(code) => begin_response(frame, header, code.value()),
+    }
+    end_response(frame);
+}
+
+/// Makes the frame the response of this header, code and data.
+fn spell(frame: &mut Frame, header: &Header, code: u8, body: &[u8])
+    requires { length body.now ≤ 24 }
+    ensures { IsResponse (response header.now code body.now) frame.new }
+{
+    begin_response(frame, header, code);
+    frame.extend_from_slice(body);
+    end_response(frame);
+}
+
+/// Sends the response of this header, code and data, to a request that isn't carried out.
+fn send(out: &mut Out, done: Done, header: &Header, code: u8, body: &[u8])
+    requires { length body.now ≤ 24 }
+    ensures { out.new ≡ sends (response_frame header.now code body.now ∷ []) done }
+{
+    out.done = done;
+    out.frames.keep_one();
+    match out.frames.list.as_mut_slice() {
+        [frame] => spell(frame, header, code, body),
+        _ => unreachable!(),
+    }
+}
+
+/// The code and the data of a response, in what is kept of it.
+fn reply_in(kept: &[u8]) -> (u8, &[u8])
+    ensures code { result.0 ≡ slice_index (reading.reply kept.now) 3 }
+    ensures body { result.1.now ≡ drop 4 (reading.reply kept.now) }
+{
+    let code = byte_at(kept, 6);
+    let body = kept.get(7..).unwrap_or(&[]);
+    (code, body)
+}
+
+impl IpmbPort {
+    /// A port at this address. All of its memory is taken here.
+    pub fn new(alloc: Global, wire: Address) -> Result<IpmbPort, AllocError>
+        ensures { IfOk result (λ port. (eid : ℕ) → Shows port (quiet_port wire eid)) }
+    {
+        Ok(IpmbPort {
+            wire,
+            windows: Windows::new(alloc)?,
+        })
+    }
+
+    /// Sends the response to a request that is kept or for which there is no window, and says whether it's neither, and so to be
+    /// carried out.
+    fn is_new(&self, header: &Header, heard: &Heard<'_, 64>, out: &mut Out) -> bool
+        ensures { (p : PortState) (r : AnyRequest) → Shows self.now p → r.header ≡ header.now → request_of reading heard.now ≡ heard_in r
+            → Settles r (outcome_at p r) result out.new }
+    {
+        match self.windows.find(heard) {
+            Found::Repeats(kept) => {
+                let (code, body) = reply_in(kept.as_slice());
+                send(out, Done::Repeated, header, code, body);
+                false
+            }
+            Found::Busy => {
+                send(out, Done::Busy, header, code::NODE_BUSY.value(), &[]);
+                false
+            }
+            Found::New => true,
+        }
+    }
+
+    /// Keeps a request that was carried out, with its response's frame.
+    fn keep(&mut self, heard: &Heard<'_, 64>, frame: &[u8])
+        requires heard { length heard.now.rest.now ≤ 27 }
+        requires least { 8 ≤ length frame.now }
+        requires most { length frame.now ≤ 32 }
+        ensures wire { self.new.wire ≡ self.old.wire }
+        ensures carried { (log : List Entry) → Keeps 64 reading self.old.windows log
+            → outcome (is_above 64) (request_of reading heard.now) log ≡ IsNew
+            → Keeps 64 reading self.new.windows (Carried (kept_as reading heard.now (take (length frame.now - 1) frame.now)) ∷ log) }
+        ensures busy { (log : List Entry) → Keeps 64 reading self.old.windows log
+            → outcome (is_above 64) (request_of reading heard.now) log ≡ IsBusy → self.new ≡ self.old }
+    {
+        self.windows.keep(heard, &frame[..frame.len() - 1]);
+    }
+
+    /// Has a new request carried out, sends the response, and keeps both.
+    fn carry_out<S: Store>(
+        &mut self,
+        board: &mut Board<S>,
+        request: &Request<'_>,
+        heard: &Heard<'_, 64>,
+        out: &mut Out,
+    )
+        requires heard { request_of reading heard.now ≡ heard_in request.now }
+        requires fits { length heard.now.rest.now ≤ 27 }
+        ensures carried { (p : PortState) → Shows self.old p → outcome_at p request.now ≡ IsNew
+            → Shows self.new (carries p request.now (answer_of board.old.setup (state_of S.records board.old) (asked_in request.now)).0) }
+        ensures sent { out.new ≡ first_answer request.now (answer_of board.old.setup (state_of S.records board.old) (asked_in request.now)).0 }
+        ensures left { state_of S.records board.new ≡ (answer_of board.old.setup (state_of S.records board.old) (asked_in request.now)).1 }
+        ensures setup { board.new.setup ≡ board.old.setup }
+    {
+        out.done = Done::Answered;
+        out.frames.keep_one();
+        match out.frames.list.as_mut_slice() {
+            [frame] => {
+                respond(board, request, frame);
+                self.keep(heard, frame.as_slice());
+            }
+            _ => unreachable!(),
+        }
+    }
+
+    /// Takes what is heard on the bus, and fills in what is to be sent. It takes no memory.
+    pub fn on_frame<S: Store>(&mut self, board: &mut Board<S>, bytes: &[u8], out: &mut Out)
+        ensures heard { Hears board.old.setup self.old (state_of S.records board.old) bytes.now out.new self.new (state_of S.records board.new) }
+        ensures setup { board.new.setup ≡ board.old.setup }
+    {
+        let request = match read(self.wire, bytes) {
+            Ok(request) => request,
+            Err(why) => return out.ignore(why),
+        };
+        let heard = in_frame(&request, bytes);
+        if self.is_new(&request.header, &heard, out) {
+            self.carry_out(board, &request, &heard, out);
+        }
+    }
+
+    /// Takes what is heard on the bus, up to where the board is to be asked. It fills in what is to be sent, where that is known then.
+    pub fn hear(&mut self, bytes: &[u8], out: &mut Out) -> Step<IpmbPending>
+        ensures steps { (p : PortState) → Shows self.old p → (heard : Result AnyRequest AnyReason) → IsHeard p.wire bytes.now heard → Steps p heard result out.new }
+        ensures stays { self.new ≡ self.old }
+    {
+        let request = match read(self.wire, bytes) {
+            Ok(request) => request,
+            Err(why) => {
+                out.ignore(why);
+                return Step::Done;
+            }
+        };
+        let heard = in_frame(&request, bytes);
+        if self.is_new(&request.header, &heard, out) {
+            Step::Ask(IpmbPending::new(&request))
+        } else {
+            Step::Done
+        }
+    }
+
+    /// Takes the answer to a request that `hear` gave, and fills in what is to be sent. A request that repeats another by now, or for
+    /// which there is no window any more, is answered as such. The answer has at most 24 bytes of data, as a board's to this request.
+    pub fn told(&mut self, pending: IpmbPending, answered: &Answered, out: &mut Out)
+        requires { length answered.now.body ≤ 24 }
+        ensures shows { (p : PortState) → Shows self.old p → Shows self.new (after p pending answered.now) }
+        ensures sent { (p : PortState) → Shows self.old p → out.new ≡ answers p pending answered.now }
+    {
+        let rest = pending.rest();
+        let heard = pending.compared(&rest);
+        if !self.is_new(pending.header(), &heard, out) {
+            return;
+        }
+        out.done = Done::Answered;
+        out.frames.keep_one();
+        match out.frames.list.as_mut_slice() {
+            [frame] => {
+                spell(
+                    frame,
+                    pending.header(),
+                    answered.code,
+                    answered.body.as_slice(),
+                );
+                self.keep(&heard, frame.as_slice());
+            }
+            _ => unreachable!(),
+        }
+    }
+
+    /// Forgets a requester's window, and says whether there was one.
+    pub fn idle(&mut self, requester: u8) -> bool
+        ensures keeps { (p : PortState) → Shows self.old p → Shows self.new (idles requester p) }
+        ensures had { (p : PortState) → Shows self.old p → result ≡ list_any (λ q. q == requester) (requesters p.log) }
+    {
+        self.windows.idle(requester)
+    }
+}

@@ -1,0 +1,153 @@
+//! A port on the System Management Bus, which carries each distinct request out once.
+ghost use Rattle.std.specs.Prelude.{◌≡◌, ◌==◌, IfOk};
+ghost use Rattle.std.specs.List.{list_any};
+ghost use Rattle.bus_model.specs.Carried.{requesters};
+ghost use Rattle.bmc_board.specs.State.{state_of};
+ghost use Rattle.lab_model.specs.PortSteps.{PortState, quiet_port, idles};
+ghost use Rattle.bmc_core.specs.SmbusShown.{Shows, Hearing, IsStep, Ends, HearsBytes, request_in};
+ghost use Rattle.bmc_core.specs.SmbusHeard.{Asks};
+
+mod hearing;
+pub mod laws;
+mod pending;
+mod replying;
+#[cfg(test)]
+mod tests;
+
+use crate::out::{Out, Reason};
+use crate::port::At;
+use crate::step::Step;
+use bmc_board::Board;
+use cfg_records::{Answered, Store};
+use hearing::{hear, take};
+use mctp_net::{Assembler, Endpoint, read_packet};
+pub use pending::SmbusPending;
+use replying::{Kept, carry_out, keep_answer, settle};
+use std::alloc::{AllocError, Global};
+use two_wire::Address;
+
+/// A port of the controller on the System Management Bus.
+#[derive(Drop)]
+pub struct SmbusPort {
+    /// Its two-wire address.
+    wire: Address,
+    /// The endpoint behind it, whose EID a requester can set.
+    endpoint: Endpoint,
+    /// The packets of messages that aren't whole yet.
+    assembler: Assembler,
+    /// The requests that it carried out, with their replies.
+    windows: Kept,
+}
+
+impl SmbusPort {
+    /// A port that has heard nothing yet. All of its memory is taken here.
+    pub fn new(alloc: Global, at: At) -> Result<SmbusPort, AllocError>
+        ensures { IfOk result (λ port. Shows port (quiet_port at.wire at.eid)) }
+    {
+        Ok(SmbusPort {
+            wire: at.wire,
+            endpoint: Endpoint::new(at.eid),
+            assembler: Assembler::new(alloc)?,
+            windows: Kept::new(alloc)?,
+        })
+    }
+
+    /// Where it is, and which EID its endpoint has now.
+    fn at(&self) -> At
+        ensures wire { result.wire ≡ self.now.wire }
+        ensures eid { result.eid ≡ self.now.endpoint }
+    {
+        At {
+            wire: self.wire,
+            eid: self.endpoint.eid(),
+        }
+    }
+
+    /// Takes what is heard on the bus: asks what a new request asks of the board, or fills in what is to be sent. It takes no memory.
+    pub fn hear(&mut self, bytes: &[u8], out: &mut Out) -> Step<SmbusPending>
+        ensures { (p : PortState) → Shows self.old p → Hearing p bytes.now (IsStep self.new out.new result) }
+    {
+        let packet = match read_packet(bytes) {
+            Ok(packet) => packet,
+            Err(fault) => {
+                out.ignore(Reason::Packet(fault));
+                return Step::Done;
+            }
+        };
+        let envelope = packet.envelope;
+        if !take(self.wire, &self.endpoint, &mut self.assembler, &packet, out) {
+            return Step::Done;
+        }
+        let Some(request) = hear(
+            self.wire,
+            &mut self.endpoint,
+            envelope,
+            self.assembler.body(&packet),
+            out,
+        ) else {
+            return Step::Done;
+        };
+        let at = At {
+            wire: self.wire,
+            eid: self.endpoint.eid(),
+        };
+        if settle(&self.windows, &at, &request, out) {
+            return Step::Done;
+        }
+        Step::Ask(request.pending())
+    }
+
+    /// Takes the answer to what was asked, and fills in what is to be sent. It takes no memory. A request that has become a repeat, or
+    /// for which there is no window any more, is answered as one.
+    pub fn told(&mut self, pending: SmbusPending, answered: &Answered, out: &mut Out)
+        ensures { (p : PortState) → Shows self.old p → Ends self.new out.new p (Asks (request_in pending)) answered.now }
+    {
+        let at = self.at();
+        let bytes = pending.bytes();
+        let request = pending.request(&bytes);
+        if settle(&self.windows, &at, &request, out) {
+            return;
+        }
+        keep_answer(&mut self.windows, &at, &request, answered, out);
+    }
+
+    /// Takes what is heard on the bus, has a new request carried out, and fills in what is to be sent. It takes no memory.
+    pub fn on_frame<S: Store>(&mut self, board: &mut Board<S>, bytes: &[u8], out: &mut Out)
+        ensures heard { (p : PortState) → Shows self.old p → HearsBytes board.old.setup p (state_of S.records board.old) bytes.now self.new out.new (state_of S.records board.new) }
+        ensures setup { board.new.setup ≡ board.old.setup }
+    {
+        let packet = match read_packet(bytes) {
+            Ok(packet) => packet,
+            Err(fault) => return out.ignore(Reason::Packet(fault)),
+        };
+        let envelope = packet.envelope;
+        if !take(self.wire, &self.endpoint, &mut self.assembler, &packet, out) {
+            return;
+        }
+        let Some(request) = hear(
+            self.wire,
+            &mut self.endpoint,
+            envelope,
+            self.assembler.body(&packet),
+            out,
+        ) else {
+            return;
+        };
+        let at = At {
+            wire: self.wire,
+            eid: self.endpoint.eid(),
+        };
+        if settle(&self.windows, &at, &request, out) {
+            return;
+        }
+        carry_out(&mut self.windows, board, &at, &request, out);
+    }
+
+    /// Forgets a requester's window, and says whether there was one.
+    pub fn idle(&mut self, requester: u8) -> bool
+        ensures forgotten { (p : PortState) → Shows self.old p → Shows self.new (idles requester p) }
+        ensures had { (p : PortState) → Shows self.old p → result ≡ list_any (λ q. q == requester) (requesters p.log) }
+    {
+        self.windows.idle(requester)
+    }
+}

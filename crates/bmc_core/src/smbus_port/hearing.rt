@@ -1,0 +1,109 @@
+//! Packets to requests, and what becomes of all else.
+ghost use Rattle.std.specs.Prelude.{◌≡◌, ◌≤◌, ℕ, length, find, None};
+ghost use Rattle.mctp_net.specs.Control.{request_of as control_request_of};
+ghost use Rattle.mctp_net.specs.Places.{seen};
+ghost use Rattle.pldm_base.specs.Message.{request_in as pldm_request_in, has_fault, faults};
+ghost use Rattle.lab_model.specs.PortSteps.{PortState};
+ghost use Rattle.bmc_core.specs.SmbusShown.{HasTaken, HasHeard};
+ghost use Rattle.bmc_core.specs.SmbusHeard.{message_heard, control_heard, pldm_heard};
+
+use super::pending::Request;
+use super::replying::send;
+use crate::out::{Done, Out, Reason};
+use crate::port::At;
+use mctp_net::{Assembler, Endpoint, Envelope, Packet, Taken};
+use pldm_base::{PldmBytes, read_pldm};
+use two_wire::Address;
+
+/// The type of a control message (DSP0239, "MCTP message type codes").
+const CONTROL: u8 = 0x00;
+
+/// The type of a PLDM message.
+pub(super) const PLDM: u8 = 0x01;
+
+/// Takes a packet at this two-wire address, and says whether it ends a message. Else it fills in what is to be sent.
+pub(super) fn take(
+    wire: Address,
+    endpoint: &Endpoint,
+    assembler: &mut Assembler,
+    packet: &Packet<'_>,
+    out: &mut Out,
+) -> bool
+    ensures { (p : PortState) → p.wire ≡ wire → p.eid ≡ endpoint.now → p.kept ≡ seen assembler.old
+        → HasTaken p packet.now (seen assembler.new) out.new result }
+{
+    let envelope = packet.envelope;
+    if envelope.destination.byte() != wire.byte() {
+        out.ignore(Reason::NotOurs);
+        return false;
+    }
+    match assembler.take(endpoint.eid().byte(), packet) {
+        Taken::Waiting => {
+            out.wait();
+            false
+        }
+        Taken::Dropped(cause) => {
+            out.ignore(Reason::Dropped(cause));
+            false
+        }
+        Taken::Whole => true,
+    }
+}
+
+/// Hears a message: gives the request that it is, or fills in what is to be sent.
+pub(super) fn hear<'a>(
+    wire: Address,
+    endpoint: &mut Endpoint,
+    envelope: Envelope,
+    body: &'a [u8],
+    out: &mut Out,
+) -> Option<Request<'a>>
+    requires { length body.now ≤ 256 }
+    ensures { HasHeard wire endpoint.old (message_heard (record { envelope = envelope; body = body.now })) endpoint.new out.new result }
+{
+    if !envelope.tag_owner {
+        out.ignore(Reason::NotRequest);
+        return None;
+    }
+    match body {
+        [CONTROL, ..] => {
+            control(wire, endpoint, envelope, body, out);
+            None
+        }
+        [PLDM, bytes @ ..] => pldm(envelope, bytes, out),
+        _ => {
+            out.ignore(Reason::MessageType);
+            None
+        }
+    }
+}
+
+/// Has a control message answered by the endpoint.
+fn control(wire: Address, endpoint: &mut Endpoint, envelope: Envelope, body: &[u8], out: &mut Out)
+    ensures { HasHeard wire endpoint.old (control_heard envelope (control_request_of body.now)) endpoint.new out.new None }
+{
+    match endpoint.control(body) {
+        Some(reply) => {
+            let at = At {
+                wire,
+                eid: endpoint.eid(),
+            };
+            send(&at, &envelope, reply.as_slice(), Done::Control, out);
+        }
+        None => out.ignore(Reason::NotRequest),
+    }
+}
+
+/// Reads a request in the bytes of a PLDM message, if they are one.
+fn pldm<'a>(envelope: Envelope, bytes: &'a [u8], out: &mut Out) -> Option<Request<'a>>
+    requires { length bytes.now ≤ 255 }
+    ensures { (wire eid : ℕ) → HasHeard wire eid (pldm_heard envelope (pldm_request_in bytes.now) (find (has_fault bytes.now) faults)) eid out.new result }
+{
+    match read_pldm(&PldmBytes::new(bytes)) {
+        Ok(request) => Some(Request::new(envelope, request, &bytes[1..])),
+        Err(fault) => {
+            out.ignore(Reason::Pldm(fault));
+            None
+        }
+    }
+}

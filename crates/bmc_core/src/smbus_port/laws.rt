@@ -1,0 +1,24 @@
+//! What holds of what a port on the System Management Bus does: each law is the contract of a function without a body.
+ghost use Rattle.std.specs.Prelude.{List};
+ghost use Rattle.mctp_net.specs.declared.packet.Packet.{Packet};
+ghost use Rattle.cfg_records.specs.declared.board_file.BoardFile.{BoardFile};
+ghost use Rattle.bmc_board.specs.State.{State};
+ghost use Rattle.lab_model.specs.PortSteps.{PortState};
+ghost use Rattle.bmc_core.specs.SmbusRuns.{IsHeardThenTold, Coming, KeepsTheRule, Ends, Happening, CarriesTheRule};
+
+/// A packet at a port of a board is heard, and then the board's answer to what it asks is told.
+pub fn a_packet_is_heard_and_then_told()
+    ensures { (setup : BoardFile) (port : PortState) (before : State) (p : Packet) → IsHeardThenTold setup port before p }
+{}
+
+/// Over any list of packets, idle requesters and requests that are told any answer or dropped, the requests that a port carries out are
+/// those of the rule for repeated requests, over what is told.
+pub fn what_is_told_is_kept_by_the_rule()
+    ensures { (port : PortState) (cs : List Coming) → KeepsTheRule port cs }
+{}
+
+/// Over any list of packets and idle requesters, whatever others do to the board between, the requests that a port has carried out are
+/// those of the rule, over what is heard, each with the board's answer at that moment.
+pub fn what_is_heard_is_carried_out_by_the_rule()
+    ensures { (setup : BoardFile) (x : Ends) (es : List Happening) → CarriesTheRule setup x es }
+{}

@@ -1,0 +1,132 @@
+//! Requests that a port has heard, where they lie, and as they wait for an answer.
+ghost use Rattle.std.specs.Prelude.{◌≡◌, ◌≤◌, length};
+ghost use Rattle.pldm_base.specs.Message.{request_bytes};
+ghost use Rattle.windows.specs.Heard.{request_of};
+ghost use Rattle.lab_model.specs.Bytes.{pldm_heard_in};
+ghost use Rattle.lab_model.specs.PortSteps.{pldm_asked};
+ghost use Rattle.bmc_core.specs.SmbusShown.{pldm_reading};
+
+use cfg_records::Asked;
+use mctp_net::Envelope;
+use pldm_base::{Header, PldmRequest, write_pldm};
+use std::marker::Model;
+use two_wire::{Bytes, Data};
+
+/// The number of instances that PLDM has.
+pub(super) const INSTANCES: u8 = 32;
+
+/// Request bit 1, datagram bit 0 and the ignored bit 0, with instance 0 (DSP0240).
+const REQUEST: u8 = 0x80;
+
+/// A request of PLDM, where it lies in its message.
+#[derive(Debug, Drop)]
+pub(super) struct Request<'a> {
+    /// That of the message.
+    pub envelope: Envelope,
+    pub request: PldmRequest<'a>,
+    /// Its bytes behind the first: the type, the command and the data.
+    rest: &'a [u8],
+}
+
+impl<'a> Model for Request<'a> {
+    ghost use Rattle.std.specs.Prelude.{◌≡◌, ◌∷◌};
+    ghost use Rattle.bmc_core.specs.SmbusHeard.{InMessage};
+
+    ghost Value = { InMessage };
+
+    ghost view = { λ r. record { envelope = r.envelope; request = r.request } };
+
+    ghost invariant = { λ r. r.rest.now ≡ r.request.header.pldm_type ∷ r.request.header.command ∷ r.request.body };
+}
+
+impl<'a> Request<'a> {
+    ghost use Rattle.std.specs.Prelude.{◌∷◌};
+
+    /// The request, whose bytes behind the first are these.
+    pub fn new(envelope: Envelope, request: PldmRequest<'a>, rest: &'a [u8]) -> Self
+        requires { rest.now ≡ request.header.pldm_type ∷ request.header.command ∷ request.body }
+        ensures { result ≡ record { envelope = envelope; request = request.entry } }
+    {
+        Request {
+            envelope,
+            request,
+            rest,
+        }
+    }
+
+    /// As the windows keep it: the ignored bit is 0 there.
+    pub fn kept(&self) -> windows::Request<'_, { INSTANCES }>
+        ensures is { request_of pldm_reading result ≡ pldm_heard_in self.now.envelope.source_eid self.now.request }
+        ensures room { length result.rest.now ≤ 256 }
+    {
+        let header = self.request.header;
+        let _data = self.request.body.as_slice();
+        windows::Request {
+            requester: self.envelope.source_eid,
+            number: header.instance,
+            first: REQUEST + header.instance.number(),
+            rest: self.rest,
+        }
+    }
+
+    /// As it waits for an answer.
+    pub fn pending(&self) -> SmbusPending
+        ensures { result ≡ record { envelope = self.now.envelope; header = self.now.request.header; body = self.now.request.body } }
+    {
+        SmbusPending {
+            envelope: self.envelope,
+            header: self.request.header,
+            body: Bytes::from_slice(self.request.body.as_slice()),
+        }
+    }
+}
+
+/// A request that waits for an answer of the board. The port is told that with it.
+#[derive(Debug, Drop)]
+pub struct SmbusPending {
+    /// That of the message, which names where the reply goes.
+    envelope: Envelope,
+    header: Header,
+    /// The command's data.
+    body: Bytes<252>,
+}
+
+impl SmbusPending {
+    /// What it asks of the board.
+    pub fn asked(&self) -> Asked
+        ensures { result ≡ pldm_asked self.now.envelope.source_eid (record { header = self.now.header; body = self.now.body }) }
+    {
+        Asked::Pldm {
+            from: self.envelope.source_eid,
+            kind: self.header.pldm_type,
+            command: self.header.command,
+            body: self.body.copy(),
+        }
+    }
+
+    /// Its bytes, with the ignored bit 0.
+    pub(super) fn bytes(&self) -> Bytes<255>
+        ensures { result ≡ request_bytes (record { header = self.now.header; body = self.now.body }) }
+    {
+        let mut bytes = Bytes::new();
+        write_pldm(&self.as_request(), &mut bytes);
+        bytes
+    }
+
+    fn as_request(&self) -> PldmRequest<'_>
+        ensures { result ≡ record { header = self.now.header; body = self.now.body } }
+    {
+        PldmRequest {
+            header: self.header,
+            body: Data::new(self.body.as_slice()),
+        }
+    }
+
+    /// The request, where these are its bytes.
+    pub(super) fn request<'a>(&'a self, bytes: &'a Bytes<255>) -> Request<'a>
+        requires { bytes.now ≡ request_bytes (record { header = self.now.header; body = self.now.body }) }
+        ensures { result ≡ record { envelope = self.now.envelope; request = record { header = self.now.header; body = self.now.body } } }
+    {
+        Request::new(self.envelope, self.as_request(), &bytes.as_slice()[1..])
+    }
+}

@@ -1,0 +1,155 @@
+//! What a port replies to requests, and what it keeps of them.
+ghost use Rattle.std.specs.Prelude.{◌≡◌, ◌<◌, ◌≤◌, ◌∷◌, length, List, None};
+ghost use Rattle.two_wire.specs.declared.Bus.TheVariants.{Smbus};
+ghost use Rattle.pldm_base.specs.Message.{IsHeader, reply_start};
+ghost use Rattle.bus_model.specs.Request.{Entry, Carried};
+ghost use Rattle.bus_model.specs.Numbering.{is_above};
+ghost use Rattle.bus_model.specs.Carried.{outcome, IsNew};
+ghost use Rattle.bmc_board.specs.State.{state_of};
+ghost use Rattle.bmc_board.specs.Answer.{answer_of};
+ghost use Rattle.lab_model.specs.Bytes.{said};
+ghost use Rattle.bmc_core.specs.declared.out.Done.TheVariants as done_as;
+ghost use Rattle.bmc_core.specs.Outs.{sends};
+ghost use Rattle.bmc_core.specs.SmbusHeard.{asking, asked_of, kept_with};
+ghost use Rattle.bmc_core.specs.SmbusShown.{AreOf, frames_from, IsSettled};
+
+use super::hearing::PLDM;
+use super::pending::{INSTANCES, Request};
+use crate::out::{Done, Frames, Out};
+use crate::port::At;
+use bmc_board::Board;
+use bmc_board::request::read_pldm;
+use cfg_records::{Answered, Store};
+use mctp_net::{Envelope, Message, SomeData, split};
+use pldm_base::{Header, begin_pldm_reply};
+use two_wire::{Bytes, code};
+use windows::{Found, Windows};
+
+/// The most bytes that a message has.
+const MESSAGE: usize = 256;
+
+/// The requests that a port carried out, with their replies.
+pub(super) type Kept = Windows<{ INSTANCES }, { MESSAGE }>;
+
+/// Sends a reply of these bytes from this place, to where a message of the envelope came from, and says what was done.
+pub(super) fn send(at: &At, to: &Envelope, body: &[u8], done: Done, out: &mut Out)
+    requires { length body.now ≤ MESSAGE }
+    ensures { 0 < length body.now → out.new ≡ sends (frames_from at.now.wire at.now.eid to.now body.now) done }
+{
+    if body.is_empty() {
+        return;
+    }
+    out.frames = Frames::from(split(&Message {
+        envelope: Envelope {
+            destination: to.source,
+            source: at.wire,
+            destination_eid: to.source_eid,
+            source_eid: at.eid.byte(),
+            tag_owner: false,
+            tag: to.tag,
+        },
+        body: SomeData::new(body),
+    }));
+    out.done = done;
+}
+
+/// Puts the start of a reply in place of what is there: all that stands before its data.
+fn begin(header: &Header, code: u8, reply: &mut Bytes<MESSAGE>)
+    ensures started { reply.new ≡ 1 ∷ reply_start header.now code }
+    ensures header { IsHeader header.now }
+{
+    reply.replace(&[PLDM]);
+    begin_pldm_reply(header, code, reply);
+}
+
+/// Answers a request that isn't new: by the reply that is kept for it, or that the port is busy. Says whether it did.
+pub(super) fn settle(windows: &Kept, at: &At, request: &Request<'_>, out: &mut Out) -> bool
+    ensures { (log : List Entry) → AreOf windows.now log
+        → IsSettled (outcome (is_above 32) (asking request.now) log) (said Smbus (asking request.now) None) (frames_from at.now.wire at.now.eid request.now.envelope) out.old out.new result }
+{
+    match windows.find(&request.kept()) {
+        Found::Repeats(reply) => {
+            send(at, &request.envelope, reply.as_slice(), Done::Repeated, out);
+            true
+        }
+        Found::Busy => {
+            let mut reply = Bytes::new();
+            begin(
+                &request.request.header,
+                code::PLDM_NOT_READY.value(),
+                &mut reply,
+            );
+            send(at, &request.envelope, reply.as_slice(), Done::Busy, out);
+            true
+        }
+        Found::New => false,
+    }
+}
+
+/// Keeps a new request with its reply, and sends that.
+fn keep(windows: &mut Kept, at: &At, request: &Request<'_>, reply: &[u8], out: &mut Out)
+    requires some { 0 < length reply.now }
+    requires fits { length reply.now ≤ MESSAGE }
+    ensures kept { (log : List Entry) → AreOf windows.old log → outcome (is_above 32) (asking request.now) log ≡ IsNew
+        → AreOf windows.new (Carried (record { request = asking request.now; reply = reply.now }) ∷ log) }
+    ensures sent { out.new ≡ sends (frames_from at.now.wire at.now.eid request.now.envelope reply.now) done_as.Answered }
+{
+    windows.keep(&request.kept(), reply);
+    send(at, &request.envelope, reply, Done::Answered, out);
+}
+
+/// Keeps a new request with the reply of this answer, and sends that.
+pub(super) fn keep_answer(
+    windows: &mut Kept,
+    at: &At,
+    request: &Request<'_>,
+    answered: &Answered,
+    out: &mut Out,
+)
+    ensures kept { (log : List Entry) → AreOf windows.old log → outcome (is_above 32) (asking request.now) log ≡ IsNew
+        → AreOf windows.new (Carried (kept_with request.now answered.now) ∷ log) }
+    ensures sent { out.new ≡ sends (frames_from at.now.wire at.now.eid request.now.envelope (kept_with request.now answered.now).reply) done_as.Answered }
+{
+    let mut reply = Bytes::new();
+    begin(&request.request.header, answered.code, &mut reply);
+    reply.extend_from_slice(answered.body.as_slice());
+    keep(windows, at, request, reply.as_slice(), out);
+}
+
+/// Has a new request carried out, keeps it with its reply, and sends that.
+pub(super) fn carry_out<S: Store>(
+    windows: &mut Kept,
+    board: &mut Board<S>,
+    at: &At,
+    request: &Request<'_>,
+    out: &mut Out,
+)
+    ensures kept { (log : List Entry) → AreOf windows.old log → outcome (is_above 32) (asking request.now) log ≡ IsNew
+        → AreOf windows.new (Carried (kept_with request.now (answer_of board.old.setup (state_of S.records board.old) (asked_of request.now)).0) ∷ log) }
+    ensures sent { out.new ≡ sends (frames_from at.now.wire at.now.eid request.now.envelope (kept_with request.now (answer_of board.old.setup (state_of S.records board.old) (asked_of request.now)).0).reply) done_as.Answered }
+    ensures left { state_of S.records board.new ≡ (answer_of board.old.setup (state_of S.records board.old) (asked_of request.now)).1 }
+    ensures setup { board.new.setup ≡ board.old.setup }
+{
+    let mut reply = Bytes::new();
+    respond(board, request, &mut reply);
+    keep(windows, at, request, reply.as_slice(), out);
+}
+
+/// Has a request carried out, and makes its reply.
+fn respond<S: Store>(board: &mut Board<S>, request: &Request<'_>, reply: &mut Bytes<MESSAGE>)
+    ensures reply { reply.new ≡ (kept_with request.now (answer_of board.old.setup (state_of S.records board.old) (asked_of request.now)).0).reply }
+    ensures left { state_of S.records board.new ≡ (answer_of board.old.setup (state_of S.records board.old) (asked_of request.now)).1 }
+    ensures setup { board.new.setup ≡ board.old.setup }
+{
+    let header = &request.request.header;
+    let body = request.request.body.as_slice();
+    begin(header, 0, reply);
+    match board.reply(
+        read_pldm(header.pldm_type, header.command, body),
+        body,
+        reply,
+    ) {
+        Ok(()) => {}
+        Err(code) => begin(header, code.value(), reply),
+    }
+}

@@ -1,0 +1,10 @@
+//! What comes of what a port heard, apart from the board.
+
+/// What is to be done next.
+#[derive(Debug, Drop)]
+pub enum Step<P> {
+    /// A request is to be carried out. The port is told the answer with this; where that is dropped, the request counts as not carried out.
+    Ask(P),
+    /// Nothing. The caller's `Out` says what was done.
+    Done,
+}

@@ -1,0 +1,82 @@
+//! What is wrong with what others do.
+ghost use Rattle.std.specs.Prelude.{◌≡◌, List, ℕ, [], ◌∷◌, Some, None, option_map, if◌then◌else◌};
+ghost use Rattle.plans.specs.declared.names.Names.{Names as AnyNames};
+ghost use Rattle.undo_model.specs.Machine.{open_bus};
+ghost use Rattle.lab_model.specs.PortSteps.{asked_in};
+ghost use Rattle.lab_model.specs.ManagerSteps.{board_plans};
+ghost use Rattle.lab_model.specs.Lab.{Lab, Noise, Idles};
+ghost use Rattle.lab_model.specs.Faults.{fault_of as fault_of_event, first_of, check, Changing, Impersonates, is_own};
+ghost use Rattle.two_wire.specs.declared.Bus.TheVariants.{Ipmb};
+ghost use Rattle.bmc_board.specs.Table.{is_changing};
+ghost use Rattle.lab.specs.Shown.{fault_of};
+ghost use Rattle.lab.specs.Meaning.{request_of};
+
+use crate::fault::Fault;
+use bmc_board::changing;
+use cfg_records::Asked;
+use ipmb_frame::read_frame;
+use lab_model::marks::is_still_open;
+use mctp_net::read_packet;
+use plans::Names;
+use schedules::OtherRequest;
+use two_wire::Bus;
+
+/// What is wrong with noise.
+pub fn noise_fault(on: Bus, bytes: &[u8]) -> Option<Fault>
+    ensures { (names : AnyNames) (x : Lab (board_plans names)) → option_map fault_of result ≡ fault_of_event (board_plans names) x (Noise on bytes.now) }
+{
+    let reads = match on {
+        Bus::Ipmb => read_frame(bytes).is_ok(),
+        Bus::Smbus => read_packet(bytes).is_ok(),
+    };
+    if reads { Some(Fault::Forged) } else { None }
+}
+
+/// What is wrong with forgetting a requester's window, where a request of the manager is open on that bus or on none.
+pub fn idle_fault(names: &Names, on: Bus, requester: u8, opened_on: Option<Bus>) -> Option<Fault>
+    ensures { (x : Lab (board_plans names.now)) → x.manager.names ≡ names.now → open_bus (board_plans names.now).words x.manager.machine ≡ opened_on
+        → option_map fault_of result ≡ fault_of_event (board_plans names.now) x (Idles on requester) }
+{
+    if is_still_open(names, on, requester, opened_on) {
+        Some(Fault::StillOpen)
+    } else {
+        None
+    }
+}
+
+/// What a request asks of the board.
+fn asked(request: &OtherRequest) -> Asked
+    ensures { (names : AnyNames) → result ≡ asked_in (request_of names request.now) }
+{
+    Asked::Ipmi {
+        from: request.requester.address.byte(),
+        net_fn: request.net_fn,
+        lun: request.responder,
+        command: request.command,
+        body: request.body.copy(),
+    }
+}
+
+/// Whether the manager or the controller is known so on the bus.
+fn is_own(on: Bus, names: &Names, from: u8) -> bool
+    ensures { result ≡ is_own on names.now from }
+{
+    match on {
+        Bus::Ipmb => from == names.own_address.byte() || from == names.peer_address.byte(),
+        Bus::Smbus => from == names.own_eid || from == names.peer_eid,
+    }
+}
+
+/// What is wrong with another requester's request but for want of room.
+pub fn request_fault(names: &Names, request: &OtherRequest) -> Option<Fault>
+    ensures { option_map fault_of result ≡ first_of (check Changing (is_changing (asked_in (request_of names.now request.now)))
+        ∷ check Impersonates (is_own Ipmb names.now request.now.requester.address) ∷ []) }
+{
+    if changing(&asked(request)) {
+        return Some(Fault::Changing);
+    }
+    if is_own(Bus::Ipmb, names, request.requester.address.byte()) {
+        return Some(Fault::Impersonates);
+    }
+    None
+}

@@ -1,0 +1,14 @@
+//! What texts of lines have in common: lines, words with one space between two, decimal numbers, bytes in hexadecimal.
+#![tactic(auto)]
+
+mod cut;
+mod decimals;
+mod laws;
+mod spelt;
+#[cfg(test)]
+mod tests;
+
+pub use cut::{behind, first_line, first_word};
+pub use decimals::{number, plain_number};
+pub use laws::{one_cut, one_plain_number};
+pub use spelt::{byte, bytes};

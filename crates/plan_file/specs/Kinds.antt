@@ -1,0 +1,30 @@
+-- The kinds of step.
+use Rattle.std.specs.Prelude.{ℕ, List, codes, Option}
+use Rattle.std.specs.List.{find}
+use Rattle.toml.specs.Data.{Members}
+use Rattle.plan_file.specs.declared.field.Field.TheVariants as field
+use Rattle.plan_file.specs.declared.row.Row.{Row}
+use Rattle.plan_file.specs.declared.kind.Kind.{Kind}
+use Rattle.plan_file.specs.declared.kind.Kind.TheVariants as kind
+use Rattle.plan_file.specs.declared.kind.TheConstants.{KINDS, THRESHOLDS, HYSTERESIS, EVENT_ENABLE, WATCHDOG, POWER_POLICY}
+use Rattle.plan_file.specs.Ranges.{has_text}
+
+-- what a step's `kind` calls it
+abbrev pub kind_word : Kind → List ℕ
+kind_word kind.Thresholds = codes "thresholds"
+kind_word kind.Hysteresis = codes "hysteresis"
+kind_word kind.EventEnable = codes "event-enable"
+kind_word kind.Watchdog = codes "watchdog"
+kind_word kind.PowerPolicy = codes "power-policy"
+
+-- the fields of its steps
+abbrev pub rows_of : Kind → List Row
+rows_of kind.Thresholds = THRESHOLDS
+rows_of kind.Hysteresis = HYSTERESIS
+rows_of kind.EventEnable = EVENT_ENABLE
+rows_of kind.Watchdog = WATCHDOG
+rows_of kind.PowerPolicy = POWER_POLICY
+
+-- the kind that a step names
+unfoldable pub kind_in : Members → Option Kind
+kind_in tree = find (λ named. has_text field.Kind (kind_word named) tree) KINDS

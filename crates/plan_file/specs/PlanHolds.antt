@@ -1,0 +1,147 @@
+-- The plan that a tree holds.
+use Rattle.std.specs.Prelude.{◌≡◌, ℕ, ◌==◌, ◌/◌, ◌%◌, Bool, true, List, [], map, slice_get, Option, Some, None, is_some, option_and_then, Result, Ok, Err, MatchOption, codes}
+use Rattle.std.specs.List.{AllZip, list_any}
+use Rattle.toml.specs.Data.{Data, Members, as_bool}
+use Rattle.toml.specs.Parse.{parse_document}
+use Rattle.cfg_records.specs.Masks.{has}
+use Rattle.cfg_records.specs.declared.op.Op.{Op}
+use Rattle.cfg_records.specs.declared.op.Op.TheVariants as op
+use Rattle.cfg_records.specs.declared.sensor_thresholds.SetThresholds.{SetThresholds}
+use Rattle.cfg_records.specs.declared.hysteresis.SetHysteresis.{SetHysteresis}
+use Rattle.cfg_records.specs.declared.event_enable.SetEventEnable.{SetEventEnable}
+use Rattle.cfg_records.specs.declared.event_enable.EventChange.{EventChange}
+use Rattle.cfg_records.specs.declared.event_enable.EventChange.TheVariants as change
+use Rattle.cfg_records.specs.declared.event_enable.EventMasks.{EventMasks}
+use Rattle.cfg_records.specs.declared.watchdog.SetWatchdog.{SetWatchdog}
+use Rattle.cfg_records.specs.declared.power_policy.SetPowerPolicy.{SetPowerPolicy}
+use Rattle.plans.specs.declared.plan.Plan.{Plan}
+use Rattle.plan_file.specs.declared.field.Field.{Field}
+use Rattle.plan_file.specs.declared.field.Field.TheVariants as field
+use Rattle.plan_file.specs.declared.kind.Kind.TheVariants as kind
+use Rattle.plan_file.specs.declared.change.TheConstants.{LIMITS}
+use Rattle.plan_file.specs.declared.plan_fault.PlanFault.{PlanFault}
+use Rattle.plan_file.specs.declared.plan_fault.PlanFault.TheVariants as plan
+use Rattle.plan_file.specs.Trees.{in_field, natural, number_in, table_of, members_in}
+use Rattle.plan_file.specs.Ranges.{passes, has_text, or_zero}
+use Rattle.plan_file.specs.Kinds.{kind_in}
+use Rattle.plan_file.specs.Faults.{first}
+use Rattle.plan_file.specs.PlanFaults.{plan_faults}
+use Rattle.plan_file.specs.Holds.{HasNumber}
+
+-- ---- thresholds
+
+-- the step gives the threshold of this place
+abbrev pub is_given : Members → ℕ → Bool
+is_given tree place = passes (λ limit. is_some (in_field limit tree)) (slice_get LIMITS place)
+
+-- the step holds a change of thresholds: those that it gives
+pub record HoldsThresholds (tree : Members) (set : SetThresholds) : Type 0 where
+  pub sensor : HasNumber field.Sensor tree set.sensor
+  pub mask : (place : ℕ) → has set.mask place ≡ is_given tree place
+  pub values : set.values ≡ map (λ limit. or_zero (number_in limit tree)) LIMITS
+
+-- ---- hysteresis
+
+-- the step holds a change of hysteresis
+pub record HoldsHysteresis (tree : Members) (set : SetHysteresis) : Type 0 where
+  pub sensor : HasNumber field.Sensor tree set.sensor
+  pub positive : HasNumber field.Positive tree set.positive
+  pub negative : HasNumber field.Negative tree set.negative
+
+-- ---- events
+
+-- the boolean that a table has in the field
+abbrev pub flag_in : Field → Members → Option Bool
+flag_in named tree = option_and_then as_bool (in_field named tree)
+
+-- the table has this boolean in the field
+abbrev pub HasFlag : Field → Members → Bool → Type 0
+HasFlag named tree b = flag_in named tree ≡ Some b
+
+-- the value is this number
+abbrev pub is_number : ℕ → Data → Bool
+is_number n d = passes (λ m. m == n) (natural d)
+
+-- the list has this number
+abbrev pub is_listed : List Data → ℕ → Bool
+is_listed ds n = list_any (is_number n) ds
+
+-- the mask has the events whose offsets the table lists in the field
+abbrev pub HasEvents : Field → Members → ℕ → Type 0
+HasEvents named tree mask = (offset : ℕ) → has mask offset ≡ is_listed (members_in named tree) offset
+
+-- the step lists these events
+pub record HoldsEvents (tree : Members) (events : EventMasks) : Type 0 where
+  pub assertions : HasEvents field.Assert tree events.assertions
+  pub deassertions : HasEvents field.Deassert tree events.deassertions
+
+-- the step selects what becomes of events
+abbrev pub Selects : Members → List ℕ → Type 0
+Selects tree word = has_text field.Select word tree ≡ true
+
+-- the step says what becomes of the enabled events
+abbrev pub HoldsChange : Members → EventChange → Type 0
+HoldsChange tree change.Leave = Selects tree (codes "leave")
+HoldsChange tree (change.Enable events) = Selects tree (codes "enable") × HoldsEvents tree events
+HoldsChange tree (change.Disable events) = Selects tree (codes "disable") × HoldsEvents tree events
+HoldsChange tree change.Reserved = ⊥
+
+-- the step holds a change of a sensor's events
+pub record HoldsEventEnable (tree : Members) (set : SetEventEnable) : Type 0 where
+  pub sensor : HasNumber field.Sensor tree set.sensor
+  pub messages : HasFlag field.Messages tree set.messages
+  pub scanning : HasFlag field.Scanning tree set.scanning
+  pub change : HoldsChange tree set.change
+
+-- ---- the watchdog timer
+
+-- the step holds a change of the watchdog timer: bit 6 of the use byte (don't stop) and the flags to clear are 0
+pub record HoldsWatchdog (tree : Members) (set : SetWatchdog) : Type 0 where
+  pub timer_use : HasNumber field.Use tree (set.timer_use % 128)
+  pub no_log : HasFlag field.NoLog tree (has set.timer_use 7)
+  pub action : HasNumber field.Action tree (set.actions % 16)
+  pub interrupt : HasNumber field.Interrupt tree (set.actions / 16)
+  pub pre_timeout : HasNumber field.Pre tree set.pre_timeout
+  pub flags_to_clear : set.flags_to_clear ≡ 0
+  pub initial : HasNumber field.Initial tree set.initial
+
+-- ---- the power restore policy
+
+-- the step holds a change of the power restore policy
+abbrev pub HoldsPowerPolicy : Members → SetPowerPolicy → Type 0
+HoldsPowerPolicy tree set = HasNumber field.Policy tree set.policy
+
+-- ---- plans
+
+-- the step holds a change of the kind that it names
+abbrev pub HoldsStep : Members → Op → Type 0
+HoldsStep tree (op.Thresholds set) = (kind_in tree ≡ Some kind.Thresholds) × HoldsThresholds tree set
+HoldsStep tree (op.Hysteresis set) = (kind_in tree ≡ Some kind.Hysteresis) × HoldsHysteresis tree set
+HoldsStep tree (op.EventEnable set) = (kind_in tree ≡ Some kind.EventEnable) × HoldsEventEnable tree set
+HoldsStep tree (op.Watchdog set) = (kind_in tree ≡ Some kind.Watchdog) × HoldsWatchdog tree set
+HoldsStep tree (op.PowerPolicy set) = (kind_in tree ≡ Some kind.PowerPolicy) × HoldsPowerPolicy tree set
+-- no kind of step changes the global enables
+HoldsStep tree (op.GlobalEnables set) = ⊥
+
+-- the member of an array holds a change
+abbrev pub IsStepIn : Data → Op → Type 0
+IsStepIn d set = HoldsStep (table_of d) set
+
+-- how often frames are sent again: 3 times where the plan doesn't say it
+abbrev pub or_three : Option ℕ → ℕ
+or_three (Some n) = n
+or_three None = 3
+
+-- the tree holds a plan
+pub record HoldsPlan (tree : Members) (held : Plan) : Type 0 where
+  pub steps : AllZip IsStepIn (members_in field.Step tree) held.steps
+  pub retries : held.retries ≡ or_three (number_in field.Retries tree)
+
+-- what the reading of a tree answers: the plan that it holds where it has no fault, else its first fault
+abbrev pub AnswersPlan : Members → Result Plan PlanFault → Type 0
+AnswersPlan tree (Ok held) = (plan_faults tree ≡ []) × HoldsPlan tree held
+AnswersPlan tree (Err why) = first (plan_faults tree) ≡ Some why
+
+-- what the reading of a text answers where memory suffices: Text where it's no TOML 1.1
+abbrev pub ReadsPlan : List ℕ → Result Plan PlanFault → Type 0
+ReadsPlan text answer = MatchOption (parse_document text) (answer ≡ Err plan.Text) (λ tree. AnswersPlan tree answer)

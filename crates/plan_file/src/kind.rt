@@ -1,0 +1,112 @@
+//! The kinds of step: what names them, and their fields. `docs/PLAN_FILES.md` says what each means.
+ghost use Rattle.std.specs.Prelude.{◌≡◌};
+ghost use Rattle.std.specs.List.{find};
+ghost use Rattle.toml.specs.View.{table_view};
+ghost use Rattle.plan_file.specs.Kinds.{kind_word, rows_of, kind_in};
+
+use crate::field::Field;
+use crate::row::{BYTE, Need, Row, Shape};
+use crate::tree::has_text;
+use toml::Table;
+
+/// A kind of step, by the kind of record that it changes.
+#[derive(Clone, Copy, Debug, PartialEq, Eq)]
+pub enum Kind {
+    Thresholds,
+    Hysteresis,
+    EventEnable,
+    Watchdog,
+    PowerPolicy,
+}
+
+/// All kinds of step.
+pub const KINDS: [Kind; 5] = [
+    Kind::Thresholds,
+    Kind::Hysteresis,
+    Kind::EventEnable,
+    Kind::Watchdog,
+    Kind::PowerPolicy,
+];
+
+/// The field of a step that names its kind.
+pub const KIND: [Row; 1] = [Row(Field::Kind, Shape::Text, Need::Always)];
+
+/// The fields of a step that sets thresholds.
+pub const THRESHOLDS: [Row; 7] = [
+    Row(Field::Sensor, BYTE, Need::Always),
+    Row(Field::LowerNonCritical, BYTE, Need::Never),
+    Row(Field::LowerCritical, BYTE, Need::Never),
+    Row(Field::LowerNonRecoverable, BYTE, Need::Never),
+    Row(Field::UpperNonCritical, BYTE, Need::Never),
+    Row(Field::UpperCritical, BYTE, Need::Never),
+    Row(Field::UpperNonRecoverable, BYTE, Need::Never),
+];
+
+/// The fields of a step that sets hysteresis.
+pub const HYSTERESIS: [Row; 3] = [
+    Row(Field::Sensor, BYTE, Need::Always),
+    Row(Field::Positive, BYTE, Need::Always),
+    Row(Field::Negative, BYTE, Need::Always),
+];
+
+/// The fields of a step that sets which events are enabled.
+pub const EVENT_ENABLE: [Row; 6] = [
+    Row(Field::Sensor, BYTE, Need::Always),
+    Row(Field::Messages, Shape::Flag, Need::Always),
+    Row(Field::Scanning, Shape::Flag, Need::Always),
+    Row(Field::Select, Shape::Select, Need::Always),
+    Row(Field::Assert, Shape::Offsets, Need::UnlessLeave),
+    Row(Field::Deassert, Shape::Offsets, Need::UnlessLeave),
+];
+
+/// The fields of a step that sets the watchdog timer.
+pub const WATCHDOG: [Row; 6] = [
+    Row(Field::Use, Shape::Number(1, 5), Need::Always),
+    Row(Field::NoLog, Shape::Flag, Need::Always),
+    Row(Field::Action, Shape::Number(0, 3), Need::Always),
+    Row(Field::Interrupt, Shape::Number(0, 3), Need::Always),
+    Row(Field::Pre, BYTE, Need::Always),
+    Row(Field::Initial, Shape::Number(0, 0xFFFF), Need::Always),
+];
+
+/// The fields of a step that sets the power restore policy.
+pub const POWER_POLICY: [Row; 1] = [Row(Field::Policy, Shape::Number(0, 2), Need::Always)];
+
+impl Kind {
+    /// What a step's `kind` calls it.
+    pub fn word(&self) -> &'static str
+        ensures { result.now ≡ kind_word self.now }
+    {
+        match self {
+            Kind::Thresholds => "thresholds",
+            Kind::Hysteresis => "hysteresis",
+            Kind::EventEnable => "event-enable",
+            Kind::Watchdog => "watchdog",
+            Kind::PowerPolicy => "power-policy",
+        }
+    }
+
+    /// The fields of its steps.
+    pub fn rows(&self) -> &'static [Row]
+        ensures { result.now ≡ rows_of self.now }
+    {
+        match self {
+            Kind::Thresholds => &THRESHOLDS,
+            Kind::Hysteresis => &HYSTERESIS,
+            Kind::EventEnable => &EVENT_ENABLE,
+            Kind::Watchdog => &WATCHDOG,
+            Kind::PowerPolicy => &POWER_POLICY,
+        }
+    }
+}
+
+/// The kind that the step names.
+#[tactic(auto, unfolding(crate::specs::Kinds::kind_in))]
+pub fn kind_in(step: &Table) -> Option<Kind>
+    ensures { result ≡ kind_in (table_view step.now) }
+{
+    KINDS
+        .iter()
+        .copied()
+        .find(|kind| has_text(step, Field::Kind, kind.word()))
+}

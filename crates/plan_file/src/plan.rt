@@ -1,0 +1,113 @@
+//! The text of a plan.
+ghost use Rattle.std.specs.Prelude.{◌≡◌, ◌⊎◌, ◌≤◌, [], true, Err, Some, IfOk, IfErr, map};
+ghost use Rattle.std.specs.List.{list_all, AllZip};
+ghost use Rattle.toml.specs.View.{view, table_view};
+ghost use Rattle.plan_file.specs.Trees.{number_in, table_of, members_in};
+ghost use Rattle.plan_file.specs.Ranges.{is_table};
+ghost use Rattle.plan_file.specs.Faults.{field_faults, first};
+ghost use Rattle.plan_file.specs.PlanFaults.{own_fault, step_faults, steps_faults};
+ghost use Rattle.plan_file.specs.PlanHolds.{IsStepIn, or_three, AnswersPlan, ReadsPlan};
+
+use crate::check::first_fault;
+use crate::fault::FieldFault;
+use crate::field::Field;
+use crate::plan_fault::PlanFault;
+use crate::row::PLAN;
+use crate::step::read_step;
+use crate::tree::{members_in, number};
+use cfg_records::Op;
+use plans::{Plan, Retries, Steps};
+use std::alloc::Global;
+use toml::{Table, Value};
+
+/// How often the frames of a request are sent again where a plan doesn't say it.
+pub const RETRIES: u8 = 3;
+
+impl FieldFault {
+    /// The fault, of a plan's own field: too many steps have a name of their own.
+    fn of_plan(self) -> PlanFault
+        ensures { result ≡ own_fault self }
+    {
+        match self {
+            FieldFault::Range(Field::Step) => PlanFault::TooMany,
+            fault => PlanFault::Field(fault),
+        }
+    }
+}
+
+/// The change that the step of this place asks for.
+fn step_at(place: usize, value: &Value) -> Result<Op, PlanFault>
+    requires { is_table (view value.now) ≡ true }
+    ensures sound { IfOk result (λ _. step_faults (table_of (view value.now)) ≡ []) }
+    ensures held { IfOk result (IsStepIn (view value.now)) }
+    ensures err { IfErr result (λ why. first (map (PlanFault.Step place) (step_faults (table_of (view value.now)))) ≡ Some why) }
+{
+    match read_step(value.as_table().unwrap()) {
+        Ok(op) => Ok(op),
+        Err(fault) => Err(PlanFault::Step(place, fault)),
+    }
+}
+
+/// The changes that these steps ask for, up to the first fault.
+fn steps_of(alloc: Global, values: &[Value]) -> Result<Vec<Op>, PlanFault>
+    requires { list_all (λ value. is_table (view value)) values.now ≡ true }
+    ensures sound { IfOk result (λ _. steps_faults 0 (map view values.now) ≡ []) }
+    ensures held { IfOk result (λ ops. AllZip IsStepIn (map view values.now) ops.items) }
+    ensures err { IfErr result (λ why. (why ≡ PlanFault.Memory) ⊎ (first (steps_faults 0 (map view values.now)) ≡ Some why)) }
+{
+    let mut ops = Vec::new(alloc);
+    for (place, value) in values.iter().enumerate() {
+        let op = step_at(place, value)?;
+        match ops.push(op) {
+            Ok(()) => {}
+            Err(_) => return Err(PlanFault::Memory),
+        }
+    }
+    Ok(ops)
+}
+
+/// The number, at most 15, as one of retries.
+fn retries_of(number: u64) -> Retries
+    requires { number ≤ 15 }
+    ensures { result ≡ number }
+{
+    Retries::new(number as u8)
+}
+
+/// How often the plan lets frames be sent again.
+fn retries(tree: &Table) -> Retries
+    requires { field_faults PLAN (table_view tree.now) ≡ [] }
+    ensures { result ≡ or_three (number_in Field.Retries (table_view tree.now)) }
+{
+    match number(tree, Field::Retries) {
+        Some(number) => retries_of(number),
+        None => Retries::new(RETRIES),
+    }
+}
+
+/// The plan that the tree holds, or its first fault.
+fn plan_of(alloc: Global, tree: &Table) -> Result<Plan, PlanFault>
+    ensures { (result ≡ Err PlanFault.Memory) ⊎ AnswersPlan (table_view tree.now) result }
+{
+    if let Some(fault) = first_fault(&PLAN, tree) {
+        return Err(fault.of_plan());
+    }
+    let ops = steps_of(alloc, members_in(tree, Field::Step))?;
+    Ok(Plan {
+        steps: Steps::new(ops).unwrap(),
+        retries: retries(tree),
+    })
+}
+
+/// The plan that the text holds, or why it is no plan: its first fault. The faults of the plan's own fields come first, then those
+/// of each step in the file's order, in the order in which `StepFault` and the tables of fields list them. Keys that name no
+/// field are ignored.
+pub fn read_plan(alloc: Global, text: &str) -> Result<Plan, PlanFault>
+    ensures { (result ≡ Err PlanFault.Memory) ⊎ ReadsPlan text.now result }
+{
+    match toml::table_from_str(alloc, text) {
+        Ok(tree) => plan_of(alloc, &tree),
+        Err(error) if error.is_memory() => Err(PlanFault::Memory),
+        Err(_) => Err(PlanFault::Text),
+    }
+}

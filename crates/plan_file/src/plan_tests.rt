@@ -1,0 +1,596 @@
+//! Plans: what they hold, and their faults.
+use crate::{NoGet, OutsidePlan, PlanFault, StepFault, read_plan};
+use cfg_records::{
+    EventChange, EventMasks, Op, SetEventEnable, SetHysteresis, SetPowerPolicy, SetThresholds,
+    SetWatchdog,
+};
+use std::alloc::{AllocError, Global};
+use std::process::Abort;
+use std::test::Fail;
+
+/// A step of each kind. No line stands in it twice but `[[step]]`.
+const PLAN: &str = "[[step]]
+kind = \"thresholds\"
+sensor = 5
+lnc = 1
+lc = 2
+lnr = 3
+unc = 4
+uc = 5
+unr = 6
+[[step]]
+kind = \"hysteresis\"
+sensor = 6
+positive = 7
+negative = 8
+[[step]]
+kind = \"event-enable\"
+sensor = 9
+messages = true
+scanning = false
+select = \"enable\"
+assert = [7, 9, 7]
+deassert = [0, 11]
+[[step]]
+kind = \"watchdog\"
+use = 3
+no_log = true
+action = 1
+interrupt = 2
+pre = 10
+initial = 3000
+[[step]]
+kind = \"power-policy\"
+policy = 2
+";
+
+/// A line of the plan, and lines that say something else of its field.
+#[derive(Clone, Copy)]
+struct Case {
+    line: &'static str,
+    /// The step, from 0.
+    step: usize,
+    field: &'static str,
+    is_needed: bool,
+    mistyped: &'static str,
+    beyond: [&'static str; 2],
+    inside: [&'static str; 2],
+}
+
+/// A field that has a number from `beyond`'s first to its second, these excluded.
+const fn number(
+    step: usize,
+    field: &'static str,
+    line: &'static str,
+    mistyped: &'static str,
+    beyond: [&'static str; 2],
+    inside: [&'static str; 2],
+) -> Case {
+    Case {
+        line,
+        step,
+        field,
+        is_needed: true,
+        mistyped,
+        beyond,
+        inside,
+    }
+}
+
+/// A case for each field of the kinds that have numbers alone.
+fn number_cases() -> [Case; 11] {
+    let limit = |field, line, mistyped, beyond, inside| Case {
+        line,
+        step: 0,
+        field,
+        is_needed: false,
+        mistyped,
+        beyond,
+        inside,
+    };
+    [
+        number(
+            0,
+            "sensor",
+            "sensor = 5",
+            "sensor = true",
+            ["sensor = -1", "sensor = 256"],
+            ["sensor = 0", "sensor = 255"],
+        ),
+        limit(
+            "lnc",
+            "lnc = 1",
+            "lnc = true",
+            ["lnc = -1", "lnc = 256"],
+            ["lnc = 0", "lnc = 255"],
+        ),
+        limit(
+            "lc",
+            "lc = 2",
+            "lc = \"2\"",
+            ["lc = -1", "lc = 256"],
+            ["lc = 0", "lc = 255"],
+        ),
+        limit(
+            "lnr",
+            "lnr = 3",
+            "lnr = [3]",
+            ["lnr = -1", "lnr = 256"],
+            ["lnr = 0", "lnr = 255"],
+        ),
+        limit(
+            "unc",
+            "unc = 4",
+            "unc = 4.0",
+            ["unc = -1", "unc = 256"],
+            ["unc = 0", "unc = 255"],
+        ),
+        limit(
+            "uc",
+            "uc = 5",
+            "uc = false",
+            ["uc = -1", "uc = 256"],
+            ["uc = 0", "uc = 255"],
+        ),
+        limit(
+            "unr",
+            "unr = 6",
+            "unr = {}",
+            ["unr = -1", "unr = 256"],
+            ["unr = 0", "unr = 255"],
+        ),
+        number(
+            1,
+            "sensor",
+            "sensor = 6",
+            "sensor = \"6\"",
+            ["sensor = -1", "sensor = 256"],
+            ["sensor = 0", "sensor = 255"],
+        ),
+        number(
+            1,
+            "positive",
+            "positive = 7",
+            "positive = true",
+            ["positive = -1", "positive = 256"],
+            ["positive = 0", "positive = 255"],
+        ),
+        number(
+            1,
+            "negative",
+            "negative = 8",
+            "negative = [8]",
+            ["negative = -1", "negative = 256"],
+            ["negative = 0", "negative = 255"],
+        ),
+        number(
+            4,
+            "policy",
+            "policy = 2",
+            "policy = true",
+            ["policy = -1", "policy = 3"],
+            ["policy = 0", "policy = 1"],
+        ),
+    ]
+}
+
+/// A case for each other field of a number or a list.
+fn other_cases() -> [Case; 9] {
+    [
+        number(
+            2,
+            "sensor",
+            "sensor = 9",
+            "sensor = []",
+            ["sensor = -1", "sensor = 256"],
+            ["sensor = 0", "sensor = 255"],
+        ),
+        number(
+            2,
+            "select",
+            "select = \"enable\"",
+            "select = 1",
+            ["select = \"\"", "select = \"Enable\""],
+            ["select = \"leave\"", "select = \"disable\""],
+        ),
+        number(
+            2,
+            "assert",
+            "assert = [7, 9, 7]",
+            "assert = [7, true]",
+            ["assert = [-1]", "assert = [0, 12]"],
+            ["assert = []", "assert = [0, 11, 0]"],
+        ),
+        number(
+            2,
+            "deassert",
+            "deassert = [0, 11]",
+            "deassert = 0",
+            ["deassert = [12]", "deassert = [11, -1]"],
+            ["deassert = [11]", "deassert = [0]"],
+        ),
+        number(
+            3,
+            "use",
+            "use = 3",
+            "use = true",
+            ["use = 0", "use = 6"],
+            ["use = 1", "use = 5"],
+        ),
+        number(
+            3,
+            "action",
+            "action = 1",
+            "action = true",
+            ["action = -1", "action = 4"],
+            ["action = 0", "action = 3"],
+        ),
+        number(
+            3,
+            "interrupt",
+            "interrupt = 2",
+            "interrupt = \"2\"",
+            ["interrupt = -1", "interrupt = 4"],
+            ["interrupt = 0", "interrupt = 3"],
+        ),
+        number(
+            3,
+            "pre",
+            "pre = 10",
+            "pre = [10]",
+            ["pre = -1", "pre = 256"],
+            ["pre = 0", "pre = 255"],
+        ),
+        number(
+            3,
+            "initial",
+            "initial = 3000",
+            "initial = true",
+            ["initial = -1", "initial = 65536"],
+            ["initial = 0", "initial = 65535"],
+        ),
+    ]
+}
+
+/// The plan with a line in another's place.
+fn edited(alloc: Global, old: &'static str, new: &'static str) -> Result<String, AllocError> {
+    let mut text = String::new(alloc);
+    for line in PLAN.lines() {
+        text.push_str(if line == old { new } else { line })?;
+        text.push('\n')?;
+    }
+    Ok(text)
+}
+
+/// The fault of a text, as programs print it, and nothing where it is a plan.
+fn named(alloc: Global, text: &str) -> Result<String, Fail> {
+    match read_plan(alloc, text) {
+        Ok(_) => Ok(String::new(alloc)),
+        Err(fault) => Ok(format!(in alloc; "{fault}")?),
+    }
+}
+
+/// The fault of the plan with a line in another's place.
+fn fault(alloc: Global, old: &'static str, new: &'static str) -> Result<String, Fail> {
+    let text = edited(alloc, old, new)?;
+    named(alloc, text.as_str())
+}
+
+/// What the fault of a step's field is called.
+fn called(alloc: Global, case: Case, name: &str) -> Result<String, AllocError> {
+    format!(in alloc; "{} {name} {}", case.step, case.field)
+}
+
+fn try_case(rt: &impl Abort, alloc: Global, case: Case) -> Result<(), Fail> {
+    let missing = if case.is_needed {
+        called(alloc, case, "Missing")?
+    } else {
+        String::new(alloc)
+    };
+    assert_eq!(rt; fault(alloc, case.line, "")?, missing, "{}", case.line);
+    let mistyped = called(alloc, case, "WrongType")?;
+    assert_eq!(rt;
+        fault(alloc, case.line, case.mistyped)?,
+        mistyped,
+        "{}",
+        case.mistyped
+    );
+    let beyond = called(alloc, case, "Range")?;
+    for line in case.beyond {
+        assert_eq!(rt; fault(alloc, case.line, line)?, beyond, "{line}");
+    }
+    for line in case.inside {
+        assert_eq!(rt; fault(alloc, case.line, line)?.as_str(), "", "{line}");
+    }
+    Ok(())
+}
+
+#[test]
+fn a_field_that_is_left_out_mistyped_or_out_of_range_is_named(rt: HostRuntime) -> Result<(), Fail> {
+    for case in number_cases() {
+        try_case(&rt, rt.alloc(), case)?;
+    }
+    for case in other_cases() {
+        try_case(&rt, rt.alloc(), case)?;
+    }
+    Ok(())
+}
+
+/// A text and what its fault is called.
+type Named = (&'static str, &'static str);
+
+#[test]
+fn the_first_fault_counts(rt: HostRuntime) -> Result<(), Fail> {
+    let cases: [Named; 16] = [
+        ("retries =", "Text"),
+        ("retries = 99999999999999999999", "Text"),
+        ("retries = true", "WrongType retries"),
+        ("retries = 16", "Range retries"),
+        ("retries = -1", "Range retries"),
+        ("retries = 16\nstep = 1", "WrongType step"),
+        ("retries = \"\"\nstep = [1]", "WrongType retries"),
+        ("step = [{}, 1]", "WrongType step"),
+        ("retries = 16\nstep = [{}]", "Range retries"),
+        ("step = [{}]", "0 Missing kind"),
+        ("step = [{kind = 1}]", "0 WrongType kind"),
+        ("step = [{kind = \"Clock\"}]", "0 UnknownKind"),
+        ("step = [{kind = \"lan-param\"}]", "0 UnknownKind"),
+        (
+            "step = [{kind = \"power-policy\"}, {kind = \"log\"}]",
+            "0 Missing policy",
+        ),
+        (
+            "step = [{kind = \"power-policy\", policy = 1}, {kind = \"log\"}]",
+            "1 OutsidePlan Log",
+        ),
+        (
+            "step = [{kind = \"thresholds\", lnc = true, lc = 256}]",
+            "0 Missing sensor",
+        ),
+    ];
+    for (text, want) in cases {
+        assert_eq!(rt; named(rt.alloc(), text)?.as_str(), want, "{text}");
+    }
+    Ok(())
+}
+
+#[test]
+fn what_no_get_shows_is_refused(rt: HostRuntime) -> Result<(), Fail> {
+    let cases: [Named; 12] = [
+        (
+            "kind = \"user-access\"\nsession_limit = \"\"",
+            "0 NoGet SessionLimit",
+        ),
+        ("kind = \"user-access\"", "0 UnknownKind"),
+        ("kind = \"watchdog\"\nflags_clear = 0", "0 NoGet FlagsClear"),
+        (
+            "kind = \"watchdog\"\nflags_clear = true",
+            "0 NoGet FlagsClear",
+        ),
+        ("kind = \"watchdog\"\nsession_limit = 0", "0 Missing use"),
+        (
+            "kind = \"channel-access\"\nstore = \"both\"",
+            "0 NoGet BothStores",
+        ),
+        (
+            "kind = \"channel-access\"\nstore = \"volatile\"",
+            "0 UnknownKind",
+        ),
+        ("kind = \"channel-access\"\nstore = 0", "0 UnknownKind"),
+        ("kind = \"boot-param\"\nparam = 0", "0 NoGet SetInProgress"),
+        ("kind = \"boot-param\"\nparam = 3", "0 UnknownKind"),
+        ("kind = \"boot-param\"\nparam = false", "0 UnknownKind"),
+        ("kind = \"thresholds\"\nflags_clear = 0", "0 Missing sensor"),
+    ];
+    for (step, want) in cases {
+        let text = format!(in rt.alloc(); "[[step]]\n{step}\n")?;
+        assert_eq!(rt; named(rt.alloc(), text.as_str())?.as_str(), want, "{step}");
+    }
+    Ok(())
+}
+
+#[test]
+fn passwords_the_clock_and_the_log_stand_outside_plans(rt: HostRuntime) -> Result<(), Fail> {
+    let cases = [
+        ("password", OutsidePlan::Password, "0 OutsidePlan Password"),
+        ("clock", OutsidePlan::Clock, "0 OutsidePlan Clock"),
+        ("log", OutsidePlan::Log, "0 OutsidePlan Log"),
+    ];
+    for (kind, outside, name) in cases {
+        let text = format!(in rt.alloc(); "[[step]]\nkind = \"{kind}\"\n")?;
+        let found = read_plan(rt.alloc(), text.as_str()).err().ok_or("a fault")?;
+        assert_eq!(rt; found, PlanFault::Step(0, StepFault::OutsidePlan(outside)));
+        assert_eq!(rt; format!(in rt.alloc(); "{found}")?.as_str(), name);
+    }
+    let found = read_plan(
+        rt.alloc(),
+        "step = [{kind = \"watchdog\", flags_clear = 0}]",
+    )
+    .err();
+    assert_eq!(rt;
+        found,
+        Some(PlanFault::Step(0, StepFault::NoGet(NoGet::FlagsClear)))
+    );
+    Ok(())
+}
+
+#[test]
+fn booleans_are_no_numbers_and_numbers_no_booleans(rt: HostRuntime) -> Result<(), Fail> {
+    let cases = [
+        ("messages = true", "messages = 1", "2 WrongType messages"),
+        ("messages = true", "", "2 Missing messages"),
+        (
+            "scanning = false",
+            "scanning = \"\"",
+            "2 WrongType scanning",
+        ),
+        ("scanning = false", "", "2 Missing scanning"),
+        ("scanning = false", "scanning = true", ""),
+        ("no_log = true", "no_log = 0", "3 WrongType no_log"),
+        ("no_log = true", "", "3 Missing no_log"),
+        ("no_log = true", "no_log = false", ""),
+    ];
+    for (old, new, want) in cases {
+        assert_eq!(rt; fault(rt.alloc(), old, new)?.as_str(), want, "{old} {new}");
+    }
+    Ok(())
+}
+
+#[test]
+fn events_are_needed_unless_they_are_left(rt: HostRuntime) -> Result<(), Fail> {
+    let cases: [Named; 7] = [
+        ("select = \"leave\"", ""),
+        ("select = \"leave\"\nassert = [12]", "0 Range assert"),
+        ("select = \"leave\"\ndeassert = 1", "0 WrongType deassert"),
+        ("select = \"enable\"\nassert = []", "0 Missing deassert"),
+        ("select = \"disable\"\ndeassert = []", "0 Missing assert"),
+        ("select = 0", "0 Missing assert"),
+        ("assert = []", "0 Missing select"),
+    ];
+    for (lines, want) in cases {
+        let text = format!(in rt.alloc();
+            "[[step]]\nkind = \"event-enable\"\nsensor = 0\nmessages = true\nscanning = true\n{lines}\n"
+        )?;
+        assert_eq!(rt; named(rt.alloc(), text.as_str())?.as_str(), want, "{lines}");
+    }
+    Ok(())
+}
+
+/// The step of this place of the plan of a text.
+fn with_step(
+    rt: &impl Abort,
+    alloc: Global,
+    text: &str,
+    place: usize,
+    check: fn(&Op) -> bool,
+) -> Result<(), Fail> {
+    let plan = read_plan(alloc, text).map_err(|_| "a plan")?;
+    let op = plan.steps.as_slice().get(place).ok_or("a step")?;
+    assert!(rt; check(op), "{place}");
+    Ok(())
+}
+
+#[test]
+fn each_kind_is_read(rt: HostRuntime) -> Result<(), Fail> {
+    let plan = read_plan(rt.alloc(), PLAN).map_err(|_| "a plan")?;
+    assert_eq!(rt; plan.steps.as_slice().len(), 5);
+    with_step(&rt, rt.alloc(), PLAN, 0, |op| {
+        let values = [1, 2, 3, 4, 5, 6];
+        matches!(op, Op::Thresholds(set) if *set == SetThresholds { sensor: 5, mask: 0x3F, values })
+    })?;
+    with_step(&rt, rt.alloc(), PLAN, 1, |op| {
+        let want = SetHysteresis {
+            sensor: 6,
+            positive: 7,
+            negative: 8,
+        };
+        matches!(op, Op::Hysteresis(set) if *set == want)
+    })?;
+    with_step(&rt, rt.alloc(), PLAN, 2, |op| {
+        let events = EventMasks {
+            assertions: 0x280,
+            deassertions: 0x801,
+        };
+        let want = SetEventEnable {
+            sensor: 9,
+            messages: true,
+            scanning: false,
+            change: EventChange::Enable(events),
+        };
+        matches!(op, Op::EventEnable(set) if *set == want)
+    })?;
+    with_step(&rt, rt.alloc(), PLAN, 3, |op| {
+        let want = SetWatchdog {
+            timer_use: 0x83,
+            actions: 0x21,
+            pre_timeout: 10,
+            flags_to_clear: 0,
+            initial: 3000,
+        };
+        matches!(op, Op::Watchdog(set) if *set == want)
+    })?;
+    with_step(&rt, rt.alloc(), PLAN, 4, |op| {
+        matches!(op, Op::PowerPolicy(set) if *set == SetPowerPolicy { policy: 2 })
+    })
+}
+
+#[test]
+fn a_plan_of_two_threshold_steps_is_read(rt: HostRuntime) -> Result<(), Fail> {
+    let text = "[[step]]
+kind = \"thresholds\"
+sensor = 5
+unc = 0x4B
+uc = 0x5A
+[[step]]
+kind = \"thresholds\"
+sensor = 5
+uc = 0x5C
+unr = 0x64
+";
+    let plan = read_plan(rt.alloc(), text).map_err(|_| "a plan")?;
+    assert_eq!(rt; plan.retries.number(), 3);
+    assert_eq!(rt; plan.steps.as_slice().len(), 2);
+    with_step(&rt, rt.alloc(), text, 0, |op| {
+        let values = [0, 0, 0, 0x4B, 0x5A, 0];
+        matches!(op, Op::Thresholds(set) if *set == SetThresholds { sensor: 5, mask: 0x18, values })
+    })?;
+    with_step(&rt, rt.alloc(), text, 1, |op| {
+        let values = [0, 0, 0, 0, 0x5C, 0x64];
+        matches!(op, Op::Thresholds(set) if *set == SetThresholds { sensor: 5, mask: 0x30, values })
+    })
+}
+
+#[test]
+fn retries_are_3_where_none_are_given(rt: HostRuntime) -> Result<(), Fail> {
+    let cases = [
+        ("", 3),
+        ("retries = 0", 0),
+        ("retries = 15", 15),
+        ("step = []\nretry = 16", 3),
+    ];
+    for (text, retries) in cases {
+        let plan = read_plan(rt.alloc(), text).map_err(|_| "a plan")?;
+        assert_eq!(rt; plan.retries.number(), retries, "{text}");
+        assert_eq!(rt; plan.steps.as_slice().len(), 0, "{text}");
+    }
+    Ok(())
+}
+
+/// A plan of so many steps, after these lines.
+fn with_steps(alloc: Global, lines: &str, count: usize) -> Result<String, Fail> {
+    let mut text = String::from_str(alloc, lines)?;
+    for _ in 0..count {
+        text.push_str("[[step]]\nkind = \"power-policy\"\npolicy = 1\n")?;
+    }
+    Ok(text)
+}
+
+#[test]
+fn a_plan_has_at_most_256_steps(rt: HostRuntime) -> Result<(), Fail> {
+    let most = with_steps(rt.alloc(), "", 256)?;
+    let plan = read_plan(rt.alloc(), most.as_str()).map_err(|_| "a plan")?;
+    assert_eq!(rt; plan.steps.as_slice().len(), 256);
+    let more = with_steps(rt.alloc(), "", 257)?;
+    let found = read_plan(rt.alloc(), more.as_str()).err();
+    assert_eq!(rt; found, Some(PlanFault::TooMany));
+    let faulty = with_steps(rt.alloc(), "[[step]]\nkind = \"log\"\n", 256)?;
+    assert_eq!(rt; named(rt.alloc(), faulty.as_str())?.as_str(), "TooMany");
+    let also = with_steps(rt.alloc(), "retries = 16\n", 257)?;
+    assert_eq!(rt; named(rt.alloc(), also.as_str())?.as_str(), "Range retries");
+    Ok(())
+}
+
+/// A plan of one step, of which six prefixes are plans.
+const SHORT: &str = "retries = 15\n[[step]]\nkind = \"power-policy\"\npolicy = 2\n";
+
+#[test]
+fn each_prefix_is_read_or_refused(rt: HostRuntime) -> Result<(), Fail> {
+    let bytes = SHORT.as_bytes();
+    let plans = [0, 11, 12, 13, bytes.len() - 1, bytes.len()];
+    for end in 0..=bytes.len() {
+        let text = std::str::from_utf8(&bytes[..end]).map_err(|_| "ASCII")?;
+        let read = read_plan(rt.alloc(), text);
+        assert_eq!(rt; read.is_ok(), plans.contains(&end), "{end}");
+    }
+    Ok(())
+}

@@ -1,0 +1,60 @@
+//! What happens in a lab.
+use crate::octets::Octets;
+use ipmb_frame::{Party, Sequence};
+use two_wire::{Bus, Bytes, Lun, NetFn};
+
+/// A call of the manager.
+#[derive(Clone, Copy, Debug, PartialEq, Eq)]
+pub enum Call {
+    Start,
+    Quiet,
+    Stop,
+    Again,
+    Undo,
+}
+
+/// Somebody else's request to the controller on IPMB.
+#[derive(Debug, Drop)]
+pub struct OtherRequest {
+    /// Who asks.
+    pub requester: Party,
+    /// The logical unit of the controller that is meant.
+    pub responder: Lun,
+    pub net_fn: NetFn,
+    pub sequence: Sequence,
+    pub command: u8,
+    /// The command's data.
+    pub body: Bytes<25>,
+}
+
+/// Somebody else's message to the controller on SMBus.
+#[derive(Debug, Drop)]
+pub struct OtherMessage {
+    /// The endpoint from which it comes.
+    pub from: u8,
+    /// All bytes of the message, the type first.
+    pub body: Octets<256>,
+}
+
+/// What can happen.
+#[derive(Debug, Drop)]
+pub enum Event {
+    /// The manager is called.
+    Calls(Call),
+    /// The frame of this number comes to the controller's port.
+    ToBmc(u32),
+    /// The frame of this number comes to the manager.
+    ToMgr(u32),
+    /// Somebody else's request comes to the controller.
+    OtherIpmb(OtherRequest),
+    /// All packets of somebody else's message come to the controller.
+    OtherSmbus(OtherMessage),
+    /// Both ends hear bytes that are no frame.
+    Noise(Bus, Octets<80>),
+    /// The controller's port forgets the window of this requester.
+    Idle(Bus, u8),
+    /// A sensor's reading is taken.
+    Scan { sensor: u8, reading: u8 },
+    /// A tenth of a second goes by.
+    Tick,
+}

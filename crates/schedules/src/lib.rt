@@ -1,0 +1,16 @@
+//! Schedules of a lab: what happens there, a line an event.
+#![tactic(auto)]
+
+mod event;
+mod laws;
+mod line;
+mod octets;
+mod schedule;
+#[cfg(test)]
+mod tests;
+mod words;
+
+pub use event::{Call, Event, OtherMessage, OtherRequest};
+pub use laws::{one_schedule, refused_or_told};
+pub use octets::Octets;
+pub use schedule::{Schedule, ScheduleFault, read_schedule};

@@ -1,0 +1,203 @@
+-- A manager's request and the reply to it as the frames of their bus, lists of bytes: as what these are read, and what comes of them.
+use Rattle.std.specs.Prelude.{◌≡◌, ℕ, ◌%◌, ◌<◌, ◌≤◌, false, true, List, [], ◌∷◌, ◌++◌, length, map, Option, Some, None}
+use Rattle.std.specs.List.{AllZip}
+use Rattle.two_wire.specs.declared.Bus.{Bus}
+use Rattle.two_wire.specs.declared.Bus.TheVariants.{Ipmb, Smbus}
+use Rattle.ipmb_frame.specs.Grammar.{IsRequest, IsResponse}
+use Rattle.mctp_net.specs.declared.message.Message.{Message}
+use Rattle.mctp_net.specs.declared.packet.Name.{Name}
+use Rattle.mctp_net.specs.Grammar.{IsPacket}
+use Rattle.mctp_net.specs.Sizes.{most_assemblies}
+use Rattle.mctp_net.specs.Assembly.{Assemblies, open_beside}
+use Rattle.cfg_records.specs.declared.message.Asked.{Asked}
+use Rattle.cfg_records.specs.declared.message.Asked.TheVariants.{Ipmi, Pldm}
+use Rattle.cfg_records.specs.declared.board_file.BoardFile.{BoardFile}
+use Rattle.bmc_board.specs.State.{State}
+use Rattle.plans.specs.declared.names.Names.{Names}
+use Rattle.bus_model.specs.Circle.{circle_of}
+use Rattle.bus_model.specs.Numbering.{is_above}
+use Rattle.bus_model.specs.Request.{Request as Heard}
+use Rattle.undo_model.specs.Words.{Answered}
+use Rattle.undo_model.specs.Machine.{Part as TaskPart, reply_of}
+use Rattle.undo_model.specs.Wires.{number_of}
+use Rattle.undo_family.specs.Family.{bus_of}
+use Rattle.undo_family.specs.Spelled.{numbers_of}
+use Rattle.undo_family.specs.Wires.{bytes_of, reply_to}
+use Rattle.lab_model.specs.Bytes.{said}
+use Rattle.lab_model.specs.Values.{Value, Asks, Tells, Part, written, parts_of}
+use Rattle.lab_model.specs.PortSteps.{PortState, Turn, Deed, turn, spelled, stays, hears}
+use Rattle.lab_model.specs.ManagerSteps.{own_on, board_plans, values_of, Sent, ManagerState, ManagerDeed, heeded_on, open_count, taken_or, manager_hears}
+use Rattle.lab_model.specs.ManagerEvents.{name_awaited}
+use Rattle.undo_core.specs.Shown.{words_of, own}
+
+-- ---- frames
+
+-- the bytes are the value's frame on the bus
+abbrev pub IsFrameOn : Bus → Value → List ℕ → Type 0
+IsFrameOn Ipmb (Asks r) bytes = IsRequest r bytes
+IsFrameOn Ipmb (Tells r) bytes = IsResponse r bytes
+IsFrameOn Ipmb (Part p) bytes = ⊥
+IsFrameOn Smbus (Part p) bytes = IsPacket p bytes
+IsFrameOn Smbus (Asks r) bytes = ⊥
+IsFrameOn Smbus (Tells r) bytes = ⊥
+
+-- one to four frames are read as these values, and as no others
+pub record AreReadAs (on : Bus) (values : List Value) (frames : List (List ℕ)) : Type 0 where
+  pub some : 0 < length frames
+  pub few : length frames ≤ 4
+  pub read : AllZip (IsFrameOn on) values frames
+  pub alone : (others : List Value) → AllZip (IsFrameOn on) others frames → others ≡ values
+
+-- ---- what can be sent
+
+-- an even byte
+abbrev pub IsAddress : ℕ → Type 0
+IsAddress n = (n < 256) × (n % 2 ≡ 0)
+
+-- the addresses are even bytes, and the identifiers are bytes
+pub record AreNames (names : Names) : Type 0 where
+  pub own_address : IsAddress names.own_address
+  pub peer_address : IsAddress names.peer_address
+  pub own_wire : IsAddress names.own_wire
+  pub peer_wire : IsAddress names.peer_wire
+  pub own_eid : names.own_eid < 256
+  pub peer_eid : names.peer_eid < 256
+
+-- the request fits the frames of its bus
+abbrev pub CanBeAsked : Asked → Type 0
+CanBeAsked (Ipmi from net_fn lun command body) = (net_fn < 64) × (net_fn % 2 ≡ 0) × (lun < 4) × (length body ≤ 25)
+CanBeAsked (Pldm from kind command body) = (kind < 64) × (length body ≤ 252)
+
+-- and the reply with this answer
+abbrev pub CanBeTold : Bus → Answered → Type 0
+CanBeTold Ipmb a = length a.body ≤ 24
+CanBeTold Smbus a = length a.body ≤ 251
+
+-- ---- a request
+
+-- the name of the packets of the manager's request of this count
+abbrev pub name_asked : Names → ℕ → Name
+name_asked names count = record { source_eid = names.own_eid; tag_owner = true; tag = count % 8 }
+
+-- where the controller is on the bus
+abbrev pub peer_place : Bus → Names → ℕ
+peer_place Ipmb names = names.peer_address
+peer_place Smbus names = names.peer_wire
+
+-- The port is the controller's. Where the request goes in several packets, there is a slot for it.
+pub record IsControllers (names : Names) (count : ℕ) (asked : Asked) (port : PortState) : Type 0 where
+  pub place : port.wire ≡ peer_place (bus_of asked) names
+  pub eid : port.eid ≡ names.peer_eid
+  pub slot : 1 < length (values_of names count asked) → open_beside (name_asked names count) port.kept < most_assemblies
+
+-- the request of this count, as it's known at a port: by the manager's name, its number and its bytes
+abbrev pub heard_as : Names → ℕ → Asked → Heard
+heard_as names count asked =
+    let number = number_of (bus_of asked) count in
+    record { requester = own_on (bus_of asked) names; number = number; bytes = bytes_of number asked }
+
+-- what comes of that request at a port: the outcome, the log, the board and the reply
+abbrev pub turn_at : BoardFile → PortState → State → Names → ℕ → Asked → Turn
+turn_at setup port before names count asked =
+    let r = heard_as names count asked in
+    turn (is_above (circle_of (numbers_of (bus_of asked)))) r (spelled (bus_of asked) r) setup (own names asked) port.log before
+
+-- a port hears values, one after another
+abbrev pub hears_each : BoardFile → PortState → State → List Value → Deed
+hears_each setup port before [] = stays port before
+hears_each setup port before (v ∷ vs) =
+    let first = hears setup port before v in
+    let rest = hears_each setup first.port first.board vs in
+    record { port = rest.port; board = rest.board; sent = first.sent ++ rest.sent }
+
+-- ---- the reply to it
+
+-- the message of a reply to the manager's request of this count
+abbrev pub reply_message : Names → ℕ → List ℕ → Message
+reply_message names count body = record {
+  envelope = record {
+    destination = names.own_wire;
+    source = names.peer_wire;
+    destination_eid = names.own_eid;
+    source_eid = names.peer_eid;
+    tag_owner = false;
+    tag = count % 8;
+  };
+  body = body;
+}
+
+-- the frames of the reply with this answer: one on IPMB, and on SMBus the packets of a message under the count's tag
+abbrev pub values_told : Names → ℕ → Asked → Answered → List Value
+values_told names count (Ipmi from net_fn lun command body) a = Tells (record {
+  header = record {
+    responder = record { address = names.peer_address; lun = lun };
+    requester = record { address = names.own_address; lun = 0 };
+    net_fn = net_fn;
+    sequence = number_of Ipmb count;
+    command = command;
+  };
+  code = a.code;
+  body = a.body;
+}) ∷ []
+values_told names count (Pldm from kind command body) a =
+    map Part (parts_of (reply_message names count (reply_to Smbus (bytes_of (number_of Smbus count) (Pldm from kind command body)) a)))
+
+-- a manager after frames, and all that it sent
+pub record ManagerDeeds (names : Names) : Type 0 where
+  pub manager : ManagerState (board_plans names)
+  pub sent : List Sent
+
+-- what is sent, as a list
+abbrev pub sent_list : Option Sent → List Sent
+sent_list None = []
+sent_list (Some sent) = sent ∷ []
+
+abbrev pub deeds_of : (names : Names) → ManagerDeed (board_plans names) → ManagerDeeds names
+deeds_of names deed = record { manager = deed.manager; sent = sent_list deed.sent }
+
+-- a manager hears values, one after another
+abbrev pub manager_hears_each : (names : Names) → List Value → ManagerState (board_plans names) → ManagerDeeds names
+manager_hears_each names [] m = record { manager = m; sent = [] }
+manager_hears_each names (v ∷ vs) m =
+    let first = manager_hears (board_plans names) v m in
+    let rest = manager_hears_each names vs first.manager in
+    record { manager = rest.manager; sent = sent_list first.sent ++ rest.sent }
+
+-- The manager's request of this count is open and heeded. Where the reply comes in several packets, there is a slot for it.
+pub record IsAwaiting (names : Names) (count : ℕ) (asked : Asked) (a : Answered) (m : ManagerState (board_plans names)) : Type 0 where
+  pub named : m.names ≡ names
+  pub part : TaskPart (words_of names)
+  pub heeded : heeded_on (board_plans names) (bus_of asked) m.machine.stage ≡ Some part
+  pub is : part.asked ≡ asked
+  pub counted : open_count (board_plans names) (bus_of asked) m ≡ count
+  pub slot : 1 < length (values_told names count asked a) → open_beside (name_awaited names count) m.joined < most_assemblies
+
+-- ---- what holds of them
+
+-- The frames of the manager's request are read as its values alone. The port that hears them does what comes of that request, and sends
+-- the values of the reply, whatever its answer is.
+pub record IsHeardAsAsked (names : Names) (count : ℕ) (asked : Asked) (setup : BoardFile) (port : PortState) (before : State) : Type 0 where
+  pub read : AreReadAs (bus_of asked) (values_of names count asked) (map written (values_of names count asked))
+  pub log : (hears_each setup port before (values_of names count asked)).port.log ≡ (turn_at setup port before names count asked).log
+  pub board : (hears_each setup port before (values_of names count asked)).board ≡ (turn_at setup port before names count asked).left
+  pub sent : (a : Answered) → let r = heard_as names count asked in
+      said (bus_of asked) r (turn_at setup port before names count asked).replied ≡ reply_to (bus_of asked) r.bytes a
+      → (hears_each setup port before (values_of names count asked)).sent ≡ values_told names count asked a
+
+-- of every request, in one to four frames, at every port of the controller
+abbrev pub RequestsAreHeard : Type 0
+RequestsAreHeard = (names : Names) (count : ℕ) (asked : Asked) (setup : BoardFile) (port : PortState) (before : State) → AreNames names → CanBeAsked asked
+    → IsControllers names count asked port → IsHeardAsAsked names count asked setup port before
+
+-- The frames of the reply are read as its values alone. The manager that hears them takes that answer, and sends nothing before the last.
+-- The machine takes each answer but one with a code of a busy port.
+pub record IsTakenAsTold (names : Names) (count : ℕ) (asked : Asked) (a : Answered) (m : ManagerState (board_plans names)) : Type 0 where
+  pub read : AreReadAs (bus_of asked) (values_told names count asked a) (map written (values_told names count asked a))
+  pub joined : Assemblies
+  pub taken : manager_hears_each names (values_told names count asked a) m
+      ≡ deeds_of names (taken_or (board_plans names) (record m { joined = joined }) (reply_of (words_of names) a m.machine))
+
+-- of every reply, in one to four frames, while its request is open
+abbrev pub RepliesAreTaken : Type 0
+RepliesAreTaken = (names : Names) (count : ℕ) (asked : Asked) (a : Answered) (m : ManagerState (board_plans names)) → AreNames names → CanBeAsked asked
+    → CanBeTold (bus_of asked) a → IsAwaiting names count asked a m → IsTakenAsTold names count asked a m

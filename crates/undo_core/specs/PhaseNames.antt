@@ -1,0 +1,30 @@
+-- What phases and the reasons of a halt are called.
+use Rattle.std.specs.Prelude.{ℕ, true, ◌/◌, ◌%◌, List, ◌++◌, codes}
+use Rattle.std.specs.Fmt.{decimal, digits}
+use Rattle.undo_core.specs.declared.phase.Why.{Why}
+use Rattle.undo_core.specs.declared.phase.Why.TheVariants as why
+use Rattle.undo_core.specs.declared.phase.Phase.{Phase}
+use Rattle.undo_core.specs.declared.phase.Phase.TheVariants as phase
+
+-- a byte in two hexadecimal digits, in upper case
+abbrev pub two_digits : ℕ → List ℕ
+two_digits n = digits 16 true (n / 16) ++ digits 16 true (n % 16)
+
+-- the name, and the code of a refusal
+abbrev pub why_name : Why → List ℕ
+why_name why.Stop = codes "Stop"
+why_name (why.Refused code) = codes "Refused " ++ two_digits code
+why_name why.NotRestorable = codes "NotRestorable"
+why_name (why.GetRefused code) = codes "GetRefused " ++ two_digits code
+
+-- the name, the step, the reason, the code
+abbrev pub phase_name : Phase → List ℕ
+phase_name phase.Fresh = codes "Fresh"
+phase_name (phase.Getting k) = codes "Getting " ++ decimal k
+phase_name (phase.Setting k) = codes "Setting " ++ decimal k
+phase_name phase.Done = codes "Done"
+phase_name (phase.Halted k why) = codes "Halted " ++ (decimal k ++ (codes " " ++ why_name why))
+phase_name (phase.Unsettled k) = codes "Unsettled " ++ decimal k
+phase_name (phase.Undoing k) = codes "Undoing " ++ decimal k
+phase_name phase.Undone = codes "Undone"
+phase_name (phase.UndoRefused k code) = codes "UndoRefused " ++ (decimal k ++ (codes " " ++ two_digits code))
