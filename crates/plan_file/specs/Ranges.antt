@@ -34,6 +34,7 @@ has_type (shape.Number least most) d = is_integer d
 has_type shape.Digits d = is_integer d
 has_type shape.Enables d = is_integer d
 has_type shape.Pair d = is_array_of is_integer d
+has_type shape.BootFlags d = is_array_of is_integer d
 has_type shape.Thresholds d = is_array_of is_integer d
 has_type shape.Flags d = is_integer d
 has_type shape.Events d = is_integer d
@@ -104,6 +105,7 @@ is_in_range tree (shape.Number least most) d = passes (is_between least most) (n
 is_in_range tree shape.Digits d = passes are_digits (natural d)
 is_in_range tree shape.Enables d = passes is_enables_byte (natural d)
 is_in_range tree shape.Pair d = is_some (bytes_in 2 d)
+is_in_range tree shape.BootFlags d = is_some (bytes_in 5 d)
 is_in_range tree shape.Thresholds d =
     are_masks (number_in field.Readable tree) (number_in field.Settable tree)
     && passes (are_thresholds (or_zero (number_in field.Readable tree)) (or_zero (number_in field.Settable tree))) (bytes_in 6 d)

@@ -1,6 +1,7 @@
 //! Which values a field can have: of which type, and in which range.
 ghost use Rattle.std.specs.Prelude.{◌≡◌, ◌∷◌, [], Some, IfSome, map, is_some, option_map, nat_le, length};
 ghost use Rattle.std.specs.List.{list_all};
+ghost use Rattle.cfg_records.specs.BootParam.{flag_bytes};
 ghost use Rattle.cfg_records.specs.Watchdog.{watchdog_value};
 ghost use Rattle.toml.specs.View.{view, table_view};
 ghost use Rattle.plan_file.specs.Trees.{members, or_none, natural, naturals_in, bytes_in, number_in};
@@ -12,7 +13,9 @@ use crate::field::Field;
 use crate::row::Shape;
 use crate::tree::{bytes, members, natural, naturals, number};
 use cfg_records::event_enable::are_within;
-use cfg_records::{Bcd, GlobalEnables, Hysteresis, ThresholdMasks, Thresholds, Watchdog};
+use cfg_records::{
+    Bcd, BootFlags, GlobalEnables, Hysteresis, ThresholdMasks, Thresholds, Watchdog,
+};
 use toml::{Table, Value};
 
 /// Whether each of the values is an integer.
@@ -109,6 +112,24 @@ pub fn hysteresis(value: &Value) -> Option<Hysteresis>
     Some(Hysteresis { positive, negative })
 }
 
+/// The boot flags that the value is.
+pub fn boot_flags(value: &Value) -> Option<BootFlags>
+    ensures made { is_some result ≡ is_some (bytes_in 5 (view value.now)) }
+    ensures held { IfSome result (λ flags. bytes_in 5 (view value.now) ≡ Some (flag_bytes flags)) }
+{
+    let Some(bytes) = bytes::<5>(value) else {
+        return None;
+    };
+    let [validity, device, console, overrides, instance] = bytes;
+    Some(BootFlags {
+        validity,
+        device,
+        console,
+        overrides,
+        instance,
+    })
+}
+
 /// The masks of the sensor that the table is.
 fn masks(item: &Table) -> Option<ThresholdMasks>
     ensures made { is_some result ≡ are_masks (number_in Field.Readable (table_view item.now)) (number_in Field.Settable (table_view item.now)) }
@@ -200,6 +221,7 @@ impl Shape {
             Shape::Number(..) | Shape::Digits | Shape::Enables => value.is_integer(),
             Shape::Flags | Shape::Events => value.is_integer(),
             Shape::Pair | Shape::Thresholds | Shape::Watchdog => are_integers(value),
+            Shape::BootFlags => are_integers(value),
             Shape::Table => value.is_table(),
             Shape::Tables(_) => are_tables(value),
         }
@@ -214,6 +236,7 @@ impl Shape {
             Shape::Digits => digits(value).is_some(),
             Shape::Enables => enables(value).is_some(),
             Shape::Pair => hysteresis(value).is_some(),
+            Shape::BootFlags => boot_flags(value).is_some(),
             Shape::Thresholds => thresholds(item, value).is_some(),
             Shape::Flags => are_flags(value),
             Shape::Events => are_supported(item, value),

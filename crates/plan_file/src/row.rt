@@ -12,6 +12,8 @@ pub enum Shape {
     Enables,
     /// Two bytes, in a list.
     Pair,
+    /// Five bytes, in a list: boot flags.
+    BootFlags,
     /// Six bytes, in a list: thresholds that a sensor with the item's masks can have.
     Thresholds,
     /// A byte with no bits but bits 7 and 6.
@@ -34,11 +36,14 @@ pub struct Row(pub Field, pub Shape);
 const BYTE: Shape = Shape::Number(0, 255);
 
 /// The file's own fields.
-pub const TOP: [Row; 6] = [
+pub const TOP: [Row; 9] = [
     Row(Field::Tid, BYTE),
     Row(Field::Enables, Shape::Enables),
     Row(Field::Policy, Shape::Number(0, 3)),
     Row(Field::Watchdog, Shape::Watchdog),
+    Row(Field::Boot3, Shape::Number(0, 31)),
+    Row(Field::Boot4, BYTE),
+    Row(Field::Boot5, Shape::BootFlags),
     Row(Field::Device, Shape::Table),
     Row(Field::Sensor, Shape::Tables(32)),
 ];
