@@ -8,6 +8,8 @@ pub mod ThresholdLaws
 pub mod Hysteresis
 pub mod EventEnable
 pub mod EventLaws
+pub mod GlobalEnables
+pub mod Sdr
 pub mod PowerPolicy
 pub mod Watchdog
 pub mod PartLaws
