@@ -3,4 +3,5 @@ pub mod TestFacts
 pub mod First
 pub mod Rows
 pub mod Events
+pub mod Records
 pub mod Sensors

@@ -16,8 +16,12 @@ pub enum Shape {
     Flags,
     /// A mask of events, each of which the item supports.
     Events,
+    /// The global enables: a byte whose reserved bit is 0.
+    Enables,
     /// The settings of a watchdog timer, in a list: use, actions, pre-timeout interval and countdown.
     Watchdog,
+    /// At most so many sensor data records, in a list of texts of hexadecimal digits.
+    Records(usize),
     /// A table.
     Table,
     /// An array of at most so many tables. It may be absent.
@@ -32,10 +36,14 @@ pub struct Row(pub Field, pub Shape);
 const BYTE: Shape = Shape::Number(0, 255);
 
 /// The file's own fields.
-pub const TOP: [Row; 5] = [
+pub const TOP: [Row; 9] = [
     Row(Field::Tid, BYTE),
+    Row(Field::Clock, Shape::Number(0, 0xFFFF_FFFF)),
+    Row(Field::Log, Shape::Number(1, 1_024)),
+    Row(Field::Enables, Shape::Enables),
     Row(Field::Policy, Shape::Number(0, 3)),
     Row(Field::Watchdog, Shape::Watchdog),
+    Row(Field::Sdr, Shape::Records(64)),
     Row(Field::Device, Shape::Table),
     Row(Field::Sensor, Shape::Tables(32)),
 ];
@@ -52,8 +60,9 @@ pub const DEVICE: [Row; 7] = [
 ];
 
 /// The fields of a `[[sensor]]`.
-pub const SENSOR: [Row; 9] = [
+pub const SENSOR: [Row; 10] = [
     Row(Field::Number, Shape::Number(0, 254)),
+    Row(Field::Type, BYTE),
     Row(Field::Readable, Shape::Number(0, 63)),
     Row(Field::Settable, Shape::Number(0, 63)),
     Row(Field::Thresholds, Shape::Thresholds),

@@ -5,12 +5,12 @@ use Rattle.plan_file.specs.declared.field.Field.TheVariants as field
 use Rattle.plan_file.specs.declared.fault.Item.TheVariants as item
 use Rattle.plan_file.specs.declared.row.Shape.TheVariants as shape
 use Rattle.plan_file.specs.declared.row.TheConstants.{TOP, DEVICE}
-use Rattle.plan_file.specs.Trees.{in_field, table_in, naturals_in}
-use Rattle.plan_file.specs.Ranges.{passes, are_settings}
+use Rattle.plan_file.specs.Trees.{in_field, table_in, natural, naturals_in}
+use Rattle.plan_file.specs.Ranges.{passes, are_global, are_settings}
 use Rattle.plan_file.specs.Faults.{field_faults, fault_at, first}
 use Rattle.plan_file.specs.Holds.{HoldsDevice}
-use Rattle.plan_file.proofs.Rows.{all_sound, number_of, value_of, below, within, same_value}
-use Rattle.plan_file.proofs.Sensors.{table_there, top_first, device_first, sensors_first, no_faults}
+use Rattle.plan_file.proofs.Rows.{all_sound, number_of, value_of, below, at_least, within, same_value}
+use Rattle.plan_file.proofs.Sensors.{table_there, top_first, records_first, device_first, sensors_first, no_faults}
 use Rattle.plan_file.proofs.board.board_of.Goals as goal
 
 pub returns-in_err-check : goal.returns-in_err-check
@@ -18,14 +18,22 @@ returns-in_err-check c =
     let p = err_from_is_err_and c.from_residual.result c.from_residual.ensures.1 in
     rw (p.1, p.2) (inr (top_first (table_view c.args.tree.now) c.in_err-check.field-0.0 c.in_err-check.ensures.err))
 
+pub returns-in_err-sdr : goal.returns-in_err-sdr
+returns-in_err-sdr c =
+    let p = err_from_is_err_and c.from_residual-in_err-sdr.result c.from_residual-in_err-sdr.ensures.1 in
+    rw (p.1, p.2) (elim c.in_err-sdr.ensures.err [
+      | inl memory ↦ inl (ap Err memory)
+      | inr counts ↦ inr (records_first (table_view c.args.tree.now) c.in_err-sdr.field-0.0 c.in_ok-check.ensures.ok counts)
+    ])
+
 pub table_in-board-requires : goal.table_in-board-requires
-table_in-board-requires c = table_there (table_view c.args.tree.now) field.Device (all_sound TOP (table_view c.args.tree.now) c.in_ok-check.ensures.ok).1.1.1.0
+table_in-board-requires c = table_there (table_view c.args.tree.now) field.Device (all_sound TOP (table_view c.args.tree.now) c.in_ok-check.ensures.ok).1.1.1.1.1.1.1.0
 
 pub returns-in_err-check-2 : goal.returns-in_err-check-2
 returns-in_err-check-2 c =
     let p = err_from_is_err_and c.from_residual-in_err-check-2.result c.from_residual-in_err-check-2.ensures.1 in
     let counts = ap (λ t. first (map (fault_at item.Device) (field_faults DEVICE t))) (sym c.table_in-board.ensures) ∙ c.in_err-check-2.ensures.err in
-    rw (p.1, p.2) (inr (device_first (table_view c.args.tree.now) c.in_err-check-2.field-0.0 c.in_ok-check.ensures.ok counts))
+    rw (p.1, p.2) (inr (device_first (table_view c.args.tree.now) c.in_err-check-2.field-0.0 c.in_ok-check.ensures.ok c.in_ok-sdr.ensures.sound counts))
 
 pub returns-in_err-sensors : goal.returns-in_err-sensors
 returns-in_err-sensors c =
@@ -33,18 +41,18 @@ returns-in_err-sensors c =
     let device : field_faults DEVICE (table_in field.Device (table_view c.args.tree.now)) ≡ [] = ap (field_faults DEVICE) (sym c.table_in-board.ensures) ∙ c.in_ok-check-2.ensures.ok in
     rw (p.1, p.2) (elim c.in_err-sensors.ensures.err [
       | inl memory ↦ inl (ap Err memory)
-      | inr counts ↦ inr (sensors_first (table_view c.args.tree.now) c.in_err-sensors.field-0.0 c.in_ok-check.ensures.ok device counts)
+      | inr counts ↦ inr (sensors_first (table_view c.args.tree.now) c.in_err-sensors.field-0.0 c.in_ok-check.ensures.ok c.in_ok-sdr.ensures.sound device counts)
     ])
 
 pub byte_in-requires : goal.byte_in-requires
 byte_in-requires c = below 256 (number_of (table_view c.args.tree.now) field.Tid 0 255 (all_sound TOP (table_view c.args.tree.now) c.in_ok-check.ensures.ok).0) (lit< tt)
 
 pub byte_in-requires-2 : goal.byte_in-requires-2
-byte_in-requires-2 c = below 256 (number_of (table_view c.args.tree.now) field.Policy 0 3 (all_sound TOP (table_view c.args.tree.now) c.in_ok-check.ensures.ok).1.0) (lit< tt)
+byte_in-requires-2 c = below 256 (number_of (table_view c.args.tree.now) field.Policy 0 3 (all_sound TOP (table_view c.args.tree.now) c.in_ok-check.ensures.ok).1.1.1.1.0) (lit< tt)
 
 pub unwrap-requires : goal.unwrap-requires
 unwrap-requires c =
-    let number = number_of (table_view c.args.tree.now) field.Policy 0 3 (all_sound TOP (table_view c.args.tree.now) c.in_ok-check.ensures.ok).1.0 in
+    let number = number_of (table_view c.args.tree.now) field.Policy 0 3 (all_sound TOP (table_view c.args.tree.now) c.in_ok-check.ensures.ok).1.1.1.1.0 in
     let few : c.byte_in-2.result ≤ 3 = within c.byte_in-2.result number c.byte_in-2.ensures in
     c.new.ensures.made.1 (record { one = refl; known = few })
 
@@ -52,17 +60,46 @@ pub value_in-requires : goal.value_in-requires
 value_in-requires c =
     let tree = table_view c.args.tree.now in
     let sound = all_sound TOP tree c.in_ok-check.ensures.ok in
-    let value = value_of tree (record { 0 = field.Watchdog; 1 = shape.Watchdog }) (in_field field.Watchdog tree) refl refl sound.1.1.0 in
+    let value = value_of tree (record { 0 = field.Watchdog; 1 = shape.Watchdog }) (in_field field.Watchdog tree) refl refl sound.1.1.1.1.1.0 in
     rw value.found refl
 
 pub unwrap-requires-2 : goal.unwrap-requires-2
 unwrap-requires-2 c =
     let tree = table_view c.args.tree.now in
     let sound = all_sound TOP tree c.in_ok-check.ensures.ok in
-    let value = value_of tree (record { 0 = field.Watchdog; 1 = shape.Watchdog }) (in_field field.Watchdog tree) refl refl sound.1.1.0 in
+    let value = value_of tree (record { 0 = field.Watchdog; 1 = shape.Watchdog }) (in_field field.Watchdog tree) refl refl sound.1.1.1.1.1.0 in
     let same = same_value value.value (view c.value_in.result.now) (in_field field.Watchdog tree) value.found c.value_in.ensures in
     let valid : passes are_settings (naturals_in 4 value.value) ≡ true = value.within in
     c.watchdog.ensures.made ∙ ap (λ d. passes are_settings (naturals_in 4 d)) (sym same) ∙ valid
+
+pub number_in-requires : goal.number_in-requires
+number_in-requires c = below 4294967296 (number_of (table_view c.args.tree.now) field.Clock 0 0xFFFFFFFF (all_sound TOP (table_view c.args.tree.now) c.in_ok-check.ensures.ok).1.0) (lit< tt)
+
+pub word_in-requires : goal.word_in-requires
+word_in-requires c = below 65536 (number_of (table_view c.args.tree.now) field.Log 1 1024 (all_sound TOP (table_view c.args.tree.now) c.in_ok-check.ensures.ok).1.1.0) (lit< tt)
+
+pub unwrap-requires-3 : goal.unwrap-requires-3
+unwrap-requires-3 c =
+    let number = number_of (table_view c.args.tree.now) field.Log 1 1024 (all_sound TOP (table_view c.args.tree.now) c.in_ok-check.ensures.ok).1.1.0 in
+    let least : 1 ≤ c.word_in.result = at_least c.word_in.result number c.word_in.ensures in
+    let most : c.word_in.result ≤ 1024 = within c.word_in.result number c.word_in.ensures in
+    c.new-2.ensures.made.1 (least, most)
+
+pub value_in-requires-2 : goal.value_in-requires-2
+value_in-requires-2 c =
+    let tree = table_view c.args.tree.now in
+    let sound = all_sound TOP tree c.in_ok-check.ensures.ok in
+    let value = value_of tree (record { 0 = field.Enables; 1 = shape.Enables }) (in_field field.Enables tree) refl refl sound.1.1.1.0 in
+    rw value.found refl
+
+pub unwrap-requires-4 : goal.unwrap-requires-4
+unwrap-requires-4 c =
+    let tree = table_view c.args.tree.now in
+    let sound = all_sound TOP tree c.in_ok-check.ensures.ok in
+    let value = value_of tree (record { 0 = field.Enables; 1 = shape.Enables }) (in_field field.Enables tree) refl refl sound.1.1.1.0 in
+    let same = same_value value.value (view c.value_in-2.result.now) (in_field field.Enables tree) value.found c.value_in-2.ensures in
+    let valid : passes are_global (natural value.value) ≡ true = value.within in
+    c.enables.ensures.made ∙ ap (λ d. passes are_global (natural d)) (sym same) ∙ valid
 
 pub returns : goal.returns
 returns c =
@@ -70,9 +107,13 @@ returns c =
     let device : field_faults DEVICE (table_in field.Device tree) ≡ [] = ap (field_faults DEVICE) (sym c.table_in-board.ensures) ∙ c.in_ok-check-2.ensures.ok in
     let holds : HoldsDevice (table_in field.Device tree) c.device.result = rw (← c.table_in-board.ensures) c.device.ensures in
     inr (
-      no_faults tree c.in_ok-check.ensures.ok device c.in_ok-sensors.ensures.sound,
+      no_faults tree c.in_ok-check.ensures.ok c.in_ok-sdr.ensures.sound device c.in_ok-sensors.ensures.sound,
       record {
         terminus = c.byte_in.ensures;
+        clock = c.number_in.ensures;
+        log = search rules;
+        enables = search rules;
+        sdr = c.in_ok-sdr.ensures.held;
         policy = search rules;
         watchdog = search rules;
         device = holds;

@@ -14,14 +14,14 @@ use Rattle.plan_file.proofs.board.sensors.Goals as goal
 pub sensors_of-requires : goal.sensors_of-requires
 sensors_of-requires c =
     let tree = table_view c.args.tree.now in
-    let tables = tables_of tree field.Sensor 32 (all_sound TOP tree c.requires).1.1.1.1.0 in
+    let tables = tables_of tree field.Sensor 32 (all_sound TOP tree c.requires).1.1.1.1.1.1.1.1.0 in
     sym (list_all-map is_table view c.members_in.result.now) ∙ ap (list_all is_table) c.members_in.ensures ∙ tables.0
 
 pub unwrap-requires : goal.unwrap-requires
 unwrap-requires c =
     let tree = table_view c.args.tree.now in
     let sensors = c.in_ok-sensors.sensors.items in
-    let tables = tables_of tree field.Sensor 32 (all_sound TOP tree c.requires).1.1.1.1.0 in
+    let tables = tables_of tree field.Sensor 32 (all_sound TOP tree c.requires).1.1.1.1.1.1.1.1.0 in
     let long = AllZip-long IsSensorIn (map view c.members_in.result.now) sensors c.in_ok-sensors.ensures.held ∙ ap length c.members_in.ensures in
     let few : length sensors ≤ 32 = rw long tables.1 in
     c.new.ensures.made.1 (c.in_ok-sensors.ensures.differ, few)
