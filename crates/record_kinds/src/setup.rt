@@ -4,7 +4,7 @@ ghost use Rattle.std.specs.Option.{option_copied};
 ghost use Rattle.cfg_records.specs.Distinct.{NamesDiffer};
 ghost use Rattle.record_kinds.specs.Places.{ArePlaces};
 
-use cfg_records::{BoardFile, Device, Sensor};
+use cfg_records::{BoardFile, Device, GlobalEnables, Sensor};
 use std::marker::Model;
 
 /// The place of a sensor that isn't there.
@@ -65,6 +65,13 @@ impl Setup {
         ensures { result.now ≡ self.now.device }
     {
         &self.file.device
+    }
+
+    /// The global enables.
+    pub fn enables(&self) -> GlobalEnables
+        ensures { result ≡ self.now.enables }
+    {
+        self.file.enables
     }
 
     /// The sensor of this number.
