@@ -1,5 +1,6 @@
 pub mod AskedFacts
 pub mod LiveFacts
+pub mod LogFacts
 pub mod AnswerFacts
 pub mod OneAnswer
 pub mod Decoded

@@ -3,6 +3,7 @@ mod boards;
 mod ipmb;
 mod runs;
 mod smbus;
+mod storage;
 
 use bmc_core::{At, Board, Done, Out, Port};
 use cfg_records::{PlainStore, sample_board};
