@@ -11,6 +11,8 @@ pub mod Taken
 pub mod Returns
 pub mod Asked
 pub mod Others
+pub mod Goes
+pub mod OtherParts
 pub mod Parts
 pub mod Quiet
 pub mod Whole

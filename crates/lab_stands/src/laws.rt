@@ -23,7 +23,8 @@ pub fn requests_are_followed()
     ensures { (setup : BoardFile) (names : Names) (plan : List Op) (start : Records) → RequestsAreFollowed setup names plan start }
 {}
 
-/// So it does at an honest request of another on IPMB, at noise, where a requester is idle, and where what isn't configuration changes.
+/// So it does at an honest request of another on IPMB, at all packets of an honest message of another on SMBus, at noise, where a requester is
+/// idle, and where what isn't configuration changes.
 pub fn others_are_followed()
     ensures { (setup : BoardFile) (names : Names) (plan : List Op) (start : Records) → OthersAreFollowed setup names plan start }
 {}
