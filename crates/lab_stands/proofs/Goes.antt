@@ -17,14 +17,15 @@ module _ (setup : BoardFile) (names : Names) where
   pub stays_there : (x : Lab (P setup names)) (on : States (L setup names)) → IsTied setup names x on → Goes setup names x on x
   stays_there x on tied = record { happenings = []; left = on; may = tt; reaches = refl; tied = tied }
 
-  pub goes_on : (x y z : Lab (P setup names)) (on : States (L setup names)) (first : Goes setup names x on y) → Goes setup names y first.left z → Goes setup names x on z
-  goes_on x y z on first later = record {
-    happenings = first.happenings ++ later.happenings;
-    left = later.left;
-    may = both_may first.happenings later.happenings (world_of setup names x on) first.may
-        (subst (AllMay (F setup names) (L setup names) (W setup names) later.happenings) (sym first.reaches) later.may);
-    reaches = run_on (F setup names) (L setup names) (W setup names) first.happenings later.happenings (world_of setup names x on)
+  module _ (x y z : Lab (P setup names)) (on : States (L setup names)) (first : Goes setup names x on y) (later : Goes setup names y first.left z) where
+    pub goes_may : AllMay (F setup names) (L setup names) (W setup names) (first.happenings ++ later.happenings) (world_of setup names x on)
+    goes_may = both_may first.happenings later.happenings (world_of setup names x on) first.may
+        (subst (AllMay (F setup names) (L setup names) (W setup names) later.happenings) (sym first.reaches) later.may)
+
+    pub goes_reach : run (F setup names) (L setup names) (W setup names) (first.happenings ++ later.happenings) (world_of setup names x on) ≡ world_of setup names z later.left
+    goes_reach = run_on (F setup names) (L setup names) (W setup names) first.happenings later.happenings (world_of setup names x on)
         ∙ ap (run (F setup names) (L setup names) (W setup names) later.happenings) first.reaches
-        ∙ later.reaches;
-    tied = later.tied;
-  }
+        ∙ later.reaches
+
+    pub goes_on : Goes setup names x on z
+    goes_on = record { happenings = first.happenings ++ later.happenings; left = later.left; may = goes_may; reaches = goes_reach; tied = later.tied }

@@ -18,3 +18,4 @@ pub mod Quiet
 pub mod Whole
 pub mod Delivered
 pub mod Steps
+pub mod Theorem

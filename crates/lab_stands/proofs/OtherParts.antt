@@ -1,5 +1,5 @@
 -- What all packets of another's message do at the port on SMBus in a lab, they do in the model's world.
-use Rattle.std.proofs.Common.{lit<, ◌≡◌, ◌≢◌, ℕ, ◌<◌, ◌≤◌, Bool, true, false, cond, ◌&&◌, leb, List, [], ◌∷◌, ◌++◌, length, map, Option, Some, None, refl, sym, ◌∙◌, ap, subst, arith}
+use Rattle.std.proofs.Common.{◌≡◌, ◌≢◌, ℕ, ◌<◌, ◌≤◌, Bool, true, false, cond, ◌&&◌, leb, List, [], ◌∷◌, length, map, Option, Some, None, refl, sym, ◌∙◌, ap, subst, arith}
 use Rattle.std.specs.Prelude.{◌==◌, not}
 use Rattle.std.proofs.lemmas.Bool.{eqb-true, leb-true}
 use Rattle.two_wire.specs.declared.Bus.{Bus}
@@ -29,7 +29,7 @@ use Rattle.bus_model.specs.Request.{Request as Heard, Kept, Entry}
 use Rattle.bus_model.specs.Numbering.{is_above}
 use Rattle.bus_model.specs.Carried.{Outcome, Repeats, IsBusy, IsNew, outcome, log_after}
 use Rattle.bus_model.specs.Packet.{packets_of, packets_from, Packet as ModelPacket}
-use Rattle.bus_model.specs.Assembly.{Name, is_name, Sent, Step, takes}
+use Rattle.bus_model.specs.Assembly.{is_name, Sent, Step, takes}
 use Rattle.bus_model.specs.BusState.{BusState}
 use Rattle.bus_model.specs.Answering.{AreWritten}
 use Rattle.bus_model.specs.PacketBus.{PacketBus, Ends, PacketEvent, OtherPacket, Closes, request_name, set_at, other_request, hears_other, packet_happens}
@@ -40,17 +40,17 @@ use Rattle.undo_family.specs.Family.{family_answer}
 use Rattle.undo_family.specs.Spelled.{numbers_of}
 use Rattle.packet_model.specs.Seen.{seen, WaitsAlike}
 use Rattle.plans.specs.declared.names.Names.{Names}
-use Rattle.lab_model.specs.Values.{Value, parts_of}
+use Rattle.lab_model.specs.Values.{parts_of}
 use Rattle.lab_model.specs.Bytes.{pldm_heard_in}
 use Rattle.lab_model.specs.PortSteps.{PortState, Deed, turn, spelled, left_by, pldm_asked, stays, hears_control, hears_pldm, hears_typed, hears_message, hears_part, hears_parts, ends_message, hears_all}
-use Rattle.lab_model.specs.PortEvents.{name_in, part_answer_to, event_by, happens_if, IsPortOf, PartsAreEvents}
+use Rattle.lab_model.specs.PortEvents.{name_in, part_answer_to, event_by, happens_if, IsPortOf}
 use Rattle.lab_model.specs.Honest.{IsAnother, ChangesNothing}
-use Rattle.lab_model.specs.Lab.{ToOthers, LabFrame, Lab, frame_now, with_port, port_does}
+use Rattle.lab_model.specs.Lab.{ToOthers, Lab, frame_now, with_port, port_does}
 use Rattle.lab_model.specs.Cuts.{is_for, has_slot, kept_with_parts}
 use Rattle.lab_model.proofs.PortEvents.{parts_leave_log}
 use Rattle.lab_model.proofs.Parts.{parts_are_heard}
 use Rattle.lab_stands.specs.Each.{Each}
-use Rattle.lab_stands.specs.Tied.{P, F, L, W, smbus_bus, rules_on, requests, IsHeld, IsAnswer, EntryAnswers, IsTied, world_of, Goes}
+use Rattle.lab_stands.specs.Tied.{P, L, smbus_bus, rules_on, requests, IsHeld, IsAnswer, EntryAnswers, IsTied, Goes}
 use Rattle.lab_stands.proofs.Each.{each_append, each_map, each_by_place}
 use Rattle.lab_stands.proofs.Frames.{all_held}
 use Rattle.lab_stands.proofs.Sending.{part_envelope, small_part}

@@ -1,11 +1,12 @@
 //! What a lab does at an event, the model's world does.
 
-ghost use Rattle.std.specs.Prelude.{List};
+ghost use Rattle.std.specs.Prelude.{ℕ, List};
 ghost use Rattle.cfg_records.specs.declared.op.Op.{Op};
 ghost use Rattle.cfg_records.specs.declared.board_file.BoardFile.{BoardFile};
 ghost use Rattle.cfg_records.specs.Records.{Records};
 ghost use Rattle.plans.specs.declared.names.Names.{Names};
 ghost use Rattle.lab_stands.specs.Follows.{CallsAreFollowed, RepliesAreFollowed, RequestsAreFollowed, OthersAreFollowed};
+ghost use Rattle.lab_stands.specs.Theorem.{Headline};
 
 /// Where the manager is called, the model's world goes on to one that the lab shows then. So it is in each phase, also where the call is refused.
 pub fn calls_are_followed()
@@ -27,4 +28,11 @@ pub fn requests_are_followed()
 /// idle, and where what isn't configuration changes.
 pub fn others_are_followed()
     ensures { (setup : BoardFile) (names : Names) (plan : List Op) (start : Records) → OthersAreFollowed setup names plan start }
+{}
+
+/// The headline, over a lab. After every schedule that a lab takes and in which no packet joins another request's assembly, so at each of
+/// its events, the manager's phase says what the records are, and a plan that halted has its cause. Once the plan is undone, and after all
+/// that comes then, every record is what it was at the start, and each Get shows the same configuration.
+pub fn undo_takes_everything_back()
+    ensures { (setup : BoardFile) (names : Names) (plan : List Op) (retries : ℕ) → Headline setup names plan retries }
 {}
