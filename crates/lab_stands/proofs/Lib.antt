@@ -18,4 +18,5 @@ pub mod Quiet
 pub mod Whole
 pub mod Delivered
 pub mod Steps
+pub mod Stopped
 pub mod Theorem

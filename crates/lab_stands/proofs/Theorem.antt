@@ -14,7 +14,8 @@ use Rattle.bus_model.specs.Packet.{packets_of}
 use Rattle.bus_model.specs.PacketBus.{opening_ends}
 use Rattle.bus_model.specs.Answering.{AreWritten}
 use Rattle.bus_model.proofs.Cutting.{packets_cut}
-use Rattle.undo_model.specs.Phase.{Undone}
+use Rattle.undo_model.specs.Phase.{Stop, Phase, Halted, Undone}
+use Rattle.undo_model.specs.Plan.{Halts}
 use Rattle.undo_model.specs.Machine.{count_of, phase_of}
 use Rattle.undo_model.specs.World as world
 use Rattle.undo_model.specs.World.{States, World, AllMay}
@@ -34,8 +35,9 @@ use Rattle.lab_model.proofs.Breaches.{faults_are_breaches}
 use Rattle.lab_stands.specs.Each.{Each}
 use Rattle.lab_stands.specs.Tied.{P, F, L, W, rules_on, requests, EntryAnswers, IsTied, world_of, Goes}
 use Rattle.lab_stands.specs.Follows.{Holds, IsFollowed}
-use Rattle.lab_stands.specs.Theorem.{first, after, IsTakenAndOwn, AlwaysStands, UndoneForGood, Headline}
+use Rattle.lab_stands.specs.Theorem.{first, after, IsTakenAndOwn, AlwaysStands, UndoneForGood, StopsOnlyIfTold, Headline}
 use Rattle.lab_stands.proofs.Goes.{stays_there, goes_may, goes_reach, goes_on}
+use Rattle.lab_stands.proofs.Stopped.{told_to_stop}
 use Rattle.lab_stands.proofs.Steps.{calls_followed, replies_followed, requests_followed, others_followed}
 
 -- ---- one event
@@ -183,5 +185,12 @@ module _ (setup : BoardFile) (names : Names) (plan : List Op) (retries : ℕ) wh
       subst (λ (l : Lab (P setup names)). (l.board.records ≡ x0.board.records) × ShowsSame (F setup names) x0.board l.board) (both_run events later x0)
       (subst (λ (w : World (F setup names) (L setup names)). (w.board.records ≡ x0.board.records) × ShowsSame (F setup names) x0.board w.board) (goes_reach setup names x0 y z quiet g more) told)
 
+  pub stops_if_told : StopsOnlyIfTold setup names plan retries
+  stops_if_told events k good halted =
+      let y = after setup names plan retries events in
+      let told : Halts (F setup names) y.manager.machine.stopped plan (Halted k Stop) y.board.records =
+      subst (λ (p : Phase). Halts (F setup names) y.manager.machine.stopped plan p y.board.records) halted (always_stands events good).1 in
+      told_to_stop (P setup names) setup events (first setup names plan retries) refl told
+
   pub headline : Headline setup names plan retries
-  headline = record { stands = always_stands; undone = undone_stays }
+  headline = record { stands = always_stands; undone = undone_stays; stopped = stops_if_told }

@@ -2,12 +2,14 @@
 use Rattle.std.specs.Prelude.{◌≡◌, ℕ, List, ◌++◌}
 use Rattle.cfg_records.specs.declared.op.Op.{Op}
 use Rattle.cfg_records.specs.declared.board_file.BoardFile.{BoardFile}
-use Rattle.undo_model.specs.Phase.{Phase, Undone}
+use Rattle.bus_model.specs.Repeat.{In}
+use Rattle.undo_model.specs.Phase.{Stop, Phase, Halted, Undone}
 use Rattle.undo_model.specs.Plan.{Stands, Halts}
 use Rattle.undo_model.specs.Machine.{phase_of}
 use Rattle.undo_model.specs.Headline.{ShowsSame}
 use Rattle.plans.specs.declared.names.Names.{Names}
-use Rattle.lab_model.specs.Lab.{Event, Lab, run, opening}
+use Rattle.lab_model.specs.ManagerSteps.{Stop as StopCall}
+use Rattle.lab_model.specs.Lab.{Event, Calls, Lab, run, opening}
 use Rattle.lab_model.specs.Faults.{AllTaken}
 use Rattle.lab_model.specs.Own.{AllOwn}
 use Rattle.lab_stands.specs.Tied.{P, F}
@@ -45,6 +47,11 @@ module _ (setup : BoardFile) (names : Names) (plan : List Op) (retries : ℕ) wh
   UndoneForGood = (events later : List Event) → IsTakenAndOwn (events ++ later) → phase_after events ≡ Undone
       → ((after (events ++ later)).board.records ≡ first.board.records) × ShowsSame (F setup names) first.board (after (events ++ later)).board
 
+  -- a plan halts because of a stop only where it was told to stop
+  abbrev pub StopsOnlyIfTold : Type 0
+  StopsOnlyIfTold = (events : List Event) (k : ℕ) → IsTakenAndOwn events → phase_after events ≡ Halted k Stop → In (Calls StopCall) events
+
   pub record Headline : Type 0 where
     pub stands : AlwaysStands
     pub undone : UndoneForGood
+    pub stopped : StopsOnlyIfTold
