@@ -94,6 +94,7 @@ limits_are_of file (key.Hysteresis number) limits e = of_sensor (sensor_at file.
 limits_are_of file (key.EventEnable number) limits e = of_sensor (sensor_at file.sensors.items number) (λ s. kinds.EventEnable (record { supported = s.events.supported })) limits (key.EventEnable number) e (λ s. tt)
 limits_are_of file key.PowerPolicy limits e = of_alone (kinds.PowerPolicy (record {})) limits key.PowerPolicy e tt
 limits_are_of file key.Watchdog limits e = of_alone (kinds.Watchdog (record {})) limits key.Watchdog e tt
+limits_are_of file key.GlobalEnables limits e = of_alone (kinds.GlobalEnables (record {})) limits key.GlobalEnables e tt
 
 -- ---- its data fits the frame or message that carries it, and each record keeps a valid value
 

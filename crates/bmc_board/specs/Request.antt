@@ -13,6 +13,7 @@ use Rattle.sensor_recs.specs.Hysteresis.{hysteresis_in}
 use Rattle.sensor_recs.specs.EventEnable.{event_enable_in}
 use Rattle.watch_boot.specs.PowerPolicy.{policy_in}
 use Rattle.watch_boot.specs.Watchdog.{watchdog_in}
+use Rattle.watch_boot.specs.GlobalEnables.{enables_in}
 use Rattle.bmc_board.specs.declared.command.Command.{Command}
 use Rattle.bmc_board.specs.declared.command.Command.TheVariants as command
 use Rattle.bmc_board.specs.declared.command.GetCommand.{GetCommand}
@@ -37,6 +38,7 @@ key_in get.GetSensorThresholds body = key.Thresholds (byte_at body 0)
 key_in get.GetSensorEventEnable body = key.EventEnable (byte_at body 0)
 key_in get.GetChassisStatus body = key.PowerPolicy
 key_in get.GetWatchdogTimer body = key.Watchdog
+key_in get.GetGlobalEnables body = key.GlobalEnables
 
 -- the change that a command makes
 abbrev pub op_in : SetCommand → List ℕ → Op
@@ -45,6 +47,7 @@ op_in set.SetSensorThresholds body = op.Thresholds (thresholds_in body)
 op_in set.SetSensorEventEnable body = op.EventEnable (event_enable_in body)
 op_in set.SetPowerRestorePolicy body = op.PowerPolicy (policy_in body)
 op_in set.SetWatchdogTimer body = op.Watchdog (watchdog_in body)
+op_in set.SetGlobalEnables body = op.GlobalEnables (enables_in body)
 
 -- what a command asks for with data of a length that it takes, or the code that refuses the data
 abbrev pub request_of : Command → List ℕ → Result Request ℕ

@@ -36,6 +36,8 @@ table =
     listed 0x06 0x22 (Exactly 0) false (command.Live live.ResetWatchdog) ∷
     listed 0x06 0x24 (Exactly 6) true (command.Set set.SetWatchdogTimer) ∷
     listed 0x06 0x25 (Exactly 0) false (command.Get get.GetWatchdogTimer) ∷
+    listed 0x06 0x2E (Exactly 1) true (command.Set set.SetGlobalEnables) ∷
+    listed 0x06 0x2F (Exactly 0) false (command.Get get.GetGlobalEnables) ∷
     []
 
 -- PLDM: type, number, lengths, whether it sets the configuration, command

@@ -24,6 +24,7 @@ pub enum GetCommand {
     GetSensorThresholds,
     GetChassisStatus,
     GetWatchdogTimer,
+    GetGlobalEnables,
 }
 
 /// A command that changes a record.
@@ -34,6 +35,7 @@ pub enum SetCommand {
     SetSensorThresholds,
     SetPowerRestorePolicy,
     SetWatchdogTimer,
+    SetGlobalEnables,
 }
 
 /// How many bytes of data a command takes.
@@ -103,6 +105,8 @@ pub fn find_line(net_fn: u8, number: u8) -> Option<Line>
         (0x06, 0x22) => entry(Live(ResetWatchdog), Exactly(0), false),
         (0x06, 0x24) => entry(Set(SetWatchdogTimer), Exactly(6), true),
         (0x06, 0x25) => entry(Get(GetWatchdogTimer), Exactly(0), false),
+        (0x06, 0x2E) => entry(Set(SetGlobalEnables), Exactly(1), true),
+        (0x06, 0x2F) => entry(Get(GetGlobalEnables), Exactly(0), false),
         _ => return None,
     })
 }

@@ -4,6 +4,7 @@ use Rattle.cfg_records.specs.declared.key.Key.TheVariants as key
 use Rattle.cfg_records.specs.declared.sensor.Sensor.{Sensor}
 use Rattle.cfg_records.specs.declared.power_policy.PowerPolicy.{PowerPolicy}
 use Rattle.cfg_records.specs.declared.watchdog.Watchdog.{Watchdog}
+use Rattle.cfg_records.specs.declared.global_enables.GlobalEnables.{GlobalEnables}
 use Rattle.cfg_records.specs.declared.board_file.BoardFile.{BoardFile}
 use Rattle.cfg_records.specs.Hysteresis.{hysteresis_value}
 use Rattle.cfg_records.specs.EventEnable.{event_value}
@@ -16,6 +17,9 @@ policy_value policy = policy.number ∷ []
 
 abbrev pub settings_value : Watchdog → List ℕ
 settings_value watchdog = watchdog_value watchdog.timer_use watchdog.actions watchdog.pre_timeout watchdog.initial
+
+abbrev pub enables_value : GlobalEnables → List ℕ
+enables_value enables = enables.byte ∷ []
 
 -- lists of pairs as one, each behind those before it
 abbrev pub joined : List Pair → List (List Pair) → List Pair
@@ -36,6 +40,7 @@ kinds_of file =
     sensor_kinds file.sensors.items
     ++ ((key.PowerPolicy, policy_value file.policy) ∷ [])
     ∷ ((key.Watchdog, settings_value file.watchdog) ∷ [])
+    ∷ ((key.GlobalEnables, enables_value file.enables) ∷ [])
     ∷ []
 
 -- the file's pairs, kind after kind

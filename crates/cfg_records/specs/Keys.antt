@@ -13,6 +13,7 @@ is_length (key.Hysteresis sensor) n = n == 2
 is_length (key.EventEnable sensor) n = n == 5
 is_length key.PowerPolicy n = n == 1
 is_length key.Watchdog n = n == 5
+is_length key.GlobalEnables n = n == 1
 
 -- the order of keys
 abbrev pub key_cmp : Key → Key → Ordering

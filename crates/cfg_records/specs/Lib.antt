@@ -10,6 +10,7 @@ pub mod EventEnable
 pub mod EventLaws
 pub mod PowerPolicy
 pub mod Watchdog
+pub mod GlobalEnables
 pub mod PartLaws
 pub mod Meaning
 pub mod RefusalLaws

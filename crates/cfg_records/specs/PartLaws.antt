@@ -6,6 +6,7 @@ use Rattle.cfg_records.specs.Thresholds.{IsThresholds}
 use Rattle.cfg_records.specs.EventEnable.{IsEventEnable}
 use Rattle.cfg_records.specs.PowerPolicy.{IsPowerPolicy}
 use Rattle.cfg_records.specs.Watchdog.{IsWatchdog}
+use Rattle.cfg_records.specs.GlobalEnables.{AreGlobalEnables}
 
 pub IsThresholds-prop : (masks : ThresholdMasks) (value : List ℕ) → IsProp (IsThresholds masks value)
 IsThresholds-prop masks value = hlevel props
@@ -18,3 +19,6 @@ IsPowerPolicy-prop value = hlevel props
 
 pub IsWatchdog-prop : (value : List ℕ) → IsProp (IsWatchdog value)
 IsWatchdog-prop value = hlevel props
+
+pub AreGlobalEnables-prop : (value : List ℕ) → IsProp (AreGlobalEnables value)
+AreGlobalEnables-prop value = hlevel props

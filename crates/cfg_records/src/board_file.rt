@@ -1,5 +1,6 @@
 //! What a board begins with.
 use crate::device::Device;
+use crate::global_enables::GlobalEnables;
 use crate::key::Key;
 use crate::power_policy::PowerPolicy;
 use crate::sensor::Sensors;
@@ -16,6 +17,7 @@ pub struct BoardFile {
     pub sensors: Sensors,
     pub policy: PowerPolicy,
     pub watchdog: Watchdog,
+    pub enables: GlobalEnables,
 }
 
 impl BoardFile {
@@ -43,6 +45,7 @@ impl BoardFile {
         let mut pairs = self.sensor_records(alloc)?;
         pairs.push(self.policy.pair())?;
         pairs.push(self.watchdog.pair())?;
+        pairs.push(self.enables.pair())?;
         Ok(pairs)
     }
 }

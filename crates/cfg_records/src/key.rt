@@ -15,6 +15,8 @@ pub enum Key {
     PowerPolicy,
     /// The settings of the watchdog timer.
     Watchdog,
+    /// What the controller enables as a whole.
+    GlobalEnables,
 }
 
 impl Key {
@@ -28,6 +30,7 @@ impl Key {
             Key::EventEnable(_) => length == 5,
             Key::PowerPolicy => length == 1,
             Key::Watchdog => length == 5,
+            Key::GlobalEnables => length == 1,
         }
     }
 }

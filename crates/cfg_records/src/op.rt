@@ -1,5 +1,6 @@
 //! Changes of one record.
 use crate::event_enable::SetEventEnable;
+use crate::global_enables::SetGlobalEnables;
 use crate::hysteresis::SetHysteresis;
 use crate::power_policy::SetPowerPolicy;
 use crate::sensor_thresholds::SetThresholds;
@@ -14,4 +15,5 @@ pub enum Op {
     EventEnable(SetEventEnable),
     PowerPolicy(SetPowerPolicy),
     Watchdog(SetWatchdog),
+    GlobalEnables(SetGlobalEnables),
 }

@@ -6,6 +6,7 @@ use crate::board_file::BoardFile;
 use crate::device::{Bcd, Device, ManufacturerId};
 use crate::distinct::Distinct;
 use crate::event_enable::{EventEnable, EventMasks};
+use crate::global_enables::GlobalEnables;
 use crate::hysteresis::Hysteresis;
 use crate::power_policy::PowerPolicy;
 use crate::sensor::Sensor;
@@ -112,5 +113,6 @@ pub fn sample_board(alloc: Global) -> Result<BoardFile, AllocError>
         sensors: Distinct::new(sensors).unwrap(),
         policy: PowerPolicy { number: 1 },
         watchdog: unset_watchdog(),
+        enables: GlobalEnables { byte: 0x08 },
     })
 }

@@ -81,6 +81,7 @@ board_file = record {
     initial = 0;
     valid = record { five = refl; known_use = lit≤ tt; known_interrupt = lit≤ tt; known_action = lit≤ tt; low_byte = lit< tt; high_byte = lit< tt };
   };
+  enables = record { byte = 0x08; valid = record { one = refl; unreserved = refl } };
 }
 
 -- ---- the runs

@@ -2,6 +2,7 @@ pub mod Values
 pub mod TestFacts
 pub mod First
 pub mod Rows
+pub mod TopRows
 pub mod Events
 pub mod Sensors
 pub mod Changes

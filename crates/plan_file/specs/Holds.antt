@@ -76,6 +76,7 @@ settings watchdog = watchdog.timer_use ∷ watchdog.actions ∷ watchdog.pre_tim
 -- the tree holds a board
 pub record HoldsBoard (tree : Members) (board : BoardFile) : Type 0 where
   pub terminus : HasNumber field.Tid tree board.tid
+  pub enables : HasNumber field.Enables tree board.enables.byte
   pub policy : HasNumber field.Policy tree board.policy.number
   pub watchdog : HasNumbers field.Watchdog tree (settings board.watchdog)
   pub device : HoldsDevice (table_in field.Device tree) board.device

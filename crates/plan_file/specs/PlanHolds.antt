@@ -14,6 +14,7 @@ use Rattle.cfg_records.specs.declared.event_enable.EventChange.TheVariants as ch
 use Rattle.cfg_records.specs.declared.event_enable.EventMasks.{EventMasks}
 use Rattle.cfg_records.specs.declared.watchdog.SetWatchdog.{SetWatchdog}
 use Rattle.cfg_records.specs.declared.power_policy.SetPowerPolicy.{SetPowerPolicy}
+use Rattle.cfg_records.specs.declared.global_enables.SetGlobalEnables.{SetGlobalEnables}
 use Rattle.plans.specs.declared.plan.Plan.{Plan}
 use Rattle.plan_file.specs.declared.field.Field.{Field}
 use Rattle.plan_file.specs.declared.field.Field.TheVariants as field
@@ -111,6 +112,12 @@ pub record HoldsWatchdog (tree : Members) (set : SetWatchdog) : Type 0 where
 abbrev pub HoldsPowerPolicy : Members → SetPowerPolicy → Type 0
 HoldsPowerPolicy tree set = HasNumber field.Policy tree set.policy
 
+-- ---- the global enables
+
+-- the step holds a change of the global enables
+abbrev pub HoldsGlobalEnables : Members → SetGlobalEnables → Type 0
+HoldsGlobalEnables tree set = HasNumber field.Value tree set.byte
+
 -- ---- plans
 
 -- the step holds a change of the kind that it names
@@ -120,6 +127,7 @@ HoldsStep tree (op.Hysteresis set) = (kind_in tree ≡ Some kind.Hysteresis) × 
 HoldsStep tree (op.EventEnable set) = (kind_in tree ≡ Some kind.EventEnable) × HoldsEventEnable tree set
 HoldsStep tree (op.Watchdog set) = (kind_in tree ≡ Some kind.Watchdog) × HoldsWatchdog tree set
 HoldsStep tree (op.PowerPolicy set) = (kind_in tree ≡ Some kind.PowerPolicy) × HoldsPowerPolicy tree set
+HoldsStep tree (op.GlobalEnables set) = (kind_in tree ≡ Some kind.GlobalEnables) × HoldsGlobalEnables tree set
 
 -- the member of an array holds a change
 abbrev pub IsStepIn : Data → Op → Type 0

@@ -5,6 +5,7 @@ use Rattle.std.specs.List.{list_all}
 use Rattle.cfg_records.specs.Masks.{has, all_below}
 use Rattle.cfg_records.specs.Thresholds.{place_of}
 use Rattle.cfg_records.specs.EventEnable.{are_within}
+use Rattle.cfg_records.specs.GlobalEnables.{are_enables}
 use Rattle.toml.specs.Data.{Data, Members, as_str, as_integer, as_bool, as_table}
 use Rattle.plan_file.specs.declared.field.Field.{Field}
 use Rattle.plan_file.specs.declared.field.Field.TheVariants as field
@@ -37,6 +38,7 @@ is_array_of test d = passes (list_all test) (members d)
 abbrev pub has_type : Shape → Data → Bool
 has_type (shape.Number least most) d = is_integer d
 has_type shape.Digits d = is_integer d
+has_type shape.Enables d = is_integer d
 has_type shape.Pair d = is_array_of is_integer d
 has_type shape.Thresholds d = is_array_of is_integer d
 has_type shape.Flags d = is_integer d
@@ -58,6 +60,10 @@ is_between least most n = nat_le least n && nat_le n most
 -- a byte of two decimal digits, the tens in its upper half
 abbrev pub are_digits : ℕ → Bool
 are_digits n = nat_lt (n / 16) 10 && nat_lt (n % 16) 10
+
+-- a byte that global enables can have
+abbrev pub is_enables_byte : ℕ → Bool
+is_enables_byte n = nat_lt n 256 && are_enables n
 
 -- masks of places 0 to 5
 abbrev pub are_masks : Option ℕ → Option ℕ → Bool
@@ -114,6 +120,7 @@ or_zero None = 0
 abbrev pub is_in_range : Members → Shape → Data → Bool
 is_in_range tree (shape.Number least most) d = passes (is_between least most) (natural d)
 is_in_range tree shape.Digits d = passes are_digits (natural d)
+is_in_range tree shape.Enables d = passes is_enables_byte (natural d)
 is_in_range tree shape.Pair d = is_some (bytes_in 2 d)
 is_in_range tree shape.Thresholds d =
     are_masks (number_in field.Readable tree) (number_in field.Settable tree)

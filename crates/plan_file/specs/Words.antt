@@ -6,6 +6,7 @@ use Rattle.plan_file.specs.declared.field.Field.TheVariants as field
 -- the key of a field
 abbrev pub word : Field → List ℕ
 word field.Tid = codes "tid"
+word field.Enables = codes "enables"
 word field.Policy = codes "policy"
 word field.Watchdog = codes "watchdog"
 word field.Device = codes "device"
@@ -46,6 +47,7 @@ word field.Action = codes "action"
 word field.Interrupt = codes "interrupt"
 word field.Pre = codes "pre"
 word field.Initial = codes "initial"
+word field.Value = codes "value"
 word field.SessionLimit = codes "session_limit"
 word field.FlagsClear = codes "flags_clear"
 word field.Store = codes "store"

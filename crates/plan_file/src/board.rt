@@ -12,20 +12,20 @@ ghost use Rattle.plan_file.specs.Holds.{HasNumber, HasBelow, HoldsDevice, HoldsE
 use crate::check::check;
 use crate::fault::{FileFault, Item, Place};
 use crate::field::Field;
-use crate::range::{digits, hysteresis, thresholds, watchdog};
+use crate::range::{digits, enables, hysteresis, thresholds, watchdog};
 use crate::row::{DEVICE, SENSOR, TOP};
 use crate::tree::{in_field, members_in, number};
 use cfg_records::event_enable::{MESSAGES_PLACE, SCANNING_PLACE};
 use cfg_records::mask::has;
 use cfg_records::{
-    BoardFile, Device, Distinct, EventEnable, EventMasks, ManufacturerId, PowerPolicy, Sensor,
-    Sensors,
+    BoardFile, Device, Distinct, EventEnable, EventMasks, GlobalEnables, ManufacturerId,
+    PowerPolicy, Sensor, Sensors,
 };
 use std::alloc::Global;
 use toml::{Table, Value};
 
 /// The value that the table has in the field.
-fn value_in<'a>(table: &'a Table, field: Field) -> &'a Value
+pub fn value_in<'a>(table: &'a Table, field: Field) -> &'a Value
     requires { IsSome (in_field field (table_view table.now)) }
     ensures { in_field field (table_view table.now) ≡ Some (view result.now) }
 {
@@ -173,6 +173,14 @@ fn sensors(alloc: Global, tree: &Table) -> Result<Sensors, FileFault>
     Ok(Distinct::new(sensors).unwrap())
 }
 
+/// The global enables of the file.
+fn global_enables(tree: &Table) -> GlobalEnables
+    requires { field_faults TOP (table_view tree.now) ≡ [] }
+    ensures { HasNumber Field.Enables (table_view tree.now) result.byte }
+{
+    enables(value_in(tree, Field::Enables)).unwrap()
+}
+
 /// The board that the tree holds, or its first fault.
 fn board_of(alloc: Global, tree: &Table) -> Result<BoardFile, FileFault>
     ensures { (result ≡ Err FileFault.Memory) ⊎ Answers (table_view tree.now) result }
@@ -185,6 +193,7 @@ fn board_of(alloc: Global, tree: &Table) -> Result<BoardFile, FileFault>
         tid: byte_in(tree, Field::Tid),
         device: device(board),
         sensors,
+        enables: global_enables(tree),
         policy: PowerPolicy::new(byte_in(tree, Field::Policy)).unwrap(),
         watchdog: watchdog(value_in(tree, Field::Watchdog)).unwrap(),
     })

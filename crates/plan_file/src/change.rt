@@ -6,17 +6,17 @@ ghost use Rattle.toml.specs.View.{view, table_view};
 ghost use Rattle.plan_file.specs.Trees.{number_in, members_in};
 ghost use Rattle.plan_file.specs.Ranges.{is_offset, or_zero};
 ghost use Rattle.plan_file.specs.Faults.{field_faults};
-ghost use Rattle.plan_file.specs.PlanHolds.{flag_in, is_given, is_number, HoldsEvents, HoldsThresholds, HoldsHysteresis, HoldsChange, HoldsEventEnable, HoldsWatchdog, HoldsPowerPolicy};
+ghost use Rattle.plan_file.specs.PlanHolds.{flag_in, is_given, is_number, HoldsEvents, HoldsThresholds, HoldsHysteresis, HoldsChange, HoldsEventEnable, HoldsWatchdog, HoldsPowerPolicy, HoldsGlobalEnables};
 
-use crate::board::{byte_in, word_in};
+use crate::board::{byte_in, value_in, word_in};
 use crate::field::Field;
-use crate::kind::{EVENT_ENABLE, HYSTERESIS, POWER_POLICY, THRESHOLDS, WATCHDOG};
-use crate::range::is_between;
+use crate::kind::{EVENT_ENABLE, GLOBAL_ENABLES, HYSTERESIS, POWER_POLICY, THRESHOLDS, WATCHDOG};
+use crate::range::{enables, is_between};
 use crate::tree::{has_text, in_field, members_in, natural, number};
 use cfg_records::event_enable::MESSAGES_PLACE;
 use cfg_records::{
-    EventChange, EventMasks, SetEventEnable, SetHysteresis, SetPowerPolicy, SetThresholds,
-    SetWatchdog,
+    EventChange, EventMasks, SetEventEnable, SetGlobalEnables, SetHysteresis, SetPowerPolicy,
+    SetThresholds, SetWatchdog,
 };
 use toml::{Table, Value};
 
@@ -216,5 +216,15 @@ pub fn power_policy(step: &Table) -> SetPowerPolicy
 {
     SetPowerPolicy {
         policy: byte_in(step, Field::Policy),
+    }
+}
+
+/// What the step makes of the global enables.
+pub fn global_enables(step: &Table) -> SetGlobalEnables
+    requires { field_faults GLOBAL_ENABLES (table_view step.now) ≡ [] }
+    ensures { HoldsGlobalEnables (table_view step.now) result }
+{
+    SetGlobalEnables {
+        byte: enables(value_in(step, Field::Value)).unwrap().byte,
     }
 }

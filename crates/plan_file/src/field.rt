@@ -8,6 +8,7 @@ use std::fmt;
 #[derive(Clone, Copy, Debug, PartialEq, Eq)]
 pub enum Field {
     Tid,
+    Enables,
     Policy,
     Watchdog,
     Device,
@@ -48,6 +49,7 @@ pub enum Field {
     Interrupt,
     Pre,
     Initial,
+    Value,
     SessionLimit,
     FlagsClear,
     Store,
@@ -61,6 +63,7 @@ impl Field {
     {
         match self {
             Field::Tid => "tid",
+            Field::Enables => "enables",
             Field::Policy => "policy",
             Field::Watchdog => "watchdog",
             Field::Device => "device",
@@ -101,6 +104,7 @@ impl Field {
             Field::Interrupt => "interrupt",
             Field::Pre => "pre",
             Field::Initial => "initial",
+            Field::Value => "value",
             Field::SessionLimit => "session_limit",
             Field::FlagsClear => "flags_clear",
             Field::Store => "store",

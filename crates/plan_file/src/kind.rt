@@ -17,15 +17,17 @@ pub enum Kind {
     EventEnable,
     Watchdog,
     PowerPolicy,
+    GlobalEnables,
 }
 
 /// All kinds of step.
-pub const KINDS: [Kind; 5] = [
+pub const KINDS: [Kind; 6] = [
     Kind::Thresholds,
     Kind::Hysteresis,
     Kind::EventEnable,
     Kind::Watchdog,
     Kind::PowerPolicy,
+    Kind::GlobalEnables,
 ];
 
 /// The field of a step that names its kind.
@@ -72,6 +74,9 @@ pub const WATCHDOG: [Row; 6] = [
 /// The fields of a step that sets the power restore policy.
 pub const POWER_POLICY: [Row; 1] = [Row(Field::Policy, Shape::Number(0, 2), Need::Always)];
 
+/// The fields of a step that sets the global enables.
+pub const GLOBAL_ENABLES: [Row; 1] = [Row(Field::Value, Shape::Enables, Need::Always)];
+
 impl Kind {
     /// What a step's `kind` calls it.
     pub fn word(&self) -> &'static str
@@ -83,6 +88,7 @@ impl Kind {
             Kind::EventEnable => "event-enable",
             Kind::Watchdog => "watchdog",
             Kind::PowerPolicy => "power-policy",
+            Kind::GlobalEnables => "global-enables",
         }
     }
 
@@ -96,6 +102,7 @@ impl Kind {
             Kind::EventEnable => &EVENT_ENABLE,
             Kind::Watchdog => &WATCHDOG,
             Kind::PowerPolicy => &POWER_POLICY,
+            Kind::GlobalEnables => &GLOBAL_ENABLES,
         }
     }
 }

@@ -1,8 +1,8 @@
 //! Plans: what they hold, and their faults.
 use crate::{NoGet, OutsidePlan, PlanFault, StepFault, read_plan};
 use cfg_records::{
-    EventChange, EventMasks, Op, SetEventEnable, SetHysteresis, SetPowerPolicy, SetThresholds,
-    SetWatchdog,
+    EventChange, EventMasks, Op, SetEventEnable, SetGlobalEnables, SetHysteresis, SetPowerPolicy,
+    SetThresholds, SetWatchdog,
 };
 use std::alloc::{AllocError, Global};
 use std::test::Fail;
@@ -41,6 +41,9 @@ initial = 3000
 [[step]]
 kind = \"power-policy\"
 policy = 2
+[[step]]
+kind = \"global-enables\"
+value = 0x08
 ";
 
 /// A line of the plan, and lines that say something else of its field.
@@ -77,7 +80,7 @@ const fn number(
 }
 
 /// A case for each field of a number, a list or a choice.
-fn cases() -> [Case; 20] {
+fn cases() -> [Case; 21] {
     let limit = |field, line, mistyped, beyond, inside| Case {
         line,
         step: 0,
@@ -241,6 +244,14 @@ fn cases() -> [Case; 20] {
             "initial = true",
             ["initial = -1", "initial = 65536"],
             ["initial = 0", "initial = 65535"],
+        ),
+        number(
+            5,
+            "value",
+            "value = 0x08",
+            "value = true",
+            ["value = 0x10", "value = 256"],
+            ["value = 0", "value = 0xEF"],
         ),
     ]
 }
@@ -446,7 +457,7 @@ fn events_are_needed_unless_they_are_left(rt: HostRuntime) -> Result<(), Fail> {
 fn each_kind_is_read(rt: HostRuntime) -> Result<(), Fail> {
     let plan = read_plan(rt.alloc(), PLAN).map_err(|_| "a plan")?;
     let steps = plan.steps.as_slice();
-    assert_eq!(rt; steps.len(), 5);
+    assert_eq!(rt; steps.len(), 6);
     let thresholds = SetThresholds {
         sensor: 5,
         mask: 0x3F,
@@ -480,6 +491,8 @@ fn each_kind_is_read(rt: HostRuntime) -> Result<(), Fail> {
     assert!(rt; matches!(steps.get(3), Some(Op::Watchdog(set)) if *set == watchdog));
     let policy = SetPowerPolicy { policy: 2 };
     assert!(rt; matches!(steps.get(4), Some(Op::PowerPolicy(set)) if *set == policy));
+    let enables = SetGlobalEnables { byte: 0x08 };
+    assert!(rt; matches!(steps.get(5), Some(Op::GlobalEnables(set)) if *set == enables));
     Ok(())
 }
 

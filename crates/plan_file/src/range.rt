@@ -5,14 +5,14 @@ ghost use Rattle.cfg_records.specs.Watchdog.{watchdog_value};
 ghost use Rattle.toml.specs.Data.{as_str};
 ghost use Rattle.toml.specs.View.{view, table_view};
 ghost use Rattle.plan_file.specs.Trees.{members, or_none, natural, naturals_in, bytes_in, number_in};
-ghost use Rattle.plan_file.specs.Ranges.{passes, is_integer, is_table, is_array_of, has_type, is_between, are_digits, are_masks, are_thresholds, are_flags, are_settings, is_selection, is_offset, is_in_range};
+ghost use Rattle.plan_file.specs.Ranges.{passes, is_integer, is_table, is_array_of, has_type, is_between, are_digits, is_enables_byte, are_masks, are_thresholds, are_flags, are_settings, is_selection, is_offset, is_in_range};
 ghost use Rattle.plan_file.specs.Holds.{settings};
 
 use crate::field::Field;
 use crate::row::Shape;
 use crate::tree::{bytes, members, natural, naturals, number};
 use cfg_records::event_enable::are_within;
-use cfg_records::{Bcd, Hysteresis, ThresholdMasks, Thresholds, Watchdog};
+use cfg_records::{Bcd, GlobalEnables, Hysteresis, ThresholdMasks, Thresholds, Watchdog};
 use toml::{Table, Value};
 
 /// Whether each of the values is an integer.
@@ -77,6 +77,20 @@ pub fn digits(value: &Value) -> Option<Bcd>
     match natural(value) {
         Some(number) => match u8::try_from(number) {
             Ok(byte) => Bcd::new(byte),
+            Err(_) => None,
+        },
+        None => None,
+    }
+}
+
+/// The global enables that the value is.
+pub fn enables(value: &Value) -> Option<GlobalEnables>
+    ensures made { is_some result ≡ passes is_enables_byte (natural (view value.now)) }
+    ensures held { IfSome result (λ enables. natural (view value.now) ≡ Some enables.byte) }
+{
+    match natural(value) {
+        Some(number) => match u8::try_from(number) {
+            Ok(byte) => GlobalEnables::new(byte),
             Err(_) => None,
         },
         None => None,
@@ -203,7 +217,8 @@ impl Shape {
         ensures { result ≡ has_type self.now (view value.now) }
     {
         match self {
-            Shape::Number(..) | Shape::Digits | Shape::Flags | Shape::Events => value.is_integer(),
+            Shape::Number(..) | Shape::Digits | Shape::Enables => value.is_integer(),
+            Shape::Flags | Shape::Events => value.is_integer(),
             Shape::Pair | Shape::Thresholds | Shape::Watchdog | Shape::Offsets => {
                 are_integers(value)
             }
@@ -221,6 +236,7 @@ impl Shape {
         match self {
             Shape::Number(least, most) => is_between(value, *least, *most),
             Shape::Digits => digits(value).is_some(),
+            Shape::Enables => enables(value).is_some(),
             Shape::Pair => hysteresis(value).is_some(),
             Shape::Thresholds => thresholds(item, value).is_some(),
             Shape::Flags => are_flags(value),

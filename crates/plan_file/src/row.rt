@@ -15,6 +15,8 @@ pub enum Shape {
     Number(u32, u32),
     /// Two decimal digits in a byte, the tens in its upper half (BCD).
     Digits,
+    /// A byte whose bit 4 is clear: global enables.
+    Enables,
     /// Two bytes, in a list.
     Pair,
     /// Six bytes, in a list: thresholds that a sensor with the item's masks can have.
@@ -69,8 +71,9 @@ pub struct Row(pub Field, pub Shape, pub Need);
 pub const BYTE: Shape = Shape::Number(0, 255);
 
 /// A board file's own fields.
-pub const TOP: [Row; 5] = [
+pub const TOP: [Row; 6] = [
     Row(Field::Tid, BYTE, Need::Always),
+    Row(Field::Enables, Shape::Enables, Need::Always),
     Row(Field::Policy, Shape::Number(0, 3), Need::Always),
     Row(Field::Watchdog, Shape::Watchdog, Need::Always),
     Row(Field::Device, Shape::Table, Need::Always),

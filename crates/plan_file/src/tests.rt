@@ -81,7 +81,7 @@ const fn sensor(place: usize, field: Field) -> Place {
 
 /// A case for each field: the file's own, `[device]`'s, and the second `[[sensor]]`'s. The line of `deassert` is each
 /// sensor's, and the first counts.
-fn cases() -> [Case; 19] {
+fn cases() -> [Case; 20] {
     [
         Case {
             line: "tid = 5",
@@ -89,6 +89,13 @@ fn cases() -> [Case; 19] {
             mistyped: "tid = true",
             beyond: ["tid = -1", "tid = 256"],
             inside: ["tid = 0", "tid = 255"],
+        },
+        Case {
+            line: "enables = 0x08",
+            place: top(Field::Enables),
+            mistyped: "enables = false",
+            beyond: ["enables = 0x10", "enables = 256"],
+            inside: ["enables = 0", "enables = 0xEF"],
         },
         Case {
             line: "policy = 1",
@@ -253,6 +260,7 @@ fn the_sample_file_holds_the_sample_board(rt: HostRuntime) -> Result<(), Fail> {
     let known = sample_board(rt.alloc())?;
     assert_eq!(rt; read.tid, known.tid);
     assert!(rt; read.device == known.device);
+    assert_eq!(rt; read.enables.byte, known.enables.byte);
     assert_eq!(rt; read.policy.number, known.policy.number);
     assert_eq!(rt; read.watchdog.timer_use, known.watchdog.timer_use);
     assert_eq!(rt; read.watchdog.initial, known.watchdog.initial);

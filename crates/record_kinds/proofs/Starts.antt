@@ -58,6 +58,7 @@ sound_in_kind file (key.Hysteresis number) = of_sensors file key.Hysteresis _ _ 
 sound_in_kind file (key.EventEnable number) = of_sensors file key.EventEnable _ _ number (λ m n same. cc) (λ s. s.events.valid)
 sound_in_kind file key.PowerPolicy = file.policy.valid
 sound_in_kind file key.Watchdog = file.watchdog.valid
+sound_in_kind file key.GlobalEnables = file.enables.valid
 
 pub starts_sound : StartsSound
 starts_sound file k = subst (IsSoundAt (limits_at file k)) (sym (record_of_kind file k)) (sound_in_kind file k)

@@ -23,3 +23,4 @@ limits_at file (key.Hysteresis number) = of_sensor (λ s. limits.Hysteresis (rec
 limits_at file (key.EventEnable number) = of_sensor (λ s. limits.EventEnable (record { supported = s.events.supported })) file number
 limits_at file key.PowerPolicy = Some (limits.PowerPolicy (record {}))
 limits_at file key.Watchdog = Some (limits.Watchdog (record {}))
+limits_at file key.GlobalEnables = Some (limits.GlobalEnables (record {}))

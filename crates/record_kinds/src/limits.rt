@@ -5,7 +5,7 @@ use crate::setup::Setup;
 use cfg_records::{Asked, Key, Live, Op, RecordData, RecordKind, Value};
 use sensor_recs::{EventEnableLimits, HysteresisLimits, ThresholdLimits};
 use two_wire::{Buffer, Code};
-use watch_boot::{PowerPolicyLimits, WatchdogLimits};
+use watch_boot::{GlobalEnablesLimits, PowerPolicyLimits, WatchdogLimits};
 
 /// The limits of one record.
 #[derive(Clone, Copy, Debug, PartialEq, Eq)]
@@ -15,6 +15,7 @@ pub enum Limits {
     EventEnable(EventEnableLimits),
     PowerPolicy(PowerPolicyLimits),
     Watchdog(WatchdogLimits),
+    GlobalEnables(GlobalEnablesLimits),
 }
 
 /// The kinds, a line for each: its name, its limits, and where its keys are.
@@ -26,6 +27,7 @@ macro_rules! of_each_kind {
             EventEnable EventEnableLimits {Key::EventEnable(sensor) => sensor}
             PowerPolicy PowerPolicyLimits {Key::PowerPolicy => &()}
             Watchdog WatchdogLimits {Key::Watchdog => &()}
+            GlobalEnables GlobalEnablesLimits {Key::GlobalEnables => &()}
         }
     };
 }
@@ -98,6 +100,7 @@ impl Setup {
             Key::EventEnable(n) => Limits::EventEnable(EventEnableLimits::of(self.sensor(*n)?)),
             Key::PowerPolicy => Limits::PowerPolicy(PowerPolicyLimits),
             Key::Watchdog => Limits::Watchdog(WatchdogLimits),
+            Key::GlobalEnables => Limits::GlobalEnables(GlobalEnablesLimits),
         })
     }
 }

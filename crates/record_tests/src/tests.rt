@@ -1,4 +1,5 @@
 //! Records and their kinds one by one, and changes of a board that are undone.
+mod commands;
 mod readings;
 mod records;
 mod sensors;

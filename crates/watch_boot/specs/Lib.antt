@@ -4,3 +4,6 @@ pub mod PowerPolicyKind
 pub mod Watchdog
 pub mod WatchdogLaws
 pub mod WatchdogKind
+pub mod GlobalEnables
+pub mod GlobalEnablesLaws
+pub mod GlobalEnablesKind

@@ -19,19 +19,20 @@ use record_kinds::{Limits, Setup};
 use sensor_recs::{event_enable, hysteresis, thresholds};
 use std::alloc::{AllocError, Global};
 use two_wire::{Buffer, Bytes, Code, code};
-use watch_boot::{power_policy, watchdog};
+use watch_boot::{global_enables, power_policy, watchdog};
 
 /// The code for a record that isn't there.
 fn unknown_code(_setup: &Setup, key: &Key) -> Code
     ensures { result ≡ unknown_code _setup.now key.now }
 {
-    // Each key is named, so that a new one isn't forgotten. The last two are on every board.
+    // Each key is named, so that a new one isn't forgotten. Those after the sensors' are on every board.
     match key {
         Key::Thresholds(_)
         | Key::Hysteresis(_)
         | Key::EventEnable(_)
         | Key::PowerPolicy
-        | Key::Watchdog => code::NOT_PRESENT,
+        | Key::Watchdog
+        | Key::GlobalEnables => code::NOT_PRESENT,
     }
 }
 
@@ -46,6 +47,7 @@ fn key_in(command: GetCommand, body: &[u8]) -> Key
         GetSensorEventEnable => Key::EventEnable(byte_at(body, 0)),
         GetChassisStatus => Key::PowerPolicy,
         GetWatchdogTimer => Key::Watchdog,
+        GetGlobalEnables => Key::GlobalEnables,
     }
 }
 
@@ -190,6 +192,7 @@ impl<S: Store> Board<S> {
             }
             SetPowerRestorePolicy => self.set(&Op::PowerPolicy(power_policy::policy_in(body)), to),
             SetWatchdogTimer => self.set(&Op::Watchdog(watchdog::watchdog_in(body)), to),
+            SetGlobalEnables => self.set(&Op::GlobalEnables(global_enables::enables_in(body)), to),
         }
     }
 

@@ -117,6 +117,7 @@ fn a_run_says_what_was_sent_or_why_nothing_was(rt: HostRuntime) -> Result<(), Fa
 
 /// The sample board's file.
 const SAMPLE: &str = "tid = 5
+enables = 0x08
 policy = 1
 watchdog = [0, 0, 0, 0]
 [device]

@@ -2,9 +2,9 @@
 ghost use Rattle.std.specs.Prelude.{◌<◌};
 
 use cfg_records::{
-    Answered, Asked, Bcd, EventEnable, EventMasks, Hysteresis, Key, Live, ManufacturerId, NoKey,
-    PlainStore, PowerPolicy, Sensor, Sensors, Store, StoreFault, ThresholdMasks, Thresholds, Value,
-    Watchdog, sample_board,
+    Answered, Asked, Bcd, EventEnable, EventMasks, GlobalEnables, Hysteresis, Key, Live,
+    ManufacturerId, NoKey, PlainStore, PowerPolicy, Sensor, Sensors, Store, StoreFault,
+    ThresholdMasks, Thresholds, Value, Watchdog, sample_board,
 };
 use std::test::Fail;
 use two_wire::{Below, Bytes, Lun, NetFn, code};
@@ -14,7 +14,7 @@ fn the_sample_board_begins_with_its_records(rt: HostRuntime) -> Result<(), Fail>
     let file = sample_board(rt.alloc())?;
     assert_eq!(rt; file.tid, 5);
     let pairs = file.records(rt.alloc())?;
-    assert_eq!(rt; pairs.len(), 8);
+    assert_eq!(rt; pairs.len(), 9);
     assert!(rt; pairs[1].0 == Key::Thresholds(7));
     assert!(rt; pairs[1].1.is(&[0, 0, 0, 0x90, 0xA0, 0xB0]));
     assert!(rt; pairs[2].0 == Key::Hysteresis(5));
@@ -26,6 +26,8 @@ fn the_sample_board_begins_with_its_records(rt: HostRuntime) -> Result<(), Fail>
     assert!(rt; pairs[6].1.is(&[1]));
     assert!(rt; pairs[7].0 == Key::Watchdog);
     assert!(rt; pairs[7].1.is(&[0, 0, 0, 0, 0]));
+    assert!(rt; pairs[8].0 == Key::GlobalEnables);
+    assert!(rt; pairs[8].1.is(&[0x08]));
     Ok(())
 }
 
@@ -159,6 +161,13 @@ fn a_device_has_decimal_digits_and_a_short_manufacturer(rt: HostRuntime) -> Resu
 fn a_policy_is_at_most_3(rt: HostRuntime) -> Result<(), Fail> {
     assert_eq!(rt; PowerPolicy::new(3).ok_or("policy")?.number, 3);
     assert!(rt; PowerPolicy::new(4).is_none());
+    Ok(())
+}
+
+#[test]
+fn global_enables_have_no_reserved_bit(rt: HostRuntime) -> Result<(), Fail> {
+    assert_eq!(rt; GlobalEnables::new(0xEF).ok_or("enables")?.byte, 0xEF);
+    assert!(rt; GlobalEnables::new(0x10).is_none());
     Ok(())
 }
 

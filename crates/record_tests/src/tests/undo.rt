@@ -2,7 +2,8 @@
 use bmc_board::{Board, Lengths};
 use cfg_records::{
     Answered, Asked, EventChange, EventMasks, Key, Op, PlainStore, RecordKind, SetEventEnable,
-    SetHysteresis, SetPowerPolicy, SetThresholds, SetWatchdog, Store, sample_board,
+    SetGlobalEnables, SetHysteresis, SetPowerPolicy, SetThresholds, SetWatchdog, Store,
+    sample_board,
 };
 use record_kinds::Limits;
 use std::alloc::Global;
@@ -105,6 +106,7 @@ fn a_change_is_undone(rt: HostRuntime) -> Result<(), Fail> {
     let left = events(EventChange::Leave);
     let power_up = Op::PowerPolicy(SetPowerPolicy { policy: 2 });
     let stay_off = Op::PowerPolicy(SetPowerPolicy { policy: 0 });
+    let enables = Op::GlobalEnables(SetGlobalEnables { byte: 0xE7 });
     let mut board = board(rt.alloc())?;
     for (op, before, between) in [
         (
@@ -118,6 +120,7 @@ fn a_change_is_undone(rt: HostRuntime) -> Result<(), Fail> {
         (&left, &[0xC0, 0, 2, 0, 0], &[0x40, 0, 2, 0, 0]),
         (&power_up, &[0x20, 0, 0], &[0x40, 0, 0]),
         (&stay_off, &[0x20, 0, 0], &[0, 0, 0]),
+        (&enables, &[0x08], &[0xE7]),
     ] {
         expect_undone(&rt, &mut board, op, before, between)?;
     }
@@ -205,6 +208,7 @@ fn all_shown(alloc: Global, board: &mut Board<PlainStore>) -> Result<Vec<u8>, Fa
         Key::EventEnable(7),
         Key::PowerPolicy,
         Key::Watchdog,
+        Key::GlobalEnables,
     ] {
         all.extend_from_slice(board.store().get(&key).ok_or("record")?)?;
         let shown = board.answer(&Limits::get_asked(&key));
@@ -224,7 +228,7 @@ fn a_refused_change_leaves_records_and_activity(rt: HostRuntime) -> Result<(), F
     );
     let before = all_shown(rt.alloc(), &mut board)?;
     // Upper critical above upper non-recoverable, a sensor that isn't there, a reserved selection of events, events that aren't
-    // supported, a policy of 4, and a use of 6.
+    // supported, a policy of 4, a use of 6, and a reserved bit.
     let thresholds = Op::Thresholds(SetThresholds {
         sensor: 5,
         mask: 0x10,
@@ -258,6 +262,7 @@ fn a_refused_change_leaves_records_and_activity(rt: HostRuntime) -> Result<(), F
         flags_to_clear: 0xFF,
         initial: 1,
     });
+    let enables = Op::GlobalEnables(SetGlobalEnables { byte: 0x18 });
     for (op, refused) in [
         (&thresholds, 0xCC),
         (&hysteresis, 0xCB),
@@ -266,6 +271,7 @@ fn a_refused_change_leaves_records_and_activity(rt: HostRuntime) -> Result<(), F
         (&disabled, 0xCC),
         (&policy, 0xCC),
         (&watchdog, 0xCC),
+        (&enables, 0xCC),
     ] {
         for requester in [0x2C, 0x40] {
             assert_eq!(rt; set(&mut board, requester, op), refused);

@@ -5,12 +5,13 @@ use Rattle.plan_file.specs.declared.field.Field.TheVariants as field
 use Rattle.plan_file.specs.declared.fault.Item.TheVariants as item
 use Rattle.plan_file.specs.declared.row.Shape.TheVariants as shape
 use Rattle.plan_file.specs.declared.row.Need.TheVariants as need
-use Rattle.plan_file.specs.declared.row.TheConstants.{TOP, DEVICE}
+use Rattle.plan_file.specs.declared.row.TheConstants.{DEVICE}
 use Rattle.plan_file.specs.Trees.{in_field, table_in, naturals_in}
 use Rattle.plan_file.specs.Ranges.{passes, are_settings}
 use Rattle.plan_file.specs.Faults.{field_faults, fault_at, first}
 use Rattle.plan_file.specs.Holds.{HoldsDevice}
-use Rattle.plan_file.proofs.Rows.{all_sound, number_of, value_of, below, within, same_value}
+use Rattle.plan_file.proofs.Rows.{number_of, value_of, below, within, same_value}
+use Rattle.plan_file.proofs.TopRows.{top_sound}
 use Rattle.plan_file.proofs.Sensors.{table_there, top_first, device_first, sensors_first, no_faults}
 use Rattle.plan_file.proofs.board.board_of.Goals as goal
 
@@ -20,7 +21,7 @@ returns-in_err-check c =
     rw (p.1, p.2) (inr (top_first (table_view c.args.tree.now) c.in_err-check.field-0.0 c.in_err-check.ensures.err))
 
 pub table_in-board-requires : goal.table_in-board-requires
-table_in-board-requires c = table_there (table_view c.args.tree.now) field.Device (all_sound TOP (table_view c.args.tree.now) c.in_ok-check.ensures.ok).1.1.1.0
+table_in-board-requires c = table_there (table_view c.args.tree.now) field.Device (top_sound (table_view c.args.tree.now) c.in_ok-check.ensures.ok).device
 
 pub returns-in_err-check-2 : goal.returns-in_err-check-2
 returns-in_err-check-2 c =
@@ -38,29 +39,29 @@ returns-in_err-sensors c =
     ])
 
 pub byte_in-requires : goal.byte_in-requires
-byte_in-requires c = below 256 (number_of (table_view c.args.tree.now) field.Tid 0 255 (all_sound TOP (table_view c.args.tree.now) c.in_ok-check.ensures.ok).0) (lit< tt)
+byte_in-requires c = below 256 (number_of (table_view c.args.tree.now) field.Tid 0 255 (top_sound (table_view c.args.tree.now) c.in_ok-check.ensures.ok).tid) (lit< tt)
 
 pub byte_in-requires-2 : goal.byte_in-requires-2
-byte_in-requires-2 c = below 256 (number_of (table_view c.args.tree.now) field.Policy 0 3 (all_sound TOP (table_view c.args.tree.now) c.in_ok-check.ensures.ok).1.0) (lit< tt)
+byte_in-requires-2 c = below 256 (number_of (table_view c.args.tree.now) field.Policy 0 3 (top_sound (table_view c.args.tree.now) c.in_ok-check.ensures.ok).policy) (lit< tt)
 
 pub unwrap-requires : goal.unwrap-requires
 unwrap-requires c =
-    let number = number_of (table_view c.args.tree.now) field.Policy 0 3 (all_sound TOP (table_view c.args.tree.now) c.in_ok-check.ensures.ok).1.0 in
+    let number = number_of (table_view c.args.tree.now) field.Policy 0 3 (top_sound (table_view c.args.tree.now) c.in_ok-check.ensures.ok).policy in
     let few : c.byte_in-2.result ≤ 3 = within c.byte_in-2.result number c.byte_in-2.ensures in
     c.new.ensures.made.1 (record { one = refl; known = few })
 
 pub value_in-requires : goal.value_in-requires
 value_in-requires c =
     let tree = table_view c.args.tree.now in
-    let sound = all_sound TOP tree c.in_ok-check.ensures.ok in
-    let value = value_of tree (record { 0 = field.Watchdog; 1 = shape.Watchdog; 2 = need.Always }) (in_field field.Watchdog tree) refl refl sound.1.1.0 in
+    let sound = top_sound tree c.in_ok-check.ensures.ok in
+    let value = value_of tree (record { 0 = field.Watchdog; 1 = shape.Watchdog; 2 = need.Always }) (in_field field.Watchdog tree) refl refl sound.watchdog in
     rw value.found refl
 
 pub unwrap-requires-2 : goal.unwrap-requires-2
 unwrap-requires-2 c =
     let tree = table_view c.args.tree.now in
-    let sound = all_sound TOP tree c.in_ok-check.ensures.ok in
-    let value = value_of tree (record { 0 = field.Watchdog; 1 = shape.Watchdog; 2 = need.Always }) (in_field field.Watchdog tree) refl refl sound.1.1.0 in
+    let sound = top_sound tree c.in_ok-check.ensures.ok in
+    let value = value_of tree (record { 0 = field.Watchdog; 1 = shape.Watchdog; 2 = need.Always }) (in_field field.Watchdog tree) refl refl sound.watchdog in
     let same = same_value value.value (view c.value_in.result.now) (in_field field.Watchdog tree) value.found c.value_in.ensures in
     let valid : passes are_settings (naturals_in 4 value.value) ≡ true = value.within in
     c.watchdog.ensures.made ∙ ap (λ d. passes are_settings (naturals_in 4 d)) (sym same) ∙ valid
@@ -74,6 +75,7 @@ returns c =
       no_faults tree c.in_ok-check.ensures.ok device c.in_ok-sensors.ensures.sound,
       record {
         terminus = c.byte_in.ensures;
+        enables = c.global_enables.ensures;
         policy = search rules;
         watchdog = search rules;
         device = holds;

@@ -1,0 +1,15 @@
+-- GlobalEnables as one value, and where it stands among all kinds.
+use Rattle.cfg_records.specs.declared.global_enables.SetGlobalEnables.{SetGlobalEnables}
+use Rattle.cfg_records.specs.Kind.{Kind}
+use Rattle.cfg_records.specs.Member.{Member}
+use Rattle.watch_boot.specs.declared.global_enables.GlobalEnablesLimits.{GlobalEnablesLimits}
+use Rattle.watch_boot.specs.GlobalEnables.{words, record_words, place}
+use Rattle.watch_boot.specs.GlobalEnablesLaws.{kind_laws, record_laws}
+
+-- what it says, and that it holds
+abbrev pub kind : Kind (Unit {0}) SetGlobalEnables GlobalEnablesLimits
+kind = record { words = words; record_words = λ limits. record_words; kind_laws = kind_laws; record_laws = λ limits. record_laws }
+
+-- the kind, and where it stands among all
+abbrev pub member : Member (Unit {0}) SetGlobalEnables GlobalEnablesLimits
+member = record { kind = kind; place = place }

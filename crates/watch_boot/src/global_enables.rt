@@ -1,0 +1,88 @@
+//! The global enables, as a kind of record.
+ghost use Rattle.std.specs.Prelude.{◌≡◌, OnErr};
+ghost use Rattle.cfg_records.specs.Meaning.{told};
+ghost use Rattle.watch_boot.specs.GlobalEnables.{enables_outcome, enables_in};
+
+use cfg_records::global_enables::are_enables;
+use cfg_records::{Asked, Key, Live, RecordData, RecordKind, SetGlobalEnables, Value, byte_at};
+use two_wire::code::INVALID_DATA_FIELD;
+use two_wire::{Buffer, Code, NetFn};
+
+/// The number of the network function of applications.
+const APPLICATION: u8 = 0x06;
+
+/// The number of the command that sets them.
+const SET_GLOBAL_ENABLES: u8 = 0x2E;
+
+/// The number of the command that gets them.
+const GET_GLOBAL_ENABLES: u8 = 0x2F;
+
+/// Any enables without the reserved bit can be set.
+#[derive(Clone, Copy, Debug, PartialEq, Eq)]
+pub struct GlobalEnablesLimits;
+
+/// Makes `new` the enables that the operation says.
+fn set(op: &SetGlobalEnables, new: &mut Value) -> Result<(), Code>
+    ensures outcome { told result new.new ≡ enables_outcome op.now }
+    ensures kept { OnErr result (new.new ≡ new.old) }
+{
+    if !are_enables(op.byte) {
+        return Err(INVALID_DATA_FIELD);
+    }
+    new.replace(&[op.byte]);
+    Ok(())
+}
+
+/// The operation that the data of its request says.
+pub fn enables_in(body: &[u8]) -> SetGlobalEnables
+    ensures { result ≡ enables_in body.now }
+{
+    SetGlobalEnables {
+        byte: byte_at(body, 0),
+    }
+}
+
+impl<'a> RecordKind<'a> for GlobalEnablesLimits {
+    ghost use Rattle.watch_boot.specs.GlobalEnablesKind as global_enables;
+
+    type Key = ();
+
+    type Op = SetGlobalEnables;
+
+    ghost kind = { global_enables.kind };
+
+    fn key(_op: &SetGlobalEnables) -> Key {
+        Key::GlobalEnables
+    }
+
+    fn apply(&self, op: &SetGlobalEnables, _value: &[u8], new: &mut Value) -> Result<(), Code> {
+        set(op, new)
+    }
+
+    fn set_reply<B: Buffer>(_op: &SetGlobalEnables, _reply: &mut B) {}
+
+    fn next_live(_op: &SetGlobalEnables, _live: &mut Live) {}
+
+    fn get_data<B: Buffer>(&self, value: &[u8], _live: &Live, reply: &mut B) {
+        reply.extend_from_slice(value);
+    }
+
+    fn get_asked(_key: &()) -> Asked {
+        Asked::ipmi(NetFn::new(APPLICATION), GET_GLOBAL_ENABLES, &[])
+    }
+
+    fn set_data(op: &SetGlobalEnables) -> RecordData {
+        RecordData::from_slice(&[op.byte])
+    }
+
+    fn set_asked(op: &SetGlobalEnables) -> Asked {
+        Asked::ipmi(NetFn::new(APPLICATION), SET_GLOBAL_ENABLES, &[op.byte])
+    }
+
+    fn inverse(_op: &SetGlobalEnables, get_data: &'a [u8]) -> Option<SetGlobalEnables> {
+        let [byte] = get_data else {
+            return None;
+        };
+        Some(SetGlobalEnables { byte: *byte })
+    }
+}
