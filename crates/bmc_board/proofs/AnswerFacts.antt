@@ -10,6 +10,7 @@ use Rattle.cfg_records.specs.declared.op.Op.{Op}
 use Rattle.cfg_records.specs.declared.live.Live.{Live as LivePart}
 use Rattle.cfg_records.specs.declared.message.Asked.{Asked}
 use Rattle.cfg_records.specs.declared.board_file.BoardFile.{BoardFile}
+use Rattle.watch_boot.specs.BootParamLaws.{same_self}
 use Rattle.record_kinds.specs.declared.limits.Limits.{Limits}
 use Rattle.record_kinds.specs.declared.limits.Limits.TheVariants as kinds
 use Rattle.record_kinds.specs.Limits.{is_of, sets, outcome, get_asked, set_asked}
@@ -94,6 +95,7 @@ limits_are_of file (key.Hysteresis number) limits e = of_sensor (sensor_at file.
 limits_are_of file (key.EventEnable number) limits e = of_sensor (sensor_at file.sensors.items number) (λ s. kinds.EventEnable (record { supported = s.events.supported })) limits (key.EventEnable number) e (λ s. tt)
 limits_are_of file key.PowerPolicy limits e = of_alone (kinds.PowerPolicy (record {})) limits key.PowerPolicy e tt
 limits_are_of file key.Watchdog limits e = of_alone (kinds.Watchdog (record {})) limits key.Watchdog e tt
+limits_are_of file (key.BootParam parameter) limits e = of_alone (kinds.BootParam (record { parameter = parameter })) limits (key.BootParam parameter) e (same_self parameter)
 limits_are_of file key.GlobalEnables limits e = of_alone (kinds.GlobalEnables (record {})) limits key.GlobalEnables e tt
 
 -- ---- its data fits the frame or message that carries it, and each record keeps a valid value

@@ -25,6 +25,8 @@ abbrev pub table : List Listed
 table =
     listed 0x00 0x01 (Exactly 0) false (command.Get get.GetChassisStatus) ∷
     listed 0x00 0x06 (Exactly 1) true (command.Set set.SetPowerRestorePolicy) ∷
+    listed 0x00 0x08 (AtLeast 1) true command.SetBootOptions ∷
+    listed 0x00 0x09 (Exactly 3) false command.GetBootOptions ∷
     listed 0x04 0x24 (Exactly 4) true (command.Set set.SetSensorHysteresis) ∷
     listed 0x04 0x25 (Exactly 2) false (command.Get get.GetSensorHysteresis) ∷
     listed 0x04 0x26 (Exactly 8) true (command.Set set.SetSensorThresholds) ∷

@@ -9,11 +9,12 @@ use Rattle.cfg_records.specs.declared.key.Key.{Key}
 use Rattle.cfg_records.specs.declared.key.Key.TheVariants as key
 use Rattle.cfg_records.specs.declared.sensor.Sensor.{Sensor}
 use Rattle.cfg_records.specs.declared.board_file.BoardFile.{BoardFile}
+use Rattle.cfg_records.specs.declared.boot_param.BootParameter.TheVariants.{ValidBitClearing, InfoAcknowledge, Flags}
 use Rattle.cfg_records.specs.Keys.{is_length}
 use Rattle.cfg_records.specs.KeyLaws.{exact_key}
 use Rattle.cfg_records.specs.Distinct.{NamesDiffer}
 use Rattle.cfg_records.specs.Records.{Pair, key_in, value_of, records_of, KeysDiffer, LengthsFit}
-use Rattle.cfg_records.specs.Boards.{policy_value, settings_value, enables_value, kinds_of, pairs_of}
+use Rattle.cfg_records.specs.Boards.{policy_value, settings_value, enables_value, boot_value, kinds_of, pairs_of}
 use Rattle.cfg_records.proofs.Names.{NamesDiffer-map, NamesDiffer-append}
 use Rattle.cfg_records.proofs.Searches.{find_some}
 use Rattle.cfg_records.proofs.Pairs.{has_key}
@@ -26,6 +27,9 @@ place_of (key.EventEnable sensor) = 2
 place_of key.PowerPolicy = 3
 place_of key.Watchdog = 4
 place_of key.GlobalEnables = 5
+place_of (key.BootParam ValidBitClearing) = 6
+place_of (key.BootParam InfoAcknowledge) = 7
+place_of (key.BootParam Flags) = 8
 
 -- the pairs of the kind at a place
 abbrev pub pairs_at : BoardFile → ℕ → List Pair
@@ -127,17 +131,23 @@ six : (n : ℕ) → n ≡ 6 → IsTrue (is_length (key.Thresholds 0) n)
 six n h = grind (arith, nat_tests)
 
 -- the pairs of a file: a step for each kind
-pub pairs_are : (file : BoardFile) → AreBefore file 6 (pairs_of file)
+pub pairs_are : (file : BoardFile) → AreBefore file 9 (pairs_of file)
 pairs_are file =
     let before_1 = and_then file 0 [] (none_before file) (of_sensors file key.Thresholds _ 0 (λ m n same. cc) (λ n. refl) (λ s. six _ s.thresholds.valid.six)) in
     let before_2 = and_then file 1 _ before_1 (of_sensors file key.Hysteresis _ 1 (λ m n same. cc) (λ n. refl) (λ s. refl)) in
     let before_3 = and_then file 2 _ before_2 (of_sensors file key.EventEnable _ 2 (λ m n same. cc) (λ n. refl) (λ s. refl)) in
     let before_4 = and_then file 3 _ before_3 (one_of 3 (key.PowerPolicy, policy_value file.policy) refl refl) in
     let before_5 = and_then file 4 _ before_4 (one_of 4 (key.Watchdog, settings_value file.watchdog) refl refl) in
-    and_then file 5 _ before_5 (one_of 5 (key.GlobalEnables, enables_value file.enables) refl refl)
+    let before_6 = and_then file 5 _ before_5 (one_of 5 (key.GlobalEnables, enables_value file.enables) refl refl) in
+    let before_7 = and_then file 6 _ before_6 (one_of 6 (key.BootParam ValidBitClearing, boot_value file.boot ValidBitClearing) refl refl) in
+    let before_8 = and_then file 7 _ before_7 (one_of 7 (key.BootParam InfoAcknowledge, boot_value file.boot InfoAcknowledge) refl refl) in
+    and_then file 8 _ before_8 (one_of 8 (key.BootParam Flags, boot_value file.boot Flags) refl refl)
 
-has_place : (k : Key) → place_of k < 6
+has_place : (k : Key) → place_of k < 9
 has_place (key.Thresholds sensor) = omega arith
+has_place (key.BootParam ValidBitClearing) = omega arith
+has_place (key.BootParam InfoAcknowledge) = omega arith
+has_place (key.BootParam Flags) = omega arith
 has_place _ = omega arith
 
 -- the record of a key is that of its kind's pairs

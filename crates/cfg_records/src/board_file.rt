@@ -1,4 +1,5 @@
 //! What a board begins with.
+use crate::boot_param::{BootOptions, BootParameter};
 use crate::device::Device;
 use crate::global_enables::GlobalEnables;
 use crate::key::Key;
@@ -18,6 +19,7 @@ pub struct BoardFile {
     pub policy: PowerPolicy,
     pub watchdog: Watchdog,
     pub enables: GlobalEnables,
+    pub boot: BootOptions,
 }
 
 impl BoardFile {
@@ -46,6 +48,9 @@ impl BoardFile {
         pairs.push(self.policy.pair())?;
         pairs.push(self.watchdog.pair())?;
         pairs.push(self.enables.pair())?;
+        pairs.push(self.boot.pair(BootParameter::ValidBitClearing))?;
+        pairs.push(self.boot.pair(BootParameter::InfoAcknowledge))?;
+        pairs.push(self.boot.pair(BootParameter::Flags))?;
         Ok(pairs)
     }
 }

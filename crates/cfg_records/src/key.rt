@@ -2,6 +2,8 @@
 ghost use Rattle.std.specs.Prelude.{◌≡◌};
 ghost use Rattle.cfg_records.specs.Keys.{is_length};
 
+use crate::boot_param::BootParameter;
+
 /// The name of a record: its kind, and which one of that kind.
 #[derive(Clone, Copy, Debug, PartialEq, Eq, PartialOrd, Ord)]
 pub enum Key {
@@ -17,6 +19,8 @@ pub enum Key {
     Watchdog,
     /// What the controller enables as a whole.
     GlobalEnables,
+    /// A parameter of the system boot options.
+    BootParam(BootParameter),
 }
 
 impl Key {
@@ -31,6 +35,7 @@ impl Key {
             Key::PowerPolicy => length == 1,
             Key::Watchdog => length == 5,
             Key::GlobalEnables => length == 1,
+            Key::BootParam(parameter) => length == parameter.length(),
         }
     }
 }

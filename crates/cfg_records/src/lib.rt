@@ -3,6 +3,7 @@
 #![tactic(auto)]
 
 pub mod board_file;
+pub mod boot_param;
 pub mod device;
 pub mod distinct;
 pub mod event_enable;
@@ -26,6 +27,7 @@ pub mod value;
 pub mod watchdog;
 
 pub use board_file::BoardFile;
+pub use boot_param::{BootChange, BootFlags, BootOptions, BootParameter, MaskedBits, SetBootParam};
 pub use device::{Bcd, Device, ManufacturerId};
 pub use distinct::{Distinct, Numbered};
 pub use event_enable::{EventChange, EventEnable, EventMasks, SetEventEnable};

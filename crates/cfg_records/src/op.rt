@@ -1,4 +1,5 @@
 //! Changes of one record.
+use crate::boot_param::SetBootParam;
 use crate::event_enable::SetEventEnable;
 use crate::global_enables::SetGlobalEnables;
 use crate::hysteresis::SetHysteresis;
@@ -16,4 +17,5 @@ pub enum Op {
     PowerPolicy(SetPowerPolicy),
     Watchdog(SetWatchdog),
     GlobalEnables(SetGlobalEnables),
+    BootParam(SetBootParam),
 }

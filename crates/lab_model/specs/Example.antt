@@ -82,6 +82,13 @@ board_file = record {
     valid = record { five = refl; known_use = lit≤ tt; known_interrupt = lit≤ tt; known_action = lit≤ tt; low_byte = lit< tt; high_byte = lit< tt };
   };
   enables = record { byte = 0x08; valid = record { one = refl; unreserved = refl } };
+  boot = record {
+    valid_bit_clearing = 0;
+    info_acknowledge = 0;
+    flags = record { validity = 0; device = 0; console = 0; overrides = 0; instance = 0 };
+    five_bits = lit< tt;
+    byte = lit< tt;
+  };
 }
 
 -- ---- the runs

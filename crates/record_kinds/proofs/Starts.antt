@@ -5,6 +5,7 @@ use Rattle.std.specs.Option.{option_map}
 use Rattle.std.proofs.lemmas.Bool.Decides.{nat_tests}
 use Rattle.cfg_records.specs.declared.key.Key.{Key}
 use Rattle.cfg_records.specs.declared.key.Key.TheVariants as key
+use Rattle.cfg_records.specs.declared.boot_param.BootParameter.TheVariants.{ValidBitClearing, InfoAcknowledge, Flags}
 use Rattle.cfg_records.specs.declared.sensor.Sensor.{Sensor}
 use Rattle.cfg_records.specs.declared.board_file.BoardFile.{BoardFile}
 use Rattle.cfg_records.specs.Keys.{same_key}
@@ -59,6 +60,9 @@ sound_in_kind file (key.EventEnable number) = of_sensors file key.EventEnable _ 
 sound_in_kind file key.PowerPolicy = file.policy.valid
 sound_in_kind file key.Watchdog = file.watchdog.valid
 sound_in_kind file key.GlobalEnables = file.enables.valid
+sound_in_kind file (key.BootParam ValidBitClearing) = record { long = refl; mark = omega arith; body = file.boot.five_bits }
+sound_in_kind file (key.BootParam InfoAcknowledge) = record { long = refl; mark = omega arith; body = file.boot.byte }
+sound_in_kind file (key.BootParam Flags) = record { long = refl; mark = omega arith; body = tt }
 
 pub starts_sound : StartsSound
 starts_sound file k = subst (IsSoundAt (limits_at file k)) (sym (record_of_kind file k)) (sound_in_kind file k)

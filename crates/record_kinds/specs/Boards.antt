@@ -24,3 +24,4 @@ limits_at file (key.EventEnable number) = of_sensor (λ s. limits.EventEnable (r
 limits_at file key.PowerPolicy = Some (limits.PowerPolicy (record {}))
 limits_at file key.Watchdog = Some (limits.Watchdog (record {}))
 limits_at file key.GlobalEnables = Some (limits.GlobalEnables (record {}))
+limits_at file (key.BootParam parameter) = Some (limits.BootParam (record { parameter = parameter }))

@@ -5,7 +5,7 @@ use crate::setup::Setup;
 use cfg_records::{Asked, Key, Live, Op, RecordData, RecordKind, Value};
 use sensor_recs::{EventEnableLimits, HysteresisLimits, ThresholdLimits};
 use two_wire::{Buffer, Code};
-use watch_boot::{GlobalEnablesLimits, PowerPolicyLimits, WatchdogLimits};
+use watch_boot::{BootParamLimits, GlobalEnablesLimits, PowerPolicyLimits, WatchdogLimits};
 
 /// The limits of one record.
 #[derive(Clone, Copy, Debug, PartialEq, Eq)]
@@ -16,6 +16,7 @@ pub enum Limits {
     PowerPolicy(PowerPolicyLimits),
     Watchdog(WatchdogLimits),
     GlobalEnables(GlobalEnablesLimits),
+    BootParam(BootParamLimits),
 }
 
 /// The kinds, a line for each: its name, its limits, and where its keys are.
@@ -28,6 +29,7 @@ macro_rules! of_each_kind {
             PowerPolicy PowerPolicyLimits {Key::PowerPolicy => &()}
             Watchdog WatchdogLimits {Key::Watchdog => &()}
             GlobalEnables GlobalEnablesLimits {Key::GlobalEnables => &()}
+            BootParam BootParamLimits {Key::BootParam(parameter) => parameter}
         }
     };
 }
@@ -101,6 +103,9 @@ impl Setup {
             Key::PowerPolicy => Limits::PowerPolicy(PowerPolicyLimits),
             Key::Watchdog => Limits::Watchdog(WatchdogLimits),
             Key::GlobalEnables => Limits::GlobalEnables(GlobalEnablesLimits),
+            Key::BootParam(parameter) => Limits::BootParam(BootParamLimits {
+                parameter: *parameter,
+            }),
         })
     }
 }

@@ -76,6 +76,7 @@ returns c =
       record {
         terminus = c.byte_in.ensures;
         enables = c.global_enables.ensures;
+        boot = c.boot_options.ensures;
         policy = search rules;
         watchdog = search rules;
         device = holds;
