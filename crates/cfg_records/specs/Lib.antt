@@ -10,6 +10,8 @@ pub mod EventEnable
 pub mod EventLaws
 pub mod PowerPolicy
 pub mod Watchdog
+pub mod NumericSize
+pub mod NumericEffecter
 pub mod PartLaws
 pub mod Meaning
 pub mod RefusalLaws

@@ -6,6 +6,8 @@ use Rattle.cfg_records.specs.Thresholds.{IsThresholds}
 use Rattle.cfg_records.specs.EventEnable.{IsEventEnable}
 use Rattle.cfg_records.specs.PowerPolicy.{IsPowerPolicy}
 use Rattle.cfg_records.specs.Watchdog.{IsWatchdog}
+use Rattle.cfg_records.specs.declared.numeric_range.NumericRange.{NumericRange}
+use Rattle.cfg_records.specs.NumericEffecter.{IsNumeric}
 
 pub IsThresholds-prop : (masks : ThresholdMasks) (value : List ℕ) → IsProp (IsThresholds masks value)
 IsThresholds-prop masks value = hlevel props
@@ -18,3 +20,6 @@ IsPowerPolicy-prop value = hlevel props
 
 pub IsWatchdog-prop : (value : List ℕ) → IsProp (IsWatchdog value)
 IsWatchdog-prop value = hlevel props
+
+pub IsNumeric-prop : (range : NumericRange) (value : List ℕ) → IsProp (IsNumeric range value)
+IsNumeric-prop range value = hlevel props

@@ -54,3 +54,4 @@ pub record IsSampleBoard (file : BoardFile) : Type 0 where
   pub sensors : AreSampleSensors file.sensors.items
   pub policy : file.policy.number ≡ 1
   pub watchdog : IsUnset file.watchdog
+  pub no_numeric : file.numeric_effecters.items ≡ []

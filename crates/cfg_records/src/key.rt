@@ -15,6 +15,8 @@ pub enum Key {
     PowerPolicy,
     /// The settings of the watchdog timer.
     Watchdog,
+    /// The present value of the numeric effecter of this id.
+    NumericEffecter(u16),
 }
 
 impl Key {
@@ -28,6 +30,7 @@ impl Key {
             Key::EventEnable(_) => length == 5,
             Key::PowerPolicy => length == 1,
             Key::Watchdog => length == 5,
+            Key::NumericEffecter(_) => length == 1 || length == 2 || length == 4,
         }
     }
 }

@@ -1,6 +1,7 @@
 //! Changes of one record.
 use crate::event_enable::SetEventEnable;
 use crate::hysteresis::SetHysteresis;
+use crate::numeric_effecter::SetNumericEffecter;
 use crate::power_policy::SetPowerPolicy;
 use crate::sensor_thresholds::SetThresholds;
 use crate::watchdog::SetWatchdog;
@@ -14,4 +15,5 @@ pub enum Op {
     EventEnable(SetEventEnable),
     PowerPolicy(SetPowerPolicy),
     Watchdog(SetWatchdog),
+    NumericEffecter(SetNumericEffecter),
 }

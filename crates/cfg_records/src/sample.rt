@@ -112,5 +112,6 @@ pub fn sample_board(alloc: Global) -> Result<BoardFile, AllocError>
         sensors: Distinct::new(sensors).unwrap(),
         policy: PowerPolicy { number: 1 },
         watchdog: unset_watchdog(),
+        numeric_effecters: Distinct::new(Vec::new(alloc)).unwrap(),
     })
 }

@@ -18,8 +18,8 @@ use crate::tree::{in_field, members_in, number};
 use cfg_records::event_enable::{MESSAGES_PLACE, SCANNING_PLACE};
 use cfg_records::mask::has;
 use cfg_records::{
-    BoardFile, Device, Distinct, EventEnable, EventMasks, ManufacturerId, PowerPolicy, Sensor,
-    Sensors,
+    BoardFile, Device, Distinct, EventEnable, EventMasks, ManufacturerId, NumericEffecters,
+    PowerPolicy, Sensor, Sensors,
 };
 use std::alloc::Global;
 use toml::{Table, Value};
@@ -173,6 +173,13 @@ fn sensors(alloc: Global, tree: &Table) -> Result<Sensors, FileFault>
     Ok(Distinct::new(sensors).unwrap())
 }
 
+/// A board file gives a board no numeric effecters.
+fn no_numeric(alloc: Global) -> NumericEffecters
+    ensures { result.items ≡ [] }
+{
+    Distinct::new(Vec::new(alloc)).unwrap()
+}
+
 /// The board that the tree holds, or its first fault.
 fn board_of(alloc: Global, tree: &Table) -> Result<BoardFile, FileFault>
     ensures { (result ≡ Err FileFault.Memory) ⊎ Answers (table_view tree.now) result }
@@ -187,6 +194,7 @@ fn board_of(alloc: Global, tree: &Table) -> Result<BoardFile, FileFault>
         sensors,
         policy: PowerPolicy::new(byte_in(tree, Field::Policy)).unwrap(),
         watchdog: watchdog(value_in(tree, Field::Watchdog)).unwrap(),
+        numeric_effecters: no_numeric(alloc),
     })
 }
 

@@ -3,6 +3,7 @@ ghost use Rattle.std.specs.Prelude.{◌≡◌};
 
 use crate::setup::Setup;
 use cfg_records::{Asked, Key, Live, Op, RecordData, RecordKind, Value};
+use effecter_recs::NumericLimits;
 use sensor_recs::{EventEnableLimits, HysteresisLimits, ThresholdLimits};
 use two_wire::{Buffer, Code};
 use watch_boot::{PowerPolicyLimits, WatchdogLimits};
@@ -15,6 +16,7 @@ pub enum Limits {
     EventEnable(EventEnableLimits),
     PowerPolicy(PowerPolicyLimits),
     Watchdog(WatchdogLimits),
+    NumericEffecter(NumericLimits),
 }
 
 /// The kinds, a line for each: its name, its limits, and where its keys are.
@@ -26,6 +28,7 @@ macro_rules! of_each_kind {
             EventEnable EventEnableLimits {Key::EventEnable(sensor) => sensor}
             PowerPolicy PowerPolicyLimits {Key::PowerPolicy => &()}
             Watchdog WatchdogLimits {Key::Watchdog => &()}
+            NumericEffecter NumericLimits {Key::NumericEffecter(id) => id}
         }
     };
 }
@@ -98,6 +101,9 @@ impl Setup {
             Key::EventEnable(n) => Limits::EventEnable(EventEnableLimits::of(self.sensor(*n)?)),
             Key::PowerPolicy => Limits::PowerPolicy(PowerPolicyLimits),
             Key::Watchdog => Limits::Watchdog(WatchdogLimits),
+            Key::NumericEffecter(id) => {
+                Limits::NumericEffecter(NumericLimits::of(self.numeric_effecter(*id)?))
+            }
         })
     }
 }

@@ -177,6 +177,7 @@ fn full_board(alloc: Global) -> Result<BoardFile, Fail> {
         sensors: Distinct::new(sensors).ok_or("the sensors")?,
         policy: sample.policy,
         watchdog: sample.watchdog,
+        numeric_effecters: sample.numeric_effecters,
     })
 }
 

@@ -17,6 +17,9 @@ apply-requires-in-PowerPolicy-op c = (tt, subst (λ (s : Limits). valid s c.args
 pub apply-requires-in-Watchdog-op : goal.apply-requires-in-Watchdog-op
 apply-requires-in-Watchdog-op c = (tt, subst (λ (s : Limits). valid s c.args.value.now) c.in-Watchdog.is c.requires.is_valid)
 
+pub apply-requires-in-NumericEffecter-op : goal.apply-requires-in-NumericEffecter-op
+apply-requires-in-NumericEffecter-op c = (tt, subst (λ (s : Limits). valid s c.args.value.now) c.in-NumericEffecter.is c.requires.is_valid)
+
 pub returns-in-Thresholds-op : goal.returns-in-Thresholds-op
 returns-in-Thresholds-op c = rw (c.in-Thresholds.is, c.in-Thresholds-op.is) c.apply.ensures
 
@@ -31,3 +34,6 @@ returns-in-PowerPolicy-op c = rw (c.in-PowerPolicy.is, c.in-PowerPolicy-op.is) c
 
 pub returns-in-Watchdog-op : goal.returns-in-Watchdog-op
 returns-in-Watchdog-op c = rw (c.in-Watchdog.is, c.in-Watchdog-op.is) c.apply-in-Watchdog-op.ensures
+
+pub returns-in-NumericEffecter-op : goal.returns-in-NumericEffecter-op
+returns-in-NumericEffecter-op c = rw (c.in-NumericEffecter.is, c.in-NumericEffecter-op.is) c.apply-in-NumericEffecter-op.ensures
