@@ -55,3 +55,4 @@ pub record IsSampleBoard (file : BoardFile) : Type 0 where
   pub policy : file.policy.number ≡ 1
   pub watchdog : IsUnset file.watchdog
   pub enables : file.enables.byte ≡ 0x08
+  pub no_numeric : file.numeric_effecters.items ≡ []

@@ -114,5 +114,6 @@ pub fn sample_board(alloc: Global) -> Result<BoardFile, AllocError>
         policy: PowerPolicy { number: 1 },
         watchdog: unset_watchdog(),
         enables: GlobalEnables { byte: 0x08 },
+        numeric_effecters: Distinct::new(Vec::new(alloc)).unwrap(),
     })
 }

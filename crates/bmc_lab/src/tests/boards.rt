@@ -178,6 +178,7 @@ fn full_board(alloc: Global) -> Result<BoardFile, Fail> {
         policy: sample.policy,
         watchdog: sample.watchdog,
         enables: sample.enables,
+        numeric_effecters: sample.numeric_effecters,
     })
 }
 
