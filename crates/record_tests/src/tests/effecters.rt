@@ -38,6 +38,7 @@ fn board(alloc: Global) -> Result<Board<PlainStore>, Fail> {
         sensors: sample.sensors,
         policy: sample.policy,
         watchdog: sample.watchdog,
+        enables: sample.enables,
         numeric_effecters: Distinct::new(effecters).ok_or("effecters")?,
     };
     let store = PlainStore::of_file(alloc, &file)?;
