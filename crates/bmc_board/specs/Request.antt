@@ -19,6 +19,8 @@ use Rattle.watch_boot.specs.declared.boot_request.BootRequest.TheVariants.{Progr
 use Rattle.watch_boot.specs.declared.boot_request.BootShown.{BootShown}
 use Rattle.watch_boot.specs.declared.boot_request.BootShown.TheVariants as shown
 use Rattle.watch_boot.specs.BootRequests.{boot_request_in, boot_shown_in}
+use Rattle.effecter_recs.specs.Requests.{id_in}
+use Rattle.effecter_recs.specs.Numeric.{numeric_effecter_in}
 use Rattle.bmc_board.specs.declared.command.Command.{Command}
 use Rattle.bmc_board.specs.declared.command.Command.TheVariants as command
 use Rattle.bmc_board.specs.declared.command.GetCommand.{GetCommand}
@@ -45,6 +47,7 @@ key_in get.GetSensorEventEnable body = key.EventEnable (byte_at body 0)
 key_in get.GetChassisStatus body = key.PowerPolicy
 key_in get.GetWatchdogTimer body = key.Watchdog
 key_in get.GetGlobalEnables body = key.GlobalEnables
+key_in get.GetNumericEffecterValue body = key.NumericEffecter (id_in body)
 
 -- the change that a command makes
 abbrev pub op_in : SetCommand → List ℕ → Op
@@ -54,6 +57,7 @@ op_in set.SetSensorEventEnable body = op.EventEnable (event_enable_in body)
 op_in set.SetPowerRestorePolicy body = op.PowerPolicy (policy_in body)
 op_in set.SetWatchdogTimer body = op.Watchdog (watchdog_in body)
 op_in set.SetGlobalEnables body = op.GlobalEnables (enables_in body)
+op_in set.SetNumericEffecterValue body = op.NumericEffecter (numeric_effecter_in body)
 
 -- what the commands of the system boot options ask for
 abbrev pub boot_set : Result BootRequest ℕ → Result Request ℕ

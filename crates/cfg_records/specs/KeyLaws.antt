@@ -31,6 +31,7 @@ exact_key key.GlobalEnables key.GlobalEnables h = refl
 exact_key (key.BootParam ValidBitClearing) (key.BootParam ValidBitClearing) h = refl
 exact_key (key.BootParam InfoAcknowledge) (key.BootParam InfoAcknowledge) h = refl
 exact_key (key.BootParam Flags) (key.BootParam Flags) h = refl
+exact_key (key.NumericEffecter a) (key.NumericEffecter b) h = ap key.NumericEffecter (exact_unsigned a b (equal_from_is_eq _ h))
 exact_key _ _ h = cc
 
 -- a key compares alike with itself

@@ -10,6 +10,8 @@ use Rattle.cfg_records.specs.GlobalEnables.{AreGlobalEnables}
 use Rattle.cfg_records.specs.declared.boot_param.BootParameter.{BootParameter}
 use Rattle.cfg_records.specs.declared.boot_param.BootParameter.TheVariants.{ValidBitClearing, InfoAcknowledge, Flags}
 use Rattle.cfg_records.specs.BootParam.{IsBootData, IsBootParam}
+use Rattle.cfg_records.specs.declared.numeric_range.NumericRange.{NumericRange}
+use Rattle.cfg_records.specs.NumericEffecter.{IsNumeric}
 
 pub IsThresholds-prop : (masks : ThresholdMasks) (value : List ℕ) → IsProp (IsThresholds masks value)
 IsThresholds-prop masks value = hlevel props
@@ -33,3 +35,6 @@ IsBootData-prop Flags first = hlevel props
 
 pub IsBootParam-prop : (parameter : BootParameter) (value : List ℕ) → IsProp (IsBootParam parameter value)
 IsBootParam-prop parameter value = hlevel (props, IsBootData-prop)
+
+pub IsNumeric-prop : (range : NumericRange) (value : List ℕ) → IsProp (IsNumeric range value)
+IsNumeric-prop range value = hlevel props

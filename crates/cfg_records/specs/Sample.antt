@@ -64,3 +64,4 @@ pub record IsSampleBoard (file : BoardFile) : Type 0 where
   pub watchdog : IsUnset file.watchdog
   pub enables : file.enables.byte ≡ 0x08
   pub boot : IsSampleBoot file.boot
+  pub no_numeric : file.numeric_effecters.items ≡ []

@@ -21,6 +21,8 @@ pub enum Key {
     GlobalEnables,
     /// A parameter of the system boot options.
     BootParam(BootParameter),
+    /// The present value of the numeric effecter of this id.
+    NumericEffecter(u16),
 }
 
 impl Key {
@@ -36,6 +38,7 @@ impl Key {
             Key::Watchdog => length == 5,
             Key::GlobalEnables => length == 1,
             Key::BootParam(parameter) => length == parameter.length(),
+            Key::NumericEffecter(_) => length == 1 || length == 2 || length == 4,
         }
     }
 }

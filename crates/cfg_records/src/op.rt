@@ -3,6 +3,7 @@ use crate::boot_param::SetBootParam;
 use crate::event_enable::SetEventEnable;
 use crate::global_enables::SetGlobalEnables;
 use crate::hysteresis::SetHysteresis;
+use crate::numeric_effecter::SetNumericEffecter;
 use crate::power_policy::SetPowerPolicy;
 use crate::sensor_thresholds::SetThresholds;
 use crate::watchdog::SetWatchdog;
@@ -18,4 +19,5 @@ pub enum Op {
     Watchdog(SetWatchdog),
     GlobalEnables(SetGlobalEnables),
     BootParam(SetBootParam),
+    NumericEffecter(SetNumericEffecter),
 }

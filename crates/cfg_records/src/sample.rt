@@ -133,5 +133,6 @@ pub fn sample_board(alloc: Global) -> Result<BoardFile, AllocError>
         watchdog: unset_watchdog(),
         enables: GlobalEnables { byte: 0x08 },
         boot: boot(),
+        numeric_effecters: Distinct::new(Vec::new(alloc)).unwrap(),
     })
 }

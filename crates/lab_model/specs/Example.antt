@@ -10,6 +10,7 @@ use Rattle.cfg_records.specs.declared.op.Op.TheVariants as op
 use Rattle.cfg_records.specs.declared.thresholds.ThresholdMasks.{ThresholdMasks}
 use Rattle.cfg_records.specs.declared.board_file.BoardFile.{BoardFile}
 use Rattle.cfg_records.specs.declared.sensor.Sensor.{Sensor}
+use Rattle.cfg_records.specs.declared.numeric_effecter.NumericEffecter.{NumericEffecter}
 use Rattle.cfg_records.specs.declared.event_enable.EventMasks.{EventMasks}
 use Rattle.cfg_records.specs.Distinct.{NamesDiffer}
 use Rattle.cfg_records.specs.EventEnable.{are_within, event_value, IsEventEnable}
@@ -59,6 +60,9 @@ temperature = record {
 pub one_number : NamesDiffer (λ (s : Sensor). s.number) (temperature ∷ [])
 one_number i j d below within = absurd (omega (arith, below, within))
 
+pub no_numbers : NamesDiffer (λ (e : NumericEffecter). e.id) []
+no_numbers i j d below within = absurd (omega (arith, below, within))
+
 -- a board with that sensor
 abbrev pub board_file : BoardFile
 board_file = record {
@@ -89,6 +93,7 @@ board_file = record {
     five_bits = lit< tt;
     byte = lit< tt;
   };
+  numeric_effecters = record { items = []; differ = no_numbers; few = lit≤ tt };
 }
 
 -- ---- the runs

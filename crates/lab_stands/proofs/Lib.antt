@@ -20,3 +20,4 @@ pub mod Delivered
 pub mod Steps
 pub mod Stopped
 pub mod Theorem
+pub mod Plays

@@ -3,3 +3,4 @@ pub mod Made
 pub mod Tied
 pub mod Follows
 pub mod Theorem
+pub mod Plays

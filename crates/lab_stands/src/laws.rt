@@ -6,7 +6,9 @@ ghost use Rattle.cfg_records.specs.declared.board_file.BoardFile.{BoardFile};
 ghost use Rattle.cfg_records.specs.Records.{Records};
 ghost use Rattle.plans.specs.declared.names.Names.{Names};
 ghost use Rattle.lab_stands.specs.Follows.{CallsAreFollowed, RepliesAreFollowed, RequestsAreFollowed, OthersAreFollowed};
+ghost use Rattle.lab.specs.Meaning.{Bench};
 ghost use Rattle.lab_stands.specs.Theorem.{Headline};
+ghost use Rattle.lab_stands.specs.Plays.{PlaysStand};
 
 /// Where the manager is called, the model's world goes on to one that the lab shows then. So it is in each phase, also where the call is refused.
 pub fn calls_are_followed()
@@ -35,4 +37,9 @@ pub fn others_are_followed()
 /// that comes then, every record is what it was at the start, and each Get shows the same configuration.
 pub fn undo_takes_everything_back()
     ensures { (setup : BoardFile) (names : Names) (plan : List Op) (retries : ℕ) → Headline setup names plan retries }
+{}
+
+/// What every play tells: its phase says what the records are, and a plan that halted has its cause.
+pub fn plays_stand()
+    ensures { (bench : Bench) (file : BoardFile) (plan : List Op) (retries : ℕ) → PlaysStand bench file plan retries }
 {}

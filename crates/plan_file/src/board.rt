@@ -19,7 +19,7 @@ use cfg_records::event_enable::{MESSAGES_PLACE, SCANNING_PLACE};
 use cfg_records::mask::has;
 use cfg_records::{
     BoardFile, BootOptions, Device, Distinct, EventEnable, EventMasks, GlobalEnables,
-    ManufacturerId, PowerPolicy, Sensor, Sensors,
+    ManufacturerId, NumericEffecters, PowerPolicy, Sensor, Sensors,
 };
 use std::alloc::Global;
 use toml::{Table, Value};
@@ -193,6 +193,13 @@ fn boot_options(tree: &Table) -> BootOptions
     BootOptions::new(clearing, acknowledge, flags).unwrap()
 }
 
+/// A board file gives a board no numeric effecters.
+fn no_numeric(alloc: Global) -> NumericEffecters
+    ensures { result.items ≡ [] }
+{
+    Distinct::new(Vec::new(alloc)).unwrap()
+}
+
 /// The board that the tree holds, or its first fault.
 fn board_of(alloc: Global, tree: &Table) -> Result<BoardFile, FileFault>
     ensures { (result ≡ Err FileFault.Memory) ⊎ Answers (table_view tree.now) result }
@@ -209,6 +216,7 @@ fn board_of(alloc: Global, tree: &Table) -> Result<BoardFile, FileFault>
         boot: boot_options(tree),
         policy: PowerPolicy::new(byte_in(tree, Field::Policy)).unwrap(),
         watchdog: watchdog(value_in(tree, Field::Watchdog)).unwrap(),
+        numeric_effecters: no_numeric(alloc),
     })
 }
 

@@ -3,6 +3,7 @@ ghost use Rattle.std.specs.Prelude.{◌≡◌};
 
 use crate::setup::Setup;
 use cfg_records::{Asked, Key, Live, Op, RecordData, RecordKind, Value};
+use effecter_recs::NumericLimits;
 use sensor_recs::{EventEnableLimits, HysteresisLimits, ThresholdLimits};
 use two_wire::{Buffer, Code};
 use watch_boot::{BootParamLimits, GlobalEnablesLimits, PowerPolicyLimits, WatchdogLimits};
@@ -17,6 +18,7 @@ pub enum Limits {
     Watchdog(WatchdogLimits),
     GlobalEnables(GlobalEnablesLimits),
     BootParam(BootParamLimits),
+    NumericEffecter(NumericLimits),
 }
 
 /// The kinds, a line for each: its name, its limits, and where its keys are.
@@ -30,6 +32,7 @@ macro_rules! of_each_kind {
             Watchdog WatchdogLimits {Key::Watchdog => &()}
             GlobalEnables GlobalEnablesLimits {Key::GlobalEnables => &()}
             BootParam BootParamLimits {Key::BootParam(parameter) => parameter}
+            NumericEffecter NumericLimits {Key::NumericEffecter(id) => id}
         }
     };
 }
@@ -106,6 +109,9 @@ impl Setup {
             Key::BootParam(parameter) => Limits::BootParam(BootParamLimits {
                 parameter: *parameter,
             }),
+            Key::NumericEffecter(id) => {
+                Limits::NumericEffecter(NumericLimits::of(self.numeric_effecter(*id)?))
+            }
         })
     }
 }

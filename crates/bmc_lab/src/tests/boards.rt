@@ -179,6 +179,7 @@ fn full_board(alloc: Global) -> Result<BoardFile, Fail> {
         watchdog: sample.watchdog,
         enables: sample.enables,
         boot: sample.boot,
+        numeric_effecters: sample.numeric_effecters,
     })
 }
 

@@ -25,6 +25,9 @@ apply-requires-in-Watchdog-op c = (tt, subst (λ (s : Limits). valid s c.args.va
 pub apply-requires-in-GlobalEnables-op : goal.apply-requires-in-GlobalEnables-op
 apply-requires-in-GlobalEnables-op c = (tt, subst (λ (s : Limits). valid s c.args.value.now) c.in-GlobalEnables.is c.requires.is_valid)
 
+pub apply-requires-in-NumericEffecter-op : goal.apply-requires-in-NumericEffecter-op
+apply-requires-in-NumericEffecter-op c = (tt, subst (λ (s : Limits). valid s c.args.value.now) c.in-NumericEffecter.is c.requires.is_valid)
+
 pub apply-requires-in-BootParam-op : goal.apply-requires-in-BootParam-op
 apply-requires-in-BootParam-op c = (
   moved _ _ _ _ c.in-BootParam.is c.in-BootParam-op.is c.requires.of_record,
@@ -51,3 +54,6 @@ returns-in-GlobalEnables-op c = rw (c.in-GlobalEnables.is, c.in-GlobalEnables-op
 
 pub returns-in-BootParam-op : goal.returns-in-BootParam-op
 returns-in-BootParam-op c = rw (c.in-BootParam.is, c.in-BootParam-op.is) c.apply-in-BootParam-op.ensures
+
+pub returns-in-NumericEffecter-op : goal.returns-in-NumericEffecter-op
+returns-in-NumericEffecter-op c = rw (c.in-NumericEffecter.is, c.in-NumericEffecter-op.is) c.apply-in-NumericEffecter-op.ensures
