@@ -1,0 +1,78 @@
+-- What is said of a play, line by line.
+use Rattle.std.specs.Prelude.{ℕ, zero, suc, Bool, true, false, List, [], ◌∷◌, ◌++◌, length, map, reverse, Option, Some, None, codes}
+use Rattle.std.specs.List.{flat_map, enumerate_from}
+use Rattle.std.specs.Fmt.{decimal}
+use Rattle.hex.specs.Hex.{encode_upper}
+use Rattle.line_text.specs.Cuts.{ended}
+use Rattle.two_wire.specs.declared.Bus.{Bus}
+use Rattle.two_wire.specs.declared.Bus.TheVariants.{Ipmb, Smbus}
+use Rattle.cfg_records.specs.declared.message.Asked.{Asked}
+use Rattle.plan_file.specs.UndoText.{line_of}
+use Rattle.undo_core.specs.PhaseNames.{phase_name}
+use Rattle.lab.specs.declared.frames.Way.{Way}
+use Rattle.lab.specs.declared.frames.Way.TheVariants.{ToPort, ToManager, ToOthers}
+use Rattle.lab.specs.declared.frames.SentFrame.{SentFrame}
+use Rattle.lab.specs.FaultNames.{fault_name}
+use Rattle.play_text.specs.declared.account.Account.{Account}
+use Rattle.play_text.specs.declared.account.Stopped.{Stopped}
+
+-- a word, and what stands behind it after a space
+abbrev pub said : List ℕ → List ℕ → List ℕ
+said word rest = word ++ codes " " ++ rest
+
+-- ---- the lines
+
+-- whether records are changed, and how many
+abbrev pub records_line : ℕ → List ℕ
+records_line zero = codes "records same"
+records_line (suc n) = said (codes "records changed") (decimal (suc n))
+
+-- the requests that undo the plan, how many and each, that of the last step first
+abbrev pub undo_lines : List Asked → List (List ℕ)
+undo_lines requests = said (codes "undo") (decimal (length requests)) ∷ map line_of (reverse requests)
+
+-- the end that sends what goes this way: the manager, or the controller
+abbrev pub end_name : Way → List ℕ
+end_name ToPort = codes "mgr"
+end_name ToManager = codes "bmc"
+end_name ToOthers = codes "bmc"
+
+-- a bus's name
+abbrev pub bus_name : Bus → List ℕ
+bus_name Ipmb = codes "ipmb"
+bus_name Smbus = codes "smbus"
+
+-- a frame: its number, who sent it, its bus, and its bytes in upper-case hexadecimal
+abbrev pub frame_line : ℕ → SentFrame → List ℕ
+frame_line number frame = said (codes "frame") (said (decimal number) (said (end_name frame.way) (said (bus_name frame.mark.on) (encode_upper frame.bytes))))
+
+-- the frames, which count from 0
+abbrev pub frame_lines : List SentFrame → List (List ℕ)
+frame_lines frames = map (λ f. frame_line f.0 f.1) (enumerate_from 0 frames)
+
+-- the event that wasn't taken: its place and its fault
+abbrev pub stopped_line : Stopped → List ℕ
+stopped_line stopped = said (codes "fault") (said (decimal stopped.place) (fault_name stopped.fault))
+
+-- ---- the text
+
+-- the frames, where they are asked for
+abbrev pub shown : Bool → List SentFrame → List (List ℕ)
+shown true frames = frame_lines frames
+shown false frames = []
+
+-- the event that wasn't taken, where there is one
+abbrev pub ending : Option Stopped → List (List ℕ)
+ending (Some stopped) = stopped_line stopped ∷ []
+ending None = []
+
+-- the lines: the phase, how many frames there are, the requests, the records, the frames, and the event that wasn't taken
+abbrev pub lines_of : Bool → Account → List (List ℕ)
+lines_of frames told =
+    said (codes "phase") (phase_name told.phase)
+    ∷ said (codes "frames") (decimal (length told.frames.now))
+    ∷ (undo_lines told.undo.now ++ records_line told.changed ∷ (shown frames told.frames.now ++ ending told.stopped))
+
+-- the text: the lines, each of which a line feed ends
+abbrev pub text_of : Bool → Account → List ℕ
+text_of frames told = flat_map ended (lines_of frames told)

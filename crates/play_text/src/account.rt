@@ -1,0 +1,58 @@
+//! What a play tells.
+ghost use Rattle.std.specs.Prelude.{◌≡◌, IfOk, string_bytes};
+ghost use Rattle.play_text.specs.Account.{text_of};
+
+use crate::lines::{push_frames, push_records, push_stopped};
+use lab::{Fault, SentFrame};
+use plan_file::push_requests;
+use plans::Requests;
+use std::alloc::{AllocError, Global};
+use undo_core::Phase;
+
+/// The event that the lab didn't take.
+#[derive(Clone, Copy, Debug, PartialEq, Eq)]
+pub struct Stopped {
+    /// Its place among the events, from 1.
+    pub place: usize,
+    pub fault: Fault,
+}
+
+/// What is told of a play, after its last event or before the one that the lab didn't take.
+#[derive(Clone, Copy, Debug)]
+pub struct Account<'a> {
+    /// The manager's phase.
+    pub phase: Phase,
+    /// The frames that were sent, each at its number.
+    pub frames: &'a [SentFrame],
+    /// The requests that undo the steps that were done, in the order of the steps.
+    pub undo: &'a Requests,
+    /// How many records are no longer what they were at the start.
+    pub changed: usize,
+    /// Why not all events were taken.
+    pub stopped: Option<Stopped>,
+}
+
+impl Account<'_> {
+    /// The lines of the account: the phase, how many frames there are, how many requests undo the plan and each of them, and whether
+    /// records are changed. Then, where they are asked for, come the frames, and at last the fault of an event.
+    pub fn text(&self, alloc: Global, frames: bool) -> Result<String, AllocError>
+        ensures { IfOk result (λ text. string_bytes text ≡ text_of frames self.now) }
+    {
+        let mut text = String::new(alloc);
+        let phase = self.phase;
+        let sent = self.frames.len();
+        let requests = self.undo.len();
+        writeln!(text, "phase {phase}")?;
+        writeln!(text, "frames {sent}")?;
+        writeln!(text, "undo {requests}")?;
+        push_requests(alloc, &mut text, self.undo)?;
+        push_records(&mut text, self.changed)?;
+        if frames {
+            push_frames(alloc, &mut text, self.frames)?;
+        }
+        if let Some(stopped) = self.stopped {
+            push_stopped(&mut text, stopped)?;
+        }
+        Ok(text)
+    }
+}

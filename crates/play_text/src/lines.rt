@@ -1,0 +1,73 @@
+//! The lines of an account.
+ghost use Rattle.std.specs.Prelude.{◌≡◌, ◌++◌, OnOk, string_bytes};
+ghost use Rattle.std.specs.List.{flat_map};
+ghost use Rattle.line_text.specs.Cuts.{ended};
+ghost use Rattle.play_text.specs.Account.{end_name, bus_name, frame_line, frame_lines, records_line, stopped_line};
+
+use crate::account::Stopped;
+use lab::{SentFrame, Way};
+use std::alloc::{AllocError, Global};
+use two_wire::Bus;
+
+/// Adds the line that says whether records are changed, and how many.
+pub fn push_records(text: &mut String, changed: usize) -> Result<(), AllocError>
+    ensures { OnOk result (string_bytes text.new ≡ string_bytes text.old ++ ended (records_line changed)) }
+{
+    match changed {
+        0 => text.push_str("records same\n"),
+        _ => writeln!(text, "records changed {changed}"),
+    }
+}
+
+/// Which end sends what goes this way.
+fn end_of(way: Way) -> &'static str
+    ensures { result.now ≡ end_name way }
+{
+    match way {
+        Way::ToPort => "mgr",
+        Way::ToManager | Way::ToOthers => "bmc",
+    }
+}
+
+/// The bus's name.
+fn name_of(bus: Bus) -> &'static str
+    ensures { result.now ≡ bus_name bus }
+{
+    match bus {
+        Bus::Ipmb => "ipmb",
+        Bus::Smbus => "smbus",
+    }
+}
+
+/// Adds the line of the frame of this number.
+fn push_frame(
+    alloc: Global,
+    text: &mut String,
+    number: usize,
+    frame: &SentFrame,
+) -> Result<(), AllocError>
+    ensures { OnOk result (string_bytes text.new ≡ string_bytes text.old ++ ended (frame_line number frame.now)) }
+{
+    let end = end_of(frame.way);
+    let bus = name_of(frame.mark.on);
+    let digits = hex::encode_upper(alloc, frame.bytes.as_slice())?;
+    writeln!(text, "frame {number} {end} {bus} {digits}")
+}
+
+/// Adds the lines of the frames, the first of which has number 0.
+pub fn push_frames(alloc: Global, text: &mut String, frames: &[SentFrame]) -> Result<(), AllocError>
+    ensures { OnOk result (string_bytes text.new ≡ string_bytes text.old ++ flat_map ended (frame_lines frames.now)) }
+{
+    for (number, frame) in frames.iter().enumerate() {
+        push_frame(alloc, text, number, frame)?;
+    }
+    Ok(())
+}
+
+/// Adds the line of the event that wasn't taken.
+pub fn push_stopped(text: &mut String, stopped: Stopped) -> Result<(), AllocError>
+    ensures { OnOk result (string_bytes text.new ≡ string_bytes text.old ++ ended (stopped_line stopped)) }
+{
+    let Stopped { place, fault } = stopped;
+    writeln!(text, "fault {place} {fault}")
+}

@@ -1,0 +1,2 @@
+//! Examples from outside.
+mod account;
