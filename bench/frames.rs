@@ -275,6 +275,22 @@ impl Random {
     }
 }
 
+/// Whether the frame has a command that the plain controller lacks: of boot options, global enables and numeric effecters.
+fn is_lacking(kind: Kind, frame: &[u8]) -> bool {
+    match kind {
+        Kind::Ipmb | Kind::Sensors => {
+            frame.len() > 5
+                && matches!(
+                    (frame[1] >> 2, frame[5]),
+                    (0x00, 8 | 9) | (0x06, 0x2E | 0x2F)
+                )
+        }
+        Kind::Smbus => {
+            frame.len() > 11 && frame[10] & 0x3F == 2 && matches!(frame[11], 0x31 | 0x32)
+        }
+    }
+}
+
 /// Frames that look random, of which some come again.
 pub fn random(kind: Kind, count: usize) -> Vec<Slot> {
     let mut random = Random(0x9E37_79B9_7F4A_7C15);
@@ -287,7 +303,8 @@ pub fn random(kind: Kind, count: usize) -> Vec<Slot> {
                 Kind::Ipmb | Kind::Sensors => random.ipmb(),
                 Kind::Smbus => random.smbus(),
             };
-            frames.extend(next.iter().map(|frame| Slot::new(frame)));
+            let known = next.iter().filter(|frame| !is_lacking(kind, frame));
+            frames.extend(known.map(|frame| Slot::new(frame)));
         }
     }
     frames
