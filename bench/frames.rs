@@ -1,6 +1,7 @@
 //! The frames that both controllers get.
 
-use crate::Slot;
+use crate::smbus::pec;
+use crate::{Kind, Slot};
 
 const WIRE: u8 = 0x20;
 const REQUESTER: u8 = 0x2C;
@@ -14,36 +15,75 @@ fn check_byte(bytes: &[u8]) -> u8 {
         .fold(0, |check: u8, byte| check.wrapping_sub(*byte))
 }
 
-/// The frame of a request to the controller's logical unit 0.
-fn request(net_fn: u8, sequence: u8, command: u8, data: &[u8]) -> Vec<u8> {
+/// The frame of a request from this address to the controller's logical unit 0.
+fn request_from(requester: u8, net_fn: u8, sequence: u8, command: u8, data: &[u8]) -> Vec<u8> {
     let mut frame = vec![WIRE, net_fn << 2];
     frame.push(check_byte(&frame));
-    frame.extend([REQUESTER, sequence << 2, command]);
+    frame.extend([requester, sequence << 2, command]);
     frame.extend(data);
     frame.push(check_byte(&frame[3..]));
     frame
 }
 
-/// A list of frames, and what it is called.
+fn request(net_fn: u8, sequence: u8, command: u8, data: &[u8]) -> Vec<u8> {
+    request_from(REQUESTER, net_fn, sequence, command, data)
+}
+
+/// A packet from 30h and this endpoint to the controller's, with these flags.
+fn packet(eid: u8, flags: u8, payload: &[u8]) -> Vec<u8> {
+    let mut frame = vec![
+        WIRE,
+        0x0F,
+        payload.len() as u8 + 5,
+        0x31,
+        1,
+        0x0A,
+        eid,
+        flags,
+    ];
+    frame.extend(payload);
+    frame.push(pec(&frame));
+    frame
+}
+
+/// The packets of a message under this tag, whose sender owns it.
+fn packets(eid: u8, tag: u8, message: &[u8]) -> Vec<Vec<u8>> {
+    let count = message.chunks(64).count();
+    message
+        .chunks(64)
+        .enumerate()
+        .map(|(place, payload)| {
+            let start = if place == 0 { 0x80 } else { 0 };
+            let end = if place + 1 == count { 0x40 } else { 0 };
+            packet(eid, start | end | (place as u8) << 4 | 8 | tag, payload)
+        })
+        .collect()
+}
+
+/// A list of frames, and what it is called. Handed over again and again it has the same requests as new ones, but for the list of repeats:
+/// their numbers go round the circle.
 pub struct Work {
     pub name: &'static str,
+    pub kind: Kind,
     pub frames: Vec<Slot>,
 }
 
-fn work(name: &'static str, frames: Vec<Vec<u8>>) -> Work {
+fn work(name: &'static str, kind: Kind, frames: Vec<Vec<u8>>) -> Work {
     Work {
         name,
+        kind,
         frames: frames.iter().map(|frame| Slot::new(frame)).collect(),
     }
 }
 
-/// A Set of a sensor's thresholds and then a Get of them, each Set with other values than the last.
-fn thresholds() -> Vec<Vec<u8>> {
+/// A Set of the thresholds of each of these sensors in turn and then a Get of them, each Set with other values than the last.
+fn thresholds(sensors: &[u8]) -> Vec<Vec<u8>> {
     (0..32)
         .flat_map(|turn: u8| {
+            let sensor = sensors[turn as usize % sensors.len()];
             let low = turn % 4;
             let set = [
-                5,
+                sensor,
                 0x3F,
                 0x14 + low,
                 0x0A + low,
@@ -54,9 +94,23 @@ fn thresholds() -> Vec<Vec<u8>> {
             ];
             [
                 request(SENSOR_EVENT, 2 * turn % 64, 0x26, &set),
-                request(SENSOR_EVENT, (2 * turn + 1) % 64, 0x27, &[5]),
+                request(SENSOR_EVENT, (2 * turn + 1) % 64, 0x27, &[sensor]),
             ]
         })
+        .collect()
+}
+
+/// Gets of thresholds from eight requesters in turn, each with every eighth number.
+fn eight_requesters() -> Vec<Vec<u8>> {
+    (0..64)
+        .map(|turn: u8| request_from(0x40 + turn % 8 * 2, SENSOR_EVENT, turn / 8 * 8, 0x27, &[5]))
+        .collect()
+}
+
+/// Gets of thresholds with the lower half of the numbers: in each round but the first they repeat those of the last.
+fn repeats() -> Vec<Vec<u8>> {
+    (0..64)
+        .map(|turn: u8| request(SENSOR_EVENT, turn % 32, 0x27, &[5]))
         .collect()
 }
 
@@ -66,7 +120,7 @@ fn device_id() -> Vec<Vec<u8>> {
 
 /// Sets of thresholds whose last byte is off by one.
 fn bad_check() -> Vec<Vec<u8>> {
-    let mut frames = thresholds();
+    let mut frames = thresholds(&[5]);
     for frame in &mut frames {
         let last = frame.len() - 1;
         frame[last] = frame[last].wrapping_add(1);
@@ -74,12 +128,36 @@ fn bad_check() -> Vec<Vec<u8>> {
     frames
 }
 
+/// GetTID.
+fn get_tid() -> Vec<Vec<u8>> {
+    (0..64)
+        .flat_map(|turn: u8| packets(8, turn % 8, &[1, 0x80 | turn % 32, 0, 2]))
+        .collect()
+}
+
+/// Messages of two packets: GetTID with 96 bytes of data, which its length refuses.
+fn two_packets() -> Vec<Vec<u8>> {
+    (0..32)
+        .flat_map(|turn: u8| {
+            let mut message = vec![1, 0x80 | turn, 0, 2];
+            message.extend([turn; 96]);
+            packets(8, turn % 8, &message)
+        })
+        .collect()
+}
+
 /// What is measured.
 pub fn works() -> Vec<Work> {
+    let all: Vec<u8> = (0..32).collect();
     vec![
-        work("Set and Get of thresholds", thresholds()),
-        work("Get Device ID", device_id()),
-        work("bad check byte", bad_check()),
+        work("Set and Get of thresholds", Kind::Ipmb, thresholds(&[5])),
+        work("eight requesters in turn", Kind::Ipmb, eight_requesters()),
+        work("repeats", Kind::Ipmb, repeats()),
+        work("Get Device ID", Kind::Ipmb, device_id()),
+        work("bad check byte", Kind::Ipmb, bad_check()),
+        work("32 sensors", Kind::Sensors, thresholds(&all)),
+        work("GetTID", Kind::Smbus, get_tid()),
+        work("messages of two packets", Kind::Smbus, two_packets()),
     ]
 }
 
@@ -156,19 +234,78 @@ impl Random {
         }
         frame
     }
+
+    /// A frame on IPMB: a request for a command of the table, such a request with a byte changed, or any bytes.
+    fn ipmb(&mut self) -> Vec<Vec<u8>> {
+        vec![match self.below(8) {
+            0..=3 => self.command(),
+            4..=6 => self.changed(),
+            _ => {
+                let length = self.below(41);
+                self.bytes(length)
+            }
+        }]
+    }
+
+    /// The packets of a message to the endpoint, or of one with a byte changed.
+    fn smbus(&mut self) -> Vec<Vec<u8>> {
+        let eid = self.one_of(&[8, 8, 8, 9, 0x0B, 0x0C, 0x0D, 0x0E, 0x0F, 0x10, 0x11, 0x12]);
+        let length = self.one_of(&[0, 0, 0, 0, 0, 0, 0, 1, 60, 61, 130, 252]);
+        let numbers = self.one_of(&[0x80, 0x80, 0x80, 0xA0, 0x00]) | self.byte() % 32;
+        let mut message = match self.below(4) {
+            0 => vec![0, numbers, self.one_of(&[1, 2, 2, 2, 5, 7])],
+            1 => {
+                let kind = self.one_of(&[0x00, 0x00, 0x02, 0x03, 0x05, 0x41]);
+                vec![1, numbers, kind, self.byte()]
+            }
+            2 => vec![1, numbers, 0, 4],
+            _ => vec![1, numbers, 0, 2],
+        };
+        message.extend(self.bytes(length));
+        let mut frames = packets(eid, self.byte() % 8, &message);
+        if self.below(8) == 0 {
+            let which = self.below(frames.len() as u64);
+            let frame = &mut frames[which];
+            let place = self.below(frame.len() as u64);
+            frame[place] = self.byte();
+            let last = frame.len() - 1;
+            frame[last] = pec(&frame[..last]);
+        }
+        frames
+    }
 }
 
-/// Frames that look random: requests for commands of the table, such requests with a byte changed, and any bytes.
-pub fn random(count: usize) -> Vec<Slot> {
+/// Whether the frame has a command that the plain controller lacks: of boot options, global enables and numeric effecters.
+fn is_lacking(kind: Kind, frame: &[u8]) -> bool {
+    match kind {
+        Kind::Ipmb | Kind::Sensors => {
+            frame.len() > 5
+                && matches!(
+                    (frame[1] >> 2, frame[5]),
+                    (0x00, 8 | 9) | (0x06, 0x2E | 0x2F)
+                )
+        }
+        Kind::Smbus => {
+            frame.len() > 11 && frame[10] & 0x3F == 2 && matches!(frame[11], 0x31 | 0x32)
+        }
+    }
+}
+
+/// Frames that look random, of which some come again.
+pub fn random(kind: Kind, count: usize) -> Vec<Slot> {
     let mut random = Random(0x9E37_79B9_7F4A_7C15);
-    (0..count)
-        .map(|_| match random.below(8) {
-            0..=3 => Slot::new(&random.command()),
-            4..=6 => Slot::new(&random.changed()),
-            _ => {
-                let length = random.below(41);
-                Slot::new(&random.bytes(length))
-            }
-        })
-        .collect()
+    let mut frames: Vec<Slot> = Vec::new();
+    while frames.len() < count {
+        if frames.len() > 16 && random.below(4) == 0 {
+            frames.push(frames[frames.len() - 1 - random.below(16)]);
+        } else {
+            let next = match kind {
+                Kind::Ipmb | Kind::Sensors => random.ipmb(),
+                Kind::Smbus => random.smbus(),
+            };
+            let known = next.iter().filter(|frame| !is_lacking(kind, frame));
+            frames.extend(known.map(|frame| Slot::new(frame)));
+        }
+    }
+    frames
 }

@@ -3,19 +3,22 @@
 mod frames;
 mod plain;
 mod proved;
+mod serve;
+mod smbus;
+mod windows;
 
 use frames::Work;
 use std::process::ExitCode;
 use std::time::Instant;
 
-/// How many frames that look random both controllers get.
+/// How many frames that look random both controllers get, of each kind.
 const RANDOM: usize = 4000;
 
 /// How often each list of frames is measured, once with each controller in turn.
-const TURNS: usize = 400;
+const TURNS: usize = 200;
 
 /// About how many requests one measure takes.
-const REQUESTS: u64 = 1 << 14;
+const REQUESTS: u64 = 1 << 16;
 
 /// The bytes of a frame, of which the first `length` count. None stand for no frame.
 #[repr(C)]
@@ -41,110 +44,143 @@ impl Slot {
     }
 }
 
-/// A controller: hands it the frames in turn, so many times over, and leaves what it sent at last to each.
-type Serve = fn(&[Slot], u64, &mut [Slot]);
+/// Which bus the frames go over, and which board serves them.
+#[repr(u8)]
+#[derive(Clone, Copy, Debug, PartialEq, Eq)]
+pub enum Kind {
+    /// The sample board on IPMB.
+    Ipmb = 0,
+    /// The sample board on the System Management Bus.
+    Smbus = 1,
+    /// 32 sensors on IPMB.
+    Sensors = 2,
+}
 
-fn replies_of(serve: Serve, frames: &[Slot], rounds: u64) -> Vec<Slot> {
+/// A controller: hands it the frames in turn, so many times over and once more, and leaves what it sent at last to each.
+type Serve = fn(Kind, &[Slot], u64, &mut [Slot]);
+
+/// The plain controllers, of which the faster counts.
+const PLAIN: [Serve; 2] = [serve::by_options, serve::by_words];
+
+fn replies_of(serve: Serve, kind: Kind, frames: &[Slot], rounds: u64) -> Vec<Slot> {
     let mut replies = vec![Slot::new(&[]); frames.len()];
-    serve(frames, rounds, &mut replies);
+    serve(kind, frames, rounds, &mut replies);
     replies
 }
 
 /// Whether both controllers send the same, after one round and after two.
-fn agree(name: &str, frames: &[Slot]) -> bool {
+fn agree(name: &str, kind: Kind, frames: &[Slot]) -> bool {
     let mut same = true;
-    for rounds in [1, 2] {
-        let proved = replies_of(proved::serve, frames, rounds);
-        let plain = replies_of(plain::serve, frames, rounds);
-        for ((frame, a), b) in frames.iter().zip(&proved).zip(&plain) {
-            if a.as_slice() != b.as_slice() {
-                eprintln!(
-                    "bench: {name}, {rounds} round(s): to {:02X?}",
-                    frame.as_slice()
-                );
-                eprintln!("bench:   proved {:02X?}", a.as_slice());
-                eprintln!("bench:   plain  {:02X?}", b.as_slice());
-                same = false;
+    for rounds in [0, 1] {
+        let proved = replies_of(proved::serve, kind, frames, rounds);
+        for plain in PLAIN {
+            let plain = replies_of(plain, kind, frames, rounds);
+            for ((frame, a), b) in frames.iter().zip(&proved).zip(&plain) {
+                if a.as_slice() != b.as_slice() {
+                    eprintln!(
+                        "bench: {name}, {} round(s): to {:02X?}",
+                        rounds + 1,
+                        frame.as_slice()
+                    );
+                    eprintln!("bench:   proved {:02X?}", a.as_slice());
+                    eprintln!("bench:   plain  {:02X?}", b.as_slice());
+                    same = false;
+                }
             }
         }
     }
     same
 }
 
-/// How many of the frames got a reply of this code.
-fn count(replies: &[Slot], code: u8) -> usize {
+/// How many of the replies have this code at this place.
+fn count(replies: &[Slot], place: usize, code: u8) -> usize {
     replies
         .iter()
-        .filter(|reply| reply.length > 6 && reply.bytes[6] == code)
+        .filter(|reply| reply.length as usize > place + 1 && reply.bytes[place] == code)
         .count()
 }
 
-fn random_agree() -> bool {
-    let frames = frames::random(RANDOM);
-    let replies = replies_of(proved::serve, &frames, 1);
+fn random_agree(kind: Kind) -> bool {
+    let frames = frames::random(kind, RANDOM);
+    let replies = replies_of(proved::serve, kind, &frames, 0);
     let silent = replies.iter().filter(|reply| reply.length == 0).count();
-    eprint!("bench: {RANDOM} frames that look random: {silent} with no reply");
-    for code in [0x00, 0xC1, 0xC2, 0xC7, 0xCB, 0xCC] {
-        eprint!(", {} with {code:02X}h", count(&replies, code));
+    eprint!(
+        "bench: {} frames that look random, {kind:?}: {silent} with no reply",
+        frames.len()
+    );
+    let (place, codes): (usize, &[u8]) = match kind {
+        Kind::Ipmb | Kind::Sensors => (6, &[0x00, 0xC0, 0xC1, 0xC2, 0xC7, 0xCB, 0xCC]),
+        Kind::Smbus => (12, &[0x00, 0x03, 0x04, 0x05, 0x20]),
+    };
+    for code in codes {
+        eprint!(", {} with {code:02X}h", count(&replies, place, *code));
     }
     eprintln!();
-    agree("random", &frames)
+    agree("random", kind, &frames)
 }
 
-/// Requests a second.
-fn speed(serve: Serve, frames: &[Slot]) -> f64 {
+/// Frames a second.
+fn speed(serve: Serve, kind: Kind, frames: &[Slot]) -> f64 {
     let rounds = REQUESTS / frames.len() as u64;
     let mut replies = vec![Slot::new(&[]); frames.len()];
     let start = Instant::now();
-    serve(frames, rounds, &mut replies);
+    serve(kind, frames, rounds - 1, &mut replies);
     let seconds = start.elapsed().as_secs_f64();
     std::hint::black_box(&replies);
     (rounds * frames.len() as u64) as f64 / seconds
 }
 
-fn fastest(speeds: &[f64]) -> f64 {
-    speeds.iter().copied().fold(0.0, f64::max)
+/// The fastest of so many turns, each of all controllers one after another.
+fn fastest<const N: usize>(serves: [Serve; N], work: &Work) -> [f64; N] {
+    let mut best = [0.0; N];
+    for _ in 0..TURNS {
+        for (best, serve) in best.iter_mut().zip(serves) {
+            *best = f64::max(*best, speed(serve, work.kind, &work.frames));
+        }
+    }
+    best
 }
 
 fn measure(work: &Work) {
-    let (mut proved, mut plain) = (Vec::new(), Vec::new());
-    for _ in 0..TURNS {
-        proved.push(speed(proved::serve, &work.frames));
-        plain.push(speed(plain::serve, &work.frames));
-    }
-    let (proved, plain) = (fastest(&proved), fastest(&plain));
+    let [options, words] = PLAIN;
+    let [proved, options, words] = fastest([proved::serve, options, words], work);
     println!(
-        "{:<28} {:>14.0} {:>14.0} {:>7.2}",
+        "{:<28} {:>14.0} {:>14.0} {:>14.0} {:>7.2}",
         work.name,
         proved,
-        plain,
-        proved / plain
+        options,
+        words,
+        proved / f64::max(options, words)
     );
 }
 
 fn main() -> ExitCode {
     let works = frames::works();
-    let mut same = random_agree();
+    let mut same = true;
+    for kind in [Kind::Ipmb, Kind::Smbus, Kind::Sensors] {
+        same &= random_agree(kind);
+    }
     for work in &works {
-        same &= agree(work.name, &work.frames);
+        same &= agree(work.name, work.kind, &work.frames);
     }
     if !same {
         eprintln!("bench: the two controllers differ");
         return ExitCode::FAILURE;
     }
-    println!(
-        "{:<28} {:>14} {:>14} {:>7}",
-        "requests a second", "proved", "plain Rust", "ratio"
-    );
-    match std::env::args().nth(1) {
-        None => works.iter().for_each(measure),
+    match std::env::args().nth(1).as_deref() {
+        None => {
+            println!(
+                "{:<28} {:>14} {:>14} {:>14} {:>7}",
+                "frames a second", "proved", "plain, options", "plain, words", "ratio"
+            );
+            works.iter().for_each(measure);
+        }
+        Some("same") => println!("the controllers send the same bytes"),
         // One list with the proved controller alone, for a profiler.
         Some(place) => {
-            let work = &works[place.parse::<usize>().expect("a number of 0 to 2")];
-            let speeds: Vec<f64> = (0..TURNS)
-                .map(|_| speed(proved::serve, &work.frames))
-                .collect();
-            println!("{:<28} {:>14.0}", work.name, fastest(&speeds));
+            let work = &works[place.parse::<usize>().expect("same, or a number of 0 to 7")];
+            let [speed] = fastest([proved::serve], work);
+            println!("{:<28} {:>14.0}", work.name, speed);
         }
     }
     ExitCode::SUCCESS

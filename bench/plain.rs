@@ -1,18 +1,19 @@
-//! The controller once more in plain Rust, with no proof: the same commands on the same sample board, the same checks in
-//! the same order.
+//! The board and the port on IPMB once more in plain Rust, with no proof: the same commands on the same boards, the same checks in the
+//! same order.
 
-use crate::Slot;
+use crate::windows::{Found, Windows};
 
 const OK: u8 = 0x00;
+const UNINITIALIZED_WATCHDOG: u8 = 0x80;
+const NODE_BUSY: u8 = 0xC0;
 const INVALID_COMMAND: u8 = 0xC1;
 const INVALID_FOR_LUN: u8 = 0xC2;
 const INVALID_LENGTH: u8 = 0xC7;
-const UNINITIALIZED_WATCHDOG: u8 = 0x80;
 const NOT_PRESENT: u8 = 0xCB;
 const INVALID_DATA_FIELD: u8 = 0xCC;
 
 /// The controller's two-wire address.
-const WIRE: u8 = 0x20;
+pub const WIRE: u8 = 0x20;
 
 /// The place of a sensor that isn't there.
 const NOWHERE: u8 = 255;
@@ -25,12 +26,56 @@ const DEVICE: [u8; 11] = [
     0x20, 0x01, 0x01, 0x05, 0x02, 0x07, 0xCD, 0xAB, 0x00, 0x34, 0x12,
 ];
 
+/// What Get Self Test Results replies: no error was found.
+const NO_ERROR: [u8; 2] = [0x55, 0x00];
+
+/// Which events are supported and enabled.
+struct Events {
+    supported: u16,
+    /// Bits 7 and 6: event messages, scanning.
+    flags: u8,
+    assertions: u16,
+    deassertions: u16,
+}
+
+impl Events {
+    /// Data behind the sensor's number: flags, and up to two masks.
+    fn set(&mut self, data: &[u8]) -> u8 {
+        let byte = |place: usize| u16::from(data.get(place).copied().unwrap_or(0));
+        let assertions = byte(1) | byte(2) << 8;
+        let deassertions = byte(3) | byte(4) << 8;
+        let selection = data[0] >> 4 & 3;
+        if selection == 3 {
+            return INVALID_DATA_FIELD;
+        }
+        if selection != 0 && (assertions | deassertions) & !self.supported != 0 {
+            return INVALID_DATA_FIELD;
+        }
+        if selection == 1 {
+            self.assertions |= assertions;
+            self.deassertions |= deassertions;
+        } else if selection == 2 {
+            self.assertions &= !assertions;
+            self.deassertions &= !deassertions;
+        }
+        self.flags = data[0] & 0xC0;
+        OK
+    }
+
+    fn put(&self, reply: &mut Reply) {
+        reply.push(self.flags);
+        reply.extend(&self.assertions.to_le_bytes());
+        reply.extend(&self.deassertions.to_le_bytes());
+    }
+}
+
 struct Sensor {
     number: u8,
     readable: u8,
     settable: u8,
     thresholds: [u8; 6],
     hysteresis: [u8; 2],
+    events: Events,
 }
 
 impl Sensor {
@@ -124,18 +169,18 @@ impl Watchdog {
 }
 
 /// A reply as it grows: its data follow its code.
-struct Reply<'a> {
-    bytes: &'a mut [u8; 80],
-    length: usize,
+pub struct Reply<'a> {
+    pub bytes: &'a mut [u8; 80],
+    pub length: usize,
 }
 
 impl Reply<'_> {
-    fn push(&mut self, byte: u8) {
+    pub fn push(&mut self, byte: u8) {
         self.bytes[self.length] = byte;
         self.length += 1;
     }
 
-    fn extend(&mut self, bytes: &[u8]) {
+    pub fn extend(&mut self, bytes: &[u8]) {
         self.bytes[self.length..self.length + bytes.len()].copy_from_slice(bytes);
         self.length += bytes.len();
     }
@@ -149,6 +194,7 @@ impl Reply<'_> {
 #[derive(Clone, Copy)]
 enum Command {
     GetDeviceId,
+    GetSelfTest,
     GetChassisStatus,
     SetPowerRestorePolicy,
     ResetWatchdog,
@@ -158,21 +204,26 @@ enum Command {
     GetHysteresis,
     SetThresholds,
     GetThresholds,
+    SetEvents,
+    GetEvents,
 }
 
-/// The command, and how many bytes of data it takes.
-fn find_command(net_fn: u8, number: u8) -> Option<(Command, usize)> {
+/// The command, and the least and the most bytes of data that it takes.
+fn find_command(net_fn: u8, number: u8) -> Option<(Command, usize, usize)> {
     Some(match (net_fn, number) {
-        (0x00, 0x01) => (Command::GetChassisStatus, 0),
-        (0x00, 0x06) => (Command::SetPowerRestorePolicy, 1),
-        (0x04, 0x24) => (Command::SetHysteresis, 4),
-        (0x04, 0x25) => (Command::GetHysteresis, 2),
-        (0x04, 0x26) => (Command::SetThresholds, 8),
-        (0x04, 0x27) => (Command::GetThresholds, 1),
-        (0x06, 0x01) => (Command::GetDeviceId, 0),
-        (0x06, 0x22) => (Command::ResetWatchdog, 0),
-        (0x06, 0x24) => (Command::SetWatchdog, 6),
-        (0x06, 0x25) => (Command::GetWatchdog, 0),
+        (0x00, 0x01) => (Command::GetChassisStatus, 0, 0),
+        (0x00, 0x06) => (Command::SetPowerRestorePolicy, 1, 1),
+        (0x04, 0x24) => (Command::SetHysteresis, 4, 4),
+        (0x04, 0x25) => (Command::GetHysteresis, 2, 2),
+        (0x04, 0x26) => (Command::SetThresholds, 8, 8),
+        (0x04, 0x27) => (Command::GetThresholds, 1, 1),
+        (0x04, 0x28) => (Command::SetEvents, 2, 6),
+        (0x04, 0x29) => (Command::GetEvents, 1, 1),
+        (0x06, 0x01) => (Command::GetDeviceId, 0, 0),
+        (0x06, 0x04) => (Command::GetSelfTest, 0, 0),
+        (0x06, 0x22) => (Command::ResetWatchdog, 0, 0),
+        (0x06, 0x24) => (Command::SetWatchdog, 6, 6),
+        (0x06, 0x25) => (Command::GetWatchdog, 0, 0),
         _ => return None,
     })
 }
@@ -196,7 +247,8 @@ fn is_frame(bytes: &[u8]) -> bool {
         && bytes[3] & 1 == 0
 }
 
-pub struct Controller {
+/// A board, without any bus.
+pub struct Board {
     sensors: Vec<Sensor>,
     /// For each number, where its sensor stands.
     places: [u8; 256],
@@ -204,24 +256,8 @@ pub struct Controller {
     watchdog: Watchdog,
 }
 
-impl Controller {
-    /// A controller with the sample board.
-    pub fn new() -> Controller {
-        let temperature = Sensor {
-            number: 5,
-            readable: 0x3F,
-            settable: 0x3F,
-            thresholds: [0x14, 0x0A, 0x05, 0x50, 0x5F, 0x6E],
-            hysteresis: [2, 2],
-        };
-        let fan = Sensor {
-            number: 7,
-            readable: 0x18,
-            settable: 0x38,
-            thresholds: [0, 0, 0, 0x90, 0xA0, 0xB0],
-            hysteresis: [0, 0],
-        };
-        let sensors = vec![temperature, fan];
+impl Board {
+    fn of(sensors: Vec<Sensor>) -> Board {
         let mut places = [NOWHERE; 256];
         for (place, sensor) in sensors.iter().enumerate() {
             places[sensor.number as usize] = place as u8;
@@ -235,12 +271,61 @@ impl Controller {
             countdown: [0, 0],
             is_running: false,
         };
-        Controller {
+        Board {
             sensors,
             places,
             policy: 1,
             watchdog,
         }
+    }
+
+    /// The sample board.
+    pub fn sample() -> Board {
+        let temperature = Sensor {
+            number: 5,
+            readable: 0x3F,
+            settable: 0x3F,
+            thresholds: [0x14, 0x0A, 0x05, 0x50, 0x5F, 0x6E],
+            hysteresis: [2, 2],
+            events: Events {
+                supported: 0xFFF,
+                flags: 0xC0,
+                assertions: 0x200,
+                deassertions: 0,
+            },
+        };
+        let fan = Sensor {
+            number: 7,
+            readable: 0x18,
+            settable: 0x38,
+            thresholds: [0, 0, 0, 0x90, 0xA0, 0xB0],
+            hysteresis: [0, 0],
+            events: Events {
+                supported: 0xFC0,
+                flags: 0,
+                assertions: 0,
+                deassertions: 0,
+            },
+        };
+        Board::of(vec![temperature, fan])
+    }
+
+    /// The sample board, but with the sensors 0 to 31.
+    pub fn of_32() -> Board {
+        let sensor = |number| Sensor {
+            number,
+            readable: 0x3F,
+            settable: 0x3F,
+            thresholds: [0x14, 0x0A, 0x05, 0x50, 0x5F, 0x6E],
+            hysteresis: [2, 2],
+            events: Events {
+                supported: 0,
+                flags: 0,
+                assertions: 0,
+                deassertions: 0,
+            },
+        };
+        Board::of((0..32).map(sensor).collect())
     }
 
     fn sensor(&mut self, number: u8) -> Option<&mut Sensor> {
@@ -264,14 +349,15 @@ impl Controller {
         if frame[1] & 3 != 0 {
             return INVALID_FOR_LUN;
         }
-        let Some((command, length)) = find_command(frame[1] >> 2, frame[5]) else {
+        let Some((command, least, most)) = find_command(frame[1] >> 2, frame[5]) else {
             return INVALID_COMMAND;
         };
-        if data.len() != length {
+        if data.len() < least || data.len() > most {
             return INVALID_LENGTH;
         }
         match command {
             Command::GetDeviceId => reply.extend(&DEVICE),
+            Command::GetSelfTest => reply.extend(&NO_ERROR),
             Command::GetChassisStatus => reply.extend(&[self.policy << 5, 0, 0]),
             Command::SetPowerRestorePolicy => return self.set_policy(data[0], reply),
             Command::ResetWatchdog => return self.watchdog.reset(),
@@ -290,16 +376,36 @@ impl Controller {
             Command::SetHysteresis => sensor.hysteresis.copy_from_slice(&data[2..4]),
             Command::GetHysteresis => reply.extend(&sensor.hysteresis),
             Command::SetThresholds => return sensor.set_thresholds(data[1], &data[2..]),
+            Command::SetEvents => return sensor.events.set(&data[1..]),
+            Command::GetEvents => sensor.events.put(reply),
             _ => sensor.put_thresholds(reply),
         }
         OK
     }
+}
+
+/// A port on IPMB, which keeps the frames of requests and of their replies.
+pub struct Port<W> {
+    windows: W,
+}
+
+impl<W: Windows> Port<W> {
+    pub fn new() -> Self {
+        Port { windows: W::new() }
+    }
 
     /// Takes a frame that was heard, writes the reply's frame and gives its length, 0 where none is sent.
-    pub fn on_frame(&mut self, frame: &[u8], bytes: &mut [u8; 80]) -> usize {
+    pub fn on_frame(&mut self, board: &mut Board, frame: &[u8], bytes: &mut [u8; 80]) -> usize {
         if !is_frame(frame) || frame[0] != WIRE || frame[1] >> 2 & 1 == 1 {
             return 0;
         }
+        let (requester, number) = (frame[3], frame[4] >> 2);
+        let found = self.windows.find(requester, number, frame);
+        if let Found::Repeats(reply) = found {
+            bytes[..reply.len()].copy_from_slice(reply);
+            return reply.len();
+        }
+        let is_busy = matches!(found, Found::Busy);
         let mut reply = Reply { bytes, length: 0 };
         let function = (frame[1] & !3) + 4 | frame[4] & 3;
         reply.extend(&[
@@ -308,22 +414,19 @@ impl Controller {
             0u8.wrapping_sub(frame[3]).wrapping_sub(function),
         ]);
         reply.extend(&[frame[0], frame[4] & !3 | frame[1] & 3, frame[5], OK]);
-        let code = self.serve(frame, &mut reply);
+        let code = if is_busy {
+            NODE_BUSY
+        } else {
+            board.serve(frame, &mut reply)
+        };
         reply.code(code);
         let check = 0u8.wrapping_sub(sum(&reply.bytes[3..reply.length]));
         reply.push(check);
-        reply.length
-    }
-}
-
-/// Hands the frames in turn, so many times over, to a fresh controller with the sample board, and leaves what it sent at
-/// last to each.
-#[inline(never)]
-pub fn serve(frames: &[Slot], rounds: u64, replies: &mut [Slot]) {
-    let mut controller = Controller::new();
-    for _ in 0..rounds {
-        for (frame, reply) in frames.iter().zip(replies.iter_mut()) {
-            reply.length = controller.on_frame(frame.as_slice(), &mut reply.bytes) as u8;
+        let length = reply.length;
+        if !is_busy {
+            self.windows
+                .keep(requester, number, frame, &bytes[..length]);
         }
+        length
     }
 }

@@ -57,6 +57,15 @@ fn get_device_id(requester: u8, numbers: u8) -> [u8; 7] {
     [0x20, 0x18, 0xC8, requester, numbers, 0x01, check]
 }
 
+/// The response to this requester's Get Device ID with sequence number 0.
+fn device_id_reply(requester: u8) -> [u8; 19] {
+    let check = sum8(&[requester, 0x1C]);
+    [
+        requester, 0x1C, check, 0x20, 0x00, 0x01, 0x00, 0x20, 0x01, 0x01, 0x05, 0x02, 0x07, 0xCD,
+        0xAB, 0x00, 0x34, 0x12, 0xF1,
+    ]
+}
+
 /// What the port does with Get Device ID.
 fn done(lab: &mut Lab, out: &mut Out, requester: u8, numbers: u8) -> Done {
     lab.port
@@ -138,6 +147,7 @@ fn of_120_requesters_eight_are_answered(rt: HostRuntime) -> Result<(), Fail> {
     }
     for place in 0..8_u8 {
         assert_eq!(rt; done(&mut lab, &mut out, place * 2, 0), Done::Repeated);
+        expect_sent(&rt, &out, Done::Repeated, &device_id_reply(place * 2));
     }
     Ok(())
 }

@@ -1,0 +1,63 @@
+//! The boards that serve requests.
+ghost use Rattle.std.specs.Prelude.{◌<◌};
+
+use bmc_core::Board;
+use cfg_records::{
+    BoardFile, Distinct, EventEnable, EventMasks, Hysteresis, PlainStore, Sensor, ThresholdMasks,
+    Thresholds, sample_board,
+};
+use std::alloc::{AllocError, Global};
+
+/// A board with this file's records.
+fn open(alloc: Global, file: BoardFile) -> Result<Board<PlainStore>, AllocError> {
+    let store = PlainStore::of_file(alloc, &file)?;
+    Board::open(alloc, file, store)
+}
+
+/// The sample board.
+pub(crate) fn sample(alloc: Global) -> Result<Board<PlainStore>, AllocError> {
+    let file = sample_board(alloc)?;
+    open(alloc, file)
+}
+
+/// A sensor of this number, all of whose thresholds can be read and set, and which has no events.
+fn sensor(number: u8) -> Sensor
+    requires { number < 255 }
+{
+    Sensor {
+        number,
+        thresholds: Thresholds {
+            masks: ThresholdMasks {
+                readable: 0x3F,
+                settable: 0x3F,
+            },
+            values: [0x14, 0x0A, 0x05, 0x50, 0x5F, 0x6E],
+        },
+        hysteresis: Hysteresis {
+            positive: 2,
+            negative: 2,
+        },
+        events: EventEnable {
+            supported: 0,
+            messages: false,
+            scanning: false,
+            enabled: EventMasks {
+                assertions: 0,
+                deassertions: 0,
+            },
+        },
+    }
+}
+
+/// The sample board, but with the sensors 0 to 31.
+pub(crate) fn board_of_32(alloc: Global) -> Result<Board<PlainStore>, AllocError> {
+    let mut sensors = Vec::with_capacity(alloc, 32)?;
+    for number in 0..32_u8 {
+        sensors.push(sensor(number))?;
+    }
+    let file = sample_board(alloc)?;
+    match Distinct::new(sensors) {
+        Some(sensors) => open(alloc, BoardFile { sensors, ..file }),
+        None => open(alloc, file),
+    }
+}
