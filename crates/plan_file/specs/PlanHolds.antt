@@ -149,6 +149,8 @@ HoldsStep tree (op.Watchdog set) = (kind_in tree ≡ Some kind.Watchdog) × Hold
 HoldsStep tree (op.PowerPolicy set) = (kind_in tree ≡ Some kind.PowerPolicy) × HoldsPowerPolicy tree set
 HoldsStep tree (op.GlobalEnables set) = (kind_in tree ≡ Some kind.GlobalEnables) × HoldsGlobalEnables tree set
 HoldsStep tree (op.BootParam set) = (kind_in tree ≡ Some kind.BootParam) × HoldsBootParam tree set
+-- no kind of step changes a numeric effecter
+HoldsStep tree (op.NumericEffecter set) = ⊥
 
 -- the member of an array holds a change
 abbrev pub IsStepIn : Data → Op → Type 0

@@ -39,6 +39,7 @@ fn board(alloc: Global) -> Result<Board<PlainStore>, Fail> {
         policy: sample.policy,
         watchdog: sample.watchdog,
         enables: sample.enables,
+        boot: sample.boot,
         numeric_effecters: Distinct::new(effecters).ok_or("effecters")?,
     };
     let store = PlainStore::of_file(alloc, &file)?;
