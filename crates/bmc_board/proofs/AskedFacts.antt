@@ -1,17 +1,25 @@
 -- What every request asks for has in common, by one test of each line of the tables.
-use Rattle.std.proofs.Common.{◌≡◌, ◌≢◌, ℕ, ◌≤◌, nat_le, List, [], ◌∷◌, Option, Some, None, Result, Ok, Err, Bool, true, false, not, if◌then◌else◌, ◌==◌, ◌&&◌, ◌||◌, find, length, refl, arith}
+use Rattle.std.proofs.Common.{◌≡◌, ◌≢◌, ℕ, ◌≤◌, nat_le, List, [], ◌∷◌, Option, Some, None, Result, Ok, Err, Bool, true, false, not, if◌then◌else◌, ◌==◌, ◌&&◌, ◌||◌, find, drop, length, ◌%◌, refl, arith}
 use Rattle.std.specs.List.{list_all}
 use Rattle.std.proofs.lemmas.Bool.Decides.{nat_tests}
 use Rattle.two_wire.specs.Codes.{node_busy, pldm_not_ready, invalid_command, invalid_for_lun, invalid_length, pldm_unsupported_command, pldm_invalid_type, pldm_invalid_length}
 use Rattle.cfg_records.specs.Meaning.{room_for}
 use Rattle.cfg_records.specs.declared.message.Asked.{Asked}
 use Rattle.cfg_records.specs.declared.message.Asked.TheVariants.{Ipmi, Pldm}
+use Rattle.cfg_records.specs.declared.boot_param.BootParameter.{BootParameter}
+use Rattle.cfg_records.specs.declared.boot_param.BootParameter.TheVariants as parameter
+use Rattle.cfg_records.specs.Masks.{has}
+use Rattle.cfg_records.specs.Requests.{byte_at}
+use Rattle.watch_boot.specs.declared.boot_request.BootShown.TheVariants as shown
+use Rattle.cfg_records.specs.BootParam.{parameter_at}
+use Rattle.watch_boot.specs.BootRequests.{progress_in, change_in, with_mark, param_in, shown_in}
+use Rattle.bmc_board.specs.declared.command.Command.TheVariants as command
 use Rattle.bmc_board.specs.declared.command.Line.{Line}
 use Rattle.bmc_board.specs.declared.request.Refusals.{Refusals}
 use Rattle.bmc_board.specs.Request.{Request}
 use Rattle.bmc_board.specs.Request.{Live, Get, Set}
 use Rattle.bmc_board.specs.Table.{Listed, table, pldm_table, line_in, line_under, line_of, pldm_line_of, is_allowed, is_pldm_type, changes, is_changing}
-use Rattle.bmc_board.specs.Request.{request_of, asked_at, asked_by, ipmi_refusals, pldm_refusals}
+use Rattle.bmc_board.specs.Request.{boot_set, boot_get, request_of, asked_at, asked_by, ipmi_refusals, pldm_refusals}
 use Rattle.bmc_board.specs.Room.{longest_reply}
 use Rattle.bmc_board.specs.AnyAnswer.{IsCode}
 
@@ -43,9 +51,58 @@ is_right room changing (Err code) = is_code code
 abbrev asks_rightly : ℕ → List ℕ → Line → Bool
 asks_rightly room body line = is_right room line.changing (request_of line.command body)
 
+both_right : (a b : Bool) → a ≡ true → b ≡ true → (a && b) ≡ true
+both_right true true p q = refl
+both_right true false p q = q
+both_right false b p q = p
+
+change_right : (invalid : Bool) (parameter : BootParameter) (rest : List ℕ) → is_right 24 true (boot_set (with_mark invalid (change_in parameter rest))) ≡ true
+change_right invalid parameter.ValidBitClearing [] = refl
+change_right invalid parameter.InfoAcknowledge [] = refl
+change_right invalid parameter.Flags [] = refl
+change_right invalid parameter.ValidBitClearing (a ∷ []) = refl
+change_right invalid parameter.ValidBitClearing (a ∷ b ∷ rest) = refl
+change_right invalid parameter.InfoAcknowledge (a ∷ []) = refl
+change_right invalid parameter.InfoAcknowledge (a ∷ b ∷ []) = refl
+change_right invalid parameter.InfoAcknowledge (a ∷ b ∷ c ∷ rest) = refl
+change_right invalid parameter.Flags (a ∷ []) = refl
+change_right invalid parameter.Flags (a ∷ b ∷ []) = refl
+change_right invalid parameter.Flags (a ∷ b ∷ c ∷ []) = refl
+change_right invalid parameter.Flags (a ∷ b ∷ c ∷ d ∷ []) = refl
+change_right invalid parameter.Flags (a ∷ b ∷ c ∷ d ∷ e ∷ []) = refl
+change_right invalid parameter.Flags (a ∷ b ∷ c ∷ d ∷ e ∷ f ∷ rest) = refl
+
+progress_right : (rest : List ℕ) → is_right 24 true (boot_set (progress_in rest)) ≡ true
+progress_right [] = refl
+progress_right (a ∷ []) = refl
+progress_right (a ∷ b ∷ rest) = refl
+
+param_right : (invalid : Bool) (rest : List ℕ) (found : Option BootParameter) → is_right 24 true (boot_set (param_in invalid rest found)) ≡ true
+param_right invalid rest (Some parameter) = change_right invalid parameter rest
+param_right invalid rest None = refl
+
+set_right_where : (b invalid : Bool) (rest : List ℕ) (found : Option BootParameter) → is_right 24 true (boot_set (if b then progress_in rest else param_in invalid rest found)) ≡ true
+set_right_where true invalid rest found = progress_right rest
+set_right_where false invalid rest found = param_right invalid rest found
+
+-- so do the commands of the boot options
+set_right : (body : List ℕ) → is_right 24 true (request_of command.SetBootOptions body) ≡ true
+set_right body = set_right_where (byte_at body 0 % 128 == 0) (has (byte_at body 0) 7) (drop 1 body) (parameter_at (byte_at body 0 % 128))
+
+shown_right : (found : Option BootParameter) → is_right 24 false (boot_get (shown_in found)) ≡ true
+shown_right (Some parameter) = refl
+shown_right None = refl
+
+get_right_where : (b : Bool) (found : Option BootParameter) → is_right 24 false (boot_get (if b then Ok shown.Progress else shown_in found)) ≡ true
+get_right_where true found = refl
+get_right_where false found = shown_right found
+
+get_right : (body : List ℕ) → is_right 24 false (request_of command.GetBootOptions body) ≡ true
+get_right body = get_right_where (byte_at body 0 % 128 == 0) (parameter_at (byte_at body 0 % 128))
+
 -- whatever the data is, each line of the tables passes it
 all_right : (body : List ℕ) → list_all (λ (l : Listed). asks_rightly 24 body l.line) table ≡ true
-all_right body = refl
+all_right body = both_right _ _ (set_right body) (both_right _ _ (get_right body) refl)
 
 all_pldm_right : (body : List ℕ) → list_all (λ (l : Listed). asks_rightly 251 body l.line) pldm_table ≡ true
 all_pldm_right body = refl

@@ -1,6 +1,6 @@
 -- What every live command has in common: a line for each.
-use Rattle.std.proofs.Common.{◌≤◌, ℕ, List, [], length, Option, Some, None, Bool, true, false, if◌then◌else◌, refl, arith, lit≤}
-use Rattle.two_wire.specs.Codes.{success, uninitialized_watchdog}
+use Rattle.std.proofs.Common.{◌≤◌, ℕ, List, [], length, Option, Some, None, Bool, true, false, ◌==◌, if◌then◌else◌, refl, arith, lit≤}
+use Rattle.two_wire.specs.Codes.{success, uninitialized_watchdog, invalid_data_field}
 use Rattle.cfg_records.specs.Meaning.{IsRefusal}
 use Rattle.cfg_records.specs.Records.{Records}
 use Rattle.cfg_records.specs.declared.key.Key.TheVariants as key
@@ -9,7 +9,7 @@ use Rattle.bmc_board.specs.declared.activity.Activity.{Activity}
 use Rattle.bmc_board.specs.declared.live.LiveCommand.TheVariants as live
 use Rattle.bmc_board.specs.Replies.{done, refused}
 use Rattle.bmc_board.specs.AnyAnswer.{IsCode, UnknownIsRefused}
-use Rattle.bmc_board.specs.Live.{reset_answer, longest_live_reply}
+use Rattle.bmc_board.specs.Live.{reset_answer, already_in_progress, with_progress, begun, progress_answer, longest_live_reply}
 use Rattle.bmc_board.specs.AnyLive.{IsLive, AreLive}
 use Rattle.bmc_board.proofs.AskedFacts.{code_of}
 
@@ -27,7 +27,16 @@ not_present_refuses = record {
   is_ready = λ same. omega arith;
 }
 
+no_effecter_refuses : IsRefusal 0x80
+no_effecter_refuses = record {
+  is_fault = omega arith;
+  is_byte = omega arith;
+  not_busy = λ same. omega arith;
+  is_ready = λ same. omega arith;
+}
+
 pub unknown_is_refused : UnknownIsRefused
+unknown_is_refused setup (key.NumericEffecter id) = no_effecter_refuses
 unknown_is_refused setup _ = not_present_refuses
 
 -- ---- live commands
@@ -48,9 +57,25 @@ resets : (records : Records) (value : Option (List ℕ)) (unknown : ℕ) (before
 resets records (Some value) unknown before is = reset_where records value before (was_set value)
 resets records None unknown before is = is_refused records before unknown is
 
+progress_where : (records : Records) (before : Activity) (progress : Bool) → IsLive records before (begun progress before)
+progress_where records before true = is_refused records before _ (code_of already_in_progress refl)
+progress_where records before false = is_done records before _ [] (omega arith)
+
+progress_tests : (records : Records) (before : Activity) (a b : Bool)
+    → IsLive records before (if a then (done [], with_progress before false) else (if b then begun before.boot_progress before else (refused invalid_data_field, before)))
+progress_tests records before true b = is_done records before _ [] (omega arith)
+progress_tests records before false true = progress_where records before before.boot_progress
+progress_tests records before false false = is_refused records before _ (code_of invalid_data_field refl)
+
+progresses : (records : Records) (before : Activity) (byte : Option ℕ) → IsLive records before (progress_answer byte before)
+progresses records before None = is_done records before before [] (omega arith)
+progresses records before (Some byte) = progress_tests records before (byte == 0) (byte == 1)
+
 pub are_live : AreLive
 are_live setup records before live.GetDeviceId = is_done records before before _ (lit≤ tt)
 are_live setup records before live.GetSelfTestResults = is_done records before before _ (lit≤ tt)
 are_live setup records before live.ResetWatchdog = resets records (records key.Watchdog) _ before (refusal_code _ (unknown_is_refused setup key.Watchdog))
+are_live setup records before (live.SetBootProgress byte) = progresses records before byte
+are_live setup records before live.GetBootProgress = is_done records before before _ (lit≤ tt)
 are_live setup records before live.GetTid = is_done records before before _ (lit≤ tt)
 are_live setup records before live.GetPldmTypes = is_done records before before _ (lit≤ tt)

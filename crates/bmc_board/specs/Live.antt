@@ -1,6 +1,6 @@
 -- What live commands do: commands that ask for no configuration record (IPMI 2.0; DSP0240, "GetTID" and "GetPLDMTypes").
-use Rattle.std.specs.Prelude.{ℕ, ◌/◌, ◌%◌, List, [], ◌∷◌, Option, Some, None, if◌then◌else◌}
-use Rattle.two_wire.specs.Codes.{uninitialized_watchdog}
+use Rattle.std.specs.Prelude.{ℕ, ◌/◌, ◌%◌, List, [], ◌∷◌, Option, Some, None, Bool, true, false, ◌==◌, if◌then◌else◌}
+use Rattle.two_wire.specs.Codes.{uninitialized_watchdog, invalid_data_field}
 use Rattle.cfg_records.specs.Records.{Records}
 use Rattle.cfg_records.specs.declared.key.Key.TheVariants as key
 use Rattle.cfg_records.specs.declared.message.Answered.{Answered}
@@ -33,11 +33,39 @@ reset_answer (Some value) unknown before =
     if was_set value then (done [], record before { live = live_after_reset value before.live }) else (refused uninitialized_watchdog, before)
 reset_answer None unknown before = (refused unknown, before)
 
+-- what parameter 0 of the boot options shows: version 1, the selector 0 without a mark, and whether a set is in progress
+abbrev pub progress_byte : Bool → ℕ
+progress_byte true = 1
+progress_byte false = 0
+
+abbrev pub progress_data : Bool → List ℕ
+progress_data progress = 1 ∷ 0 ∷ progress_byte progress ∷ []
+
+-- the code of a set that is in progress already
+abbrev pub already_in_progress : ℕ
+already_in_progress = 0x81
+
+abbrev pub with_progress : Activity → Bool → Activity
+with_progress before progress = record before { boot_progress = progress }
+
+-- a set in progress is begun where none is
+abbrev pub begun : Bool → Activity → Answered × Activity
+begun true before = (refused already_in_progress, before)
+begun false before = (done [], with_progress before true)
+
+-- parameter 0 becomes 00h or 01h, and without a byte it stays
+abbrev pub progress_answer : Option ℕ → Activity → Answered × Activity
+progress_answer None before = (done [], before)
+progress_answer (Some byte) before =
+    if byte == 0 then (done [], with_progress before false) else (if byte == 1 then begun before.boot_progress before else (refused invalid_data_field, before))
+
 -- the reply to each live command, and what it leaves of what isn't configuration
 abbrev pub live_answer : BoardFile → Records → Activity → LiveCommand → Answered × Activity
 live_answer setup records before live.GetDeviceId = (done (device_data setup.device), before)
 live_answer setup records before live.GetSelfTestResults = (done no_error, before)
 live_answer setup records before live.ResetWatchdog = reset_answer (records key.Watchdog) (unknown_code setup key.Watchdog) before
+live_answer setup records before (live.SetBootProgress byte) = progress_answer byte before
+live_answer setup records before live.GetBootProgress = (done (progress_data before.boot_progress), before)
 live_answer setup records before live.GetTid = (done (setup.tid ∷ []), before)
 live_answer setup records before live.GetPldmTypes = (done pldm_types, before)
 

@@ -14,6 +14,13 @@ use Rattle.sensor_recs.specs.EventEnable.{event_enable_in}
 use Rattle.watch_boot.specs.PowerPolicy.{policy_in}
 use Rattle.watch_boot.specs.Watchdog.{watchdog_in}
 use Rattle.watch_boot.specs.GlobalEnables.{enables_in}
+use Rattle.watch_boot.specs.declared.boot_request.BootRequest.{BootRequest}
+use Rattle.watch_boot.specs.declared.boot_request.BootRequest.TheVariants.{Progress, Param}
+use Rattle.watch_boot.specs.declared.boot_request.BootShown.{BootShown}
+use Rattle.watch_boot.specs.declared.boot_request.BootShown.TheVariants as shown
+use Rattle.watch_boot.specs.BootRequests.{boot_request_in, boot_shown_in}
+use Rattle.effecter_recs.specs.Requests.{id_in}
+use Rattle.effecter_recs.specs.Numeric.{numeric_effecter_in}
 use Rattle.bmc_board.specs.declared.command.Command.{Command}
 use Rattle.bmc_board.specs.declared.command.Command.TheVariants as command
 use Rattle.bmc_board.specs.declared.command.GetCommand.{GetCommand}
@@ -22,6 +29,7 @@ use Rattle.bmc_board.specs.declared.command.SetCommand.{SetCommand}
 use Rattle.bmc_board.specs.declared.command.SetCommand.TheVariants as set
 use Rattle.bmc_board.specs.declared.command.Line.{Line}
 use Rattle.bmc_board.specs.declared.live.LiveCommand.{LiveCommand}
+use Rattle.bmc_board.specs.declared.live.LiveCommand.TheVariants as live
 use Rattle.bmc_board.specs.declared.request.Refusals.{Refusals}
 use Rattle.bmc_board.specs.Table.{line_of, pldm_line_of, is_allowed, is_pldm_type}
 
@@ -39,6 +47,7 @@ key_in get.GetSensorEventEnable body = key.EventEnable (byte_at body 0)
 key_in get.GetChassisStatus body = key.PowerPolicy
 key_in get.GetWatchdogTimer body = key.Watchdog
 key_in get.GetGlobalEnables body = key.GlobalEnables
+key_in get.GetNumericEffecterValue body = key.NumericEffecter (id_in body)
 
 -- the change that a command makes
 abbrev pub op_in : SetCommand → List ℕ → Op
@@ -48,12 +57,26 @@ op_in set.SetSensorEventEnable body = op.EventEnable (event_enable_in body)
 op_in set.SetPowerRestorePolicy body = op.PowerPolicy (policy_in body)
 op_in set.SetWatchdogTimer body = op.Watchdog (watchdog_in body)
 op_in set.SetGlobalEnables body = op.GlobalEnables (enables_in body)
+op_in set.SetNumericEffecterValue body = op.NumericEffecter (numeric_effecter_in body)
+
+-- what the commands of the system boot options ask for
+abbrev pub boot_set : Result BootRequest ℕ → Result Request ℕ
+boot_set (Ok (Progress byte)) = Ok (Live (live.SetBootProgress byte))
+boot_set (Ok (Param change)) = Ok (Set (op.BootParam change))
+boot_set (Err code) = Err code
+
+abbrev pub boot_get : Result BootShown ℕ → Result Request ℕ
+boot_get (Ok shown.Progress) = Ok (Live live.GetBootProgress)
+boot_get (Ok (shown.Param parameter)) = Ok (Get (key.BootParam parameter))
+boot_get (Err code) = Err code
 
 -- what a command asks for with data of a length that it takes, or the code that refuses the data
 abbrev pub request_of : Command → List ℕ → Result Request ℕ
-request_of (command.Live live) body = Ok (Live live)
+request_of (command.Live command) body = Ok (Live command)
 request_of (command.Get get) body = Ok (Get (key_in get body))
 request_of (command.Set set) body = Ok (Set (op_in set body))
+request_of command.SetBootOptions body = boot_set (boot_request_in body)
+request_of command.GetBootOptions body = boot_get (boot_shown_in body)
 
 -- the same of a command that was read, or the code that refused the request
 abbrev pub asked_of : Result Command ℕ → List ℕ → Result Request ℕ

@@ -1,5 +1,5 @@
 -- What requests may change of a board.
-use Rattle.std.specs.Prelude.{◌≡◌}
+use Rattle.std.specs.Prelude.{◌≡◌, false}
 use Rattle.cfg_records.specs.Records.{Records, records_of}
 use Rattle.cfg_records.specs.Boards.{pairs_of}
 use Rattle.cfg_records.specs.Opening.{opening as live_at_opening}
@@ -21,7 +21,7 @@ state_of records board = state (records board.store) board.activity
 
 -- what isn't configuration, as a board begins
 abbrev pub opening : Activity
-opening = record { live = live_at_opening }
+opening = record { live = live_at_opening; boot_progress = false }
 
 -- the state of a board of this file that has heard nothing yet
 abbrev pub opened : BoardFile → State

@@ -1,4 +1,4 @@
--- The tables of commands (IPMI 2.0; DSP0240, "GetTID" and "GetPLDMTypes"): one line each.
+-- The tables of commands (IPMI 2.0; DSP0240, "GetTID" and "GetPLDMTypes"; DSP0248, commands of effecters): one line each.
 use Rattle.std.specs.Prelude.{ℕ, List, [], ◌∷◌, Option, Some, None, Bool, true, false, find, nat_le, ◌==◌, ◌&&◌, ◌||◌}
 use Rattle.cfg_records.specs.declared.message.Asked.{Asked}
 use Rattle.cfg_records.specs.declared.message.Asked.TheVariants.{Ipmi, Pldm}
@@ -25,6 +25,8 @@ abbrev pub table : List Listed
 table =
     listed 0x00 0x01 (Exactly 0) false (command.Get get.GetChassisStatus) ∷
     listed 0x00 0x06 (Exactly 1) true (command.Set set.SetPowerRestorePolicy) ∷
+    listed 0x00 0x08 (AtLeast 1) true command.SetBootOptions ∷
+    listed 0x00 0x09 (Exactly 3) false command.GetBootOptions ∷
     listed 0x04 0x24 (Exactly 4) true (command.Set set.SetSensorHysteresis) ∷
     listed 0x04 0x25 (Exactly 2) false (command.Get get.GetSensorHysteresis) ∷
     listed 0x04 0x26 (Exactly 8) true (command.Set set.SetSensorThresholds) ∷
@@ -45,6 +47,8 @@ abbrev pub pldm_table : List Listed
 pldm_table =
     listed 0x00 0x02 (Exactly 0) false (command.Live live.GetTid) ∷
     listed 0x00 0x04 (Exactly 0) false (command.Live live.GetPldmTypes) ∷
+    listed 0x02 0x31 (AtLeast 4) true (command.Set set.SetNumericEffecterValue) ∷
+    listed 0x02 0x32 (Exactly 2) false (command.Get get.GetNumericEffecterValue) ∷
     []
 
 abbrev pub line_in : Option Listed → Option Line

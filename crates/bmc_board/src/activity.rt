@@ -9,6 +9,8 @@ use cfg_records::Live;
 pub struct Activity {
     /// What Get replies show beside records: the one part that kinds of record see.
     pub live: Live,
+    /// Boot parameter 0, set in progress: whether a requester says that it sets boot options (IPMI 2.0).
+    pub boot_progress: bool,
 }
 
 impl Activity {
@@ -18,6 +20,7 @@ impl Activity {
     {
         Activity {
             live: Live::opening(),
+            boot_progress: false,
         }
     }
 }

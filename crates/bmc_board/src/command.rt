@@ -14,6 +14,10 @@ pub enum Command {
     Get(GetCommand),
     /// A command that changes a record.
     Set(SetCommand),
+    /// Set System Boot Options: it sets parameter 0, or a record.
+    SetBootOptions,
+    /// Get System Boot Options: it shows parameter 0, or a record.
+    GetBootOptions,
 }
 
 /// A command that shows a record.
@@ -25,6 +29,7 @@ pub enum GetCommand {
     GetChassisStatus,
     GetWatchdogTimer,
     GetGlobalEnables,
+    GetNumericEffecterValue,
 }
 
 /// A command that changes a record.
@@ -36,6 +41,7 @@ pub enum SetCommand {
     SetPowerRestorePolicy,
     SetWatchdogTimer,
     SetGlobalEnables,
+    SetNumericEffecterValue,
 }
 
 /// How many bytes of data a command takes.
@@ -94,6 +100,8 @@ pub fn find_line(net_fn: u8, number: u8) -> Option<Line>
     Some(match (net_fn, number) {
         (0x00, 0x01) => entry(Get(GetChassisStatus), Exactly(0), false),
         (0x00, 0x06) => entry(Set(SetPowerRestorePolicy), Exactly(1), true),
+        (0x00, 0x08) => entry(SetBootOptions, AtLeast(1), true),
+        (0x00, 0x09) => entry(GetBootOptions, Exactly(3), false),
         (0x04, 0x24) => entry(Set(SetSensorHysteresis), Exactly(4), true),
         (0x04, 0x25) => entry(Get(GetSensorHysteresis), Exactly(2), false),
         (0x04, 0x26) => entry(Set(SetSensorThresholds), Exactly(8), true),
@@ -116,11 +124,15 @@ pub fn find_pldm_line(kind: u8, number: u8) -> Option<Line>
     ensures { result ≡ pldm_line_of kind number }
 {
     use Command::*;
+    use GetCommand::*;
     use Lengths::*;
     use LiveCommand::*;
+    use SetCommand::*;
     Some(match (kind, number) {
         (0x00, 0x02) => entry(Live(GetTid), Exactly(0), false),
         (0x00, 0x04) => entry(Live(GetPldmTypes), Exactly(0), false),
+        (0x02, 0x31) => entry(Set(SetNumericEffecterValue), AtLeast(4), true),
+        (0x02, 0x32) => entry(Get(GetNumericEffecterValue), Exactly(2), false),
         _ => return None,
     })
 }

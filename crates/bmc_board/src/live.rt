@@ -1,8 +1,9 @@
 //! Live commands: those that ask for no configuration record.
 ghost use Rattle.std.specs.Prelude.{◌≡◌, ◌/◌, ◌%◌};
-ghost use Rattle.bmc_board.specs.Live.{device_data};
+ghost use Rattle.bmc_board.specs.Live.{device_data, already_in_progress, progress_data};
 
 use cfg_records::Device;
+use two_wire::Code;
 
 /// A command that asks for no record, and leaves all of them.
 #[derive(Clone, Copy, Debug, PartialEq, Eq)]
@@ -10,6 +11,10 @@ pub enum LiveCommand {
     GetDeviceId,
     GetSelfTestResults,
     ResetWatchdog,
+    /// Set System Boot Options, of parameter 0: what it becomes.
+    SetBootProgress(Option<u8>),
+    /// Get System Boot Options, of parameter 0.
+    GetBootProgress,
     GetTid,
     GetPldmTypes,
 }
@@ -39,4 +44,21 @@ pub(crate) fn device_data(device: &Device) -> [u8; 11]
         (product % 256) as u8,
         (product / 256) as u8,
     ]
+}
+
+/// The code of a set of boot options that is in progress already (IPMI 2.0, Set System Boot Options).
+const ALREADY_IN_PROGRESS: u8 = 0x81;
+
+/// That code.
+pub(crate) fn already_in_progress() -> Code
+    ensures { result ≡ already_in_progress }
+{
+    Code::new(ALREADY_IN_PROGRESS).unwrap()
+}
+
+/// What Get System Boot Options replies of parameter 0.
+pub(crate) fn progress_data(progress: bool) -> [u8; 3]
+    ensures { result ≡ progress_data progress }
+{
+    [0x01, 0x00, if progress { 1 } else { 0 }]
 }

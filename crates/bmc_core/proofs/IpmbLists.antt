@@ -1,16 +1,17 @@
 -- What holds of lists of what comes to a port on IPMB.
-use Rattle.std.proofs.Common.{◌≡◌, ◌≢◌, List, [], ◌∷◌, Result, Ok, Err, refl, sym, ◌∙◌, ap}
+use Rattle.std.proofs.Common.{◌≡◌, ℕ, ◌≢◌, List, [], ◌∷◌, ◌++◌, map, Some, None, Ok, Err, refl, ◌∙◌, ap}
 use Rattle.ipmb_frame.specs.declared.message.Request.{Request}
-use Rattle.cfg_records.specs.declared.message.Answered.{Answered}
 use Rattle.cfg_records.specs.declared.board_file.BoardFile.{BoardFile}
 use Rattle.bus_model.specs.Request.{Kept}
 use Rattle.bus_model.specs.Numbering.{is_above}
 use Rattle.bus_model.specs.Carried.{Outcome, Repeats, IsBusy, IsNew, log_after, reply_after, outcomes}
 use Rattle.bmc_board.specs.State.{State}
 use Rattle.bmc_board.specs.Answer.{answer_of}
+use Rattle.lab_model.specs.Values.{written}
 use Rattle.lab_model.specs.PortSteps.{PortState, Deed, left_by, asked_in, response_after, hears_request, turn}
+use Rattle.bmc_core.specs.Rule.{logs_with, replies}
 use Rattle.bmc_core.specs.IpmbShown.{outcome_at, kept_of}
-use Rattle.bmc_core.specs.IpmbRuns.{told_deed, IsHeardThenTold, logs_with, Coming, Comes, IsTold, IsIdle, port_after, ports_after, brought, done_with_told, KeepsTheRule, Happening, Hears, Idles, Others, Ends, ends_after, all_after, heard_in_all, done_in_all, CarriesTheRule}
+use Rattle.bmc_core.specs.IpmbRuns.{IsHeardThenTold, Coming, Comes, IsTold, IsIdle, port_after, ports_after, brought, done_with_told, Replied, response_of, settled_then, replied, sent_when_heard, all_sent, KeepsTheRule, Happening, Hears, Idles, Others, Ends, ends_after, all_after, heard_in_all, done_in_all, requests_in, responses, sent_in_all, CarriesTheRule}
 
 -- ---- one request
 
@@ -40,7 +41,7 @@ module _ (setup : BoardFile) (p : PortState) (before : State) (r : Request) wher
 
 -- ---- lists with no board in them
 
-told_log : (p : PortState) (cs : List Coming) → (ports_after p cs).log ≡ logs_with (brought cs) p.log
+told_log : (p : PortState) (cs : List Coming) → (ports_after p cs).log ≡ logs_with (is_above 64) (brought cs) p.log
 told_log p [] = refl
 told_log p (Comes heard ∷ cs) = told_log p cs
 told_log p (IsTold r a ∷ cs) = told_log (port_after p (IsTold r a)) cs
@@ -52,17 +53,31 @@ told_done p (Comes heard ∷ cs) = told_done p cs
 told_done p (IsTold r a ∷ cs) = ap (λ (os : List Outcome). outcome_at p r ∷ os) (told_done (port_after p (IsTold r a)) cs)
 told_done p (IsIdle requester ∷ cs) = told_done (port_after p (IsIdle requester)) cs
 
+settled_sent : (r : Request) (o : Outcome) (frames : List (List ℕ)) (rest : List Replied) → frames ≡ map response_of rest
+    → sent_when_heard r o ++ frames ≡ map response_of (settled_then r o rest)
+settled_sent r (Repeats reply) frames rest same = ap (λ (fs : List (List ℕ)). written (response_after r (Some reply)) ∷ fs) same
+settled_sent r IsBusy frames rest same = ap (λ (fs : List (List ℕ)). written (response_after r None) ∷ fs) same
+settled_sent r IsNew frames rest same = same
+
+told_sent : (p : PortState) (cs : List Coming) → all_sent p cs ≡ map response_of (replied p.log cs)
+told_sent p [] = refl
+told_sent p (Comes (Ok r) ∷ cs) = settled_sent r (outcome_at p r) (all_sent p cs) (replied p.log cs) (told_sent p cs)
+told_sent p (Comes (Err why) ∷ cs) = told_sent p cs
+told_sent p (IsTold r a ∷ cs) =
+    ap (λ (fs : List (List ℕ)). written (response_after r (reply_after (outcome_at p r) (kept_of r a))) ∷ fs) (told_sent (port_after p (IsTold r a)) cs)
+told_sent p (IsIdle requester ∷ cs) = told_sent (port_after p (IsIdle requester)) cs
+
 pub keeps_the_rule : (p : PortState) (cs : List Coming) → KeepsTheRule p cs
-keeps_the_rule p cs = record { log = told_log p cs; done = told_done p cs }
+keeps_the_rule p cs = record { log = told_log p cs; done = told_done p cs; sent = told_sent p cs }
 
 -- ---- lists at a board
 
 module _ (setup : BoardFile) where
-  all_log : (x : Ends) (es : List Happening) → (all_after setup x es).port.log ≡ logs_with (heard_in_all setup x es) x.port.log
+  all_log : (x : Ends) (es : List Happening) → (all_after setup x es).port.log ≡ logs_with (is_above 64) (heard_in_all setup x es) x.port.log
   all_log x [] = refl
   all_log x (Hears (Ok r) ∷ es) =
       let next = ends_after setup x (Hears (Ok r)) in
-      all_log next es ∙ ap (λ (d : Deed). logs_with (heard_in_all setup next es) d.port.log) (deed_is setup x.port x.board r)
+      all_log next es ∙ ap (λ (d : Deed). logs_with (is_above 64) (heard_in_all setup next es) d.port.log) (deed_is setup x.port x.board r)
   all_log x (Hears (Err why) ∷ es) = all_log x es
   all_log x (Idles requester ∷ es) = all_log (ends_after setup x (Idles requester)) es
   all_log x (Others board ∷ es) = all_log (ends_after setup x (Others board)) es
@@ -77,5 +92,18 @@ module _ (setup : BoardFile) where
   all_done x (Idles requester ∷ es) = all_done (ends_after setup x (Idles requester)) es
   all_done x (Others board ∷ es) = all_done (ends_after setup x (Others board)) es
 
+  frames_sent : (x : Ends) (es : List Happening) → sent_in_all setup x es ≡ responses (requests_in es) (replies (is_above 64) x.port.log (heard_in_all setup x es))
+  frames_sent x [] = refl
+  frames_sent x (Hears (Ok r) ∷ es) =
+      let next = ends_after setup x (Hears (Ok r)) in
+      let k : Kept = kept_of r (answer_of setup x.board (asked_in r)).0 in
+      ap (λ (d : Deed). map written d.sent ++ sent_in_all setup next es) (deed_is setup x.port x.board r)
+      ∙ ap (λ (fs : List (List ℕ)). written (response_after r (reply_after (outcome_at x.port r) k)) ∷ fs)
+      (frames_sent next es
+      ∙ ap (λ (d : Deed). responses (requests_in es) (replies (is_above 64) d.port.log (heard_in_all setup next es))) (deed_is setup x.port x.board r))
+  frames_sent x (Hears (Err why) ∷ es) = frames_sent x es
+  frames_sent x (Idles requester ∷ es) = frames_sent (ends_after setup x (Idles requester)) es
+  frames_sent x (Others board ∷ es) = frames_sent (ends_after setup x (Others board)) es
+
   pub carries_the_rule : (x : Ends) (es : List Happening) → CarriesTheRule setup x es
-  carries_the_rule x es = record { log = all_log x es; done = all_done x es }
+  carries_the_rule x es = record { log = all_log x es; done = all_done x es; sent = frames_sent x es }

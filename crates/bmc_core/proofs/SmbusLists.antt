@@ -1,22 +1,26 @@
 -- What holds of lists of what comes to a port on the System Management Bus.
-use Rattle.std.proofs.Common.{◌≡◌, List, [], ◌∷◌, Option, Some, None, refl, ◌∙◌, ap}
+use Rattle.std.proofs.Common.{◌≡◌, ℕ, List, [], ◌∷◌, ◌++◌, map, Option, Some, None, refl, sym, ◌∙◌, ap}
 use Rattle.mctp_net.specs.declared.packet.Packet.{Packet}
+use Rattle.mctp_net.specs.declared.message.Message.{Message}
+use Rattle.mctp_net.specs.Control.{reply_to as control_reply_to, eid_after}
 use Rattle.cfg_records.specs.declared.message.Answered.{Answered}
 use Rattle.cfg_records.specs.declared.board_file.BoardFile.{BoardFile}
 use Rattle.bus_model.specs.Request.{Kept, Entry}
 use Rattle.bus_model.specs.Numbering.{is_above}
-use Rattle.bus_model.specs.Carried.{Outcome, Repeats, IsBusy, IsNew, Heard as Brought, log_after, outcomes}
+use Rattle.bus_model.specs.Carried.{Outcome, Repeats, IsBusy, IsNew, Heard as Brought, log_after, reply_after, outcomes}
 use Rattle.bmc_board.specs.State.{State}
 use Rattle.bmc_board.specs.Answer.{answer_of}
+use Rattle.lab_model.specs.Values.{written, Part, parts_of}
 use Rattle.lab_model.specs.PortSteps.{PortState, Deed, left_by}
 use Rattle.bmc_core.specs.SmbusHeard.{InMessage, Heard, Ignored, Waiting, Control, Asks, taken, heard_in, asked_of, asks_of, found, asks, kept_with, asks_effect, effect}
-use Rattle.bmc_core.specs.SmbusRuns.{with_board, IsHeardThenTold, logs_with, Coming, Comes, IsTold, IsIdle, once_heard, port_after, ports_after, brought, done_with_told, KeepsTheRule, Happening, Hears, Idles, Others, Ends, ends_after, all_after, heard_then, heard_in_all, done_then, done_in_all, CarriesTheRule}
+use Rattle.bmc_core.specs.Rule.{logs_with}
+use Rattle.bmc_core.specs.SmbusRuns.{with_board, IsHeardThenTold, Coming, Comes, IsTold, IsIdle, once_heard, port_after, ports_after, brought, done_with_told, reply_of, reply_saying, all_frames, settled_then, replied_then, replied, sent_once_heard, all_sent, KeepsTheRule, Happening, Hears, Idles, Others, Ends, ends_after, all_after, heard_then, heard_in_all, done_then, done_in_all, answered_then, answered_in_all, sent_in_all, CarriesTheRule}
 use Rattle.bmc_core.proofs.SmbusPorts.{deed_of, packet_deed}
 
 -- ---- one packet
 
 -- a request that is asked is the one that was heard, and is new
-new_one : (n m : InMessage) (o : Outcome) → asks_of n o ≡ Some m → (o ≡ IsNew) × (n ≡ m)
+pub new_one : (n m : InMessage) (o : Outcome) → asks_of n o ≡ Some m → (o ≡ IsNew) × (n ≡ m)
 new_one n m (Repeats reply) is = absurd cc
 new_one n m IsBusy is = absurd cc
 new_one n m IsNew is = (refl, cc)
@@ -71,9 +75,9 @@ heard_log port (Asks m) None is = log_stays m (found port m) (kept_with m (recor
 packet_log : (port : PortState) (p : Packet) → (port_after port (Comes p)).log ≡ port.log
 packet_log port p = heard_log (taken port p) (heard_in port p) (asks (taken port p) (heard_in port p)) refl
 
-told_log : (port : PortState) (cs : List Coming) → (ports_after port cs).log ≡ logs_with (brought cs) port.log
+told_log : (port : PortState) (cs : List Coming) → (ports_after port cs).log ≡ logs_with (is_above 32) (brought cs) port.log
 told_log port [] = refl
-told_log port (Comes p ∷ cs) = told_log (port_after port (Comes p)) cs ∙ ap (logs_with (brought cs)) (packet_log port p)
+told_log port (Comes p ∷ cs) = told_log (port_after port (Comes p)) cs ∙ ap (logs_with (is_above 32) (brought cs)) (packet_log port p)
 told_log port (IsTold m a ∷ cs) = told_log (port_after port (IsTold m a)) cs
 told_log port (IsIdle requester ∷ cs) = told_log (port_after port (IsIdle requester)) cs
 
@@ -84,13 +88,45 @@ told_done port (Comes p ∷ cs) =
 told_done port (IsTold m a ∷ cs) = ap (λ (os : List Outcome). found port m ∷ os) (told_done (port_after port (IsTold m a)) cs)
 told_done port (IsIdle requester ∷ cs) = told_done (port_after port (IsIdle requester)) cs
 
+-- one message's frames before others
+with_frames : (m : Message) (frames : List (List ℕ)) (ms : List Message) → frames ≡ all_frames ms → map written (map (λ p. Part p) (parts_of m)) ++ frames ≡ all_frames (m ∷ ms)
+with_frames m frames ms same = ap (λ (fs : List (List ℕ)). map written (map (λ p. Part p) (parts_of m)) ++ fs) same
+
+settled_sent : (port : PortState) (m : InMessage) (o : Outcome) (k : Kept) (frames : List (List ℕ)) (ms : List Message) → asks_of m o ≡ None → frames ≡ all_frames ms
+    → map written (asks_effect port m o k).sent ++ frames ≡ all_frames (settled_then port m o ms)
+settled_sent port m (Repeats reply) k frames ms is same = with_frames (reply_saying port m (Some reply)) frames ms same
+settled_sent port m IsBusy k frames ms is same = with_frames (reply_saying port m None) frames ms same
+settled_sent port m IsNew k frames ms is same = absurd cc
+
+heard_sent : (port : PortState) (h : Heard) (o : Option InMessage) (frames : List (List ℕ)) (ms : List Message) → asks port h ≡ o → frames ≡ all_frames ms
+    → sent_once_heard port h o ++ frames ≡ all_frames (replied_then port h ms)
+heard_sent port (Ignored why) (Some m) frames ms is same = absurd cc
+heard_sent port Waiting (Some m) frames ms is same = absurd cc
+heard_sent port (Control e r) (Some m) frames ms is same = absurd cc
+heard_sent port (Asks n) (Some m) frames ms is same = same ∙ ap (λ (o : Outcome). all_frames (settled_then port n o ms)) (sym (new_one n m (found port n) is).0)
+heard_sent port (Ignored why) None frames ms is same = same
+heard_sent port Waiting None frames ms is same = same
+heard_sent port (Control e r) None frames ms is same =
+    with_frames (reply_of (record port { eid = eid_after port.eid r.command r.content }) e (control_reply_to port.eid r)) frames ms same
+heard_sent port (Asks m) None frames ms is same = settled_sent port m (found port m) (kept_with m (record { code = 0; body = [] })) frames ms is same
+
+told_sent : (port : PortState) (cs : List Coming) → all_sent port cs ≡ all_frames (replied port cs)
+told_sent port [] = refl
+told_sent port (Comes p ∷ cs) =
+    let next = port_after port (Comes p) in
+    heard_sent (taken port p) (heard_in port p) (asks (taken port p) (heard_in port p)) (all_sent next cs) (replied next cs) refl (told_sent next cs)
+told_sent port (IsTold m a ∷ cs) =
+    let next = port_after port (IsTold m a) in
+    with_frames (reply_saying port m (reply_after (found port m) (kept_with m a))) (all_sent next cs) (replied next cs) (told_sent next cs)
+told_sent port (IsIdle requester ∷ cs) = told_sent (port_after port (IsIdle requester)) cs
+
 pub keeps_the_rule : (port : PortState) (cs : List Coming) → KeepsTheRule port cs
-keeps_the_rule port cs = record { log = told_log port cs; done = told_done port cs }
+keeps_the_rule port cs = record { log = told_log port cs; done = told_done port cs; sent = told_sent port cs }
 
 -- ---- lists at a board
 
 one_log : (setup : BoardFile) (before : State) (port : PortState) (h : Heard) (rest : List Brought)
-    → logs_with rest (deed_of setup before port h).port.log ≡ logs_with (heard_then setup before h rest) port.log
+    → logs_with (is_above 32) rest (deed_of setup before port h).port.log ≡ logs_with (is_above 32) (heard_then setup before h rest) port.log
 one_log setup before port (Ignored why) rest = refl
 one_log setup before port Waiting rest = refl
 one_log setup before port (Control e r) rest = refl
@@ -103,13 +139,22 @@ one_done setup before port Waiting rest = refl
 one_done setup before port (Control e r) rest = refl
 one_done setup before port (Asks m) rest = refl
 
+one_sent : (setup : BoardFile) (before : State) (port : PortState) (h : Heard) (frames : List (List ℕ)) (ms : List Message) → frames ≡ all_frames ms
+    → map written (deed_of setup before port h).sent ++ frames ≡ all_frames (answered_then setup before port h ms)
+one_sent setup before port (Ignored why) frames ms same = same
+one_sent setup before port Waiting frames ms same = same
+one_sent setup before port (Control e r) frames ms same =
+    with_frames (reply_of (record port { eid = eid_after port.eid r.command r.content }) e (control_reply_to port.eid r)) frames ms same
+one_sent setup before port (Asks m) frames ms same =
+    with_frames (reply_saying port m (reply_after (found port m) (kept_with m (answer_of setup before (asked_of m)).0))) frames ms same
+
 module _ (setup : BoardFile) where
-  all_log : (x : Ends) (es : List Happening) → (all_after setup x es).port.log ≡ logs_with (heard_in_all setup x es) x.port.log
+  all_log : (x : Ends) (es : List Happening) → (all_after setup x es).port.log ≡ logs_with (is_above 32) (heard_in_all setup x es) x.port.log
   all_log x [] = refl
   all_log x (Hears p ∷ es) =
       let next = ends_after setup x (Hears p) in
       all_log next es
-      ∙ ap (λ (d : Deed). logs_with (heard_in_all setup next es) d.port.log) (packet_deed setup x.board x.port p)
+      ∙ ap (λ (d : Deed). logs_with (is_above 32) (heard_in_all setup next es) d.port.log) (packet_deed setup x.board x.port p)
       ∙ one_log setup x.board (taken x.port p) (heard_in x.port p) (heard_in_all setup next es)
   all_log x (Idles requester ∷ es) = all_log (ends_after setup x (Idles requester)) es
   all_log x (Others board ∷ es) = all_log (ends_after setup x (Others board)) es
@@ -124,5 +169,14 @@ module _ (setup : BoardFile) where
   all_done x (Idles requester ∷ es) = all_done (ends_after setup x (Idles requester)) es
   all_done x (Others board ∷ es) = all_done (ends_after setup x (Others board)) es
 
+  frames_sent : (x : Ends) (es : List Happening) → sent_in_all setup x es ≡ all_frames (answered_in_all setup x es)
+  frames_sent x [] = refl
+  frames_sent x (Hears p ∷ es) =
+      let next = ends_after setup x (Hears p) in
+      ap (λ (d : Deed). map written d.sent ++ sent_in_all setup next es) (packet_deed setup x.board x.port p)
+      ∙ one_sent setup x.board (taken x.port p) (heard_in x.port p) (sent_in_all setup next es) (answered_in_all setup next es) (frames_sent next es)
+  frames_sent x (Idles requester ∷ es) = frames_sent (ends_after setup x (Idles requester)) es
+  frames_sent x (Others board ∷ es) = frames_sent (ends_after setup x (Others board)) es
+
   pub carries_the_rule : (x : Ends) (es : List Happening) → CarriesTheRule setup x es
-  carries_the_rule x es = record { log = all_log x es; done = all_done x es }
+  carries_the_rule x es = record { log = all_log x es; done = all_done x es; sent = frames_sent x es }

@@ -1,4 +1,5 @@
 pub mod Outs
+pub mod Rule
 pub mod IpmbHeard
 pub mod IpmbRuns
 pub mod IpmbShown

@@ -1,16 +1,21 @@
 -- Lists of what comes to a port on the System Management Bus: apart from the board, and at one.
-use Rattle.std.specs.Prelude.{◌≡◌, ℕ, List, [], ◌∷◌, Option, Some, None}
+use Rattle.std.specs.Prelude.{◌≡◌, ℕ, List, [], ◌∷◌, ◌++◌, map, Option, Some, None}
+use Rattle.two_wire.specs.declared.Bus.TheVariants.{Smbus}
+use Rattle.mctp_net.specs.declared.packet.Envelope.{Envelope}
+use Rattle.mctp_net.specs.declared.message.Message.{Message}
+use Rattle.mctp_net.specs.Control.{reply_to as control_reply_to, eid_after}
 use Rattle.mctp_net.specs.declared.packet.Packet.{Packet}
 use Rattle.cfg_records.specs.declared.message.Answered.{Answered}
 use Rattle.cfg_records.specs.declared.board_file.BoardFile.{BoardFile}
-use Rattle.bus_model.specs.Request.{Entry}
 use Rattle.bus_model.specs.Numbering.{is_above}
-use Rattle.bus_model.specs.Carried.{Outcome, Heard as Brought, HeardRequest, HeardIdle, log_with, outcomes}
+use Rattle.bus_model.specs.Carried.{Outcome, Repeats, IsBusy, IsNew, Heard as Brought, HeardRequest, HeardIdle, reply_after, outcomes}
 use Rattle.bmc_board.specs.State.{State}
 use Rattle.bmc_board.specs.Answer.{answer_of}
-use Rattle.lab_model.specs.Values.{Part}
-use Rattle.lab_model.specs.PortSteps.{PortState, Deed, hears, idles}
-use Rattle.bmc_core.specs.SmbusHeard.{InMessage, Heard, Ignored, Waiting, Control, Asks, taken, heard_in, asked_of, found, asks, kept_with, Effect, effect}
+use Rattle.lab_model.specs.Bytes.{said}
+use Rattle.lab_model.specs.Values.{Part, written, parts_of}
+use Rattle.lab_model.specs.PortSteps.{PortState, Deed, reply_envelope, hears, idles}
+use Rattle.bmc_core.specs.Rule.{logs_with}
+use Rattle.bmc_core.specs.SmbusHeard.{InMessage, Heard, Ignored, Waiting, Control, Asks, taken, heard_in, asking, asked_of, found, asks, kept_with, Effect, effect}
 
 -- ---- one packet
 
@@ -26,11 +31,6 @@ pub record IsHeardThenTold (setup : BoardFile) (port : PortState) (before : Stat
       → hears setup port before (Part p) ≡ with_board before (effect (taken port p) (heard_in port p) a)
 
 -- ---- lists with no board in them
-
--- the log after a list that was brought, by the rule for repeated requests
-abbrev pub logs_with : List Brought → List Entry → List Entry
-logs_with [] log = log
-logs_with (b ∷ bs) log = logs_with bs (log_with (is_above 32) b log)
 
 -- What comes to a port: a packet is heard, a request is told some answer, or a requester is idle. A request that is asked and never told
 -- is dropped.
@@ -69,10 +69,61 @@ done_with_told port (Comes p ∷ cs) = done_with_told (port_after port (Comes p)
 done_with_told port (IsTold m a ∷ cs) = found port m ∷ done_with_told (port_after port (IsTold m a)) cs
 done_with_told port (IsIdle requester ∷ cs) = done_with_told (port_after port (IsIdle requester)) cs
 
+-- a reply of these bytes, to a message of this envelope
+abbrev pub reply_of : PortState → Envelope → List ℕ → Message
+reply_of port e body = record { envelope = reply_envelope port e; body = body }
+
+-- the reply to a request: a kept one, or the board's, or that the port is busy
+abbrev pub reply_saying : PortState → InMessage → Option (List ℕ) → Message
+reply_saying port m reply = reply_of port m.envelope (said Smbus (asking m) reply)
+
+-- the frames of messages
+abbrev pub all_frames : List Message → List (List ℕ)
+all_frames [] = []
+all_frames (m ∷ ms) = map written (map (λ p. Part p) (parts_of m)) ++ all_frames ms
+
+-- with the reply to a request that isn't new, which is sent when that is heard, before others; a new one has none yet
+abbrev pub settled_then : PortState → InMessage → Outcome → List Message → List Message
+settled_then port m (Repeats reply) rest = reply_saying port m (Some reply) ∷ rest
+settled_then port m IsBusy rest = reply_saying port m None ∷ rest
+settled_then port m IsNew rest = rest
+
+-- with the endpoint's reply to a control message, from the identifier that it has then, before others
+abbrev pub replied_then : PortState → Heard → List Message → List Message
+replied_then port (Ignored why) rest = rest
+replied_then port Waiting rest = rest
+replied_then port (Control e r) rest = reply_of (record port { eid = eid_after port.eid r.command r.content }) e (control_reply_to port.eid r) ∷ rest
+replied_then port (Asks m) rest = settled_then port m (found port m) rest
+
+-- the replies to a list, by the rule
+abbrev pub replied : PortState → List Coming → List Message
+replied port [] = []
+replied port (Comes p ∷ cs) = replied_then (taken port p) (heard_in port p) (replied (port_after port (Comes p)) cs)
+replied port (IsTold m a ∷ cs) = reply_saying port m (reply_after (found port m) (kept_with m a)) ∷ replied (port_after port (IsTold m a)) cs
+replied port (IsIdle requester ∷ cs) = replied (port_after port (IsIdle requester)) cs
+
+-- the frames that a port sends when this is heard, where a new request is asked
+abbrev pub sent_once_heard : PortState → Heard → Option InMessage → List (List ℕ)
+sent_once_heard port h (Some m) = []
+sent_once_heard port h None = map written (effect port h (record { code = 0; body = [] })).sent
+
+-- and when one more comes
+abbrev pub sent_at : PortState → Coming → List (List ℕ)
+sent_at port (Comes p) = sent_once_heard (taken port p) (heard_in port p) (asks (taken port p) (heard_in port p))
+sent_at port (IsTold m a) = map written (effect port (Asks m) a).sent
+sent_at port (IsIdle requester) = []
+
+-- and in all
+abbrev pub all_sent : PortState → List Coming → List (List ℕ)
+all_sent port [] = []
+all_sent port (c ∷ cs) = sent_at port c ++ all_sent (port_after port c) cs
+
 -- The requests that are carried out, and kept, are the rule's: of what is told, whatever packets are heard between, and whatever is dropped.
+-- What is sent is, frame for frame, the replies by the rule, and the endpoint's to control messages.
 pub record KeepsTheRule (port : PortState) (cs : List Coming) : Type 0 where
-  pub log : (ports_after port cs).log ≡ logs_with (brought cs) port.log
+  pub log : (ports_after port cs).log ≡ logs_with (is_above 32) (brought cs) port.log
   pub done : done_with_told port cs ≡ outcomes (is_above 32) port.log (brought cs)
+  pub sent : all_sent port cs ≡ all_frames (replied port cs)
 
 -- ---- lists at a board
 
@@ -126,7 +177,34 @@ done_in_all setup x (Hears p ∷ es) = done_then (taken x.port p) (heard_in x.po
 done_in_all setup x (Idles requester ∷ es) = done_in_all setup (ends_after setup x (Idles requester)) es
 done_in_all setup x (Others board ∷ es) = done_in_all setup (ends_after setup x (Others board)) es
 
--- The requests that are carried out are the rule's, of all that are heard, whatever others do to the board between.
+-- with the reply to what is heard before others: to a request by the rule, with the board's answer at that moment where it's new
+abbrev pub answered_then : BoardFile → State → PortState → Heard → List Message → List Message
+answered_then setup before port (Asks m) rest = reply_saying port m (reply_after (found port m) (kept_with m (answer_of setup before (asked_of m)).0)) ∷ rest
+answered_then setup before port (Control e r) rest = replied_then port (Control e r) rest
+answered_then setup before port (Ignored why) rest = rest
+answered_then setup before port Waiting rest = rest
+
+-- the replies to a list
+abbrev pub answered_in_all : BoardFile → Ends → List Happening → List Message
+answered_in_all setup x [] = []
+answered_in_all setup x (Hears p ∷ es) = answered_then setup x.board (taken x.port p) (heard_in x.port p) (answered_in_all setup (ends_after setup x (Hears p)) es)
+answered_in_all setup x (Idles requester ∷ es) = answered_in_all setup (ends_after setup x (Idles requester)) es
+answered_in_all setup x (Others board ∷ es) = answered_in_all setup (ends_after setup x (Others board)) es
+
+-- the frames that are sent when one more happens
+abbrev pub sent_when : BoardFile → Ends → Happening → List (List ℕ)
+sent_when setup x (Hears p) = map written (hears setup x.port x.board (Part p)).sent
+sent_when setup x (Idles requester) = []
+sent_when setup x (Others board) = []
+
+-- and in all
+abbrev pub sent_in_all : BoardFile → Ends → List Happening → List (List ℕ)
+sent_in_all setup x [] = []
+sent_in_all setup x (e ∷ es) = sent_when setup x e ++ sent_in_all setup (ends_after setup x e) es
+
+-- The requests that are carried out are the rule's, of all that are heard, whatever others do to the board between. What is sent is, frame
+-- for frame, the replies by the rule, and the endpoint's to control messages.
 pub record CarriesTheRule (setup : BoardFile) (x : Ends) (es : List Happening) : Type 0 where
-  pub log : (all_after setup x es).port.log ≡ logs_with (heard_in_all setup x es) x.port.log
+  pub log : (all_after setup x es).port.log ≡ logs_with (is_above 32) (heard_in_all setup x es) x.port.log
   pub done : done_in_all setup x es ≡ outcomes (is_above 32) x.port.log (heard_in_all setup x es)
+  pub sent : sent_in_all setup x es ≡ all_frames (answered_in_all setup x es)

@@ -7,6 +7,7 @@ use Rattle.std.specs.declared.cmp.Ordering.{Ordering}
 use Rattle.std.specs.declared.cmp.Ordering.TheVariants.{Less, Equal, Greater}
 use Rattle.cfg_records.specs.declared.key.Key.{Key}
 use Rattle.cfg_records.specs.declared.key.Key.TheVariants as key
+use Rattle.cfg_records.specs.declared.boot_param.BootParameter.TheVariants.{ValidBitClearing, InfoAcknowledge, Flags}
 use Rattle.cfg_records.specs.contracts.key.KeyOrd.TheImpl.Laws as key_laws
 use Rattle.cfg_records.specs.Keys.{key_cmp, same_key}
 
@@ -27,6 +28,10 @@ exact_key (key.EventEnable a) (key.EventEnable b) h = ap key.EventEnable (exact_
 exact_key key.PowerPolicy key.PowerPolicy h = refl
 exact_key key.Watchdog key.Watchdog h = refl
 exact_key key.GlobalEnables key.GlobalEnables h = refl
+exact_key (key.BootParam ValidBitClearing) (key.BootParam ValidBitClearing) h = refl
+exact_key (key.BootParam InfoAcknowledge) (key.BootParam InfoAcknowledge) h = refl
+exact_key (key.BootParam Flags) (key.BootParam Flags) h = refl
+exact_key (key.NumericEffecter a) (key.NumericEffecter b) h = ap key.NumericEffecter (exact_unsigned a b (equal_from_is_eq _ h))
 exact_key _ _ h = cc
 
 -- a key compares alike with itself

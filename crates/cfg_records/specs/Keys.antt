@@ -1,9 +1,10 @@
 -- The names of records, and how long their values are.
-use Rattle.std.specs.Prelude.{ℕ, Bool, ◌==◌}
+use Rattle.std.specs.Prelude.{ℕ, Bool, ◌==◌, ◌||◌}
 use Rattle.std.specs.Ordering.{is_eq}
 use Rattle.std.specs.declared.cmp.Ordering.{Ordering}
 use Rattle.cfg_records.specs.declared.key.Key.{Key}
 use Rattle.cfg_records.specs.declared.key.Key.TheVariants as key
+use Rattle.cfg_records.specs.BootParam.{boot_length}
 use Rattle.cfg_records.specs.contracts.key.KeyOrd.TheImpl as key_ord
 
 -- a value of the key's kind may have this length
@@ -14,6 +15,8 @@ is_length (key.EventEnable sensor) n = n == 5
 is_length key.PowerPolicy n = n == 1
 is_length key.Watchdog n = n == 5
 is_length key.GlobalEnables n = n == 1
+is_length (key.BootParam parameter) n = n == boot_length parameter
+is_length (key.NumericEffecter id) n = (n == 1) || (n == 2) || (n == 4)
 
 -- the order of keys
 abbrev pub key_cmp : Key → Key → Ordering

@@ -11,6 +11,9 @@ pub mod EventLaws
 pub mod PowerPolicy
 pub mod Watchdog
 pub mod GlobalEnables
+pub mod BootParam
+pub mod NumericSize
+pub mod NumericEffecter
 pub mod PartLaws
 pub mod Meaning
 pub mod RefusalLaws

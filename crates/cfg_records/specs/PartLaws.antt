@@ -7,6 +7,11 @@ use Rattle.cfg_records.specs.EventEnable.{IsEventEnable}
 use Rattle.cfg_records.specs.PowerPolicy.{IsPowerPolicy}
 use Rattle.cfg_records.specs.Watchdog.{IsWatchdog}
 use Rattle.cfg_records.specs.GlobalEnables.{AreGlobalEnables}
+use Rattle.cfg_records.specs.declared.boot_param.BootParameter.{BootParameter}
+use Rattle.cfg_records.specs.declared.boot_param.BootParameter.TheVariants.{ValidBitClearing, InfoAcknowledge, Flags}
+use Rattle.cfg_records.specs.BootParam.{IsBootData, IsBootParam}
+use Rattle.cfg_records.specs.declared.numeric_range.NumericRange.{NumericRange}
+use Rattle.cfg_records.specs.NumericEffecter.{IsNumeric}
 
 pub IsThresholds-prop : (masks : ThresholdMasks) (value : List ℕ) → IsProp (IsThresholds masks value)
 IsThresholds-prop masks value = hlevel props
@@ -22,3 +27,14 @@ IsWatchdog-prop value = hlevel props
 
 pub AreGlobalEnables-prop : (value : List ℕ) → IsProp (AreGlobalEnables value)
 AreGlobalEnables-prop value = hlevel props
+
+IsBootData-prop : (parameter : BootParameter) (first : ℕ) → IsProp (IsBootData parameter first)
+IsBootData-prop ValidBitClearing first = hlevel props
+IsBootData-prop InfoAcknowledge first = hlevel props
+IsBootData-prop Flags first = hlevel props
+
+pub IsBootParam-prop : (parameter : BootParameter) (value : List ℕ) → IsProp (IsBootParam parameter value)
+IsBootParam-prop parameter value = hlevel (props, IsBootData-prop)
+
+pub IsNumeric-prop : (range : NumericRange) (value : List ℕ) → IsProp (IsNumeric range value)
+IsNumeric-prop range value = hlevel props

@@ -5,6 +5,8 @@ use Rattle.cfg_records.specs.declared.watchdog.Watchdog.{Watchdog}
 use Rattle.cfg_records.specs.declared.device.Device.{Device}
 use Rattle.cfg_records.specs.declared.board_file.BoardFile.{BoardFile}
 use Rattle.cfg_records.specs.EventEnable.{event_value}
+use Rattle.cfg_records.specs.declared.boot_param.BootOptions.{BootOptions}
+use Rattle.cfg_records.specs.BootParam.{flag_bytes}
 
 -- what Get Device ID says of the sample board
 pub record IsSampleDevice (device : Device) : Type 0 where
@@ -47,6 +49,12 @@ pub record IsUnset (watchdog : Watchdog) : Type 0 where
   pub no_warning : watchdog.pre_timeout ≡ 0
   pub no_countdown : watchdog.initial ≡ 0
 
+-- boot parameters of 00h alone
+pub record IsSampleBoot (boot : BootOptions) : Type 0 where
+  pub clearing : boot.valid_bit_clearing ≡ 0
+  pub acknowledge : boot.info_acknowledge ≡ 0
+  pub flags : flag_bytes boot.flags ≡ 0 ∷ 0 ∷ 0 ∷ 0 ∷ 0 ∷ []
+
 -- the sample board
 pub record IsSampleBoard (file : BoardFile) : Type 0 where
   pub terminus : file.tid ≡ 5
@@ -55,3 +63,5 @@ pub record IsSampleBoard (file : BoardFile) : Type 0 where
   pub policy : file.policy.number ≡ 1
   pub watchdog : IsUnset file.watchdog
   pub enables : file.enables.byte ≡ 0x08
+  pub boot : IsSampleBoot file.boot
+  pub no_numeric : file.numeric_effecters.items ≡ []

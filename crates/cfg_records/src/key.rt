@@ -2,6 +2,8 @@
 ghost use Rattle.std.specs.Prelude.{◌≡◌};
 ghost use Rattle.cfg_records.specs.Keys.{is_length};
 
+use crate::boot_param::BootParameter;
+
 /// The name of a record: its kind, and which one of that kind.
 #[derive(Clone, Copy, Debug, PartialEq, Eq, PartialOrd, Ord)]
 pub enum Key {
@@ -17,6 +19,10 @@ pub enum Key {
     Watchdog,
     /// What the controller enables as a whole.
     GlobalEnables,
+    /// A parameter of the system boot options.
+    BootParam(BootParameter),
+    /// The present value of the numeric effecter of this id.
+    NumericEffecter(u16),
 }
 
 impl Key {
@@ -31,6 +37,8 @@ impl Key {
             Key::PowerPolicy => length == 1,
             Key::Watchdog => length == 5,
             Key::GlobalEnables => length == 1,
+            Key::BootParam(parameter) => length == parameter.length(),
+            Key::NumericEffecter(_) => length == 1 || length == 2 || length == 4,
         }
     }
 }

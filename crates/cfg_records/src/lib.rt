@@ -3,6 +3,7 @@
 #![tactic(auto)]
 
 pub mod board_file;
+pub mod boot_param;
 pub mod device;
 pub mod distinct;
 pub mod event_enable;
@@ -14,6 +15,9 @@ pub mod kind;
 pub mod live;
 pub mod mask;
 pub mod message;
+pub mod numeric_effecter;
+pub mod numeric_range;
+pub mod numeric_size;
 pub mod op;
 pub mod plain_store;
 pub mod power_policy;
@@ -26,6 +30,7 @@ pub mod value;
 pub mod watchdog;
 
 pub use board_file::BoardFile;
+pub use boot_param::{BootChange, BootFlags, BootOptions, BootParameter, MaskedBits, SetBootParam};
 pub use device::{Bcd, Device, ManufacturerId};
 pub use distinct::{Distinct, Numbered};
 pub use event_enable::{EventChange, EventEnable, EventMasks, SetEventEnable};
@@ -36,6 +41,9 @@ pub use key::Key;
 pub use kind::{RecordKind, there_and_back};
 pub use live::Live;
 pub use message::{Answered, Asked, byte_at};
+pub use numeric_effecter::{NumericBytes, NumericEffecter, NumericEffecters, SetNumericEffecter};
+pub use numeric_range::NumericRange;
+pub use numeric_size::NumericSize;
 pub use op::Op;
 pub use plain_store::{PlainStore, StoreFault};
 pub use power_policy::{PowerPolicy, SetPowerPolicy};

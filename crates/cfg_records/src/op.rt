@@ -1,7 +1,9 @@
 //! Changes of one record.
+use crate::boot_param::SetBootParam;
 use crate::event_enable::SetEventEnable;
 use crate::global_enables::SetGlobalEnables;
 use crate::hysteresis::SetHysteresis;
+use crate::numeric_effecter::SetNumericEffecter;
 use crate::power_policy::SetPowerPolicy;
 use crate::sensor_thresholds::SetThresholds;
 use crate::watchdog::SetWatchdog;
@@ -16,4 +18,6 @@ pub enum Op {
     PowerPolicy(SetPowerPolicy),
     Watchdog(SetWatchdog),
     GlobalEnables(SetGlobalEnables),
+    BootParam(SetBootParam),
+    NumericEffecter(SetNumericEffecter),
 }

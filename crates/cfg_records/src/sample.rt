@@ -1,8 +1,9 @@
 //! The sample board.
 ghost use Rattle.std.specs.Prelude.{◌≡◌, IfOk};
-ghost use Rattle.cfg_records.specs.Sample.{IsSampleDevice, IsTemperature, IsFan, IsUnset, IsSampleBoard};
+ghost use Rattle.cfg_records.specs.Sample.{IsSampleDevice, IsTemperature, IsFan, IsUnset, IsSampleBoot, IsSampleBoard};
 
 use crate::board_file::BoardFile;
+use crate::boot_param::{BootFlags, BootOptions};
 use crate::device::{Bcd, Device, ManufacturerId};
 use crate::distinct::Distinct;
 use crate::event_enable::{EventEnable, EventMasks};
@@ -85,6 +86,23 @@ fn unset_watchdog() -> Watchdog
     }
 }
 
+/// Boot parameters of 00h alone.
+fn boot() -> BootOptions
+    ensures { IsSampleBoot result }
+{
+    BootOptions {
+        valid_bit_clearing: 0,
+        info_acknowledge: 0,
+        flags: BootFlags {
+            validity: 0,
+            device: 0,
+            console: 0,
+            overrides: 0,
+            instance: 0,
+        },
+    }
+}
+
 /// What the sample board says of itself.
 fn device() -> Device
     ensures { IsSampleDevice result }
@@ -114,5 +132,7 @@ pub fn sample_board(alloc: Global) -> Result<BoardFile, AllocError>
         policy: PowerPolicy { number: 1 },
         watchdog: unset_watchdog(),
         enables: GlobalEnables { byte: 0x08 },
+        boot: boot(),
+        numeric_effecters: Distinct::new(Vec::new(alloc)).unwrap(),
     })
 }

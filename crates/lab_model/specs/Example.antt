@@ -10,6 +10,7 @@ use Rattle.cfg_records.specs.declared.op.Op.TheVariants as op
 use Rattle.cfg_records.specs.declared.thresholds.ThresholdMasks.{ThresholdMasks}
 use Rattle.cfg_records.specs.declared.board_file.BoardFile.{BoardFile}
 use Rattle.cfg_records.specs.declared.sensor.Sensor.{Sensor}
+use Rattle.cfg_records.specs.declared.numeric_effecter.NumericEffecter.{NumericEffecter}
 use Rattle.cfg_records.specs.declared.event_enable.EventMasks.{EventMasks}
 use Rattle.cfg_records.specs.Distinct.{NamesDiffer}
 use Rattle.cfg_records.specs.EventEnable.{are_within, event_value, IsEventEnable}
@@ -59,6 +60,9 @@ temperature = record {
 pub one_number : NamesDiffer (λ (s : Sensor). s.number) (temperature ∷ [])
 one_number i j d below within = absurd (omega (arith, below, within))
 
+pub no_numbers : NamesDiffer (λ (e : NumericEffecter). e.id) []
+no_numbers i j d below within = absurd (omega (arith, below, within))
+
 -- a board with that sensor
 abbrev pub board_file : BoardFile
 board_file = record {
@@ -82,6 +86,14 @@ board_file = record {
     valid = record { five = refl; known_use = lit≤ tt; known_interrupt = lit≤ tt; known_action = lit≤ tt; low_byte = lit< tt; high_byte = lit< tt };
   };
   enables = record { byte = 0x08; valid = record { one = refl; unreserved = refl } };
+  boot = record {
+    valid_bit_clearing = 0;
+    info_acknowledge = 0;
+    flags = record { validity = 0; device = 0; console = 0; overrides = 0; instance = 0 };
+    five_bits = lit< tt;
+    byte = lit< tt;
+  };
+  numeric_effecters = record { items = []; differ = no_numbers; few = lit≤ tt };
 }
 
 -- ---- the runs

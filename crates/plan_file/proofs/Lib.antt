@@ -5,6 +5,7 @@ pub mod Rows
 pub mod TopRows
 pub mod Events
 pub mod Sensors
+pub mod BootSteps
 pub mod Changes
 pub mod Steps
 pub mod UndoLines

@@ -14,6 +14,9 @@ pub record TopSound (tree : Members) : Type 0 where
   pub enables : Sound tree (record { 0 = field.Enables; 1 = shape.Enables; 2 = need.Always })
   pub policy : Sound tree (record { 0 = field.Policy; 1 = shape.Number 0 3; 2 = need.Always })
   pub watchdog : Sound tree (record { 0 = field.Watchdog; 1 = shape.Watchdog; 2 = need.Always })
+  pub boot3 : Sound tree (record { 0 = field.Boot3; 1 = shape.Number 0 31; 2 = need.Always })
+  pub boot4 : Sound tree (record { 0 = field.Boot4; 1 = shape.Number 0 255; 2 = need.Always })
+  pub boot5 : Sound tree (record { 0 = field.Boot5; 1 = shape.BootFlags; 2 = need.Always })
   pub device : Sound tree (record { 0 = field.Device; 1 = shape.Table; 2 = need.Always })
   pub sensor : Sound tree (record { 0 = field.Sensor; 1 = shape.Tables 32; 2 = need.Never })
 
@@ -24,6 +27,9 @@ top_sound tree none =
       enables = sound.1.0;
       policy = sound.1.1.0;
       watchdog = sound.1.1.1.0;
-      device = sound.1.1.1.1.0;
-      sensor = sound.1.1.1.1.1.0;
+      boot3 = sound.1.1.1.1.0;
+      boot4 = sound.1.1.1.1.1.0;
+      boot5 = sound.1.1.1.1.1.1.0;
+      device = sound.1.1.1.1.1.1.1.0;
+      sensor = sound.1.1.1.1.1.1.1.1.0;
     }

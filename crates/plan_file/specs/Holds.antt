@@ -4,6 +4,8 @@ use Rattle.std.specs.List.{AllZip}
 use Rattle.toml.specs.Data.{Data, Members}
 use Rattle.toml.specs.Parse.{parse_document}
 use Rattle.cfg_records.specs.EventEnable.{flags_byte}
+use Rattle.cfg_records.specs.BootParam.{flag_bytes}
+use Rattle.cfg_records.specs.declared.boot_param.BootOptions.{BootOptions}
 use Rattle.cfg_records.specs.declared.device.Device.{Device}
 use Rattle.cfg_records.specs.declared.event_enable.EventEnable.{EventEnable}
 use Rattle.cfg_records.specs.declared.sensor.Sensor.{Sensor}
@@ -73,14 +75,22 @@ IsNextFault before d why =
 abbrev pub settings : Watchdog → List ℕ
 settings watchdog = watchdog.timer_use ∷ watchdog.actions ∷ watchdog.pre_timeout ∷ watchdog.initial ∷ []
 
+-- the tree holds boot options
+pub record HoldsBoot (tree : Members) (boot : BootOptions) : Type 0 where
+  pub clearing : HasNumber field.Boot3 tree boot.valid_bit_clearing
+  pub acknowledge : HasNumber field.Boot4 tree boot.info_acknowledge
+  pub flags : HasNumbers field.Boot5 tree (flag_bytes boot.flags)
+
 -- the tree holds a board
 pub record HoldsBoard (tree : Members) (board : BoardFile) : Type 0 where
   pub terminus : HasNumber field.Tid tree board.tid
   pub enables : HasNumber field.Enables tree board.enables.byte
   pub policy : HasNumber field.Policy tree board.policy.number
   pub watchdog : HasNumbers field.Watchdog tree (settings board.watchdog)
+  pub boot : HoldsBoot tree board.boot
   pub device : HoldsDevice (table_in field.Device tree) board.device
   pub sensors : AllZip IsSensorIn (members_in field.Sensor tree) board.sensors.items
+  pub no_numeric : board.numeric_effecters.items ≡ []
 
 -- what the reading of a tree answers: the board that it holds where it has no fault, else its first fault
 abbrev pub Answers : Members → Result BoardFile FileFault → Type 0

@@ -1,5 +1,5 @@
 -- The plan that a tree holds.
-use Rattle.std.specs.Prelude.{◌≡◌, ℕ, ◌==◌, ◌/◌, ◌%◌, Bool, true, List, [], map, slice_get, Option, Some, None, is_some, option_and_then, Result, Ok, Err, MatchOption, codes}
+use Rattle.std.specs.Prelude.{◌≡◌, ℕ, ◌==◌, ◌/◌, ◌%◌, Bool, true, List, [], map, length, slice_get, Option, Some, None, is_some, option_and_then, Result, Ok, Err, MatchOption, codes}
 use Rattle.std.specs.List.{AllZip, list_any}
 use Rattle.toml.specs.Data.{Data, Members, as_bool}
 use Rattle.toml.specs.Parse.{parse_document}
@@ -15,6 +15,9 @@ use Rattle.cfg_records.specs.declared.event_enable.EventMasks.{EventMasks}
 use Rattle.cfg_records.specs.declared.watchdog.SetWatchdog.{SetWatchdog}
 use Rattle.cfg_records.specs.declared.power_policy.SetPowerPolicy.{SetPowerPolicy}
 use Rattle.cfg_records.specs.declared.global_enables.SetGlobalEnables.{SetGlobalEnables}
+use Rattle.cfg_records.specs.declared.boot_param.BootChange.{BootChange}
+use Rattle.cfg_records.specs.declared.boot_param.SetBootParam.{SetBootParam}
+use Rattle.cfg_records.specs.BootParam.{selector, parameter_of, change_bytes}
 use Rattle.plans.specs.declared.plan.Plan.{Plan}
 use Rattle.plan_file.specs.declared.field.Field.{Field}
 use Rattle.plan_file.specs.declared.field.Field.TheVariants as field
@@ -22,7 +25,7 @@ use Rattle.plan_file.specs.declared.kind.Kind.TheVariants as kind
 use Rattle.plan_file.specs.declared.change.TheConstants.{LIMITS}
 use Rattle.plan_file.specs.declared.plan_fault.PlanFault.{PlanFault}
 use Rattle.plan_file.specs.declared.plan_fault.PlanFault.TheVariants as plan
-use Rattle.plan_file.specs.Trees.{in_field, natural, number_in, table_of, members_in}
+use Rattle.plan_file.specs.Trees.{in_field, natural, bytes_in, number_in, table_of, members_in}
 use Rattle.plan_file.specs.Ranges.{passes, has_text, or_zero}
 use Rattle.plan_file.specs.Kinds.{kind_in}
 use Rattle.plan_file.specs.Faults.{first}
@@ -118,6 +121,23 @@ HoldsPowerPolicy tree set = HasNumber field.Policy tree set.policy
 abbrev pub HoldsGlobalEnables : Members → SetGlobalEnables → Type 0
 HoldsGlobalEnables tree set = HasNumber field.Value tree set.byte
 
+-- ---- boot parameters
+
+-- what a step gives are these bytes: none where it gives nothing
+abbrev pub IsGiven : Option Data → List ℕ → Type 0
+IsGiven None bytes = bytes ≡ []
+IsGiven (Some d) bytes = bytes_in (length bytes) d ≡ Some bytes
+
+-- the step says what becomes of a boot parameter's data
+pub record HoldsBootChange (tree : Members) (change : BootChange) : Type 0 where
+  pub named : HasNumber field.Param tree (selector (parameter_of change))
+  pub given : IsGiven (in_field field.BootData tree) (change_bytes change)
+
+-- the step holds a change of a boot parameter
+pub record HoldsBootParam (tree : Members) (set : SetBootParam) : Type 0 where
+  pub invalid : HasFlag field.Invalid tree set.invalid
+  pub change : HoldsBootChange tree set.change
+
 -- ---- plans
 
 -- the step holds a change of the kind that it names
@@ -128,6 +148,7 @@ HoldsStep tree (op.EventEnable set) = (kind_in tree ≡ Some kind.EventEnable) �
 HoldsStep tree (op.Watchdog set) = (kind_in tree ≡ Some kind.Watchdog) × HoldsWatchdog tree set
 HoldsStep tree (op.PowerPolicy set) = (kind_in tree ≡ Some kind.PowerPolicy) × HoldsPowerPolicy tree set
 HoldsStep tree (op.GlobalEnables set) = (kind_in tree ≡ Some kind.GlobalEnables) × HoldsGlobalEnables tree set
+HoldsStep tree (op.BootParam set) = (kind_in tree ≡ Some kind.BootParam) × HoldsBootParam tree set
 
 -- the member of an array holds a change
 abbrev pub IsStepIn : Data → Op → Type 0

@@ -6,6 +6,9 @@ use Rattle.cfg_records.specs.Masks.{has, all_below}
 use Rattle.cfg_records.specs.Thresholds.{place_of}
 use Rattle.cfg_records.specs.EventEnable.{are_within}
 use Rattle.cfg_records.specs.GlobalEnables.{are_enables}
+use Rattle.cfg_records.specs.BootParam.{parameter_at}
+use Rattle.cfg_records.specs.declared.boot_param.BootParameter.{BootParameter}
+use Rattle.cfg_records.specs.declared.boot_param.BootParameter.TheVariants as parameter
 use Rattle.toml.specs.Data.{Data, Members, as_str, as_integer, as_bool, as_table}
 use Rattle.plan_file.specs.declared.field.Field.{Field}
 use Rattle.plan_file.specs.declared.field.Field.TheVariants as field
@@ -40,6 +43,7 @@ has_type (shape.Number least most) d = is_integer d
 has_type shape.Digits d = is_integer d
 has_type shape.Enables d = is_integer d
 has_type shape.Pair d = is_array_of is_integer d
+has_type shape.BootFlags d = is_array_of is_integer d
 has_type shape.Thresholds d = is_array_of is_integer d
 has_type shape.Flags d = is_integer d
 has_type shape.Events d = is_integer d
@@ -50,6 +54,7 @@ has_type shape.Flag d = is_some (as_bool d)
 has_type shape.Text d = is_some (as_str d)
 has_type shape.Select d = is_some (as_str d)
 has_type shape.Offsets d = is_array_of is_integer d
+has_type shape.BootData d = is_array_of is_integer d
 
 -- ---- ranges
 
@@ -111,6 +116,20 @@ is_selection text = bytes_eq text (codes "leave") || (bytes_eq text (codes "enab
 abbrev pub is_offset : Data → Bool
 is_offset d = passes (is_between 0 11) (natural d)
 
+-- no bits but bits 4:0 of the first byte
+abbrev pub are_five_bits : List ℕ → Bool
+are_five_bits bytes = nat_lt (slice_index bytes 0) 32
+
+-- data of a boot parameter: bits 4:0, a mask and bits, or five bytes
+abbrev pub are_boot_data : BootParameter → Data → Bool
+are_boot_data parameter.ValidBitClearing d = passes are_five_bits (bytes_in 1 d)
+are_boot_data parameter.InfoAcknowledge d = is_some (bytes_in 2 d)
+are_boot_data parameter.Flags d = is_some (bytes_in 5 d)
+
+-- the boot parameter that an item names
+abbrev pub parameter_in : Members → Option BootParameter
+parameter_in tree = option_and_then parameter_at (number_in field.Param tree)
+
 -- a number, 0 where there is none
 abbrev pub or_zero : Option ℕ → ℕ
 or_zero (Some n) = n
@@ -122,6 +141,7 @@ is_in_range tree (shape.Number least most) d = passes (is_between least most) (n
 is_in_range tree shape.Digits d = passes are_digits (natural d)
 is_in_range tree shape.Enables d = passes is_enables_byte (natural d)
 is_in_range tree shape.Pair d = is_some (bytes_in 2 d)
+is_in_range tree shape.BootFlags d = is_some (bytes_in 5 d)
 is_in_range tree shape.Thresholds d =
     are_masks (number_in field.Readable tree) (number_in field.Settable tree)
     && passes (are_thresholds (or_zero (number_in field.Readable tree)) (or_zero (number_in field.Settable tree))) (bytes_in 6 d)
@@ -134,3 +154,4 @@ is_in_range tree shape.Flag d = true
 is_in_range tree shape.Text d = true
 is_in_range tree shape.Select d = passes is_selection (as_str d)
 is_in_range tree shape.Offsets d = is_array_of is_offset d
+is_in_range tree shape.BootData d = passes (λ named. are_boot_data named d) (parameter_in tree)

@@ -7,19 +7,19 @@ ghost use Rattle.toml.specs.View.{view, table_view};
 ghost use Rattle.plan_file.specs.Trees.{in_field, table_of, table_in, members_in};
 ghost use Rattle.plan_file.specs.Ranges.{is_table};
 ghost use Rattle.plan_file.specs.Faults.{field_faults, sensor_faults, first};
-ghost use Rattle.plan_file.specs.Holds.{HasNumber, HasBelow, HoldsDevice, HoldsEvents, HoldsSensor, IsSensorIn, IsNextFault, number_of, Answers, Reads};
+ghost use Rattle.plan_file.specs.Holds.{HasNumber, HasBelow, HoldsBoot, HoldsDevice, HoldsEvents, HoldsSensor, IsSensorIn, IsNextFault, number_of, Answers, Reads};
 
 use crate::check::check;
 use crate::fault::{FileFault, Item, Place};
 use crate::field::Field;
-use crate::range::{digits, enables, hysteresis, thresholds, watchdog};
+use crate::range::{boot_flags, digits, enables, hysteresis, thresholds, watchdog};
 use crate::row::{DEVICE, SENSOR, TOP};
 use crate::tree::{in_field, members_in, number};
 use cfg_records::event_enable::{MESSAGES_PLACE, SCANNING_PLACE};
 use cfg_records::mask::has;
 use cfg_records::{
-    BoardFile, Device, Distinct, EventEnable, EventMasks, GlobalEnables, ManufacturerId,
-    PowerPolicy, Sensor, Sensors,
+    BoardFile, BootOptions, Device, Distinct, EventEnable, EventMasks, GlobalEnables,
+    ManufacturerId, NumericEffecters, PowerPolicy, Sensor, Sensors,
 };
 use std::alloc::Global;
 use toml::{Table, Value};
@@ -181,6 +181,25 @@ fn global_enables(tree: &Table) -> GlobalEnables
     enables(value_in(tree, Field::Enables)).unwrap()
 }
 
+/// The boot options of the file.
+fn boot_options(tree: &Table) -> BootOptions
+    requires { field_faults TOP (table_view tree.now) ≡ [] }
+    ensures { HoldsBoot (table_view tree.now) result }
+{
+    let clearing = byte_in(tree, Field::Boot3);
+    let acknowledge = byte_in(tree, Field::Boot4);
+    let five = value_in(tree, Field::Boot5);
+    let flags = boot_flags(five).unwrap();
+    BootOptions::new(clearing, acknowledge, flags).unwrap()
+}
+
+/// A board file gives a board no numeric effecters.
+fn no_numeric(alloc: Global) -> NumericEffecters
+    ensures { result.items ≡ [] }
+{
+    Distinct::new(Vec::new(alloc)).unwrap()
+}
+
 /// The board that the tree holds, or its first fault.
 fn board_of(alloc: Global, tree: &Table) -> Result<BoardFile, FileFault>
     ensures { (result ≡ Err FileFault.Memory) ⊎ Answers (table_view tree.now) result }
@@ -194,8 +213,10 @@ fn board_of(alloc: Global, tree: &Table) -> Result<BoardFile, FileFault>
         device: device(board),
         sensors,
         enables: global_enables(tree),
+        boot: boot_options(tree),
         policy: PowerPolicy::new(byte_in(tree, Field::Policy)).unwrap(),
         watchdog: watchdog(value_in(tree, Field::Watchdog)).unwrap(),
+        numeric_effecters: no_numeric(alloc),
     })
 }
 

@@ -6,17 +6,19 @@ ghost use Rattle.toml.specs.View.{view, table_view};
 ghost use Rattle.plan_file.specs.Trees.{number_in, members_in};
 ghost use Rattle.plan_file.specs.Ranges.{is_offset, or_zero};
 ghost use Rattle.plan_file.specs.Faults.{field_faults};
-ghost use Rattle.plan_file.specs.PlanHolds.{flag_in, is_given, is_number, HoldsEvents, HoldsThresholds, HoldsHysteresis, HoldsChange, HoldsEventEnable, HoldsWatchdog, HoldsPowerPolicy, HoldsGlobalEnables};
+ghost use Rattle.plan_file.specs.PlanHolds.{flag_in, is_given, is_number, HoldsEvents, HoldsThresholds, HoldsHysteresis, HoldsChange, HoldsEventEnable, HoldsWatchdog, HoldsPowerPolicy, HoldsGlobalEnables, HoldsBootChange, HoldsBootParam};
 
 use crate::board::{byte_in, value_in, word_in};
 use crate::field::Field;
-use crate::kind::{EVENT_ENABLE, GLOBAL_ENABLES, HYSTERESIS, POWER_POLICY, THRESHOLDS, WATCHDOG};
-use crate::range::{enables, is_between};
+use crate::kind::{
+    BOOT_PARAM, EVENT_ENABLE, GLOBAL_ENABLES, HYSTERESIS, POWER_POLICY, THRESHOLDS, WATCHDOG,
+};
+use crate::range::{boot_change, enables, is_between, parameter_in};
 use crate::tree::{has_text, in_field, members_in, natural, number};
 use cfg_records::event_enable::MESSAGES_PLACE;
 use cfg_records::{
-    EventChange, EventMasks, SetEventEnable, SetGlobalEnables, SetHysteresis, SetPowerPolicy,
-    SetThresholds, SetWatchdog,
+    BootChange, EventChange, EventMasks, SetBootParam, SetEventEnable, SetGlobalEnables,
+    SetHysteresis, SetPowerPolicy, SetThresholds, SetWatchdog,
 };
 use toml::{Table, Value};
 
@@ -226,5 +228,28 @@ pub fn global_enables(step: &Table) -> SetGlobalEnables
 {
     SetGlobalEnables {
         byte: enables(value_in(step, Field::Value)).unwrap().byte,
+    }
+}
+
+/// What the step makes of a boot parameter's data. Without data they stay.
+fn boot_data(step: &Table) -> BootChange
+    requires { field_faults BOOT_PARAM (table_view step.now) ≡ [] }
+    ensures { HoldsBootChange (table_view step.now) result }
+{
+    let parameter = parameter_in(step).unwrap();
+    match in_field(step, Field::BootData) {
+        Some(value) => boot_change(parameter, value).unwrap(),
+        None => BootChange::MarkAlone(parameter),
+    }
+}
+
+/// What the step makes of a boot parameter.
+pub fn boot_param(step: &Table) -> SetBootParam
+    requires { field_faults BOOT_PARAM (table_view step.now) ≡ [] }
+    ensures { HoldsBootParam (table_view step.now) result }
+{
+    SetBootParam {
+        invalid: flag(step, Field::Invalid),
+        change: boot_data(step),
     }
 }

@@ -11,6 +11,9 @@ pub enum Field {
     Enables,
     Policy,
     Watchdog,
+    Boot3,
+    Boot4,
+    Boot5,
     Device,
     Sensor,
     Id,
@@ -54,6 +57,8 @@ pub enum Field {
     FlagsClear,
     Store,
     Param,
+    Invalid,
+    BootData,
 }
 
 impl Field {
@@ -66,6 +71,9 @@ impl Field {
             Field::Enables => "enables",
             Field::Policy => "policy",
             Field::Watchdog => "watchdog",
+            Field::Boot3 => "boot3",
+            Field::Boot4 => "boot4",
+            Field::Boot5 => "boot5",
             Field::Device => "device",
             Field::Sensor => "sensor",
             Field::Id => "id",
@@ -109,6 +117,8 @@ impl Field {
             Field::FlagsClear => "flags_clear",
             Field::Store => "store",
             Field::Param => "param",
+            Field::Invalid => "invalid",
+            Field::BootData => "data",
         }
     }
 }

@@ -18,16 +18,18 @@ pub enum Kind {
     Watchdog,
     PowerPolicy,
     GlobalEnables,
+    BootParam,
 }
 
 /// All kinds of step.
-pub const KINDS: [Kind; 6] = [
+pub const KINDS: [Kind; 7] = [
     Kind::Thresholds,
     Kind::Hysteresis,
     Kind::EventEnable,
     Kind::Watchdog,
     Kind::PowerPolicy,
     Kind::GlobalEnables,
+    Kind::BootParam,
 ];
 
 /// The field of a step that names its kind.
@@ -77,6 +79,13 @@ pub const POWER_POLICY: [Row; 1] = [Row(Field::Policy, Shape::Number(0, 2), Need
 /// The fields of a step that sets the global enables.
 pub const GLOBAL_ENABLES: [Row; 1] = [Row(Field::Value, Shape::Enables, Need::Always)];
 
+/// The fields of a step that sets a boot parameter.
+pub const BOOT_PARAM: [Row; 3] = [
+    Row(Field::Param, Shape::Number(3, 5), Need::Always),
+    Row(Field::Invalid, Shape::Flag, Need::Always),
+    Row(Field::BootData, Shape::BootData, Need::Never),
+];
+
 impl Kind {
     /// What a step's `kind` calls it.
     pub fn word(&self) -> &'static str
@@ -89,6 +98,7 @@ impl Kind {
             Kind::Watchdog => "watchdog",
             Kind::PowerPolicy => "power-policy",
             Kind::GlobalEnables => "global-enables",
+            Kind::BootParam => "boot-param",
         }
     }
 
@@ -103,6 +113,7 @@ impl Kind {
             Kind::Watchdog => &WATCHDOG,
             Kind::PowerPolicy => &POWER_POLICY,
             Kind::GlobalEnables => &GLOBAL_ENABLES,
+            Kind::BootParam => &BOOT_PARAM,
         }
     }
 }

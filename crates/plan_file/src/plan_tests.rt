@@ -1,8 +1,8 @@
 //! Plans: what they hold, and their faults.
 use crate::{NoGet, OutsidePlan, PlanFault, StepFault, read_plan};
 use cfg_records::{
-    EventChange, EventMasks, Op, SetEventEnable, SetGlobalEnables, SetHysteresis, SetPowerPolicy,
-    SetThresholds, SetWatchdog,
+    BootChange, BootFlags, BootParameter, EventChange, EventMasks, MaskedBits, Op, SetBootParam,
+    SetEventEnable, SetGlobalEnables, SetHysteresis, SetPowerPolicy, SetThresholds, SetWatchdog,
 };
 use std::alloc::{AllocError, Global};
 use std::test::Fail;
@@ -44,6 +44,11 @@ policy = 2
 [[step]]
 kind = \"global-enables\"
 value = 0x08
+[[step]]
+kind = \"boot-param\"
+param = 4
+invalid = false
+data = [3, 1]
 ";
 
 /// A line of the plan, and lines that say something else of its field.
@@ -375,8 +380,8 @@ fn what_no_get_shows_is_refused(rt: HostRuntime) -> Result<(), Fail> {
         ),
         ("kind = \"channel-access\"\nstore = 0", "0 UnknownKind"),
         ("kind = \"boot-param\"\nparam = 0", "0 NoGet SetInProgress"),
-        ("kind = \"boot-param\"\nparam = 3", "0 UnknownKind"),
-        ("kind = \"boot-param\"\nparam = false", "0 UnknownKind"),
+        ("kind = \"boot-param\"\nparam = 3", "0 Missing invalid"),
+        ("kind = \"boot-param\"\nparam = false", "0 Missing invalid"),
         ("kind = \"thresholds\"\nflags_clear = 0", "0 Missing sensor"),
     ];
     for (step, want) in cases {
@@ -457,7 +462,7 @@ fn events_are_needed_unless_they_are_left(rt: HostRuntime) -> Result<(), Fail> {
 fn each_kind_is_read(rt: HostRuntime) -> Result<(), Fail> {
     let plan = read_plan(rt.alloc(), PLAN).map_err(|_| "a plan")?;
     let steps = plan.steps.as_slice();
-    assert_eq!(rt; steps.len(), 6);
+    assert_eq!(rt; steps.len(), 7);
     let thresholds = SetThresholds {
         sensor: 5,
         mask: 0x3F,
@@ -493,6 +498,75 @@ fn each_kind_is_read(rt: HostRuntime) -> Result<(), Fail> {
     assert!(rt; matches!(steps.get(4), Some(Op::PowerPolicy(set)) if *set == policy));
     let enables = SetGlobalEnables { byte: 0x08 };
     assert!(rt; matches!(steps.get(5), Some(Op::GlobalEnables(set)) if *set == enables));
+    let acknowledge = SetBootParam {
+        invalid: false,
+        change: BootChange::InfoAcknowledge(MaskedBits { mask: 3, bits: 1 }),
+    };
+    assert!(rt; matches!(steps.get(6), Some(Op::BootParam(set)) if *set == acknowledge));
+    Ok(())
+}
+
+#[test]
+fn each_boot_parameter_is_read_with_its_data_or_none(rt: HostRuntime) -> Result<(), Fail> {
+    let flags = BootFlags {
+        validity: 1,
+        device: 2,
+        console: 3,
+        overrides: 4,
+        instance: 5,
+    };
+    let cases = [
+        ("param = 3\ndata = [31]", BootChange::ValidBitClearing(31)),
+        (
+            "param = 4\ndata = [255, 0]",
+            BootChange::InfoAcknowledge(MaskedBits { mask: 255, bits: 0 }),
+        ),
+        (
+            "param = 5\ndata = [1, 2, 3, 4, 5]",
+            BootChange::Flags(flags),
+        ),
+        (
+            "param = 3",
+            BootChange::MarkAlone(BootParameter::ValidBitClearing),
+        ),
+        ("param = 5", BootChange::MarkAlone(BootParameter::Flags)),
+    ];
+    for (lines, change) in cases {
+        let text = format!(in rt.alloc();
+            "[[step]]\nkind = \"boot-param\"\ninvalid = true\n{lines}\n"
+        )?;
+        let plan = read_plan(rt.alloc(), text.as_str()).map_err(|_| "a plan")?;
+        let set = SetBootParam {
+            invalid: true,
+            change,
+        };
+        assert!(rt;
+            matches!(plan.steps.as_slice().get(0), Some(Op::BootParam(held)) if *held == set),
+            "{lines}"
+        );
+    }
+    Ok(())
+}
+
+#[test]
+fn data_of_a_boot_parameter_are_its_own(rt: HostRuntime) -> Result<(), Fail> {
+    let cases: [Named; 9] = [
+        ("param = 2", "0 Range param"),
+        ("param = 6\ndata = 0", "0 WrongType data"),
+        ("param = 3\ndata = [32]", "0 Range data"),
+        ("param = 3\ndata = []", "0 Range data"),
+        ("param = 3\ndata = [true]", "0 WrongType data"),
+        ("param = 4\ndata = [1]", "0 Range data"),
+        ("param = 4\ndata = [256, 0]", "0 Range data"),
+        ("param = 5\ndata = [0, 0, 0, 0]", "0 Range data"),
+        ("data = [0]", "0 Missing param"),
+    ];
+    for (lines, want) in cases {
+        let text = format!(in rt.alloc();
+            "[[step]]\nkind = \"boot-param\"\ninvalid = true\n{lines}\n"
+        )?;
+        assert_eq!(rt; named(rt.alloc(), text.as_str())?.as_str(), want, "{lines}");
+    }
     Ok(())
 }
 

@@ -1,18 +1,22 @@
 //! Which values a field can have: of which type, and in which range.
-ghost use Rattle.std.specs.Prelude.{◌≡◌, ◌∷◌, [], Some, IfSome, map, is_some, option_map, nat_le, length};
+ghost use Rattle.std.specs.Prelude.{◌≡◌, ◌∷◌, [], ℕ, Some, IfSome, map, is_some, option_map, nat_le, length};
 ghost use Rattle.std.specs.List.{list_all};
+ghost use Rattle.cfg_records.specs.BootParam.{flag_bytes, parameter_of, change_bytes};
 ghost use Rattle.cfg_records.specs.Watchdog.{watchdog_value};
 ghost use Rattle.toml.specs.Data.{as_str};
 ghost use Rattle.toml.specs.View.{view, table_view};
 ghost use Rattle.plan_file.specs.Trees.{members, or_none, natural, naturals_in, bytes_in, number_in};
-ghost use Rattle.plan_file.specs.Ranges.{passes, is_integer, is_table, is_array_of, has_type, is_between, are_digits, is_enables_byte, are_masks, are_thresholds, are_flags, are_settings, is_selection, is_offset, is_in_range};
+ghost use Rattle.plan_file.specs.Ranges.{passes, is_integer, is_table, is_array_of, has_type, is_between, are_digits, is_enables_byte, are_masks, are_thresholds, are_flags, are_settings, is_selection, is_offset, are_five_bits, are_boot_data, parameter_in, is_in_range};
 ghost use Rattle.plan_file.specs.Holds.{settings};
 
 use crate::field::Field;
 use crate::row::Shape;
 use crate::tree::{bytes, members, natural, naturals, number};
 use cfg_records::event_enable::are_within;
-use cfg_records::{Bcd, GlobalEnables, Hysteresis, ThresholdMasks, Thresholds, Watchdog};
+use cfg_records::{
+    Bcd, BootChange, BootFlags, BootParameter, GlobalEnables, Hysteresis, MaskedBits,
+    ThresholdMasks, Thresholds, Watchdog,
+};
 use toml::{Table, Value};
 
 /// Whether each of the values is an integer.
@@ -107,6 +111,24 @@ pub fn hysteresis(value: &Value) -> Option<Hysteresis>
     };
     let [positive, negative] = bytes;
     Some(Hysteresis { positive, negative })
+}
+
+/// The boot flags that the value is.
+pub fn boot_flags(value: &Value) -> Option<BootFlags>
+    ensures made { is_some result ≡ is_some (bytes_in 5 (view value.now)) }
+    ensures held { IfSome result (λ flags. bytes_in 5 (view value.now) ≡ Some (flag_bytes flags)) }
+{
+    let Some(bytes) = bytes::<5>(value) else {
+        return None;
+    };
+    let [validity, device, console, overrides, instance] = bytes;
+    Some(BootFlags {
+        validity,
+        device,
+        console,
+        overrides,
+        instance,
+    })
 }
 
 /// The masks of the sensor that the table is.
@@ -211,6 +233,72 @@ fn are_offsets(value: &Value) -> bool
     }
 }
 
+/// The change of parameter 3 that the value is.
+fn valid_bit_clearing(value: &Value) -> Option<BootChange>
+    ensures made { is_some result ≡ passes are_five_bits (bytes_in 1 (view value.now)) }
+    ensures held { IfSome result (λ change. (byte : ℕ) × (change ≡ BootChange.ValidBitClearing byte) × (bytes_in 1 (view value.now) ≡ Some (byte ∷ []))) }
+{
+    let Some(bytes) = bytes::<1>(value) else {
+        return None;
+    };
+    let [byte] = bytes;
+    if byte >= 32 {
+        return None;
+    }
+    Some(BootChange::ValidBitClearing(byte))
+}
+
+/// The change of parameter 4 that the value is: a mask, and the bits that are written.
+fn info_acknowledge(value: &Value) -> Option<BootChange>
+    ensures made { is_some result ≡ is_some (bytes_in 2 (view value.now)) }
+    ensures held { IfSome result (λ change. (masked : MaskedBits) × (change ≡ BootChange.InfoAcknowledge masked) × (bytes_in 2 (view value.now) ≡ Some (masked.mask ∷ masked.bits ∷ []))) }
+{
+    let Some(bytes) = bytes::<2>(value) else {
+        return None;
+    };
+    let [mask, bits] = bytes;
+    Some(BootChange::InfoAcknowledge(MaskedBits { mask, bits }))
+}
+
+/// What becomes of the boot parameter by the data that the value is.
+pub fn boot_change(parameter: BootParameter, value: &Value) -> Option<BootChange>
+    ensures made { is_some result ≡ are_boot_data parameter (view value.now) }
+    ensures changed { IfSome result (λ change. parameter_of change ≡ parameter) }
+    ensures held { IfSome result (λ change. bytes_in (length (change_bytes change)) (view value.now) ≡ Some (change_bytes change)) }
+{
+    match parameter {
+        BootParameter::ValidBitClearing => valid_bit_clearing(value),
+        BootParameter::InfoAcknowledge => info_acknowledge(value),
+        BootParameter::Flags => match boot_flags(value) {
+            Some(flags) => Some(BootChange::Flags(flags)),
+            None => None,
+        },
+    }
+}
+
+/// The boot parameter that the item names.
+pub fn parameter_in(item: &Table) -> Option<BootParameter>
+    ensures { result ≡ parameter_in (table_view item.now) }
+{
+    match number(item, Field::Param) {
+        Some(number) => match u8::try_from(number) {
+            Ok(byte) => BootParameter::at(byte),
+            Err(_) => None,
+        },
+        None => None,
+    }
+}
+
+/// Whether the value is data of the boot parameter that the item names.
+fn are_boot_data(item: &Table, value: &Value) -> bool
+    ensures { result ≡ is_in_range (table_view item.now) Shape.BootData (view value.now) }
+{
+    match parameter_in(item) {
+        Some(parameter) => boot_change(parameter, value).is_some(),
+        None => false,
+    }
+}
+
 impl Shape {
     /// Whether the value is of its type.
     pub fn has_type(&self, value: &Value) -> bool
@@ -222,6 +310,7 @@ impl Shape {
             Shape::Pair | Shape::Thresholds | Shape::Watchdog | Shape::Offsets => {
                 are_integers(value)
             }
+            Shape::BootFlags | Shape::BootData => are_integers(value),
             Shape::Table => value.is_table(),
             Shape::Tables(_) => are_tables(value),
             Shape::Flag => value.is_bool(),
@@ -238,6 +327,7 @@ impl Shape {
             Shape::Digits => digits(value).is_some(),
             Shape::Enables => enables(value).is_some(),
             Shape::Pair => hysteresis(value).is_some(),
+            Shape::BootFlags => boot_flags(value).is_some(),
             Shape::Thresholds => thresholds(item, value).is_some(),
             Shape::Flags => are_flags(value),
             Shape::Events => are_supported(item, value),
@@ -247,6 +337,7 @@ impl Shape {
             Shape::Flag | Shape::Text => true,
             Shape::Select => is_selection(value),
             Shape::Offsets => are_offsets(value),
+            Shape::BootData => are_boot_data(item, value),
         }
     }
 }

@@ -19,6 +19,8 @@ pub enum Shape {
     Enables,
     /// Two bytes, in a list.
     Pair,
+    /// Five bytes, in a list: boot flags.
+    BootFlags,
     /// Six bytes, in a list: thresholds that a sensor with the item's masks can have.
     Thresholds,
     /// A byte with no bits but bits 7 and 6.
@@ -39,6 +41,8 @@ pub enum Shape {
     Select,
     /// Offsets of events, each from 0 to 11, in a list.
     Offsets,
+    /// Bytes, in a list: data of the boot parameter that the item names.
+    BootData,
 }
 
 /// When an item needs a field.
@@ -71,11 +75,14 @@ pub struct Row(pub Field, pub Shape, pub Need);
 pub const BYTE: Shape = Shape::Number(0, 255);
 
 /// A board file's own fields.
-pub const TOP: [Row; 6] = [
+pub const TOP: [Row; 9] = [
     Row(Field::Tid, BYTE, Need::Always),
     Row(Field::Enables, Shape::Enables, Need::Always),
     Row(Field::Policy, Shape::Number(0, 3), Need::Always),
     Row(Field::Watchdog, Shape::Watchdog, Need::Always),
+    Row(Field::Boot3, Shape::Number(0, 31), Need::Always),
+    Row(Field::Boot4, BYTE, Need::Always),
+    Row(Field::Boot5, Shape::BootFlags, Need::Always),
     Row(Field::Device, Shape::Table, Need::Always),
     Row(Field::Sensor, Shape::Tables(32), Need::Never),
 ];

@@ -7,7 +7,9 @@ ghost use Rattle.plan_file.specs.Faults.{field_faults, first};
 ghost use Rattle.plan_file.specs.PlanFaults.{outside_word, is_outside, asks, kind_faults, step_faults};
 ghost use Rattle.plan_file.specs.PlanHolds.{HoldsStep};
 
-use crate::change::{event_enable, global_enables, hysteresis, power_policy, thresholds, watchdog};
+use crate::change::{
+    boot_param, event_enable, global_enables, hysteresis, power_policy, thresholds, watchdog,
+};
 use crate::check::first_fault;
 use crate::field::Field;
 use crate::kind::{KIND, Kind, kind_in};
@@ -106,6 +108,7 @@ fn change(kind: Kind, step: &Table) -> Op
         Kind::Watchdog => Op::Watchdog(watchdog(step)),
         Kind::PowerPolicy => Op::PowerPolicy(power_policy(step)),
         Kind::GlobalEnables => Op::GlobalEnables(global_enables(step)),
+        Kind::BootParam => Op::BootParam(boot_param(step)),
     }
 }
 

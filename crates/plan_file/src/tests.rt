@@ -81,7 +81,7 @@ const fn sensor(place: usize, field: Field) -> Place {
 
 /// A case for each field: the file's own, `[device]`'s, and the second `[[sensor]]`'s. The line of `deassert` is each
 /// sensor's, and the first counts.
-fn cases() -> [Case; 20] {
+fn cases() -> [Case; 23] {
     [
         Case {
             line: "tid = 5",
@@ -116,6 +116,27 @@ fn cases() -> [Case; 20] {
                 "watchdog = [0x85, 0x33, 255, 65535]",
                 "watchdog = [0, 0, 0, 1]",
             ],
+        },
+        Case {
+            line: "boot3 = 0",
+            place: top(Field::Boot3),
+            mistyped: "boot3 = [0]",
+            beyond: ["boot3 = -1", "boot3 = 32"],
+            inside: ["boot3 = 1", "boot3 = 31"],
+        },
+        Case {
+            line: "boot4 = 0",
+            place: top(Field::Boot4),
+            mistyped: "boot4 = [0]",
+            beyond: ["boot4 = -1", "boot4 = 256"],
+            inside: ["boot4 = 1", "boot4 = 255"],
+        },
+        Case {
+            line: "boot5 = [0, 0, 0, 0, 0]",
+            place: top(Field::Boot5),
+            mistyped: "boot5 = 0",
+            beyond: ["boot5 = [0, 0, 0, 0]", "boot5 = [0, 0, 0, 0, 256]"],
+            inside: ["boot5 = [255, 0, 0, 0, 0]", "boot5 = [0, 0, 0, 0, 255]"],
         },
         Case {
             line: "id = 0x20",
@@ -261,6 +282,9 @@ fn the_sample_file_holds_the_sample_board(rt: HostRuntime) -> Result<(), Fail> {
     assert_eq!(rt; read.tid, known.tid);
     assert!(rt; read.device == known.device);
     assert_eq!(rt; read.enables.byte, known.enables.byte);
+    assert_eq!(rt; read.boot.valid_bit_clearing, known.boot.valid_bit_clearing);
+    assert_eq!(rt; read.boot.info_acknowledge, known.boot.info_acknowledge);
+    assert!(rt; read.boot.flags == known.boot.flags);
     assert_eq!(rt; read.policy.number, known.policy.number);
     assert_eq!(rt; read.watchdog.timer_use, known.watchdog.timer_use);
     assert_eq!(rt; read.watchdog.initial, known.watchdog.initial);

@@ -3,9 +3,10 @@ ghost use Rattle.std.specs.Prelude.{◌≡◌};
 
 use crate::setup::Setup;
 use cfg_records::{Asked, Key, Live, Op, RecordData, RecordKind, Value};
+use effecter_recs::NumericLimits;
 use sensor_recs::{EventEnableLimits, HysteresisLimits, ThresholdLimits};
 use two_wire::{Buffer, Code};
-use watch_boot::{GlobalEnablesLimits, PowerPolicyLimits, WatchdogLimits};
+use watch_boot::{BootParamLimits, GlobalEnablesLimits, PowerPolicyLimits, WatchdogLimits};
 
 /// The limits of one record.
 #[derive(Clone, Copy, Debug, PartialEq, Eq)]
@@ -16,6 +17,8 @@ pub enum Limits {
     PowerPolicy(PowerPolicyLimits),
     Watchdog(WatchdogLimits),
     GlobalEnables(GlobalEnablesLimits),
+    BootParam(BootParamLimits),
+    NumericEffecter(NumericLimits),
 }
 
 /// The kinds, a line for each: its name, its limits, and where its keys are.
@@ -28,6 +31,8 @@ macro_rules! of_each_kind {
             PowerPolicy PowerPolicyLimits {Key::PowerPolicy => &()}
             Watchdog WatchdogLimits {Key::Watchdog => &()}
             GlobalEnables GlobalEnablesLimits {Key::GlobalEnables => &()}
+            BootParam BootParamLimits {Key::BootParam(parameter) => parameter}
+            NumericEffecter NumericLimits {Key::NumericEffecter(id) => id}
         }
     };
 }
@@ -101,6 +106,12 @@ impl Setup {
             Key::PowerPolicy => Limits::PowerPolicy(PowerPolicyLimits),
             Key::Watchdog => Limits::Watchdog(WatchdogLimits),
             Key::GlobalEnables => Limits::GlobalEnables(GlobalEnablesLimits),
+            Key::BootParam(parameter) => Limits::BootParam(BootParamLimits {
+                parameter: *parameter,
+            }),
+            Key::NumericEffecter(id) => {
+                Limits::NumericEffecter(NumericLimits::of(self.numeric_effecter(*id)?))
+            }
         })
     }
 }

@@ -1,5 +1,6 @@
 //! Records and their kinds one by one, and changes of a board that are undone.
 mod commands;
+mod effecters;
 mod readings;
 mod records;
 mod sensors;

@@ -7,3 +7,7 @@ pub mod WatchdogKind
 pub mod GlobalEnables
 pub mod GlobalEnablesLaws
 pub mod GlobalEnablesKind
+pub mod BootParam
+pub mod BootParamLaws
+pub mod BootParamKind
+pub mod BootRequests

@@ -12,27 +12,34 @@ ghost use Rattle.bmc_board.specs.Replies.{done, unknown_code};
 use crate::activity::Activity;
 use crate::board::Board;
 use crate::command::{Command, GetCommand, SetCommand};
-use crate::live::{LiveCommand, NO_ERROR, PLDM_TYPES, device_data};
+use crate::live::{
+    LiveCommand, NO_ERROR, PLDM_TYPES, already_in_progress, device_data, progress_data,
+};
 use crate::request::read_request;
 use cfg_records::{Answered, Asked, BoardFile, Key, Op, RecordKind, Store, Value, byte_at};
+use effecter_recs::numeric;
+use effecter_recs::request::id_in;
 use record_kinds::{Limits, Setup};
 use sensor_recs::{event_enable, hysteresis, thresholds};
 use std::alloc::{AllocError, Global};
 use two_wire::{Buffer, Bytes, Code, code};
+use watch_boot::boot_request::{BootRequest, BootShown, boot_request_in, boot_shown_in};
 use watch_boot::{global_enables, power_policy, watchdog};
 
 /// The code for a record that isn't there.
 fn unknown_code(_setup: &Setup, key: &Key) -> Code
     ensures { result ≡ unknown_code _setup.now key.now }
 {
-    // Each key is named, so that a new one isn't forgotten. Those after the sensors' are on every board.
+    // Each key is named, so that a new one isn't forgotten. The policy, the watchdog and the enables are on every board.
     match key {
         Key::Thresholds(_)
         | Key::Hysteresis(_)
         | Key::EventEnable(_)
         | Key::PowerPolicy
         | Key::Watchdog
-        | Key::GlobalEnables => code::NOT_PRESENT,
+        | Key::GlobalEnables
+        | Key::BootParam(_) => code::NOT_PRESENT,
+        Key::NumericEffecter(_) => code::PLDM_INVALID_EFFECTER,
     }
 }
 
@@ -48,6 +55,7 @@ fn key_in(command: GetCommand, body: &[u8]) -> Key
         GetChassisStatus => Key::PowerPolicy,
         GetWatchdogTimer => Key::Watchdog,
         GetGlobalEnables => Key::GlobalEnables,
+        GetNumericEffecterValue => Key::NumericEffecter(id_in(body)),
     }
 }
 
@@ -72,7 +80,7 @@ fn answered(done: Result<(), Code>, body: Bytes<251>) -> Answered
 
 impl<S: Store> Board<S> {
     ghost use Rattle.bmc_board.specs.State.{opened, state_of, IsUnchanged};
-    ghost use Rattle.bmc_board.specs.Live.{reset_answer, longest_live_reply};
+    ghost use Rattle.bmc_board.specs.Live.{reset_answer, progress_answer, longest_live_reply};
     ghost use Rattle.bmc_board.specs.Room.{longest_reply};
     ghost use Rattle.bmc_board.specs.Row.{Row};
     ghost use Rattle.bmc_board.specs.Request as request;
@@ -119,6 +127,25 @@ impl<S: Store> Board<S> {
         }
     }
 
+    /// Sets parameter 0 of the boot options, where a byte is given for it.
+    fn set_boot_progress(&mut self, byte: Option<u8>) -> Result<(), Code>
+        ensures answer { (bytes : List ℕ) → Gives result bytes bytes (progress_answer byte self.old.activity).0 }
+        ensures left { self.new.activity ≡ (progress_answer byte self.old.activity).1 }
+        ensures records { S.records self.new.store ≡ S.records self.old.store }
+        ensures setup { self.new.setup ≡ self.old.setup }
+    {
+        let Some(byte) = byte else {
+            return Ok(());
+        };
+        match byte {
+            0 => self.activity.boot_progress = false,
+            1 if self.activity.boot_progress => return Err(already_in_progress()),
+            1 => self.activity.boot_progress = true,
+            _ => return Err(code::INVALID_DATA_FIELD),
+        }
+        Ok(())
+    }
+
     /// Carries out a live command, and appends the data of the reply.
     fn live<B: Buffer>(&mut self, command: LiveCommand, to: &mut B) -> Result<(), Code>
         requires room { length (B.bytes to.old) + longest_live_reply ≤ B.capacity }
@@ -130,6 +157,8 @@ impl<S: Store> Board<S> {
             LiveCommand::GetDeviceId => show(&device_data(self.setup.device()), to),
             LiveCommand::GetSelfTestResults => show(&NO_ERROR, to),
             LiveCommand::ResetWatchdog => self.reset_watchdog(),
+            LiveCommand::SetBootProgress(byte) => self.set_boot_progress(byte),
+            LiveCommand::GetBootProgress => show(&progress_data(self.activity.boot_progress), to),
             LiveCommand::GetTid => show(&[self.setup.tid()], to),
             LiveCommand::GetPldmTypes => show(&PLDM_TYPES, to),
         }
@@ -193,6 +222,35 @@ impl<S: Store> Board<S> {
             SetPowerRestorePolicy => self.set(&Op::PowerPolicy(power_policy::policy_in(body)), to),
             SetWatchdogTimer => self.set(&Op::Watchdog(watchdog::watchdog_in(body)), to),
             SetGlobalEnables => self.set(&Op::GlobalEnables(global_enables::enables_in(body)), to),
+            SetNumericEffecterValue => {
+                self.set(&Op::NumericEffecter(numeric::numeric_effecter_in(body)), to)
+            }
+        }
+    }
+
+    /// Carries out Set System Boot Options.
+    fn set_boot_options<B: Buffer>(&mut self, body: &[u8], to: &mut B) -> Result<(), Code>
+        requires room { IfOk (request_of Command.SetBootOptions body.now) (λ r. length (B.bytes to.old) + longest_reply r ≤ B.capacity) }
+        ensures answer { Gives result (B.bytes to.old) (B.bytes to.new) (reply_of self.old.setup (state_of S.records self.old) (request_of Command.SetBootOptions body.now)).0 }
+        ensures left { state_of S.records self.new ≡ (reply_of self.old.setup (state_of S.records self.old) (request_of Command.SetBootOptions body.now)).1 }
+        ensures setup { self.new.setup ≡ self.old.setup }
+    {
+        match boot_request_in(body)? {
+            BootRequest::Progress(byte) => self.live(LiveCommand::SetBootProgress(byte), to),
+            BootRequest::Param(op) => self.set(&Op::BootParam(op), to),
+        }
+    }
+
+    /// Carries out Get System Boot Options.
+    fn get_boot_options<B: Buffer>(&mut self, body: &[u8], to: &mut B) -> Result<(), Code>
+        requires room { IfOk (request_of Command.GetBootOptions body.now) (λ r. length (B.bytes to.old) + longest_reply r ≤ B.capacity) }
+        ensures answer { Gives result (B.bytes to.old) (B.bytes to.new) (reply_of self.old.setup (state_of S.records self.old) (request_of Command.GetBootOptions body.now)).0 }
+        ensures left { state_of S.records self.new ≡ (reply_of self.old.setup (state_of S.records self.old) (request_of Command.GetBootOptions body.now)).1 }
+        ensures setup { self.new.setup ≡ self.old.setup }
+    {
+        match boot_shown_in(body)? {
+            BootShown::Progress => self.live(LiveCommand::GetBootProgress, to),
+            BootShown::Param(parameter) => self.get(&Key::BootParam(parameter), to),
         }
     }
 
@@ -207,6 +265,8 @@ impl<S: Store> Board<S> {
             Command::Live(command) => self.live(command, to),
             Command::Get(command) => self.get(&key_in(command, body), to),
             Command::Set(command) => self.change(command, body, to),
+            Command::SetBootOptions => self.set_boot_options(body, to),
+            Command::GetBootOptions => self.get_boot_options(body, to),
         }
     }
 

@@ -178,6 +178,8 @@ fn full_board(alloc: Global) -> Result<BoardFile, Fail> {
         policy: sample.policy,
         watchdog: sample.watchdog,
         enables: sample.enables,
+        boot: sample.boot,
+        numeric_effecters: sample.numeric_effecters,
     })
 }
 

@@ -120,6 +120,9 @@ const SAMPLE: &str = "tid = 5
 enables = 0x08
 policy = 1
 watchdog = [0, 0, 0, 0]
+boot3 = 0
+boot4 = 0
+boot5 = [0, 0, 0, 0, 0]
 [device]
 id = 0x20
 revision = 1

@@ -2,9 +2,9 @@
 ghost use Rattle.std.specs.Prelude.{◌<◌};
 
 use cfg_records::{
-    Answered, Asked, Bcd, EventEnable, EventMasks, GlobalEnables, Hysteresis, Key, Live,
-    ManufacturerId, NoKey, PlainStore, PowerPolicy, Sensor, Sensors, Store, StoreFault,
-    ThresholdMasks, Thresholds, Value, Watchdog, sample_board,
+    Answered, Asked, Bcd, BootFlags, BootOptions, BootParameter, EventEnable, EventMasks,
+    GlobalEnables, Hysteresis, Key, Live, ManufacturerId, NoKey, PlainStore, PowerPolicy, Sensor,
+    Sensors, Store, StoreFault, ThresholdMasks, Thresholds, Value, Watchdog, sample_board,
 };
 use std::test::Fail;
 use two_wire::{Below, Bytes, Lun, NetFn, code};
@@ -14,7 +14,7 @@ fn the_sample_board_begins_with_its_records(rt: HostRuntime) -> Result<(), Fail>
     let file = sample_board(rt.alloc())?;
     assert_eq!(rt; file.tid, 5);
     let pairs = file.records(rt.alloc())?;
-    assert_eq!(rt; pairs.len(), 9);
+    assert_eq!(rt; pairs.len(), 12);
     assert!(rt; pairs[1].0 == Key::Thresholds(7));
     assert!(rt; pairs[1].1.is(&[0, 0, 0, 0x90, 0xA0, 0xB0]));
     assert!(rt; pairs[2].0 == Key::Hysteresis(5));
@@ -28,6 +28,12 @@ fn the_sample_board_begins_with_its_records(rt: HostRuntime) -> Result<(), Fail>
     assert!(rt; pairs[7].1.is(&[0, 0, 0, 0, 0]));
     assert!(rt; pairs[8].0 == Key::GlobalEnables);
     assert!(rt; pairs[8].1.is(&[0x08]));
+    assert!(rt; pairs[9].0 == Key::BootParam(BootParameter::ValidBitClearing));
+    assert!(rt; pairs[9].1.is(&[0, 0]));
+    assert!(rt; pairs[10].0 == Key::BootParam(BootParameter::InfoAcknowledge));
+    assert!(rt; pairs[10].1.is(&[0, 0]));
+    assert!(rt; pairs[11].0 == Key::BootParam(BootParameter::Flags));
+    assert!(rt; pairs[11].1.is(&[0; 6]));
     Ok(())
 }
 
@@ -168,6 +174,23 @@ fn a_policy_is_at_most_3(rt: HostRuntime) -> Result<(), Fail> {
 fn global_enables_have_no_reserved_bit(rt: HostRuntime) -> Result<(), Fail> {
     assert_eq!(rt; GlobalEnables::new(0xEF).ok_or("enables")?.byte, 0xEF);
     assert!(rt; GlobalEnables::new(0x10).is_none());
+    Ok(())
+}
+
+#[test]
+fn boot_parameter_3_has_five_bits(rt: HostRuntime) -> Result<(), Fail> {
+    let flags = BootFlags {
+        validity: 1,
+        device: 2,
+        console: 3,
+        overrides: 4,
+        instance: 5,
+    };
+    let boot = BootOptions::new(0x1F, 0xFF, flags).ok_or("boot options")?;
+    let (key, value) = boot.pair(BootParameter::Flags);
+    assert!(rt; key == Key::BootParam(BootParameter::Flags));
+    assert!(rt; value.is(&[0, 1, 2, 3, 4, 5]));
+    assert!(rt; BootOptions::new(0x20, 0, flags).is_none());
     Ok(())
 }
 

@@ -1,9 +1,9 @@
 //! A change and its undo, on the sample board.
 use bmc_board::{Board, Lengths};
 use cfg_records::{
-    Answered, Asked, EventChange, EventMasks, Key, Op, PlainStore, RecordKind, SetEventEnable,
-    SetGlobalEnables, SetHysteresis, SetPowerPolicy, SetThresholds, SetWatchdog, Store,
-    sample_board,
+    Answered, Asked, BootChange, BootFlags, BootParameter, EventChange, EventMasks, Key,
+    MaskedBits, Op, PlainStore, RecordKind, SetBootParam, SetEventEnable, SetGlobalEnables,
+    SetHysteresis, SetPowerPolicy, SetThresholds, SetWatchdog, Store, sample_board,
 };
 use record_kinds::Limits;
 use std::alloc::Global;
@@ -127,6 +127,58 @@ fn a_change_is_undone(rt: HostRuntime) -> Result<(), Fail> {
     Ok(())
 }
 
+/// A change of a boot parameter, with a mark or without.
+fn boot(invalid: bool, change: BootChange) -> Op {
+    Op::BootParam(SetBootParam { invalid, change })
+}
+
+#[test]
+fn a_change_of_a_boot_parameter_is_undone(rt: HostRuntime) -> Result<(), Fail> {
+    let mut board = board(rt.alloc())?;
+    let masked = |mask, bits| BootChange::InfoAcknowledge(MaskedBits { mask, bits });
+    let flags = BootChange::Flags(BootFlags {
+        validity: 0x80,
+        device: 0x04,
+        console: 1,
+        overrides: 2,
+        instance: 3,
+    });
+    let first = boot(false, masked(0xFF, 0xA5));
+    assert_eq!(rt; set(&mut board, 0x2C, &first), 0);
+    let masked = boot(true, masked(0x0F, 0x5A));
+    for (op, before, between) in [
+        (
+            &boot(true, BootChange::ValidBitClearing(0x15)),
+            &[1, 0x03, 0][..],
+            &[1, 0x83, 0x15][..],
+        ),
+        (&masked, &[1, 0x04, 0, 0xA5], &[1, 0x84, 0, 0xAA]),
+        (
+            &boot(false, flags),
+            &[1, 0x05, 0, 0, 0, 0, 0],
+            &[1, 0x05, 0x80, 0x04, 1, 2, 3],
+        ),
+        (
+            &boot(true, BootChange::MarkAlone(BootParameter::InfoAcknowledge)),
+            &[1, 0x04, 0, 0xA5],
+            &[1, 0x84, 0, 0xA5],
+        ),
+        (
+            &boot(true, BootChange::MarkAlone(BootParameter::Flags)),
+            &[1, 0x05, 0, 0, 0, 0, 0],
+            &[1, 0x85, 0, 0, 0, 0, 0],
+        ),
+    ] {
+        expect_undone(&rt, &mut board, op, before, between)?;
+    }
+    // What undoes the masked change has its mask, and the whole old byte.
+    let undo = Limits::inverse(&masked, &[1, 0x04, 0, 0xA5]).ok_or("undo")?;
+    assert!(rt; Limits::set_data(&undo).is(&[0x04, 0x0F, 0xA5]));
+    // A reply of another parameter's length has no undo.
+    assert!(rt; Limits::inverse(&masked, &[1, 0x04, 0xA5]).is_none());
+    Ok(())
+}
+
 /// Settings for the operating system, which leave the timer stopped.
 fn watchdog_for(initial: u16) -> Op {
     Op::Watchdog(SetWatchdog {
@@ -209,6 +261,9 @@ fn all_shown(alloc: Global, board: &mut Board<PlainStore>) -> Result<Vec<u8>, Fa
         Key::PowerPolicy,
         Key::Watchdog,
         Key::GlobalEnables,
+        Key::BootParam(BootParameter::ValidBitClearing),
+        Key::BootParam(BootParameter::InfoAcknowledge),
+        Key::BootParam(BootParameter::Flags),
     ] {
         all.extend_from_slice(board.store().get(&key).ok_or("record")?)?;
         let shown = board.answer(&Limits::get_asked(&key));

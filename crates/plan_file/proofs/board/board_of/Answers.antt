@@ -76,9 +76,11 @@ returns c =
       record {
         terminus = c.byte_in.ensures;
         enables = c.global_enables.ensures;
+        boot = c.boot_options.ensures;
         policy = search rules;
         watchdog = search rules;
         device = holds;
         sensors = c.in_ok-sensors.ensures.held;
+        no_numeric = c.no_numeric.ensures;
       },
     )

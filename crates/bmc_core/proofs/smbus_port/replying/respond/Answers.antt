@@ -52,3 +52,14 @@ returns-in-Err-clause-reply g c =
     c.begin-in-Err.ensures.started ∙ (λ i. 1 ∷ reply_start (header i) (c.value.ensures.value i))
     ∙ ap (λ (a : Reply). 1 ∷ (reply_start m.request.header a.code ++ a.body)) (sym gives.0)
     ∙ sym (spelled_so m answer (subst (λ (h : Header). h.instance < 32) header c.begin.ensures.header.instance))
+
+pub returns-in-Err-clause-left : goal.returns-in-Err-clause-left
+returns-in-Err-clause-left g c =
+    let setup = c.args.board.now.setup in
+    let before : State = state_of g.S.Store.records c.args.board.now in
+    let m = c.args.request.now in
+    let header : c.request.inside.request.header ≡ m.request.header = ap (λ (x : InMessage). x.request.header) c.request.view_is in
+    let body : c.as_slice-body.result.now ≡ m.request.body = c.as_slice-body.ensures.value ∙ ap (λ (x : InMessage). x.request.body) c.request.view_is in
+    let read : asked_with c.read_pldm.result c.as_slice-body.result.now ≡ asked_by (asked_of m) =
+    c.read_pldm.ensures m.envelope.source_eid ∙ (λ i. asked_by (Pldm m.envelope.source_eid (header i).pldm_type (header i).command (body i))) in
+    c.reply.ensures.left ∙ ap (λ (r : Result Request ℕ). (reply setup before r).1) read

@@ -1,7 +1,12 @@
-use Rattle.std.proofs.Common.{subst}
-use Rattle.record_kinds.specs.Limits.{valid}
+use Rattle.std.proofs.Common.{◌≡◌, subst}
+use Rattle.cfg_records.specs.declared.op.Op.{Op}
+use Rattle.record_kinds.specs.Limits.{key_of, is_of, valid}
 use Rattle.record_kinds.specs.declared.limits.Limits.{Limits}
 use Rattle.record_kinds.proofs.limits.LimitsRecordKind.apply.Goals as goal
+
+-- the operation's record has the limits, by whatever name both are known
+moved : (limits same : Limits) (op other : Op) → limits ≡ same → op ≡ other → is_of limits (key_of op) → is_of same (key_of other)
+moved limits same op other e f of = subst (λ (l : Limits). is_of l (key_of other)) e (subst (λ (o : Op). is_of limits (key_of o)) f of)
 
 -- ---- two lines for each kind
 
@@ -20,6 +25,15 @@ apply-requires-in-Watchdog-op c = (tt, subst (λ (s : Limits). valid s c.args.va
 pub apply-requires-in-GlobalEnables-op : goal.apply-requires-in-GlobalEnables-op
 apply-requires-in-GlobalEnables-op c = (tt, subst (λ (s : Limits). valid s c.args.value.now) c.in-GlobalEnables.is c.requires.is_valid)
 
+pub apply-requires-in-NumericEffecter-op : goal.apply-requires-in-NumericEffecter-op
+apply-requires-in-NumericEffecter-op c = (tt, subst (λ (s : Limits). valid s c.args.value.now) c.in-NumericEffecter.is c.requires.is_valid)
+
+pub apply-requires-in-BootParam-op : goal.apply-requires-in-BootParam-op
+apply-requires-in-BootParam-op c = (
+  moved _ _ _ _ c.in-BootParam.is c.in-BootParam-op.is c.requires.of_record,
+  subst (λ (s : Limits). valid s c.args.value.now) c.in-BootParam.is c.requires.is_valid,
+)
+
 pub returns-in-Thresholds-op : goal.returns-in-Thresholds-op
 returns-in-Thresholds-op c = rw (c.in-Thresholds.is, c.in-Thresholds-op.is) c.apply.ensures
 
@@ -37,3 +51,9 @@ returns-in-Watchdog-op c = rw (c.in-Watchdog.is, c.in-Watchdog-op.is) c.apply-in
 
 pub returns-in-GlobalEnables-op : goal.returns-in-GlobalEnables-op
 returns-in-GlobalEnables-op c = rw (c.in-GlobalEnables.is, c.in-GlobalEnables-op.is) c.apply-in-GlobalEnables-op.ensures
+
+pub returns-in-BootParam-op : goal.returns-in-BootParam-op
+returns-in-BootParam-op c = rw (c.in-BootParam.is, c.in-BootParam-op.is) c.apply-in-BootParam-op.ensures
+
+pub returns-in-NumericEffecter-op : goal.returns-in-NumericEffecter-op
+returns-in-NumericEffecter-op c = rw (c.in-NumericEffecter.is, c.in-NumericEffecter-op.is) c.apply-in-NumericEffecter-op.ensures

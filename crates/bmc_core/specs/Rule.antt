@@ -1,0 +1,15 @@
+-- The rule for repeated requests, over lists of what is brought to a port.
+use Rattle.std.specs.Prelude.{ℕ, Bool, List, [], ◌∷◌, Option}
+use Rattle.bus_model.specs.Request.{Entry, Idled}
+use Rattle.bus_model.specs.Carried.{Heard as Brought, HeardRequest, HeardIdle, outcome, log_with, reply_after}
+
+-- the log after a list that was brought
+abbrev pub logs_with : (ℕ → ℕ → Bool) → List Brought → List Entry → List Entry
+logs_with above [] log = log
+logs_with above (b ∷ bs) log = logs_with above bs (log_with above b log)
+
+-- the reply to each request of the list, none where the port is busy
+abbrev pub replies : (ℕ → ℕ → Bool) → List Entry → List Brought → List (Option (List ℕ))
+replies above log [] = []
+replies above log (HeardRequest k ∷ bs) = reply_after (outcome above k.request log) k ∷ replies above (log_with above (HeardRequest k) log) bs
+replies above log (HeardIdle requester ∷ bs) = replies above (Idled requester ∷ log) bs

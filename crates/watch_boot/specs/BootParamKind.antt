@@ -1,0 +1,16 @@
+-- BootParam as one value, and where it stands among all kinds.
+use Rattle.cfg_records.specs.declared.boot_param.BootParameter.{BootParameter}
+use Rattle.cfg_records.specs.declared.boot_param.SetBootParam.{SetBootParam}
+use Rattle.cfg_records.specs.Kind.{Kind}
+use Rattle.cfg_records.specs.Member.{Member}
+use Rattle.watch_boot.specs.declared.boot_param.BootParamLimits.{BootParamLimits}
+use Rattle.watch_boot.specs.BootParam.{words, record_words, place}
+use Rattle.watch_boot.specs.BootParamLaws.{kind_laws, record_laws}
+
+-- what it says, and that it holds
+abbrev pub kind : Kind BootParameter SetBootParam BootParamLimits
+kind = record { words = words; record_words = λ limits. record_words limits.parameter; kind_laws = kind_laws; record_laws = λ limits. record_laws limits.parameter }
+
+-- the kind, and where it stands among all
+abbrev pub member : Member BootParameter SetBootParam BootParamLimits
+member = record { kind = kind; place = place }
