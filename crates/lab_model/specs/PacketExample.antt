@@ -1,4 +1,4 @@
--- Runs that compute, of a manager on SMBus: messages of several packets, both ways. No kind of record is on SMBus yet, so its words are a
+-- Runs that compute, of a manager on SMBus: messages of several packets, both ways. No kind's messages on SMBus have two packets yet, so its words are a
 -- stand-in's: a Get that the board knows, and a Set of four packets that it doesn't.
 use Rattle.std.specs.Prelude.{◌≡◌, refl, ℕ, false, List, [], ◌∷◌, ◌++◌, length, map, Some, None, slice_get, unwrap_or}
 use Rattle.two_wire.specs.declared.Bus.TheVariants as bus
