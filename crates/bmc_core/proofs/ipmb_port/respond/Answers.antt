@@ -1,12 +1,16 @@
 use Rattle.std.proofs.Common.{◌≡◌, ◌≤◌, ◌<◌, ◌+◌, ℕ, List, ◌++◌, length, Result, Ok, Err, sym, ◌∙◌, ap, subst, arith, lit≤}
+use Rattle.std.specs.Prelude.{Bool, IfOk}
 use Rattle.std.proofs.lemmas.List.{append-nil, length-append}
 use Rattle.ipmb_frame.specs.declared.message.Header.{Header}
 use Rattle.ipmb_frame.specs.Grammar.{response_start}
 use Rattle.cfg_records.specs.declared.message.Answered.{Answered as Reply}
 use Rattle.bmc_board.specs.Request.{Request, asked_of, asked_by}
+use Rattle.bmc_board.specs.Room.{longest_reply}
+use Rattle.bmc_board.specs.Table.{is_changing}
 use Rattle.bmc_board.specs.State.{State, state_of}
 use Rattle.bmc_board.specs.Gives.{Gives}
 use Rattle.bmc_board.specs.Answer.{Given, reply, answer_of}
+use Rattle.bmc_board.proofs.AskedFacts.{IsRight, asked_right}
 use Rattle.bmc_board.proofs.AnswerFacts.{answers_fit}
 use Rattle.lab_model.specs.PortSteps.{asked_in}
 use Rattle.bmc_core.proofs.ipmb_port.respond.Goals.{in-Ok, in-Err}
@@ -56,6 +60,22 @@ has_room h code body frame few is =
     let start : length (response_start h code) ≤ 8 = lit≤ tt in
     let whole : length frame ≡ length (response_start h code) + length body = ap length is ∙ length-append (response_start h code) body in
     omega (arith, start, whole, few)
+
+-- behind the start of a response there is room for the reply to what is asked for
+reply_fits : (r : Result Request ℕ) (changing : Bool) (h : Header) (frame : List ℕ) → IsRight 24 changing r → frame ≡ response_start h 0 → IfOk r (λ q. length frame + longest_reply q ≤ 80)
+reply_fits (Ok q) changing h frame right is =
+    let few : longest_reply q ≤ 24 = right.0 in
+    let start : length (response_start h 0) ≤ 8 = lit≤ tt in
+    let whole : length frame ≡ length (response_start h 0) = ap length is in
+    omega (arith, start, whole, few)
+reply_fits (Err code) changing h frame right is = tt
+
+pub reply-requires : goal.reply-requires
+reply-requires g c =
+    let asked = asked_in c.args.request.now in
+    let frame : List ℕ = c.begin_response.new.frame in
+    let read : asked_of c.command_in.result c.as_slice.result.now ≡ asked_by asked = ap (asked_of c.command_in.result) c.as_slice.ensures.value ∙ c.command_in.ensures in
+    record { room = subst (λ (r : Result Request ℕ). IfOk r (λ q. length frame + longest_reply q ≤ 80)) (sym read) (reply_fits (asked_by asked) (is_changing asked) c.args.request.now.header frame (asked_right asked) c.begin_response.ensures.started) }
 
 pub end_response-requires-clause-room : goal.end_response-requires-clause-room
 end_response-requires-clause-room g c =
