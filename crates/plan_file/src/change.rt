@@ -224,7 +224,6 @@ pub fn global_enables(step: &Table) -> SetGlobalEnables
     requires { field_faults GLOBAL_ENABLES (table_view step.now) ≡ [] }
     ensures { HoldsGlobalEnables (table_view step.now) result }
 {
-    SetGlobalEnables {
-        byte: enables(value_in(step, Field::Value)).unwrap().byte,
-    }
+    let enables = enables(value_in(step, Field::Value)).unwrap();
+    SetGlobalEnables { byte: enables.byte }
 }

@@ -8,9 +8,12 @@ use std::fmt;
 #[derive(Clone, Copy, Debug, PartialEq, Eq)]
 pub enum Field {
     Tid,
+    Clock,
+    Log,
     Enables,
     Policy,
     Watchdog,
+    Sdr,
     Device,
     Sensor,
     Id,
@@ -21,6 +24,7 @@ pub enum Field {
     Manufacturer,
     Product,
     Number,
+    Type,
     Readable,
     Settable,
     Thresholds,
@@ -63,9 +67,12 @@ impl Field {
     {
         match self {
             Field::Tid => "tid",
+            Field::Clock => "clock",
+            Field::Log => "log",
             Field::Enables => "enables",
             Field::Policy => "policy",
             Field::Watchdog => "watchdog",
+            Field::Sdr => "sdr",
             Field::Device => "device",
             Field::Sensor => "sensor",
             Field::Id => "id",
@@ -76,6 +83,7 @@ impl Field {
             Field::Manufacturer => "manufacturer",
             Field::Product => "product",
             Field::Number => "number",
+            Field::Type => "type",
             Field::Readable => "readable",
             Field::Settable => "settable",
             Field::Thresholds => "thresholds",
