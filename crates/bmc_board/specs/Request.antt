@@ -25,9 +25,9 @@ use Rattle.bmc_board.specs.declared.live.LiveCommand.{LiveCommand}
 use Rattle.bmc_board.specs.declared.request.Refusals.{Refusals}
 use Rattle.bmc_board.specs.Table.{line_of, pldm_line_of, is_allowed, is_pldm_type}
 
--- what is asked for: to carry out a live command, to show a record, or to change one
+-- what is asked for: to carry out a live command with its data, to show a record, or to change one
 pub data Request : Type 0 where
-  Live : LiveCommand → Request
+  Live : LiveCommand → List ℕ → Request
   Get : Key → Request
   Set : Op → Request
 
@@ -51,7 +51,7 @@ op_in set.SetGlobalEnables body = op.GlobalEnables (enables_in body)
 
 -- what a command asks for with data of a length that it takes, or the code that refuses the data
 abbrev pub request_of : Command → List ℕ → Result Request ℕ
-request_of (command.Live live) body = Ok (Live live)
+request_of (command.Live live) body = Ok (Live live body)
 request_of (command.Get get) body = Ok (Get (key_in get body))
 request_of (command.Set set) body = Ok (Set (op_in set body))
 

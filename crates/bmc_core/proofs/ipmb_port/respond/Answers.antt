@@ -1,5 +1,5 @@
-use Rattle.std.proofs.Common.{◌≡◌, ◌≤◌, ◌<◌, ◌+◌, ℕ, List, ◌++◌, length, Result, Ok, Err, sym, ◌∙◌, ap, subst, arith, lit≤}
-use Rattle.std.proofs.lemmas.List.{append-nil, length-append}
+use Rattle.std.proofs.Common.{◌≡◌, ℕ, List, ◌++◌, Result, Ok, Err, sym, ◌∙◌, ap, subst}
+use Rattle.std.proofs.lemmas.List.{append-nil}
 use Rattle.ipmb_frame.specs.declared.message.Header.{Header}
 use Rattle.ipmb_frame.specs.Grammar.{response_start}
 use Rattle.cfg_records.specs.declared.message.Answered.{Answered as Reply}
@@ -49,27 +49,3 @@ returns-clause-left g c =
     let before : State = state_of g.S.Store.records c.args.board.now in
     let read : asked_of c.command_in.result c.as_slice.result.now ≡ asked_by (asked_in c.args.request.now) = ap (asked_of c.command_in.result) c.as_slice.ensures.value ∙ c.command_in.ensures in
     c.reply.ensures.left ∙ ap (λ (r : Result Request ℕ). (reply setup before r).1) read
-
--- the frame of a response with so few bytes of data has room for its check byte
-has_room : (h : Header) (code : ℕ) (body frame : List ℕ) → length body ≤ 24 → frame ≡ response_start h code ++ body → length frame < 80
-has_room h code body frame few is =
-    let start : length (response_start h code) ≤ 8 = lit≤ tt in
-    let whole : length frame ≡ length (response_start h code) + length body = ap length is ∙ length-append (response_start h code) body in
-    omega (arith, start, whole, few)
-
-pub end_response-requires-clause-room : goal.end_response-requires-clause-room
-end_response-requires-clause-room g c =
-    let setup = c.args.board.now.setup in
-    let before : State = state_of g.S.Store.records c.args.board.now in
-    let request = c.args.request.now in
-    let given : Result Request ℕ → Given = λ r. reply setup before r in
-    let read : asked_of c.command_in.result c.as_slice.result.now ≡ asked_by (asked_in request) = ap (asked_of c.command_in.result) c.as_slice.ensures.value ∙ c.command_in.ensures in
-    let answer : Reply = (answer_of setup before (asked_in request)).0 in
-    let gives : Gives c.reply.result c.begin_response.new.frame c.reply.new.to answer =
-    subst (λ (r : Result Request ℕ). Gives c.reply.result c.begin_response.new.frame c.reply.new.to (given r).0) read c.reply.ensures.answer in
-    let started : c.match-reply.frame ≡ response_start request.header answer.code ++ answer.body =
-    elim c.match-reply.branch [
-      | in-Ok w ↦ w.frame-is ∙ done_frame _ c.reply.result request.header c.begin_response.new.frame c.reply.new.to answer w.in-Ok.is c.begin_response.ensures.started gives
-      | in-Err w ↦ w.frame-is ∙ refused_frame w.in-Err.code c.reply.result request.header c.begin_response.new.frame c.reply.new.to w.begin_response-in-Err.new.frame answer w.in-Err.is (w.begin_response-in-Err.ensures.started ∙ ap (response_start request.header) w.value.ensures.value) gives
-    ] in
-    has_room request.header answer.code answer.body c.match-reply.frame (answers_fit setup before (asked_in request) c.args.board.now.sound) started
