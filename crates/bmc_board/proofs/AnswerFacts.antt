@@ -5,7 +5,6 @@ use Rattle.record_kinds.specs.Limits.{key_of}
 use Rattle.cfg_records.specs.Meaning.{Decides, room_for}
 use Rattle.cfg_records.specs.declared.key.Key.{Key}
 use Rattle.cfg_records.specs.declared.key.Key.TheVariants as key
-use Rattle.cfg_records.specs.declared.sensor.Sensor.{Sensor}
 use Rattle.cfg_records.specs.declared.op.Op.{Op}
 use Rattle.cfg_records.specs.declared.live.Live.{Live as LivePart}
 use Rattle.cfg_records.specs.declared.message.Asked.{Asked}
@@ -15,7 +14,7 @@ use Rattle.record_kinds.specs.declared.limits.Limits.TheVariants as kinds
 use Rattle.record_kinds.specs.Limits.{is_of, sets, outcome, get_asked, set_asked}
 use Rattle.record_kinds.specs.LimitsLaws as laws
 use Rattle.std.specs.Option.{option_map}
-use Rattle.record_kinds.specs.Boards.{sensor_at, limits_at}
+use Rattle.record_kinds.specs.Boards.{sensor_at, numeric_at, limits_at}
 use Rattle.record_kinds.specs.Sound.{IsSound, IsSoundAt}
 use Rattle.record_kinds.specs.SoundLaws.{sound_set}
 use Rattle.bmc_board.specs.Request.{Request}
@@ -82,20 +81,21 @@ refused_leaves setup before asked = (answer_proper setup before asked).left
 
 -- ---- limits are those of a record with the key
 
-of_sensor : (sensor : Option Sensor) (to : Sensor → Limits) (limits : Limits) (key : Key) → option_map to sensor ≡ Some limits → ((s : Sensor) → is_of (to s) key) → is_of limits key
-of_sensor (Some s) to limits key e of = let same : to s ≡ limits = cc in subst (λ (l : Limits). is_of l key) same (of s)
-of_sensor None to limits key e of = cc
+of_item : {X : Type 0} (item : Option X) (to : X → Limits) (limits : Limits) (key : Key) → option_map to item ≡ Some limits → ((x : X) → is_of (to x) key) → is_of limits key
+of_item (Some x) to limits key e of = let same : to x ≡ limits = cc in subst (λ (l : Limits). is_of l key) same (of x)
+of_item None to limits key e of = cc
 
 of_alone : (own limits : Limits) (key : Key) → (let s : Option Limits = Some own in s) ≡ Some limits → is_of own key → is_of limits key
 of_alone own limits key e of = let same : own ≡ limits = cc in subst (λ (l : Limits). is_of l key) same of
 
 pub limits_are_of : (file : BoardFile) (key : Key) (limits : Limits) → limits_at file key ≡ Some limits → is_of limits key
-limits_are_of file (key.Thresholds number) limits e = of_sensor (sensor_at file.sensors.items number) (λ s. kinds.Thresholds (record { masks = s.thresholds.masks })) limits (key.Thresholds number) e (λ s. tt)
-limits_are_of file (key.Hysteresis number) limits e = of_sensor (sensor_at file.sensors.items number) (λ s. kinds.Hysteresis (record {})) limits (key.Hysteresis number) e (λ s. tt)
-limits_are_of file (key.EventEnable number) limits e = of_sensor (sensor_at file.sensors.items number) (λ s. kinds.EventEnable (record { supported = s.events.supported })) limits (key.EventEnable number) e (λ s. tt)
+limits_are_of file (key.Thresholds number) limits e = of_item (sensor_at file.sensors.items number) (λ s. kinds.Thresholds (record { masks = s.thresholds.masks })) limits (key.Thresholds number) e (λ s. tt)
+limits_are_of file (key.Hysteresis number) limits e = of_item (sensor_at file.sensors.items number) (λ s. kinds.Hysteresis (record {})) limits (key.Hysteresis number) e (λ s. tt)
+limits_are_of file (key.EventEnable number) limits e = of_item (sensor_at file.sensors.items number) (λ s. kinds.EventEnable (record { supported = s.events.supported })) limits (key.EventEnable number) e (λ s. tt)
 limits_are_of file key.PowerPolicy limits e = of_alone (kinds.PowerPolicy (record {})) limits key.PowerPolicy e tt
 limits_are_of file key.Watchdog limits e = of_alone (kinds.Watchdog (record {})) limits key.Watchdog e tt
 limits_are_of file key.GlobalEnables limits e = of_alone (kinds.GlobalEnables (record {})) limits key.GlobalEnables e tt
+limits_are_of file (key.NumericEffecter id) limits e = of_item (numeric_at file.numeric_effecters.items id) (λ x. kinds.NumericEffecter (record { enabled = x.enabled; range = x.range })) limits (key.NumericEffecter id) e (λ x. tt)
 
 -- ---- its data fits the frame or message that carries it, and each record keeps a valid value
 

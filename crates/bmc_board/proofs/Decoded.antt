@@ -9,6 +9,9 @@ use Rattle.cfg_records.specs.declared.event_enable.EventMasks.{EventMasks}
 use Rattle.cfg_records.specs.declared.event_enable.EventChange.{EventChange}
 use Rattle.cfg_records.specs.declared.event_enable.EventChange.TheVariants.{Leave, Enable, Disable, Reserved}
 use Rattle.cfg_records.specs.declared.event_enable.SetEventEnable.{SetEventEnable}
+use Rattle.cfg_records.specs.declared.numeric_effecter.NumericBytes.{NumericBytes}
+use Rattle.cfg_records.specs.declared.numeric_effecter.NumericBytes.TheVariants.{One, Two, Four, Other}
+use Rattle.cfg_records.specs.declared.numeric_effecter.SetNumericEffecter.{SetNumericEffecter}
 use Rattle.cfg_records.specs.declared.op.Op.TheVariants as op
 use Rattle.cfg_records.proofs.Operations.{set_thresholds, same_thresholds}
 use Rattle.record_kinds.specs.Limits.{set_asked}
@@ -79,14 +82,33 @@ events_read sensor true false Reserved = refl
 events_read sensor false true Reserved = refl
 events_read sensor false false Reserved = refl
 
+abbrev set_numeric : ℕ → ℕ → NumericBytes → SetNumericEffecter
+set_numeric effecter size value = record { effecter = effecter; size = size; value = value }
+
+-- the request is read as the operation that it carries out
+abbrev NumberIsRead : SetNumericEffecter → Type 0
+NumberIsRead o = asked_by (set_asked (op.NumericEffecter o)) ≡ Ok (request.Set (op.NumericEffecter o))
+
+-- its id is read
+id_read : (effecter size : ℕ) (value : NumericBytes) → Ok (request.Set (op.NumericEffecter (set_numeric (effecter % 256 + 256 * (effecter / 256)) size value))) ≡ (let asked : Result Request ℕ = Ok (request.Set (op.NumericEffecter (set_numeric effecter size value))) in asked)
+id_read effecter size value = ap (λ (n : ℕ). Ok (request.Set (op.NumericEffecter (set_numeric n size value)))) (two_bytes effecter)
+
+number_read : (effecter size : ℕ) (value : NumericBytes) → NumberIsRead (set_numeric effecter size value)
+number_read effecter size (One a) = id_read effecter size (One a)
+number_read effecter size (Two a b) = id_read effecter size (Two a b)
+number_read effecter size (Four a b c d) = id_read effecter size (Four a b c d)
+number_read effecter size Other = id_read effecter size Other
+
 pub gets_are_read : GetsAreRead
 gets_are_read (key.Thresholds sensor) = record { is_read = refl; from_nobody = (refl, refl) }
+gets_are_read (key.NumericEffecter id) = record { is_read = ap (λ (n : ℕ). Ok (request.Get (key.NumericEffecter n))) (two_bytes id); from_nobody = refl }
 gets_are_read _ = record { is_read = refl; from_nobody = (refl, refl) }
 
 pub sets_are_read : SetsAreRead
 sets_are_read (op.Thresholds o) = record { is_read = thresholds_read o; from_nobody = (refl, refl) }
 sets_are_read (op.EventEnable o) = record { is_read = events_read o.sensor o.messages o.scanning o.change; from_nobody = (refl, refl) }
 sets_are_read (op.Watchdog o) = record { is_read = ap (λ n. Ok (request.Set (set_watchdog o n))) (two_bytes o.initial); from_nobody = (refl, refl) }
+sets_are_read (op.NumericEffecter o) = record { is_read = number_read o.effecter o.size o.value; from_nobody = refl }
 sets_are_read _ = record { is_read = refl; from_nobody = (refl, refl) }
 
 pub is_read_from_all : IsReadFromAll

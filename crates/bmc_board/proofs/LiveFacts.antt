@@ -43,7 +43,16 @@ not_present_refuses = record {
   is_ready = λ same. omega arith;
 }
 
+no_effecter_refuses : IsRefusal 0x80
+no_effecter_refuses = record {
+  is_fault = omega arith;
+  is_byte = omega arith;
+  not_busy = λ same. omega arith;
+  is_ready = λ same. omega arith;
+}
+
 pub unknown_is_refused : UnknownIsRefused
+unknown_is_refused setup (key.NumericEffecter id) = no_effecter_refuses
 unknown_is_refused setup _ = not_present_refuses
 
 -- ---- live commands

@@ -14,6 +14,8 @@ use Rattle.sensor_recs.specs.EventEnable.{event_enable_in}
 use Rattle.watch_boot.specs.PowerPolicy.{policy_in}
 use Rattle.watch_boot.specs.Watchdog.{watchdog_in}
 use Rattle.watch_boot.specs.GlobalEnables.{enables_in}
+use Rattle.effecter_recs.specs.Requests.{id_in}
+use Rattle.effecter_recs.specs.Numeric.{numeric_effecter_in}
 use Rattle.bmc_board.specs.declared.command.Command.{Command}
 use Rattle.bmc_board.specs.declared.command.Command.TheVariants as command
 use Rattle.bmc_board.specs.declared.command.GetCommand.{GetCommand}
@@ -39,6 +41,7 @@ key_in get.GetSensorEventEnable body = key.EventEnable (byte_at body 0)
 key_in get.GetChassisStatus body = key.PowerPolicy
 key_in get.GetWatchdogTimer body = key.Watchdog
 key_in get.GetGlobalEnables body = key.GlobalEnables
+key_in get.GetNumericEffecterValue body = key.NumericEffecter (id_in body)
 
 -- the change that a command makes
 abbrev pub op_in : SetCommand → List ℕ → Op
@@ -48,6 +51,7 @@ op_in set.SetSensorEventEnable body = op.EventEnable (event_enable_in body)
 op_in set.SetPowerRestorePolicy body = op.PowerPolicy (policy_in body)
 op_in set.SetWatchdogTimer body = op.Watchdog (watchdog_in body)
 op_in set.SetGlobalEnables body = op.GlobalEnables (enables_in body)
+op_in set.SetNumericEffecterValue body = op.NumericEffecter (numeric_effecter_in body)
 
 -- what a command asks for with data of a length that it takes, or the code that refuses the data
 abbrev pub request_of : Command → List ℕ → Result Request ℕ

@@ -1,4 +1,4 @@
--- The tables of commands (IPMI 2.0; DSP0240, "GetTID" and "GetPLDMTypes"): one line each.
+-- The tables of commands (IPMI 2.0; DSP0240, "GetTID" and "GetPLDMTypes"; DSP0248, commands of effecters): one line each.
 use Rattle.std.specs.Prelude.{ℕ, List, [], ◌∷◌, Option, Some, None, Bool, true, false, find, nat_le, ◌==◌, ◌&&◌, ◌||◌}
 use Rattle.cfg_records.specs.declared.message.Asked.{Asked}
 use Rattle.cfg_records.specs.declared.message.Asked.TheVariants.{Ipmi, Pldm}
@@ -56,6 +56,8 @@ abbrev pub pldm_table : List Listed
 pldm_table =
     listed 0x00 0x02 (Exactly 0) false (command.Live live.GetTid) ∷
     listed 0x00 0x04 (Exactly 0) false (command.Live live.GetPldmTypes) ∷
+    listed 0x02 0x31 (AtLeast 4) true (command.Set set.SetNumericEffecterValue) ∷
+    listed 0x02 0x32 (Exactly 2) false (command.Get get.GetNumericEffecterValue) ∷
     []
 
 abbrev pub line_in : Option Listed → Option Line

@@ -25,6 +25,7 @@ pub enum GetCommand {
     GetChassisStatus,
     GetWatchdogTimer,
     GetGlobalEnables,
+    GetNumericEffecterValue,
 }
 
 /// A command that changes a record.
@@ -36,6 +37,7 @@ pub enum SetCommand {
     SetPowerRestorePolicy,
     SetWatchdogTimer,
     SetGlobalEnables,
+    SetNumericEffecterValue,
 }
 
 /// How many bytes of data a command takes.
@@ -127,11 +129,15 @@ pub fn find_pldm_line(kind: u8, number: u8) -> Option<Line>
     ensures { result ≡ pldm_line_of kind number }
 {
     use Command::*;
+    use GetCommand::*;
     use Lengths::*;
     use LiveCommand::*;
+    use SetCommand::*;
     Some(match (kind, number) {
         (0x00, 0x02) => entry(Live(GetTid), Exactly(0), false),
         (0x00, 0x04) => entry(Live(GetPldmTypes), Exactly(0), false),
+        (0x02, 0x31) => entry(Set(SetNumericEffecterValue), AtLeast(4), true),
+        (0x02, 0x32) => entry(Get(GetNumericEffecterValue), Exactly(2), false),
         _ => return None,
     })
 }

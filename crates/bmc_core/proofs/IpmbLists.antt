@@ -1,7 +1,6 @@
 -- What holds of lists of what comes to a port on IPMB.
-use Rattle.std.proofs.Common.{◌≡◌, ◌≢◌, List, [], ◌∷◌, Result, Ok, Err, refl, sym, ◌∙◌, ap}
+use Rattle.std.proofs.Common.{◌≡◌, ◌≢◌, List, [], ◌∷◌, Ok, Err, refl, ◌∙◌, ap}
 use Rattle.ipmb_frame.specs.declared.message.Request.{Request}
-use Rattle.cfg_records.specs.declared.message.Answered.{Answered}
 use Rattle.cfg_records.specs.declared.board_file.BoardFile.{BoardFile}
 use Rattle.bus_model.specs.Request.{Kept}
 use Rattle.bus_model.specs.Numbering.{is_above}
@@ -10,7 +9,7 @@ use Rattle.bmc_board.specs.State.{State}
 use Rattle.bmc_board.specs.Answer.{answer_of}
 use Rattle.lab_model.specs.PortSteps.{PortState, Deed, left_by, asked_in, response_after, hears_request, turn}
 use Rattle.bmc_core.specs.IpmbShown.{outcome_at, kept_of}
-use Rattle.bmc_core.specs.IpmbRuns.{told_deed, IsHeardThenTold, logs_with, Coming, Comes, IsTold, IsIdle, port_after, ports_after, brought, done_with_told, KeepsTheRule, Happening, Hears, Idles, Others, Ends, ends_after, all_after, heard_in_all, done_in_all, CarriesTheRule}
+use Rattle.bmc_core.specs.IpmbRuns.{IsHeardThenTold, logs_with, Coming, Comes, IsTold, IsIdle, port_after, ports_after, brought, done_with_told, KeepsTheRule, Happening, Hears, Idles, Others, Ends, ends_after, all_after, heard_in_all, done_in_all, CarriesTheRule}
 
 -- ---- one request
 

@@ -5,3 +5,4 @@ pub mod IpmbLists
 pub mod SmbusReplies
 pub mod SmbusPorts
 pub mod SmbusLists
+pub mod PortSteps

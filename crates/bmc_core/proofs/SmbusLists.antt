@@ -16,7 +16,7 @@ use Rattle.bmc_core.proofs.SmbusPorts.{deed_of, packet_deed}
 -- ---- one packet
 
 -- a request that is asked is the one that was heard, and is new
-new_one : (n m : InMessage) (o : Outcome) → asks_of n o ≡ Some m → (o ≡ IsNew) × (n ≡ m)
+pub new_one : (n m : InMessage) (o : Outcome) → asks_of n o ≡ Some m → (o ≡ IsNew) × (n ≡ m)
 new_one n m (Repeats reply) is = absurd cc
 new_one n m IsBusy is = absurd cc
 new_one n m IsNew is = (refl, cc)

@@ -92,6 +92,12 @@ abbrev pub Steps : PortState → Result Request Reason → Step Request → Out 
 Steps p (Ok r) next out = (new : Bool) × Settles r (outcome_at p r) new out × (next ≡ next_of new r)
 Steps p (Err why) next out = (next ≡ step.Done) × (out ≡ sends [] (done.Ignored why))
 
+-- A port hears the bytes up to where the board is to be asked, and stays as it was: whatever port of the lab it shows, what is heard
+-- there is settled, or is to be carried out.
+pub record IsStep (port : IpmbPort) (bytes : List ℕ) (next : IpmbPort) (out : Out) (given : Step Request) : Type 0 where
+  pub steps : (p : PortState) → Shows port p → (heard : Result Request Reason) → IsHeard p.wire bytes heard → Steps p heard given out
+  pub stays : next ≡ port
+
 -- ---- once it answered
 
 -- the request, with the reply that gives the answer
@@ -112,3 +118,8 @@ carries p r a = record p { log = Carried (kept_of r a) ∷ p.log }
 
 abbrev pub first_answer : Request → Answered → Out
 first_answer r a = sends (written (response_after r (Some (kept_of r a).reply)) ∷ []) done.Answered
+
+-- A port is told this answer: whatever port of the lab it shows, it goes on as the rule has it, and sends what that says.
+pub record IsTold (port : IpmbPort) (r : Request) (a : Answered) (next : IpmbPort) (out : Out) : Type 0 where
+  pub shows : (p : PortState) → Shows port p → Shows next (after p r a)
+  pub sent : (p : PortState) → Shows port p → out ≡ answers p r a

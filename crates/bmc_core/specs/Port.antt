@@ -1,13 +1,21 @@
 -- The port of either bus.
-use Rattle.std.specs.Prelude.{ℕ, List}
+use Rattle.std.specs.Prelude.{◌≡◌, ℕ, List}
 use Rattle.two_wire.specs.declared.Bus.{Bus}
 use Rattle.two_wire.specs.declared.Bus.TheVariants as bus
 use Rattle.cfg_records.specs.declared.board_file.BoardFile.{BoardFile}
+use Rattle.cfg_records.specs.declared.message.Asked.{Asked}
+use Rattle.cfg_records.specs.declared.message.Answered.{Answered}
 use Rattle.bmc_board.specs.State.{State}
-use Rattle.lab_model.specs.PortSteps.{PortState}
+use Rattle.bmc_board.specs.Answer.{answer_of}
+use Rattle.lab_model.specs.PortSteps.{PortState, asked_in}
 use Rattle.bmc_core.specs.declared.out.Out.{Out}
+use Rattle.bmc_core.specs.declared.step.Step.{Step}
+use Rattle.bmc_core.specs.declared.step.Step.TheVariants.{Ask, Done}
 use Rattle.bmc_core.specs.declared.port.Port.{Port}
 use Rattle.bmc_core.specs.declared.port.Port.TheVariants.{Ipmb, Smbus}
+use Rattle.bmc_core.specs.declared.port.Pending.{Pending}
+use Rattle.bmc_core.specs.declared.port.Pending.TheVariants as pending
+use Rattle.bmc_core.specs.SmbusHeard as smbus_heard
 use Rattle.bmc_core.specs.IpmbShown as ipmb
 use Rattle.bmc_core.specs.SmbusShown as smbus
 
@@ -27,3 +35,42 @@ abbrev pub Hears : BoardFile → Port → State → List ℕ → Out → Port �
 Hears setup (Ipmb port) before bytes out (Ipmb next) after = ipmb.Hears setup port before bytes out next after
 Hears setup (Smbus port) before bytes out (Smbus next) after = (p : PortState) → smbus.Shows port p → smbus.HearsBytes setup p before bytes next out after
 Hears setup _ before bytes out _ after = ⊥
+
+-- ---- in two steps, with the board between
+
+-- the bus of the port that heard a request
+abbrev pub bus_asked : Pending → Bus
+bus_asked (pending.Ipmb r) = bus.Ipmb
+bus_asked (pending.Smbus m) = bus.Smbus
+
+-- what a request asks of the board
+abbrev pub asked_of : Pending → Asked
+asked_of (pending.Ipmb r) = asked_in r
+asked_of (pending.Smbus m) = smbus_heard.asked_of (smbus.request_in m)
+
+-- a request that is asked is of this bus
+abbrev pub IsOn : Bus → Step Pending → Type 0
+IsOn on (Ask asked) = bus_asked asked ≡ on
+IsOn on Done = Unit {0}
+
+-- A port hears the bytes up to where the board is to be asked. A port on IPMB stays as it was, and one on the System Management Bus has
+-- taken the packet.
+abbrev pub IsStep : Port → List ℕ → Port → Out → Step Pending → Type 0
+IsStep (Ipmb port) bytes (Ipmb next) out (Ask (pending.Ipmb r)) = ipmb.IsStep port bytes next out (Ask r)
+IsStep (Ipmb port) bytes (Ipmb next) out Done = ipmb.IsStep port bytes next out Done
+IsStep (Smbus port) bytes (Smbus next) out (Ask (pending.Smbus m)) = (p : PortState) → smbus.Shows port p → smbus.Hearing p bytes (smbus.IsStep next out (Ask m))
+IsStep (Smbus port) bytes (Smbus next) out Done = (p : PortState) → smbus.Shows port p → smbus.Hearing p bytes (smbus.IsStep next out Done)
+IsStep _ bytes _ out _ = ⊥
+
+-- a port is told this answer to a request
+abbrev pub IsTold : Port → Pending → Answered → Port → Out → Type 0
+IsTold (Ipmb port) (pending.Ipmb r) a (Ipmb next) out = ipmb.IsTold port r a next out
+IsTold (Smbus port) (pending.Smbus m) a (Smbus next) out = (p : PortState) → smbus.Shows port p → smbus.Ends next out p (smbus_heard.Asks (smbus.request_in m)) a
+IsTold _ _ a _ out = ⊥
+
+-- A port of a board that hears the bytes, and is told the board's answer at that moment to what is asked, has heard them as a whole; and
+-- where nothing is asked, it has when they are heard, and the board stays.
+pub record IsHeardThenTold (setup : BoardFile) (port : Port) (before : State) (bytes : List ℕ) : Type 0 where
+  pub asked : (between next : Port) (first out : Out) (asked : Pending) → IsStep port bytes between first (Ask asked)
+      → let given = answer_of setup before (asked_of asked) in IsTold between asked given.0 next out → Hears setup port before bytes out next given.1
+  pub settled : (next : Port) (out : Out) → IsStep port bytes next out Done → Hears setup port before bytes out next before

@@ -1,16 +1,20 @@
 //! The port of either bus.
-ghost use Rattle.std.specs.Prelude.{◌≡◌, ◌==◌, IfOk};
+ghost use Rattle.std.specs.Prelude.{◌≡◌, ◌==◌, ◌≤◌, IfOk, length};
 ghost use Rattle.std.specs.List.{list_any};
 ghost use Rattle.bus_model.specs.Carried.{requesters};
+ghost use Rattle.cfg_records.specs.Meaning.{room_for};
 ghost use Rattle.bmc_board.specs.State.{state_of};
 ghost use Rattle.lab_model.specs.PortSteps.{PortState, quiet_port, idles};
-ghost use Rattle.bmc_core.specs.Port.{bus_of, Shows, Hears};
+ghost use Rattle.bmc_core.specs.Port.{bus_of, bus_asked, asked_of, Shows, Hears, IsStep, IsOn, IsTold};
 
-use crate::ipmb_port::IpmbPort;
+pub mod laws;
+
+use crate::ipmb_port::{IpmbPending, IpmbPort};
 use crate::out::Out;
-use crate::smbus_port::SmbusPort;
+use crate::smbus_port::{SmbusPending, SmbusPort};
+use crate::step::Step;
 use bmc_board::Board;
-use cfg_records::Store;
+use cfg_records::{Answered, Asked, Store};
 use mctp_net::EndpointId;
 use std::alloc::{AllocError, Global};
 use two_wire::{Address, Bus};
@@ -20,6 +24,25 @@ use two_wire::{Address, Bus};
 pub struct At {
     pub wire: Address,
     pub eid: EndpointId,
+}
+
+/// A request that waits for an answer of the board, as a port of its bus heard it.
+#[derive(Debug, Drop)]
+pub enum Pending {
+    Ipmb(IpmbPending),
+    Smbus(SmbusPending),
+}
+
+impl Pending {
+    /// What is to be asked of the board.
+    pub fn asked(&self) -> Asked
+        ensures { result ≡ asked_of self.now }
+    {
+        match self {
+            Pending::Ipmb(pending) => pending.asked(),
+            Pending::Smbus(pending) => pending.asked(),
+        }
+    }
 }
 
 /// A port of the controller on one bus.
@@ -45,6 +68,7 @@ impl Port {
     pub fn on_frame<S: Store>(&mut self, board: &mut Board<S>, bytes: &[u8], out: &mut Out)
         ensures heard { Hears board.old.setup self.old (state_of S.records board.old) bytes.now out.new self.new (state_of S.records board.new) }
         ensures setup { board.new.setup ≡ board.old.setup }
+        ensures bus { bus_of self.new ≡ bus_of self.old }
     {
         match self {
             Port::Ipmb(port) => port.on_frame(board, bytes, out),
@@ -52,10 +76,49 @@ impl Port {
         }
     }
 
+    /// Takes what is heard on the bus: asks what a new request asks of the board, or fills in what is to be sent. It takes no memory.
+    pub fn hear(&mut self, bytes: &[u8], out: &mut Out) -> Step<Pending>
+        ensures steps { IsStep self.old bytes.now self.new out.new result }
+        ensures asked { IsOn (bus_of self.new) result }
+        ensures bus { bus_of self.new ≡ bus_of self.old }
+    {
+        match self {
+            Port::Ipmb(port) => match port.hear(bytes, out) {
+                Step::Ask(pending) => Step::Ask(Pending::Ipmb(pending)),
+                Step::Done => Step::Done,
+            },
+            Port::Smbus(port) => match port.hear(bytes, out) {
+                Step::Ask(pending) => Step::Ask(Pending::Smbus(pending)),
+                Step::Done => Step::Done,
+            },
+        }
+    }
+
+    /// Takes the answer to a request that a port of this bus heard, and fills in what is to be sent. It takes no memory. A request that
+    /// repeats another by now, or for which there is no window any more, is answered as such. The answer fits a reply, as a board's does.
+    pub fn told(&mut self, pending: Pending, answered: &Answered, out: &mut Out)
+        requires bus { bus_asked pending ≡ bus_of self.old }
+        requires fits { length answered.now.body ≤ room_for (asked_of pending) }
+        ensures told { IsTold self.old pending answered.now self.new out.new }
+        ensures bus { bus_of self.new ≡ bus_of self.old }
+    {
+        match self {
+            Port::Ipmb(port) => match pending {
+                Pending::Ipmb(pending) => port.told(pending, answered, out),
+                Pending::Smbus(_) => unreachable!(),
+            },
+            Port::Smbus(port) => match pending {
+                Pending::Ipmb(_) => unreachable!(),
+                Pending::Smbus(pending) => port.told(pending, answered, out),
+            },
+        }
+    }
+
     /// Forgets a requester's window, and says whether there was one.
     pub fn idle(&mut self, requester: u8) -> bool
         ensures keeps { (p : PortState) → Shows self.old p → Shows self.new (idles requester p) }
         ensures had { (p : PortState) → Shows self.old p → result ≡ list_any (λ q. q == requester) (requesters p.log) }
+        ensures bus { bus_of self.new ≡ bus_of self.old }
     {
         match self {
             Port::Ipmb(port) => port.idle(requester),

@@ -22,7 +22,7 @@ use cfg_records::{Answered, Store};
 use hearing::{hear, take};
 use mctp_net::{Assembler, Endpoint, read_packet};
 pub use pending::SmbusPending;
-use replying::{Kept, carry_out, keep_answer, settle};
+use replying::{Kept, Reply, carry_out, keep_answer, settle};
 use std::alloc::{AllocError, Global};
 use two_wire::Address;
 
@@ -37,6 +37,8 @@ pub struct SmbusPort {
     assembler: Assembler,
     /// The requests that it carried out, with their replies.
     windows: Kept,
+    /// Where the reply of a new request is made.
+    made: Reply,
 }
 
 impl SmbusPort {
@@ -49,6 +51,7 @@ impl SmbusPort {
             endpoint: Endpoint::new(at.eid),
             assembler: Assembler::new(alloc)?,
             windows: Kept::new(alloc)?,
+            made: Reply::new(),
         })
     }
 
@@ -108,7 +111,14 @@ impl SmbusPort {
         if settle(&self.windows, &at, &request, out) {
             return;
         }
-        keep_answer(&mut self.windows, &at, &request, answered, out);
+        keep_answer(
+            &mut self.windows,
+            &mut self.made,
+            &at,
+            &request,
+            answered,
+            out,
+        );
     }
 
     /// Takes what is heard on the bus, has a new request carried out, and fills in what is to be sent. It takes no memory.
@@ -140,7 +150,7 @@ impl SmbusPort {
         if settle(&self.windows, &at, &request, out) {
             return;
         }
-        carry_out(&mut self.windows, board, &at, &request, out);
+        carry_out(&mut self.windows, &mut self.made, board, &at, &request, out);
     }
 
     /// Forgets a requester's window, and says whether there was one.

@@ -1,5 +1,6 @@
 //! What ports do with requests that come again, on the sample board.
 mod ipmb;
+mod port;
 
 use crate::{Board, Done, Out};
 use cfg_records::{PlainStore, sample_board};

@@ -23,9 +23,6 @@ pub mod Cutting
 pub mod Decides
 pub mod PacketDecides
 pub mod Schedules
-pub mod RowTable
-pub mod RowHears
-pub mod HeardSoFar
 pub mod FrameMarks
 pub mod StepsSoFar
 pub mod Windows

@@ -21,7 +21,5 @@ pub mod Answering
 pub mod Example
 pub mod PacketExample
 pub mod Circle
-pub mod Rows
-pub mod PlainPort
 pub mod LiveFrames
 pub mod Premise

@@ -3,17 +3,12 @@
 #![tactic(auto)]
 
 pub mod examples;
-mod heard;
 pub mod laws;
 mod live_frames;
 mod numbers;
-mod plain_port;
-mod rows;
 
-pub use heard::{Asked, Heard, Outcome};
 pub use live_frames::{End, SentFrame, Step, sent_frames};
 pub use numbers::Numbers;
-pub use plain_port::outcomes;
 
 #[cfg(test)]
 mod tests;

@@ -5,10 +5,12 @@ use Rattle.cfg_records.specs.declared.sensor.Sensor.{Sensor}
 use Rattle.cfg_records.specs.declared.power_policy.PowerPolicy.{PowerPolicy}
 use Rattle.cfg_records.specs.declared.watchdog.Watchdog.{Watchdog}
 use Rattle.cfg_records.specs.declared.global_enables.GlobalEnables.{GlobalEnables}
+use Rattle.cfg_records.specs.declared.numeric_effecter.NumericEffecter.{NumericEffecter}
 use Rattle.cfg_records.specs.declared.board_file.BoardFile.{BoardFile}
 use Rattle.cfg_records.specs.Hysteresis.{hysteresis_value}
 use Rattle.cfg_records.specs.EventEnable.{event_value}
 use Rattle.cfg_records.specs.Watchdog.{watchdog_value}
+use Rattle.cfg_records.specs.NumericSize.{bytes_of}
 use Rattle.cfg_records.specs.Records.{Pair}
 
 -- the values of what a board has once
@@ -20,6 +22,10 @@ settings_value watchdog = watchdog_value watchdog.timer_use watchdog.actions wat
 
 abbrev pub enables_value : GlobalEnables → List ℕ
 enables_value enables = enables.byte ∷ []
+
+-- the value of a numeric effecter
+abbrev pub number_value : NumericEffecter → List ℕ
+number_value effecter = bytes_of effecter.range.size effecter.current
 
 -- lists of pairs as one, each behind those before it
 abbrev pub joined : List Pair → List (List Pair) → List Pair
@@ -34,10 +40,17 @@ sensor_kinds sensors =
     ∷ map (λ s. (key.EventEnable s.number, event_value s.events.messages s.events.scanning s.events.enabled)) sensors
     ∷ []
 
+-- the keys of each kind of record that an item has, with their values, kind after kind: a line for each kind that no sensor has
+abbrev pub item_kinds : BoardFile → List (List Pair)
+item_kinds file =
+    sensor_kinds file.sensors.items
+    ++ map (λ e. (key.NumericEffecter e.id, number_value e)) file.numeric_effecters.items
+    ∷ []
+
 -- the keys of each kind with their values: a line for each kind that a board has once
 abbrev pub kinds_of : BoardFile → List (List Pair)
 kinds_of file =
-    sensor_kinds file.sensors.items
+    item_kinds file
     ++ ((key.PowerPolicy, policy_value file.policy) ∷ [])
     ∷ ((key.Watchdog, settings_value file.watchdog) ∷ [])
     ∷ ((key.GlobalEnables, enables_value file.enables) ∷ [])

@@ -27,6 +27,7 @@ exact_key (key.EventEnable a) (key.EventEnable b) h = ap key.EventEnable (exact_
 exact_key key.PowerPolicy key.PowerPolicy h = refl
 exact_key key.Watchdog key.Watchdog h = refl
 exact_key key.GlobalEnables key.GlobalEnables h = refl
+exact_key (key.NumericEffecter a) (key.NumericEffecter b) h = ap key.NumericEffecter (exact_unsigned a b (equal_from_is_eq _ h))
 exact_key _ _ h = cc
 
 -- a key compares alike with itself

@@ -1,5 +1,5 @@
 -- The names of records, and how long their values are.
-use Rattle.std.specs.Prelude.{ℕ, Bool, ◌==◌}
+use Rattle.std.specs.Prelude.{ℕ, Bool, ◌==◌, ◌||◌}
 use Rattle.std.specs.Ordering.{is_eq}
 use Rattle.std.specs.declared.cmp.Ordering.{Ordering}
 use Rattle.cfg_records.specs.declared.key.Key.{Key}
@@ -14,6 +14,7 @@ is_length (key.EventEnable sensor) n = n == 5
 is_length key.PowerPolicy n = n == 1
 is_length key.Watchdog n = n == 5
 is_length key.GlobalEnables n = n == 1
+is_length (key.NumericEffecter id) n = (n == 1) || (n == 2) || (n == 4)
 
 -- the order of keys
 abbrev pub key_cmp : Key → Key → Ordering

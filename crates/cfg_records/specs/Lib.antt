@@ -12,6 +12,8 @@ pub mod Sdr
 pub mod PowerPolicy
 pub mod Watchdog
 pub mod GlobalEnables
+pub mod NumericSize
+pub mod NumericEffecter
 pub mod PartLaws
 pub mod Meaning
 pub mod RefusalLaws

@@ -7,6 +7,8 @@ use Rattle.cfg_records.specs.EventEnable.{IsEventEnable}
 use Rattle.cfg_records.specs.PowerPolicy.{IsPowerPolicy}
 use Rattle.cfg_records.specs.Watchdog.{IsWatchdog}
 use Rattle.cfg_records.specs.GlobalEnables.{AreGlobalEnables}
+use Rattle.cfg_records.specs.declared.numeric_range.NumericRange.{NumericRange}
+use Rattle.cfg_records.specs.NumericEffecter.{IsNumeric}
 
 pub IsThresholds-prop : (masks : ThresholdMasks) (value : List ℕ) → IsProp (IsThresholds masks value)
 IsThresholds-prop masks value = hlevel props
@@ -22,3 +24,6 @@ IsWatchdog-prop value = hlevel props
 
 pub AreGlobalEnables-prop : (value : List ℕ) → IsProp (AreGlobalEnables value)
 AreGlobalEnables-prop value = hlevel props
+
+pub IsNumeric-prop : (range : NumericRange) (value : List ℕ) → IsProp (IsNumeric range value)
+IsNumeric-prop range value = hlevel props

@@ -63,3 +63,4 @@ pub record IsSampleBoard (file : BoardFile) : Type 0 where
   pub log : file.log.records ≡ 2
   pub enables : file.enables.byte ≡ 0x08
   pub sdr : file.sdr.items ≡ sample_record ∷ []
+  pub no_numeric : file.numeric_effecters.items ≡ []

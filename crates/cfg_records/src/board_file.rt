@@ -3,6 +3,7 @@ use crate::device::Device;
 use crate::global_enables::GlobalEnables;
 use crate::key::Key;
 use crate::log_capacity::LogCapacity;
+use crate::numeric_effecter::NumericEffecters;
 use crate::power_policy::PowerPolicy;
 use crate::sdr_record::SdrRecords;
 use crate::sensor::Sensors;
@@ -24,22 +25,29 @@ pub struct BoardFile {
     pub log: LogCapacity,
     pub enables: GlobalEnables,
     pub sdr: SdrRecords,
+    pub numeric_effecters: NumericEffecters,
 }
 
 impl BoardFile {
     ghost use Rattle.std.specs.Prelude.{◌≡◌, [], IfOk, OnOk};
     ghost use Rattle.cfg_records.specs.Records.{KeysDiffer, LengthsFit};
-    ghost use Rattle.cfg_records.specs.Boards.{joined, sensor_kinds, pairs_of};
+    ghost use Rattle.cfg_records.specs.Boards.{joined, item_kinds, pairs_of};
 
-    /// The records of its sensors: a line for each kind.
-    fn sensor_records(&self, alloc: Global) -> Result<Vec<(Key, Value)>, AllocError>
-        ensures { IfOk result (λ pairs. pairs.items ≡ joined [] (sensor_kinds self.now.sensors.items)) }
+    /// The records of its items: a line for each kind.
+    fn item_records(&self, alloc: Global) -> Result<Vec<(Key, Value)>, AllocError>
+        ensures { IfOk result (λ pairs. pairs.items ≡ joined [] (item_kinds self.now)) }
     {
         let sensors = self.sensors.items.as_slice();
         let thresholds = sensors.iter().map(|s| s.thresholds.pair(s.number));
         let hysteresis = sensors.iter().map(|s| s.hysteresis.pair(s.number));
         let events = sensors.iter().map(|s| s.events.pair(s.number));
-        thresholds.chain(hysteresis).chain(events).collect(alloc)
+        let numeric = self.numeric_effecters.items.as_slice();
+        let numeric = numeric.iter().map(|e| e.pair());
+        thresholds
+            .chain(hysteresis)
+            .chain(events)
+            .chain(numeric)
+            .collect(alloc)
     }
 
     /// The keys of the board's records, each once, with the values that they begin with: kind after kind.
@@ -48,7 +56,7 @@ impl BoardFile {
         ensures differ { OnOk result (KeysDiffer (pairs_of self.now)) }
         ensures fit { OnOk result (LengthsFit (pairs_of self.now)) }
     {
-        let mut pairs = self.sensor_records(alloc)?;
+        let mut pairs = self.item_records(alloc)?;
         pairs.push(self.policy.pair())?;
         pairs.push(self.watchdog.pair())?;
         pairs.push(self.enables.pair())?;

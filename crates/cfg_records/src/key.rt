@@ -17,6 +17,8 @@ pub enum Key {
     Watchdog,
     /// What the controller enables as a whole.
     GlobalEnables,
+    /// The present value of the numeric effecter of this id.
+    NumericEffecter(u16),
 }
 
 impl Key {
@@ -31,6 +33,7 @@ impl Key {
             Key::PowerPolicy => length == 1,
             Key::Watchdog => length == 5,
             Key::GlobalEnables => length == 1,
+            Key::NumericEffecter(_) => length == 1 || length == 2 || length == 4,
         }
     }
 }

@@ -82,7 +82,7 @@ pub fn byte_at(body: &[u8], place: usize) -> u8
 }
 
 impl Asked {
-    ghost use Rattle.cfg_records.specs.Requests.{ipmi_request};
+    ghost use Rattle.cfg_records.specs.Requests.{ipmi_request, pldm_request};
 
     /// The IPMI request of this network function and command, with these bytes of data: from nobody, to logical unit 0.
     pub fn ipmi(net_fn: NetFn, command: u8, bytes: &[u8]) -> Self
@@ -93,6 +93,19 @@ impl Asked {
             from: 0,
             net_fn,
             lun: Lun::new(0),
+            command,
+            body: Bytes::from_slice(bytes),
+        }
+    }
+
+    /// The PLDM request of this type and command, with these bytes of data: from nobody.
+    pub fn pldm(kind: Below<64>, command: u8, bytes: &[u8]) -> Self
+        requires { length bytes.now ≤ 252 }
+        ensures { result ≡ pldm_request kind command bytes.now }
+    {
+        Asked::Pldm {
+            from: 0,
+            kind,
             command,
             body: Bytes::from_slice(bytes),
         }

@@ -2,6 +2,7 @@
 use crate::event_enable::SetEventEnable;
 use crate::global_enables::SetGlobalEnables;
 use crate::hysteresis::SetHysteresis;
+use crate::numeric_effecter::SetNumericEffecter;
 use crate::power_policy::SetPowerPolicy;
 use crate::sensor_thresholds::SetThresholds;
 use crate::watchdog::SetWatchdog;
@@ -16,4 +17,5 @@ pub enum Op {
     PowerPolicy(SetPowerPolicy),
     Watchdog(SetWatchdog),
     GlobalEnables(SetGlobalEnables),
+    NumericEffecter(SetNumericEffecter),
 }

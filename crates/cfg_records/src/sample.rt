@@ -130,5 +130,6 @@ pub fn sample_board(alloc: Global) -> Result<BoardFile, AllocError>
         log: LogCapacity { records: 2 },
         enables: GlobalEnables { byte: 0x08 },
         sdr: sdr(alloc)?,
+        numeric_effecters: Distinct::new(Vec::new(alloc)).unwrap(),
     })
 }

@@ -1,3 +1,4 @@
 pub mod Sent
 pub mod Checks
 pub mod Endings
+pub mod Sending

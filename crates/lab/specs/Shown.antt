@@ -1,10 +1,11 @@
 -- The frames and faults of the lab's model that those of the code are.
-use Rattle.std.specs.Prelude.{◌≡◌, List}
+use Rattle.std.specs.Prelude.{◌≡◌, ℕ, List}
 use Rattle.std.specs.List.{AllZip}
 use Rattle.two_wire.specs.declared.Bus.{Bus}
 use Rattle.two_wire.specs.declared.Bus.TheVariants.{Ipmb, Smbus}
 use Rattle.plans.specs.declared.names.Names.{Names}
 use Rattle.lab_model.specs.declared.marks.Known.{Known}
+use Rattle.lab_model.specs.declared.marks.Mark.{Mark}
 use Rattle.lab_model.specs.Values.{written}
 use Rattle.lab_model.specs.ManagerSteps.{board_plans}
 use Rattle.lab_model.specs.Lab.{Way as LabWay, LabFrame, Lab}
@@ -49,3 +50,7 @@ marks_on Smbus marks = marks.smbus
 pub record ShowsFrames (names : Names) (sent : List SentFrame) (marks : Marks) (x : Lab (board_plans names)) : Type 0 where
   pub frames : AllZip IsFrame sent x.frames
   pub known : (on : Bus) → IsKnown (board_plans names) x on (marks_on on marks)
+
+-- a frame that is sent this way, with this mark
+abbrev pub sent_as : Way → Mark → List ℕ → SentFrame
+sent_as way mark bytes = record { way = way; mark = mark; bytes = bytes }

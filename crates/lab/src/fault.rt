@@ -9,6 +9,7 @@ ghost use Rattle.lab.specs.Shown.{fault_of, way_of, marks_on, ShowsFrames};
 
 use crate::frames::{Frames, Way};
 use lab_model::marks::Known;
+use std::fmt;
 use two_wire::Bus;
 
 /// What is wrong with an event, which a lab doesn't take then.
@@ -79,5 +80,25 @@ impl Frames {
         } else {
             None
         }
+    }
+}
+
+impl fmt::Display for Fault {
+    ghost use Rattle.std.specs.Prelude.{Some};
+    ghost use Rattle.lab.specs.FaultNames.{fault_name};
+
+    ghost output = { λ fault. Some (fault_name fault) };
+
+    fn fmt<W: fmt::Write>(&self, f: &mut fmt::Formatter<W>) -> fmt::Result {
+        f.write_str(match self {
+            Fault::NoFrame => "NoFrame",
+            Fault::WrongWay => "WrongWay",
+            Fault::Aged => "Aged",
+            Fault::Changing => "Changing",
+            Fault::Impersonates => "Impersonates",
+            Fault::Forged => "Forged",
+            Fault::StillOpen => "StillOpen",
+            Fault::Room => "Room",
+        })
     }
 }

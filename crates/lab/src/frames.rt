@@ -1,5 +1,6 @@
 //! The frames that were sent.
-ghost use Rattle.std.specs.Prelude.{◌≡◌, ◌++◌, ◌∷◌, [], length, nat_le, slice_get, Some, None, IfSome, IfNone, is_ok, if◌then◌else◌};
+ghost use Rattle.std.specs.Prelude.{◌≡◌, ◌++◌, ◌∷◌, [], length, nat_le, slice_get, Some, None, IfSome, IfNone, is_ok, if◌then◌else◌, OnOk, map};
+ghost use Rattle.lab.specs.Shown.{sent_as};
 
 use lab_model::marks::Mark;
 use std::alloc::{AllocError, Global};
@@ -105,5 +106,16 @@ impl Frames {
             Ok(()) => Ok(()),
             Err(_) => Err(AllocError),
         }
+    }
+
+    /// Frames are sent, one after another, each of this way and with this mark. Where memory is refused, the rest aren't.
+    pub fn send(&mut self, way: Way, mark: Mark, frames: &[Frame]) -> Result<(), AllocError>
+        ensures { OnOk result (self.new ≡ self.old ++ map (sent_as way mark) frames.now) }
+    {
+        for frame in frames {
+            let bytes = frame.copy();
+            self.push(SentFrame { way, mark, bytes })?;
+        }
+        Ok(())
     }
 }

@@ -9,4 +9,4 @@ mod others;
 pub use fault::{Fault, Marks};
 pub use frames::{Frames, SentFrame, Way};
 pub use laws::{one_ending, two_steps_are_played};
-pub use others::{idle_fault, noise_fault, request_fault};
+pub use others::{idle_fault, message_fault, noise_fault, request_fault};

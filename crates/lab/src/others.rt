@@ -1,12 +1,12 @@
 //! What is wrong with what others do.
-ghost use Rattle.std.specs.Prelude.{◌≡◌, List, ℕ, [], ◌∷◌, Some, None, option_map, if◌then◌else◌};
+ghost use Rattle.std.specs.Prelude.{◌≡◌, ◌≤◌, length, List, ℕ, [], ◌∷◌, Some, None, option_map, if◌then◌else◌};
 ghost use Rattle.plans.specs.declared.names.Names.{Names as AnyNames};
 ghost use Rattle.undo_model.specs.Machine.{open_bus};
 ghost use Rattle.lab_model.specs.PortSteps.{asked_in};
 ghost use Rattle.lab_model.specs.ManagerSteps.{board_plans};
 ghost use Rattle.lab_model.specs.Lab.{Lab, Noise, Idles};
-ghost use Rattle.lab_model.specs.Faults.{fault_of as fault_of_event, first_of, check, Changing, Impersonates, is_own};
-ghost use Rattle.two_wire.specs.declared.Bus.TheVariants.{Ipmb};
+ghost use Rattle.lab_model.specs.Faults.{fault_of as fault_of_event, first_of, check, Changing, Impersonates, is_own, message_changes};
+ghost use Rattle.two_wire.specs.declared.Bus.TheVariants.{Ipmb, Smbus};
 ghost use Rattle.bmc_board.specs.Table.{is_changing};
 ghost use Rattle.lab.specs.Shown.{fault_of};
 ghost use Rattle.lab.specs.Meaning.{request_of};
@@ -18,8 +18,12 @@ use ipmb_frame::read_frame;
 use lab_model::marks::is_still_open;
 use mctp_net::read_packet;
 use plans::Names;
-use schedules::OtherRequest;
-use two_wire::Bus;
+use pldm_base::{PldmBytes, read_pldm};
+use schedules::{OtherMessage, OtherRequest};
+use two_wire::{Bus, Bytes};
+
+/// The message type of PLDM (DSP0239).
+const PLDM_TYPE: u8 = 0x01;
 
 /// What is wrong with noise.
 pub fn noise_fault(on: Bus, bytes: &[u8]) -> Option<Fault>
@@ -76,6 +80,42 @@ pub fn request_fault(names: &Names, request: &OtherRequest) -> Option<Fault>
         return Some(Fault::Changing);
     }
     if is_own(Bus::Ipmb, names, request.requester.address.byte()) {
+        return Some(Fault::Impersonates);
+    }
+    None
+}
+
+/// Whether a message's bytes are a PLDM request whose command sets the configuration.
+fn message_changes(from: u8, bytes: &[u8]) -> bool
+    requires { length bytes.now ≤ 256 }
+    ensures { result ≡ message_changes from bytes.now }
+{
+    let [kind, rest @ ..] = bytes else {
+        return false;
+    };
+    if *kind != PLDM_TYPE {
+        return false;
+    }
+    match read_pldm(&PldmBytes::new(rest)) {
+        Ok(request) => changing(&Asked::Pldm {
+            from,
+            kind: request.header.pldm_type,
+            command: request.header.command,
+            body: Bytes::from_slice(request.body.as_slice()),
+        }),
+        Err(_) => false,
+    }
+}
+
+/// What is wrong with another requester's message but for want of room.
+pub fn message_fault(names: &Names, message: &OtherMessage) -> Option<Fault>
+    ensures { option_map fault_of result ≡ first_of (check Changing (message_changes message.now.from message.now.body)
+        ∷ check Impersonates (is_own Smbus names.now message.now.from) ∷ []) }
+{
+    if message_changes(message.from, message.body.as_slice()) {
+        return Some(Fault::Changing);
+    }
+    if is_own(Bus::Smbus, names, message.from) {
         return Some(Fault::Impersonates);
     }
     None

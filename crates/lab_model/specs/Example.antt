@@ -10,6 +10,7 @@ use Rattle.cfg_records.specs.declared.op.Op.TheVariants as op
 use Rattle.cfg_records.specs.declared.thresholds.ThresholdMasks.{ThresholdMasks}
 use Rattle.cfg_records.specs.declared.board_file.BoardFile.{BoardFile}
 use Rattle.cfg_records.specs.declared.sensor.Sensor.{Sensor}
+use Rattle.cfg_records.specs.declared.numeric_effecter.NumericEffecter.{NumericEffecter}
 use Rattle.cfg_records.specs.declared.event_enable.EventMasks.{EventMasks}
 use Rattle.cfg_records.specs.Distinct.{NamesDiffer}
 use Rattle.cfg_records.specs.Sdr.{sdr_id}
@@ -64,6 +65,9 @@ one_number i j d below within = absurd (omega (arith, below, within))
 pub no_records : NamesDiffer sdr_id []
 no_records i j d below within = absurd (omega (arith, below, within))
 
+pub no_numbers : NamesDiffer (λ (e : NumericEffecter). e.id) []
+no_numbers i j d below within = absurd (omega (arith, below, within))
+
 -- a board with that sensor
 abbrev pub board_file : BoardFile
 board_file = record {
@@ -90,6 +94,7 @@ board_file = record {
   log = record { records = 2; least = lit≤ tt; most = lit≤ tt };
   enables = record { byte = 0x08; valid = record { one = refl; unreserved = refl } };
   sdr = record { items = []; differ = no_records; few = lit≤ tt };
+  numeric_effecters = record { items = []; differ = no_numbers; few = lit≤ tt };
 }
 
 -- ---- the runs

@@ -11,8 +11,13 @@ pub mod Taken
 pub mod Returns
 pub mod Asked
 pub mod Others
+pub mod Goes
+pub mod OtherParts
 pub mod Parts
 pub mod Quiet
 pub mod Whole
 pub mod Delivered
 pub mod Steps
+pub mod Stopped
+pub mod Theorem
+pub mod Plays

@@ -7,19 +7,21 @@ use Rattle.cfg_records.specs.Records.{Records}
 use Rattle.plans.specs.declared.names.Names.{Names}
 use Rattle.lab_model.specs.ManagerSteps.{Call, called}
 use Rattle.two_wire.specs.declared.Bus.{Bus}
-use Rattle.two_wire.specs.declared.Bus.TheVariants.{Ipmb}
+use Rattle.two_wire.specs.declared.Bus.TheVariants.{Ipmb, Smbus}
 use Rattle.ipmb_frame.specs.declared.message.Request.{Request}
+use Rattle.mctp_net.specs.declared.message.Message.{Message}
 use Rattle.bmc_board.specs.declared.activity.Activity.{Activity}
 use Rattle.bmc_board.specs.State.{state}
 use Rattle.lab_model.specs.Values.{Asks}
-use Rattle.lab_model.specs.PortSteps.{hears, idles}
-use Rattle.lab_model.specs.Lab.{Calls, ToBmc, ToMgr, OtherIpmb, Noise, Idles, OnBench, ToOthers, Lab, step, call_does, port_does, with_port, port_on, delivered, returned}
+use Rattle.lab_model.specs.PortSteps.{hears, hears_all, idles}
+use Rattle.lab_model.specs.Lab.{Calls, ToBmc, ToMgr, OtherIpmb, OtherSmbus, Noise, Idles, OnBench, ToOthers, Lab, step, call_does, port_does, with_port, port_on, delivered, returned}
 use Rattle.lab_stands.specs.Tied.{P, Goes}
 use Rattle.lab_stands.specs.Follows.{CallsAreFollowed, RepliesAreFollowed, RequestsAreFollowed, OthersAreFollowed}
 use Rattle.lab_stands.proofs.Calls.{call_goes}
 use Rattle.lab_stands.proofs.Returns.{returned_goes}
 use Rattle.lab_stands.proofs.Asked.{other_goes}
 use Rattle.lab_stands.proofs.Delivered.{delivered_goes}
+use Rattle.lab_stands.proofs.OtherParts.{message_goes}
 use Rattle.lab_stands.proofs.Others.{idle_goes, noise_goes, bench_goes}
 
 module _ (setup : BoardFile) (names : Names) where
@@ -38,6 +40,10 @@ module _ (setup : BoardFile) (names : Names) where
   other_step : (x : Lab (P setup names)) (r : Request) → port_does (P setup names) Ipmb ToOthers 0 (hears setup x.ipmb x.board (Asks r)) x ≡ step (P setup names) setup x (OtherIpmb r)
   unfolding step
   other_step x r = refl
+
+  message_step : (x : Lab (P setup names)) (m : Message) → port_does (P setup names) Smbus ToOthers 0 (hears_all setup x.smbus x.board m) x ≡ step (P setup names) setup x (OtherSmbus m)
+  unfolding step
+  message_step x m = refl
 
   noise_step : (x : Lab (P setup names)) (bus : Bus) (bytes : List ℕ) → x ≡ step (P setup names) setup x (Noise bus bytes)
   unfolding step
@@ -63,6 +69,7 @@ requests_followed setup names plan start x number d own on tied h = subst (Goes 
 pub others_followed : (setup : BoardFile) (names : Names) (plan : List Op) (start : Records) → OthersAreFollowed setup names plan start
 others_followed setup names plan start = record {
   requests = λ x r honest on tied h. subst (Goes setup names x on) (other_step setup names x r) (other_goes setup names plan start x on tied h r honest.0 honest.1);
+  messages = λ x m honest on tied h. subst (Goes setup names x on) (message_step setup names x m) (message_goes setup names x on tied m honest.0 honest.1);
   noise = λ x bus bytes on tied h. subst (Goes setup names x on) (noise_step setup names x bus bytes) (noise_goes setup names plan start x on tied h);
   idles = λ x bus requester honest on tied h. subst (Goes setup names x on) (idle_step setup names x bus requester) (idle_goes setup names plan start x on tied h bus requester honest);
   bench = λ x activity on tied h. subst (Goes setup names x on) (bench_step setup names x activity) (bench_goes setup names plan start x on tied h activity);

@@ -2,6 +2,7 @@
 use Rattle.std.specs.Prelude.{ℕ, List}
 use Rattle.two_wire.specs.declared.Bus.{Bus}
 use Rattle.ipmb_frame.specs.declared.message.Request.{Request}
+use Rattle.mctp_net.specs.declared.message.Message.{Message}
 use Rattle.bmc_board.specs.declared.activity.Activity.{Activity}
 use Rattle.cfg_records.specs.declared.op.Op.{Op}
 use Rattle.cfg_records.specs.declared.board_file.BoardFile.{BoardFile}
@@ -16,7 +17,7 @@ use Rattle.plans.specs.declared.names.Names.{Names}
 use Rattle.lab_model.specs.ManagerSteps.{Call, addresses}
 use Rattle.lab_model.specs.Own.{IsOwn}
 use Rattle.lab_model.specs.Honest.{IsDelivered, IsHonest}
-use Rattle.lab_model.specs.Lab.{Event, Calls, ToBmc, ToMgr, OtherIpmb, Noise, Idles, OnBench, ToPort, ToManager, Lab, step}
+use Rattle.lab_model.specs.Lab.{Event, Calls, ToBmc, ToMgr, OtherIpmb, OtherSmbus, Noise, Idles, OnBench, ToPort, ToManager, Lab, step}
 use Rattle.lab_stands.specs.Tied.{P, F, L, W, IsTied, world_of, Goes}
 
 module _ (setup : BoardFile) (names : Names) (plan : List Op) (start : Records) where
@@ -40,9 +41,10 @@ module _ (setup : BoardFile) (names : Names) (plan : List Op) (start : Records) 
   abbrev pub RequestsAreFollowed : Type 0
   RequestsAreFollowed = (x : Lab (P setup names)) (number : ℕ) → IsDelivered (P setup names) ToPort x number → IsOwn (P setup names) x (ToBmc number) → IsFollowed x (ToBmc number)
 
-  -- so is each honest event that is none of the manager's, but for messages of others on SMBus
+  -- so is each honest event that is none of the manager's
   pub record OthersAreFollowed : Type 0 where
     pub requests : (x : Lab (P setup names)) (r : Request) → IsHonest (P setup names) x (OtherIpmb r) → IsFollowed x (OtherIpmb r)
+    pub messages : (x : Lab (P setup names)) (m : Message) → IsHonest (P setup names) x (OtherSmbus m) → IsFollowed x (OtherSmbus m)
     pub noise : (x : Lab (P setup names)) (bus : Bus) (bytes : List ℕ) → IsFollowed x (Noise bus bytes)
     pub idles : (x : Lab (P setup names)) (bus : Bus) (requester : ℕ) → IsHonest (P setup names) x (Idles bus requester) → IsFollowed x (Idles bus requester)
     pub bench : (x : Lab (P setup names)) (activity : Activity) → IsFollowed x (OnBench activity)

@@ -2,3 +2,5 @@ pub mod Each
 pub mod Made
 pub mod Tied
 pub mod Follows
+pub mod Theorem
+pub mod Plays

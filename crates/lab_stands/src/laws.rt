@@ -1,11 +1,14 @@
 //! What a lab does at an event, the model's world does.
 
-ghost use Rattle.std.specs.Prelude.{List};
+ghost use Rattle.std.specs.Prelude.{ℕ, List};
 ghost use Rattle.cfg_records.specs.declared.op.Op.{Op};
 ghost use Rattle.cfg_records.specs.declared.board_file.BoardFile.{BoardFile};
 ghost use Rattle.cfg_records.specs.Records.{Records};
 ghost use Rattle.plans.specs.declared.names.Names.{Names};
 ghost use Rattle.lab_stands.specs.Follows.{CallsAreFollowed, RepliesAreFollowed, RequestsAreFollowed, OthersAreFollowed};
+ghost use Rattle.lab.specs.Meaning.{Bench};
+ghost use Rattle.lab_stands.specs.Theorem.{Headline};
+ghost use Rattle.lab_stands.specs.Plays.{PlaysStand};
 
 /// Where the manager is called, the model's world goes on to one that the lab shows then. So it is in each phase, also where the call is refused.
 pub fn calls_are_followed()
@@ -23,7 +26,20 @@ pub fn requests_are_followed()
     ensures { (setup : BoardFile) (names : Names) (plan : List Op) (start : Records) → RequestsAreFollowed setup names plan start }
 {}
 
-/// So it does at an honest request of another on IPMB, at noise, where a requester is idle, and where what isn't configuration changes.
+/// So it does at an honest request of another on IPMB, at all packets of an honest message of another on SMBus, at noise, where a requester is
+/// idle, and where what isn't configuration changes.
 pub fn others_are_followed()
     ensures { (setup : BoardFile) (names : Names) (plan : List Op) (start : Records) → OthersAreFollowed setup names plan start }
+{}
+
+/// The headline, over a lab. After every schedule that a lab takes and in which no packet joins another request's assembly, so at each of
+/// its events, the manager's phase says what the records are, and a plan that halted has its cause. Once the plan is undone, and after all
+/// that comes then, every record is what it was at the start, and each Get shows the same configuration.
+pub fn undo_takes_everything_back()
+    ensures { (setup : BoardFile) (names : Names) (plan : List Op) (retries : ℕ) → Headline setup names plan retries }
+{}
+
+/// What every play tells: its phase says what the records are, and a plan that halted has its cause.
+pub fn plays_stand()
+    ensures { (bench : Bench) (file : BoardFile) (plan : List Op) (retries : ℕ) → PlaysStand bench file plan retries }
 {}

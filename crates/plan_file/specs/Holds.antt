@@ -90,6 +90,7 @@ pub record HoldsBoard (tree : Members) (board : BoardFile) : Type 0 where
   pub sdr : AllZip IsRecordIn (members_in field.Sdr tree) board.sdr.items
   pub device : HoldsDevice (table_in field.Device tree) board.device
   pub sensors : AllZip IsSensorIn (members_in field.Sensor tree) board.sensors.items
+  pub no_numeric : board.numeric_effecters.items ≡ []
 
 -- what the reading of a tree answers: the board that it holds where it has no fault, else its first fault
 abbrev pub Answers : Members → Result BoardFile FileFault → Type 0

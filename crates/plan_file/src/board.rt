@@ -19,7 +19,7 @@ use cfg_records::event_enable::{MESSAGES_PLACE, SCANNING_PLACE};
 use cfg_records::mask::has;
 use cfg_records::{
     BoardFile, Device, Distinct, EventEnable, EventMasks, GlobalEnables, LogCapacity,
-    ManufacturerId, PowerPolicy, SdrRecord, SdrRecords, Sensor, Sensors,
+    ManufacturerId, NumericEffecters, PowerPolicy, SdrRecord, SdrRecords, Sensor, Sensors,
 };
 use std::alloc::Global;
 use toml::{Table, Value};
@@ -215,6 +215,13 @@ fn sdr(alloc: Global, tree: &Table) -> Result<SdrRecords, FileFault>
     }
 }
 
+/// A board file gives a board no numeric effecters.
+fn no_numeric(alloc: Global) -> NumericEffecters
+    ensures { result.items ≡ [] }
+{
+    Distinct::new(Vec::new(alloc)).unwrap()
+}
+
 /// The board that the tree holds, or its first fault.
 fn board_of(alloc: Global, tree: &Table) -> Result<BoardFile, FileFault>
     ensures { (result ≡ Err FileFault.Memory) ⊎ Answers (table_view tree.now) result }
@@ -234,6 +241,7 @@ fn board_of(alloc: Global, tree: &Table) -> Result<BoardFile, FileFault>
         clock: number_in(tree, Field::Clock),
         log: LogCapacity::new(word_in(tree, Field::Log)).unwrap(),
         sdr,
+        numeric_effecters: no_numeric(alloc),
     })
 }
 

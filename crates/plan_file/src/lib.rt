@@ -31,4 +31,4 @@ pub use plan::read_plan;
 pub use plan_fault::{NoGet, OutsidePlan, PlanFault, StepFault};
 pub use row::{DEVICE, Need, PLAN, Row, SENSOR, Shape, TOP};
 pub use undo_laws::one_undo_list;
-pub use undo_text::{UndoFault, read_undo, write_undo};
+pub use undo_text::{UndoFault, push_requests, read_undo, write_undo};

@@ -45,7 +45,11 @@ pub fn write_undo(alloc: Global, list: &UndoList) -> Result<String, AllocError>
 }
 
 /// Adds the lines of the requests, that of the last first.
-fn push_requests(alloc: Global, text: &mut String, requests: &Requests) -> Result<(), AllocError>
+pub fn push_requests(
+    alloc: Global,
+    text: &mut String,
+    requests: &Requests,
+) -> Result<(), AllocError>
     ensures text { OnOk result (string_bytes text.new ≡ string_bytes text.old ++ flat_map ended (map line_of (reverse requests.now))) }
     ensures told { OnOk result (All IsPlain requests.now → AllZip IsRequestLine (map line_of (reverse requests.now)) (reverse requests.now)) }
     ensures few { length requests.now ≤ 256 }

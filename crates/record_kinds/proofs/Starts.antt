@@ -13,7 +13,9 @@ use Rattle.cfg_records.specs.MaskLaws.{same_test}
 use Rattle.cfg_records.specs.Records.{Pair, value_of, records_of}
 use Rattle.cfg_records.proofs.Pairs.{has_key}
 use Rattle.cfg_records.proofs.BoardPairs.{place_of, pairs_at, record_of_kind}
+use Rattle.cfg_records.specs.Boards.{number_value}
 use Rattle.record_kinds.specs.declared.limits.Limits.{Limits}
+use Rattle.record_kinds.specs.declared.limits.Limits.TheVariants as limits
 use Rattle.record_kinds.specs.Limits.{valid}
 use Rattle.record_kinds.specs.Boards.{of_sensor, limits_at}
 use Rattle.record_kinds.specs.Sound.{IsSoundAt, StartsSound}
@@ -59,6 +61,9 @@ sound_in_kind file (key.EventEnable number) = of_sensors file key.EventEnable _ 
 sound_in_kind file key.PowerPolicy = file.policy.valid
 sound_in_kind file key.Watchdog = file.watchdog.valid
 sound_in_kind file key.GlobalEnables = file.enables.valid
+sound_in_kind file (key.NumericEffecter id) =
+    sound_of (λ e. (key.NumericEffecter e.id, number_value e)) (λ e. limits.NumericEffecter (record { enabled = e.enabled; range = e.range })) (λ e. e.id == id) file.numeric_effecters.items (key.NumericEffecter id)
+    (λ e. same_numbered key.NumericEffecter (λ m n same. cc) e.id id) (λ e. e.valid)
 
 pub starts_sound : StartsSound
 starts_sound file k = subst (IsSoundAt (limits_at file k)) (sym (record_of_kind file k)) (sound_in_kind file k)

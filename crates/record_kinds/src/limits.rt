@@ -3,6 +3,7 @@ ghost use Rattle.std.specs.Prelude.{◌≡◌};
 
 use crate::setup::Setup;
 use cfg_records::{Asked, Key, Live, Op, RecordData, RecordKind, Value};
+use effecter_recs::NumericLimits;
 use sensor_recs::{EventEnableLimits, HysteresisLimits, ThresholdLimits};
 use two_wire::{Buffer, Code};
 use watch_boot::{GlobalEnablesLimits, PowerPolicyLimits, WatchdogLimits};
@@ -16,6 +17,7 @@ pub enum Limits {
     PowerPolicy(PowerPolicyLimits),
     Watchdog(WatchdogLimits),
     GlobalEnables(GlobalEnablesLimits),
+    NumericEffecter(NumericLimits),
 }
 
 /// The kinds, a line for each: its name, its limits, and where its keys are.
@@ -28,6 +30,7 @@ macro_rules! of_each_kind {
             PowerPolicy PowerPolicyLimits {Key::PowerPolicy => &()}
             Watchdog WatchdogLimits {Key::Watchdog => &()}
             GlobalEnables GlobalEnablesLimits {Key::GlobalEnables => &()}
+            NumericEffecter NumericLimits {Key::NumericEffecter(id) => id}
         }
     };
 }
@@ -101,6 +104,9 @@ impl Setup {
             Key::PowerPolicy => Limits::PowerPolicy(PowerPolicyLimits),
             Key::Watchdog => Limits::Watchdog(WatchdogLimits),
             Key::GlobalEnables => Limits::GlobalEnables(GlobalEnablesLimits),
+            Key::NumericEffecter(id) => {
+                Limits::NumericEffecter(NumericLimits::of(self.numeric_effecter(*id)?))
+            }
         })
     }
 }

@@ -4,7 +4,7 @@ ghost use Rattle.std.specs.Option.{option_copied};
 ghost use Rattle.cfg_records.specs.Distinct.{NamesDiffer};
 ghost use Rattle.record_kinds.specs.Places.{ArePlaces};
 
-use cfg_records::{BoardFile, Device, Sensor};
+use cfg_records::{BoardFile, Device, NumericEffecter, Sensor};
 use std::marker::Model;
 
 /// The place of a sensor that isn't there.
@@ -43,7 +43,7 @@ fn places_of(sensors: &[Sensor]) -> [u8; 256]
 }
 
 impl Setup {
-    ghost use Rattle.record_kinds.specs.Boards.{sensor_at};
+    ghost use Rattle.record_kinds.specs.Boards.{sensor_at, numeric_at};
 
     /// The set-up of this board file.
     pub fn new(file: BoardFile) -> Setup
@@ -73,5 +73,13 @@ impl Setup {
     {
         let place = self.places[number as usize];
         self.file.sensors.items.as_slice().get(place as usize)
+    }
+
+    /// The numeric effecter of this id. It looks at one after another, of which there are at most 32.
+    pub fn numeric_effecter(&self, id: u16) -> Option<&NumericEffecter>
+        ensures { option_copied result ≡ numeric_at self.now.numeric_effecters.items id }
+    {
+        let effecters = self.file.numeric_effecters.items.as_slice();
+        effecters.iter().find(|effecter| effecter.id == id)
     }
 }

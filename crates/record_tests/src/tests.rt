@@ -1,6 +1,7 @@
 //! Records and their kinds one by one, and changes of a board that are undone.
 mod bench;
 mod commands;
+mod effecters;
 mod readings;
 mod records;
 mod sensors;

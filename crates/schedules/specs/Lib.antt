@@ -2,3 +2,4 @@ pub mod Text
 pub mod Line
 pub mod Reads
 pub mod Schedule
+pub mod Names

@@ -6,6 +6,7 @@ use crate::event::Event;
 use crate::line::{LineFault, read_line};
 use crate::words::lines;
 use std::alloc::Global;
+use std::fmt;
 use std::marker::Model;
 
 /// What happens in a lab, in its order.
@@ -76,5 +77,19 @@ pub fn read_schedule(alloc: Global, text: &str) -> Result<Schedule, ScheduleFaul
     match lines(alloc, text) {
         Ok(lines) => events_of(alloc, lines.as_slice()),
         Err(_) => Err(ScheduleFault::Memory),
+    }
+}
+
+impl fmt::Display for ScheduleFault {
+    ghost use Rattle.std.specs.Prelude.{Some};
+    ghost use Rattle.schedules.specs.Names.{schedule_fault_name};
+
+    ghost output = { λ fault. Some (schedule_fault_name fault) };
+
+    fn fmt<W: fmt::Write>(&self, f: &mut fmt::Formatter<W>) -> fmt::Result {
+        match self {
+            ScheduleFault::Memory => f.write_str("Memory"),
+            ScheduleFault::Line(line) => write!(f, "Line {line}"),
+        }
     }
 }

@@ -56,3 +56,11 @@ pldm_unsupported_command = 0x05
 
 abbrev pub pldm_invalid_type : ℕ
 pldm_invalid_type = 0x20
+
+-- DSP0248: no effecter has this id
+abbrev pub pldm_invalid_effecter : ℕ
+pldm_invalid_effecter = 0x80
+
+-- DSP0248: the effecter's field can't be set to this state
+abbrev pub pldm_invalid_state : ℕ
+pldm_invalid_state = 0x81

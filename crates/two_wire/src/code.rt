@@ -71,6 +71,12 @@ pub const PLDM_UNSUPPORTED_COMMAND: Code = Code { value: 0x05 };
 /// PLDM: the type isn't one of the controller's.
 pub const PLDM_INVALID_TYPE: Code = Code { value: 0x20 };
 
+/// PLDM, commands of effecters: no effecter has this id.
+pub const PLDM_INVALID_EFFECTER: Code = Code { value: 0x80 };
+
+/// PLDM, SetStateEffecterStates: a field can't be set to this state.
+pub const PLDM_INVALID_STATE: Code = Code { value: 0x81 };
+
 /// The codes of IPMI, from the lowest, each by its constant. The clause ties a constant to the name that contracts have for it.
 pub fn of_ipmi() -> [Code; 11]
     ensures { result ≡ codes.uninitialized_watchdog ∷ codes.node_busy ∷ codes.invalid_command ∷ codes.invalid_for_lun ∷ codes.out_of_space ∷ codes.reservation_canceled ∷ codes.invalid_length ∷ codes.out_of_range ∷ codes.too_many_bytes ∷ codes.not_present ∷ codes.invalid_data_field ∷ [] }
@@ -91,8 +97,8 @@ pub fn of_ipmi() -> [Code; 11]
 }
 
 /// The codes of PLDM, from the lowest, each by its constant.
-pub fn of_pldm() -> [Code; 5]
-    ensures { result ≡ codes.pldm_invalid_data ∷ codes.pldm_invalid_length ∷ codes.pldm_not_ready ∷ codes.pldm_unsupported_command ∷ codes.pldm_invalid_type ∷ [] }
+pub fn of_pldm() -> [Code; 7]
+    ensures { result ≡ codes.pldm_invalid_data ∷ codes.pldm_invalid_length ∷ codes.pldm_not_ready ∷ codes.pldm_unsupported_command ∷ codes.pldm_invalid_type ∷ codes.pldm_invalid_effecter ∷ codes.pldm_invalid_state ∷ [] }
 {
     [
         PLDM_INVALID_DATA,
@@ -100,6 +106,8 @@ pub fn of_pldm() -> [Code; 5]
         PLDM_NOT_READY,
         PLDM_UNSUPPORTED_COMMAND,
         PLDM_INVALID_TYPE,
+        PLDM_INVALID_EFFECTER,
+        PLDM_INVALID_STATE,
     ]
 }
 

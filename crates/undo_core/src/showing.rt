@@ -6,6 +6,7 @@ ghost use Rattle.cfg_records.specs.declared.message.Asked.{Asked as AnyAsked};
 ghost use Rattle.plans.specs.declared.names.Names.{Names as AnyNames};
 ghost use Rattle.undo_model.specs.Machine as machine;
 ghost use Rattle.lab_model.specs.ManagerSteps.{ManagerState, board_plans, sent_of};
+ghost use Rattle.lab_model.specs.Faults.{begun_on};
 ghost use Rattle.undo_core.specs.Counted.{counts_of};
 ghost use Rattle.undo_core.specs.Phases.{phase_of};
 ghost use Rattle.undo_core.specs.Shown.{words_of, backs, IsStage, Shows, IsSent};
@@ -35,6 +36,21 @@ impl Manager {
         match self.stage.open() {
             Some(asked) => Some(bus_of(asked)),
             None => None,
+        }
+    }
+
+    /// How many requests it began on a bus: those that were answered, and the open one.
+    pub fn begun(&self, bus: Bus) -> usize
+        ensures { (names : AnyNames) (s : ManagerState (board_plans names)) → Shows names self.now s → result ≡ begun_on (words_of names) bus s.machine }
+    {
+        let answered = match bus {
+            Bus::Ipmb => self.counts.ipmb,
+            Bus::Smbus => self.counts.smbus,
+        };
+        if self.open_bus() == Some(bus) {
+            usize::from(answered) + 1
+        } else {
+            usize::from(answered)
         }
     }
 

@@ -189,3 +189,46 @@ fn what_is_looked_up_and_not_kept_is_new_again(rt: HostRuntime) -> Result<(), Fa
     assert!(rt; matches!(windows.find(&request), Found::New));
     Ok(())
 }
+
+#[test]
+fn a_repeat_is_known_until_a_number_32_above_is_kept(rt: HostRuntime) -> Result<(), Fail> {
+    let mut windows = Ipmb::new(rt.alloc())?;
+    for (number, command, wanted) in [
+        (50, 1, Done::Answered),
+        (50, 1, Done::Repeated(1)),
+        (17, 2, Done::Answered),
+        (50, 1, Done::Repeated(1)),
+        (18, 3, Done::Answered),
+        (50, 1, Done::Answered),
+        (50, 2, Done::Answered),
+        (50, 1, Done::Answered),
+    ] {
+        let done = hear(&mut windows, 44, Below::new(number), command, command);
+        assert_eq!(rt; done, wanted);
+    }
+    Ok(())
+}
+
+#[test]
+fn an_instance_is_known_until_one_16_above_is_kept(rt: HostRuntime) -> Result<(), Fail> {
+    let mut windows = Pldm::new(rt.alloc())?;
+    for (eid, number, command, wanted) in [
+        (8, 20, 1, Done::Answered),
+        (8, 3, 2, Done::Answered),
+        (8, 20, 1, Done::Repeated(1)),
+        (9, 20, 1, Done::Answered),
+        (8, 4, 3, Done::Answered),
+        (8, 20, 1, Done::Answered),
+        (9, 20, 1, Done::Repeated(1)),
+    ] {
+        let done = hear(&mut windows, eid, Below::new(number), command, command);
+        assert_eq!(rt; done, wanted);
+    }
+    assert!(rt; windows.idle(9));
+    assert_eq!(rt;
+        hear(&mut windows, 8, Below::new(20), 1, 99),
+        Done::Repeated(1)
+    );
+    assert_eq!(rt; hear(&mut windows, 9, Below::new(20), 1, 2), Done::Answered);
+    Ok(())
+}

@@ -19,6 +19,8 @@ use crate::storage::{
     add_entry, clear, part_in, sdr_info, sel_info, show_entry, show_sdr, time_in,
 };
 use cfg_records::{Answered, Asked, BoardFile, Key, Op, RecordKind, Store, Value, byte_at};
+use effecter_recs::numeric;
+use effecter_recs::request::id_in;
 use record_kinds::{Limits, Setup};
 use sensor_recs::taken::reading_data;
 use sensor_recs::{event_enable, hysteresis, thresholds};
@@ -30,7 +32,7 @@ use watch_boot::{global_enables, power_policy, watchdog};
 fn unknown_code(_setup: &Setup, key: &Key) -> Code
     ensures { result ≡ unknown_code _setup.now key.now }
 {
-    // Each key is named, so that a new one isn't forgotten. Those after the sensors' are on every board.
+    // Each key is named, so that a new one isn't forgotten. The policy, the watchdog and the enables are on every board.
     match key {
         Key::Thresholds(_)
         | Key::Hysteresis(_)
@@ -38,6 +40,7 @@ fn unknown_code(_setup: &Setup, key: &Key) -> Code
         | Key::PowerPolicy
         | Key::Watchdog
         | Key::GlobalEnables => code::NOT_PRESENT,
+        Key::NumericEffecter(_) => code::PLDM_INVALID_EFFECTER,
     }
 }
 
@@ -53,6 +56,7 @@ fn key_in(command: GetCommand, body: &[u8]) -> Key
         GetChassisStatus => Key::PowerPolicy,
         GetWatchdogTimer => Key::Watchdog,
         GetGlobalEnables => Key::GlobalEnables,
+        GetNumericEffecterValue => Key::NumericEffecter(id_in(body)),
     }
 }
 
@@ -243,6 +247,9 @@ impl<S: Store> Board<S> {
             SetPowerRestorePolicy => self.set(&Op::PowerPolicy(power_policy::policy_in(body)), to),
             SetWatchdogTimer => self.set(&Op::Watchdog(watchdog::watchdog_in(body)), to),
             SetGlobalEnables => self.set(&Op::GlobalEnables(global_enables::enables_in(body)), to),
+            SetNumericEffecterValue => {
+                self.set(&Op::NumericEffecter(numeric::numeric_effecter_in(body)), to)
+            }
         }
     }
 

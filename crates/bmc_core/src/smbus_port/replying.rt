@@ -31,6 +31,9 @@ const MESSAGE: usize = 256;
 /// The requests that a port carried out, with their replies.
 pub(super) type Kept = Windows<{ INSTANCES }, { MESSAGE }>;
 
+/// A reply's bytes, its type first.
+pub(super) type Reply = Bytes<{ MESSAGE }>;
+
 /// Sends a reply of these bytes from this place, to where a message of the envelope came from, and says what was done.
 pub(super) fn send(at: &At, to: &Envelope, body: &[u8], done: Done, out: &mut Out)
     requires { length body.now ≤ MESSAGE }
@@ -54,12 +57,25 @@ pub(super) fn send(at: &At, to: &Envelope, body: &[u8], done: Done, out: &mut Ou
 }
 
 /// Puts the start of a reply in place of what is there: all that stands before its data.
-fn begin(header: &Header, code: u8, reply: &mut Bytes<MESSAGE>)
+fn begin(header: &Header, code: u8, reply: &mut Reply)
     ensures started { reply.new ≡ 1 ∷ reply_start header.now code }
     ensures header { IsHeader header.now }
 {
     reply.replace(&[PLDM]);
     begin_pldm_reply(header, code, reply);
+}
+
+/// Answers that the port is busy.
+fn refuse(at: &At, request: &Request<'_>, out: &mut Out)
+    ensures { out.new ≡ sends (frames_from at.now.wire at.now.eid request.now.envelope (said Smbus (asking request.now) None)) done_as.Busy }
+{
+    let mut reply = Bytes::new();
+    begin(
+        &request.request.header,
+        code::PLDM_NOT_READY.value(),
+        &mut reply,
+    );
+    send(at, &request.envelope, reply.as_slice(), Done::Busy, out);
 }
 
 /// Answers a request that isn't new: by the reply that is kept for it, or that the port is busy. Says whether it did.
@@ -73,13 +89,7 @@ pub(super) fn settle(windows: &Kept, at: &At, request: &Request<'_>, out: &mut O
             true
         }
         Found::Busy => {
-            let mut reply = Bytes::new();
-            begin(
-                &request.request.header,
-                code::PLDM_NOT_READY.value(),
-                &mut reply,
-            );
-            send(at, &request.envelope, reply.as_slice(), Done::Busy, out);
+            refuse(at, request, out);
             true
         }
         Found::New => false,
@@ -101,6 +111,7 @@ fn keep(windows: &mut Kept, at: &At, request: &Request<'_>, reply: &[u8], out: &
 /// Keeps a new request with the reply of this answer, and sends that.
 pub(super) fn keep_answer(
     windows: &mut Kept,
+    made: &mut Reply,
     at: &At,
     request: &Request<'_>,
     answered: &Answered,
@@ -110,15 +121,15 @@ pub(super) fn keep_answer(
         → AreOf windows.new (Carried (kept_with request.now answered.now) ∷ log) }
     ensures sent { out.new ≡ sends (frames_from at.now.wire at.now.eid request.now.envelope (kept_with request.now answered.now).reply) done_as.Answered }
 {
-    let mut reply = Bytes::new();
-    begin(&request.request.header, answered.code, &mut reply);
-    reply.extend_from_slice(answered.body.as_slice());
-    keep(windows, at, request, reply.as_slice(), out);
+    begin(&request.request.header, answered.code, made);
+    made.extend_from_slice(answered.body.as_slice());
+    keep(windows, at, request, made.as_slice(), out);
 }
 
 /// Has a new request carried out, keeps it with its reply, and sends that.
 pub(super) fn carry_out<S: Store>(
     windows: &mut Kept,
+    made: &mut Reply,
     board: &mut Board<S>,
     at: &At,
     request: &Request<'_>,
@@ -130,13 +141,12 @@ pub(super) fn carry_out<S: Store>(
     ensures left { state_of S.records board.new ≡ (answer_of board.old.setup (state_of S.records board.old) (asked_of request.now)).1 }
     ensures setup { board.new.setup ≡ board.old.setup }
 {
-    let mut reply = Bytes::new();
-    respond(board, request, &mut reply);
-    keep(windows, at, request, reply.as_slice(), out);
+    respond(board, request, made);
+    keep(windows, at, request, made.as_slice(), out);
 }
 
 /// Has a request carried out, and makes its reply.
-fn respond<S: Store>(board: &mut Board<S>, request: &Request<'_>, reply: &mut Bytes<MESSAGE>)
+fn respond<S: Store>(board: &mut Board<S>, request: &Request<'_>, reply: &mut Reply)
     ensures reply { reply.new ≡ (kept_with request.now (answer_of board.old.setup (state_of S.records board.old) (asked_of request.now)).0).reply }
     ensures left { state_of S.records board.new ≡ (answer_of board.old.setup (state_of S.records board.old) (asked_of request.now)).1 }
     ensures setup { board.new.setup ≡ board.old.setup }

@@ -182,6 +182,7 @@ fn full_board(alloc: Global) -> Result<BoardFile, Fail> {
         log: sample.log,
         enables: sample.enables,
         sdr: sample.sdr,
+        numeric_effecters: sample.numeric_effecters,
     })
 }
 

@@ -104,5 +104,6 @@ returns c =
         watchdog = search rules;
         device = holds;
         sensors = c.in_ok-sensors.ensures.held;
+        no_numeric = c.no_numeric.ensures;
       },
     )

@@ -20,7 +20,7 @@ pub returns-then-not-take : goal.returns-then-not-take
 returns-then-not-take c p shows =
     let port = c.args.self.now in
     let q = c.in-Ok.packet in
-    let next : SmbusPort = record { wire = port.wire; endpoint = port.endpoint; assembler = c.take.new.assembler; windows = port.windows } in
+    let next : SmbusPort = record { wire = port.wire; endpoint = port.endpoint; assembler = c.take.new.assembler; windows = port.windows; made = port.made } in
     let no : c.take.result ≡ false = search rules in
     let took : HasTaken p q (seen c.take.new.assembler) c.take.new.out false =
     subst (λ (b : Bool). HasTaken p q (seen c.take.new.assembler) c.take.new.out b) no (c.take.ensures p shows.wire shows.eid shows.kept) in
@@ -31,7 +31,7 @@ pub returns-in_default : goal.returns-in_default
 returns-in_default c p shows =
     let port = c.args.self.now in
     let q = c.in-Ok.packet in
-    let next : SmbusPort = record { wire = port.wire; endpoint = c.hear.new.endpoint; assembler = c.take.new.assembler; windows = port.windows } in
+    let next : SmbusPort = record { wire = port.wire; endpoint = c.hear.new.endpoint; assembler = c.take.new.assembler; windows = port.windows; made = port.made } in
     let yes : c.take.result ≡ true = search rules in
     let took : HasTaken p q (seen c.take.new.assembler) c.take.new.out true =
     subst (λ (b : Bool). HasTaken p q (seen c.take.new.assembler) c.take.new.out b) yes (c.take.ensures p shows.wire shows.eid shows.kept) in
@@ -47,7 +47,7 @@ returns-then-settle c p shows =
     let port = c.args.self.now in
     let q = c.in-Ok.packet in
     let m : InMessage = c.in-Some.request in
-    let next : SmbusPort = record { wire = port.wire; endpoint = c.hear.new.endpoint; assembler = c.take.new.assembler; windows = port.windows } in
+    let next : SmbusPort = record { wire = port.wire; endpoint = c.hear.new.endpoint; assembler = c.take.new.assembler; windows = port.windows; made = port.made } in
     let yes : c.take.result ≡ true = search rules in
     let took : HasTaken p q (seen c.take.new.assembler) c.take.new.out true =
     subst (λ (b : Bool). HasTaken p q (seen c.take.new.assembler) c.take.new.out b) yes (c.take.ensures p shows.wire shows.eid shows.kept) in
@@ -67,7 +67,7 @@ returns c p shows =
     let port = c.args.self.now in
     let q = c.in-Ok.packet in
     let m : InMessage = c.in-Some.request in
-    let next : SmbusPort = record { wire = port.wire; endpoint = c.hear.new.endpoint; assembler = c.take.new.assembler; windows = port.windows } in
+    let next : SmbusPort = record { wire = port.wire; endpoint = c.hear.new.endpoint; assembler = c.take.new.assembler; windows = port.windows; made = port.made } in
     let yes : c.take.result ≡ true = search rules in
     let took : HasTaken p q (seen c.take.new.assembler) c.take.new.out true =
     subst (λ (b : Bool). HasTaken p q (seen c.take.new.assembler) c.take.new.out b) yes (c.take.ensures p shows.wire shows.eid shows.kept) in

@@ -29,7 +29,7 @@ returns-then-not-take-clause-heard g c p shows =
     let port = c.args.self.now in
     let q = c.in-Ok.packet in
     let h = heard_in p q in
-    let next : SmbusPort = record { wire = port.wire; endpoint = port.endpoint; assembler = c.take.new.assembler; windows = port.windows } in
+    let next : SmbusPort = record { wire = port.wire; endpoint = port.endpoint; assembler = c.take.new.assembler; windows = port.windows; made = port.made } in
     let no : c.take.result ≡ false = search rules in
     let took : HasTaken p q (seen c.take.new.assembler) c.take.new.out false =
     subst (λ (b : Bool). HasTaken p q (seen c.take.new.assembler) c.take.new.out b) no (c.take.ensures p shows.wire shows.eid shows.kept) in
@@ -46,7 +46,7 @@ returns-in_default-clause-heard g c p shows =
     let port = c.args.self.now in
     let q = c.in-Ok.packet in
     let h = heard_in p q in
-    let next : SmbusPort = record { wire = port.wire; endpoint = c.hear.new.endpoint; assembler = c.take.new.assembler; windows = port.windows } in
+    let next : SmbusPort = record { wire = port.wire; endpoint = c.hear.new.endpoint; assembler = c.take.new.assembler; windows = port.windows; made = port.made } in
     let yes : c.take.result ≡ true = search rules in
     let took : HasTaken p q (seen c.take.new.assembler) c.take.new.out true =
     subst (λ (b : Bool). HasTaken p q (seen c.take.new.assembler) c.take.new.out b) yes (c.take.ensures p shows.wire shows.eid shows.kept) in
@@ -67,7 +67,7 @@ returns-then-settle-clause-heard g c p shows =
     let port = c.args.self.now in
     let q = c.in-Ok.packet in
     let m : InMessage = c.in-Some.request in
-    let next : SmbusPort = record { wire = port.wire; endpoint = c.hear.new.endpoint; assembler = c.take.new.assembler; windows = port.windows } in
+    let next : SmbusPort = record { wire = port.wire; endpoint = c.hear.new.endpoint; assembler = c.take.new.assembler; windows = port.windows; made = port.made } in
     let yes : c.take.result ≡ true = search rules in
     let took : HasTaken p q (seen c.take.new.assembler) c.take.new.out true =
     subst (λ (b : Bool). HasTaken p q (seen c.take.new.assembler) c.take.new.out b) yes (c.take.ensures p shows.wire shows.eid shows.kept) in
@@ -95,7 +95,7 @@ returns-clause-heard g c p shows =
     let q = c.in-Ok.packet in
     let m : InMessage = c.in-Some.request in
     let a : Answered = answer_for setup before (Asks m) in
-    let next : SmbusPort = record { wire = port.wire; endpoint = c.hear.new.endpoint; assembler = c.take.new.assembler; windows = c.carry_out.new.windows } in
+    let next : SmbusPort = record { wire = port.wire; endpoint = c.hear.new.endpoint; assembler = c.take.new.assembler; windows = c.carry_out.new.windows; made = c.carry_out.new.made } in
     let yes : c.take.result ≡ true = search rules in
     let took : HasTaken p q (seen c.take.new.assembler) c.take.new.out true =
     subst (λ (b : Bool). HasTaken p q (seen c.take.new.assembler) c.take.new.out b) yes (c.take.ensures p shows.wire shows.eid shows.kept) in

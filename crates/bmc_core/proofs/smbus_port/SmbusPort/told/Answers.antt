@@ -26,7 +26,7 @@ returns c p shows =
     let at = c.at-at.result in
     let at_wire : p.wire ≡ at.wire = shows.wire ∙ sym c.at-at.ensures.wire in
     let at_eid : p.eid ≡ at.eid = shows.eid ∙ sym c.at-at.ensures.eid in
-    let next : SmbusPort = record { wire = port.wire; endpoint = port.endpoint; assembler = port.assembler; windows = c.keep_answer.new.windows } in
+    let next : SmbusPort = record { wire = port.wire; endpoint = port.endpoint; assembler = port.assembler; windows = c.keep_answer.new.windows; made = c.keep_answer.new.made } in
     let is : found p m ≡ IsNew =
     new (found p m) _ _ c.args.out.now c.settle.new.out
     (settled_as p m at.wire at.eid c.args.out.now c.settle.new.out c.settle.result false at_wire at_eid c.if-settle.false (c.settle.ensures p.log shows.log)) in

@@ -1,8 +1,5 @@
-use Rattle.std.proofs.Common.{◌≡◌, ◌<◌, lit<, ℕ, List, [], ◌∷◌, length, None, true, false, refl, sym, ◌∙◌, ap, subst}
+use Rattle.std.proofs.Common.{◌≡◌, ◌<◌, ℕ, List, length, None, true, false, refl, sym, ◌∙◌, ap, subst}
 use Rattle.two_wire.specs.declared.Bus.TheVariants.{Smbus}
-use Rattle.two_wire.specs.Codes.{pldm_not_ready}
-use Rattle.pldm_base.specs.declared.message.Header.{Header}
-use Rattle.pldm_base.specs.Message.{reply_start}
 use Rattle.bus_model.specs.Request.{Request as Asking}
 use Rattle.bus_model.specs.Numbering.{is_above}
 use Rattle.bus_model.specs.Carried.{Outcome, Repeats, IsBusy, IsNew, outcome}
@@ -11,7 +8,7 @@ use Rattle.bmc_core.specs.declared.out.Done.TheVariants as done
 use Rattle.bmc_core.specs.Outs.{sends}
 use Rattle.bmc_core.specs.SmbusHeard.{InMessage, asking}
 use Rattle.bmc_core.specs.SmbusShown.{pldm_reading, frames_from, IsSettled}
-use Rattle.bmc_core.proofs.SmbusReplies.{OutcomeHasBytes, repeats_bytes, spelled_so}
+use Rattle.bmc_core.proofs.SmbusReplies.{OutcomeHasBytes, repeats_bytes}
 use Rattle.bmc_core.proofs.smbus_port.replying.settle.Goals as goal
 
 pub returns-in-Repeats : goal.returns-in-Repeats
@@ -33,15 +30,7 @@ returns-in-Busy c log h =
     let m = c.args.request.now in
     let is : IsBusy ≡ outcome (is_above 32) (asking m) log =
     c.in-Busy.ensures pldm_reading log h.kept ∙ ap (λ (r : Asking). outcome (is_above 32) r log) c.kept.ensures.is in
-    let envelope : c.request.inside.envelope ≡ m.envelope = ap (λ (x : InMessage). x.envelope) c.request.view_is in
-    let header : c.request.inside.request.header ≡ m.request.header = ap (λ (x : InMessage). x.request.header) c.request.view_is in
-    let bytes : c.as_slice-in-Busy.result.now ≡ said Smbus (asking m) None =
-    c.as_slice-in-Busy.ensures.value ∙ c.begin.ensures.started ∙ (λ i. 1 ∷ reply_start (header i) (c.value.ensures.value i))
-    ∙ sym (spelled_so m (record { code = pldm_not_ready; body = [] }) (subst (λ (h : Header). h.instance < 32) header c.begin.ensures.header.instance)) in
-    let some : 0 < length c.as_slice-in-Busy.result.now = subst (λ (xs : List ℕ). 0 < length xs) (sym bytes) (lit< tt) in
-    let sent : c.send-in-Busy.new.out ≡ sends (frames_from at.wire at.eid m.envelope (said Smbus (asking m) None)) done.Busy =
-    c.send-in-Busy.ensures some ∙ (λ i. sends (frames_from at.wire at.eid (envelope i) (bytes i)) done.Busy) in
-    subst (λ (o : Outcome). IsSettled o (said Smbus (asking m) None) (frames_from at.wire at.eid m.envelope) c.args.out.now c.send-in-Busy.new.out true) is (refl, sent)
+    subst (λ (o : Outcome). IsSettled o (said Smbus (asking m) None) (frames_from at.wire at.eid m.envelope) c.args.out.now c.refuse.new.out true) is (refl, c.refuse.ensures)
 
 pub returns-in-New : goal.returns-in-New
 returns-in-New c log h =

@@ -19,6 +19,8 @@ apply-requires-in-Watchdog-op c = (tt, subst (λ (s : Limits). valid s c.args.va
 
 pub apply-requires-in-GlobalEnables-op : goal.apply-requires-in-GlobalEnables-op
 apply-requires-in-GlobalEnables-op c = (tt, subst (λ (s : Limits). valid s c.args.value.now) c.in-GlobalEnables.is c.requires.is_valid)
+pub apply-requires-in-NumericEffecter-op : goal.apply-requires-in-NumericEffecter-op
+apply-requires-in-NumericEffecter-op c = (tt, subst (λ (s : Limits). valid s c.args.value.now) c.in-NumericEffecter.is c.requires.is_valid)
 
 pub returns-in-Thresholds-op : goal.returns-in-Thresholds-op
 returns-in-Thresholds-op c = rw (c.in-Thresholds.is, c.in-Thresholds-op.is) c.apply.ensures
@@ -37,3 +39,5 @@ returns-in-Watchdog-op c = rw (c.in-Watchdog.is, c.in-Watchdog-op.is) c.apply-in
 
 pub returns-in-GlobalEnables-op : goal.returns-in-GlobalEnables-op
 returns-in-GlobalEnables-op c = rw (c.in-GlobalEnables.is, c.in-GlobalEnables-op.is) c.apply-in-GlobalEnables-op.ensures
+pub returns-in-NumericEffecter-op : goal.returns-in-NumericEffecter-op
+returns-in-NumericEffecter-op c = rw (c.in-NumericEffecter.is, c.in-NumericEffecter-op.is) c.apply-in-NumericEffecter-op.ensures

@@ -1,0 +1,157 @@
+-- What a port of either bus does in two steps, with the board between, is what it does in one.
+use Rattle.std.proofs.Common.{◌≡◌, ℕ, Bool, true, false, List, Some, None, Result, Ok, Err, refl, sym, subst}
+use Rattle.ipmb_frame.specs.declared.message.Request.{Request}
+use Rattle.cfg_records.specs.declared.board_file.BoardFile.{BoardFile}
+use Rattle.bus_model.specs.Carried.{Outcome, Repeats, IsBusy, IsNew}
+use Rattle.bmc_board.specs.State.{State}
+use Rattle.bmc_board.specs.Answer.{answer_of}
+use Rattle.lab_model.specs.PortSteps.{PortState, Deed, left_by, asked_in, hears_request}
+use Rattle.bmc_core.specs.declared.out.Out.{Out}
+use Rattle.bmc_core.specs.declared.out.Reason.{Reason}
+use Rattle.bmc_core.specs.declared.out.Reason.TheVariants as reason
+use Rattle.bmc_core.specs.declared.step.Step.TheVariants as step
+use Rattle.bmc_core.specs.declared.ipmb_port.IpmbPort.{IpmbPort}
+use Rattle.bmc_core.specs.declared.smbus_port.SmbusPort.{SmbusPort}
+use Rattle.bmc_core.specs.declared.smbus_port.pending.SmbusPending.{SmbusPending}
+use Rattle.bmc_core.specs.declared.port.Port.{Port}
+use Rattle.bmc_core.specs.declared.port.Port.TheVariants.{Ipmb, Smbus}
+use Rattle.bmc_core.specs.declared.port.Pending.{Pending}
+use Rattle.bmc_core.specs.declared.port.Pending.TheVariants as pending
+use Rattle.bmc_core.specs.Outs.{done_by}
+use Rattle.bmc_core.specs.IpmbShown as ipmb
+use Rattle.bmc_core.specs.SmbusShown as smbus
+use Rattle.bmc_core.specs.SmbusHeard.{InMessage, Heard, Ignored, Waiting, Control, Asks, taken, heard_in, asked_of as message_asked, asks_of, found, asks, done_of}
+use Rattle.bmc_core.specs.Port.{asked_of, Hears, IsStep, IsTold, IsHeardThenTold}
+use Rattle.bmc_core.proofs.IpmbDeeds.{settled_does, is_new}
+use Rattle.bmc_core.proofs.IpmbLists.{heard_then_told as request_heard_then_told}
+use Rattle.bmc_core.proofs.SmbusLists.{new_one}
+use Rattle.bmc_core.proofs.SmbusPorts.{answer_for, left_after, deed_of, hears_bytes, left_new, does}
+
+-- ---- on IPMB
+
+module _ (setup : BoardFile) (before : State) where
+  settled_request : (p : PortState) (r : Request) (next : IpmbPort) (out : Out) (new : Bool) → ipmb.Settles r (ipmb.outcome_at p r) new out
+      → step.Done ≡ ipmb.next_of new r → ipmb.Shows next p → ipmb.Does (hears_request setup p before r) (done_by (ipmb.outcome_at p r)) next before out
+  settled_request p r next out false settles given shows = settled_does setup p before r next out settles shows
+  settled_request p r next out true settles given shows = let no : step.Done ≡ step.Ask r = given in absurd cc
+
+  settled_heard : (p : PortState) (heard : Result Request Reason) (next : IpmbPort) (out : Out) → ipmb.Steps p heard step.Done out → ipmb.Shows next p
+      → ipmb.Does (ipmb.deed_of setup p before heard) (ipmb.done_of p heard) next before out
+  settled_heard p (Ok r) next out is shows = settled_request p r next out is.0 is.1 is.2 shows
+  settled_heard p (Err why) next out is shows = record { shows = shows; left = refl; sent = is.1 }
+
+  ipmb_settled : (port next : IpmbPort) (bytes : List ℕ) (out : Out) → ipmb.IsStep port bytes next out step.Done → ipmb.Hears setup port before bytes out next before
+  ipmb_settled port next bytes out is p shows heard at =
+      settled_heard p heard next out (is.steps p shows heard at) (subst (λ (x : IpmbPort). ipmb.Shows x p) (sym is.stays) shows)
+
+  told_request : (p : PortState) (r : Request) (next : IpmbPort) (out : Out) → let given = answer_of setup before (asked_in r) in
+      ipmb.outcome_at p r ≡ IsNew → ipmb.Shows next (ipmb.after p r given.0) → out ≡ ipmb.answers p r given.0
+      → ipmb.Does (hears_request setup p before r) (done_by (ipmb.outcome_at p r)) next given.1 out
+  told_request p r next out is shows sent =
+      subst (λ (d : Deed). ipmb.Does d (done_by (ipmb.outcome_at p r)) next (answer_of setup before (asked_in r)).1 out)
+      (sym ((request_heard_then_told setup p before r).asked is)) (record { shows = shows; left = refl; sent = sent })
+
+  asked_request : (p : PortState) (r q : Request) (next : IpmbPort) (first out : Out) (new : Bool) → let given = answer_of setup before (asked_in q) in
+      ipmb.Settles r (ipmb.outcome_at p r) new first → step.Ask q ≡ ipmb.next_of new r → ipmb.Shows next (ipmb.after p q given.0) → out ≡ ipmb.answers p q given.0
+      → ipmb.Does (hears_request setup p before r) (done_by (ipmb.outcome_at p r)) next given.1 out
+  asked_request p r q next first out false settles given shows sent = let no : step.Ask q ≡ step.Done = given in absurd cc
+  asked_request p r q next first out true settles given shows sent =
+      let yes : step.Ask q ≡ step.Ask r = given in
+      let same : q ≡ r = cc in
+      subst (λ (x : Request). ipmb.Does (hears_request setup p before x) (done_by (ipmb.outcome_at p x)) next (answer_of setup before (asked_in q)).1 out) same
+      (told_request p q next out (subst (λ (x : Request). ipmb.outcome_at p x ≡ IsNew) (sym same) (is_new r (ipmb.outcome_at p r) first settles)) shows sent)
+
+  asked_heard : (p : PortState) (heard : Result Request Reason) (q : Request) (next : IpmbPort) (first out : Out) → let given = answer_of setup before (asked_in q) in
+      ipmb.Steps p heard (step.Ask q) first → ipmb.Shows next (ipmb.after p q given.0) → out ≡ ipmb.answers p q given.0
+      → ipmb.Does (ipmb.deed_of setup p before heard) (ipmb.done_of p heard) next given.1 out
+  asked_heard p (Ok r) q next first out is shows sent = asked_request p r q next first out is.0 is.1 is.2 shows sent
+  asked_heard p (Err why) q next first out is shows sent = let no : step.Ask q ≡ step.Done = is.0 in absurd cc
+
+  ipmb_asked : (port between next : IpmbPort) (bytes : List ℕ) (first out : Out) (q : Request) → let given = answer_of setup before (asked_in q) in
+      ipmb.IsStep port bytes between first (step.Ask q) → ipmb.IsTold between q given.0 next out → ipmb.Hears setup port before bytes out next given.1
+  ipmb_asked port between next bytes first out q is told p shows heard at =
+      let shown : ipmb.Shows between p = subst (λ (x : IpmbPort). ipmb.Shows x p) (sym is.stays) shows in
+      asked_heard p heard q next first out (is.steps p shows heard at) (told.shows p shown) (told.sent p shown)
+
+-- ---- on the System Management Bus
+
+-- a request that is asked is what was heard, and is new
+is_asked : (port : PortState) (h : Heard) (m : InMessage) → asks port h ≡ Some m → (h ≡ Asks m) × (found port m ≡ IsNew)
+is_asked port (Ignored why) m is = absurd cc
+is_asked port Waiting m is = absurd cc
+is_asked port (Control e r) m is = absurd cc
+is_asked port (Asks n) m is =
+    let so = new_one n m (found port n) is in
+    let same : Asks n ≡ Asks m = λ i. Asks (so.1 i) in
+    (same, subst (λ (x : InMessage). found port x ≡ IsNew) so.1 so.0)
+
+none_left : (before after : State) (m : InMessage) (o : Outcome) → asks_of m o ≡ None → left_by o after before ≡ before
+none_left before after m (Repeats reply) is = refl
+none_left before after m IsBusy is = refl
+none_left before after m IsNew is = absurd cc
+
+module _ (setup : BoardFile) (before : State) where
+  left_none : (port : PortState) (h : Heard) → asks port h ≡ None → left_after setup before port h ≡ before
+  left_none port (Ignored why) is = refl
+  left_none port Waiting is = refl
+  left_none port (Control e r) is = refl
+  left_none port (Asks m) is = none_left before (answer_of setup before (message_asked m)).1 m (found port m) is
+
+  done_step : (next : SmbusPort) (out : Out) (port : PortState) (h : Heard) → smbus.IsStep next out step.Done port h
+      → smbus.Does next out before (deed_of setup before port h) (done_of port h)
+  done_step next out port h is = does setup before next out before port h (is.1 (answer_for setup before h)) (left_none port h is.0)
+
+  smbus_settled : (port next : SmbusPort) (bytes : List ℕ) (out : Out) → ((p : PortState) → smbus.Shows port p → smbus.Hearing p bytes (smbus.IsStep next out step.Done))
+      → (p : PortState) → smbus.Shows port p → smbus.HearsBytes setup p before bytes next out before
+  smbus_settled port next bytes out hears p shows =
+      let h = hears p shows in
+      hears_bytes setup before p bytes next out before (record {
+        faulty = λ fault is. done_step next out p (Ignored (reason.Packet fault)) (h.faulty fault is);
+        packet = λ q is. done_step next out (taken p q) (heard_in p q) (h.packet q is);
+      })
+
+  ask_step : (between next : SmbusPort) (first out : Out) (asked : SmbusPending) (port : PortState) (h : Heard) → let given = answer_of setup before (message_asked (smbus.request_in asked)) in
+      smbus.IsStep between first (step.Ask asked) port h → ((p : PortState) → smbus.Shows between p → smbus.Ends next out p (Asks (smbus.request_in asked)) given.0)
+      → smbus.Does next out given.1 (deed_of setup before port h) (done_of port h)
+  ask_step between next first out asked port h is told =
+      let m : InMessage = smbus.request_in asked in
+      let so = is_asked port h m is.0 in
+      subst (λ (x : Heard). smbus.Does next out (answer_of setup before (message_asked m)).1 (deed_of setup before port x) (done_of port x)) (sym so.0)
+      (does setup before next out (answer_of setup before (message_asked m)).1 port (Asks m) (told port is.1) (left_new setup before port m so.1))
+
+  smbus_asked : (port between next : SmbusPort) (bytes : List ℕ) (first out : Out) (asked : SmbusPending) → let given = answer_of setup before (message_asked (smbus.request_in asked)) in
+      ((p : PortState) → smbus.Shows port p → smbus.Hearing p bytes (smbus.IsStep between first (step.Ask asked)))
+      → ((p : PortState) → smbus.Shows between p → smbus.Ends next out p (Asks (smbus.request_in asked)) given.0)
+      → (p : PortState) → smbus.Shows port p → smbus.HearsBytes setup p before bytes next out given.1
+  smbus_asked port between next bytes first out asked hears told p shows =
+      let h = hears p shows in
+      hears_bytes setup before p bytes next out (answer_of setup before (message_asked (smbus.request_in asked))).1 (record {
+        faulty = λ fault is. ask_step between next first out asked p (Ignored (reason.Packet fault)) (h.faulty fault is) told;
+        packet = λ q is. ask_step between next first out asked (taken p q) (heard_in p q) (h.packet q is) told;
+      })
+
+-- ---- on either
+
+module _ (setup : BoardFile) (before : State) (bytes : List ℕ) where
+  settled_at : (port next : Port) (out : Out) → IsStep port bytes next out step.Done → Hears setup port before bytes out next before
+  settled_at (Ipmb port) (Ipmb next) out is = ipmb_settled setup before port next bytes out is
+  settled_at (Ipmb port) (Smbus next) out is = absurd is
+  settled_at (Smbus port) (Ipmb next) out is = absurd is
+  settled_at (Smbus port) (Smbus next) out is = smbus_settled setup before port next bytes out is
+
+  asked_at : (port between next : Port) (first out : Out) (asked : Pending) → IsStep port bytes between first (step.Ask asked)
+      → let given = answer_of setup before (asked_of asked) in IsTold between asked given.0 next out → Hears setup port before bytes out next given.1
+  asked_at (Ipmb port) (Ipmb between) (Ipmb next) first out (pending.Ipmb r) is told = ipmb_asked setup before port between next bytes first out r is told
+  asked_at (Ipmb port) (Ipmb between) (Smbus next) first out (pending.Ipmb r) is told = absurd told
+  asked_at (Ipmb port) (Ipmb between) next first out (pending.Smbus m) is told = absurd is
+  asked_at (Ipmb port) (Smbus between) next first out asked is told = absurd is
+  asked_at (Smbus port) (Ipmb between) next first out asked is told = absurd is
+  asked_at (Smbus port) (Smbus between) next first out (pending.Ipmb r) is told = absurd is
+  asked_at (Smbus port) (Smbus between) (Ipmb next) first out (pending.Smbus m) is told = absurd told
+  asked_at (Smbus port) (Smbus between) (Smbus next) first out (pending.Smbus m) is told = smbus_asked setup before port between next bytes first out m is told
+
+pub heard_then_told : (setup : BoardFile) (port : Port) (before : State) (bytes : List ℕ) → IsHeardThenTold setup port before bytes
+heard_then_told setup port before bytes = record {
+  asked = λ between next first out asked is told. asked_at setup before bytes port between next first out asked is told;
+  settled = λ next out is. settled_at setup before bytes port next out is;
+}

@@ -1,0 +1,4 @@
+pub mod Requests
+pub mod Numeric
+pub mod NumericLaws
+pub mod NumericKind

@@ -1,0 +1,16 @@
+-- NumericEffecter as one value, and where it stands among all kinds.
+use Rattle.std.specs.Prelude.{ℕ}
+use Rattle.cfg_records.specs.declared.numeric_effecter.SetNumericEffecter.{SetNumericEffecter}
+use Rattle.cfg_records.specs.Kind.{Kind}
+use Rattle.cfg_records.specs.Member.{Member}
+use Rattle.effecter_recs.specs.declared.numeric.NumericLimits.{NumericLimits}
+use Rattle.effecter_recs.specs.Numeric.{words, record_words, place}
+use Rattle.effecter_recs.specs.NumericLaws.{kind_laws, record_laws}
+
+-- what it says, and that it holds
+abbrev pub kind : Kind ℕ SetNumericEffecter NumericLimits
+kind = record { words = words; record_words = record_words; kind_laws = kind_laws; record_laws = record_laws }
+
+-- the kind, and where it stands among all
+abbrev pub member : Member ℕ SetNumericEffecter NumericLimits
+member = record { kind = kind; place = place }
