@@ -153,6 +153,12 @@ fn events_stay_out_of_the_log_where_the_enables_say_so(rt: HostRuntime) -> Resul
     );
     let info = [0x51, 0, 0, 32, 0, 0, 0, 0, 0, 0, 0, 0, 0, 0x02];
     expect(&rt, &mut board, STORAGE, 0x40, &[], 0, &info);
+    // Once the enables are set, upper critical is crossed again.
+    expect(&rt, &mut board, APPLICATION, 0x2E, &[0x08], 0, &[]);
+    read(&rt, &mut board, 0x10);
+    read(&rt, &mut board, 0x60);
+    let info = [0x51, 1, 0, 16, 0, 0, 0, 0, 0, 0, 0, 0, 0, 0x02];
+    expect(&rt, &mut board, STORAGE, 0x40, &[], 0, &info);
     Ok(())
 }
 
