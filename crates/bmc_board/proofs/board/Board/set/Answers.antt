@@ -1,7 +1,10 @@
-use Rattle.std.proofs.Common.{rules, ◌≡◌, List, ℕ, Some, sym, ◌∙◌, subst}
+use Rattle.std.proofs.Common.{rules, ◌≡◌, List, length, ℕ, Some, sym, ◌∙◌, subst}
+use Rattle.std.specs.Bool.{IsTrue}
+use Rattle.cfg_records.specs.Keys.{is_length}
 use Rattle.cfg_records.specs.Records.{Records, with_record}
 use Rattle.cfg_records.specs.declared.key.Key.{Key}
 use Rattle.record_kinds.specs.Limits.{key_of, is_of, valid, sets}
+use Rattle.record_kinds.specs.LimitsLaws.{record_laws}
 use Rattle.record_kinds.specs.Boards.{limits_at}
 use Rattle.record_kinds.specs.Sound.{IsSound}
 use Rattle.record_kinds.specs.SoundLaws.{valid_at, sound_set}
@@ -18,6 +21,16 @@ apply-requires g c =
     let of_record : is_of limits (key_of c.args.op.now) = subst (λ (k : Key). is_of limits k) c.key-key.ensures (limits_are_of file key limits at) in
     let is_valid : valid limits c.value.result.now = valid_at _ _ limits c.value.result.now at had (c.args.self.now.sound key) in
     search rules
+
+pub write-requires : goal.write-requires
+write-requires g c =
+    let key : Key = c.key-key.result in
+    let limits = c.in-Some-Some.limits in
+    let old : List ℕ = c.value.result.now in
+    let new : List ℕ = c.as_slice.result.now in
+    let done : sets limits c.args.op.now old new = subst (sets limits c.args.op.now old) (sym c.as_slice.ensures.value) c.in_ok-apply-in-Some-Some.ensures.decides in
+    let fits : IsTrue (is_length (key_of c.args.op.now) (length new)) = (record_laws limits).fits c.args.op.now old new done in
+    (key, sym c.find.ensures.place ∙ c.in-Some-Some.is-1, subst (λ (k : Key). IsTrue (is_length k (length new))) (sym c.key-key.ensures) fits)
 
 pub invariant_of-self-in-Some-Some : goal.invariant_of-self-in-Some-Some
 invariant_of-self-in-Some-Some g c =
