@@ -1,10 +1,10 @@
-use Rattle.std.proofs.Common.{rules, ◌≡◌, List, length, ℕ, Some, sym, ◌∙◌, subst}
+use Rattle.std.proofs.Common.{rules, ◌≡◌, List, ℕ, length, Some, sym, ◌∙◌, subst}
 use Rattle.std.specs.Bool.{IsTrue}
 use Rattle.cfg_records.specs.Keys.{is_length}
+use Rattle.record_kinds.specs.LimitsLaws as laws
 use Rattle.cfg_records.specs.Records.{Records, with_record}
 use Rattle.cfg_records.specs.declared.key.Key.{Key}
 use Rattle.record_kinds.specs.Limits.{key_of, is_of, valid, sets}
-use Rattle.record_kinds.specs.LimitsLaws.{record_laws}
 use Rattle.record_kinds.specs.Boards.{limits_at}
 use Rattle.record_kinds.specs.Sound.{IsSound}
 use Rattle.record_kinds.specs.SoundLaws.{valid_at, sound_set}
@@ -29,7 +29,7 @@ write-requires g c =
     let old : List ℕ = c.value.result.now in
     let new : List ℕ = c.as_slice.result.now in
     let done : sets limits c.args.op.now old new = subst (sets limits c.args.op.now old) (sym c.as_slice.ensures.value) c.in_ok-apply-in-Some-Some.ensures.decides in
-    let fits : IsTrue (is_length (key_of c.args.op.now) (length new)) = (record_laws limits).fits c.args.op.now old new done in
+    let fits : IsTrue (is_length (key_of c.args.op.now) (length new)) = (laws.record_laws limits).fits c.args.op.now old new done in
     (key, sym c.find.ensures.place ∙ c.in-Some-Some.is-1, subst (λ (k : Key). IsTrue (is_length k (length new))) (sym c.key-key.ensures) fits)
 
 pub invariant_of-self-in-Some-Some : goal.invariant_of-self-in-Some-Some
