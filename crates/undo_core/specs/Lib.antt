@@ -2,5 +2,6 @@ pub mod Counted
 pub mod Bounds
 pub mod Phases
 pub mod PhaseNames
+pub mod Frames
 pub mod Shown
 pub mod Exchange

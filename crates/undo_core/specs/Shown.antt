@@ -1,5 +1,6 @@
 -- The machine that a manager shows, and the packets that wait at it.
 use Rattle.std.specs.Prelude.{◌≡◌, Result, Ok, Err, suc, ◌%◌, ◌<◌, Bool, List, ◌∷◌, length, map, take, reverse, Option, Some, None, slice_get, if◌then◌else◌}
+use Rattle.std.specs.List.{AllZip}
 use Rattle.cfg_records.specs.declared.op.Op.{Op}
 use Rattle.cfg_records.specs.declared.message.Asked.{Asked}
 use Rattle.plans.specs.declared.names.Names.{Names}
@@ -17,6 +18,7 @@ use Rattle.undo_core.specs.declared.stage.Stage.{Stage}
 use Rattle.undo_core.specs.declared.stage.Stage.TheVariants as stage
 use Rattle.undo_core.specs.declared.sending.Sent.{Sent}
 use Rattle.undo_core.specs.declared.manager.Manager.{Manager}
+use Rattle.undo_core.specs.Frames.{IsFrameOn}
 use Rattle.undo_core.specs.Counted.{counts_of}
 use Rattle.undo_core.specs.Phases.{why_of}
 
@@ -65,9 +67,11 @@ pub record Shows (names : Names) (m : Manager) (s : ManagerState (board_plans na
   pub instance : m.undo.next.smbus ≡ m.counts.smbus % 32
   pub joined : s.joined ≡ seen m.joined
 
--- frames that the manager sends
+-- The manager sends what the machine sends: on its bus, as that request, the frames of its values. Each frame is read as its value.
 abbrev pub IsSent : Option Sent → Option AllSent → Type 0
-IsSent (Some r) (Some s) = (r.bus ≡ s.on) × (r.request ≡ s.request) × (r.frames.items ≡ map written s.values)
+IsSent (Some r) (Some s) =
+    (r.bus ≡ s.on) × (r.request ≡ s.request) × (r.frames.items ≡ map written s.values)
+    × AllZip (IsFrameOn s.on) s.values r.frames.items
 IsSent None None = Unit {0}
 IsSent _ _ = ⊥
 
