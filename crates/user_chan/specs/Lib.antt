@@ -1,0 +1,3 @@
+pub mod Passwords
+pub mod UserAccess
+pub mod ChannelAccess
