@@ -26,6 +26,7 @@ fn sensor(number: u8) -> Sensor
 {
     Sensor {
         number,
+        sensor_type: 0x01,
         thresholds: Thresholds {
             masks: ThresholdMasks {
                 readable: 0x3F,

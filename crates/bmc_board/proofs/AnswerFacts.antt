@@ -22,62 +22,63 @@ use Rattle.bmc_board.specs.Request.{Request}
 use Rattle.bmc_board.specs.Request.{Live, Get, Set}
 use Rattle.bmc_board.specs.Table.{is_changing}
 use Rattle.bmc_board.specs.Request.{asked_by}
-use Rattle.bmc_board.specs.State.{State, IsUnchanged}
+use Rattle.bmc_board.specs.State.{State}
+use Rattle.bmc_board.specs.Leaves.{Leaves}
 use Rattle.bmc_board.specs.Replies.{done, refused, unknown_code}
 use Rattle.bmc_board.specs.Room.{longest_reply}
 use Rattle.bmc_board.specs.Answer.{Given, get_answer, set_result, set_answer, serve, reply, answer_of}
-use Rattle.bmc_board.specs.AnyAnswer.{IsCode, NeverBusy, RefusedIsUnchanged, StaysSound, AnswersFit}
+use Rattle.bmc_board.specs.AnyAnswer.{IsCode, NeverBusy, RefusedLeaves, StaysSound, AnswersFit}
 use Rattle.bmc_board.proofs.AskedFacts.{code_of, IsRight, asked_right}
 use Rattle.bmc_board.proofs.LiveFacts.{refusal_code, unknown_is_refused, are_live}
 
--- ---- its code is not a busy controller's, and a refusal changes nothing
+-- ---- its code is not a busy controller's, and what a refusal leaves
 
-record IsProper (before : State) (given : Given) : Type 0 where
+record IsProper (r : Result Request ℕ) (before : State) (given : Given) : Type 0 where
   has_code : IsCode given.0.code
-  unchanged : given.0.code ≢ success → IsUnchanged before given.1
+  left : given.0.code ≢ success → Leaves r given.0.code before given.1
 
-done_proper : (before after : State) (body : List ℕ) → IsProper before (done body, after)
-done_proper before after body = record { has_code = code_of success refl; unchanged = λ fault. absurd (fault refl) }
+done_proper : (r : Result Request ℕ) (before after : State) (body : List ℕ) → IsProper r before (done body, after)
+done_proper r before after body = record { has_code = code_of success refl; left = λ fault. absurd (fault refl) }
 
-refused_proper : (before : State) (fault : ℕ) → IsCode fault → IsProper before (refused fault, before)
-refused_proper before fault is = record { has_code = is; unchanged = λ _. refl }
+refused_proper : (r : Result Request ℕ) (before : State) (fault : ℕ) → IsCode fault → Leaves r fault before before → IsProper r before (refused fault, before)
+refused_proper r before fault is stays = record { has_code = is; left = λ _. stays }
 
-get_proper : (limits : Option Limits) (value : Option (List ℕ)) (live : LivePart) (unknown : ℕ) (before : State) → IsCode unknown → IsProper before (get_answer limits value live unknown, before)
-get_proper (Some limits) (Some value) live unknown before is = done_proper before before _
-get_proper (Some limits) None live unknown before is = refused_proper before unknown is
-get_proper None (Some value) live unknown before is = refused_proper before unknown is
-get_proper None None live unknown before is = refused_proper before unknown is
+get_proper : (key : Key) (limits : Option Limits) (value : Option (List ℕ)) (live : LivePart) (unknown : ℕ) (before : State) → IsCode unknown → IsProper (Ok (Get key)) before (get_answer limits value live unknown, before)
+get_proper key (Some limits) (Some value) live unknown before is = done_proper (Ok (Get key)) before before _
+get_proper key (Some limits) None live unknown before is = refused_proper (Ok (Get key)) before unknown is refl
+get_proper key None (Some value) live unknown before is = refused_proper (Ok (Get key)) before unknown is refl
+get_proper key None None live unknown before is = refused_proper (Ok (Get key)) before unknown is refl
 
-result_proper : (limits : Limits) (old : List ℕ) (op : Op) (before : State) (r : Result (List ℕ) ℕ) → outcome limits op old ≡ r → IsProper before (set_result r op before)
-result_proper limits old op before (Ok new) e = done_proper before _ _
-result_proper limits old op before (Err fault) e = refused_proper before fault (refusal_code fault ((laws.record_laws limits).refuses op old fault e))
+result_proper : (limits : Limits) (old : List ℕ) (op : Op) (before : State) (r : Result (List ℕ) ℕ) → outcome limits op old ≡ r → IsProper (Ok (Set op)) before (set_result r op before)
+result_proper limits old op before (Ok new) e = done_proper (Ok (Set op)) before _ _
+result_proper limits old op before (Err fault) e = refused_proper (Ok (Set op)) before fault (refusal_code fault ((laws.record_laws limits).refuses op old fault e)) refl
 
-set_proper : (limits : Option Limits) (value : Option (List ℕ)) (unknown : ℕ) (op : Op) (before : State) → IsCode unknown → IsProper before (set_answer limits value unknown op before)
+set_proper : (limits : Option Limits) (value : Option (List ℕ)) (unknown : ℕ) (op : Op) (before : State) → IsCode unknown → IsProper (Ok (Set op)) before (set_answer limits value unknown op before)
 set_proper (Some limits) (Some old) unknown op before is = result_proper limits old op before (outcome limits op old) refl
-set_proper (Some limits) None unknown op before is = refused_proper before unknown is
-set_proper None (Some old) unknown op before is = refused_proper before unknown is
-set_proper None None unknown op before is = refused_proper before unknown is
+set_proper (Some limits) None unknown op before is = refused_proper (Ok (Set op)) before unknown is refl
+set_proper None (Some old) unknown op before is = refused_proper (Ok (Set op)) before unknown is refl
+set_proper None None unknown op before is = refused_proper (Ok (Set op)) before unknown is refl
 
 unknown_is_code : (setup : BoardFile) (key : Key) → IsCode (unknown_code setup key)
 unknown_is_code setup key = refusal_code _ (unknown_is_refused setup key)
 
-serve_proper : (setup : BoardFile) (before : State) (request : Request) → IsProper before (serve setup before request)
-serve_proper setup before (Live command) = let is = are_live setup before.records before.activity command in record { has_code = is.has_code; unchanged = is.unchanged }
-serve_proper setup before (Get key) = get_proper _ _ before.activity.live _ before (unknown_is_code setup key)
+serve_proper : (setup : BoardFile) (before : State) (request : Request) → IsProper (Ok request) before (serve setup before request)
+serve_proper setup before (Live command body) = let is = are_live setup before.records before.activity command body in record { has_code = is.has_code; left = is.left }
+serve_proper setup before (Get key) = get_proper key _ _ before.activity.live _ before (unknown_is_code setup key)
 serve_proper setup before (Set op) = set_proper _ _ _ op before (unknown_is_code setup (key_of op))
 
-reply_proper : (setup : BoardFile) (before : State) (room : ℕ) (changing : Bool) (r : Result Request ℕ) → IsRight room changing r → IsProper before (reply setup before r)
+reply_proper : (setup : BoardFile) (before : State) (room : ℕ) (changing : Bool) (r : Result Request ℕ) → IsRight room changing r → IsProper r before (reply setup before r)
 reply_proper setup before room changing (Ok request) right = serve_proper setup before request
-reply_proper setup before room changing (Err fault) right = refused_proper before fault right
+reply_proper setup before room changing (Err fault) right = refused_proper (Err fault) before fault right refl
 
-answer_proper : (setup : BoardFile) (before : State) (asked : Asked) → IsProper before (answer_of setup before asked)
+answer_proper : (setup : BoardFile) (before : State) (asked : Asked) → IsProper (asked_by asked) before (answer_of setup before asked)
 answer_proper setup before asked = reply_proper setup before (room_for asked) (is_changing asked) (asked_by asked) (asked_right asked)
 
 pub never_busy : NeverBusy
 never_busy setup before asked = (answer_proper setup before asked).has_code
 
-pub refused_is_unchanged : RefusedIsUnchanged
-refused_is_unchanged setup before asked = (answer_proper setup before asked).unchanged
+pub refused_leaves : RefusedLeaves
+refused_leaves setup before asked = (answer_proper setup before asked).left
 
 -- ---- limits are those of a record with the key
 
@@ -130,7 +131,7 @@ set_fit setup room None (Some old) unknown op before sound at had le = refused_f
 set_fit setup room None None unknown op before sound at had le = refused_fit setup room unknown before sound
 
 serve_fit : (setup : BoardFile) (before : State) (request : Request) (room : ℕ) → IsSound setup before.records → longest_reply request ≤ room → IsFit setup room (serve setup before request)
-serve_fit setup before (Live command) room sound has = record { short = omega (arith, (are_live setup before.records before.activity command).short, has); sound = sound }
+serve_fit setup before (Live command body) room sound has = record { short = omega (arith, (are_live setup before.records before.activity command body).short, has); sound = sound }
 serve_fit setup before (Get key) room sound has = record { short = get_short (limits_at setup key) (before.records key) before.activity.live (unknown_code setup key) key room (limits_are_of setup key) (sound key) has; sound = sound }
 serve_fit setup before (Set op) room sound has = set_fit setup room _ _ _ op before sound refl refl has
 

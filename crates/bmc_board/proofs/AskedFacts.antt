@@ -126,7 +126,7 @@ code_of code e = let parts = both _ _ e in record { not_busy = differ _ _ parts.
 
 quiet_where : (changing : Bool) (request : Request) → (changing || is_quiet request) ≡ true → changing ≡ false → IsQuiet request
 quiet_where true request e h = cc
-quiet_where false (Live command) e h = tt
+quiet_where false (Live command body) e h = tt
 quiet_where false (Get key) e h = tt
 quiet_where false (Set op) e h = cc
 

@@ -1,5 +1,7 @@
 pub mod AskedFacts
 pub mod LiveFacts
+pub mod LogFacts
+pub mod SensingFacts
 pub mod AnswerFacts
 pub mod OneAnswer
 pub mod Decoded

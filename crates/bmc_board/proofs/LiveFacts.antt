@@ -1,15 +1,31 @@
 -- What every live command has in common: a line for each.
-use Rattle.std.proofs.Common.{◌≤◌, ℕ, List, [], length, Option, Some, None, Bool, true, false, ◌==◌, if◌then◌else◌, refl, arith, lit≤}
-use Rattle.two_wire.specs.Codes.{success, uninitialized_watchdog, invalid_data_field}
+use Rattle.std.proofs.Common.{◌≡◌, ◌≤◌, ◌<◌, ◌-◌, ℕ, nat_lt, List, [], ◌∷◌, ◌++◌, length, take, drop, Option, Some, None, Result, Ok, Err, Bool, true, false, if◌then◌else◌, ◌==◌, not, refl, arith, lit≤}
+use Rattle.std.proofs.lemmas.Bool.Decides.{nat_tests}
+use Rattle.std.proofs.lemmas.List.{length-take}
+use Rattle.std.specs.Int.{w16, to_le_bytes}
+use Rattle.two_wire.specs.Codes.{success, uninitialized_watchdog, out_of_space, reservation_canceled, out_of_range, too_many_bytes, not_present, invalid_data_field}
 use Rattle.cfg_records.specs.Meaning.{IsRefusal}
 use Rattle.cfg_records.specs.Records.{Records}
+use Rattle.cfg_records.specs.Requests.{byte_at}
 use Rattle.cfg_records.specs.declared.key.Key.TheVariants as key
+use Rattle.cfg_records.specs.declared.sensor.Sensor.{Sensor}
+use Rattle.sel_log.specs.LogRecord.{kept}
+use Rattle.sel_log.specs.Reservations.{is_present}
+use Rattle.sel_log.specs.Log.{Log, after_clear, is_full, next_id}
+use Rattle.sensor_recs.specs.declared.compared.Taken.{Taken}
 use Rattle.watch_boot.specs.Watchdog.{was_set, live_after_reset}
 use Rattle.bmc_board.specs.declared.activity.Activity.{Activity}
+use Rattle.bmc_board.specs.declared.storage.PartAsked.{PartAsked}
+use Rattle.bmc_board.specs.declared.live.LiveCommand.{LiveCommand}
 use Rattle.bmc_board.specs.declared.live.LiveCommand.TheVariants as live
+use Rattle.bmc_board.specs.Request.{Live}
+use Rattle.bmc_board.specs.State.{State, state}
+use Rattle.bmc_board.specs.Leaves.{Leaves}
+use Rattle.bmc_board.specs.Storage.{most_shown, part_in, part_length, part_shown, record_in, id_reply, erased, says_clear, word_at}
+use Rattle.bmc_board.specs.Sensing.{reading_of}
 use Rattle.bmc_board.specs.Replies.{done, refused}
 use Rattle.bmc_board.specs.AnyAnswer.{IsCode, UnknownIsRefused}
-use Rattle.bmc_board.specs.Live.{reset_answer, already_in_progress, with_progress, begun, progress_answer, longest_live_reply}
+use Rattle.bmc_board.specs.Live.{reset_answer, already_in_progress, with_progress, begun, progress_answer, with_log, longest_live_reply}
 use Rattle.bmc_board.specs.AnyLive.{IsLive, AreLive}
 use Rattle.bmc_board.proofs.AskedFacts.{code_of}
 
@@ -42,40 +58,113 @@ unknown_is_refused setup _ = not_present_refuses
 -- ---- live commands
 
 -- a command that is always carried out
-is_done : (records : Records) (before after : Activity) (body : List ℕ) → length body ≤ longest_live_reply → IsLive records before (done body, after)
-is_done records before after body short = record { has_code = code_of success refl; short = short; unchanged = λ fault. absurd (fault refl) }
+is_done : (command : LiveCommand) (asked : List ℕ) (records : Records) (before after : Activity) (body : List ℕ) → length body ≤ longest_live_reply → IsLive command asked records before (done body, after)
+is_done command asked records before after body short = record { has_code = code_of success refl; short = short; left = λ fault. absurd (fault refl) }
 
-is_refused : (records : Records) (before : Activity) (fault : ℕ) → IsCode fault → IsLive records before (refused fault, before)
-is_refused records before fault is = record { has_code = is; short = omega arith; unchanged = λ _. refl }
+-- a refusal of the command leaves the state as it was
+abbrev Stays : LiveCommand → List ℕ → State → Type 0
+Stays command asked before = (code : ℕ) → Leaves (Ok (Live command asked)) code before before
 
-reset_where : (records : Records) (value : List ℕ) (before : Activity) (b : Bool)
-    → IsLive records before (if b then (done [], record before { live = live_after_reset value before.live }) else (refused uninitialized_watchdog, before))
-reset_where records value before true = is_done records before _ [] (omega arith)
-reset_where records value before false = is_refused records before _ (code_of uninitialized_watchdog refl)
+is_refused : (command : LiveCommand) (asked : List ℕ) (records : Records) (before : Activity) (fault : ℕ) → IsCode fault → Stays command asked (state records before) → IsLive command asked records before (refused fault, before)
+is_refused command asked records before fault is stays = record { has_code = is; short = omega arith; left = λ _. stays fault }
 
-resets : (records : Records) (value : Option (List ℕ)) (unknown : ℕ) (before : Activity) → IsCode unknown → IsLive records before (reset_answer value unknown before)
-resets records (Some value) unknown before is = reset_where records value before (was_set value)
-resets records None unknown before is = is_refused records before unknown is
+reset_where : (asked : List ℕ) (records : Records) (value : List ℕ) (before : Activity) (b : Bool)
+    → IsLive live.ResetWatchdog asked records before (if b then (done [], record before { live = live_after_reset value before.live }) else (refused uninitialized_watchdog, before))
+reset_where asked records value before true = is_done live.ResetWatchdog asked records before _ [] (omega arith)
+reset_where asked records value before false = is_refused live.ResetWatchdog asked records before _ (code_of uninitialized_watchdog refl) (λ code. refl)
 
-progress_where : (records : Records) (before : Activity) (progress : Bool) → IsLive records before (begun progress before)
-progress_where records before true = is_refused records before _ (code_of already_in_progress refl)
-progress_where records before false = is_done records before _ [] (omega arith)
+resets : (asked : List ℕ) (records : Records) (value : Option (List ℕ)) (unknown : ℕ) (before : Activity) → IsCode unknown → IsLive live.ResetWatchdog asked records before (reset_answer value unknown before)
+resets asked records (Some value) unknown before is = reset_where asked records value before (was_set value)
+resets asked records None unknown before is = is_refused live.ResetWatchdog asked records before unknown is (λ code. refl)
 
-progress_tests : (records : Records) (before : Activity) (a b : Bool)
-    → IsLive records before (if a then (done [], with_progress before false) else (if b then begun before.boot_progress before else (refused invalid_data_field, before)))
-progress_tests records before true b = is_done records before _ [] (omega arith)
-progress_tests records before false true = progress_where records before before.boot_progress
-progress_tests records before false false = is_refused records before _ (code_of invalid_data_field refl)
+reads : (asked : List ℕ) (records : Records) (before : Activity) (sensor : Option Sensor) (unknown : ℕ) (events : List ℕ) (last : Option Taken) → IsCode unknown
+    → IsLive live.GetSensorReading asked records before (reading_of sensor unknown events last, before)
+reads asked records before (Some s) unknown events last is = is_done live.GetSensorReading asked records before before _ (lit≤ tt)
+reads asked records before None unknown events last is = is_refused live.GetSensorReading asked records before unknown is (λ code. refl)
 
-progresses : (records : Records) (before : Activity) (byte : Option ℕ) → IsLive records before (progress_answer byte before)
-progresses records before None = is_done records before before [] (omega arith)
-progresses records before (Some byte) = progress_tests records before (byte == 0) (byte == 1)
+not_above : (m n : ℕ) → nat_lt m n ≡ false → n ≤ m
+not_above m n h = grind (arith, nat_tests)
+
+take_few : (n : ℕ) (xs : List ℕ) → length (take n xs) ≤ n
+take_few n xs = omega (arith, length-take n xs)
+
+few_shown : (part : PartAsked) (bytes : List ℕ) (next : ℕ) → nat_lt most_shown (part_length part (length bytes - part.offset)) ≡ false
+    → length (to_le_bytes w16 next ++ take (part_length part (length bytes - part.offset)) (drop part.offset bytes)) ≤ longest_live_reply
+few_shown part bytes next within =
+    let shown = part_length part (length bytes - part.offset) in
+    let few : shown ≤ 22 = not_above 22 shown within in
+    let cut : length (take shown (drop part.offset bytes)) ≤ shown = take_few shown (drop part.offset bytes) in
+    omega (arith, few, cut)
+
+part_where : (command : LiveCommand) (asked : List ℕ) (records : Records) (before : Activity) (a b c : Bool) (shown : List ℕ) → (c ≡ false → length shown ≤ longest_live_reply) → Stays command asked (state records before)
+    → IsLive command asked records before ((if a then refused reservation_canceled else (if b then refused out_of_range else (if c then refused too_many_bytes else done shown))), before)
+part_where command asked records before true b c shown short stays = is_refused command asked records before _ (code_of reservation_canceled refl) stays
+part_where command asked records before false true c shown short stays = is_refused command asked records before _ (code_of out_of_range refl) stays
+part_where command asked records before false false true shown short stays = is_refused command asked records before _ (code_of too_many_bytes refl) stays
+part_where command asked records before false false false shown short stays = is_done command asked records before before shown (short refl)
+
+shows_part : (command : LiveCommand) (asked : List ℕ) (records : Records) (before : Activity) (part : PartAsked) (reserved : Bool) (bytes : Option (List ℕ)) (next : ℕ) → Stays command asked (state records before)
+    → IsLive command asked records before (part_shown part reserved bytes next, before)
+shows_part command asked records before part reserved (Some bytes) next stays =
+    part_where command asked records before _ _ _ _ (few_shown part bytes next) stays
+shows_part command asked records before part reserved None next stays = is_refused command asked records before _ (code_of not_present refl) stays
+
+add_where : (asked : List ℕ) (records : Records) (before : Activity) (b : Bool) → is_full before.log ≡ b
+    → IsLive live.AddSelEntry asked records before (with_log before (
+      id_reply (if b then Err out_of_space else Ok (next_id before.log)),
+      if b then record before.log { overflow = true } else record before.log { records = before.log.records ++ kept (next_id before.log) before.log.clock.seconds (record_in asked) ∷ []; last_add = before.log.clock.seconds },
+    ))
+add_where asked records before true full = record {
+  has_code = code_of out_of_space refl;
+  short = omega arith;
+  left = λ fault. record { is_out_of_space = refl; was_full = full; left = refl };
+}
+add_where asked records before false full = is_done live.AddSelEntry asked records before _ _ (lit≤ tt)
+
+clear_where : (asked : List ℕ) (records : Records) (before : Activity) (emptied : Log) (a b c d : Bool)
+    → IsLive live.ClearSel asked records before (with_log before (
+    if a then (refused reservation_canceled, before.log)
+    else (if b then (refused invalid_data_field, before.log)
+    else (if c then (erased, emptied) else (if d then (erased, before.log) else (refused invalid_data_field, before.log))))))
+clear_where asked records before emptied true b c d = is_refused live.ClearSel asked records before _ (code_of reservation_canceled refl) (λ code. refl)
+clear_where asked records before emptied false true c d = is_refused live.ClearSel asked records before _ (code_of invalid_data_field refl) (λ code. refl)
+clear_where asked records before emptied false false true d = is_done live.ClearSel asked records before _ _ (lit≤ tt)
+clear_where asked records before emptied false false false true = is_done live.ClearSel asked records before before _ (lit≤ tt)
+clear_where asked records before emptied false false false false = is_refused live.ClearSel asked records before _ (code_of invalid_data_field refl) (λ code. refl)
+
+progress_where : (command : LiveCommand) (asked : List ℕ) (records : Records) (before : Activity) (progress : Bool) → Stays command asked (state records before)
+    → IsLive command asked records before (begun progress before)
+progress_where command asked records before true stays = is_refused command asked records before _ (code_of already_in_progress refl) stays
+progress_where command asked records before false stays = is_done command asked records before _ [] (omega arith)
+
+progress_tests : (command : LiveCommand) (asked : List ℕ) (records : Records) (before : Activity) (a b : Bool) → Stays command asked (state records before)
+    → IsLive command asked records before (if a then (done [], with_progress before false) else (if b then begun before.boot_progress before else (refused invalid_data_field, before)))
+progress_tests command asked records before true b stays = is_done command asked records before _ [] (omega arith)
+progress_tests command asked records before false true stays = progress_where command asked records before before.boot_progress stays
+progress_tests command asked records before false false stays = is_refused command asked records before _ (code_of invalid_data_field refl) stays
+
+progresses : (command : LiveCommand) (asked : List ℕ) (records : Records) (before : Activity) (byte : Option ℕ) → Stays command asked (state records before)
+    → IsLive command asked records before (progress_answer byte before)
+progresses command asked records before None stays = is_done command asked records before before [] (omega arith)
+progresses command asked records before (Some byte) stays = progress_tests command asked records before (byte == 0) (byte == 1) stays
 
 pub are_live : AreLive
-are_live setup records before live.GetDeviceId = is_done records before before _ (lit≤ tt)
-are_live setup records before live.GetSelfTestResults = is_done records before before _ (lit≤ tt)
-are_live setup records before live.ResetWatchdog = resets records (records key.Watchdog) _ before (refusal_code _ (unknown_is_refused setup key.Watchdog))
-are_live setup records before (live.SetBootProgress byte) = progresses records before byte
-are_live setup records before live.GetBootProgress = is_done records before before _ (lit≤ tt)
-are_live setup records before live.GetTid = is_done records before before _ (lit≤ tt)
-are_live setup records before live.GetPldmTypes = is_done records before before _ (lit≤ tt)
+are_live setup records before live.GetDeviceId asked = is_done live.GetDeviceId asked records before before _ (lit≤ tt)
+are_live setup records before live.GetSelfTestResults asked = is_done live.GetSelfTestResults asked records before before _ (lit≤ tt)
+are_live setup records before live.ResetWatchdog asked = resets asked records (records key.Watchdog) _ before (refusal_code _ (unknown_is_refused setup key.Watchdog))
+are_live setup records before live.GetSensorReading asked = reads asked records before _ _ _ _ (refusal_code _ (unknown_is_refused setup (key.EventEnable (byte_at asked 0))))
+are_live setup records before live.GetSdrRepositoryInfo asked = is_done live.GetSdrRepositoryInfo asked records before before _ (lit≤ tt)
+are_live setup records before live.ReserveSdrRepository asked = is_done live.ReserveSdrRepository asked records before _ _ (lit≤ tt)
+are_live setup records before live.GetSdr asked = shows_part live.GetSdr asked records before (part_in asked) _ _ _ (λ code. refl)
+are_live setup records before live.GetSelInfo asked = is_done live.GetSelInfo asked records before before _ (lit≤ tt)
+are_live setup records before live.ReserveSel asked = is_done live.ReserveSel asked records before _ _ (lit≤ tt)
+are_live setup records before live.GetSelEntry asked = shows_part live.GetSelEntry asked records before (part_in asked) _ _ _ (λ code. refl)
+are_live setup records before live.AddSelEntry asked = add_where asked records before (is_full before.log) refl
+are_live setup records before live.ClearSel asked =
+    clear_where asked records before (after_clear before.log (word_at asked 0)) (not (is_present before.log.reservations (word_at asked 0))) (not (says_clear asked)) (byte_at asked 5 == 0xAA) (byte_at asked 5 == 0x00)
+are_live setup records before live.GetSelTime asked = is_done live.GetSelTime asked records before before _ (lit≤ tt)
+are_live setup records before live.SetSelTime asked = is_done live.SetSelTime asked records before _ [] (omega arith)
+are_live setup records before (live.SetBootProgress byte) asked = progresses (live.SetBootProgress byte) asked records before byte (λ code. refl)
+are_live setup records before live.GetBootProgress asked = is_done live.GetBootProgress asked records before before _ (lit≤ tt)
+are_live setup records before live.GetTid asked = is_done live.GetTid asked records before before _ (lit≤ tt)
+are_live setup records before live.GetPldmTypes asked = is_done live.GetPldmTypes asked records before before _ (lit≤ tt)

@@ -36,7 +36,7 @@ sets_answer None (Some old) unknown op before = (refl, refl)
 sets_answer None None unknown op before = (refl, refl)
 
 serves : (setup : BoardFile) (before : State) (request : Request) → Serves setup before request (serve setup before request).0 (serve setup before request).1
-serves setup before (Live command) = refl
+serves setup before (Live command body) = refl
 serves setup before (Get key) = refl
 serves setup before (Set op) = sets_answer _ _ _ op before
 
@@ -66,7 +66,7 @@ sets_once None (Some old) unknown op before answered after h = pair _ _ _ _ h.0 
 sets_once None None unknown op before answered after h = pair _ _ _ _ h.0 h.1
 
 serves_once : (setup : BoardFile) (before : State) (request : Request) (answered : Answered) (after : State) → Serves setup before request answered after → Is answered after (serve setup before request)
-serves_once setup before (Live command) answered after h = h
+serves_once setup before (Live command body) answered after h = h
 serves_once setup before (Get key) answered after h = h
 serves_once setup before (Set op) answered after h = sets_once _ _ _ op before answered after h
 

@@ -13,7 +13,7 @@ use Rattle.bmc_board.specs.Quiet.{KeepsRecords}
 use Rattle.bmc_board.proofs.AskedFacts.{IsQuiet, IsRight, asked_right}
 
 served_quietly : (setup : BoardFile) (before : State) (request : Request) (answered : Answered) (after : State) → IsQuiet request → Serves setup before request answered after → after.records ≡ before.records
-served_quietly setup before (Live command) answered after quiet row = ap (λ (g : Given). g.1.records) row
+served_quietly setup before (Live command body) answered after quiet row = ap (λ (g : Given). g.1.records) row
 served_quietly setup before (Get key) answered after quiet row = ap (λ (g : Given). g.1.records) row
 served_quietly setup before (Set op) answered after quiet row = absurd quiet
 

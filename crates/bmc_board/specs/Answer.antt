@@ -46,7 +46,7 @@ set_answer _ _ unknown op before = (refused unknown, before)
 
 -- one line for each form of what can be asked for
 abbrev pub serve : BoardFile → State → Request → Given
-serve setup before (Live command) = with_records before (live_answer setup before.records before.activity command)
+serve setup before (Live command body) = with_records before (live_answer setup before.records before.activity command body)
 serve setup before (Get key) = (get_answer (limits_at setup key) (before.records key) before.activity.live (unknown_code setup key), before)
 serve setup before (Set op) = set_answer (limits_at setup (key_of op)) (before.records (key_of op)) (unknown_code setup (key_of op)) op before
 

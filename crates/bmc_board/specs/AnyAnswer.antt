@@ -7,7 +7,9 @@ use Rattle.cfg_records.specs.declared.message.Asked.{Asked}
 use Rattle.cfg_records.specs.declared.message.Answered.{Answered}
 use Rattle.cfg_records.specs.declared.board_file.BoardFile.{BoardFile}
 use Rattle.record_kinds.specs.Sound.{IsSound}
-use Rattle.bmc_board.specs.State.{State, IsUnchanged}
+use Rattle.bmc_board.specs.Request.{asked_by}
+use Rattle.bmc_board.specs.State.{State}
+use Rattle.bmc_board.specs.Leaves.{Leaves}
 use Rattle.bmc_board.specs.Replies.{unknown_code}
 use Rattle.bmc_board.specs.Answer.{answer_of}
 use Rattle.bmc_board.specs.Row.{Is, Row}
@@ -33,9 +35,10 @@ NeverBusy = (setup : BoardFile) (before : State) (asked : Asked) → IsCode (ans
 abbrev pub UnknownIsRefused : Type 0
 UnknownIsRefused = (setup : BoardFile) (key : Key) → IsRefusal (unknown_code setup key)
 
--- a refused request leaves what was there
-abbrev pub RefusedIsUnchanged : Type 0
-RefusedIsUnchanged = (setup : BoardFile) (before : State) (asked : Asked) → (answer_of setup before asked).0.code ≢ success → IsUnchanged before (answer_of setup before asked).1
+-- a refused request leaves what was there, but for the log's note of an overflow
+abbrev pub RefusedLeaves : Type 0
+RefusedLeaves = (setup : BoardFile) (before : State) (asked : Asked) → (answer_of setup before asked).0.code ≢ success
+    → Leaves (asked_by asked) (answer_of setup before asked).0.code before (answer_of setup before asked).1
 
 -- every record keeps a value that its limits allow
 abbrev pub StaysSound : Type 0

@@ -2,11 +2,14 @@ pub mod Table
 pub mod Request
 pub mod State
 pub mod Replies
+pub mod Storage
+pub mod Sensing
 pub mod Live
 pub mod Answer
 pub mod Row
 pub mod Room
 pub mod Gives
+pub mod Leaves
 pub mod AnyAnswer
 pub mod AnyLive
 pub mod PldmTypes

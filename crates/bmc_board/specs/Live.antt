@@ -1,7 +1,9 @@
 -- What live commands do: commands that ask for no configuration record (IPMI 2.0; DSP0240, "GetTID" and "GetPLDMTypes").
 use Rattle.std.specs.Prelude.{ℕ, ◌/◌, ◌%◌, List, [], ◌∷◌, Option, Some, None, Bool, true, false, ◌==◌, if◌then◌else◌}
 use Rattle.two_wire.specs.Codes.{uninitialized_watchdog, invalid_data_field}
+use Rattle.std.specs.Int.{w16, w32, to_le_bytes}
 use Rattle.cfg_records.specs.Records.{Records}
+use Rattle.cfg_records.specs.Requests.{byte_at}
 use Rattle.cfg_records.specs.declared.key.Key.TheVariants as key
 use Rattle.cfg_records.specs.declared.message.Answered.{Answered}
 use Rattle.cfg_records.specs.declared.device.Device.{Device}
@@ -10,6 +12,12 @@ use Rattle.watch_boot.specs.Watchdog.{was_set, live_after_reset}
 use Rattle.bmc_board.specs.declared.activity.Activity.{Activity}
 use Rattle.bmc_board.specs.declared.live.LiveCommand.{LiveCommand}
 use Rattle.bmc_board.specs.declared.live.LiveCommand.TheVariants as live
+use Rattle.sel_log.specs.declared.reservations.Reservations.{Reservations}
+use Rattle.sel_log.specs.Clock.{clock_at}
+use Rattle.sel_log.specs.Reservations.{next_number}
+use Rattle.sel_log.specs.Log.{info_of}
+use Rattle.bmc_board.specs.Storage.{sdr_info, sel_info, part_in, sdr_part, sel_part, LogGiven, added, cleared, time_in}
+use Rattle.bmc_board.specs.Sensing.{reading_answer}
 use Rattle.bmc_board.specs.Replies.{done, refused, unknown_code}
 
 -- what Get Device ID replies: three bytes of the device, its revisions, IPMI 2.0, what it supports, and whose it is, the lowest
@@ -59,15 +67,38 @@ progress_answer None before = (done [], before)
 progress_answer (Some byte) before =
     if byte == 0 then (done [], with_progress before false) else (if byte == 1 then begun before.boot_progress before else (refused invalid_data_field, before))
 
--- the reply to each live command, and what it leaves of what isn't configuration
-abbrev pub live_answer : BoardFile → Records → Activity → LiveCommand → Answered × Activity
-live_answer setup records before live.GetDeviceId = (done (device_data setup.device), before)
-live_answer setup records before live.GetSelfTestResults = (done no_error, before)
-live_answer setup records before live.ResetWatchdog = reset_answer (records key.Watchdog) (unknown_code setup key.Watchdog) before
-live_answer setup records before (live.SetBootProgress byte) = progress_answer byte before
-live_answer setup records before live.GetBootProgress = (done (progress_data before.boot_progress), before)
-live_answer setup records before live.GetTid = (done (setup.tid ∷ []), before)
-live_answer setup records before live.GetPldmTypes = (done pldm_types, before)
+-- an answer, with the log after it
+abbrev pub with_log : Activity → LogGiven → Answered × Activity
+with_log before given = (given.0, record before { log = given.1 })
+
+-- the next reservation of a list of records
+abbrev pub reserved : Reservations → Reservations
+reserved reservations = record { present = next_number reservations.last; last = next_number reservations.last }
+
+-- its number
+abbrev pub number_reply : Reservations → Answered
+number_reply reservations = done (to_le_bytes w16 (next_number reservations.last))
+
+-- the reply to each live command with this data, and what it leaves of what isn't configuration
+abbrev pub live_answer : BoardFile → Records → Activity → LiveCommand → List ℕ → Answered × Activity
+live_answer setup records before live.GetDeviceId body = (done (device_data setup.device), before)
+live_answer setup records before live.GetSelfTestResults body = (done no_error, before)
+live_answer setup records before live.ResetWatchdog body = reset_answer (records key.Watchdog) (unknown_code setup key.Watchdog) before
+live_answer setup records before live.GetSensorReading body = (reading_answer setup records before (byte_at body 0), before)
+live_answer setup records before live.GetSdrRepositoryInfo body = (done (sdr_info before.sdr), before)
+live_answer setup records before live.ReserveSdrRepository body = (number_reply before.sdr.reservations, record before { sdr = record before.sdr { reservations = reserved before.sdr.reservations } })
+live_answer setup records before live.GetSdr body = (sdr_part before.sdr (part_in body), before)
+live_answer setup records before live.GetSelInfo body = (done (sel_info (info_of before.log)), before)
+live_answer setup records before live.ReserveSel body = (number_reply before.log.reservations, record before { log = record before.log { reservations = reserved before.log.reservations } })
+live_answer setup records before live.GetSelEntry body = (sel_part before.log (part_in body), before)
+live_answer setup records before live.AddSelEntry body = with_log before (added before.log body)
+live_answer setup records before live.ClearSel body = with_log before (cleared before.log body)
+live_answer setup records before live.GetSelTime body = (done (to_le_bytes w32 before.log.clock.seconds), before)
+live_answer setup records before live.SetSelTime body = (done [], record before { log = record before.log { clock = clock_at (time_in body) } })
+live_answer setup records before (live.SetBootProgress byte) body = progress_answer byte before
+live_answer setup records before live.GetBootProgress body = (done (progress_data before.boot_progress), before)
+live_answer setup records before live.GetTid body = (done (setup.tid ∷ []), before)
+live_answer setup records before live.GetPldmTypes body = (done pldm_types, before)
 
 -- the reply to a live command has at most so many bytes of data, which fit any frame
 abbrev pub longest_live_reply : ℕ

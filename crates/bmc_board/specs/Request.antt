@@ -1,5 +1,5 @@
 -- What a request asks for.
-use Rattle.std.specs.Prelude.{ℕ, List, length, Option, Some, None, Result, Ok, Err, ◌==◌, if◌then◌else◌}
+use Rattle.std.specs.Prelude.{ℕ, List, [], length, Option, Some, None, Result, Ok, Err, ◌==◌, if◌then◌else◌}
 use Rattle.two_wire.specs.Codes.{invalid_for_lun, invalid_command, invalid_length, pldm_unsupported_command, pldm_invalid_type, pldm_invalid_length}
 use Rattle.cfg_records.specs.declared.message.Asked.{Asked}
 use Rattle.cfg_records.specs.declared.message.Asked.TheVariants.{Ipmi, Pldm}
@@ -33,9 +33,9 @@ use Rattle.bmc_board.specs.declared.live.LiveCommand.TheVariants as live
 use Rattle.bmc_board.specs.declared.request.Refusals.{Refusals}
 use Rattle.bmc_board.specs.Table.{line_of, pldm_line_of, is_allowed, is_pldm_type}
 
--- what is asked for: to carry out a live command, to show a record, or to change one
+-- what is asked for: to carry out a live command with its data, to show a record, or to change one
 pub data Request : Type 0 where
-  Live : LiveCommand → Request
+  Live : LiveCommand → List ℕ → Request
   Get : Key → Request
   Set : Op → Request
 
@@ -59,20 +59,20 @@ op_in set.SetWatchdogTimer body = op.Watchdog (watchdog_in body)
 op_in set.SetGlobalEnables body = op.GlobalEnables (enables_in body)
 op_in set.SetNumericEffecterValue body = op.NumericEffecter (numeric_effecter_in body)
 
--- what the commands of the system boot options ask for
+-- what the commands of the system boot options ask for: a live command on parameter 0 has its byte, and no further data
 abbrev pub boot_set : Result BootRequest ℕ → Result Request ℕ
-boot_set (Ok (Progress byte)) = Ok (Live (live.SetBootProgress byte))
+boot_set (Ok (Progress byte)) = Ok (Live (live.SetBootProgress byte) [])
 boot_set (Ok (Param change)) = Ok (Set (op.BootParam change))
 boot_set (Err code) = Err code
 
 abbrev pub boot_get : Result BootShown ℕ → Result Request ℕ
-boot_get (Ok shown.Progress) = Ok (Live live.GetBootProgress)
+boot_get (Ok shown.Progress) = Ok (Live live.GetBootProgress [])
 boot_get (Ok (shown.Param parameter)) = Ok (Get (key.BootParam parameter))
 boot_get (Err code) = Err code
 
 -- what a command asks for with data of a length that it takes, or the code that refuses the data
 abbrev pub request_of : Command → List ℕ → Result Request ℕ
-request_of (command.Live command) body = Ok (Live command)
+request_of (command.Live command) body = Ok (Live command body)
 request_of (command.Get get) body = Ok (Get (key_in get body))
 request_of (command.Set set) body = Ok (Set (op_in set body))
 request_of command.SetBootOptions body = boot_set (boot_request_in body)

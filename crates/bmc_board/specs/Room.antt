@@ -8,6 +8,6 @@ use Rattle.bmc_board.specs.Live.{longest_live_reply}
 
 -- the reply to what is asked for has at most so many bytes of data
 abbrev pub longest_reply : Request → ℕ
-longest_reply (Live command) = longest_live_reply
+longest_reply (Live command body) = longest_live_reply
 longest_reply (Get key) = room_for (get_asked key)
 longest_reply (Set op) = room_for (set_asked op)

@@ -3,6 +3,10 @@ use Rattle.std.specs.Prelude.{◌≡◌, false}
 use Rattle.cfg_records.specs.Records.{Records, records_of}
 use Rattle.cfg_records.specs.Boards.{pairs_of}
 use Rattle.cfg_records.specs.Opening.{opening as live_at_opening}
+use Rattle.sel_log.specs.Clock.{clock_at}
+use Rattle.sel_log.specs.Log.{new_log}
+use Rattle.sensor_recs.specs.Sdr.{repository_of}
+use Rattle.sensor_recs.specs.Taken.{none_taken}
 use Rattle.cfg_records.specs.declared.board_file.BoardFile.{BoardFile}
 use Rattle.bmc_board.specs.declared.activity.Activity.{Activity}
 use Rattle.bmc_board.specs.declared.board.Board.{Board}
@@ -19,14 +23,21 @@ state records activity = record { records = records; activity = activity }
 abbrev pub state_of : {S : Type 0} {g h : _} → (S → Records) → Board S g h → State
 state_of records board = state (records board.store) board.activity
 
--- what isn't configuration, as a board begins
-abbrev pub opening : Activity
-opening = record { live = live_at_opening; boot_progress = false }
+-- what isn't configuration, as a board of this file begins: no reading was taken, the log has no record, its clock shows the file's
+-- time, and no set of boot options is in progress
+abbrev pub opening : BoardFile → Activity
+opening file = record {
+  live = live_at_opening;
+  readings = none_taken;
+  sdr = repository_of file.sdr.items;
+  log = record (new_log file.log.records) { clock = clock_at file.clock };
+  boot_progress = false;
+}
 
 -- the state of a board of this file that has heard nothing yet
 abbrev pub opened : BoardFile → State
-opened file = state (records_of (pairs_of file)) opening
+opened file = state (records_of (pairs_of file)) (opening file)
 
--- a refused request, and anything that is no request, leaves what was there
+-- anything that is no request leaves what was there, and so does a refused request (`Leaves` says which may note an overflow)
 abbrev pub IsUnchanged : State → State → Type 0
 IsUnchanged before after = after ≡ before

@@ -33,6 +33,7 @@ table =
     listed 0x04 0x27 (Exactly 1) false (command.Get get.GetSensorThresholds) ∷
     listed 0x04 0x28 (Between 2 6) true (command.Set set.SetSensorEventEnable) ∷
     listed 0x04 0x29 (Exactly 1) false (command.Get get.GetSensorEventEnable) ∷
+    listed 0x04 0x2D (Exactly 1) false (command.Live live.GetSensorReading) ∷
     listed 0x06 0x01 (Exactly 0) false (command.Live live.GetDeviceId) ∷
     listed 0x06 0x04 (Exactly 0) false (command.Live live.GetSelfTestResults) ∷
     listed 0x06 0x22 (Exactly 0) false (command.Live live.ResetWatchdog) ∷
@@ -40,6 +41,16 @@ table =
     listed 0x06 0x25 (Exactly 0) false (command.Get get.GetWatchdogTimer) ∷
     listed 0x06 0x2E (Exactly 1) true (command.Set set.SetGlobalEnables) ∷
     listed 0x06 0x2F (Exactly 0) false (command.Get get.GetGlobalEnables) ∷
+    listed 0x0A 0x20 (Exactly 0) false (command.Live live.GetSdrRepositoryInfo) ∷
+    listed 0x0A 0x22 (Exactly 0) false (command.Live live.ReserveSdrRepository) ∷
+    listed 0x0A 0x23 (Exactly 6) false (command.Live live.GetSdr) ∷
+    listed 0x0A 0x40 (Exactly 0) false (command.Live live.GetSelInfo) ∷
+    listed 0x0A 0x42 (Exactly 0) false (command.Live live.ReserveSel) ∷
+    listed 0x0A 0x43 (Exactly 6) false (command.Live live.GetSelEntry) ∷
+    listed 0x0A 0x44 (Exactly 16) false (command.Live live.AddSelEntry) ∷
+    listed 0x0A 0x47 (Exactly 6) false (command.Live live.ClearSel) ∷
+    listed 0x0A 0x48 (Exactly 0) false (command.Live live.GetSelTime) ∷
+    listed 0x0A 0x49 (Exactly 4) false (command.Live live.SetSelTime) ∷
     []
 
 -- PLDM: type, number, lengths, whether it sets the configuration, command

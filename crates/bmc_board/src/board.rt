@@ -2,6 +2,7 @@
 ghost use Rattle.record_kinds.specs.Sound.{IsSound};
 ghost use Rattle.record_kinds.specs.SoundLaws.{IsSound-prop};
 
+mod happen;
 mod serve;
 
 use crate::activity::Activity;

@@ -8,7 +8,7 @@ use cfg_records::Asked;
 /// A command of the tables.
 #[derive(Clone, Copy, Debug, PartialEq, Eq)]
 pub enum Command {
-    /// A live command, which takes no data.
+    /// A command that asks for no record.
     Live(LiveCommand),
     /// A command that shows a record.
     Get(GetCommand),
@@ -108,6 +108,7 @@ pub fn find_line(net_fn: u8, number: u8) -> Option<Line>
         (0x04, 0x27) => entry(Get(GetSensorThresholds), Exactly(1), false),
         (0x04, 0x28) => entry(Set(SetSensorEventEnable), Between(2, 6), true),
         (0x04, 0x29) => entry(Get(GetSensorEventEnable), Exactly(1), false),
+        (0x04, 0x2D) => entry(Live(GetSensorReading), Exactly(1), false),
         (0x06, 0x01) => entry(Live(GetDeviceId), Exactly(0), false),
         (0x06, 0x04) => entry(Live(GetSelfTestResults), Exactly(0), false),
         (0x06, 0x22) => entry(Live(ResetWatchdog), Exactly(0), false),
@@ -115,6 +116,16 @@ pub fn find_line(net_fn: u8, number: u8) -> Option<Line>
         (0x06, 0x25) => entry(Get(GetWatchdogTimer), Exactly(0), false),
         (0x06, 0x2E) => entry(Set(SetGlobalEnables), Exactly(1), true),
         (0x06, 0x2F) => entry(Get(GetGlobalEnables), Exactly(0), false),
+        (0x0A, 0x20) => entry(Live(GetSdrRepositoryInfo), Exactly(0), false),
+        (0x0A, 0x22) => entry(Live(ReserveSdrRepository), Exactly(0), false),
+        (0x0A, 0x23) => entry(Live(GetSdr), Exactly(6), false),
+        (0x0A, 0x40) => entry(Live(GetSelInfo), Exactly(0), false),
+        (0x0A, 0x42) => entry(Live(ReserveSel), Exactly(0), false),
+        (0x0A, 0x43) => entry(Live(GetSelEntry), Exactly(6), false),
+        (0x0A, 0x44) => entry(Live(AddSelEntry), Exactly(16), false),
+        (0x0A, 0x47) => entry(Live(ClearSel), Exactly(6), false),
+        (0x0A, 0x48) => entry(Live(GetSelTime), Exactly(0), false),
+        (0x0A, 0x49) => entry(Live(SetSelTime), Exactly(4), false),
         _ => return None,
     })
 }

@@ -1,5 +1,5 @@
 //! What holds of the definitions alone.
-ghost use Rattle.bmc_board.specs.AnyAnswer.{HasAnswer, HasOneAnswer, NeverBusy, UnknownIsRefused, RefusedIsUnchanged, StaysSound, AnswersFit};
+ghost use Rattle.bmc_board.specs.AnyAnswer.{HasAnswer, HasOneAnswer, NeverBusy, UnknownIsRefused, RefusedLeaves, StaysSound, AnswersFit};
 ghost use Rattle.bmc_board.specs.AnyLive.{AreLive, LeaveRecords};
 ghost use Rattle.bmc_board.specs.Decode.{IsReadFromAll, GetsAreRead, SetsAreRead, UndosArePlain};
 ghost use Rattle.bmc_board.specs.Undo.{IsAReply, IsUndone, IsSteady, IsShownAsBefore};
@@ -18,9 +18,9 @@ pub fn codes_law()
     ensures unknown { UnknownIsRefused }
 {}
 
-/// A refused request leaves what was there.
+/// A refused request leaves what was there. Add SEL Entry alone notes that it was refused: the log overflowed.
 pub fn refusal_law()
-    ensures { RefusedIsUnchanged }
+    ensures { RefusedLeaves }
 {}
 
 /// Where each record has a value that its limits allow, each has one after any answer, and the answer's data fits the frame or message
@@ -30,8 +30,8 @@ pub fn sound_law()
     ensures fits { AnswersFit }
 {}
 
-/// A live command leaves the records. Its code isn't a busy controller's, its data fits any frame, and
-/// where it refuses it changes nothing.
+/// A live command leaves the records. Its code isn't a busy controller's, its data fits any frame, and where it refuses it changes
+/// nothing, but that a full log which refuses a record notes that it overflowed.
 pub fn live_law()
     ensures answers { AreLive }
     ensures records { LeaveRecords }

@@ -1,14 +1,17 @@
-//! A board: the tables of commands, and its answer to each request.
+//! A board: the tables of commands, and its answer to each request, and what happens on it beside requests.
 #![tactic(auto)]
 
 pub mod activity;
+pub mod bench;
 pub mod board;
 pub mod command;
 pub mod laws;
 pub mod live;
 pub mod request;
+pub mod storage;
 
 pub use activity::Activity;
+pub use bench::{Bench, NoSensor};
 pub use board::Board;
 pub use command::{Command, Lengths, Line, changing};
 pub use live::LiveCommand;

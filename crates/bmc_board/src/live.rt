@@ -11,6 +11,17 @@ pub enum LiveCommand {
     GetDeviceId,
     GetSelfTestResults,
     ResetWatchdog,
+    GetSensorReading,
+    GetSdrRepositoryInfo,
+    ReserveSdrRepository,
+    GetSdr,
+    GetSelInfo,
+    ReserveSel,
+    GetSelEntry,
+    AddSelEntry,
+    ClearSel,
+    GetSelTime,
+    SetSelTime,
     /// Set System Boot Options, of parameter 0: what it becomes.
     SetBootProgress(Option<u8>),
     /// Get System Boot Options, of parameter 0.

@@ -3,6 +3,7 @@ mod boards;
 mod ipmb;
 mod runs;
 mod smbus;
+mod storage;
 mod two_steps;
 
 use bmc_core::{At, Board, Done, Out, Port};

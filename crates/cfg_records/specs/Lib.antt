@@ -8,6 +8,7 @@ pub mod ThresholdLaws
 pub mod Hysteresis
 pub mod EventEnable
 pub mod EventLaws
+pub mod Sdr
 pub mod PowerPolicy
 pub mod Watchdog
 pub mod GlobalEnables

@@ -19,8 +19,9 @@ pub record IsSampleDevice (device : Device) : Type 0 where
   pub product : device.product ≡ 0x1234
 
 -- a sensor of these words
-pub record IsSensor (sensor : Sensor) (number readable settable : ℕ) (thresholds : List ℕ) (positive negative supported : ℕ) (enabled : List ℕ) : Type 0 where
+pub record IsSensor (sensor : Sensor) (number sensor_type readable settable : ℕ) (thresholds : List ℕ) (positive negative supported : ℕ) (enabled : List ℕ) : Type 0 where
   pub numbered : sensor.number ≡ number
+  pub measures : sensor.sensor_type ≡ sensor_type
   pub can_be_read : sensor.thresholds.masks.readable ≡ readable
   pub can_be_set : sensor.thresholds.masks.settable ≡ settable
   pub has_thresholds : sensor.thresholds.values ≡ thresholds
@@ -31,11 +32,11 @@ pub record IsSensor (sensor : Sensor) (number readable settable : ℕ) (threshol
 
 -- a temperature sensor, all of whose thresholds can be read and set, and which makes messages of the upper critical threshold's crossing
 abbrev pub IsTemperature : Sensor → Type 0
-IsTemperature sensor = IsSensor sensor 5 0x3F 0x3F (0x14 ∷ 0x0A ∷ 0x05 ∷ 0x50 ∷ 0x5F ∷ 0x6E ∷ []) 2 2 0xFFF (0xC0 ∷ 0x00 ∷ 0x02 ∷ 0 ∷ 0 ∷ [])
+IsTemperature sensor = IsSensor sensor 5 0x01 0x3F 0x3F (0x14 ∷ 0x0A ∷ 0x05 ∷ 0x50 ∷ 0x5F ∷ 0x6E ∷ []) 2 2 0xFFF (0xC0 ∷ 0x00 ∷ 0x02 ∷ 0 ∷ 0 ∷ [])
 
 -- a fan sensor with upper thresholds alone, of which the highest can be set and not read
 abbrev pub IsFan : Sensor → Type 0
-IsFan sensor = IsSensor sensor 7 0x18 0x38 (0 ∷ 0 ∷ 0 ∷ 0x90 ∷ 0xA0 ∷ 0xB0 ∷ []) 0 0 0xFC0 (0 ∷ 0 ∷ 0 ∷ 0 ∷ 0 ∷ [])
+IsFan sensor = IsSensor sensor 7 0x04 0x18 0x38 (0 ∷ 0 ∷ 0 ∷ 0x90 ∷ 0xA0 ∷ 0xB0 ∷ []) 0 0 0xFC0 (0 ∷ 0 ∷ 0 ∷ 0 ∷ 0 ∷ [])
 
 -- the sensors of the sample board
 abbrev pub AreSampleSensors : List Sensor → Type 0
@@ -48,6 +49,10 @@ pub record IsUnset (watchdog : Watchdog) : Type 0 where
   pub no_action : watchdog.actions ≡ 0
   pub no_warning : watchdog.pre_timeout ≡ 0
   pub no_countdown : watchdog.initial ≡ 0
+
+-- its only sensor data record
+abbrev pub sample_record : List ℕ
+sample_record = 0x01 ∷ 0x00 ∷ 0x51 ∷ 0xC0 ∷ 0x01 ∷ 0x00 ∷ []
 
 -- boot parameters of 00h alone
 pub record IsSampleBoot (boot : BootOptions) : Type 0 where
@@ -62,6 +67,9 @@ pub record IsSampleBoard (file : BoardFile) : Type 0 where
   pub sensors : AreSampleSensors file.sensors.items
   pub policy : file.policy.number ≡ 1
   pub watchdog : IsUnset file.watchdog
+  pub clock : file.clock ≡ 0
+  pub log : file.log.records ≡ 2
   pub enables : file.enables.byte ≡ 0x08
+  pub sdr : file.sdr.items ≡ sample_record ∷ []
   pub boot : IsSampleBoot file.boot
   pub no_numeric : file.numeric_effecters.items ≡ []

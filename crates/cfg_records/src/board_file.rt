@@ -3,8 +3,10 @@ use crate::boot_param::{BootOptions, BootParameter};
 use crate::device::Device;
 use crate::global_enables::GlobalEnables;
 use crate::key::Key;
+use crate::log_capacity::LogCapacity;
 use crate::numeric_effecter::NumericEffecters;
 use crate::power_policy::PowerPolicy;
+use crate::sdr_record::SdrRecords;
 use crate::sensor::Sensors;
 use crate::value::Value;
 use crate::watchdog::Watchdog;
@@ -19,7 +21,11 @@ pub struct BoardFile {
     pub sensors: Sensors,
     pub policy: PowerPolicy,
     pub watchdog: Watchdog,
+    /// The seconds that the System Event Log's clock shows.
+    pub clock: u32,
+    pub log: LogCapacity,
     pub enables: GlobalEnables,
+    pub sdr: SdrRecords,
     pub boot: BootOptions,
     pub numeric_effecters: NumericEffecters,
 }

@@ -1,6 +1,6 @@
 //! The sample board.
-ghost use Rattle.std.specs.Prelude.{◌≡◌, IfOk};
-ghost use Rattle.cfg_records.specs.Sample.{IsSampleDevice, IsTemperature, IsFan, IsUnset, IsSampleBoot, IsSampleBoard};
+ghost use Rattle.std.specs.Prelude.{◌≡◌, [], ◌∷◌, IfOk};
+ghost use Rattle.cfg_records.specs.Sample.{IsSampleDevice, IsTemperature, IsFan, IsUnset, sample_record, IsSampleBoot, IsSampleBoard};
 
 use crate::board_file::BoardFile;
 use crate::boot_param::{BootFlags, BootOptions};
@@ -9,7 +9,9 @@ use crate::distinct::Distinct;
 use crate::event_enable::{EventEnable, EventMasks};
 use crate::global_enables::GlobalEnables;
 use crate::hysteresis::Hysteresis;
+use crate::log_capacity::LogCapacity;
 use crate::power_policy::PowerPolicy;
+use crate::sdr_record::{SdrRecord, SdrRecords};
 use crate::sensor::Sensor;
 use crate::sensor_thresholds::Thresholds;
 use crate::thresholds::ThresholdMasks;
@@ -22,6 +24,7 @@ fn temperature() -> Sensor
 {
     Sensor {
         number: 5,
+        sensor_type: 0x01,
         thresholds: Thresholds {
             masks: ThresholdMasks {
                 readable: 0x3F,
@@ -51,6 +54,7 @@ fn fan() -> Sensor
 {
     Sensor {
         number: 7,
+        sensor_type: 0x04,
         thresholds: Thresholds {
             masks: ThresholdMasks {
                 readable: 0x18,
@@ -118,6 +122,15 @@ fn device() -> Device
     }
 }
 
+/// Its only sensor data record: under id 1, of a maker's own type, with a byte behind its header.
+fn sdr(alloc: Global) -> Result<SdrRecords, AllocError>
+    ensures { IfOk result (λ sdr. sdr.items ≡ sample_record ∷ []) }
+{
+    let mut records = Vec::new(alloc);
+    records.push(SdrRecord::new(&[0x01, 0x00, 0x51, 0xC0, 0x01, 0x00]).unwrap())?;
+    Ok(Distinct::new(records).unwrap())
+}
+
 /// The sample board, which the program takes where it is given no board file.
 pub fn sample_board(alloc: Global) -> Result<BoardFile, AllocError>
     ensures { IfOk result IsSampleBoard }
@@ -131,8 +144,11 @@ pub fn sample_board(alloc: Global) -> Result<BoardFile, AllocError>
         sensors: Distinct::new(sensors).unwrap(),
         policy: PowerPolicy { number: 1 },
         watchdog: unset_watchdog(),
+        clock: 0,
+        log: LogCapacity { records: 2 },
         enables: GlobalEnables { byte: 0x08 },
         boot: boot(),
+        sdr: sdr(alloc)?,
         numeric_effecters: Distinct::new(Vec::new(alloc)).unwrap(),
     })
 }

@@ -6,10 +6,11 @@ use crate::event_enable::EventEnable;
 use crate::hysteresis::Hysteresis;
 use crate::sensor_thresholds::Thresholds;
 
-/// A sensor: its number (0 to 254), and the values of its records.
+/// A sensor: its number (0 to 254), its type by IPMI's number, and the values of its records.
 #[derive(Clone, Copy, Debug)]
 pub struct Sensor {
     pub number: u8,
+    pub sensor_type: u8,
     pub thresholds: Thresholds,
     pub hysteresis: Hysteresis,
     pub events: EventEnable,

@@ -13,6 +13,7 @@ use Rattle.cfg_records.specs.declared.sensor.Sensor.{Sensor}
 use Rattle.cfg_records.specs.declared.numeric_effecter.NumericEffecter.{NumericEffecter}
 use Rattle.cfg_records.specs.declared.event_enable.EventMasks.{EventMasks}
 use Rattle.cfg_records.specs.Distinct.{NamesDiffer}
+use Rattle.cfg_records.specs.Sdr.{sdr_id}
 use Rattle.cfg_records.specs.EventEnable.{are_within, event_value, IsEventEnable}
 use Rattle.cfg_records.specs.EventLaws.{tested_events}
 use Rattle.cfg_records.specs.Thresholds.{IsThresholds, is_clear, is_in_order}
@@ -51,6 +52,7 @@ are_enabled = tested_events 0xFFF true true enabled refl refl
 abbrev pub temperature : Sensor
 temperature = record {
   number = 5;
+  sensor_type = 1;
   thresholds = record { masks = masks; values = at_first; valid = are_thresholds };
   hysteresis = record { positive = 2; negative = 2 };
   events = record { supported = 0xFFF; messages = true; scanning = true; enabled = enabled; twelve = lit< tt; valid = are_enabled };
@@ -59,6 +61,9 @@ temperature = record {
 
 pub one_number : NamesDiffer (λ (s : Sensor). s.number) (temperature ∷ [])
 one_number i j d below within = absurd (omega (arith, below, within))
+
+pub no_records : NamesDiffer sdr_id []
+no_records i j d below within = absurd (omega (arith, below, within))
 
 pub no_numbers : NamesDiffer (λ (e : NumericEffecter). e.id) []
 no_numbers i j d below within = absurd (omega (arith, below, within))
@@ -85,7 +90,10 @@ board_file = record {
     initial = 0;
     valid = record { five = refl; known_use = lit≤ tt; known_interrupt = lit≤ tt; known_action = lit≤ tt; low_byte = lit< tt; high_byte = lit< tt };
   };
+  clock = 0;
+  log = record { records = 2; least = lit≤ tt; most = lit≤ tt };
   enables = record { byte = 0x08; valid = record { one = refl; unreserved = refl } };
+  sdr = record { items = []; differ = no_records; few = lit≤ tt };
   boot = record {
     valid_bit_clearing = 0;
     info_acknowledge = 0;

@@ -50,7 +50,8 @@ impl Mark {
 
     /// The mark of each frame that the port sends when this one comes.
     pub fn reply(self, idles: usize) -> Mark
-        ensures { (names : NamesValue) (setup : BoardFile) → MarksReplies (board_plans names) setup self idles result }
+        ensures value { result ≡ record { on = self.on; request = self.request; idles = idles } }
+        ensures marks { (names : NamesValue) (setup : BoardFile) → MarksReplies (board_plans names) setup self idles result }
     {
         Mark {
             on: self.on,

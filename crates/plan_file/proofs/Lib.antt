@@ -4,6 +4,7 @@ pub mod First
 pub mod Rows
 pub mod TopRows
 pub mod Events
+pub mod Records
 pub mod Sensors
 pub mod BootSteps
 pub mod Changes

@@ -71,31 +71,36 @@ value_of tree row (Some d) is needed sound = record {
 value_of tree row None is needed sound = let missing : true ≡ false = rw (needed, is) at sound.present in cc
 
 -- a number that the item has
-pub record Number (tree : Members) (field : Field) (most : ℕ) : Type 0 where
+pub record Number (tree : Members) (field : Field) (least most : ℕ) : Type 0 where
   pub number : ℕ
   pub found : number_in field tree ≡ Some number
+  pub above : least ≤ number
   pub within : number ≤ most
 
-number_cases : (tree : Members) (field : Field) (least most : ℕ) (d : Data) (o : Option ℕ) → in_field field tree ≡ Some d → natural d ≡ o → passes (is_between least most) o ≡ true → Number tree field most
+number_cases : (tree : Members) (field : Field) (least most : ℕ) (d : Data) (o : Option ℕ) → in_field field tree ≡ Some d → natural d ≡ o → passes (is_between least most) o ≡ true → Number tree field least most
 number_cases tree field least most d (Some n) found is within = record {
   number = n;
   found = rw (found, is);
+  above = let (low, high) = and_parts (nat_le least n) (nat_le n most) within in grind (arith, nat_tests);
   within = let (low, high) = and_parts (nat_le least n) (nat_le n most) within in grind (arith, nat_tests);
 }
 number_cases tree field least most d None found is within = cc
 
-pub number_of : (tree : Members) (field : Field) (least most : ℕ) → Sound tree (record { 0 = field; 1 = shape.Number least most; 2 = need.Always }) → Number tree field most
+pub number_of : (tree : Members) (field : Field) (least most : ℕ) → Sound tree (record { 0 = field; 1 = shape.Number least most; 2 = need.Always }) → Number tree field least most
 number_of tree field least most sound =
     let v = value_of tree (record { 0 = field; 1 = shape.Number least most; 2 = need.Always }) (in_field field tree) refl refl sound in
     number_cases tree field least most v.value (natural v.value) v.found refl v.within
 
 -- a number below a limit
-pub below : {tree : Members} {field : Field} {most : ℕ} (limit : ℕ) → Number tree field most → most < limit → HasBelow limit field tree
+pub below : {tree : Members} {field : Field} {least most : ℕ} (limit : ℕ) → Number tree field least most → most < limit → HasBelow limit field tree
 below limit v lt = (v.number, (v.found, omega (arith, v.within, lt)))
 
 -- one number in a field
-pub within : {tree : Members} {field : Field} {most : ℕ} (n : ℕ) → Number tree field most → number_in field tree ≡ Some n → n ≤ most
+pub within : {tree : Members} {field : Field} {least most : ℕ} (n : ℕ) → Number tree field least most → number_in field tree ≡ Some n → n ≤ most
 within n v is = let same : v.number ≡ n = same_Some _ _ (sym v.found ∙ is) in omega (arith, v.within, same)
+
+pub at_least : {tree : Members} {field : Field} {least most : ℕ} (n : ℕ) → Number tree field least most → number_in field tree ≡ Some n → least ≤ n
+at_least n v is = let same : v.number ≡ n = same_Some _ _ (sym v.found ∙ is) in omega (arith, v.above, same)
 
 -- that a value that is found is the item's
 pub same_value : {A : Type 0} (a b : A) (o : Option A) → o ≡ Some a → o ≡ Some b → a ≡ b

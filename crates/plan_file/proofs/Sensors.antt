@@ -14,7 +14,7 @@ use Rattle.cfg_records.specs.Distinct.{NamesDiffer}
 use Rattle.plan_file.specs.declared.field.Field.{Field}
 use Rattle.plan_file.specs.declared.row.Shape.TheVariants as shape
 use Rattle.plan_file.specs.declared.row.Need.TheVariants as need
-use Rattle.plan_file.specs.Ranges.{passes, is_array_of, is_table}
+use Rattle.plan_file.specs.Ranges.{passes, is_array_of, is_table, record_in}
 use Rattle.plan_file.proofs.Rows.{Sound, value_of, not_false}
 use Rattle.std.specs.List.{list_any, list_all, AllZip}
 use Rattle.toml.specs.Data.{Data, Members}
@@ -25,8 +25,8 @@ use Rattle.plan_file.specs.declared.fault.FileFault.{FileFault}
 use Rattle.plan_file.specs.declared.fault.FileFault.TheVariants as file
 use Rattle.plan_file.specs.declared.fault.Item.TheVariants as item
 use Rattle.plan_file.specs.Trees.{in_field, members, number_in, table_of, table_in, members_in, or_none}
-use Rattle.plan_file.specs.Faults.{field_faults, fault_at, is_taken, same_number, item_faults, sensor_faults, board_faults, first}
-use Rattle.plan_file.specs.Holds.{IsSensorIn, IsNextFault, number_of}
+use Rattle.plan_file.specs.Faults.{field_faults, fault_at, is_taken, same_number, item_faults, record_faults, sensor_faults, board_faults, first}
+use Rattle.plan_file.specs.Holds.{IsRecordIn, IsSensorIn, IsNextFault, number_of}
 
 -- what counts in a list counts where more stands behind
 pub first-append : {A : Type 0} (xs ys : List A) (x : A) → first xs ≡ Some x → first (xs ++ ys) ≡ Some x
@@ -84,6 +84,11 @@ module _ (vs : List Value) (i : ℕ) (v : Value) (within : i < length vs) (is : 
       → AllZip IsSensorIn (map view (take (i + 1) vs)) (before ++ s ∷ [])
   next_zip before s zip holds = rw taken_more (all_zipped_more IsSensorIn (map view (take i vs)) before (view v) s zip holds)
 
+  -- one more sensor data record that was read
+  pub next_record : (before : List (List ℕ)) (bytes : List ℕ) → AllZip IsRecordIn (map view (take i vs)) before → IsRecordIn (view v) bytes
+      → AllZip IsRecordIn (map view (take (i + 1) vs)) (before ++ bytes ∷ [])
+  next_record before bytes zip holds = rw taken_more (all_zipped_more IsRecordIn (map view (take i vs)) before (view v) bytes zip holds)
+
   -- the faults of those that are left
   pub next_left : (before : List Sensor) (s : Sensor) → AllZip IsSensorIn (map view (take i vs)) before → IsSensorIn (view v) s → field_faults SENSOR (table_of (view v)) ≡ []
       → list_any (λ (other : Sensor). other.number == s.number) before ≡ false
@@ -133,6 +138,17 @@ pub tables_of : (tree : Members) (field : Field) (most : ℕ) → Sound tree (re
     → (list_all is_table (members_in field tree) ≡ true) × (length (members_in field tree) ≤ most)
 tables_of tree field most sound = value_cases tree field most (in_field field tree) refl sound
 
+le_from : (m n : ℕ) → nat_le m n ≡ true → m ≤ n
+le_from m n h = grind (arith, nat_tests)
+
+-- the members of an array of sensor data records without a fault are so many records at most
+pub records_there : (tree : Members) (field : Field) (most : ℕ) → Sound tree (record { 0 = field; 1 = shape.Records most; 2 = need.Always })
+    → (list_all (λ d. is_some (record_in d)) (members_in field tree) ≡ true) × (length (members_in field tree) ≤ most)
+records_there tree field most sound =
+    let v = value_of tree (record { 0 = field; 1 = shape.Records most; 2 = need.Always }) (in_field field tree) refl refl sound in
+    let (few, all) = and_parts (nat_le (length (or_none (members v.value))) most) (list_all (λ d. is_some (record_in d)) (or_none (members v.value))) v.within in
+    rw v.found (all, le_from _ _ few)
+
 table_cases : (d : Data) (o : Option Members) → as_table d ≡ o → is_some o ≡ true → IsSome (as_table d)
 table_cases d o is some = rw is some
 
@@ -149,15 +165,19 @@ module _ (tree : Members) (why : FileFault) where
   unfolding board_faults
   top_first is = first-append _ _ why is
 
-  pub device_first : field_faults TOP tree ≡ [] → first (map (fault_at item.Device) (field_faults DEVICE (table_in field.Device tree))) ≡ Some why → first (board_faults tree) ≡ Some why
+  pub records_first : field_faults TOP tree ≡ [] → first (record_faults (members_in field.Sdr tree)) ≡ Some why → first (board_faults tree) ≡ Some why
   unfolding board_faults
-  device_first top is = rw top (first-append _ _ why is)
+  records_first top is = rw top (first-append _ _ why is)
 
-  pub sensors_first : field_faults TOP tree ≡ [] → field_faults DEVICE (table_in field.Device tree) ≡ [] → first (sensor_faults (members_in field.Sensor tree)) ≡ Some why
+  pub device_first : field_faults TOP tree ≡ [] → record_faults (members_in field.Sdr tree) ≡ [] → first (map (fault_at item.Device) (field_faults DEVICE (table_in field.Device tree))) ≡ Some why → first (board_faults tree) ≡ Some why
+  unfolding board_faults
+  device_first top records is = rw (top, records) (first-append _ _ why is)
+
+  pub sensors_first : field_faults TOP tree ≡ [] → record_faults (members_in field.Sdr tree) ≡ [] → field_faults DEVICE (table_in field.Device tree) ≡ [] → first (sensor_faults (members_in field.Sensor tree)) ≡ Some why
       → first (board_faults tree) ≡ Some why
   unfolding board_faults
-  sensors_first top device is = rw (top, device) is
+  sensors_first top records device is = rw (top, records, device) is
 
-pub no_faults : (tree : Members) → field_faults TOP tree ≡ [] → field_faults DEVICE (table_in field.Device tree) ≡ [] → sensor_faults (members_in field.Sensor tree) ≡ [] → board_faults tree ≡ []
+pub no_faults : (tree : Members) → field_faults TOP tree ≡ [] → record_faults (members_in field.Sdr tree) ≡ [] → field_faults DEVICE (table_in field.Device tree) ≡ [] → sensor_faults (members_in field.Sensor tree) ≡ [] → board_faults tree ≡ []
 unfolding board_faults
-no_faults tree top device sensors = rw (top, device) sensors
+no_faults tree top records device sensors = rw (top, records, device) sensors

@@ -2,6 +2,8 @@
 use Rattle.std.proofs.Common.{◌≡◌, []}
 use Rattle.toml.specs.Data.{Members}
 use Rattle.plan_file.specs.declared.field.Field.TheVariants as field
+use Rattle.plan_file.specs.declared.row.Row.{Row}
+use Rattle.plan_file.specs.declared.row.Shape.{Shape}
 use Rattle.plan_file.specs.declared.row.Shape.TheVariants as shape
 use Rattle.plan_file.specs.declared.row.Need.TheVariants as need
 use Rattle.plan_file.specs.declared.row.TheConstants.{TOP}
@@ -11,9 +13,12 @@ use Rattle.plan_file.proofs.Rows.{Sound, all_sound}
 -- none of them has a fault
 pub record TopSound (tree : Members) : Type 0 where
   pub tid : Sound tree (record { 0 = field.Tid; 1 = shape.Number 0 255; 2 = need.Always })
+  pub clock : Sound tree (record { 0 = field.Clock; 1 = shape.Number 0 0xFFFFFFFF; 2 = need.Always })
+  pub log : Sound tree (record { 0 = field.Log; 1 = shape.Number 1 1024; 2 = need.Always })
   pub enables : Sound tree (record { 0 = field.Enables; 1 = shape.Enables; 2 = need.Always })
   pub policy : Sound tree (record { 0 = field.Policy; 1 = shape.Number 0 3; 2 = need.Always })
   pub watchdog : Sound tree (record { 0 = field.Watchdog; 1 = shape.Watchdog; 2 = need.Always })
+  pub sdr : Sound tree (record { 0 = field.Sdr; 1 = shape.Records 64; 2 = need.Always })
   pub boot3 : Sound tree (record { 0 = field.Boot3; 1 = shape.Number 0 31; 2 = need.Always })
   pub boot4 : Sound tree (record { 0 = field.Boot4; 1 = shape.Number 0 255; 2 = need.Always })
   pub boot5 : Sound tree (record { 0 = field.Boot5; 1 = shape.BootFlags; 2 = need.Always })
@@ -24,12 +29,15 @@ pub top_sound : (tree : Members) → field_faults TOP tree ≡ [] → TopSound t
 top_sound tree none =
     let sound = all_sound TOP tree none in record {
       tid = sound.0;
-      enables = sound.1.0;
-      policy = sound.1.1.0;
-      watchdog = sound.1.1.1.0;
-      boot3 = sound.1.1.1.1.0;
-      boot4 = sound.1.1.1.1.1.0;
-      boot5 = sound.1.1.1.1.1.1.0;
-      device = sound.1.1.1.1.1.1.1.0;
-      sensor = sound.1.1.1.1.1.1.1.1.0;
+      clock = sound.1.0;
+      log = sound.1.1.0;
+      enables = sound.1.1.1.0;
+      policy = sound.1.1.1.1.0;
+      watchdog = sound.1.1.1.1.1.0;
+      sdr = sound.1.1.1.1.1.1.0;
+      boot3 = sound.1.1.1.1.1.1.1.0;
+      boot4 = sound.1.1.1.1.1.1.1.1.0;
+      boot5 = sound.1.1.1.1.1.1.1.1.1.0;
+      device = sound.1.1.1.1.1.1.1.1.1.1.0;
+      sensor = sound.1.1.1.1.1.1.1.1.1.1.1.0;
     }

@@ -1,5 +1,5 @@
 -- The faults of a board file, in the order in which they count.
-use Rattle.std.specs.Prelude.{ℕ, ◌==◌, Bool, true, false, not, ◌&&◌, List, [], ◌∷◌, ◌++◌, map, filter, length, Option, Some, None, if◌then◌else◌, is_none, codes}
+use Rattle.std.specs.Prelude.{ℕ, ◌==◌, Bool, true, false, not, ◌&&◌, ◌||◌, List, [], ◌∷◌, ◌++◌, map, filter, length, Option, Some, None, if◌then◌else◌, is_none, codes}
 use Rattle.std.specs.List.{list_any}
 use Rattle.toml.specs.Data.{Data, Members}
 use Rattle.plan_file.specs.declared.field.Field.{Field}
@@ -15,7 +15,8 @@ use Rattle.plan_file.specs.declared.fault.FileFault.TheVariants as file
 use Rattle.plan_file.specs.declared.fault.Item.{Item}
 use Rattle.plan_file.specs.declared.fault.Item.TheVariants as item
 use Rattle.plan_file.specs.Trees.{in_field, number_in, table_of, table_in, members_in}
-use Rattle.plan_file.specs.Ranges.{passes, has_text, has_type, is_in_range}
+use Rattle.cfg_records.specs.Sdr.{sdr_id}
+use Rattle.plan_file.specs.Ranges.{passes, has_text, has_type, is_in_range, record_in}
 
 -- the item needs the field
 abbrev pub is_needed : Members → Need → Bool
@@ -69,12 +70,32 @@ item_faults item_at rows named before (d ∷ ds) =
 abbrev pub sensor_faults : List Data → List FileFault
 sensor_faults ds = item_faults item.Sensor SENSOR field.Number [] ds
 
--- the faults of a board file: those of its own fields, of `[device]` and of each `[[sensor]]`
+-- a record's id
+abbrev pub id_of : Option (List ℕ) → ℕ
+id_of (Some bytes) = sdr_id bytes
+id_of None = 0
+
+-- one of the records has the id of one before it
+abbrev pub has_twice : List ℕ → Bool
+has_twice [] = false
+has_twice (id ∷ ids) = list_any (λ other. other == id) ids || has_twice ids
+
+-- the ids of the sensor data records that an array has
+abbrev pub ids_in : List Data → List ℕ
+ids_in [] = []
+ids_in (d ∷ ds) = id_of (record_in d) ∷ ids_in ds
+
+-- the fault of sensor data records of which two have one id
+abbrev pub record_faults : List Data → List FileFault
+record_faults ds = if has_twice (ids_in ds) then file.Twice (record { item = item.Top; field = field.Sdr }) ∷ [] else []
+
+-- the faults of a board file: those of its own fields, of its sensor data records, of `[device]` and of each `[[sensor]]`
 unfoldable pub board_faults : Members → List FileFault
 board_faults tree =
     map (fault_at item.Top) (field_faults TOP tree)
+    ++ (record_faults (members_in field.Sdr tree)
     ++ (map (fault_at item.Device) (field_faults DEVICE (table_in field.Device tree))
-    ++ sensor_faults (members_in field.Sensor tree))
+    ++ sensor_faults (members_in field.Sensor tree)))
 
 -- the fault that counts
 abbrev pub first : {A : Type 0} → List A → Option A

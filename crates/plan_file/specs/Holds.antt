@@ -18,6 +18,7 @@ use Rattle.plan_file.specs.declared.fault.FileFault.TheVariants as file
 use Rattle.plan_file.specs.declared.fault.Item.TheVariants as item
 use Rattle.plan_file.specs.declared.row.TheConstants.{SENSOR}
 use Rattle.plan_file.specs.Trees.{number_in, numbers_in, table_of, table_in, members_in}
+use Rattle.plan_file.specs.Ranges.{record_in}
 use Rattle.plan_file.specs.Faults.{item_faults, board_faults, first}
 
 -- the table has this number in the field
@@ -52,11 +53,16 @@ pub record HoldsEvents (tree : Members) (events : EventEnable) : Type 0 where
 -- the table holds a sensor
 pub record HoldsSensor (tree : Members) (sensor : Sensor) : Type 0 where
   pub numbered : HasNumber field.Number tree sensor.number
+  pub measures : HasNumber field.Type tree sensor.sensor_type
   pub readable : HasNumber field.Readable tree sensor.thresholds.masks.readable
   pub settable : HasNumber field.Settable tree sensor.thresholds.masks.settable
   pub values : HasNumbers field.Thresholds tree sensor.thresholds.values
   pub hysteresis : HasNumbers field.Hysteresis tree (sensor.hysteresis.positive ∷ sensor.hysteresis.negative ∷ [])
   pub events : HoldsEvents tree sensor.events
+
+-- the member of an array says a sensor data record
+abbrev pub IsRecordIn : Data → List ℕ → Type 0
+IsRecordIn d bytes = record_in d ≡ Some bytes
 
 -- the member of an array holds a sensor
 abbrev pub IsSensorIn : Data → Sensor → Type 0
@@ -84,9 +90,12 @@ pub record HoldsBoot (tree : Members) (boot : BootOptions) : Type 0 where
 -- the tree holds a board
 pub record HoldsBoard (tree : Members) (board : BoardFile) : Type 0 where
   pub terminus : HasNumber field.Tid tree board.tid
+  pub clock : HasNumber field.Clock tree board.clock
+  pub log : HasNumber field.Log tree board.log.records
   pub enables : HasNumber field.Enables tree board.enables.byte
   pub policy : HasNumber field.Policy tree board.policy.number
   pub watchdog : HasNumbers field.Watchdog tree (settings board.watchdog)
+  pub sdr : AllZip IsRecordIn (members_in field.Sdr tree) board.sdr.items
   pub boot : HoldsBoot tree board.boot
   pub device : HoldsDevice (table_in field.Device tree) board.device
   pub sensors : AllZip IsSensorIn (members_in field.Sensor tree) board.sensors.items

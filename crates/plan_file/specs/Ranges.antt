@@ -1,5 +1,5 @@
 -- The type of a field, and its range.
-use Rattle.std.specs.Prelude.{◌==◌, ℕ, ◌/◌, ◌%◌, Bool, true, false, ◌&&◌, ◌||◌, not, nat_le, nat_lt, List, [], ◌∷◌, length, slice_index, Option, Some, None, is_some, option_and_then, codes}
+use Rattle.std.specs.Prelude.{◌==◌, ℕ, ◌/◌, ◌%◌, Bool, true, false, ◌&&◌, ◌||◌, not, nat_le, nat_lt, List, [], ◌∷◌, length, slice_index, Option, Some, None, is_some, option_and_then, Result, Ok, Err, ◌+◌, if◌then◌else◌, codes}
 use Rattle.std.specs.Str.{bytes_eq}
 use Rattle.std.specs.List.{list_all}
 use Rattle.cfg_records.specs.Masks.{has, all_below}
@@ -9,6 +9,9 @@ use Rattle.cfg_records.specs.GlobalEnables.{are_enables}
 use Rattle.cfg_records.specs.BootParam.{parameter_at}
 use Rattle.cfg_records.specs.declared.boot_param.BootParameter.{BootParameter}
 use Rattle.cfg_records.specs.declared.boot_param.BootParameter.TheVariants as parameter
+use Rattle.cfg_records.specs.Sdr.{sdr_id}
+use Rattle.hex.specs.Hex.{decode_of}
+use Rattle.hex.specs.declared.error.FromHexError.{FromHexError}
 use Rattle.toml.specs.Data.{Data, Members, as_str, as_integer, as_bool, as_table}
 use Rattle.plan_file.specs.declared.field.Field.{Field}
 use Rattle.plan_file.specs.declared.field.Field.TheVariants as field
@@ -23,6 +26,10 @@ is_integer d = is_some (as_integer d)
 -- the value is a table
 abbrev pub is_table : Data → Bool
 is_table d = is_some (as_table d)
+
+-- the value is a text
+abbrev pub is_text : Data → Bool
+is_text d = is_some (as_str d)
 
 -- there is a value, and it passes
 abbrev pub passes : {A : Type 0} → (A → Bool) → Option A → Bool
@@ -48,6 +55,7 @@ has_type shape.Thresholds d = is_array_of is_integer d
 has_type shape.Flags d = is_integer d
 has_type shape.Events d = is_integer d
 has_type shape.Watchdog d = is_array_of is_integer d
+has_type (shape.Records most) d = is_array_of is_text d
 has_type shape.Table d = is_table d
 has_type (shape.Tables most) d = is_array_of is_table d
 has_type shape.Flag d = is_some (as_bool d)
@@ -99,6 +107,21 @@ are_flags n = nat_lt n 256 && (n % 64 == 0)
 abbrev pub are_supported : ℕ → ℕ → Bool
 are_supported supported events = (nat_lt supported 65536 && nat_lt events 65536) && are_within events supported
 
+-- the bytes are a sensor data record of at most 64
+abbrev pub is_record : List ℕ → Bool
+is_record bytes =
+    (nat_le 5 (length bytes) && nat_le (length bytes) 64)
+    && ((length bytes == 5 + slice_index bytes 4) && (not (sdr_id bytes == 0x0000) && not (sdr_id bytes == 0xFFFF)))
+
+-- the record whose bytes are these, if they are one
+abbrev pub record_of : Result (List ℕ) FromHexError → Option (List ℕ)
+record_of (Ok bytes) = if is_record bytes then Some bytes else None
+record_of (Err why) = None
+
+-- the sensor data record that a text says in hexadecimal digits
+abbrev pub record_in : Data → Option (List ℕ)
+record_in d = option_and_then (λ text. record_of (decode_of text)) (as_str d)
+
 -- the settings of a watchdog timer: a use of at most 5 in bits 2:0 and bit 7, an interrupt and an action of at most 3, a
 -- byte, and two bytes
 abbrev pub are_settings : List ℕ → Bool
@@ -148,6 +171,7 @@ is_in_range tree shape.Thresholds d =
 is_in_range tree shape.Flags d = passes are_flags (natural d)
 is_in_range tree shape.Events d = passes (λ supported. passes (are_supported supported) (natural d)) (number_in field.Supported tree)
 is_in_range tree shape.Watchdog d = passes are_settings (naturals_in 4 d)
+is_in_range tree (shape.Records most) d = nat_le (length (or_none (members d))) most && list_all (λ text. is_some (record_in text)) (or_none (members d))
 is_in_range tree shape.Table d = true
 is_in_range tree (shape.Tables most) d = nat_le (length (or_none (members d))) most
 is_in_range tree shape.Flag d = true

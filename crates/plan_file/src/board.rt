@@ -1,25 +1,25 @@
 //! The text of a board file.
-ghost use Rattle.std.specs.Prelude.{◌≡◌, ◌⊎◌, ◌<◌, ◌≤◌, ◌^◌, ◌==◌, ℕ, [], true, false, Some, Err, IsSome, IfOk, IfErr, map, length, option_map, option_and_then};
+ghost use Rattle.std.specs.Prelude.{◌≡◌, ◌⊎◌, ◌<◌, ◌≤◌, ◌^◌, ◌==◌, ℕ, [], true, false, is_some, Some, Err, IsSome, IfOk, IfErr, map, length, option_map, option_and_then};
 ghost use Rattle.std.specs.List.{list_all, list_any, AllZip};
 ghost use Rattle.cfg_records.specs.Distinct.{NamesDiffer};
 ghost use Rattle.toml.specs.Data.{as_table};
 ghost use Rattle.toml.specs.View.{view, table_view};
 ghost use Rattle.plan_file.specs.Trees.{in_field, table_of, table_in, members_in};
-ghost use Rattle.plan_file.specs.Ranges.{is_table};
-ghost use Rattle.plan_file.specs.Faults.{field_faults, sensor_faults, first};
-ghost use Rattle.plan_file.specs.Holds.{HasNumber, HasBelow, HoldsBoot, HoldsDevice, HoldsEvents, HoldsSensor, IsSensorIn, IsNextFault, number_of, Answers, Reads};
+ghost use Rattle.plan_file.specs.Ranges.{is_table, record_in};
+ghost use Rattle.plan_file.specs.Faults.{field_faults, record_faults, sensor_faults, first};
+ghost use Rattle.plan_file.specs.Holds.{HasNumber, HasBelow, HoldsBoot, HoldsDevice, HoldsEvents, HoldsSensor, IsRecordIn, IsSensorIn, IsNextFault, number_of, Answers, Reads};
 
 use crate::check::check;
 use crate::fault::{FileFault, Item, Place};
 use crate::field::Field;
-use crate::range::{boot_flags, digits, enables, hysteresis, thresholds, watchdog};
+use crate::range::{boot_flags, digits, enables, hysteresis, record, thresholds, watchdog};
 use crate::row::{DEVICE, SENSOR, TOP};
 use crate::tree::{in_field, members_in, number};
 use cfg_records::event_enable::{MESSAGES_PLACE, SCANNING_PLACE};
 use cfg_records::mask::has;
 use cfg_records::{
-    BoardFile, BootOptions, Device, Distinct, EventEnable, EventMasks, GlobalEnables,
-    ManufacturerId, NumericEffecters, PowerPolicy, Sensor, Sensors,
+    BoardFile, BootOptions, Device, Distinct, EventEnable, EventMasks, GlobalEnables, LogCapacity,
+    ManufacturerId, NumericEffecters, PowerPolicy, SdrRecord, SdrRecords, Sensor, Sensors,
 };
 use std::alloc::Global;
 use toml::{Table, Value};
@@ -109,6 +109,7 @@ fn sensor(table: &Table) -> Sensor
     let pair = value_in(table, Field::Hysteresis);
     Sensor {
         number: byte_in(table, Field::Number),
+        sensor_type: byte_in(table, Field::Type),
         thresholds: thresholds(table, values).unwrap(),
         hysteresis: hysteresis(pair).unwrap(),
         events: events(table),
@@ -181,6 +182,39 @@ fn global_enables(tree: &Table) -> GlobalEnables
     enables(value_in(tree, Field::Enables)).unwrap()
 }
 
+/// The sensor data records that these values are.
+fn records_of(alloc: Global, values: &[Value]) -> Result<Vec<SdrRecord>, FileFault>
+    requires { list_all (λ value. is_some (record_in (view value))) values.now ≡ true }
+    ensures held { IfOk result (λ records. AllZip IsRecordIn (map view values.now) records.items) }
+    ensures err { IfErr result (λ why. why ≡ FileFault.Memory) }
+{
+    let mut records = Vec::new(alloc);
+    for value in values {
+        match records.push(record(value).unwrap()) {
+            Ok(()) => {}
+            Err(_) => return Err(FileFault::Memory),
+        }
+    }
+    Ok(records)
+}
+
+/// The sensor data records of the file.
+fn sdr(alloc: Global, tree: &Table) -> Result<SdrRecords, FileFault>
+    requires { field_faults TOP (table_view tree.now) ≡ [] }
+    ensures sound { IfOk result (λ _. record_faults (members_in Field.Sdr (table_view tree.now)) ≡ []) }
+    ensures held { IfOk result (λ sdr. AllZip IsRecordIn (members_in Field.Sdr (table_view tree.now)) sdr.items) }
+    ensures err { IfErr result (λ why. (why ≡ FileFault.Memory) ⊎ (first (record_faults (members_in Field.Sdr (table_view tree.now))) ≡ Some why)) }
+{
+    let records = records_of(alloc, members_in(tree, Field::Sdr))?;
+    match Distinct::new(records) {
+        Some(records) => Ok(records),
+        None => Err(FileFault::Twice(Place {
+            item: Item::Top,
+            field: Field::Sdr,
+        })),
+    }
+}
+
 /// The boot options of the file.
 fn boot_options(tree: &Table) -> BootOptions
     requires { field_faults TOP (table_view tree.now) ≡ [] }
@@ -205,6 +239,7 @@ fn board_of(alloc: Global, tree: &Table) -> Result<BoardFile, FileFault>
     ensures { (result ≡ Err FileFault.Memory) ⊎ Answers (table_view tree.now) result }
 {
     check(Item::Top, &TOP, tree)?;
+    let sdr = sdr(alloc, tree)?;
     let board = table_in(tree, Field::Device);
     check(Item::Device, &DEVICE, board)?;
     let sensors = sensors(alloc, tree)?;
@@ -216,6 +251,9 @@ fn board_of(alloc: Global, tree: &Table) -> Result<BoardFile, FileFault>
         boot: boot_options(tree),
         policy: PowerPolicy::new(byte_in(tree, Field::Policy)).unwrap(),
         watchdog: watchdog(value_in(tree, Field::Watchdog)).unwrap(),
+        clock: number_in(tree, Field::Clock),
+        log: LogCapacity::new(word_in(tree, Field::Log)).unwrap(),
+        sdr,
         numeric_effecters: no_numeric(alloc),
     })
 }

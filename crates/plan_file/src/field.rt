@@ -8,9 +8,12 @@ use std::fmt;
 #[derive(Clone, Copy, Debug, PartialEq, Eq)]
 pub enum Field {
     Tid,
+    Clock,
+    Log,
     Enables,
     Policy,
     Watchdog,
+    Sdr,
     Boot3,
     Boot4,
     Boot5,
@@ -24,6 +27,7 @@ pub enum Field {
     Manufacturer,
     Product,
     Number,
+    Type,
     Readable,
     Settable,
     Thresholds,
@@ -68,9 +72,12 @@ impl Field {
     {
         match self {
             Field::Tid => "tid",
+            Field::Clock => "clock",
+            Field::Log => "log",
             Field::Enables => "enables",
             Field::Policy => "policy",
             Field::Watchdog => "watchdog",
+            Field::Sdr => "sdr",
             Field::Boot3 => "boot3",
             Field::Boot4 => "boot4",
             Field::Boot5 => "boot5",
@@ -84,6 +91,7 @@ impl Field {
             Field::Manufacturer => "manufacturer",
             Field::Product => "product",
             Field::Number => "number",
+            Field::Type => "type",
             Field::Readable => "readable",
             Field::Settable => "settable",
             Field::Thresholds => "thresholds",

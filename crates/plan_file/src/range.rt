@@ -1,20 +1,22 @@
 //! Which values a field can have: of which type, and in which range.
-ghost use Rattle.std.specs.Prelude.{◌≡◌, ◌∷◌, [], ℕ, Some, IfSome, map, is_some, option_map, nat_le, length};
+ghost use Rattle.std.specs.Prelude.{◌≡◌, ◌∷◌, [], ℕ, ◌&&◌, if◌then◌else◌, None, Some, IfSome, map, is_some, option_map, nat_le, length};
 ghost use Rattle.std.specs.List.{list_all};
+ghost use Rattle.hex.specs.Hex.{decode_of};
 ghost use Rattle.cfg_records.specs.BootParam.{flag_bytes, parameter_of, change_bytes};
 ghost use Rattle.cfg_records.specs.Watchdog.{watchdog_value};
 ghost use Rattle.toml.specs.Data.{as_str};
 ghost use Rattle.toml.specs.View.{view, table_view};
 ghost use Rattle.plan_file.specs.Trees.{members, or_none, natural, naturals_in, bytes_in, number_in};
-ghost use Rattle.plan_file.specs.Ranges.{passes, is_integer, is_table, is_array_of, has_type, is_between, are_digits, is_enables_byte, are_masks, are_thresholds, are_flags, are_settings, is_selection, is_offset, are_five_bits, are_boot_data, parameter_in, is_in_range};
+ghost use Rattle.plan_file.specs.Ranges.{passes, is_integer, is_table, is_array_of, has_type, is_between, are_digits, is_enables_byte, are_masks, are_thresholds, are_flags, is_text, is_record, record_of, record_in, are_settings, is_selection, is_offset, are_five_bits, are_boot_data, parameter_in, is_in_range};
 ghost use Rattle.plan_file.specs.Holds.{settings};
 
 use crate::field::Field;
 use crate::row::Shape;
 use crate::tree::{bytes, members, natural, naturals, number};
 use cfg_records::event_enable::are_within;
+use cfg_records::sdr_record::MOST_SDR_BYTES;
 use cfg_records::{
-    Bcd, BootChange, BootFlags, BootParameter, GlobalEnables, Hysteresis, MaskedBits,
+    Bcd, BootChange, BootFlags, BootParameter, GlobalEnables, Hysteresis, MaskedBits, SdrRecord,
     ThresholdMasks, Thresholds, Watchdog,
 };
 use toml::{Table, Value};
@@ -31,6 +33,23 @@ fn all_tables(values: &[Value]) -> bool
     ensures { result ≡ list_all (λ value. is_table (view value)) values.now }
 {
     values.iter().all(|value| value.is_table())
+}
+
+/// Whether each of the values is a text.
+fn all_texts(values: &[Value]) -> bool
+    ensures { result ≡ list_all (λ value. is_text (view value)) values.now }
+{
+    values.iter().all(|value| value.is_str())
+}
+
+/// Whether the value is an array of texts.
+fn are_texts(value: &Value) -> bool
+    ensures { result ≡ is_array_of is_text (view value.now) }
+{
+    match members(value) {
+        Some(values) => all_texts(values),
+        None => false,
+    }
 }
 
 /// Whether the value is an array of integers.
@@ -188,6 +207,56 @@ fn are_supported(item: &Table, value: &Value) -> bool
     are_within(events, supported)
 }
 
+/// The sensor data record of these bytes.
+fn record_of(bytes: &[u8]) -> Option<SdrRecord>
+    ensures { result ≡ (if is_record bytes.now then Some bytes.now else None) }
+{
+    SdrRecord::new(bytes)
+}
+
+/// The sensor data record that the text says in hexadecimal digits.
+fn record_in_text(text: &str) -> Option<SdrRecord>
+    ensures { result ≡ record_of (decode_of text.now) }
+{
+    let size = text.len() / 2;
+    if size > MOST_SDR_BYTES {
+        return None;
+    }
+    let mut bytes = [0; MOST_SDR_BYTES];
+    let bytes = &mut bytes[..size];
+    match hex::decode_to_slice(text, bytes) {
+        Ok(()) => record_of(bytes),
+        Err(_) => None,
+    }
+}
+
+/// The sensor data record that the value is.
+pub fn record(value: &Value) -> Option<SdrRecord>
+    ensures { result ≡ record_in (view value.now) }
+{
+    match value.as_str() {
+        Some(text) => record_in_text(text),
+        None => None,
+    }
+}
+
+/// Whether each of the values is a sensor data record.
+fn all_records(values: &[Value]) -> bool
+    ensures { result ≡ list_all (λ value. is_some (record_in (view value))) values.now }
+{
+    values.iter().all(|value| record(value).is_some())
+}
+
+/// Whether the array that the value is has at most so many members, each of which is a sensor data record.
+fn are_records(value: &Value, most: usize) -> bool
+    ensures { result ≡ (nat_le (length (or_none (members (view value.now)))) most && list_all (λ text. is_some (record_in text)) (or_none (members (view value.now)))) }
+{
+    match members(value) {
+        Some(values) => values.len() <= most && all_records(values),
+        None => true,
+    }
+}
+
 /// The settings of a watchdog timer that the value is.
 pub fn watchdog(value: &Value) -> Option<Watchdog>
     ensures made { is_some result ≡ passes are_settings (naturals_in 4 (view value.now)) }
@@ -310,6 +379,7 @@ impl Shape {
             Shape::Pair | Shape::Thresholds | Shape::Watchdog | Shape::Offsets => {
                 are_integers(value)
             }
+            Shape::Records(_) => are_texts(value),
             Shape::BootFlags | Shape::BootData => are_integers(value),
             Shape::Table => value.is_table(),
             Shape::Tables(_) => are_tables(value),
@@ -332,6 +402,7 @@ impl Shape {
             Shape::Flags => are_flags(value),
             Shape::Events => are_supported(item, value),
             Shape::Watchdog => watchdog(value).is_some(),
+            Shape::Records(most) => are_records(value, *most),
             Shape::Table => true,
             Shape::Tables(most) => are_at_most(value, *most),
             Shape::Flag | Shape::Text => true,

@@ -29,6 +29,8 @@ pub enum Shape {
     Events,
     /// The settings of a watchdog timer, in a list: use, actions, pre-timeout interval and countdown.
     Watchdog,
+    /// At most so many sensor data records, in a list of texts of hexadecimal digits.
+    Records(usize),
     /// A table.
     Table,
     /// An array of at most so many tables.
@@ -75,11 +77,14 @@ pub struct Row(pub Field, pub Shape, pub Need);
 pub const BYTE: Shape = Shape::Number(0, 255);
 
 /// A board file's own fields.
-pub const TOP: [Row; 9] = [
+pub const TOP: [Row; 12] = [
     Row(Field::Tid, BYTE, Need::Always),
+    Row(Field::Clock, Shape::Number(0, 0xFFFF_FFFF), Need::Always),
+    Row(Field::Log, Shape::Number(1, 1_024), Need::Always),
     Row(Field::Enables, Shape::Enables, Need::Always),
     Row(Field::Policy, Shape::Number(0, 3), Need::Always),
     Row(Field::Watchdog, Shape::Watchdog, Need::Always),
+    Row(Field::Sdr, Shape::Records(64), Need::Always),
     Row(Field::Boot3, Shape::Number(0, 31), Need::Always),
     Row(Field::Boot4, BYTE, Need::Always),
     Row(Field::Boot5, Shape::BootFlags, Need::Always),
@@ -103,8 +108,9 @@ pub const DEVICE: [Row; 7] = [
 ];
 
 /// The fields of a `[[sensor]]`.
-pub const SENSOR: [Row; 9] = [
+pub const SENSOR: [Row; 10] = [
     Row(Field::Number, Shape::Number(0, 254), Need::Always),
+    Row(Field::Type, BYTE, Need::Always),
     Row(Field::Readable, Shape::Number(0, 63), Need::Always),
     Row(Field::Settable, Shape::Number(0, 63), Need::Always),
     Row(Field::Thresholds, Shape::Thresholds, Need::Always),

@@ -81,7 +81,7 @@ const fn sensor(place: usize, field: Field) -> Place {
 
 /// A case for each field: the file's own, `[device]`'s, and the second `[[sensor]]`'s. The line of `deassert` is each
 /// sensor's, and the first counts.
-fn cases() -> [Case; 23] {
+fn cases() -> [Case; 27] {
     [
         Case {
             line: "tid = 5",
@@ -91,10 +91,24 @@ fn cases() -> [Case; 23] {
             inside: ["tid = 0", "tid = 255"],
         },
         Case {
+            line: "clock = 0",
+            place: top(Field::Clock),
+            mistyped: "clock = 0.5",
+            beyond: ["clock = -1", "clock = 0x100000000"],
+            inside: ["clock = 1", "clock = 0xFFFFFFFF"],
+        },
+        Case {
+            line: "log = 2",
+            place: top(Field::Log),
+            mistyped: "log = [2]",
+            beyond: ["log = 0", "log = 1025"],
+            inside: ["log = 1", "log = 1024"],
+        },
+        Case {
             line: "enables = 0x08",
             place: top(Field::Enables),
-            mistyped: "enables = false",
-            beyond: ["enables = 0x10", "enables = 256"],
+            mistyped: "enables = true",
+            beyond: ["enables = 0x10", "enables = 0x100"],
             inside: ["enables = 0", "enables = 0xEF"],
         },
         Case {
@@ -116,6 +130,13 @@ fn cases() -> [Case; 23] {
                 "watchdog = [0x85, 0x33, 255, 65535]",
                 "watchdog = [0, 0, 0, 1]",
             ],
+        },
+        Case {
+            line: "sdr = [\"010051C00100\"]",
+            place: top(Field::Sdr),
+            mistyped: "sdr = [\"010051C00100\", 1]",
+            beyond: ["sdr = [\"010051C00200\"]", "sdr = [\"FFFF51C000\"]"],
+            inside: ["sdr = []", "sdr = [\"feFF51c000\", \"010051C00100\"]"],
         },
         Case {
             line: "boot3 = 0",
@@ -193,6 +214,13 @@ fn cases() -> [Case; 23] {
             mistyped: "number = true",
             beyond: ["number = -1", "number = 255"],
             inside: ["number = 0", "number = 254"],
+        },
+        Case {
+            line: "type = 4",
+            place: sensor(1, Field::Type),
+            mistyped: "type = true",
+            beyond: ["type = -1", "type = 256"],
+            inside: ["type = 0", "type = 255"],
         },
         Case {
             line: "readable = 0x18",
@@ -281,17 +309,25 @@ fn the_sample_file_holds_the_sample_board(rt: HostRuntime) -> Result<(), Fail> {
     let known = sample_board(rt.alloc())?;
     assert_eq!(rt; read.tid, known.tid);
     assert!(rt; read.device == known.device);
-    assert_eq!(rt; read.enables.byte, known.enables.byte);
     assert_eq!(rt; read.boot.valid_bit_clearing, known.boot.valid_bit_clearing);
     assert_eq!(rt; read.boot.info_acknowledge, known.boot.info_acknowledge);
     assert!(rt; read.boot.flags == known.boot.flags);
     assert_eq!(rt; read.policy.number, known.policy.number);
     assert_eq!(rt; read.watchdog.timer_use, known.watchdog.timer_use);
     assert_eq!(rt; read.watchdog.initial, known.watchdog.initial);
+    assert_eq!(rt; read.clock, known.clock);
+    assert!(rt; read.log == known.log);
+    assert_eq!(rt; read.enables.byte, known.enables.byte);
+    let records = read.sdr.items.as_slice();
+    assert_eq!(rt; records.len(), known.sdr.items.as_slice().len());
+    for (one, other) in records.iter().zip(known.sdr.items.as_slice()) {
+        assert_eq!(rt; one.as_slice(), other.as_slice());
+    }
     let sensors = read.sensors.items.as_slice();
     assert_eq!(rt; sensors.len(), known.sensors.items.as_slice().len());
     for (one, other) in sensors.iter().zip(known.sensors.items.as_slice()) {
         assert_eq!(rt; one.number, other.number);
+        assert_eq!(rt; one.sensor_type, other.sensor_type);
         assert!(rt; one.thresholds.masks == other.thresholds.masks);
         assert!(rt; one.thresholds.values == other.thresholds.values);
         assert!(rt; one.hysteresis == other.hysteresis);
@@ -351,6 +387,21 @@ fn a_field_that_is_left_out_mistyped_or_out_of_range_is_named(rt: HostRuntime) -
 fn the_first_fault_counts(rt: HostRuntime) -> Result<(), Fail> {
     let cases = [
         ("number = 7", "number = 5", "Twice sensor 1 number"),
+        (
+            "sdr = [\"010051C00100\"]",
+            "sdr = [\"010051C000\", \"020051C000\", \"010051C0020102\"]",
+            "Twice top sdr",
+        ),
+        (
+            "sdr = [\"010051C00100\"]",
+            "sdr = [\"010051C0010\"]",
+            "Range top sdr",
+        ),
+        (
+            "sdr = [\"010051C00100\"]",
+            "sdr = [\"000051C000\"]",
+            "Range top sdr",
+        ),
         ("[device]", "", "Missing top device"),
         ("[device]", "[other]", "Missing top device"),
         ("[device]", "device = 1", "WrongType top device"),
@@ -405,7 +456,7 @@ fn with_sensors(alloc: Global, count: u8) -> Result<String, Fail> {
     }
     for number in 0..count {
         let item = format!(in alloc;
-            "[[sensor]]\nnumber = {number}\nreadable = 0\nsettable = 0\n"
+            "[[sensor]]\nnumber = {number}\ntype = 1\nreadable = 0\nsettable = 0\n"
         )?;
         text.push_str(item.as_str())?;
         text.push_str("thresholds = [0, 0, 0, 0, 0, 0]\nhysteresis = [0, 0]\n")?;

@@ -1,9 +1,11 @@
-//! The lines that are said of a play.
+//! The texts of a play: the board file, the plan and the schedule that tell it, and the lines that are said of it.
 #![tactic(auto)]
 
 mod account;
+mod inputs;
 mod lines;
 #[cfg(test)]
 mod tests;
 
 pub use account::{Account, Stopped};
+pub use inputs::{InputFault, Inputs, read_inputs};

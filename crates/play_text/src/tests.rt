@@ -1,2 +1,3 @@
 //! Examples from outside.
 mod account;
+mod inputs;

@@ -1,1 +1,2 @@
 pub mod EventsMade
+pub mod TakenFacts

@@ -1,5 +1,7 @@
 pub mod Requests
 pub mod Readings
+pub mod Taken
+pub mod Sdr
 pub mod Thresholds
 pub mod ThresholdsLaws
 pub mod ThresholdsKind

@@ -25,3 +25,11 @@ pub struct Event {
     pub high: bool,
     pub deasserted: bool,
 }
+
+/// The last reading of a sensor, as a raw byte, and of each threshold whether it was beyond it.
+#[derive(Clone, Copy, Debug, PartialEq, Eq)]
+pub struct Taken {
+    pub raw: u8,
+    pub beyond: [bool; 6],
+    pub ghost six: { length beyond ≡ 6 },
+}

@@ -28,6 +28,12 @@ reservation_canceled = 0xC5
 abbrev pub invalid_length : ℕ
 invalid_length = 0xC7
 
+abbrev pub out_of_range : ℕ
+out_of_range = 0xC9
+
+abbrev pub too_many_bytes : ℕ
+too_many_bytes = 0xCA
+
 abbrev pub not_present : ℕ
 not_present = 0xCB
 

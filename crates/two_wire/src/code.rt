@@ -44,6 +44,12 @@ pub const RESERVATION_CANCELED: Code = Code { value: 0xC5 };
 /// IPMI: the command doesn't take so many bytes of data.
 pub const INVALID_LENGTH: Code = Code { value: 0xC7 };
 
+/// IPMI: a parameter of the request is out of its range.
+pub const OUT_OF_RANGE: Code = Code { value: 0xC9 };
+
+/// IPMI: the reply has no room for so many bytes as are asked for.
+pub const TOO_MANY_BYTES: Code = Code { value: 0xCA };
+
 /// IPMI: the sensor, record or other thing that is asked for isn't there.
 pub const NOT_PRESENT: Code = Code { value: 0xCB };
 
@@ -72,8 +78,8 @@ pub const PLDM_INVALID_EFFECTER: Code = Code { value: 0x80 };
 pub const PLDM_INVALID_STATE: Code = Code { value: 0x81 };
 
 /// The codes of IPMI, from the lowest, each by its constant. The clause ties a constant to the name that contracts have for it.
-pub fn of_ipmi() -> [Code; 9]
-    ensures { result ≡ codes.uninitialized_watchdog ∷ codes.node_busy ∷ codes.invalid_command ∷ codes.invalid_for_lun ∷ codes.out_of_space ∷ codes.reservation_canceled ∷ codes.invalid_length ∷ codes.not_present ∷ codes.invalid_data_field ∷ [] }
+pub fn of_ipmi() -> [Code; 11]
+    ensures { result ≡ codes.uninitialized_watchdog ∷ codes.node_busy ∷ codes.invalid_command ∷ codes.invalid_for_lun ∷ codes.out_of_space ∷ codes.reservation_canceled ∷ codes.invalid_length ∷ codes.out_of_range ∷ codes.too_many_bytes ∷ codes.not_present ∷ codes.invalid_data_field ∷ [] }
 {
     [
         UNINITIALIZED_WATCHDOG,
@@ -83,6 +89,8 @@ pub fn of_ipmi() -> [Code; 9]
         OUT_OF_SPACE,
         RESERVATION_CANCELED,
         INVALID_LENGTH,
+        OUT_OF_RANGE,
+        TOO_MANY_BYTES,
         NOT_PRESENT,
         INVALID_DATA_FIELD,
     ]

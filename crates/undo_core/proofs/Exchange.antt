@@ -38,13 +38,13 @@ use Rattle.undo_family.specs.Family.{bus_of}
 use Rattle.undo_family.specs.Spelled.{numbers_of}
 use Rattle.undo_family.specs.Wires.{bytes_of, reply_to, answered_from}
 use Rattle.lab_model.specs.Bytes.{response_bytes, response_to}
-use Rattle.lab_model.specs.Values.{Value, Asks, Tells, Part, written, parts_of}
+use Rattle.lab_model.specs.Values.{Value, Asks, Tells, Part, written, parts_of, IsFrameOn}
 use Rattle.lab_model.specs.Cuts.{kept_after_parts, kept_with_parts, has_slot}
 use Rattle.lab_model.specs.PortSteps.{PortState, Deed, stays, hears_request, hears_control, hears_pldm, hears_typed, hears_message, hears_part, hears_parts, ends_message}
 use Rattle.lab_model.specs.ManagerSteps.{board_plans, ManagerState, ManagerDeed, heeded_on, open_count, open_bytes, is_part, rests, taken_or, tested, hears_reply, hears_response, joins_for, joins, ends_reply, hears_packet}
 use Rattle.lab_model.proofs.Parts.{parts_are_cuts, parts_are_heard}
 use Rattle.undo_core.specs.Shown.{words_of}
-use Rattle.undo_core.specs.Exchange.{IsFrameOn, AreReadAs, AreNames, CanBeAsked, CanBeTold, IsControllers, hears_each, reply_message, values_told, ManagerDeeds, sent_list, deeds_of, manager_hears_each, IsAwaiting, IsHeardAsAsked, RequestsAreHeard, IsTakenAsTold, RepliesAreTaken}
+use Rattle.undo_core.specs.Exchange.{AreReadAs, AreNames, CanBeAsked, CanBeTold, IsControllers, hears_each, reply_message, values_told, ManagerDeeds, sent_list, deeds_of, manager_hears_each, IsAwaiting, IsHeardAsAsked, RequestsAreHeard, IsTakenAsTold, RepliesAreTaken}
 use Rattle.undo_core.proofs.Heard.{ipmb_by_fields, busy_is_none}
 
 -- ---- frames are read as what they are, and as nothing else

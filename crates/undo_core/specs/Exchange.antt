@@ -3,10 +3,8 @@ use Rattle.std.specs.Prelude.{◌≡◌, ℕ, ◌%◌, ◌<◌, ◌≤◌, false
 use Rattle.std.specs.List.{AllZip}
 use Rattle.two_wire.specs.declared.Bus.{Bus}
 use Rattle.two_wire.specs.declared.Bus.TheVariants.{Ipmb, Smbus}
-use Rattle.ipmb_frame.specs.Grammar.{IsRequest, IsResponse}
 use Rattle.mctp_net.specs.declared.message.Message.{Message}
 use Rattle.mctp_net.specs.declared.packet.Name.{Name}
-use Rattle.mctp_net.specs.Grammar.{IsPacket}
 use Rattle.mctp_net.specs.Sizes.{most_assemblies}
 use Rattle.mctp_net.specs.Assembly.{Assemblies, open_beside}
 use Rattle.cfg_records.specs.declared.message.Asked.{Asked}
@@ -24,22 +22,13 @@ use Rattle.undo_family.specs.Family.{bus_of}
 use Rattle.undo_family.specs.Spelled.{numbers_of}
 use Rattle.undo_family.specs.Wires.{bytes_of, reply_to}
 use Rattle.lab_model.specs.Bytes.{said}
-use Rattle.lab_model.specs.Values.{Value, Asks, Tells, Part, written, parts_of}
+use Rattle.lab_model.specs.Values.{Value, Asks, Tells, Part, written, parts_of, IsFrameOn}
 use Rattle.lab_model.specs.PortSteps.{PortState, Turn, Deed, turn, spelled, stays, hears}
 use Rattle.lab_model.specs.ManagerSteps.{own_on, board_plans, values_of, Sent, ManagerState, ManagerDeed, heeded_on, open_count, taken_or, manager_hears}
 use Rattle.lab_model.specs.ManagerEvents.{name_awaited}
 use Rattle.undo_core.specs.Shown.{words_of, own}
 
 -- ---- frames
-
--- the bytes are the value's frame on the bus
-abbrev pub IsFrameOn : Bus → Value → List ℕ → Type 0
-IsFrameOn Ipmb (Asks r) bytes = IsRequest r bytes
-IsFrameOn Ipmb (Tells r) bytes = IsResponse r bytes
-IsFrameOn Ipmb (Part p) bytes = ⊥
-IsFrameOn Smbus (Part p) bytes = IsPacket p bytes
-IsFrameOn Smbus (Asks r) bytes = ⊥
-IsFrameOn Smbus (Tells r) bytes = ⊥
 
 -- one to four frames are read as these values, and as no others
 pub record AreReadAs (on : Bus) (values : List Value) (frames : List (List ℕ)) : Type 0 where

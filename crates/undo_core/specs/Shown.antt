@@ -1,5 +1,6 @@
 -- The machine that a manager shows, and the packets that wait at it.
 use Rattle.std.specs.Prelude.{◌≡◌, Result, Ok, Err, suc, ◌%◌, ◌<◌, Bool, List, ◌∷◌, length, map, take, reverse, Option, Some, None, slice_get, if◌then◌else◌}
+use Rattle.std.specs.List.{AllZip}
 use Rattle.cfg_records.specs.declared.op.Op.{Op}
 use Rattle.cfg_records.specs.declared.message.Asked.{Asked}
 use Rattle.plans.specs.declared.names.Names.{Names}
@@ -9,7 +10,7 @@ use Rattle.undo_model.specs.Machine as machine
 use Rattle.undo_model.specs.Machine.{reply_of}
 use Rattle.undo_core.specs.declared.phase.WrongPhase.{WrongPhase}
 use Rattle.undo_family.specs.Family.{from_manager}
-use Rattle.lab_model.specs.Values.{written}
+use Rattle.lab_model.specs.Values.{written, IsFrameOn}
 use Rattle.lab_model.specs.ManagerSteps.{addresses, board_plans, Sent as AllSent, Call, ManagerState, ManagerDeed, called, rests, taken_or}
 use Rattle.undo_core.specs.declared.stage.Task.{Task}
 use Rattle.undo_core.specs.declared.stage.Task.TheVariants as task
@@ -65,9 +66,11 @@ pub record Shows (names : Names) (m : Manager) (s : ManagerState (board_plans na
   pub instance : m.undo.next.smbus ≡ m.counts.smbus % 32
   pub joined : s.joined ≡ seen m.joined
 
--- frames that the manager sends
+-- The manager sends what the machine sends: on its bus, as that request, the frames of its values. Each frame is read as its value.
 abbrev pub IsSent : Option Sent → Option AllSent → Type 0
-IsSent (Some r) (Some s) = (r.bus ≡ s.on) × (r.request ≡ s.request) × (r.frames.items ≡ map written s.values)
+IsSent (Some r) (Some s) =
+    (r.bus ≡ s.on) × (r.request ≡ s.request) × (r.frames.items ≡ map written s.values)
+    × AllZip (IsFrameOn s.on) s.values r.frames.items
 IsSent None None = Unit {0}
 IsSent _ _ = ⊥
 

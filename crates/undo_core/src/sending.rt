@@ -1,10 +1,12 @@
 //! Requests as the frames that are sent.
 ghost use Rattle.std.specs.Prelude.{◌≡◌, ◌+◌, ◌%◌, ◌<◌, suc, true, [], ◌∷◌, ℕ, map};
-ghost use Rattle.lab_model.specs.Values.{written};
+ghost use Rattle.lab_model.specs.Values.{written, IsFrameOn};
 ghost use Rattle.lab_model.specs.ManagerSteps.{values_of};
 ghost use Rattle.undo_model.specs.Machine.{count_of, one_answered};
 ghost use Rattle.undo_family.specs.Family.{bus_of as bus_of_request};
 ghost use Rattle.cfg_records.specs.declared.message.Asked.TheVariants as asked_as;
+ghost use Rattle.std.specs.List.{AllZip};
+ghost use Rattle.two_wire.specs.declared.Bus.TheVariants.{Ipmb as IsIpmb, Smbus as IsSmbus};
 ghost use Rattle.undo_core.specs.Counted.{counts_of};
 
 use arrayvec::ArrayVec;
@@ -91,6 +93,7 @@ pub fn frames_of(names: &Names, counts: Counts, asked: &Asked) -> Sent
     ensures bus { result.bus ≡ bus_of_request asked.now }
     ensures request { result.request ≡ count_of (bus_of_request asked.now) (counts_of counts) }
     ensures frames { result.frames.items ≡ map written (values_of names.now (count_of (bus_of_request asked.now) (counts_of counts)) asked.now) }
+    ensures read { AllZip (IsFrameOn (bus_of_request asked.now)) (values_of names.now (count_of (bus_of_request asked.now) (counts_of counts)) asked.now) result.frames.items }
 {
     match asked {
         Asked::Ipmi {
@@ -130,7 +133,8 @@ fn request_frame(
     command: u8,
     body: &Bytes<25>,
 ) -> Frame
-    ensures { (from : ℕ) → result ∷ [] ≡ map written (values_of names.now counts.ipmb (asked_as.Ipmi from net_fn lun command body.now)) }
+    ensures frames { (from : ℕ) → result ∷ [] ≡ map written (values_of names.now counts.ipmb (asked_as.Ipmi from net_fn lun command body.now)) }
+    ensures read { (from : ℕ) → AllZip (IsFrameOn IsIpmb) (values_of names.now counts.ipmb (asked_as.Ipmi from net_fn lun command body.now)) (result ∷ []) }
 {
     let header = ipmb_frame::Header {
         responder: Party {
@@ -157,7 +161,8 @@ fn message_frames(
     command: u8,
     body: &Bytes<252>,
 ) -> ArrayVec<Frame, 4>
-    ensures { (from : ℕ) → result.items ≡ map written (values_of names.now counts.smbus (asked_as.Pldm from kind command body.now)) }
+    ensures frames { (from : ℕ) → result.items ≡ map written (values_of names.now counts.smbus (asked_as.Pldm from kind command body.now)) }
+    ensures read { (from : ℕ) → AllZip (IsFrameOn IsSmbus) (values_of names.now counts.smbus (asked_as.Pldm from kind command body.now)) result.items }
 {
     let header = pldm_base::Header {
         instance: counts.instance(),

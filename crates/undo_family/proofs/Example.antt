@@ -44,18 +44,18 @@ module _ (setup : BoardFile) (others : Records) where
   is_valid all key.PowerPolicy v e = subst IsPowerPolicy (same_Some _ _ e) (record { one = refl; known = lit≤ tt })
   is_valid all k v e = all k v e
 
-  get_carried : May (family setup addresses) messages (wires addresses) (after setup others 1) (to_port setup others 0 (0x04 ∷ 0x00 ∷ 0x01 ∷ 0x00 ∷ 0x00 ∷ 0x00 ∷ 0x00 ∷ []) (board others))
-  get_carried = port_may (after setup others 1) 0 (0x04 ∷ 0x00 ∷ 0x01 ∷ 0x00 ∷ 0x00 ∷ 0x00 ∷ 0x00 ∷ []) (board others) refl (does (after setup others 1) (0x00 ∷ 0x00 ∷ 0x01 ∷ []) (0x04 ∷ 0x00 ∷ 0x01 ∷ 0x00 ∷ 0x00 ∷ 0x00 ∷ 0x00 ∷ []) refl)
+  get_carried : May (family setup addresses) messages (wires addresses) (after setup others 1) (to_port setup others 0 (0x04 ∷ 0x00 ∷ 0x01 ∷ 0x00 ∷ 0x00 ∷ 0x00 ∷ 0x00 ∷ []) (board setup others))
+  get_carried = port_may (after setup others 1) 0 (0x04 ∷ 0x00 ∷ 0x01 ∷ 0x00 ∷ 0x00 ∷ 0x00 ∷ 0x00 ∷ []) (board setup others) refl (does (after setup others 1) (0x00 ∷ 0x00 ∷ 0x01 ∷ []) (0x04 ∷ 0x00 ∷ 0x01 ∷ 0x00 ∷ 0x00 ∷ 0x00 ∷ 0x00 ∷ []) refl)
 
-  set_carried : May (family setup addresses) messages (wires addresses) (after setup others 3) (to_port setup others 2 (0x04 ∷ 0x04 ∷ 0x06 ∷ 0x00 ∷ 0x07 ∷ []) (with_policy 1 (board others)))
-  set_carried = port_may (after setup others 3) 2 (0x04 ∷ 0x04 ∷ 0x06 ∷ 0x00 ∷ 0x07 ∷ []) (with_policy 1 (board others)) refl (does (after setup others 3) (0x00 ∷ 0x04 ∷ 0x06 ∷ 0x01 ∷ []) (0x04 ∷ 0x04 ∷ 0x06 ∷ 0x00 ∷ 0x07 ∷ []) refl)
+  set_carried : May (family setup addresses) messages (wires addresses) (after setup others 3) (to_port setup others 2 (0x04 ∷ 0x04 ∷ 0x06 ∷ 0x00 ∷ 0x07 ∷ []) (with_policy 1 (board setup others)))
+  set_carried = port_may (after setup others 3) 2 (0x04 ∷ 0x04 ∷ 0x06 ∷ 0x00 ∷ 0x07 ∷ []) (with_policy 1 (board setup others)) refl (does (after setup others 3) (0x00 ∷ 0x04 ∷ 0x06 ∷ 0x01 ∷ []) (0x04 ∷ 0x04 ∷ 0x06 ∷ 0x00 ∷ 0x07 ∷ []) refl)
 
-  set_repeats : May (family setup addresses) messages (wires addresses) (after setup others 5) (to_port setup others 2 [] (with_policy 1 (board others)))
-  set_repeats = port_may (after setup others 5) 2 [] (with_policy 1 (board others)) refl refl
+  set_repeats : May (family setup addresses) messages (wires addresses) (after setup others 5) (to_port setup others 2 [] (with_policy 1 (board setup others)))
+  set_repeats = port_may (after setup others 5) 2 [] (with_policy 1 (board setup others)) refl refl
 
-  undo_carried : May (family setup addresses) messages (wires addresses) (after setup others 7) (to_port setup others 5 (0x04 ∷ 0x08 ∷ 0x06 ∷ 0x00 ∷ 0x07 ∷ []) (with_policy 0 (with_policy 1 (board others))))
+  undo_carried : May (family setup addresses) messages (wires addresses) (after setup others 7) (to_port setup others 5 (0x04 ∷ 0x08 ∷ 0x06 ∷ 0x00 ∷ 0x07 ∷ []) (with_policy 0 (with_policy 1 (board setup others))))
   undo_carried =
-      port_may (after setup others 7) 5 (0x04 ∷ 0x08 ∷ 0x06 ∷ 0x00 ∷ 0x07 ∷ []) (with_policy 0 (with_policy 1 (board others))) refl (does (after setup others 7) (0x00 ∷ 0x08 ∷ 0x06 ∷ 0x00 ∷ []) (0x04 ∷ 0x08 ∷ 0x06 ∷ 0x00 ∷ 0x07 ∷ []) refl)
+      port_may (after setup others 7) 5 (0x04 ∷ 0x08 ∷ 0x06 ∷ 0x00 ∷ 0x07 ∷ []) (with_policy 0 (with_policy 1 (board setup others))) refl (does (after setup others 7) (0x00 ∷ 0x08 ∷ 0x06 ∷ 0x00 ∷ []) (0x04 ∷ 0x08 ∷ 0x06 ∷ 0x00 ∷ 0x07 ∷ []) refl)
 
   pub ends_undone : EndsUndone setup others
   ends_undone = record {

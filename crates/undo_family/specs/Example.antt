@@ -23,8 +23,8 @@ with_others others key.PowerPolicy = Some (0 ∷ [])
 with_others others k = others k
 
 -- the board at the start, and with another policy
-abbrev pub board : Records → State
-board others = state (with_others others) activity
+abbrev pub board : BoardFile → Records → State
+board setup others = state (with_others others) (activity setup)
 
 abbrev pub with_policy : ℕ → State → State
 with_policy policy b = state (with_record b.records key.PowerPolicy (policy ∷ [])) b.activity
@@ -44,12 +44,12 @@ module _ (setup : BoardFile) (others : Records) where
   -- changes nothing. The undo (frame 5) sets policy 0.
   abbrev pub events : List (Happening (family setup addresses) messages)
   events =
-      Start ∷ to_port 0 (0x04 ∷ 0x00 ∷ 0x01 ∷ 0x00 ∷ 0x00 ∷ 0x00 ∷ 0x00 ∷ []) (board others) ∷ to_manager 1
-      ∷ to_port 2 (0x04 ∷ 0x04 ∷ 0x06 ∷ 0x00 ∷ 0x07 ∷ []) (with_policy 1 (board others)) ∷ to_manager 3 ∷ to_port 2 [] (with_policy 1 (board others))
-      ∷ Undo ∷ to_port 5 (0x04 ∷ 0x08 ∷ 0x06 ∷ 0x00 ∷ 0x07 ∷ []) (with_policy 0 (with_policy 1 (board others))) ∷ to_manager 6 ∷ []
+      Start ∷ to_port 0 (0x04 ∷ 0x00 ∷ 0x01 ∷ 0x00 ∷ 0x00 ∷ 0x00 ∷ 0x00 ∷ []) (board setup others) ∷ to_manager 1
+      ∷ to_port 2 (0x04 ∷ 0x04 ∷ 0x06 ∷ 0x00 ∷ 0x07 ∷ []) (with_policy 1 (board setup others)) ∷ to_manager 3 ∷ to_port 2 [] (with_policy 1 (board setup others))
+      ∷ Undo ∷ to_port 5 (0x04 ∷ 0x08 ∷ 0x06 ∷ 0x00 ∷ 0x07 ∷ []) (with_policy 0 (with_policy 1 (board setup others))) ∷ to_manager 6 ∷ []
 
   abbrev pub start : World (family setup addresses) messages
-  start = opening (family setup addresses) messages plan 0 quiet_messages (board others)
+  start = opening (family setup addresses) messages plan 0 quiet_messages (board setup others)
 
   -- after the first so many events
   abbrev pub after : ℕ → World (family setup addresses) messages
@@ -58,7 +58,7 @@ module _ (setup : BoardFile) (others : Records) where
   -- The run may happen on each board that begins with policy 0, whatever its file and its other records are. The manager's requests are
   -- IPMI's bytes, the policy was 1 before the undo, and the run ends undone.
   pub record EndsUndone : Type 0 where
-    pub starts : AllValid (family setup addresses) others → IsStart (family setup addresses) messages (wires addresses) quiet_messages (board others)
+    pub starts : AllValid (family setup addresses) others → IsStart (family setup addresses) messages (wires addresses) quiet_messages (board setup others)
     pub may : AllMay (family setup addresses) messages (wires addresses) events start
     pub sent : ((after 9).on Ipmb).begun ≡ (0x00 ∷ 0x00 ∷ 0x01 ∷ []) ∷ (0x00 ∷ 0x04 ∷ 0x06 ∷ 0x01 ∷ []) ∷ (0x00 ∷ 0x08 ∷ 0x06 ∷ 0x00 ∷ []) ∷ []
     pub set : (after 6).board.records key.PowerPolicy ≡ Some (1 ∷ [])

@@ -1,5 +1,5 @@
 -- The watchdog timer, as a kind of record (IPMI 2.0).
-use Rattle.std.specs.Prelude.{◌≡◌, ℕ, ◌+◌, ◌-◌, ◌*◌, ◌/◌, ◌%◌, ◌^◌, ◌<◌, ◌≤◌, List, [], ◌∷◌, length, slice_index, bit_and, nat_le, ◌&&◌, ◌==◌, not, Bool, true, IsFalse, if◌then◌else◌, Result, Ok, Err, Option, Some, None, refl}
+use Rattle.std.specs.Prelude.{◌≡◌, ℕ, ◌+◌, ◌-◌, ◌*◌, ◌/◌, ◌%◌, ◌^◌, ◌<◌, ◌≤◌, List, [], ◌∷◌, length, slice_index, bit_and, bit_or, nat_le, ◌&&◌, ◌==◌, not, Bool, true, false, IsFalse, if◌then◌else◌, Result, Ok, Err, Option, Some, None, refl}
 use Rattle.std.specs.Int.{w16, to_le_bytes, from_le_bytes}
 use Rattle.two_wire.specs.Codes.{invalid_data_field}
 use Rattle.cfg_records.specs.declared.key.Key.{Key}
@@ -154,6 +154,17 @@ live_after_reset value live = record {
   expired = live.expired;
   running = true;
 }
+
+-- ---- the countdown
+
+-- a countdown that has come to its end stops the timer, and sets the expiration flag whose bit is the timer's use
+abbrev pub live_at_end : List ℕ → Live → Live
+live_at_end value live =
+    if live.countdown == 0 then record live { running = false; expired = bit_or live.expired (2 ^ use_in (slice_index value 0)) } else live
+
+-- a tenth of a second later: the countdown of a timer that runs has lost one, but isn't below 0
+abbrev pub live_after_tick : List ℕ → Live → Live
+live_after_tick value live = if live.running then live_at_end value (record live { countdown = live.countdown - 1 }) else live
 
 -- ---- the kind
 

@@ -3,7 +3,7 @@ ghost use Rattle.std.specs.Prelude.{◌≡◌, ◌+◌, ◌%◌, ◌≤◌, ◌+
 ghost use Rattle.std.specs.Option.{SomeIff};
 ghost use Rattle.cfg_records.specs.Meaning.{told};
 ghost use Rattle.cfg_records.specs.Watchdog.{IsWatchdog};
-ghost use Rattle.watch_boot.specs.Watchdog.{kept_use, kept_actions, is_accepted, watchdog_outcome, live_after_set, watchdog_body, watchdog_in, shown_use, watchdog_view, WasSet, live_after_reset};
+ghost use Rattle.watch_boot.specs.Watchdog.{kept_use, kept_actions, is_accepted, watchdog_outcome, live_after_set, watchdog_body, watchdog_in, shown_use, watchdog_view, WasSet, live_after_reset, live_after_tick};
 
 use cfg_records::mask::has;
 use cfg_records::{Asked, Key, Live, RecordData, RecordKind, SetWatchdog, Value, byte_at};
@@ -148,6 +148,20 @@ pub fn reset(value: &[u8], live: &Live) -> Option<Live>
         expired: live.expired,
         running: true,
     })
+}
+
+/// A tenth of a second has passed: changes what isn't configuration, by the settings.
+pub fn tick(value: &[u8], live: &mut Live)
+    ensures { live.new ≡ live_after_tick value.now live.old }
+{
+    if !live.running {
+        return;
+    }
+    live.countdown = live.countdown.saturating_sub(1);
+    if live.countdown == 0 {
+        live.running = false;
+        live.expired |= 1 << (byte_at(value, 0) % 8);
+    }
 }
 
 impl<'a> RecordKind<'a> for WatchdogLimits {

@@ -8,6 +8,7 @@ ghost use Rattle.cfg_records.specs.declared.message.Answered.{Answered as Reply}
 ghost use Rattle.bmc_board.specs.Gives.{Gives};
 ghost use Rattle.bmc_board.specs.Request.{key_in};
 ghost use Rattle.bmc_board.specs.Replies.{done, unknown_code};
+ghost use Rattle.bmc_board.specs.Sensing.{value_at};
 
 use crate::activity::Activity;
 use crate::board::Board;
@@ -16,10 +17,14 @@ use crate::live::{
     LiveCommand, NO_ERROR, PLDM_TYPES, already_in_progress, device_data, progress_data,
 };
 use crate::request::read_request;
+use crate::storage::{
+    add_entry, clear, part_in, sdr_info, sel_info, show_entry, show_sdr, time_in,
+};
 use cfg_records::{Answered, Asked, BoardFile, Key, Op, RecordKind, Store, Value, byte_at};
 use effecter_recs::numeric;
 use effecter_recs::request::id_in;
 use record_kinds::{Limits, Setup};
+use sensor_recs::taken::reading_data;
 use sensor_recs::{event_enable, hysteresis, thresholds};
 use std::alloc::{AllocError, Global};
 use two_wire::{Buffer, Bytes, Code, code};
@@ -59,6 +64,16 @@ fn key_in(command: GetCommand, body: &[u8]) -> Key
     }
 }
 
+/// The value of the key's record; no bytes where there is none.
+pub(super) fn value_at<'a, S: Store>(store: &'a S, key: &Key) -> &'a [u8]
+    ensures { result.now ≡ value_at (S.records store.now) key.now }
+{
+    match store.get(key) {
+        Some(value) => value,
+        None => &[],
+    }
+}
+
 /// Appends the data of a reply that is always given.
 fn show<B: Buffer>(shown: &[u8], to: &mut B) -> Result<(), Code>
     requires { length (B.bytes to.old) + length shown.now ≤ B.capacity }
@@ -79,23 +94,26 @@ fn answered(done: Result<(), Code>, body: Bytes<251>) -> Answered
 }
 
 impl<S: Store> Board<S> {
-    ghost use Rattle.bmc_board.specs.State.{opened, state_of, IsUnchanged};
+    ghost use Rattle.bmc_board.specs.State.{opened, state_of};
+    ghost use Rattle.bmc_board.specs.Leaves.{Leaves};
+    ghost use Rattle.bmc_board.specs.Sensing.{reading_answer};
     ghost use Rattle.bmc_board.specs.Live.{reset_answer, progress_answer, longest_live_reply};
     ghost use Rattle.bmc_board.specs.Room.{longest_reply};
     ghost use Rattle.bmc_board.specs.Row.{Row};
     ghost use Rattle.bmc_board.specs.Request as request;
-    ghost use Rattle.bmc_board.specs.Request.{op_in, request_of, asked_of};
+    ghost use Rattle.bmc_board.specs.Request.{op_in, request_of, asked_of, asked_by};
     ghost use Rattle.bmc_board.specs.Answer.{serve as serve_of, reply as reply_of, answer_of};
 
     /// A board of this file over this store of its records.
-    pub fn open(_alloc: Global, file: BoardFile, store: S) -> Result<Self, AllocError>
+    pub fn open(alloc: Global, file: BoardFile, store: S) -> Result<Self, AllocError>
         requires { S.records store ≡ records_of (pairs_of file) }
         ensures setup { IfOk result (λ board. board.setup ≡ file) }
         ensures state { IfOk result (λ board. state_of S.records board ≡ opened file) }
     {
+        let activity = Activity::opening(alloc, &file)?;
         Ok(Board {
             setup: Setup::new(file),
-            activity: Activity::opening(),
+            activity,
             store,
             made: Value::new(),
         })
@@ -146,17 +164,49 @@ impl<S: Store> Board<S> {
         Ok(())
     }
 
-    /// Carries out a live command, and appends the data of the reply.
-    fn live<B: Buffer>(&mut self, command: LiveCommand, to: &mut B) -> Result<(), Code>
+    /// Appends what Get Sensor Reading replies of the sensor of this number.
+    fn show_reading<B: Buffer>(&self, sensor: u8, to: &mut B) -> Result<(), Code>
         requires room { length (B.bytes to.old) + longest_live_reply ≤ B.capacity }
-        ensures answer { Gives result (B.bytes to.old) (B.bytes to.new) (serve_of self.old.setup (state_of S.records self.old) (request.Live command)).0 }
-        ensures left { state_of S.records self.new ≡ (serve_of self.old.setup (state_of S.records self.old) (request.Live command)).1 }
+        ensures { Gives result (B.bytes to.old) (B.bytes to.new) (reading_answer self.now.setup (S.records self.now.store) self.now.activity sensor) }
+    {
+        let key = Key::EventEnable(sensor);
+        if self.setup.sensor(sensor).is_none() {
+            return Err(unknown_code(&self.setup, &key));
+        }
+        let events = value_at(&self.store, &key);
+        show(
+            &reading_data(events, &self.activity.readings.last(sensor)),
+            to,
+        )
+    }
+
+    /// Carries out a live command with this data, and appends the data of the reply.
+    fn live<B: Buffer>(&mut self, command: LiveCommand, body: &[u8], to: &mut B) -> Result<(), Code>
+        requires room { length (B.bytes to.old) + longest_live_reply ≤ B.capacity }
+        ensures answer { Gives result (B.bytes to.old) (B.bytes to.new) (serve_of self.old.setup (state_of S.records self.old) (request.Live command body.now)).0 }
+        ensures left { state_of S.records self.new ≡ (serve_of self.old.setup (state_of S.records self.old) (request.Live command body.now)).1 }
         ensures setup { self.new.setup ≡ self.old.setup }
     {
         match command {
             LiveCommand::GetDeviceId => show(&device_data(self.setup.device()), to),
             LiveCommand::GetSelfTestResults => show(&NO_ERROR, to),
             LiveCommand::ResetWatchdog => self.reset_watchdog(),
+            LiveCommand::GetSensorReading => self.show_reading(byte_at(body, 0), to),
+            LiveCommand::GetSdrRepositoryInfo => show(&sdr_info(&self.activity.sdr), to),
+            LiveCommand::ReserveSdrRepository => {
+                show(&self.activity.sdr.reserve().to_le_bytes(), to)
+            },
+            LiveCommand::GetSdr => show_sdr(&self.activity.sdr, &part_in(body), to),
+            LiveCommand::GetSelInfo => show(&sel_info(&self.activity.log.info()), to),
+            LiveCommand::ReserveSel => show(&self.activity.log.reserve().to_le_bytes(), to),
+            LiveCommand::GetSelEntry => show_entry(&self.activity.log, &part_in(body), to),
+            LiveCommand::AddSelEntry => add_entry(&mut self.activity.log, body, to),
+            LiveCommand::ClearSel => clear(&mut self.activity.log, body, to),
+            LiveCommand::GetSelTime => show(&self.activity.log.time().to_le_bytes(), to),
+            LiveCommand::SetSelTime => {
+                self.activity.log.set_time(time_in(body));
+                Ok(())
+            }
             LiveCommand::SetBootProgress(byte) => self.set_boot_progress(byte),
             LiveCommand::GetBootProgress => show(&progress_data(self.activity.boot_progress), to),
             LiveCommand::GetTid => show(&[self.setup.tid()], to),
@@ -236,7 +286,7 @@ impl<S: Store> Board<S> {
         ensures setup { self.new.setup ≡ self.old.setup }
     {
         match boot_request_in(body)? {
-            BootRequest::Progress(byte) => self.live(LiveCommand::SetBootProgress(byte), to),
+            BootRequest::Progress(byte) => self.live(LiveCommand::SetBootProgress(byte), &[], to),
             BootRequest::Param(op) => self.set(&Op::BootParam(op), to),
         }
     }
@@ -249,7 +299,7 @@ impl<S: Store> Board<S> {
         ensures setup { self.new.setup ≡ self.old.setup }
     {
         match boot_shown_in(body)? {
-            BootShown::Progress => self.live(LiveCommand::GetBootProgress, to),
+            BootShown::Progress => self.live(LiveCommand::GetBootProgress, &[], to),
             BootShown::Param(parameter) => self.get(&Key::BootParam(parameter), to),
         }
     }
@@ -262,7 +312,7 @@ impl<S: Store> Board<S> {
         ensures setup { self.new.setup ≡ self.old.setup }
     {
         match command {
-            Command::Live(command) => self.live(command, to),
+            Command::Live(command) => self.live(command, body, to),
             Command::Get(command) => self.get(&key_in(command, body), to),
             Command::Set(command) => self.change(command, body, to),
             Command::SetBootOptions => self.set_boot_options(body, to),
@@ -292,8 +342,8 @@ impl<S: Store> Board<S> {
         ensures answer { (result, state_of S.records self.new) ≡ answer_of self.old.setup (state_of S.records self.old) asked.now }
         ensures setup { self.new.setup ≡ self.old.setup }
 
-        // A refusal changes nothing.
-        ensures refused { result.code ≢ success → IsUnchanged (state_of S.records self.old) (state_of S.records self.new) }
+        // A refusal changes nothing, but that a full log which refuses a record notes that it overflowed.
+        ensures refused { result.code ≢ success → Leaves (asked_by asked.now) result.code (state_of S.records self.old) (state_of S.records self.new) }
         // The codes of a busy controller are not a board's.
         ensures not_busy { result.code ≢ node_busy }
         ensures ready { result.code ≢ pldm_not_ready }

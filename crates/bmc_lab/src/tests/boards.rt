@@ -155,6 +155,7 @@ fn sensor(number: u8, threshold: u8) -> Option<Sensor> {
     let masks = ThresholdMasks::new(0x3F, 0x3F)?;
     Some(Sensor {
         number,
+        sensor_type: 0x01,
         thresholds: Thresholds::new(masks, [threshold; 6])?,
         hysteresis: Hysteresis {
             positive: threshold,
@@ -177,7 +178,10 @@ fn full_board(alloc: Global) -> Result<BoardFile, Fail> {
         sensors: Distinct::new(sensors).ok_or("the sensors")?,
         policy: sample.policy,
         watchdog: sample.watchdog,
+        clock: sample.clock,
+        log: sample.log,
         enables: sample.enables,
+        sdr: sample.sdr,
         boot: sample.boot,
         numeric_effecters: sample.numeric_effecters,
     })

@@ -117,9 +117,12 @@ fn a_run_says_what_was_sent_or_why_nothing_was(rt: HostRuntime) -> Result<(), Fa
 
 /// The sample board's file.
 const SAMPLE: &str = "tid = 5
+clock = 0
+log = 2
 enables = 0x08
 policy = 1
 watchdog = [0, 0, 0, 0]
+sdr = [\"010051C00100\"]
 boot3 = 0
 boot4 = 0
 boot5 = [0, 0, 0, 0, 0]
@@ -133,6 +136,7 @@ manufacturer = 0xABCD
 product = 0x1234
 [[sensor]]
 number = 5
+type = 1
 readable = 0x3F
 settable = 0x3F
 thresholds = [0x14, 0x0A, 0x05, 0x50, 0x5F, 0x6E]
@@ -143,6 +147,7 @@ assert = 0x200
 deassert = 0
 [[sensor]]
 number = 7
+type = 4
 readable = 0x18
 settable = 0x38
 thresholds = [0, 0, 0, 0x90, 0xA0, 0xB0]

@@ -38,8 +38,11 @@ fn board(alloc: Global) -> Result<Board<PlainStore>, Fail> {
         sensors: sample.sensors,
         policy: sample.policy,
         watchdog: sample.watchdog,
+        clock: sample.clock,
+        log: sample.log,
         enables: sample.enables,
         boot: sample.boot,
+        sdr: sample.sdr,
         numeric_effecters: Distinct::new(effecters).ok_or("effecters")?,
     };
     let store = PlainStore::of_file(alloc, &file)?;

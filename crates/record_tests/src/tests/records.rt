@@ -105,6 +105,7 @@ fn bare(number: u8) -> Option<Sensor>
 {
     Some(Sensor {
         number,
+        sensor_type: 0x01,
         thresholds: Thresholds::new(ThresholdMasks::new(0, 0)?, [0; 6])?,
         hysteresis: Hysteresis {
             positive: 0,

@@ -21,7 +21,9 @@ fn the_check_bytes_of_heads_bodies_and_packets(rt: HostRuntime) {
 
 #[test]
 fn codes_are_those_of_the_standards(rt: HostRuntime) {
-    let ipmi = [0x80, 0xC0, 0xC1, 0xC2, 0xC4, 0xC5, 0xC7, 0xCB, 0xCC];
+    let ipmi = [
+        0x80, 0xC0, 0xC1, 0xC2, 0xC4, 0xC5, 0xC7, 0xC9, 0xCA, 0xCB, 0xCC,
+    ];
     for (code, byte) in code::of_ipmi().iter().zip(ipmi.iter()) {
         assert_eq!(rt; code.value(), *byte);
     }

@@ -10,15 +10,23 @@ use Rattle.plan_file.specs.Trees.{in_field, table_in, naturals_in}
 use Rattle.plan_file.specs.Ranges.{passes, are_settings}
 use Rattle.plan_file.specs.Faults.{field_faults, fault_at, first}
 use Rattle.plan_file.specs.Holds.{HoldsDevice}
-use Rattle.plan_file.proofs.Rows.{number_of, value_of, below, within, same_value}
+use Rattle.plan_file.proofs.Rows.{number_of, value_of, below, at_least, within, same_value}
 use Rattle.plan_file.proofs.TopRows.{top_sound}
-use Rattle.plan_file.proofs.Sensors.{table_there, top_first, device_first, sensors_first, no_faults}
+use Rattle.plan_file.proofs.Sensors.{table_there, top_first, records_first, device_first, sensors_first, no_faults}
 use Rattle.plan_file.proofs.board.board_of.Goals as goal
 
 pub returns-in_err-check : goal.returns-in_err-check
 returns-in_err-check c =
     let p = err_from_is_err_and c.from_residual.result c.from_residual.ensures.1 in
     rw (p.1, p.2) (inr (top_first (table_view c.args.tree.now) c.in_err-check.field-0.0 c.in_err-check.ensures.err))
+
+pub returns-in_err-sdr : goal.returns-in_err-sdr
+returns-in_err-sdr c =
+    let p = err_from_is_err_and c.from_residual-in_err-sdr.result c.from_residual-in_err-sdr.ensures.1 in
+    rw (p.1, p.2) (elim c.in_err-sdr.ensures.err [
+      | inl memory ↦ inl (ap Err memory)
+      | inr counts ↦ inr (records_first (table_view c.args.tree.now) c.in_err-sdr.field-0.0 c.in_ok-check.ensures.ok counts)
+    ])
 
 pub table_in-board-requires : goal.table_in-board-requires
 table_in-board-requires c = table_there (table_view c.args.tree.now) field.Device (top_sound (table_view c.args.tree.now) c.in_ok-check.ensures.ok).device
@@ -27,7 +35,7 @@ pub returns-in_err-check-2 : goal.returns-in_err-check-2
 returns-in_err-check-2 c =
     let p = err_from_is_err_and c.from_residual-in_err-check-2.result c.from_residual-in_err-check-2.ensures.1 in
     let counts = ap (λ t. first (map (fault_at item.Device) (field_faults DEVICE t))) (sym c.table_in-board.ensures) ∙ c.in_err-check-2.ensures.err in
-    rw (p.1, p.2) (inr (device_first (table_view c.args.tree.now) c.in_err-check-2.field-0.0 c.in_ok-check.ensures.ok counts))
+    rw (p.1, p.2) (inr (device_first (table_view c.args.tree.now) c.in_err-check-2.field-0.0 c.in_ok-check.ensures.ok c.in_ok-sdr.ensures.sound counts))
 
 pub returns-in_err-sensors : goal.returns-in_err-sensors
 returns-in_err-sensors c =
@@ -35,11 +43,17 @@ returns-in_err-sensors c =
     let device : field_faults DEVICE (table_in field.Device (table_view c.args.tree.now)) ≡ [] = ap (field_faults DEVICE) (sym c.table_in-board.ensures) ∙ c.in_ok-check-2.ensures.ok in
     rw (p.1, p.2) (elim c.in_err-sensors.ensures.err [
       | inl memory ↦ inl (ap Err memory)
-      | inr counts ↦ inr (sensors_first (table_view c.args.tree.now) c.in_err-sensors.field-0.0 c.in_ok-check.ensures.ok device counts)
+      | inr counts ↦ inr (sensors_first (table_view c.args.tree.now) c.in_err-sensors.field-0.0 c.in_ok-check.ensures.ok c.in_ok-sdr.ensures.sound device counts)
     ])
 
 pub byte_in-requires : goal.byte_in-requires
 byte_in-requires c = below 256 (number_of (table_view c.args.tree.now) field.Tid 0 255 (top_sound (table_view c.args.tree.now) c.in_ok-check.ensures.ok).tid) (lit< tt)
+
+pub global_enables-requires : goal.global_enables-requires
+global_enables-requires c = c.in_ok-check.ensures.ok
+
+pub boot_options-requires : goal.boot_options-requires
+boot_options-requires c = c.in_ok-check.ensures.ok
 
 pub byte_in-requires-2 : goal.byte_in-requires-2
 byte_in-requires-2 c = below 256 (number_of (table_view c.args.tree.now) field.Policy 0 3 (top_sound (table_view c.args.tree.now) c.in_ok-check.ensures.ok).policy) (lit< tt)
@@ -66,16 +80,32 @@ unwrap-requires-2 c =
     let valid : passes are_settings (naturals_in 4 value.value) ≡ true = value.within in
     c.watchdog.ensures.made ∙ ap (λ d. passes are_settings (naturals_in 4 d)) (sym same) ∙ valid
 
+pub number_in-requires : goal.number_in-requires
+number_in-requires c = below 4294967296 (number_of (table_view c.args.tree.now) field.Clock 0 0xFFFFFFFF (top_sound (table_view c.args.tree.now) c.in_ok-check.ensures.ok).clock) (lit< tt)
+
+pub word_in-requires : goal.word_in-requires
+word_in-requires c = below 65536 (number_of (table_view c.args.tree.now) field.Log 1 1024 (top_sound (table_view c.args.tree.now) c.in_ok-check.ensures.ok).log) (lit< tt)
+
+pub unwrap-requires-3 : goal.unwrap-requires-3
+unwrap-requires-3 c =
+    let number = number_of (table_view c.args.tree.now) field.Log 1 1024 (top_sound (table_view c.args.tree.now) c.in_ok-check.ensures.ok).log in
+    let least : 1 ≤ c.word_in.result = at_least c.word_in.result number c.word_in.ensures in
+    let most : c.word_in.result ≤ 1024 = within c.word_in.result number c.word_in.ensures in
+    c.new-2.ensures.made.1 (least, most)
+
 pub returns : goal.returns
 returns c =
     let tree = table_view c.args.tree.now in
     let device : field_faults DEVICE (table_in field.Device tree) ≡ [] = ap (field_faults DEVICE) (sym c.table_in-board.ensures) ∙ c.in_ok-check-2.ensures.ok in
     let holds : HoldsDevice (table_in field.Device tree) c.device.result = rw (← c.table_in-board.ensures) c.device.ensures in
     inr (
-      no_faults tree c.in_ok-check.ensures.ok device c.in_ok-sensors.ensures.sound,
+      no_faults tree c.in_ok-check.ensures.ok c.in_ok-sdr.ensures.sound device c.in_ok-sensors.ensures.sound,
       record {
         terminus = c.byte_in.ensures;
+        clock = c.number_in.ensures;
+        log = search rules;
         enables = c.global_enables.ensures;
+        sdr = c.in_ok-sdr.ensures.held;
         boot = c.boot_options.ensures;
         policy = search rules;
         watchdog = search rules;

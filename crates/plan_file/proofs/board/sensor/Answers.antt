@@ -13,24 +13,27 @@ pub value_in-values-requires : goal.value_in-values-requires
 value_in-values-requires c =
     let tree = table_view c.args.table.now in
     let sound = all_sound SENSOR tree c.requires in
-    let values = value_of tree (record { 0 = field.Thresholds; 1 = shape.Thresholds; 2 = need.Always }) (in_field field.Thresholds tree) refl refl sound.1.1.1.0 in
+    let values = value_of tree (record { 0 = field.Thresholds; 1 = shape.Thresholds; 2 = need.Always }) (in_field field.Thresholds tree) refl refl sound.1.1.1.1.0 in
     rw values.found refl
 
 pub value_in-pair-requires : goal.value_in-pair-requires
 value_in-pair-requires c =
     let tree = table_view c.args.table.now in
     let sound = all_sound SENSOR tree c.requires in
-    let pair = value_of tree (record { 0 = field.Hysteresis; 1 = shape.Pair; 2 = need.Always }) (in_field field.Hysteresis tree) refl refl sound.1.1.1.1.0 in
+    let pair = value_of tree (record { 0 = field.Hysteresis; 1 = shape.Pair; 2 = need.Always }) (in_field field.Hysteresis tree) refl refl sound.1.1.1.1.1.0 in
     rw pair.found refl
 
 pub byte_in-requires : goal.byte_in-requires
 byte_in-requires c = below 256 (number_of (table_view c.args.table.now) field.Number 0 254 (all_sound SENSOR (table_view c.args.table.now) c.requires).0) (lit< tt)
 
+pub byte_in-requires-2 : goal.byte_in-requires-2
+byte_in-requires-2 c = below 256 (number_of (table_view c.args.table.now) field.Type 0 255 (all_sound SENSOR (table_view c.args.table.now) c.requires).1.0) (lit< tt)
+
 pub unwrap-requires : goal.unwrap-requires
 unwrap-requires c =
     let tree = table_view c.args.table.now in
     let sound = all_sound SENSOR tree c.requires in
-    let values = value_of tree (record { 0 = field.Thresholds; 1 = shape.Thresholds; 2 = need.Always }) (in_field field.Thresholds tree) refl refl sound.1.1.1.0 in
+    let values = value_of tree (record { 0 = field.Thresholds; 1 = shape.Thresholds; 2 = need.Always }) (in_field field.Thresholds tree) refl refl sound.1.1.1.1.0 in
     let same = same_value values.value (view c.value_in-values.result.now) (in_field field.Thresholds tree) values.found c.value_in-values.ensures in
     c.thresholds.ensures.made ∙ ap (is_in_range tree shape.Thresholds) (sym same) ∙ values.within
 
@@ -38,7 +41,7 @@ pub unwrap-requires-2 : goal.unwrap-requires-2
 unwrap-requires-2 c =
     let tree = table_view c.args.table.now in
     let sound = all_sound SENSOR tree c.requires in
-    let pair = value_of tree (record { 0 = field.Hysteresis; 1 = shape.Pair; 2 = need.Always }) (in_field field.Hysteresis tree) refl refl sound.1.1.1.1.0 in
+    let pair = value_of tree (record { 0 = field.Hysteresis; 1 = shape.Pair; 2 = need.Always }) (in_field field.Hysteresis tree) refl refl sound.1.1.1.1.1.0 in
     let same = same_value pair.value (view c.value_in-pair.result.now) (in_field field.Hysteresis tree) pair.found c.value_in-pair.ensures in
     let valid : is_some (bytes_in 2 pair.value) ≡ true = pair.within in
     c.hysteresis.ensures.made ∙ ap (λ d. is_some (bytes_in 2 d)) (sym same) ∙ valid

@@ -1,14 +1,15 @@
 use Rattle.std.proofs.Common.{◌≡◌, ◌≢◌, ◌≤◌, List, ℕ, Result, [], length, sym, ◌∙◌, ap, subst}
 use Rattle.two_wire.specs.Codes.{success}
 use Rattle.cfg_records.specs.Meaning.{room_for}
-use Rattle.bmc_board.specs.Request.{Request, asked_of}
-use Rattle.bmc_board.specs.State.{State, state_of, IsUnchanged}
+use Rattle.bmc_board.specs.Request.{Request, asked_of, asked_by}
+use Rattle.bmc_board.specs.State.{State, state_of}
+use Rattle.bmc_board.specs.Leaves.{Leaves}
 use Rattle.bmc_board.specs.Row.{Row}
 use Rattle.bmc_board.specs.Gives.{Gives}
 use Rattle.bmc_board.specs.Answer.{Given, reply, answer_of}
 use Rattle.bmc_board.specs.AnyAnswer.{IsCode}
 use Rattle.bmc_board.proofs.OneAnswer.{has_answer}
-use Rattle.bmc_board.proofs.AnswerFacts.{answers_fit, never_busy, refused_is_unchanged}
+use Rattle.bmc_board.proofs.AnswerFacts.{answers_fit, never_busy, refused_leaves}
 use Rattle.bmc_board.proofs.board.Board.answer.Goals as goal
 
 -- the answer and the state after it are the function's, of which each clause holds
@@ -30,7 +31,7 @@ returns g c =
       row = subst (λ (p : Given). Row setup before asked p.0 p.1) (sym same) (has_answer setup before asked);
       answer = same;
       setup = c.reply-done.ensures.setup;
-      refused = subst (λ (p : Given). p.0.code ≢ success → IsUnchanged before p.1) (sym same) (refused_is_unchanged setup before asked);
+      refused = subst (λ (p : Given). p.0.code ≢ success → Leaves (asked_by asked) p.0.code before p.1) (sym same) (refused_leaves setup before asked);
       not_busy = code.not_busy;
       ready = code.is_ready;
       fits = subst (λ (p : Given). length p.0.body ≤ room_for asked) (sym same) (answers_fit setup before asked c.args.self.now.sound);

@@ -1,6 +1,6 @@
 use Rattle.std.proofs.Common.{◌≡◌, ℕ, List, ◌++◌, Bool, true, sym, ◌∙◌, ap, append_assoc}
 use Rattle.sensor_recs.specs.declared.compared.Event.{Event}
-use Rattle.sensor_recs.specs.Readings.{crosses, was_beyond, goes_high, counts}
+use Rattle.sensor_recs.specs.Readings.{crosses, was_beyond, counts}
 use Rattle.sensor_recs.proofs.EventsMade.{asserted, deasserted, where_counted, made_at}
 use Rattle.sensor_recs.proofs.compared.Compared.add_at.Goals as goal
 

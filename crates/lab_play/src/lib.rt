@@ -1,0 +1,16 @@
+//! The lab played: a board, its two ports, a manager and the frames between them, event by event.
+#![tactic(auto)]
+
+mod calls;
+mod lab_state;
+mod names;
+mod played;
+mod port_side;
+mod step;
+#[cfg(test)]
+mod tests;
+
+pub use lab_state::Lab;
+pub use names::lab_names;
+pub use played::{LabFault, Played, play};
+pub use step::Refused;

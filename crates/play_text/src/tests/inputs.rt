@@ -1,0 +1,84 @@
+//! Which of the texts is refused, and why.
+use crate::read_inputs;
+use std::test::Fail;
+
+/// A board without sensors.
+const BOARD: &str = "tid = 5
+policy = 1
+watchdog = [0, 0, 0, 0]
+[device]
+id = 0x20
+revision = 1
+major = 1
+minor = 0x05
+support = 0x07
+manufacturer = 0xABCD
+product = 0x1234
+";
+
+/// A plan of one step.
+const PLAN: &str = "retries = 2
+[[step]]
+kind = \"power-policy\"
+policy = 2
+";
+
+#[test]
+fn a_board_a_plan_and_a_schedule_are_read(rt: HostRuntime) -> Result<(), Fail> {
+    let inputs = read_inputs(rt.alloc(), BOARD, PLAN, "start\n\nto-bmc 0\n").map_err(
+        |_| "the texts",
+    )?;
+    assert_eq!(rt; inputs.file.tid, 5);
+    assert_eq!(rt; inputs.plan.steps.as_slice().len(), 1);
+    assert_eq!(rt; inputs.plan.retries.number(), 2);
+    assert_eq!(rt; inputs.events.as_slice().len(), 2);
+    Ok(())
+}
+
+#[test]
+fn the_first_text_that_is_refused_is_named(rt: HostRuntime) -> Result<(), Fail> {
+    for (board, plan, schedule, name) in [
+        (
+            "tid = 5",
+            "retries = 16",
+            "begin",
+            "board Missing top policy",
+        ),
+        ("tid =", "", "", "board Text"),
+        (BOARD, "retries = 16", "begin", "plan Range retries"),
+        (
+            BOARD,
+            "[[step]]\nkind = \"password\"\n",
+            "",
+            "plan 0 OutsidePlan Password",
+        ),
+        (
+            BOARD,
+            "[[step]]\nkind = \"clock\"\n",
+            "",
+            "plan 0 OutsidePlan Clock",
+        ),
+        (
+            BOARD,
+            "[[step]]\nkind = \"log\"\n",
+            "",
+            "plan 0 OutsidePlan Log",
+        ),
+        (
+            BOARD,
+            "[[step]]\nkind = \"watchdog\"\nflags_clear = 0\n",
+            "",
+            "plan 0 NoGet FlagsClear",
+        ),
+        (BOARD, PLAN, "start\n\nbegin\n", "schedule Line 3"),
+    ] {
+        match read_inputs(rt.alloc(), board, plan, schedule) {
+            Ok(_) => assert!(rt; false, "{name}"),
+            Err(why) => {
+                let text = format!(in rt.alloc(); "{why}")?;
+                assert_eq!(rt; text.as_str(), name);
+            }
+        }
+    }
+    Ok(())
+}

@@ -1,0 +1,174 @@
+//! Readings that were taken.
+ghost use Rattle.std.specs.Prelude.{◌≡◌, ◌<◌, IfOk, All};
+ghost use Rattle.cfg_records.specs.EventEnable.{enabled_in};
+ghost use Rattle.sensor_recs.specs.Taken.{none_taken, last_of, with_reading, last_beyond, taken_after, compared_of, mask_of, raw_in, reading_data, log_record};
+ghost use Rattle.sensor_recs.specs.Readings.{events_of};
+
+use crate::compared::{Compared, Event, Taken};
+use crate::readings::Events;
+use cfg_records::event_enable::{MESSAGES_PLACE, SCANNING_PLACE, flags_byte};
+use cfg_records::mask::has;
+use cfg_records::{EventMasks, Hysteresis, ThresholdMasks, byte_at};
+use sel_log::LogRecord;
+use std::alloc::{AllocError, Global};
+use std::marker::Model;
+
+/// The bit of a Get Sensor Reading reply that says that there is no reading yet.
+const UNAVAILABLE: u8 = 0x20;
+
+/// The type of the log's records of events.
+const SYSTEM_EVENT: u8 = 0x02;
+
+/// Who makes the events: the controller, by its IPMB address.
+const CONTROLLER: u8 = 0x20;
+
+/// The format of events: that of IPMI 2.0.
+const EVENT_FORMAT: u8 = 0x04;
+
+/// Of each sensor, by its number, the last reading, if one was taken. It is seen as that list, with a place for each
+/// number. All its memory is taken when it is made.
+#[derive(Debug, Drop)]
+pub struct Readings {
+    items: Vec<Option<Taken>>,
+}
+
+impl Model for Readings {
+    ghost use Rattle.std.specs.Prelude.{◌≡◌, length};
+    ghost use Rattle.sensor_recs.specs.Taken.{LastReadings};
+
+    ghost Value = { LastReadings };
+
+    ghost view = { λ s. s.items.items };
+
+    ghost invariant = { λ s. length s.items.items ≡ 256 };
+}
+
+impl Readings {
+    /// Before any reading.
+    pub fn new(alloc: Global) -> Result<Self, AllocError>
+        ensures { IfOk result (λ s. s ≡ none_taken) }
+    {
+        Ok(Readings {
+            items: vec![in alloc; None; 256]?,
+        })
+    }
+
+    /// The last reading of the sensor of this number.
+    pub fn last(&self, sensor: u8) -> Option<Taken>
+        ensures { result ≡ last_of self.now sensor }
+    {
+        self.items[sensor as usize]
+    }
+
+    /// This reading was taken of the sensor of this number.
+    pub fn put(&mut self, sensor: u8, taken: Taken)
+        ensures { self.new ≡ with_reading self.old sensor taken }
+    {
+        self.items[sensor as usize] = Some(taken);
+    }
+}
+
+/// Of each threshold, whether the last reading was beyond it.
+fn last_beyond(last: &Option<Taken>) -> [bool; 6]
+    ensures { result ≡ last_beyond last.now }
+{
+    match last {
+        Some(taken) => taken.beyond,
+        None => [false; 6],
+    }
+}
+
+/// The places of those that are true, as a mask.
+fn mask_of(beyond: &[bool; 6]) -> u8
+    ensures value { result ≡ mask_of beyond.now }
+    ensures small { result < 64 }
+{
+    let [a, b, c, d, e, f] = *beyond;
+    let upper = u8::from(d) + 2 * (u8::from(e) + 2 * u8::from(f));
+    u8::from(a) + 2 * (u8::from(b) + 2 * (u8::from(c) + 2 * upper))
+}
+
+/// What Get Sensor Reading replies, by the value of the sensor's enabled events and by its last reading.
+pub fn reading_data(events: &[u8], last: &Option<Taken>) -> [u8; 3]
+    ensures { result ≡ reading_data events.now last.now }
+{
+    let flags = byte_at(events, 0);
+    let flags = flags_byte(has(flags, MESSAGES_PLACE), has(flags, SCANNING_PLACE));
+    match last {
+        Some(taken) => [taken.raw, flags, 0xC0 + mask_of(&taken.beyond)],
+        None => [0, flags + UNAVAILABLE, 0xC0],
+    }
+}
+
+impl Compared {
+    /// What the readings of a sensor are compared with: its thresholds by the sensor's masks, and the values of its records.
+    pub fn of(
+        masks: ThresholdMasks,
+        thresholds: &[u8],
+        hysteresis: &[u8],
+        events: &[u8],
+    ) -> Compared
+        ensures { result ≡ compared_of masks thresholds.now hysteresis.now events.now }
+    {
+        Compared {
+            masks,
+            thresholds: [
+                byte_at(thresholds, 0),
+                byte_at(thresholds, 1),
+                byte_at(thresholds, 2),
+                byte_at(thresholds, 3),
+                byte_at(thresholds, 4),
+                byte_at(thresholds, 5),
+            ],
+            hysteresis: Hysteresis {
+                positive: byte_at(hysteresis, 0),
+                negative: byte_at(hysteresis, 1),
+            },
+            messages: has(byte_at(events, 0), MESSAGES_PLACE),
+            enabled: EventMasks {
+                assertions: u16::from_le_bytes([byte_at(events, 1), byte_at(events, 2)]),
+                deassertions: u16::from_le_bytes([byte_at(events, 3), byte_at(events, 4)]),
+            },
+        }
+    }
+
+    /// Takes a reading after the last one: what is known of it, and the events that it makes.
+    pub fn take(&self, last: &Option<Taken>, reading: u8) -> (Taken, Events)
+        ensures taken { result.0 ≡ taken_after self.now last.now reading }
+        ensures events { result.1.items ≡ events_of self.now (last_beyond last.now) reading }
+        ensures places { All (λ event. event.place < 6) result.1.items }
+    {
+        let mut beyond = last_beyond(last);
+        let events = self.read_taken(&mut beyond, reading);
+        let taken = Taken {
+            raw: reading,
+            beyond,
+        };
+        (taken, events)
+    }
+
+    /// The log's record of an event that a reading of the sensor makes.
+    pub fn log_record(&self, sensor_type: u8, sensor: u8, reading: u8, event: &Event) -> LogRecord
+        requires { event.now.place < 6 }
+        ensures { result ≡ log_record sensor_type sensor self.now reading event.now }
+    {
+        LogRecord::from_slice(&[
+            0,
+            0,
+            SYSTEM_EVENT,
+            0,
+            0,
+            0,
+            0,
+            CONTROLLER,
+            0x00,
+            EVENT_FORMAT,
+            sensor_type,
+            sensor,
+            if event.deasserted { 0x81 } else { 0x01 },
+            0x50 + event.offset(),
+            reading,
+            self.thresholds[event.place as usize],
+        ])
+    }
+}
