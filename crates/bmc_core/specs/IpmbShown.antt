@@ -21,7 +21,7 @@ use Rattle.bmc_core.specs.declared.out.Done.TheVariants as done
 use Rattle.bmc_core.specs.declared.step.Step.{Step}
 use Rattle.bmc_core.specs.declared.step.Step.TheVariants as step
 use Rattle.bmc_core.specs.declared.ipmb_port.IpmbPort.{IpmbPort}
-use Rattle.bmc_core.specs.Outs.{sends, done_by}
+use Rattle.bmc_core.specs.Outs.{sends, done_by, AreRead}
 use Rattle.bmc_core.specs.IpmbHeard.{IsHeard}
 
 -- A request is kept as it is. A reply is kept as its frame but for the last check byte, and is what stands there beside the addresses and
@@ -63,11 +63,12 @@ abbrev pub done_of : PortState → Result Request Reason → Done
 done_of p (Ok r) = done_by (outcome_at p r)
 done_of p (Err why) = done.Ignored why
 
--- the port is then the deed's, the board is the deed's, and the frames are those of what the deed sends
+-- the port is then the deed's, the board is the deed's, and the frames are those of what the deed sends, each of which is read as itself
 pub record Does (deed : Deed) (what : Done) (next : IpmbPort) (after : State) (out : Out) : Type 0 where
   pub shows : Shows next deed.port
   pub left : after ≡ deed.board
   pub sent : out ≡ sends (map written deed.sent) what
+  pub read : AreRead Ipmb deed.sent
 
 -- A port of a board with this setup hears the bytes: whatever port of the lab it shows, it and the board go on as that one's deed.
 abbrev pub Hears : BoardFile → IpmbPort → State → List ℕ → Out → IpmbPort → State → Type 0

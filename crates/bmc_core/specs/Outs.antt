@@ -1,5 +1,7 @@
 -- What a port sends and did.
-use Rattle.std.specs.Prelude.{ℕ, List, [], ◌∷◌}
+use Rattle.std.specs.Prelude.{ℕ, List, [], ◌∷◌, All}
+use Rattle.two_wire.specs.declared.Bus.{Bus}
+use Rattle.lab_model.specs.Values.{Value, written, IsFrameOn}
 use Rattle.bus_model.specs.Carried.{Outcome, Repeats, IsBusy, IsNew}
 use Rattle.bmc_core.specs.declared.out.Frames.{Frames}
 use Rattle.bmc_core.specs.declared.out.Out.{Out}
@@ -30,6 +32,10 @@ sends frames what = record { frames = frames_of frames; done = what }
 -- the response is sent
 abbrev pub answered : List ℕ → Out
 answered frame = record { frames = frames_of (frame ∷ []); done = done.Answered }
+
+-- each of these values is read as itself on the bus, from its own bytes
+abbrev pub AreRead : Bus → List Value → Type 0
+AreRead on values = All (λ value. IsFrameOn on value (written value)) values
 
 -- what was done with a request, as a port says it
 abbrev pub done_by : Outcome → Done

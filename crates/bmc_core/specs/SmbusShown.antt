@@ -23,7 +23,8 @@ use Rattle.bmc_core.specs.declared.step.Step.{Step}
 use Rattle.bmc_core.specs.declared.step.Step.TheVariants as step
 use Rattle.bmc_core.specs.declared.smbus_port.pending.SmbusPending.{SmbusPending}
 use Rattle.bmc_core.specs.declared.smbus_port.SmbusPort.{SmbusPort}
-use Rattle.bmc_core.specs.Outs.{sends, ignored, waiting}
+use Rattle.two_wire.specs.declared.Bus.TheVariants.{Smbus}
+use Rattle.bmc_core.specs.Outs.{sends, ignored, waiting, AreRead}
 use Rattle.bmc_core.specs.SmbusHeard.{InMessage, Heard, Ignored, Waiting, Control, Asks, taken, heard_in, asks, done_of, reply_parts, Effect, effect, message_heard}
 
 -- ---- what a port shows
@@ -75,10 +76,11 @@ abbrev pub IsStep : SmbusPort → Out → Step SmbusPending → PortState → He
 IsStep next out (step.Ask pending) port h = (asks port h ≡ Some (request_in pending)) × Shows next port
 IsStep next out step.Done port h = (asks port h ≡ None) × ((a : Answered) → Ends next out port h a)
 
--- the port and the board are then those of the deed, it sends what the deed sends, and names what was done
+-- the port and the board are then those of the deed, it sends what the deed sends, each read as itself, and names what was done
 pub record Does (next : SmbusPort) (out : Out) (after : State) (deed : Deed) (what : Done) : Type 0 where
   pub shows : Shows next deed.port
   pub sent : out ≡ sends (map written deed.sent) what
+  pub read : AreRead Smbus deed.sent
   pub left : after ≡ deed.board
 
 -- A port of a board with this setup hears the bytes, and it and the board do what the lab's do with the packet. Bytes that are none

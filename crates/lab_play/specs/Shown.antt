@@ -1,5 +1,5 @@
 -- The lab of the model that a lab shows.
-use Rattle.std.specs.Prelude.{◌≡◌, ℕ}
+use Rattle.std.specs.Prelude.{◌≡◌, ℕ, Option, Some, None, Result, Ok, Err}
 use Rattle.std.specs.List.{AllZip}
 use Rattle.two_wire.specs.declared.Bus.{Bus}
 use Rattle.two_wire.specs.declared.Bus.TheVariants as bus
@@ -10,6 +10,7 @@ use Rattle.cfg_records.specs.Keys.{key_cmp}
 use Rattle.cfg_records.specs.Places.{value_at}
 use Rattle.cfg_records.specs.declared.plain_store.PlainStore.{PlainStore}
 use Rattle.bmc_board.specs.State.{state_of}
+use Rattle.bmc_board.specs.Sensing.{scan, tick}
 use Rattle.lab_model.specs.Lab.{LabFrame, Lab as LabModel, idles_on}
 use Rattle.bmc_core.specs.IpmbShown as ipmb
 use Rattle.bmc_core.specs.SmbusShown as smbus
@@ -17,14 +18,17 @@ use Rattle.lab_model.specs.Values.{IsFrameOn}
 use Rattle.undo_core.specs.Shown as manager
 use Rattle.lab.specs.declared.frames.SentFrame.{SentFrame}
 use Rattle.lab.specs.Meaning.{lab_names, Bench}
-use Rattle.lab.specs.Played.{plans}
-use Rattle.lab.specs.Shown.{IsFrame}
+use Rattle.lab.specs.Played.{plans, fault_at, happens}
+use Rattle.lab.specs.Shown.{IsFrame, fault_of}
+use Rattle.schedules.specs.declared.event.Event.{Event}
 use Rattle.lab_play.specs.declared.lab_state.Idles.{Idles}
 use Rattle.lab_play.specs.declared.lab_state.Lab.{Lab}
+use Rattle.lab_play.specs.declared.step.Refused.{Refused}
+use Rattle.lab_play.specs.declared.step.Refused.TheVariants as refused
 
--- A reading and a tenth of a second leave everything as it is: no board has commands of the bench.
-abbrev pub still : Bench
-still = record { scan = λ sensor reading before. before.activity; tick = λ before. before.activity }
+-- what isn't configuration, on a board of this file: as the board's own bench has it
+abbrev pub own_bench : BoardFile → Bench
+own_bench file = record { scan = scan file; tick = tick }
 
 -- how often the manager's window was forgotten on a bus
 abbrev pub idles_in : Bus → Idles → ℕ
@@ -50,3 +54,17 @@ pub record Shows (file : BoardFile) (lab : Lab) (x : LabModel plans) : Type 0 wh
   pub named : lab.names ≡ lab_names
   pub frames : AllZip IsSentFrame lab.frames x.frames
   pub idles : (on : Bus) → idles_on plans on x ≡ idles_in on lab.idles
+
+-- ---- what the calls make of a lab
+
+-- whatever lab of the model it showed, on a board of whatever file, it goes on to this one
+abbrev pub Becomes : Lab → Lab → (BoardFile → LabModel plans → LabModel plans) → Type 0
+Becomes old new makes = (file : BoardFile) (x : LabModel plans) → Shows file old x → Shows file new (makes file x)
+
+-- An event is asked of a lab. It happens where it has no fault, and else nothing changes. Where memory is refused, nothing is said.
+abbrev pub Steps : Event → Lab → Result (Unit {0}) Refused → Lab → Type 0
+Steps e old (Ok done) new =
+    (file : BoardFile) (x : LabModel plans) → Shows file old x → (fault_at (own_bench file) file x e ≡ None) × Shows file new (happens (own_bench file) file e x)
+Steps e old (Err (refused.Fault fault)) new =
+    (new ≡ old) × ((file : BoardFile) (x : LabModel plans) → Shows file old x → fault_at (own_bench file) file x e ≡ Some (fault_of fault))
+Steps e old (Err refused.Memory) new = Unit {0}

@@ -6,7 +6,11 @@ ghost use Rattle.undo_model.specs.Machine.{opened};
 ghost use Rattle.undo_core.specs.Shown as manager;
 ghost use Rattle.undo_core.specs.Shown.{words_of};
 ghost use Rattle.cfg_records.specs.declared.board_file.BoardFile.{BoardFile as AnyFile};
-ghost use Rattle.lab_model.specs.Lab.{Lab as LabModel};
+ghost use Rattle.two_wire.specs.declared.Bus.{Bus as AnyBus};
+ghost use Rattle.lab_model.specs.Lab.{Lab as LabModel, opening};
+ghost use Rattle.lab_model.specs.PortSteps.{quiet_port};
+ghost use Rattle.bmc_core.specs.IpmbShown as ipmb;
+ghost use Rattle.bmc_core.specs.SmbusShown as smbus;
 ghost use Rattle.lab.specs.Meaning.{lab_names as the_names};
 ghost use Rattle.lab.specs.Played.{plans};
 ghost use Rattle.lab.specs.Shown.{ShowsFrames};
@@ -26,7 +30,7 @@ use undo_core::{Manager, OpenFault};
 
 /// How often the manager's window was forgotten, on each bus.
 #[derive(Clone, Copy, Debug, PartialEq, Eq)]
-pub struct Idles {
+pub(crate) struct Idles {
     pub ipmb: usize,
     pub smbus: usize,
 }
@@ -45,7 +49,7 @@ impl Idles {
 
 /// A controller's board with its two ports, a manager with a plan, and all frames that were sent.
 #[derive(Drop)]
-pub struct Lab {
+pub(crate) struct Lab {
     pub(crate) board: Board<PlainStore>,
     pub(crate) ipmb: IpmbPort,
     pub(crate) smbus: SmbusPort,
@@ -79,12 +83,16 @@ fn opened_board(alloc: Global, file: BoardFile) -> Result<Board<PlainStore>, All
 }
 
 /// The controller's port on IPMB.
-fn opened_ipmb(alloc: Global) -> Result<IpmbPort, AllocError> {
+fn opened_ipmb(alloc: Global) -> Result<IpmbPort, AllocError>
+    ensures { IfOk result (λ port. ipmb.Shows port (quiet_port the_names.peer_address the_names.peer_eid)) }
+{
     IpmbPort::new(alloc, lab_names().peer_address)
 }
 
 /// The controller's port on the System Management Bus.
-fn opened_smbus(alloc: Global) -> Result<SmbusPort, AllocError> {
+fn opened_smbus(alloc: Global) -> Result<SmbusPort, AllocError>
+    ensures { IfOk result (λ port. smbus.Shows port (quiet_port the_names.peer_wire the_names.peer_eid)) }
+{
     let names = lab_names();
     let wire = names.peer_wire;
     let eid = EndpointId::new(names.peer_eid).unwrap();
@@ -93,7 +101,10 @@ fn opened_smbus(alloc: Global) -> Result<SmbusPort, AllocError> {
 
 impl Lab {
     /// A lab as it begins.
-    pub fn open(alloc: Global, file: BoardFile, plan: Plan) -> Result<Lab, AllocError> {
+    pub(crate) fn open(alloc: Global, file: BoardFile, plan: Plan) -> Result<Lab, AllocError>
+        ensures shows { IfOk result (λ lab. Shows file lab (opening plans file the_names plan.steps plan.retries)) }
+        ensures never { IfOk result (λ lab. (on : AnyBus) → idles_in on lab.idles ≡ 0) }
+    {
         Ok(Lab {
             board: opened_board(alloc, file)?,
             ipmb: opened_ipmb(alloc)?,

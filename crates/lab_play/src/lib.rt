@@ -10,7 +10,5 @@ mod step;
 #[cfg(test)]
 mod tests;
 
-pub use lab_state::Lab;
 pub use names::lab_names;
 pub use played::{LabFault, Played, play};
-pub use step::Refused;

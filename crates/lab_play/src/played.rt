@@ -1,4 +1,14 @@
 //! A plan played by a schedule.
+ghost use Rattle.std.specs.Prelude.{◌≡◌};
+ghost use Rattle.std.specs.List.{AllZip};
+ghost use Rattle.cfg_records.specs.Records.{records_of};
+ghost use Rattle.undo_core.specs.Phases.{phase_of};
+ghost use Rattle.undo_core.specs.Shown.{backs};
+ghost use Rattle.lab.specs.Meaning.{lab_names};
+ghost use Rattle.lab.specs.Played.{Told};
+ghost use Rattle.lab_play.specs.Shown.{IsSentFrame};
+ghost use Rattle.lab_play.specs.Ends.{Tells, Plays, changed_in};
+
 use crate::lab_state::Lab;
 use crate::step::Refused;
 use cfg_records::{BoardFile, Key, PlainStore, Store, Value};
@@ -17,32 +27,44 @@ pub struct Played {
 
 impl Played {
     /// Where the manager is.
-    pub fn phase(&self) -> Phase {
+    pub fn phase(&self) -> Phase
+        ensures { (told : Told) → Tells self.now told → phase_of result ≡ told.phase }
+    {
         self.lab.manager.phase()
     }
 
-    /// The frames that were sent.
-    pub fn frames(&self) -> &[SentFrame] {
+    /// The frames that were sent, in the order of their numbers.
+    pub fn frames(&self) -> &[SentFrame]
+        ensures { (told : Told) → Tells self.now told → AllZip IsSentFrame result.now told.frames }
+    {
         self.lab.frames.as_slice()
     }
 
     /// The requests that undo what was done.
-    pub fn undo(&self) -> &UndoList {
+    pub fn undo(&self) -> &UndoList
+        ensures { (told : Told) → Tells self.now told → backs lab_names result.now.requests ≡ told.undo }
+    {
         self.lab.manager.undo_list()
     }
 
     /// The records.
-    pub fn records(&self) -> &PlainStore {
+    pub fn records(&self) -> &PlainStore
+        ensures { (told : Told) → Tells self.now told → ⟦<PlainStore as Store>⟧.records result.now ≡ told.records }
+    {
         self.lab.board.store()
     }
 
     /// The records that the board began with.
-    pub fn start(&self) -> &[(Key, Value)] {
+    pub fn start(&self) -> &[(Key, Value)]
+        ensures { (told : Told) → Tells self.now told → records_of result.now ≡ told.start }
+    {
         self.start.as_slice()
     }
 
     /// How many records have another value than they began with.
-    pub fn changed(&self) -> usize {
+    pub fn changed(&self) -> usize
+        ensures { (told : Told) → Tells self.now told → result ≡ changed_in told.records self.now.start.items }
+    {
         let store = self.records();
         self.start
             .iter()
@@ -64,13 +86,15 @@ pub enum LabFault {
     },
 }
 
-/// Plays a plan on a board by a schedule.
+/// Plays a plan on a board by a schedule, up to the first event that has a fault.
 pub fn play(
     alloc: Global,
     file: BoardFile,
     plan: Plan,
     events: &[Event],
-) -> Result<Played, LabFault> {
+) -> Result<Played, LabFault>
+    ensures { Plays file plan.steps plan.retries events.now result }
+{
     let Ok(start) = file.records(alloc) else {
         return Err(LabFault::Memory);
     };

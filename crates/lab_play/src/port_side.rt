@@ -1,4 +1,14 @@
 //! What the controller's ports hear, and what they forget.
+ghost use Rattle.std.specs.Prelude.{◌≡◌, ◌<◌, ◌≤◌, OnOk, suc, slice_get};
+ghost use Rattle.two_wire.specs.declared.Bus.{Bus as AnyBus};
+ghost use Rattle.two_wire.specs.declared.Bus.TheVariants as is_on;
+ghost use Rattle.lab_model.specs.Values.{Asks};
+ghost use Rattle.lab_model.specs.PortSteps.{hears, hears_all, idles};
+ghost use Rattle.lab_model.specs.Lab.{ToOthers, delivered, port_does, port_on, with_port};
+ghost use Rattle.lab.specs.Meaning.{lab_names as the_names, request_of, message_of};
+ghost use Rattle.lab.specs.Played.{plans};
+ghost use Rattle.lab_play.specs.Shown.{Becomes, idles_in};
+
 use crate::lab_state::Lab;
 use ipmb_frame::{Header, Party, Request, write_request};
 use lab::Way;
@@ -12,8 +22,11 @@ use two_wire::{Address, Bus, Data};
 const OTHER_WIRE: u8 = 0x42;
 
 impl Lab {
-    /// The frame of this number comes to the controller's port on its bus.
-    pub(crate) fn to_port(&mut self, number: u32) -> Result<(), AllocError> {
+    /// The frame of this number comes to the controller's port on its bus, if there is such a frame.
+    pub(crate) fn to_port(&mut self, number: u32) -> Result<(), AllocError>
+        ensures becomes { OnOk result (Becomes self.old self.new (λ file x. delivered plans file (slice_get x.frames number) x)) }
+        ensures idles { self.new.idles ≡ self.old.idles }
+    {
         let Some(frame) = self.frames.get(number) else {
             return Ok(());
         };
@@ -29,7 +42,10 @@ impl Lab {
     }
 
     /// Somebody else's request comes to the port on IPMB.
-    pub(crate) fn other_request(&mut self, request: &OtherRequest) -> Result<(), AllocError> {
+    pub(crate) fn other_request(&mut self, request: &OtherRequest) -> Result<(), AllocError>
+        ensures becomes { OnOk result (Becomes self.old self.new (λ file x. port_does plans is_on.Ipmb ToOthers 0 (hears file x.ipmb x.board (Asks (request_of the_names request.now))) x)) }
+        ensures idles { self.new.idles ≡ self.old.idles }
+    {
         let header = Header {
             responder: Party {
                 address: self.names.peer_address,
@@ -48,7 +64,10 @@ impl Lab {
     }
 
     /// All packets of somebody else's message come to the port on the System Management Bus.
-    pub(crate) fn other_message(&mut self, message: &OtherMessage) -> Result<(), AllocError> {
+    pub(crate) fn other_message(&mut self, message: &OtherMessage) -> Result<(), AllocError>
+        ensures becomes { OnOk result (Becomes self.old self.new (λ file x. port_does plans is_on.Smbus ToOthers 0 (hears_all file x.smbus x.board (message_of the_names message.now)) x)) }
+        ensures idles { self.new.idles ≡ self.old.idles }
+    {
         let envelope = Envelope {
             destination: self.names.peer_wire,
             source: Address::new(OTHER_WIRE).unwrap(),
@@ -79,18 +98,22 @@ impl Lab {
     }
 
     /// The port on a bus forgets a requester's window.
-    pub(crate) fn idle(&mut self, on: Bus, requester: u8) {
+    pub(crate) fn idle(&mut self, on: Bus, requester: u8)
+        requires { (bus : AnyBus) → idles_in bus self.now.idles < 9223372036854775807 }
+        ensures becomes { Becomes self.old self.new (λ file x. with_port plans on (idles requester (port_on plans on x)) x) }
+        ensures few { (bus : AnyBus) → idles_in bus self.new.idles ≤ suc (idles_in bus self.old.idles) }
+    {
         match on {
             Bus::Ipmb => {
-                let _ = self.ipmb.idle(requester);
+                self.ipmb.idle(requester);
                 if requester == self.names.own_address.byte() {
-                    self.idles.ipmb = self.idles.ipmb.saturating_add(1);
+                    self.idles.ipmb += 1;
                 }
             }
             Bus::Smbus => {
-                let _ = self.smbus.idle(requester);
+                self.smbus.idle(requester);
                 if requester == self.names.own_eid {
-                    self.idles.smbus = self.idles.smbus.saturating_add(1);
+                    self.idles.smbus += 1;
                 }
             }
         }

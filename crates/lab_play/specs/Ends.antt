@@ -1,0 +1,51 @@
+-- What a play gives.
+use Rattle.std.specs.Prelude.{◌≡◌, ℕ, Bool, false, not, List, length, filter, Option, Some, None, Result, Ok, Err}
+use Rattle.std.specs.Str.{bytes_eq}
+use Rattle.cfg_records.specs.declared.board_file.BoardFile.{BoardFile}
+use Rattle.cfg_records.specs.declared.op.Op.{Op}
+use Rattle.cfg_records.specs.Records.{Records, Pair, records_of}
+use Rattle.lab_model.specs.Lab.{Lab as LabModel}
+use Rattle.schedules.specs.declared.event.Event.{Event}
+use Rattle.lab.specs.Played.{plans, Told, Ending, Whole, Stops, told_of, IsPlayed}
+use Rattle.lab.specs.Shown.{fault_of}
+use Rattle.lab_stands.specs.Plays.{StandsIfOwn}
+use Rattle.lab_play.specs.Shown.{Shows, own_bench}
+use Rattle.lab_play.specs.declared.played.Played.{Played}
+use Rattle.lab_play.specs.declared.played.LabFault.{LabFault}
+use Rattle.lab_play.specs.declared.played.LabFault.TheVariants as fault
+
+-- this is told: of a lab that began with these records, and is this one now
+pub record Tells (played : Played) (told : Told) : Type 0 where
+  pub file : BoardFile
+  pub first : LabModel plans
+  pub now : LabModel plans
+  pub shown : Shows file played.lab now
+  pub start : first.board.records ≡ records_of played.start.items
+  pub is : told ≡ told_of first now
+
+-- what was given is this ending
+abbrev pub IsEnding : Result Played LabFault → Ending → Type 0
+IsEnding (Ok played) (Whole told) = Tells played told
+IsEnding (Err (fault.Event why place played)) (Stops cause at told) = (cause ≡ fault_of why) × (at ≡ place) × Tells played told
+IsEnding _ _ = ⊥
+
+-- a play of the plan by the schedule ended so, and what it tells stands
+pub record Ends (file : BoardFile) (steps : List Op) (retries : ℕ) (events : List Event) (given : Result Played LabFault) : Type 0 where
+  pub ending : Ending
+  pub is : IsEnding given ending
+  pub played : IsPlayed (own_bench file) file steps retries events ending
+  pub stands : StandsIfOwn (own_bench file) file steps retries events ending
+
+-- what a record has is this value
+abbrev pub is_value : List ℕ → Option (List ℕ) → Bool
+is_value value None = false
+is_value value (Some other) = bytes_eq other value
+
+-- how many of the records that a board began with have another value in these
+abbrev pub changed_in : Records → List Pair → ℕ
+changed_in records start = length (filter (λ pair. not (is_value pair.1 (records pair.0))) start)
+
+-- so it ends, unless memory is refused
+abbrev pub Plays : BoardFile → List Op → (retries : ℕ) → List Event → Result Played LabFault → Type 0
+Plays file steps retries events (Err fault.Memory) = Unit {0}
+Plays file steps retries events given = Ends file steps retries events given
