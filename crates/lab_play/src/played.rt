@@ -10,6 +10,7 @@ ghost use Rattle.lab_play.specs.Shown.{IsSentFrame};
 ghost use Rattle.lab_play.specs.Ends.{Tells, Plays, changed_in};
 
 use crate::lab_state::Lab;
+use crate::run::Halt;
 use crate::step::Refused;
 use cfg_records::{BoardFile, Key, PlainStore, Store, Value};
 use lab::{Fault, SentFrame};
@@ -101,18 +102,17 @@ pub fn play(
     let Ok(mut lab) = Lab::open(alloc, file, plan) else {
         return Err(LabFault::Memory);
     };
-    for (place, event) in events.iter().enumerate() {
-        match lab.step(event) {
-            Ok(()) => {}
-            Err(Refused::Memory) => return Err(LabFault::Memory),
-            Err(Refused::Fault(fault)) => {
-                return Err(LabFault::Event {
-                    fault,
-                    place: place + 1,
-                    played: Played { start, lab },
-                });
-            }
-        }
+    let halt = lab.run(events);
+    let played = Played { start, lab };
+    match halt {
+        Ok(()) => Ok(played),
+        Err(Halt { place, why }) => match why {
+            Refused::Memory => Err(LabFault::Memory),
+            Refused::Fault(fault) => Err(LabFault::Event {
+                fault,
+                place,
+                played,
+            }),
+        },
     }
-    Ok(Played { start, lab })
 }
