@@ -1,2 +1,4 @@
 pub mod Frames
 pub mod Running
+pub mod Checks
+pub mod Idling
