@@ -1,4 +1,6 @@
-pub mod Frames
-pub mod Running
 pub mod Checks
+pub mod Frames
 pub mod Idling
+pub mod ManagerSide
+pub mod Running
+pub mod Sent
