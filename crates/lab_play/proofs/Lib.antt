@@ -1,6 +1,6 @@
-pub mod Checks
 pub mod Frames
+pub mod Checks
 pub mod Idling
-pub mod ManagerSide
 pub mod Running
 pub mod Sent
+pub mod ManagerSide
