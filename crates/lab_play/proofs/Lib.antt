@@ -4,3 +4,4 @@ pub mod Idling
 pub mod Running
 pub mod Sent
 pub mod ManagerSide
+pub mod Playing
