@@ -1,9 +1,9 @@
 //! Plans: what they hold, and their faults.
-use crate::{NoGet, OutsidePlan, PlanFault, StepFault, read_plan};
 use cfg_records::{
     BootChange, BootFlags, BootParameter, EventChange, EventMasks, MaskedBits, Op, SetBootParam,
     SetEventEnable, SetGlobalEnables, SetHysteresis, SetPowerPolicy, SetThresholds, SetWatchdog,
 };
+use plan_file::{NoGet, OutsidePlan, PlanFault, StepFault, read_plan};
 use std::alloc::{AllocError, Global};
 use std::test::Fail;
 

@@ -1,6 +1,6 @@
 //! Board files: the sample board, and the faults of files.
-use crate::{Field, FileFault, Item, Place, read_board};
 use cfg_records::sample_board;
+use plan_file::{Field, FileFault, Item, Place, read_board};
 use std::alloc::{AllocError, Global};
 use std::test::Fail;
 
