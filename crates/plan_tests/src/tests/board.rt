@@ -1,4 +1,5 @@
 //! Board files: the sample board, and the faults of files.
+use super::row_of;
 use cfg_records::sample_board;
 use plan_file::{Field, FileFault, Item, Place, read_board};
 use std::alloc::{AllocError, Global};
@@ -48,243 +49,42 @@ assert = 0
 deassert = 0
 ";
 
-/// A line of the sample board's file, and lines that say something else of its field.
-#[derive(Clone, Copy)]
-struct Case {
-    line: &'static str,
-    place: Place,
-    mistyped: &'static str,
-    beyond: [&'static str; 2],
-    inside: [&'static str; 2],
-}
+/// A row for each field: its place in faults, its line in the sample board's file, a line of another type, two that are beyond its range,
+/// and two that are just inside. The line of `deassert` is each sensor's, and the first counts.
+const FIELDS: &str = "top tid | tid = 5 | tid = true | tid = -1 | tid = 256 | tid = 0 | tid = 255
+top clock | clock = 0 | clock = 0.5 | clock = -1 | clock = 0x100000000 | clock = 1 | clock = 0xFFFFFFFF
+top log | log = 2 | log = [2] | log = 0 | log = 1025 | log = 1 | log = 1024
+top enables | enables = 0x08 | enables = true | enables = 0x10 | enables = 0x100 | enables = 0 | enables = 0xEF
+top policy | policy = 1 | policy = \"1\" | policy = -1 | policy = 4 | policy = 0 | policy = 3
+top watchdog | watchdog = [0, 0, 0, 0] | watchdog = [0, 0, 0, false] | watchdog = [0x86, 0, 0, 0] | watchdog = [0, 0x44, 0, 65536] | watchdog = [0x85, 0x33, 255, 65535] | watchdog = [0, 0, 0, 1]
+top sdr | sdr = [\"010051C00100\"] | sdr = [\"010051C00100\", 1] | sdr = [\"010051C00200\"] | sdr = [\"FFFF51C000\"] | sdr = [] | sdr = [\"feFF51c000\", \"010051C00100\"]
+top boot3 | boot3 = 0 | boot3 = [0] | boot3 = -1 | boot3 = 32 | boot3 = 1 | boot3 = 31
+top boot4 | boot4 = 0 | boot4 = [0] | boot4 = -1 | boot4 = 256 | boot4 = 1 | boot4 = 255
+top boot5 | boot5 = [0, 0, 0, 0, 0] | boot5 = 0 | boot5 = [0, 0, 0, 0] | boot5 = [0, 0, 0, 0, 256] | boot5 = [255, 0, 0, 0, 0] | boot5 = [0, 0, 0, 0, 255]
+device id | id = 0x20 | id = 1.0 | id = -1 | id = 256 | id = 0 | id = 255
+device revision | revision = 1 | revision = [1] | revision = -1 | revision = 256 | revision = 0 | revision = 255
+device major | major = 1 | major = true | major = -1 | major = 256 | major = 0 | major = 255
+device minor | minor = 0x05 | minor = \"5\" | minor = 0x0A | minor = 0xA0 | minor = 0 | minor = 0x99
+device support | support = 0x07 | support = true | support = -1 | support = 256 | support = 0 | support = 255
+device manufacturer | manufacturer = 0xABCD | manufacturer = true | manufacturer = -1 | manufacturer = 0x1000000 | manufacturer = 0 | manufacturer = 0xFFFFFF
+device product | product = 0x1234 | product = true | product = -1 | product = 0x10000 | product = 0 | product = 0xFFFF
+sensor 1 number | number = 7 | number = true | number = -1 | number = 255 | number = 0 | number = 254
+sensor 1 type | type = 4 | type = true | type = -1 | type = 256 | type = 0 | type = 255
+sensor 1 readable | readable = 0x18 | readable = true | readable = -1 | readable = 64 | readable = 0 | readable = 63
+sensor 1 settable | settable = 0x38 | settable = true | settable = -1 | settable = 64 | settable = 0x38 | settable = 63
+sensor 1 thresholds | thresholds = [0, 0, 0, 0x90, 0xA0, 0xB0] | thresholds = [0, 0, 0, 0x90, 0xA0, true] | thresholds = [0, 0, 0, 9, 9] | thresholds = [0, 0, 0, 9, 9, 8] | thresholds = [0, 0, 0, 9, 9, 9] | thresholds = [0, 0, 0, 0, 255, 255]
+sensor 1 hysteresis | hysteresis = [0, 0] | hysteresis = 0 | hysteresis = [0] | hysteresis = [0, 256] | hysteresis = [0, 255] | hysteresis = [255, 0]
+sensor 1 supported | supported = 0xFC0 | supported = [0xFC0] | supported = -1 | supported = 4096 | supported = 0 | supported = 4095
+sensor 1 flags | flags = 0 | flags = true | flags = 0x20 | flags = 0x100 | flags = 0x40 | flags = 0xC0
+sensor 1 assert | assert = 0 | assert = [6] | assert = -1 | assert = 0x20 | assert = 0x40 | assert = 0xFC0
+sensor 0 deassert | deassert = 0 | deassert = \"0\" | deassert = -1 | deassert = 0x1000 | deassert = 0x40 | deassert = 0xFC0";
 
+/// A place at the top of a file.
 const fn top(field: Field) -> Place {
     Place {
         item: Item::Top,
         field,
     }
-}
-
-const fn board(field: Field) -> Place {
-    Place {
-        item: Item::Device,
-        field,
-    }
-}
-
-const fn sensor(place: usize, field: Field) -> Place {
-    Place {
-        item: Item::Sensor(place),
-        field,
-    }
-}
-
-/// A case for each field: the file's own, `[device]`'s, and the second `[[sensor]]`'s. The line of `deassert` is each
-/// sensor's, and the first counts.
-fn cases() -> [Case; 27] {
-    [
-        Case {
-            line: "tid = 5",
-            place: top(Field::Tid),
-            mistyped: "tid = true",
-            beyond: ["tid = -1", "tid = 256"],
-            inside: ["tid = 0", "tid = 255"],
-        },
-        Case {
-            line: "clock = 0",
-            place: top(Field::Clock),
-            mistyped: "clock = 0.5",
-            beyond: ["clock = -1", "clock = 0x100000000"],
-            inside: ["clock = 1", "clock = 0xFFFFFFFF"],
-        },
-        Case {
-            line: "log = 2",
-            place: top(Field::Log),
-            mistyped: "log = [2]",
-            beyond: ["log = 0", "log = 1025"],
-            inside: ["log = 1", "log = 1024"],
-        },
-        Case {
-            line: "enables = 0x08",
-            place: top(Field::Enables),
-            mistyped: "enables = true",
-            beyond: ["enables = 0x10", "enables = 0x100"],
-            inside: ["enables = 0", "enables = 0xEF"],
-        },
-        Case {
-            line: "policy = 1",
-            place: top(Field::Policy),
-            mistyped: "policy = \"1\"",
-            beyond: ["policy = -1", "policy = 4"],
-            inside: ["policy = 0", "policy = 3"],
-        },
-        Case {
-            line: "watchdog = [0, 0, 0, 0]",
-            place: top(Field::Watchdog),
-            mistyped: "watchdog = [0, 0, 0, false]",
-            beyond: [
-                "watchdog = [0x86, 0, 0, 0]",
-                "watchdog = [0, 0x44, 0, 65536]",
-            ],
-            inside: [
-                "watchdog = [0x85, 0x33, 255, 65535]",
-                "watchdog = [0, 0, 0, 1]",
-            ],
-        },
-        Case {
-            line: "sdr = [\"010051C00100\"]",
-            place: top(Field::Sdr),
-            mistyped: "sdr = [\"010051C00100\", 1]",
-            beyond: ["sdr = [\"010051C00200\"]", "sdr = [\"FFFF51C000\"]"],
-            inside: ["sdr = []", "sdr = [\"feFF51c000\", \"010051C00100\"]"],
-        },
-        Case {
-            line: "boot3 = 0",
-            place: top(Field::Boot3),
-            mistyped: "boot3 = [0]",
-            beyond: ["boot3 = -1", "boot3 = 32"],
-            inside: ["boot3 = 1", "boot3 = 31"],
-        },
-        Case {
-            line: "boot4 = 0",
-            place: top(Field::Boot4),
-            mistyped: "boot4 = [0]",
-            beyond: ["boot4 = -1", "boot4 = 256"],
-            inside: ["boot4 = 1", "boot4 = 255"],
-        },
-        Case {
-            line: "boot5 = [0, 0, 0, 0, 0]",
-            place: top(Field::Boot5),
-            mistyped: "boot5 = 0",
-            beyond: ["boot5 = [0, 0, 0, 0]", "boot5 = [0, 0, 0, 0, 256]"],
-            inside: ["boot5 = [255, 0, 0, 0, 0]", "boot5 = [0, 0, 0, 0, 255]"],
-        },
-        Case {
-            line: "id = 0x20",
-            place: board(Field::Id),
-            mistyped: "id = 1.0",
-            beyond: ["id = -1", "id = 256"],
-            inside: ["id = 0", "id = 255"],
-        },
-        Case {
-            line: "revision = 1",
-            place: board(Field::Revision),
-            mistyped: "revision = [1]",
-            beyond: ["revision = -1", "revision = 256"],
-            inside: ["revision = 0", "revision = 255"],
-        },
-        Case {
-            line: "major = 1",
-            place: board(Field::Major),
-            mistyped: "major = true",
-            beyond: ["major = -1", "major = 256"],
-            inside: ["major = 0", "major = 255"],
-        },
-        Case {
-            line: "minor = 0x05",
-            place: board(Field::Minor),
-            mistyped: "minor = \"5\"",
-            beyond: ["minor = 0x0A", "minor = 0xA0"],
-            inside: ["minor = 0", "minor = 0x99"],
-        },
-        Case {
-            line: "support = 0x07",
-            place: board(Field::Support),
-            mistyped: "support = true",
-            beyond: ["support = -1", "support = 256"],
-            inside: ["support = 0", "support = 255"],
-        },
-        Case {
-            line: "manufacturer = 0xABCD",
-            place: board(Field::Manufacturer),
-            mistyped: "manufacturer = true",
-            beyond: ["manufacturer = -1", "manufacturer = 0x1000000"],
-            inside: ["manufacturer = 0", "manufacturer = 0xFFFFFF"],
-        },
-        Case {
-            line: "product = 0x1234",
-            place: board(Field::Product),
-            mistyped: "product = true",
-            beyond: ["product = -1", "product = 0x10000"],
-            inside: ["product = 0", "product = 0xFFFF"],
-        },
-        Case {
-            line: "number = 7",
-            place: sensor(1, Field::Number),
-            mistyped: "number = true",
-            beyond: ["number = -1", "number = 255"],
-            inside: ["number = 0", "number = 254"],
-        },
-        Case {
-            line: "type = 4",
-            place: sensor(1, Field::Type),
-            mistyped: "type = true",
-            beyond: ["type = -1", "type = 256"],
-            inside: ["type = 0", "type = 255"],
-        },
-        Case {
-            line: "readable = 0x18",
-            place: sensor(1, Field::Readable),
-            mistyped: "readable = true",
-            beyond: ["readable = -1", "readable = 64"],
-            inside: ["readable = 0", "readable = 63"],
-        },
-        Case {
-            line: "settable = 0x38",
-            place: sensor(1, Field::Settable),
-            mistyped: "settable = true",
-            beyond: ["settable = -1", "settable = 64"],
-            inside: ["settable = 0x38", "settable = 63"],
-        },
-        Case {
-            line: "thresholds = [0, 0, 0, 0x90, 0xA0, 0xB0]",
-            place: sensor(1, Field::Thresholds),
-            mistyped: "thresholds = [0, 0, 0, 0x90, 0xA0, true]",
-            beyond: [
-                "thresholds = [0, 0, 0, 9, 9]",
-                "thresholds = [0, 0, 0, 9, 9, 8]",
-            ],
-            inside: [
-                "thresholds = [0, 0, 0, 9, 9, 9]",
-                "thresholds = [0, 0, 0, 0, 255, 255]",
-            ],
-        },
-        Case {
-            line: "hysteresis = [0, 0]",
-            place: sensor(1, Field::Hysteresis),
-            mistyped: "hysteresis = 0",
-            beyond: ["hysteresis = [0]", "hysteresis = [0, 256]"],
-            inside: ["hysteresis = [0, 255]", "hysteresis = [255, 0]"],
-        },
-        Case {
-            line: "supported = 0xFC0",
-            place: sensor(1, Field::Supported),
-            mistyped: "supported = [0xFC0]",
-            beyond: ["supported = -1", "supported = 4096"],
-            inside: ["supported = 0", "supported = 4095"],
-        },
-        Case {
-            line: "flags = 0",
-            place: sensor(1, Field::Flags),
-            mistyped: "flags = true",
-            beyond: ["flags = 0x20", "flags = 0x100"],
-            inside: ["flags = 0x40", "flags = 0xC0"],
-        },
-        Case {
-            line: "assert = 0",
-            place: sensor(1, Field::Assert),
-            mistyped: "assert = [6]",
-            beyond: ["assert = -1", "assert = 0x20"],
-            inside: ["assert = 0x40", "assert = 0xFC0"],
-        },
-        Case {
-            line: "deassert = 0",
-            place: sensor(0, Field::Deassert),
-            mistyped: "deassert = \"0\"",
-            beyond: ["deassert = -1", "deassert = 0x1000"],
-            inside: ["deassert = 0x40", "deassert = 0xFC0"],
-        },
-    ]
 }
 
 /// The sample board's file with a line in another's place.
@@ -297,10 +97,13 @@ fn edited(alloc: Global, old: &'static str, new: &'static str) -> Result<String,
     Ok(text)
 }
 
-/// The fault of the sample board's file with a line in another's place.
-fn fault(alloc: Global, old: &'static str, new: &'static str) -> Result<Option<FileFault>, Fail> {
+/// What the fault of the sample board's file with a line in another's place is called, and nothing where it is a board.
+fn fault(alloc: Global, old: &'static str, new: &'static str) -> Result<String, AllocError> {
     let text = edited(alloc, old, new)?;
-    Ok(read_board(alloc, text.as_str()).err())
+    match read_board(alloc, text.as_str()) {
+        Ok(_) => Ok(String::new(alloc)),
+        Err(fault) => format!(in alloc; "{fault}"),
+    }
 }
 
 #[test]
@@ -359,25 +162,19 @@ fn flags_say_messages_and_scanning(rt: HostRuntime) -> Result<(), Fail> {
 #[test]
 fn a_field_that_is_left_out_mistyped_or_out_of_range_is_named(rt: HostRuntime) -> Result<(), Fail> {
     let alloc = rt.alloc();
-    for case in cases() {
-        let missing = Some(FileFault::Missing(case.place));
-        assert_eq!(rt; fault(alloc, case.line, "")?, missing, "{}", case.line);
-        let mistyped = Some(FileFault::WrongType(case.place));
-        assert_eq!(rt;
-            fault(alloc, case.line, case.mistyped)?,
-            mistyped,
-            "{}",
-            case.mistyped
-        );
-        for line in case.beyond {
-            assert_eq!(rt;
-                fault(alloc, case.line, line)?,
-                Some(FileFault::Range(case.place)),
-                "{line}"
-            );
+    for text in FIELDS.lines() {
+        let row = row_of(text).ok_or("seven cells")?;
+        for (other, name) in [
+            ("", "Missing"),
+            (row.mistyped, "WrongType"),
+            (row.beyond[0], "Range"),
+            (row.beyond[1], "Range"),
+        ] {
+            let want = format!(in alloc; "{name} {}", row.place)?;
+            assert_eq!(rt; fault(alloc, row.line, other)?, want, "{text} {other}");
         }
-        for line in case.inside {
-            assert_eq!(rt; fault(alloc, case.line, line)?, None, "{line}");
+        for other in row.inside {
+            assert_eq!(rt; fault(alloc, row.line, other)?.as_str(), "", "{other}");
         }
     }
     Ok(())
@@ -438,8 +235,7 @@ fn the_first_fault_counts(rt: HostRuntime) -> Result<(), Fail> {
         ("deassert = 0", "deassert = 0x20", "Range sensor 1 deassert"),
     ];
     for (old, new, want) in cases {
-        let found = fault(rt.alloc(), old, new)?.ok_or("a fault")?;
-        assert_eq!(rt; format!(in rt.alloc(); "{found}")?.as_str(), want, "{new}");
+        assert_eq!(rt; fault(rt.alloc(), old, new)?.as_str(), want, "{new}");
     }
     Ok(())
 }
