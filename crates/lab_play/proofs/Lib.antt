@@ -1,3 +1,5 @@
 pub mod Frames
 pub mod Sent
 pub mod ManagerSide
+pub mod Deeds
+pub mod PortSide
