@@ -4,4 +4,6 @@ pub mod Idling
 pub mod Running
 pub mod Sent
 pub mod ManagerSide
+pub mod Deeds
+pub mod PortSide
 pub mod Playing

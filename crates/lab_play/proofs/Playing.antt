@@ -63,7 +63,7 @@ module _ (file : BoardFile) (steps : List Op) (retries : ℕ) where
       let at = halts.left file first shows in
       let told = told_after halts.before in
       let is : IsPlayed (own_bench file) file steps retries events (Stops (fault_of why) place told) =
-          (halts.before, halts.rest, halts.event, halts.all, halts.place, at.0, halts.refuses file first shows, refl) in
+      (halts.before, halts.rest, halts.event, halts.all, halts.place, at.0, halts.refuses file first shows, refl) in
       record {
         ending = Stops (fault_of why) place told;
         is = (refl, refl, tells halts.before played start once at.1);

@@ -1,3 +1,4 @@
 pub mod Shown
 pub mod Runs
+pub mod Hearing
 pub mod Ends

@@ -1,25 +1,73 @@
 //! What the controller's ports hear, and what they forget.
-ghost use Rattle.std.specs.Prelude.{◌≡◌, ◌<◌, ◌≤◌, OnOk, suc, slice_get};
+ghost use Rattle.std.specs.Prelude.{◌≡◌, ◌<◌, ◌≤◌, List, map, OnOk, suc, slice_get};
+ghost use Rattle.std.specs.List.{AllZip};
 ghost use Rattle.two_wire.specs.declared.Bus.{Bus as AnyBus};
 ghost use Rattle.two_wire.specs.declared.Bus.TheVariants.{Ipmb, Smbus};
-ghost use Rattle.lab_model.specs.Values.{Asks};
+ghost use Rattle.ipmb_frame.specs.Grammar.{IsRequest};
+ghost use Rattle.cfg_records.specs.declared.board_file.BoardFile.{BoardFile as AnyFile};
+ghost use Rattle.lab_model.specs.Values.{Value, Asks, Part, IsFrameOn, parts_of};
 ghost use Rattle.lab_model.specs.PortSteps.{hears, hears_all, idles};
-ghost use Rattle.lab_model.specs.Lab.{ToOthers, delivered, port_does, port_on, with_port};
-ghost use Rattle.lab.specs.Meaning.{lab_names as the_names, request_of, message_of};
+ghost use Rattle.lab_model.specs.Lab.{Lab as LabModel, ToOthers, delivered, port_does, port_on, with_port, with_frames};
+ghost use Rattle.lab.specs.Meaning.{lab_names as the_names, other_wire, request_of, message_of};
 ghost use Rattle.lab.specs.Played.{plans};
-ghost use Rattle.lab_play.specs.Shown.{Becomes, idles_in};
+ghost use Rattle.lab.specs.Shown.{way_of};
+ghost use Rattle.lab_play.specs.Shown.{Shows, Becomes, idles_in};
+ghost use Rattle.lab_play.specs.Hearing.{HasFrames, HasHeard};
 
 use crate::lab_state::Lab;
+use arrayvec::ArrayVec;
 use ipmb_frame::{Header, Party, Request, write_request};
 use lab::Way;
 use lab_model::marks::Mark;
-use mctp_net::{EndpointId, Envelope, Message, SomeData, Tag, split};
+use mctp_net::{Envelope, Message, SomeData, Tag, split};
+use plans::Names;
 use schedules::{OtherMessage, OtherRequest};
 use std::alloc::AllocError;
-use two_wire::{Address, Bus, Data};
+use two_wire::{Address, Bus, Data, Frame};
 
 /// The two-wire address of all others on the System Management Bus.
 const OTHER_WIRE: u8 = 0x42;
+
+/// The address of all others.
+fn others() -> Address
+    ensures { result ≡ other_wire }
+{
+    Address::new(OTHER_WIRE).unwrap()
+}
+
+/// The frame of somebody else's request to the controller.
+fn request_frame(names: &Names, request: &OtherRequest) -> Frame
+    ensures { IsRequest (request_of names.now request.now) result }
+{
+    let header = Header {
+        responder: Party {
+            address: names.peer_address,
+            lun: request.responder,
+        },
+        requester: request.requester,
+        net_fn: request.net_fn,
+        sequence: request.sequence,
+        command: request.command,
+    };
+    let body = Data::new(request.body.as_slice());
+    write_request(&Request { header, body })
+}
+
+/// The frames of somebody else's message to the controller.
+fn message_frames(names: &Names, message: &OtherMessage) -> ArrayVec<Frame, 4>
+    ensures { AllZip (IsFrameOn Smbus) (map (λ p. Part p) (parts_of (message_of names.now message.now))) result.items }
+{
+    let envelope = Envelope {
+        destination: names.peer_wire,
+        source: others(),
+        destination_eid: names.peer_eid,
+        source_eid: message.from,
+        tag_owner: true,
+        tag: Tag::new(0),
+    };
+    let body = SomeData::new(message.body.as_slice());
+    split(&Message { envelope, body })
+}
 
 impl Lab {
     /// The frame of this number comes to the controller's port on its bus, if there is such a frame.
@@ -30,15 +78,11 @@ impl Lab {
         let Some(frame) = self.frames.get(number) else {
             return Ok(());
         };
-        let bytes = frame.bytes.as_slice();
-        let on = frame.mark.on;
-        match on {
-            Bus::Ipmb => self.ipmb.on_frame(&mut self.board, bytes, &mut self.out),
-            Bus::Smbus => self.smbus.on_frame(&mut self.board, bytes, &mut self.out),
-        }
-        let mark = frame.mark.reply(self.idles.on(on));
-        self.frames
-            .send(Way::ToManager, mark, self.out.frames.as_slice())
+        let mark = frame.mark;
+        let bytes = frame.bytes.copy();
+        self.hear(mark.on, bytes.as_slice());
+        let reply = mark.reply(self.idles.on(mark.on));
+        self.send_out(Way::ToManager, reply)
     }
 
     /// Somebody else's request comes to the port on IPMB.
@@ -46,21 +90,8 @@ impl Lab {
         ensures becomes { OnOk result (Becomes self.old self.new (λ file x. port_does plans Ipmb ToOthers 0 (hears file x.ipmb x.board (Asks (request_of the_names request.now))) x)) }
         ensures idles { self.new.idles ≡ self.old.idles }
     {
-        let header = Header {
-            responder: Party {
-                address: self.names.peer_address,
-                lun: request.responder,
-            },
-            requester: request.requester,
-            net_fn: request.net_fn,
-            sequence: request.sequence,
-            command: request.command,
-        };
-        let body = Data::new(request.body.as_slice());
-        let frame = write_request(&Request { header, body });
-        self.ipmb
-            .on_frame(&mut self.board, frame.as_slice(), &mut self.out);
-        self.send_to_others(Bus::Ipmb)
+        let frame = request_frame(&self.names, request);
+        self.hear_other(Bus::Ipmb, frame.as_slice())
     }
 
     /// All packets of somebody else's message come to the port on the System Management Bus.
@@ -68,33 +99,48 @@ impl Lab {
         ensures becomes { OnOk result (Becomes self.old self.new (λ file x. port_does plans Smbus ToOthers 0 (hears_all file x.smbus x.board (message_of the_names message.now)) x)) }
         ensures idles { self.new.idles ≡ self.old.idles }
     {
-        let envelope = Envelope {
-            destination: self.names.peer_wire,
-            source: Address::new(OTHER_WIRE).unwrap(),
-            destination_eid: self.names.peer_eid,
-            source_eid: message.from,
-            tag_owner: true,
-            tag: Tag::new(0),
-        };
-        let body = SomeData::new(message.body.as_slice());
-        let frames = split(&Message { envelope, body });
+        let frames = message_frames(&self.names, message);
         for frame in frames.as_slice() {
-            self.smbus
-                .on_frame(&mut self.board, frame.as_slice(), &mut self.out);
-            self.send_to_others(Bus::Smbus)?;
+            self.hear_other(Bus::Smbus, frame.as_slice())?;
         }
         Ok(())
     }
 
-    /// What a port sent goes to others.
-    fn send_to_others(&mut self, on: Bus) -> Result<(), AllocError> {
+    /// Somebody else's frame comes to the port on its bus, and what the port sends goes to others.
+    fn hear_other(&mut self, on: Bus, bytes: &[u8]) -> Result<(), AllocError>
+        ensures becomes { OnOk result ((file : AnyFile) (x : LabModel plans) (v : Value) → Shows file self.old x → IsFrameOn on v bytes.now
+            → Shows file self.new (port_does plans on ToOthers 0 (hears file (port_on plans on x) x.board v) x)) }
+        ensures idles { self.new.idles ≡ self.old.idles }
+    {
+        self.hear(on, bytes);
         let mark = Mark {
             on,
             request: 0,
             idles: self.idles.on(on),
         };
-        self.frames
-            .send(Way::ToOthers, mark, self.out.frames.as_slice())
+        self.send_out(Way::ToOthers, mark)
+    }
+
+    /// A frame comes to the port on its bus, which fills in what it sends.
+    fn hear(&mut self, on: Bus, bytes: &[u8])
+        ensures heard { (file : AnyFile) (x : LabModel plans) (v : Value) → Shows file self.old x → IsFrameOn on v bytes.now
+            → HasHeard file on x (hears file (port_on plans on x) x.board v) self.new }
+        ensures idles { self.new.idles ≡ self.old.idles }
+    {
+        match on {
+            Bus::Ipmb => self.ipmb.on_frame(&mut self.board, bytes, &mut self.out),
+            Bus::Smbus => self.smbus.on_frame(&mut self.board, bytes, &mut self.out),
+        }
+    }
+
+    /// What a port filled in last is sent, this way and with this mark.
+    fn send_out(&mut self, way: Way, mark: Mark) -> Result<(), AllocError>
+        requires { mark.idles ≡ idles_in mark.on self.old.idles }
+        ensures sent { OnOk result ((file : AnyFile) (x : LabModel plans) (values : List Value) → Shows file self.old x → HasFrames mark.on values self.old.out
+            → Shows file self.new (with_frames plans mark.on (way_of way) mark.request values x)) }
+        ensures idles { self.new.idles ≡ self.old.idles }
+    {
+        self.frames.send(way, mark, self.out.frames.as_slice())
     }
 
     /// The port on a bus forgets a requester's window.
