@@ -3,7 +3,7 @@ use Rattle.std.specs.Prelude.{◌≡◌, ℕ, Bool, false, not, List, length, fi
 use Rattle.std.specs.Str.{bytes_eq}
 use Rattle.cfg_records.specs.declared.board_file.BoardFile.{BoardFile}
 use Rattle.cfg_records.specs.declared.op.Op.{Op}
-use Rattle.cfg_records.specs.Records.{Records, Pair, records_of}
+use Rattle.cfg_records.specs.Records.{Records, Pair, KeysDiffer, records_of}
 use Rattle.lab_model.specs.Lab.{Lab as LabModel}
 use Rattle.schedules.specs.declared.event.Event.{Event}
 use Rattle.lab.specs.Played.{plans, Told, Ending, Whole, Stops, told_of, IsPlayed}
@@ -14,12 +14,13 @@ use Rattle.lab_play.specs.declared.played.Played.{Played}
 use Rattle.lab_play.specs.declared.played.LabFault.{LabFault}
 use Rattle.lab_play.specs.declared.played.LabFault.TheVariants as fault
 
--- this is told: of a lab that began with these records, and is this one now
+-- this is told: of a lab that began with these records, each listed once, and is this one now
 pub record Tells (played : Played) (told : Told) : Type 0 where
   pub file : BoardFile
   pub first : LabModel plans
   pub now : LabModel plans
   pub shown : Shows file played.lab now
+  pub once : KeysDiffer played.start.items
   pub start : first.board.records ≡ records_of played.start.items
   pub is : told ≡ told_of first now
 
