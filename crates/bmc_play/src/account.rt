@@ -1,5 +1,5 @@
 //! What is said of a lab that was played.
-ghost use Rattle.std.specs.Prelude.{◌≡◌, ◌×◌, IfOk, Option, None, Some, string_bytes};
+ghost use Rattle.std.specs.Prelude.{◌≡◌, IfOk, Option, None, Some, string_bytes};
 ghost use Rattle.lab.specs.Played.{Told};
 ghost use Rattle.lab_play.specs.Ends.{Tells};
 ghost use Rattle.bmc_lab.specs.declared.console.Stream.TheVariants.{Output};

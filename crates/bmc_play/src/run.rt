@@ -1,5 +1,5 @@
 //! `bmclab play`: a plan run and undone by a schedule.
-ghost use Rattle.std.specs.Prelude.{◌≡◌, ◌⊎◌, ◌×◌, ℕ, List, IfOk, codes, string_bytes};
+ghost use Rattle.std.specs.Prelude.{◌≡◌, ◌⊎◌, ℕ, List, IfOk, codes, string_bytes};
 ghost use Rattle.std.specs.Io.KnownBytes.{Appends, Keeps};
 ghost use Rattle.bmc_lab.specs.declared.console.Stream.{Stream as AnyStream};
 ghost use Rattle.bmc_lab.specs.declared.console.Stream.TheVariants.{Output, Error};
