@@ -11,12 +11,12 @@ use Rattle.bmc_board.specs.State.{State}
 use Rattle.bmc_board.specs.Answer.{answer_of}
 use Rattle.lab_model.specs.Bytes.{heard_in}
 use Rattle.lab_model.specs.PortSteps.{PortState, Deed, Turn, spelled, asked_in, response_after, hears_request}
-use Rattle.lab_model.specs.Values.{written}
+use Rattle.lab_model.specs.Values.{Value, written}
 use Rattle.lab_model.proofs.Stepping.{turns_by}
 use Rattle.bmc_core.specs.declared.out.Out.{Out}
 use Rattle.bmc_core.specs.declared.ipmb_port.IpmbPort.{IpmbPort}
-use Rattle.bmc_core.specs.Outs.{sends, done_by}
-use Rattle.bmc_core.specs.IpmbShown.{Shows, Does, Settles, outcome_at, after, answers, carries, kept_of, first_answer}
+use Rattle.bmc_core.specs.Outs.{sends, done_by, AreRead}
+use Rattle.bmc_core.specs.IpmbShown.{Shows, Does, Settles, outcome_at, after, answers, response_told, carries, kept_of, first_answer, first_response}
 
 -- what comes of a request after this turn
 abbrev deed_by : PortState → Request → Turn → Deed
@@ -38,9 +38,9 @@ module _ (setup : BoardFile) (p : PortState) (before : State) (r : Request) wher
 
   settled : (port : IpmbPort) (out : Out) (o : Outcome) → outcome_at p r ≡ o → Settles r o false out → Shows port p → Does (hears_request setup p before r) (done_by o) port before out
   settled port out (Repeats reply) is settles shows =
-      subst (λ (d : Deed). Does d (done_by (Repeats reply)) port before out) (sym (repeat_deed reply is)) (record { shows = shows; left = refl; sent = settles.1 })
+      subst (λ (d : Deed). Does d (done_by (Repeats reply)) port before out) (sym (repeat_deed reply is)) (record { shows = shows; left = refl; sent = settles.1; read = settles.2 })
   settled port out IsBusy is settles shows =
-      subst (λ (d : Deed). Does d (done_by IsBusy) port before out) (sym (busy_deed is)) (record { shows = shows; left = refl; sent = settles.1 })
+      subst (λ (d : Deed). Does d (done_by IsBusy) port before out) (sym (busy_deed is)) (record { shows = shows; left = refl; sent = settles.1; read = settles.2 })
   settled port out IsNew is settles shows = absurd (true≢false (sym settles))
 
   -- a request that isn't new
@@ -49,10 +49,11 @@ module _ (setup : BoardFile) (p : PortState) (before : State) (r : Request) wher
 
   -- a new one
   pub new_does : (next : IpmbPort) (after : State) (out : Out) → let given = answer_of setup before (asked_in r) in
-      outcome_at p r ≡ IsNew → Shows next (carries p r given.0) → after ≡ given.1 → out ≡ first_answer r given.0 → Does (hears_request setup p before r) (done_by (outcome_at p r)) next after out
-  new_does next after out is shows left sent =
+      outcome_at p r ≡ IsNew → Shows next (carries p r given.0) → after ≡ given.1 → out ≡ first_answer r given.0 → AreRead Ipmb (first_response r given.0 ∷ [])
+      → Does (hears_request setup p before r) (done_by (outcome_at p r)) next after out
+  new_does next after out is shows left sent read =
       subst (λ (o : Outcome). Does (hears_request setup p before r) (done_by o) next after out) (sym is)
-      (subst (λ (d : Deed). Does d (done_by IsNew) next after out) (sym (new_deed is)) (record { shows = shows; left = left; sent = sent }))
+      (subst (λ (d : Deed). Does d (done_by IsNew) next after out) (sym (new_deed is)) (record { shows = shows; left = left; sent = sent; read = read }))
 
 -- what is new is new by the rule
 pub is_new : (r : Request) (o : Outcome) (out : Out) → Settles r o true out → o ≡ IsNew
@@ -67,19 +68,27 @@ module _ (p : PortState) (r : Request) (a : Answered) where
   abbrev after_by : Outcome → PortState
   after_by o = record p { log = log_after o (kept_of r a) p.log }
 
-  abbrev answers_by : Outcome → Out
-  answers_by o = sends (written (response_after r (reply_after o (kept_of r a))) ∷ []) (done_by o)
+  abbrev response_by : Outcome → Value
+  response_by o = response_after r (reply_after o (kept_of r a))
 
-  settled_told : (port : IpmbPort) (out : Out) (o : Outcome) → Settles r o false out → Shows port p → Shows port (after_by o) × (out ≡ answers_by o)
-  settled_told port out (Repeats reply) settles shows = (shows, settles.1)
-  settled_told port out IsBusy settles shows = (shows, settles.1)
+  abbrev answers_by : Outcome → Out
+  answers_by o = sends (written (response_by o) ∷ []) (done_by o)
+
+  -- the port goes on by the rule, and sends what that says, which is read as itself
+  abbrev IsToldBy : IpmbPort → Out → Outcome → Type 0
+  IsToldBy port out o = Shows port (after_by o) × (out ≡ answers_by o) × AreRead Ipmb (response_by o ∷ [])
+
+  settled_told : (port : IpmbPort) (out : Out) (o : Outcome) → Settles r o false out → Shows port p → IsToldBy port out o
+  settled_told port out (Repeats reply) settles shows = (shows, settles.1, settles.2)
+  settled_told port out IsBusy settles shows = (shows, settles.1, settles.2)
   settled_told port out IsNew settles shows = absurd (true≢false (sym settles))
 
   -- to a request that isn't new any more
-  pub told_settled : (port : IpmbPort) (out : Out) → Settles r (outcome_at p r) false out → Shows port p → Shows port (after p r a) × (out ≡ answers p r a)
+  pub told_settled : (port : IpmbPort) (out : Out) → Settles r (outcome_at p r) false out → Shows port p
+      → Shows port (after p r a) × (out ≡ answers p r a) × AreRead Ipmb (response_told p r a ∷ [])
   told_settled port out settles shows = settled_told port out (outcome_at p r) settles shows
 
   -- to a new one
-  pub told_new : (next : IpmbPort) (out : Out) → outcome_at p r ≡ IsNew → Shows next (carries p r a) → out ≡ first_answer r a → Shows next (after p r a) × (out ≡ answers p r a)
-  told_new next out is shows sent =
-      subst (λ (o : Outcome). Shows next (after_by o) × (out ≡ answers_by o)) (sym is) (shows, sent)
+  pub told_new : (next : IpmbPort) (out : Out) → outcome_at p r ≡ IsNew → Shows next (carries p r a) → out ≡ first_answer r a → AreRead Ipmb (first_response r a ∷ [])
+      → Shows next (after p r a) × (out ≡ answers p r a) × AreRead Ipmb (response_told p r a ∷ [])
+  told_new next out is shows sent read = subst (IsToldBy next out) (sym is) (shows, sent, read)

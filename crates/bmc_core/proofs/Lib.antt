@@ -1,3 +1,4 @@
+pub mod OwnBytes
 pub mod IpmbDeeds
 pub mod IpmbFrames
 pub mod IpmbHearing

@@ -1,5 +1,6 @@
 -- What a port of either bus does in two steps, with the board between, is what it does in one.
-use Rattle.std.proofs.Common.{◌≡◌, ℕ, Bool, true, false, List, Some, None, Result, Ok, Err, refl, sym, subst}
+use Rattle.std.proofs.Common.{◌≡◌, ℕ, Bool, true, false, List, [], ◌∷◌, Some, None, Result, Ok, Err, refl, sym, subst}
+use Rattle.two_wire.specs.declared.Bus.TheVariants as on
 use Rattle.ipmb_frame.specs.declared.message.Request.{Request}
 use Rattle.cfg_records.specs.declared.board_file.BoardFile.{BoardFile}
 use Rattle.bus_model.specs.Carried.{Outcome, Repeats, IsBusy, IsNew}
@@ -17,11 +18,12 @@ use Rattle.bmc_core.specs.declared.port.Port.{Port}
 use Rattle.bmc_core.specs.declared.port.Port.TheVariants.{Ipmb, Smbus}
 use Rattle.bmc_core.specs.declared.port.Pending.{Pending}
 use Rattle.bmc_core.specs.declared.port.Pending.TheVariants as pending
-use Rattle.bmc_core.specs.Outs.{done_by}
+use Rattle.bmc_core.specs.Outs.{done_by, AreRead}
 use Rattle.bmc_core.specs.IpmbShown as ipmb
 use Rattle.bmc_core.specs.SmbusShown as smbus
 use Rattle.bmc_core.specs.SmbusHeard.{InMessage, Heard, Ignored, Waiting, Control, Asks, taken, heard_in, asked_of as message_asked, asks_of, found, asks, done_of}
 use Rattle.bmc_core.specs.Port.{asked_of, Hears, IsStep, IsTold, IsHeardThenTold}
+use Rattle.bmc_core.proofs.OwnBytes.{none_read}
 use Rattle.bmc_core.proofs.IpmbDeeds.{settled_does, is_new}
 use Rattle.bmc_core.proofs.IpmbLists.{heard_then_told as request_heard_then_told}
 use Rattle.bmc_core.proofs.SmbusLists.{new_one}
@@ -38,40 +40,41 @@ module _ (setup : BoardFile) (before : State) where
   settled_heard : (p : PortState) (heard : Result Request Reason) (next : IpmbPort) (out : Out) → ipmb.Steps p heard step.Done out → ipmb.Shows next p
       → ipmb.Does (ipmb.deed_of setup p before heard) (ipmb.done_of p heard) next before out
   settled_heard p (Ok r) next out is shows = settled_request p r next out is.0 is.1 is.2 shows
-  settled_heard p (Err why) next out is shows = record { shows = shows; left = refl; sent = is.1 }
+  settled_heard p (Err why) next out is shows = record { shows = shows; left = refl; sent = is.1; read = none_read on.Ipmb }
 
   ipmb_settled : (port next : IpmbPort) (bytes : List ℕ) (out : Out) → ipmb.IsStep port bytes next out step.Done → ipmb.Hears setup port before bytes out next before
   ipmb_settled port next bytes out is p shows heard at =
       settled_heard p heard next out (is.steps p shows heard at) (subst (λ (x : IpmbPort). ipmb.Shows x p) (sym is.stays) shows)
 
   told_request : (p : PortState) (r : Request) (next : IpmbPort) (out : Out) → let given = answer_of setup before (asked_in r) in
-      ipmb.outcome_at p r ≡ IsNew → ipmb.Shows next (ipmb.after p r given.0) → out ≡ ipmb.answers p r given.0
+      ipmb.outcome_at p r ≡ IsNew → ipmb.Shows next (ipmb.after p r given.0) → out ≡ ipmb.answers p r given.0 → AreRead on.Ipmb (ipmb.response_told p r given.0 ∷ [])
       → ipmb.Does (hears_request setup p before r) (done_by (ipmb.outcome_at p r)) next given.1 out
-  told_request p r next out is shows sent =
+  told_request p r next out is shows sent read =
       subst (λ (d : Deed). ipmb.Does d (done_by (ipmb.outcome_at p r)) next (answer_of setup before (asked_in r)).1 out)
-      (sym ((request_heard_then_told setup p before r).asked is)) (record { shows = shows; left = refl; sent = sent })
+      (sym ((request_heard_then_told setup p before r).asked is)) (record { shows = shows; left = refl; sent = sent; read = read })
 
   asked_request : (p : PortState) (r q : Request) (next : IpmbPort) (first out : Out) (new : Bool) → let given = answer_of setup before (asked_in q) in
       ipmb.Settles r (ipmb.outcome_at p r) new first → step.Ask q ≡ ipmb.next_of new r → ipmb.Shows next (ipmb.after p q given.0) → out ≡ ipmb.answers p q given.0
+      → AreRead on.Ipmb (ipmb.response_told p q given.0 ∷ [])
       → ipmb.Does (hears_request setup p before r) (done_by (ipmb.outcome_at p r)) next given.1 out
-  asked_request p r q next first out false settles given shows sent = let no : step.Ask q ≡ step.Done = given in absurd cc
-  asked_request p r q next first out true settles given shows sent =
+  asked_request p r q next first out false settles given shows sent read = let no : step.Ask q ≡ step.Done = given in absurd cc
+  asked_request p r q next first out true settles given shows sent read =
       let yes : step.Ask q ≡ step.Ask r = given in
       let same : q ≡ r = cc in
       subst (λ (x : Request). ipmb.Does (hears_request setup p before x) (done_by (ipmb.outcome_at p x)) next (answer_of setup before (asked_in q)).1 out) same
-      (told_request p q next out (subst (λ (x : Request). ipmb.outcome_at p x ≡ IsNew) (sym same) (is_new r (ipmb.outcome_at p r) first settles)) shows sent)
+      (told_request p q next out (subst (λ (x : Request). ipmb.outcome_at p x ≡ IsNew) (sym same) (is_new r (ipmb.outcome_at p r) first settles)) shows sent read)
 
   asked_heard : (p : PortState) (heard : Result Request Reason) (q : Request) (next : IpmbPort) (first out : Out) → let given = answer_of setup before (asked_in q) in
-      ipmb.Steps p heard (step.Ask q) first → ipmb.Shows next (ipmb.after p q given.0) → out ≡ ipmb.answers p q given.0
+      ipmb.Steps p heard (step.Ask q) first → ipmb.Shows next (ipmb.after p q given.0) → out ≡ ipmb.answers p q given.0 → AreRead on.Ipmb (ipmb.response_told p q given.0 ∷ [])
       → ipmb.Does (ipmb.deed_of setup p before heard) (ipmb.done_of p heard) next given.1 out
-  asked_heard p (Ok r) q next first out is shows sent = asked_request p r q next first out is.0 is.1 is.2 shows sent
-  asked_heard p (Err why) q next first out is shows sent = let no : step.Ask q ≡ step.Done = is.0 in absurd cc
+  asked_heard p (Ok r) q next first out is shows sent read = asked_request p r q next first out is.0 is.1 is.2 shows sent read
+  asked_heard p (Err why) q next first out is shows sent read = let no : step.Ask q ≡ step.Done = is.0 in absurd cc
 
   ipmb_asked : (port between next : IpmbPort) (bytes : List ℕ) (first out : Out) (q : Request) → let given = answer_of setup before (asked_in q) in
       ipmb.IsStep port bytes between first (step.Ask q) → ipmb.IsTold between q given.0 next out → ipmb.Hears setup port before bytes out next given.1
   ipmb_asked port between next bytes first out q is told p shows heard at =
       let shown : ipmb.Shows between p = subst (λ (x : IpmbPort). ipmb.Shows x p) (sym is.stays) shows in
-      asked_heard p heard q next first out (is.steps p shows heard at) (told.shows p shown) (told.sent p shown)
+      asked_heard p heard q next first out (is.steps p shows heard at) (told.shows p shown) (told.sent p shown) (told.read p shown)
 
 -- ---- on the System Management Bus
 

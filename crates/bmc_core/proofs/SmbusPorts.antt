@@ -1,14 +1,16 @@
 -- What a port on the System Management Bus does is what the lab's does.
-use Rattle.std.proofs.Common.{◌≡◌, ℕ, Bool, true, false, cond, List, [], ◌∷◌, find, Option, Some, None, Result, Ok, Err, refl, sym, ◌∙◌, ap, subst}
+use Rattle.std.proofs.Common.{◌≡◌, ℕ, ◌<◌, Bool, true, false, cond, List, [], ◌∷◌, length, find, Option, Some, None, Result, Ok, Err, refl, sym, ◌∙◌, ap, subst, arith}
 use Rattle.std.specs.Prelude.{◌==◌}
+use Rattle.std.specs.Option.{option_map, option_map_or}
 use Rattle.two_wire.specs.declared.Bus.TheVariants.{Smbus}
 use Rattle.mctp_net.specs.declared.fault.PacketFault.{PacketFault}
+use Rattle.mctp_net.specs.declared.packet.Envelope.{Envelope}
 use Rattle.mctp_net.specs.declared.packet.Packet.{Packet}
 use Rattle.mctp_net.specs.declared.message.Message.{Message}
 use Rattle.mctp_net.specs.declared.taken.DropCause.{DropCause}
 use Rattle.mctp_net.specs.Assembly.{Assemblies, drop_cause, after as kept_after, message_of}
 use Rattle.mctp_net.specs.Places.{Kept as Assembler, seen}
-use Rattle.mctp_net.specs.Control.{Request as ControlRequest, request_of as control_request_of, reply_to as control_reply_to}
+use Rattle.mctp_net.specs.Control.{Request as ControlRequest, request_of as control_request_of, reply_to as control_reply_to, eid_after}
 use Rattle.mctp_net.specs.Grammar.{IsPacket, has_fault, faults}
 use Rattle.pldm_base.specs.declared.fault.PldmFault.{PldmFault}
 use Rattle.pldm_base.specs.declared.message.PldmRequest.{PldmRequest}
@@ -20,15 +22,16 @@ use Rattle.bus_model.specs.Request.{Kept, Carried}
 use Rattle.bmc_board.specs.State.{State}
 use Rattle.bmc_board.specs.Answer.{answer_of}
 use Rattle.lab_model.specs.Bytes.{said}
-use Rattle.lab_model.specs.Values.{Part}
+use Rattle.lab_model.specs.Values.{Value, Part}
 use Rattle.lab_model.specs.PortSteps.{PortState, Deed, stays, left_by, turn, hears_control, hears_pldm, hears_typed, hears_message, hears_part, ends_message, hears}
 use Rattle.bmc_core.specs.declared.out.Out.{Out}
 use Rattle.bmc_core.specs.declared.out.Done.TheVariants as done
 use Rattle.bmc_core.specs.declared.out.Reason.TheVariants as reason
 use Rattle.bmc_core.specs.declared.smbus_port.SmbusPort.{SmbusPort}
-use Rattle.bmc_core.specs.Outs.{sends, done_by}
+use Rattle.bmc_core.specs.Outs.{sends, done_by, AreRead}
 use Rattle.bmc_core.specs.SmbusHeard.{InMessage, Heard, Ignored, Waiting, Control, Asks, control_heard, pldm_heard, typed_heard, message_heard, part_heard, with_part, taken, heard_in, asking, asked_of, asks_of, found, asks, done_of, kept_with, asks_effect, effect}
-use Rattle.bmc_core.specs.SmbusShown.{Shows, Hearing, HasEffect, Ends, Does, HearsBytes, frames_from, HasHeard, HasTaken, IsSettled}
+use Rattle.bmc_core.specs.SmbusShown.{Shows, Hearing, HasEffect, Ends, Does, HearsBytes, parts_from, frames_from, HasHeard, HasTaken, IsSettled}
+use Rattle.bmc_core.proofs.OwnBytes.{none_read}
 
 -- ---- the bytes
 
@@ -66,16 +69,30 @@ with_eid port eid = record port { eid = eid }
 -- of all but a request comes what is sent, whatever the board would answer
 pub ended : (next : SmbusPort) (out : Out) (port : PortState) (h : Heard) (eid : ℕ) → HasHeard port.wire port.eid h eid out None → Shows next (with_eid port eid)
     → (asks port h ≡ None) × ((a : Answered) → Ends next out port h a)
-ended next out port (Ignored why) eid is shows = (refl, λ a. record { shows = subst (λ (n : ℕ). Shows next (with_eid port n)) is.0 shows; sent = is.1 })
-ended next out port Waiting eid is shows = (refl, λ a. record { shows = subst (λ (n : ℕ). Shows next (with_eid port n)) is.0 shows; sent = is.1 })
+ended next out port (Ignored why) eid is shows = (refl, λ a. record { shows = subst (λ (n : ℕ). Shows next (with_eid port n)) is.0 shows; sent = is.1; read = none_read Smbus })
+ended next out port Waiting eid is shows = (refl, λ a. record { shows = subst (λ (n : ℕ). Shows next (with_eid port n)) is.0 shows; sent = is.1; read = none_read Smbus })
 ended next out port (Control e r) eid is shows = (
   refl,
   λ a. record {
     shows = subst (λ (n : ℕ). Shows next (with_eid port n)) is.0 shows;
     sent = is.1 ∙ ap (λ (n : ℕ). sends (frames_from port.wire n e (control_reply_to port.eid r)) done.Control) is.0;
+    read = subst (λ (n : ℕ). AreRead Smbus (parts_from port.wire n e (control_reply_to port.eid r))) is.0 is.3;
   },
 )
 ended next out port (Asks m) eid is shows = let no : (let n : Option InMessage = None in n) ≡ Some m = is.1 in absurd cc
+
+-- a reply of some bytes is sent in packets from this place, each read as itself
+abbrev pub IsSent : (wire eid : ℕ) → Envelope → List ℕ → Out → Type 0
+IsSent wire eid e reply out = 0 < length reply → (out ≡ sends (frames_from wire eid e reply) done.Control) × AreRead Smbus (parts_from wire eid e reply)
+
+-- a control message to which the endpoint replies
+pub replied : (wire own : ℕ) (e : Envelope) (o : Option ControlRequest) (reply : List ℕ) (eid : ℕ) (out : Out) → Some reply ≡ option_map (control_reply_to own) o
+    → eid ≡ option_map_or (λ r. eid_after own r.command r.content) o own → IsSent wire eid e reply out → HasHeard wire own (control_heard e o) eid out None
+replied wire own e None reply eid out is after sent = absurd cc
+replied wire own e (Some r) reply eid out is after sent =
+    let same : reply ≡ control_reply_to own r = cc in
+    let so = subst (λ (xs : List ℕ). IsSent wire eid e xs out) same sent (omega arith) in
+    (after, so.0, refl, so.1)
 
 -- a request is what was heard
 pub asked : (wire own : ℕ) (h : Heard) (eid : ℕ) (out : Out) (m : InMessage) → HasHeard wire own h eid out (Some m) → (eid ≡ own) × (h ≡ Asks m)
@@ -98,41 +115,47 @@ heard_whole port p q assembler was out eid given body shows took shown heard =
 
 -- what was done with a request, from the place that the port has
 pub settled_as : (p : PortState) (m : InMessage) (wire eid : ℕ) (before out : Out) (test is : Bool) → p.wire ≡ wire → p.eid ≡ eid → test ≡ is
-    → IsSettled (found p m) (said Smbus (asking m) None) (frames_from wire eid m.envelope) before out test
-    → IsSettled (found p m) (said Smbus (asking m) None) (frames_from p.wire p.eid m.envelope) before out is
+    → IsSettled (found p m) (said Smbus (asking m) None) (parts_from wire eid m.envelope) before out test
+    → IsSettled (found p m) (said Smbus (asking m) None) (parts_from p.wire p.eid m.envelope) before out is
 settled_as p m wire eid before out test is at_wire at_eid so settles =
-    subst (λ (n : ℕ). IsSettled (found p m) (said Smbus (asking m) None) (frames_from n p.eid m.envelope) before out is) (sym at_wire)
-    (subst (λ (n : ℕ). IsSettled (found p m) (said Smbus (asking m) None) (frames_from wire n m.envelope) before out is) (sym at_eid)
-    (subst (λ (t : Bool). IsSettled (found p m) (said Smbus (asking m) None) (frames_from wire eid m.envelope) before out t) so settles))
+    subst (λ (n : ℕ). IsSettled (found p m) (said Smbus (asking m) None) (parts_from n p.eid m.envelope) before out is) (sym at_wire)
+    (subst (λ (n : ℕ). IsSettled (found p m) (said Smbus (asking m) None) (parts_from wire n m.envelope) before out is) (sym at_eid)
+    (subst (λ (t : Bool). IsSettled (found p m) (said Smbus (asking m) None) (parts_from wire eid m.envelope) before out t) so settles))
+
+-- the packets of a reply, from the place that the port has
+pub parts_at : (p : PortState) (e : Envelope) (body : List ℕ) (wire eid : ℕ) → p.wire ≡ wire → p.eid ≡ eid → AreRead Smbus (parts_from wire eid e body) → AreRead Smbus (parts_from p.wire p.eid e body)
+parts_at p e body wire eid at_wire at_eid read =
+    subst (λ (n : ℕ). AreRead Smbus (parts_from n p.eid e body)) (sym at_wire) (subst (λ (n : ℕ). AreRead Smbus (parts_from wire n e body)) (sym at_eid) read)
 
 -- ---- a request that isn't new
 
 settled_by : (next : SmbusPort) (out before : Out) (port : PortState) (m : InMessage) (o : Outcome) (k : Kept) → Shows next port
-    → IsSettled o (said Smbus (asking m) None) (frames_from port.wire port.eid m.envelope) before out true
+    → IsSettled o (said Smbus (asking m) None) (parts_from port.wire port.eid m.envelope) before out true
     → (asks_of m o ≡ None) × HasEffect next out (asks_effect port m o k) (done_by o)
-settled_by next out before port m (Repeats reply) k shows is = (refl, record { shows = shows; sent = is.1 })
-settled_by next out before port m IsBusy k shows is = (refl, record { shows = shows; sent = is.1 })
+settled_by next out before port m (Repeats reply) k shows is = (refl, record { shows = shows; sent = is.1; read = is.2 })
+settled_by next out before port m IsBusy k shows is = (refl, record { shows = shows; sent = is.1; read = is.2 })
 settled_by next out before port m IsNew k shows is = let no : true ≡ false = is.0 in absurd cc
 
 pub settled : (next : SmbusPort) (out before : Out) (port : PortState) (m : InMessage) → Shows next port
-    → IsSettled (found port m) (said Smbus (asking m) None) (frames_from port.wire port.eid m.envelope) before out true
+    → IsSettled (found port m) (said Smbus (asking m) None) (parts_from port.wire port.eid m.envelope) before out true
     → (asks port (Asks m) ≡ None) × ((a : Answered) → Ends next out port (Asks m) a)
 settled next out before port m shows is =
     ((settled_by next out before port m (found port m) (kept_with m (record { code = 0; body = [] })) shows is).0, λ a. (settled_by next out before port m (found port m) (kept_with m a) shows is).1)
 
 -- ---- a new request
 
-pub new : (o : Outcome) (busy : List ℕ) (frames : List ℕ → List (List ℕ)) (before out : Out) → IsSettled o busy frames before out false → o ≡ IsNew
-new (Repeats reply) busy frames before out is = let no : false ≡ true = is.0 in absurd cc
-new IsBusy busy frames before out is = let no : false ≡ true = is.0 in absurd cc
-new IsNew busy frames before out is = refl
+pub new : (o : Outcome) (busy : List ℕ) (parts : List ℕ → List Value) (before out : Out) → IsSettled o busy parts before out false → o ≡ IsNew
+new (Repeats reply) busy parts before out is = let no : false ≡ true = is.0 in absurd cc
+new IsBusy busy parts before out is = let no : false ≡ true = is.0 in absurd cc
+new IsNew busy parts before out is = refl
 
 pub answered : (next : SmbusPort) (out : Out) (port : PortState) (m : InMessage) (a : Answered) → found port m ≡ IsNew
     → Shows next (record port { log = Carried (kept_with m a) ∷ port.log })
     → out ≡ sends (frames_from port.wire port.eid m.envelope (kept_with m a).reply) done.Answered
+    → AreRead Smbus (parts_from port.wire port.eid m.envelope (kept_with m a).reply)
     → Ends next out port (Asks m) a
-answered next out port m a is shows sent =
-    subst (λ (o : Outcome). HasEffect next out (asks_effect port m o (kept_with m a)) (done_by o)) (sym is) (record { shows = shows; sent = sent })
+answered next out port m a is shows sent read =
+    subst (λ (o : Outcome). HasEffect next out (asks_effect port m o (kept_with m a)) (done_by o)) (sym is) (record { shows = shows; sent = sent; read = read })
 
 -- ---- with the board
 
@@ -207,14 +230,14 @@ module _ (setup : BoardFile) (before : State) where
   left_ended port (Control e r) wire own eid out is = refl
   left_ended port (Asks m) wire own eid out is = let no : (let n : Option InMessage = None in n) ≡ Some m = is.1 in absurd cc
 
-  left_where : (o : Outcome) (after : State) (busy : List ℕ) (frames : List ℕ → List (List ℕ)) (was out : Out) → IsSettled o busy frames was out true → left_by o after before ≡ before
-  left_where (Repeats reply) after busy frames was out is = refl
-  left_where IsBusy after busy frames was out is = refl
-  left_where IsNew after busy frames was out is = let no : true ≡ false = is.0 in absurd cc
+  left_where : (o : Outcome) (after : State) (busy : List ℕ) (parts : List ℕ → List Value) (was out : Out) → IsSettled o busy parts was out true → left_by o after before ≡ before
+  left_where (Repeats reply) after busy parts was out is = refl
+  left_where IsBusy after busy parts was out is = refl
+  left_where IsNew after busy parts was out is = let no : true ≡ false = is.0 in absurd cc
 
-  pub left_settled : (port : PortState) (m : InMessage) (busy : List ℕ) (frames : List ℕ → List (List ℕ)) (was out : Out)
-      → IsSettled (found port m) busy frames was out true → left_after port (Asks m) ≡ before
-  left_settled port m busy frames was out is = left_where (found port m) (answer_of setup before (asked_of m)).1 busy frames was out is
+  pub left_settled : (port : PortState) (m : InMessage) (busy : List ℕ) (parts : List ℕ → List Value) (was out : Out)
+      → IsSettled (found port m) busy parts was out true → left_after port (Asks m) ≡ before
+  left_settled port m busy parts was out is = left_where (found port m) (answer_of setup before (asked_of m)).1 busy parts was out is
 
   pub left_new : (port : PortState) (m : InMessage) → found port m ≡ IsNew → left_after port (Asks m) ≡ (answer_of setup before (asked_of m)).1
   left_new port m is = ap (λ (o : Outcome). left_by o (answer_of setup before (asked_of m)).1 before) is
@@ -222,4 +245,4 @@ module _ (setup : BoardFile) (before : State) where
   -- what comes of what was heard, with what it leaves of the board
   pub does : (next : SmbusPort) (out : Out) (after : State) (port : PortState) (h : Heard) → Ends next out port h (answer_for h) → left_after port h ≡ after
       → Does next out after (deed_of port h) (done_of port h)
-  does next out after port h e left = record { shows = e.shows; sent = e.sent; left = sym left }
+  does next out after port h e left = record { shows = e.shows; sent = e.sent; read = e.read; left = sym left }

@@ -12,7 +12,7 @@ use Rattle.two_wire.specs.declared.Bus.TheVariants.{Ipmb}
 use Rattle.bmc_board.specs.State.{State}
 use Rattle.windows.specs.Keeps.{Reading, Keeps}
 use Rattle.lab_model.specs.Bytes.{heard_in}
-use Rattle.lab_model.specs.Values.{Tells, written}
+use Rattle.lab_model.specs.Values.{Value, Tells, written}
 use Rattle.lab_model.specs.PortSteps.{PortState, Deed, stays, spelled, response_after, hears_request}
 use Rattle.bmc_core.specs.declared.out.Out.{Out}
 use Rattle.bmc_core.specs.declared.out.Reason.{Reason}
@@ -77,10 +77,12 @@ Hears setup port before bytes out next after = (p : PortState) → Shows port p 
 
 -- ---- before the board is asked
 
--- a request is new, or else its response is sent
+-- a request is new, or else its response is sent, which is read as itself
 abbrev pub Settles : Request → Outcome → Bool → Out → Type 0
-Settles r (Repeats reply) new out = (new ≡ false) × (out ≡ sends (written (response_after r (Some reply)) ∷ []) done.Repeated)
-Settles r IsBusy new out = (new ≡ false) × (out ≡ sends (written (response_after r None) ∷ []) done.Busy)
+Settles r (Repeats reply) new out =
+    (new ≡ false) × (out ≡ sends (written (response_after r (Some reply)) ∷ []) done.Repeated) × AreRead Ipmb (response_after r (Some reply) ∷ [])
+Settles r IsBusy new out =
+    (new ≡ false) × (out ≡ sends (written (response_after r None) ∷ []) done.Busy) × AreRead Ipmb (response_after r None ∷ [])
 Settles r IsNew new out = new ≡ true
 
 -- what is to be done next: a new request is to be carried out
@@ -109,18 +111,26 @@ kept_of r a = record { request = heard_in r; reply = spelled Ipmb (heard_in r) a
 abbrev pub after : PortState → Request → Answered → PortState
 after p r a = record p { log = log_after (outcome_at p r) (kept_of r a) p.log }
 
--- what is sent then
-abbrev pub answers : PortState → Request → Answered → Out
-answers p r a = sends (written (response_after r (reply_after (outcome_at p r) (kept_of r a))) ∷ []) (done_by (outcome_at p r))
+-- the response that is sent then, and what is sent
+abbrev pub response_told : PortState → Request → Answered → Value
+response_told p r a = response_after r (reply_after (outcome_at p r) (kept_of r a))
 
--- both where the request is new
+abbrev pub answers : PortState → Request → Answered → Out
+answers p r a = sends (written (response_told p r a) ∷ []) (done_by (outcome_at p r))
+
+-- all three where the request is new
 abbrev pub carries : PortState → Request → Answered → PortState
 carries p r a = record p { log = Carried (kept_of r a) ∷ p.log }
 
-abbrev pub first_answer : Request → Answered → Out
-first_answer r a = sends (written (response_after r (Some (kept_of r a).reply)) ∷ []) done.Answered
+abbrev pub first_response : Request → Answered → Value
+first_response r a = response_after r (Some (kept_of r a).reply)
 
--- A port is told this answer: whatever port of the lab it shows, it goes on as the rule has it, and sends what that says.
+abbrev pub first_answer : Request → Answered → Out
+first_answer r a = sends (written (first_response r a) ∷ []) done.Answered
+
+-- A port is told this answer: whatever port of the lab it shows, it goes on as the rule has it, and sends what that says, which is read as
+-- itself.
 pub record IsTold (port : IpmbPort) (r : Request) (a : Answered) (next : IpmbPort) (out : Out) : Type 0 where
   pub shows : (p : PortState) → Shows port p → Shows next (after p r a)
   pub sent : (p : PortState) → Shows port p → out ≡ answers p r a
+  pub read : (p : PortState) → Shows port p → AreRead Ipmb (response_told p r a ∷ [])

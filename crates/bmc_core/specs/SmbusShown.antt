@@ -13,7 +13,7 @@ use Rattle.bus_model.specs.Request.{Entry, Carried, Idled}
 use Rattle.bus_model.specs.Carried.{Outcome, Repeats, IsBusy, IsNew}
 use Rattle.windows.specs.Keeps.{Reading, Held, Keeps}
 use Rattle.bmc_board.specs.State.{State}
-use Rattle.lab_model.specs.Values.{Part, written}
+use Rattle.lab_model.specs.Values.{Value, Part, written}
 use Rattle.lab_model.specs.PortSteps.{PortState, Deed, stays, hears, quiet_port}
 use Rattle.bmc_core.specs.declared.out.Out.{Out}
 use Rattle.bmc_core.specs.declared.out.Done.{Done}
@@ -58,10 +58,11 @@ pub record Hearing (port : PortState) (bytes : List ℕ) (Holds : PortState → 
   pub faulty : (fault : PacketFault) → find (has_fault bytes) faults ≡ Some fault → Holds port (Ignored (reason.Packet fault))
   pub packet : (p : Packet) → IsPacket p bytes → Holds (taken port p) (heard_in port p)
 
--- the port is then this one, it sends this, and names what was done
+-- the port is then this one, it sends this, each read as itself, and names what was done
 pub record HasEffect (next : SmbusPort) (out : Out) (e : Effect) (what : Done) : Type 0 where
   pub shows : Shows next e.port
   pub sent : out ≡ sends (map written e.sent) what
+  pub read : AreRead Smbus e.sent
 
 -- what comes of what was heard, where the board would give this answer
 abbrev pub Ends : SmbusPort → Out → PortState → Heard → Answered → Type 0
@@ -91,16 +92,20 @@ pub record HearsBytes (setup : BoardFile) (port : PortState) (before : State) (b
 
 -- ---- on the way there, with the endpoint apart from the windows
 
--- the frames of a reply to a message of this envelope, from this place
-abbrev pub frames_from : (wire eid : ℕ) → Envelope → List ℕ → List (List ℕ)
-frames_from wire eid e body = map written (reply_parts (quiet_port wire eid) e body)
+-- the packets of a reply to a message of this envelope, from this place, and their frames
+abbrev pub parts_from : (wire eid : ℕ) → Envelope → List ℕ → List Value
+parts_from wire eid e body = reply_parts (quiet_port wire eid) e body
 
--- The endpoint has this identifier then. Of all that is no request comes what is sent, and a request is given.
+abbrev pub frames_from : (wire eid : ℕ) → Envelope → List ℕ → List (List ℕ)
+frames_from wire eid e body = map written (parts_from wire eid e body)
+
+-- The endpoint has this identifier then. Of all that is no request comes what is sent, which is read as itself, and a request is given.
 abbrev pub HasHeard : (wire eid : ℕ) → Heard → ℕ → Out → Option InMessage → Type 0
 HasHeard wire eid (Ignored why) next out given = (next ≡ eid) × (out ≡ ignored why) × (given ≡ None)
 HasHeard wire eid Waiting next out given = (next ≡ eid) × (out ≡ waiting) × (given ≡ None)
 HasHeard wire eid (Control e r) next out given =
     (next ≡ eid_after eid r.command r.content) × (out ≡ sends (frames_from wire next e (control_reply_to eid r)) done.Control) × (given ≡ None)
+    × AreRead Smbus (parts_from wire next e (control_reply_to eid r))
 HasHeard wire eid (Asks m) next out given = (next ≡ eid) × (given ≡ Some m)
 
 -- What is heard in a packet is its message, if it ends one. Else the endpoint has its identifier still, and comes what is sent.
@@ -113,8 +118,8 @@ pub record HasTaken (port : PortState) (p : Packet) (left : Assemblies) (out : O
   pub kept : left ≡ (taken port p).kept
   pub heard : IsPart (taken port p) p (heard_in port p) out whole
 
--- a request that repeats another, or for which there's no window, was answered, and a new one wasn't
-abbrev pub IsSettled : Outcome → (busy : List ℕ) → (List ℕ → List (List ℕ)) → Out → Out → Bool → Type 0
-IsSettled (Repeats reply) busy frames before out settled = (settled ≡ true) × (out ≡ sends (frames reply) done.Repeated)
-IsSettled IsBusy busy frames before out settled = (settled ≡ true) × (out ≡ sends (frames busy) done.Busy)
-IsSettled IsNew busy frames before out settled = (settled ≡ false) × (out ≡ before)
+-- a request that repeats another, or for which there's no window, was answered by these packets, each read as itself, and a new one wasn't
+abbrev pub IsSettled : Outcome → (busy : List ℕ) → (List ℕ → List Value) → Out → Out → Bool → Type 0
+IsSettled (Repeats reply) busy parts before out settled = (settled ≡ true) × (out ≡ sends (map written (parts reply)) done.Repeated) × AreRead Smbus (parts reply)
+IsSettled IsBusy busy parts before out settled = (settled ≡ true) × (out ≡ sends (map written (parts busy)) done.Busy) × AreRead Smbus (parts busy)
+IsSettled IsNew busy parts before out settled = (settled ≡ false) × (out ≡ before)

@@ -3,6 +3,7 @@ ghost use Rattle.std.specs.Prelude.{◌≡◌, ◌==◌, ◌≤◌, ◌-◌, ℕ
 ghost use Rattle.std.specs.List.{list_any};
 ghost use Rattle.ipmb_frame.specs.declared.message.Request.{Request as AnyRequest};
 ghost use Rattle.ipmb_frame.specs.Grammar.{request_bytes, IsRequest, IsResponse};
+ghost use Rattle.two_wire.specs.declared.Bus.TheVariants.{Ipmb};
 ghost use Rattle.bus_model.specs.Request.{Entry, Carried};
 ghost use Rattle.bus_model.specs.Numbering.{is_above};
 ghost use Rattle.bus_model.specs.Carried.{IsBusy, IsNew, outcome, requesters};
@@ -14,9 +15,9 @@ ghost use Rattle.windows.specs.Heard.{request_of, kept_of as kept_as};
 ghost use Rattle.lab_model.specs.Bytes.{heard_in};
 ghost use Rattle.lab_model.specs.PortSteps.{PortState, quiet_port, asked_in, idles};
 ghost use Rattle.bmc_core.specs.declared.out.Reason.{Reason as AnyReason};
-ghost use Rattle.bmc_core.specs.Outs.{sends};
+ghost use Rattle.bmc_core.specs.Outs.{sends, AreRead};
 ghost use Rattle.bmc_core.specs.IpmbHeard.{IsHeard};
-ghost use Rattle.bmc_core.specs.IpmbShown.{reading, response, response_frame, response_giving, Shows, Hears, Settles, Steps, outcome_at, after, answers, carries, first_answer};
+ghost use Rattle.bmc_core.specs.IpmbShown.{reading, response, response_frame, response_giving, Shows, Hears, Settles, Steps, outcome_at, after, answers, response_told, carries, first_answer, first_response};
 
 pub mod laws;
 
@@ -183,7 +184,8 @@ fn spell(frame: &mut Frame, header: &Header, code: u8, body: &[u8])
 /// Sends the response of this header, code and data, to a request that isn't carried out.
 fn send(out: &mut Out, done: Done, header: &Header, code: u8, body: &[u8])
     requires { length body.now ≤ 24 }
-    ensures { out.new ≡ sends (response_frame header.now code body.now ∷ []) done }
+    ensures sent { out.new ≡ sends (response_frame header.now code body.now ∷ []) done }
+    ensures read { IsResponse (response header.now code body.now) (response_frame header.now code body.now) }
 {
     out.done = done;
     out.frames.keep_one();
@@ -262,6 +264,7 @@ impl IpmbPort {
         ensures carried { (p : PortState) → Shows self.old p → outcome_at p request.now ≡ IsNew
             → Shows self.new (carries p request.now (answer_of board.old.setup (state_of S.records board.old) (asked_in request.now)).0) }
         ensures sent { out.new ≡ first_answer request.now (answer_of board.old.setup (state_of S.records board.old) (asked_in request.now)).0 }
+        ensures read { AreRead Ipmb (first_response request.now (answer_of board.old.setup (state_of S.records board.old) (asked_in request.now)).0 ∷ []) }
         ensures left { state_of S.records board.new ≡ (answer_of board.old.setup (state_of S.records board.old) (asked_in request.now)).1 }
         ensures setup { board.new.setup ≡ board.old.setup }
     {
@@ -317,6 +320,7 @@ impl IpmbPort {
         requires { length answered.now.body ≤ 24 }
         ensures shows { (p : PortState) → Shows self.old p → Shows self.new (after p pending answered.now) }
         ensures sent { (p : PortState) → Shows self.old p → out.new ≡ answers p pending answered.now }
+        ensures read { (p : PortState) → Shows self.old p → AreRead Ipmb (response_told p pending answered.now ∷ []) }
     {
         let rest = pending.rest();
         let heard = pending.compared(&rest);

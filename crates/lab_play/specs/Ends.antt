@@ -22,7 +22,7 @@ pub record Tells (played : Played) (told : Told) : Type 0 where
   pub shown : Shows file played.lab now
   pub once : KeysDiffer played.start.items
   pub start : first.board.records ≡ records_of played.start.items
-  pub is : told ≡ told_of first now
+  pub is : told ≡ told_of (own_bench file) file first now
 
 -- what was given is this ending
 abbrev pub IsEnding : Result Played LabFault → Ending → Type 0

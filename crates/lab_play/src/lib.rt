@@ -6,6 +6,7 @@ mod lab_state;
 mod names;
 mod played;
 mod port_side;
+mod run;
 mod step;
 #[cfg(test)]
 mod tests;

@@ -1,15 +1,16 @@
 //! A plan played by a schedule.
-ghost use Rattle.std.specs.Prelude.{◌≡◌};
+ghost use Rattle.std.specs.Prelude.{◌≡◌, not};
 ghost use Rattle.std.specs.List.{AllZip};
 ghost use Rattle.cfg_records.specs.Records.{records_of};
 ghost use Rattle.undo_core.specs.Phases.{phase_of};
 ghost use Rattle.undo_core.specs.Shown.{backs};
 ghost use Rattle.lab.specs.Meaning.{lab_names};
 ghost use Rattle.lab.specs.Played.{Told};
-ghost use Rattle.lab_play.specs.Shown.{IsSentFrame};
-ghost use Rattle.lab_play.specs.Ends.{Tells, Plays, changed_in};
+ghost use Rattle.lab_play.specs.Shown.{IsSentFrame, plain_records};
+ghost use Rattle.lab_play.specs.Ends.{Tells, Plays, changed_in, is_value};
 
 use crate::lab_state::Lab;
+use crate::run::Halt;
 use crate::step::Refused;
 use cfg_records::{BoardFile, Key, PlainStore, Store, Value};
 use lab::{Fault, SentFrame};
@@ -66,10 +67,17 @@ impl Played {
         ensures { (told : Told) → Tells self.now told → result ≡ changed_in told.records self.now.start.items }
     {
         let store = self.records();
-        self.start
-            .iter()
-            .filter(|r| store.get(&r.0) != Some(r.1.as_slice()))
-            .count()
+        self.start.iter().filter(|r| is_changed(store, r)).count()
+    }
+}
+
+/// Whether the store has another value at the record's key.
+fn is_changed(store: &PlainStore, record: &(Key, Value)) -> bool
+    ensures { result ≡ not (is_value record.now.1 (plain_records store.now record.now.0)) }
+{
+    match store.get(&record.0) {
+        Some(value) => value != record.1.as_slice(),
+        None => true,
     }
 }
 
@@ -101,18 +109,17 @@ pub fn play(
     let Ok(mut lab) = Lab::open(alloc, file, plan) else {
         return Err(LabFault::Memory);
     };
-    for (place, event) in events.iter().enumerate() {
-        match lab.step(event) {
-            Ok(()) => {}
-            Err(Refused::Memory) => return Err(LabFault::Memory),
-            Err(Refused::Fault(fault)) => {
-                return Err(LabFault::Event {
-                    fault,
-                    place: place + 1,
-                    played: Played { start, lab },
-                });
-            }
-        }
+    let halt = lab.run(events);
+    let played = Played { start, lab };
+    match halt {
+        Ok(()) => Ok(played),
+        Err(Halt { place, why }) => match why {
+            Refused::Memory => Err(LabFault::Memory),
+            Refused::Fault(fault) => Err(LabFault::Event {
+                fault,
+                place,
+                played,
+            }),
+        },
     }
-    Ok(Played { start, lab })
 }

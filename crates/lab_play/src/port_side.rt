@@ -1,7 +1,7 @@
 //! What the controller's ports hear, and what they forget.
 ghost use Rattle.std.specs.Prelude.{◌≡◌, ◌<◌, ◌≤◌, OnOk, suc, slice_get};
 ghost use Rattle.two_wire.specs.declared.Bus.{Bus as AnyBus};
-ghost use Rattle.two_wire.specs.declared.Bus.TheVariants as is_on;
+ghost use Rattle.two_wire.specs.declared.Bus.TheVariants.{Ipmb, Smbus};
 ghost use Rattle.lab_model.specs.Values.{Asks};
 ghost use Rattle.lab_model.specs.PortSteps.{hears, hears_all, idles};
 ghost use Rattle.lab_model.specs.Lab.{ToOthers, delivered, port_does, port_on, with_port};
@@ -43,7 +43,7 @@ impl Lab {
 
     /// Somebody else's request comes to the port on IPMB.
     pub(crate) fn other_request(&mut self, request: &OtherRequest) -> Result<(), AllocError>
-        ensures becomes { OnOk result (Becomes self.old self.new (λ file x. port_does plans is_on.Ipmb ToOthers 0 (hears file x.ipmb x.board (Asks (request_of the_names request.now))) x)) }
+        ensures becomes { OnOk result (Becomes self.old self.new (λ file x. port_does plans Ipmb ToOthers 0 (hears file x.ipmb x.board (Asks (request_of the_names request.now))) x)) }
         ensures idles { self.new.idles ≡ self.old.idles }
     {
         let header = Header {
@@ -65,7 +65,7 @@ impl Lab {
 
     /// All packets of somebody else's message come to the port on the System Management Bus.
     pub(crate) fn other_message(&mut self, message: &OtherMessage) -> Result<(), AllocError>
-        ensures becomes { OnOk result (Becomes self.old self.new (λ file x. port_does plans is_on.Smbus ToOthers 0 (hears_all file x.smbus x.board (message_of the_names message.now)) x)) }
+        ensures becomes { OnOk result (Becomes self.old self.new (λ file x. port_does plans Smbus ToOthers 0 (hears_all file x.smbus x.board (message_of the_names message.now)) x)) }
         ensures idles { self.new.idles ≡ self.old.idles }
     {
         let envelope = Envelope {

@@ -9,18 +9,12 @@ mod field;
 mod kind;
 mod plan;
 mod plan_fault;
-#[cfg(test)]
-mod plan_tests;
 mod range;
 mod row;
 mod step;
-#[cfg(test)]
-mod tests;
 mod tree;
 mod undo_laws;
 mod undo_line;
-#[cfg(test)]
-mod undo_tests;
 mod undo_text;
 
 pub use board::read_board;

@@ -9,9 +9,9 @@ ghost use Rattle.bmc_board.specs.State.{state_of};
 ghost use Rattle.bmc_board.specs.Answer.{answer_of};
 ghost use Rattle.lab_model.specs.Bytes.{said};
 ghost use Rattle.bmc_core.specs.declared.out.Done.TheVariants as done_as;
-ghost use Rattle.bmc_core.specs.Outs.{sends};
+ghost use Rattle.bmc_core.specs.Outs.{sends, AreRead};
 ghost use Rattle.bmc_core.specs.SmbusHeard.{asking, asked_of, kept_with};
-ghost use Rattle.bmc_core.specs.SmbusShown.{AreOf, frames_from, IsSettled};
+ghost use Rattle.bmc_core.specs.SmbusShown.{AreOf, parts_from, frames_from, IsSettled};
 
 use super::hearing::PLDM;
 use super::pending::{INSTANCES, Request};
@@ -37,7 +37,8 @@ pub(super) type Reply = Bytes<{ MESSAGE }>;
 /// Sends a reply of these bytes from this place, to where a message of the envelope came from, and says what was done.
 pub(super) fn send(at: &At, to: &Envelope, body: &[u8], done: Done, out: &mut Out)
     requires { length body.now ≤ MESSAGE }
-    ensures { 0 < length body.now → out.new ≡ sends (frames_from at.now.wire at.now.eid to.now body.now) done }
+    ensures sent { 0 < length body.now → out.new ≡ sends (frames_from at.now.wire at.now.eid to.now body.now) done }
+    ensures read { 0 < length body.now → AreRead Smbus (parts_from at.now.wire at.now.eid to.now body.now) }
 {
     if body.is_empty() {
         return;
@@ -67,7 +68,8 @@ fn begin(header: &Header, code: u8, reply: &mut Reply)
 
 /// Answers that the port is busy.
 fn refuse(at: &At, request: &Request<'_>, out: &mut Out)
-    ensures { out.new ≡ sends (frames_from at.now.wire at.now.eid request.now.envelope (said Smbus (asking request.now) None)) done_as.Busy }
+    ensures sent { out.new ≡ sends (frames_from at.now.wire at.now.eid request.now.envelope (said Smbus (asking request.now) None)) done_as.Busy }
+    ensures read { AreRead Smbus (parts_from at.now.wire at.now.eid request.now.envelope (said Smbus (asking request.now) None)) }
 {
     let mut reply = Bytes::new();
     begin(
@@ -81,7 +83,7 @@ fn refuse(at: &At, request: &Request<'_>, out: &mut Out)
 /// Answers a request that isn't new: by the reply that is kept for it, or that the port is busy. Says whether it did.
 pub(super) fn settle(windows: &Kept, at: &At, request: &Request<'_>, out: &mut Out) -> bool
     ensures { (log : List Entry) → AreOf windows.now log
-        → IsSettled (outcome (is_above 32) (asking request.now) log) (said Smbus (asking request.now) None) (frames_from at.now.wire at.now.eid request.now.envelope) out.old out.new result }
+        → IsSettled (outcome (is_above 32) (asking request.now) log) (said Smbus (asking request.now) None) (parts_from at.now.wire at.now.eid request.now.envelope) out.old out.new result }
 {
     match windows.find(&request.kept()) {
         Found::Repeats(reply) => {
@@ -103,6 +105,7 @@ fn keep(windows: &mut Kept, at: &At, request: &Request<'_>, reply: &[u8], out: &
     ensures kept { (log : List Entry) → AreOf windows.old log → outcome (is_above 32) (asking request.now) log ≡ IsNew
         → AreOf windows.new (Carried (record { request = asking request.now; reply = reply.now }) ∷ log) }
     ensures sent { out.new ≡ sends (frames_from at.now.wire at.now.eid request.now.envelope reply.now) done_as.Answered }
+    ensures read { AreRead Smbus (parts_from at.now.wire at.now.eid request.now.envelope reply.now) }
 {
     windows.keep(&request.kept(), reply);
     send(at, &request.envelope, reply, Done::Answered, out);
@@ -120,6 +123,7 @@ pub(super) fn keep_answer(
     ensures kept { (log : List Entry) → AreOf windows.old log → outcome (is_above 32) (asking request.now) log ≡ IsNew
         → AreOf windows.new (Carried (kept_with request.now answered.now) ∷ log) }
     ensures sent { out.new ≡ sends (frames_from at.now.wire at.now.eid request.now.envelope (kept_with request.now answered.now).reply) done_as.Answered }
+    ensures read { AreRead Smbus (parts_from at.now.wire at.now.eid request.now.envelope (kept_with request.now answered.now).reply) }
 {
     begin(&request.request.header, answered.code, made);
     made.extend_from_slice(answered.body.as_slice());
@@ -138,6 +142,7 @@ pub(super) fn carry_out<S: Store>(
     ensures kept { (log : List Entry) → AreOf windows.old log → outcome (is_above 32) (asking request.now) log ≡ IsNew
         → AreOf windows.new (Carried (kept_with request.now (answer_of board.old.setup (state_of S.records board.old) (asked_of request.now)).0) ∷ log) }
     ensures sent { out.new ≡ sends (frames_from at.now.wire at.now.eid request.now.envelope (kept_with request.now (answer_of board.old.setup (state_of S.records board.old) (asked_of request.now)).0).reply) done_as.Answered }
+    ensures read { AreRead Smbus (parts_from at.now.wire at.now.eid request.now.envelope (kept_with request.now (answer_of board.old.setup (state_of S.records board.old) (asked_of request.now)).0).reply) }
     ensures left { state_of S.records board.new ≡ (answer_of board.old.setup (state_of S.records board.old) (asked_of request.now)).1 }
     ensures setup { board.new.setup ≡ board.old.setup }
 {

@@ -19,6 +19,22 @@ const FIRST_REPLY: [u8; 19] = [
 /// The response to 50h's, where the port is busy.
 const BUSY_REPLY: [u8; 8] = [0x50, 0x1C, 0x94, 0x20, 0x14, 0x01, 0xC0, 0x0B];
 
+/// The response to 40h's Reserve SEL with sequence number 0, where it's the first.
+const FIRST_RESERVATION: [u8; 10] = [0x40, 0x2C, 0x94, 0x20, 0x00, 0x42, 0x00, 0x01, 0x00, 0x9D];
+
+/// The response to 50h's, where the port is busy.
+const NO_RESERVATION: [u8; 8] = [0x50, 0x2C, 0x84, 0x20, 0x00, 0x42, 0xC0, 0xDE];
+
+/// The response to 50h's, where it's the ninth that is carried out.
+const NINTH_RESERVATION: [u8; 10] = [0x50, 0x2C, 0x84, 0x20, 0x00, 0x42, 0x00, 0x09, 0x00, 0x95];
+
+/// The responses to 2Ch's: to sequence number 0 where it's the first, to 32 where it's the 33rd, and to 0 where it's the 34th.
+const RESERVATION_1: [u8; 10] = [0x2C, 0x2C, 0xA8, 0x20, 0x00, 0x42, 0x00, 0x01, 0x00, 0x9D];
+
+const RESERVATION_33: [u8; 10] = [0x2C, 0x2C, 0xA8, 0x20, 0x80, 0x42, 0x00, 0x21, 0x00, 0xFD];
+
+const RESERVATION_34: [u8; 10] = [0x2C, 0x2C, 0xA8, 0x20, 0x00, 0x42, 0x00, 0x22, 0x00, 0x7C];
+
 /// Get Sensor Thresholds of sensor 5, from 40h with sequence number 3.
 const GET: [u8; 8] = [0x20, 0x10, 0xD0, 0x40, 0x0C, 0x27, 0x05, 0x88];
 
@@ -70,6 +86,14 @@ fn device_id_reply(requester: u8) -> [u8; 19] {
 fn done(lab: &mut Lab, out: &mut Out, requester: u8, numbers: u8) -> Done {
     lab.port
         .on_frame(&mut lab.board, &get_device_id(requester, numbers), out);
+    out.done
+}
+
+/// What the port does with this requester's Reserve SEL to 20h, whose sequence number the last byte has in its bits 7:2.
+fn reserve(lab: &mut Lab, out: &mut Out, requester: u8, numbers: u8) -> Done {
+    let check = sum8(&[requester, numbers, 0x42]);
+    let frame = [0x20, 0x28, 0xB8, requester, numbers, 0x42, check];
+    lab.port.on_frame(&mut lab.board, &frame, out);
     out.done
 }
 
@@ -130,6 +154,44 @@ fn sequence_32_forgets_sequence_0(rt: HostRuntime) -> Result<(), Fail> {
     assert_eq!(rt; done(&mut lab, &mut out, 0x2C, 0x80), Done::Answered);
     assert_eq!(rt; done(&mut lab, &mut out, 0x2C, 0x04), Done::Repeated);
     assert_eq!(rt; done(&mut lab, &mut out, 0x2C, 0), Done::Answered);
+    Ok(())
+}
+
+#[test]
+fn a_ninth_requester_reserves_the_log_once_a_window_is_free(rt: HostRuntime) -> Result<(), Fail> {
+    let mut lab = open_lab(rt.alloc())?;
+    let mut out = Out::new();
+    for requester in &REQUESTERS[..8] {
+        assert_eq!(rt; reserve(&mut lab, &mut out, *requester, 0), Done::Answered);
+    }
+    assert_eq!(rt; reserve(&mut lab, &mut out, 0x50, 0), Done::Busy);
+    expect_sent(&rt, &out, Done::Busy, &NO_RESERVATION);
+    assert_eq!(rt; reserve(&mut lab, &mut out, 0x40, 0), Done::Repeated);
+    expect_sent(&rt, &out, Done::Repeated, &FIRST_RESERVATION);
+    assert!(rt; lab.port.idle(0x40));
+    assert!(rt; !lab.port.idle(0x40));
+    assert_eq!(rt; reserve(&mut lab, &mut out, 0x50, 0), Done::Answered);
+    expect_sent(&rt, &out, Done::Answered, &NINTH_RESERVATION);
+    assert_eq!(rt; reserve(&mut lab, &mut out, 0x40, 0), Done::Busy);
+    Ok(())
+}
+
+#[test]
+fn a_repeated_request_reserves_the_log_once(rt: HostRuntime) -> Result<(), Fail> {
+    let mut lab = open_lab(rt.alloc())?;
+    let mut out = Out::new();
+    for sequence in 0..32_u8 {
+        assert_eq!(rt;
+            reserve(&mut lab, &mut out, 0x2C, sequence * 4),
+            Done::Answered
+        );
+    }
+    assert_eq!(rt; reserve(&mut lab, &mut out, 0x2C, 0), Done::Repeated);
+    expect_sent(&rt, &out, Done::Repeated, &RESERVATION_1);
+    assert_eq!(rt; reserve(&mut lab, &mut out, 0x2C, 0x80), Done::Answered);
+    expect_sent(&rt, &out, Done::Answered, &RESERVATION_33);
+    assert_eq!(rt; reserve(&mut lab, &mut out, 0x2C, 0), Done::Answered);
+    expect_sent(&rt, &out, Done::Answered, &RESERVATION_34);
     Ok(())
 }
 

@@ -9,7 +9,7 @@ use Rattle.bmc_core.specs.declared.smbus_port.SmbusPort.{SmbusPort}
 use Rattle.bmc_core.specs.Outs.{sends}
 use Rattle.bmc_core.specs.SmbusHeard.{InMessage, Heard, Ignored, Asks, taken, heard_in, found, done_of, kept_with}
 use Rattle.bmc_core.specs.SmbusShown.{Shows, HasHeard, HasTaken, Does, frames_from}
-use Rattle.bmc_core.proofs.SmbusPorts.{hearing_fault, hearing_packet, ended, asked, heard_whole, settled_as, settled, new, answered, answer_for, deed_of, hears_bytes, left_ended, left_settled, left_new, does}
+use Rattle.bmc_core.proofs.SmbusPorts.{hearing_fault, hearing_packet, ended, asked, heard_whole, settled_as, settled, parts_at, new, answered, answer_for, deed_of, hears_bytes, left_ended, left_settled, left_new, does}
 use Rattle.bmc_core.proofs.smbus_port.SmbusPort.on_frame.Goals as goal
 
 pub returns-in-Err-clause-heard : goal.returns-in-Err-clause-heard
@@ -114,5 +114,6 @@ returns-clause-heard g c p shows =
     (hearing_packet p c.args.bytes.now q (λ t h. Does next c.carry_out.new.out after (deed_of setup before t h) (done_of t h)) c.in-Ok.ensures.fault c.in-Ok.ensures.whole
     (subst (λ (h : Heard). Does next c.carry_out.new.out after (deed_of setup before (taken p q) h) (done_of (taken p q) h)) (sym asks_so.1)
     (does setup before next c.carry_out.new.out after (taken p q) (Asks m)
-    (answered next c.carry_out.new.out (taken p q) m a is (record { wire = shows.wire; eid = sym asks_so.0; kept = sym took.kept; log = c.carry_out.ensures.kept p.log shows.log is }) sent)
+    (answered next c.carry_out.new.out (taken p q) m a is (record { wire = shows.wire; eid = sym asks_so.0; kept = sym took.kept; log = c.carry_out.ensures.kept p.log shows.log is }) sent
+    (parts_at p m.envelope (kept_with m a).reply port.wire c.eid.result shows.wire own c.carry_out.ensures.read))
     (left_new setup before (taken p q) m is ∙ sym c.carry_out.ensures.left))))

@@ -5,7 +5,7 @@ use Rattle.bmc_core.specs.declared.smbus_port.SmbusPort.{SmbusPort}
 use Rattle.bmc_core.specs.Outs.{sends}
 use Rattle.bmc_core.specs.SmbusHeard.{InMessage, Asks, found, kept_with}
 use Rattle.bmc_core.specs.SmbusShown.{Ends, frames_from}
-use Rattle.bmc_core.proofs.SmbusPorts.{settled_as, settled, new, answered}
+use Rattle.bmc_core.proofs.SmbusPorts.{settled_as, settled, parts_at, new, answered}
 use Rattle.bmc_core.proofs.smbus_port.SmbusPort.told.Goals as goal
 
 pub returns-then-settle : goal.returns-then-settle
@@ -33,4 +33,5 @@ returns c p shows =
     let sent : c.keep_answer.new.out ≡ sends (frames_from p.wire p.eid m.envelope (kept_with m a).reply) done.Answered =
     c.keep_answer.ensures.sent ∙ (λ i. sends (frames_from (sym at_wire i) (sym at_eid i) m.envelope (kept_with m a).reply) done.Answered) in
     subst (λ (x : InMessage). Ends next c.keep_answer.new.out p (Asks x) a) c.request-request.ensures
-    (answered next c.keep_answer.new.out p m a is (record { wire = shows.wire; eid = shows.eid; kept = shows.kept; log = c.keep_answer.ensures.kept p.log shows.log is }) sent)
+    (answered next c.keep_answer.new.out p m a is (record { wire = shows.wire; eid = shows.eid; kept = shows.kept; log = c.keep_answer.ensures.kept p.log shows.log is }) sent
+    (parts_at p m.envelope (kept_with m a).reply at.wire at.eid at_wire at_eid c.keep_answer.ensures.read))

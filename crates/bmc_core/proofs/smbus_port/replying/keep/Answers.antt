@@ -1,9 +1,13 @@
-use Rattle.std.proofs.Common.{◌∷◌, ◌∙◌, ap, subst}
+use Rattle.std.proofs.Common.{◌≡◌, ◌∷◌, ◌∙◌, ap, subst}
+use Rattle.two_wire.specs.declared.Bus.TheVariants.{Smbus}
+use Rattle.mctp_net.specs.declared.packet.Envelope.{Envelope}
 use Rattle.bus_model.specs.Request.{Request as Asking, Carried}
 use Rattle.bus_model.specs.Numbering.{is_above}
 use Rattle.bus_model.specs.Carried.{outcome}
 use Rattle.windows.specs.Keeps.{Keeps}
-use Rattle.bmc_core.specs.SmbusShown.{pldm_reading}
+use Rattle.bmc_core.specs.Outs.{AreRead}
+use Rattle.bmc_core.specs.SmbusHeard.{InMessage}
+use Rattle.bmc_core.specs.SmbusShown.{pldm_reading, parts_from}
 use Rattle.bmc_core.proofs.smbus_port.replying.keep.Goals as goal
 
 pub returns-clause-kept : goal.returns-clause-kept
@@ -12,3 +16,9 @@ returns-clause-kept c log h new = record {
       (c.keep.ensures.carried pldm_reading log h.kept (ap (λ (r : Asking). outcome (is_above 32) r log) c.kept.ensures.is ∙ new));
   replies = (c.requires.some, h.replies);
 }
+
+pub returns-clause-read : goal.returns-clause-read
+returns-clause-read c =
+    let at = c.args.at.now in
+    let envelope : c.request.inside.envelope ≡ c.args.request.now.envelope = ap (λ (x : InMessage). x.envelope) c.request.view_is in
+    subst (λ (e : Envelope). AreRead Smbus (parts_from at.wire at.eid e c.args.reply.now)) envelope (c.send.ensures.read c.requires.some)

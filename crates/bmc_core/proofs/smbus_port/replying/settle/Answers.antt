@@ -3,11 +3,12 @@ use Rattle.two_wire.specs.declared.Bus.TheVariants.{Smbus}
 use Rattle.bus_model.specs.Request.{Request as Asking}
 use Rattle.bus_model.specs.Numbering.{is_above}
 use Rattle.bus_model.specs.Carried.{Outcome, Repeats, IsBusy, IsNew, outcome}
+use Rattle.lab_model.specs.Values.{Value}
 use Rattle.lab_model.specs.Bytes.{said}
 use Rattle.bmc_core.specs.declared.out.Done.TheVariants as done
-use Rattle.bmc_core.specs.Outs.{sends}
+use Rattle.bmc_core.specs.Outs.{sends, AreRead}
 use Rattle.bmc_core.specs.SmbusHeard.{InMessage, asking}
-use Rattle.bmc_core.specs.SmbusShown.{pldm_reading, frames_from, IsSettled}
+use Rattle.bmc_core.specs.SmbusShown.{pldm_reading, parts_from, frames_from, IsSettled}
 use Rattle.bmc_core.proofs.SmbusReplies.{OutcomeHasBytes, repeats_bytes}
 use Rattle.bmc_core.proofs.smbus_port.replying.settle.Goals as goal
 
@@ -19,10 +20,13 @@ returns-in-Repeats c log h =
     c.in-Repeats.ensures pldm_reading log h.kept ∙ ap (λ (r : Asking). outcome (is_above 32) r log) c.kept.ensures.is in
     let some : 0 < length c.in-Repeats.reply = subst OutcomeHasBytes (sym is) (repeats_bytes (is_above 32) (asking m) log h.replies) in
     let bytes : c.as_slice.result.now ≡ c.in-Repeats.reply = c.as_slice.ensures.value in
+    let has : 0 < length c.as_slice.result.now = subst (λ (xs : List ℕ). 0 < length xs) (sym bytes) some in
     let envelope : c.request.inside.envelope ≡ m.envelope = ap (λ (x : InMessage). x.envelope) c.request.view_is in
     let sent : c.send.new.out ≡ sends (frames_from at.wire at.eid m.envelope c.in-Repeats.reply) done.Repeated =
-    c.send.ensures (subst (λ (xs : List ℕ). 0 < length xs) (sym bytes) some) ∙ (λ i. sends (frames_from at.wire at.eid (envelope i) (bytes i)) done.Repeated) in
-    subst (λ (o : Outcome). IsSettled o (said Smbus (asking m) None) (frames_from at.wire at.eid m.envelope) c.args.out.now c.send.new.out true) is (refl, sent)
+    c.send.ensures.sent has ∙ (λ i. sends (frames_from at.wire at.eid (envelope i) (bytes i)) done.Repeated) in
+    let read : AreRead Smbus (parts_from at.wire at.eid m.envelope c.in-Repeats.reply) =
+    subst (λ (vs : List Value). AreRead Smbus vs) (λ i. parts_from at.wire at.eid (envelope i) (bytes i)) (c.send.ensures.read has) in
+    subst (λ (o : Outcome). IsSettled o (said Smbus (asking m) None) (parts_from at.wire at.eid m.envelope) c.args.out.now c.send.new.out true) is (refl, sent, read)
 
 pub returns-in-Busy : goal.returns-in-Busy
 returns-in-Busy c log h =
@@ -30,7 +34,7 @@ returns-in-Busy c log h =
     let m = c.args.request.now in
     let is : IsBusy ≡ outcome (is_above 32) (asking m) log =
     c.in-Busy.ensures pldm_reading log h.kept ∙ ap (λ (r : Asking). outcome (is_above 32) r log) c.kept.ensures.is in
-    subst (λ (o : Outcome). IsSettled o (said Smbus (asking m) None) (frames_from at.wire at.eid m.envelope) c.args.out.now c.refuse.new.out true) is (refl, c.refuse.ensures)
+    subst (λ (o : Outcome). IsSettled o (said Smbus (asking m) None) (parts_from at.wire at.eid m.envelope) c.args.out.now c.refuse.new.out true) is (refl, c.refuse.ensures.sent, c.refuse.ensures.read)
 
 pub returns-in-New : goal.returns-in-New
 returns-in-New c log h =
@@ -38,4 +42,4 @@ returns-in-New c log h =
     let m = c.args.request.now in
     let is : IsNew ≡ outcome (is_above 32) (asking m) log =
     c.in-New.ensures pldm_reading log h.kept ∙ ap (λ (r : Asking). outcome (is_above 32) r log) c.kept.ensures.is in
-    subst (λ (o : Outcome). IsSettled o (said Smbus (asking m) None) (frames_from at.wire at.eid m.envelope) c.args.out.now c.args.out.now false) is (refl, refl)
+    subst (λ (o : Outcome). IsSettled o (said Smbus (asking m) None) (parts_from at.wire at.eid m.envelope) c.args.out.now c.args.out.now false) is (refl, refl)

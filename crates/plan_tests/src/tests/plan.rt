@@ -1,9 +1,10 @@
 //! Plans: what they hold, and their faults.
-use crate::{NoGet, OutsidePlan, PlanFault, StepFault, read_plan};
+use super::row_of;
 use cfg_records::{
     BootChange, BootFlags, BootParameter, EventChange, EventMasks, MaskedBits, Op, SetBootParam,
     SetEventEnable, SetGlobalEnables, SetHysteresis, SetPowerPolicy, SetThresholds, SetWatchdog,
 };
+use plan_file::{NoGet, OutsidePlan, PlanFault, StepFault, read_plan};
 use std::alloc::{AllocError, Global};
 use std::test::Fail;
 
@@ -51,215 +52,33 @@ invalid = false
 data = [3, 1]
 ";
 
-/// A line of the plan, and lines that say something else of its field.
-#[derive(Clone, Copy)]
-struct Case {
-    line: &'static str,
-    /// The step, from 0.
-    step: usize,
-    field: &'static str,
-    is_needed: bool,
-    mistyped: &'static str,
-    beyond: [&'static str; 2],
-    inside: [&'static str; 2],
-}
+/// A row for each field of a number, a list or a choice: its step and its name, its line in the plan, a line of another type, two that are
+/// beyond its range, and two that are just inside.
+const FIELDS: &str =
+    "0 sensor | sensor = 5 | sensor = true | sensor = -1 | sensor = 256 | sensor = 0 | sensor = 255
+0 lnc | lnc = 1 | lnc = true | lnc = -1 | lnc = 256 | lnc = 0 | lnc = 255
+0 lc | lc = 2 | lc = \"2\" | lc = -1 | lc = 256 | lc = 0 | lc = 255
+0 lnr | lnr = 3 | lnr = [3] | lnr = -1 | lnr = 256 | lnr = 0 | lnr = 255
+0 unc | unc = 4 | unc = 4.0 | unc = -1 | unc = 256 | unc = 0 | unc = 255
+0 uc | uc = 5 | uc = false | uc = -1 | uc = 256 | uc = 0 | uc = 255
+0 unr | unr = 6 | unr = {} | unr = -1 | unr = 256 | unr = 0 | unr = 255
+1 sensor | sensor = 6 | sensor = \"6\" | sensor = -1 | sensor = 256 | sensor = 0 | sensor = 255
+1 positive | positive = 7 | positive = true | positive = -1 | positive = 256 | positive = 0 | positive = 255
+1 negative | negative = 8 | negative = [8] | negative = -1 | negative = 256 | negative = 0 | negative = 255
+4 policy | policy = 2 | policy = true | policy = -1 | policy = 3 | policy = 0 | policy = 1
+2 sensor | sensor = 9 | sensor = [] | sensor = -1 | sensor = 256 | sensor = 0 | sensor = 255
+2 select | select = \"enable\" | select = 1 | select = \"\" | select = \"Enable\" | select = \"leave\" | select = \"disable\"
+2 assert | assert = [7, 9, 7] | assert = [7, true] | assert = [-1] | assert = [0, 12] | assert = [] | assert = [0, 11, 0]
+2 deassert | deassert = [0, 11] | deassert = 0 | deassert = [12] | deassert = [11, -1] | deassert = [11] | deassert = [0]
+3 use | use = 3 | use = true | use = 0 | use = 6 | use = 1 | use = 5
+3 action | action = 1 | action = true | action = -1 | action = 4 | action = 0 | action = 3
+3 interrupt | interrupt = 2 | interrupt = \"2\" | interrupt = -1 | interrupt = 4 | interrupt = 0 | interrupt = 3
+3 pre | pre = 10 | pre = [10] | pre = -1 | pre = 256 | pre = 0 | pre = 255
+3 initial | initial = 3000 | initial = true | initial = -1 | initial = 65536 | initial = 0 | initial = 65535
+5 value | value = 0x08 | value = true | value = 0x10 | value = 256 | value = 0 | value = 0xEF";
 
-/// A field that has a number from `beyond`'s first to its second, these excluded.
-const fn number(
-    step: usize,
-    field: &'static str,
-    line: &'static str,
-    mistyped: &'static str,
-    beyond: [&'static str; 2],
-    inside: [&'static str; 2],
-) -> Case {
-    Case {
-        line,
-        step,
-        field,
-        is_needed: true,
-        mistyped,
-        beyond,
-        inside,
-    }
-}
-
-/// A case for each field of a number, a list or a choice.
-fn cases() -> [Case; 21] {
-    let limit = |field, line, mistyped, beyond, inside| Case {
-        line,
-        step: 0,
-        field,
-        is_needed: false,
-        mistyped,
-        beyond,
-        inside,
-    };
-    [
-        number(
-            0,
-            "sensor",
-            "sensor = 5",
-            "sensor = true",
-            ["sensor = -1", "sensor = 256"],
-            ["sensor = 0", "sensor = 255"],
-        ),
-        limit(
-            "lnc",
-            "lnc = 1",
-            "lnc = true",
-            ["lnc = -1", "lnc = 256"],
-            ["lnc = 0", "lnc = 255"],
-        ),
-        limit(
-            "lc",
-            "lc = 2",
-            "lc = \"2\"",
-            ["lc = -1", "lc = 256"],
-            ["lc = 0", "lc = 255"],
-        ),
-        limit(
-            "lnr",
-            "lnr = 3",
-            "lnr = [3]",
-            ["lnr = -1", "lnr = 256"],
-            ["lnr = 0", "lnr = 255"],
-        ),
-        limit(
-            "unc",
-            "unc = 4",
-            "unc = 4.0",
-            ["unc = -1", "unc = 256"],
-            ["unc = 0", "unc = 255"],
-        ),
-        limit(
-            "uc",
-            "uc = 5",
-            "uc = false",
-            ["uc = -1", "uc = 256"],
-            ["uc = 0", "uc = 255"],
-        ),
-        limit(
-            "unr",
-            "unr = 6",
-            "unr = {}",
-            ["unr = -1", "unr = 256"],
-            ["unr = 0", "unr = 255"],
-        ),
-        number(
-            1,
-            "sensor",
-            "sensor = 6",
-            "sensor = \"6\"",
-            ["sensor = -1", "sensor = 256"],
-            ["sensor = 0", "sensor = 255"],
-        ),
-        number(
-            1,
-            "positive",
-            "positive = 7",
-            "positive = true",
-            ["positive = -1", "positive = 256"],
-            ["positive = 0", "positive = 255"],
-        ),
-        number(
-            1,
-            "negative",
-            "negative = 8",
-            "negative = [8]",
-            ["negative = -1", "negative = 256"],
-            ["negative = 0", "negative = 255"],
-        ),
-        number(
-            4,
-            "policy",
-            "policy = 2",
-            "policy = true",
-            ["policy = -1", "policy = 3"],
-            ["policy = 0", "policy = 1"],
-        ),
-        number(
-            2,
-            "sensor",
-            "sensor = 9",
-            "sensor = []",
-            ["sensor = -1", "sensor = 256"],
-            ["sensor = 0", "sensor = 255"],
-        ),
-        number(
-            2,
-            "select",
-            "select = \"enable\"",
-            "select = 1",
-            ["select = \"\"", "select = \"Enable\""],
-            ["select = \"leave\"", "select = \"disable\""],
-        ),
-        number(
-            2,
-            "assert",
-            "assert = [7, 9, 7]",
-            "assert = [7, true]",
-            ["assert = [-1]", "assert = [0, 12]"],
-            ["assert = []", "assert = [0, 11, 0]"],
-        ),
-        number(
-            2,
-            "deassert",
-            "deassert = [0, 11]",
-            "deassert = 0",
-            ["deassert = [12]", "deassert = [11, -1]"],
-            ["deassert = [11]", "deassert = [0]"],
-        ),
-        number(
-            3,
-            "use",
-            "use = 3",
-            "use = true",
-            ["use = 0", "use = 6"],
-            ["use = 1", "use = 5"],
-        ),
-        number(
-            3,
-            "action",
-            "action = 1",
-            "action = true",
-            ["action = -1", "action = 4"],
-            ["action = 0", "action = 3"],
-        ),
-        number(
-            3,
-            "interrupt",
-            "interrupt = 2",
-            "interrupt = \"2\"",
-            ["interrupt = -1", "interrupt = 4"],
-            ["interrupt = 0", "interrupt = 3"],
-        ),
-        number(
-            3,
-            "pre",
-            "pre = 10",
-            "pre = [10]",
-            ["pre = -1", "pre = 256"],
-            ["pre = 0", "pre = 255"],
-        ),
-        number(
-            3,
-            "initial",
-            "initial = 3000",
-            "initial = true",
-            ["initial = -1", "initial = 65536"],
-            ["initial = 0", "initial = 65535"],
-        ),
-        number(
-            5,
-            "value",
-            "value = 0x08",
-            "value = true",
-            ["value = 0x10", "value = 256"],
-            ["value = 0", "value = 0xEF"],
-        ),
-    ]
-}
+/// The fields that a step needs not have.
+const OPTIONAL: [&str; 6] = ["0 lnc", "0 lc", "0 lnr", "0 unc", "0 uc", "0 unr"];
 
 /// The plan with a line in another's place.
 fn edited(alloc: Global, old: &'static str, new: &'static str) -> Result<String, AllocError> {
@@ -285,34 +104,32 @@ fn fault(alloc: Global, old: &'static str, new: &'static str) -> Result<String, 
     named(alloc, text.as_str())
 }
 
-/// What the fault of a step's field is called.
-fn called(alloc: Global, case: Case, name: &str) -> Result<String, AllocError> {
-    format!(in alloc; "{} {name} {}", case.step, case.field)
+/// What the fault of this name is called, of the field at a place.
+fn called(alloc: Global, place: &str, name: &str) -> Result<String, Fail> {
+    let (step, field) = place.split_once(' ').ok_or("a place")?;
+    Ok(format!(in alloc; "{step} {name} {field}")?)
 }
 
 #[test]
 fn a_field_that_is_left_out_mistyped_or_out_of_range_is_named(rt: HostRuntime) -> Result<(), Fail> {
     let alloc = rt.alloc();
-    for case in cases() {
-        let missing = if case.is_needed {
-            called(alloc, case, "Missing")?
-        } else {
-            String::new(alloc)
-        };
-        assert_eq!(rt; fault(alloc, case.line, "")?, missing, "{}", case.line);
-        let mistyped = called(alloc, case, "WrongType")?;
-        assert_eq!(rt;
-            fault(alloc, case.line, case.mistyped)?,
-            mistyped,
-            "{}",
-            case.mistyped
-        );
-        for line in case.beyond {
-            let beyond = called(alloc, case, "Range")?;
-            assert_eq!(rt; fault(alloc, case.line, line)?, beyond, "{line}");
+    for text in FIELDS.lines() {
+        let row = row_of(text).ok_or("seven cells")?;
+        for (other, name) in [
+            ("", "Missing"),
+            (row.mistyped, "WrongType"),
+            (row.beyond[0], "Range"),
+            (row.beyond[1], "Range"),
+        ] {
+            let want = if other.is_empty() && OPTIONAL.contains(&row.place) {
+                String::new(alloc)
+            } else {
+                called(alloc, row.place, name)?
+            };
+            assert_eq!(rt; fault(alloc, row.line, other)?, want, "{text} {other}");
         }
-        for line in case.inside {
-            assert_eq!(rt; fault(alloc, case.line, line)?.as_str(), "", "{line}");
+        for other in row.inside {
+            assert_eq!(rt; fault(alloc, row.line, other)?.as_str(), "", "{other}");
         }
     }
     Ok(())

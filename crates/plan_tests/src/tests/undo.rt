@@ -1,6 +1,6 @@
 //! Undo texts: the list of a plan of two steps on thresholds, and bad lines.
-use crate::{UndoFault, read_undo, write_undo};
 use cfg_records::Asked;
+use plan_file::{UndoFault, read_undo, write_undo};
 use plans::{NextNumbers, Requests, UndoList};
 use std::alloc::{AllocError, Global};
 use std::test::Fail;

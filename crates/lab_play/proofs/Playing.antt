@@ -1,0 +1,72 @@
+-- What a play tells, of the lab after its events.
+use Rattle.std.proofs.Common.{◌≡◌, ℕ, List, Ok, Err, Some, refl, sym, ap, subst}
+use Rattle.std.specs.Vec.{Vec}
+use Rattle.cfg_records.specs.declared.board_file.BoardFile.{BoardFile}
+use Rattle.cfg_records.specs.declared.op.Op.{Op}
+use Rattle.cfg_records.specs.Boards.{pairs_of}
+use Rattle.cfg_records.specs.Records.{Pair, KeysDiffer, records_of}
+use Rattle.lab_model.specs.Lab.{Lab as LabModel, opening}
+use Rattle.schedules.specs.declared.event.Event.{Event}
+use Rattle.lab.specs.declared.fault.Fault.{Fault}
+use Rattle.lab.specs.Meaning.{lab_names}
+use Rattle.lab.specs.Played.{plans, Told, Ending, Whole, Stops, told_of, after, IsPlayed}
+use Rattle.lab.specs.Shown.{fault_of}
+use Rattle.lab_stands.proofs.Plays.{plays_stand}
+use Rattle.lab_play.specs.declared.lab_state.Lab.{Lab}
+use Rattle.lab_play.specs.declared.played.Played.{Played}
+use Rattle.lab_play.specs.declared.played.LabFault.TheVariants as fault
+use Rattle.lab_play.specs.declared.run.Halt.{Halt}
+use Rattle.lab_play.specs.declared.step.Refused.{Refused}
+use Rattle.lab_play.specs.declared.step.Refused.TheVariants as refused
+use Rattle.lab_play.specs.Shown.{Shows, own_bench}
+use Rattle.lab_play.specs.Runs.{Take, Halts}
+use Rattle.lab_play.specs.Ends.{Tells, Ends}
+
+module _ (file : BoardFile) (steps : List Op) (retries : ℕ) where
+  -- the lab as it begins
+  abbrev first : LabModel plans
+  first = opening plans file lab_names steps retries
+
+  -- what is told of the lab after events
+  abbrev told_after : List Event → Told
+  told_after events = told_of (own_bench file) file first (after (own_bench file) file events first)
+
+  tells : (events : List Event) (played : Played) → played.start.items ≡ pairs_of file → KeysDiffer (pairs_of file)
+      → Shows file played.lab (after (own_bench file) file events first) → Tells played (told_after events)
+  tells events played start once shown = record {
+    file = file;
+    first = first;
+    now = after (own_bench file) file events first;
+    shown = shown;
+    once = subst KeysDiffer (sym start) once;
+    start = ap records_of (sym start);
+    is = refl;
+  }
+
+  -- all events were taken
+  pub ends_whole : (events : List Event) (played : Played) (old : Lab) → played.start.items ≡ pairs_of file → KeysDiffer (pairs_of file)
+      → Shows file old first → Take events old played.lab → Ends file steps retries events (Ok played)
+  ends_whole events played old start once shows takes =
+      let at = takes file first shows in
+      let is : IsPlayed (own_bench file) file steps retries events (Whole (told_after events)) = (at.0, refl) in
+      record {
+        ending = Whole (told_after events);
+        is = tells events played start once at.1;
+        played = is;
+        stands = plays_stand (own_bench file) file steps retries events (Whole (told_after events)) is;
+      }
+
+  -- the event of a place has a fault
+  pub ends_at : (events : List Event) (played : Played) (old : Lab) (why : Fault) (place : ℕ) → played.start.items ≡ pairs_of file → KeysDiffer (pairs_of file)
+      → Shows file old first → Halts events old played.lab (record { place = place; why = refused.Fault why }) → Ends file steps retries events (Err (fault.Event why place played))
+  ends_at events played old why place start once shows halts =
+      let at = halts.left file first shows in
+      let told = told_after halts.before in
+      let is : IsPlayed (own_bench file) file steps retries events (Stops (fault_of why) place told) =
+          (halts.before, halts.rest, halts.event, halts.all, halts.place, at.0, halts.refuses file first shows, refl) in
+      record {
+        ending = Stops (fault_of why) place told;
+        is = (refl, refl, tells halts.before played start once at.1);
+        played = is;
+        stands = plays_stand (own_bench file) file steps retries events (Stops (fault_of why) place told) is;
+      }

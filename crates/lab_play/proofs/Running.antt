@@ -1,0 +1,28 @@
+-- Schedules, event by event.
+use Rattle.std.proofs.Common.{◌≡◌, List, [], ◌∷◌, ◌++◌, None, Ok, refl, sym, subst}
+use Rattle.cfg_records.specs.declared.board_file.BoardFile.{BoardFile}
+use Rattle.lab_model.specs.Lab.{Lab as LabModel}
+use Rattle.schedules.specs.declared.event.Event.{Event}
+use Rattle.lab.specs.Meaning.{Bench}
+use Rattle.lab.specs.Played.{plans, fault_at, happens, after, AreTaken}
+use Rattle.lab_play.specs.Shown.{Shows, Steps, own_bench}
+use Rattle.lab_play.specs.Runs.{Take}
+use Rattle.lab_play.specs.declared.lab_state.Lab.{Lab}
+
+module _ (bench : Bench) (file : BoardFile) where
+  -- one event more is taken
+  taken_more : (es : List Event) (e : Event) (x : LabModel plans) → AreTaken bench file es x → fault_at bench file (after bench file es x) e ≡ None → AreTaken bench file (es ++ e ∷ []) x
+  taken_more [] e x taken none = (none, tt)
+  taken_more (d ∷ es) e x taken none = (taken.0, taken_more es e (happens bench file d x) taken.1 none)
+
+  -- the lab after one event more
+  after_more : (es : List Event) (e : Event) (x : LabModel plans) → after bench file (es ++ e ∷ []) x ≡ happens bench file e (after bench file es x)
+  after_more [] e x = refl
+  after_more (d ∷ es) e x = after_more es e (happens bench file d x)
+
+-- a lab that took events takes one more
+pub take_more : (es : List Event) (e : Event) (old mid new : Lab) → Take es old mid → Steps e mid (Ok tt) new → Take (es ++ e ∷ []) old new
+take_more es e old mid new took stepped file x shows =
+    let before = took file x shows in
+    let now = stepped file (after (own_bench file) file es x) before.1 in
+    (taken_more (own_bench file) file es e x before.0 now.0, subst (Shows file new) (sym (after_more (own_bench file) file es e x)) now.1)

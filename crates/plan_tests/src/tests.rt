@@ -1,0 +1,26 @@
+//! What the three texts hold, and their faults.
+mod board;
+mod plan;
+mod undo;
+
+/// A row of a table of fields: where a field is, its line in a file, and lines that say something else of it.
+#[derive(Clone, Copy)]
+struct Row {
+    place: &'static str,
+    line: &'static str,
+    mistyped: &'static str,
+    beyond: [&'static str; 2],
+    inside: [&'static str; 2],
+}
+
+/// The row of seven cells, with ` | ` between two of them.
+fn row_of(text: &'static str) -> Option<Row> {
+    let mut cells = text.split(" | ");
+    Some(Row {
+        place: cells.next()?,
+        line: cells.next()?,
+        mistyped: cells.next()?,
+        beyond: [cells.next()?, cells.next()?],
+        inside: [cells.next()?, cells.next()?],
+    })
+}
