@@ -10,14 +10,15 @@ use Rattle.bmc_core.specs.Outs.{sent}
 use Rattle.plan_file.specs.declared.fault.FileFault.{FileFault}
 use Rattle.plan_file.specs.Names.{fault_name}
 use Rattle.bmc_lab.specs.declared.status.Status.{Status}
-use Rattle.bmc_lab.specs.declared.status.Status.TheVariants.{Sent, NotSent, RefusedWords, RefusedFile, Memory, Output}
+use Rattle.bmc_lab.specs.declared.status.Status.TheVariants.{Success, NotSent, RefusedWords, RefusedFile, Stopped, Memory, Output}
 
 -- the status as the process gives it
 abbrev pub byte_of : Status → ℕ
-byte_of Sent = 0
+byte_of Success = 0
 byte_of NotSent = 1
 byte_of RefusedWords = 2
 byte_of RefusedFile = 3
+byte_of Stopped = 4
 byte_of Memory = 5
 byte_of Output = 6
 
@@ -49,4 +50,4 @@ board_line why = codes "board " ++ fault_name why ++ 10 ∷ []
 -- whether something was sent
 abbrev pub status_of : List (List ℕ) → Status
 status_of [] = NotSent
-status_of (frame ∷ frames) = Sent
+status_of (frame ∷ frames) = Success

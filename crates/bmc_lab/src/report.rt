@@ -33,7 +33,7 @@ fn status(out: &Out) -> Status
 {
     match out.frames.as_slice() {
         [] => Status::NotSent,
-        _ => Status::Sent,
+        _ => Status::Success,
     }
 }
 

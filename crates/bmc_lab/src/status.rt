@@ -3,14 +3,16 @@
 /// The status that a run ends with, as the process gives it.
 #[derive(Clone, Copy, Debug, PartialEq, Eq)]
 pub enum Status {
-    /// A frame was sent.
-    Sent = 0,
+    /// What was asked for was done: a frame was sent, or every event was played.
+    Success = 0,
     /// No frame was sent.
     NotSent = 1,
     /// The words of the command line were refused.
     RefusedWords = 2,
     /// A file was refused.
     RefusedFile = 3,
+    /// An event of a schedule has a fault, and isn't played.
+    Stopped = 4,
     /// Memory was refused.
     Memory = 5,
     /// Writing to standard output or standard error failed.

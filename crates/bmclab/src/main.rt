@@ -6,26 +6,13 @@ mod file;
 mod tests;
 mod words;
 
-use crate::file::text_of;
-use crate::words::FrameWords;
-use bmc_lab::{Console, Ending, Report, Status, frame_run};
-use std::alloc::Global;
+use crate::file::{Unread, refuse, text_of};
+use crate::words::{FrameWords, PlayWords, Words};
+use bmc_lab::{Console, Ending, frame_run};
+use bmc_play::play_run;
 use std::io;
 use std::process::ExitCode;
 use std::rt::{Env, Files};
-
-/// Says that the file can't be read, or that memory was refused.
-fn refuse<W: io::Write, E: io::Write>(
-    alloc: Global,
-    word: &str,
-    status: Status,
-    console: &mut Console<W, E>,
-) -> u8 {
-    match status {
-        Status::RefusedFile => u8::from(Ending::of(&Report::of_file(alloc, word)).write(console)),
-        _ => u8::from(Ending::without_report(status).write(console)),
-    }
-}
 
 /// Sends the frame that the words ask for, once the file that they name is read.
 fn send<R: Files + AllocGlobal, W: io::Write, E: io::Write>(
@@ -45,7 +32,43 @@ fn send<R: Files + AllocGlobal, W: io::Write, E: io::Write>(
             frame.bytes.as_slice(),
             console,
         ),
-        Err(status) => refuse(rt.alloc(), word.as_str(), status, console),
+        Err(unread) => refuse(rt.alloc(), &unread, console),
+    }
+}
+
+/// The texts that a play is told in.
+#[derive(Drop)]
+struct Texts {
+    board: String,
+    plan: String,
+    schedule: String,
+}
+
+/// The texts of the files that the words name, or the first file that isn't read.
+fn texts_of<'a, R: Files + AllocGlobal>(rt: &R, words: &'a PlayWords) -> Result<Texts, Unread<'a>> {
+    Ok(Texts {
+        board: text_of(rt, words.board.as_str())?,
+        plan: text_of(rt, words.plan.as_str())?,
+        schedule: text_of(rt, words.schedule.as_str())?,
+    })
+}
+
+/// Plays what the words ask for, once all files that they name are read.
+fn play<R: Files + AllocGlobal, W: io::Write, E: io::Write>(
+    rt: &R,
+    words: &PlayWords,
+    console: &mut Console<W, E>,
+) -> u8 {
+    match texts_of(rt, words) {
+        Ok(texts) => play_run(
+            rt.alloc(),
+            words.frames,
+            texts.board.as_str(),
+            texts.plan.as_str(),
+            texts.schedule.as_str(),
+            console,
+        ),
+        Err(unread) => refuse(rt.alloc(), &unread, console),
     }
 }
 
@@ -54,7 +77,8 @@ fn run<R: Env + Files + AllocGlobal, W: io::Write, E: io::Write>(
     console: &mut Console<W, E>,
 ) -> u8 {
     match words::asked(rt) {
-        Ok(words) => send(rt, &words, console),
+        Ok(Words::Frame(words)) => send(rt, &words, console),
+        Ok(Words::Play(words)) => play(rt, &words, console),
         Err(status) => u8::from(Ending::without_report(status).write(console)),
     }
 }

@@ -1,12 +1,12 @@
 //! The words of the command line, as the program gets them.
-use crate::words::{FrameWords, read};
+use crate::words::{FrameWords, PlayWords, Words, read};
 use bmc_lab::Status;
 use std::alloc::{AllocError, Global};
 use std::test::Fail;
 use two_wire::Bus;
 
-/// What the words name that follow the program's name.
-fn named(alloc: Global, words: &[&str]) -> Result<Result<FrameWords, Status>, AllocError> {
+/// What the words ask for that follow the program's name.
+fn named(alloc: Global, words: &[&str]) -> Result<Result<Words, Status>, AllocError> {
     let mut line = vec![in alloc; String::from_str(alloc, "bmclab")?]?;
     for word in words {
         line.push(String::from_str(alloc, *word)?)?;
@@ -23,7 +23,7 @@ fn the_bus_is_the_one_that_is_named(rt: HostRuntime) -> Result<(), Fail> {
         (&["frame", "--bus=smbus", "2018"], Bus::Smbus),
         (&["frame", "2018", "--bus", "smbus"], Bus::Smbus),
     ] {
-        let Ok(FrameWords { board, frame }) = named(rt.alloc(), words)? else {
+        let Ok(Words::Frame(FrameWords { board, frame })) = named(rt.alloc(), words)? else {
             return Err("refused".into());
         };
         assert!(rt; board.is_none(), "{words:?}");
@@ -58,6 +58,41 @@ fn other_lines_are_refused(rt: HostRuntime) -> Result<(), Fail> {
         &["frame", "2018", "2018"],
         &["frame", "--lun", "0", "2018"],
         &["send", "2018"],
+        &["play"],
+        &["play", "sample.toml", "plan.toml"],
+        &["play", "--frames", "sample.toml", "plan.toml"],
+        &["play", "sample.toml", "plan.toml", "schedule.txt", "undo"],
+        &[
+            "play",
+            "--frames",
+            "--frames",
+            "sample.toml",
+            "plan.toml",
+            "schedule.txt",
+        ],
+        &[
+            "play",
+            "--frames=yes",
+            "sample.toml",
+            "plan.toml",
+            "schedule.txt",
+        ],
+        &[
+            "play",
+            "--chart",
+            "sample.toml",
+            "plan.toml",
+            "schedule.txt",
+        ],
+        &[
+            "play",
+            "--board",
+            "sample.toml",
+            "plan.toml",
+            "schedule.txt",
+        ],
+        &["frame", "--frames", "2018"],
+        &["play", "--help"],
         &["help"],
         &["--help"],
     ] {
@@ -75,7 +110,7 @@ fn the_board_file_is_the_one_that_is_named(rt: HostRuntime) -> Result<(), Fail> 
         &["frame", "2018", "--board", "sample.toml"],
         &["frame", "--bus", "ipmb", "--board", "sample.toml", "2018"],
     ] {
-        let Ok(FrameWords { board, frame }) = named(rt.alloc(), words)? else {
+        let Ok(Words::Frame(FrameWords { board, frame })) = named(rt.alloc(), words)? else {
             return Err("refused".into());
         };
         let Some(word) = board else {
@@ -83,6 +118,65 @@ fn the_board_file_is_the_one_that_is_named(rt: HostRuntime) -> Result<(), Fail> 
         };
         assert_eq!(rt; word.as_str(), "sample.toml", "{words:?}");
         assert_eq!(rt; frame.bus, Bus::Ipmb, "{words:?}");
+    }
+    Ok(())
+}
+
+#[test]
+fn a_play_names_its_files_in_their_order(rt: HostRuntime) -> Result<(), Fail> {
+    for (words, told) in [
+        (
+            &["play", "sample.toml", "plan.toml", "schedule.txt"][..],
+            false,
+        ),
+        (
+            &[
+                "play",
+                "--frames",
+                "sample.toml",
+                "plan.toml",
+                "schedule.txt",
+            ],
+            true,
+        ),
+        (
+            &[
+                "play",
+                "sample.toml",
+                "plan.toml",
+                "schedule.txt",
+                "--frames",
+            ],
+            true,
+        ),
+        (
+            &[
+                "play",
+                "sample.toml",
+                "--frames",
+                "plan.toml",
+                "schedule.txt",
+            ],
+            true,
+        ),
+        (
+            &["play", "--", "sample.toml", "plan.toml", "schedule.txt"],
+            false,
+        ),
+    ] {
+        let Ok(Words::Play(play)) = named(rt.alloc(), words)? else {
+            return Err("refused".into());
+        };
+        let PlayWords {
+            frames,
+            board,
+            plan,
+            schedule,
+        } = play;
+        assert_eq!(rt; frames, told, "{words:?}");
+        assert_eq!(rt; board.as_str(), "sample.toml", "{words:?}");
+        assert_eq!(rt; plan.as_str(), "plan.toml", "{words:?}");
+        assert_eq!(rt; schedule.as_str(), "schedule.txt", "{words:?}");
     }
     Ok(())
 }

@@ -1,10 +1,17 @@
 //! The words of the command line.
 use bmc_lab::{AskedFrame, Status, asked_frame};
 use clap::error::{Error, ErrorKind};
-use clap::{Arg, Command};
+use clap::{Arg, ArgAction, ArgMatches, Command};
 use std::alloc::{AllocError, Global};
 use std::rt::Env;
 use std::{env, io};
+
+/// What the words ask for.
+#[derive(Debug, Drop)]
+pub enum Words {
+    Frame(FrameWords),
+    Play(PlayWords),
+}
 
 /// What the words of `bmclab frame` ask for.
 #[derive(Debug, Drop)]
@@ -14,15 +21,45 @@ pub struct FrameWords {
     pub frame: AskedFrame,
 }
 
-/// `bmclab frame [--bus ipmb|smbus] [--board FILE] HEX`.
-fn command<'a>(alloc: Global) -> Result<Command<'a>, AllocError> {
+/// What the words of `bmclab play` ask for.
+#[derive(Debug, Drop)]
+pub struct PlayWords {
+    /// Whether the frames are told too.
+    pub frames: bool,
+    /// The word of the board file.
+    pub board: String,
+    /// The word of the plan.
+    pub plan: String,
+    /// The word of the schedule.
+    pub schedule: String,
+}
+
+/// `frame [--bus ipmb|smbus] [--board FILE] HEX`.
+fn frame_command<'a>(alloc: Global) -> Result<Command<'a>, AllocError> {
     let hex = Arg::new(alloc, "HEX").required(true);
     let bus = Arg::new(alloc, "bus").long("bus");
     let board = Arg::new(alloc, "board").long("board");
-    let frame = Command::new(alloc, "frame").arg(bus)?.arg(board)?.arg(hex)?;
+    Command::new(alloc, "frame").arg(bus)?.arg(board)?.arg(hex)
+}
+
+/// `play [--frames] BOARD PLAN SCHEDULE`.
+fn play_command<'a>(alloc: Global) -> Result<Command<'a>, AllocError> {
+    let frames = Arg::new(alloc, "frames")
+        .long("frames")
+        .action(ArgAction::SetTrue);
+    let mut play = Command::new(alloc, "play").arg(frames)?;
+    for name in ["BOARD", "PLAN", "SCHEDULE"] {
+        play = play.arg(Arg::new(alloc, name).required(true))?;
+    }
+    Ok(play)
+}
+
+/// `bmclab`, and what it can do.
+fn command<'a>(alloc: Global) -> Result<Command<'a>, AllocError> {
     Command::new(alloc, "bmclab")
         .subcommand_required(true)
-        .subcommand(frame)
+        .subcommand(frame_command(alloc)?)?
+        .subcommand(play_command(alloc)?)
 }
 
 /// A request for help is refused like any other word that isn't one.
@@ -33,8 +70,47 @@ fn refusal(error: &Error) -> Status {
     }
 }
 
+/// A word, kept.
+fn kept(alloc: Global, word: &str) -> Result<String, Status> {
+    match String::from_str(alloc, word) {
+        Ok(word) => Ok(word),
+        Err(_) => Err(Status::Memory),
+    }
+}
+
+/// The word that has this name.
+fn named(alloc: Global, matches: &ArgMatches, name: &str) -> Result<String, Status> {
+    match matches.get_str(name) {
+        Some(word) => kept(alloc, word),
+        None => Err(Status::RefusedWords),
+    }
+}
+
+/// What the words behind `frame` ask for.
+fn frame_words(alloc: Global, matches: &ArgMatches) -> Result<FrameWords, Status> {
+    let Some(digits) = matches.get_str("HEX") else {
+        return Err(Status::RefusedWords);
+    };
+    let board = match matches.get_str("board") {
+        Some(word) => Some(kept(alloc, word)?),
+        None => None,
+    };
+    let frame = asked_frame(alloc, matches.get_str("bus"), digits)?;
+    Ok(FrameWords { board, frame })
+}
+
+/// What the words behind `play` ask for.
+fn play_words(alloc: Global, matches: &ArgMatches) -> Result<PlayWords, Status> {
+    Ok(PlayWords {
+        frames: matches.get_flag("frames"),
+        board: named(alloc, matches, "BOARD")?,
+        plan: named(alloc, matches, "PLAN")?,
+        schedule: named(alloc, matches, "SCHEDULE")?,
+    })
+}
+
 /// What the words ask for, the program's own name first among them.
-pub fn read(alloc: Global, words: &[String]) -> Result<FrameWords, Status> {
+pub fn read(alloc: Global, words: &[String]) -> Result<Words, Status> {
     let Ok(command) = command(alloc) else {
         return Err(Status::Memory);
     };
@@ -42,25 +118,17 @@ pub fn read(alloc: Global, words: &[String]) -> Result<FrameWords, Status> {
         Ok(matches) => matches,
         Err(error) => return Err(refusal(&error)),
     };
-    let Some(frame) = matches.subcommand_matches("frame") else {
-        return Err(Status::RefusedWords);
-    };
-    let Some(digits) = frame.get_str("HEX") else {
-        return Err(Status::RefusedWords);
-    };
-    let board = match frame.get_str("board") {
-        Some(word) => match String::from_str(alloc, word) {
-            Ok(word) => Some(word),
-            Err(_) => return Err(Status::Memory),
-        },
-        None => None,
-    };
-    let frame = asked_frame(alloc, frame.get_str("bus"), digits)?;
-    Ok(FrameWords { board, frame })
+    if let Some(frame) = matches.subcommand_matches("frame") {
+        return Ok(Words::Frame(frame_words(alloc, frame)?));
+    }
+    match matches.subcommand_matches("play") {
+        Some(play) => Ok(Words::Play(play_words(alloc, play)?)),
+        None => Err(Status::RefusedWords),
+    }
 }
 
 /// What the program is asked for.
-pub fn asked<R: Env + AllocGlobal>(rt: &R) -> Result<FrameWords, Status> {
+pub fn asked<R: Env + AllocGlobal>(rt: &R) -> Result<Words, Status> {
     let args = match env::args(rt) {
         Ok(args) => args,
         Err(error) if error.kind() == io::ErrorKind::OutOfMemory => return Err(Status::Memory),

@@ -1,4 +1,6 @@
 //! Long plans, and copies of frames that come late.
+ghost use Rattle.std.specs.Prelude.{◌+◌, ◌*◌, ◌<◌};
+
 use super::{frame, stopped, told, whole};
 use lab::Fault;
 use std::alloc::Global;
@@ -19,7 +21,9 @@ fn steps(alloc: Global, number: usize) -> Result<String, Fail> {
 }
 
 /// Both ways of so many requests, of which the first's frame has this number.
-fn both_ways(text: &mut String, first: usize, requests: usize) -> Result<(), Fail> {
+fn both_ways(text: &mut String, first: usize, requests: usize) -> Result<(), Fail>
+    requires { first + 2 * requests < 65536 }
+{
     for request in 0..requests {
         let there = first + 2 * request;
         let back = there + 1;

@@ -1,0 +1,48 @@
+-- What a run says of three texts.
+use Rattle.std.specs.Prelude.{◌≡◌, ℕ, Bool, true, false, List, [], ◌∷◌, ◌++◌, Ok, Err}
+use Rattle.plan_file.specs.declared.fault.FileFault.TheVariants as of_file
+use Rattle.plan_file.specs.declared.plan_fault.PlanFault.TheVariants as of_plan
+use Rattle.schedules.specs.declared.schedule.ScheduleFault.TheVariants as of_schedule
+use Rattle.play_text.specs.declared.inputs.Inputs.{Inputs}
+use Rattle.play_text.specs.declared.inputs.InputFault.{InputFault}
+use Rattle.play_text.specs.declared.inputs.InputFault.TheVariants as fault
+use Rattle.play_text.specs.declared.account.Account.{Account}
+use Rattle.play_text.specs.Inputs.{AreRead, input_fault_name}
+use Rattle.play_text.specs.Account.{text_of}
+use Rattle.lab.specs.Played.{Ending, IsPlayed}
+use Rattle.lab_stands.specs.Plays.{StandsIfOwn}
+use Rattle.lab_play.specs.Shown.{own_bench}
+use Rattle.bmc_lab.specs.declared.console.Stream.{Stream}
+use Rattle.bmc_lab.specs.declared.console.Stream.TheVariants.{Output, Error}
+use Rattle.bmc_lab.specs.declared.status.Status.{Status}
+use Rattle.bmc_lab.specs.declared.status.Status.TheVariants.{RefusedFile}
+use Rattle.bmc_play.specs.Account.{IsAccountOf, status_of}
+
+-- a text wasn't read for want of memory
+abbrev pub is_memory : InputFault → Bool
+is_memory (fault.Board of_file.Memory) = true
+is_memory (fault.Plan of_plan.Memory) = true
+is_memory (fault.Schedule of_schedule.Memory) = true
+is_memory _ = false
+
+-- what is said of a text that is refused: which of the three it is, and why
+abbrev pub refusal_line : InputFault → List ℕ
+refusal_line why = input_fault_name why ++ 10 ∷ []
+
+-- The text is the account of a play of these inputs: of the lab's run of the schedule, up to the first event that has a fault. What the
+-- play tells stands: the phase says what the records are.
+pub record Recounts (frames : Bool) (inputs : Inputs) (text : List ℕ) (status : Status) : Type 0 where
+  pub ending : Ending
+  pub played : IsPlayed (own_bench inputs.file) inputs.file inputs.plan.steps inputs.plan.retries inputs.events ending
+  pub stands : StandsIfOwn (own_bench inputs.file) inputs.file inputs.plan.steps inputs.plan.retries inputs.events ending
+  pub account : Account
+  pub is : IsAccountOf account ending
+  pub said : text ≡ text_of frames account
+  pub ended : status ≡ status_of account.stopped
+
+-- what a run says, and where: on standard output the play that the texts tell, or on standard error which text is the first that is
+-- refused, and why
+abbrev pub Says : Bool → (board plan schedule : List ℕ) → Stream → List ℕ → Status → Type 0
+Says frames board plan schedule Output text status = (inputs : Inputs) × AreRead board plan schedule (Ok inputs) × Recounts frames inputs text status
+Says frames board plan schedule Error text status =
+    (why : InputFault) × (is_memory why ≡ false) × AreRead board plan schedule (Err why) × (text ≡ refusal_line why) × (status ≡ RefusedFile)
