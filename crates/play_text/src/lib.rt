@@ -4,8 +4,6 @@
 mod account;
 mod inputs;
 mod lines;
-#[cfg(test)]
-mod tests;
 
 pub use account::{Account, Stopped};
 pub use inputs::{InputFault, Inputs, read_inputs};

@@ -10,8 +10,6 @@ mod phase;
 mod sending;
 mod showing;
 mod stage;
-#[cfg(test)]
-mod tests;
 
 pub use manager::{Manager, OpenFault};
 pub use phase::{Phase, Why, WrongPhase};

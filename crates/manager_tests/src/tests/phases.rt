@@ -1,6 +1,6 @@
 //! What phases and the reasons of a halt are called.
-use crate::{Phase, Why};
 use two_wire::Code;
+use undo_core::{Phase, Why};
 
 #[test]
 fn phases_are_named(rt: HostRuntime) {

@@ -1,11 +1,11 @@
 //! What is said of a play.
 ghost use Rattle.std.specs.Prelude.{◌≤◌, length};
 
-use crate::{Account, Stopped};
 use cfg_records::Asked;
 use lab::{Fault, SentFrame, Way};
 use lab_model::marks::Mark;
 use plans::Requests;
+use play_text::{Account, Stopped};
 use std::alloc::{AllocError, Global};
 use std::test::Fail;
 use two_wire::{Bus, Code, Frame, NetFn};

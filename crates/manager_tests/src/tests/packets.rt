@@ -1,10 +1,10 @@
 //! A manager whose requests go over SMBus. No kind of record is there yet, so it goes on from a list of such requests.
 use super::{digits, hear_on, names};
-use crate::{Manager, Phase, Why};
 use cfg_records::Asked;
 use plans::{NextNumbers, Requests, UndoList};
 use std::alloc::Global;
 use two_wire::{Below, Bus, Bytes, Code};
+use undo_core::{Manager, Phase, Why};
 
 /// The data of request 31.
 const DATA: [u8; 70] = [

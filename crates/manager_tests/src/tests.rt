@@ -4,12 +4,12 @@ mod packets;
 mod phases;
 mod replies;
 
-use crate::{Manager, Sent, WrongPhase};
 use cfg_records::{Op, SetThresholds};
 use plans::{Names, Plan, Retries, Steps};
 use std::alloc::Global;
 use std::process::Abort;
 use two_wire::{Address, Bus};
+use undo_core::{Manager, Sent, WrongPhase};
 
 fn names() -> Names {
     Names {

@@ -1,9 +1,9 @@
 //! What a manager does with each reply, and which frames it ignores.
 use super::{Call, FIRST_GET, FIRST_SET, SECOND_GET, Turn, WAY, after, digits, names, plan, take};
-use crate::{Manager, OpenFault, Phase, Why};
 use std::alloc::Global;
 use std::process::Abort;
 use two_wire::{Bus, Code};
+use undo_core::{Manager, OpenFault, Phase, Why};
 
 #[test]
 fn a_plan_goes_there_and_back(rt: HostRuntime) {

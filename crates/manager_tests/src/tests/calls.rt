@@ -1,9 +1,9 @@
 //! Each call in each phase.
 use super::{Call, FIRST_GET, Turn, WAY, after, make};
-use crate::{Phase, Why};
 use std::alloc::Global;
 use std::process::Abort;
 use two_wire::Code;
+use undo_core::{Phase, Why};
 
 /// The calls in the order of a row of phases.
 const CALLS: [Call; 5] = [

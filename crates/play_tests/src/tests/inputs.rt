@@ -1,11 +1,18 @@
 //! Which of the texts is refused, and why.
-use crate::read_inputs;
+use play_text::read_inputs;
 use std::test::Fail;
 
 /// A board without sensors.
 const BOARD: &str = "tid = 5
+clock = 0
+log = 2
+enables = 0x08
 policy = 1
 watchdog = [0, 0, 0, 0]
+sdr = []
+boot3 = 0
+boot4 = 0
+boot5 = [0, 0, 0, 0, 0]
 [device]
 id = 0x20
 revision = 1
@@ -42,7 +49,7 @@ fn the_first_text_that_is_refused_is_named(rt: HostRuntime) -> Result<(), Fail> 
             "tid = 5",
             "retries = 16",
             "begin",
-            "board Missing top policy",
+            "board Missing top clock",
         ),
         ("tid =", "", "", "board Text"),
         (BOARD, "retries = 16", "begin", "plan Range retries"),

@@ -1,3 +1,0 @@
-//! Examples from outside.
-mod account;
-mod inputs;
