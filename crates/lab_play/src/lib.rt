@@ -8,8 +8,6 @@ mod played;
 mod port_side;
 mod run;
 mod step;
-#[cfg(test)]
-mod tests;
 
 pub use names::lab_names;
 pub use played::{LabFault, Played, play};

@@ -2,7 +2,7 @@
 mod late;
 mod stories;
 
-use crate::{LabFault, Played, play};
+use lab_play::{LabFault, Played, play};
 use cfg_records::sample_board;
 use lab::Fault;
 use plan_file::{read_plan, write_undo};
