@@ -1,10 +1,9 @@
 -- What a play tells, of the lab after its events.
 use Rattle.std.proofs.Common.{◌≡◌, ℕ, List, Ok, Err, Some, refl, sym, ap, subst}
-use Rattle.std.specs.Vec.{Vec}
 use Rattle.cfg_records.specs.declared.board_file.BoardFile.{BoardFile}
 use Rattle.cfg_records.specs.declared.op.Op.{Op}
 use Rattle.cfg_records.specs.Boards.{pairs_of}
-use Rattle.cfg_records.specs.Records.{Pair, KeysDiffer, records_of}
+use Rattle.cfg_records.specs.Records.{KeysDiffer, records_of}
 use Rattle.lab_model.specs.Lab.{Lab as LabModel, opening}
 use Rattle.schedules.specs.declared.event.Event.{Event}
 use Rattle.lab.specs.declared.fault.Fault.{Fault}

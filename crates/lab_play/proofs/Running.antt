@@ -1,12 +1,15 @@
 -- Schedules, event by event.
-use Rattle.std.proofs.Common.{◌≡◌, List, [], ◌∷◌, ◌++◌, None, Ok, refl, sym, subst}
+use Rattle.std.proofs.Common.{◌≡◌, ◌+◌, ℕ, List, [], ◌∷◌, ◌++◌, length, take, drop, None, Ok, Err, refl, sym, ap, subst}
 use Rattle.cfg_records.specs.declared.board_file.BoardFile.{BoardFile}
 use Rattle.lab_model.specs.Lab.{Lab as LabModel}
 use Rattle.schedules.specs.declared.event.Event.{Event}
 use Rattle.lab.specs.Meaning.{Bench}
 use Rattle.lab.specs.Played.{plans, fault_at, happens, after, AreTaken}
 use Rattle.lab_play.specs.Shown.{Shows, Steps, own_bench}
-use Rattle.lab_play.specs.Runs.{Take}
+use Rattle.lab_play.specs.Runs.{Take, Halts}
+use Rattle.lab_play.specs.declared.run.Halt.{Halt}
+use Rattle.lab_play.specs.declared.step.Refused.{Refused}
+use Rattle.lab_play.specs.declared.step.Refused.TheVariants as refused
 use Rattle.lab_play.specs.declared.lab_state.Lab.{Lab}
 
 module _ (bench : Bench) (file : BoardFile) where
@@ -21,8 +24,30 @@ module _ (bench : Bench) (file : BoardFile) where
   after_more (d ∷ es) e x = after_more es e (happens bench file d x)
 
 -- a lab that took events takes one more
-pub take_more : (es : List Event) (e : Event) (old mid new : Lab) → Take es old mid → Steps e mid (Ok tt) new → Take (es ++ e ∷ []) old new
-take_more es e old mid new took stepped file x shows =
+pub takes_one_more : (es : List Event) (e : Event) (old mid new : Lab) → Take es old mid → Steps e mid (Ok tt) new → Take (es ++ e ∷ []) old new
+takes_one_more es e old mid new took stepped file x shows =
     let before = took file x shows in
     let now = stepped file (after (own_bench file) file es x) before.1 in
     (taken_more (own_bench file) file es e x before.0 now.0, subst (Shows file new) (sym (after_more (own_bench file) file es e x)) now.1)
+
+-- an event isn't taken by a lab that took those before it
+pub halts_at : (events : List Event) (place : ℕ) (e : Event) (old mid new : Lab) (why : Refused) → events ≡ take place events ++ e ∷ drop (place + 1) events
+    → length (take place events) ≡ place → Take (take place events) old mid → Steps e mid (Err why) new → Halts events old new (record { place = place + 1; why = why })
+halts_at events place e old mid new (refused.Fault fault) all before took stepped = record {
+  before = take place events;
+  event = e;
+  rest = drop (place + 1) events;
+  all = all;
+  place = ap (λ (n : ℕ). n + 1) (sym before);
+  refuses = λ file x shows. stepped.1 file (after (own_bench file) file (take place events) x) (took file x shows).1;
+  left = subst (Take (take place events) old) (sym stepped.0) took;
+}
+halts_at events place e old mid new refused.Memory all before took stepped = record {
+  before = take place events;
+  event = e;
+  rest = drop (place + 1) events;
+  all = all;
+  place = ap (λ (n : ℕ). n + 1) (sym before);
+  refuses = tt;
+  left = tt;
+}

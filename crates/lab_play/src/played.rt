@@ -10,7 +10,6 @@ ghost use Rattle.lab_play.specs.Shown.{IsSentFrame, plain_records};
 ghost use Rattle.lab_play.specs.Ends.{Tells, Plays, changed_in, is_value};
 
 use crate::lab_state::Lab;
-use crate::run::Halt;
 use crate::step::Refused;
 use cfg_records::{BoardFile, Key, PlainStore, Store, Value};
 use lab::{Fault, SentFrame};
@@ -71,12 +70,12 @@ impl Played {
     }
 }
 
-/// Whether the store has another value at the record's key.
-fn is_changed(store: &PlainStore, record: &(Key, Value)) -> bool
-    ensures { result ≡ not (is_value record.now.1 (plain_records store.now record.now.0)) }
+/// Whether the store has another value at the key of this record.
+fn is_changed(store: &PlainStore, first: &(Key, Value)) -> bool
+    ensures { result ≡ not (is_value first.now.1 (plain_records store.now first.now.0)) }
 {
-    match store.get(&record.0) {
-        Some(value) => value != record.1.as_slice(),
+    match store.get(&first.0) {
+        Some(value) => value != first.1.as_slice(),
         None => true,
     }
 }
@@ -109,15 +108,15 @@ pub fn play(
     let Ok(mut lab) = Lab::open(alloc, file, plan) else {
         return Err(LabFault::Memory);
     };
-    let halt = lab.run(events);
+    let ended = lab.run(events);
     let played = Played { start, lab };
-    match halt {
+    match ended {
         Ok(()) => Ok(played),
-        Err(Halt { place, why }) => match why {
+        Err(halt) => match halt.why {
             Refused::Memory => Err(LabFault::Memory),
             Refused::Fault(fault) => Err(LabFault::Event {
                 fault,
-                place,
+                place: halt.place,
                 played,
             }),
         },
