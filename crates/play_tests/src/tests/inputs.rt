@@ -1,5 +1,7 @@
 //! Which of the texts is refused, and why.
-use play_text::read_inputs;
+use super::inputs_of;
+use play_text::{Inputs, read_inputs};
+use std::alloc::Global;
 use std::test::Fail;
 
 /// A board without sensors.
@@ -32,14 +34,20 @@ policy = 2
 
 #[test]
 fn a_board_a_plan_and_a_schedule_are_read(rt: HostRuntime) -> Result<(), Fail> {
-    let inputs = read_inputs(rt.alloc(), BOARD, PLAN, "start\n\nto-bmc 0\n").map_err(
-        |_| "the texts",
-    )?;
-    assert_eq!(rt; inputs.file.tid, 5);
-    assert_eq!(rt; inputs.plan.steps.as_slice().len(), 1);
-    assert_eq!(rt; inputs.plan.retries.number(), 2);
-    assert_eq!(rt; inputs.events.as_slice().len(), 2);
+    let Inputs { file, plan, events } = inputs_of(rt.alloc(), BOARD, PLAN, "start\n\nto-bmc 0\n")?;
+    assert_eq!(rt; file.tid, 5);
+    assert_eq!(rt; plan.steps.as_slice().len(), 1);
+    assert_eq!(rt; plan.retries.number(), 2);
+    assert_eq!(rt; events.as_slice().len(), 2);
     Ok(())
+}
+
+/// What is said of texts of which one is refused.
+fn refusal(alloc: Global, board: &str, plan: &str, schedule: &str) -> Result<String, Fail> {
+    match read_inputs(alloc, board, plan, schedule) {
+        Ok(_) => Err("all texts are read".into()),
+        Err(why) => Ok(format!(in alloc; "{why}")?),
+    }
 }
 
 #[test]
@@ -79,13 +87,7 @@ fn the_first_text_that_is_refused_is_named(rt: HostRuntime) -> Result<(), Fail> 
         ),
         (BOARD, PLAN, "start\n\nbegin\n", "schedule Line 3"),
     ] {
-        match read_inputs(rt.alloc(), board, plan, schedule) {
-            Ok(_) => assert!(rt; false, "{name}"),
-            Err(why) => {
-                let text = format!(in rt.alloc(); "{why}")?;
-                assert_eq!(rt; text.as_str(), name);
-            }
-        }
+        assert_eq!(rt; refusal(rt.alloc(), board, plan, schedule)?.as_str(), name);
     }
     Ok(())
 }
