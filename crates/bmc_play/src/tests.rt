@@ -2,6 +2,7 @@
 mod faults;
 mod late;
 mod refused;
+mod smbus;
 mod stories;
 mod writers;
 
