@@ -1,6 +1,6 @@
 //! Numbers of numeric effecters: integers of the size that an item names.
-ghost use Rattle.std.specs.Prelude.{◌≡◌, ◌<◌, ◌-◌, Some, pos, negsuc};
-ghost use Rattle.cfg_records.specs.NumericSize.{bytes_of};
+ghost use Rattle.std.specs.Prelude.{◌≡◌, ◌<◌, ◌≤◌, ◌-◌, Some, pos, negsuc};
+ghost use Rattle.cfg_records.specs.NumericSize.{bytes_of, negatives_of, numbers_of};
 ghost use Rattle.toml.specs.View.{view, table_view};
 ghost use Rattle.plan_file.specs.Numeric.{size_at, size_in, bits_of, sized, sized_in, in_order};
 ghost use Rattle.plan_file.specs.PlanHolds.{AreBytes};
@@ -21,6 +21,7 @@ pub const SIZES: [NumericSize; 6] = [
 ];
 
 /// The size for which this number stands.
+#[tactic(auto, unfolding(crate::specs::Numeric::size_at))]
 fn size_at(code: u64) -> Option<NumericSize>
     ensures { result ≡ size_at code }
 {
@@ -40,22 +41,33 @@ pub fn size_in(item: &Table) -> Option<NumericSize>
     }
 }
 
+/// How many numbers of the size are below 0.
+#[tactic(auto, using(crate::proofs::Sizes::rank_of_zero, crate::proofs::Sizes::negatives_fit))]
+fn negatives(size: NumericSize) -> u64
+    ensures value { result ≡ negatives_of size }
+    ensures few { result ≤ numbers_of size }
+{
+    size.rank(0)
+}
+
 /// The number of the size that is not negative and has this value.
+#[tactic(auto, using(crate::proofs::Sizes::numbers_fit))]
 fn positive(size: NumericSize, number: u64) -> Option<u32>
     ensures { result ≡ bits_of size (pos number) }
 {
-    if number >= size.numbers() - size.rank(0) {
+    if number >= size.numbers() - negatives(size) {
         return None;
     }
     Some(number as u32)
 }
 
 /// The number of the size that is so much below 0, at least by 1, in two's complement.
+#[tactic(auto, using(crate::proofs::Sizes::numbers_fit))]
 fn negative(size: NumericSize, below: u64) -> Option<u32>
     requires { 0 < below }
     ensures { result ≡ bits_of size (negsuc (below - 1)) }
 {
-    if below > size.rank(0) {
+    if below > negatives(size) {
         return None;
     }
     Some((size.numbers() - below) as u32)
