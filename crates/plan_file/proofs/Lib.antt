@@ -8,7 +8,7 @@ pub mod Records
 pub mod Items
 pub mod Sensors
 pub mod Sizes
-pub mod Effecters
+pub mod EffecterFields
 pub mod BootSteps
 pub mod Changes
 pub mod Steps

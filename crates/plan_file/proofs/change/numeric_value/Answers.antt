@@ -5,7 +5,7 @@ use Rattle.plan_file.specs.declared.field.Field.TheVariants as field
 use Rattle.plan_file.specs.declared.kind.TheConstants.{NUMERIC_EFFECTER}
 use Rattle.plan_file.specs.Numeric.{size_in, sized_in, sized_bytes}
 use Rattle.plan_file.proofs.Rows.{all_sound}
-use Rattle.plan_file.proofs.Effecters.{named_in, told_in}
+use Rattle.plan_file.proofs.EffecterFields.{named_in, told_in}
 use Rattle.plan_file.proofs.change.numeric_value.Goals as goal
 
 pub unwrap-size-requires : goal.unwrap-size-requires

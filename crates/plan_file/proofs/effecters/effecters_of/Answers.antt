@@ -6,7 +6,7 @@ use Rattle.plan_file.specs.declared.fault.Item.TheVariants as item
 use Rattle.plan_file.specs.declared.row.TheConstants.{NUMERIC}
 use Rattle.plan_file.specs.Holds.{IsNumericIn, effecter_id}
 use Rattle.plan_file.proofs.Items.{next_zip, next_left, next_differs}
-use Rattle.plan_file.proofs.Effecters.{effecter_numbered}
+use Rattle.plan_file.proofs.EffecterFields.{effecter_numbered}
 use Rattle.plan_file.proofs.effecters.effecters_of.Goals as goal
 
 pub loop-value-preserved : goal.loop-value-preserved

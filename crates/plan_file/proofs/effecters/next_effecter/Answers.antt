@@ -8,7 +8,7 @@ use Rattle.plan_file.specs.Trees.{number_in, table_of}
 use Rattle.plan_file.specs.Faults.{first, field_faults, fault_at}
 use Rattle.plan_file.specs.Holds.{IsNumericIn, effecter_id}
 use Rattle.plan_file.proofs.Items.{field_first, taken_first}
-use Rattle.plan_file.proofs.Effecters.{effecter_numbered}
+use Rattle.plan_file.proofs.EffecterFields.{effecter_numbered}
 use Rattle.plan_file.proofs.effecters.next_effecter.Goals as goal
 
 pub returns-in_err-check-clause-err : goal.returns-in_err-check-clause-err

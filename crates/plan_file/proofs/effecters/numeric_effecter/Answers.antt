@@ -7,7 +7,7 @@ use Rattle.plan_file.specs.declared.row.TheConstants.{NUMERIC}
 use Rattle.plan_file.specs.Numeric.{size_in, sized_in}
 use Rattle.plan_file.proofs.Rows.{all_sound, number_of, below, at_least, within}
 use Rattle.plan_file.proofs.Sizes.{field_fits, bytes_long, bytes_tell, order_of, ordered, state_told}
-use Rattle.plan_file.proofs.Effecters.{named_in, size_found, within_bounds}
+use Rattle.plan_file.proofs.EffecterFields.{size_found, within_bounds}
 use Rattle.plan_file.proofs.effecters.numeric_effecter.Goals as goal
 
 pub word_in-id-requires : goal.word_in-id-requires
@@ -20,7 +20,7 @@ pub unwrap-current-requires : goal.unwrap-current-requires
 unwrap-current-requires c =
     let tree = table_view c.args.table.now in
     let size = c.range-range.result.size in
-    let is : size_in tree ≡ Some size = size_found tree size (named_in tree (all_sound NUMERIC tree c.requires).1.0) c.range-range.ensures.size in
+    let is : size_in tree ≡ Some size = size_found tree size c.range-range.ensures.size in
     let inside = within_bounds tree size is (all_sound NUMERIC tree c.requires).1.1.1.1.1.0 in
     ap is_some (c.sized_in.ensures ∙ (ordered size (sized_in size field.Lower tree) (sized_in size field.Current tree) inside.above).is_high)
 
@@ -30,7 +30,7 @@ unwrap-requires c =
     let range = c.range-range.result in
     let size = range.size in
     let n = c.unwrap-current.result in
-    let is : size_in tree ≡ Some size = size_found tree size (named_in tree (all_sound NUMERIC tree c.requires).1.0) c.range-range.ensures.size in
+    let is : size_in tree ≡ Some size = size_found tree size c.range-range.ensures.size in
     let inside = within_bounds tree size is (all_sound NUMERIC tree c.requires).1.1.1.1.1.0 in
     let current : sized_in size field.Current tree ≡ Some n = sym c.sized_in.ensures ∙ c.unwrap-current.ensures in
     let fits : n < numbers_of size = field_fits size field.Current tree n current in

@@ -5,7 +5,7 @@ use Rattle.plan_file.specs.declared.row.TheConstants.{NUMERIC}
 use Rattle.plan_file.specs.Numeric.{size_in, sized_in}
 use Rattle.plan_file.proofs.Rows.{all_sound}
 use Rattle.plan_file.proofs.Sizes.{field_fits}
-use Rattle.plan_file.proofs.Effecters.{named_in, told_in, bounds_in, named_is}
+use Rattle.plan_file.proofs.EffecterFields.{named_in, told_in, bounds_in, named_is}
 use Rattle.plan_file.proofs.effecters.range.Goals as goal
 
 pub unwrap-size-requires : goal.unwrap-size-requires

@@ -60,49 +60,18 @@ named_is tree size named is =
     let same : named.size ≡ size = same_Some _ _ (sym named.found ∙ is) in
     rw (← same) named.coded
 
-same_code : (a b : NumericSize) → code_of a ≡ code_of b → a ≡ b
-same_code U8 U8 is = refl
-same_code U8 S8 is = cc
-same_code U8 U16 is = cc
-same_code U8 S16 is = cc
-same_code U8 U32 is = cc
-same_code U8 S32 is = cc
-same_code S8 U8 is = cc
-same_code S8 S8 is = refl
-same_code S8 U16 is = cc
-same_code S8 S16 is = cc
-same_code S8 U32 is = cc
-same_code S8 S32 is = cc
-same_code U16 U8 is = cc
-same_code U16 S8 is = cc
-same_code U16 U16 is = refl
-same_code U16 S16 is = cc
-same_code U16 U32 is = cc
-same_code U16 S32 is = cc
-same_code S16 U8 is = cc
-same_code S16 S8 is = cc
-same_code S16 U16 is = cc
-same_code S16 S16 is = refl
-same_code S16 U32 is = cc
-same_code S16 S32 is = cc
-same_code U32 U8 is = cc
-same_code U32 S8 is = cc
-same_code U32 U16 is = cc
-same_code U32 S16 is = cc
-same_code U32 U32 is = refl
-same_code U32 S32 is = cc
-same_code S32 U8 is = cc
-same_code S32 S8 is = cc
-same_code S32 U16 is = cc
-same_code S32 S16 is = cc
-same_code S32 U32 is = cc
-same_code S32 S32 is = refl
+size_back : (size : NumericSize) → size_at (code_of size) ≡ Some size
+unfolding size_at
+size_back U8 = refl
+size_back S8 = refl
+size_back U16 = refl
+size_back S16 = refl
+size_back U32 = refl
+size_back S32 = refl
 
 -- the size whose number the item has is the one that it names
-pub size_found : (tree : Members) (size : NumericSize) → Named tree → number_in field.Size tree ≡ Some (code_of size) → size_in tree ≡ Some size
-size_found tree size named coded =
-    let same : named.size ≡ size = same_code named.size size (same_Some _ _ (sym named.coded ∙ coded)) in
-    rw (← same) named.found
+pub size_found : (tree : Members) (size : NumericSize) → number_in field.Size tree ≡ Some (code_of size) → size_in tree ≡ Some size
+size_found tree size coded = ap (option_and_then size_at) coded ∙ size_back size
 
 -- ---- numbers
 
