@@ -116,6 +116,41 @@ frame 8 bmc smbus 300F0A2101080AC1010102310031
     expect_play(&rt, rt.alloc(), plan.as_str(), schedule, (output, 0))
 }
 
+/// GetTID with 62 bytes of data: two packets, and a wrong length.
+const LONG: &str =
+    "018000020000000000000000000000000000000000000000000000000000000000000000000000000000000000000000000000000000000000000000000000000000";
+
+#[test]
+fn packets_of_others_stand_apart_from_the_managers(rt: HostRuntime) -> Result<(), Fail> {
+    let plan = format!(in rt.alloc(); "{STEP} 1000\n")?;
+    // Each request of the manager is one packet, which joins no other. The Set comes twice, and so does the other's message.
+    let schedule = format!(in rt.alloc();
+        "start\nother smbus 0B {LONG}\nto-bmc 0\nto-mgr 2\nother smbus 0B {LONG}\nto-bmc 3\nto-bmc 3\nto-mgr 5\nundo\nto-bmc 7\nto-mgr 8\n"
+    )?;
+    let output = "phase Undone
+frames 9
+undo 1
+smbus 0231040002F401
+records same
+frame 0 mgr smbus 200F0B31010A08C8018002320400BA
+frame 1 bmc smbus 420F0A21010B0AC0010000020377
+frame 2 bmc smbus 300F102101080AC001000232000201F401F40147
+frame 3 mgr smbus 200F0E31010A08C901810231040002E80336
+frame 4 bmc smbus 420F0A21010B0AC0010000020377
+frame 5 bmc smbus 300F0A2101080AC1010102310031
+frame 6 bmc smbus 300F0A2101080AC1010102310031
+frame 7 mgr smbus 200F0E31010A08CA01820231040002F4011E
+frame 8 bmc smbus 300F0A2101080AC2010202310070
+";
+    expect_play(
+        &rt,
+        rt.alloc(),
+        plan.as_str(),
+        schedule.as_str(),
+        (output, 0),
+    )
+}
+
 #[test]
 fn a_step_that_an_effecter_refuses_halts_the_plan(rt: HostRuntime) -> Result<(), Fail> {
     let alloc = rt.alloc();
