@@ -39,6 +39,23 @@ fn expect_play(
     expect_run(rt, alloc, true, texts, (wanted.0, "", wanted.1))
 }
 
+/// Two steps and their undo, in which each frame comes once.
+const ONCE: &str = "start
+to-bmc 0
+to-mgr 1
+to-bmc 2
+to-mgr 3
+to-bmc 4
+to-mgr 5
+to-bmc 6
+to-mgr 7
+undo
+to-bmc 8
+to-mgr 9
+to-bmc 10
+to-mgr 11
+";
+
 #[test]
 fn a_plan_over_both_buses_is_undone(rt: HostRuntime) -> Result<(), Fail> {
     let plan = format!(in rt.alloc();
@@ -64,22 +81,7 @@ frame 9 bmc ipmb 2C14C020082600B2
 frame 10 mgr smbus 200F0E31010A08CA01820231040002F4011E
 frame 11 bmc smbus 300F0A2101080AC2010202310070
 ";
-    let schedule = "start
-to-bmc 0
-to-mgr 1
-to-bmc 2
-to-mgr 3
-to-bmc 4
-to-mgr 5
-to-bmc 6
-to-mgr 7
-undo
-to-bmc 8
-to-mgr 9
-to-bmc 10
-to-mgr 11
-";
-    expect_play(&rt, rt.alloc(), plan.as_str(), schedule, (output, 0))
+    expect_play(&rt, rt.alloc(), plan.as_str(), ONCE, (output, 0))
 }
 
 #[test]

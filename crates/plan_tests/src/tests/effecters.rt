@@ -1,6 +1,6 @@
 //! Numeric effecters: of board files, and of the steps of plans.
 use super::row_of;
-use cfg_records::{NumericBytes, NumericEffecter, NumericSize, Op, SetNumericEffecter};
+use cfg_records::{NumericBytes, NumericSize, Op, SetNumericEffecter};
 use plan_file::{Field, FileFault, Item, Place, read_board, read_plan};
 use std::alloc::{AllocError, Global};
 use std::test::Fail;
@@ -219,27 +219,27 @@ fn a_board_has_at_most_32_numeric_effecters(rt: HostRuntime) -> Result<(), Fail>
     Ok(())
 }
 
-/// A line for each size: the least and the greatest of its numbers, by its bits, and the two just beyond.
-const SIZES: &str = "0 0 0 255 255 -1 256
-1 -128 0x80 127 0x7F -129 128
-2 0 0 65535 65535 -1 65536
-3 -32768 0x8000 32767 0x7FFF -32769 32768
-4 0 0 4294967295 4294967295 -1 4294967296
-5 -2147483648 0x80000000 2147483647 0x7FFFFFFF -2147483649 2147483648";
+/// A line for each size: the least and the greatest of its numbers, each with its bits.
+const SIZES: &str = "0 0 00000000 255 000000FF
+1 -128 00000080 127 0000007F
+2 0 00000000 65535 0000FFFF
+3 -32768 00008000 32767 00007FFF
+4 0 00000000 4294967295 FFFFFFFF
+5 -2147483648 80000000 2147483647 7FFFFFFF";
 
-/// The one effecter of a file, whose numbers are these.
-fn only(alloc: Global, size: &str, least: &str, most: &str) -> Result<String, AllocError> {
+/// A line for each size: the numbers just below the least and just above the greatest.
+const BEYOND: &str = "0 -1 256
+1 -129 128
+2 -1 65536
+3 -32769 32768
+4 -1 4294967296
+5 -2147483649 2147483648";
+
+/// A board's file with one effecter, whose value is its upper bound.
+fn only(alloc: Global, size: &str, lower: &str, upper: &str) -> Result<String, AllocError> {
     format!(in alloc;
-        "{BARE}[[numeric]]\nid = 0\nsize = {size}\noperational = 1\nlower = {least}\nupper = {most}\ncurrent = {most}\n"
+        "{BARE}[[numeric]]\nid = 0\nsize = {size}\noperational = 1\nlower = {lower}\nupper = {upper}\ncurrent = {upper}\n"
     )
-}
-
-/// The number that a cell says.
-fn number(cell: &str) -> Option<u32> {
-    match cell.strip_prefix("0x") {
-        Some(digits) => u32::from_str_radix(digits, 16).ok(),
-        None => cell.parse().ok(),
-    }
 }
 
 #[test]
@@ -249,34 +249,37 @@ fn each_size_has_its_numbers(rt: HostRuntime) -> Result<(), Fail> {
         let mut cells = line.split(' ');
         let size = cells.next().ok_or("a size")?;
         let least = cells.next().ok_or("the least")?;
-        let lower = cells.next().and_then(number).ok_or("its bits")?;
+        let lower = cells.next().ok_or("its bits")?;
         let most = cells.next().ok_or("the greatest")?;
-        let upper = cells.next().and_then(number).ok_or("its bits")?;
+        let upper = cells.next().ok_or("its bits")?;
         let text = only(alloc, size, least, most)?;
         let read = read_board(alloc, text.as_str()).map_err(|_| "a board")?;
-        let effecter: &NumericEffecter = read
-            .numeric_effecters
-            .items
-            .as_slice()
-            .get(0)
-            .ok_or("one")?;
-        assert_eq!(rt; effecter.range.lower, lower, "{line}");
-        assert_eq!(rt; effecter.range.upper, upper, "{line}");
-        assert_eq!(rt; effecter.current, upper, "{line}");
+        let effecters = read.numeric_effecters.items.as_slice();
+        let effecter = effecters.get(0).ok_or("an effecter")?;
+        let bits = format!(in alloc; "{:08X}", effecter.range.lower)?;
+        assert_eq!(rt; bits.as_str(), lower, "{line}");
+        let bits = format!(in alloc; "{:08X}", effecter.range.upper)?;
+        assert_eq!(rt; bits.as_str(), upper, "{line}");
+        let bits = format!(in alloc; "{:08X}", effecter.current)?;
+        assert_eq!(rt; bits.as_str(), upper, "{line}");
+    }
+    Ok(())
+}
+
+#[test]
+fn numbers_beyond_a_size_are_out_of_range(rt: HostRuntime) -> Result<(), Fail> {
+    let alloc = rt.alloc();
+    for line in BEYOND.lines() {
+        let mut cells = line.split(' ');
+        let size = cells.next().ok_or("a size")?;
         let below = cells.next().ok_or("below")?;
-        let text = only(alloc, size, below, most)?;
-        assert_eq!(rt;
-            called(alloc, text.as_str())?.as_str(),
-            "Range numeric 0 lower",
-            "{line}"
-        );
         let above = cells.next().ok_or("above")?;
-        let text = only(alloc, size, least, above)?;
-        assert_eq!(rt;
-            called(alloc, text.as_str())?.as_str(),
-            "Range numeric 0 upper",
-            "{line}"
-        );
+        let text = only(alloc, size, below, "0")?;
+        let want = "Range numeric 0 lower";
+        assert_eq!(rt; called(alloc, text.as_str())?.as_str(), want, "{line}");
+        let text = only(alloc, size, "0", above)?;
+        let want = "Range numeric 0 upper";
+        assert_eq!(rt; called(alloc, text.as_str())?.as_str(), want, "{line}");
     }
     Ok(())
 }
