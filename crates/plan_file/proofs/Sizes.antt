@@ -1,5 +1,6 @@
 -- Numbers of the sizes of numeric effecters, and their bytes.
-use Rattle.std.proofs.Common.{◌≡◌, ℕ, zero, suc, ◌+◌, ◌-◌, ◌*◌, ◌/◌, ◌%◌, ◌<◌, ◌≤◌, ◌==◌, nat_le, nat_lt, ℤ, pos, negsuc, List, [], ◌∷◌, length, Bool, true, false, cond, Option, Some, None, option_and_then, refl, sym, ◌∙◌, ap, arith, lit≤, lit<}
+use Rattle.std.proofs.Common.{◌≡◌, ℕ, zero, suc, ◌+◌, ◌-◌, ◌*◌, ◌/◌, ◌%◌, ◌<◌, ◌≤◌, ◌==◌, nat_le, nat_lt, ℤ, pos, negsuc, ◌<ℤ◌, ◌≤ℤ◌, unsigned_abs, List, [], ◌∷◌, length, Bool, true, false, cond, Option, Some, None, option_and_then, refl, sym, ◌∙◌, ap, arith, lit≤, lit<}
+use Rattle.std.proofs.lemmas.Int.{ints}
 use Rattle.std.proofs.lemmas.Bool.{cases_Bool}
 use Rattle.std.proofs.lemmas.Bool.Decides.{nat_tests}
 use Rattle.std.proofs.lemmas.Option.{same_Some}
@@ -58,6 +59,15 @@ le_true m n is = grind (arith, nat_tests)
 passed : (b : Bool) (m n : ℕ) → cond b (Some m) None ≡ Some n → (b ≡ true) × (m ≡ n)
 passed true m n is = (refl, same_Some _ _ is)
 passed false m n is = cc
+
+-- an integer is as far from 0 as its absolute value says
+pub bits_of_positive : (size : NumericSize) (z : ℤ) → pos 0 ≤ℤ z → bits_of size (pos (unsigned_abs z)) ≡ bits_of size z
+bits_of_positive size (pos n) not_below = refl
+bits_of_positive size (negsuc n) not_below = absurd (omega (arith, ints))
+
+pub bits_of_negative : (size : NumericSize) (z : ℤ) → z <ℤ pos 0 → bits_of size (negsuc (unsigned_abs z - 1)) ≡ bits_of size z
+bits_of_negative size (pos n) below = absurd (omega (arith, ints))
+bits_of_negative size (negsuc n) below = ap (λ (m : ℕ). bits_of size (negsuc m)) (omega arith)
 
 -- the bits of an integer of a size are a number of the size
 pub bits_fit : (size : NumericSize) (z : ℤ) (n : ℕ) → bits_of size z ≡ Some n → n < numbers_of size

@@ -74,13 +74,15 @@ fn negative(size: NumericSize, below: u64) -> Option<u32>
 }
 
 /// The number of the size that has the integer's value.
+#[tactic(auto, using(crate::proofs::Sizes::bits_of_positive, crate::proofs::Sizes::bits_of_negative))]
 fn bits_of(size: NumericSize, number: i64) -> Option<u32>
     ensures { result ≡ bits_of size number }
 {
-    match u64::try_from(number) {
-        Ok(number) => positive(size, number),
-        Err(_) => negative(size, number.unsigned_abs()),
+    let distance = number.unsigned_abs();
+    if number < 0 {
+        return negative(size, distance);
     }
+    positive(size, distance)
 }
 
 /// The number of the size that the value is.
