@@ -34,10 +34,10 @@ top_sound tree none =
       enables = sound.1.1.1.0;
       policy = sound.1.1.1.1.0;
       watchdog = sound.1.1.1.1.1.0;
-      sdr = sound.1.1.1.1.1.1.0;
-      boot3 = sound.1.1.1.1.1.1.1.0;
-      boot4 = sound.1.1.1.1.1.1.1.1.0;
-      boot5 = sound.1.1.1.1.1.1.1.1.1.0;
+      boot3 = sound.1.1.1.1.1.1.0;
+      boot4 = sound.1.1.1.1.1.1.1.0;
+      boot5 = sound.1.1.1.1.1.1.1.1.0;
+      sdr = sound.1.1.1.1.1.1.1.1.1.0;
       device = sound.1.1.1.1.1.1.1.1.1.1.0;
       sensor = sound.1.1.1.1.1.1.1.1.1.1.1.0;
     }

@@ -84,10 +84,10 @@ pub const TOP: [Row; 12] = [
     Row(Field::Enables, Shape::Enables, Need::Always),
     Row(Field::Policy, Shape::Number(0, 3), Need::Always),
     Row(Field::Watchdog, Shape::Watchdog, Need::Always),
-    Row(Field::Sdr, Shape::Records(64), Need::Always),
     Row(Field::Boot3, Shape::Number(0, 31), Need::Always),
     Row(Field::Boot4, BYTE, Need::Always),
     Row(Field::Boot5, Shape::BootFlags, Need::Always),
+    Row(Field::Sdr, Shape::Records(64), Need::Always),
     Row(Field::Device, Shape::Table, Need::Always),
     Row(Field::Sensor, Shape::Tables(32), Need::Never),
 ];
