@@ -1,6 +1,7 @@
 //! What runs write: stories, faults, refused texts and failing writers.
 mod faults;
 mod late;
+mod others;
 mod refused;
 mod stories;
 mod writers;

@@ -2,6 +2,7 @@
 mod bench;
 mod commands;
 mod effecters;
+mod log;
 mod readings;
 mod records;
 mod sensors;
