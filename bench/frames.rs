@@ -275,14 +275,14 @@ impl Random {
     }
 }
 
-/// Whether the frame has a command that the plain controller lacks: of boot options, global enables and numeric effecters.
+/// Whether the frame has a command that the plain controller lacks: of boot options, global enables, users, channels and numeric effecters.
 fn is_lacking(kind: Kind, frame: &[u8]) -> bool {
     match kind {
         Kind::Ipmb | Kind::Sensors => {
             frame.len() > 5
                 && matches!(
                     (frame[1] >> 2, frame[5]),
-                    (0x00, 8 | 9) | (0x06, 0x2E | 0x2F)
+                    (0x00, 8 | 9) | (0x06, 0x2E | 0x2F | 0x40 | 0x41 | 0x43..=0x47)
                 )
         }
         Kind::Smbus => {

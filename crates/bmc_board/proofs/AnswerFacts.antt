@@ -1,5 +1,5 @@
 -- What every answer has in common.
-use Rattle.std.proofs.Common.{◌≡◌, ◌≢◌, ℕ, ◌≤◌, List, length, Option, Some, None, Result, Ok, Err, Bool, refl, subst, arith}
+use Rattle.std.proofs.Common.{◌≡◌, ◌≢◌, ℕ, ◌≤◌, List, [], length, Option, Some, None, Result, Ok, Err, Bool, refl, subst, arith}
 use Rattle.two_wire.specs.Codes.{success}
 use Rattle.record_kinds.specs.Limits.{key_of}
 use Rattle.cfg_records.specs.Meaning.{Decides, room_for}
@@ -15,21 +15,25 @@ use Rattle.record_kinds.specs.declared.limits.Limits.TheVariants as kinds
 use Rattle.record_kinds.specs.Limits.{is_of, sets, outcome, get_asked, set_asked}
 use Rattle.record_kinds.specs.LimitsLaws as laws
 use Rattle.std.specs.Option.{option_map}
-use Rattle.record_kinds.specs.Boards.{sensor_at, numeric_at, limits_at}
+use Rattle.record_kinds.specs.Boards.{sensor_at, numeric_at, user_at, access_at, stored_at, limits_at}
 use Rattle.record_kinds.specs.Sound.{IsSound, IsSoundAt}
-use Rattle.record_kinds.specs.SoundLaws.{sound_set}
+use Rattle.record_kinds.specs.SoundLaws.{sound_set, sound_with}
 use Rattle.bmc_board.specs.Request.{Request}
-use Rattle.bmc_board.specs.Request.{Live, Get, Set}
+use Rattle.bmc_board.specs.Request.{Live, Get, Set, SetStores}
+use Rattle.cfg_records.specs.declared.channel.SetChannelAccess.{SetChannelAccess}
+use Rattle.cfg_records.specs.declared.op.Op.TheVariants as of_kind
+use Rattle.cfg_records.specs.Records.{with_record}
 use Rattle.bmc_board.specs.Table.{is_changing}
 use Rattle.bmc_board.specs.Request.{asked_by}
 use Rattle.bmc_board.specs.State.{State}
 use Rattle.bmc_board.specs.Leaves.{Leaves}
 use Rattle.bmc_board.specs.Replies.{done, refused, unknown_code}
 use Rattle.bmc_board.specs.Room.{longest_reply}
-use Rattle.bmc_board.specs.Answer.{Given, get_answer, set_result, set_answer, serve, reply, answer_of}
+use Rattle.bmc_board.specs.Answer.{Given, get_answer, set_result, set_answer, outcome_at, both_given, serve, reply, answer_of}
 use Rattle.bmc_board.specs.AnyAnswer.{IsCode, NeverBusy, RefusedLeaves, StaysSound, AnswersFit}
 use Rattle.bmc_board.proofs.AskedFacts.{code_of, IsRight, asked_right}
 use Rattle.bmc_board.proofs.LiveFacts.{refusal_code, unknown_is_refused, are_live}
+use Rattle.bmc_board.proofs.BothFacts.{outcome_code, IsWritten, written}
 
 -- ---- its code is not a busy controller's, and what a refusal leaves
 
@@ -62,10 +66,21 @@ set_proper None None unknown op before is = refused_proper (Ok (Set op)) before 
 unknown_is_code : (setup : BoardFile) (key : Key) → IsCode (unknown_code setup key)
 unknown_is_code setup key = refusal_code _ (unknown_is_refused setup key)
 
+outcome_is_code : (setup : BoardFile) (before : State) (op : Op) (code : ℕ) → outcome_at setup before op ≡ Err code → IsCode code
+outcome_is_code setup before op code is = outcome_code (limits_at setup (key_of op)) (before.records (key_of op)) (unknown_code setup (key_of op)) op code (unknown_is_code setup (key_of op)) is
+
+both_proper : (first second : SetChannelAccess) (before : State) (key other : Key) (a b : Result (List ℕ) ℕ) → ((code : ℕ) → a ≡ Err code → IsCode code) → ((code : ℕ) → b ≡ Err code → IsCode code)
+    → IsProper (Ok (SetStores first second)) before (both_given a b key other before)
+both_proper first second before key other (Ok new) (Ok value) p q = done_proper (Ok (SetStores first second)) before _ []
+both_proper first second before key other (Ok new) (Err code) p q = refused_proper (Ok (SetStores first second)) before code (q code refl) refl
+both_proper first second before key other (Err code) (Ok value) p q = refused_proper (Ok (SetStores first second)) before code (p code refl) refl
+both_proper first second before key other (Err code) (Err later) p q = refused_proper (Ok (SetStores first second)) before code (p code refl) refl
+
 serve_proper : (setup : BoardFile) (before : State) (request : Request) → IsProper (Ok request) before (serve setup before request)
 serve_proper setup before (Live command body) = let is = are_live setup before.records before.activity command body in record { has_code = is.has_code; left = is.left }
 serve_proper setup before (Get key) = get_proper key _ _ before.activity.live _ before (unknown_is_code setup key)
 serve_proper setup before (Set op) = set_proper _ _ _ op before (unknown_is_code setup (key_of op))
+serve_proper setup before (SetStores first second) = both_proper first second before _ _ _ _ (outcome_is_code setup before (of_kind.ChannelAccess first)) (outcome_is_code setup before (of_kind.ChannelAccess second))
 
 reply_proper : (setup : BoardFile) (before : State) (room : ℕ) (changing : Bool) (r : Result Request ℕ) → IsRight room changing r → IsProper r before (reply setup before r)
 reply_proper setup before room changing (Ok request) right = serve_proper setup before request
@@ -97,6 +112,9 @@ limits_are_of file key.PowerPolicy limits e = of_alone (kinds.PowerPolicy (recor
 limits_are_of file key.Watchdog limits e = of_alone (kinds.Watchdog (record {})) limits key.Watchdog e tt
 limits_are_of file (key.BootParam parameter) limits e = of_alone (kinds.BootParam (record { parameter = parameter })) limits (key.BootParam parameter) e (same_self parameter)
 limits_are_of file key.GlobalEnables limits e = of_alone (kinds.GlobalEnables (record {})) limits key.GlobalEnables e tt
+limits_are_of file (key.UserName user) limits e = of_item (user_at file.users.items user.number) (λ u. kinds.UserName (record {})) limits (key.UserName user) e (λ u. tt)
+limits_are_of file (key.UserAccess on) limits e = of_item (access_at file.user_accesses.items on) (λ a. kinds.UserAccess (record { user = on.user; most = length file.users.items })) limits (key.UserAccess on) e (λ a. tt)
+limits_are_of file (key.ChannelAccess at) limits e = of_item (stored_at file at) (λ c. kinds.ChannelAccess (record {})) limits (key.ChannelAccess at) e (λ c. tt)
 limits_are_of file (key.NumericEffecter id) limits e = of_item (numeric_at file.numeric_effecters.items id) (λ x. kinds.NumericEffecter (record { enabled = x.enabled; range = x.range })) limits (key.NumericEffecter id) e (λ x. tt)
 
 -- ---- its data fits the frame or message that carries it, and each record keeps a valid value
@@ -130,10 +148,27 @@ set_fit setup room (Some l) None unknown op before sound at had le = refused_fit
 set_fit setup room None (Some old) unknown op before sound at had le = refused_fit setup room unknown before sound
 set_fit setup room None None unknown op before sound at had le = refused_fit setup room unknown before sound
 
+both_fit : (setup : BoardFile) (room : ℕ) (first second : Op) (before : State) (a b : Result (List ℕ) ℕ) → IsSound setup before.records
+    → ((new : List ℕ) → a ≡ Ok new → IsWritten setup first new) → ((new : List ℕ) → b ≡ Ok new → IsWritten setup second new) → IsFit setup room (both_given a b (key_of first) (key_of second) before)
+both_fit setup room first second before (Ok new) (Ok value) sound p q =
+    let one = p new refl in
+    let two = q value refl in
+    record {
+      short = omega arith;
+      sound = sound_with setup (with_record before.records (key_of first) new) (key_of second) two.limits value (sound_with setup before.records (key_of first) one.limits new sound one.at one.is_valid) two.at two.is_valid;
+    }
+both_fit setup room first second before (Ok new) (Err code) sound p q = refused_fit setup room code before sound
+both_fit setup room first second before (Err code) (Ok value) sound p q = refused_fit setup room code before sound
+both_fit setup room first second before (Err code) (Err later) sound p q = refused_fit setup room code before sound
+
 serve_fit : (setup : BoardFile) (before : State) (request : Request) (room : ℕ) → IsSound setup before.records → longest_reply request ≤ room → IsFit setup room (serve setup before request)
 serve_fit setup before (Live command body) room sound has = record { short = omega (arith, (are_live setup before.records before.activity command body).short, has); sound = sound }
 serve_fit setup before (Get key) room sound has = record { short = get_short (limits_at setup key) (before.records key) before.activity.live (unknown_code setup key) key room (limits_are_of setup key) (sound key) has; sound = sound }
 serve_fit setup before (Set op) room sound has = set_fit setup room _ _ _ op before sound refl refl has
+serve_fit setup before (SetStores first second) room sound has =
+    both_fit setup room (of_kind.ChannelAccess first) (of_kind.ChannelAccess second) before (outcome_at setup before (of_kind.ChannelAccess first)) (outcome_at setup before (of_kind.ChannelAccess second)) sound
+    (λ new is. written setup before.records _ _ _ (of_kind.ChannelAccess first) new refl refl sound is)
+    (λ new is. written setup before.records _ _ _ (of_kind.ChannelAccess second) new refl refl sound is)
 
 reply_fit : (setup : BoardFile) (before : State) (room : ℕ) (changing : Bool) (r : Result Request ℕ) → IsRight room changing r → IsSound setup before.records → IsFit setup room (reply setup before r)
 reply_fit setup before room changing (Ok request) right sound = serve_fit setup before request room sound right.0

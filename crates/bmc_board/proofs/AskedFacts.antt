@@ -13,19 +13,23 @@ use Rattle.cfg_records.specs.Requests.{byte_at}
 use Rattle.watch_boot.specs.declared.boot_request.BootShown.TheVariants as shown
 use Rattle.cfg_records.specs.BootParam.{parameter_at}
 use Rattle.watch_boot.specs.BootRequests.{progress_in, change_in, with_mark, param_in, shown_in}
+use Rattle.user_chan.specs.declared.channel_request.ChannelRequest.{ChannelRequest}
+use Rattle.user_chan.specs.declared.channel_request.ChannelRequest.TheVariants.{Leave, One, Two}
+use Rattle.user_chan.specs.ChannelRequests.{channel_request_in}
 use Rattle.bmc_board.specs.declared.command.Command.TheVariants as command
 use Rattle.bmc_board.specs.declared.command.Line.{Line}
 use Rattle.bmc_board.specs.declared.request.Refusals.{Refusals}
 use Rattle.bmc_board.specs.Request.{Request}
-use Rattle.bmc_board.specs.Request.{Live, Get, Set}
+use Rattle.bmc_board.specs.Request.{Live, Get, Set, SetStores}
 use Rattle.bmc_board.specs.Table.{Listed, table, pldm_table, line_in, line_under, line_of, pldm_line_of, is_allowed, is_pldm_type, changes, is_changing}
-use Rattle.bmc_board.specs.Request.{boot_set, boot_get, request_of, asked_at, asked_by, ipmi_refusals, pldm_refusals}
+use Rattle.bmc_board.specs.Request.{boot_set, boot_get, channel_asked, request_of, asked_at, asked_by, ipmi_refusals, pldm_refusals}
 use Rattle.bmc_board.specs.Room.{longest_reply}
 use Rattle.bmc_board.specs.AnyAnswer.{IsCode}
 
 -- the request is no Set
 abbrev pub IsQuiet : Request → Type 0
 IsQuiet (Set op) = ⊥
+IsQuiet (SetStores first second) = ⊥
 IsQuiet _ = Unit {0}
 
 -- a reply to what is asked for fits this room, and a Set is asked for only where the command is a setting one; or a code refuses
@@ -38,6 +42,7 @@ IsRight room changing (Err code) = IsCode code
 
 abbrev is_quiet : Request → Bool
 is_quiet (Set op) = false
+is_quiet (SetStores first second) = false
 is_quiet _ = true
 
 abbrev is_code : ℕ → Bool
@@ -100,9 +105,18 @@ get_right_where false found = shown_right found
 get_right : (body : List ℕ) → is_right 24 false (request_of command.GetBootOptions body) ≡ true
 get_right body = get_right_where (byte_at body 0 % 128 == 0) (parameter_at (byte_at body 0 % 128))
 
+-- and Set Channel Access
+asked_right_of : (asked : ChannelRequest) → is_right 24 true (let r : Result Request ℕ = Ok (channel_asked asked) in r) ≡ true
+asked_right_of (Leave channel) = refl
+asked_right_of (One change) = refl
+asked_right_of (Two first second) = refl
+
+channel_right : (body : List ℕ) → is_right 24 true (request_of command.SetChannelAccess body) ≡ true
+channel_right body = asked_right_of (channel_request_in body)
+
 -- whatever the data is, each line of the tables passes it
 all_right : (body : List ℕ) → list_all (λ (l : Listed). asks_rightly 24 body l.line) table ≡ true
-all_right body = both_right _ _ (set_right body) (both_right _ _ (get_right body) refl)
+all_right body = both_right _ _ (set_right body) (both_right _ _ (get_right body) (both_right _ _ (channel_right body) refl))
 
 all_pldm_right : (body : List ℕ) → list_all (λ (l : Listed). asks_rightly 251 body l.line) pldm_table ≡ true
 all_pldm_right body = refl
@@ -129,6 +143,7 @@ quiet_where true request e h = cc
 quiet_where false (Live command body) e h = tt
 quiet_where false (Get key) e h = tt
 quiet_where false (Set op) e h = cc
+quiet_where false (SetStores first second) e h = cc
 
 right_of : (room : ℕ) (changing : Bool) (r : Result Request ℕ) → is_right room changing r ≡ true → IsRight room changing r
 right_of room changing (Ok request) e = let parts = both _ _ e in (le_from _ _ parts.0, quiet_where changing request parts.1)

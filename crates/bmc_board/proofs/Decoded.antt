@@ -1,5 +1,5 @@
 -- Each request for a record, and each for an operation, is read as what it asks for: a line for each kind whose data don't show it by themselves.
-use Rattle.std.proofs.Common.{◌≡◌, ℕ, ◌+◌, ◌*◌, ◌/◌, ◌%◌, ap, ◌∙◌, List, [], ◌∷◌, length, Bool, true, false, Result, Ok, refl, arith}
+use Rattle.std.proofs.Common.{◌≡◌, ℕ, ◌+◌, ◌*◌, ◌/◌, ◌%◌, ◌<◌, ap, ◌∙◌, List, [], ◌∷◌, length, Bool, true, false, Option, Some, None, Result, Ok, refl, arith}
 use Rattle.cfg_records.specs.declared.key.Key.TheVariants as key
 use Rattle.cfg_records.specs.declared.message.Asked.TheVariants.{Ipmi, Pldm}
 use Rattle.cfg_records.specs.declared.op.Op.{Op}
@@ -17,10 +17,27 @@ use Rattle.cfg_records.specs.declared.boot_param.BootParameter.TheVariants as pa
 use Rattle.cfg_records.specs.declared.boot_param.BootChange.{BootChange}
 use Rattle.cfg_records.specs.declared.boot_param.BootChange.TheVariants.{MarkAlone, ValidBitClearing, InfoAcknowledge, Flags}
 use Rattle.cfg_records.specs.declared.boot_param.SetBootParam.{SetBootParam}
+use Rattle.cfg_records.specs.declared.channel.AccessStore.{AccessStore}
+use Rattle.cfg_records.specs.declared.channel.AccessStore.TheVariants.{NonVolatile, Volatile, Neither}
+use Rattle.cfg_records.specs.declared.channel.ChannelNumber.{ChannelNumber}
+use Rattle.cfg_records.specs.declared.channel.SixBits.{SixBits}
+use Rattle.cfg_records.specs.declared.channel.ChannelChange.{ChannelChange}
+use Rattle.cfg_records.specs.declared.channel.ChannelChange.TheVariants.{Access, Limit, Both}
+use Rattle.cfg_records.specs.declared.channel.SetChannelAccess.{SetChannelAccess}
+use Rattle.cfg_records.specs.declared.user.UserNumber.{UserNumber}
+use Rattle.cfg_records.specs.declared.user.SetUserName.{SetUserName}
+use Rattle.cfg_records.specs.declared.user.SetUserAccess.{SetUserAccess}
+use Rattle.cfg_records.specs.Boards.{stored}
+use Rattle.cfg_records.specs.Numbers.{channel_in, user_in, six_bits_in}
+use Rattle.cfg_records.specs.NumberLaws.{same_channel, same_user, same_bits}
+use Rattle.user_chan.specs.ChannelAccess.{in_store}
+use Rattle.user_chan.specs.ChannelRequests.{store_at, named, change, asked_for}
+use Rattle.user_chan.specs.UserNamesLaws.{sixteen}
+use Rattle.std.proofs.Math.Nat.{ℕ_set}
 use Rattle.cfg_records.proofs.Operations.{set_thresholds, same_thresholds}
 use Rattle.record_kinds.specs.Limits.{set_asked}
 use Rattle.bmc_board.specs.Request as request
-use Rattle.bmc_board.specs.Request.{Request, asked_by}
+use Rattle.bmc_board.specs.Request.{Request, channel_asked, asked_by}
 use Rattle.bmc_board.specs.Decode.{IsReadFromAll, GetsAreRead, SetsAreRead}
 
 -- what holds of all lists of six holds of a list of length six
@@ -121,7 +138,101 @@ number_read effecter size (Two a b) = id_read effecter size (Two a b)
 number_read effecter size (Four a b c d) = id_read effecter size (Four a b c d)
 number_read effecter size Other = id_read effecter size Other
 
+-- so is a request for a name
+abbrev set_name : (user : ℕ) (name : List ℕ) → length name ≡ 16 → SetUserName
+set_name user name sixteen = record { user = user; name = name; sixteen = sixteen }
+
+abbrev NameIsRead : SetUserName → Type 0
+NameIsRead o = asked_by (set_asked (op.UserName o)) ≡ Ok (request.Set (op.UserName o))
+
+name_read : (o : SetUserName) → NameIsRead o
+name_read o =
+    sixteen (λ (v : List ℕ). (is : length v ≡ 16) → NameIsRead (set_name o.user v is))
+    (λ a b c d e f g h i j k l m n z p is.
+    let v : List ℕ = a ∷ b ∷ c ∷ d ∷ e ∷ f ∷ g ∷ h ∷ i ∷ j ∷ k ∷ l ∷ m ∷ n ∷ z ∷ p ∷ [] in
+    ap (λ (it : length v ≡ 16). Ok (request.Set (op.UserName (set_name o.user v it)))) (ℕ_set (length v) 16 refl is))
+    o.name o.sixteen o.sixteen
+
+-- one for what a user may do
+abbrev set_access : (first user limit : ℕ) → Option ℕ → SetUserAccess
+set_access first user limit session_limit = record { first = first; user = user; limit = limit; session_limit = session_limit }
+
+access_read : (first user limit : ℕ) (session_limit : Option ℕ) → asked_by (set_asked (op.UserAccess (set_access first user limit session_limit))) ≡ Ok (request.Set (op.UserAccess (set_access first user limit session_limit)))
+access_read first user limit (Some n) = refl
+access_read first user limit None = refl
+
+-- and one for the access of a channel
+channel_again : (n : ℕ) → n < 16 → n % 16 ≡ n
+channel_again n lt = omega arith
+
+user_again : (n : ℕ) → n < 64 → n % 64 ≡ n
+user_again n lt = omega arith
+
+channel_read : (c : ChannelNumber) → channel_in c.number ≡ c
+channel_read c = same_channel (channel_in c.number) c (channel_again c.number c.four_bits)
+
+user_read : (u : UserNumber) → user_in u.number ≡ u
+user_read u = same_user (user_in u.number) u (user_again u.number u.six_bits)
+
+-- what stands behind a store's bits is read, and the store
+behind_1 : (n : ℕ) → n < 64 → (1 * 64 + n) / 64 ≡ 1
+behind_1 n lt = omega arith
+
+behind_2 : (n : ℕ) → n < 64 → (2 * 64 + n) / 64 ≡ 2
+behind_2 n lt = omega arith
+
+behind_3 : (n : ℕ) → n < 64 → (3 * 64 + n) / 64 ≡ 3
+behind_3 n lt = omega arith
+
+named_is : (s : AccessStore) (n : ℕ) → n < 64 → named (in_store s n / 64) ≡ Some s
+named_is NonVolatile n lt = ap named (behind_1 n lt)
+named_is Volatile n lt = ap named (behind_2 n lt)
+named_is Neither n lt = ap named (behind_3 n lt)
+
+low_1 : (n : ℕ) → n < 64 → (1 * 64 + n) % 64 ≡ n
+low_1 n lt = omega arith
+
+low_2 : (n : ℕ) → n < 64 → (2 * 64 + n) % 64 ≡ n
+low_2 n lt = omega arith
+
+low_3 : (n : ℕ) → n < 64 → (3 * 64 + n) % 64 ≡ n
+low_3 n lt = omega arith
+
+bits_read : (s : AccessStore) (b : SixBits) → six_bits_in (in_store s b.number) ≡ b
+bits_read NonVolatile b = same_bits (six_bits_in (in_store NonVolatile b.number)) b (low_1 b.number b.six_bits)
+bits_read Volatile b = same_bits (six_bits_in (in_store Volatile b.number)) b (low_2 b.number b.six_bits)
+bits_read Neither b = same_bits (six_bits_in (in_store Neither b.number)) b (low_3 b.number b.six_bits)
+
+-- what is asked for
+abbrev asks : ChannelNumber → Option AccessStore → Option AccessStore → SixBits → SixBits → Result Request ℕ
+asks channel store other access limit = Ok (channel_asked (asked_for channel store other access limit))
+
+abbrev StoreIsRead : SetChannelAccess → Type 0
+StoreIsRead o = asked_by (set_asked (op.ChannelAccess o)) ≡ Ok (request.Set (op.ChannelAccess o))
+
+one_store : (c : ChannelNumber) (s : AccessStore) (a l : SixBits) → asks c (Some s) (Some s) a l ≡ Ok (request.Set (op.ChannelAccess (change c s (Both a l))))
+one_store c NonVolatile a l = refl
+one_store c Volatile a l = refl
+one_store c Neither a l = refl
+
+store_read : (c : ChannelNumber) (s : AccessStore) (what : ChannelChange) → StoreIsRead (change c s what)
+store_read c s (Access a) = λ i. asks (channel_read c i) (named_is s a.number a.six_bits i) None (bits_read s a i) (six_bits_in 0)
+store_read c s (Limit l) = λ i. asks (channel_read c i) None (named_is s l.number l.six_bits i) (six_bits_in 0) (bits_read s l i)
+store_read c s (Both a l) = (λ i. asks (channel_read c i) (named_is s a.number a.six_bits i) (named_is s l.number l.six_bits i) (bits_read s a i) (bits_read s l i)) ∙ one_store c s a l
+
+get_read : (s : AccessStore) → store_at (in_store s 0 / 64) ≡ s
+get_read NonVolatile = refl
+get_read Volatile = refl
+get_read Neither = refl
+
+-- a request for what a user may do asks for that user on that channel
+abbrev gets_access : ChannelNumber → UserNumber → Result Request ℕ
+gets_access c u = Ok (request.Get (key.UserAccess (record { channel = c; user = u })))
+
 pub gets_are_read : GetsAreRead
+gets_are_read (key.UserName user) = record { is_read = ap (λ (u : UserNumber). Ok (request.Get (key.UserName u))) (user_read user); from_nobody = (refl, refl) }
+gets_are_read (key.UserAccess on) = record { is_read = λ i. gets_access (channel_read on.channel i) (user_read on.user i); from_nobody = (refl, refl) }
+gets_are_read (key.ChannelAccess at) = record { is_read = λ i. Ok (request.Get (key.ChannelAccess (stored (channel_read at.channel i) (get_read at.store i)))); from_nobody = (refl, refl) }
 gets_are_read (key.BootParam parameter.ValidBitClearing) = record { is_read = refl; from_nobody = (refl, refl) }
 gets_are_read (key.BootParam parameter.InfoAcknowledge) = record { is_read = refl; from_nobody = (refl, refl) }
 gets_are_read (key.BootParam parameter.Flags) = record { is_read = refl; from_nobody = (refl, refl) }
@@ -135,6 +246,9 @@ sets_are_read (op.EventEnable o) = record { is_read = events_read o.sensor o.mes
 sets_are_read (op.Watchdog o) = record { is_read = ap (λ n. Ok (request.Set (set_watchdog o n))) (two_bytes o.initial); from_nobody = (refl, refl) }
 sets_are_read (op.BootParam o) = record { is_read = boot_read o.invalid o.change; from_nobody = (refl, refl) }
 sets_are_read (op.NumericEffecter o) = record { is_read = number_read o.effecter o.size o.value; from_nobody = refl }
+sets_are_read (op.UserName o) = record { is_read = name_read o; from_nobody = (refl, refl) }
+sets_are_read (op.UserAccess o) = record { is_read = access_read o.first o.user o.limit o.session_limit; from_nobody = (refl, refl) }
+sets_are_read (op.ChannelAccess o) = record { is_read = store_read o.channel o.store o.change; from_nobody = (refl, refl) }
 sets_are_read _ = record { is_read = refl; from_nobody = (refl, refl) }
 
 pub is_read_from_all : IsReadFromAll

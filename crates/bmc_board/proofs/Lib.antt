@@ -2,6 +2,8 @@ pub mod AskedFacts
 pub mod LiveFacts
 pub mod LogFacts
 pub mod SensingFacts
+pub mod BothFacts
+pub mod StoresFacts
 pub mod AnswerFacts
 pub mod OneAnswer
 pub mod Decoded

@@ -1,9 +1,9 @@
 -- What every live command has in common: a line for each.
-use Rattle.std.proofs.Common.{◌≡◌, ◌≤◌, ◌<◌, ◌-◌, ℕ, nat_lt, List, [], ◌∷◌, ◌++◌, length, take, drop, Option, Some, None, Result, Ok, Err, Bool, true, false, if◌then◌else◌, ◌==◌, not, refl, arith, lit≤}
+use Rattle.std.proofs.Common.{◌≡◌, ◌≤◌, ◌<◌, ◌-◌, ◌%◌, subst, ℕ, nat_lt, List, [], ◌∷◌, ◌++◌, length, take, drop, Option, Some, None, Result, Ok, Err, Bool, true, false, if◌then◌else◌, ◌==◌, not, refl, arith, lit≤}
 use Rattle.std.proofs.lemmas.Bool.Decides.{nat_tests}
 use Rattle.std.proofs.lemmas.List.{length-take}
 use Rattle.std.specs.Int.{w16, to_le_bytes}
-use Rattle.two_wire.specs.Codes.{success, uninitialized_watchdog, out_of_space, reservation_canceled, out_of_range, too_many_bytes, not_present, invalid_data_field}
+use Rattle.two_wire.specs.Codes.{success, uninitialized_watchdog, out_of_space, reservation_canceled, out_of_range, too_many_bytes, not_present, invalid_data_field, invalid_length}
 use Rattle.cfg_records.specs.Meaning.{IsRefusal}
 use Rattle.cfg_records.specs.Records.{Records}
 use Rattle.cfg_records.specs.Requests.{byte_at}
@@ -23,9 +23,22 @@ use Rattle.bmc_board.specs.State.{State, state}
 use Rattle.bmc_board.specs.Leaves.{Leaves}
 use Rattle.bmc_board.specs.Storage.{most_shown, part_in, part_length, part_shown, record_in, id_reply, erased, says_clear, word_at}
 use Rattle.bmc_board.specs.Sensing.{reading_of}
-use Rattle.bmc_board.specs.Replies.{done, refused}
+use Rattle.bmc_board.specs.Replies.{done, refused, sessionless_channel}
+use Rattle.cfg_records.specs.RefusalLaws.{invalid_field}
+use Rattle.cfg_records.specs.declared.channel.Channel.{Channel}
+use Rattle.cfg_records.specs.declared.channel.AccessStore.TheVariants.{Neither}
+use Rattle.cfg_records.specs.Boards.{stored}
+use Rattle.record_kinds.specs.Boards.{channel_at, user_at, is_sessionless}
+use Rattle.cfg_records.specs.declared.user.User.{User}
+use Rattle.cfg_records.specs.Numbers.{user_in}
+use Rattle.cfg_records.specs.Masks.{has}
+use Rattle.user_chan.specs.declared.password.Password.{Password}
+use Rattle.user_chan.specs.declared.password.Password.TheVariants.{Sixteen, Twenty}
+use Rattle.user_chan.specs.declared.password.PasswordChange.{PasswordChange}
+use Rattle.user_chan.specs.declared.password.PasswordChange.TheVariants.{Disable, Enable, Set as ToSet, Test}
+use Rattle.user_chan.specs.Passwords.{wrong_text, wrong_size, password_in, with_password, change_of, same_password, same_size, password_of}
 use Rattle.bmc_board.specs.AnyAnswer.{IsCode, UnknownIsRefused}
-use Rattle.bmc_board.specs.Live.{reset_answer, already_in_progress, with_progress, begun, progress_answer, with_log, longest_live_reply}
+use Rattle.bmc_board.specs.Live.{reset_answer, already_in_progress, with_progress, begun, progress_answer, leave_where, tested, password_changed, password_answer, with_log, longest_live_reply}
 use Rattle.bmc_board.specs.AnyLive.{IsLive, AreLive}
 use Rattle.bmc_board.proofs.AskedFacts.{code_of}
 
@@ -51,8 +64,23 @@ no_effecter_refuses = record {
   is_ready = λ same. omega arith;
 }
 
+sessionless_refuses : IsRefusal sessionless_channel
+sessionless_refuses = record {
+  is_fault = omega arith;
+  is_byte = omega arith;
+  not_busy = λ same. omega arith;
+  is_ready = λ same. omega arith;
+}
+
+channel_refuses : (b : Bool) → IsRefusal (if b then sessionless_channel else invalid_data_field)
+channel_refuses true = sessionless_refuses
+channel_refuses false = invalid_field
+
 pub unknown_is_refused : UnknownIsRefused
 unknown_is_refused setup (key.NumericEffecter id) = no_effecter_refuses
+unknown_is_refused setup (key.UserName user) = invalid_field
+unknown_is_refused setup (key.UserAccess on) = invalid_field
+unknown_is_refused setup (key.ChannelAccess at) = channel_refuses (is_sessionless setup at.channel.number)
 unknown_is_refused setup _ = not_present_refuses
 
 -- ---- live commands
@@ -148,6 +176,54 @@ progresses : (command : LiveCommand) (asked : List ℕ) (records : Records) (bef
 progresses command asked records before None stays = is_done command asked records before before [] (omega arith)
 progresses command asked records before (Some byte) stays = progress_tests command asked records before (byte == 0) (byte == 1) stays
 
+leaves : (command : LiveCommand) (asked : List ℕ) (records : Records) (before : Activity) (channel : Option Channel) (unknown : ℕ) → IsCode unknown → Stays command asked (state records before)
+    → IsLive command asked records before (leave_where channel unknown, before)
+leaves command asked records before (Some c) unknown is stays = is_done command asked records before before [] (omega arith)
+leaves command asked records before None unknown is stays = is_refused command asked records before unknown is stays
+
+-- the codes of Set User Password
+with_code : (to : Password → PasswordChange) (r : Result Password ℕ) (code : ℕ) → ((c : ℕ) → r ≡ Err c → IsCode c) → with_password to r ≡ Err code → IsCode code
+with_code to (Ok password) code is e = cc
+with_code to (Err c) code is e = let same : c ≡ code = cc in subst IsCode same (is c refl)
+
+password_where : (b : Bool) (password : Password) (code : ℕ) → (if b then Ok password else Err invalid_length) ≡ Err code → IsCode code
+password_where true password code e = cc
+password_where false password code e = let same : invalid_length ≡ code = cc in subst IsCode same (code_of invalid_length refl)
+
+password_code : (twenty : Bool) (bytes : List ℕ) (code : ℕ) → password_in twenty bytes ≡ Err code → IsCode code
+password_code true bytes code e = password_where (length bytes == 20) (Twenty bytes) code e
+password_code false bytes code e = password_where (length bytes == 16) (Sixteen bytes) code e
+
+change_where : (a b c twenty : Bool) (bytes : List ℕ) (code : ℕ)
+    → (if a then Ok Disable else (if b then Ok Enable else (if c then with_password ToSet (password_in twenty bytes) else with_password Test (password_in twenty bytes)))) ≡ Err code → IsCode code
+change_where true b c twenty bytes code e = cc
+change_where false true c twenty bytes code e = cc
+change_where false false true twenty bytes code e = with_code ToSet (password_in twenty bytes) code (password_code twenty bytes) e
+change_where false false false twenty bytes code e = with_code Test (password_in twenty bytes) code (password_code twenty bytes) e
+
+change_code : (body : List ℕ) (code : ℕ) → change_of body ≡ Err code → IsCode code
+change_code body code e = change_where (byte_at body 1 % 4 == 0) (byte_at body 1 % 4 == 1) (byte_at body 1 % 4 == 2) (has (byte_at body 0) 7) (drop 2 body) code e
+
+tested_where : (command : LiveCommand) (asked : List ℕ) (records : Records) (before : Activity) (a b : Bool) → Stays command asked (state records before)
+    → IsLive command asked records before (tested (if a then Ok tt else Err (if b then wrong_text else wrong_size)), before)
+tested_where command asked records before true b stays = is_done command asked records before before [] (omega arith)
+tested_where command asked records before false true stays = is_refused command asked records before _ (code_of wrong_text refl) stays
+tested_where command asked records before false false stays = is_refused command asked records before _ (code_of wrong_size refl) stays
+
+changes_password : (command : LiveCommand) (asked : List ℕ) (records : Records) (before : Activity) (change : PasswordChange) (user : ℕ) → Stays command asked (state records before)
+    → IsLive command asked records before (password_changed change user before)
+changes_password command asked records before Disable user stays = is_done command asked records before _ [] (omega arith)
+changes_password command asked records before Enable user stays = is_done command asked records before _ [] (omega arith)
+changes_password command asked records before (ToSet password) user stays = is_done command asked records before _ [] (omega arith)
+changes_password command asked records before (Test password) user stays =
+    tested_where command asked records before (same_password (password_of before.passwords user) password) (same_size (password_of before.passwords user) password) stays
+
+passwords : (command : LiveCommand) (asked : List ℕ) (records : Records) (before : Activity) (known : Option User) (change : Result PasswordChange ℕ) (user : ℕ) → ((code : ℕ) → change ≡ Err code → IsCode code)
+    → Stays command asked (state records before) → IsLive command asked records before (password_answer known change user before)
+passwords command asked records before None change user is stays = is_refused command asked records before _ (code_of invalid_data_field refl) stays
+passwords command asked records before (Some known) (Err code) user is stays = is_refused command asked records before code (is code refl) stays
+passwords command asked records before (Some known) (Ok change) user is stays = changes_password command asked records before change user stays
+
 pub are_live : AreLive
 are_live setup records before live.GetDeviceId asked = is_done live.GetDeviceId asked records before before _ (lit≤ tt)
 are_live setup records before live.GetSelfTestResults asked = is_done live.GetSelfTestResults asked records before before _ (lit≤ tt)
@@ -166,5 +242,7 @@ are_live setup records before live.GetSelTime asked = is_done live.GetSelTime as
 are_live setup records before live.SetSelTime asked = is_done live.SetSelTime asked records before _ [] (omega arith)
 are_live setup records before (live.SetBootProgress byte) asked = progresses (live.SetBootProgress byte) asked records before byte (λ code. refl)
 are_live setup records before live.GetBootProgress asked = is_done live.GetBootProgress asked records before before _ (lit≤ tt)
+are_live setup records before (live.LeaveChannelAccess channel) asked = leaves (live.LeaveChannelAccess channel) asked records before (channel_at setup.channels.items channel.number) _ (refusal_code _ (unknown_is_refused setup (key.ChannelAccess (stored channel Neither)))) (λ code. refl)
+are_live setup records before live.SetUserPassword asked = passwords live.SetUserPassword asked records before (user_at setup.users.items (user_in (byte_at asked 0)).number) (change_of asked) (user_in (byte_at asked 0)).number (change_code asked) (λ code. refl)
 are_live setup records before live.GetTid asked = is_done live.GetTid asked records before before _ (lit≤ tt)
 are_live setup records before live.GetPldmTypes asked = is_done live.GetPldmTypes asked records before before _ (lit≤ tt)

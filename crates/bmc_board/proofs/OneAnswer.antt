@@ -10,7 +10,7 @@ use Rattle.record_kinds.specs.declared.limits.Limits.{Limits}
 use Rattle.record_kinds.specs.Limits.{sets, outcome}
 use Rattle.record_kinds.specs.LimitsLaws as laws
 use Rattle.bmc_board.specs.Request.{Request}
-use Rattle.bmc_board.specs.Request.{Live, Get, Set}
+use Rattle.bmc_board.specs.Request.{Live, Get, Set, SetStores}
 use Rattle.bmc_board.specs.Request.{asked_by}
 use Rattle.bmc_board.specs.State.{State, state}
 use Rattle.bmc_board.specs.Replies.{refused}
@@ -39,6 +39,7 @@ serves : (setup : BoardFile) (before : State) (request : Request) → Serves set
 serves setup before (Live command body) = refl
 serves setup before (Get key) = refl
 serves setup before (Set op) = sets_answer _ _ _ op before
+serves setup before (SetStores first second) = refl
 
 replies : (setup : BoardFile) (before : State) (r : Result Request ℕ) → Replies setup before r (reply setup before r).0 (reply setup before r).1
 replies setup before (Ok request) = serves setup before request
@@ -69,6 +70,7 @@ serves_once : (setup : BoardFile) (before : State) (request : Request) (answered
 serves_once setup before (Live command body) answered after h = h
 serves_once setup before (Get key) answered after h = h
 serves_once setup before (Set op) answered after h = sets_once _ _ _ op before answered after h
+serves_once setup before (SetStores first second) answered after h = h
 
 replies_once : (setup : BoardFile) (before : State) (r : Result Request ℕ) (answered : Answered) (after : State) → Replies setup before r answered after → Is answered after (reply setup before r)
 replies_once setup before (Ok request) answered after h = serves_once setup before request answered after h

@@ -4,7 +4,7 @@ use Rattle.cfg_records.specs.Meaning.{room_for}
 use Rattle.cfg_records.specs.declared.message.Answered.{Answered}
 use Rattle.cfg_records.specs.declared.board_file.BoardFile.{BoardFile}
 use Rattle.bmc_board.specs.Request.{Request}
-use Rattle.bmc_board.specs.Request.{Live, Get, Set}
+use Rattle.bmc_board.specs.Request.{Live, Get, Set, SetStores}
 use Rattle.bmc_board.specs.Request.{asked_by}
 use Rattle.bmc_board.specs.State.{State}
 use Rattle.bmc_board.specs.Answer.{Given}
@@ -16,6 +16,7 @@ served_quietly : (setup : BoardFile) (before : State) (request : Request) (answe
 served_quietly setup before (Live command body) answered after quiet row = ap (λ (g : Given). g.1.records) row
 served_quietly setup before (Get key) answered after quiet row = ap (λ (g : Given). g.1.records) row
 served_quietly setup before (Set op) answered after quiet row = absurd quiet
+served_quietly setup before (SetStores first second) answered after quiet row = absurd quiet
 
 replied_quietly : (setup : BoardFile) (before : State) (room : ℕ) (r : Result Request ℕ) (answered : Answered) (after : State) → IsRight room false r → Replies setup before r answered after → after.records ≡ before.records
 replied_quietly setup before room (Ok request) answered after right row = served_quietly setup before request answered after (right.1 refl) row

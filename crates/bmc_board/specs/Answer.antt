@@ -1,8 +1,10 @@
 -- The answer to each request and the state that it leaves, as a function.
-use Rattle.std.specs.Prelude.{ℕ, List, Option, Some, Result, Ok, Err}
+use Rattle.std.specs.Prelude.{ℕ, List, [], Option, Some, Result, Ok, Err}
 use Rattle.record_kinds.specs.Limits.{key_of}
 use Rattle.cfg_records.specs.Records.{with_record}
+use Rattle.cfg_records.specs.declared.key.Key.{Key}
 use Rattle.cfg_records.specs.declared.op.Op.{Op}
+use Rattle.cfg_records.specs.declared.op.Op.TheVariants as of_kind
 use Rattle.cfg_records.specs.declared.message.Asked.{Asked}
 use Rattle.cfg_records.specs.declared.message.Answered.{Answered}
 use Rattle.cfg_records.specs.declared.live.Live.{Live as LivePart}
@@ -12,7 +14,7 @@ use Rattle.record_kinds.specs.Limits.{outcome, view, set_reply, next_live}
 use Rattle.record_kinds.specs.Boards.{limits_at}
 use Rattle.bmc_board.specs.declared.activity.Activity.{Activity}
 use Rattle.bmc_board.specs.Request.{Request}
-use Rattle.bmc_board.specs.Request.{Live, Get, Set}
+use Rattle.bmc_board.specs.Request.{Live, Get, Set, SetStores}
 use Rattle.bmc_board.specs.Request.{asked_by}
 use Rattle.bmc_board.specs.State.{State, state}
 use Rattle.bmc_board.specs.Replies.{done, refused, unknown_code}
@@ -44,11 +46,29 @@ abbrev pub set_answer : Option Limits → Option (List ℕ) → ℕ → Op → S
 set_answer (Some limits) (Some old) unknown op before = set_result (outcome limits op old) op before
 set_answer _ _ unknown op before = (refused unknown, before)
 
+-- what comes of an operation on a record, which may not be there: the new value, or the code that refuses it
+abbrev pub set_outcome : Option Limits → Option (List ℕ) → ℕ → Op → Result (List ℕ) ℕ
+set_outcome (Some limits) (Some old) unknown op = outcome limits op old
+set_outcome _ _ unknown op = Err unknown
+
+abbrev pub outcome_at : BoardFile → State → Op → Result (List ℕ) ℕ
+outcome_at setup before op = set_outcome (limits_at setup (key_of op)) (before.records (key_of op)) (unknown_code setup (key_of op)) op
+
+-- two records change, or neither does: the first code that refuses one of the operations refuses the request
+abbrev pub both_given : Result (List ℕ) ℕ → Result (List ℕ) ℕ → Key → Key → State → Given
+both_given (Ok new) (Ok other) key other_key before = (done [], state (with_record (with_record before.records key new) other_key other) before.activity)
+both_given (Ok new) (Err fault) key other_key before = (refused fault, before)
+both_given (Err fault) _ key other_key before = (refused fault, before)
+
+abbrev pub both_answer : BoardFile → State → Op → Op → Given
+both_answer setup before first second = both_given (outcome_at setup before first) (outcome_at setup before second) (key_of first) (key_of second) before
+
 -- one line for each form of what can be asked for
 abbrev pub serve : BoardFile → State → Request → Given
 serve setup before (Live command body) = with_records before (live_answer setup before.records before.activity command body)
 serve setup before (Get key) = (get_answer (limits_at setup key) (before.records key) before.activity.live (unknown_code setup key), before)
 serve setup before (Set op) = set_answer (limits_at setup (key_of op)) (before.records (key_of op)) (unknown_code setup (key_of op)) op before
+serve setup before (SetStores first second) = both_answer setup before (of_kind.ChannelAccess first) (of_kind.ChannelAccess second)
 
 abbrev pub reply : BoardFile → State → Result Request ℕ → Given
 reply setup before (Ok request) = serve setup before request

@@ -7,6 +7,7 @@ pub mod Sensing
 pub mod Live
 pub mod Answer
 pub mod Row
+pub mod Stores
 pub mod Room
 pub mod Gives
 pub mod Leaves

@@ -1,5 +1,5 @@
 -- What live commands do: commands that ask for no configuration record (IPMI 2.0; DSP0240, "GetTID" and "GetPLDMTypes").
-use Rattle.std.specs.Prelude.{ℕ, ◌/◌, ◌%◌, List, [], ◌∷◌, Option, Some, None, Bool, true, false, ◌==◌, if◌then◌else◌}
+use Rattle.std.specs.Prelude.{ℕ, ◌/◌, ◌%◌, List, [], ◌∷◌, Option, Some, None, Result, Ok, Err, Bool, true, false, ◌==◌, if◌then◌else◌}
 use Rattle.two_wire.specs.Codes.{uninitialized_watchdog, invalid_data_field}
 use Rattle.std.specs.Int.{w16, w32, to_le_bytes}
 use Rattle.cfg_records.specs.Records.{Records}
@@ -8,6 +8,16 @@ use Rattle.cfg_records.specs.declared.key.Key.TheVariants as key
 use Rattle.cfg_records.specs.declared.message.Answered.{Answered}
 use Rattle.cfg_records.specs.declared.device.Device.{Device}
 use Rattle.cfg_records.specs.declared.board_file.BoardFile.{BoardFile}
+use Rattle.cfg_records.specs.declared.channel.Channel.{Channel}
+use Rattle.cfg_records.specs.declared.channel.ChannelNumber.{ChannelNumber}
+use Rattle.cfg_records.specs.declared.channel.AccessStore.TheVariants.{Neither}
+use Rattle.cfg_records.specs.Boards.{stored}
+use Rattle.record_kinds.specs.Boards.{channel_at, user_at}
+use Rattle.cfg_records.specs.declared.user.User.{User}
+use Rattle.cfg_records.specs.Numbers.{user_in}
+use Rattle.user_chan.specs.declared.password.PasswordChange.{PasswordChange}
+use Rattle.user_chan.specs.declared.password.PasswordChange.TheVariants.{Disable, Enable, Set, Test}
+use Rattle.user_chan.specs.Passwords.{change_of, test_answer, password_of, after_set, with_enabled}
 use Rattle.watch_boot.specs.Watchdog.{was_set, live_after_reset}
 use Rattle.bmc_board.specs.declared.activity.Activity.{Activity}
 use Rattle.bmc_board.specs.declared.live.LiveCommand.{LiveCommand}
@@ -67,6 +77,32 @@ progress_answer None before = (done [], before)
 progress_answer (Some byte) before =
     if byte == 0 then (done [], with_progress before false) else (if byte == 1 then begun before.boot_progress before else (refused invalid_data_field, before))
 
+-- a channel with sessions has an access that could be set: that nothing of it is to change is done
+abbrev pub leave_where : Option Channel → ℕ → Answered
+leave_where (Some channel) unknown = done []
+leave_where None unknown = refused unknown
+
+abbrev pub leave_answer : BoardFile → ChannelNumber → Answered
+leave_answer setup channel = leave_where (channel_at setup.channels.items channel.number) (unknown_code setup (key.ChannelAccess (stored channel Neither)))
+
+-- what a test of a password answers
+abbrev pub tested : Result (Unit {0}) ℕ → Answered
+tested (Ok _) = done []
+tested (Err code) = refused code
+
+-- a user is disabled or enabled, a password is set, or one is tested
+abbrev pub password_changed : PasswordChange → ℕ → Activity → Answered × Activity
+password_changed Disable user before = (done [], record before { live = with_enabled before.live user false })
+password_changed Enable user before = (done [], record before { live = with_enabled before.live user true })
+password_changed (Set password) user before = (done [], record before { passwords = after_set before.passwords user password })
+password_changed (Test password) user before = (tested (test_answer (password_of before.passwords user) password), before)
+
+-- Set User Password: an unknown user is refused before the size of the password
+abbrev pub password_answer : Option User → Result PasswordChange ℕ → ℕ → Activity → Answered × Activity
+password_answer None change user before = (refused invalid_data_field, before)
+password_answer (Some known) (Err code) user before = (refused code, before)
+password_answer (Some known) (Ok change) user before = password_changed change user before
+
 -- an answer, with the log after it
 abbrev pub with_log : Activity → LogGiven → Answered × Activity
 with_log before given = (given.0, record before { log = given.1 })
@@ -97,6 +133,8 @@ live_answer setup records before live.GetSelTime body = (done (to_le_bytes w32 b
 live_answer setup records before live.SetSelTime body = (done [], record before { log = record before.log { clock = clock_at (time_in body) } })
 live_answer setup records before (live.SetBootProgress byte) body = progress_answer byte before
 live_answer setup records before live.GetBootProgress body = (done (progress_data before.boot_progress), before)
+live_answer setup records before (live.LeaveChannelAccess channel) body = (leave_answer setup channel, before)
+live_answer setup records before live.SetUserPassword body = password_answer (user_at setup.users.items (user_in (byte_at body 0)).number) (change_of body) (user_in (byte_at body 0)).number before
 live_answer setup records before live.GetTid body = (done (setup.tid ∷ []), before)
 live_answer setup records before live.GetPldmTypes body = (done pldm_types, before)
 

@@ -21,6 +21,13 @@ use Rattle.watch_boot.specs.declared.boot_request.BootShown.TheVariants as shown
 use Rattle.watch_boot.specs.BootRequests.{boot_request_in, boot_shown_in}
 use Rattle.effecter_recs.specs.Requests.{id_in}
 use Rattle.effecter_recs.specs.Numeric.{numeric_effecter_in}
+use Rattle.cfg_records.specs.declared.channel.SetChannelAccess.{SetChannelAccess}
+use Rattle.cfg_records.specs.Numbers.{user_in, user_on}
+use Rattle.user_chan.specs.UserNames.{name_in}
+use Rattle.user_chan.specs.UserAccess.{access_in}
+use Rattle.user_chan.specs.declared.channel_request.ChannelRequest.{ChannelRequest}
+use Rattle.user_chan.specs.declared.channel_request.ChannelRequest.TheVariants.{Leave, One, Two}
+use Rattle.user_chan.specs.ChannelRequests.{stored_in, channel_request_in}
 use Rattle.bmc_board.specs.declared.command.Command.{Command}
 use Rattle.bmc_board.specs.declared.command.Command.TheVariants as command
 use Rattle.bmc_board.specs.declared.command.GetCommand.{GetCommand}
@@ -33,11 +40,13 @@ use Rattle.bmc_board.specs.declared.live.LiveCommand.TheVariants as live
 use Rattle.bmc_board.specs.declared.request.Refusals.{Refusals}
 use Rattle.bmc_board.specs.Table.{line_of, pldm_line_of, is_allowed, is_pldm_type}
 
--- what is asked for: to carry out a live command with its data, to show a record, or to change one
+-- what is asked for: to carry out a live command with its data, to show a record, to change one, or to change the access of a channel in one
+-- store and its limit in another
 pub data Request : Type 0 where
   Live : LiveCommand → List ℕ → Request
   Get : Key → Request
   Set : Op → Request
+  SetStores : SetChannelAccess → SetChannelAccess → Request
 
 -- the record that a command shows
 abbrev pub key_in : GetCommand → List ℕ → Key
@@ -48,6 +57,9 @@ key_in get.GetChassisStatus body = key.PowerPolicy
 key_in get.GetWatchdogTimer body = key.Watchdog
 key_in get.GetGlobalEnables body = key.GlobalEnables
 key_in get.GetNumericEffecterValue body = key.NumericEffecter (id_in body)
+key_in get.GetUserName body = key.UserName (user_in (byte_at body 0))
+key_in get.GetUserAccess body = key.UserAccess (user_on (byte_at body 0) (byte_at body 1))
+key_in get.GetChannelAccess body = key.ChannelAccess (stored_in body)
 
 -- the change that a command makes
 abbrev pub op_in : SetCommand → List ℕ → Op
@@ -58,6 +70,8 @@ op_in set.SetPowerRestorePolicy body = op.PowerPolicy (policy_in body)
 op_in set.SetWatchdogTimer body = op.Watchdog (watchdog_in body)
 op_in set.SetGlobalEnables body = op.GlobalEnables (enables_in body)
 op_in set.SetNumericEffecterValue body = op.NumericEffecter (numeric_effecter_in body)
+op_in set.SetUserName body = op.UserName (name_in body)
+op_in set.SetUserAccess body = op.UserAccess (access_in body)
 
 -- what the commands of the system boot options ask for: a live command on parameter 0 has its byte, and no further data
 abbrev pub boot_set : Result BootRequest ℕ → Result Request ℕ
@@ -70,6 +84,12 @@ boot_get (Ok shown.Progress) = Ok (Live live.GetBootProgress [])
 boot_get (Ok (shown.Param parameter)) = Ok (Get (key.BootParam parameter))
 boot_get (Err code) = Err code
 
+-- what Set Channel Access asks for
+abbrev pub channel_asked : ChannelRequest → Request
+channel_asked (Leave channel) = Live (live.LeaveChannelAccess channel) []
+channel_asked (One change) = Set (op.ChannelAccess change)
+channel_asked (Two first second) = SetStores first second
+
 -- what a command asks for with data of a length that it takes, or the code that refuses the data
 abbrev pub request_of : Command → List ℕ → Result Request ℕ
 request_of (command.Live command) body = Ok (Live command body)
@@ -77,6 +97,7 @@ request_of (command.Get get) body = Ok (Get (key_in get body))
 request_of (command.Set set) body = Ok (Set (op_in set body))
 request_of command.SetBootOptions body = boot_set (boot_request_in body)
 request_of command.GetBootOptions body = boot_get (boot_shown_in body)
+request_of command.SetChannelAccess body = Ok (channel_asked (channel_request_in body))
 
 -- the same of a command that was read, or the code that refused the request
 abbrev pub asked_of : Result Command ℕ → List ℕ → Result Request ℕ

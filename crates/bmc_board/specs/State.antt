@@ -7,6 +7,7 @@ use Rattle.sel_log.specs.Clock.{clock_at}
 use Rattle.sel_log.specs.Log.{new_log}
 use Rattle.sensor_recs.specs.Sdr.{repository_of}
 use Rattle.sensor_recs.specs.Taken.{none_taken}
+use Rattle.user_chan.specs.Passwords.{opening_passwords}
 use Rattle.cfg_records.specs.declared.board_file.BoardFile.{BoardFile}
 use Rattle.bmc_board.specs.declared.activity.Activity.{Activity}
 use Rattle.bmc_board.specs.declared.board.Board.{Board}
@@ -24,7 +25,7 @@ abbrev pub state_of : {S : Type 0} {g h : _} → (S → Records) → Board S g h
 state_of records board = state (records board.store) board.activity
 
 -- what isn't configuration, as a board of this file begins: no reading was taken, the log has no record, its clock shows the file's
--- time, and no set of boot options is in progress
+-- time, no set of boot options is in progress, and each user's password is sixteen bytes 00h
 abbrev pub opening : BoardFile → Activity
 opening file = record {
   live = live_at_opening;
@@ -32,6 +33,7 @@ opening file = record {
   sdr = repository_of file.sdr.items;
   log = record (new_log file.log.records) { clock = clock_at file.clock };
   boot_progress = false;
+  passwords = opening_passwords;
 }
 
 -- the state of a board of this file that has heard nothing yet

@@ -41,6 +41,13 @@ table =
     listed 0x06 0x25 (Exactly 0) false (command.Get get.GetWatchdogTimer) ∷
     listed 0x06 0x2E (Exactly 1) true (command.Set set.SetGlobalEnables) ∷
     listed 0x06 0x2F (Exactly 0) false (command.Get get.GetGlobalEnables) ∷
+    listed 0x06 0x40 (Exactly 3) true command.SetChannelAccess ∷
+    listed 0x06 0x41 (Exactly 2) false (command.Get get.GetChannelAccess) ∷
+    listed 0x06 0x43 (Between 3 4) true (command.Set set.SetUserAccess) ∷
+    listed 0x06 0x44 (Exactly 2) false (command.Get get.GetUserAccess) ∷
+    listed 0x06 0x45 (Exactly 17) true (command.Set set.SetUserName) ∷
+    listed 0x06 0x46 (Exactly 1) false (command.Get get.GetUserName) ∷
+    listed 0x06 0x47 (OneOf 2 18 22) false (command.Live live.SetUserPassword) ∷
     listed 0x0A 0x20 (Exactly 0) false (command.Live live.GetSdrRepositoryInfo) ∷
     listed 0x0A 0x22 (Exactly 0) false (command.Live live.ReserveSdrRepository) ∷
     listed 0x0A 0x23 (Exactly 6) false (command.Live live.GetSdr) ∷

@@ -6,6 +6,7 @@ use cfg_records::{BoardFile, Live};
 use sel_log::Sel;
 use sensor_recs::{Readings, Sdr};
 use std::alloc::{AllocError, Global};
+use user_chan::Passwords;
 
 /// What a board holds beside its records. It stays where it is, and requests change it there.
 #[derive(Drop)]
@@ -20,6 +21,8 @@ pub struct Activity {
     pub log: Sel,
     /// Boot parameter 0, set in progress: whether a requester says that it sets boot options (IPMI 2.0).
     pub boot_progress: bool,
+    /// The users' passwords.
+    pub passwords: Passwords,
 }
 
 impl Activity {
@@ -37,6 +40,7 @@ impl Activity {
             sdr: Sdr::new(alloc, &file.sdr)?,
             log,
             boot_progress: false,
+            passwords: Passwords::opening(alloc)?,
         })
     }
 }

@@ -18,6 +18,8 @@ pub enum Command {
     SetBootOptions,
     /// Get System Boot Options: it shows parameter 0, or a record.
     GetBootOptions,
+    /// Set Channel Access: it sets one record, two or none.
+    SetChannelAccess,
 }
 
 /// A command that shows a record.
@@ -30,6 +32,9 @@ pub enum GetCommand {
     GetWatchdogTimer,
     GetGlobalEnables,
     GetNumericEffecterValue,
+    GetUserName,
+    GetUserAccess,
+    GetChannelAccess,
 }
 
 /// A command that changes a record.
@@ -42,6 +47,8 @@ pub enum SetCommand {
     SetWatchdogTimer,
     SetGlobalEnables,
     SetNumericEffecterValue,
+    SetUserName,
+    SetUserAccess,
 }
 
 /// How many bytes of data a command takes.
@@ -116,6 +123,13 @@ pub fn find_line(net_fn: u8, number: u8) -> Option<Line>
         (0x06, 0x25) => entry(Get(GetWatchdogTimer), Exactly(0), false),
         (0x06, 0x2E) => entry(Set(SetGlobalEnables), Exactly(1), true),
         (0x06, 0x2F) => entry(Get(GetGlobalEnables), Exactly(0), false),
+        (0x06, 0x40) => entry(SetChannelAccess, Exactly(3), true),
+        (0x06, 0x41) => entry(Get(GetChannelAccess), Exactly(2), false),
+        (0x06, 0x43) => entry(Set(SetUserAccess), Between(3, 4), true),
+        (0x06, 0x44) => entry(Get(GetUserAccess), Exactly(2), false),
+        (0x06, 0x45) => entry(Set(SetUserName), Exactly(17), true),
+        (0x06, 0x46) => entry(Get(GetUserName), Exactly(1), false),
+        (0x06, 0x47) => entry(Live(SetUserPassword), OneOf(2, 18, 22), false),
         (0x0A, 0x20) => entry(Live(GetSdrRepositoryInfo), Exactly(0), false),
         (0x0A, 0x22) => entry(Live(ReserveSdrRepository), Exactly(0), false),
         (0x0A, 0x23) => entry(Live(GetSdr), Exactly(6), false),

@@ -5,6 +5,7 @@ ghost use Rattle.bmc_board.specs.Decode.{IsReadFromAll, GetsAreRead, SetsAreRead
 ghost use Rattle.bmc_board.specs.Undo.{IsAReply, IsUndone, IsSteady, IsShownAsBefore};
 ghost use Rattle.bmc_board.specs.PldmTypes.{TypesAreNamed};
 ghost use Rattle.bmc_board.specs.Quiet.{KeepsRecords};
+ghost use Rattle.bmc_board.specs.Stores.{BothOrNone};
 
 /// Each request has an answer and a state after it, and no other.
 pub fn one_answer()
@@ -64,6 +65,12 @@ pub fn conf_law()
 /// A request whose command sets no configuration leaves every record as it is, be it carried out or refused.
 pub fn quiet_law()
     ensures { KeepsRecords }
+{}
+
+/// A request that changes the access of a channel in one store, and its limit in another, changes both records, where both changes are
+/// accepted, or is refused and changes nothing.
+pub fn stores_law()
+    ensures { BothOrNone }
 {}
 
 /// GetPLDMTypes names exactly the types whose requests aren't refused for their type.

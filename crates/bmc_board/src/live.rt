@@ -1,8 +1,9 @@
 //! Live commands: those that ask for no configuration record.
 ghost use Rattle.std.specs.Prelude.{◌≡◌, ◌/◌, ◌%◌};
 ghost use Rattle.bmc_board.specs.Live.{device_data, already_in_progress, progress_data};
+ghost use Rattle.bmc_board.specs.Replies.{sessionless_channel};
 
-use cfg_records::Device;
+use cfg_records::{ChannelNumber, Device};
 use two_wire::Code;
 
 /// A command that asks for no record, and leaves all of them.
@@ -26,6 +27,9 @@ pub enum LiveCommand {
     SetBootProgress(Option<u8>),
     /// Get System Boot Options, of parameter 0.
     GetBootProgress,
+    /// Set Channel Access, where it changes nothing of the channel.
+    LeaveChannelAccess(ChannelNumber),
+    SetUserPassword,
     GetTid,
     GetPldmTypes,
 }
@@ -65,6 +69,16 @@ pub(crate) fn already_in_progress() -> Code
     ensures { result ≡ already_in_progress }
 {
     Code::new(ALREADY_IN_PROGRESS).unwrap()
+}
+
+/// The code of a channel that has no sessions (IPMI 2.0, Set and Get Channel Access).
+const SESSIONLESS_CHANNEL: u8 = 0x82;
+
+/// That code.
+pub(crate) fn sessionless_channel() -> Code
+    ensures { result ≡ sessionless_channel }
+{
+    Code::new(SESSIONLESS_CHANNEL).unwrap()
 }
 
 /// What Get System Boot Options replies of parameter 0.

@@ -26,7 +26,9 @@ use crate::step::Step;
 use bmc_board::request::read_ipmi;
 use bmc_board::{Board, Command};
 use cfg_records::{Answered, Asked, Store, byte_at};
-use ipmb_frame::{Header, Msg, Request, begin_response, end_response, read_frame};
+use ipmb_frame::{
+    Header, Msg, Request, begin_response, end_response, read_frame, write_response_into,
+};
 use std::alloc::{AllocError, Global};
 use std::marker::Model;
 use two_wire::{Address, Bytes, Code, Frame, code};
@@ -171,26 +173,16 @@ fn respond<S: Store>(board: &mut Board<S>, request: &Request<'_>, frame: &mut Fr
     end_response(frame);
 }
 
-/// Makes the frame the response of this header, code and data.
-fn spell(frame: &mut Frame, header: &Header, code: u8, body: &[u8])
+/// Sends the response of this header, code and data, to a request that isn't carried out. What was done stands in `out` already.
+#[inline(always)]
+fn send(out: &mut Out, header: &Header, code: u8, body: &[u8])
     requires { length body.now ≤ 24 }
-    ensures { IsResponse (response header.now code body.now) frame.new }
-{
-    begin_response(frame, header, code);
-    frame.extend_from_slice(body);
-    end_response(frame);
-}
-
-/// Sends the response of this header, code and data, to a request that isn't carried out.
-fn send(out: &mut Out, done: Done, header: &Header, code: u8, body: &[u8])
-    requires { length body.now ≤ 24 }
-    ensures sent { out.new ≡ sends (response_frame header.now code body.now ∷ []) done }
+    ensures sent { out.new ≡ sends (response_frame header.now code body.now ∷ []) out.old.done }
     ensures read { IsResponse (response header.now code body.now) (response_frame header.now code body.now) }
 {
-    out.done = done;
     out.frames.keep_one();
     match out.frames.list.as_mut_slice() {
-        [frame] => spell(frame, header, code, body),
+        [frame] => write_response_into(frame, header, code, body),
         _ => unreachable!(),
     }
 }
@@ -225,11 +217,13 @@ impl IpmbPort {
         match self.windows.find(heard) {
             Found::Repeats(kept) => {
                 let (code, body) = reply_in(kept.as_slice());
-                send(out, Done::Repeated, header, code, body);
+                out.done = Done::Repeated;
+                send(out, header, code, body);
                 false
             }
             Found::Busy => {
-                send(out, Done::Busy, header, code::NODE_BUSY.value(), &[]);
+                out.done = Done::Busy;
+                send(out, header, code::NODE_BUSY.value(), &[]);
                 false
             }
             Found::New => true,
@@ -331,7 +325,7 @@ impl IpmbPort {
         out.frames.keep_one();
         match out.frames.list.as_mut_slice() {
             [frame] => {
-                spell(
+                write_response_into(
                     frame,
                     pending.header(),
                     answered.code,

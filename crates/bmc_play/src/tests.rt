@@ -3,6 +3,7 @@ mod faults;
 mod late;
 mod others;
 mod refused;
+mod smbus;
 mod stories;
 mod writers;
 

@@ -1,5 +1,5 @@
 -- The pairs of a board file, kind after kind.
-use Rattle.std.proofs.Common.{◌≡◌, ◌≢◌, ℕ, zero, suc, ◌<◌, ◌⊎◌, inl, inr, List, [], ◌∷◌, ◌++◌, length, get_or, map, Option, Some, None, IsTrue, refl, ap, sym, ◌∙◌, arith}
+use Rattle.std.proofs.Common.{◌≡◌, ◌≢◌, ◌==◌, ℕ, zero, suc, ◌<◌, ◌⊎◌, inl, inr, List, [], ◌∷◌, ◌++◌, length, get_or, map, Option, Some, None, IsTrue, refl, ap, sym, ◌∙◌, arith}
 use Rattle.std.proofs.lemmas.Bool.Decides.{nat_tests}
 use Rattle.std.specs.List.{All, find}
 use Rattle.std.specs.Option.{option_map, option_or}
@@ -17,10 +17,19 @@ use Rattle.cfg_records.specs.Keys.{is_length}
 use Rattle.cfg_records.specs.KeyLaws.{exact_key}
 use Rattle.cfg_records.specs.Distinct.{NamesDiffer}
 use Rattle.cfg_records.specs.Records.{Pair, key_in, value_of, records_of, KeysDiffer, LengthsFit}
-use Rattle.cfg_records.specs.Boards.{policy_value, settings_value, enables_value, boot_value, number_value, kinds_of, pairs_of}
+use Rattle.cfg_records.specs.declared.channel.AccessStore.{AccessStore}
+use Rattle.cfg_records.specs.declared.channel.AccessStore.TheVariants.{NonVolatile, Volatile, Neither}
+use Rattle.cfg_records.specs.Numbers.{number_on}
+use Rattle.cfg_records.specs.Boards.{policy_value, settings_value, enables_value, boot_value, number_value, stored, access_value, kinds_of, pairs_of}
 use Rattle.cfg_records.proofs.Names.{NamesDiffer-map, NamesDiffer-append}
 use Rattle.cfg_records.proofs.Searches.{find_some}
 use Rattle.cfg_records.proofs.Pairs.{has_key}
+
+-- the place of the pairs of a store, among the pairs of a file: no pair is of neither
+abbrev pub store_place : AccessStore → ℕ
+store_place NonVolatile = 6
+store_place Volatile = 7
+store_place Neither = 7
 
 -- the place of a kind among the pairs of a file
 abbrev pub place_of : Key → ℕ
@@ -28,12 +37,15 @@ place_of (key.Thresholds sensor) = 0
 place_of (key.Hysteresis sensor) = 1
 place_of (key.EventEnable sensor) = 2
 place_of (key.NumericEffecter id) = 3
-place_of key.PowerPolicy = 4
-place_of key.Watchdog = 5
-place_of key.GlobalEnables = 6
-place_of (key.BootParam ValidBitClearing) = 7
-place_of (key.BootParam InfoAcknowledge) = 8
-place_of (key.BootParam Flags) = 9
+place_of (key.UserName user) = 4
+place_of (key.UserAccess on) = 5
+place_of (key.ChannelAccess stored) = store_place stored.store
+place_of key.PowerPolicy = 8
+place_of key.Watchdog = 9
+place_of key.GlobalEnables = 10
+place_of (key.BootParam ValidBitClearing) = 11
+place_of (key.BootParam InfoAcknowledge) = 12
+place_of (key.BootParam Flags) = 13
 
 -- the pairs of the kind at a place
 abbrev pub pairs_at : BoardFile → ℕ → List Pair
@@ -116,6 +128,29 @@ one_of place pair fits placed = record {
   placed = only (λ (p : Pair). place_of p.0 ≡ place) pair placed;
 }
 
+-- the pairs of numbered items, of which each has a record of a kind under a key of its own
+of_items : {X : Type 0} (number_of : X → ℕ) (of : X → Key) (value : X → List ℕ) (place : ℕ) (items : List X) → NamesDiffer number_of items
+    → ((x y : X) → of x ≡ of y → number_of x ≡ number_of y) → ((x : X) → place_of (of x) ≡ place) → ((x : X) → IsTrue (is_length (of x) (length (value x))))
+    → AreOf place (map (λ x. (of x, value x)) items)
+of_items number_of of value place items differ exact placed fits = record {
+  differ = NamesDiffer-map key_in (λ x. (of x, value x)) items (λ i j d lt inside same. differ i j d lt inside (exact _ _ same));
+  fit = All-map (λ (pair : Pair). IsTrue (is_length pair.0 (length pair.1))) (λ x. (of x, value x)) items (λ k d lt. fits (get_or items k d));
+  placed = All-map (λ (pair : Pair). place_of pair.0 ≡ place) (λ x. (of x, value x)) items (λ k d lt. placed (get_or items k d));
+}
+
+-- the numbers in keys
+abbrev pub user_number : Key → ℕ
+user_number (key.UserName user) = user.number
+user_number _ = 0
+
+abbrev user_on_number : Key → ℕ
+user_on_number (key.UserAccess on) = number_on on
+user_on_number _ = 0
+
+abbrev pub channel_number : Key → ℕ
+channel_number (key.ChannelAccess s) = s.channel.number
+channel_number _ = 0
+
 -- the pairs of numbered items, of which each has a record of a kind
 of_numbered : {X : Type 0} (number_of : X → ℕ) (of : ℕ → Key) (value : X → List ℕ) (place : ℕ) (items : List X) → NamesDiffer number_of items
     → ((m n : ℕ) → of m ≡ of n → m ≡ n) → ((n : ℕ) → place_of (of n) ≡ place) → ((x : X) → IsTrue (is_length (of (number_of x)) (length (value x))))
@@ -134,6 +169,9 @@ of_sensors file of value place = of_numbered (λ s. s.number) of value place fil
 six : (n : ℕ) → n ≡ 6 → IsTrue (is_length (key.Thresholds 0) n)
 six n h = grind (arith, nat_tests)
 
+sixteen : (n : ℕ) → n ≡ 16 → IsTrue (n == 16)
+sixteen n h = grind (arith, nat_tests)
+
 of_width : (size : NumericSize) (n : ℕ) → IsTrue (is_length (key.NumericEffecter 0) (length (bytes_of size n)))
 of_width U8 n = refl
 of_width S8 n = refl
@@ -143,22 +181,36 @@ of_width U32 n = refl
 of_width S32 n = refl
 
 -- the pairs of a file: a step for each kind
-pub pairs_are : (file : BoardFile) → AreBefore file 10 (pairs_of file)
+pub pairs_are : (file : BoardFile) → AreBefore file 14 (pairs_of file)
 pairs_are file =
     let before_1 = and_then file 0 [] (none_before file) (of_sensors file key.Thresholds _ 0 (λ m n same. cc) (λ n. refl) (λ s. six _ s.thresholds.valid.six)) in
     let before_2 = and_then file 1 _ before_1 (of_sensors file key.Hysteresis _ 1 (λ m n same. cc) (λ n. refl) (λ s. refl)) in
     let before_3 = and_then file 2 _ before_2 (of_sensors file key.EventEnable _ 2 (λ m n same. cc) (λ n. refl) (λ s. refl)) in
     let before_4 =
     and_then file 3 _ before_3 (of_numbered (λ e. e.id) key.NumericEffecter number_value 3 file.numeric_effecters.items file.numeric_effecters.differ (λ m n same. cc) (λ n. refl) (λ e. of_width e.range.size e.current)) in
-    let before_5 = and_then file 4 _ before_4 (one_of 4 (key.PowerPolicy, policy_value file.policy) refl refl) in
-    let before_6 = and_then file 5 _ before_5 (one_of 5 (key.Watchdog, settings_value file.watchdog) refl refl) in
-    let before_7 = and_then file 6 _ before_6 (one_of 6 (key.GlobalEnables, enables_value file.enables) refl refl) in
-    let before_8 = and_then file 7 _ before_7 (one_of 7 (key.BootParam ValidBitClearing, boot_value file.boot ValidBitClearing) refl refl) in
-    let before_9 = and_then file 8 _ before_8 (one_of 8 (key.BootParam InfoAcknowledge, boot_value file.boot InfoAcknowledge) refl refl) in
-    and_then file 9 _ before_9 (one_of 9 (key.BootParam Flags, boot_value file.boot Flags) refl refl)
+    let before_5 = and_then file 4 _ before_4 (of_items (λ u. u.number.number) (λ u. key.UserName u.number) (λ u. u.name) 4 file.users.items file.users.differ (λ u v same. ap user_number same) (λ u. refl) (λ u. sixteen _ u.sixteen)) in
+    let before_6 = and_then file 5 _ before_5 (of_items (λ a. number_on a.on) (λ a. key.UserAccess a.on) (λ a. a.byte ∷ []) 5 file.user_accesses.items file.user_accesses.differ (λ a b same. ap user_on_number same) (λ a. refl) (λ a. refl)) in
+    let before_7 =
+    and_then file 6 _ before_6
+    (of_items (λ c. c.number.number) (λ c. key.ChannelAccess (stored c.number NonVolatile)) (λ c. access_value c.non_volatile) 6 file.channels.items file.channels.differ (λ c d same. ap channel_number same) (λ c. refl) (λ c. refl)) in
+    let before_8 =
+    and_then file 7 _ before_7
+    (of_items (λ c. c.number.number) (λ c. key.ChannelAccess (stored c.number Volatile)) (λ c. access_value c.volatile) 7 file.channels.items file.channels.differ (λ c d same. ap channel_number same) (λ c. refl) (λ c. refl)) in
+    let before_9 = and_then file 8 _ before_8 (one_of 8 (key.PowerPolicy, policy_value file.policy) refl refl) in
+    let before_10 = and_then file 9 _ before_9 (one_of 9 (key.Watchdog, settings_value file.watchdog) refl refl) in
+    let before_11 = and_then file 10 _ before_10 (one_of 10 (key.GlobalEnables, enables_value file.enables) refl refl) in
+    let before_12 = and_then file 11 _ before_11 (one_of 11 (key.BootParam ValidBitClearing, boot_value file.boot ValidBitClearing) refl refl) in
+    let before_13 = and_then file 12 _ before_12 (one_of 12 (key.BootParam InfoAcknowledge, boot_value file.boot InfoAcknowledge) refl refl) in
+    and_then file 13 _ before_13 (one_of 13 (key.BootParam Flags, boot_value file.boot Flags) refl refl)
 
-has_place : (k : Key) → place_of k < 10
+store_has_place : (s : AccessStore) → store_place s < 14
+store_has_place NonVolatile = omega arith
+store_has_place Volatile = omega arith
+store_has_place Neither = omega arith
+
+has_place : (k : Key) → place_of k < 14
 has_place (key.Thresholds sensor) = omega arith
+has_place (key.ChannelAccess stored) = store_has_place stored.store
 has_place (key.BootParam ValidBitClearing) = omega arith
 has_place (key.BootParam InfoAcknowledge) = omega arith
 has_place (key.BootParam Flags) = omega arith

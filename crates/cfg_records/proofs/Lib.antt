@@ -2,6 +2,7 @@ pub mod MaskBits
 pub mod Orders
 pub mod Searches
 pub mod Names
+pub mod Nowhere
 pub mod Numbers
 pub mod Pairs
 pub mod BoardPairs

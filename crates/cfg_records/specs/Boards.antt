@@ -6,6 +6,11 @@ use Rattle.cfg_records.specs.declared.power_policy.PowerPolicy.{PowerPolicy}
 use Rattle.cfg_records.specs.declared.watchdog.Watchdog.{Watchdog}
 use Rattle.cfg_records.specs.declared.global_enables.GlobalEnables.{GlobalEnables}
 use Rattle.cfg_records.specs.declared.numeric_effecter.NumericEffecter.{NumericEffecter}
+use Rattle.cfg_records.specs.declared.channel.AccessStore.TheVariants.{NonVolatile, Volatile}
+use Rattle.cfg_records.specs.declared.channel.ChannelAccess.{ChannelAccess}
+use Rattle.cfg_records.specs.declared.channel.StoredAccess.{StoredAccess}
+use Rattle.cfg_records.specs.declared.channel.ChannelNumber.{ChannelNumber}
+use Rattle.cfg_records.specs.declared.channel.AccessStore.{AccessStore}
 use Rattle.cfg_records.specs.declared.board_file.BoardFile.{BoardFile}
 use Rattle.cfg_records.specs.Hysteresis.{hysteresis_value}
 use Rattle.cfg_records.specs.EventEnable.{event_value}
@@ -31,6 +36,13 @@ enables_value enables = enables.byte ∷ []
 abbrev pub number_value : NumericEffecter → List ℕ
 number_value effecter = bytes_of effecter.range.size effecter.current
 
+-- the access of a channel in one of its stores, and its value
+abbrev pub stored : ChannelNumber → AccessStore → StoredAccess
+stored channel store = record { channel = channel; store = store }
+
+abbrev pub access_value : ChannelAccess → List ℕ
+access_value a = a.access ∷ a.limit ∷ []
+
 -- the value that each boot parameter begins with: no mark is set
 abbrev pub boot_value : BootOptions → BootParameter → List ℕ
 boot_value boot ValidBitClearing = 0 ∷ boot.valid_bit_clearing ∷ []
@@ -50,12 +62,25 @@ sensor_kinds sensors =
     ∷ map (λ s. (key.EventEnable s.number, event_value s.events.messages s.events.scanning s.events.enabled)) sensors
     ∷ []
 
--- the keys of each kind of record that an item has, with their values, kind after kind: a line for each kind that no sensor has
-abbrev pub item_kinds : BoardFile → List (List Pair)
-item_kinds file =
+-- the keys of each kind of record that a sensor or an effecter has, with their values, kind after kind: a line for each kind
+abbrev pub part_kinds : BoardFile → List (List Pair)
+part_kinds file =
     sensor_kinds file.sensors.items
     ++ map (λ e. (key.NumericEffecter e.id, number_value e)) file.numeric_effecters.items
     ∷ []
+
+-- the same of the records that a user or a channel has: channels in their stores, one store after the other
+abbrev pub access_kinds : BoardFile → List (List Pair)
+access_kinds file =
+    map (λ u. (key.UserName u.number, u.name)) file.users.items
+    ∷ map (λ a. (key.UserAccess a.on, a.byte ∷ [])) file.user_accesses.items
+    ∷ map (λ c. (key.ChannelAccess (stored c.number NonVolatile), access_value c.non_volatile)) file.channels.items
+    ∷ map (λ c. (key.ChannelAccess (stored c.number Volatile), access_value c.volatile)) file.channels.items
+    ∷ []
+
+-- the same of all items
+abbrev pub item_kinds : BoardFile → List (List Pair)
+item_kinds file = part_kinds file ++ access_kinds file
 
 -- the keys of each kind with their values: a line for each record that a board has once
 abbrev pub kinds_of : BoardFile → List (List Pair)

@@ -17,6 +17,9 @@ is_length key.Watchdog n = n == 5
 is_length key.GlobalEnables n = n == 1
 is_length (key.BootParam parameter) n = n == boot_length parameter
 is_length (key.NumericEffecter id) n = (n == 1) || (n == 2) || (n == 4)
+is_length (key.UserName user) n = n == 16
+is_length (key.UserAccess on) n = n == 1
+is_length (key.ChannelAccess stored) n = n == 2
 
 -- the order of keys
 abbrev pub key_cmp : Key → Key → Ordering

@@ -15,6 +15,10 @@ pub mod GlobalEnables
 pub mod BootParam
 pub mod NumericSize
 pub mod NumericEffecter
+pub mod UserAccess
+pub mod ChannelAccess
+pub mod NumberLaws
+pub mod Numbers
 pub mod PartLaws
 pub mod Meaning
 pub mod RefusalLaws
@@ -27,6 +31,7 @@ pub mod Member
 pub mod MemberLaws
 pub mod Records
 pub mod Places
+pub mod Index
 pub mod PlacesLaws
 pub mod RecordLaws
 pub mod Boards

@@ -2,6 +2,6 @@
 use Rattle.std.specs.Prelude.{false}
 use Rattle.cfg_records.specs.declared.live.Live.{Live}
 
--- no chassis bit, and a watchdog that is stopped, with no flag and at 0
+-- no chassis bit, a watchdog that is stopped, with no flag and at 0, and no user enabled
 abbrev pub opening : Live
-opening = record { chassis = 0; countdown = 0; expired = 0; running = false }
+opening = record { chassis = 0; countdown = 0; expired = 0; running = false; enabled_users = 0 }

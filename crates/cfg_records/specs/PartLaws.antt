@@ -12,6 +12,8 @@ use Rattle.cfg_records.specs.declared.boot_param.BootParameter.TheVariants.{Vali
 use Rattle.cfg_records.specs.BootParam.{IsBootData, IsBootParam}
 use Rattle.cfg_records.specs.declared.numeric_range.NumericRange.{NumericRange}
 use Rattle.cfg_records.specs.NumericEffecter.{IsNumeric}
+use Rattle.cfg_records.specs.UserAccess.{IsUserAccess}
+use Rattle.cfg_records.specs.ChannelAccess.{IsChannelAccess}
 
 pub IsThresholds-prop : (masks : ThresholdMasks) (value : List ℕ) → IsProp (IsThresholds masks value)
 IsThresholds-prop masks value = hlevel props
@@ -38,3 +40,9 @@ IsBootParam-prop parameter value = hlevel (props, IsBootData-prop)
 
 pub IsNumeric-prop : (range : NumericRange) (value : List ℕ) → IsProp (IsNumeric range value)
 IsNumeric-prop range value = hlevel props
+
+pub IsUserAccess-prop : (value : List ℕ) → IsProp (IsUserAccess value)
+IsUserAccess-prop value = hlevel props
+
+pub IsChannelAccess-prop : (value : List ℕ) → IsProp (IsChannelAccess value)
+IsChannelAccess-prop value = hlevel props

@@ -1,5 +1,5 @@
 -- The sample board.
-use Rattle.std.specs.Prelude.{◌≡◌, ℕ, List, [], ◌∷◌}
+use Rattle.std.specs.Prelude.{◌≡◌, ℕ, List, [], ◌∷◌, replicate}
 use Rattle.cfg_records.specs.declared.sensor.Sensor.{Sensor}
 use Rattle.cfg_records.specs.declared.watchdog.Watchdog.{Watchdog}
 use Rattle.cfg_records.specs.declared.device.Device.{Device}
@@ -7,6 +7,10 @@ use Rattle.cfg_records.specs.declared.board_file.BoardFile.{BoardFile}
 use Rattle.cfg_records.specs.EventEnable.{event_value}
 use Rattle.cfg_records.specs.declared.boot_param.BootOptions.{BootOptions}
 use Rattle.cfg_records.specs.BootParam.{flag_bytes}
+use Rattle.cfg_records.specs.declared.channel.Channel.{Channel}
+use Rattle.cfg_records.specs.declared.user.User.{User}
+use Rattle.cfg_records.specs.declared.user.UserAccess.{UserAccess}
+use Rattle.cfg_records.specs.Boards.{access_value}
 
 -- what Get Device ID says of the sample board
 pub record IsSampleDevice (device : Device) : Type 0 where
@@ -60,6 +64,36 @@ pub record IsSampleBoot (boot : BootOptions) : Type 0 where
   pub acknowledge : boot.info_acknowledge ≡ 0
   pub flags : flag_bytes boot.flags ≡ 0 ∷ 0 ∷ 0 ∷ 0 ∷ 0 ∷ []
 
+-- a user of this number and name
+pub record IsUser (user : User) (number : ℕ) (name : List ℕ) : Type 0 where
+  pub numbered : user.number.number ≡ number
+  pub named : user.name ≡ name
+
+-- a user without a name, and "admin"
+abbrev pub AreSampleUsers : List User → Type 0
+AreSampleUsers (a ∷ b ∷ []) = IsUser a 1 (replicate 16 0) × IsUser b 2 (0x61 ∷ 0x64 ∷ 0x6D ∷ 0x69 ∷ 0x6E ∷ replicate 11 0)
+AreSampleUsers _ = ⊥
+
+-- one channel with sessions, which is always open to the limit of an administrator
+pub record IsSampleChannel (channel : Channel) : Type 0 where
+  pub numbered : channel.number.number ≡ 1
+  pub non_volatile : access_value channel.non_volatile ≡ 2 ∷ 4 ∷ []
+  pub volatile : access_value channel.volatile ≡ 2 ∷ 4 ∷ []
+
+abbrev pub AreSampleChannels : List Channel → Type 0
+AreSampleChannels (a ∷ []) = IsSampleChannel a
+AreSampleChannels _ = ⊥
+
+-- a user who may send messages on channel 1, as an administrator
+pub record IsSampleAccess (access : UserAccess) (user : ℕ) : Type 0 where
+  pub channel : access.on.channel.number ≡ 1
+  pub numbered : access.on.user.number ≡ user
+  pub may : access.byte ≡ 0x14
+
+abbrev pub AreSampleAccesses : List UserAccess → Type 0
+AreSampleAccesses (a ∷ b ∷ []) = IsSampleAccess a 1 × IsSampleAccess b 2
+AreSampleAccesses _ = ⊥
+
 -- the sample board
 pub record IsSampleBoard (file : BoardFile) : Type 0 where
   pub terminus : file.tid ≡ 5
@@ -73,3 +107,7 @@ pub record IsSampleBoard (file : BoardFile) : Type 0 where
   pub sdr : file.sdr.items ≡ sample_record ∷ []
   pub boot : IsSampleBoot file.boot
   pub no_numeric : file.numeric_effecters.items ≡ []
+  pub users : AreSampleUsers file.users.items
+  pub channels : AreSampleChannels file.channels.items
+  pub no_sessionless : file.sessionless.items ≡ []
+  pub accesses : AreSampleAccesses file.user_accesses.items

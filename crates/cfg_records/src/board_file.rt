@@ -1,5 +1,6 @@
 //! What a board begins with.
 use crate::boot_param::{BootOptions, BootParameter};
+use crate::channel::{Channels, SessionlessChannels};
 use crate::device::Device;
 use crate::global_enables::GlobalEnables;
 use crate::key::Key;
@@ -8,6 +9,7 @@ use crate::numeric_effecter::NumericEffecters;
 use crate::power_policy::PowerPolicy;
 use crate::sdr_record::SdrRecords;
 use crate::sensor::Sensors;
+use crate::user::{UserAccesses, Users};
 use crate::value::Value;
 use crate::watchdog::Watchdog;
 use std::alloc::{AllocError, Global};
@@ -28,16 +30,22 @@ pub struct BoardFile {
     pub sdr: SdrRecords,
     pub boot: BootOptions,
     pub numeric_effecters: NumericEffecters,
+    pub users: Users,
+    /// The channels with sessions, and those without.
+    pub channels: Channels,
+    pub sessionless: SessionlessChannels,
+    /// What each user may do on each channel with sessions.
+    pub user_accesses: UserAccesses,
 }
 
 impl BoardFile {
     ghost use Rattle.std.specs.Prelude.{◌≡◌, [], IfOk, OnOk};
     ghost use Rattle.cfg_records.specs.Records.{KeysDiffer, LengthsFit};
-    ghost use Rattle.cfg_records.specs.Boards.{joined, item_kinds, pairs_of};
+    ghost use Rattle.cfg_records.specs.Boards.{joined, part_kinds, access_kinds, item_kinds, pairs_of};
 
-    /// The records of its items: a line for each kind.
-    fn item_records(&self, alloc: Global) -> Result<Vec<(Key, Value)>, AllocError>
-        ensures { IfOk result (λ pairs. pairs.items ≡ joined [] (item_kinds self.now)) }
+    /// The records of its sensors and effecters: a line for each kind.
+    fn sensor_records(&self, alloc: Global) -> Result<Vec<(Key, Value)>, AllocError>
+        ensures { IfOk result (λ pairs. pairs.items ≡ joined [] (part_kinds self.now)) }
     {
         let sensors = self.sensors.items.as_slice();
         let thresholds = sensors.iter().map(|s| s.thresholds.pair(s.number));
@@ -50,6 +58,33 @@ impl BoardFile {
             .chain(events)
             .chain(numeric)
             .collect(alloc)
+    }
+
+    /// The records of its users and channels: a line for each kind, and one for each store.
+    fn access_records(&self, alloc: Global) -> Result<Vec<(Key, Value)>, AllocError>
+        ensures { IfOk result (λ pairs. pairs.items ≡ joined [] (access_kinds self.now)) }
+    {
+        let names = self.users.items.as_slice().iter().map(|u| u.pair());
+        let accesses = self.user_accesses.items.as_slice();
+        let accesses = accesses.iter().map(|a| a.pair());
+        let channels = self.channels.items.as_slice();
+        let non_volatile = channels.iter().map(|c| c.non_volatile_pair());
+        let volatile = channels.iter().map(|c| c.volatile_pair());
+        names
+            .chain(accesses)
+            .chain(non_volatile)
+            .chain(volatile)
+            .collect(alloc)
+    }
+
+    /// The records of its items.
+    fn item_records(&self, alloc: Global) -> Result<Vec<(Key, Value)>, AllocError>
+        ensures { IfOk result (λ pairs. pairs.items ≡ joined [] (item_kinds self.now)) }
+    {
+        let mut pairs = self.sensor_records(alloc)?;
+        let mut more = self.access_records(alloc)?;
+        pairs.append(&mut more)?;
+        Ok(pairs)
     }
 
     /// The keys of the board's records, each once, with the values that they begin with: kind after kind.

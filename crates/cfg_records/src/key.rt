@@ -3,6 +3,8 @@ ghost use Rattle.std.specs.Prelude.{◌≡◌};
 ghost use Rattle.cfg_records.specs.Keys.{is_length};
 
 use crate::boot_param::BootParameter;
+use crate::channel::StoredAccess;
+use crate::user::{UserNumber, UserOnChannel};
 
 /// The name of a record: its kind, and which one of that kind.
 #[derive(Clone, Copy, Debug, PartialEq, Eq, PartialOrd, Ord)]
@@ -23,6 +25,12 @@ pub enum Key {
     BootParam(BootParameter),
     /// The present value of the numeric effecter of this id.
     NumericEffecter(u16),
+    /// The name of a user.
+    UserName(UserNumber),
+    /// What a user may do on a channel.
+    UserAccess(UserOnChannel),
+    /// The access of a channel, in one of its stores.
+    ChannelAccess(StoredAccess),
 }
 
 impl Key {
@@ -39,6 +47,9 @@ impl Key {
             Key::GlobalEnables => length == 1,
             Key::BootParam(parameter) => length == parameter.length(),
             Key::NumericEffecter(_) => length == 1 || length == 2 || length == 4,
+            Key::UserName(_) => length == 16,
+            Key::UserAccess(_) => length == 1,
+            Key::ChannelAccess(_) => length == 2,
         }
     }
 }

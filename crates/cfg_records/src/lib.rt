@@ -4,11 +4,13 @@
 
 pub mod board_file;
 pub mod boot_param;
+pub mod channel;
 pub mod device;
 pub mod distinct;
 pub mod event_enable;
 pub mod global_enables;
 pub mod hysteresis;
+mod index;
 pub mod items;
 pub mod key;
 pub mod kind;
@@ -28,11 +30,16 @@ pub mod sensor;
 pub mod sensor_thresholds;
 pub mod store;
 pub mod thresholds;
+pub mod user;
 pub mod value;
 pub mod watchdog;
 
 pub use board_file::BoardFile;
 pub use boot_param::{BootChange, BootFlags, BootOptions, BootParameter, MaskedBits, SetBootParam};
+pub use channel::{
+    AccessStore, Channel, ChannelAccess, ChannelChange, ChannelNumber, Channels,
+    SessionlessChannels, SetChannelAccess, SixBits, StoredAccess,
+};
 pub use device::{Bcd, Device, ManufacturerId};
 pub use distinct::{Distinct, Numbered};
 pub use event_enable::{EventChange, EventEnable, EventMasks, SetEventEnable};
@@ -56,5 +63,8 @@ pub use sensor::{Sensor, Sensors};
 pub use sensor_thresholds::{SetThresholds, Thresholds};
 pub use store::{NoKey, Store};
 pub use thresholds::ThresholdMasks;
+pub use user::{
+    SetUserAccess, SetUserName, User, UserAccess, UserAccesses, UserNumber, UserOnChannel, Users,
+};
 pub use value::{RecordData, Value};
 pub use watchdog::{SetWatchdog, Watchdog};

@@ -15,10 +15,12 @@ pub struct Live {
     pub expired: u8,
     /// Whether the watchdog timer runs.
     pub running: bool,
+    /// Which users are enabled: bit i for the user of number i.
+    pub enabled_users: u64,
 }
 
 impl Live {
-    /// What a board begins with: no chassis bit, and a watchdog that is stopped, with no flag and at 0.
+    /// What a board begins with: no chassis bit, a watchdog that is stopped, with no flag and at 0, and no user enabled.
     pub fn opening() -> Live
         ensures { result ≡ opening }
     {
@@ -27,6 +29,7 @@ impl Live {
             countdown: 0,
             expired: 0,
             running: false,
+            enabled_users: 0,
         }
     }
 }

@@ -1,11 +1,13 @@
 //! Changes of one record.
 use crate::boot_param::SetBootParam;
+use crate::channel::SetChannelAccess;
 use crate::event_enable::SetEventEnable;
 use crate::global_enables::SetGlobalEnables;
 use crate::hysteresis::SetHysteresis;
 use crate::numeric_effecter::SetNumericEffecter;
 use crate::power_policy::SetPowerPolicy;
 use crate::sensor_thresholds::SetThresholds;
+use crate::user::{SetUserAccess, SetUserName};
 use crate::watchdog::SetWatchdog;
 
 /// A change of one record, as a request asks for it: any bytes that the request may carry. It stays where it is made, and is looked
@@ -20,4 +22,7 @@ pub enum Op {
     GlobalEnables(SetGlobalEnables),
     BootParam(SetBootParam),
     NumericEffecter(SetNumericEffecter),
+    UserName(SetUserName),
+    UserAccess(SetUserAccess),
+    ChannelAccess(SetChannelAccess),
 }

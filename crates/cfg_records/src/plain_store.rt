@@ -1,18 +1,17 @@
 //! Records in a list, found by their keys.
 ghost use Rattle.std.specs.Prelude.{◌≡◌, ◌↔◌, IfOk, OnOk, Err, IsTrue, All, length};
 ghost use Rattle.cfg_records.specs.Boards.{pairs_of};
-ghost use Rattle.cfg_records.specs.Keys.{key_cmp};
-ghost use Rattle.std.specs.BTreeMap as btree;
+ghost use Rattle.cfg_records.specs.Index.{place_of};
 ghost use Rattle.cfg_records.specs.Places.{ArePlaced};
 ghost use Rattle.cfg_records.specs.PlacesLaws.{ArePlaced-prop};
 ghost use Rattle.cfg_records.specs.Records.{records_of, KeysDiffer, LengthsFit};
 
 use crate::board_file::BoardFile;
+use crate::index::Index;
 use crate::key::Key;
 use crate::store::{NoKey, Store};
 use crate::value::Value;
 use std::alloc::{AllocError, Global};
-use std::collections::BTreeMap;
 
 /// Why no store is made: the first that holds.
 #[derive(Clone, Copy, Debug, PartialEq, Eq)]
@@ -29,8 +28,8 @@ pub enum StoreFault {
 #[derive(Drop)]
 pub struct PlainStore {
     records: Vec<(Key, Value)>,
-    places: BTreeMap<Key, usize>,
-    ghost placed: { ArePlaced records.items (btree.get key_cmp places) } by { ArePlaced-prop records.items (btree.get key_cmp places) },
+    places: Index,
+    ghost placed: { ArePlaced records.items (place_of places) } by { ArePlaced-prop records.items (place_of places) },
 }
 
 impl PlainStore {
@@ -46,7 +45,7 @@ impl PlainStore {
         ensures bad { result ≡ Err StoreFault.BadValue → ¬ LengthsFit pairs.now }
     {
         let mut records = Vec::new(alloc);
-        let mut places = BTreeMap::new(alloc);
+        let mut places = Index::new(alloc);
         for (key, value) in pairs {
             match places.insert(*key, records.len()) {
                 Err(_) => return Err(StoreFault::Memory),
@@ -83,17 +82,17 @@ fn lengths_fit(pairs: &[(Key, Value)]) -> bool
 }
 
 impl Store for PlainStore {
-    ghost use Rattle.std.specs.BTreeMap as btree;
+    ghost use Rattle.cfg_records.specs.Index.{place_of};
     ghost use Rattle.cfg_records.specs.Places.{value_at};
 
     type Place = usize;
 
-    ghost records = { λ s key. value_at s.records.items (btree.get key_cmp s.places key) };
+    ghost records = { λ s key. value_at s.records.items (place_of s.places key) };
 
-    ghost places = { λ s key. btree.get key_cmp s.places key };
+    ghost places = { λ s. place_of s.places };
 
     fn find(&self, key: &Key) -> Option<usize> {
-        self.places.get(key).copied()
+        self.places.get(key)
     }
 
     fn value(&self, place: usize) -> &[u8] {

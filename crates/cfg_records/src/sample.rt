@@ -1,9 +1,10 @@
 //! The sample board.
 ghost use Rattle.std.specs.Prelude.{◌≡◌, [], ◌∷◌, IfOk};
-ghost use Rattle.cfg_records.specs.Sample.{IsSampleDevice, IsTemperature, IsFan, IsUnset, sample_record, IsSampleBoot, IsSampleBoard};
+ghost use Rattle.cfg_records.specs.Sample.{IsSampleDevice, IsTemperature, IsFan, IsUnset, sample_record, IsSampleBoot, AreSampleUsers, AreSampleChannels, AreSampleAccesses, IsSampleBoard};
 
 use crate::board_file::BoardFile;
 use crate::boot_param::{BootFlags, BootOptions};
+use crate::channel::{Channel, ChannelAccess, ChannelNumber, Channels};
 use crate::device::{Bcd, Device, ManufacturerId};
 use crate::distinct::Distinct;
 use crate::event_enable::{EventEnable, EventMasks};
@@ -15,6 +16,7 @@ use crate::sdr_record::{SdrRecord, SdrRecords};
 use crate::sensor::Sensor;
 use crate::sensor_thresholds::Thresholds;
 use crate::thresholds::ThresholdMasks;
+use crate::user::{User, UserAccess, UserAccesses, UserNumber, UserOnChannel, Users};
 use crate::watchdog::Watchdog;
 use std::alloc::{AllocError, Global};
 
@@ -131,6 +133,57 @@ fn sdr(alloc: Global) -> Result<SdrRecords, AllocError>
     Ok(Distinct::new(records).unwrap())
 }
 
+/// Two users: the first has no name, and the second is the administrator.
+fn users(alloc: Global) -> Result<Users, AllocError>
+    ensures { IfOk result (λ users. AreSampleUsers users.items) }
+{
+    let mut users = Vec::new(alloc);
+    users.push(User {
+        number: UserNumber { number: 1 },
+        name: [0; 16],
+    })?;
+    users.push(User {
+        number: UserNumber { number: 2 },
+        name: [
+            0x61, 0x64, 0x6D, 0x69, 0x6E, 0, 0, 0, 0, 0, 0, 0, 0, 0, 0, 0,
+        ],
+    })?;
+    Ok(Distinct::new(users).unwrap())
+}
+
+/// One channel, with sessions.
+fn channels(alloc: Global) -> Result<Channels, AllocError>
+    ensures { IfOk result (λ channels. AreSampleChannels channels.items) }
+{
+    let access = ChannelAccess {
+        access: 2,
+        limit: 4,
+    };
+    let mut channels = Vec::new(alloc);
+    channels.push(Channel {
+        number: ChannelNumber { number: 1 },
+        non_volatile: access,
+        volatile: access,
+    })?;
+    Ok(Distinct::new(channels).unwrap())
+}
+
+/// Both users may send messages on it, as administrators.
+fn user_accesses(alloc: Global) -> Result<UserAccesses, AllocError>
+    ensures { IfOk result (λ accesses. AreSampleAccesses accesses.items) }
+{
+    let mut accesses = Vec::new(alloc);
+    accesses.push(UserAccess {
+        on: UserOnChannel::of(1, 1),
+        byte: 0x14,
+    })?;
+    accesses.push(UserAccess {
+        on: UserOnChannel::of(1, 2),
+        byte: 0x14,
+    })?;
+    Ok(Distinct::new(accesses).unwrap())
+}
+
 /// The sample board, which the program takes where it is given no board file.
 pub fn sample_board(alloc: Global) -> Result<BoardFile, AllocError>
     ensures { IfOk result IsSampleBoard }
@@ -150,5 +203,9 @@ pub fn sample_board(alloc: Global) -> Result<BoardFile, AllocError>
         boot: boot(),
         sdr: sdr(alloc)?,
         numeric_effecters: Distinct::new(Vec::new(alloc)).unwrap(),
+        users: users(alloc)?,
+        channels: channels(alloc)?,
+        sessionless: Distinct::new(Vec::new(alloc)).unwrap(),
+        user_accesses: user_accesses(alloc)?,
     })
 }

@@ -13,4 +13,6 @@ pub use laws::{fault_or_message, one_frame, one_message, same_bytes_same_frame};
 pub use message::{Header, Msg, Party, Request, Response, Sequence};
 pub use reading::read_frame;
 pub use sameness::same_request;
-pub use writing::{begin_response, end_response, write_request, write_response};
+pub use writing::{
+    begin_response, end_response, write_request, write_response, write_response_into,
+};

@@ -2,7 +2,7 @@
 ghost use Rattle.std.specs.Prelude.{◌≡◌, ◌+◌, ◌<◌, ◌≤◌, List, ℕ, [], ◌∷◌, ◌++◌, length, drop};
 ghost use Rattle.two_wire.specs.Check.{check_byte};
 ghost use Rattle.ipmb_frame.specs.declared.message.Header.{Header as TheHeader};
-ghost use Rattle.ipmb_frame.specs.Grammar.{IsParty, IsHeader, IsRequest, IsResponse, packed, checked, response_start};
+ghost use Rattle.ipmb_frame.specs.Grammar.{IsParty, IsHeader, IsRequest, IsResponse, packed, checked, response_start, response_lead};
 
 use crate::{Header, Party, Request, Response, Sequence};
 use two_wire::{Frame, sum8};
@@ -31,10 +31,39 @@ pub fn write_response(response: &Response) -> Frame
     ensures { IsResponse response.now result }
 {
     let mut frame = Frame::new();
-    begin_response(&mut frame, &response.header, response.code);
-    frame.extend_from_slice(response.body.as_slice());
-    end_response(&mut frame);
+    write_response_into(
+        &mut frame,
+        &response.header,
+        response.code,
+        response.body.as_slice(),
+    );
     frame
+}
+
+/// Makes the frame that of the response of this header, code and data, whatever it was. It reads nothing of what it writes, since
+/// bytes that were just written are slow to read.
+pub fn write_response_into(frame: &mut Frame, header: &Header, code: u8, body: &[u8])
+    requires { length body.now ≤ 24 }
+    ensures { IsResponse (record { header = header.now; code = code; body = body.now }) frame.new }
+{
+    begin_response(frame, header, code);
+    frame.extend_from_slice(body);
+    frame.push(body_sum(header, code, body));
+}
+
+/// The second checksum of the response of this header, code and data.
+fn body_sum(header: &Header, code: u8, body: &[u8]) -> u8
+    requires { IsHeader header.now }
+    ensures { result ≡ check_byte (response_lead header.now code ++ body.now) }
+{
+    let from = header.responder;
+    let lead = [
+        from.address.byte(),
+        header.sequence.number() << 2 | from.lun.number(),
+        header.command,
+        code,
+    ];
+    sum8(&lead).wrapping_add(sum8(body))
 }
 
 /// Makes the frame all of the response that stands before its data, whatever it was. The data are appended next, and

@@ -13,7 +13,8 @@ use Rattle.mctp_net.specs.declared.taken.DropCause.{DropCause}
 use Rattle.mctp_net.specs.Cut.{piece, IsPiece, EachFrom, IsCutOf}
 use Rattle.mctp_net.proofs.NamesAlone.{own-name}
 use Rattle.mctp_net.specs.Assembly.{Assemblies, name_of, taken_under, open_beside, is_ours, named_where, drop_cause, after, after_where, ended, kept_with, message_of, ComesBack, MakesWhole, IsTaken}
-use Rattle.mctp_net.proofs.Cuts.{pieces_of, count_of, is_cut}
+use Rattle.mctp_net.specs.Pieces.{pieces_of, count_of}
+use Rattle.mctp_net.proofs.Cuts.{is_cut}
 use Rattle.mctp_net.proofs.ComingBack.{cut-comes_back}
 use Rattle.mctp_net.proofs.Wholes.{whole-passes, whole-fits, whole-one}
 use Rattle.cfg_records.specs.declared.board_file.BoardFile.{BoardFile}

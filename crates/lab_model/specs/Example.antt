@@ -11,6 +11,11 @@ use Rattle.cfg_records.specs.declared.thresholds.ThresholdMasks.{ThresholdMasks}
 use Rattle.cfg_records.specs.declared.board_file.BoardFile.{BoardFile}
 use Rattle.cfg_records.specs.declared.sensor.Sensor.{Sensor}
 use Rattle.cfg_records.specs.declared.numeric_effecter.NumericEffecter.{NumericEffecter}
+use Rattle.cfg_records.specs.declared.user.User.{User}
+use Rattle.cfg_records.specs.declared.user.UserAccess.{UserAccess}
+use Rattle.cfg_records.specs.declared.channel.Channel.{Channel}
+use Rattle.cfg_records.specs.declared.channel.ChannelNumber.{ChannelNumber}
+use Rattle.cfg_records.specs.Numbers.{number_on}
 use Rattle.cfg_records.specs.declared.event_enable.EventMasks.{EventMasks}
 use Rattle.cfg_records.specs.Distinct.{NamesDiffer}
 use Rattle.cfg_records.specs.Sdr.{sdr_id}
@@ -68,6 +73,18 @@ no_records i j d below within = absurd (omega (arith, below, within))
 pub no_numbers : NamesDiffer (λ (e : NumericEffecter). e.id) []
 no_numbers i j d below within = absurd (omega (arith, below, within))
 
+pub no_users : NamesDiffer (λ (u : User). u.number.number) []
+no_users i j d below within = absurd (omega (arith, below, within))
+
+pub no_channels : NamesDiffer (λ (c : Channel). c.number.number) []
+no_channels i j d below within = absurd (omega (arith, below, within))
+
+pub no_sessionless : NamesDiffer (λ (c : ChannelNumber). c.number) []
+no_sessionless i j d below within = absurd (omega (arith, below, within))
+
+pub no_accesses : NamesDiffer (λ (a : UserAccess). number_on a.on) []
+no_accesses i j d below within = absurd (omega (arith, below, within))
+
 -- a board with that sensor
 abbrev pub board_file : BoardFile
 board_file = record {
@@ -102,6 +119,10 @@ board_file = record {
     byte = lit< tt;
   };
   numeric_effecters = record { items = []; differ = no_numbers; few = lit≤ tt };
+  users = record { items = []; differ = no_users; few = lit≤ tt };
+  channels = record { items = []; differ = no_channels; few = lit≤ tt };
+  sessionless = record { items = []; differ = no_sessionless; few = lit≤ tt };
+  user_accesses = record { items = []; differ = no_accesses; few = lit≤ tt };
 }
 
 -- ---- the runs

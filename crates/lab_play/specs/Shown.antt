@@ -4,9 +4,8 @@ use Rattle.std.specs.List.{AllZip}
 use Rattle.two_wire.specs.declared.Bus.{Bus}
 use Rattle.two_wire.specs.declared.Bus.TheVariants as bus
 use Rattle.cfg_records.specs.declared.board_file.BoardFile.{BoardFile}
-use Rattle.std.specs.BTreeMap as btree
 use Rattle.cfg_records.specs.Records.{Records}
-use Rattle.cfg_records.specs.Keys.{key_cmp}
+use Rattle.cfg_records.specs.Index.{place_of}
 use Rattle.cfg_records.specs.Places.{value_at}
 use Rattle.cfg_records.specs.declared.plain_store.PlainStore.{PlainStore}
 use Rattle.bmc_board.specs.State.{state_of}
@@ -42,7 +41,7 @@ pub record IsSentFrame (sent : SentFrame) (f : LabFrame) : Type 0 where
 
 -- the records of a store
 abbrev pub plain_records : PlainStore → Records
-plain_records store = λ key. value_at store.records.items (btree.get key_cmp store.places key)
+plain_records store = λ key. value_at store.records.items (place_of store.places key)
 
 -- the lab is this one of the model, on a board of this file
 pub record Shows (file : BoardFile) (lab : Lab) (x : LabModel plans) : Type 0 where

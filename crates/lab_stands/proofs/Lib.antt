@@ -21,3 +21,11 @@ pub mod Steps
 pub mod Stopped
 pub mod Theorem
 pub mod Plays
+pub mod CleanQueue
+pub mod CleanLog
+pub mod CleanExchange
+pub mod CleanTest
+pub mod CleanPackets
+pub mod CleanSmbus
+pub mod CleanLink
+pub mod CleanPlays

@@ -4,3 +4,5 @@ pub mod Tied
 pub mod Follows
 pub mod Theorem
 pub mod Plays
+pub mod CleanLink
+pub mod CleanPlays

@@ -9,6 +9,8 @@ ghost use Rattle.lab_stands.specs.Follows.{CallsAreFollowed, RepliesAreFollowed,
 ghost use Rattle.lab.specs.Meaning.{Bench};
 ghost use Rattle.lab_stands.specs.Theorem.{Headline};
 ghost use Rattle.lab_stands.specs.Plays.{PlaysStand};
+ghost use Rattle.lab_stands.specs.CleanLink.{RunsOnCleanLink};
+ghost use Rattle.lab_stands.specs.CleanPlays.{PlaysRunClean};
 
 /// Where the manager is called, the model's world goes on to one that the lab shows then. So it is in each phase, also where the call is refused.
 pub fn calls_are_followed()
@@ -42,4 +44,15 @@ pub fn undo_takes_everything_back()
 /// What every play tells: its phase says what the records are, and a plan that halted has its cause.
 pub fn plays_stand()
     ensures { (bench : Bench) (file : BoardFile) (plan : List Op) (retries : ℕ) → PlaysStand bench file plan retries }
+{}
+
+/// Over a link that loses, repeats and delays nothing, and on which nobody else asks, a plan is done after two requests for each step, or
+/// halts at the first step that isn't accepted or can't be restored. Its undo takes one request for each step that was done.
+pub fn clean_links_run_plans()
+    ensures { (setup : BoardFile) (names : Names) (plan : List Op) (retries : ℕ) → RunsOnCleanLink setup names plan retries }
+{}
+
+/// What every play of a clean schedule tells: so the plan ran, and so it was undone.
+pub fn clean_plays_run_plans()
+    ensures { (bench : Bench) (file : BoardFile) (plan : List Op) (retries : ℕ) → PlaysRunClean bench file plan retries }
 {}

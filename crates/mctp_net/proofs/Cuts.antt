@@ -1,6 +1,7 @@
 -- A message's packets are a cut of it.
-use Rattle.std.proofs.Common.{◌≡◌, ℕ, zero, suc, ◌+◌, ◌-◌, ◌*◌, ◌/◌, ◌<◌, ◌≤◌, List, [], ◌∷◌, ◌++◌, length, map, take, drop, min, ⊎_elim, refl, sym, ◌∙◌, ap, arith, length-drop}
-use Rattle.std.specs.List.{range_with_len, All}
+use Rattle.std.proofs.Common.{◌≡◌, ℕ, zero, suc, ◌+◌, ◌-◌, ◌*◌, ◌/◌, ◌<◌, ◌≤◌, List, [], ◌∷◌, ◌++◌, length, map, take, drop, min, ⊎_elim, refl, sym, ◌∙◌, ap, subst, arith, length-drop}
+use Rattle.std.specs.List.{range_with_len, All, refill}
+use Rattle.std.proofs.Math.Seq.{take-append_seam}
 use Rattle.std.proofs.lemmas.List.{length-map, take-append-drop, length-take, drop-drop, drop_all, take_all}
 use Rattle.std.proofs.lemmas.Bool.{cases_lt}
 use Rattle.std.proofs.lemmas.List.Elements.{All-nil, All-cons}
@@ -10,15 +11,7 @@ use Rattle.mctp_net.specs.declared.packet.Packet.{Packet}
 use Rattle.mctp_net.specs.declared.message.Message.{Message}
 use Rattle.mctp_net.specs.Grammar.{IsSpelled}
 use Rattle.mctp_net.specs.Cut.{piece, IsPiece, EachFrom, carried, IsCutOf, AreWritten}
-use Rattle.mctp_net.specs.Pieces.{piece_of}
-
--- the first packets of a message
-abbrev pub pieces_of : Message → ℕ → List Packet
-pieces_of m count = map (piece_of m) (range_with_len 0 count)
-
--- how many packets a message has
-abbrev pub count_of : Message → ℕ
-count_of m = (length m.body + 63) / 64
+use Rattle.mctp_net.specs.Pieces.{piece_of, pieces_of, count_of}
 
 -- a packet of the message is the one of its number
 piece_is : (m : Message) (count number : ℕ) → count ≡ count_of m → number < count → IsPiece count number (piece (piece_of m number))
@@ -89,3 +82,7 @@ run_is bytes from to low is =
     (λ h. let k : to - from ≡ 64 = omega (arith, n, h) in ap (λ k. take k rest) k)
     (λ h. take_all (to - from) rest (omega (arith, n, h)) ∙ sym (take_all 64 rest (omega (arith, n, h))))
     (cases_lt 64 (length rest))
+
+-- a list that takes the place of one as long
+pub refilled : {X : Type 0} (n : ℕ) (xs ws : List X) → length ws ≡ n → refill n xs ws ≡ ws
+refilled n xs ws same = subst (λ (k : ℕ). take k (ws ++ drop (length ws) xs) ≡ ws) same (take-append_seam ws (drop (length ws) xs))

@@ -1,5 +1,6 @@
 -- The packets of a message, one by one.
-use Rattle.std.specs.Prelude.{ℕ, ◌+◌, ◌*◌, ◌==◌, nat_le, length, take, drop}
+use Rattle.std.specs.Prelude.{ℕ, ◌+◌, ◌*◌, ◌/◌, ◌==◌, List, nat_le, length, map, take, drop}
+use Rattle.std.specs.List.{range_with_len}
 use Rattle.mctp_net.specs.declared.packet.Packet.{Packet}
 use Rattle.mctp_net.specs.declared.message.Message.{Message}
 use Rattle.mctp_net.specs.Sizes.{unit_size}
@@ -13,3 +14,11 @@ piece_of m number = record {
   sequence = number;
   payload = take unit_size (drop (unit_size * number) m.body);
 }
+
+-- how many packets a message has
+abbrev pub count_of : Message → ℕ
+count_of m = (length m.body + 63) / 64
+
+-- its first packets, so many
+abbrev pub pieces_of : Message → ℕ → List Packet
+pieces_of m count = map (piece_of m) (range_with_len 0 count)

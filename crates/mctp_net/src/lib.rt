@@ -28,6 +28,6 @@ pub use message::Message;
 pub use packet::{Envelope, Name, Packet, Payload, Sequence, Tag, UNIT_SIZE};
 pub use reading::read_packet;
 pub use some_data::SomeData;
-pub use splitting::split;
+pub use splitting::{split, split_into};
 pub use taken::{DropCause, Taken};
-pub use writing::write_packet;
+pub use writing::{write_packet, write_packet_into};

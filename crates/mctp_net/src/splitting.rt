@@ -2,10 +2,10 @@
 ghost use Rattle.std.specs.Prelude.{◌≡◌, ◌+◌, ◌*◌, ◌<◌, ◌≤◌, List, length, take, drop};
 ghost use Rattle.mctp_net.specs.declared.packet.Packet.{Packet as AnyPacket};
 ghost use Rattle.mctp_net.specs.Cut.{IsCutOf, AreWritten};
-ghost use Rattle.mctp_net.specs.Pieces.{piece_of};
+ghost use Rattle.mctp_net.specs.Pieces.{piece_of, pieces_of, count_of};
 
 use crate::packet::UNIT_SIZE;
-use crate::{Message, Packet, Payload, Sequence, write_packet};
+use crate::{Message, Packet, Payload, Sequence, write_packet_into};
 use arrayvec::ArrayVec;
 use two_wire::Frame;
 
@@ -13,12 +13,39 @@ use two_wire::Frame;
 pub fn split(message: &Message<'_>) -> ArrayVec<Frame, 4>
     ensures { (ps : List AnyPacket) × IsCutOf message.now ps × AreWritten ps result.items }
 {
-    let count = message.body.as_slice().len().div_ceil(UNIT_SIZE);
     let mut frames = ArrayVec::new();
-    for number in 0..count {
-        frames.push(write_packet(&piece(message, number)));
-    }
+    split_into(message, &mut frames);
     frames
+}
+
+/// Makes the frames those of a message, one for each of its packets, whatever they were. Each is written where it stays.
+pub fn split_into(message: &Message<'_>, frames: &mut ArrayVec<Frame, 4>)
+    ensures { (ps : List AnyPacket) × IsCutOf message.now ps × AreWritten ps frames.new.items }
+{
+    let count = message.body.as_slice().len().div_ceil(UNIT_SIZE);
+    keep(frames, count);
+    write_each(message, frames.as_mut_slice());
+}
+
+// Makes them so many frames, of any bytes.
+fn keep(frames: &mut ArrayVec<Frame, 4>, count: usize)
+    requires { count ≤ 4 }
+    ensures { length frames.new.items ≡ count }
+{
+    frames.truncate(count);
+    for _have in frames.len()..count {
+        frames.push(Frame::new());
+    }
+}
+
+// Makes each of the frames that of the packet of its place.
+fn write_each(message: &Message<'_>, frames: &mut [Frame])
+    requires { length frames.old ≡ count_of message.now }
+    ensures { AreWritten (pieces_of message.now (count_of message.now)) frames.new }
+{
+    for (number, frame) in frames.iter_mut().enumerate() {
+        write_packet_into(&piece(message, number), frame);
+    }
 }
 
 // The packet of this number.

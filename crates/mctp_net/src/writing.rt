@@ -10,6 +10,15 @@ pub fn write_packet(packet: &Packet<'_>) -> Frame
     // The bits that a reader ignores are 0.
     ensures { IsSpelled packet.now 0 result }
 {
+    let mut frame = Frame::new();
+    write_packet_into(packet, &mut frame);
+    frame
+}
+
+/// Makes the frame that of a packet, whatever it was.
+pub fn write_packet_into(packet: &Packet<'_>, frame: &mut Frame)
+    ensures { IsSpelled packet.now 0 frame.new }
+{
     let Envelope {
         destination,
         source,
@@ -18,7 +27,7 @@ pub fn write_packet(packet: &Packet<'_>) -> Frame
         ..
     } = packet.envelope;
     let payload = packet.payload.as_slice();
-    let mut frame = Frame::new();
+    *frame = Frame::new();
     frame.push(destination.byte());
     frame.push(0x0F);
     frame.push(5 + payload.len() as u8);
@@ -29,7 +38,6 @@ pub fn write_packet(packet: &Packet<'_>) -> Frame
     frame.push(flags(packet));
     frame.extend_from_slice(payload);
     frame.push(pec(frame.as_slice()));
-    frame
 }
 
 // The byte of flags.

@@ -5,7 +5,10 @@ pub mod Rows
 pub mod TopRows
 pub mod Events
 pub mod Records
+pub mod Items
 pub mod Sensors
+pub mod Sizes
+pub mod EffecterFields
 pub mod BootSteps
 pub mod Changes
 pub mod Steps

@@ -25,7 +25,7 @@ use Rattle.plan_file.specs.Faults.{field_faults, first}
 use Rattle.plan_file.specs.PlanFaults.{is_outside, asks, kind_faults, step_faults, steps_faults, own_fault, plan_faults}
 use Rattle.plan_file.specs.PlanHolds.{IsStepIn}
 use Rattle.plan_file.proofs.First.{found, none_found, first-map, empty}
-use Rattle.plan_file.proofs.Sensors.{first-append}
+use Rattle.plan_file.proofs.Items.{first-append}
 
 -- ---- of a step
 

@@ -2,8 +2,6 @@
 use Rattle.std.proofs.Common.{◌≡◌, []}
 use Rattle.toml.specs.Data.{Members}
 use Rattle.plan_file.specs.declared.field.Field.TheVariants as field
-use Rattle.plan_file.specs.declared.row.Row.{Row}
-use Rattle.plan_file.specs.declared.row.Shape.{Shape}
 use Rattle.plan_file.specs.declared.row.Shape.TheVariants as shape
 use Rattle.plan_file.specs.declared.row.Need.TheVariants as need
 use Rattle.plan_file.specs.declared.row.TheConstants.{TOP}
@@ -24,6 +22,7 @@ pub record TopSound (tree : Members) : Type 0 where
   pub boot5 : Sound tree (record { 0 = field.Boot5; 1 = shape.BootFlags; 2 = need.Always })
   pub device : Sound tree (record { 0 = field.Device; 1 = shape.Table; 2 = need.Always })
   pub sensor : Sound tree (record { 0 = field.Sensor; 1 = shape.Tables 32; 2 = need.Never })
+  pub numeric : Sound tree (record { 0 = field.Numeric; 1 = shape.Tables 32; 2 = need.Never })
 
 pub top_sound : (tree : Members) → field_faults TOP tree ≡ [] → TopSound tree
 top_sound tree none =
@@ -34,10 +33,11 @@ top_sound tree none =
       enables = sound.1.1.1.0;
       policy = sound.1.1.1.1.0;
       watchdog = sound.1.1.1.1.1.0;
-      sdr = sound.1.1.1.1.1.1.0;
-      boot3 = sound.1.1.1.1.1.1.1.0;
-      boot4 = sound.1.1.1.1.1.1.1.1.0;
-      boot5 = sound.1.1.1.1.1.1.1.1.1.0;
+      boot3 = sound.1.1.1.1.1.1.0;
+      boot4 = sound.1.1.1.1.1.1.1.0;
+      boot5 = sound.1.1.1.1.1.1.1.1.0;
+      sdr = sound.1.1.1.1.1.1.1.1.1.0;
       device = sound.1.1.1.1.1.1.1.1.1.1.0;
       sensor = sound.1.1.1.1.1.1.1.1.1.1.1.0;
+      numeric = sound.1.1.1.1.1.1.1.1.1.1.1.1.0;
     }

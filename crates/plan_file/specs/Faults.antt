@@ -7,7 +7,7 @@ use Rattle.plan_file.specs.declared.field.Field.TheVariants as field
 use Rattle.plan_file.specs.declared.row.Need.{Need}
 use Rattle.plan_file.specs.declared.row.Need.TheVariants as need
 use Rattle.plan_file.specs.declared.row.Row.{Row}
-use Rattle.plan_file.specs.declared.row.TheConstants.{TOP, DEVICE, SENSOR}
+use Rattle.plan_file.specs.declared.row.TheConstants.{TOP, DEVICE, SENSOR, NUMERIC}
 use Rattle.plan_file.specs.declared.fault.FieldFault.{FieldFault}
 use Rattle.plan_file.specs.declared.fault.FieldFault.TheVariants as fault
 use Rattle.plan_file.specs.declared.fault.FileFault.{FileFault}
@@ -70,6 +70,10 @@ item_faults item_at rows named before (d ∷ ds) =
 abbrev pub sensor_faults : List Data → List FileFault
 sensor_faults ds = item_faults item.Sensor SENSOR field.Number [] ds
 
+-- the faults of the numeric effecters that an array has
+abbrev pub numeric_faults : List Data → List FileFault
+numeric_faults ds = item_faults item.Numeric NUMERIC field.Id [] ds
+
 -- a record's id
 abbrev pub id_of : Option (List ℕ) → ℕ
 id_of (Some bytes) = sdr_id bytes
@@ -89,13 +93,15 @@ ids_in (d ∷ ds) = id_of (record_in d) ∷ ids_in ds
 abbrev pub record_faults : List Data → List FileFault
 record_faults ds = if has_twice (ids_in ds) then file.Twice (record { item = item.Top; field = field.Sdr }) ∷ [] else []
 
--- the faults of a board file: those of its own fields, of its sensor data records, of `[device]` and of each `[[sensor]]`
+-- the faults of a board file: those of its own fields, of its sensor data records, of `[device]`, of each `[[sensor]]` and of
+-- each `[[numeric]]`
 unfoldable pub board_faults : Members → List FileFault
 board_faults tree =
     map (fault_at item.Top) (field_faults TOP tree)
     ++ (record_faults (members_in field.Sdr tree)
     ++ (map (fault_at item.Device) (field_faults DEVICE (table_in field.Device tree))
-    ++ sensor_faults (members_in field.Sensor tree)))
+    ++ (sensor_faults (members_in field.Sensor tree)
+    ++ numeric_faults (members_in field.Numeric tree))))
 
 -- the fault that counts
 abbrev pub first : {A : Type 0} → List A → Option A

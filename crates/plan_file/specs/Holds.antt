@@ -1,10 +1,14 @@
 -- The board that a tree holds.
-use Rattle.std.specs.Prelude.{◌≡◌, ◌<◌, ℕ, List, [], ◌∷◌, length, Some, Result, Ok, Err, MatchOption}
+use Rattle.std.specs.Prelude.{◌≡◌, ◌<◌, ℕ, Bool, if◌then◌else◌, List, [], ◌∷◌, length, Some, Result, Ok, Err, MatchOption}
 use Rattle.std.specs.List.{AllZip}
 use Rattle.toml.specs.Data.{Data, Members}
 use Rattle.toml.specs.Parse.{parse_document}
 use Rattle.cfg_records.specs.EventEnable.{flags_byte}
 use Rattle.cfg_records.specs.BootParam.{flag_bytes}
+use Rattle.cfg_records.specs.NumericSize.{code_of}
+use Rattle.cfg_records.specs.declared.numeric_size.NumericSize.{NumericSize}
+use Rattle.cfg_records.specs.declared.numeric_range.NumericRange.{NumericRange}
+use Rattle.cfg_records.specs.declared.numeric_effecter.NumericEffecter.{NumericEffecter}
 use Rattle.cfg_records.specs.declared.boot_param.BootOptions.{BootOptions}
 use Rattle.cfg_records.specs.declared.device.Device.{Device}
 use Rattle.cfg_records.specs.declared.event_enable.EventEnable.{EventEnable}
@@ -15,9 +19,12 @@ use Rattle.plan_file.specs.declared.field.Field.{Field}
 use Rattle.plan_file.specs.declared.field.Field.TheVariants as field
 use Rattle.plan_file.specs.declared.fault.FileFault.{FileFault}
 use Rattle.plan_file.specs.declared.fault.FileFault.TheVariants as file
+use Rattle.plan_file.specs.declared.fault.Item.{Item}
 use Rattle.plan_file.specs.declared.fault.Item.TheVariants as item
-use Rattle.plan_file.specs.declared.row.TheConstants.{SENSOR}
+use Rattle.plan_file.specs.declared.row.Row.{Row}
+use Rattle.plan_file.specs.declared.row.TheConstants.{SENSOR, NUMERIC}
 use Rattle.plan_file.specs.Trees.{number_in, numbers_in, table_of, table_in, members_in}
+use Rattle.plan_file.specs.Numeric.{sized_in}
 use Rattle.plan_file.specs.Ranges.{record_in}
 use Rattle.plan_file.specs.Faults.{item_faults, board_faults, first}
 
@@ -72,10 +79,51 @@ IsSensorIn d sensor = HoldsSensor (table_of d) sensor
 abbrev pub number_of : Sensor → ℕ
 number_of sensor = sensor.number
 
+-- the fault counts in an array of items, where those before the member hold these
+abbrev pub IsNextAmong : {A : Type 0} → (Data → A → Type 0) → (ℕ → Item) → List Row → Field → List A → Data → FileFault → Type 0
+IsNextAmong holds item_at rows named before d why =
+    (seen ds : List Data) → AllZip holds seen before → first (item_faults item_at rows named seen (d ∷ ds)) ≡ Some why
+
 -- the fault counts in an array of sensors, where those before the member hold these
 abbrev pub IsNextFault : List Sensor → Data → FileFault → Type 0
-IsNextFault before d why =
-    (seen ds : List Data) → AllZip IsSensorIn seen before → first (item_faults item.Sensor SENSOR field.Number seen (d ∷ ds)) ≡ Some why
+IsNextFault before d why = IsNextAmong IsSensorIn item.Sensor SENSOR field.Number before d why
+
+-- ---- numeric effecters
+
+-- the table has the number of this size, by its bits, in the field
+abbrev pub HasSized : NumericSize → Field → Members → ℕ → Type 0
+HasSized size named tree n = sized_in size named tree ≡ Some n
+
+-- the table holds the numbers that a numeric effecter can be set to
+pub record HoldsRange (tree : Members) (range : NumericRange) : Type 0 where
+  pub size : HasNumber field.Size tree (code_of range.size)
+  pub lower : HasSized range.size field.Lower tree range.lower
+  pub upper : HasSized range.size field.Upper tree range.upper
+
+-- the number of an operational state: enabled without a pending update, or disabled
+abbrev pub operational : Bool → ℕ
+operational enabled = if enabled then 1 else 2
+
+-- the table holds a numeric effecter
+pub record HoldsNumeric (tree : Members) (effecter : NumericEffecter) : Type 0 where
+  pub numbered : HasNumber field.Id tree effecter.id
+  pub state : HasNumber field.Operational tree (operational effecter.enabled)
+  pub range : HoldsRange tree effecter.range
+  pub current : HasSized effecter.range.size field.Current tree effecter.current
+
+-- the member of an array holds a numeric effecter
+abbrev pub IsNumericIn : Data → NumericEffecter → Type 0
+IsNumericIn d effecter = HoldsNumeric (table_of d) effecter
+
+-- a numeric effecter's id
+abbrev pub effecter_id : NumericEffecter → ℕ
+effecter_id effecter = effecter.id
+
+-- the fault counts in an array of numeric effecters, where those before the member hold these
+abbrev pub IsNextNumericFault : List NumericEffecter → Data → FileFault → Type 0
+IsNextNumericFault before d why = IsNextAmong IsNumericIn item.Numeric NUMERIC field.Id before d why
+
+-- ---- boards
 
 -- the settings of a watchdog, as a file lists them
 abbrev pub settings : Watchdog → List ℕ
@@ -99,7 +147,11 @@ pub record HoldsBoard (tree : Members) (board : BoardFile) : Type 0 where
   pub boot : HoldsBoot tree board.boot
   pub device : HoldsDevice (table_in field.Device tree) board.device
   pub sensors : AllZip IsSensorIn (members_in field.Sensor tree) board.sensors.items
-  pub no_numeric : board.numeric_effecters.items ≡ []
+  pub effecters : AllZip IsNumericIn (members_in field.Numeric tree) board.numeric_effecters.items
+  pub no_users : board.users.items ≡ []
+  pub no_channels : board.channels.items ≡ []
+  pub no_sessionless : board.sessionless.items ≡ []
+  pub no_accesses : board.user_accesses.items ≡ []
 
 -- what the reading of a tree answers: the board that it holds where it has no fault, else its first fault
 abbrev pub Answers : Members → Result BoardFile FileFault → Type 0

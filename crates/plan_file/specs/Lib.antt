@@ -1,6 +1,7 @@
 pub mod Words
 pub mod Names
 pub mod Trees
+pub mod Numeric
 pub mod Ranges
 pub mod Faults
 pub mod Holds

@@ -1,5 +1,5 @@
 -- The plan that a tree holds.
-use Rattle.std.specs.Prelude.{◌≡◌, ℕ, ◌==◌, ◌/◌, ◌%◌, Bool, true, List, [], map, length, slice_get, Option, Some, None, is_some, option_and_then, Result, Ok, Err, MatchOption, codes}
+use Rattle.std.specs.Prelude.{◌≡◌, ℕ, ◌==◌, ◌/◌, ◌%◌, Bool, true, List, [], ◌∷◌, map, length, slice_get, Option, Some, None, is_some, option_and_then, Result, Ok, Err, MatchOption, codes}
 use Rattle.std.specs.List.{AllZip, list_any}
 use Rattle.toml.specs.Data.{Data, Members, as_bool}
 use Rattle.toml.specs.Parse.{parse_document}
@@ -18,6 +18,9 @@ use Rattle.cfg_records.specs.declared.global_enables.SetGlobalEnables.{SetGlobal
 use Rattle.cfg_records.specs.declared.boot_param.BootChange.{BootChange}
 use Rattle.cfg_records.specs.declared.boot_param.SetBootParam.{SetBootParam}
 use Rattle.cfg_records.specs.BootParam.{selector, parameter_of, change_bytes}
+use Rattle.cfg_records.specs.declared.numeric_effecter.NumericBytes.{NumericBytes}
+use Rattle.cfg_records.specs.declared.numeric_effecter.NumericBytes.TheVariants as bytes
+use Rattle.cfg_records.specs.declared.numeric_effecter.SetNumericEffecter.{SetNumericEffecter}
 use Rattle.plans.specs.declared.plan.Plan.{Plan}
 use Rattle.plan_file.specs.declared.field.Field.{Field}
 use Rattle.plan_file.specs.declared.field.Field.TheVariants as field
@@ -26,6 +29,7 @@ use Rattle.plan_file.specs.declared.change.TheConstants.{LIMITS}
 use Rattle.plan_file.specs.declared.plan_fault.PlanFault.{PlanFault}
 use Rattle.plan_file.specs.declared.plan_fault.PlanFault.TheVariants as plan
 use Rattle.plan_file.specs.Trees.{in_field, natural, bytes_in, number_in, table_of, members_in}
+use Rattle.plan_file.specs.Numeric.{sized_bytes}
 use Rattle.plan_file.specs.Ranges.{passes, has_text, or_zero}
 use Rattle.plan_file.specs.Kinds.{kind_in}
 use Rattle.plan_file.specs.Faults.{first}
@@ -138,6 +142,21 @@ pub record HoldsBootParam (tree : Members) (set : SetBootParam) : Type 0 where
   pub invalid : HasFlag field.Invalid tree set.invalid
   pub change : HoldsBootChange tree set.change
 
+-- ---- numeric effecters
+
+-- what a step tells are the bytes of a request's value
+abbrev pub AreBytes : NumericBytes → Option (List ℕ) → Type 0
+AreBytes (bytes.One a) told = told ≡ Some (a ∷ [])
+AreBytes (bytes.Two a b) told = told ≡ Some (a ∷ b ∷ [])
+AreBytes (bytes.Four a b c d) told = told ≡ Some (a ∷ b ∷ c ∷ d ∷ [])
+AreBytes bytes.Other told = ⊥
+
+-- the step holds a change of a numeric effecter's value: the bytes of its number, of its size
+pub record HoldsNumericEffecter (tree : Members) (set : SetNumericEffecter) : Type 0 where
+  pub effecter : HasNumber field.Effecter tree set.effecter
+  pub size : HasNumber field.Size tree set.size
+  pub value : AreBytes set.value (sized_bytes field.Value tree)
+
 -- ---- plans
 
 -- the step holds a change of the kind that it names
@@ -149,8 +168,11 @@ HoldsStep tree (op.Watchdog set) = (kind_in tree ≡ Some kind.Watchdog) × Hold
 HoldsStep tree (op.PowerPolicy set) = (kind_in tree ≡ Some kind.PowerPolicy) × HoldsPowerPolicy tree set
 HoldsStep tree (op.GlobalEnables set) = (kind_in tree ≡ Some kind.GlobalEnables) × HoldsGlobalEnables tree set
 HoldsStep tree (op.BootParam set) = (kind_in tree ≡ Some kind.BootParam) × HoldsBootParam tree set
--- no kind of step changes a numeric effecter
-HoldsStep tree (op.NumericEffecter set) = ⊥
+HoldsStep tree (op.NumericEffecter set) = (kind_in tree ≡ Some kind.NumericEffecter) × HoldsNumericEffecter tree set
+-- no kind of step changes a user or a channel
+HoldsStep tree (op.UserName set) = ⊥
+HoldsStep tree (op.UserAccess set) = ⊥
+HoldsStep tree (op.ChannelAccess set) = ⊥
 
 -- the member of an array holds a change
 abbrev pub IsStepIn : Data → Op → Type 0

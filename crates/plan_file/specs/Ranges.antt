@@ -18,6 +18,7 @@ use Rattle.plan_file.specs.declared.field.Field.TheVariants as field
 use Rattle.plan_file.specs.declared.row.Shape.{Shape}
 use Rattle.plan_file.specs.declared.row.Shape.TheVariants as shape
 use Rattle.plan_file.specs.Trees.{in_field, members, natural, naturals_in, bytes_in, number_in, or_none}
+use Rattle.plan_file.specs.Numeric.{size_in, sized, sized_in, in_order}
 
 -- the value is an integer
 abbrev pub is_integer : Data → Bool
@@ -63,6 +64,9 @@ has_type shape.Text d = is_some (as_str d)
 has_type shape.Select d = is_some (as_str d)
 has_type shape.Offsets d = is_array_of is_integer d
 has_type shape.BootData d = is_array_of is_integer d
+has_type shape.Sized d = is_integer d
+has_type shape.Upper d = is_integer d
+has_type shape.Current d = is_integer d
 
 -- ---- ranges
 
@@ -179,3 +183,7 @@ is_in_range tree shape.Text d = true
 is_in_range tree shape.Select d = passes is_selection (as_str d)
 is_in_range tree shape.Offsets d = is_array_of is_offset d
 is_in_range tree shape.BootData d = passes (λ named. are_boot_data named d) (parameter_in tree)
+is_in_range tree shape.Sized d = passes (λ size. is_some (sized size d)) (size_in tree)
+is_in_range tree shape.Upper d = passes (λ size. in_order size (sized_in size field.Lower tree) (sized size d)) (size_in tree)
+is_in_range tree shape.Current d =
+    passes (λ size. in_order size (sized_in size field.Lower tree) (sized size d) && in_order size (sized size d) (sized_in size field.Upper tree)) (size_in tree)

@@ -10,6 +10,7 @@ ghost use Rattle.plan_file.specs.Faults.{field_faults, record_faults, sensor_fau
 ghost use Rattle.plan_file.specs.Holds.{HasNumber, HasBelow, HoldsBoot, HoldsDevice, HoldsEvents, HoldsSensor, IsRecordIn, IsSensorIn, IsNextFault, number_of, Answers, Reads};
 
 use crate::check::check;
+use crate::effecters::numeric_effecters;
 use crate::fault::{FileFault, Item, Place};
 use crate::field::Field;
 use crate::range::{boot_flags, digits, enables, hysteresis, record, thresholds, watchdog};
@@ -19,7 +20,7 @@ use cfg_records::event_enable::{MESSAGES_PLACE, SCANNING_PLACE};
 use cfg_records::mask::has;
 use cfg_records::{
     BoardFile, BootOptions, Device, Distinct, EventEnable, EventMasks, GlobalEnables, LogCapacity,
-    ManufacturerId, NumericEffecters, PowerPolicy, SdrRecord, SdrRecords, Sensor, Sensors,
+    ManufacturerId, Numbered, PowerPolicy, SdrRecord, SdrRecords, Sensor, Sensors,
 };
 use std::alloc::Global;
 use toml::{Table, Value};
@@ -227,8 +228,8 @@ fn boot_options(tree: &Table) -> BootOptions
     BootOptions::new(clearing, acknowledge, flags).unwrap()
 }
 
-/// A board file gives a board no numeric effecters.
-fn no_numeric(alloc: Global) -> NumericEffecters
+/// A board file gives a board no users or channels.
+fn no_items<T: Numbered + Drop, const MOST: usize>(alloc: Global) -> Distinct<T, MOST>
     ensures { result.items ≡ [] }
 {
     Distinct::new(Vec::new(alloc)).unwrap()
@@ -243,6 +244,7 @@ fn board_of(alloc: Global, tree: &Table) -> Result<BoardFile, FileFault>
     let board = table_in(tree, Field::Device);
     check(Item::Device, &DEVICE, board)?;
     let sensors = sensors(alloc, tree)?;
+    let numeric_effecters = numeric_effecters(alloc, tree)?;
     Ok(BoardFile {
         tid: byte_in(tree, Field::Tid),
         device: device(board),
@@ -254,12 +256,16 @@ fn board_of(alloc: Global, tree: &Table) -> Result<BoardFile, FileFault>
         clock: number_in(tree, Field::Clock),
         log: LogCapacity::new(word_in(tree, Field::Log)).unwrap(),
         sdr,
-        numeric_effecters: no_numeric(alloc),
+        numeric_effecters,
+        users: no_items(alloc),
+        channels: no_items(alloc),
+        sessionless: no_items(alloc),
+        user_accesses: no_items(alloc),
     })
 }
 
-/// The board that the text holds, or why it is no board file: its first fault, in the order in which `TOP`, `DEVICE` and
-/// `SENSOR` list fields. Keys that name no field are ignored.
+/// The board that the text holds, or why it is no board file: its first fault, in the order in which `TOP`, `DEVICE`, `SENSOR` and
+/// `NUMERIC` list fields. Keys that name no field are ignored.
 pub fn read_board(alloc: Global, text: &str) -> Result<BoardFile, FileFault>
     ensures { (result ≡ Err FileFault.Memory) ⊎ Reads text.now result }
 {

@@ -4,21 +4,25 @@ ghost use Rattle.std.specs.List.{list_all, list_any};
 ghost use Rattle.cfg_records.specs.Masks.{has};
 ghost use Rattle.toml.specs.View.{view, table_view};
 ghost use Rattle.plan_file.specs.Trees.{number_in, members_in};
+ghost use Rattle.plan_file.specs.Numeric.{sized_bytes};
 ghost use Rattle.plan_file.specs.Ranges.{is_offset, or_zero};
 ghost use Rattle.plan_file.specs.Faults.{field_faults};
-ghost use Rattle.plan_file.specs.PlanHolds.{flag_in, is_given, is_number, HoldsEvents, HoldsThresholds, HoldsHysteresis, HoldsChange, HoldsEventEnable, HoldsWatchdog, HoldsPowerPolicy, HoldsGlobalEnables, HoldsBootChange, HoldsBootParam};
+ghost use Rattle.plan_file.specs.PlanHolds.{flag_in, is_given, is_number, HoldsEvents, HoldsThresholds, HoldsHysteresis, HoldsChange, HoldsEventEnable, HoldsWatchdog, HoldsPowerPolicy, HoldsGlobalEnables, HoldsBootChange, HoldsBootParam, AreBytes, HoldsNumericEffecter};
 
 use crate::board::{byte_in, value_in, word_in};
 use crate::field::Field;
 use crate::kind::{
-    BOOT_PARAM, EVENT_ENABLE, GLOBAL_ENABLES, HYSTERESIS, POWER_POLICY, THRESHOLDS, WATCHDOG,
+    BOOT_PARAM, EVENT_ENABLE, GLOBAL_ENABLES, HYSTERESIS, NUMERIC_EFFECTER, POWER_POLICY,
+    THRESHOLDS, WATCHDOG,
 };
+use crate::numeric::{numeric_bytes, size_in, sized_in};
 use crate::range::{boot_change, enables, is_between, parameter_in};
 use crate::tree::{has_text, in_field, members_in, natural, number};
 use cfg_records::event_enable::MESSAGES_PLACE;
 use cfg_records::{
-    BootChange, EventChange, EventMasks, SetBootParam, SetEventEnable, SetGlobalEnables,
-    SetHysteresis, SetPowerPolicy, SetThresholds, SetWatchdog,
+    BootChange, EventChange, EventMasks, NumericBytes, SetBootParam, SetEventEnable,
+    SetGlobalEnables, SetHysteresis, SetNumericEffecter, SetPowerPolicy, SetThresholds,
+    SetWatchdog,
 };
 use toml::{Table, Value};
 
@@ -251,5 +255,27 @@ pub fn boot_param(step: &Table) -> SetBootParam
     SetBootParam {
         invalid: flag(step, Field::Invalid),
         change: boot_data(step),
+    }
+}
+
+/// The bytes of the number that the step gives, of the size that it gives.
+fn numeric_value(step: &Table) -> NumericBytes
+    requires { field_faults NUMERIC_EFFECTER (table_view step.now) ≡ [] }
+    ensures { AreBytes result (sized_bytes Field.Value (table_view step.now)) }
+{
+    let size = size_in(step).unwrap();
+    let number = sized_in(step, size, Field::Value).unwrap();
+    numeric_bytes(size, number)
+}
+
+/// What the step makes of the value of a numeric effecter.
+pub fn numeric_effecter(step: &Table) -> SetNumericEffecter
+    requires { field_faults NUMERIC_EFFECTER (table_view step.now) ≡ [] }
+    ensures { HoldsNumericEffecter (table_view step.now) result }
+{
+    SetNumericEffecter {
+        effecter: word_in(step, Field::Effecter),
+        size: byte_in(step, Field::Size),
+        value: numeric_value(step),
     }
 }

@@ -63,6 +63,13 @@ pub enum Field {
     Param,
     Invalid,
     BootData,
+    Numeric,
+    Size,
+    Operational,
+    Lower,
+    Upper,
+    Current,
+    Effecter,
 }
 
 impl Field {
@@ -127,6 +134,13 @@ impl Field {
             Field::Param => "param",
             Field::Invalid => "invalid",
             Field::BootData => "data",
+            Field::Numeric => "numeric",
+            Field::Size => "size",
+            Field::Operational => "operational",
+            Field::Lower => "lower",
+            Field::Upper => "upper",
+            Field::Current => "current",
+            Field::Effecter => "effecter",
         }
     }
 }

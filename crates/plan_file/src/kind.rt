@@ -19,10 +19,11 @@ pub enum Kind {
     PowerPolicy,
     GlobalEnables,
     BootParam,
+    NumericEffecter,
 }
 
 /// All kinds of step.
-pub const KINDS: [Kind; 7] = [
+pub const KINDS: [Kind; 8] = [
     Kind::Thresholds,
     Kind::Hysteresis,
     Kind::EventEnable,
@@ -30,6 +31,7 @@ pub const KINDS: [Kind; 7] = [
     Kind::PowerPolicy,
     Kind::GlobalEnables,
     Kind::BootParam,
+    Kind::NumericEffecter,
 ];
 
 /// The field of a step that names its kind.
@@ -86,6 +88,13 @@ pub const BOOT_PARAM: [Row; 3] = [
     Row(Field::BootData, Shape::BootData, Need::Never),
 ];
 
+/// The fields of a step that sets the value of a numeric effecter.
+pub const NUMERIC_EFFECTER: [Row; 3] = [
+    Row(Field::Effecter, Shape::Number(0, 0xFFFF), Need::Always),
+    Row(Field::Size, Shape::Number(0, 5), Need::Always),
+    Row(Field::Value, Shape::Sized, Need::Always),
+];
+
 impl Kind {
     /// What a step's `kind` calls it.
     pub fn word(&self) -> &'static str
@@ -99,6 +108,7 @@ impl Kind {
             Kind::PowerPolicy => "power-policy",
             Kind::GlobalEnables => "global-enables",
             Kind::BootParam => "boot-param",
+            Kind::NumericEffecter => "numeric-effecter",
         }
     }
 
@@ -114,6 +124,7 @@ impl Kind {
             Kind::PowerPolicy => &POWER_POLICY,
             Kind::GlobalEnables => &GLOBAL_ENABLES,
             Kind::BootParam => &BOOT_PARAM,
+            Kind::NumericEffecter => &NUMERIC_EFFECTER,
         }
     }
 }

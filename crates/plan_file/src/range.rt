@@ -11,6 +11,7 @@ ghost use Rattle.plan_file.specs.Ranges.{passes, is_integer, is_table, is_array_
 ghost use Rattle.plan_file.specs.Holds.{settings};
 
 use crate::field::Field;
+use crate::numeric::{in_order, size_in, sized, sized_in};
 use crate::row::Shape;
 use crate::tree::{bytes, members, natural, naturals, number};
 use cfg_records::event_enable::are_within;
@@ -368,6 +369,39 @@ fn are_boot_data(item: &Table, value: &Value) -> bool
     }
 }
 
+/// Whether the value is a number of the size that the item names.
+fn is_sized(item: &Table, value: &Value) -> bool
+    ensures { result ≡ is_in_range (table_view item.now) Shape.Sized (view value.now) }
+{
+    match size_in(item) {
+        Some(size) => sized(size, value).is_some(),
+        None => false,
+    }
+}
+
+/// Whether the value is such a number, and not below the item's lower bound.
+fn is_upper(item: &Table, value: &Value) -> bool
+    ensures { result ≡ is_in_range (table_view item.now) Shape.Upper (view value.now) }
+{
+    match size_in(item) {
+        Some(size) => in_order(size, sized_in(item, size, Field::Lower), sized(size, value)),
+        None => false,
+    }
+}
+
+/// Whether the value is such a number, within the item's bounds.
+fn is_current(item: &Table, value: &Value) -> bool
+    ensures { result ≡ is_in_range (table_view item.now) Shape.Current (view value.now) }
+{
+    let Some(size) = size_in(item) else {
+        return false;
+    };
+    let lower = sized_in(item, size, Field::Lower);
+    let upper = sized_in(item, size, Field::Upper);
+    let number = sized(size, value);
+    in_order(size, lower, number) && in_order(size, number, upper)
+}
+
 impl Shape {
     /// Whether the value is of its type.
     pub fn has_type(&self, value: &Value) -> bool
@@ -381,6 +415,7 @@ impl Shape {
             }
             Shape::Records(_) => are_texts(value),
             Shape::BootFlags | Shape::BootData => are_integers(value),
+            Shape::Sized | Shape::Upper | Shape::Current => value.is_integer(),
             Shape::Table => value.is_table(),
             Shape::Tables(_) => are_tables(value),
             Shape::Flag => value.is_bool(),
@@ -409,6 +444,9 @@ impl Shape {
             Shape::Select => is_selection(value),
             Shape::Offsets => are_offsets(value),
             Shape::BootData => are_boot_data(item, value),
+            Shape::Sized => is_sized(item, value),
+            Shape::Upper => is_upper(item, value),
+            Shape::Current => is_current(item, value),
         }
     }
 }

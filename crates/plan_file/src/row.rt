@@ -45,6 +45,12 @@ pub enum Shape {
     Offsets,
     /// Bytes, in a list: data of the boot parameter that the item names.
     BootData,
+    /// A whole number of the size that the item names.
+    Sized,
+    /// Such a number, not below the item's lower bound.
+    Upper,
+    /// Such a number within the item's bounds.
+    Current,
 }
 
 /// When an item needs a field.
@@ -77,19 +83,20 @@ pub struct Row(pub Field, pub Shape, pub Need);
 pub const BYTE: Shape = Shape::Number(0, 255);
 
 /// A board file's own fields.
-pub const TOP: [Row; 12] = [
+pub const TOP: [Row; 13] = [
     Row(Field::Tid, BYTE, Need::Always),
     Row(Field::Clock, Shape::Number(0, 0xFFFF_FFFF), Need::Always),
     Row(Field::Log, Shape::Number(1, 1_024), Need::Always),
     Row(Field::Enables, Shape::Enables, Need::Always),
     Row(Field::Policy, Shape::Number(0, 3), Need::Always),
     Row(Field::Watchdog, Shape::Watchdog, Need::Always),
-    Row(Field::Sdr, Shape::Records(64), Need::Always),
     Row(Field::Boot3, Shape::Number(0, 31), Need::Always),
     Row(Field::Boot4, BYTE, Need::Always),
     Row(Field::Boot5, Shape::BootFlags, Need::Always),
+    Row(Field::Sdr, Shape::Records(64), Need::Always),
     Row(Field::Device, Shape::Table, Need::Always),
     Row(Field::Sensor, Shape::Tables(32), Need::Never),
+    Row(Field::Numeric, Shape::Tables(32), Need::Never),
 ];
 
 /// The fields of `[device]`.
@@ -119,6 +126,16 @@ pub const SENSOR: [Row; 10] = [
     Row(Field::Flags, Shape::Flags, Need::Always),
     Row(Field::Assert, Shape::Events, Need::Always),
     Row(Field::Deassert, Shape::Events, Need::Always),
+];
+
+/// The fields of a `[[numeric]]`.
+pub const NUMERIC: [Row; 6] = [
+    Row(Field::Id, Shape::Number(0, 0xFFFF), Need::Always),
+    Row(Field::Size, Shape::Number(0, 5), Need::Always),
+    Row(Field::Operational, Shape::Number(1, 2), Need::Always),
+    Row(Field::Lower, Shape::Sized, Need::Always),
+    Row(Field::Upper, Shape::Upper, Need::Always),
+    Row(Field::Current, Shape::Current, Need::Always),
 ];
 
 /// A plan's own fields.

@@ -8,7 +8,8 @@ ghost use Rattle.plan_file.specs.PlanFaults.{outside_word, is_outside, asks, kin
 ghost use Rattle.plan_file.specs.PlanHolds.{HoldsStep};
 
 use crate::change::{
-    boot_param, event_enable, global_enables, hysteresis, power_policy, thresholds, watchdog,
+    boot_param, event_enable, global_enables, hysteresis, numeric_effecter, power_policy,
+    thresholds, watchdog,
 };
 use crate::check::first_fault;
 use crate::field::Field;
@@ -109,6 +110,7 @@ fn change(kind: Kind, step: &Table) -> Op
         Kind::PowerPolicy => Op::PowerPolicy(power_policy(step)),
         Kind::GlobalEnables => Op::GlobalEnables(global_enables(step)),
         Kind::BootParam => Op::BootParam(boot_param(step)),
+        Kind::NumericEffecter => Op::NumericEffecter(numeric_effecter(step)),
     }
 }
 

@@ -1,5 +1,5 @@
 -- The records that a board file gives are sound.
-use Rattle.std.proofs.Common.{◌≡◌, ℕ, List, [], ◌∷◌, map, Option, Some, Bool, true, false, cond, ◌==◌, refl, sym, subst, eq-eqb, arith}
+use Rattle.std.proofs.Common.{◌≡◌, ℕ, List, [], ◌∷◌, map, length, ap, Option, Some, None, Bool, true, false, cond, ◌==◌, refl, sym, subst, eq-eqb, arith}
 use Rattle.std.specs.List.{find}
 use Rattle.std.specs.Option.{option_map}
 use Rattle.std.proofs.lemmas.Bool.Decides.{nat_tests}
@@ -10,15 +10,22 @@ use Rattle.cfg_records.specs.declared.sensor.Sensor.{Sensor}
 use Rattle.cfg_records.specs.declared.board_file.BoardFile.{BoardFile}
 use Rattle.cfg_records.specs.Keys.{same_key}
 use Rattle.cfg_records.specs.KeyLaws.{exact_key, same_key_self}
-use Rattle.cfg_records.specs.MaskLaws.{same_test}
+use Rattle.cfg_records.specs.MaskLaws.{same_test, both, both_true}
+use Rattle.cfg_records.specs.NumberLaws.{same_channel, same_user}
+use Rattle.cfg_records.specs.declared.user.UserNumber.{UserNumber}
+use Rattle.cfg_records.specs.declared.user.UserOnChannel.{UserOnChannel}
+use Rattle.cfg_records.specs.declared.channel.Channel.{Channel}
+use Rattle.cfg_records.specs.declared.channel.ChannelNumber.{ChannelNumber}
+use Rattle.cfg_records.specs.declared.channel.AccessStore.{AccessStore}
+use Rattle.cfg_records.specs.declared.channel.AccessStore.TheVariants.{NonVolatile, Volatile, Neither}
 use Rattle.cfg_records.specs.Records.{Pair, value_of, records_of}
 use Rattle.cfg_records.proofs.Pairs.{has_key}
-use Rattle.cfg_records.proofs.BoardPairs.{place_of, pairs_at, record_of_kind}
-use Rattle.cfg_records.specs.Boards.{number_value}
+use Rattle.cfg_records.proofs.BoardPairs.{user_number, channel_number, place_of, pairs_at, record_of_kind}
+use Rattle.cfg_records.specs.Boards.{number_value, stored, access_value}
 use Rattle.record_kinds.specs.declared.limits.Limits.{Limits}
 use Rattle.record_kinds.specs.declared.limits.Limits.TheVariants as limits
 use Rattle.record_kinds.specs.Limits.{valid}
-use Rattle.record_kinds.specs.Boards.{of_sensor, limits_at}
+use Rattle.record_kinds.specs.Boards.{of_sensor, is_on, limits_at}
 use Rattle.record_kinds.specs.Sound.{IsSoundAt, StartsSound}
 
 -- ---- pairs of one kind of item
@@ -52,6 +59,68 @@ of_sensors : (file : BoardFile) (of : ℕ → Key) (value : Sensor → List ℕ)
 of_sensors file of value limits_of number exact =
     sound_of (λ s. (of s.number, value s)) limits_of (λ s. s.number == number) file.sensors.items (of number) (λ s. same_numbered of exact s.number number)
 
+-- two tests are one where each holds of the same
+same_user_key : (a b : UserNumber) → same_key (key.UserName a) (key.UserName b) ≡ (a.number == b.number)
+same_user_key a b =
+    same_test _ _
+    (λ h. eq-eqb a.number b.number (ap user_number (exact_key (key.UserName a) (key.UserName b) h)))
+    (λ h. subst (λ (u : UserNumber). same_key (key.UserName a) (key.UserName u) ≡ true) (same_user a b (same_number _ _ h)) (same_key_self (key.UserName a)))
+
+on_of : Key → UserOnChannel → UserOnChannel
+on_of (key.UserAccess on) other = on
+on_of _ other = other
+
+-- parts that are one make one whole
+one_on : (c d : ChannelNumber) (u v : UserNumber) → c ≡ d → u ≡ v → (let a : UserOnChannel = record { channel = c; user = u } in a) ≡ record { channel = d; user = v }
+one_on c d u v p q i = record { channel = p i; user = q i }
+
+same_on_key : (a b : UserOnChannel) → same_key (key.UserAccess a) (key.UserAccess b) ≡ is_on a b
+unfolding on_of
+same_on_key a b =
+    same_test _ _
+    (λ h. let one : a ≡ b = ap (λ (k : Key). on_of k a) (exact_key (key.UserAccess a) (key.UserAccess b) h) in
+    both _ _ (eq-eqb _ _ (ap (λ (o : UserOnChannel). o.channel.number) one)) (eq-eqb _ _ (ap (λ (o : UserOnChannel). o.user.number) one)))
+    (λ h.
+    let tests = both_true _ _ h in
+    let one : a ≡ b = one_on a.channel b.channel a.user b.user (same_channel a.channel b.channel (same_number _ _ tests.0)) (same_user a.user b.user (same_number _ _ tests.1)) in
+    subst (λ (o : UserOnChannel). same_key (key.UserAccess a) (key.UserAccess o) ≡ true) one (same_key_self (key.UserAccess a)))
+
+same_store_key : (store : AccessStore) (a b : ChannelNumber) → same_key (key.ChannelAccess (stored a store)) (key.ChannelAccess (stored b store)) ≡ (a.number == b.number)
+same_store_key store a b =
+    same_test _ _
+    (λ h. eq-eqb a.number b.number (ap channel_number (exact_key (key.ChannelAccess (stored a store)) (key.ChannelAccess (stored b store)) h)))
+    (λ h. subst (λ (c : ChannelNumber). same_key (key.ChannelAccess (stored a store)) (key.ChannelAccess (stored c store)) ≡ true) (same_channel a b (same_number _ _ h)) (same_key_self (key.ChannelAccess (stored a store))))
+
+store_of : Key → AccessStore
+store_of (key.ChannelAccess at) = at.store
+store_of _ = Neither
+
+other_store : Volatile ≡ Neither → ⊥
+other_store same = cc
+
+stores_differ : (a b : ChannelNumber) (test : Bool) → same_key (key.ChannelAccess (stored a Volatile)) (key.ChannelAccess (stored b Neither)) ≡ test → test ≡ false
+unfolding store_of
+stores_differ a b true is = absurd (other_store (ap store_of (exact_key (key.ChannelAccess (stored a Volatile)) (key.ChannelAccess (stored b Neither)) is)))
+stores_differ a b false is = refl
+
+passed_over : (b : Bool) (pair : Pair) (rest : Option Pair) → b ≡ false → option_map value_of rest ≡ None → option_map value_of (cond b (Some pair) rest) ≡ None
+passed_over true pair rest is none = cc
+passed_over false pair rest is none = none
+
+-- neither store has a record
+no_store : (channels : List Channel) (channel : ChannelNumber) → records_of (map (λ c. (key.ChannelAccess (stored c.number Volatile), access_value c.volatile)) channels) (key.ChannelAccess (stored channel Neither)) ≡ None
+no_store [] channel = refl
+no_store (c ∷ cs) channel = passed_over _ _ _ (stores_differ c.number channel _ refl) (no_store cs channel)
+
+sound_in_store : (file : BoardFile) (channel : ChannelNumber) (store : AccessStore) → IsSoundAt (limits_at file (key.ChannelAccess (stored channel store))) (records_of (pairs_at file (place_of (key.ChannelAccess (stored channel store)))) (key.ChannelAccess (stored channel store)))
+sound_in_store file channel NonVolatile =
+    sound_of (λ c. (key.ChannelAccess (stored c.number NonVolatile), access_value c.non_volatile)) (λ c. limits.ChannelAccess (record {})) (λ c. c.number.number == channel.number) file.channels.items (key.ChannelAccess (stored channel NonVolatile))
+    (λ c. same_store_key NonVolatile c.number channel) (λ c. c.non_volatile.valid)
+sound_in_store file channel Volatile =
+    sound_of (λ c. (key.ChannelAccess (stored c.number Volatile), access_value c.volatile)) (λ c. limits.ChannelAccess (record {})) (λ c. c.number.number == channel.number) file.channels.items (key.ChannelAccess (stored channel Volatile))
+    (λ c. same_store_key Volatile c.number channel) (λ c. c.volatile.valid)
+sound_in_store file channel Neither = subst (IsSoundAt None) (sym (no_store file.channels.items channel)) tt
+
 -- ---- each kind
 
 -- the record of a key is sound where only the pairs of its kind are: a line for each kind
@@ -68,6 +137,12 @@ sound_in_kind file (key.BootParam Flags) = record { long = refl; mark = omega ar
 sound_in_kind file (key.NumericEffecter id) =
     sound_of (λ e. (key.NumericEffecter e.id, number_value e)) (λ e. limits.NumericEffecter (record { enabled = e.enabled; range = e.range })) (λ e. e.id == id) file.numeric_effecters.items (key.NumericEffecter id)
     (λ e. same_numbered key.NumericEffecter (λ m n same. cc) e.id id) (λ e. e.valid)
+sound_in_kind file (key.UserName user) =
+    sound_of (λ u. (key.UserName u.number, u.name)) (λ u. limits.UserName (record {})) (λ u. u.number.number == user.number) file.users.items (key.UserName user) (λ u. same_user_key u.number user) (λ u. u.sixteen)
+sound_in_kind file (key.UserAccess on) =
+    sound_of (λ a. (key.UserAccess a.on, a.byte ∷ [])) (λ a. limits.UserAccess (record { user = on.user; most = length file.users.items })) (λ a. is_on a.on on) file.user_accesses.items (key.UserAccess on)
+    (λ a. same_on_key a.on on) (λ a. a.valid)
+sound_in_kind file (key.ChannelAccess at) = sound_in_store file at.channel at.store
 
 pub starts_sound : StartsSound
 starts_sound file k = subst (IsSoundAt (limits_at file k)) (sym (record_of_kind file k)) (sound_in_kind file k)

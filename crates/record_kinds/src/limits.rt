@@ -6,6 +6,7 @@ use cfg_records::{Asked, Key, Live, Op, RecordData, RecordKind, Value};
 use effecter_recs::NumericLimits;
 use sensor_recs::{EventEnableLimits, HysteresisLimits, ThresholdLimits};
 use two_wire::{Buffer, Code};
+use user_chan::{ChannelAccessLimits, UserAccessLimits, UserNameLimits};
 use watch_boot::{BootParamLimits, GlobalEnablesLimits, PowerPolicyLimits, WatchdogLimits};
 
 /// The limits of one record.
@@ -19,6 +20,9 @@ pub enum Limits {
     GlobalEnables(GlobalEnablesLimits),
     BootParam(BootParamLimits),
     NumericEffecter(NumericLimits),
+    UserName(UserNameLimits),
+    UserAccess(UserAccessLimits),
+    ChannelAccess(ChannelAccessLimits),
 }
 
 /// The kinds, a line for each: its name, its limits, and where its keys are.
@@ -33,6 +37,9 @@ macro_rules! of_each_kind {
             GlobalEnables GlobalEnablesLimits {Key::GlobalEnables => &()}
             BootParam BootParamLimits {Key::BootParam(parameter) => parameter}
             NumericEffecter NumericLimits {Key::NumericEffecter(id) => id}
+            UserName UserNameLimits {Key::UserName(user) => user}
+            UserAccess UserAccessLimits {Key::UserAccess(on) => on}
+            ChannelAccess ChannelAccessLimits {Key::ChannelAccess(at) => at}
         }
     };
 }
@@ -111,6 +118,21 @@ impl Setup {
             }),
             Key::NumericEffecter(id) => {
                 Limits::NumericEffecter(NumericLimits::of(self.numeric_effecter(*id)?))
+            }
+            Key::UserName(user) => {
+                let _ = self.user(*user)?;
+                Limits::UserName(UserNameLimits)
+            }
+            Key::UserAccess(on) => {
+                let _ = self.user_access(on)?;
+                Limits::UserAccess(UserAccessLimits {
+                    user: on.user,
+                    most: self.most_users(),
+                })
+            }
+            Key::ChannelAccess(at) => {
+                let _ = self.stored_access(at)?;
+                Limits::ChannelAccess(ChannelAccessLimits)
             }
         })
     }

@@ -4,7 +4,10 @@ ghost use Rattle.std.specs.Option.{option_copied};
 ghost use Rattle.cfg_records.specs.Distinct.{NamesDiffer};
 ghost use Rattle.record_kinds.specs.Places.{ArePlaces};
 
-use cfg_records::{BoardFile, Device, NumericEffecter, Sensor};
+use cfg_records::{
+    AccessStore, BoardFile, Channel, ChannelNumber, Device, NumericEffecter, Sensor, StoredAccess,
+    User, UserAccess, UserNumber, UserOnChannel,
+};
 use std::marker::Model;
 
 /// The place of a sensor that isn't there.
@@ -43,7 +46,7 @@ fn places_of(sensors: &[Sensor]) -> [u8; 256]
 }
 
 impl Setup {
-    ghost use Rattle.record_kinds.specs.Boards.{sensor_at, numeric_at};
+    ghost use Rattle.record_kinds.specs.Boards.{sensor_at, numeric_at, user_at, access_at, channel_at, is_sessionless, stored_at};
 
     /// The set-up of this board file.
     pub fn new(file: BoardFile) -> Setup
@@ -81,5 +84,61 @@ impl Setup {
     {
         let effecters = self.file.numeric_effecters.items.as_slice();
         effecters.iter().find(|effecter| effecter.id == id)
+    }
+
+    /// The user of this number, of at most 16.
+    pub fn user(&self, number: UserNumber) -> Option<&User>
+        ensures { option_copied result ≡ user_at self.now.users.items number.number }
+    {
+        let users = self.file.users.items.as_slice();
+        users
+            .iter()
+            .find(|user| user.number.number == number.number)
+    }
+
+    /// How many users there are.
+    pub fn most_users(&self) -> u8
+        ensures { result ≡ length self.now.users.items }
+    {
+        let _ = &self.file.users;
+        self.file.users.items.as_slice().len() as u8
+    }
+
+    /// What this user may do on this channel. It looks at one after another, of which there are at most 128.
+    pub fn user_access(&self, on: &UserOnChannel) -> Option<&UserAccess>
+        ensures { option_copied result ≡ access_at self.now.user_accesses.items on.now }
+    {
+        let accesses = self.file.user_accesses.items.as_slice();
+        let channel = on.channel.number;
+        let user = on.user.number;
+        accesses.iter().find(|a| a.on.channel.number == channel && a.on.user.number == user)
+    }
+
+    /// The channel of this number, if it has sessions.
+    pub fn channel(&self, number: ChannelNumber) -> Option<&Channel>
+        ensures { option_copied result ≡ channel_at self.now.channels.items number.number }
+    {
+        let channels = self.file.channels.items.as_slice();
+        channels
+            .iter()
+            .find(|channel| channel.number.number == number.number)
+    }
+
+    /// Whether the channel of this number is one without sessions.
+    pub fn is_sessionless(&self, number: ChannelNumber) -> bool
+        ensures { result ≡ is_sessionless self.now number.number }
+    {
+        let channels = self.file.sessionless.items.as_slice();
+        channels.iter().any(|c| c.number == number.number)
+    }
+
+    /// The channel whose access is kept there.
+    pub fn stored_access(&self, at: &StoredAccess) -> Option<&Channel>
+        ensures { option_copied result ≡ stored_at self.now at.now }
+    {
+        match at.store {
+            AccessStore::NonVolatile | AccessStore::Volatile => self.channel(at.channel),
+            AccessStore::Neither => None,
+        }
     }
 }

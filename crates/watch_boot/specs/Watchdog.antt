@@ -83,6 +83,7 @@ live_after_set op live = record {
   countdown = op.initial;
   expired = without live.expired op.flags_to_clear;
   running = live.running && has op.timer_use 6;
+  enabled_users = live.enabled_users;
 }
 
 -- the data of the request, the low byte of the countdown first
@@ -153,6 +154,7 @@ live_after_reset value live = record {
   countdown = from_le_bytes w16 (slice_index value 3 ∷ slice_index value 4 ∷ []);
   expired = live.expired;
   running = true;
+  enabled_users = live.enabled_users;
 }
 
 -- ---- the countdown

@@ -147,6 +147,7 @@ pub fn reset(value: &[u8], live: &Live) -> Option<Live>
         countdown: u16::from_le_bytes([value[3], value[4]]),
         expired: live.expired,
         running: true,
+        enabled_users: live.enabled_users,
     })
 }
 

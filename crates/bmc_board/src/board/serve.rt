@@ -15,12 +15,16 @@ use crate::board::Board;
 use crate::command::{Command, GetCommand, SetCommand};
 use crate::live::{
     LiveCommand, NO_ERROR, PLDM_TYPES, already_in_progress, device_data, progress_data,
+    sessionless_channel,
 };
 use crate::request::read_request;
 use crate::storage::{
     add_entry, clear, part_in, sdr_info, sel_info, show_entry, show_sdr, time_in,
 };
-use cfg_records::{Answered, Asked, BoardFile, Key, Op, RecordKind, Store, Value, byte_at};
+use cfg_records::{
+    AccessStore, Answered, Asked, BoardFile, ChannelNumber, Key, Op, RecordKind, SetChannelAccess,
+    Store, StoredAccess, UserNumber, UserOnChannel, Value, byte_at,
+};
 use effecter_recs::numeric;
 use effecter_recs::request::id_in;
 use record_kinds::{Limits, Setup};
@@ -28,12 +32,15 @@ use sensor_recs::taken::reading_data;
 use sensor_recs::{event_enable, hysteresis, thresholds};
 use std::alloc::{AllocError, Global};
 use two_wire::{Buffer, Bytes, Code, code};
+use user_chan::channel_request::{ChannelRequest, channel_request_in, stored_in};
+use user_chan::password::{PasswordChange, change_of, set_enabled};
+use user_chan::{user_access, user_name};
 use watch_boot::boot_request::{BootRequest, BootShown, boot_request_in, boot_shown_in};
 use watch_boot::{global_enables, power_policy, watchdog};
 
 /// The code for a record that isn't there.
-fn unknown_code(_setup: &Setup, key: &Key) -> Code
-    ensures { result ≡ unknown_code _setup.now key.now }
+fn unknown_code(setup: &Setup, key: &Key) -> Code
+    ensures { result ≡ unknown_code setup.now key.now }
 {
     // Each key is named, so that a new one isn't forgotten. The policy, the watchdog and the enables are on every board.
     match key {
@@ -45,6 +52,14 @@ fn unknown_code(_setup: &Setup, key: &Key) -> Code
         | Key::GlobalEnables
         | Key::BootParam(_) => code::NOT_PRESENT,
         Key::NumericEffecter(_) => code::PLDM_INVALID_EFFECTER,
+        Key::UserName(_) | Key::UserAccess(_) => code::INVALID_DATA_FIELD,
+        Key::ChannelAccess(at) => {
+            if setup.is_sessionless(at.channel) {
+                sessionless_channel()
+            } else {
+                code::INVALID_DATA_FIELD
+            }
+        }
     }
 }
 
@@ -61,6 +76,9 @@ fn key_in(command: GetCommand, body: &[u8]) -> Key
         GetWatchdogTimer => Key::Watchdog,
         GetGlobalEnables => Key::GlobalEnables,
         GetNumericEffecterValue => Key::NumericEffecter(id_in(body)),
+        GetUserName => Key::UserName(UserNumber::of(byte_at(body, 0))),
+        GetUserAccess => Key::UserAccess(UserOnChannel::of(byte_at(body, 0), byte_at(body, 1))),
+        GetChannelAccess => Key::ChannelAccess(stored_in(body)),
     }
 }
 
@@ -97,12 +115,20 @@ impl<S: Store> Board<S> {
     ghost use Rattle.bmc_board.specs.State.{opened, state_of};
     ghost use Rattle.bmc_board.specs.Leaves.{Leaves};
     ghost use Rattle.bmc_board.specs.Sensing.{reading_answer};
-    ghost use Rattle.bmc_board.specs.Live.{reset_answer, progress_answer, longest_live_reply};
+    ghost use Rattle.bmc_board.specs.Live.{reset_answer, progress_answer, leave_answer, password_answer, longest_live_reply};
+    ghost use Rattle.cfg_records.specs.Numbers.{user_in};
+    ghost use Rattle.cfg_records.specs.Requests.{byte_at};
+    ghost use Rattle.record_kinds.specs.Boards.{user_at};
+    ghost use Rattle.user_chan.specs.Passwords.{change_of};
     ghost use Rattle.bmc_board.specs.Room.{longest_reply};
     ghost use Rattle.bmc_board.specs.Row.{Row};
     ghost use Rattle.bmc_board.specs.Request as request;
     ghost use Rattle.bmc_board.specs.Request.{op_in, request_of, asked_of, asked_by};
-    ghost use Rattle.bmc_board.specs.Answer.{serve as serve_of, reply as reply_of, answer_of};
+    ghost use Rattle.bmc_board.specs.Answer.{set_outcome, serve as serve_of, reply as reply_of, answer_of};
+    ghost use Rattle.std.specs.Prelude.{Some};
+    ghost use Rattle.cfg_records.specs.Meaning.{told};
+    ghost use Rattle.record_kinds.specs.Limits.{key_of};
+    ghost use Rattle.record_kinds.specs.Boards.{limits_at};
 
     /// A board of this file over this store of its records.
     pub fn open(alloc: Global, file: BoardFile, store: S) -> Result<Self, AllocError>
@@ -164,6 +190,42 @@ impl<S: Store> Board<S> {
         Ok(())
     }
 
+    /// Whether a channel has an access that could be set.
+    fn leave_channel(&self, channel: ChannelNumber) -> Result<(), Code>
+        ensures { (bytes : List ℕ) → Gives result bytes bytes (leave_answer self.now.setup channel) }
+    {
+        if self.setup.channel(channel).is_some() {
+            return Ok(());
+        }
+        let key = Key::ChannelAccess(StoredAccess {
+            channel,
+            store: AccessStore::Neither,
+        });
+        Err(unknown_code(&self.setup, &key))
+    }
+
+    /// Carries out Set User Password. An unknown user is refused before the size of the password.
+    fn set_password(&mut self, body: &[u8]) -> Result<(), Code>
+        ensures answer { (bytes : List ℕ) → Gives result bytes bytes (password_answer (user_at self.old.setup.users.items (user_in (byte_at body.now 0)).number) (change_of body.now) (user_in (byte_at body.now 0)).number self.old.activity).0 }
+        ensures left { self.new.activity ≡ (password_answer (user_at self.old.setup.users.items (user_in (byte_at body.now 0)).number) (change_of body.now) (user_in (byte_at body.now 0)).number self.old.activity).1 }
+        ensures records { S.records self.new.store ≡ S.records self.old.store }
+        ensures setup { self.new.setup ≡ self.old.setup }
+    {
+        let user = UserNumber::of(byte_at(body, 0));
+        if self.setup.user(user).is_none() {
+            return Err(code::INVALID_DATA_FIELD);
+        }
+        match change_of(body)? {
+            PasswordChange::Disable => set_enabled(&mut self.activity.live, user, false),
+            PasswordChange::Enable => set_enabled(&mut self.activity.live, user, true),
+            PasswordChange::Set(password) => self.activity.passwords.put(user, password),
+            PasswordChange::Test(password) => {
+                return self.activity.passwords.test(user, &password);
+            }
+        }
+        Ok(())
+    }
+
     /// Appends what Get Sensor Reading replies of the sensor of this number.
     fn show_reading<B: Buffer>(&self, sensor: u8, to: &mut B) -> Result<(), Code>
         requires room { length (B.bytes to.old) + longest_live_reply ≤ B.capacity }
@@ -209,6 +271,8 @@ impl<S: Store> Board<S> {
             }
             LiveCommand::SetBootProgress(byte) => self.set_boot_progress(byte),
             LiveCommand::GetBootProgress => show(&progress_data(self.activity.boot_progress), to),
+            LiveCommand::LeaveChannelAccess(channel) => self.leave_channel(channel),
+            LiveCommand::SetUserPassword => self.set_password(body),
             LiveCommand::GetTid => show(&[self.setup.tid()], to),
             LiveCommand::GetPldmTypes => show(&PLDM_TYPES, to),
         }
@@ -275,6 +339,8 @@ impl<S: Store> Board<S> {
             SetNumericEffecterValue => {
                 self.set(&Op::NumericEffecter(numeric::numeric_effecter_in(body)), to)
             }
+            SetUserName => self.set(&Op::UserName(user_name::name_in(body)), to),
+            SetUserAccess => self.set(&Op::UserAccess(user_access::access_in(body)), to),
         }
     }
 
@@ -304,6 +370,58 @@ impl<S: Store> Board<S> {
         }
     }
 
+    /// Makes the value that the operation makes of its record, and gives the record's place: nothing is written.
+    fn try_set(&mut self, op: &Op) -> Result<S::Place, Code>
+        ensures made { told result self.new.made ≡ set_outcome (limits_at self.old.setup (key_of op.now)) (S.records self.old.store (key_of op.now)) (unknown_code self.old.setup (key_of op.now)) op.now }
+        ensures place { IfOk result (λ place. S.places self.old.store (key_of op.now) ≡ Some place) }
+        ensures store { self.new.store ≡ self.old.store }
+        ensures activity { self.new.activity ≡ self.old.activity }
+        ensures setup { self.new.setup ≡ self.old.setup }
+    {
+        let key = Limits::key(op);
+        match (self.setup.limits(&key), self.store.find(&key)) {
+            (Some(limits), Some(place)) => {
+                limits.apply(op, self.store.value(place), &mut self.made)?;
+                Ok(place)
+            }
+            _ => Err(unknown_code(&self.setup, &key)),
+        }
+    }
+
+    /// Changes the access of a channel in one store, and its limit in another: both or neither.
+    fn set_stores(
+        &mut self,
+        first: &SetChannelAccess,
+        second: &SetChannelAccess,
+    ) -> Result<(), Code>
+        ensures answer { (bytes : List ℕ) → Gives result bytes bytes (serve_of self.old.setup (state_of S.records self.old) (request.SetStores first.now second.now)).0 }
+        ensures left { state_of S.records self.new ≡ (serve_of self.old.setup (state_of S.records self.old) (request.SetStores first.now second.now)).1 }
+        ensures setup { self.new.setup ≡ self.old.setup }
+    {
+        let place = self.try_set(&Op::ChannelAccess(*first))?;
+        let made: Bytes<2> = Bytes::from_slice(self.made.as_slice());
+        let other = self.try_set(&Op::ChannelAccess(*second))?;
+        self.store.write(place, made.as_slice());
+        self.store.write(other, self.made.as_slice());
+        Ok(())
+    }
+
+    /// Carries out Set Channel Access.
+    fn set_channel_access<B: Buffer>(&mut self, body: &[u8], to: &mut B) -> Result<(), Code>
+        requires room { IfOk (request_of Command.SetChannelAccess body.now) (λ r. length (B.bytes to.old) + longest_reply r ≤ B.capacity) }
+        ensures answer { Gives result (B.bytes to.old) (B.bytes to.new) (reply_of self.old.setup (state_of S.records self.old) (request_of Command.SetChannelAccess body.now)).0 }
+        ensures left { state_of S.records self.new ≡ (reply_of self.old.setup (state_of S.records self.old) (request_of Command.SetChannelAccess body.now)).1 }
+        ensures setup { self.new.setup ≡ self.old.setup }
+    {
+        match channel_request_in(body) {
+            ChannelRequest::Leave(channel) => {
+                self.live(LiveCommand::LeaveChannelAccess(channel), &[], to)
+            }
+            ChannelRequest::One(op) => self.set(&Op::ChannelAccess(op), to),
+            ChannelRequest::Two(first, second) => self.set_stores(&first, &second),
+        }
+    }
+
     /// Carries out a command with this data, of a length that the command takes, and appends the data of the reply.
     fn serve<B: Buffer>(&mut self, command: Command, body: &[u8], to: &mut B) -> Result<(), Code>
         requires room { IfOk (request_of command body.now) (λ r. length (B.bytes to.old) + longest_reply r ≤ B.capacity) }
@@ -317,6 +435,7 @@ impl<S: Store> Board<S> {
             Command::Set(command) => self.change(command, body, to),
             Command::SetBootOptions => self.set_boot_options(body, to),
             Command::GetBootOptions => self.get_boot_options(body, to),
+            Command::SetChannelAccess => self.set_channel_access(body, to),
         }
     }
 

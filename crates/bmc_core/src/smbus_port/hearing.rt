@@ -88,7 +88,8 @@ fn control(wire: Address, endpoint: &mut Endpoint, envelope: Envelope, body: &[u
                 wire,
                 eid: endpoint.eid(),
             };
-            send(&at, &envelope, reply.as_slice(), Done::Control, out);
+            out.done = Done::Control;
+            send(&at, &envelope, reply.as_slice(), out);
         }
         None => out.ignore(Reason::NotRequest),
     }

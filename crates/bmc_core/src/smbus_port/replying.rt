@@ -15,12 +15,12 @@ ghost use Rattle.bmc_core.specs.SmbusShown.{AreOf, parts_from, frames_from, IsSe
 
 use super::hearing::PLDM;
 use super::pending::{INSTANCES, Request};
-use crate::out::{Done, Frames, Out};
+use crate::out::{Done, Out};
 use crate::port::At;
 use bmc_board::Board;
 use bmc_board::request::read_pldm;
 use cfg_records::{Answered, Store};
-use mctp_net::{Envelope, Message, SomeData, split};
+use mctp_net::{Envelope, Message, SomeData, split_into};
 use pldm_base::{Header, begin_pldm_reply};
 use two_wire::{Bytes, code};
 use windows::{Found, Windows};
@@ -34,16 +34,16 @@ pub(super) type Kept = Windows<{ INSTANCES }, { MESSAGE }>;
 /// A reply's bytes, its type first.
 pub(super) type Reply = Bytes<{ MESSAGE }>;
 
-/// Sends a reply of these bytes from this place, to where a message of the envelope came from, and says what was done.
-pub(super) fn send(at: &At, to: &Envelope, body: &[u8], done: Done, out: &mut Out)
+/// Sends a reply of these bytes from this place, to where a message of the envelope came from. What was done stands in `out` already.
+pub(super) fn send(at: &At, to: &Envelope, body: &[u8], out: &mut Out)
     requires { length body.now ≤ MESSAGE }
-    ensures sent { 0 < length body.now → out.new ≡ sends (frames_from at.now.wire at.now.eid to.now body.now) done }
+    ensures sent { 0 < length body.now → out.new ≡ sends (frames_from at.now.wire at.now.eid to.now body.now) out.old.done }
     ensures read { 0 < length body.now → AreRead Smbus (parts_from at.now.wire at.now.eid to.now body.now) }
 {
     if body.is_empty() {
         return;
     }
-    out.frames = Frames::from(split(&Message {
+    let message = Message {
         envelope: Envelope {
             destination: to.source,
             source: at.wire,
@@ -53,8 +53,8 @@ pub(super) fn send(at: &At, to: &Envelope, body: &[u8], done: Done, out: &mut Ou
             tag: to.tag,
         },
         body: SomeData::new(body),
-    }));
-    out.done = done;
+    };
+    split_into(&message, &mut out.frames.list);
 }
 
 /// Puts the start of a reply in place of what is there: all that stands before its data.
@@ -77,7 +77,8 @@ fn refuse(at: &At, request: &Request<'_>, out: &mut Out)
         code::PLDM_NOT_READY.value(),
         &mut reply,
     );
-    send(at, &request.envelope, reply.as_slice(), Done::Busy, out);
+    out.done = Done::Busy;
+    send(at, &request.envelope, reply.as_slice(), out);
 }
 
 /// Answers a request that isn't new: by the reply that is kept for it, or that the port is busy. Says whether it did.
@@ -87,7 +88,8 @@ pub(super) fn settle(windows: &Kept, at: &At, request: &Request<'_>, out: &mut O
 {
     match windows.find(&request.kept()) {
         Found::Repeats(reply) => {
-            send(at, &request.envelope, reply.as_slice(), Done::Repeated, out);
+            out.done = Done::Repeated;
+            send(at, &request.envelope, reply.as_slice(), out);
             true
         }
         Found::Busy => {
@@ -108,7 +110,8 @@ fn keep(windows: &mut Kept, at: &At, request: &Request<'_>, reply: &[u8], out: &
     ensures read { AreRead Smbus (parts_from at.now.wire at.now.eid request.now.envelope reply.now) }
 {
     windows.keep(&request.kept(), reply);
-    send(at, &request.envelope, reply, Done::Answered, out);
+    out.done = Done::Answered;
+    send(at, &request.envelope, reply, out);
 }
 
 /// Keeps a new request with the reply of this answer, and sends that.

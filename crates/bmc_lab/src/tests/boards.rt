@@ -184,6 +184,10 @@ fn full_board(alloc: Global) -> Result<BoardFile, Fail> {
         sdr: sample.sdr,
         boot: sample.boot,
         numeric_effecters: sample.numeric_effecters,
+        users: sample.users,
+        channels: sample.channels,
+        sessionless: sample.sessionless,
+        user_accesses: sample.user_accesses,
     })
 }
 

@@ -205,6 +205,44 @@ fn board_of_the_file_is_the_one_that_answers(rt: HostRuntime) -> Result<(), Fail
 }
 
 #[test]
+fn numeric_effecter_of_the_file_is_served_over_smbus(rt: HostRuntime) -> Result<(), Fail> {
+    // Of two bytes, from 0 to 1000, and 500 at first.
+    let file = changed(
+        rt.alloc(),
+        "assert = 0\ndeassert = 0\n",
+        "assert = 0\ndeassert = 0\n[[numeric]]\nid = 4\nsize = 2\noperational = 1\nlower = 0\nupper = 1000\ncurrent = 500\n",
+    )?;
+    for (digits, line) in [
+        (
+            "200F0B31010A08C8018002320400BA",
+            "300F102101080AC001000232000201F401F40147\n",
+        ),
+        // 1000 is taken, and 1001 is bad data.
+        (
+            "200F0E31010A08C801800231040002E8034D",
+            "300F0A2101080AC001000231000E\n",
+        ),
+        (
+            "200F0E31010A08C801800231040002E90358",
+            "300F0A2101080AC0010002310200\n",
+        ),
+        // No effecter is 5.
+        (
+            "200F0B31010A08C8018002320500AF",
+            "300F0A2101080AC00100023280B8\n",
+        ),
+    ] {
+        let bytes = hex::decode(rt.alloc(), digits)?;
+        let mut console = Console::new(new_paper(rt.alloc(), None), new_paper(rt.alloc(), None));
+        let file = Some(file.as_str());
+        let ended = frame_run(rt.alloc(), Bus::Smbus, file, bytes.as_slice(), &mut console);
+        assert_eq!(rt; ended, 0, "{digits}");
+        assert_eq!(rt; console.out.text.as_slice(), line.as_bytes(), "{digits}");
+    }
+    Ok(())
+}
+
+#[test]
 fn file_without_a_board_is_refused_by_its_first_fault(rt: HostRuntime) -> Result<(), Fail> {
     for (old, new, line) in [
         ("policy = 1", "policy = 4", "board Range top policy\n"),

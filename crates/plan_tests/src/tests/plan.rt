@@ -1,8 +1,9 @@
 //! Plans: what they hold, and their faults.
 use super::row_of;
 use cfg_records::{
-    BootChange, BootFlags, BootParameter, EventChange, EventMasks, MaskedBits, Op, SetBootParam,
-    SetEventEnable, SetGlobalEnables, SetHysteresis, SetPowerPolicy, SetThresholds, SetWatchdog,
+    BootChange, BootFlags, BootParameter, EventChange, EventMasks, MaskedBits, NumericBytes, Op,
+    SetBootParam, SetEventEnable, SetGlobalEnables, SetHysteresis, SetNumericEffecter,
+    SetPowerPolicy, SetThresholds, SetWatchdog,
 };
 use plan_file::{NoGet, OutsidePlan, PlanFault, StepFault, read_plan};
 use std::alloc::{AllocError, Global};
@@ -50,6 +51,11 @@ kind = \"boot-param\"
 param = 4
 invalid = false
 data = [3, 1]
+[[step]]
+kind = \"numeric-effecter\"
+effecter = 261
+size = 2
+value = 1000
 ";
 
 /// A row for each field of a number, a list or a choice: its step and its name, its line in the plan, a line of another type, two that are
@@ -75,7 +81,10 @@ const FIELDS: &str =
 3 interrupt | interrupt = 2 | interrupt = \"2\" | interrupt = -1 | interrupt = 4 | interrupt = 0 | interrupt = 3
 3 pre | pre = 10 | pre = [10] | pre = -1 | pre = 256 | pre = 0 | pre = 255
 3 initial | initial = 3000 | initial = true | initial = -1 | initial = 65536 | initial = 0 | initial = 65535
-5 value | value = 0x08 | value = true | value = 0x10 | value = 256 | value = 0 | value = 0xEF";
+5 value | value = 0x08 | value = true | value = 0x10 | value = 256 | value = 0 | value = 0xEF
+7 effecter | effecter = 261 | effecter = true | effecter = -1 | effecter = 65536 | effecter = 0 | effecter = 65535
+7 size | size = 2 | size = \"2\" | size = -1 | size = 6 | size = 3 | size = 5
+7 value | value = 1000 | value = 1000.0 | value = -1 | value = 65536 | value = 0 | value = 65535";
 
 /// The fields that a step needs not have.
 const OPTIONAL: [&str; 6] = ["0 lnc", "0 lc", "0 lnr", "0 unc", "0 uc", "0 unr"];
@@ -279,7 +288,7 @@ fn events_are_needed_unless_they_are_left(rt: HostRuntime) -> Result<(), Fail> {
 fn each_kind_is_read(rt: HostRuntime) -> Result<(), Fail> {
     let plan = read_plan(rt.alloc(), PLAN).map_err(|_| "a plan")?;
     let steps = plan.steps.as_slice();
-    assert_eq!(rt; steps.len(), 7);
+    assert_eq!(rt; steps.len(), 8);
     let thresholds = SetThresholds {
         sensor: 5,
         mask: 0x3F,
@@ -320,6 +329,12 @@ fn each_kind_is_read(rt: HostRuntime) -> Result<(), Fail> {
         change: BootChange::InfoAcknowledge(MaskedBits { mask: 3, bits: 1 }),
     };
     assert!(rt; matches!(steps.get(6), Some(Op::BootParam(set)) if *set == acknowledge));
+    let numeric = SetNumericEffecter {
+        effecter: 261,
+        size: 2,
+        value: NumericBytes::Two(0xE8, 0x03),
+    };
+    assert!(rt; matches!(steps.get(7), Some(Op::NumericEffecter(set)) if *set == numeric));
     Ok(())
 }
 

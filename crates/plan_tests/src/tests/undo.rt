@@ -80,6 +80,11 @@ fn empty_list_and_requests_of_both_buses_are_read(rt: HostRuntime) -> Result<(),
             1,
         ),
         ("undo 1\nnext ipmb 63 smbus 31\nsmbus 3FFF\nipmb F8FF\n", 2),
+        // The undo of a step on thresholds of sensor 5, and of one on numeric effecter 4 before it.
+        (
+            "undo 1\nnext ipmb 2 smbus 2\nipmb 10260510000000005F00\nsmbus 0231040002F401\n",
+            2,
+        ),
     ] {
         let Ok(read) = read_undo(rt.alloc(), text) else {
             return Err("refused".into());

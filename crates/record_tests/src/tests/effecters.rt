@@ -44,6 +44,10 @@ fn board(alloc: Global) -> Result<Board<PlainStore>, Fail> {
         boot: sample.boot,
         sdr: sample.sdr,
         numeric_effecters: Distinct::new(effecters).ok_or("effecters")?,
+        users: sample.users,
+        channels: sample.channels,
+        sessionless: sample.sessionless,
+        user_accesses: sample.user_accesses,
     };
     let store = PlainStore::of_file(alloc, &file)?;
     Ok(Board::open(alloc, file, store)?)

@@ -2,9 +2,10 @@
 ghost use Rattle.std.specs.Prelude.{◌<◌};
 
 use cfg_records::{
-    Answered, Asked, Bcd, BootFlags, BootOptions, BootParameter, EventEnable, EventMasks,
-    GlobalEnables, Hysteresis, Key, Live, ManufacturerId, NoKey, PlainStore, PowerPolicy, Sensor,
-    Sensors, Store, StoreFault, ThresholdMasks, Thresholds, Value, Watchdog, sample_board,
+    AccessStore, Answered, Asked, Bcd, BootFlags, BootOptions, BootParameter, ChannelNumber,
+    EventEnable, EventMasks, GlobalEnables, Hysteresis, Key, Live, ManufacturerId, NoKey,
+    PlainStore, PowerPolicy, Sensor, Sensors, Store, StoreFault, StoredAccess, ThresholdMasks,
+    Thresholds, UserNumber, UserOnChannel, Value, Watchdog, sample_board,
 };
 use std::test::Fail;
 use two_wire::{Below, Bytes, Lun, NetFn, code};
@@ -14,7 +15,7 @@ fn the_sample_board_begins_with_its_records(rt: HostRuntime) -> Result<(), Fail>
     let file = sample_board(rt.alloc())?;
     assert_eq!(rt; file.tid, 5);
     let pairs = file.records(rt.alloc())?;
-    assert_eq!(rt; pairs.len(), 12);
+    assert_eq!(rt; pairs.len(), 18);
     assert!(rt; pairs[1].0 == Key::Thresholds(7));
     assert!(rt; pairs[1].1.is(&[0, 0, 0, 0x90, 0xA0, 0xB0]));
     assert!(rt; pairs[2].0 == Key::Hysteresis(5));
@@ -22,18 +23,31 @@ fn the_sample_board_begins_with_its_records(rt: HostRuntime) -> Result<(), Fail>
     assert!(rt; pairs[4].0 == Key::EventEnable(5));
     assert!(rt; pairs[4].1.is(&[0xC0, 0, 2, 0, 0]));
     assert!(rt; pairs[5].1.is(&[0, 0, 0, 0, 0]));
-    assert!(rt; pairs[6].0 == Key::PowerPolicy);
-    assert!(rt; pairs[6].1.is(&[1]));
-    assert!(rt; pairs[7].0 == Key::Watchdog);
-    assert!(rt; pairs[7].1.is(&[0, 0, 0, 0, 0]));
-    assert!(rt; pairs[8].0 == Key::GlobalEnables);
-    assert!(rt; pairs[8].1.is(&[0x08]));
-    assert!(rt; pairs[9].0 == Key::BootParam(BootParameter::ValidBitClearing));
-    assert!(rt; pairs[9].1.is(&[0, 0]));
-    assert!(rt; pairs[10].0 == Key::BootParam(BootParameter::InfoAcknowledge));
-    assert!(rt; pairs[10].1.is(&[0, 0]));
-    assert!(rt; pairs[11].0 == Key::BootParam(BootParameter::Flags));
-    assert!(rt; pairs[11].1.is(&[0; 6]));
+    assert!(rt; pairs[7].0 == Key::UserName(UserNumber::of(2)));
+    let admin = [
+        0x61, 0x64, 0x6D, 0x69, 0x6E, 0, 0, 0, 0, 0, 0, 0, 0, 0, 0, 0,
+    ];
+    assert!(rt; pairs[7].1.is(&admin));
+    assert!(rt; pairs[8].0 == Key::UserAccess(UserOnChannel::of(1, 1)));
+    assert!(rt; pairs[8].1.is(&[0x14]));
+    let volatile = StoredAccess {
+        channel: ChannelNumber::of(1),
+        store: AccessStore::Volatile,
+    };
+    assert!(rt; pairs[11].0 == Key::ChannelAccess(volatile));
+    assert!(rt; pairs[11].1.is(&[2, 4]));
+    assert!(rt; pairs[12].0 == Key::PowerPolicy);
+    assert!(rt; pairs[12].1.is(&[1]));
+    assert!(rt; pairs[13].0 == Key::Watchdog);
+    assert!(rt; pairs[13].1.is(&[0, 0, 0, 0, 0]));
+    assert!(rt; pairs[14].0 == Key::GlobalEnables);
+    assert!(rt; pairs[14].1.is(&[0x08]));
+    assert!(rt; pairs[15].0 == Key::BootParam(BootParameter::ValidBitClearing));
+    assert!(rt; pairs[15].1.is(&[0, 0]));
+    assert!(rt; pairs[16].0 == Key::BootParam(BootParameter::InfoAcknowledge));
+    assert!(rt; pairs[16].1.is(&[0, 0]));
+    assert!(rt; pairs[17].0 == Key::BootParam(BootParameter::Flags));
+    assert!(rt; pairs[17].1.is(&[0; 6]));
     Ok(())
 }
 

@@ -1,9 +1,11 @@
 //! A change and its undo, on the sample board.
 use bmc_board::{Board, Lengths};
 use cfg_records::{
-    Answered, Asked, BootChange, BootFlags, BootParameter, EventChange, EventMasks, Key,
-    MaskedBits, Op, PlainStore, RecordKind, SetBootParam, SetEventEnable, SetGlobalEnables,
-    SetHysteresis, SetPowerPolicy, SetThresholds, SetWatchdog, Store, sample_board,
+    AccessStore, Answered, Asked, BootChange, BootFlags, BootParameter, ChannelChange,
+    ChannelNumber, EventChange, EventMasks, Key, MaskedBits, Op, PlainStore, RecordKind,
+    SetBootParam, SetChannelAccess, SetEventEnable, SetGlobalEnables, SetHysteresis,
+    SetPowerPolicy, SetThresholds, SetUserAccess, SetUserName, SetWatchdog, SixBits, Store,
+    sample_board,
 };
 use record_kinds::Limits;
 use std::alloc::Global;
@@ -107,6 +109,25 @@ fn a_change_is_undone(rt: HostRuntime) -> Result<(), Fail> {
     let power_up = Op::PowerPolicy(SetPowerPolicy { policy: 2 });
     let stay_off = Op::PowerPolicy(SetPowerPolicy { policy: 0 });
     let enables = Op::GlobalEnables(SetGlobalEnables { byte: 0xE7 });
+    let name = Op::UserName(SetUserName {
+        user: 2,
+        name: [0x61; 16],
+    });
+    let access = |first| {
+        Op::UserAccess(SetUserAccess {
+            first,
+            user: 2,
+            limit: 3,
+            session_limit: None,
+        })
+    };
+    let bits_and_limit = access(0xA1);
+    let limit_alone = access(0x21);
+    let stored = Op::ChannelAccess(SetChannelAccess {
+        channel: ChannelNumber::of(1),
+        store: AccessStore::NonVolatile,
+        change: ChannelChange::Both(SixBits::of(0x39), SixBits::of(5)),
+    });
     let mut board = board(rt.alloc())?;
     for (op, before, between) in [
         (
@@ -121,6 +142,24 @@ fn a_change_is_undone(rt: HostRuntime) -> Result<(), Fail> {
         (&power_up, &[0x20, 0, 0], &[0x40, 0, 0]),
         (&stay_off, &[0x20, 0, 0], &[0, 0, 0]),
         (&enables, &[0x08], &[0xE7]),
+        (
+            &name,
+            &[
+                0x61, 0x64, 0x6D, 0x69, 0x6E, 0, 0, 0, 0, 0, 0, 0, 0, 0, 0, 0,
+            ],
+            &[0x61; 16],
+        ),
+        (
+            &bits_and_limit,
+            &[0x02, 0x80, 0x01, 0x14],
+            &[0x02, 0x80, 0x01, 0x23],
+        ),
+        (
+            &limit_alone,
+            &[0x02, 0x80, 0x01, 0x14],
+            &[0x02, 0x80, 0x01, 0x13],
+        ),
+        (&stored, &[0x02, 0x04], &[0x39, 0x05]),
     ] {
         expect_undone(&rt, &mut board, op, before, between)?;
     }

@@ -27,6 +27,7 @@ fn running() -> Live {
         countdown: 12345,
         expired: 0x18,
         running: true,
+        enabled_users: 0,
     }
 }
 

@@ -1,5 +1,6 @@
 use Rattle.std.proofs.Common.{refl}
-use Rattle.mctp_net.proofs.Cuts.{pieces_of, count_of, is_cut}
+use Rattle.mctp_net.specs.Pieces.{pieces_of, count_of}
+use Rattle.mctp_net.proofs.Cuts.{is_cut}
 use Rattle.mctp_net.proofs.laws.has_cut.Goals as goal
 
 pub returns : goal.returns

@@ -1,7 +1,7 @@
 use Rattle.std.proofs.Common.{◌≡◌, ◌++◌, ◌∷◌, [], sym, ◌∙◌}
 use Rattle.toml.specs.View.{view}
 use Rattle.plan_file.specs.Holds.{IsRecordIn}
-use Rattle.plan_file.proofs.Sensors.{next_record}
+use Rattle.plan_file.proofs.Items.{next_zip}
 use Rattle.plan_file.proofs.board.records_of.Goals as goal
 
 pub loop-value-preserved : goal.loop-value-preserved
@@ -11,4 +11,4 @@ loop-value-preserved c =
     let bytes = c.unwrap.result in
     let pushed : c.push.new.self.items ≡ before ++ bytes ∷ [] = c.in-Ok.ensures.items in
     let holds : IsRecordIn (view c.value-item.result) bytes = sym c.record.ensures ∙ c.unwrap.ensures in
-    rw pushed (next_record c.args.values.now i c.value-item.result c.loop-value-test.true c.value-item.is before bytes c.loop-value.invariant holds)
+    rw pushed (next_zip c.args.values.now i c.value-item.result c.loop-value-test.true c.value-item.is IsRecordIn before bytes c.loop-value.invariant holds)

@@ -1,7 +1,12 @@
 use Rattle.std.proofs.Common.{◌≡◌, ◌∙◌, ap, sym, false, ◌++◌, ◌∷◌, [], ◌==◌}
 use Rattle.std.specs.List.{list_any}
 use Rattle.cfg_records.specs.declared.sensor.Sensor.{Sensor}
-use Rattle.plan_file.proofs.Sensors.{next_zip, next_left, next_differs}
+use Rattle.plan_file.specs.declared.field.Field.TheVariants as field
+use Rattle.plan_file.specs.declared.fault.Item.TheVariants as item
+use Rattle.plan_file.specs.declared.row.TheConstants.{SENSOR}
+use Rattle.plan_file.specs.Holds.{IsSensorIn, number_of}
+use Rattle.plan_file.proofs.Items.{next_zip, next_left, next_differs}
+use Rattle.plan_file.proofs.Sensors.{sensor_numbered}
 use Rattle.plan_file.proofs.board.sensors_of.Goals as goal
 
 pub loop-value-preserved : goal.loop-value-preserved
@@ -16,7 +21,7 @@ loop-value-preserved c =
     let fresh : list_any (λ (other : Sensor). other.number == s.number) before ≡ false =
     ap (list_any (λ (other : Sensor). other.number == s.number)) (sym same) ∙ c.in_ok-sensor.ensures.fresh in
     rw pushed (record {
-      zip = next_zip values i v c.loop-value-test.true c.value-item.is before s c.loop-value.invariant.zip c.in_ok-sensor.ensures.held;
-      left = c.loop-value.invariant.left ∙ next_left values i v c.loop-value-test.true c.value-item.is before s c.loop-value.invariant.zip c.in_ok-sensor.ensures.held c.in_ok-sensor.ensures.sound fresh;
-      differ = next_differs before s c.loop-value.invariant.differ fresh;
+      zip = next_zip values i v c.loop-value-test.true c.value-item.is IsSensorIn before s c.loop-value.invariant.zip c.in_ok-sensor.ensures.held;
+      left = c.loop-value.invariant.left ∙ next_left values i v c.loop-value-test.true c.value-item.is IsSensorIn item.Sensor SENSOR field.Number number_of sensor_numbered before s c.loop-value.invariant.zip c.in_ok-sensor.ensures.held c.in_ok-sensor.ensures.sound fresh;
+      differ = next_differs number_of before s c.loop-value.invariant.differ fresh;
     })

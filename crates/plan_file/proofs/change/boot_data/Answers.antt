@@ -1,4 +1,4 @@
-use Rattle.std.proofs.Common.{◌≡◌, ◌∙◌, Some, is_some, option_map, ap, sym, refl}
+use Rattle.std.proofs.Common.{◌∙◌, is_some, option_map, ap, sym}
 use Rattle.toml.specs.View.{view, table_view}
 use Rattle.plan_file.specs.declared.kind.TheConstants.{BOOT_PARAM}
 use Rattle.plan_file.proofs.Rows.{all_sound}

@@ -15,13 +15,13 @@ returns-clause-sent c some =
     let body = c.args.body.now in
     let has : 0 < length c.new.result = subst (λ (xs : List ℕ). 0 < length xs) (sym c.new.ensures) some in
     let fits : length c.new.result ≤ 256 = subst (λ (xs : List ℕ). length xs ≤ 256) (sym c.new.ensures) c.requires in
-    let frames : c.split.result.items ≡ frames_from at.wire at.eid to body =
-    message_written _ c.split.ensures.0 c.split.result.items has fits c.split.ensures.1 c.split.ensures.2
+    let frames : c.split_into.new.frames.items ≡ frames_from at.wire at.eid to body =
+    message_written _ c.split_into.ensures.0 c.split_into.new.frames.items has fits c.split_into.ensures.1 c.split_into.ensures.2
     ∙ (λ i. map written (map (λ p. Part p) (parts_of (record {
       envelope = record { destination = to.source; source = at.wire; destination_eid = to.source_eid; source_eid = c.byte.ensures.value i; tag_owner = false; tag = to.tag };
       body = c.new.ensures i;
     })))) in
-    (λ i. record { frames = record { list = c.from-out.ensures i }; done = c.args.done }) ∙ ap (λ (xs : List (List ℕ)). sends xs c.args.done) frames
+    ap (λ (xs : List (List ℕ)). sends xs c.args.out.now.done) frames
 
 pub returns-clause-read : goal.returns-clause-read
 returns-clause-read c some =
@@ -34,4 +34,4 @@ returns-clause-read c some =
       envelope = record { destination = to.source; source = at.wire; destination_eid = to.source_eid; source_eid = c.byte.ensures.value i; tag_owner = false; tag = to.tag };
       body = c.new.ensures i;
     })
-    (message_read _ c.split.ensures.0 c.split.result.items has fits c.split.ensures.1 c.split.ensures.2)
+    (message_read _ c.split_into.ensures.0 c.split_into.new.frames.items has fits c.split_into.ensures.1 c.split_into.ensures.2)

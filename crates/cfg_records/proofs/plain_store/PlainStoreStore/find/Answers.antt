@@ -1,6 +1,5 @@
 use Rattle.std.proofs.Common.{rules, ◌≡◌, ◌↔◌, IsNone, ℕ, List, Option, refl, sym, subst}
-use Rattle.std.specs.BTreeMap as btree
-use Rattle.cfg_records.specs.Keys.{key_cmp}
+use Rattle.cfg_records.specs.Index.{place_of}
 use Rattle.cfg_records.specs.declared.key.Key.{Key}
 use Rattle.cfg_records.specs.Records.{Pair}
 use Rattle.cfg_records.specs.Places.{value_at}
@@ -10,7 +9,7 @@ use Rattle.cfg_records.proofs.plain_store.PlainStoreStore.find.Goals as goal
 pub returns-clause-absent : goal.returns-clause-absent
 returns-clause-absent c =
     let pairs : List Pair = c.args.self.now.records.items in
-    let places : Key → Option ℕ = btree.get key_cmp c.args.self.now.places in
+    let places : Key → Option ℕ = place_of c.args.self.now.places in
     let key : Key = c.args.key.now in
-    let same : c.copied.result ≡ places key = search rules in
+    let same : c.get.result ≡ places key = search rules in
     subst (λ (found : Option ℕ). IsNone found ↔ IsNone (value_at pairs (places key))) (sym same) (absent_together pairs places c.args.self.now.placed key (places key) refl)

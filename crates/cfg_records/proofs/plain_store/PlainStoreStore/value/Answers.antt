@@ -1,8 +1,7 @@
 use Rattle.std.proofs.Common.{◌≡◌, ℕ, List, Option, Some, slice_get, sym, ap, ◌∙◌, arith}
-use Rattle.std.specs.BTreeMap as btree
+use Rattle.cfg_records.specs.Index.{place_of}
 use Rattle.std.specs.Option.{option_map}
 use Rattle.std.proofs.lemmas.Option.{get_or_from_slice_get}
-use Rattle.cfg_records.specs.Keys.{key_cmp}
 use Rattle.cfg_records.specs.declared.key.Key.{Key}
 use Rattle.cfg_records.specs.Records.{Pair, value_of}
 use Rattle.cfg_records.specs.Places.{value_at}
@@ -11,7 +10,7 @@ use Rattle.cfg_records.proofs.plain_store.PlainStoreStore.value.Goals as goal
 
 pub index-requires : goal.index-requires
 index-requires c =
-    let places : Key → Option ℕ = btree.get key_cmp c.args.self.now.places in
+    let places : Key → Option ℕ = place_of c.args.self.now.places in
     omega (arith, inside c.args.self.now.records.items places c.args.self.now.placed c.requires.0 c.args.place c.requires.1, c.args.self.now.records.ok.0)
 
 pub returns : goal.returns

@@ -1,7 +1,6 @@
 use Rattle.std.proofs.Common.{◌≡◌, ℕ, List, Option, slice_get, ap, ◌∙◌, arith}
-use Rattle.std.specs.BTreeMap as btree
+use Rattle.cfg_records.specs.Index.{place_of}
 use Rattle.std.proofs.lemmas.Option.{get_or_from_slice_get}
-use Rattle.cfg_records.specs.Keys.{key_cmp}
 use Rattle.cfg_records.specs.declared.key.Key.{Key}
 use Rattle.cfg_records.specs.Records.{Records, Pair, with_record}
 use Rattle.cfg_records.specs.Places.{value_at}
@@ -10,13 +9,13 @@ use Rattle.cfg_records.proofs.plain_store.PlainStoreStore.write.Goals as goal
 
 pub index_mut-requires : goal.index_mut-requires
 index_mut-requires c =
-    let places : Key → Option ℕ = btree.get key_cmp c.args.self.now.places in
+    let places : Key → Option ℕ = place_of c.args.self.now.places in
     omega (arith, inside c.args.self.now.records.items places c.args.self.now.placed c.requires.0 c.args.place c.requires.1, c.args.self.now.records.ok.0)
 
 pub invariant_of-self : goal.invariant_of-self
 invariant_of-self c =
     let pairs : List Pair = c.args.self.now.records.items in
-    let places : Key → Option ℕ = btree.get key_cmp c.args.self.now.places in
+    let places : Key → Option ℕ = place_of c.args.self.now.places in
     let place : ℕ = c.args.place in
     let key : Key = c.requires.0 in
     let had : Stands key (slice_get pairs place) = stands key (slice_get pairs place) (c.args.self.now.placed key place c.requires.1) in
@@ -27,7 +26,7 @@ invariant_of-self c =
 pub returns-clause-records : goal.returns-clause-records
 returns-clause-records c = λ key at.
     let pairs : List Pair = c.args.self.now.records.items in
-    let places : Key → Option ℕ = btree.get key_cmp c.args.self.now.places in
+    let places : Key → Option ℕ = place_of c.args.self.now.places in
     let place : ℕ = c.args.place in
     let had : Stands key (slice_get pairs place) = stands key (slice_get pairs place) (c.args.self.now.placed key place at) in
     let new : Pair = (c.index_mut.result.now.0, c.replace.new.self) in

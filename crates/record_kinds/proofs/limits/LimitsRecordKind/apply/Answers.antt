@@ -57,3 +57,21 @@ returns-in-BootParam-op c = rw (c.in-BootParam.is, c.in-BootParam-op.is) c.apply
 
 pub returns-in-NumericEffecter-op : goal.returns-in-NumericEffecter-op
 returns-in-NumericEffecter-op c = rw (c.in-NumericEffecter.is, c.in-NumericEffecter-op.is) c.apply-in-NumericEffecter-op.ensures
+
+pub apply-requires-in-UserName-op : goal.apply-requires-in-UserName-op
+apply-requires-in-UserName-op c = (tt, subst (λ (s : Limits). valid s c.args.value.now) c.in-UserName.is c.requires.is_valid)
+
+pub returns-in-UserName-op : goal.returns-in-UserName-op
+returns-in-UserName-op c = rw (c.in-UserName.is, c.in-UserName-op.is) c.apply-in-UserName-op.ensures
+
+pub apply-requires-in-UserAccess-op : goal.apply-requires-in-UserAccess-op
+apply-requires-in-UserAccess-op c = (tt, subst (λ (s : Limits). valid s c.args.value.now) c.in-UserAccess.is c.requires.is_valid)
+
+pub returns-in-UserAccess-op : goal.returns-in-UserAccess-op
+returns-in-UserAccess-op c = rw (c.in-UserAccess.is, c.in-UserAccess-op.is) c.apply-in-UserAccess-op.ensures
+
+pub apply-requires-in-ChannelAccess-op : goal.apply-requires-in-ChannelAccess-op
+apply-requires-in-ChannelAccess-op c = (tt, subst (λ (s : Limits). valid s c.args.value.now) c.in-ChannelAccess.is c.requires.is_valid)
+
+pub returns-in-ChannelAccess-op : goal.returns-in-ChannelAccess-op
+returns-in-ChannelAccess-op c = rw (c.in-ChannelAccess.is, c.in-ChannelAccess-op.is) c.apply-in-ChannelAccess-op.ensures

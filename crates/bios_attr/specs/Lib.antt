@@ -1,0 +1,10 @@
+pub mod Sizes
+pub mod ValueEntry
+pub mod ValueEntryLaws
+pub mod AttributeRange
+pub mod BiosAttribute
+pub mod BiosAttributeLaws
+pub mod Attributes
+pub mod AttributeLaws
+pub mod Values
+pub mod Tables

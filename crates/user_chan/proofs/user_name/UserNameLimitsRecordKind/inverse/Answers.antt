@@ -1,0 +1,11 @@
+use Rattle.std.proofs.Common.{◌≡◌, List, ℕ, length, ◌==◌, Some, None, true, if◌then◌else◌, ap, sym, ◌∙◌, arith}
+use Rattle.cfg_records.specs.InverseLaws.{same_tested}
+use Rattle.user_chan.specs.UserNames.{undo_name}
+use Rattle.user_chan.proofs.user_name.UserNameLimitsRecordKind.inverse.Goals as goal
+
+pub returns : goal.returns
+returns c =
+    let op = c.args.op.now in
+    let reply : List ℕ = c.args.get_data.now in
+    let long : length reply ≡ 16 = c.if-get_data-ne16.false in
+    ap Some c.undo_name.ensures ∙ sym (ap (λ b. if b then Some (undo_name op reply) else None) (same_tested (length reply) 16 long))

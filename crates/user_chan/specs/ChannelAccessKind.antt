@@ -1,0 +1,16 @@
+-- ChannelAccess as one value, and where it stands among all kinds.
+use Rattle.cfg_records.specs.declared.channel.StoredAccess.{StoredAccess}
+use Rattle.cfg_records.specs.declared.channel.SetChannelAccess.{SetChannelAccess}
+use Rattle.cfg_records.specs.Kind.{Kind}
+use Rattle.cfg_records.specs.Member.{Member}
+use Rattle.user_chan.specs.declared.channel_access.ChannelAccessLimits.{ChannelAccessLimits}
+use Rattle.user_chan.specs.ChannelAccess.{words, record_words, place}
+use Rattle.user_chan.specs.ChannelAccessLaws.{kind_laws, record_laws}
+
+-- what it says, and that it holds
+abbrev pub kind : Kind StoredAccess SetChannelAccess ChannelAccessLimits
+kind = record { words = words; record_words = λ limits. record_words; kind_laws = kind_laws; record_laws = λ limits. record_laws }
+
+-- the kind, and where it stands among all
+abbrev pub member : Member StoredAccess SetChannelAccess ChannelAccessLimits
+member = record { kind = kind; place = place }

@@ -1,0 +1,134 @@
+-- The laws of the kind ChannelAccess.
+use Rattle.std.proofs.Common.{◌≡◌, ℕ, ◌%◌, ◌<◌, ◌≤◌, List, [], ◌∷◌, length, slice_index, ◌==◌, nat_le, ◌&&◌, Bool, true, false, IsTrue, if◌then◌else◌, Result, Ok, Err, Some, refl, sym, ◌∙◌, ap, subst, arith}
+use Rattle.std.proofs.lemmas.Bool.Decides.{nat_tests}
+use Rattle.std.proofs.lemmas.Grind.{same_number_lists, common_steps}
+use Rattle.two_wire.specs.Codes.{invalid_data_field}
+use Rattle.cfg_records.specs.declared.channel.SixBits.{SixBits}
+use Rattle.cfg_records.specs.declared.channel.ChannelChange.{ChannelChange}
+use Rattle.cfg_records.specs.declared.channel.ChannelChange.TheVariants.{Access, Limit, Both}
+use Rattle.cfg_records.specs.declared.channel.SetChannelAccess.{SetChannelAccess}
+use Rattle.cfg_records.specs.MaskLaws.{both_true, both}
+use Rattle.cfg_records.specs.Meaning.{Decides, IsRefusal}
+use Rattle.cfg_records.specs.InverseLaws.{some_where, made_where, tested_same, same_tested}
+use Rattle.cfg_records.specs.Kind.{KindLaws, RecordLaws}
+use Rattle.cfg_records.specs.RefusalLaws.{refused_field}
+use Rattle.cfg_records.specs.Boards.{stored}
+use Rattle.cfg_records.specs.ChannelAccess.{IsChannelAccess}
+use Rattle.cfg_records.specs.PartLaws.{IsChannelAccess-prop}
+use Rattle.user_chan.specs.ChannelAccess.{is_access, is_limit, is_change, changed, SetsChannelAccess, undo_change, undo_channel, is_plain_change, words, record_words}
+
+-- a list of two is its two members
+two : (xs : List ℕ) → length xs ≡ 2 → xs ≡ slice_index xs 0 ∷ slice_index xs 1 ∷ []
+two xs h = same_number_lists _ _ h (λ k lt. grind (arith, common_steps))
+
+true_not_false : (b : Bool) → b ≡ true → b ≡ false → ⊥
+true_not_false b t f = cc
+
+true_le : (a b : ℕ) → nat_le a b ≡ true → a ≤ b
+true_le a b h = grind (arith, nat_tests)
+
+le_true : (a b : ℕ) → a ≤ b → nat_le a b ≡ true
+le_true a b h = grind (arith, nat_tests)
+
+-- ---- what a Set makes
+
+decided : (op : SetChannelAccess) (old : List ℕ) (b : Bool) → is_change op.change ≡ b → Decides (if b then Ok (changed op.change old) else Err invalid_data_field) (SetsChannelAccess op old)
+decided op old true is = record { accepted = is; made = refl }
+decided op old false is = λ new s. true_not_false _ s.accepted is
+
+refused : (made : List ℕ) (code : ℕ) (b : Bool) → (if b then Ok made else Err invalid_data_field) ≡ Err code → IsRefusal code
+refused made code true is = cc
+refused made code false is = refused_field code (Err invalid_data_field) refl is
+
+two_long : (change : ChannelChange) (old : List ℕ) → length (changed change old) ≡ 2
+two_long (Access access) old = refl
+two_long (Limit limit) old = refl
+two_long (Both access limit) old = refl
+
+keeps_change : (change : ChannelChange) (old : List ℕ) → IsTrue (is_change change) → IsChannelAccess old → IsChannelAccess (changed change old)
+keeps_change (Access access) old is v = record { two = refl; six_bits = access.six_bits; mode = true_le _ _ is; least = v.least; most = v.most }
+keeps_change (Limit limit) old is v = let tests = both_true _ _ is in record { two = refl; six_bits = v.six_bits; mode = v.mode; least = true_le _ _ tests.0; most = true_le _ _ tests.1 }
+keeps_change (Both access limit) old is v =
+    let tests = both_true _ _ is in
+    let limits = both_true _ _ tests.1 in
+    record { two = refl; six_bits = access.six_bits; mode = true_le _ _ tests.0; least = true_le _ _ limits.0; most = true_le _ _ limits.1 }
+
+-- ---- what an undo brings back
+
+-- an old byte is six bits, and an old limit four
+six : (n : ℕ) → n < 64 → n % 64 ≡ n
+six n lt = omega arith
+
+four : (n : ℕ) → n ≤ 5 → n % 16 % 64 % 16 ≡ n
+four n le = omega arith
+
+mode_six : (n : ℕ) → n % 8 ≤ 3 → n % 64 % 8 ≤ 3
+mode_six n le = omega arith
+
+access_again : (n : ℕ) → n % 8 ≤ 3 → is_access (n % 64) ≡ true
+access_again n le = le_true _ _ (mode_six n le)
+
+limit_again : (n : ℕ) → 1 ≤ n → n ≤ 5 → is_limit (n % 16 % 64) ≡ true
+limit_again n least most =
+    let same : n % 16 % 64 % 16 ≡ n = four n most in
+    let above : 1 ≤ n % 16 % 64 % 16 = omega arith in
+    let below : n % 16 % 64 % 16 ≤ 5 = omega arith in
+    both _ _ (le_true _ _ above) (le_true _ _ below)
+
+pairs : (a b c d : ℕ) → a ≡ c → b ≡ d → a ∷ b ∷ [] ≡ c ∷ d ∷ []
+pairs a b c d p q i = p i ∷ q i ∷ []
+
+accepts_undo : (change : ChannelChange) (old : List ℕ) → IsChannelAccess old → is_change (undo_change change old) ≡ true
+accepts_undo (Access access) old v = access_again _ v.mode
+accepts_undo (Limit limit) old v = limit_again _ v.least v.most
+accepts_undo (Both access limit) old v = both _ _ (access_again _ v.mode) (limit_again _ v.least v.most)
+
+back : (change : ChannelChange) (old : List ℕ) → IsChannelAccess old → slice_index old 0 ∷ slice_index old 1 ∷ [] ≡ changed (undo_change change old) (changed change old)
+back (Access access) old v = pairs _ _ _ _ (sym (six _ v.six_bits)) refl
+back (Limit limit) old v = pairs _ _ _ _ refl (sym (four _ v.most))
+back (Both access limit) old v = pairs _ _ _ _ (sym (six _ v.six_bits)) (sym (four _ v.most))
+
+undoes_channel : (op : SetChannelAccess) (old new : List ℕ) → IsChannelAccess old → SetsChannelAccess op old new → SetsChannelAccess (undo_channel op old) new old
+undoes_channel op old new v s = record {
+  accepted = accepts_undo op.change old v;
+  made = two old v.two ∙ back op.change old v ∙ ap (changed (undo_change op.change old)) (sym s.made);
+}
+
+-- bits 5:4 of a limit are 0
+small : (n : ℕ) → n % 16 % 64 < 16
+small n = omega arith
+
+plain_undo : (change : ChannelChange) (reply : List ℕ) → is_plain_change (undo_change change reply)
+plain_undo (Access access) reply = tt
+plain_undo (Limit limit) reply = small _
+plain_undo (Both access limit) reply = small _
+
+-- what undoes an operation
+made_channel : (op made : SetChannelAccess) (reply : List ℕ) → words.inverse op reply ≡ Some made → undo_channel op reply ≡ made
+made_channel op made reply is = (made_where (length reply == 2) (undo_channel op reply) made is).1
+
+-- ---- the kind
+
+pub kind_laws : KindLaws words
+kind_laws = record {
+  set_short = λ op. omega arith;
+  invertible = λ op reply. some_where (length reply == 2) (undo_channel op reply) _ (λ is. (tested_same _ _ is, tt)) (λ h. same_tested _ _ h.0);
+  plain = λ op made reply is. subst words.is_plain (made_channel op made reply is) (plain_undo op.change reply);
+}
+
+pub record_laws : RecordLaws words record_words
+record_laws = record {
+  one_proof = IsChannelAccess-prop;
+  taken = λ op old new done. tt;
+  decides = λ op value. decided op value (is_change op.change) refl;
+  refuses = λ op value code is. refused (changed op.change value) code (is_change op.change) is;
+  determined = λ op old new other done also. done.made ∙ sym also.made;
+  keeps = λ op old new is_valid done. subst IsChannelAccess (sym done.made) (keeps_change op.change old done.accepted is_valid);
+  fits = λ op old new done. same_tested (length new) 2 (ap length done.made ∙ two_long op.change old);
+  replies = λ op value live here is_valid. is_valid.two;
+  get_short = λ at value live here is_valid. let long : length value ≡ 2 = is_valid.two in omega arith;
+  steady = λ value live other. refl;
+  tells = λ value other live is_valid is_other same. same;
+  same_record = λ op made value live here is_valid is. ap (λ (o : SetChannelAccess). stored o.channel o.store) (sym (made_channel op made value is));
+  undoes = λ op made old new live is_valid done is. subst (λ (o : SetChannelAccess). SetsChannelAccess o new old) (made_channel op made old is) (undoes_channel op old new is_valid done);
+}

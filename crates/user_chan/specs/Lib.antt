@@ -1,0 +1,12 @@
+pub mod Passwords
+pub mod PasswordLaws
+pub mod UserNames
+pub mod UserNamesLaws
+pub mod UserNamesKind
+pub mod UserAccess
+pub mod UserAccessLaws
+pub mod UserAccessKind
+pub mod ChannelAccess
+pub mod ChannelRequests
+pub mod ChannelAccessLaws
+pub mod ChannelAccessKind

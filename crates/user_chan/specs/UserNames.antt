@@ -1,0 +1,109 @@
+-- The names of users, as a kind of record (IPMI 2.0, Set and Get User Name). A value has the sixteen bytes of a name.
+use Rattle.std.specs.Prelude.{◌≡◌, ◌≢◌, ℕ, ◌%◌, ◌<◌, List, [], ◌∷◌, length, slice_index, ◌==◌, if◌then◌else◌, Result, Ok, Err, Option, Some, None, refl}
+use Rattle.two_wire.specs.Codes.{invalid_data_field}
+use Rattle.cfg_records.specs.declared.key.Key.{Key}
+use Rattle.cfg_records.specs.declared.key.Key.TheVariants as key
+use Rattle.cfg_records.specs.declared.op.Op.{Op}
+use Rattle.cfg_records.specs.declared.op.Op.TheVariants as op
+use Rattle.cfg_records.specs.declared.user.UserNumber.{UserNumber}
+use Rattle.cfg_records.specs.declared.user.SetUserName.{SetUserName}
+use Rattle.cfg_records.specs.Kind.{KindWords, RecordWords}
+use Rattle.cfg_records.specs.AllKinds.{Place}
+use Rattle.cfg_records.specs.Numbers.{user_in}
+use Rattle.cfg_records.specs.Requests.{application, ipmi_request, byte_at}
+
+-- the commands that set it and get it
+abbrev pub set_user_name : ℕ
+set_user_name = 0x45
+
+abbrev pub get_user_name : ℕ
+get_user_name = 0x46
+
+-- the user whose name never changes: user 1 has none
+abbrev pub nameless : ℕ
+nameless = 1
+
+-- the user that an operation names
+abbrev pub user_of : SetUserName → ℕ
+user_of op = op.user % 64
+
+-- the name becomes the operation's, whatever the old one is, of any user but user 1
+pub record SetsUserName (op : SetUserName) (new : List ℕ) : Type 0 where
+  pub has_name : user_of op ≢ nameless
+  pub all : new ≡ op.name
+
+-- the new value, or CCh
+abbrev pub name_outcome : SetUserName → Result (List ℕ) ℕ
+name_outcome op = if user_of op == nameless then Err invalid_data_field else Ok op.name
+
+-- the name that a reply shows
+abbrev pub shown_name : List ℕ → List ℕ
+shown_name reply =
+    slice_index reply 0 ∷ slice_index reply 1 ∷ slice_index reply 2 ∷ slice_index reply 3 ∷ slice_index reply 4 ∷ slice_index reply 5 ∷ slice_index reply 6 ∷ slice_index reply 7 ∷ slice_index reply 8 ∷ slice_index reply 9 ∷ slice_index reply 10 ∷ slice_index reply 11 ∷ slice_index reply 12 ∷ slice_index reply 13 ∷ slice_index reply 14 ∷ slice_index reply 15 ∷ []
+
+-- the operation that sets it
+abbrev pub undo_name : SetUserName → List ℕ → SetUserName
+undo_name op reply = record { user = user_of op; name = shown_name reply; sixteen = refl }
+
+-- the data of the request that carries out the operation
+abbrev pub name_body : SetUserName → List ℕ
+name_body op = op.user ∷ op.name
+
+-- the operation that such data say
+abbrev pub name_in : List ℕ → SetUserName
+name_in body = record {
+  user = byte_at body 0;
+  name =
+      byte_at body 1 ∷ byte_at body 2 ∷ byte_at body 3 ∷ byte_at body 4 ∷ byte_at body 5 ∷ byte_at body 6 ∷ byte_at body 7 ∷ byte_at body 8 ∷ byte_at body 9 ∷ byte_at body 10 ∷ byte_at body 11 ∷ byte_at body 12 ∷ byte_at body 13 ∷ byte_at body 14 ∷ byte_at body 15 ∷ byte_at body 16 ∷ [];
+  sixteen = refl;
+}
+
+-- ---- the kind
+
+abbrev pub words : KindWords UserNumber SetUserName
+words = record {
+  name = key.UserName;
+  key_of = λ op. user_in op.user;
+  get_asked = λ user. ipmi_request application get_user_name (user.number ∷ []);
+  set_data = name_body;
+  set_asked = λ op. ipmi_request application set_user_name (name_body op);
+  -- the Set reply has no data
+  set_reply = λ op. [];
+  next_live = λ op live. live;
+  is_reply = λ op reply. length reply ≡ 16;
+  -- from each reply
+  restorable = λ op reply. Unit {0};
+  inverse = λ op reply. if length reply == 16 then Some (undo_name op reply) else None;
+  -- bits 7:6 of the user's byte are ignored
+  is_plain = λ op. op.user < 64;
+}
+
+abbrev pub record_words : RecordWords UserNumber SetUserName
+record_words = record {
+  is_of = λ user. Unit {0};
+  -- any sixteen bytes
+  valid = λ value. length value ≡ 16;
+  sets = λ op old new. SetsUserName op new;
+  outcome = λ op old. name_outcome op;
+  -- the Get reply has the name, and all of it is configuration
+  view = λ value live. value;
+  conf = λ reply. reply;
+  shown = λ value. value;
+}
+
+abbrev own_key : (k : Key) → Option ((own : UserNumber) × (k ≡ words.name own))
+own_key (key.UserName user) = Some (user, refl)
+own_key _ = None
+
+abbrev own_op : (o : Op) → Option ((own : SetUserName) × (o ≡ op.UserName own))
+own_op (op.UserName o) = Some (o, refl)
+own_op _ = None
+
+abbrev pub place : Place words
+place = record {
+  op = op.UserName;
+  own_key = own_key;
+  own_op = own_op;
+  finds_key = λ own. refl;
+  finds_op = λ o. refl;
+}

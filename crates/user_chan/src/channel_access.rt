@@ -1,0 +1,169 @@
+//! The access of a channel, in one of its stores, as a kind of record.
+ghost use Rattle.std.specs.Prelude.{◌≡◌, ◌≤◌, OnErr, length};
+ghost use Rattle.cfg_records.specs.Meaning.{told};
+ghost use Rattle.cfg_records.specs.ChannelAccess.{IsChannelAccess};
+ghost use Rattle.user_chan.specs.ChannelAccess.{is_access, is_limit, is_change, channel_outcome, store_bits, in_store, channel_body};
+
+use cfg_records::{
+    AccessStore, Asked, ChannelChange, Key, Live, RecordData, RecordKind, SetChannelAccess,
+    SixBits, StoredAccess, Value,
+};
+use two_wire::code::INVALID_DATA_FIELD;
+use two_wire::{Buffer, Code, NetFn};
+
+/// The number of the network function of applications.
+const APPLICATION: u8 = 0x06;
+
+/// The number of the command that sets it.
+const SET_CHANNEL_ACCESS: u8 = 0x40;
+
+/// The number of the command that gets it.
+const GET_CHANNEL_ACCESS: u8 = 0x41;
+
+/// Any known mode and any limit can be set.
+#[derive(Clone, Copy, Debug, PartialEq, Eq)]
+pub struct ChannelAccessLimits;
+
+/// Whether the mode of an access is a known one.
+fn is_access(byte: u8) -> bool
+    ensures { result ≡ is_access byte }
+{
+    byte % 8 <= 3
+}
+
+/// Whether bits 3:0 of a limit's byte are a limit.
+fn is_limit(byte: u8) -> bool
+    ensures { result ≡ is_limit byte }
+{
+    let limit = byte % 16;
+    1 <= limit && limit <= 5
+}
+
+/// Whether each part that the change names is one that a channel can have.
+fn is_change(change: &ChannelChange) -> bool
+    ensures { result ≡ is_change change.now }
+{
+    match change {
+        ChannelChange::Access(access) => is_access(access.number),
+        ChannelChange::Limit(limit) => is_limit(limit.number),
+        ChannelChange::Both(access, limit) => is_access(access.number) && is_limit(limit.number),
+    }
+}
+
+/// Makes `new` the value that the operation makes of the old one.
+fn set(op: &SetChannelAccess, old: &[u8], new: &mut Value) -> Result<(), Code>
+    requires { IsChannelAccess old.now }
+    ensures outcome { told result new.new ≡ channel_outcome op.now old.now }
+    ensures kept { OnErr result (new.new ≡ new.old) }
+{
+    if !is_change(&op.change) {
+        return Err(INVALID_DATA_FIELD);
+    }
+    match &op.change {
+        ChannelChange::Access(access) => new.replace(&[access.number, old[1]]),
+        ChannelChange::Limit(limit) => new.replace(&[old[0], limit.number % 16]),
+        ChannelChange::Both(access, limit) => new.replace(&[access.number, limit.number % 16]),
+    }
+    Ok(())
+}
+
+/// The bits that name a store, 11b for neither.
+fn store_bits(store: AccessStore) -> u8
+    ensures value { result ≡ store_bits store }
+    ensures two { result ≤ 3 }
+{
+    match store {
+        AccessStore::NonVolatile => 1,
+        AccessStore::Volatile => 2,
+        AccessStore::Neither => 3,
+    }
+}
+
+/// Six bits behind those of the store.
+fn in_store(store: AccessStore, bits: SixBits) -> u8
+    ensures { result ≡ in_store store bits.number }
+{
+    store_bits(store) * 64 + bits.number
+}
+
+/// The data of the request that carries out the operation.
+fn body(op: &SetChannelAccess) -> RecordData
+    ensures value { result ≡ channel_body op.now }
+    ensures three { length result ≡ 3 }
+{
+    let (access, limit) = match &op.change {
+        ChannelChange::Access(access) => (in_store(op.store, *access), 0),
+        ChannelChange::Limit(limit) => (0, in_store(op.store, *limit)),
+        ChannelChange::Both(access, limit) => {
+            (in_store(op.store, *access), in_store(op.store, *limit))
+        }
+    };
+    RecordData::from_slice(&[op.channel.number, access, limit])
+}
+
+impl<'a> RecordKind<'a> for ChannelAccessLimits {
+    ghost use Rattle.user_chan.specs.ChannelAccessKind as channel_access;
+
+    type Key = StoredAccess;
+
+    type Op = SetChannelAccess;
+
+    ghost kind = { channel_access.kind };
+
+    fn key(op: &SetChannelAccess) -> Key {
+        Key::ChannelAccess(StoredAccess {
+            channel: op.channel,
+            store: op.store,
+        })
+    }
+
+    fn apply(&self, op: &SetChannelAccess, value: &[u8], new: &mut Value) -> Result<(), Code> {
+        set(op, value, new)
+    }
+
+    fn set_reply<B: Buffer>(_op: &SetChannelAccess, _reply: &mut B) {}
+
+    fn next_live(_op: &SetChannelAccess, _live: &mut Live) {}
+
+    fn get_data<B: Buffer>(&self, value: &[u8], _live: &Live, reply: &mut B) {
+        reply.extend_from_slice(value);
+    }
+
+    fn get_asked(at: &StoredAccess) -> Asked {
+        Asked::ipmi(
+            NetFn::new(APPLICATION),
+            GET_CHANNEL_ACCESS,
+            &[at.channel.number, store_bits(at.store) * 64],
+        )
+    }
+
+    fn set_data(op: &SetChannelAccess) -> RecordData {
+        body(op)
+    }
+
+    fn set_asked(op: &SetChannelAccess) -> Asked {
+        Asked::ipmi(
+            NetFn::new(APPLICATION),
+            SET_CHANNEL_ACCESS,
+            body(op).as_slice(),
+        )
+    }
+
+    fn inverse(op: &SetChannelAccess, get_data: &'a [u8]) -> Option<SetChannelAccess> {
+        let [access, limit] = get_data else {
+            return None;
+        };
+        let old_access = SixBits::of(*access);
+        let old_limit = SixBits::of(limit % 16);
+        let change = match &op.change {
+            ChannelChange::Access(_) => ChannelChange::Access(old_access),
+            ChannelChange::Limit(_) => ChannelChange::Limit(old_limit),
+            ChannelChange::Both(_, _) => ChannelChange::Both(old_access, old_limit),
+        };
+        Some(SetChannelAccess {
+            channel: op.channel,
+            store: op.store,
+            change,
+        })
+    }
+}

@@ -1,0 +1,15 @@
+//! The names of users, what users may do on channels, and the access of channels, as kinds of record; and the users' passwords, which
+//! no call shows.
+#![tactic(auto)]
+
+pub mod channel_access;
+pub mod channel_request;
+pub mod laws;
+pub mod password;
+pub mod user_access;
+pub mod user_name;
+
+pub use channel_access::ChannelAccessLimits;
+pub use password::{Password, PasswordChange, Passwords};
+pub use user_access::UserAccessLimits;
+pub use user_name::UserNameLimits;

@@ -1,0 +1,154 @@
+//! The names of users, as a kind of record.
+ghost use Rattle.std.specs.Prelude.{◌≡◌, OnErr, length};
+ghost use Rattle.cfg_records.specs.Meaning.{told};
+ghost use Rattle.user_chan.specs.UserNames.{name_outcome, shown_name, undo_name, name_body, name_in};
+
+use cfg_records::{
+    Asked, Key, Live, RecordData, RecordKind, SetUserName, UserNumber, Value, byte_at,
+};
+use two_wire::code::INVALID_DATA_FIELD;
+use two_wire::{Buffer, Code, NetFn};
+
+/// The number of the network function of applications.
+const APPLICATION: u8 = 0x06;
+
+/// The number of the command that sets a name.
+const SET_USER_NAME: u8 = 0x45;
+
+/// The number of the command that gets it.
+const GET_USER_NAME: u8 = 0x46;
+
+/// The user whose name never changes: user 1 has none.
+const NAMELESS: u8 = 1;
+
+/// Any user but user 1 can have any name.
+#[derive(Clone, Copy, Debug, PartialEq, Eq)]
+pub struct UserNameLimits;
+
+/// The name that a reply shows, 00h where bytes are missing.
+fn shown_name(reply: &[u8]) -> [u8; 16]
+    ensures { result ≡ shown_name reply.now }
+{
+    [
+        byte_at(reply, 0),
+        byte_at(reply, 1),
+        byte_at(reply, 2),
+        byte_at(reply, 3),
+        byte_at(reply, 4),
+        byte_at(reply, 5),
+        byte_at(reply, 6),
+        byte_at(reply, 7),
+        byte_at(reply, 8),
+        byte_at(reply, 9),
+        byte_at(reply, 10),
+        byte_at(reply, 11),
+        byte_at(reply, 12),
+        byte_at(reply, 13),
+        byte_at(reply, 14),
+        byte_at(reply, 15),
+    ]
+}
+
+/// The operation that sets it.
+fn undo_name(op: &SetUserName, reply: &[u8]) -> SetUserName
+    ensures { result ≡ undo_name op.now reply.now }
+{
+    SetUserName {
+        user: op.user % 64,
+        name: shown_name(reply),
+    }
+}
+
+/// The operation that the data of its request says.
+pub fn name_in(body: &[u8]) -> SetUserName
+    ensures { result ≡ name_in body.now }
+{
+    SetUserName {
+        user: byte_at(body, 0),
+        name: [
+            byte_at(body, 1),
+            byte_at(body, 2),
+            byte_at(body, 3),
+            byte_at(body, 4),
+            byte_at(body, 5),
+            byte_at(body, 6),
+            byte_at(body, 7),
+            byte_at(body, 8),
+            byte_at(body, 9),
+            byte_at(body, 10),
+            byte_at(body, 11),
+            byte_at(body, 12),
+            byte_at(body, 13),
+            byte_at(body, 14),
+            byte_at(body, 15),
+            byte_at(body, 16),
+        ],
+    }
+}
+
+/// Makes `new` the name that the operation says.
+fn set(op: &SetUserName, new: &mut Value) -> Result<(), Code>
+    ensures outcome { told result new.new ≡ name_outcome op.now }
+    ensures kept { OnErr result (new.new ≡ new.old) }
+{
+    if op.user % 64 == NAMELESS {
+        return Err(INVALID_DATA_FIELD);
+    }
+    new.replace(&op.name);
+    Ok(())
+}
+
+/// The data of the request that carries out the operation.
+fn body(op: &SetUserName) -> RecordData
+    ensures value { result ≡ name_body op.now }
+    ensures seventeen { length result ≡ 17 }
+{
+    let mut body = RecordData::from_slice(&[op.user]);
+    body.extend_from_slice(&op.name);
+    body
+}
+
+impl<'a> RecordKind<'a> for UserNameLimits {
+    ghost use Rattle.user_chan.specs.UserNamesKind as names;
+
+    type Key = UserNumber;
+
+    type Op = SetUserName;
+
+    ghost kind = { names.kind };
+
+    fn key(op: &SetUserName) -> Key {
+        Key::UserName(UserNumber::of(op.user))
+    }
+
+    fn apply(&self, op: &SetUserName, _value: &[u8], new: &mut Value) -> Result<(), Code> {
+        set(op, new)
+    }
+
+    fn set_reply<B: Buffer>(_op: &SetUserName, _reply: &mut B) {}
+
+    fn next_live(_op: &SetUserName, _live: &mut Live) {}
+
+    fn get_data<B: Buffer>(&self, value: &[u8], _live: &Live, reply: &mut B) {
+        reply.extend_from_slice(value);
+    }
+
+    fn get_asked(user: &UserNumber) -> Asked {
+        Asked::ipmi(NetFn::new(APPLICATION), GET_USER_NAME, &[user.number])
+    }
+
+    fn set_data(op: &SetUserName) -> RecordData {
+        body(op)
+    }
+
+    fn set_asked(op: &SetUserName) -> Asked {
+        Asked::ipmi(NetFn::new(APPLICATION), SET_USER_NAME, body(op).as_slice())
+    }
+
+    fn inverse(op: &SetUserName, get_data: &'a [u8]) -> Option<SetUserName> {
+        if get_data.len() != 16 {
+            return None;
+        }
+        Some(undo_name(op, get_data))
+    }
+}
