@@ -7,8 +7,29 @@ use cfg_records::{
     PlainStore, PowerPolicy, Sensor, Sensors, Store, StoreFault, StoredAccess, ThresholdMasks,
     Thresholds, UserNumber, UserOnChannel, Value, Watchdog, sample_board,
 };
+use std::process::Abort;
 use std::test::Fail;
 use two_wire::{Below, Bytes, Lun, NetFn, code};
+
+/// The pair of this place is the record and its value.
+fn expect_pair(
+    rt: &impl Abort,
+    pairs: &[(Key, Value)],
+    place: usize,
+    key: Key,
+    bytes: &[u8],
+) -> Result<(), Fail> {
+    let (found, value) = pairs.get(place).ok_or("pair")?;
+    assert!(rt; *found == key);
+    assert!(rt; value.is(bytes));
+    Ok(())
+}
+
+/// The access of channel 1 in the store.
+fn stored(store: AccessStore) -> Key {
+    let channel = ChannelNumber::of(1);
+    Key::ChannelAccess(StoredAccess { channel, store })
+}
 
 #[test]
 fn the_sample_board_begins_with_its_records(rt: HostRuntime) -> Result<(), Fail> {
@@ -16,38 +37,38 @@ fn the_sample_board_begins_with_its_records(rt: HostRuntime) -> Result<(), Fail>
     assert_eq!(rt; file.tid, 5);
     let pairs = file.records(rt.alloc())?;
     assert_eq!(rt; pairs.len(), 18);
-    assert!(rt; pairs[1].0 == Key::Thresholds(7));
-    assert!(rt; pairs[1].1.is(&[0, 0, 0, 0x90, 0xA0, 0xB0]));
-    assert!(rt; pairs[2].0 == Key::Hysteresis(5));
-    assert!(rt; pairs[2].1.is(&[2, 2]));
-    assert!(rt; pairs[4].0 == Key::EventEnable(5));
-    assert!(rt; pairs[4].1.is(&[0xC0, 0, 2, 0, 0]));
-    assert!(rt; pairs[5].1.is(&[0, 0, 0, 0, 0]));
-    assert!(rt; pairs[7].0 == Key::UserName(UserNumber::of(2)));
-    let admin = [
-        0x61, 0x64, 0x6D, 0x69, 0x6E, 0, 0, 0, 0, 0, 0, 0, 0, 0, 0, 0,
-    ];
-    assert!(rt; pairs[7].1.is(&admin));
-    assert!(rt; pairs[8].0 == Key::UserAccess(UserOnChannel::of(1, 1)));
-    assert!(rt; pairs[8].1.is(&[0x14]));
-    let volatile = StoredAccess {
-        channel: ChannelNumber::of(1),
-        store: AccessStore::Volatile,
-    };
-    assert!(rt; pairs[11].0 == Key::ChannelAccess(volatile));
-    assert!(rt; pairs[11].1.is(&[2, 4]));
-    assert!(rt; pairs[12].0 == Key::PowerPolicy);
-    assert!(rt; pairs[12].1.is(&[1]));
-    assert!(rt; pairs[13].0 == Key::Watchdog);
-    assert!(rt; pairs[13].1.is(&[0, 0, 0, 0, 0]));
-    assert!(rt; pairs[14].0 == Key::GlobalEnables);
-    assert!(rt; pairs[14].1.is(&[0x08]));
-    assert!(rt; pairs[15].0 == Key::BootParam(BootParameter::ValidBitClearing));
-    assert!(rt; pairs[15].1.is(&[0, 0]));
-    assert!(rt; pairs[16].0 == Key::BootParam(BootParameter::InfoAcknowledge));
-    assert!(rt; pairs[16].1.is(&[0, 0]));
-    assert!(rt; pairs[17].0 == Key::BootParam(BootParameter::Flags));
-    assert!(rt; pairs[17].1.is(&[0; 6]));
+    for (place, key, bytes) in [
+        (
+            0,
+            Key::Thresholds(5),
+            &[0x14, 0x0A, 0x05, 0x50, 0x5F, 0x6E][..],
+        ),
+        (1, Key::Thresholds(7), &[0, 0, 0, 0x90, 0xA0, 0xB0]),
+        (2, Key::Hysteresis(5), &[2, 2]),
+        (3, Key::Hysteresis(7), &[0, 0]),
+        (4, Key::EventEnable(5), &[0xC0, 0, 2, 0, 0]),
+        (5, Key::EventEnable(7), &[0; 5]),
+        (6, Key::UserName(UserNumber::of(1)), &[0; 16]),
+        (
+            7,
+            Key::UserName(UserNumber::of(2)),
+            &[
+                0x61, 0x64, 0x6D, 0x69, 0x6E, 0, 0, 0, 0, 0, 0, 0, 0, 0, 0, 0,
+            ],
+        ),
+        (8, Key::UserAccess(UserOnChannel::of(1, 1)), &[0x14]),
+        (9, Key::UserAccess(UserOnChannel::of(1, 2)), &[0x14]),
+        (10, stored(AccessStore::NonVolatile), &[2, 4]),
+        (11, stored(AccessStore::Volatile), &[2, 4]),
+        (12, Key::PowerPolicy, &[1]),
+        (13, Key::Watchdog, &[0; 5]),
+        (14, Key::GlobalEnables, &[0x08]),
+        (15, Key::BootParam(BootParameter::ValidBitClearing), &[0; 2]),
+        (16, Key::BootParam(BootParameter::InfoAcknowledge), &[0; 2]),
+        (17, Key::BootParam(BootParameter::Flags), &[0; 6]),
+    ] {
+        expect_pair(&rt, pairs.as_slice(), place, key, bytes)?;
+    }
     Ok(())
 }
 

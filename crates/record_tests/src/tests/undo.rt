@@ -109,25 +109,6 @@ fn a_change_is_undone(rt: HostRuntime) -> Result<(), Fail> {
     let power_up = Op::PowerPolicy(SetPowerPolicy { policy: 2 });
     let stay_off = Op::PowerPolicy(SetPowerPolicy { policy: 0 });
     let enables = Op::GlobalEnables(SetGlobalEnables { byte: 0xE7 });
-    let name = Op::UserName(SetUserName {
-        user: 2,
-        name: [0x61; 16],
-    });
-    let access = |first| {
-        Op::UserAccess(SetUserAccess {
-            first,
-            user: 2,
-            limit: 3,
-            session_limit: None,
-        })
-    };
-    let bits_and_limit = access(0xA1);
-    let limit_alone = access(0x21);
-    let stored = Op::ChannelAccess(SetChannelAccess {
-        channel: ChannelNumber::of(1),
-        store: AccessStore::NonVolatile,
-        change: ChannelChange::Both(SixBits::of(0x39), SixBits::of(5)),
-    });
     let mut board = board(rt.alloc())?;
     for (op, before, between) in [
         (
@@ -142,24 +123,47 @@ fn a_change_is_undone(rt: HostRuntime) -> Result<(), Fail> {
         (&power_up, &[0x20, 0, 0], &[0x40, 0, 0]),
         (&stay_off, &[0x20, 0, 0], &[0, 0, 0]),
         (&enables, &[0x08], &[0xE7]),
+    ] {
+        expect_undone(&rt, &mut board, op, before, between)?;
+    }
+    Ok(())
+}
+
+/// A change of what user 2 may do: the limit, and the bits where the first byte asks for it.
+fn user_access(first: u8) -> Op {
+    Op::UserAccess(SetUserAccess {
+        first,
+        user: 2,
+        limit: 3,
+        session_limit: None,
+    })
+}
+
+#[test]
+fn a_change_of_a_user_or_a_channel_is_undone(rt: HostRuntime) -> Result<(), Fail> {
+    let name = Op::UserName(SetUserName {
+        user: 2,
+        name: [0x61; 16],
+    });
+    let bits_and_limit = user_access(0xA1);
+    let limit_alone = user_access(0x21);
+    let stored = Op::ChannelAccess(SetChannelAccess {
+        channel: ChannelNumber::of(1),
+        store: AccessStore::NonVolatile,
+        change: ChannelChange::Both(SixBits::of(0x39), SixBits::of(5)),
+    });
+    let mut board = board(rt.alloc())?;
+    for (op, before, between) in [
         (
             &name,
             &[
                 0x61, 0x64, 0x6D, 0x69, 0x6E, 0, 0, 0, 0, 0, 0, 0, 0, 0, 0, 0,
-            ],
-            &[0x61; 16],
+            ][..],
+            &[0x61; 16][..],
         ),
-        (
-            &bits_and_limit,
-            &[0x02, 0x80, 0x01, 0x14],
-            &[0x02, 0x80, 0x01, 0x23],
-        ),
-        (
-            &limit_alone,
-            &[0x02, 0x80, 0x01, 0x14],
-            &[0x02, 0x80, 0x01, 0x13],
-        ),
-        (&stored, &[0x02, 0x04], &[0x39, 0x05]),
+        (&bits_and_limit, &[2, 0x80, 1, 0x14], &[2, 0x80, 1, 0x23]),
+        (&limit_alone, &[2, 0x80, 1, 0x14], &[2, 0x80, 1, 0x13]),
+        (&stored, &[2, 4], &[0x39, 5]),
     ] {
         expect_undone(&rt, &mut board, op, before, between)?;
     }
