@@ -10,6 +10,7 @@ pub mod Sensors
 pub mod Sizes
 pub mod EffecterFields
 pub mod BootSteps
+pub mod UserSteps
 pub mod Changes
 pub mod Steps
 pub mod UndoLines

@@ -1,5 +1,5 @@
 -- The faults of a board file, in the order in which they count.
-use Rattle.std.specs.Prelude.{ℕ, ◌==◌, Bool, true, false, not, ◌&&◌, ◌||◌, List, [], ◌∷◌, ◌++◌, map, filter, length, Option, Some, None, if◌then◌else◌, is_none, codes}
+use Rattle.std.specs.Prelude.{ℕ, ◌==◌, Bool, true, false, not, ◌&&◌, ◌||◌, List, [], ◌∷◌, ◌++◌, map, filter, length, Option, Some, None, if◌then◌else◌, is_some, is_none, codes}
 use Rattle.std.specs.List.{list_any}
 use Rattle.toml.specs.Data.{Data, Members}
 use Rattle.plan_file.specs.declared.field.Field.{Field}
@@ -23,6 +23,8 @@ abbrev pub is_needed : Members → Need → Bool
 is_needed tree need.Always = true
 is_needed tree need.Never = false
 is_needed tree need.UnlessLeave = not (has_text field.Select (codes "leave") tree)
+is_needed tree need.WithBits = is_some (in_field field.Callback tree) || (is_some (in_field field.Link tree) || is_some (in_field field.Messaging tree))
+is_needed tree need.WithoutLimit = is_none (in_field field.Limit tree)
 
 -- the item lacks a field that it needs
 abbrev pub is_missing : Members → Row → Bool

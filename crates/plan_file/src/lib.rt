@@ -3,6 +3,7 @@
 
 mod board;
 mod change;
+mod channels;
 mod check;
 mod effecters;
 mod fault;
@@ -18,6 +19,7 @@ mod tree;
 mod undo_laws;
 mod undo_line;
 mod undo_text;
+mod users;
 
 pub use board::read_board;
 pub use fault::{FieldFault, FileFault, Item, Place};

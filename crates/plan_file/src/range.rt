@@ -10,10 +10,12 @@ ghost use Rattle.plan_file.specs.Trees.{members, or_none, natural, naturals_in, 
 ghost use Rattle.plan_file.specs.Ranges.{passes, is_integer, is_table, is_array_of, has_type, is_between, are_digits, is_enables_byte, are_masks, are_thresholds, are_flags, is_text, is_record, record_of, record_in, are_settings, is_selection, is_offset, are_five_bits, are_boot_data, parameter_in, is_in_range};
 ghost use Rattle.plan_file.specs.Holds.{settings};
 
+use crate::channels::{is_access, store};
 use crate::field::Field;
 use crate::numeric::{in_order, size_in, sized, sized_in};
 use crate::row::Shape;
 use crate::tree::{bytes, members, natural, naturals, number};
+use crate::users::{is_user_limit, name};
 use cfg_records::event_enable::are_within;
 use cfg_records::sdr_record::MOST_SDR_BYTES;
 use cfg_records::{
@@ -420,6 +422,8 @@ impl Shape {
             Shape::Tables(_) => are_tables(value),
             Shape::Flag => value.is_bool(),
             Shape::Text | Shape::Select => value.is_str(),
+            Shape::Name | Shape::Store => value.is_str(),
+            Shape::UserLimit | Shape::Access => value.is_integer(),
         }
     }
 
@@ -447,6 +451,10 @@ impl Shape {
             Shape::Sized => is_sized(item, value),
             Shape::Upper => is_upper(item, value),
             Shape::Current => is_current(item, value),
+            Shape::Name => name(value).is_some(),
+            Shape::UserLimit => is_user_limit(value),
+            Shape::Store => store(value).is_some(),
+            Shape::Access => is_access(value),
         }
     }
 }

@@ -5,7 +5,7 @@ ghost use Rattle.toml.specs.View.{table_view};
 ghost use Rattle.plan_file.specs.Faults.{is_needed};
 
 use crate::field::Field;
-use crate::tree::has_text;
+use crate::tree::{has_text, in_field};
 use toml::Table;
 
 /// The type of a field, and its range.
@@ -51,6 +51,14 @@ pub enum Shape {
     Upper,
     /// Such a number within the item's bounds.
     Current,
+    /// A text of at most 16 bytes: the name of a user.
+    Name,
+    /// A limit of a user's privileges: 1 to 5, or 15 for no access.
+    UserLimit,
+    /// A text: `non-volatile` or `volatile`.
+    Store,
+    /// A byte with no bits but bits 5:0, of which 2:0 are at most 3: who gets in over a channel.
+    Access,
 }
 
 /// When an item needs a field.
@@ -60,6 +68,10 @@ pub enum Need {
     Never,
     /// Where its field `select` isn't the text `leave`.
     UnlessLeave,
+    /// Where it has one of the fields `callback`, `link` and `messaging`.
+    WithBits,
+    /// Where it lacks the field `limit`.
+    WithoutLimit,
 }
 
 impl Need {
@@ -71,6 +83,12 @@ impl Need {
             Need::Always => true,
             Need::Never => false,
             Need::UnlessLeave => !has_text(item, Field::Select, "leave"),
+            Need::WithBits => {
+                in_field(item, Field::Callback).is_some()
+                    || in_field(item, Field::Link).is_some()
+                    || in_field(item, Field::Messaging).is_some()
+            }
+            Need::WithoutLimit => in_field(item, Field::Limit).is_none(),
         }
     }
 }

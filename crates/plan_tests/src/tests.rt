@@ -3,6 +3,7 @@ mod board;
 mod effecters;
 mod plan;
 mod undo;
+mod user_steps;
 
 /// A row of a table of fields: where a field is, its line in a file, and lines that say something else of it.
 #[derive(Clone, Copy)]
