@@ -11,6 +11,7 @@ pub mod Sizes
 pub mod EffecterFields
 pub mod BootSteps
 pub mod UserSteps
+pub mod UserNames
 pub mod Changes
 pub mod Steps
 pub mod UndoLines

@@ -1,5 +1,5 @@
 -- The board that a tree holds.
-use Rattle.std.specs.Prelude.{◌≡◌, ◌<◌, ℕ, Bool, if◌then◌else◌, List, [], ◌∷◌, length, Some, Result, Ok, Err, MatchOption}
+use Rattle.std.specs.Prelude.{◌≡◌, ◌<◌, ◌+◌, ℕ, Bool, if◌then◌else◌, List, [], ◌∷◌, length, Some, Result, Ok, Err, MatchOption}
 use Rattle.std.specs.List.{AllZip}
 use Rattle.toml.specs.Data.{Data, Members}
 use Rattle.toml.specs.Parse.{parse_document}
@@ -13,6 +13,7 @@ use Rattle.cfg_records.specs.declared.boot_param.BootOptions.{BootOptions}
 use Rattle.cfg_records.specs.declared.device.Device.{Device}
 use Rattle.cfg_records.specs.declared.event_enable.EventEnable.{EventEnable}
 use Rattle.cfg_records.specs.declared.sensor.Sensor.{Sensor}
+use Rattle.cfg_records.specs.declared.user.User.{User}
 use Rattle.cfg_records.specs.declared.watchdog.Watchdog.{Watchdog}
 use Rattle.cfg_records.specs.declared.board_file.BoardFile.{BoardFile}
 use Rattle.plan_file.specs.declared.field.Field.{Field}
@@ -25,6 +26,7 @@ use Rattle.plan_file.specs.declared.row.Row.{Row}
 use Rattle.plan_file.specs.declared.row.TheConstants.{SENSOR, NUMERIC}
 use Rattle.plan_file.specs.Trees.{number_in, numbers_in, table_of, table_in, members_in}
 use Rattle.plan_file.specs.Numeric.{sized_in}
+use Rattle.plan_file.specs.Users.{name_of}
 use Rattle.plan_file.specs.Ranges.{record_in}
 use Rattle.plan_file.specs.Faults.{item_faults, board_faults, first}
 
@@ -123,6 +125,22 @@ effecter_id effecter = effecter.id
 abbrev pub IsNextNumericFault : List NumericEffecter → Data → FileFault → Type 0
 IsNextNumericFault before d why = IsNextAmong IsNumericIn item.Numeric NUMERIC field.Id before d why
 
+-- ---- users
+
+-- the member of an array says a user's name
+abbrev pub IsNameIn : Data → User → Type 0
+IsNameIn d user = name_of d ≡ Some user.name
+
+-- the users have the numbers from this one on
+abbrev pub AreNumbered : ℕ → List User → Type 0
+AreNumbered n [] = Unit {0}
+AreNumbered n (user ∷ users) = (user.number.number ≡ n) × AreNumbered (n + 1) users
+
+-- the members of an array say the names of the users of numbers 1, 2 and so on
+pub record HoldsUsers (ds : List Data) (users : List User) : Type 0 where
+  pub names : AllZip IsNameIn ds users
+  pub numbers : AreNumbered 1 users
+
 -- ---- boards
 
 -- the settings of a watchdog, as a file lists them
@@ -148,7 +166,7 @@ pub record HoldsBoard (tree : Members) (board : BoardFile) : Type 0 where
   pub device : HoldsDevice (table_in field.Device tree) board.device
   pub sensors : AllZip IsSensorIn (members_in field.Sensor tree) board.sensors.items
   pub effecters : AllZip IsNumericIn (members_in field.Numeric tree) board.numeric_effecters.items
-  pub no_users : board.users.items ≡ []
+  pub users : HoldsUsers (members_in field.Users tree) board.users.items
   pub no_channels : board.channels.items ≡ []
   pub no_sessionless : board.sessionless.items ≡ []
   pub no_accesses : board.user_accesses.items ≡ []

@@ -20,7 +20,7 @@ use Rattle.plan_file.specs.declared.row.Shape.{Shape}
 use Rattle.plan_file.specs.declared.row.Shape.TheVariants as shape
 use Rattle.plan_file.specs.Trees.{in_field, members, natural, naturals_in, bytes_in, number_in, or_none}
 use Rattle.plan_file.specs.Numeric.{size_in, sized, sized_in, in_order}
-use Rattle.plan_file.specs.Users.{name_of}
+use Rattle.plan_file.specs.Users.{name_of, are_names}
 use Rattle.plan_file.specs.Channels.{is_access, store_of}
 
 -- the value is an integer
@@ -71,6 +71,7 @@ has_type shape.Sized d = is_integer d
 has_type shape.Upper d = is_integer d
 has_type shape.Current d = is_integer d
 has_type shape.Name d = is_text d
+has_type shape.Names d = is_array_of is_text d
 has_type shape.UserLimit d = is_integer d
 has_type shape.Store d = is_text d
 has_type shape.Access d = is_integer d
@@ -195,6 +196,7 @@ is_in_range tree shape.Upper d = passes (λ size. in_order size (sized_in size f
 is_in_range tree shape.Current d =
     passes (λ size. in_order size (sized_in size field.Lower tree) (sized size d) && in_order size (sized size d) (sized_in size field.Upper tree)) (size_in tree)
 is_in_range tree shape.Name d = is_some (name_of d)
+is_in_range tree shape.Names d = are_names (or_none (members d))
 is_in_range tree shape.UserLimit d = passes is_limit (natural d)
 is_in_range tree shape.Store d = is_some (store_of d)
 is_in_range tree shape.Access d = passes is_access (natural d)

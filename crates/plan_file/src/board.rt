@@ -16,6 +16,7 @@ use crate::field::Field;
 use crate::range::{boot_flags, digits, enables, hysteresis, record, thresholds, watchdog};
 use crate::row::{DEVICE, SENSOR, TOP};
 use crate::tree::{in_field, members_in, number};
+use crate::users::users;
 use cfg_records::event_enable::{MESSAGES_PLACE, SCANNING_PLACE};
 use cfg_records::mask::has;
 use cfg_records::{
@@ -228,7 +229,7 @@ fn boot_options(tree: &Table) -> BootOptions
     BootOptions::new(clearing, acknowledge, flags).unwrap()
 }
 
-/// A board file gives a board no users or channels.
+/// A board file gives a board no channels.
 fn no_items<T: Numbered + Drop, const MOST: usize>(alloc: Global) -> Distinct<T, MOST>
     ensures { result.items ≡ [] }
 {
@@ -245,6 +246,7 @@ fn board_of(alloc: Global, tree: &Table) -> Result<BoardFile, FileFault>
     check(Item::Device, &DEVICE, board)?;
     let sensors = sensors(alloc, tree)?;
     let numeric_effecters = numeric_effecters(alloc, tree)?;
+    let users = users(alloc, tree)?;
     Ok(BoardFile {
         tid: byte_in(tree, Field::Tid),
         device: device(board),
@@ -257,7 +259,7 @@ fn board_of(alloc: Global, tree: &Table) -> Result<BoardFile, FileFault>
         log: LogCapacity::new(word_in(tree, Field::Log)).unwrap(),
         sdr,
         numeric_effecters,
-        users: no_items(alloc),
+        users,
         channels: no_items(alloc),
         sessionless: no_items(alloc),
         user_accesses: no_items(alloc),

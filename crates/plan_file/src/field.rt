@@ -78,6 +78,7 @@ pub enum Field {
     Callback,
     Link,
     Messaging,
+    Users,
 }
 
 impl Field {
@@ -157,6 +158,7 @@ impl Field {
             Field::Callback => "callback",
             Field::Link => "link",
             Field::Messaging => "messaging",
+            Field::Users => "users",
         }
     }
 }

@@ -15,7 +15,7 @@ use crate::field::Field;
 use crate::numeric::{in_order, size_in, sized, sized_in};
 use crate::row::Shape;
 use crate::tree::{bytes, members, natural, naturals, number};
-use crate::users::{is_user_limit, name};
+use crate::users::{are_names, is_user_limit, name};
 use cfg_records::event_enable::are_within;
 use cfg_records::sdr_record::MOST_SDR_BYTES;
 use cfg_records::{
@@ -415,7 +415,7 @@ impl Shape {
             Shape::Pair | Shape::Thresholds | Shape::Watchdog | Shape::Offsets => {
                 are_integers(value)
             }
-            Shape::Records(_) => are_texts(value),
+            Shape::Records(_) | Shape::Names => are_texts(value),
             Shape::BootFlags | Shape::BootData => are_integers(value),
             Shape::Sized | Shape::Upper | Shape::Current => value.is_integer(),
             Shape::Table => value.is_table(),
@@ -452,6 +452,7 @@ impl Shape {
             Shape::Upper => is_upper(item, value),
             Shape::Current => is_current(item, value),
             Shape::Name => name(value).is_some(),
+            Shape::Names => are_names(value),
             Shape::UserLimit => is_user_limit(value),
             Shape::Store => store(value).is_some(),
             Shape::Access => is_access(value),

@@ -53,6 +53,8 @@ pub enum Shape {
     Current,
     /// A text of at most 16 bytes: the name of a user.
     Name,
+    /// 1 to 16 names, in a list of texts, of which the first is empty.
+    Names,
     /// A limit of a user's privileges: 1 to 5, or 15 for no access.
     UserLimit,
     /// A text: `non-volatile` or `volatile`.
@@ -101,12 +103,13 @@ pub struct Row(pub Field, pub Shape, pub Need);
 pub const BYTE: Shape = Shape::Number(0, 255);
 
 /// A board file's own fields.
-pub const TOP: [Row; 13] = [
+pub const TOP: [Row; 14] = [
     Row(Field::Tid, BYTE, Need::Always),
     Row(Field::Clock, Shape::Number(0, 0xFFFF_FFFF), Need::Always),
     Row(Field::Log, Shape::Number(1, 1_024), Need::Always),
     Row(Field::Enables, Shape::Enables, Need::Always),
     Row(Field::Policy, Shape::Number(0, 3), Need::Always),
+    Row(Field::Users, Shape::Names, Need::Always),
     Row(Field::Watchdog, Shape::Watchdog, Need::Always),
     Row(Field::Boot3, Shape::Number(0, 31), Need::Always),
     Row(Field::Boot4, BYTE, Need::Always),

@@ -55,6 +55,14 @@ returns-in_err-numeric_effecters c =
       | inr counts ↦ inr (effecters_first (table_view c.args.tree.now) c.in_err-numeric_effecters.field-0.0 c.in_ok-check.ensures.ok c.in_ok-sdr.ensures.sound device c.in_ok-sensors.ensures.sound counts)
     ])
 
+pub returns-in_err-users : goal.returns-in_err-users
+returns-in_err-users c =
+    let p = err_from_is_err_and c.from_residual-in_err-users.result c.from_residual-in_err-users.ensures.1 in
+    rw (p.1, p.2) (inl (ap Err c.in_err-users.ensures.err))
+
+pub users-requires : goal.users-requires
+users-requires c = c.in_ok-check.ensures.ok
+
 pub byte_in-requires : goal.byte_in-requires
 byte_in-requires c = below 256 (number_of (table_view c.args.tree.now) field.Tid 0 255 (top_sound (table_view c.args.tree.now) c.in_ok-check.ensures.ok).tid) (lit< tt)
 
@@ -124,9 +132,9 @@ returns c =
         device = holds;
         sensors = c.in_ok-sensors.ensures.held;
         effecters = c.in_ok-numeric_effecters.ensures.held;
-        no_users = c.no_items.ensures;
-        no_channels = c.no_items-2.ensures;
-        no_sessionless = c.no_items-3.ensures;
-        no_accesses = c.no_items-4.ensures;
+        users = c.in_ok-users.ensures.held;
+        no_channels = c.no_items.ensures;
+        no_sessionless = c.no_items-2.ensures;
+        no_accesses = c.no_items-3.ensures;
       },
     )
