@@ -12,6 +12,8 @@ pub mod EffecterFields
 pub mod BootSteps
 pub mod UserSteps
 pub mod UserNames
+pub mod ChannelLists
+pub mod ChannelFields
 pub mod Changes
 pub mod Steps
 pub mod UndoLines

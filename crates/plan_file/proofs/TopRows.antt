@@ -23,6 +23,7 @@ pub record TopSound (tree : Members) : Type 0 where
   pub boot5 : Sound tree (record { 0 = field.Boot5; 1 = shape.BootFlags; 2 = need.Always })
   pub device : Sound tree (record { 0 = field.Device; 1 = shape.Table; 2 = need.Always })
   pub sensor : Sound tree (record { 0 = field.Sensor; 1 = shape.Tables 32; 2 = need.Never })
+  pub channel : Sound tree (record { 0 = field.Channel; 1 = shape.Tables 8; 2 = need.Never })
   pub numeric : Sound tree (record { 0 = field.Numeric; 1 = shape.Tables 32; 2 = need.Never })
 
 pub top_sound : (tree : Members) → field_faults TOP tree ≡ [] → TopSound tree
@@ -41,5 +42,6 @@ top_sound tree none =
       sdr = sound.1.1.1.1.1.1.1.1.1.1.0;
       device = sound.1.1.1.1.1.1.1.1.1.1.1.0;
       sensor = sound.1.1.1.1.1.1.1.1.1.1.1.1.0;
-      numeric = sound.1.1.1.1.1.1.1.1.1.1.1.1.1.0;
+      channel = sound.1.1.1.1.1.1.1.1.1.1.1.1.1.0;
+      numeric = sound.1.1.1.1.1.1.1.1.1.1.1.1.1.1.0;
     }

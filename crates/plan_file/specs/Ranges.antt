@@ -21,7 +21,7 @@ use Rattle.plan_file.specs.declared.row.Shape.TheVariants as shape
 use Rattle.plan_file.specs.Trees.{in_field, members, natural, naturals_in, bytes_in, number_in, or_none}
 use Rattle.plan_file.specs.Numeric.{size_in, sized, sized_in, in_order}
 use Rattle.plan_file.specs.Users.{name_of, are_names}
-use Rattle.plan_file.specs.Channels.{is_access, store_of}
+use Rattle.plan_file.specs.Channels.{is_access, is_channel, is_user_byte, store_of}
 
 -- the value is an integer
 abbrev pub is_integer : Data → Bool
@@ -75,6 +75,10 @@ has_type shape.Names d = is_array_of is_text d
 has_type shape.UserLimit d = is_integer d
 has_type shape.Store d = is_text d
 has_type shape.Access d = is_integer d
+has_type shape.Accesses d = is_array_of is_integer d
+has_type shape.Limits d = is_array_of is_integer d
+has_type (shape.UserBytes users) d = is_array_of is_integer d
+has_type shape.ChannelNumber d = is_integer d
 
 -- ---- ranges
 
@@ -170,6 +174,10 @@ abbrev pub or_zero : Option ℕ → ℕ
 or_zero (Some n) = n
 or_zero None = 0
 
+-- what a user may do on a channel
+abbrev pub may_do : Data → Bool
+may_do d = passes is_user_byte (natural d)
+
 -- the item can have the value in a field of this shape
 abbrev pub is_in_range : Members → Shape → Data → Bool
 is_in_range tree (shape.Number least most) d = passes (is_between least most) (natural d)
@@ -200,3 +208,7 @@ is_in_range tree shape.Names d = are_names (or_none (members d))
 is_in_range tree shape.UserLimit d = passes is_limit (natural d)
 is_in_range tree shape.Store d = is_some (store_of d)
 is_in_range tree shape.Access d = passes is_access (natural d)
+is_in_range tree shape.Accesses d = passes (list_all is_access) (bytes_in 2 d)
+is_in_range tree shape.Limits d = passes (list_all (is_between 1 5)) (bytes_in 2 d)
+is_in_range tree (shape.UserBytes users) d = (length (or_none (members d)) == users) && list_all may_do (or_none (members d))
+is_in_range tree shape.ChannelNumber d = passes is_channel (natural d)

@@ -79,6 +79,7 @@ pub enum Field {
     Link,
     Messaging,
     Users,
+    Sessions,
 }
 
 impl Field {
@@ -159,6 +160,7 @@ impl Field {
             Field::Link => "link",
             Field::Messaging => "messaging",
             Field::Users => "users",
+            Field::Sessions => "sessions",
         }
     }
 }

@@ -10,7 +10,7 @@ ghost use Rattle.plan_file.specs.Trees.{members, or_none, natural, naturals_in, 
 ghost use Rattle.plan_file.specs.Ranges.{passes, is_integer, is_table, is_array_of, has_type, is_between, are_digits, is_enables_byte, are_masks, are_thresholds, are_flags, is_text, is_record, record_of, record_in, are_settings, is_selection, is_offset, are_five_bits, are_boot_data, parameter_in, is_in_range};
 ghost use Rattle.plan_file.specs.Holds.{settings};
 
-use crate::channels::{is_access, store};
+use crate::channels::{accesses, are_user_bytes, is_access, is_channel, limits, store};
 use crate::field::Field;
 use crate::numeric::{in_order, size_in, sized, sized_in};
 use crate::row::Shape;
@@ -423,7 +423,8 @@ impl Shape {
             Shape::Flag => value.is_bool(),
             Shape::Text | Shape::Select => value.is_str(),
             Shape::Name | Shape::Store => value.is_str(),
-            Shape::UserLimit | Shape::Access => value.is_integer(),
+            Shape::UserLimit | Shape::Access | Shape::ChannelNumber => value.is_integer(),
+            Shape::Accesses | Shape::Limits | Shape::UserBytes(_) => are_integers(value),
         }
     }
 
@@ -456,6 +457,10 @@ impl Shape {
             Shape::UserLimit => is_user_limit(value),
             Shape::Store => store(value).is_some(),
             Shape::Access => is_access(value),
+            Shape::Accesses => accesses(value).is_some(),
+            Shape::Limits => limits(value).is_some(),
+            Shape::UserBytes(users) => are_user_bytes(value, *users),
+            Shape::ChannelNumber => is_channel(value),
         }
     }
 }

@@ -1,5 +1,6 @@
 //! What the three texts hold, and their faults.
 mod board;
+mod channels;
 mod effecters;
 mod plan;
 mod undo;

@@ -47,6 +47,12 @@ supported = 0xFC0
 flags = 0
 assert = 0
 deassert = 0
+[[channel]]
+number = 1
+sessions = true
+access = [2, 2]
+limit = [4, 4]
+users = [0x14, 0x14]
 ";
 
 /// A row for each field: its place in faults, its line in the sample board's file, a line of another type, two that are beyond its range,
@@ -128,6 +134,22 @@ fn the_sample_file_holds_the_sample_board(rt: HostRuntime) -> Result<(), Fail> {
     for (one, other) in users.iter().zip(known.users.items.as_slice()) {
         assert!(rt; one.number == other.number);
         assert!(rt; one.name == other.name);
+    }
+    let channels = read.channels.items.as_slice();
+    assert_eq!(rt; channels.len(), known.channels.items.as_slice().len());
+    for (one, other) in channels.iter().zip(known.channels.items.as_slice()) {
+        assert!(rt; one.number == other.number);
+        assert_eq!(rt; one.non_volatile.access, other.non_volatile.access);
+        assert_eq!(rt; one.non_volatile.limit, other.non_volatile.limit);
+        assert_eq!(rt; one.volatile.access, other.volatile.access);
+        assert_eq!(rt; one.volatile.limit, other.volatile.limit);
+    }
+    assert_eq!(rt; read.sessionless.items.as_slice().len(), 0);
+    let accesses = read.user_accesses.items.as_slice();
+    assert_eq!(rt; accesses.len(), known.user_accesses.items.as_slice().len());
+    for (one, other) in accesses.iter().zip(known.user_accesses.items.as_slice()) {
+        assert!(rt; one.on == other.on);
+        assert_eq!(rt; one.byte, other.byte);
     }
     let records = read.sdr.items.as_slice();
     assert_eq!(rt; records.len(), known.sdr.items.as_slice().len());

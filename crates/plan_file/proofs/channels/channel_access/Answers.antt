@@ -9,8 +9,8 @@ use Rattle.plan_file.specs.Channels.{store_of}
 use Rattle.plan_file.proofs.Rows.{all_sound, value_of, same_value, number_of, below}
 use Rattle.plan_file.proofs.channels.channel_access.Goals as goal
 
-pub channel-requires : goal.channel-requires
-channel-requires c = below 16 (number_of (table_view c.args.step.now) field.Channel 0 15 (all_sound CHANNEL_ACCESS (table_view c.args.step.now) c.requires).0) (lit< tt)
+pub channel_in-requires : goal.channel_in-requires
+channel_in-requires c = below 16 (number_of (table_view c.args.step.now) field.Channel 0 15 (all_sound CHANNEL_ACCESS (table_view c.args.step.now) c.requires).0) (lit< tt)
 
 pub value_in-requires : goal.value_in-requires
 value_in-requires c =
