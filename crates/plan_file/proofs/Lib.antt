@@ -10,6 +10,10 @@ pub mod Sensors
 pub mod Sizes
 pub mod EffecterFields
 pub mod BootSteps
+pub mod UserSteps
+pub mod UserNames
+pub mod ChannelLists
+pub mod ChannelFields
 pub mod Changes
 pub mod Steps
 pub mod UndoLines

@@ -2,6 +2,8 @@ pub mod Words
 pub mod Names
 pub mod Trees
 pub mod Numeric
+pub mod Users
+pub mod Channels
 pub mod Ranges
 pub mod Faults
 pub mod Holds

@@ -1,5 +1,5 @@
 -- The plan that a tree holds.
-use Rattle.std.specs.Prelude.{◌≡◌, ℕ, ◌==◌, ◌/◌, ◌%◌, Bool, true, List, [], ◌∷◌, map, length, slice_get, Option, Some, None, is_some, option_and_then, Result, Ok, Err, MatchOption, codes}
+use Rattle.std.specs.Prelude.{◌≡◌, ℕ, ◌==◌, ◌+◌, ◌*◌, ◌/◌, ◌%◌, Bool, true, if◌then◌else◌, List, [], ◌∷◌, map, length, slice_get, Option, Some, None, is_some, option_and_then, Result, Ok, Err, MatchOption, codes}
 use Rattle.std.specs.List.{AllZip, list_any}
 use Rattle.toml.specs.Data.{Data, Members, as_bool}
 use Rattle.toml.specs.Parse.{parse_document}
@@ -21,6 +21,11 @@ use Rattle.cfg_records.specs.BootParam.{selector, parameter_of, change_bytes}
 use Rattle.cfg_records.specs.declared.numeric_effecter.NumericBytes.{NumericBytes}
 use Rattle.cfg_records.specs.declared.numeric_effecter.NumericBytes.TheVariants as bytes
 use Rattle.cfg_records.specs.declared.numeric_effecter.SetNumericEffecter.{SetNumericEffecter}
+use Rattle.cfg_records.specs.declared.user.SetUserName.{SetUserName}
+use Rattle.cfg_records.specs.declared.user.SetUserAccess.{SetUserAccess}
+use Rattle.cfg_records.specs.declared.channel.ChannelChange.{ChannelChange}
+use Rattle.cfg_records.specs.declared.channel.ChannelChange.TheVariants as channel
+use Rattle.cfg_records.specs.declared.channel.SetChannelAccess.{SetChannelAccess}
 use Rattle.plans.specs.declared.plan.Plan.{Plan}
 use Rattle.plan_file.specs.declared.field.Field.{Field}
 use Rattle.plan_file.specs.declared.field.Field.TheVariants as field
@@ -30,6 +35,8 @@ use Rattle.plan_file.specs.declared.plan_fault.PlanFault.{PlanFault}
 use Rattle.plan_file.specs.declared.plan_fault.PlanFault.TheVariants as plan
 use Rattle.plan_file.specs.Trees.{in_field, natural, bytes_in, number_in, table_of, members_in}
 use Rattle.plan_file.specs.Numeric.{sized_bytes}
+use Rattle.plan_file.specs.Users.{name_of}
+use Rattle.plan_file.specs.Channels.{store_of}
 use Rattle.plan_file.specs.Ranges.{passes, has_text, or_zero}
 use Rattle.plan_file.specs.Kinds.{kind_in}
 use Rattle.plan_file.specs.Faults.{first}
@@ -157,6 +164,48 @@ pub record HoldsNumericEffecter (tree : Members) (set : SetNumericEffecter) : Ty
   pub size : HasNumber field.Size tree set.size
   pub value : AreBytes set.value (sized_bytes field.Value tree)
 
+-- ---- users and channels
+
+-- the step holds a change of a user's name
+pub record HoldsUserName (tree : Members) (set : SetUserName) : Type 0 where
+  pub user : HasNumber field.User tree set.user
+  pub name : option_and_then name_of (in_field field.NameText tree) ≡ Some set.name
+
+-- 1 for what is true
+abbrev pub bit_of : Option Bool → ℕ
+bit_of (Some b) = if b then 1 else 0
+bit_of None = 0
+
+-- bits 7:4 of the first byte of Set User Access (IPMI 2.0): that bits 6:4 change, where the step has them; callback, link and messages
+abbrev pub access_bits : Members → ℕ
+access_bits tree =
+    (if is_some (in_field field.Callback tree) then 8 else 0)
+    + (4 * bit_of (flag_in field.Callback tree) + (2 * bit_of (flag_in field.Link tree) + bit_of (flag_in field.Messaging tree)))
+
+-- the step holds a change of what a user may do on a channel
+pub record HoldsUserAccess (tree : Members) (set : SetUserAccess) : Type 0 where
+  pub channel : HasNumber field.Channel tree (set.first % 16)
+  pub bits : set.first / 16 ≡ access_bits tree
+  pub user : HasNumber field.User tree set.user
+  pub limit : HasNumber field.Limit tree set.limit
+  pub session_limit : set.session_limit ≡ None
+
+-- the step lacks the field
+abbrev pub Lacks : Field → Members → Type 0
+Lacks named tree = in_field named tree ≡ None
+
+-- the step says what of a channel's access and limit changes: those that it gives
+abbrev pub HoldsChannelChange : Members → ChannelChange → Type 0
+HoldsChannelChange tree (channel.Access access) = HasNumber field.Access tree access.number × Lacks field.Limit tree
+HoldsChannelChange tree (channel.Limit limit) = Lacks field.Access tree × HasNumber field.Limit tree limit.number
+HoldsChannelChange tree (channel.Both access limit) = HasNumber field.Access tree access.number × HasNumber field.Limit tree limit.number
+
+-- the step holds a change of a channel's access in one of its stores
+pub record HoldsChannelAccess (tree : Members) (set : SetChannelAccess) : Type 0 where
+  pub channel : HasNumber field.Channel tree set.channel.number
+  pub store : option_and_then store_of (in_field field.Store tree) ≡ Some set.store
+  pub change : HoldsChannelChange tree set.change
+
 -- ---- plans
 
 -- the step holds a change of the kind that it names
@@ -169,10 +218,9 @@ HoldsStep tree (op.PowerPolicy set) = (kind_in tree ≡ Some kind.PowerPolicy) �
 HoldsStep tree (op.GlobalEnables set) = (kind_in tree ≡ Some kind.GlobalEnables) × HoldsGlobalEnables tree set
 HoldsStep tree (op.BootParam set) = (kind_in tree ≡ Some kind.BootParam) × HoldsBootParam tree set
 HoldsStep tree (op.NumericEffecter set) = (kind_in tree ≡ Some kind.NumericEffecter) × HoldsNumericEffecter tree set
--- no kind of step changes a user or a channel
-HoldsStep tree (op.UserName set) = ⊥
-HoldsStep tree (op.UserAccess set) = ⊥
-HoldsStep tree (op.ChannelAccess set) = ⊥
+HoldsStep tree (op.UserName set) = (kind_in tree ≡ Some kind.UserName) × HoldsUserName tree set
+HoldsStep tree (op.UserAccess set) = (kind_in tree ≡ Some kind.UserAccess) × HoldsUserAccess tree set
+HoldsStep tree (op.ChannelAccess set) = (kind_in tree ≡ Some kind.ChannelAccess) × HoldsChannelAccess tree set
 
 -- the member of an array holds a change
 abbrev pub IsStepIn : Data → Op → Type 0

@@ -6,6 +6,7 @@ use Rattle.cfg_records.specs.Masks.{has, all_below}
 use Rattle.cfg_records.specs.Thresholds.{place_of}
 use Rattle.cfg_records.specs.EventEnable.{are_within}
 use Rattle.cfg_records.specs.GlobalEnables.{are_enables}
+use Rattle.cfg_records.specs.UserAccess.{is_limit}
 use Rattle.cfg_records.specs.BootParam.{parameter_at}
 use Rattle.cfg_records.specs.declared.boot_param.BootParameter.{BootParameter}
 use Rattle.cfg_records.specs.declared.boot_param.BootParameter.TheVariants as parameter
@@ -19,6 +20,8 @@ use Rattle.plan_file.specs.declared.row.Shape.{Shape}
 use Rattle.plan_file.specs.declared.row.Shape.TheVariants as shape
 use Rattle.plan_file.specs.Trees.{in_field, members, natural, naturals_in, bytes_in, number_in, or_none}
 use Rattle.plan_file.specs.Numeric.{size_in, sized, sized_in, in_order}
+use Rattle.plan_file.specs.Users.{name_of, are_names}
+use Rattle.plan_file.specs.Channels.{is_access, is_channel, is_user_byte, store_of}
 
 -- the value is an integer
 abbrev pub is_integer : Data → Bool
@@ -67,6 +70,15 @@ has_type shape.BootData d = is_array_of is_integer d
 has_type shape.Sized d = is_integer d
 has_type shape.Upper d = is_integer d
 has_type shape.Current d = is_integer d
+has_type shape.Name d = is_text d
+has_type shape.Names d = is_array_of is_text d
+has_type shape.UserLimit d = is_integer d
+has_type shape.Store d = is_text d
+has_type shape.Access d = is_integer d
+has_type shape.Accesses d = is_array_of is_integer d
+has_type shape.Limits d = is_array_of is_integer d
+has_type (shape.UserBytes users) d = is_array_of is_integer d
+has_type shape.ChannelNumber d = is_integer d
 
 -- ---- ranges
 
@@ -162,6 +174,10 @@ abbrev pub or_zero : Option ℕ → ℕ
 or_zero (Some n) = n
 or_zero None = 0
 
+-- what a user may do on a channel
+abbrev pub may_do : Data → Bool
+may_do d = passes is_user_byte (natural d)
+
 -- the item can have the value in a field of this shape
 abbrev pub is_in_range : Members → Shape → Data → Bool
 is_in_range tree (shape.Number least most) d = passes (is_between least most) (natural d)
@@ -187,3 +203,12 @@ is_in_range tree shape.Sized d = passes (λ size. is_some (sized size d)) (size_
 is_in_range tree shape.Upper d = passes (λ size. in_order size (sized_in size field.Lower tree) (sized size d)) (size_in tree)
 is_in_range tree shape.Current d =
     passes (λ size. in_order size (sized_in size field.Lower tree) (sized size d) && in_order size (sized size d) (sized_in size field.Upper tree)) (size_in tree)
+is_in_range tree shape.Name d = is_some (name_of d)
+is_in_range tree shape.Names d = are_names (or_none (members d))
+is_in_range tree shape.UserLimit d = passes is_limit (natural d)
+is_in_range tree shape.Store d = is_some (store_of d)
+is_in_range tree shape.Access d = passes is_access (natural d)
+is_in_range tree shape.Accesses d = passes (list_all is_access) (bytes_in 2 d)
+is_in_range tree shape.Limits d = passes (list_all (is_between 1 5)) (bytes_in 2 d)
+is_in_range tree (shape.UserBytes users) d = (length (or_none (members d)) == users) && list_all may_do (or_none (members d))
+is_in_range tree shape.ChannelNumber d = passes is_channel (natural d)

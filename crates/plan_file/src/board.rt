@@ -9,6 +9,7 @@ ghost use Rattle.plan_file.specs.Ranges.{is_table, record_in};
 ghost use Rattle.plan_file.specs.Faults.{field_faults, record_faults, sensor_faults, first};
 ghost use Rattle.plan_file.specs.Holds.{HasNumber, HasBelow, HoldsBoot, HoldsDevice, HoldsEvents, HoldsSensor, IsRecordIn, IsSensorIn, IsNextFault, number_of, Answers, Reads};
 
+use crate::channel_items::file_channels;
 use crate::check::check;
 use crate::effecters::numeric_effecters;
 use crate::fault::{FileFault, Item, Place};
@@ -16,11 +17,12 @@ use crate::field::Field;
 use crate::range::{boot_flags, digits, enables, hysteresis, record, thresholds, watchdog};
 use crate::row::{DEVICE, SENSOR, TOP};
 use crate::tree::{in_field, members_in, number};
+use crate::users::users;
 use cfg_records::event_enable::{MESSAGES_PLACE, SCANNING_PLACE};
 use cfg_records::mask::has;
 use cfg_records::{
     BoardFile, BootOptions, Device, Distinct, EventEnable, EventMasks, GlobalEnables, LogCapacity,
-    ManufacturerId, Numbered, PowerPolicy, SdrRecord, SdrRecords, Sensor, Sensors,
+    ManufacturerId, PowerPolicy, SdrRecord, SdrRecords, Sensor, Sensors,
 };
 use std::alloc::Global;
 use toml::{Table, Value};
@@ -228,13 +230,6 @@ fn boot_options(tree: &Table) -> BootOptions
     BootOptions::new(clearing, acknowledge, flags).unwrap()
 }
 
-/// A board file gives a board no users or channels.
-fn no_items<T: Numbered + Drop, const MOST: usize>(alloc: Global) -> Distinct<T, MOST>
-    ensures { result.items ≡ [] }
-{
-    Distinct::new(Vec::new(alloc)).unwrap()
-}
-
 /// The board that the tree holds, or its first fault.
 fn board_of(alloc: Global, tree: &Table) -> Result<BoardFile, FileFault>
     ensures { (result ≡ Err FileFault.Memory) ⊎ Answers (table_view tree.now) result }
@@ -244,7 +239,9 @@ fn board_of(alloc: Global, tree: &Table) -> Result<BoardFile, FileFault>
     let board = table_in(tree, Field::Device);
     check(Item::Device, &DEVICE, board)?;
     let sensors = sensors(alloc, tree)?;
+    let file_channels = file_channels(alloc, tree)?;
     let numeric_effecters = numeric_effecters(alloc, tree)?;
+    let users = users(alloc, tree)?;
     Ok(BoardFile {
         tid: byte_in(tree, Field::Tid),
         device: device(board),
@@ -257,10 +254,10 @@ fn board_of(alloc: Global, tree: &Table) -> Result<BoardFile, FileFault>
         log: LogCapacity::new(word_in(tree, Field::Log)).unwrap(),
         sdr,
         numeric_effecters,
-        users: no_items(alloc),
-        channels: no_items(alloc),
-        sessionless: no_items(alloc),
-        user_accesses: no_items(alloc),
+        users,
+        channels: file_channels.channels,
+        sessionless: file_channels.sessionless,
+        user_accesses: file_channels.accesses,
     })
 }
 

@@ -22,6 +22,8 @@ pub enum Item {
     Device,
     /// The `[[sensor]]` of this place in the file, from 0.
     Sensor(usize),
+    /// The `[[channel]]` of this place in the file, from 0.
+    Channel(usize),
     /// The `[[numeric]]` of this place in the file, from 0.
     Numeric(usize),
 }
@@ -61,6 +63,7 @@ impl fmt::Display for Item {
             Item::Top => f.write_str("top"),
             Item::Device => f.write_str("device"),
             Item::Sensor(place) => write!(f, "sensor {place}"),
+            Item::Channel(place) => write!(f, "channel {place}"),
             Item::Numeric(place) => write!(f, "numeric {place}"),
         }
     }

@@ -70,6 +70,16 @@ pub enum Field {
     Upper,
     Current,
     Effecter,
+    User,
+    NameText,
+    Channel,
+    Access,
+    Limit,
+    Callback,
+    Link,
+    Messaging,
+    Users,
+    Sessions,
 }
 
 impl Field {
@@ -141,6 +151,16 @@ impl Field {
             Field::Upper => "upper",
             Field::Current => "current",
             Field::Effecter => "effecter",
+            Field::User => "user",
+            Field::NameText => "name",
+            Field::Channel => "channel",
+            Field::Access => "access",
+            Field::Limit => "limit",
+            Field::Callback => "callback",
+            Field::Link => "link",
+            Field::Messaging => "messaging",
+            Field::Users => "users",
+            Field::Sessions => "sessions",
         }
     }
 }

@@ -20,10 +20,13 @@ pub enum Kind {
     GlobalEnables,
     BootParam,
     NumericEffecter,
+    UserName,
+    UserAccess,
+    ChannelAccess,
 }
 
 /// All kinds of step.
-pub const KINDS: [Kind; 8] = [
+pub const KINDS: [Kind; 11] = [
     Kind::Thresholds,
     Kind::Hysteresis,
     Kind::EventEnable,
@@ -32,6 +35,9 @@ pub const KINDS: [Kind; 8] = [
     Kind::GlobalEnables,
     Kind::BootParam,
     Kind::NumericEffecter,
+    Kind::UserName,
+    Kind::UserAccess,
+    Kind::ChannelAccess,
 ];
 
 /// The field of a step that names its kind.
@@ -95,6 +101,30 @@ pub const NUMERIC_EFFECTER: [Row; 3] = [
     Row(Field::Value, Shape::Sized, Need::Always),
 ];
 
+/// The fields of a step that sets the name of a user.
+pub const USER_NAME: [Row; 2] = [
+    Row(Field::User, Shape::Number(1, 63), Need::Always),
+    Row(Field::NameText, Shape::Name, Need::Always),
+];
+
+/// The fields of a step that sets what a user may do on a channel.
+pub const USER_ACCESS: [Row; 6] = [
+    Row(Field::Channel, Shape::Number(0, 15), Need::Always),
+    Row(Field::User, Shape::Number(1, 63), Need::Always),
+    Row(Field::Limit, Shape::UserLimit, Need::Always),
+    Row(Field::Callback, Shape::Flag, Need::WithBits),
+    Row(Field::Link, Shape::Flag, Need::WithBits),
+    Row(Field::Messaging, Shape::Flag, Need::WithBits),
+];
+
+/// The fields of a step that sets the access of a channel in one of its stores.
+pub const CHANNEL_ACCESS: [Row; 4] = [
+    Row(Field::Channel, Shape::Number(0, 15), Need::Always),
+    Row(Field::Store, Shape::Store, Need::Always),
+    Row(Field::Access, Shape::Access, Need::WithoutLimit),
+    Row(Field::Limit, Shape::Number(1, 5), Need::Never),
+];
+
 impl Kind {
     /// What a step's `kind` calls it.
     pub fn word(&self) -> &'static str
@@ -109,6 +139,9 @@ impl Kind {
             Kind::GlobalEnables => "global-enables",
             Kind::BootParam => "boot-param",
             Kind::NumericEffecter => "numeric-effecter",
+            Kind::UserName => "user-name",
+            Kind::UserAccess => "user-access",
+            Kind::ChannelAccess => "channel-access",
         }
     }
 
@@ -125,6 +158,9 @@ impl Kind {
             Kind::GlobalEnables => &GLOBAL_ENABLES,
             Kind::BootParam => &BOOT_PARAM,
             Kind::NumericEffecter => &NUMERIC_EFFECTER,
+            Kind::UserName => &USER_NAME,
+            Kind::UserAccess => &USER_ACCESS,
+            Kind::ChannelAccess => &CHANNEL_ACCESS,
         }
     }
 }

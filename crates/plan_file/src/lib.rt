@@ -3,6 +3,8 @@
 
 mod board;
 mod change;
+mod channel_items;
+mod channels;
 mod check;
 mod effecters;
 mod fault;
@@ -18,6 +20,7 @@ mod tree;
 mod undo_laws;
 mod undo_line;
 mod undo_text;
+mod users;
 
 pub use board::read_board;
 pub use fault::{FieldFault, FileFault, Item, Place};
@@ -25,6 +28,6 @@ pub use field::Field;
 pub use kind::Kind;
 pub use plan::read_plan;
 pub use plan_fault::{NoGet, OutsidePlan, PlanFault, StepFault};
-pub use row::{DEVICE, NUMERIC, Need, PLAN, Row, SENSOR, Shape, TOP};
+pub use row::{CHANNEL, DEVICE, NUMERIC, Need, PLAN, Row, SENSOR, SESSIONS, Shape, TOP};
 pub use undo_laws::one_undo_list;
 pub use undo_text::{UndoFault, push_requests, read_undo, write_undo};

@@ -10,10 +10,12 @@ ghost use Rattle.plan_file.specs.Trees.{members, or_none, natural, naturals_in, 
 ghost use Rattle.plan_file.specs.Ranges.{passes, is_integer, is_table, is_array_of, has_type, is_between, are_digits, is_enables_byte, are_masks, are_thresholds, are_flags, is_text, is_record, record_of, record_in, are_settings, is_selection, is_offset, are_five_bits, are_boot_data, parameter_in, is_in_range};
 ghost use Rattle.plan_file.specs.Holds.{settings};
 
+use crate::channels::{accesses, are_user_bytes, is_access, is_channel, limits, store};
 use crate::field::Field;
 use crate::numeric::{in_order, size_in, sized, sized_in};
 use crate::row::Shape;
 use crate::tree::{bytes, members, natural, naturals, number};
+use crate::users::{are_names, is_user_limit, name};
 use cfg_records::event_enable::are_within;
 use cfg_records::sdr_record::MOST_SDR_BYTES;
 use cfg_records::{
@@ -413,13 +415,16 @@ impl Shape {
             Shape::Pair | Shape::Thresholds | Shape::Watchdog | Shape::Offsets => {
                 are_integers(value)
             }
-            Shape::Records(_) => are_texts(value),
+            Shape::Records(_) | Shape::Names => are_texts(value),
             Shape::BootFlags | Shape::BootData => are_integers(value),
             Shape::Sized | Shape::Upper | Shape::Current => value.is_integer(),
             Shape::Table => value.is_table(),
             Shape::Tables(_) => are_tables(value),
             Shape::Flag => value.is_bool(),
             Shape::Text | Shape::Select => value.is_str(),
+            Shape::Name | Shape::Store => value.is_str(),
+            Shape::UserLimit | Shape::Access | Shape::ChannelNumber => value.is_integer(),
+            Shape::Accesses | Shape::Limits | Shape::UserBytes(_) => are_integers(value),
         }
     }
 
@@ -447,6 +452,15 @@ impl Shape {
             Shape::Sized => is_sized(item, value),
             Shape::Upper => is_upper(item, value),
             Shape::Current => is_current(item, value),
+            Shape::Name => name(value).is_some(),
+            Shape::Names => are_names(value),
+            Shape::UserLimit => is_user_limit(value),
+            Shape::Store => store(value).is_some(),
+            Shape::Access => is_access(value),
+            Shape::Accesses => accesses(value).is_some(),
+            Shape::Limits => limits(value).is_some(),
+            Shape::UserBytes(users) => are_user_bytes(value, *users),
+            Shape::ChannelNumber => is_channel(value),
         }
     }
 }

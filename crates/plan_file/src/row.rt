@@ -2,10 +2,10 @@
 //! `docs/BOARD_FILES.md` and `docs/PLAN_FILES.md` say what each means.
 ghost use Rattle.std.specs.Prelude.{◌≡◌};
 ghost use Rattle.toml.specs.View.{table_view};
-ghost use Rattle.plan_file.specs.Faults.{is_needed};
+ghost use Rattle.plan_file.specs.Faults.{is_needed, session_rows};
 
 use crate::field::Field;
-use crate::tree::has_text;
+use crate::tree::{has_text, in_field};
 use toml::Table;
 
 /// The type of a field, and its range.
@@ -51,6 +51,24 @@ pub enum Shape {
     Upper,
     /// Such a number within the item's bounds.
     Current,
+    /// A text of at most 16 bytes: the name of a user.
+    Name,
+    /// 1 to 16 names, in a list of texts, of which the first is empty.
+    Names,
+    /// A limit of a user's privileges: 1 to 5, or 15 for no access.
+    UserLimit,
+    /// A text: `non-volatile` or `volatile`.
+    Store,
+    /// A byte with no bits but bits 5:0, of which 2:0 are at most 3: who gets in over a channel.
+    Access,
+    /// Two such bytes, in a list: in the non-volatile store and in the volatile one.
+    Accesses,
+    /// Two limits of a channel's privileges, in a list, in the same order: each 1 to 5.
+    Limits,
+    /// What so many users may do, in a list of bytes: bits 6:4, and a limit of a user in bits 3:0.
+    UserBytes(usize),
+    /// The number of a channel: 0 to 11, or 15.
+    ChannelNumber,
 }
 
 /// When an item needs a field.
@@ -60,6 +78,10 @@ pub enum Need {
     Never,
     /// Where its field `select` isn't the text `leave`.
     UnlessLeave,
+    /// Where it has one of the fields `callback`, `link` and `messaging`.
+    WithBits,
+    /// Where it lacks the field `limit`.
+    WithoutLimit,
 }
 
 impl Need {
@@ -71,6 +93,12 @@ impl Need {
             Need::Always => true,
             Need::Never => false,
             Need::UnlessLeave => !has_text(item, Field::Select, "leave"),
+            Need::WithBits => {
+                in_field(item, Field::Callback).is_some()
+                    || in_field(item, Field::Link).is_some()
+                    || in_field(item, Field::Messaging).is_some()
+            }
+            Need::WithoutLimit => in_field(item, Field::Limit).is_none(),
         }
     }
 }
@@ -83,12 +111,13 @@ pub struct Row(pub Field, pub Shape, pub Need);
 pub const BYTE: Shape = Shape::Number(0, 255);
 
 /// A board file's own fields.
-pub const TOP: [Row; 13] = [
+pub const TOP: [Row; 15] = [
     Row(Field::Tid, BYTE, Need::Always),
     Row(Field::Clock, Shape::Number(0, 0xFFFF_FFFF), Need::Always),
     Row(Field::Log, Shape::Number(1, 1_024), Need::Always),
     Row(Field::Enables, Shape::Enables, Need::Always),
     Row(Field::Policy, Shape::Number(0, 3), Need::Always),
+    Row(Field::Users, Shape::Names, Need::Always),
     Row(Field::Watchdog, Shape::Watchdog, Need::Always),
     Row(Field::Boot3, Shape::Number(0, 31), Need::Always),
     Row(Field::Boot4, BYTE, Need::Always),
@@ -96,6 +125,7 @@ pub const TOP: [Row; 13] = [
     Row(Field::Sdr, Shape::Records(64), Need::Always),
     Row(Field::Device, Shape::Table, Need::Always),
     Row(Field::Sensor, Shape::Tables(32), Need::Never),
+    Row(Field::Channel, Shape::Tables(8), Need::Never),
     Row(Field::Numeric, Shape::Tables(32), Need::Never),
 ];
 
@@ -127,6 +157,29 @@ pub const SENSOR: [Row; 10] = [
     Row(Field::Assert, Shape::Events, Need::Always),
     Row(Field::Deassert, Shape::Events, Need::Always),
 ];
+
+/// The fields of a `[[channel]]` without sessions.
+pub const CHANNEL: [Row; 2] = [
+    Row(Field::Number, Shape::ChannelNumber, Need::Always),
+    Row(Field::Sessions, Shape::Flag, Need::Always),
+];
+
+/// The fields of a `[[channel]]` with sessions, but for the last: what the file's users may do on it.
+pub const SESSIONS: [Row; 4] = [
+    Row(Field::Number, Shape::ChannelNumber, Need::Always),
+    Row(Field::Sessions, Shape::Flag, Need::Always),
+    Row(Field::Access, Shape::Accesses, Need::Always),
+    Row(Field::Limit, Shape::Limits, Need::Always),
+];
+
+/// The fields of a `[[channel]]` with sessions, in a file of so many users.
+pub fn session_rows(users: usize) -> [Row; 5]
+    ensures { result ≡ session_rows users }
+{
+    let [number, sessions, access, limit] = SESSIONS;
+    let users = Row(Field::Users, Shape::UserBytes(users), Need::Always);
+    [number, sessions, access, limit, users]
+}
 
 /// The fields of a `[[numeric]]`.
 pub const NUMERIC: [Row; 6] = [

@@ -11,11 +11,13 @@ use crate::change::{
     boot_param, event_enable, global_enables, hysteresis, numeric_effecter, power_policy,
     thresholds, watchdog,
 };
+use crate::channels::channel_access;
 use crate::check::first_fault;
 use crate::field::Field;
 use crate::kind::{KIND, Kind, kind_in};
 use crate::plan_fault::{NoGet, OutsidePlan, StepFault};
 use crate::tree::{has_text, in_field, number};
+use crate::users::{user_access, user_name};
 use cfg_records::Op;
 use toml::Table;
 
@@ -111,6 +113,9 @@ fn change(kind: Kind, step: &Table) -> Op
         Kind::GlobalEnables => Op::GlobalEnables(global_enables(step)),
         Kind::BootParam => Op::BootParam(boot_param(step)),
         Kind::NumericEffecter => Op::NumericEffecter(numeric_effecter(step)),
+        Kind::UserName => Op::UserName(user_name(step)),
+        Kind::UserAccess => Op::UserAccess(user_access(step)),
+        Kind::ChannelAccess => Op::ChannelAccess(channel_access(step)),
     }
 }
 

@@ -1,8 +1,10 @@
 //! What the three texts hold, and their faults.
 mod board;
+mod channels;
 mod effecters;
 mod plan;
 mod undo;
+mod user_steps;
 
 /// A row of a table of fields: where a field is, its line in a file, and lines that say something else of it.
 #[derive(Clone, Copy)]

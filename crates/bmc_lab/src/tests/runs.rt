@@ -121,6 +121,7 @@ clock = 0
 log = 2
 enables = 0x08
 policy = 1
+users = [\"\", \"admin\"]
 watchdog = [0, 0, 0, 0]
 sdr = [\"010051C00100\"]
 boot3 = 0
