@@ -148,6 +148,7 @@ pub record HoldsBoard (tree : Members) (board : BoardFile) : Type 0 where
   pub device : HoldsDevice (table_in field.Device tree) board.device
   pub sensors : AllZip IsSensorIn (members_in field.Sensor tree) board.sensors.items
   pub effecters : AllZip IsNumericIn (members_in field.Numeric tree) board.numeric_effecters.items
+  pub no_states : board.state_effecters.items ≡ []
   pub no_users : board.users.items ≡ []
   pub no_channels : board.channels.items ≡ []
   pub no_sessionless : board.sessionless.items ≡ []

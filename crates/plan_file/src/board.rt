@@ -257,6 +257,7 @@ fn board_of(alloc: Global, tree: &Table) -> Result<BoardFile, FileFault>
         log: LogCapacity::new(word_in(tree, Field::Log)).unwrap(),
         sdr,
         numeric_effecters,
+        state_effecters: no_items(alloc),
         users: no_items(alloc),
         channels: no_items(alloc),
         sessionless: no_items(alloc),

@@ -124,9 +124,10 @@ returns c =
         device = holds;
         sensors = c.in_ok-sensors.ensures.held;
         effecters = c.in_ok-numeric_effecters.ensures.held;
-        no_users = c.no_items.ensures;
-        no_channels = c.no_items-2.ensures;
-        no_sessionless = c.no_items-3.ensures;
+        no_states = c.no_items.ensures;
+        no_users = c.no_items-2.ensures;
+        no_channels = c.no_items-3.ensures;
+        no_sessionless = c.no_items-4.ensures;
         no_accesses = c.no_items-4.ensures;
       },
     )
