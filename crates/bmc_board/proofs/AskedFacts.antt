@@ -187,7 +187,7 @@ pldm_codes = record { unlisted = code_of pldm_unsupported_command refl; not_allo
 right_at : (room : ℕ) (refusals : Refusals) (line : Option Line) (body : List ℕ) → AreCodes refusals → Passes (asks_rightly room body) line → IsRight room (changes line) (asked_at refusals line body)
 right_at room refusals None body are passes = are.unlisted
 right_at room refusals (Some line) body are passes =
-    where_right room line.changing (is_allowed line.lengths (length body)) (request_of line.command body) refusals.not_allowed are.not_allowed (right_of room line.changing (request_of line.command body) passes)
+    where_right room line.changing (is_allowed line.lengths body) (request_of line.command body) refusals.not_allowed are.not_allowed (right_of room line.changing (request_of line.command body) passes)
 
 pub asked_right : (asked : Asked) → IsRight (room_for asked) (is_changing asked) (asked_by asked)
 asked_right (Ipmi from net_fn lun number body) =

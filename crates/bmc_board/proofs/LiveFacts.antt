@@ -78,6 +78,7 @@ channel_refuses false = invalid_field
 
 pub unknown_is_refused : UnknownIsRefused
 unknown_is_refused setup (key.NumericEffecter id) = no_effecter_refuses
+unknown_is_refused setup (key.StateEffecter id) = no_effecter_refuses
 unknown_is_refused setup (key.UserName user) = invalid_field
 unknown_is_refused setup (key.UserAccess on) = invalid_field
 unknown_is_refused setup (key.ChannelAccess at) = channel_refuses (is_sessionless setup at.channel.number)

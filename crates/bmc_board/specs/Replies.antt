@@ -23,6 +23,7 @@ sessionless_channel = 0x82
 -- decides, has a line above this one.
 abbrev pub unknown_code : BoardFile → Key → ℕ
 unknown_code setup (key.NumericEffecter id) = pldm_invalid_effecter
+unknown_code setup (key.StateEffecter id) = pldm_invalid_effecter
 unknown_code setup (key.UserName user) = invalid_data_field
 unknown_code setup (key.UserAccess on) = invalid_data_field
 unknown_code setup (key.ChannelAccess at) = if is_sessionless setup at.channel.number then sessionless_channel else invalid_data_field

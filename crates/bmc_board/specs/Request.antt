@@ -21,6 +21,7 @@ use Rattle.watch_boot.specs.declared.boot_request.BootShown.TheVariants as shown
 use Rattle.watch_boot.specs.BootRequests.{boot_request_in, boot_shown_in}
 use Rattle.effecter_recs.specs.Requests.{id_in}
 use Rattle.effecter_recs.specs.Numeric.{numeric_effecter_in}
+use Rattle.effecter_recs.specs.State.{state_effecter_in}
 use Rattle.cfg_records.specs.declared.channel.SetChannelAccess.{SetChannelAccess}
 use Rattle.cfg_records.specs.Numbers.{user_in, user_on}
 use Rattle.user_chan.specs.UserNames.{name_in}
@@ -57,6 +58,7 @@ key_in get.GetChassisStatus body = key.PowerPolicy
 key_in get.GetWatchdogTimer body = key.Watchdog
 key_in get.GetGlobalEnables body = key.GlobalEnables
 key_in get.GetNumericEffecterValue body = key.NumericEffecter (id_in body)
+key_in get.GetStateEffecterStates body = key.StateEffecter (id_in body)
 key_in get.GetUserName body = key.UserName (user_in (byte_at body 0))
 key_in get.GetUserAccess body = key.UserAccess (user_on (byte_at body 0) (byte_at body 1))
 key_in get.GetChannelAccess body = key.ChannelAccess (stored_in body)
@@ -70,6 +72,7 @@ op_in set.SetPowerRestorePolicy body = op.PowerPolicy (policy_in body)
 op_in set.SetWatchdogTimer body = op.Watchdog (watchdog_in body)
 op_in set.SetGlobalEnables body = op.GlobalEnables (enables_in body)
 op_in set.SetNumericEffecterValue body = op.NumericEffecter (numeric_effecter_in body)
+op_in set.SetStateEffecterStates body = op.StateEffecter (state_effecter_in body)
 op_in set.SetUserName body = op.UserName (name_in body)
 op_in set.SetUserAccess body = op.UserAccess (access_in body)
 
@@ -114,7 +117,7 @@ pldm_refusals = record { unlisted = pldm_unsupported_command; not_allowed = pldm
 -- what a line's command asks for, where there is a line and the data has a length that it takes
 abbrev pub asked_at : Refusals → Option Line → List ℕ → Result Request ℕ
 asked_at refusals None body = Err refusals.unlisted
-asked_at refusals (Some line) body = if is_allowed line.lengths (length body) then request_of line.command body else Err refusals.not_allowed
+asked_at refusals (Some line) body = if is_allowed line.lengths body then request_of line.command body else Err refusals.not_allowed
 
 -- what a request asks for, or the first code that refuses it
 abbrev pub asked_by : Asked → Result Request ℕ

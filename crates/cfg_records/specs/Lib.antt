@@ -15,6 +15,9 @@ pub mod GlobalEnables
 pub mod BootParam
 pub mod NumericSize
 pub mod NumericEffecter
+pub mod StateField
+pub mod StateEffecter
+pub mod StateLaws
 pub mod UserAccess
 pub mod ChannelAccess
 pub mod NumberLaws

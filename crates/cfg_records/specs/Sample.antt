@@ -107,6 +107,7 @@ pub record IsSampleBoard (file : BoardFile) : Type 0 where
   pub sdr : file.sdr.items ≡ sample_record ∷ []
   pub boot : IsSampleBoot file.boot
   pub no_numeric : file.numeric_effecters.items ≡ []
+  pub no_state : file.state_effecters.items ≡ []
   pub users : AreSampleUsers file.users.items
   pub channels : AreSampleChannels file.channels.items
   pub no_sessionless : file.sessionless.items ≡ []

@@ -25,6 +25,8 @@ pub enum Key {
     BootParam(BootParameter),
     /// The present value of the numeric effecter of this id.
     NumericEffecter(u16),
+    /// The present states of the state effecter of this id.
+    StateEffecter(u16),
     /// The name of a user.
     UserName(UserNumber),
     /// What a user may do on a channel.
@@ -47,6 +49,7 @@ impl Key {
             Key::GlobalEnables => length == 1,
             Key::BootParam(parameter) => length == parameter.length(),
             Key::NumericEffecter(_) => length == 1 || length == 2 || length == 4,
+            Key::StateEffecter(_) => 1 <= length && length <= 8,
             Key::UserName(_) => length == 16,
             Key::UserAccess(_) => length == 1,
             Key::ChannelAccess(_) => length == 2,

@@ -7,6 +7,7 @@ use crate::hysteresis::SetHysteresis;
 use crate::numeric_effecter::SetNumericEffecter;
 use crate::power_policy::SetPowerPolicy;
 use crate::sensor_thresholds::SetThresholds;
+use crate::state_effecter::SetStateEffecter;
 use crate::user::{SetUserAccess, SetUserName};
 use crate::watchdog::SetWatchdog;
 
@@ -22,6 +23,7 @@ pub enum Op {
     GlobalEnables(SetGlobalEnables),
     BootParam(SetBootParam),
     NumericEffecter(SetNumericEffecter),
+    StateEffecter(SetStateEffecter),
     UserName(SetUserName),
     UserAccess(SetUserAccess),
     ChannelAccess(SetChannelAccess),

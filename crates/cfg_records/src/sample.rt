@@ -203,6 +203,7 @@ pub fn sample_board(alloc: Global) -> Result<BoardFile, AllocError>
         boot: boot(),
         sdr: sdr(alloc)?,
         numeric_effecters: Distinct::new(Vec::new(alloc)).unwrap(),
+        state_effecters: Distinct::new(Vec::new(alloc)).unwrap(),
         users: users(alloc)?,
         channels: channels(alloc)?,
         sessionless: Distinct::new(Vec::new(alloc)).unwrap(),

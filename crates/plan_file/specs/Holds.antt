@@ -214,6 +214,7 @@ pub record HoldsBoard (tree : Members) (board : BoardFile) : Type 0 where
   pub device : HoldsDevice (table_in field.Device tree) board.device
   pub sensors : AllZip IsSensorIn (members_in field.Sensor tree) board.sensors.items
   pub effecters : AllZip IsNumericIn (members_in field.Numeric tree) board.numeric_effecters.items
+  pub no_states : board.state_effecters.items ≡ []
   pub users : HoldsUsers (members_in field.Users tree) board.users.items
   pub channels : AllZip IsChannelIn (with_sessions (members_in field.Channel tree)) board.channels.items
   pub sessionless : AllZip IsNumberIn (without_sessions (members_in field.Channel tree)) board.sessionless.items

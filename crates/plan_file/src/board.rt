@@ -22,7 +22,7 @@ use cfg_records::event_enable::{MESSAGES_PLACE, SCANNING_PLACE};
 use cfg_records::mask::has;
 use cfg_records::{
     BoardFile, BootOptions, Device, Distinct, EventEnable, EventMasks, GlobalEnables, LogCapacity,
-    ManufacturerId, PowerPolicy, SdrRecord, SdrRecords, Sensor, Sensors,
+    ManufacturerId, Numbered, PowerPolicy, SdrRecord, SdrRecords, Sensor, Sensors,
 };
 use std::alloc::Global;
 use toml::{Table, Value};
@@ -230,6 +230,13 @@ fn boot_options(tree: &Table) -> BootOptions
     BootOptions::new(clearing, acknowledge, flags).unwrap()
 }
 
+/// A board file gives a board no state effecters.
+fn no_items<T: Numbered + Drop, const MOST: usize>(alloc: Global) -> Distinct<T, MOST>
+    ensures { result.items ≡ [] }
+{
+    Distinct::new(Vec::new(alloc)).unwrap()
+}
+
 /// The board that the tree holds, or its first fault.
 fn board_of(alloc: Global, tree: &Table) -> Result<BoardFile, FileFault>
     ensures { (result ≡ Err FileFault.Memory) ⊎ Answers (table_view tree.now) result }
@@ -254,6 +261,7 @@ fn board_of(alloc: Global, tree: &Table) -> Result<BoardFile, FileFault>
         log: LogCapacity::new(word_in(tree, Field::Log)).unwrap(),
         sdr,
         numeric_effecters,
+        state_effecters: no_items(alloc),
         users,
         channels: file_channels.channels,
         sessionless: file_channels.sessionless,

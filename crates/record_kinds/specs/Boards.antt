@@ -6,6 +6,7 @@ use Rattle.cfg_records.specs.declared.key.Key.{Key}
 use Rattle.cfg_records.specs.declared.key.Key.TheVariants as key
 use Rattle.cfg_records.specs.declared.sensor.Sensor.{Sensor}
 use Rattle.cfg_records.specs.declared.numeric_effecter.NumericEffecter.{NumericEffecter}
+use Rattle.cfg_records.specs.declared.state_effecter.StateEffecter.{StateEffecter}
 use Rattle.cfg_records.specs.declared.user.User.{User}
 use Rattle.cfg_records.specs.declared.user.UserAccess.{UserAccess}
 use Rattle.cfg_records.specs.declared.user.UserOnChannel.{UserOnChannel}
@@ -28,6 +29,10 @@ of_sensor limits_of file number = option_map limits_of (sensor_at file.sensors.i
 -- the numeric effecter of this id
 abbrev pub numeric_at : List NumericEffecter → ℕ → Option NumericEffecter
 numeric_at effecters id = find (λ e. e.id == id) effecters
+
+-- the state effecter of this id
+abbrev pub state_at : List StateEffecter → ℕ → Option StateEffecter
+state_at effecters id = find (λ e. e.id == id) effecters
 
 -- the user of this number
 abbrev pub user_at : List User → ℕ → Option User
@@ -67,6 +72,7 @@ limits_at file key.Watchdog = Some (limits.Watchdog (record {}))
 limits_at file key.GlobalEnables = Some (limits.GlobalEnables (record {}))
 limits_at file (key.BootParam parameter) = Some (limits.BootParam (record { parameter = parameter }))
 limits_at file (key.NumericEffecter id) = option_map (λ e. limits.NumericEffecter (record { enabled = e.enabled; range = e.range })) (numeric_at file.numeric_effecters.items id)
+limits_at file (key.StateEffecter id) = option_map limits.StateEffecter (state_at file.state_effecters.items id)
 limits_at file (key.UserName user) = option_map (λ u. limits.UserName (record {})) (user_at file.users.items user.number)
 limits_at file (key.UserAccess on) = option_map (λ a. limits.UserAccess (record { user = on.user; most = length file.users.items })) (access_at file.user_accesses.items on)
 limits_at file (key.ChannelAccess at) = option_map (λ c. limits.ChannelAccess (record {})) (stored_at file at)

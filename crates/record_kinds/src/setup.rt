@@ -5,8 +5,8 @@ ghost use Rattle.cfg_records.specs.Distinct.{NamesDiffer};
 ghost use Rattle.record_kinds.specs.Places.{ArePlaces};
 
 use cfg_records::{
-    AccessStore, BoardFile, Channel, ChannelNumber, Device, NumericEffecter, Sensor, StoredAccess,
-    User, UserAccess, UserNumber, UserOnChannel,
+    AccessStore, BoardFile, Channel, ChannelNumber, Device, NumericEffecter, Sensor, StateEffecter,
+    StoredAccess, User, UserAccess, UserNumber, UserOnChannel,
 };
 use std::marker::Model;
 
@@ -46,7 +46,7 @@ fn places_of(sensors: &[Sensor]) -> [u8; 256]
 }
 
 impl Setup {
-    ghost use Rattle.record_kinds.specs.Boards.{sensor_at, numeric_at, user_at, access_at, channel_at, is_sessionless, stored_at};
+    ghost use Rattle.record_kinds.specs.Boards.{sensor_at, numeric_at, state_at, user_at, access_at, channel_at, is_sessionless, stored_at};
 
     /// The set-up of this board file.
     pub fn new(file: BoardFile) -> Setup
@@ -83,6 +83,14 @@ impl Setup {
         ensures { option_copied result ≡ numeric_at self.now.numeric_effecters.items id }
     {
         let effecters = self.file.numeric_effecters.items.as_slice();
+        effecters.iter().find(|effecter| effecter.id == id)
+    }
+
+    /// The state effecter of this id, of at most 32.
+    pub fn state_effecter(&self, id: u16) -> Option<&StateEffecter>
+        ensures { option_copied result ≡ state_at self.now.state_effecters.items id }
+    {
+        let effecters = self.file.state_effecters.items.as_slice();
         effecters.iter().find(|effecter| effecter.id == id)
     }
 

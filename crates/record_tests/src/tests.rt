@@ -6,5 +6,6 @@ mod log;
 mod readings;
 mod records;
 mod sensors;
+mod state_effecters;
 mod undo;
 mod watchdog;

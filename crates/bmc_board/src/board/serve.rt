@@ -25,8 +25,8 @@ use cfg_records::{
     AccessStore, Answered, Asked, BoardFile, ChannelNumber, Key, Op, RecordKind, SetChannelAccess,
     Store, StoredAccess, UserNumber, UserOnChannel, Value, byte_at,
 };
-use effecter_recs::numeric;
 use effecter_recs::request::id_in;
+use effecter_recs::{numeric, state};
 use record_kinds::{Limits, Setup};
 use sensor_recs::taken::reading_data;
 use sensor_recs::{event_enable, hysteresis, thresholds};
@@ -51,7 +51,7 @@ fn unknown_code(setup: &Setup, key: &Key) -> Code
         | Key::Watchdog
         | Key::GlobalEnables
         | Key::BootParam(_) => code::NOT_PRESENT,
-        Key::NumericEffecter(_) => code::PLDM_INVALID_EFFECTER,
+        Key::NumericEffecter(_) | Key::StateEffecter(_) => code::PLDM_INVALID_EFFECTER,
         Key::UserName(_) | Key::UserAccess(_) => code::INVALID_DATA_FIELD,
         Key::ChannelAccess(at) => {
             if setup.is_sessionless(at.channel) {
@@ -76,6 +76,7 @@ fn key_in(command: GetCommand, body: &[u8]) -> Key
         GetWatchdogTimer => Key::Watchdog,
         GetGlobalEnables => Key::GlobalEnables,
         GetNumericEffecterValue => Key::NumericEffecter(id_in(body)),
+        GetStateEffecterStates => Key::StateEffecter(id_in(body)),
         GetUserName => Key::UserName(UserNumber::of(byte_at(body, 0))),
         GetUserAccess => Key::UserAccess(UserOnChannel::of(byte_at(body, 0), byte_at(body, 1))),
         GetChannelAccess => Key::ChannelAccess(stored_in(body)),
@@ -338,6 +339,9 @@ impl<S: Store> Board<S> {
             SetGlobalEnables => self.set(&Op::GlobalEnables(global_enables::enables_in(body)), to),
             SetNumericEffecterValue => {
                 self.set(&Op::NumericEffecter(numeric::numeric_effecter_in(body)), to)
+            }
+            SetStateEffecterStates => {
+                self.set(&Op::StateEffecter(state::state_effecter_in(body)), to)
             }
             SetUserName => self.set(&Op::UserName(user_name::name_in(body)), to),
             SetUserAccess => self.set(&Op::UserAccess(user_access::access_in(body)), to),

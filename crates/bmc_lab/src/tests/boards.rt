@@ -184,6 +184,7 @@ fn full_board(alloc: Global) -> Result<BoardFile, Fail> {
         sdr: sample.sdr,
         boot: sample.boot,
         numeric_effecters: sample.numeric_effecters,
+        state_effecters: sample.state_effecters,
         users: sample.users,
         channels: sample.channels,
         sessionless: sample.sessionless,

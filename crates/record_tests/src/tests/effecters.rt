@@ -1,8 +1,9 @@
 //! Effecters, over PLDM.
 use bmc_board::{Board, changing};
 use cfg_records::{
-    Answered, Asked, BoardFile, Distinct, NumericBytes, NumericEffecter, NumericRange, NumericSize,
-    Op, PlainStore, RecordKind, SetNumericEffecter, sample_board,
+    Answered, Asked, BoardFile, Distinct, NumericBytes, NumericEffecter, NumericEffecters,
+    NumericRange, NumericSize, Op, PlainStore, RecordKind, SetNumericEffecter, StateEffecters,
+    sample_board,
 };
 use effecter_recs::NumericLimits;
 use record_kinds::Limits;
@@ -25,13 +26,24 @@ fn numeric(
 /// The sample board with four numeric effecters: 4 of u16 from 0 to 1000, 5 of s8 from -2 to 1, 6 of u32, which is disabled, and 261
 /// of s32 from -70,000 to -1.
 fn board(alloc: Global) -> Result<Board<PlainStore>, Fail> {
-    let sample = sample_board(alloc)?;
     let mut effecters = Vec::new(alloc);
     effecters.push(numeric(4, true, NumericSize::U16, (0, 1000), 500).ok_or("4")?)?;
     effecters.push(numeric(5, true, NumericSize::S8, (0xFE, 1), 0).ok_or("5")?)?;
     effecters.push(numeric(6, false, NumericSize::U32, (0, 9), 9).ok_or("6")?)?;
     let bounds = (0xFFFE_EE90, 0xFFFF_FFFF);
     effecters.push(numeric(261, true, NumericSize::S32, bounds, 0xFFFF_FFFF).ok_or("261")?)?;
+    let numeric = Distinct::new(effecters).ok_or("effecters")?;
+    let state = Distinct::new(Vec::new(alloc)).ok_or("none")?;
+    board_with(alloc, numeric, state)
+}
+
+/// The sample board with these effecters.
+pub(super) fn board_with(
+    alloc: Global,
+    numeric_effecters: NumericEffecters,
+    state_effecters: StateEffecters,
+) -> Result<Board<PlainStore>, Fail> {
+    let sample = sample_board(alloc)?;
     let file = BoardFile {
         tid: sample.tid,
         device: sample.device,
@@ -43,7 +55,8 @@ fn board(alloc: Global) -> Result<Board<PlainStore>, Fail> {
         enables: sample.enables,
         boot: sample.boot,
         sdr: sample.sdr,
-        numeric_effecters: Distinct::new(effecters).ok_or("effecters")?,
+        numeric_effecters,
+        state_effecters,
         users: sample.users,
         channels: sample.channels,
         sessionless: sample.sessionless,
@@ -54,7 +67,7 @@ fn board(alloc: Global) -> Result<Board<PlainStore>, Fail> {
 }
 
 /// The request of platform monitoring and control with this command and data.
-fn asked(command: u8, body: &[u8]) -> Option<Asked> {
+pub(super) fn asked(command: u8, body: &[u8]) -> Option<Asked> {
     if body.len() > 252 {
         return None;
     }

@@ -382,6 +382,7 @@ fn a_refused_change_leaves_records_and_activity(rt: HostRuntime) -> Result<(), F
 
 #[test]
 fn a_command_takes_the_lengths_of_its_line(rt: HostRuntime) {
+    let body = [3; 30];
     for (lengths, least, most) in [
         (Lengths::Exactly(4), 4, 4),
         (Lengths::Between(2, 6), 2, 6),
@@ -389,12 +390,18 @@ fn a_command_takes_the_lengths_of_its_line(rt: HostRuntime) {
     ] {
         for length in 0..30 {
             let within = least <= length && length <= most;
-            assert_eq!(rt; lengths.allow(length), within, "{length}");
+            assert_eq!(rt; lengths.allow(&body[..length]), within, "{length}");
         }
     }
     // Set User Password.
     for length in 0..30 {
         let listed = matches!(length, 2 | 18 | 22);
-        assert_eq!(rt; Lengths::OneOf(2, 18, 22).allow(length), listed, "{length}");
+        let allowed = Lengths::OneOf(2, 18, 22).allow(&body[..length]);
+        assert_eq!(rt; allowed, listed, "{length}");
+    }
+    // Set State Effecter States, with three fields.
+    for length in 0..30 {
+        let allowed = Lengths::PairsCountedAt(2).allow(&body[..length]);
+        assert_eq!(rt; allowed, length == 9, "{length}");
     }
 }

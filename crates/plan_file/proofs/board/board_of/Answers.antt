@@ -144,6 +144,7 @@ returns c =
         device = holds;
         sensors = c.in_ok-sensors.ensures.held;
         effecters = c.in_ok-numeric_effecters.ensures.held;
+        no_states = c.no_items.ensures;
         users = c.in_ok-users.ensures.held;
         channels = c.in_ok-file_channels.ensures.channels;
         sessionless = c.in_ok-file_channels.ensures.sessionless;

@@ -28,6 +28,9 @@ apply-requires-in-GlobalEnables-op c = (tt, subst (λ (s : Limits). valid s c.ar
 pub apply-requires-in-NumericEffecter-op : goal.apply-requires-in-NumericEffecter-op
 apply-requires-in-NumericEffecter-op c = (tt, subst (λ (s : Limits). valid s c.args.value.now) c.in-NumericEffecter.is c.requires.is_valid)
 
+pub apply-requires-in-StateEffecter-op : goal.apply-requires-in-StateEffecter-op
+apply-requires-in-StateEffecter-op c = (tt, subst (λ (s : Limits). valid s c.args.value.now) c.in-StateEffecter.is c.requires.is_valid)
+
 pub apply-requires-in-BootParam-op : goal.apply-requires-in-BootParam-op
 apply-requires-in-BootParam-op c = (
   moved _ _ _ _ c.in-BootParam.is c.in-BootParam-op.is c.requires.of_record,
@@ -57,6 +60,9 @@ returns-in-BootParam-op c = rw (c.in-BootParam.is, c.in-BootParam-op.is) c.apply
 
 pub returns-in-NumericEffecter-op : goal.returns-in-NumericEffecter-op
 returns-in-NumericEffecter-op c = rw (c.in-NumericEffecter.is, c.in-NumericEffecter-op.is) c.apply-in-NumericEffecter-op.ensures
+
+pub returns-in-StateEffecter-op : goal.returns-in-StateEffecter-op
+returns-in-StateEffecter-op c = rw (c.in-StateEffecter.is, c.in-StateEffecter-op.is) c.apply-in-StateEffecter-op.ensures
 
 pub apply-requires-in-UserName-op : goal.apply-requires-in-UserName-op
 apply-requires-in-UserName-op c = (tt, subst (λ (s : Limits). valid s c.args.value.now) c.in-UserName.is c.requires.is_valid)
