@@ -8,4 +8,5 @@ mod records;
 mod sensors;
 mod state_effecters;
 mod undo;
+mod users;
 mod watchdog;
