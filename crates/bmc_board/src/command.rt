@@ -20,6 +20,10 @@ pub enum Command {
     GetBootOptions,
     /// Set Channel Access: it sets one record, two or none.
     SetChannelAccess,
+    /// SetBIOSAttributeCurrentValue: it sets a record, where its data are whole.
+    SetBiosAttribute,
+    /// GetBIOSAttributeCurrentValueByHandle: it shows a record, where its first part is asked for.
+    GetBiosAttribute,
 }
 
 /// A command that shows a record.
@@ -158,6 +162,8 @@ pub fn find_pldm_line(kind: u8, number: u8) -> Option<Line>
         (0x00, 0x04) => entry(Live(GetPldmTypes), Exactly(0), false),
         (0x02, 0x31) => entry(Set(SetNumericEffecterValue), AtLeast(4), true),
         (0x02, 0x32) => entry(Get(GetNumericEffecterValue), Exactly(2), false),
+        (0x03, 0x07) => entry(SetBiosAttribute, AtLeast(8), true),
+        (0x03, 0x08) => entry(GetBiosAttribute, Exactly(7), false),
         _ => return None,
     })
 }
