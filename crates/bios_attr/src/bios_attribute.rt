@@ -219,10 +219,6 @@ impl<'a> RecordKind<'a> for AttributeLimits {
             return None;
         }
         let attribute = u16::from_le_bytes([get_data[5], get_data[6]]);
-        Some(SetBiosAttribute::of(
-            attribute,
-            get_data[7],
-            &get_data[BEFORE_VALUE..],
-        ))
+        Some(SetBiosAttribute::of(attribute, get_data[7], &get_data[BEFORE_VALUE..]))
     }
 }

@@ -114,7 +114,10 @@ fn a_reply_shows_the_entry_and_is_undone_whole(rt: HostRuntime) -> Result<(), Fa
     ];
     assert_eq!(rt; reply.as_slice(), shown.as_slice());
     let undo = AttributeLimits::inverse(&any_op(), reply.as_slice()).ok_or("a reply")?;
-    assert_eq!(rt; AttributeLimits::set_data(&undo).as_slice(), shown.as_slice());
+    assert_eq!(rt;
+        AttributeLimits::set_data(&undo).as_slice(),
+        shown.as_slice()
+    );
     let mut new = Value::new();
     assert_eq!(rt;
         asset()?.set(&undo, &mut new).err().map(|code| code.value()),
