@@ -152,6 +152,7 @@ pub record HoldsBoard (tree : Members) (board : BoardFile) : Type 0 where
   pub no_channels : board.channels.items ≡ []
   pub no_sessionless : board.sessionless.items ≡ []
   pub no_accesses : board.user_accesses.items ≡ []
+  pub no_attributes : board.attributes.items ≡ []
 
 -- what the reading of a tree answers: the board that it holds where it has no fault, else its first fault
 abbrev pub Answers : Members → Result BoardFile FileFault → Type 0

@@ -169,10 +169,11 @@ HoldsStep tree (op.PowerPolicy set) = (kind_in tree ≡ Some kind.PowerPolicy) �
 HoldsStep tree (op.GlobalEnables set) = (kind_in tree ≡ Some kind.GlobalEnables) × HoldsGlobalEnables tree set
 HoldsStep tree (op.BootParam set) = (kind_in tree ≡ Some kind.BootParam) × HoldsBootParam tree set
 HoldsStep tree (op.NumericEffecter set) = (kind_in tree ≡ Some kind.NumericEffecter) × HoldsNumericEffecter tree set
--- no kind of step changes a user or a channel
+-- no kind of step changes a user, a channel or an attribute
 HoldsStep tree (op.UserName set) = ⊥
 HoldsStep tree (op.UserAccess set) = ⊥
 HoldsStep tree (op.ChannelAccess set) = ⊥
+HoldsStep tree (op.BiosAttribute set) = ⊥
 
 -- the member of an array holds a change
 abbrev pub IsStepIn : Data → Op → Type 0

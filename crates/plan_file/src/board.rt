@@ -228,7 +228,7 @@ fn boot_options(tree: &Table) -> BootOptions
     BootOptions::new(clearing, acknowledge, flags).unwrap()
 }
 
-/// A board file gives a board no users or channels.
+/// A board file gives a board no users, channels or attributes.
 fn no_items<T: Numbered + Drop, const MOST: usize>(alloc: Global) -> Distinct<T, MOST>
     ensures { result.items ≡ [] }
 {
@@ -261,6 +261,7 @@ fn board_of(alloc: Global, tree: &Table) -> Result<BoardFile, FileFault>
         channels: no_items(alloc),
         sessionless: no_items(alloc),
         user_accesses: no_items(alloc),
+        attributes: no_items(alloc),
     })
 }
 

@@ -48,6 +48,7 @@ fn board(alloc: Global) -> Result<Board<PlainStore>, Fail> {
         channels: sample.channels,
         sessionless: sample.sessionless,
         user_accesses: sample.user_accesses,
+        attributes: sample.attributes,
     };
     let store = PlainStore::of_file(alloc, &file)?;
     Ok(Board::open(alloc, file, store)?)
