@@ -64,6 +64,14 @@ no_effecter_refuses = record {
   is_ready = λ same. omega arith;
 }
 
+no_attribute_refuses : IsRefusal 0x88
+no_attribute_refuses = record {
+  is_fault = omega arith;
+  is_byte = omega arith;
+  not_busy = λ same. omega arith;
+  is_ready = λ same. omega arith;
+}
+
 sessionless_refuses : IsRefusal sessionless_channel
 sessionless_refuses = record {
   is_fault = omega arith;
@@ -82,6 +90,7 @@ unknown_is_refused setup (key.StateEffecter id) = no_effecter_refuses
 unknown_is_refused setup (key.UserName user) = invalid_field
 unknown_is_refused setup (key.UserAccess on) = invalid_field
 unknown_is_refused setup (key.ChannelAccess at) = channel_refuses (is_sessionless setup at.channel.number)
+unknown_is_refused setup (key.BiosAttribute handle) = no_attribute_refuses
 unknown_is_refused setup _ = not_present_refuses
 
 -- ---- live commands

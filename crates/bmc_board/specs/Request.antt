@@ -29,6 +29,8 @@ use Rattle.user_chan.specs.UserAccess.{access_in}
 use Rattle.user_chan.specs.declared.channel_request.ChannelRequest.{ChannelRequest}
 use Rattle.user_chan.specs.declared.channel_request.ChannelRequest.TheVariants.{Leave, One, Two}
 use Rattle.user_chan.specs.ChannelRequests.{stored_in, channel_request_in}
+use Rattle.cfg_records.specs.declared.bios_attribute.SetBiosAttribute.{SetBiosAttribute}
+use Rattle.bios_attr.specs.BiosAttribute.{attribute_in, attribute_shown_in}
 use Rattle.bmc_board.specs.declared.command.Command.{Command}
 use Rattle.bmc_board.specs.declared.command.Command.TheVariants as command
 use Rattle.bmc_board.specs.declared.command.GetCommand.{GetCommand}
@@ -93,6 +95,15 @@ channel_asked (Leave channel) = Live (live.LeaveChannelAccess channel) []
 channel_asked (One change) = Set (op.ChannelAccess change)
 channel_asked (Two first second) = SetStores first second
 
+-- what the commands of BIOS attributes ask for
+abbrev pub attribute_set : Result SetBiosAttribute ℕ → Result Request ℕ
+attribute_set (Ok change) = Ok (Set (op.BiosAttribute change))
+attribute_set (Err code) = Err code
+
+abbrev pub attribute_get : Result ℕ ℕ → Result Request ℕ
+attribute_get (Ok handle) = Ok (Get (key.BiosAttribute handle))
+attribute_get (Err code) = Err code
+
 -- what a command asks for with data of a length that it takes, or the code that refuses the data
 abbrev pub request_of : Command → List ℕ → Result Request ℕ
 request_of (command.Live command) body = Ok (Live command body)
@@ -101,6 +112,8 @@ request_of (command.Set set) body = Ok (Set (op_in set body))
 request_of command.SetBootOptions body = boot_set (boot_request_in body)
 request_of command.GetBootOptions body = boot_get (boot_shown_in body)
 request_of command.SetChannelAccess body = Ok (channel_asked (channel_request_in body))
+request_of command.SetBiosAttribute body = attribute_set (attribute_in body)
+request_of command.GetBiosAttribute body = attribute_get (attribute_shown_in body)
 
 -- the same of a command that was read, or the code that refused the request
 abbrev pub asked_of : Result Command ℕ → List ℕ → Result Request ℕ

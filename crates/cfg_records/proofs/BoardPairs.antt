@@ -16,6 +16,9 @@ use Rattle.cfg_records.specs.declared.numeric_size.NumericSize.TheVariants.{U8, 
 use Rattle.cfg_records.specs.NumericSize.{bytes_of}
 use Rattle.cfg_records.specs.declared.state_effecter.StateField.{StateField}
 use Rattle.cfg_records.specs.StateEffecter.{state_value}
+use Rattle.cfg_records.specs.declared.attribute.Attribute.{Attribute}
+use Rattle.cfg_records.specs.Attribute.{attribute_value}
+use Rattle.cfg_records.specs.AttributeLaws.{begins_long}
 use Rattle.cfg_records.specs.Keys.{is_length}
 use Rattle.cfg_records.specs.KeyLaws.{exact_key}
 use Rattle.cfg_records.specs.Distinct.{NamesDiffer}
@@ -50,6 +53,7 @@ place_of key.GlobalEnables = 11
 place_of (key.BootParam ValidBitClearing) = 12
 place_of (key.BootParam InfoAcknowledge) = 13
 place_of (key.BootParam Flags) = 14
+place_of (key.BiosAttribute handle) = 15
 
 -- the pairs of the kind at a place
 abbrev pub pairs_at : BoardFile → ℕ → List Pair
@@ -190,8 +194,11 @@ one_to_eight n some few = grind (arith, nat_tests)
 of_fields : (fields : List StateField) → 1 ≤ length fields → length fields ≤ 8 → IsTrue (is_length (key.StateEffecter 0) (length (state_value fields)))
 of_fields fields some few = let long : length (state_value fields) ≡ length fields = length-map fields (λ (f : StateField). f.current) in one_to_eight (length (state_value fields)) (omega arith) (omega arith)
 
+of_attribute : (attribute : Attribute) → IsTrue (is_length (key.BiosAttribute attribute.handle) (length (attribute_value attribute)))
+of_attribute attribute = begins_long attribute
+
 -- the pairs of a file: a step for each kind
-pub pairs_are : (file : BoardFile) → AreBefore file 15 (pairs_of file)
+pub pairs_are : (file : BoardFile) → AreBefore file 16 (pairs_of file)
 pairs_are file =
     let before_1 = and_then file 0 [] (none_before file) (of_sensors file key.Thresholds _ 0 (λ m n same. cc) (λ n. refl) (λ s. six _ s.thresholds.valid.six)) in
     let before_2 = and_then file 1 _ before_1 (of_sensors file key.Hysteresis _ 1 (λ m n same. cc) (λ n. refl) (λ s. refl)) in
@@ -213,14 +220,15 @@ pairs_are file =
     let before_12 = and_then file 11 _ before_11 (one_of 11 (key.GlobalEnables, enables_value file.enables) refl refl) in
     let before_13 = and_then file 12 _ before_12 (one_of 12 (key.BootParam ValidBitClearing, boot_value file.boot ValidBitClearing) refl refl) in
     let before_14 = and_then file 13 _ before_13 (one_of 13 (key.BootParam InfoAcknowledge, boot_value file.boot InfoAcknowledge) refl refl) in
-    and_then file 14 _ before_14 (one_of 14 (key.BootParam Flags, boot_value file.boot Flags) refl refl)
+    let before_15 = and_then file 14 _ before_14 (one_of 14 (key.BootParam Flags, boot_value file.boot Flags) refl refl) in
+    and_then file 15 _ before_15 (of_numbered (λ a. a.handle) key.BiosAttribute attribute_value 15 file.attributes.items file.attributes.differ (λ m n same. cc) (λ n. refl) of_attribute)
 
-store_has_place : (s : AccessStore) → store_place s < 15
+store_has_place : (s : AccessStore) → store_place s < 16
 store_has_place NonVolatile = omega arith
 store_has_place Volatile = omega arith
 store_has_place Neither = omega arith
 
-has_place : (k : Key) → place_of k < 15
+has_place : (k : Key) → place_of k < 16
 has_place (key.Thresholds sensor) = omega arith
 has_place (key.ChannelAccess stored) = store_has_place stored.store
 has_place (key.BootParam ValidBitClearing) = omega arith

@@ -21,6 +21,7 @@ use Rattle.cfg_records.specs.declared.boot_param.BootParameter.TheVariants.{Vali
 use Rattle.cfg_records.specs.BootParam.{flag_bytes}
 use Rattle.cfg_records.specs.NumericSize.{bytes_of}
 use Rattle.cfg_records.specs.StateEffecter.{state_value}
+use Rattle.cfg_records.specs.Attribute.{attribute_value}
 use Rattle.cfg_records.specs.Records.{Pair}
 
 -- the values of what a board has once
@@ -83,7 +84,11 @@ access_kinds file =
 abbrev pub item_kinds : BoardFile → List (List Pair)
 item_kinds file = sensor_kinds file.sensors.items ++ effecter_kinds file ++ access_kinds file
 
--- the keys of each kind with their values: a line for each record that a board has once
+-- the keys of its attributes with their values
+abbrev pub attribute_pairs : BoardFile → List Pair
+attribute_pairs file = map (λ a. (key.BiosAttribute a.handle, attribute_value a)) file.attributes.items
+
+-- the keys of each kind with their values: a line for each record that a board has once, and one for its attributes
 abbrev pub kinds_of : BoardFile → List (List Pair)
 kinds_of file =
     item_kinds file
@@ -93,6 +98,7 @@ kinds_of file =
     ∷ ((key.BootParam ValidBitClearing, boot_value file.boot ValidBitClearing) ∷ [])
     ∷ ((key.BootParam InfoAcknowledge, boot_value file.boot InfoAcknowledge) ∷ [])
     ∷ ((key.BootParam Flags, boot_value file.boot Flags) ∷ [])
+    ∷ attribute_pairs file
     ∷ []
 
 -- the file's pairs, kind after kind

@@ -4,6 +4,7 @@ use Rattle.std.specs.Ordering.{is_eq}
 use Rattle.std.specs.declared.cmp.Ordering.{Ordering}
 use Rattle.cfg_records.specs.declared.key.Key.{Key}
 use Rattle.cfg_records.specs.declared.key.Key.TheVariants as key
+use Rattle.cfg_records.specs.AttributeSizes.{least_value, most_value}
 use Rattle.cfg_records.specs.BootParam.{boot_length}
 use Rattle.cfg_records.specs.contracts.key.KeyOrd.TheImpl as key_ord
 
@@ -21,6 +22,7 @@ is_length (key.StateEffecter id) n = nat_le 1 n && nat_le n 8
 is_length (key.UserName user) n = n == 16
 is_length (key.UserAccess on) n = n == 1
 is_length (key.ChannelAccess stored) n = n == 2
+is_length (key.BiosAttribute handle) n = nat_le least_value n && nat_le n most_value
 
 -- the order of keys
 abbrev pub key_cmp : Key → Key → Ordering

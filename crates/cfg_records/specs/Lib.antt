@@ -39,4 +39,12 @@ pub mod PlacesLaws
 pub mod RecordLaws
 pub mod Boards
 pub mod Distinct
+pub mod AttributeSizes
+pub mod AttributeValue
+pub mod AttributeRange
+pub mod AttributeRangeLaws
+pub mod Attribute
+pub mod AttributeLaws
+pub mod BiosAttribute
+pub mod BiosAttributeLaws
 pub mod Sample

@@ -1,4 +1,5 @@
 //! What a board begins with.
+use crate::attribute::Attributes;
 use crate::boot_param::{BootOptions, BootParameter};
 use crate::channel::{Channels, SessionlessChannels};
 use crate::device::Device;
@@ -38,12 +39,14 @@ pub struct BoardFile {
     pub sessionless: SessionlessChannels,
     /// What each user may do on each channel with sessions.
     pub user_accesses: UserAccesses,
+    /// The attributes of its BIOS.
+    pub attributes: Attributes,
 }
 
 impl BoardFile {
     ghost use Rattle.std.specs.Prelude.{◌≡◌, [], IfOk, OnOk};
     ghost use Rattle.cfg_records.specs.Records.{KeysDiffer, LengthsFit};
-    ghost use Rattle.cfg_records.specs.Boards.{joined, sensor_kinds, effecter_kinds, access_kinds, item_kinds, pairs_of};
+    ghost use Rattle.cfg_records.specs.Boards.{joined, sensor_kinds, effecter_kinds, access_kinds, item_kinds, attribute_pairs, pairs_of};
 
     /// The records of its sensors: a line for each kind.
     fn sensor_records(&self, alloc: Global) -> Result<Vec<(Key, Value)>, AllocError>
@@ -96,6 +99,14 @@ impl BoardFile {
         Ok(pairs)
     }
 
+    /// The records of its attributes.
+    fn attribute_records(&self, alloc: Global) -> Result<Vec<(Key, Value)>, AllocError>
+        ensures { IfOk result (λ pairs. pairs.items ≡ attribute_pairs self.now) }
+    {
+        let attributes = self.attributes.items.as_slice();
+        attributes.iter().map(|a| a.pair()).collect(alloc)
+    }
+
     /// The keys of the board's records, each once, with the values that they begin with: kind after kind.
     pub fn records(&self, alloc: Global) -> Result<Vec<(Key, Value)>, AllocError>
         ensures pairs { IfOk result (λ pairs. pairs.items ≡ pairs_of self.now) }
@@ -109,6 +120,8 @@ impl BoardFile {
         pairs.push(self.boot.pair(BootParameter::ValidBitClearing))?;
         pairs.push(self.boot.pair(BootParameter::InfoAcknowledge))?;
         pairs.push(self.boot.pair(BootParameter::Flags))?;
+        let mut more = self.attribute_records(alloc)?;
+        pairs.append(&mut more)?;
         Ok(pairs)
     }
 }

@@ -2,6 +2,7 @@
 ghost use Rattle.std.specs.Prelude.{◌≡◌};
 ghost use Rattle.cfg_records.specs.Keys.{is_length};
 
+use crate::attribute_sizes::{LEAST_VALUE, MOST_VALUE};
 use crate::boot_param::BootParameter;
 use crate::channel::StoredAccess;
 use crate::user::{UserNumber, UserOnChannel};
@@ -33,6 +34,8 @@ pub enum Key {
     UserAccess(UserOnChannel),
     /// The access of a channel, in one of its stores.
     ChannelAccess(StoredAccess),
+    /// The value of the BIOS attribute of this handle.
+    BiosAttribute(u16),
 }
 
 impl Key {
@@ -53,6 +56,7 @@ impl Key {
             Key::UserName(_) => length == 16,
             Key::UserAccess(_) => length == 1,
             Key::ChannelAccess(_) => length == 2,
+            Key::BiosAttribute(_) => LEAST_VALUE <= length && length <= MOST_VALUE,
         }
     }
 }

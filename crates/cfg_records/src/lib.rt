@@ -2,6 +2,11 @@
 //! records are kept, and the board file that they begin from.
 #![tactic(auto)]
 
+pub mod attribute;
+pub mod attribute_range;
+pub mod attribute_sizes;
+pub mod attribute_value;
+pub mod bios_attribute;
 pub mod board_file;
 pub mod boot_param;
 pub mod channel;
@@ -36,6 +41,13 @@ pub mod user;
 pub mod value;
 pub mod watchdog;
 
+pub use attribute::{
+    Attribute, AttributeKind, Attributes, EnumerationAttribute, Indexes, IntegerAttribute,
+    StringAttribute, Text,
+};
+pub use attribute_range::{AttributeRange, IntegerSteps, PossibleValues, TextLengths};
+pub use attribute_value::AttributeValue;
+pub use bios_attribute::SetBiosAttribute;
 pub use board_file::BoardFile;
 pub use boot_param::{BootChange, BootFlags, BootOptions, BootParameter, MaskedBits, SetBootParam};
 pub use channel::{

@@ -1,4 +1,5 @@
 //! Changes of one record.
+use crate::bios_attribute::SetBiosAttribute;
 use crate::boot_param::SetBootParam;
 use crate::channel::SetChannelAccess;
 use crate::event_enable::SetEventEnable;
@@ -27,4 +28,5 @@ pub enum Op {
     UserName(SetUserName),
     UserAccess(SetUserAccess),
     ChannelAccess(SetChannelAccess),
+    BiosAttribute(SetBiosAttribute),
 }

@@ -12,6 +12,7 @@ use Rattle.cfg_records.specs.declared.board_file.BoardFile.{BoardFile}
 use Rattle.cfg_records.specs.declared.sensor.Sensor.{Sensor}
 use Rattle.cfg_records.specs.declared.numeric_effecter.NumericEffecter.{NumericEffecter}
 use Rattle.cfg_records.specs.declared.state_effecter.StateEffecter.{StateEffecter}
+use Rattle.cfg_records.specs.declared.attribute.Attribute.{Attribute}
 use Rattle.cfg_records.specs.declared.user.User.{User}
 use Rattle.cfg_records.specs.declared.user.UserAccess.{UserAccess}
 use Rattle.cfg_records.specs.declared.channel.Channel.{Channel}
@@ -89,6 +90,9 @@ no_sessionless i j d below within = absurd (omega (arith, below, within))
 pub no_accesses : NamesDiffer (λ (a : UserAccess). number_on a.on) []
 no_accesses i j d below within = absurd (omega (arith, below, within))
 
+pub no_attributes : NamesDiffer (λ (a : Attribute). a.handle) []
+no_attributes i j d below within = absurd (omega (arith, below, within))
+
 -- a board with that sensor
 abbrev pub board_file : BoardFile
 board_file = record {
@@ -128,6 +132,7 @@ board_file = record {
   channels = record { items = []; differ = no_channels; few = lit≤ tt };
   sessionless = record { items = []; differ = no_sessionless; few = lit≤ tt };
   user_accesses = record { items = []; differ = no_accesses; few = lit≤ tt };
+  attributes = record { items = []; differ = no_attributes; few = lit≤ tt };
 }
 
 -- ---- the runs

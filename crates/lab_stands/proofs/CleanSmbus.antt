@@ -83,6 +83,7 @@ get_short (key.StateEffecter id) = omega arith
 get_short (key.UserName user) = tt
 get_short (key.UserAccess on) = tt
 get_short (key.ChannelAccess at) = tt
+get_short (key.BiosAttribute handle) = omega arith
 
 set_short : (o : Op) → IsShort (set_asked o)
 set_short (op.Thresholds o) = tt
@@ -97,6 +98,7 @@ set_short (op.StateEffecter o) = omega (arith, two_each o.changes, o.few)
 set_short (op.UserName o) = tt
 set_short (op.UserAccess o) = tt
 set_short (op.ChannelAccess o) = tt
+set_short (op.BiosAttribute o) = omega (arith, o.fits)
 
 from_short : (at : Bus → Addresses) (asked : Asked) → IsShort asked → IsShort (from_manager at asked)
 from_short at (Ipmi from net_fn lun command body) h = tt

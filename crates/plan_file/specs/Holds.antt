@@ -219,6 +219,7 @@ pub record HoldsBoard (tree : Members) (board : BoardFile) : Type 0 where
   pub channels : AllZip IsChannelIn (with_sessions (members_in field.Channel tree)) board.channels.items
   pub sessionless : AllZip IsNumberIn (without_sessions (members_in field.Channel tree)) board.sessionless.items
   pub accesses : map parts_of board.user_accesses.items ≡ accesses_in (with_sessions (members_in field.Channel tree))
+  pub no_attributes : board.attributes.items ≡ []
 
 -- what the reading of a tree answers: the board that it holds where it has no fault, else its first fault
 abbrev pub Answers : Members → Result BoardFile FileFault → Type 0

@@ -221,8 +221,9 @@ HoldsStep tree (op.NumericEffecter set) = (kind_in tree ≡ Some kind.NumericEff
 HoldsStep tree (op.UserName set) = (kind_in tree ≡ Some kind.UserName) × HoldsUserName tree set
 HoldsStep tree (op.UserAccess set) = (kind_in tree ≡ Some kind.UserAccess) × HoldsUserAccess tree set
 HoldsStep tree (op.ChannelAccess set) = (kind_in tree ≡ Some kind.ChannelAccess) × HoldsChannelAccess tree set
--- no kind of step changes a state effecter
+-- no kind of step changes a state effecter or an attribute
 HoldsStep tree (op.StateEffecter set) = ⊥
+HoldsStep tree (op.BiosAttribute set) = ⊥
 
 -- the member of an array holds a change
 abbrev pub IsStepIn : Data → Op → Type 0

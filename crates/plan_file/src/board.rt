@@ -230,7 +230,7 @@ fn boot_options(tree: &Table) -> BootOptions
     BootOptions::new(clearing, acknowledge, flags).unwrap()
 }
 
-/// A board file gives a board no state effecters.
+/// A board file gives a board no state effecters and no attributes.
 fn no_items<T: Numbered + Drop, const MOST: usize>(alloc: Global) -> Distinct<T, MOST>
     ensures { result.items ≡ [] }
 {
@@ -266,6 +266,7 @@ fn board_of(alloc: Global, tree: &Table) -> Result<BoardFile, FileFault>
         channels: file_channels.channels,
         sessionless: file_channels.sessionless,
         user_accesses: file_channels.accesses,
+        attributes: no_items(alloc),
     })
 }
 

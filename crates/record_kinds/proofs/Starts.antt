@@ -24,6 +24,8 @@ use Rattle.cfg_records.proofs.BoardPairs.{user_number, channel_number, place_of,
 use Rattle.cfg_records.specs.Boards.{number_value, stored, access_value}
 use Rattle.cfg_records.specs.declared.state_effecter.StateField.{StateField}
 use Rattle.cfg_records.specs.StateEffecter.{are_states, state_value}
+use Rattle.cfg_records.specs.Attribute.{range_of, attribute_value}
+use Rattle.cfg_records.specs.AttributeLaws.{begins_valid}
 use Rattle.record_kinds.specs.declared.limits.Limits.{Limits}
 use Rattle.record_kinds.specs.declared.limits.Limits.TheVariants as limits
 use Rattle.record_kinds.specs.Limits.{valid}
@@ -153,6 +155,9 @@ sound_in_kind file (key.UserAccess on) =
     sound_of (λ a. (key.UserAccess a.on, a.byte ∷ [])) (λ a. limits.UserAccess (record { user = on.user; most = length file.users.items })) (λ a. is_on a.on on) file.user_accesses.items (key.UserAccess on)
     (λ a. same_on_key a.on on) (λ a. a.valid)
 sound_in_kind file (key.ChannelAccess at) = sound_in_store file at.channel at.store
+sound_in_kind file (key.BiosAttribute handle) =
+    sound_of (λ a. (key.BiosAttribute a.handle, attribute_value a)) (λ a. limits.BiosAttribute (record { handle = handle; read_only = a.read_only; range = range_of a.kind })) (λ a. a.handle == handle) file.attributes.items (key.BiosAttribute handle)
+    (λ a. same_numbered key.BiosAttribute (λ m n same. cc) a.handle handle) begins_valid
 
 pub starts_sound : StartsSound
 starts_sound file k = subst (IsSoundAt (limits_at file k)) (sym (record_of_kind file k)) (sound_in_kind file k)

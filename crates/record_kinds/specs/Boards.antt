@@ -14,6 +14,8 @@ use Rattle.cfg_records.specs.declared.channel.Channel.{Channel}
 use Rattle.cfg_records.specs.declared.channel.AccessStore.{AccessStore}
 use Rattle.cfg_records.specs.declared.channel.AccessStore.TheVariants.{NonVolatile, Volatile, Neither}
 use Rattle.cfg_records.specs.declared.channel.StoredAccess.{StoredAccess}
+use Rattle.cfg_records.specs.declared.attribute.Attribute.{Attribute}
+use Rattle.cfg_records.specs.Attribute.{range_of}
 use Rattle.cfg_records.specs.declared.board_file.BoardFile.{BoardFile}
 use Rattle.record_kinds.specs.declared.limits.Limits.{Limits}
 use Rattle.record_kinds.specs.declared.limits.Limits.TheVariants as limits
@@ -62,6 +64,10 @@ in_store_of Neither channel = None
 abbrev pub stored_at : BoardFile → StoredAccess → Option Channel
 stored_at file at = in_store_of at.store (channel_at file.channels.items at.channel.number)
 
+-- the attribute of this handle
+abbrev pub attribute_at : List Attribute → ℕ → Option Attribute
+attribute_at attributes handle = find (λ a. a.handle == handle) attributes
+
 -- the limits of the key's record: a line for each kind
 abbrev pub limits_at : BoardFile → Key → Option Limits
 limits_at file (key.Thresholds number) = of_sensor (λ s. limits.Thresholds (record { masks = s.thresholds.masks })) file number
@@ -76,3 +82,5 @@ limits_at file (key.StateEffecter id) = option_map limits.StateEffecter (state_a
 limits_at file (key.UserName user) = option_map (λ u. limits.UserName (record {})) (user_at file.users.items user.number)
 limits_at file (key.UserAccess on) = option_map (λ a. limits.UserAccess (record { user = on.user; most = length file.users.items })) (access_at file.user_accesses.items on)
 limits_at file (key.ChannelAccess at) = option_map (λ c. limits.ChannelAccess (record {})) (stored_at file at)
+limits_at file (key.BiosAttribute handle) =
+    option_map (λ a. limits.BiosAttribute (record { handle = handle; read_only = a.read_only; range = range_of a.kind })) (attribute_at file.attributes.items handle)

@@ -2,6 +2,7 @@
 ghost use Rattle.std.specs.Prelude.{◌≡◌};
 
 use crate::setup::Setup;
+use bios_attr::AttributeLimits;
 use cfg_records::{Asked, Key, Live, Op, RecordData, RecordKind, Value};
 use effecter_recs::{NumericLimits, StateLimits};
 use sensor_recs::{EventEnableLimits, HysteresisLimits, ThresholdLimits};
@@ -24,6 +25,7 @@ pub enum Limits<'f> {
     UserName(UserNameLimits),
     UserAccess(UserAccessLimits),
     ChannelAccess(ChannelAccessLimits),
+    BiosAttribute(AttributeLimits),
 }
 
 /// The kinds, a line for each: its name, its limits, and where its keys are.
@@ -42,6 +44,7 @@ macro_rules! of_each_kind {
             UserName UserNameLimits {Key::UserName(user) => user}
             UserAccess UserAccessLimits {Key::UserAccess(on) => on}
             ChannelAccess ChannelAccessLimits {Key::ChannelAccess(at) => at}
+            BiosAttribute AttributeLimits {Key::BiosAttribute(handle) => handle}
         }
     };
 }
@@ -83,11 +86,14 @@ macro_rules! by_op {
     };
 }
 
-/// The operation of its kind that the operation's kind gives.
+/// The operation of its kind that the operation's kind gives, if it gives one.
 macro_rules! op_by_op {
     ([$op:expr, $function:ident $more:tt] $($kind:ident $limits:ident $key:tt)*) => {
         match $op {
-            $(Op::$kind(op) => Op::$kind(call!($limits $function op $more)?),)*
+            $(Op::$kind(op) => match call!($limits $function op $more) {
+                Some(made) => Some(Op::$kind(made)),
+                None => None,
+            },)*
         }
     };
 }
@@ -138,6 +144,10 @@ impl Setup {
             Key::ChannelAccess(at) => {
                 let _ = self.stored_access(at)?;
                 Limits::ChannelAccess(ChannelAccessLimits)
+            }
+            Key::BiosAttribute(handle) => {
+                let attribute = self.attribute(*handle)?;
+                Limits::BiosAttribute(AttributeLimits::of(*handle, attribute))
             }
         })
     }
@@ -201,6 +211,6 @@ impl<'a, 'f> RecordKind<'a> for Limits<'f> {
     fn inverse(op: &Op, get_data: &'a [u8]) -> Option<Op>
         ensures { result ≡ all.kind.words.inverse op.now get_data.now }
     {
-        Some(of_each_kind!(op_by_op [op, inverse(get_data)]))
+        of_each_kind!(op_by_op [op, inverse(get_data)])
     }
 }

@@ -1,4 +1,5 @@
 //! Records and their kinds one by one, and changes of a board that are undone.
+mod attributes;
 mod bench;
 mod commands;
 mod effecters;

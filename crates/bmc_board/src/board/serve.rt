@@ -21,6 +21,7 @@ use crate::request::read_request;
 use crate::storage::{
     add_entry, clear, part_in, sdr_info, sel_info, show_entry, show_sdr, time_in,
 };
+use bios_attr::bios_attribute::{attribute_in, attribute_shown_in};
 use cfg_records::{
     AccessStore, Answered, Asked, BoardFile, ChannelNumber, Key, Op, RecordKind, SetChannelAccess,
     Store, StoredAccess, UserNumber, UserOnChannel, Value, byte_at,
@@ -52,6 +53,7 @@ fn unknown_code(setup: &Setup, key: &Key) -> Code
         | Key::GlobalEnables
         | Key::BootParam(_) => code::NOT_PRESENT,
         Key::NumericEffecter(_) | Key::StateEffecter(_) => code::PLDM_INVALID_EFFECTER,
+        Key::BiosAttribute(_) => code::PLDM_INVALID_ATTRIBUTE,
         Key::UserName(_) | Key::UserAccess(_) => code::INVALID_DATA_FIELD,
         Key::ChannelAccess(at) => {
             if setup.is_sessionless(at.channel) {
@@ -426,6 +428,29 @@ impl<S: Store> Board<S> {
         }
     }
 
+    /// Carries out SetBIOSAttributeCurrentValue. The operation is made here, of the data, and stays here.
+    #[inline(never)]
+    fn set_attribute<B: Buffer>(&mut self, body: &[u8], to: &mut B) -> Result<(), Code>
+        requires room { IfOk (request_of Command.SetBiosAttribute body.now) (λ r. length (B.bytes to.old) + longest_reply r ≤ B.capacity) }
+        ensures answer { Gives result (B.bytes to.old) (B.bytes to.new) (reply_of self.old.setup (state_of S.records self.old) (request_of Command.SetBiosAttribute body.now)).0 }
+        ensures left { state_of S.records self.new ≡ (reply_of self.old.setup (state_of S.records self.old) (request_of Command.SetBiosAttribute body.now)).1 }
+        ensures setup { self.new.setup ≡ self.old.setup }
+    {
+        let op = attribute_in(body)?;
+        self.set(&Op::BiosAttribute(op), to)
+    }
+
+    /// Carries out GetBIOSAttributeCurrentValueByHandle.
+    fn get_attribute<B: Buffer>(&mut self, body: &[u8], to: &mut B) -> Result<(), Code>
+        requires room { IfOk (request_of Command.GetBiosAttribute body.now) (λ r. length (B.bytes to.old) + longest_reply r ≤ B.capacity) }
+        ensures answer { Gives result (B.bytes to.old) (B.bytes to.new) (reply_of self.old.setup (state_of S.records self.old) (request_of Command.GetBiosAttribute body.now)).0 }
+        ensures left { state_of S.records self.new ≡ (reply_of self.old.setup (state_of S.records self.old) (request_of Command.GetBiosAttribute body.now)).1 }
+        ensures setup { self.new.setup ≡ self.old.setup }
+    {
+        let handle = attribute_shown_in(body)?;
+        self.get(&Key::BiosAttribute(handle), to)
+    }
+
     /// Carries out a command with this data, of a length that the command takes, and appends the data of the reply.
     fn serve<B: Buffer>(&mut self, command: Command, body: &[u8], to: &mut B) -> Result<(), Code>
         requires room { IfOk (request_of command body.now) (λ r. length (B.bytes to.old) + longest_reply r ≤ B.capacity) }
@@ -440,6 +465,8 @@ impl<S: Store> Board<S> {
             Command::SetBootOptions => self.set_boot_options(body, to),
             Command::GetBootOptions => self.get_boot_options(body, to),
             Command::SetChannelAccess => self.set_channel_access(body, to),
+            Command::SetBiosAttribute => self.set_attribute(body, to),
+            Command::GetBiosAttribute => self.get_attribute(body, to),
         }
     }
 

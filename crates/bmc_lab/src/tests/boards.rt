@@ -189,6 +189,7 @@ fn full_board(alloc: Global) -> Result<BoardFile, Fail> {
         channels: sample.channels,
         sessionless: sample.sessionless,
         user_accesses: sample.user_accesses,
+        attributes: sample.attributes,
     })
 }
 

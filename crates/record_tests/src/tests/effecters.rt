@@ -61,6 +61,7 @@ pub(super) fn board_with(
         channels: sample.channels,
         sessionless: sample.sessionless,
         user_accesses: sample.user_accesses,
+        attributes: sample.attributes,
     };
     let store = PlainStore::of_file(alloc, &file)?;
     Ok(Board::open(alloc, file, store)?)

@@ -54,6 +54,7 @@ fn board(alloc: Global) -> Result<Board<PlainStore>, Fail> {
         channels: Distinct::new(channels).ok_or("channels")?,
         sessionless: Distinct::new(sessionless).ok_or("sessionless")?,
         user_accesses: Distinct::new(accesses).ok_or("user accesses")?,
+        attributes: sample.attributes,
     };
     let store = PlainStore::of_file(alloc, &file)?;
     Ok(Board::open(alloc, file, store)?)

@@ -81,3 +81,12 @@ apply-requires-in-ChannelAccess-op c = (tt, subst (λ (s : Limits). valid s c.ar
 
 pub returns-in-ChannelAccess-op : goal.returns-in-ChannelAccess-op
 returns-in-ChannelAccess-op c = rw (c.in-ChannelAccess.is, c.in-ChannelAccess-op.is) c.apply-in-ChannelAccess-op.ensures
+
+pub apply-requires-in-BiosAttribute-op : goal.apply-requires-in-BiosAttribute-op
+apply-requires-in-BiosAttribute-op c = (
+  moved _ _ _ _ c.in-BiosAttribute.is c.in-BiosAttribute-op.is c.requires.of_record,
+  subst (λ (s : Limits). valid s c.args.value.now) c.in-BiosAttribute.is c.requires.is_valid,
+)
+
+pub returns-in-BiosAttribute-op : goal.returns-in-BiosAttribute-op
+returns-in-BiosAttribute-op c = rw (c.in-BiosAttribute.is, c.in-BiosAttribute-op.is) c.apply-in-BiosAttribute-op.ensures

@@ -1,10 +1,10 @@
 //! Which values an attribute can have.
 ghost use Rattle.std.specs.Prelude.{◌≡◌, ◌≤◌, nat_lt};
 ghost use Rattle.std.specs.List.{list_all};
-ghost use Rattle.bios_attr.specs.Sizes.{most_indexes, most_text};
+ghost use Rattle.cfg_records.specs.AttributeSizes.{most_indexes, most_text};
 
-use crate::sizes::{MOST_INDEXES, MOST_TEXT};
-use crate::value_entry::{AttributeValue, ENUMERATION_TYPE, INTEGER_TYPE, STRING_TYPE};
+use crate::attribute_sizes::{MOST_INDEXES, MOST_TEXT};
+use crate::attribute_value::{AttributeValue, ENUMERATION_TYPE, INTEGER_TYPE, STRING_TYPE};
 
 /// How many possible values an enumeration has.
 #[derive(Clone, Copy, Debug, PartialEq, Eq)]
@@ -45,10 +45,10 @@ fn are_below(indexes: &[u8], count: u8) -> bool
 }
 
 impl PossibleValues {
-    ghost use Rattle.std.specs.Prelude.{◌≡◌, ◌≤◌, ◌↔◌, IsSome, IfSome};
-    ghost use Rattle.bios_attr.specs.declared.attribute_range.AttributeRange.TheVariants as range;
-    ghost use Rattle.bios_attr.specs.declared.value_entry.AttributeValue.TheVariants as value;
-    ghost use Rattle.bios_attr.specs.AttributeRange.{allows};
+    ghost use Rattle.std.specs.Prelude.{◌≡◌, ◌≤◌, ◌↔◌, IsTrue, IsSome, IfSome};
+    ghost use Rattle.cfg_records.specs.declared.attribute_range.AttributeRange.TheVariants as range;
+    ghost use Rattle.cfg_records.specs.declared.attribute_value.AttributeValue.TheVariants as value;
+    ghost use Rattle.cfg_records.specs.AttributeRange.{AllowsIndexes, allows};
 
     /// So many possible values, or nothing where these are too many.
     pub fn new(count: u8) -> Option<PossibleValues>
@@ -62,8 +62,9 @@ impl PossibleValues {
     }
 
     /// Whether these are one or more indexes of possible values, and no more than there are.
-    fn allows(self, indexes: &[u8]) -> bool
-        ensures { result ≡ allows (range.Enumeration self) (value.Indexes indexes.now) }
+    pub fn allows(self, indexes: &[u8]) -> bool
+        ensures test { result ≡ allows (range.Enumeration self) (value.Indexes indexes.now) }
+        ensures means { IsTrue result ↔ AllowsIndexes self.count indexes.now }
     {
         if indexes.len() == 0 || indexes.len() > usize::from(self.count) {
             return false;
@@ -73,10 +74,10 @@ impl PossibleValues {
 }
 
 impl TextLengths {
-    ghost use Rattle.std.specs.Prelude.{◌≡◌, ◌≤◌, ◌↔◌, IsSome, IfSome};
-    ghost use Rattle.bios_attr.specs.declared.attribute_range.AttributeRange.TheVariants as range;
-    ghost use Rattle.bios_attr.specs.declared.value_entry.AttributeValue.TheVariants as value;
-    ghost use Rattle.bios_attr.specs.AttributeRange.{allows};
+    ghost use Rattle.std.specs.Prelude.{◌≡◌, ◌≤◌, ◌↔◌, IsTrue, IsSome, IfSome};
+    ghost use Rattle.cfg_records.specs.declared.attribute_range.AttributeRange.TheVariants as range;
+    ghost use Rattle.cfg_records.specs.declared.attribute_value.AttributeValue.TheVariants as value;
+    ghost use Rattle.cfg_records.specs.AttributeRange.{AllowsText, allows};
 
     /// These lengths, or nothing where the most is too much.
     pub fn new(least: u16, most: u16) -> Option<TextLengths>
@@ -90,22 +91,24 @@ impl TextLengths {
     }
 
     /// Whether a text has one of these lengths.
-    fn allows(self, text: &[u8]) -> bool
-        ensures { result ≡ allows (range.Text self) (value.Text text.now) }
+    pub fn allows(self, text: &[u8]) -> bool
+        ensures test { result ≡ allows (range.Text self) (value.Text text.now) }
+        ensures means { IsTrue result ↔ AllowsText self text.now }
     {
         usize::from(self.least) <= text.len() && text.len() <= usize::from(self.most)
     }
 }
 
 impl IntegerSteps {
-    ghost use Rattle.std.specs.Prelude.{◌≡◌};
-    ghost use Rattle.bios_attr.specs.declared.attribute_range.AttributeRange.TheVariants as range;
-    ghost use Rattle.bios_attr.specs.declared.value_entry.AttributeValue.TheVariants as value;
-    ghost use Rattle.bios_attr.specs.AttributeRange.{allows};
+    ghost use Rattle.std.specs.Prelude.{◌≡◌, ◌↔◌, IsTrue};
+    ghost use Rattle.cfg_records.specs.declared.attribute_range.AttributeRange.TheVariants as range;
+    ghost use Rattle.cfg_records.specs.declared.attribute_value.AttributeValue.TheVariants as value;
+    ghost use Rattle.cfg_records.specs.AttributeRange.{AllowsNumber, allows};
 
     /// Whether the number is one of these.
-    fn allows(self, number: u64) -> bool
-        ensures { result ≡ allows (range.Integer self) (value.Number number) }
+    pub fn allows(self, number: u64) -> bool
+        ensures test { result ≡ allows (range.Integer self) (value.Number number) }
+        ensures means { IsTrue result ↔ AllowsNumber self number }
     {
         if number < self.lower || number > self.upper {
             return false;
@@ -116,7 +119,7 @@ impl IntegerSteps {
 
 impl AttributeRange {
     ghost use Rattle.std.specs.Prelude.{◌≡◌};
-    ghost use Rattle.bios_attr.specs.AttributeRange.{allows, type_of};
+    ghost use Rattle.cfg_records.specs.AttributeRange.{allows, type_of};
 
     /// The type of an attribute with these values.
     pub fn type_code(&self) -> u8

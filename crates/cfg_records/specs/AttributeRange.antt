@@ -1,14 +1,14 @@
--- Which values an attribute can have.
+-- Which values a BIOS attribute can have.
 use Rattle.std.specs.Prelude.{◌≡◌, ◌≢◌, ℕ, ◌-◌, ◌%◌, ◌≤◌, ◌==◌, ◌&&◌, ◌||◌, nat_lt, nat_le, List, length, IsTrue, Bool, true, false, Option, Some, None}
 use Rattle.std.specs.List.{list_all}
 use Rattle.std.specs.Option.{IsSomeAnd}
-use Rattle.bios_attr.specs.declared.attribute_range.AttributeRange.{AttributeRange}
-use Rattle.bios_attr.specs.declared.attribute_range.AttributeRange.TheVariants as range
-use Rattle.bios_attr.specs.declared.attribute_range.IntegerSteps.{IntegerSteps}
-use Rattle.bios_attr.specs.declared.attribute_range.TextLengths.{TextLengths}
-use Rattle.bios_attr.specs.declared.value_entry.AttributeValue.{AttributeValue}
-use Rattle.bios_attr.specs.declared.value_entry.AttributeValue.TheVariants.{Indexes, Text, Number}
-use Rattle.bios_attr.specs.ValueEntry.{enumeration_type, string_type, integer_type, value_in}
+use Rattle.cfg_records.specs.declared.attribute_range.AttributeRange.{AttributeRange}
+use Rattle.cfg_records.specs.declared.attribute_range.AttributeRange.TheVariants as range
+use Rattle.cfg_records.specs.declared.attribute_range.IntegerSteps.{IntegerSteps}
+use Rattle.cfg_records.specs.declared.attribute_range.TextLengths.{TextLengths}
+use Rattle.cfg_records.specs.declared.attribute_value.AttributeValue.{AttributeValue}
+use Rattle.cfg_records.specs.declared.attribute_value.AttributeValue.TheVariants.{Indexes, Text, Number}
+use Rattle.cfg_records.specs.AttributeValue.{enumeration_type, string_type, integer_type, value_in}
 
 -- the type of an attribute with these values
 abbrev pub type_of : AttributeRange → ℕ

@@ -1,5 +1,5 @@
--- How much an attribute can have.
-use Rattle.std.specs.Prelude.{ℕ, ◌+◌, ◌-◌, ◌*◌}
+-- How much a BIOS attribute can have.
+use Rattle.std.specs.Prelude.{ℕ, ◌+◌, ◌-◌}
 
 -- how many possible values an enumeration has at most
 abbrev pub most_indexes : ℕ
@@ -8,6 +8,10 @@ most_indexes = 16
 -- how many bytes a text has at most
 abbrev pub most_text : ℕ
 most_text = 200
+
+-- how many bytes the value of an attribute has at least: how many indexes there are, and one; a text's length
+abbrev pub least_value : ℕ
+least_value = 2
 
 -- how many bytes the value of an attribute has at most: a text's length, and the text
 abbrev pub most_value : ℕ
@@ -28,7 +32,3 @@ most_sent = most_data - before_value
 -- how many attributes a board has at most
 abbrev pub most_attributes : ℕ
 most_attributes = 64
-
--- how many strings these have at most: each a name and possible values
-abbrev pub most_strings : ℕ
-most_strings = (1 + most_indexes) * most_attributes

@@ -1,11 +1,14 @@
-//! How much an attribute can have.
-use cfg_records::value::DATA_CAPACITY;
+//! How much a BIOS attribute can have.
+use crate::value::DATA_CAPACITY;
 
 /// How many possible values an enumeration has at most.
 pub const MOST_INDEXES: usize = 16;
 
 /// How many bytes a text has at most.
 pub const MOST_TEXT: usize = 200;
+
+/// How many bytes the value of an attribute has at least: how many indexes there are, and one; a text's length.
+pub const LEAST_VALUE: usize = 2;
 
 /// How many bytes the value of an attribute has at most: a text's length, and the text.
 pub const MOST_VALUE: usize = 2 + MOST_TEXT;
@@ -18,6 +21,3 @@ pub const MOST_SENT: usize = DATA_CAPACITY - BEFORE_VALUE;
 
 /// How many attributes a board has at most.
 pub const MOST_ATTRIBUTES: usize = 64;
-
-/// How many bytes an entry of a table has at most: a text with what stands before it.
-pub const MOST_ENTRY: usize = 16 + MOST_TEXT;
