@@ -1,4 +1,4 @@
--- The tables of commands (IPMI 2.0; DSP0240, "GetTID" and "GetPLDMTypes"; DSP0248, commands of effecters; DSP0247, commands of BIOS attributes): one line each.
+-- The tables of commands (IPMI 2.0; DSP0240, "GetTID" and "GetPLDMTypes"; DSP0248, commands of effecters; DSP0247, "GetBIOSTable" and commands of BIOS attributes): one line each.
 use Rattle.std.specs.Prelude.{ℕ, ◌+◌, ◌*◌, List, [], ◌∷◌, length, Option, Some, None, Bool, true, false, find, nat_le, ◌==◌, ◌&&◌, ◌||◌}
 use Rattle.cfg_records.specs.declared.message.Asked.{Asked}
 use Rattle.cfg_records.specs.declared.message.Asked.TheVariants.{Ipmi, Pldm}
@@ -70,6 +70,7 @@ pldm_table =
     listed 0x02 0x32 (Exactly 2) false (command.Get get.GetNumericEffecterValue) ∷
     listed 0x02 0x39 (PairsCountedAt 2) true (command.Set set.SetStateEffecterStates) ∷
     listed 0x02 0x3A (Exactly 2) false (command.Get get.GetStateEffecterStates) ∷
+    listed 0x03 0x01 (Exactly 6) false (command.Live live.GetBiosTable) ∷
     listed 0x03 0x07 (AtLeast 8) true command.SetBiosAttribute ∷
     listed 0x03 0x08 (Exactly 7) false command.GetBiosAttribute ∷
     []

@@ -173,6 +173,7 @@ pub fn find_pldm_line(kind: u8, number: u8) -> Option<Line>
         (0x02, 0x32) => entry(Get(GetNumericEffecterValue), Exactly(2), false),
         (0x02, 0x39) => entry(Set(SetStateEffecterStates), PairsCountedAt(2), true),
         (0x02, 0x3A) => entry(Get(GetStateEffecterStates), Exactly(2), false),
+        (0x03, 0x01) => entry(Live(GetBiosTable), Exactly(6), false),
         (0x03, 0x07) => entry(SetBiosAttribute, AtLeast(8), true),
         (0x03, 0x08) => entry(GetBiosAttribute, Exactly(7), false),
         _ => return None,

@@ -12,6 +12,7 @@ ghost use Rattle.bmc_board.specs.Sensing.{value_at};
 
 use crate::activity::Activity;
 use crate::board::Board;
+use crate::board::bios::{Standing, show_part, table_asked};
 use crate::command::{Command, GetCommand, SetCommand};
 use crate::live::{
     LiveCommand, NO_ERROR, PLDM_TYPES, already_in_progress, device_data, progress_data,
@@ -21,6 +22,7 @@ use crate::request::read_request;
 use crate::storage::{
     add_entry, clear, part_in, sdr_info, sel_info, show_entry, show_sdr, time_in,
 };
+use bios_attr::Tables;
 use bios_attr::bios_attribute::{attribute_in, attribute_shown_in};
 use cfg_records::{
     AccessStore, Answered, Asked, BoardFile, ChannelNumber, Key, Op, RecordKind, SetChannelAccess,
@@ -118,7 +120,8 @@ impl<S: Store> Board<S> {
     ghost use Rattle.bmc_board.specs.State.{opened, state_of};
     ghost use Rattle.bmc_board.specs.Leaves.{Leaves};
     ghost use Rattle.bmc_board.specs.Sensing.{reading_answer};
-    ghost use Rattle.bmc_board.specs.Live.{reset_answer, progress_answer, leave_answer, password_answer, longest_live_reply};
+    ghost use Rattle.bmc_board.specs.Live.{reset_answer, progress_answer, leave_answer, password_answer, longest_live_reply, longest_live};
+    ghost use Rattle.bmc_board.specs.BiosTables.{table_answer, longest_part};
     ghost use Rattle.cfg_records.specs.Numbers.{user_in};
     ghost use Rattle.cfg_records.specs.Requests.{byte_at};
     ghost use Rattle.record_kinds.specs.Boards.{user_at};
@@ -140,11 +143,13 @@ impl<S: Store> Board<S> {
         ensures state { IfOk result (λ board. state_of S.records board ≡ opened file) }
     {
         let activity = Activity::opening(alloc, &file)?;
+        let tables = Tables::open(alloc, &file.attributes)?;
         Ok(Board {
             setup: Setup::new(file),
             activity,
             store,
             made: Value::new(),
+            tables,
         })
     }
 
@@ -245,9 +250,24 @@ impl<S: Store> Board<S> {
         )
     }
 
+    /// Appends a part of a table of the attributes, with their values as they stand.
+    #[inline(never)]
+    fn show_table<B: Buffer>(&mut self, body: &[u8], to: &mut B) -> Result<(), Code>
+        requires room { length (B.bytes to.old) + longest_part ≤ B.capacity }
+        ensures answer { Gives result (B.bytes to.old) (B.bytes to.new) (table_answer self.old.setup (S.records self.old.store) body.now) }
+        ensures activity { self.new.activity ≡ self.old.activity }
+        ensures store { self.new.store ≡ self.old.store }
+        ensures setup { self.new.setup ≡ self.old.setup }
+    {
+        let table = table_asked(self.setup.attributes(), byte_at(body, 5))?;
+        self.tables.show(&Standing { store: &self.store });
+        show_part(body, self.tables.table(table), to)
+    }
+
     /// Carries out a live command with this data, and appends the data of the reply.
+    #[tactic(auto, using(crate::proofs::LiveFacts::as_long))]
     fn live<B: Buffer>(&mut self, command: LiveCommand, body: &[u8], to: &mut B) -> Result<(), Code>
-        requires room { length (B.bytes to.old) + longest_live_reply ≤ B.capacity }
+        requires room { length (B.bytes to.old) + longest_live command ≤ B.capacity }
         ensures answer { Gives result (B.bytes to.old) (B.bytes to.new) (serve_of self.old.setup (state_of S.records self.old) (request.Live command body.now)).0 }
         ensures left { state_of S.records self.new ≡ (serve_of self.old.setup (state_of S.records self.old) (request.Live command body.now)).1 }
         ensures setup { self.new.setup ≡ self.old.setup }
@@ -278,6 +298,7 @@ impl<S: Store> Board<S> {
             LiveCommand::SetUserPassword => self.set_password(body),
             LiveCommand::GetTid => show(&[self.setup.tid()], to),
             LiveCommand::GetPldmTypes => show(&PLDM_TYPES, to),
+            LiveCommand::GetBiosTable => self.show_table(body, to),
         }
     }
 

@@ -4,10 +4,11 @@ use cfg_records::{
     Answered, Asked, Attribute, AttributeKind, BoardFile, Distinct, IntegerAttribute, IntegerSteps,
     Op, PlainStore, RecordKind, SetBiosAttribute, Text, sample_board,
 };
+use pldm_base::crc32;
 use record_kinds::Limits;
 use std::alloc::Global;
 use std::test::Fail;
-use two_wire::Below;
+use two_wire::{Below, Bytes};
 
 /// The sample board.
 fn board(alloc: Global) -> Result<Board<PlainStore>, Fail> {
@@ -184,5 +185,114 @@ fn an_attribute_that_can_only_be_read_is_shown_and_not_set(rt: HostRuntime) -> R
         assert_eq!(rt; board.answer(&set).code, 0x02);
     }
     assert!(rt; board.answer(&get(0, 0)?).is(&Answered::done(&shown)));
+    Ok(())
+}
+
+/// The data of GetBIOSTable for the first part of the table of this number.
+fn table(number: u8) -> Result<Asked, Fail> {
+    Ok(asked(0x01, &[0, 0, 0, 0, 0x01, number]).ok_or("table")?)
+}
+
+/// Whether these bytes are a whole table of these entries and padding: no next part, both flags, and the check behind them.
+fn is_whole(body: &[u8], entries: &[u8]) -> bool {
+    let mut want: Bytes<251> = Bytes::from_slice(&[0, 0, 0, 0, 5]);
+    if entries.len() > 200 {
+        return false;
+    }
+    want.extend_from_slice(entries);
+    want.extend_from_slice(&crc32(entries).to_le_bytes());
+    body == want.as_slice()
+}
+
+#[test]
+fn the_tables_of_the_sample_board_are_given(rt: HostRuntime) -> Result<(), Fail> {
+    let mut board = board(rt.alloc())?;
+    let values = board.answer(&table(2)?);
+    assert_eq!(rt; values.code, 0);
+    let entries = [
+        0, 0, 0, 1, 0, 1, 0, 1, 6, 0, 0x72, 0x61, 0x63, 0x6B, 0x2D, 0x31, 2, 0, 3, 0x1E, 0, 0, 0,
+        0, 0, 0, 0, 0,
+    ];
+    assert!(rt; is_whole(values.body.as_slice(), &entries));
+    let strings = board.answer(&table(0)?);
+    assert_eq!(rt; strings.body.len(), 49);
+    let begins = [
+        0, 0, 0, 0, 5, 0x00, 0x00, 0x05, 0x00, 0x51, 0x75, 0x69, 0x65, 0x74, 0x01, 0x00, 0x03,
+        0x00, 0x6F, 0x66, 0x66,
+    ];
+    assert_eq!(rt;
+        strings.body.as_slice().get(..21).ok_or("strings")?,
+        begins.as_slice()
+    );
+    let attributes = board.answer(&table(1)?);
+    assert_eq!(rt; attributes.body.len(), 69);
+    let begins = [
+        0, 0, 0, 0, 5, 0, 0, 0, 0, 0, 2, 1, 0, 2, 0, 1, 0, 1, 0, 1, 3, 0, 1, 0, 0, 0xC8, 0, 0, 0,
+    ];
+    assert_eq!(rt;
+        attributes.body.as_slice().get(..29).ok_or("attributes")?,
+        begins.as_slice()
+    );
+    assert_eq!(rt; board.answer(&table(3)?).code, 0x83);
+    assert_eq!(rt; board.answer(&table(4)?).code, 0x85);
+    Ok(())
+}
+
+#[test]
+fn a_table_refuses_in_order_and_shows_what_stands_now(rt: HostRuntime) -> Result<(), Fail> {
+    let mut board = board(rt.alloc())?;
+    for (body, code) in [
+        (&[0, 0, 0, 0, 1][..], 0x03),
+        (&[0, 0, 0, 0, 9, 4], 0x85),
+        (&[0, 0, 0, 0, 9, 3], 0x83),
+        (&[0, 0, 0, 0, 2, 2], 0x02),
+        (&[0, 0, 0, 0, 0, 2], 0x02),
+        (&[0xC0, 0, 0, 0, 0, 2], 0x02),
+    ] {
+        let asked = asked(0x01, body).ok_or("table")?;
+        assert_eq!(rt; board.answer(&asked).code, code, "{body:?}");
+    }
+    let set = asked(0x07, &[0, 0, 0, 0, 5, 1, 0, 1, 0, 0]).ok_or("set")?;
+    assert_eq!(rt; board.answer(&set).code, 0);
+    let entries = [
+        0, 0, 0, 1, 0, 1, 0, 1, 0, 0, 2, 0, 3, 0x1E, 0, 0, 0, 0, 0, 0, 0, 0, 0, 0,
+    ];
+    let values = board.answer(&table(2)?);
+    assert!(rt; is_whole(values.body.as_slice(), &entries));
+    Ok(())
+}
+
+#[test]
+fn a_board_without_attributes_has_no_table(rt: HostRuntime) -> Result<(), Fail> {
+    let mut board = board_with(rt.alloc(), Vec::new(rt.alloc()))?;
+    for (number, code) in [(0, 0x83), (1, 0x83), (2, 0x83), (3, 0x83), (4, 0x85)] {
+        assert_eq!(rt; board.answer(&table(number)?).code, code);
+    }
+    Ok(())
+}
+
+#[test]
+fn a_long_table_is_given_in_parts(rt: HostRuntime) -> Result<(), Fail> {
+    let mut board = board(rt.alloc())?;
+    let mut body = [0x61; 210];
+    let head = [0, 0, 0, 0, 5, 1, 0, 1, 200, 0];
+    for (place, byte) in head.iter().enumerate() {
+        body[place] = *byte;
+    }
+    assert_eq!(rt; board.answer(&asked(0x07, &body).ok_or("set")?).code, 0);
+    // 5, 205 and 11 bytes of entries, three of padding and four of the check: 228.
+    let first = board.answer(&table(2)?);
+    assert_eq!(rt; first.body.len(), 5 + 192);
+    assert_eq!(rt;
+        first.body.as_slice().get(..5).ok_or("first")?,
+        [0xC0, 0, 0, 0, 1].as_slice()
+    );
+    let next = asked(0x01, &[0xC0, 0, 0, 0, 0, 2]).ok_or("next")?;
+    let last = board.answer(&next);
+    assert_eq!(rt; last.body.len(), 5 + 36);
+    assert_eq!(rt;
+        last.body.as_slice().get(..5).ok_or("last")?,
+        [0, 0, 0, 0, 4].as_slice()
+    );
     Ok(())
 }
