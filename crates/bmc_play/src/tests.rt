@@ -5,6 +5,7 @@ mod others;
 mod refused;
 mod smbus;
 mod stories;
+mod users;
 mod writers;
 
 use crate::play_run;
