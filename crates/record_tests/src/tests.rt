@@ -7,4 +7,5 @@ mod readings;
 mod records;
 mod sensors;
 mod undo;
+mod users;
 mod watchdog;
