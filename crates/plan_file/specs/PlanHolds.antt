@@ -1,6 +1,6 @@
 -- The plan that a tree holds.
 use Rattle.std.specs.Prelude.{◌≡◌, ℕ, ◌==◌, ◌+◌, ◌*◌, ◌/◌, ◌%◌, Bool, true, if◌then◌else◌, List, [], ◌∷◌, map, length, slice_get, Option, Some, None, is_some, option_and_then, Result, Ok, Err, MatchOption, codes}
-use Rattle.std.specs.List.{AllZip, list_any}
+use Rattle.std.specs.List.{AllZip}
 use Rattle.toml.specs.Data.{Data, Members, as_bool}
 use Rattle.toml.specs.Parse.{parse_document}
 use Rattle.cfg_records.specs.Masks.{has}
@@ -37,7 +37,7 @@ use Rattle.plan_file.specs.Trees.{in_field, natural, bytes_in, number_in, table_
 use Rattle.plan_file.specs.Numeric.{sized_bytes}
 use Rattle.plan_file.specs.Users.{name_of}
 use Rattle.plan_file.specs.Channels.{store_of}
-use Rattle.plan_file.specs.Ranges.{passes, has_text, or_zero}
+use Rattle.plan_file.specs.Ranges.{passes, has_text, or_zero, is_listed}
 use Rattle.plan_file.specs.Kinds.{kind_in}
 use Rattle.plan_file.specs.Faults.{first}
 use Rattle.plan_file.specs.PlanFaults.{plan_faults}
@@ -72,14 +72,6 @@ flag_in named tree = option_and_then as_bool (in_field named tree)
 -- the table has this boolean in the field
 abbrev pub HasFlag : Field → Members → Bool → Type 0
 HasFlag named tree b = flag_in named tree ≡ Some b
-
--- the value is this number
-abbrev pub is_number : ℕ → Data → Bool
-is_number n d = passes (λ m. m == n) (natural d)
-
--- the list has this number
-abbrev pub is_listed : List Data → ℕ → Bool
-is_listed ds n = list_any (is_number n) ds
 
 -- the mask has the events whose offsets the table lists in the field
 abbrev pub HasEvents : Field → Members → ℕ → Type 0
