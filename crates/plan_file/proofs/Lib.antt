@@ -10,6 +10,7 @@ pub mod Sensors
 pub mod Sizes
 pub mod EffecterFields
 pub mod StateFields
+pub mod StateChanges
 pub mod BootSteps
 pub mod UserSteps
 pub mod UserNames

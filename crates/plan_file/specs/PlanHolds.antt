@@ -18,6 +18,8 @@ use Rattle.cfg_records.specs.declared.global_enables.SetGlobalEnables.{SetGlobal
 use Rattle.cfg_records.specs.declared.boot_param.BootChange.{BootChange}
 use Rattle.cfg_records.specs.declared.boot_param.SetBootParam.{SetBootParam}
 use Rattle.cfg_records.specs.BootParam.{selector, parameter_of, change_bytes}
+use Rattle.cfg_records.specs.declared.field_changes.FieldChange.{FieldChange}
+use Rattle.cfg_records.specs.declared.state_effecter.SetStateEffecter.{SetStateEffecter}
 use Rattle.cfg_records.specs.declared.numeric_effecter.NumericBytes.{NumericBytes}
 use Rattle.cfg_records.specs.declared.numeric_effecter.NumericBytes.TheVariants as bytes
 use Rattle.cfg_records.specs.declared.numeric_effecter.SetNumericEffecter.{SetNumericEffecter}
@@ -35,6 +37,7 @@ use Rattle.plan_file.specs.declared.plan_fault.PlanFault.{PlanFault}
 use Rattle.plan_file.specs.declared.plan_fault.PlanFault.TheVariants as plan
 use Rattle.plan_file.specs.Trees.{in_field, natural, bytes_in, number_in, table_of, members_in}
 use Rattle.plan_file.specs.Numeric.{sized_bytes}
+use Rattle.plan_file.specs.States.{change_of}
 use Rattle.plan_file.specs.Users.{name_of}
 use Rattle.plan_file.specs.Channels.{store_of}
 use Rattle.plan_file.specs.Ranges.{passes, has_text, or_zero, is_listed}
@@ -141,6 +144,17 @@ pub record HoldsBootParam (tree : Members) (set : SetBootParam) : Type 0 where
   pub invalid : HasFlag field.Invalid tree set.invalid
   pub change : HoldsBootChange tree set.change
 
+-- ---- state effecters
+
+-- the member of an array says what becomes of a field
+abbrev pub IsChangeIn : Data → FieldChange → Type 0
+IsChangeIn d change = change_of d ≡ Some change
+
+-- the step holds a change of a state effecter's states: one for each field
+pub record HoldsStateEffecter (tree : Members) (set : SetStateEffecter) : Type 0 where
+  pub effecter : HasNumber field.Effecter tree set.effecter
+  pub changes : AllZip IsChangeIn (members_in field.States tree) set.changes
+
 -- ---- numeric effecters
 
 -- what a step tells are the bytes of a request's value
@@ -209,12 +223,11 @@ HoldsStep tree (op.Watchdog set) = (kind_in tree ≡ Some kind.Watchdog) × Hold
 HoldsStep tree (op.PowerPolicy set) = (kind_in tree ≡ Some kind.PowerPolicy) × HoldsPowerPolicy tree set
 HoldsStep tree (op.GlobalEnables set) = (kind_in tree ≡ Some kind.GlobalEnables) × HoldsGlobalEnables tree set
 HoldsStep tree (op.BootParam set) = (kind_in tree ≡ Some kind.BootParam) × HoldsBootParam tree set
+HoldsStep tree (op.StateEffecter set) = (kind_in tree ≡ Some kind.StateEffecter) × HoldsStateEffecter tree set
 HoldsStep tree (op.NumericEffecter set) = (kind_in tree ≡ Some kind.NumericEffecter) × HoldsNumericEffecter tree set
 HoldsStep tree (op.UserName set) = (kind_in tree ≡ Some kind.UserName) × HoldsUserName tree set
 HoldsStep tree (op.UserAccess set) = (kind_in tree ≡ Some kind.UserAccess) × HoldsUserAccess tree set
 HoldsStep tree (op.ChannelAccess set) = (kind_in tree ≡ Some kind.ChannelAccess) × HoldsChannelAccess tree set
--- no kind of step changes a state effecter
-HoldsStep tree (op.StateEffecter set) = ⊥
 
 -- the member of an array holds a change
 abbrev pub IsStepIn : Data → Op → Type 0

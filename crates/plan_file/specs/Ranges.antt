@@ -20,6 +20,7 @@ use Rattle.plan_file.specs.declared.row.Shape.{Shape}
 use Rattle.plan_file.specs.declared.row.Shape.TheVariants as shape
 use Rattle.plan_file.specs.Trees.{in_field, members, natural, naturals_in, bytes_in, number_in, members_in, or_none}
 use Rattle.plan_file.specs.Numeric.{size_in, sized, sized_in, in_order}
+use Rattle.plan_file.specs.States.{change_of}
 use Rattle.plan_file.specs.Users.{name_of, are_names}
 use Rattle.plan_file.specs.Channels.{is_access, is_channel, is_user_byte, store_of}
 
@@ -81,6 +82,7 @@ has_type (shape.UserBytes users) d = is_array_of is_integer d
 has_type shape.ChannelNumber d = is_integer d
 has_type shape.StateLists d = is_array_of (is_array_of is_integer) d
 has_type shape.States d = is_array_of is_integer d
+has_type shape.StateChanges d = is_array_of is_integer d
 
 -- ---- ranges
 
@@ -210,6 +212,10 @@ are_present [] [] = true
 are_present (states ∷ fields) (d ∷ ds) = can_be states d && are_present fields ds
 are_present _ _ = false
 
+-- what becomes of each of 1 to 8 fields
+abbrev pub are_changes : List Data → Bool
+are_changes ds = is_between 1 8 (length ds) && list_all (λ d. is_some (change_of d)) ds
+
 -- the item can have the value in a field of this shape
 abbrev pub is_in_range : Members → Shape → Data → Bool
 is_in_range tree (shape.Number least most) d = passes (is_between least most) (natural d)
@@ -246,3 +252,4 @@ is_in_range tree (shape.UserBytes users) d = (length (or_none (members d)) == us
 is_in_range tree shape.ChannelNumber d = passes is_channel (natural d)
 is_in_range tree shape.StateLists d = are_state_lists (or_none (members d))
 is_in_range tree shape.States d = are_present (members_in field.States tree) (or_none (members d))
+is_in_range tree shape.StateChanges d = are_changes (or_none (members d))

@@ -16,6 +16,7 @@ mod plan_fault;
 mod range;
 mod row;
 mod state_items;
+mod state_steps;
 mod states;
 mod step;
 mod tree;

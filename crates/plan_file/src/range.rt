@@ -14,6 +14,7 @@ use crate::channels::{accesses, are_user_bytes, is_access, is_channel, limits, s
 use crate::field::Field;
 use crate::numeric::{in_order, size_in, sized, sized_in};
 use crate::row::Shape;
+use crate::state_steps::are_changes;
 use crate::states::{are_present, are_state_lists};
 use crate::tree::{bytes, members, natural, naturals, number};
 use crate::users::{are_names, is_user_limit, name};
@@ -444,7 +445,7 @@ impl Shape {
             Shape::UserLimit | Shape::Access | Shape::ChannelNumber => value.is_integer(),
             Shape::Accesses | Shape::Limits | Shape::UserBytes(_) => are_integers(value),
             Shape::StateLists => are_lists(value),
-            Shape::States => are_integers(value),
+            Shape::States | Shape::StateChanges => are_integers(value),
         }
     }
 
@@ -483,6 +484,7 @@ impl Shape {
             Shape::ChannelNumber => is_channel(value),
             Shape::StateLists => are_state_lists(value),
             Shape::States => are_present(item, value),
+            Shape::StateChanges => are_changes(value),
         }
     }
 }

@@ -73,6 +73,8 @@ pub enum Shape {
     StateLists,
     /// A state for each of the item's fields, in a list: one of those that the field can be in.
     States,
+    /// What becomes of each of 1 to 8 fields, in a list: a state, or -1 where it stays.
+    StateChanges,
 }
 
 /// When an item needs a field.

@@ -1,6 +1,7 @@
-//! State effecters of board files.
+//! State effecters: of board files, and of the steps of plans.
 use super::row_of;
-use plan_file::{Field, FileFault, Item, Place, read_board};
+use cfg_records::{FieldChange, Op};
+use plan_file::{Field, FileFault, Item, Place, read_board, read_plan};
 use std::alloc::{AllocError, Global};
 use std::test::Fail;
 
@@ -310,6 +311,87 @@ fn a_field_lists_at_most_256_states(rt: HostRuntime) -> Result<(), Fail> {
         let text = format!(in alloc; "[{states}]")?;
         let text = only(alloc, text.as_str(), "[7]")?;
         assert_eq!(rt; called(alloc, text.as_str())?.as_str(), want, "{count}");
+    }
+    Ok(())
+}
+
+/// A plan of one step, with these lines.
+fn step(alloc: Global, lines: &str) -> Result<String, AllocError> {
+    format!(in alloc; "[[step]]\nkind = \"state-effecter\"\n{lines}\n")
+}
+
+/// A change that leaves its field.
+const STAY: FieldChange = FieldChange {
+    choice: 0,
+    state: 0,
+};
+
+/// A change to this state.
+fn to(state: u8) -> FieldChange {
+    FieldChange { choice: 1, state }
+}
+
+/// Whether a step with these states makes these changes.
+fn makes(alloc: Global, states: &str, changes: &[FieldChange]) -> Result<bool, Fail> {
+    let lines = format!(in alloc; "effecter = 261\nstates = {states}")?;
+    let text = step(alloc, lines.as_str())?;
+    let plan = read_plan(alloc, text.as_str()).map_err(|_| "a plan")?;
+    match plan.steps.as_slice().get(0) {
+        Some(Op::StateEffecter(set)) => {
+            Ok(set.effecter == 261 && set.changes.as_slice() == changes)
+        }
+        _ => Ok(false),
+    }
+}
+
+#[test]
+fn a_step_has_a_change_for_each_field(rt: HostRuntime) -> Result<(), Fail> {
+    let alloc = rt.alloc();
+    assert!(rt; makes(alloc, "[0]", &[to(0)])?);
+    assert!(rt; makes(alloc, "[255]", &[to(255)])?);
+    assert!(rt; makes(alloc, "[-1]", &[STAY])?);
+    assert!(rt; makes(alloc, "[2, -1, 7]", &[to(2), STAY, to(7)])?);
+    let eight = [to(1), to(2), to(3), to(4), to(5), to(6), to(7), STAY];
+    assert!(rt; makes(alloc, "[1, 2, 3, 4, 5, 6, 7, -1]", &eight)?);
+    Ok(())
+}
+
+#[test]
+fn a_step_on_states_names_its_faults(rt: HostRuntime) -> Result<(), Fail> {
+    for (lines, want) in [
+        ("effecter = 0\nstates = [0]", ""),
+        ("effecter = 65535\nstates = [0]", ""),
+        ("effecter = 65536\nstates = [0]", "0 Range effecter"),
+        ("effecter = -1\nstates = [0]", "0 Range effecter"),
+        ("effecter = true\nstates = [0]", "0 WrongType effecter"),
+        ("states = [0]", "0 Missing effecter"),
+        ("effecter = true", "0 Missing states"),
+        ("effecter = 65536\nstates = 0", "0 WrongType states"),
+        ("effecter = 1\nstates = [0, true]", "0 WrongType states"),
+        ("effecter = 1\nstates = [[0]]", "0 WrongType states"),
+        ("effecter = 1\nstates = []", "0 Range states"),
+        ("effecter = 1\nstates = [0, -2]", "0 Range states"),
+        ("effecter = 1\nstates = [256, 0]", "0 Range states"),
+        (
+            "effecter = 1\nstates = [-9223372036854775808]",
+            "0 Range states",
+        ),
+        (
+            "effecter = 1\nstates = [9223372036854775807]",
+            "0 Range states",
+        ),
+        ("effecter = 1\nstates = [1, 2, 3, 4, 5, 6, 7, 8]", ""),
+        (
+            "effecter = 1\nstates = [1, 2, 3, 4, 5, 6, 7, 8, 9]",
+            "0 Range states",
+        ),
+    ] {
+        let text = step(rt.alloc(), lines)?;
+        let found = match read_plan(rt.alloc(), text.as_str()) {
+            Ok(_) => String::new(rt.alloc()),
+            Err(fault) => format!(in rt.alloc(); "{fault}")?,
+        };
+        assert_eq!(rt; found.as_str(), want, "{lines}");
     }
     Ok(())
 }

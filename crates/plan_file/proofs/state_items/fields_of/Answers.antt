@@ -1,8 +1,5 @@
-use Rattle.std.proofs.Common.{◌≡◌, ◌<◌, ◌++◌, ◌∷◌, [], length, map, take, sym, ap, ◌∙◌, arith}
-use Rattle.std.proofs.lemmas.List.{length-map}
+use Rattle.std.proofs.Common.{◌≡◌, ◌<◌, ◌++◌, ◌∷◌, [], length, take, arith}
 use Rattle.std.proofs.Math.Seq.{take-length}
-use Rattle.std.specs.List.{AllZip}
-use Rattle.toml.specs.View.{view}
 use Rattle.plan_file.specs.Holds.{IsFieldIn, IsPresentIn}
 use Rattle.plan_file.proofs.Items.{next_zip}
 use Rattle.plan_file.proofs.StateFields.{same_lengths, present_at}
