@@ -5,6 +5,7 @@ mod others;
 mod refused;
 mod smbus;
 mod stories;
+mod users;
 mod writers;
 
 use crate::play_run;
@@ -56,6 +57,12 @@ supported = 0xFC0
 flags = 0
 assert = 0
 deassert = 0
+[[channel]]
+number = 1
+sessions = true
+access = [2, 2]
+limit = [4, 4]
+users = [0x14, 0x14]
 ";
 
 /// A plan of one step on the events of sensor 5.

@@ -149,13 +149,11 @@ impl<'a, 'f> RecordKind<'a> for StateLimits<'f> {
     fn set_reply<B: Buffer>(_op: &SetStateEffecter, _reply: &mut B)
         requires room { length (B.bytes _reply.old) + length (state.kind.words.set_reply _op.now) ≤ B.capacity }
         ensures { B.bytes _reply.new ≡ B.bytes _reply.old ++ state.kind.words.set_reply _op.now }
-    {
-    }
+    {}
 
     fn next_live(_op: &SetStateEffecter, _live: &mut Live)
         ensures { _live.new ≡ state.kind.words.next_live _op.now _live.old }
-    {
-    }
+    {}
 
     fn get_data<B: Buffer>(&self, value: &[u8], _live: &Live, reply: &mut B) {
         reply.push(value.len() as u8);

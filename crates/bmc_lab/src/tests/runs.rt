@@ -157,6 +157,12 @@ supported = 0xFC0
 flags = 0
 assert = 0
 deassert = 0
+[[channel]]
+number = 1
+sessions = true
+access = [2, 2]
+limit = [4, 4]
+users = [0x14, 0x14]
 ";
 
 /// The sample board's file, with the first such words in place of others.
@@ -172,6 +178,9 @@ fn changed(alloc: Global, old: &str, new: &str) -> Result<String, Fail> {
 fn sample_file_is_answered_for_as_the_sample_board(rt: HostRuntime) -> Result<(), Fail> {
     for (bus, digits) in [
         (Bus::Ipmb, "2018C82C0001D3"),
+        // What user 2 may do on channel 1, and the name.
+        (Bus::Ipmb, "2018C82C004401028D"),
+        (Bus::Ipmb, "2018C82C0046028C"),
         (Bus::Ipmb, "2010D02C0C27059C"),
         (Bus::Ipmb, "2010D02C08260510000000005A0037"),
         (Bus::Smbus, "200F0931010A08C801800002BE"),

@@ -1,5 +1,6 @@
 //! Records, stores and the sample board.
-ghost use Rattle.std.specs.Prelude.{◌<◌};
+ghost use Rattle.std.specs.Prelude.{◌<◌, IsTrue, length};
+ghost use Rattle.cfg_records.specs.Keys.{is_length};
 
 use cfg_records::{
     AccessStore, Answered, Asked, Bcd, BootFlags, BootOptions, BootParameter, ChannelNumber,
@@ -72,17 +73,32 @@ fn the_sample_board_begins_with_its_records(rt: HostRuntime) -> Result<(), Fail>
     Ok(())
 }
 
+/// The record has the old value where it lies, and the new one once that was written there.
+fn expect_written<S: Store>(
+    rt: &impl Abort,
+    store: &mut S,
+    key: &Key,
+    old: &[u8],
+    new: &[u8],
+) -> Result<(), Fail>
+    requires { IsTrue (is_length key.now (length new.now)) }
+{
+    let place = store.find(key).ok_or("place")?;
+    assert_eq!(rt; store.value(place), old);
+    store.write(place, new);
+    assert_eq!(rt; store.get(key).ok_or("record")?, new);
+    Ok(())
+}
+
 #[test]
 fn a_store_has_what_was_put(rt: HostRuntime) -> Result<(), Fail> {
     let mut store = PlainStore::of_file(rt.alloc(), &sample_board(rt.alloc())?)?;
     let key = Key::Hysteresis(7);
     assert_eq!(rt; store.put(&key, &[3, 1]), Ok(()));
     assert_eq!(rt; store.get(&key).ok_or("hysteresis")?, [3, 1].as_slice());
-    let place = store.find(&key).ok_or("hysteresis")?;
-    assert_eq!(rt; store.value(place), [3, 1].as_slice());
-    store.write(place, &[4, 2]);
-    assert_eq!(rt; store.find(&key).ok_or("hysteresis")?, place);
-    assert_eq!(rt; store.get(&key).ok_or("hysteresis")?, [4, 2].as_slice());
+    let place = store.find(&key);
+    expect_written(&rt, &mut store, &key, &[3, 1], &[4, 2])?;
+    assert!(rt; store.find(&key) == place);
     let missing = Key::Hysteresis(9);
     assert_eq!(rt; store.put(&missing, &[3, 1]), Err(NoKey));
     assert!(rt; store.get(&missing).is_none());

@@ -315,18 +315,46 @@ fn all_shown(alloc: Global, board: &mut Board<PlainStore>) -> Result<Vec<u8>, Fa
     Ok(all)
 }
 
-#[test]
-fn a_refused_change_leaves_records_and_activity(rt: HostRuntime) -> Result<(), Fail> {
-    let mut board = board(rt.alloc())?;
+/// The board refuses the change with this code, whoever asks for it, and shows what it showed before.
+fn expect_refused(
+    rt: &impl Abort,
+    alloc: Global,
+    board: &mut Board<PlainStore>,
+    op: &Op,
+    refused: u8,
+) -> Result<(), Fail> {
+    let before = all_shown(alloc, board)?;
+    assert_eq!(rt; set(board, 0x2C, op), refused);
+    assert_eq!(rt; set(board, 0x40, op), refused);
+    let after = all_shown(alloc, board)?;
+    assert_eq!(rt; after.as_slice(), before.as_slice());
+    Ok(())
+}
+
+/// A sample board whose timer was set, and runs.
+fn running_board(rt: &impl Abort, alloc: Global) -> Result<Board<PlainStore>, Fail> {
+    let mut board = board(alloc)?;
     assert_eq!(rt; set(&mut board, 0x2C, &watchdog_for(3000)), 0);
-    // Reset Watchdog Timer: it runs.
-    assert_eq!(rt;
-        board.answer(&Asked::ipmi(NetFn::new(0x06), 0x22, &[])).code,
-        0
-    );
-    let before = all_shown(rt.alloc(), &mut board)?;
-    // Upper critical above upper non-recoverable, a sensor that isn't there, a reserved selection of events, events that aren't
-    // supported, a policy of 4, a use of 6, and a reserved bit.
+    let reset = Asked::ipmi(NetFn::new(0x06), 0x22, &[]);
+    assert_eq!(rt; board.answer(&reset).code, 0);
+    Ok(board)
+}
+
+/// A change of the events of sensor 5, which allows neither messages nor scanning.
+fn events(change: EventChange) -> Op {
+    Op::EventEnable(SetEventEnable {
+        sensor: 5,
+        messages: false,
+        scanning: false,
+        change,
+    })
+}
+
+#[test]
+fn a_refused_change_of_a_sensor_leaves_records_and_activity(rt: HostRuntime) -> Result<(), Fail> {
+    let mut board = running_board(&rt, rt.alloc())?;
+    // Upper critical above upper non-recoverable, a sensor that isn't there, a reserved selection of events, and events that
+    // aren't supported.
     let thresholds = Op::Thresholds(SetThresholds {
         sensor: 5,
         mask: 0x10,
@@ -341,17 +369,25 @@ fn a_refused_change_leaves_records_and_activity(rt: HostRuntime) -> Result<(), F
         assertions: 0,
         deassertions: 0x1000,
     };
-    let events = |change| {
-        Op::EventEnable(SetEventEnable {
-            sensor: 5,
-            messages: false,
-            scanning: false,
-            change,
-        })
-    };
     let reserved = events(EventChange::Reserved);
     let enabled = events(EventChange::Enable(unsupported));
     let disabled = events(EventChange::Disable(unsupported));
+    for (op, refused) in [
+        (&thresholds, 0xCC),
+        (&hysteresis, 0xCB),
+        (&reserved, 0xCC),
+        (&enabled, 0xCC),
+        (&disabled, 0xCC),
+    ] {
+        expect_refused(&rt, rt.alloc(), &mut board, op, refused)?;
+    }
+    Ok(())
+}
+
+#[test]
+fn a_refused_change_of_the_board_leaves_records_and_activity(rt: HostRuntime) -> Result<(), Fail> {
+    let mut board = running_board(&rt, rt.alloc())?;
+    // A policy of 4, a use of 6, and a reserved bit.
     let policy = Op::PowerPolicy(SetPowerPolicy { policy: 4 });
     let watchdog = Op::Watchdog(SetWatchdog {
         timer_use: 0x06,
@@ -361,21 +397,8 @@ fn a_refused_change_leaves_records_and_activity(rt: HostRuntime) -> Result<(), F
         initial: 1,
     });
     let enables = Op::GlobalEnables(SetGlobalEnables { byte: 0x18 });
-    for (op, refused) in [
-        (&thresholds, 0xCC),
-        (&hysteresis, 0xCB),
-        (&reserved, 0xCC),
-        (&enabled, 0xCC),
-        (&disabled, 0xCC),
-        (&policy, 0xCC),
-        (&watchdog, 0xCC),
-        (&enables, 0xCC),
-    ] {
-        for requester in [0x2C, 0x40] {
-            assert_eq!(rt; set(&mut board, requester, op), refused);
-            let after = all_shown(rt.alloc(), &mut board)?;
-            assert_eq!(rt; after.as_slice(), before.as_slice());
-        }
+    for op in [&policy, &watchdog, &enables] {
+        expect_refused(&rt, rt.alloc(), &mut board, op, 0xCC)?;
     }
     Ok(())
 }
