@@ -9,6 +9,8 @@ pub mod Items
 pub mod Sensors
 pub mod Sizes
 pub mod EffecterFields
+pub mod StateFields
+pub mod StateChanges
 pub mod BootSteps
 pub mod UserSteps
 pub mod UserNames

@@ -8,7 +8,7 @@ use Rattle.plan_file.specs.declared.row.Need.{Need}
 use Rattle.plan_file.specs.declared.row.Need.TheVariants as need
 use Rattle.plan_file.specs.declared.row.Row.{Row}
 use Rattle.plan_file.specs.declared.row.Shape.TheVariants as shape
-use Rattle.plan_file.specs.declared.row.TheConstants.{TOP, DEVICE, SENSOR, CHANNEL, SESSIONS, NUMERIC}
+use Rattle.plan_file.specs.declared.row.TheConstants.{TOP, DEVICE, SENSOR, CHANNEL, SESSIONS, STATE, NUMERIC}
 use Rattle.plan_file.specs.declared.fault.FieldFault.{FieldFault}
 use Rattle.plan_file.specs.declared.fault.FieldFault.TheVariants as fault
 use Rattle.plan_file.specs.declared.fault.FileFault.{FileFault}
@@ -93,6 +93,10 @@ channel_faults users ds = item_faults item.Channel (channel_rows users) field.Nu
 abbrev pub users_in : Members → ℕ
 users_in tree = length (members_in field.Users tree)
 
+-- the faults of the state effecters that an array has
+abbrev pub state_faults : List Data → List FileFault
+state_faults ds = item_faults item.State (λ tree. STATE) field.Id [] ds
+
 -- the faults of the numeric effecters that an array has
 abbrev pub numeric_faults : List Data → List FileFault
 numeric_faults ds = item_faults item.Numeric (λ tree. NUMERIC) field.Id [] ds
@@ -117,7 +121,7 @@ abbrev pub record_faults : List Data → List FileFault
 record_faults ds = if has_twice (ids_in ds) then file.Twice (record { item = item.Top; field = field.Sdr }) ∷ [] else []
 
 -- the faults of a board file: those of its own fields, of its sensor data records, of `[device]`, of each `[[sensor]]`, of
--- each `[[channel]]` and of each `[[numeric]]`
+-- each `[[channel]]`, of each `[[state]]` and of each `[[numeric]]`
 unfoldable pub board_faults : Members → List FileFault
 board_faults tree =
     map (fault_at item.Top) (field_faults TOP tree)
@@ -125,7 +129,8 @@ board_faults tree =
     ++ (map (fault_at item.Device) (field_faults DEVICE (table_in field.Device tree))
     ++ (sensor_faults (members_in field.Sensor tree)
     ++ (channel_faults (users_in tree) (members_in field.Channel tree)
-    ++ numeric_faults (members_in field.Numeric tree)))))
+    ++ (state_faults (members_in field.State tree)
+    ++ numeric_faults (members_in field.Numeric tree))))))
 
 -- the fault that counts
 abbrev pub first : {A : Type 0} → List A → Option A

@@ -9,6 +9,8 @@ use Rattle.cfg_records.specs.NumericSize.{code_of}
 use Rattle.cfg_records.specs.declared.numeric_size.NumericSize.{NumericSize}
 use Rattle.cfg_records.specs.declared.numeric_range.NumericRange.{NumericRange}
 use Rattle.cfg_records.specs.declared.numeric_effecter.NumericEffecter.{NumericEffecter}
+use Rattle.cfg_records.specs.declared.state_effecter.StateField.{StateField}
+use Rattle.cfg_records.specs.declared.state_effecter.StateEffecter.{StateEffecter}
 use Rattle.cfg_records.specs.declared.boot_param.BootOptions.{BootOptions}
 use Rattle.cfg_records.specs.declared.device.Device.{Device}
 use Rattle.cfg_records.specs.declared.event_enable.EventEnable.{EventEnable}
@@ -26,8 +28,8 @@ use Rattle.plan_file.specs.declared.fault.FileFault.TheVariants as file
 use Rattle.plan_file.specs.declared.fault.Item.{Item}
 use Rattle.plan_file.specs.declared.fault.Item.TheVariants as item
 use Rattle.plan_file.specs.declared.row.Row.{Row}
-use Rattle.plan_file.specs.declared.row.TheConstants.{SENSOR, NUMERIC}
-use Rattle.plan_file.specs.Trees.{natural, number_in, numbers_in, table_of, table_in, members_in}
+use Rattle.plan_file.specs.declared.row.TheConstants.{SENSOR, STATE, NUMERIC}
+use Rattle.plan_file.specs.Trees.{members, natural, number_in, numbers_in, table_of, table_in, members_in, or_none}
 use Rattle.plan_file.specs.Numeric.{sized_in}
 use Rattle.plan_file.specs.Users.{name_of}
 use Rattle.plan_file.specs.Ranges.{record_in, or_zero}
@@ -93,6 +95,43 @@ IsNextAmong holds item_at rows named before d why =
 abbrev pub IsNextFault : List Sensor → Data → FileFault → Type 0
 IsNextFault before d why = IsNextAmong IsSensorIn item.Sensor (λ tree. SENSOR) field.Number before d why
 
+-- ---- state effecters
+
+-- the number of an operational state: enabled without a pending update, or disabled
+abbrev pub operational : Bool → ℕ
+operational enabled = if enabled then 1 else 2
+
+-- the member of an array is this number
+abbrev pub IsNaturalIn : Data → ℕ → Type 0
+IsNaturalIn d n = natural d ≡ Some n
+
+-- the member of an array lists the states that a field can be in
+abbrev pub IsFieldIn : Data → StateField → Type 0
+IsFieldIn d f = AllZip IsNaturalIn (or_none (members d)) f.allowed
+
+-- the member of an array is the state that a field is in
+abbrev pub IsPresentIn : Data → StateField → Type 0
+IsPresentIn d f = IsNaturalIn d f.current
+
+-- the table holds a state effecter
+pub record HoldsState (tree : Members) (effecter : StateEffecter) : Type 0 where
+  pub numbered : HasNumber field.Id tree effecter.id
+  pub state : HasNumber field.Operational tree (operational effecter.enabled)
+  pub fields : AllZip IsFieldIn (members_in field.States tree) effecter.fields
+  pub current : AllZip IsPresentIn (members_in field.Current tree) effecter.fields
+
+-- the member of an array holds a state effecter
+abbrev pub IsStateIn : Data → StateEffecter → Type 0
+IsStateIn d effecter = HoldsState (table_of d) effecter
+
+-- a state effecter's id
+abbrev pub state_id : StateEffecter → ℕ
+state_id effecter = effecter.id
+
+-- the fault counts in an array of state effecters, where those before the member hold these
+abbrev pub IsNextStateFault : List StateEffecter → Data → FileFault → Type 0
+IsNextStateFault before d why = IsNextAmong IsStateIn item.State (λ tree. STATE) field.Id before d why
+
 -- ---- numeric effecters
 
 -- the table has the number of this size, by its bits, in the field
@@ -104,10 +143,6 @@ pub record HoldsRange (tree : Members) (range : NumericRange) : Type 0 where
   pub size : HasNumber field.Size tree (code_of range.size)
   pub lower : HasSized range.size field.Lower tree range.lower
   pub upper : HasSized range.size field.Upper tree range.upper
-
--- the number of an operational state: enabled without a pending update, or disabled
-abbrev pub operational : Bool → ℕ
-operational enabled = if enabled then 1 else 2
 
 -- the table holds a numeric effecter
 pub record HoldsNumeric (tree : Members) (effecter : NumericEffecter) : Type 0 where
@@ -213,8 +248,8 @@ pub record HoldsBoard (tree : Members) (board : BoardFile) : Type 0 where
   pub boot : HoldsBoot tree board.boot
   pub device : HoldsDevice (table_in field.Device tree) board.device
   pub sensors : AllZip IsSensorIn (members_in field.Sensor tree) board.sensors.items
+  pub states : AllZip IsStateIn (members_in field.State tree) board.state_effecters.items
   pub effecters : AllZip IsNumericIn (members_in field.Numeric tree) board.numeric_effecters.items
-  pub no_states : board.state_effecters.items ≡ []
   pub users : HoldsUsers (members_in field.Users tree) board.users.items
   pub channels : AllZip IsChannelIn (with_sessions (members_in field.Channel tree)) board.channels.items
   pub sessionless : AllZip IsNumberIn (without_sessions (members_in field.Channel tree)) board.sessionless.items

@@ -2,6 +2,7 @@ pub mod Words
 pub mod Names
 pub mod Trees
 pub mod Numeric
+pub mod States
 pub mod Users
 pub mod Channels
 pub mod Ranges

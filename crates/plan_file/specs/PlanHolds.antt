@@ -1,6 +1,6 @@
 -- The plan that a tree holds.
 use Rattle.std.specs.Prelude.{◌≡◌, ℕ, ◌==◌, ◌+◌, ◌*◌, ◌/◌, ◌%◌, Bool, true, if◌then◌else◌, List, [], ◌∷◌, map, length, slice_get, Option, Some, None, is_some, option_and_then, Result, Ok, Err, MatchOption, codes}
-use Rattle.std.specs.List.{AllZip, list_any}
+use Rattle.std.specs.List.{AllZip}
 use Rattle.toml.specs.Data.{Data, Members, as_bool}
 use Rattle.toml.specs.Parse.{parse_document}
 use Rattle.cfg_records.specs.Masks.{has}
@@ -18,6 +18,8 @@ use Rattle.cfg_records.specs.declared.global_enables.SetGlobalEnables.{SetGlobal
 use Rattle.cfg_records.specs.declared.boot_param.BootChange.{BootChange}
 use Rattle.cfg_records.specs.declared.boot_param.SetBootParam.{SetBootParam}
 use Rattle.cfg_records.specs.BootParam.{selector, parameter_of, change_bytes}
+use Rattle.cfg_records.specs.declared.field_changes.FieldChange.{FieldChange}
+use Rattle.cfg_records.specs.declared.state_effecter.SetStateEffecter.{SetStateEffecter}
 use Rattle.cfg_records.specs.declared.numeric_effecter.NumericBytes.{NumericBytes}
 use Rattle.cfg_records.specs.declared.numeric_effecter.NumericBytes.TheVariants as bytes
 use Rattle.cfg_records.specs.declared.numeric_effecter.SetNumericEffecter.{SetNumericEffecter}
@@ -35,9 +37,10 @@ use Rattle.plan_file.specs.declared.plan_fault.PlanFault.{PlanFault}
 use Rattle.plan_file.specs.declared.plan_fault.PlanFault.TheVariants as plan
 use Rattle.plan_file.specs.Trees.{in_field, natural, bytes_in, number_in, table_of, members_in}
 use Rattle.plan_file.specs.Numeric.{sized_bytes}
+use Rattle.plan_file.specs.States.{change_of}
 use Rattle.plan_file.specs.Users.{name_of}
 use Rattle.plan_file.specs.Channels.{store_of}
-use Rattle.plan_file.specs.Ranges.{passes, has_text, or_zero}
+use Rattle.plan_file.specs.Ranges.{passes, has_text, or_zero, is_listed}
 use Rattle.plan_file.specs.Kinds.{kind_in}
 use Rattle.plan_file.specs.Faults.{first}
 use Rattle.plan_file.specs.PlanFaults.{plan_faults}
@@ -72,14 +75,6 @@ flag_in named tree = option_and_then as_bool (in_field named tree)
 -- the table has this boolean in the field
 abbrev pub HasFlag : Field → Members → Bool → Type 0
 HasFlag named tree b = flag_in named tree ≡ Some b
-
--- the value is this number
-abbrev pub is_number : ℕ → Data → Bool
-is_number n d = passes (λ m. m == n) (natural d)
-
--- the list has this number
-abbrev pub is_listed : List Data → ℕ → Bool
-is_listed ds n = list_any (is_number n) ds
 
 -- the mask has the events whose offsets the table lists in the field
 abbrev pub HasEvents : Field → Members → ℕ → Type 0
@@ -149,6 +144,17 @@ pub record HoldsBootParam (tree : Members) (set : SetBootParam) : Type 0 where
   pub invalid : HasFlag field.Invalid tree set.invalid
   pub change : HoldsBootChange tree set.change
 
+-- ---- state effecters
+
+-- the member of an array says what becomes of a field
+abbrev pub IsChangeIn : Data → FieldChange → Type 0
+IsChangeIn d change = change_of d ≡ Some change
+
+-- the step holds a change of a state effecter's states: one for each field
+pub record HoldsStateEffecter (tree : Members) (set : SetStateEffecter) : Type 0 where
+  pub effecter : HasNumber field.Effecter tree set.effecter
+  pub changes : AllZip IsChangeIn (members_in field.States tree) set.changes
+
 -- ---- numeric effecters
 
 -- what a step tells are the bytes of a request's value
@@ -217,12 +223,12 @@ HoldsStep tree (op.Watchdog set) = (kind_in tree ≡ Some kind.Watchdog) × Hold
 HoldsStep tree (op.PowerPolicy set) = (kind_in tree ≡ Some kind.PowerPolicy) × HoldsPowerPolicy tree set
 HoldsStep tree (op.GlobalEnables set) = (kind_in tree ≡ Some kind.GlobalEnables) × HoldsGlobalEnables tree set
 HoldsStep tree (op.BootParam set) = (kind_in tree ≡ Some kind.BootParam) × HoldsBootParam tree set
+HoldsStep tree (op.StateEffecter set) = (kind_in tree ≡ Some kind.StateEffecter) × HoldsStateEffecter tree set
 HoldsStep tree (op.NumericEffecter set) = (kind_in tree ≡ Some kind.NumericEffecter) × HoldsNumericEffecter tree set
 HoldsStep tree (op.UserName set) = (kind_in tree ≡ Some kind.UserName) × HoldsUserName tree set
 HoldsStep tree (op.UserAccess set) = (kind_in tree ≡ Some kind.UserAccess) × HoldsUserAccess tree set
 HoldsStep tree (op.ChannelAccess set) = (kind_in tree ≡ Some kind.ChannelAccess) × HoldsChannelAccess tree set
--- no kind of step changes a state effecter or an attribute
-HoldsStep tree (op.StateEffecter set) = ⊥
+-- no kind of step changes an attribute
 HoldsStep tree (op.BiosAttribute set) = ⊥
 
 -- the member of an array holds a change

@@ -1,7 +1,7 @@
 -- The type of a field, and its range.
 use Rattle.std.specs.Prelude.{◌==◌, ℕ, ◌/◌, ◌%◌, Bool, true, false, ◌&&◌, ◌||◌, not, nat_le, nat_lt, List, [], ◌∷◌, length, slice_index, Option, Some, None, is_some, option_and_then, Result, Ok, Err, ◌+◌, if◌then◌else◌, codes}
 use Rattle.std.specs.Str.{bytes_eq}
-use Rattle.std.specs.List.{list_all}
+use Rattle.std.specs.List.{list_all, list_any}
 use Rattle.cfg_records.specs.Masks.{has, all_below}
 use Rattle.cfg_records.specs.Thresholds.{place_of}
 use Rattle.cfg_records.specs.EventEnable.{are_within}
@@ -18,8 +18,9 @@ use Rattle.plan_file.specs.declared.field.Field.{Field}
 use Rattle.plan_file.specs.declared.field.Field.TheVariants as field
 use Rattle.plan_file.specs.declared.row.Shape.{Shape}
 use Rattle.plan_file.specs.declared.row.Shape.TheVariants as shape
-use Rattle.plan_file.specs.Trees.{in_field, members, natural, naturals_in, bytes_in, number_in, or_none}
+use Rattle.plan_file.specs.Trees.{in_field, members, natural, naturals_in, bytes_in, number_in, members_in, or_none}
 use Rattle.plan_file.specs.Numeric.{size_in, sized, sized_in, in_order}
+use Rattle.plan_file.specs.States.{change_of}
 use Rattle.plan_file.specs.Users.{name_of, are_names}
 use Rattle.plan_file.specs.Channels.{is_access, is_channel, is_user_byte, store_of}
 
@@ -79,6 +80,9 @@ has_type shape.Accesses d = is_array_of is_integer d
 has_type shape.Limits d = is_array_of is_integer d
 has_type (shape.UserBytes users) d = is_array_of is_integer d
 has_type shape.ChannelNumber d = is_integer d
+has_type shape.StateLists d = is_array_of (is_array_of is_integer) d
+has_type shape.States d = is_array_of is_integer d
+has_type shape.StateChanges d = is_array_of is_integer d
 
 -- ---- ranges
 
@@ -178,6 +182,40 @@ or_zero None = 0
 abbrev pub may_do : Data → Bool
 may_do d = passes is_user_byte (natural d)
 
+-- the value is this number
+abbrev pub is_number : ℕ → Data → Bool
+is_number n d = passes (λ m. m == n) (natural d)
+
+-- the list has this number
+abbrev pub is_listed : List Data → ℕ → Bool
+is_listed ds n = list_any (is_number n) ds
+
+-- a state that a field of a state effecter can be in
+abbrev pub is_state : Data → Bool
+is_state d = passes (is_between 0 255) (natural d)
+
+-- a list of such states
+abbrev pub is_state_list : Data → Bool
+is_state_list d = nat_le (length (or_none (members d))) 256 && list_all is_state (or_none (members d))
+
+-- a list for each of 1 to 8 fields
+abbrev pub are_state_lists : List Data → Bool
+are_state_lists ds = is_between 1 8 (length ds) && list_all is_state_list ds
+
+-- a field that can be in the listed states can be in this one
+abbrev pub can_be : Data → Data → Bool
+can_be states d = passes (is_listed (or_none (members states))) (natural d)
+
+-- there is a state for each field, which can be in it
+abbrev pub are_present : List Data → List Data → Bool
+are_present [] [] = true
+are_present (states ∷ fields) (d ∷ ds) = can_be states d && are_present fields ds
+are_present _ _ = false
+
+-- what becomes of each of 1 to 8 fields
+abbrev pub are_changes : List Data → Bool
+are_changes ds = is_between 1 8 (length ds) && list_all (λ d. is_some (change_of d)) ds
+
 -- the item can have the value in a field of this shape
 abbrev pub is_in_range : Members → Shape → Data → Bool
 is_in_range tree (shape.Number least most) d = passes (is_between least most) (natural d)
@@ -212,3 +250,6 @@ is_in_range tree shape.Accesses d = passes (list_all is_access) (bytes_in 2 d)
 is_in_range tree shape.Limits d = passes (list_all (is_between 1 5)) (bytes_in 2 d)
 is_in_range tree (shape.UserBytes users) d = (length (or_none (members d)) == users) && list_all may_do (or_none (members d))
 is_in_range tree shape.ChannelNumber d = passes is_channel (natural d)
+is_in_range tree shape.StateLists d = are_state_lists (or_none (members d))
+is_in_range tree shape.States d = are_present (members_in field.States tree) (or_none (members d))
+is_in_range tree shape.StateChanges d = are_changes (or_none (members d))

@@ -16,13 +16,14 @@ use crate::fault::{FileFault, Item, Place};
 use crate::field::Field;
 use crate::range::{boot_flags, digits, enables, hysteresis, record, thresholds, watchdog};
 use crate::row::{DEVICE, SENSOR, TOP};
+use crate::state_items::state_effecters;
 use crate::tree::{in_field, members_in, number};
 use crate::users::users;
 use cfg_records::event_enable::{MESSAGES_PLACE, SCANNING_PLACE};
 use cfg_records::mask::has;
 use cfg_records::{
     BoardFile, BootOptions, Device, Distinct, EventEnable, EventMasks, GlobalEnables, LogCapacity,
-    ManufacturerId, Numbered, PowerPolicy, SdrRecord, SdrRecords, Sensor, Sensors,
+    ManufacturerId, PowerPolicy, SdrRecord, SdrRecords, Sensor, Sensors,
 };
 use std::alloc::Global;
 use toml::{Table, Value};
@@ -230,7 +231,7 @@ fn boot_options(tree: &Table) -> BootOptions
     BootOptions::new(clearing, acknowledge, flags).unwrap()
 }
 
-/// A board file gives a board no state effecters and no attributes.
+/// A board file gives a board no attributes.
 fn no_items<T: Numbered + Drop, const MOST: usize>(alloc: Global) -> Distinct<T, MOST>
     ensures { result.items ≡ [] }
 {
@@ -247,6 +248,7 @@ fn board_of(alloc: Global, tree: &Table) -> Result<BoardFile, FileFault>
     check(Item::Device, &DEVICE, board)?;
     let sensors = sensors(alloc, tree)?;
     let file_channels = file_channels(alloc, tree)?;
+    let state_effecters = state_effecters(alloc, tree)?;
     let numeric_effecters = numeric_effecters(alloc, tree)?;
     let users = users(alloc, tree)?;
     Ok(BoardFile {
@@ -261,7 +263,7 @@ fn board_of(alloc: Global, tree: &Table) -> Result<BoardFile, FileFault>
         log: LogCapacity::new(word_in(tree, Field::Log)).unwrap(),
         sdr,
         numeric_effecters,
-        state_effecters: no_items(alloc),
+        state_effecters,
         users,
         channels: file_channels.channels,
         sessionless: file_channels.sessionless,
@@ -270,8 +272,8 @@ fn board_of(alloc: Global, tree: &Table) -> Result<BoardFile, FileFault>
     })
 }
 
-/// The board that the text holds, or why it is no board file: its first fault, in the order in which `TOP`, `DEVICE`, `SENSOR` and
-/// `NUMERIC` list fields. Keys that name no field are ignored.
+/// The board that the text holds, or why it is no board file: its first fault, in the order in which `TOP`, `DEVICE`, `SENSOR`,
+/// `STATE` and `NUMERIC` list fields. Keys that name no field are ignored.
 pub fn read_board(alloc: Global, text: &str) -> Result<BoardFile, FileFault>
     ensures { (result ≡ Err FileFault.Memory) ⊎ Reads text.now result }
 {

@@ -80,6 +80,8 @@ pub enum Field {
     Messaging,
     Users,
     Sessions,
+    State,
+    States,
 }
 
 impl Field {
@@ -161,6 +163,8 @@ impl Field {
             Field::Messaging => "messaging",
             Field::Users => "users",
             Field::Sessions => "sessions",
+            Field::State => "state",
+            Field::States => "states",
         }
     }
 }

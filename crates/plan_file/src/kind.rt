@@ -19,6 +19,7 @@ pub enum Kind {
     PowerPolicy,
     GlobalEnables,
     BootParam,
+    StateEffecter,
     NumericEffecter,
     UserName,
     UserAccess,
@@ -26,7 +27,7 @@ pub enum Kind {
 }
 
 /// All kinds of step.
-pub const KINDS: [Kind; 11] = [
+pub const KINDS: [Kind; 12] = [
     Kind::Thresholds,
     Kind::Hysteresis,
     Kind::EventEnable,
@@ -34,6 +35,7 @@ pub const KINDS: [Kind; 11] = [
     Kind::PowerPolicy,
     Kind::GlobalEnables,
     Kind::BootParam,
+    Kind::StateEffecter,
     Kind::NumericEffecter,
     Kind::UserName,
     Kind::UserAccess,
@@ -94,6 +96,12 @@ pub const BOOT_PARAM: [Row; 3] = [
     Row(Field::BootData, Shape::BootData, Need::Never),
 ];
 
+/// The fields of a step that sets states of a state effecter.
+pub const STATE_EFFECTER: [Row; 2] = [
+    Row(Field::Effecter, Shape::Number(0, 0xFFFF), Need::Always),
+    Row(Field::States, Shape::StateChanges, Need::Always),
+];
+
 /// The fields of a step that sets the value of a numeric effecter.
 pub const NUMERIC_EFFECTER: [Row; 3] = [
     Row(Field::Effecter, Shape::Number(0, 0xFFFF), Need::Always),
@@ -138,6 +146,7 @@ impl Kind {
             Kind::PowerPolicy => "power-policy",
             Kind::GlobalEnables => "global-enables",
             Kind::BootParam => "boot-param",
+            Kind::StateEffecter => "state-effecter",
             Kind::NumericEffecter => "numeric-effecter",
             Kind::UserName => "user-name",
             Kind::UserAccess => "user-access",
@@ -157,6 +166,7 @@ impl Kind {
             Kind::PowerPolicy => &POWER_POLICY,
             Kind::GlobalEnables => &GLOBAL_ENABLES,
             Kind::BootParam => &BOOT_PARAM,
+            Kind::StateEffecter => &STATE_EFFECTER,
             Kind::NumericEffecter => &NUMERIC_EFFECTER,
             Kind::UserName => &USER_NAME,
             Kind::UserAccess => &USER_ACCESS,

@@ -14,6 +14,8 @@ use crate::channels::{accesses, are_user_bytes, is_access, is_channel, limits, s
 use crate::field::Field;
 use crate::numeric::{in_order, size_in, sized, sized_in};
 use crate::row::Shape;
+use crate::state_steps::are_changes;
+use crate::states::{are_present, are_state_lists};
 use crate::tree::{bytes, members, natural, naturals, number};
 use crate::users::{are_names, is_user_limit, name};
 use cfg_records::event_enable::are_within;
@@ -61,6 +63,23 @@ fn are_integers(value: &Value) -> bool
 {
     match members(value) {
         Some(values) => all_integers(values),
+        None => false,
+    }
+}
+
+/// Whether each of the values is an array of integers.
+fn all_lists(values: &[Value]) -> bool
+    ensures { result ≡ list_all (λ value. is_array_of is_integer (view value)) values.now }
+{
+    values.iter().all(|value| are_integers(value))
+}
+
+/// Whether the value is an array of arrays of integers.
+fn are_lists(value: &Value) -> bool
+    ensures { result ≡ is_array_of (is_array_of is_integer) (view value.now) }
+{
+    match members(value) {
+        Some(values) => all_lists(values),
         None => false,
     }
 }
@@ -425,6 +444,8 @@ impl Shape {
             Shape::Name | Shape::Store => value.is_str(),
             Shape::UserLimit | Shape::Access | Shape::ChannelNumber => value.is_integer(),
             Shape::Accesses | Shape::Limits | Shape::UserBytes(_) => are_integers(value),
+            Shape::StateLists => are_lists(value),
+            Shape::States | Shape::StateChanges => are_integers(value),
         }
     }
 
@@ -461,6 +482,9 @@ impl Shape {
             Shape::Limits => limits(value).is_some(),
             Shape::UserBytes(users) => are_user_bytes(value, *users),
             Shape::ChannelNumber => is_channel(value),
+            Shape::StateLists => are_state_lists(value),
+            Shape::States => are_present(item, value),
+            Shape::StateChanges => are_changes(value),
         }
     }
 }

@@ -69,6 +69,12 @@ pub enum Shape {
     UserBytes(usize),
     /// The number of a channel: 0 to 11, or 15.
     ChannelNumber,
+    /// The states that each of 1 to 8 fields can be in, in a list of lists of at most 256 bytes.
+    StateLists,
+    /// A state for each of the item's fields, in a list: one of those that the field can be in.
+    States,
+    /// What becomes of each of 1 to 8 fields, in a list: a state, or -1 where it stays.
+    StateChanges,
 }
 
 /// When an item needs a field.
@@ -111,7 +117,7 @@ pub struct Row(pub Field, pub Shape, pub Need);
 pub const BYTE: Shape = Shape::Number(0, 255);
 
 /// A board file's own fields.
-pub const TOP: [Row; 15] = [
+pub const TOP: [Row; 16] = [
     Row(Field::Tid, BYTE, Need::Always),
     Row(Field::Clock, Shape::Number(0, 0xFFFF_FFFF), Need::Always),
     Row(Field::Log, Shape::Number(1, 1_024), Need::Always),
@@ -126,6 +132,7 @@ pub const TOP: [Row; 15] = [
     Row(Field::Device, Shape::Table, Need::Always),
     Row(Field::Sensor, Shape::Tables(32), Need::Never),
     Row(Field::Channel, Shape::Tables(8), Need::Never),
+    Row(Field::State, Shape::Tables(32), Need::Never),
     Row(Field::Numeric, Shape::Tables(32), Need::Never),
 ];
 
@@ -180,6 +187,14 @@ pub fn session_rows(users: usize) -> [Row; 5]
     let users = Row(Field::Users, Shape::UserBytes(users), Need::Always);
     [number, sessions, access, limit, users]
 }
+
+/// The fields of a `[[state]]`.
+pub const STATE: [Row; 4] = [
+    Row(Field::Id, Shape::Number(0, 0xFFFF), Need::Always),
+    Row(Field::Operational, Shape::Number(1, 2), Need::Always),
+    Row(Field::States, Shape::StateLists, Need::Always),
+    Row(Field::Current, Shape::States, Need::Always),
+];
 
 /// The fields of a `[[numeric]]`.
 pub const NUMERIC: [Row; 6] = [

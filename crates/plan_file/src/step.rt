@@ -16,6 +16,7 @@ use crate::check::first_fault;
 use crate::field::Field;
 use crate::kind::{KIND, Kind, kind_in};
 use crate::plan_fault::{NoGet, OutsidePlan, StepFault};
+use crate::state_steps::state_effecter;
 use crate::tree::{has_text, in_field, number};
 use crate::users::{user_access, user_name};
 use cfg_records::Op;
@@ -112,6 +113,7 @@ fn change(kind: Kind, step: &Table) -> Op
         Kind::PowerPolicy => Op::PowerPolicy(power_policy(step)),
         Kind::GlobalEnables => Op::GlobalEnables(global_enables(step)),
         Kind::BootParam => Op::BootParam(boot_param(step)),
+        Kind::StateEffecter => Op::StateEffecter(state_effecter(step)),
         Kind::NumericEffecter => Op::NumericEffecter(numeric_effecter(step)),
         Kind::UserName => Op::UserName(user_name(step)),
         Kind::UserAccess => Op::UserAccess(user_access(step)),

@@ -1,7 +1,7 @@
 //! What the tables of a file have.
 ghost use Rattle.std.specs.Prelude.{◌≡◌, ◌<◌, ◌^◌, length, map, option_map, option_and_then};
 ghost use Rattle.toml.specs.View.{view, table_view};
-ghost use Rattle.plan_file.specs.Trees.{in_field, members, natural, naturals, naturals_in, all_bytes, bytes_in, number_in, members_in};
+ghost use Rattle.plan_file.specs.Trees.{in_field, members, or_none, natural, naturals, naturals_in, all_bytes, bytes_in, number_in, members_in};
 ghost use Rattle.plan_file.specs.Ranges.{has_text};
 
 use crate::field::Field;
@@ -21,6 +21,16 @@ pub fn members(value: &Value) -> Option<&[Value]>
     match value.as_array() {
         Some(array) => Some(array.as_slice()),
         None => None,
+    }
+}
+
+/// The members of the array that the value is, none where it is no array.
+pub fn members_of(value: &Value) -> &[Value]
+    ensures { map view result.now ≡ or_none (members (view value.now)) }
+{
+    match members(value) {
+        Some(values) => values,
+        None => &[],
     }
 }
 

@@ -3,6 +3,7 @@ mod board;
 mod channels;
 mod effecters;
 mod plan;
+mod states;
 mod undo;
 mod user_steps;
 
