@@ -8,6 +8,7 @@ mod readings;
 mod records;
 mod sensors;
 mod state_effecters;
+mod story;
 mod undo;
 mod users;
 mod watchdog;
