@@ -1,8 +1,10 @@
 //! Readings, ticks and the System Event Log of a board, by worked values.
-use super::story::{Step, application, chassis, expect_story, sensor, storage};
+use super::story::{
+    Step, application, board_of, chassis, expect_sample, expect_story, sensor, storage,
+};
 use Step::{Chassis, Reads, Ticks};
-use bmc_board::{Bench, Board, NoSensor};
-use cfg_records::{BoardFile, Distinct, GlobalEnables, PlainStore, SdrRecord, sample_board};
+use bmc_board::{Bench, NoSensor};
+use cfg_records::{BoardFile, Distinct, GlobalEnables, SdrRecord, sample_board};
 use std::test::Fail;
 
 /// A record that a requester adds.
@@ -35,14 +37,12 @@ fn a_reading_is_shown_and_logged(rt: HostRuntime) -> Result<(), Fail> {
         // The reading is beyond lower non-critical alone.
         sensor(0x2D, &[5], 0, &[0x10, 0xC0, 0xC1]),
     ];
-    expect_story(&rt, rt.alloc(), sample_board(rt.alloc())?, &story)
+    expect_sample(&rt, rt.alloc(), &story)
 }
 
 #[test]
 fn a_sensor_that_is_not_there_is_not_read(rt: HostRuntime) -> Result<(), Fail> {
-    let file = sample_board(rt.alloc())?;
-    let store = PlainStore::of_file(rt.alloc(), &file)?;
-    let mut board = Board::open(rt.alloc(), file, store)?;
+    let mut board = board_of(rt.alloc(), sample_board(rt.alloc())?)?;
     let unknown = Bench::Reading {
         sensor: 9,
         raw: 0x60,
@@ -58,7 +58,7 @@ fn a_sensor_that_does_not_scan_is_not_read(rt: HostRuntime) -> Result<(), Fail> 
         Reads(7, 0xFF),
         sensor(0x2D, &[7], 0, &[0x00, 0x20, 0xC0]),
     ];
-    expect_story(&rt, rt.alloc(), sample_board(rt.alloc())?, &story)
+    expect_sample(&rt, rt.alloc(), &story)
 }
 
 #[test]
@@ -100,7 +100,7 @@ fn a_full_log_refuses_and_is_cleared(rt: HostRuntime) -> Result<(), Fail> {
         storage(0x47, &[1, 0, 0x43, 0x4C, 0x52, 0x00], 0xC5, &[]),
         storage(0x44, ADDED, 0, &[1, 0]),
     ];
-    expect_story(&rt, rt.alloc(), sample_board(rt.alloc())?, &story)
+    expect_sample(&rt, rt.alloc(), &story)
 }
 
 #[test]
@@ -113,7 +113,7 @@ fn the_clock_is_set_and_ticks(rt: HostRuntime) -> Result<(), Fail> {
         Ticks(1),
         storage(0x48, &[], 0, &[2, 2, 3, 4]),
     ];
-    expect_story(&rt, rt.alloc(), sample_board(rt.alloc())?, &story)
+    expect_sample(&rt, rt.alloc(), &story)
 }
 
 #[test]
@@ -130,13 +130,13 @@ fn the_watchdog_counts_down_and_stops(rt: HostRuntime) -> Result<(), Fail> {
         Ticks(1),
         application(0x25, &[], 0, &[1, 0, 0, 2, 3, 0, 0, 0]),
     ];
-    expect_story(&rt, rt.alloc(), sample_board(rt.alloc())?, &story)
+    expect_sample(&rt, rt.alloc(), &story)
 }
 
 #[test]
 fn chassis_bits_are_shown(rt: HostRuntime) -> Result<(), Fail> {
     let story = [Chassis(0x15), chassis(0x01, &[], 0, &[0x35, 0, 0])];
-    expect_story(&rt, rt.alloc(), sample_board(rt.alloc())?, &story)
+    expect_sample(&rt, rt.alloc(), &story)
 }
 
 #[test]
@@ -162,7 +162,7 @@ fn the_sample_record_is_shown(rt: HostRuntime) -> Result<(), Fail> {
         storage(0x42, &[], 0, &[1, 0]),
         storage(0x22, &[], 0, &[2, 0]),
     ];
-    expect_story(&rt, rt.alloc(), sample_board(rt.alloc())?, &story)
+    expect_sample(&rt, rt.alloc(), &story)
 }
 
 #[test]

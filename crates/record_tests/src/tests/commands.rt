@@ -1,12 +1,11 @@
 //! Commands of the sample board: each refusal, in the order of the checks, and what is answered.
-use super::story::{application, chassis, expect_story, to_unit_1};
-use cfg_records::sample_board;
+use super::story::{application, application_1, chassis, chassis_1, expect_sample};
 use std::test::Fail;
 
 #[test]
 fn global_enables_are_set_and_got(rt: HostRuntime) -> Result<(), Fail> {
     let story = [
-        to_unit_1(application(0x2E, &[], 0xC2, &[])),
+        application_1(0x2E, &[]),
         application(0x2E, &[], 0xC7, &[]),
         application(0x2E, &[0x18, 0x00], 0xC7, &[]),
         application(0x2E, &[0x18], 0xCC, &[]),
@@ -15,13 +14,13 @@ fn global_enables_are_set_and_got(rt: HostRuntime) -> Result<(), Fail> {
         application(0x2E, &[0xE7], 0x00, &[]),
         application(0x2F, &[], 0x00, &[0xE7]),
     ];
-    expect_story(&rt, rt.alloc(), sample_board(rt.alloc())?, &story)
+    expect_sample(&rt, rt.alloc(), &story)
 }
 
 #[test]
 fn boot_parameter_0_begins_a_set_once(rt: HostRuntime) -> Result<(), Fail> {
     let story = [
-        to_unit_1(chassis(0x08, &[], 0xC2, &[])),
+        chassis_1(0x08, &[]),
         chassis(0x08, &[], 0xC7, &[]),
         chassis(0x08, &[0x00, 0x00, 0x00], 0xC7, &[]),
         chassis(0x08, &[0x00, 0x02], 0xCC, &[]),
@@ -32,7 +31,7 @@ fn boot_parameter_0_begins_a_set_once(rt: HostRuntime) -> Result<(), Fail> {
         chassis(0x08, &[0x80, 0x00], 0x00, &[]),
         chassis(0x09, &[0x80, 0x01, 0x01], 0x00, &[0x01, 0x00, 0x00]),
     ];
-    expect_story(&rt, rt.alloc(), sample_board(rt.alloc())?, &story)
+    expect_sample(&rt, rt.alloc(), &story)
 }
 
 #[test]
@@ -71,5 +70,5 @@ fn boot_parameters_are_set_and_got(rt: HostRuntime) -> Result<(), Fail> {
             &[0x01, 0x85, 0x80, 0x04, 0x01, 0x02, 0x03],
         ),
     ];
-    expect_story(&rt, rt.alloc(), sample_board(rt.alloc())?, &story)
+    expect_sample(&rt, rt.alloc(), &story)
 }

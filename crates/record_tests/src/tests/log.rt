@@ -1,5 +1,5 @@
 //! What a board shows of its sensors, its timer and its log, by worked values.
-use super::story::{Step, application, expect_story, sensor, storage};
+use super::story::{Step, application, expect_sample, expect_story, sensor, storage};
 use Step::{Reads, Ticks};
 use cfg_records::{BoardFile, sample_board};
 use std::test::Fail;
@@ -23,7 +23,7 @@ fn the_log_tells_when_it_grew_and_when_it_was_cleared(rt: HostRuntime) -> Result
         storage(0x47, &[1, 0, 0x43, 0x4C, 0x52, 0xAA], 0, &[1]),
         storage(0x40, &[], 0, cleared),
     ];
-    expect_story(&rt, rt.alloc(), sample_board(rt.alloc())?, &story)
+    expect_sample(&rt, rt.alloc(), &story)
 }
 
 #[test]
@@ -52,7 +52,7 @@ fn entries_are_got_by_id_and_in_parts(rt: HostRuntime) -> Result<(), Fail> {
         storage(0x43, &[1, 0, 1, 0, 7, 2], 0, &[2, 0, 1, 2]),
         storage(0x43, &[1, 0, 1, 0, 17, 2], 0xC9, &[]),
     ];
-    expect_story(&rt, rt.alloc(), sample_board(rt.alloc())?, &story)
+    expect_sample(&rt, rt.alloc(), &story)
 }
 
 #[test]
@@ -67,7 +67,7 @@ fn a_fall_is_logged_as_a_deassertion(rt: HostRuntime) -> Result<(), Fail> {
         Reads(5, 0x5C),
         storage(0x43, &[0, 0, 0xFF, 0xFF, 0, 0xFF], 0, fall),
     ];
-    expect_story(&rt, rt.alloc(), sample_board(rt.alloc())?, &story)
+    expect_sample(&rt, rt.alloc(), &story)
 }
 
 #[test]
@@ -80,7 +80,7 @@ fn each_threshold_has_its_bit(rt: HostRuntime) -> Result<(), Fail> {
         Reads(5, 0x6E),
         sensor(0x2D, &[5], 0, &[0x6E, 0xC0, 0xF8]),
     ];
-    expect_story(&rt, rt.alloc(), sample_board(rt.alloc())?, &story)
+    expect_sample(&rt, rt.alloc(), &story)
 }
 
 #[test]
@@ -90,7 +90,7 @@ fn a_sensor_that_scans_without_messages_shows_so(rt: HostRuntime) -> Result<(), 
         Reads(5, 0x60),
         sensor(0x2D, &[5], 0, &[0x60, 0x40, 0xD8]),
     ];
-    expect_story(&rt, rt.alloc(), sample_board(rt.alloc())?, &story)
+    expect_sample(&rt, rt.alloc(), &story)
 }
 
 #[test]
@@ -105,7 +105,7 @@ fn each_use_of_the_timer_has_its_flag(rt: HostRuntime) -> Result<(), Fail> {
         Ticks(1),
         application(0x25, &[], 0, &[3, 0, 0, 0x0C, 0, 0, 0, 0]),
     ];
-    expect_story(&rt, rt.alloc(), sample_board(rt.alloc())?, &story)
+    expect_sample(&rt, rt.alloc(), &story)
 }
 
 #[test]
@@ -127,5 +127,5 @@ fn an_event_that_finds_the_log_full_is_noted(rt: HostRuntime) -> Result<(), Fail
         Reads(5, 0x60),
         storage(0x40, &[], 0, overflown),
     ];
-    expect_story(&rt, rt.alloc(), sample_board(rt.alloc())?, &story)
+    expect_sample(&rt, rt.alloc(), &story)
 }
