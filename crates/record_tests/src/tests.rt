@@ -1,6 +1,7 @@
 //! Records and their kinds one by one, and changes of a board that are undone.
 mod attributes;
 mod bench;
+mod boards;
 mod changes;
 mod commands;
 mod effecters;

@@ -125,6 +125,23 @@ pub fn chassis_1(command: u8, body: &'static [u8]) -> Step {
     asked(To::Ipmi { lun: 1, net_fn }, command, body, 0xC2, &[])
 }
 
+/// A command of sensors and events to logical unit 1, which is refused.
+pub fn sensor_1(command: u8, body: &'static [u8]) -> Step {
+    let net_fn = SENSOR_EVENT;
+    asked(To::Ipmi { lun: 1, net_fn }, command, body, 0xC2, &[])
+}
+
+/// A command of this type of PLDM.
+pub fn terminus(
+    kind: u8,
+    command: u8,
+    body: &'static [u8],
+    code: u8,
+    reply: &'static [u8],
+) -> Step {
+    asked(To::Pldm(kind), command, body, code, reply)
+}
+
 /// A command of platform monitoring and control, over PLDM.
 pub fn platform(command: u8, body: &'static [u8], code: u8, reply: &'static [u8]) -> Step {
     asked(To::Pldm(PLATFORM), command, body, code, reply)
