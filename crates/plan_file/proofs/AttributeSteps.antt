@@ -1,5 +1,5 @@
 -- What a step for an attribute has in its fields.
-use Rattle.std.proofs.Common.{◌≡◌, ℕ, ◌≤◌, nat_le, length, List, Bool, true, false, not, ◌&&◌, is_some, is_none, Option, Some, None, option_and_then, refl, arith}
+use Rattle.std.proofs.Common.{◌≡◌, ℕ, ◌≤◌, nat_le, length, List, true, false, ◌&&◌, is_some, is_none, Option, Some, None, option_and_then, refl, arith}
 use Rattle.std.proofs.lemmas.Bool.{and_parts}
 use Rattle.std.proofs.lemmas.Bool.Decides.{nat_tests}
 use Rattle.std.specs.List.{list_all}
