@@ -12,6 +12,7 @@ pub mod EffecterFields
 pub mod StateFields
 pub mod StateChanges
 pub mod BootSteps
+pub mod AttributeSteps
 pub mod UserSteps
 pub mod UserNames
 pub mod ChannelLists

@@ -15,7 +15,7 @@ use Rattle.plan_file.specs.declared.fault.FileFault.{FileFault}
 use Rattle.plan_file.specs.declared.fault.FileFault.TheVariants as file
 use Rattle.plan_file.specs.declared.fault.Item.{Item}
 use Rattle.plan_file.specs.declared.fault.Item.TheVariants as item
-use Rattle.plan_file.specs.Trees.{in_field, number_in, table_of, table_in, members_in}
+use Rattle.plan_file.specs.Trees.{in_field, lacks, number_in, table_of, table_in, members_in}
 use Rattle.cfg_records.specs.Sdr.{sdr_id}
 use Rattle.plan_file.specs.Ranges.{passes, has_text, has_type, is_in_range, record_in}
 
@@ -24,8 +24,9 @@ abbrev pub is_needed : Members → Need → Bool
 is_needed tree need.Always = true
 is_needed tree need.Never = false
 is_needed tree need.UnlessLeave = not (has_text field.Select (codes "leave") tree)
+is_needed tree need.WithoutValue = lacks field.Text tree && lacks field.Number tree
 is_needed tree need.WithBits = is_some (in_field field.Callback tree) || (is_some (in_field field.Link tree) || is_some (in_field field.Messaging tree))
-is_needed tree need.WithoutLimit = is_none (in_field field.Limit tree)
+is_needed tree need.WithoutLimit = lacks field.Limit tree
 
 -- the item lacks a field that it needs
 abbrev pub is_missing : Members → Row → Bool

@@ -11,6 +11,7 @@ use Rattle.cfg_records.specs.BootParam.{parameter_at}
 use Rattle.cfg_records.specs.declared.boot_param.BootParameter.{BootParameter}
 use Rattle.cfg_records.specs.declared.boot_param.BootParameter.TheVariants as parameter
 use Rattle.cfg_records.specs.Sdr.{sdr_id}
+use Rattle.cfg_records.specs.AttributeSizes.{most_indexes, most_text}
 use Rattle.hex.specs.Hex.{decode_of}
 use Rattle.hex.specs.declared.error.FromHexError.{FromHexError}
 use Rattle.toml.specs.Data.{Data, Members, as_str, as_integer, as_bool, as_table}
@@ -18,7 +19,7 @@ use Rattle.plan_file.specs.declared.field.Field.{Field}
 use Rattle.plan_file.specs.declared.field.Field.TheVariants as field
 use Rattle.plan_file.specs.declared.row.Shape.{Shape}
 use Rattle.plan_file.specs.declared.row.Shape.TheVariants as shape
-use Rattle.plan_file.specs.Trees.{in_field, members, natural, naturals_in, bytes_in, number_in, members_in, or_none}
+use Rattle.plan_file.specs.Trees.{in_field, lacks, members, natural, naturals_in, bytes_in, number_in, members_in, or_none}
 use Rattle.plan_file.specs.Numeric.{size_in, sized, sized_in, in_order}
 use Rattle.plan_file.specs.States.{change_of}
 use Rattle.plan_file.specs.Users.{name_of, are_names}
@@ -68,6 +69,9 @@ has_type shape.Text d = is_some (as_str d)
 has_type shape.Select d = is_some (as_str d)
 has_type shape.Offsets d = is_array_of is_integer d
 has_type shape.BootData d = is_array_of is_integer d
+has_type shape.Indexes d = is_array_of is_integer d
+has_type shape.AttributeText d = is_text d
+has_type shape.Natural d = is_integer d
 has_type shape.Sized d = is_integer d
 has_type shape.Upper d = is_integer d
 has_type shape.Current d = is_integer d
@@ -173,6 +177,18 @@ are_boot_data parameter.Flags d = is_some (bytes_in 5 d)
 abbrev pub parameter_in : Members → Option BootParameter
 parameter_in tree = option_and_then parameter_at (number_in field.Param tree)
 
+-- the index of a possible value of an attribute, in a request
+abbrev pub is_index : Data → Bool
+is_index d = passes (is_between 0 255) (natural d)
+
+-- the indexes of an attribute's value
+abbrev pub are_indexes : List Data → Bool
+are_indexes ds = is_between 1 most_indexes (length ds) && list_all is_index ds
+
+-- a text that an attribute can have
+abbrev pub is_attribute_text : List ℕ → Bool
+is_attribute_text text = nat_le (length text) most_text
+
 -- a number, 0 where there is none
 abbrev pub or_zero : Option ℕ → ℕ
 or_zero (Some n) = n
@@ -237,6 +253,9 @@ is_in_range tree shape.Text d = true
 is_in_range tree shape.Select d = passes is_selection (as_str d)
 is_in_range tree shape.Offsets d = is_array_of is_offset d
 is_in_range tree shape.BootData d = passes (λ named. are_boot_data named d) (parameter_in tree)
+is_in_range tree shape.Indexes d = (lacks field.Text tree && lacks field.Number tree) && are_indexes (or_none (members d))
+is_in_range tree shape.AttributeText d = lacks field.Number tree && passes is_attribute_text (as_str d)
+is_in_range tree shape.Natural d = is_some (natural d)
 is_in_range tree shape.Sized d = passes (λ size. is_some (sized size d)) (size_in tree)
 is_in_range tree shape.Upper d = passes (λ size. in_order size (sized_in size field.Lower tree) (sized size d)) (size_in tree)
 is_in_range tree shape.Current d =

@@ -1,6 +1,7 @@
 //! The texts of board files, of plans and of undo lists.
 #![tactic(auto)]
 
+mod attribute_steps;
 mod board;
 mod change;
 mod channel_items;

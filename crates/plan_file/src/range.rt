@@ -10,6 +10,7 @@ ghost use Rattle.plan_file.specs.Trees.{members, or_none, natural, naturals_in, 
 ghost use Rattle.plan_file.specs.Ranges.{passes, is_integer, is_table, is_array_of, has_type, is_between, are_digits, is_enables_byte, are_masks, are_thresholds, are_flags, is_text, is_record, record_of, record_in, are_settings, is_selection, is_offset, are_five_bits, are_boot_data, parameter_in, is_in_range};
 ghost use Rattle.plan_file.specs.Holds.{settings};
 
+use crate::attribute_steps::{are_only_indexes, is_only_text};
 use crate::channels::{accesses, are_user_bytes, is_access, is_channel, limits, store};
 use crate::field::Field;
 use crate::numeric::{in_order, size_in, sized, sized_in};
@@ -435,7 +436,9 @@ impl Shape {
                 are_integers(value)
             }
             Shape::Records(_) | Shape::Names => are_texts(value),
-            Shape::BootFlags | Shape::BootData => are_integers(value),
+            Shape::BootFlags | Shape::BootData | Shape::Indexes => are_integers(value),
+            Shape::AttributeText => value.is_str(),
+            Shape::Natural => value.is_integer(),
             Shape::Sized | Shape::Upper | Shape::Current => value.is_integer(),
             Shape::Table => value.is_table(),
             Shape::Tables(_) => are_tables(value),
@@ -470,6 +473,9 @@ impl Shape {
             Shape::Select => is_selection(value),
             Shape::Offsets => are_offsets(value),
             Shape::BootData => are_boot_data(item, value),
+            Shape::Indexes => are_only_indexes(item, value),
+            Shape::AttributeText => is_only_text(item, value),
+            Shape::Natural => natural(value).is_some(),
             Shape::Sized => is_sized(item, value),
             Shape::Upper => is_upper(item, value),
             Shape::Current => is_current(item, value),

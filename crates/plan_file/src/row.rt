@@ -5,7 +5,7 @@ ghost use Rattle.toml.specs.View.{table_view};
 ghost use Rattle.plan_file.specs.Faults.{is_needed, session_rows};
 
 use crate::field::Field;
-use crate::tree::{has_text, in_field};
+use crate::tree::{has_text, in_field, lacks};
 use toml::Table;
 
 /// The type of a field, and its range.
@@ -45,6 +45,12 @@ pub enum Shape {
     Offsets,
     /// Bytes, in a list: data of the boot parameter that the item names.
     BootData,
+    /// 1 to 16 bytes, in a list: indexes of an attribute's possible values, where the item has neither `text` nor `number`.
+    Indexes,
+    /// A text of at most 200 bytes, where the item has no `number`.
+    AttributeText,
+    /// A whole number that isn't negative.
+    Natural,
     /// A whole number of the size that the item names.
     Sized,
     /// Such a number, not below the item's lower bound.
@@ -84,6 +90,8 @@ pub enum Need {
     Never,
     /// Where its field `select` isn't the text `leave`.
     UnlessLeave,
+    /// Where it lacks the fields `text` and `number`.
+    WithoutValue,
     /// Where it has one of the fields `callback`, `link` and `messaging`.
     WithBits,
     /// Where it lacks the field `limit`.
@@ -99,12 +107,13 @@ impl Need {
             Need::Always => true,
             Need::Never => false,
             Need::UnlessLeave => !has_text(item, Field::Select, "leave"),
+            Need::WithoutValue => lacks(item, Field::Text) && lacks(item, Field::Number),
             Need::WithBits => {
                 in_field(item, Field::Callback).is_some()
                     || in_field(item, Field::Link).is_some()
                     || in_field(item, Field::Messaging).is_some()
             }
-            Need::WithoutLimit => in_field(item, Field::Limit).is_none(),
+            Need::WithoutLimit => lacks(item, Field::Limit),
         }
     }
 }

@@ -161,6 +161,6 @@ returns c =
         channels = c.in_ok-file_channels.ensures.channels;
         sessionless = c.in_ok-file_channels.ensures.sessionless;
         accesses = c.in_ok-file_channels.ensures.accesses;
-        no_attributes = c.no_items-2.ensures;
+        no_attributes = c.no_items.ensures;
       },
     )
