@@ -146,20 +146,21 @@ pub record SizedText (tree : Members) (named : Field) (least most : ℕ) : Type 
 short : (text : List ℕ) → length text ≤ 200 → short_text text ≡ Some text
 short text few = let small : nat_le (length text) 200 ≡ true = grind (arith, nat_tests) in rw small refl
 
-sized_cases : (tree : Members) (named : Field) (d : Data) (o : Option (List ℕ)) (least most : ℕ) → most ≤ 200 → in_field named tree ≡ Some d → as_str d ≡ o
-    → passes (λ text. is_as_long least most text) o ≡ true → SizedText tree named least most
-sized_cases tree named d (Some text) least most few found is within =
-    let (low, high) = and_parts (nat_le least (length text)) (nat_le (length text) most) within in
+sized_cases : (tree : Members) (named : Field) (d : Data) (o : Option (List ℕ)) (least most : ℕ) → number_in field.Least tree ≡ Some least → number_in field.Most tree ≡ Some most → most ≤ 200
+    → in_field named tree ≡ Some d → as_str d ≡ o → passes (is_sized tree) o ≡ true → SizedText tree named least most
+sized_cases tree named d (Some text) least most least_is most_is few found is within =
+    let whole : is_sized tree text ≡ true = within in
+    let sized : is_as_long least most text ≡ true = rw (least_is, most_is) at whole in
+    let (low, high) = and_parts (nat_le least (length text)) (nat_le (length text) most) sized in
     let upper : length text ≤ most = true_le _ most high in
-    record { text = text; found = rw (found, is) (short text (omega (arith, few, upper))); sized = within }
-sized_cases tree named d None least most few found is within = cc
+    record { text = text; found = rw (found, is) (short text (omega (arith, few, upper))); sized = sized }
+sized_cases tree named d None least most least_is most_is few found is within = cc
 
 pub sized_there : (tree : Members) (named : Field) (least most : ℕ) → number_in field.Least tree ≡ Some least → number_in field.Most tree ≡ Some most → most ≤ 200
     → Sound tree (record { 0 = named; 1 = shape.SizedText; 2 = need.Always }) → SizedText tree named least most
 sized_there tree named least most least_is most_is few sound =
     let v = value_of tree (record { 0 = named; 1 = shape.SizedText; 2 = need.Always }) (in_field named tree) refl refl sound in
-    let within : passes (λ text. is_as_long least most text) (as_str v.value) ≡ true = rw (least_is, most_is) at v.within in
-    sized_cases tree named v.value (as_str v.value) least most few v.found refl within
+    sized_cases tree named v.value (as_str v.value) least most least_is most_is few v.found refl v.within
 
 pub sized_is : (tree : Members) (named : Field) (lengths : TextLengths) (text : List ℕ) → SizedText tree named lengths.least lengths.most → text_in named tree ≡ Some text → AllowsText lengths text
 sized_is tree named lengths text there is =

@@ -1,4 +1,4 @@
-use Rattle.std.proofs.Common.{◌≡◌, ◌<◌, ◌≤◌, ◌+◌, ◌++◌, ◌∷◌, [], length, inl, inr, sym, ap, ◌∙◌, arith}
+use Rattle.std.proofs.Common.{◌≡◌, ◌<◌, ◌≤◌, ◌+◌, ◌++◌, ◌∷◌, [], length, inl, inr, ap, ◌∙◌, arith}
 use Rattle.std.proofs.lemmas.Result.{err_from_is_err_and}
 use Rattle.plan_file.specs.AttributeItems.{IsAttributeIn}
 use Rattle.plan_file.specs.Faults.{first}
@@ -27,6 +27,6 @@ loop-place-preserved c =
     let pushed : c.push.new.self.items ≡ before ++ attribute ∷ [] = c.in-Ok.ensures.items in
     rw pushed (record {
       zip = next_zip values i v within c.index-values-place.is IsAttributeIn before attribute c.loop-place.invariant.zip c.in_ok-attribute.ensures.held;
-      handles = handles_more 0 before attribute c.loop-place.invariant.handles (c.in_ok-attribute.ensures.handle ∙ sym so_far);
+      handles = handles_more 0 before attribute c.loop-place.invariant.handles (omega (arith, c.in_ok-attribute.ensures.handle, so_far));
       left = c.loop-place.invariant.left ∙ attributes_left values i v within c.index-values-place.is c.in_ok-attribute.ensures.sound;
     })

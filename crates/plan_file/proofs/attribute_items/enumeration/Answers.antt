@@ -43,4 +43,4 @@ unwrap-requires c =
     let few : length values ≤ 16 = rw long there.0 in
     let default : AllowsIndexes (length values) c.indexes_in-default.result = rw long (indexes_allowed count (members_in field.Default tree) c.indexes_in-default.result (indexes_there tree field.Default sound.1.1.1.0) c.indexes_in-default.ensures) in
     let current : AllowsIndexes (length values) c.indexes_in-current.result = rw long (indexes_allowed count (members_in field.Current tree) c.indexes_in-current.result (indexes_there tree field.Current sound.1.1.1.1.0) c.indexes_in-current.ensures) in
-    c.new.ensures.made.1 (few, (default, current))
+    c.new.ensures.made.1 (few, default, current)
