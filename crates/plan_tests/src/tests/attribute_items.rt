@@ -133,8 +133,10 @@ fn an_enumeration_of_a_file_is_the_boards(rt: HostRuntime) -> Result<(), Fail> {
     };
     let values = boot.values.as_slice();
     assert_eq!(rt; values.len(), 2);
-    assert_eq!(rt; values[0].as_slice(), b"disk".as_slice());
-    assert_eq!(rt; values[1].as_slice(), b"net".as_slice());
+    let first = values.get(0).ok_or("a value")?;
+    assert_eq!(rt; first.as_slice(), b"disk".as_slice());
+    let second = values.get(1).ok_or("a value")?;
+    assert_eq!(rt; second.as_slice(), b"net".as_slice());
     assert_eq!(rt; boot.default.as_slice(), [0].as_slice());
     assert_eq!(rt; boot.current.as_slice(), [1, 0].as_slice());
     Ok(())
@@ -356,12 +358,20 @@ fn texts_have_at_most_200_bytes(rt: HostRuntime) -> Result<(), Fail> {
     Ok(())
 }
 
+/// An attribute that is all of its values.
+const ALL: &str = "[[attribute]]
+name = \"Groups\"
+kind = \"enumeration\"
+values = [\"0\", \"1\", \"2\", \"3\", \"4\", \"5\", \"6\", \"7\", \"8\", \"9\", \"10\", \"11\", \"12\", \"13\", \"14\", \"15\"]
+default = [15]
+current = [15, 14, 13, 12, 11, 10, 9, 8, 7, 6, 5, 4, 3, 2, 1, 0]
+readonly = false
+";
+
 #[test]
 fn an_enumeration_can_be_all_of_its_16_values(rt: HostRuntime) -> Result<(), Fail> {
     let alloc = rt.alloc();
-    let text = format!(in alloc;
-        "{BARE}[[attribute]]\nname = \"a\"\nkind = \"enumeration\"\nvalues = [\"0\", \"1\", \"2\", \"3\", \"4\", \"5\", \"6\", \"7\", \"8\", \"9\", \"10\", \"11\", \"12\", \"13\", \"14\", \"15\"]\ndefault = [15]\ncurrent = [0, 1, 2, 3, 4, 5, 6, 7, 8, 9, 10, 11, 12, 13, 14, 15]\nreadonly = false\n"
-    )?;
+    let text = format!(in alloc; "{BARE}{ALL}")?;
     let read = read_board(alloc, text.as_str()).map_err(|_| "a board")?;
     let one = read.attributes.items.as_slice().get(0).ok_or("one")?;
     let AttributeKind::Enumeration(all) = &one.kind else {
