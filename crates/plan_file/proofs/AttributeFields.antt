@@ -27,13 +27,14 @@ use Rattle.plan_file.specs.declared.row.Need.TheVariants as need
 use Rattle.plan_file.specs.declared.row.TheConstants.{ATTRIBUTE, ENUMERATION, STRING, INTEGER}
 use Rattle.plan_file.specs.Trees.{in_field, natural, members, members_in, number_in, table_of, or_none}
 use Rattle.plan_file.specs.Attributes.{short_text, text_of, is_kind, is_below, are_indexes, is_as_long, is_stepped}
-use Rattle.plan_file.specs.Ranges.{passes, has_text, is_between, is_most, is_sized, is_step}
+use Rattle.plan_file.specs.Ranges.{passes, has_text, is_between, is_most, is_sized_text, is_step}
 use Rattle.plan_file.specs.Faults.{field_faults, attribute_rows, attribute_faults_at, attribute_faults_from, first}
 use Rattle.plan_file.specs.AttributeItems.{text_in, IsIndexIn, HaveHandles}
 use Rattle.plan_file.specs.Holds.{HasBelow}
 use Rattle.plan_file.proofs.Rows.{Sound, all_sound, value_of}
 use Rattle.plan_file.proofs.Items.{first-append, left_over}
 use Rattle.plan_file.proofs.Sensors.{each_passes}
+use Rattle.plan_file.proofs.TestFacts.{both_true}
 
 -- ---- what passes is there
 
@@ -86,10 +87,6 @@ few_indexes count vs are =
     let (some, more) = and_parts (nat_le 1 (length ds)) (nat_le (length ds) count && list_all (λ d. is_below count (natural d)) ds) are in
     let (most, all) = and_parts (nat_le (length ds) count) (list_all (λ d. is_below count (natural d)) ds) more in
     rw (length-map vs view) at (true_le (length ds) count most)
-
-both_true : (a b : Bool) → a ≡ true → b ≡ true → (a && b) ≡ true
-both_true true b p q = q
-both_true false b p q = p
 
 here_known : (count n : ℕ) (o : Option ℕ) → o ≡ Some n → is_below count o ≡ true → nat_lt n count ≡ true
 here_known count n (Some m) same is = let told : m ≡ n = cc in rw (← told) is
@@ -147,9 +144,9 @@ short : (text : List ℕ) → length text ≤ 200 → short_text text ≡ Some t
 short text few = let small : nat_le (length text) 200 ≡ true = grind (arith, nat_tests) in rw small refl
 
 sized_cases : (tree : Members) (named : Field) (d : Data) (o : Option (List ℕ)) (least most : ℕ) → number_in field.Least tree ≡ Some least → number_in field.Most tree ≡ Some most → most ≤ 200
-    → in_field named tree ≡ Some d → as_str d ≡ o → passes (is_sized tree) o ≡ true → SizedText tree named least most
+    → in_field named tree ≡ Some d → as_str d ≡ o → passes (is_sized_text tree) o ≡ true → SizedText tree named least most
 sized_cases tree named d (Some text) least most least_is most_is few found is within =
-    let whole : is_sized tree text ≡ true = within in
+    let whole : is_sized_text tree text ≡ true = within in
     let sized : is_as_long least most text ≡ true = rw (least_is, most_is) at whole in
     let (low, high) = and_parts (nat_le least (length text)) (nat_le (length text) most) sized in
     let upper : length text ≤ most = true_le _ most high in

@@ -232,12 +232,12 @@ abbrev pub is_most : Members → ℕ → Bool
 is_most tree n = passes (λ least. is_between least most_text n) (number_in field.Least tree)
 
 -- a text of a length from the item's least to its most
-abbrev pub is_sized : Members → List ℕ → Bool
-is_sized tree text = passes (λ least. passes (λ most. is_as_long least most text) (number_in field.Most tree)) (number_in field.Least tree)
+abbrev pub is_sized_text : Members → List ℕ → Bool
+is_sized_text tree text = passes (λ least. passes (λ most. is_as_long least most text) (number_in field.Most tree)) (number_in field.Least tree)
 
 -- a number that is not below the item's lower bound
-abbrev pub is_upper : Members → ℕ → Bool
-is_upper tree n = passes (λ lower. nat_le lower n) (number_in field.Lower tree)
+abbrev pub is_upper_natural : Members → ℕ → Bool
+is_upper_natural tree n = passes (λ lower. nat_le lower n) (number_in field.Lower tree)
 
 -- a number within the item's bounds, by steps of its increment
 abbrev pub is_step : Members → ℕ → Bool
@@ -286,7 +286,7 @@ is_in_range tree shape.AttributeKind d = passes is_kind (as_str d)
 is_in_range tree shape.Values d = are_values (or_none (members d))
 is_in_range tree shape.Indexes d = are_indexes (length (members_in field.Values tree)) (or_none (members d))
 is_in_range tree shape.MostLength d = passes (is_most tree) (natural d)
-is_in_range tree shape.SizedText d = passes (is_sized tree) (as_str d)
+is_in_range tree shape.SizedText d = passes (is_sized_text tree) (as_str d)
 is_in_range tree shape.Natural d = is_some (natural d)
-is_in_range tree shape.UpperNatural d = passes (is_upper tree) (natural d)
+is_in_range tree shape.UpperNatural d = passes (is_upper_natural tree) (natural d)
 is_in_range tree shape.Stepped d = passes (is_step tree) (natural d)

@@ -6,7 +6,7 @@ ghost use Rattle.toml.specs.Data.{as_str};
 ghost use Rattle.toml.specs.View.{view, table_view};
 ghost use Rattle.plan_file.specs.Trees.{natural, members, or_none, members_in};
 ghost use Rattle.plan_file.specs.Attributes.{short_text, text_of, is_kind, are_values, is_below, are_indexes, is_as_long, is_stepped};
-ghost use Rattle.plan_file.specs.Ranges.{passes, is_most, is_sized, is_upper, is_step};
+ghost use Rattle.plan_file.specs.Ranges.{passes, is_most, is_sized_text, is_upper_natural, is_step};
 
 use crate::field::Field;
 use crate::tree::{members_in, members_of, natural, number};
@@ -107,8 +107,8 @@ fn is_as_long(text: &str, least: u64, most: u64) -> bool
 }
 
 /// Whether the value is a text of a length from the item's least to its most.
-pub fn is_sized(item: &Table, value: &Value) -> bool
-    ensures { result ≡ passes (is_sized (table_view item.now)) (as_str (view value.now)) }
+pub fn is_sized_text(item: &Table, value: &Value) -> bool
+    ensures { result ≡ passes (is_sized_text (table_view item.now)) (as_str (view value.now)) }
 {
     let Some(text) = value.as_str() else {
         return false;
@@ -120,8 +120,8 @@ pub fn is_sized(item: &Table, value: &Value) -> bool
 }
 
 /// Whether the value is a number that is not below the item's lower bound.
-pub fn is_upper(item: &Table, value: &Value) -> bool
-    ensures { result ≡ passes (is_upper (table_view item.now)) (natural (view value.now)) }
+pub fn is_upper_natural(item: &Table, value: &Value) -> bool
+    ensures { result ≡ passes (is_upper_natural (table_view item.now)) (natural (view value.now)) }
 {
     match (number(item, Field::Lower), natural(value)) {
         (Some(lower), Some(upper)) => lower <= upper,

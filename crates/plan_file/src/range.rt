@@ -10,7 +10,9 @@ ghost use Rattle.plan_file.specs.Trees.{members, or_none, natural, naturals_in, 
 ghost use Rattle.plan_file.specs.Ranges.{passes, is_integer, is_table, is_array_of, has_type, is_between, are_digits, is_enables_byte, are_masks, are_thresholds, are_flags, is_text, is_record, record_of, record_in, are_settings, is_selection, is_offset, are_five_bits, are_boot_data, parameter_in, is_in_range};
 ghost use Rattle.plan_file.specs.Holds.{settings};
 
-use crate::attributes::{are_indexes, are_values, is_kind, is_most, is_sized as is_as_long, is_step, is_upper as is_not_below, text};
+use crate::attributes::{
+    are_indexes, are_values, is_kind, is_most, is_sized_text, is_step, is_upper_natural, text,
+};
 use crate::channels::{accesses, are_user_bytes, is_access, is_channel, limits, store};
 use crate::field::Field;
 use crate::numeric::{in_order, size_in, sized, sized_in};
@@ -496,9 +498,9 @@ impl Shape {
             Shape::Values => are_values(value),
             Shape::Indexes => are_indexes(item, value),
             Shape::MostLength => is_most(item, value),
-            Shape::SizedText => is_as_long(item, value),
+            Shape::SizedText => is_sized_text(item, value),
             Shape::Natural => natural(value).is_some(),
-            Shape::UpperNatural => is_not_below(item, value),
+            Shape::UpperNatural => is_upper_natural(item, value),
             Shape::Stepped => is_step(item, value),
         }
     }

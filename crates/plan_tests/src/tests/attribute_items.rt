@@ -58,7 +58,8 @@ readonly = false # each time
 
 /// A row for each field with a range: its place in faults, its line, a line of another type, two that are beyond its range, and two that
 /// are just inside.
-const FIELDS: &str = "attribute 0 values | values = [\"disk\", \"net\"] | values = [\"disk\", 1] | values = [\"\", \"\", \"\", \"\", \"\", \"\", \"\", \"\", \"\", \"\", \"\", \"\", \"\", \"\", \"\", \"\", \"\"] | values = [\"a\", \"a\", \"a\", \"a\", \"a\", \"a\", \"a\", \"a\", \"a\", \"a\", \"a\", \"a\", \"a\", \"a\", \"a\", \"a\", \"a\"] | values = [\"\", \"\", \"\", \"\", \"\", \"\", \"\", \"\", \"\", \"\", \"\", \"\", \"\", \"\", \"\", \"\"] | values = [\"net\", \"net\"]
+const FIELDS: &str =
+    "attribute 0 values | values = [\"disk\", \"net\"] | values = [\"disk\", 1] | values = [\"\", \"\", \"\", \"\", \"\", \"\", \"\", \"\", \"\", \"\", \"\", \"\", \"\", \"\", \"\", \"\", \"\"] | values = [\"a\", \"a\", \"a\", \"a\", \"a\", \"a\", \"a\", \"a\", \"a\", \"a\", \"a\", \"a\", \"a\", \"a\", \"a\", \"a\", \"a\"] | values = [\"\", \"\", \"\", \"\", \"\", \"\", \"\", \"\", \"\", \"\", \"\", \"\", \"\", \"\", \"\", \"\"] | values = [\"net\", \"net\"]
 attribute 0 default | default = [0] | default = 0 | default = [] | default = [2] | default = [1] | default = [0, 1]
 attribute 0 default | default = [0] | default = [true] | default = [-1] | default = [0, 1, 0] | default = [1, 0] | default = [1, 1]
 attribute 0 current | current = [1] | current = [[1]] | current = [1, 2] | current = [256] | current = [0] | current = [1, 0]
@@ -207,19 +208,59 @@ fn a_field_that_is_left_out_mistyped_or_out_of_range_is_named(rt: HostRuntime) -
 fn an_attribute_has_the_fields_of_its_kind(rt: HostRuntime) -> Result<(), Fail> {
     let cases = [
         ("kind = \"enumeration\"", "", "Missing attribute 0 kind"),
-        ("kind = \"enumeration\"", "kind = 0", "WrongType attribute 0 kind"),
-        ("kind = \"enumeration\"", "kind = \"\"", "Range attribute 0 kind"),
-        ("kind = \"enumeration\"", "kind = \"Enumeration\"", "Range attribute 0 kind"),
-        ("kind = \"enumeration\"", "kind = \"password\"", "Range attribute 0 kind"),
+        (
+            "kind = \"enumeration\"",
+            "kind = 0",
+            "WrongType attribute 0 kind",
+        ),
+        (
+            "kind = \"enumeration\"",
+            "kind = \"\"",
+            "Range attribute 0 kind",
+        ),
+        (
+            "kind = \"enumeration\"",
+            "kind = \"Enumeration\"",
+            "Range attribute 0 kind",
+        ),
+        (
+            "kind = \"enumeration\"",
+            "kind = \"password\"",
+            "Range attribute 0 kind",
+        ),
         ("kind = \"enumeration\"", "kind = 'enumeration'", ""),
-        ("kind = \"enumeration\"", "kind = \"string\"", "Missing attribute 0 string_type"),
-        ("kind = \"enumeration\"", "kind = \"integer\"", "Missing attribute 0 lower"),
-        ("kind = \"string\"", "kind = \"enumeration\"", "Missing attribute 1 values"),
-        ("kind = \"integer\"", "kind = \"string\"", "Missing attribute 2 string_type"),
+        (
+            "kind = \"enumeration\"",
+            "kind = \"string\"",
+            "Missing attribute 0 string_type",
+        ),
+        (
+            "kind = \"enumeration\"",
+            "kind = \"integer\"",
+            "Missing attribute 0 lower",
+        ),
+        (
+            "kind = \"string\"",
+            "kind = \"enumeration\"",
+            "Missing attribute 1 values",
+        ),
+        (
+            "kind = \"integer\"",
+            "kind = \"string\"",
+            "Missing attribute 2 string_type",
+        ),
         ("readonly = true", "", "Missing attribute 1 readonly"),
-        ("readonly = true", "readonly = 1", "WrongType attribute 1 readonly"),
+        (
+            "readonly = true",
+            "readonly = 1",
+            "WrongType attribute 1 readonly",
+        ),
         ("readonly = true", "readonly = false", ""),
-        ("readonly = true", "readonly = true\nvalues = 1\nlower = -1", ""),
+        (
+            "readonly = true",
+            "readonly = true\nvalues = 1\nlower = -1",
+            "",
+        ),
         ("name = \"Owner\"", "", "Missing attribute 1 name"),
         ("name = \"Owner\"", "name = 1", "WrongType attribute 1 name"),
         ("name = \"Owner\"", "name = \"\"", ""),
@@ -235,26 +276,66 @@ fn an_attribute_has_the_fields_of_its_kind(rt: HostRuntime) -> Result<(), Fail> 
 fn the_first_fault_counts(rt: HostRuntime) -> Result<(), Fail> {
     let cases = [
         // An enumeration without values can have none.
-        ("values = [\"disk\", \"net\"]", "values = []", "Range attribute 0 default"),
-        ("values = [\"disk\", \"net\"]", "values = [\"disk\"]", "Range attribute 0 current"),
+        (
+            "values = [\"disk\", \"net\"]",
+            "values = []",
+            "Range attribute 0 default",
+        ),
+        (
+            "values = [\"disk\", \"net\"]",
+            "values = [\"disk\"]",
+            "Range attribute 0 current",
+        ),
         // The bound that leaves no value is the fault, and else the value beyond it.
         ("least = 2", "least = 9", "Range attribute 1 most"),
         ("least = 2", "least = 5", "Range attribute 1 default"),
         ("most = 8", "most = 5", "Range attribute 1 current"),
         ("lower = 20", "lower = 301", "Range attribute 2 upper"),
-        ("lower = 20", "lower = 9223372036854775807", "Range attribute 2 upper"),
+        (
+            "lower = 20",
+            "lower = 9223372036854775807",
+            "Range attribute 2 upper",
+        ),
         ("lower = 20", "lower = 40", "Range attribute 2 default"),
         ("lower = 20", "lower = 21", "Range attribute 2 default"),
         ("upper = 300", "upper = 35", "Range attribute 2 current"),
-        ("increment = 10", "increment = 4294967295", "Range attribute 2 default"),
+        (
+            "increment = 10",
+            "increment = 4294967295",
+            "Range attribute 2 default",
+        ),
         ("increment = 10", "increment = 10\nadded = 1", ""),
         // All that are missing come before those of another type, and these before those out of their ranges.
-        ("name = \"Boot\"", "[[attribute]]", "Missing attribute 0 name"),
-        ("kind = \"enumeration\"", "kind = 1\n[[attribute]]", "Missing attribute 0 readonly"),
-        ("default = [0]", "default = [9]\n[[attribute]]", "Missing attribute 0 current"),
-        ("default = [0]", "default = [9]\nadded = 1", "Range attribute 0 default"),
-        ("readonly = false", "readonly = 1\n[[attribute]]", "WrongType attribute 0 readonly"),
-        ("readonly = false", "readonly = false\n[[attribute]]", "Missing attribute 1 name"),
+        (
+            "name = \"Boot\"",
+            "[[attribute]]",
+            "Missing attribute 0 name",
+        ),
+        (
+            "kind = \"enumeration\"",
+            "kind = 1\n[[attribute]]",
+            "Missing attribute 0 readonly",
+        ),
+        (
+            "default = [0]",
+            "default = [9]\n[[attribute]]",
+            "Missing attribute 0 current",
+        ),
+        (
+            "default = [0]",
+            "default = [9]\nadded = 1",
+            "Range attribute 0 default",
+        ),
+        (
+            "readonly = false",
+            "readonly = 1\n[[attribute]]",
+            "WrongType attribute 0 readonly",
+        ),
+        (
+            "readonly = false",
+            "readonly = false\n[[attribute]]",
+            "Missing attribute 1 name",
+        ),
     ];
     for (old, new, want) in cases {
         assert_eq!(rt; fault(rt.alloc(), old, new)?.as_str(), want, "{new}");
@@ -340,10 +421,26 @@ fn long(alloc: Global, count: u16) -> Result<String, AllocError> {
 fn texts_have_at_most_200_bytes(rt: HostRuntime) -> Result<(), Fail> {
     let alloc = rt.alloc();
     for (before, behind, want) in [
-        ("name = \"", "\"\nkind = \"enumeration\"\nvalues = [\"a\"]\ndefault = [0]\ncurrent = [0]", "name"),
-        ("name = \"a\"\nkind = \"enumeration\"\nvalues = [\"\", \"", "\"]\ndefault = [0]\ncurrent = [1]", "values"),
-        ("name = \"a\"\nkind = \"string\"\nstring_type = 0\nleast = 0\nmost = 200\ndefault = \"", "\"\ncurrent = \"\"", "default"),
-        ("name = \"a\"\nkind = \"string\"\nstring_type = 0\nleast = 0\nmost = 200\ndefault = \"\"\ncurrent = \"", "\"", "current"),
+        (
+            "name = \"",
+            "\"\nkind = \"enumeration\"\nvalues = [\"a\"]\ndefault = [0]\ncurrent = [0]",
+            "name",
+        ),
+        (
+            "name = \"a\"\nkind = \"enumeration\"\nvalues = [\"\", \"",
+            "\"]\ndefault = [0]\ncurrent = [1]",
+            "values",
+        ),
+        (
+            "name = \"a\"\nkind = \"string\"\nstring_type = 0\nleast = 0\nmost = 200\ndefault = \"",
+            "\"\ncurrent = \"\"",
+            "default",
+        ),
+        (
+            "name = \"a\"\nkind = \"string\"\nstring_type = 0\nleast = 0\nmost = 200\ndefault = \"\"\ncurrent = \"",
+            "\"",
+            "current",
+        ),
     ] {
         for (count, fault) in [(199, ""), (200, ""), (201, "Range attribute 0 ")] {
             let text = long(alloc, count)?;
