@@ -9,7 +9,7 @@ use Rattle.plan_file.specs.declared.row.Row.{Row}
 use Rattle.plan_file.specs.declared.row.Shape.TheVariants as shape
 use Rattle.plan_file.specs.declared.row.Need.TheVariants as need
 use Rattle.plan_file.specs.Trees.{in_field, lacks, natural, members, members_in, number_in, or_none}
-use Rattle.plan_file.specs.Ranges.{passes, has_type, is_between, is_in_range, is_index, are_indexes, is_attribute_text}
+use Rattle.plan_file.specs.Ranges.{passes, has_type, is_between, is_in_range, is_index, are_few_indexes, is_attribute_text}
 use Rattle.plan_file.proofs.Rows.{Sound, Value, not_false}
 
 -- a value that the item has, whether it needs it or not
@@ -32,7 +32,7 @@ none_there (Some d) none = cc
 -- ---- indexes
 
 abbrev pub indexes_row : Row
-indexes_row = record { 0 = field.Indexes; 1 = shape.Indexes; 2 = need.WithoutValue }
+indexes_row = record { 0 = field.Indexes; 1 = shape.FewIndexes; 2 = need.WithoutValue }
 
 -- the indexes that a step gives, and nothing besides
 pub record Indexed (tree : Members) : Type 0 where
@@ -45,7 +45,7 @@ pub indexes_there : (tree : Members) â†’ is_some (in_field field.Indexes tree) â
 indexes_there tree some sound =
     let v = value_given tree indexes_row (in_field field.Indexes tree) refl some sound in
     let ds = or_none (members v.value) in
-    let (only, good) = and_parts (lacks field.Text tree && lacks field.Number tree) (are_indexes ds) v.within in
+    let (only, good) = and_parts (lacks field.Text tree && lacks field.Number tree) (are_few_indexes ds) v.within in
     let (text, number) = and_parts (lacks field.Text tree) (lacks field.Number tree) only in
     let (count, all) = and_parts (is_between 1 16 (length ds)) (list_all is_index ds) good in
     let (least, most) = and_parts (nat_le 1 (length ds)) (nat_le (length ds) 16) count in

@@ -17,6 +17,7 @@ pub mod UserSteps
 pub mod UserNames
 pub mod ChannelLists
 pub mod ChannelFields
+pub mod AttributeFields
 pub mod Changes
 pub mod Steps
 pub mod UndoLines

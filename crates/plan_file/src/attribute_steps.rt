@@ -6,7 +6,7 @@ ghost use Rattle.cfg_records.specs.AttributeValue.{value_bytes};
 ghost use Rattle.toml.specs.Data.{as_str};
 ghost use Rattle.toml.specs.View.{view, table_view};
 ghost use Rattle.plan_file.specs.Trees.{in_field, members, or_none};
-ghost use Rattle.plan_file.specs.Ranges.{passes, is_index, are_indexes, is_attribute_text, is_in_range};
+ghost use Rattle.plan_file.specs.Ranges.{passes, is_index, are_few_indexes, is_attribute_text, is_in_range};
 ghost use Rattle.plan_file.specs.Faults.{field_faults};
 ghost use Rattle.plan_file.specs.Holds.{IsNaturalIn};
 ghost use Rattle.plan_file.specs.PlanHolds.{GivesValue, HoldsBiosAttribute};
@@ -30,8 +30,8 @@ fn all_indexes(values: &[Value]) -> bool
 }
 
 /// Whether the value is a list of 1 to 16 indexes.
-fn are_indexes(value: &Value) -> bool
-    ensures { result ≡ are_indexes (or_none (members (view value.now))) }
+fn are_few_indexes(value: &Value) -> bool
+    ensures { result ≡ are_few_indexes (or_none (members (view value.now))) }
 {
     let indexes = members_of(value);
     if indexes.is_empty() {
@@ -42,9 +42,9 @@ fn are_indexes(value: &Value) -> bool
 
 /// Whether the value is such a list, and the item gives neither a text nor a number besides.
 pub fn are_only_indexes(item: &Table, value: &Value) -> bool
-    ensures { result ≡ is_in_range (table_view item.now) Shape.Indexes (view value.now) }
+    ensures { result ≡ is_in_range (table_view item.now) Shape.FewIndexes (view value.now) }
 {
-    lacks(item, Field::Text) && lacks(item, Field::Number) && are_indexes(value)
+    lacks(item, Field::Text) && lacks(item, Field::Number) && are_few_indexes(value)
 }
 
 /// Whether the value is a text that an attribute can have.

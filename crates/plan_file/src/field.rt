@@ -85,6 +85,14 @@ pub enum Field {
     Sessions,
     State,
     States,
+    Attribute,
+    Values,
+    Default,
+    StringType,
+    Least,
+    Most,
+    Increment,
+    ReadOnly,
 }
 
 impl Field {
@@ -171,6 +179,14 @@ impl Field {
             Field::Sessions => "sessions",
             Field::State => "state",
             Field::States => "states",
+            Field::Attribute => "attribute",
+            Field::Values => "values",
+            Field::Default => "default",
+            Field::StringType => "string_type",
+            Field::Least => "least",
+            Field::Most => "most",
+            Field::Increment => "increment",
+            Field::ReadOnly => "readonly",
         }
     }
 }

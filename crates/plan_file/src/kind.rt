@@ -101,7 +101,7 @@ pub const BOOT_PARAM: [Row; 3] = [
 /// The fields of a step that sets the value of a BIOS attribute: one of the last three.
 pub const BIOS_ATTRIBUTE: [Row; 4] = [
     Row(Field::Handle, Shape::Number(0, 0xFFFF), Need::Always),
-    Row(Field::Indexes, Shape::Indexes, Need::WithoutValue),
+    Row(Field::Indexes, Shape::FewIndexes, Need::WithoutValue),
     Row(Field::Text, Shape::AttributeText, Need::Never),
     Row(Field::Number, Shape::Natural, Need::Never),
 ];

@@ -11,6 +11,9 @@ ghost use Rattle.plan_file.specs.Ranges.{passes, is_integer, is_table, is_array_
 ghost use Rattle.plan_file.specs.Holds.{settings};
 
 use crate::attribute_steps::{are_only_indexes, is_only_text};
+use crate::attributes::{
+    are_indexes, are_values, is_kind, is_most, is_sized_text, is_step, is_upper_natural, text,
+};
 use crate::channels::{accesses, are_user_bytes, is_access, is_channel, limits, store};
 use crate::field::Field;
 use crate::numeric::{in_order, size_in, sized, sized_in};
@@ -436,7 +439,7 @@ impl Shape {
                 are_integers(value)
             }
             Shape::Records(_) | Shape::Names => are_texts(value),
-            Shape::BootFlags | Shape::BootData | Shape::Indexes => are_integers(value),
+            Shape::BootFlags | Shape::BootData | Shape::FewIndexes => are_integers(value),
             Shape::AttributeText => value.is_str(),
             Shape::Natural => value.is_integer(),
             Shape::Sized | Shape::Upper | Shape::Current => value.is_integer(),
@@ -449,6 +452,11 @@ impl Shape {
             Shape::Accesses | Shape::Limits | Shape::UserBytes(_) => are_integers(value),
             Shape::StateLists => are_lists(value),
             Shape::States | Shape::StateChanges => are_integers(value),
+            Shape::ShortText | Shape::AttributeKind | Shape::SizedText => value.is_str(),
+            Shape::Values => are_texts(value),
+            Shape::Indexes => are_integers(value),
+            Shape::MostLength => value.is_integer(),
+            Shape::UpperNatural | Shape::Stepped => value.is_integer(),
         }
     }
 
@@ -473,7 +481,7 @@ impl Shape {
             Shape::Select => is_selection(value),
             Shape::Offsets => are_offsets(value),
             Shape::BootData => are_boot_data(item, value),
-            Shape::Indexes => are_only_indexes(item, value),
+            Shape::FewIndexes => are_only_indexes(item, value),
             Shape::AttributeText => is_only_text(item, value),
             Shape::Natural => natural(value).is_some(),
             Shape::Sized => is_sized(item, value),
@@ -491,6 +499,14 @@ impl Shape {
             Shape::StateLists => are_state_lists(value),
             Shape::States => are_present(item, value),
             Shape::StateChanges => are_changes(value),
+            Shape::ShortText => text(value).is_some(),
+            Shape::AttributeKind => is_kind(value),
+            Shape::Values => are_values(value),
+            Shape::Indexes => are_indexes(item, value),
+            Shape::MostLength => is_most(item, value),
+            Shape::SizedText => is_sized_text(item, value),
+            Shape::UpperNatural => is_upper_natural(item, value),
+            Shape::Stepped => is_step(item, value),
         }
     }
 }

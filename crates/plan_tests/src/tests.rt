@@ -1,4 +1,5 @@
 //! What the three texts hold, and their faults.
+mod attribute_items;
 mod attributes;
 mod board;
 mod channels;

@@ -4,7 +4,7 @@ use Rattle.std.proofs.lemmas.List.Folds.{list_all-map}
 use Rattle.std.proofs.lemmas.List.{length-map}
 use Rattle.toml.specs.View.{view}
 use Rattle.plan_file.specs.Ranges.{is_index}
-use Rattle.plan_file.proofs.attribute_steps.are_indexes.Goals as goal
+use Rattle.plan_file.proofs.attribute_steps.are_few_indexes.Goals as goal
 
 at_most : (m n : ℕ) → m ≤ n → nat_le m n ≡ true
 at_most m n h = grind (arith, nat_tests)
