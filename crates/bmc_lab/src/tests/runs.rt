@@ -188,6 +188,31 @@ sessions = true
 access = [2, 2]
 limit = [4, 4]
 users = [0x14, 0x14]
+[[attribute]]
+name = \"Quiet\"
+kind = \"enumeration\"
+values = [\"off\", \"on\"]
+default = [0]
+current = [0]
+readonly = false
+[[attribute]]
+name = \"Asset\"
+kind = \"string\"
+string_type = 1
+least = 0
+most = 200
+default = \"\"
+current = \"rack-1\"
+readonly = false
+[[attribute]]
+name = \"Delay\"
+kind = \"integer\"
+lower = 0
+upper = 300
+increment = 10
+default = 30
+current = 30
+readonly = false
 ";
 
 /// The sample board's file, with the first such words in place of others.
@@ -226,6 +251,8 @@ fn sample_file_is_answered_for_as_the_sample_board(rt: HostRuntime) -> Result<()
         (Bus::Ipmb, "2010D02C0C27059C"),
         (Bus::Ipmb, "2010D02C08260510000000005A0037"),
         (Bus::Smbus, "200F0931010A08C801800002BE"),
+        // The name of the asset.
+        (Bus::Smbus, "200F1031010A08C801800308000000000101000B"),
     ] {
         expect_same(&rt, rt.alloc(), bus, SAMPLE, digits)?;
     }
