@@ -417,6 +417,20 @@ fn long(alloc: Global, count: u16) -> Result<String, AllocError> {
     Ok(text)
 }
 
+/// What the fault of a file is called whose attribute has these lines, with a text of so many bytes between them.
+fn fault_of_long(
+    alloc: Global,
+    before: &'static str,
+    behind: &'static str,
+    count: u16,
+) -> Result<String, AllocError> {
+    let text = long(alloc, count)?;
+    let file = format!(in alloc;
+        "{BARE}[[attribute]]\n{before}{text}{behind}\nreadonly = false\n"
+    )?;
+    called(alloc, file.as_str())
+}
+
 #[test]
 fn texts_have_at_most_200_bytes(rt: HostRuntime) -> Result<(), Fail> {
     let alloc = rt.alloc();
@@ -424,33 +438,28 @@ fn texts_have_at_most_200_bytes(rt: HostRuntime) -> Result<(), Fail> {
         (
             "name = \"",
             "\"\nkind = \"enumeration\"\nvalues = [\"a\"]\ndefault = [0]\ncurrent = [0]",
-            "name",
+            "Range attribute 0 name",
         ),
         (
             "name = \"a\"\nkind = \"enumeration\"\nvalues = [\"\", \"",
             "\"]\ndefault = [0]\ncurrent = [1]",
-            "values",
+            "Range attribute 0 values",
         ),
         (
             "name = \"a\"\nkind = \"string\"\nstring_type = 0\nleast = 0\nmost = 200\ndefault = \"",
             "\"\ncurrent = \"\"",
-            "default",
+            "Range attribute 0 default",
         ),
         (
             "name = \"a\"\nkind = \"string\"\nstring_type = 0\nleast = 0\nmost = 200\ndefault = \"\"\ncurrent = \"",
             "\"",
-            "current",
+            "Range attribute 0 current",
         ),
     ] {
-        for (count, fault) in [(199, ""), (200, ""), (201, "Range attribute 0 ")] {
-            let text = long(alloc, count)?;
-            let file = format!(in alloc;
-                "{BARE}[[attribute]]\n{before}{text}{behind}\nreadonly = false\n"
-            )?;
-            let named = if fault == "" { "" } else { want };
-            let want = format!(in alloc; "{fault}{named}")?;
-            assert_eq!(rt; called(alloc, file.as_str())?, want, "{count} {named}");
-        }
+        let most = fault_of_long(alloc, before, behind, 200)?;
+        assert_eq!(rt; most.as_str(), "", "{want}");
+        let more = fault_of_long(alloc, before, behind, 201)?;
+        assert_eq!(rt; more.as_str(), want);
     }
     Ok(())
 }
