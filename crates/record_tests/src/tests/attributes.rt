@@ -1,14 +1,18 @@
 //! BIOS attributes, over PLDM.
+use crate::tests::users::{Change, expect_undone};
 use bmc_board::{Board, changing};
 use cfg_records::{
     Answered, Asked, Attribute, AttributeKind, BoardFile, Distinct, IntegerAttribute, IntegerSteps,
-    Op, PlainStore, RecordKind, SetBiosAttribute, Text, sample_board,
+    Op, PlainStore, SetBiosAttribute, Text, sample_board,
 };
 use pldm_base::crc32;
-use record_kinds::Limits;
 use std::alloc::Global;
+use std::process::Abort;
 use std::test::Fail;
 use two_wire::{Below, Bytes};
+
+/// What is asked of a board: a command of BIOS control and configuration with its data; and the completion code and data that it replies.
+type Step = (u8, &'static [u8], u8, &'static [u8]);
 
 /// The sample board.
 fn board(alloc: Global) -> Result<Board<PlainStore>, Fail> {
@@ -58,117 +62,183 @@ fn board_with(alloc: Global, attributes: Vec<Attribute>) -> Result<Board<PlainSt
     Ok(Board::open(alloc, file, store)?)
 }
 
-/// The request of BIOS control and configuration with this command and data.
-fn asked(command: u8, body: &[u8]) -> Option<Asked> {
-    if body.len() > 252 {
-        return None;
-    }
-    Some(Asked::pldm(Below::new(3), command, body))
+/// What the board replies to a command of BIOS control and configuration.
+fn reply(rt: &impl Abort, board: &mut Board<PlainStore>, command: u8, body: &[u8]) -> Answered {
+    assert!(rt; body.len() <= 252);
+    board.answer(&Asked::pldm(Below::new(3), command, body))
 }
 
-/// The request that shows the attribute of this handle.
-fn get(low: u8, high: u8) -> Result<Asked, Fail> {
-    Ok(asked(0x08, &[0, 0, 0, 0, 0x01, low, high]).ok_or("get")?)
+/// The board replies so to each command, one after another.
+fn replies(rt: &impl Abort, board: &mut Board<PlainStore>, steps: &[Step]) {
+    for (command, body, code, data) in steps {
+        let reply = reply(rt, board, *command, body);
+        assert_eq!(rt; reply.code, *code, "{command:02X} {body:?}");
+        assert_eq!(rt; reply.body.as_slice(), *data, "{command:02X} {body:?}");
+    }
+}
+
+/// What shows attribute 0, 1 and 2.
+const GET_0: &[u8] = &[0, 0, 0, 0, 1, 0, 0];
+
+const GET_1: &[u8] = &[0, 0, 0, 0, 1, 1, 0];
+
+const GET_2: &[u8] = &[0, 0, 0, 0, 1, 2, 0];
+
+/// What is shown of them at first: the first possible value, a text, and 30.
+const QUIET: &[u8] = &[0, 0, 0, 0, 5, 0, 0, 0, 1, 0];
+
+const RACK_1: &[u8] = &[
+    0, 0, 0, 0, 5, 1, 0, 1, 6, 0, 0x72, 0x61, 0x63, 0x6B, 0x2D, 0x31,
+];
+
+const DELAY_30: &[u8] = &[0, 0, 0, 0, 5, 2, 0, 3, 30, 0, 0, 0, 0, 0, 0, 0];
+
+/// What sets attribute 2 to 40.
+const DELAY_40: &[u8] = &[0, 0, 0, 0, 5, 2, 0, 3, 40, 0, 0, 0, 0, 0, 0, 0];
+
+/// Each attribute has the value that it had at first.
+fn expect_at_first(rt: &impl Abort, board: &mut Board<PlainStore>) {
+    replies(
+        rt,
+        board,
+        &[
+            (0x08, GET_0, 0x00, QUIET),
+            (0x08, GET_1, 0x00, RACK_1),
+            (0x08, GET_2, 0x00, DELAY_30),
+        ],
+    );
 }
 
 #[test]
 fn an_attribute_is_set_and_shown(rt: HostRuntime) -> Result<(), Fail> {
     let mut board = board(rt.alloc())?;
-    let body = [0, 0, 0, 0, 5, 2, 0, 3, 40, 0, 0, 0, 0, 0, 0, 0];
-    let set = asked(0x07, &body).ok_or("set")?;
-    assert!(rt; changing(&set));
-    assert!(rt; board.answer(&set).is(&Answered::done(&[0, 0, 0, 0])));
-    let get = get(2, 0)?;
-    assert!(rt; !changing(&get));
-    assert!(rt; board.answer(&get).is(&Answered::done(&body)));
+    expect_at_first(&rt, &mut board);
+    replies(
+        &rt,
+        &mut board,
+        &[
+            (0x07, DELAY_40, 0x00, &[0; 4]),
+            (0x08, GET_2, 0x00, DELAY_40),
+        ],
+    );
+    Ok(())
+}
+
+/// A request of the command changes a record, or it shows what is there.
+fn expect_changing(rt: &impl Abort, command: u8, body: &[u8], changes: bool) {
+    assert!(rt; body.len() <= 252);
+    let asked = Asked::pldm(Below::new(3), command, body);
+    assert_eq!(rt; changing(&asked), changes, "{command:02X}");
+}
+
+#[test]
+fn the_command_that_sets_an_attribute_alone_is_a_setting_one(rt: HostRuntime) -> Result<(), Fail> {
+    expect_changing(&rt, 0x07, DELAY_40, true);
+    expect_changing(&rt, 0x08, GET_2, false);
+    expect_changing(&rt, 0x01, &[0, 0, 0, 0, 1, 2], false);
+    // A setting one with wrong data is one as well.
+    expect_changing(&rt, 0x07, &[], true);
     Ok(())
 }
 
 #[test]
-fn an_attribute_refuses_in_order(rt: HostRuntime) -> Result<(), Fail> {
+fn setting_an_attribute_refuses_in_order(rt: HostRuntime) -> Result<(), Fail> {
     let mut board = board(rt.alloc())?;
-    for (command, body, code) in [
-        // Under eight bytes, before the flag; then the flag, before the attribute is looked for.
-        (0x07, &[0, 0, 0, 0, 1, 9, 0][..], 0x03),
-        (0x07, &[0, 0, 0, 0, 1, 9, 0, 3], 0x02),
-        (
-            0x07,
-            &[0, 0, 0, 0, 5, 3, 0, 3, 0x23, 0, 0, 0, 0, 0, 0, 0],
-            0x88,
-        ),
-        // Another type, before the entry's length; then this, before the value.
-        (0x07, &[0, 0, 0, 0, 5, 2, 0, 1, 5], 0x02),
-        (0x07, &[0, 0, 0, 0, 5, 2, 0, 0x83, 5], 0x02),
-        (0x07, &[0, 0, 0, 0, 5, 2, 0, 3, 5], 0x03),
-        (0x07, &[0, 0, 0, 0, 5, 0, 0, 0, 2, 9], 0x03),
-        (0x07, &[0, 0, 0, 0, 5, 1, 0, 1, 2, 0, 0x61], 0x03),
-        // 35 is no step of 10, 310 is above the upper bound, and there is no third possible value.
-        (
-            0x07,
-            &[0, 0, 0, 0, 5, 2, 0, 3, 0x23, 0, 0, 0, 0, 0, 0, 0],
-            0x02,
-        ),
-        (
-            0x07,
-            &[0, 0, 0, 0, 5, 2, 0, 3, 0x36, 1, 0, 0, 0, 0, 0, 0],
-            0x02,
-        ),
-        (0x07, &[0, 0, 0, 0, 5, 0, 0, 0, 1, 2], 0x02),
-        (0x07, &[0, 0, 0, 0, 5, 0, 0, 0, 0], 0x02),
-        (0x08, &[0, 0, 0, 0, 1, 2], 0x03),
-        (0x08, &[0, 0, 0, 0, 1, 2, 0, 0], 0x03),
-        // The operation, before the attribute is looked for.
-        (0x08, &[0, 0, 0, 0, 0, 3, 0], 0x02),
-        (0x08, &[0, 0, 0, 0, 2, 0, 0], 0x02),
-        (0x08, &[0, 0, 0, 0, 1, 3, 0], 0x88),
-        (0x08, &[0, 0, 0, 0, 1, 0, 1], 0x88),
-        (0x02, &[], 0x05),
-    ] {
-        let asked = asked(command, body).ok_or("request")?;
-        assert_eq!(rt; board.answer(&asked).code, code, "{command} {body:?}");
-    }
-    // The values are those that the board began with.
-    let delay = [0, 0, 0, 0, 5, 2, 0, 3, 30, 0, 0, 0, 0, 0, 0, 0];
-    assert!(rt; board.answer(&get(2, 0)?).is(&Answered::done(&delay)));
-    let quiet = [0, 0, 0, 0, 5, 0, 0, 0, 1, 0];
-    assert!(rt; board.answer(&get(0, 0)?).is(&Answered::done(&quiet)));
+    replies(
+        &rt,
+        &mut board,
+        &[
+            // Under eight bytes, before the flag; then the flag, before the attribute is looked for.
+            (0x07, &[0, 0, 0, 0, 1, 9, 0], 0x03, &[]),
+            (0x07, &[0, 0, 0, 0, 1, 9, 0, 3], 0x02, &[]),
+            (
+                0x07,
+                &[0, 0, 0, 0, 5, 3, 0, 3, 0x23, 0, 0, 0, 0, 0, 0, 0],
+                0x88,
+                &[],
+            ),
+            // Another type, before the entry's length; then this, before the value.
+            (0x07, &[0, 0, 0, 0, 5, 2, 0, 1, 5], 0x02, &[]),
+            (0x07, &[0, 0, 0, 0, 5, 2, 0, 0x83, 5], 0x02, &[]),
+            (0x07, &[0, 0, 0, 0, 5, 2, 0, 3, 5], 0x03, &[]),
+            (0x07, &[0, 0, 0, 0, 5, 0, 0, 0, 2, 9], 0x03, &[]),
+            (0x07, &[0, 0, 0, 0, 5, 1, 0, 1, 2, 0, 0x61], 0x03, &[]),
+            // 35 is no step of 10, 310 is above the upper bound, and there is no third possible value.
+            (
+                0x07,
+                &[0, 0, 0, 0, 5, 2, 0, 3, 0x23, 0, 0, 0, 0, 0, 0, 0],
+                0x02,
+                &[],
+            ),
+            (
+                0x07,
+                &[0, 0, 0, 0, 5, 2, 0, 3, 0x36, 1, 0, 0, 0, 0, 0, 0],
+                0x02,
+                &[],
+            ),
+            (0x07, &[0, 0, 0, 0, 5, 0, 0, 0, 1, 2], 0x02, &[]),
+            (0x07, &[0, 0, 0, 0, 5, 0, 0, 0, 0], 0x02, &[]),
+        ],
+    );
+    expect_at_first(&rt, &mut board);
+    Ok(())
+}
+
+#[test]
+fn showing_an_attribute_refuses_in_order(rt: HostRuntime) -> Result<(), Fail> {
+    let mut board = board(rt.alloc())?;
+    replies(
+        &rt,
+        &mut board,
+        &[
+            (0x08, &[0, 0, 0, 0, 1, 2], 0x03, &[]),
+            (0x08, &[0, 0, 0, 0, 1, 2, 0, 0], 0x03, &[]),
+            // The operation, before the attribute is looked for.
+            (0x08, &[0, 0, 0, 0, 0, 3, 0], 0x02, &[]),
+            (0x08, &[0, 0, 0, 0, 2, 0, 0], 0x02, &[]),
+            (0x08, &[0, 0, 0, 0, 1, 3, 0], 0x88, &[]),
+            (0x08, &[0, 0, 0, 0, 1, 0, 1], 0x88, &[]),
+            // A command that isn't listed.
+            (0x02, &[], 0x05, &[]),
+        ],
+    );
     Ok(())
 }
 
 #[test]
 fn a_change_of_an_attribute_is_undone(rt: HostRuntime) -> Result<(), Fail> {
     let mut board = board(rt.alloc())?;
-    let op = Op::BiosAttribute(SetBiosAttribute::of(1, 1, &[2, 0, 0x61, 0x62]));
-    let got = board.answer(&Limits::get_asked(&Limits::key(&op)));
-    let shown = [
-        0, 0, 0, 0, 5, 1, 0, 1, 6, 0, 0x72, 0x61, 0x63, 0x6B, 0x2D, 0x31,
-    ];
-    assert!(rt; got.is(&Answered::done(&shown)));
-    assert_eq!(rt; board.answer(&Limits::set_asked(&op)).code, 0);
-    let changed = board.answer(&Limits::get_asked(&Limits::key(&op)));
     let now = [0, 0, 0, 0, 5, 1, 0, 1, 2, 0, 0x61, 0x62];
-    assert!(rt; changed.is(&Answered::done(&now)));
-    let undo = Limits::inverse(&op, got.body.as_slice()).ok_or("an inverse")?;
-    let asked_again = Limits::set_asked(&undo);
-    assert!(rt; asked_again.is(&asked(0x07, &shown).ok_or("undo")?));
-    assert_eq!(rt; board.answer(&asked_again).code, 0);
-    let back = board.answer(&Limits::get_asked(&Limits::key(&op)));
-    assert!(rt; back.is(&Answered::done(&shown)));
+    let change = Change {
+        op: &Op::BiosAttribute(SetBiosAttribute::of(1, 1, &[2, 0, 0x61, 0x62])),
+        data: &now,
+        before: RACK_1,
+        after: &now,
+        undo: RACK_1,
+    };
+    expect_undone(&rt, &mut board, &change)?;
+    expect_at_first(&rt, &mut board);
     Ok(())
+}
+
+/// Sets attribute 1 to a text whose length is said to be `said`, and which has so many bytes; what is replied.
+fn set_text(rt: &impl Abort, board: &mut Board<PlainStore>, said: u8, bytes: usize) -> u8 {
+    let mut body = Bytes::<252>::from_slice(&[0, 0, 0, 0, 5, 1, 0, 1, said, 0]);
+    for _ in 0..bytes {
+        if body.len() < 252 {
+            body.extend_from_slice(&[0x61]);
+        }
+    }
+    reply(rt, board, 0x07, body.as_slice()).code
 }
 
 #[test]
 fn a_text_of_200_bytes_fits_and_one_of_201_does_not(rt: HostRuntime) -> Result<(), Fail> {
     let mut board = board(rt.alloc())?;
-    for (low, length, code) in [(200, 210, 0), (201, 211, 0x02), (200, 209, 0x03)] {
-        let mut body = [0x61; 211];
-        let head = [0, 0, 0, 0, 5, 1, 0, 1, low, 0];
-        for (place, byte) in head.iter().enumerate() {
-            body[place] = *byte;
-        }
-        let set = asked(0x07, body.get(..length).ok_or("body")?).ok_or("set")?;
-        assert_eq!(rt; board.answer(&set).code, code, "{low} {length}");
-    }
+    assert_eq!(rt; set_text(&rt, &mut board, 201, 201), 0x02);
+    assert_eq!(rt; set_text(&rt, &mut board, 200, 199), 0x03);
+    expect_at_first(&rt, &mut board);
+    assert_eq!(rt; set_text(&rt, &mut board, 200, 200), 0x00);
     Ok(())
 }
 
@@ -177,122 +247,149 @@ fn an_attribute_that_can_only_be_read_is_shown_and_not_set(rt: HostRuntime) -> R
     let mut attributes = Vec::new(rt.alloc());
     attributes.push(serial().ok_or("serial")?)?;
     let mut board = board_with(rt.alloc(), attributes)?;
-    let shown = [0, 0, 0, 0, 5, 0, 0, 0x83, 7, 0, 0, 0, 0, 0, 0, 0];
-    assert!(rt; board.answer(&get(0, 0)?).is(&Answered::done(&shown)));
-    for code in [0x03, 0x83] {
-        let body = [0, 0, 0, 0, 5, 0, 0, code, 8, 0, 0, 0, 0, 0, 0, 0];
-        let set = asked(0x07, &body).ok_or("set")?;
-        assert_eq!(rt; board.answer(&set).code, 0x02);
-    }
-    assert!(rt; board.answer(&get(0, 0)?).is(&Answered::done(&shown)));
+    let shown: Step = (
+        0x08,
+        GET_0,
+        0x00,
+        &[0, 0, 0, 0, 5, 0, 0, 0x83, 7, 0, 0, 0, 0, 0, 0, 0],
+    );
+    replies(
+        &rt,
+        &mut board,
+        &[
+            shown,
+            (
+                0x07,
+                &[0, 0, 0, 0, 5, 0, 0, 0x03, 8, 0, 0, 0, 0, 0, 0, 0],
+                0x02,
+                &[],
+            ),
+            (
+                0x07,
+                &[0, 0, 0, 0, 5, 0, 0, 0x83, 8, 0, 0, 0, 0, 0, 0, 0],
+                0x02,
+                &[],
+            ),
+            shown,
+        ],
+    );
     Ok(())
 }
 
-/// The data of GetBIOSTable for the first part of the table of this number.
-fn table(number: u8) -> Result<Asked, Fail> {
-    Ok(asked(0x01, &[0, 0, 0, 0, 0x01, number]).ok_or("table")?)
-}
-
-/// Whether these bytes are a whole table of these entries and padding: no next part, both flags, and the check behind them.
-fn is_whole(body: &[u8], entries: &[u8]) -> bool {
+/// The first part of the table of this number is the whole table, which has these entries and padding: no next part, both flags, and
+/// the check behind them.
+fn expect_whole(rt: &impl Abort, board: &mut Board<PlainStore>, number: u8, entries: &[u8]) {
+    let given = reply(rt, board, 0x01, &[0, 0, 0, 0, 1, number]);
+    assert!(rt; entries.len() <= 200);
     let mut want: Bytes<251> = Bytes::from_slice(&[0, 0, 0, 0, 5]);
-    if entries.len() > 200 {
-        return false;
-    }
     want.extend_from_slice(entries);
     want.extend_from_slice(&crc32(entries).to_le_bytes());
-    body == want.as_slice()
+    assert_eq!(rt; given.code, 0);
+    assert_eq!(rt; given.body.as_slice(), want.as_slice());
+}
+
+/// The data of the part that is asked for are so many bytes, and begin so.
+fn expect_part(
+    rt: &impl Abort,
+    board: &mut Board<PlainStore>,
+    asked: &[u8],
+    length: usize,
+    begins: &[u8],
+) -> Result<(), Fail> {
+    let given = reply(rt, board, 0x01, asked);
+    assert_eq!(rt; given.code, 0);
+    assert_eq!(rt; given.body.len(), length);
+    assert_eq!(rt;
+        given.body.as_slice().get(..begins.len()).ok_or("part")?,
+        begins
+    );
+    Ok(())
 }
 
 #[test]
 fn the_tables_of_the_sample_board_are_given(rt: HostRuntime) -> Result<(), Fail> {
     let mut board = board(rt.alloc())?;
-    let values = board.answer(&table(2)?);
-    assert_eq!(rt; values.code, 0);
-    let entries = [
+    let values = [
         0, 0, 0, 1, 0, 1, 0, 1, 6, 0, 0x72, 0x61, 0x63, 0x6B, 0x2D, 0x31, 2, 0, 3, 0x1E, 0, 0, 0,
         0, 0, 0, 0, 0,
     ];
-    assert!(rt; is_whole(values.body.as_slice(), &entries));
-    let strings = board.answer(&table(0)?);
-    assert_eq!(rt; strings.body.len(), 49);
-    let begins = [
+    expect_whole(&rt, &mut board, 2, &values);
+    let strings = [
         0, 0, 0, 0, 5, 0x00, 0x00, 0x05, 0x00, 0x51, 0x75, 0x69, 0x65, 0x74, 0x01, 0x00, 0x03,
         0x00, 0x6F, 0x66, 0x66,
     ];
-    assert_eq!(rt;
-        strings.body.as_slice().get(..21).ok_or("strings")?,
-        begins.as_slice()
-    );
-    let attributes = board.answer(&table(1)?);
-    assert_eq!(rt; attributes.body.len(), 69);
-    let begins = [
+    expect_part(&rt, &mut board, &[0, 0, 0, 0, 1, 0], 49, &strings)?;
+    let attributes = [
         0, 0, 0, 0, 5, 0, 0, 0, 0, 0, 2, 1, 0, 2, 0, 1, 0, 1, 0, 1, 3, 0, 1, 0, 0, 0xC8, 0, 0, 0,
     ];
-    assert_eq!(rt;
-        attributes.body.as_slice().get(..29).ok_or("attributes")?,
-        begins.as_slice()
+    expect_part(&rt, &mut board, &[0, 0, 0, 0, 1, 1], 69, &attributes)
+}
+
+#[test]
+fn a_table_refuses_in_order(rt: HostRuntime) -> Result<(), Fail> {
+    let mut board = board(rt.alloc())?;
+    replies(
+        &rt,
+        &mut board,
+        &[
+            (0x01, &[0, 0, 0, 0, 1], 0x03, &[]),
+            // A number of no table, and a table that isn't there, before the operation.
+            (0x01, &[0, 0, 0, 0, 9, 4], 0x85, &[]),
+            (0x01, &[0, 0, 0, 0, 9, 3], 0x83, &[]),
+            (0x01, &[0, 0, 0, 0, 1, 4], 0x85, &[]),
+            (0x01, &[0, 0, 0, 0, 1, 3], 0x83, &[]),
+            // An operation that is none, the first part as a later one, and a part behind the table.
+            (0x01, &[0, 0, 0, 0, 2, 2], 0x02, &[]),
+            (0x01, &[0, 0, 0, 0, 0, 2], 0x02, &[]),
+            (0x01, &[0xC0, 0, 0, 0, 0, 2], 0x02, &[]),
+        ],
     );
-    assert_eq!(rt; board.answer(&table(3)?).code, 0x83);
-    assert_eq!(rt; board.answer(&table(4)?).code, 0x85);
     Ok(())
 }
 
 #[test]
-fn a_table_refuses_in_order_and_shows_what_stands_now(rt: HostRuntime) -> Result<(), Fail> {
+fn a_table_shows_the_values_that_stand_now(rt: HostRuntime) -> Result<(), Fail> {
     let mut board = board(rt.alloc())?;
-    for (body, code) in [
-        (&[0, 0, 0, 0, 1][..], 0x03),
-        (&[0, 0, 0, 0, 9, 4], 0x85),
-        (&[0, 0, 0, 0, 9, 3], 0x83),
-        (&[0, 0, 0, 0, 2, 2], 0x02),
-        (&[0, 0, 0, 0, 0, 2], 0x02),
-        (&[0xC0, 0, 0, 0, 0, 2], 0x02),
-    ] {
-        let asked = asked(0x01, body).ok_or("table")?;
-        assert_eq!(rt; board.answer(&asked).code, code, "{body:?}");
-    }
-    let set = asked(0x07, &[0, 0, 0, 0, 5, 1, 0, 1, 0, 0]).ok_or("set")?;
-    assert_eq!(rt; board.answer(&set).code, 0);
-    let entries = [
+    replies(
+        &rt,
+        &mut board,
+        &[(0x07, &[0, 0, 0, 0, 5, 1, 0, 1, 0, 0], 0x00, &[0; 4])],
+    );
+    let values = [
         0, 0, 0, 1, 0, 1, 0, 1, 0, 0, 2, 0, 3, 0x1E, 0, 0, 0, 0, 0, 0, 0, 0, 0, 0,
     ];
-    let values = board.answer(&table(2)?);
-    assert!(rt; is_whole(values.body.as_slice(), &entries));
+    expect_whole(&rt, &mut board, 2, &values);
     Ok(())
 }
 
 #[test]
 fn a_board_without_attributes_has_no_table(rt: HostRuntime) -> Result<(), Fail> {
     let mut board = board_with(rt.alloc(), Vec::new(rt.alloc()))?;
-    for (number, code) in [(0, 0x83), (1, 0x83), (2, 0x83), (3, 0x83), (4, 0x85)] {
-        assert_eq!(rt; board.answer(&table(number)?).code, code);
-    }
+    replies(
+        &rt,
+        &mut board,
+        &[
+            (0x01, &[0, 0, 0, 0, 1, 0], 0x83, &[]),
+            (0x01, &[0, 0, 0, 0, 1, 1], 0x83, &[]),
+            (0x01, &[0, 0, 0, 0, 1, 2], 0x83, &[]),
+            (0x01, &[0, 0, 0, 0, 1, 3], 0x83, &[]),
+            (0x01, &[0, 0, 0, 0, 1, 4], 0x85, &[]),
+            // Nor has it an attribute.
+            (0x08, GET_0, 0x88, &[]),
+        ],
+    );
     Ok(())
 }
 
 #[test]
 fn a_long_table_is_given_in_parts(rt: HostRuntime) -> Result<(), Fail> {
     let mut board = board(rt.alloc())?;
-    let mut body = [0x61; 210];
-    let head = [0, 0, 0, 0, 5, 1, 0, 1, 200, 0];
-    for (place, byte) in head.iter().enumerate() {
-        body[place] = *byte;
-    }
-    assert_eq!(rt; board.answer(&asked(0x07, &body).ok_or("set")?).code, 0);
+    assert_eq!(rt; set_text(&rt, &mut board, 200, 200), 0);
     // 5, 205 and 11 bytes of entries, three of padding and four of the check: 228.
-    let first = board.answer(&table(2)?);
-    assert_eq!(rt; first.body.len(), 5 + 192);
-    assert_eq!(rt;
-        first.body.as_slice().get(..5).ok_or("first")?,
-        [0xC0, 0, 0, 0, 1].as_slice()
-    );
-    let next = asked(0x01, &[0xC0, 0, 0, 0, 0, 2]).ok_or("next")?;
-    let last = board.answer(&next);
-    assert_eq!(rt; last.body.len(), 5 + 36);
-    assert_eq!(rt;
-        last.body.as_slice().get(..5).ok_or("last")?,
-        [0, 0, 0, 0, 4].as_slice()
-    );
-    Ok(())
+    let first = [0xC0, 0, 0, 0, 1, 0, 0, 0, 1, 0];
+    expect_part(&rt, &mut board, &[0, 0, 0, 0, 1, 2], 5 + 192, &first)?;
+    // The handle of the first part isn't looked at.
+    expect_part(&rt, &mut board, &[7, 0, 0, 0, 1, 2], 5 + 192, &first)?;
+    let last = [0, 0, 0, 0, 4, 0x61];
+    expect_part(&rt, &mut board, &[0xC0, 0, 0, 0, 0, 2], 5 + 36, &last)
 }

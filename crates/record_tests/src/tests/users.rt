@@ -463,12 +463,12 @@ fn name(user: u8, name: [u8; 16]) -> Op {
 
 /// A change: the data of its request, what a Get replies before it and after, and the data of the request that undoes it.
 #[derive(Clone, Copy)]
-struct Change<'a> {
-    op: &'a Op,
-    data: &'a [u8],
-    before: &'a [u8],
-    after: &'a [u8],
-    undo: &'a [u8],
+pub(super) struct Change<'a> {
+    pub op: &'a Op,
+    pub data: &'a [u8],
+    pub before: &'a [u8],
+    pub after: &'a [u8],
+    pub undo: &'a [u8],
 }
 
 /// What a Get replies of the record that the operation changes.
@@ -477,7 +477,7 @@ fn shown(board: &mut Board<PlainStore>, op: &Op) -> Bytes<251> {
 }
 
 /// The change is carried out and undone from what a Get replied.
-fn expect_undone(
+pub(super) fn expect_undone(
     rt: &impl Abort,
     board: &mut Board<PlainStore>,
     change: &Change<'_>,
