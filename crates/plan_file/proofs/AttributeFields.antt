@@ -27,7 +27,7 @@ use Rattle.plan_file.specs.declared.row.Need.TheVariants as need
 use Rattle.plan_file.specs.declared.row.TheConstants.{ATTRIBUTE, ENUMERATION, STRING, INTEGER}
 use Rattle.plan_file.specs.Trees.{in_field, natural, members, members_in, number_in, table_of, or_none}
 use Rattle.plan_file.specs.Attributes.{short_text, text_of, is_kind, is_below, are_indexes, is_as_long, is_stepped}
-use Rattle.plan_file.specs.Ranges.{passes, has_text, is_between, is_most, is_sized_text, is_step}
+use Rattle.plan_file.specs.Ranges.{passes, has_text, is_between, is_sized_text, is_step}
 use Rattle.plan_file.specs.Faults.{field_faults, attribute_rows, attribute_faults_at, attribute_faults_from, first}
 use Rattle.plan_file.specs.AttributeItems.{text_in, IsIndexIn, HaveHandles}
 use Rattle.plan_file.specs.Holds.{HasBelow}

@@ -4,7 +4,7 @@ ghost use Rattle.std.specs.List.{list_all, AllZip};
 ghost use Rattle.toml.specs.View.{view, table_view};
 ghost use Rattle.plan_file.specs.Trees.{natural, number_in, table_of, members_in};
 ghost use Rattle.plan_file.specs.Attributes.{text_of, is_below, are_indexes};
-ghost use Rattle.plan_file.specs.AttributeItems.{text_in, boolean_in, IsTextIn, IsIndexIn, HoldsEnumeration, HoldsString, HoldsInteger, HoldsKind, HoldsAttribute, IsAttributeIn, HaveHandles, HoldsAttributes};
+ghost use Rattle.plan_file.specs.AttributeItems.{text_in, boolean_in, IsTextIn, IsIndexIn, HoldsEnumeration, HoldsString, HoldsInteger, HoldsKind, HoldsAttribute, IsAttributeIn, HoldsAttributes};
 ghost use Rattle.plan_file.specs.Ranges.{is_table};
 ghost use Rattle.plan_file.specs.Faults.{field_faults, attribute_rows, attribute_faults_at, attribute_faults, first};
 

@@ -1,7 +1,6 @@
 //! BIOS attributes in files: their texts, lists and numbers.
-ghost use Rattle.std.specs.Prelude.{◌≡◌, ◌≤◌, ◌<◌, is_some, length, map};
+ghost use Rattle.std.specs.Prelude.{◌≡◌, is_some, length};
 ghost use Rattle.std.specs.List.{list_all};
-ghost use Rattle.cfg_records.specs.AttributeSizes.{most_text};
 ghost use Rattle.toml.specs.Data.{as_str};
 ghost use Rattle.toml.specs.View.{view, table_view};
 ghost use Rattle.plan_file.specs.Trees.{natural, members, or_none, members_in};

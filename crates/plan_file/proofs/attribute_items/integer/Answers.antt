@@ -1,4 +1,4 @@
-use Rattle.std.proofs.Common.{◌≡◌, lit<}
+use Rattle.std.proofs.Common.{lit<}
 use Rattle.toml.specs.View.{table_view}
 use Rattle.cfg_records.specs.declared.attribute_range.IntegerSteps.{IntegerSteps}
 use Rattle.plan_file.specs.declared.field.Field.TheVariants as field

@@ -1,4 +1,4 @@
-use Rattle.std.proofs.Common.{◌≡◌, sym, ◌∙◌}
+use Rattle.std.proofs.Common.{sym, ◌∙◌}
 use Rattle.toml.specs.View.{table_view}
 use Rattle.plan_file.proofs.AttributeFields.{integer_rows}
 use Rattle.plan_file.proofs.attribute_items.kind.Goals as goal

@@ -1,4 +1,4 @@
-use Rattle.std.proofs.Common.{◌≡◌, refl, lit<}
+use Rattle.std.proofs.Common.{refl, lit<}
 use Rattle.toml.specs.View.{table_view}
 use Rattle.plan_file.specs.declared.field.Field.TheVariants as field
 use Rattle.plan_file.specs.declared.row.TheConstants.{STRING}
