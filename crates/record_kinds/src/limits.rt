@@ -111,6 +111,7 @@ impl Setup {
     ghost use Rattle.record_kinds.specs.Boards.{limits_at};
 
     /// The limits of the key's record.
+    #[inline(always)]
     pub fn limits(&self, key: &Key) -> Option<Limits<'_>>
         ensures { result ≡ limits_at self.now key.now }
     {

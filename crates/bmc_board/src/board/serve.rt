@@ -6,13 +6,14 @@ ghost use Rattle.cfg_records.specs.Boards.{pairs_of};
 ghost use Rattle.cfg_records.specs.Meaning.{room_for};
 ghost use Rattle.cfg_records.specs.declared.message.Answered.{Answered as Reply};
 ghost use Rattle.bmc_board.specs.Gives.{Gives};
-ghost use Rattle.bmc_board.specs.Request.{key_in, op_in};
+ghost use Rattle.bmc_board.specs.Request.{key_in};
 ghost use Rattle.bmc_board.specs.Replies.{done, unknown_code};
 ghost use Rattle.bmc_board.specs.Sensing.{value_at};
 
 use crate::activity::Activity;
 use crate::board::Board;
 use crate::board::bios::{Standing, show_part, table_asked};
+use crate::board::set_data::{self, SetData};
 use crate::command::{Command, GetCommand, SetCommand};
 use crate::live::{
     LiveCommand, NO_ERROR, PLDM_TYPES, already_in_progress, device_data, progress_data,
@@ -29,17 +30,14 @@ use cfg_records::{
     Store, StoredAccess, UserNumber, UserOnChannel, Value, byte_at,
 };
 use effecter_recs::request::id_in;
-use effecter_recs::{numeric, state};
 use record_kinds::{Limits, Setup};
 use sensor_recs::taken::reading_data;
-use sensor_recs::{event_enable, hysteresis, thresholds};
 use std::alloc::{AllocError, Global};
 use two_wire::{Buffer, Bytes, Code, code};
 use user_chan::channel_request::{ChannelRequest, channel_request_in, stored_in};
 use user_chan::password::{PasswordChange, change_of, set_enabled};
-use user_chan::{user_access, user_name};
 use watch_boot::boot_request::{BootRequest, BootShown, boot_request_in, boot_shown_in};
-use watch_boot::{global_enables, power_policy, watchdog};
+use watch_boot::watchdog;
 
 /// The code for a record that isn't there.
 fn unknown_code(setup: &Setup, key: &Key) -> Code
@@ -84,26 +82,6 @@ fn key_in(command: GetCommand, body: &[u8]) -> Key
         GetUserName => Key::UserName(UserNumber::of(byte_at(body, 0))),
         GetUserAccess => Key::UserAccess(UserOnChannel::of(byte_at(body, 0), byte_at(body, 1))),
         GetChannelAccess => Key::ChannelAccess(stored_in(body)),
-    }
-}
-
-/// The operation that a command carries out.
-#[inline(always)]
-fn op_in(command: SetCommand, body: &[u8]) -> Op
-    ensures { result ≡ op_in command body.now }
-{
-    use SetCommand::*;
-    match command {
-        SetSensorHysteresis => Op::Hysteresis(hysteresis::hysteresis_in(body)),
-        SetSensorThresholds => Op::Thresholds(thresholds::thresholds_in(body)),
-        SetSensorEventEnable => Op::EventEnable(event_enable::event_enable_in(body)),
-        SetPowerRestorePolicy => Op::PowerPolicy(power_policy::policy_in(body)),
-        SetWatchdogTimer => Op::Watchdog(watchdog::watchdog_in(body)),
-        SetGlobalEnables => Op::GlobalEnables(global_enables::enables_in(body)),
-        SetNumericEffecterValue => Op::NumericEffecter(numeric::numeric_effecter_in(body)),
-        SetStateEffecterStates => Op::StateEffecter(state::state_effecter_in(body)),
-        SetUserName => Op::UserName(user_name::name_in(body)),
-        SetUserAccess => Op::UserAccess(user_access::access_in(body)),
     }
 }
 
@@ -357,9 +335,18 @@ impl<S: Store> Board<S> {
         }
     }
 
-    /// Carries out a command that changes a record. The operation is made here, once for all kinds, and stays here: an operation has
-    /// room for that of the bulkiest kind, and a function fills each of its own with zeros.
+    /// Carries out the operation that the command's data is. It is made here, and stays here.
     #[inline(never)]
+    fn carry_out<D: SetData, B: Buffer>(&mut self, body: &[u8], to: &mut B) -> Result<(), Code>
+        requires room { length (B.bytes to.old) + longest_reply (request.Set (op_in D.command body.now)) ≤ B.capacity }
+        ensures answer { Gives result (B.bytes to.old) (B.bytes to.new) (serve_of self.old.setup (state_of S.records self.old) (request.Set (op_in D.command body.now))).0 }
+        ensures left { state_of S.records self.new ≡ (serve_of self.old.setup (state_of S.records self.old) (request.Set (op_in D.command body.now))).1 }
+        ensures setup { self.new.setup ≡ self.old.setup }
+    {
+        self.set(&D::op_in(body), to)
+    }
+
+    /// Carries out a command that changes a record.
     fn change<B: Buffer>(
         &mut self,
         command: SetCommand,
@@ -371,7 +358,26 @@ impl<S: Store> Board<S> {
         ensures left { state_of S.records self.new ≡ (serve_of self.old.setup (state_of S.records self.old) (request.Set (op_in command body.now))).1 }
         ensures setup { self.new.setup ≡ self.old.setup }
     {
-        self.set(&op_in(command, body), to)
+        match command {
+            SetCommand::SetSensorHysteresis => self.carry_out::<set_data::Hysteresis, B>(body, to),
+            SetCommand::SetSensorThresholds => self.carry_out::<set_data::Thresholds, B>(body, to),
+            SetCommand::SetSensorEventEnable => self.carry_out::<set_data::EventEnable, B>(
+                body, to,
+            ),
+            SetCommand::SetPowerRestorePolicy => self.carry_out::<set_data::PowerPolicy, B>(
+                body, to,
+            ),
+            SetCommand::SetWatchdogTimer => self.carry_out::<set_data::Watchdog, B>(body, to),
+            SetCommand::SetGlobalEnables => self.carry_out::<set_data::GlobalEnables, B>(body, to),
+            SetCommand::SetNumericEffecterValue => self.carry_out::<set_data::NumericEffecter, B>(
+                body, to,
+            ),
+            SetCommand::SetStateEffecterStates => self.carry_out::<set_data::StateEffecter, B>(
+                body, to,
+            ),
+            SetCommand::SetUserName => self.carry_out::<set_data::UserName, B>(body, to),
+            SetCommand::SetUserAccess => self.carry_out::<set_data::UserAccess, B>(body, to),
+        }
     }
 
     /// Carries out Set System Boot Options.
