@@ -1,4 +1,5 @@
 //! Worked frames on the sample board, and what a run does where memory or a write is refused.
+mod files;
 mod ipmb;
 mod runs;
 mod smbus;

@@ -141,7 +141,7 @@ fn a_run_says_what_was_sent_or_why_nothing_was(rt: HostRuntime) -> Result<(), Fa
 }
 
 /// The sample board's file.
-const SAMPLE: &str = "tid = 5
+pub(super) const SAMPLE: &str = "tid = 5
 clock = 0
 log = 2
 enables = 0x08

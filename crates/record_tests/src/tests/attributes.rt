@@ -24,7 +24,8 @@ fn an_attribute_is_set_and_shown(rt: HostRuntime) -> Result<(), Fail> {
     let forty = &[0, 0, 0, 0, 5, 2, 0, 3, 40, 0, 0, 0, 0, 0, 0, 0];
     let set = bios(0x07, forty, 0x00, &[0, 0, 0, 0]);
     let get = bios(0x08, &[0, 0, 0, 0, 1, 2, 0], 0x00, forty);
-    expect_settings(&rt, &[(set, true), (get, false)])?;
+    let first = bios(0x01, &[0, 0, 0, 0, 1, 0], 0x00, &[]);
+    expect_settings(&rt, &[(set, true), (get, false), (first, false)])?;
     expect_sample(&rt, rt.alloc(), &[set, get])
 }
 
@@ -198,6 +199,8 @@ fn a_table_refuses_in_order_and_shows_what_stands_now(rt: HostRuntime) -> Result
         table(&[0xC0, 0, 0, 0, 0, 2], 0x02, &[]),
         bios(0x07, &[0, 0, 0, 0, 5, 1, 0, 1, 0, 0], 0x00, &[0, 0, 0, 0]),
         table(&[0, 0, 0, 0, 1, 2], 0x00, values),
+        // The handle of a first part isn't looked at.
+        table(&[0x12, 0x34, 0x56, 0x78, 1, 2], 0x00, values),
     ];
     expect_sample(&rt, rt.alloc(), &story)
 }
@@ -210,6 +213,7 @@ fn a_board_without_attributes_has_no_table(rt: HostRuntime) -> Result<(), Fail> 
         table(&[0, 0, 0, 0, 1, 2], 0x83, &[]),
         table(&[0, 0, 0, 0, 1, 3], 0x83, &[]),
         table(&[0, 0, 0, 0, 1, 4], 0x85, &[]),
+        bios(0x08, &[0, 0, 0, 0, 1, 0, 0], 0x88, &[]),
     ];
     let file = file_with(rt.alloc(), Vec::new(rt.alloc()))?;
     expect_story(&rt, rt.alloc(), file, &story)
