@@ -4,17 +4,13 @@ use Rattle.std.specs.List.{flat_map, list_any, position}
 use Rattle.std.specs.Option.{unwrap_or}
 use Rattle.std.specs.Cmp.Lexicographic.{pointwise}
 use Rattle.std.specs.Int.{w32, w64, to_le_bytes}
-use Rattle.bios_attr.specs.declared.attribute.Attribute.{Attribute}
-use Rattle.bios_attr.specs.declared.attribute.IntegerAttribute.{IntegerAttribute}
-use Rattle.bios_attr.specs.declared.attribute.AttributeKind.{AttributeKind}
-use Rattle.bios_attr.specs.declared.attribute.AttributeKind.TheVariants.{Enumeration, Text, Integer}
-use Rattle.bios_attr.specs.ValueEntry.{two_bytes, enumeration_type, string_type, integer_type, shown_type}
-
--- the type of such an attribute
-abbrev pub type_of_kind : AttributeKind → ℕ
-type_of_kind (Enumeration e) = enumeration_type
-type_of_kind (Text t) = string_type
-type_of_kind (Integer i) = integer_type
+use Rattle.cfg_records.specs.declared.attribute.Attribute.{Attribute}
+use Rattle.cfg_records.specs.declared.attribute.IntegerAttribute.{IntegerAttribute}
+use Rattle.cfg_records.specs.declared.attribute.AttributeKind.{AttributeKind}
+use Rattle.cfg_records.specs.declared.attribute.AttributeKind.TheVariants.{Enumeration, Text, Integer}
+use Rattle.cfg_records.specs.AttributeValue.{two_bytes}
+use Rattle.cfg_records.specs.Attribute.{type_of_kind}
+use Rattle.bios_attr.specs.ValueEntry.{shown_type}
 
 -- ---- strings
 

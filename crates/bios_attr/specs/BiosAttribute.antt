@@ -1,18 +1,24 @@
 -- The value of a BIOS attribute, as a kind of record (DSP0247). A value has the bytes that a value entry has behind the type.
-use Rattle.std.specs.Prelude.{◌≡◌, ℕ, ◌≤◌, ◌==◌, ◌&&◌, nat_le, not, List, [], ◌∷◌, ◌++◌, drop, length, slice_index, Bool, true, false, IsTrue, if◌then◌else◌, is_some, Option, Some, None, Result, Ok, Err}
-use Rattle.two_wire.specs.Codes.{pldm_invalid_data, pldm_invalid_length}
+use Rattle.std.specs.Prelude.{◌≡◌, ℕ, ◌≤◌, ◌==◌, ◌&&◌, nat_le, not, List, [], ◌∷◌, ◌++◌, drop, length, slice_index, Bool, true, false, IsTrue, if◌then◌else◌, is_some, Option, Some, None, Result, Ok, Err, refl}
+use Rattle.two_wire.specs.Codes.{pldm_invalid_data, pldm_invalid_length, pldm_invalid_attribute}
 use Rattle.cfg_records.specs.declared.key.Key.{Key}
+use Rattle.cfg_records.specs.declared.key.Key.TheVariants as key
+use Rattle.cfg_records.specs.declared.op.Op.{Op}
+use Rattle.cfg_records.specs.declared.op.Op.TheVariants as op
 use Rattle.cfg_records.specs.declared.message.Asked.{Asked}
 use Rattle.cfg_records.specs.Kind.{KindWords, RecordWords}
+use Rattle.cfg_records.specs.AllKinds.{Place}
 use Rattle.cfg_records.specs.Requests.{pldm_request, byte_at}
-use Rattle.bios_attr.specs.declared.value_entry.AttributeValue.{AttributeValue}
-use Rattle.bios_attr.specs.declared.value_entry.AttributeValue.TheVariants.{Indexes, Text, Number}
+use Rattle.cfg_records.specs.declared.attribute_value.AttributeValue.{AttributeValue}
+use Rattle.cfg_records.specs.declared.attribute_value.AttributeValue.TheVariants.{Indexes, Text, Number}
 use Rattle.bios_attr.specs.declared.value_entry.ValueEntry.{ValueEntry}
 use Rattle.bios_attr.specs.declared.bios_attribute.AttributeLimits.{AttributeLimits}
-use Rattle.bios_attr.specs.declared.bios_attribute.SetBiosAttribute.{SetBiosAttribute}
-use Rattle.bios_attr.specs.Sizes.{most_indexes, most_text}
-use Rattle.bios_attr.specs.ValueEntry.{two_bytes, number_of, shown_type, value_in, entry_in}
-use Rattle.bios_attr.specs.AttributeRange.{type_of, IsValue, is_allowed}
+use Rattle.cfg_records.specs.declared.bios_attribute.SetBiosAttribute.{SetBiosAttribute}
+use Rattle.cfg_records.specs.AttributeSizes.{most_indexes, most_text}
+use Rattle.cfg_records.specs.AttributeValue.{two_bytes, number_of, value_in}
+use Rattle.bios_attr.specs.ValueEntry.{shown_type, entry_in}
+use Rattle.cfg_records.specs.BiosAttribute.{setting}
+use Rattle.cfg_records.specs.AttributeRange.{type_of, IsValue, is_allowed}
 
 -- the PLDM type of BIOS control and configuration, and the commands that set and get an attribute's value
 abbrev pub bios : ℕ
@@ -23,10 +29,6 @@ set_current_value = 0x07
 
 abbrev pub get_current_value : ℕ
 get_current_value = 0x08
-
--- no attribute has this handle
-abbrev pub invalid_attribute : ℕ
-invalid_attribute = 0x88
 
 -- the transfer flag of data that is whole, and the transfer operation that asks for it
 abbrev pub start_and_end : ℕ
@@ -67,7 +69,7 @@ attribute_outcome limits op =
     then (if is_allowed limits.range (value_given limits op) then Ok op.value else Err pldm_invalid_data)
     else Err pldm_invalid_length)
     else Err pldm_invalid_data)
-    else Err invalid_attribute
+    else Err pldm_invalid_attribute
 
 -- ---- requests and replies
 
@@ -84,9 +86,13 @@ abbrev pub attribute_in : List ℕ → Result SetBiosAttribute ℕ
 attribute_in body =
     if nat_le 8 (length body)
     then (if byte_at body 4 == start_and_end
-    then Ok (record { attribute = number_of (byte_at body 5) (byte_at body 6); attribute_type = byte_at body 7; value = drop 8 body })
+    then Ok (setting (number_of (byte_at body 5) (byte_at body 6)) (byte_at body 7) (drop 8 body))
     else Err pldm_invalid_data)
     else Err pldm_invalid_length
+
+-- the attribute that the data of a Get ask for: another transfer operation is refused
+abbrev pub attribute_shown_in : List ℕ → Result ℕ ℕ
+attribute_shown_in body = if byte_at body 4 == get_first_part then Ok (number_of (byte_at body 5) (byte_at body 6)) else Err pldm_invalid_data
 
 -- the Get reply: no further part, the flag, and the entry
 abbrev pub attribute_view : AttributeLimits → List ℕ → List ℕ
@@ -114,13 +120,13 @@ is_attribute_reply reply = (slice_index reply 4 == start_and_end) && is_entry_wi
 
 -- the operation that sets what the reply shows: its whole entry
 abbrev pub undo_attribute : List ℕ → SetBiosAttribute
-undo_attribute reply = record { attribute = number_of (slice_index reply 5) (slice_index reply 6); attribute_type = slice_index reply 7; value = drop 8 reply }
+undo_attribute reply = setting (number_of (slice_index reply 5) (slice_index reply 6)) (slice_index reply 7) (drop 8 reply)
 
--- ---- the kind, by what its records are named
+-- ---- the kind
 
-abbrev pub words : (ℕ → Key) → KindWords ℕ SetBiosAttribute
-words name = record {
-  name = name;
+abbrev pub words : KindWords ℕ SetBiosAttribute
+words = record {
+  name = key.BiosAttribute;
   key_of = λ op. op.attribute;
   get_asked = λ handle. pldm_request bios get_current_value (no_handle ++ get_first_part ∷ two_bytes handle);
   set_data = attribute_body;
@@ -146,4 +152,21 @@ record_words limits = record {
   view = λ value live. attribute_view limits value;
   conf = λ reply. reply;
   shown = λ value. value;
+}
+
+abbrev own_key : (k : Key) → Option ((own : ℕ) × (k ≡ words.name own))
+own_key (key.BiosAttribute handle) = Some (handle, refl)
+own_key _ = None
+
+abbrev own_op : (o : Op) → Option ((own : SetBiosAttribute) × (o ≡ op.BiosAttribute own))
+own_op (op.BiosAttribute o) = Some (o, refl)
+own_op _ = None
+
+abbrev pub place : Place words
+place = record {
+  op = op.BiosAttribute;
+  own_key = own_key;
+  own_op = own_op;
+  finds_key = λ own. refl;
+  finds_op = λ o. refl;
 }

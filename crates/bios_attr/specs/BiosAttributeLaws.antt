@@ -3,68 +3,24 @@ use Rattle.std.proofs.Common.{◌≡◌, ◌≢◌, ℕ, zero, suc, ◌+◌, ◌
 use Rattle.std.specs.Option.{IsSomeAnd, IsSomeAnd-prop, option_map}
 use Rattle.std.proofs.Props.{props}
 use Rattle.std.proofs.lemmas.Bool.Decides.{nat_tests}
-use Rattle.two_wire.specs.Codes.{pldm_invalid_data, pldm_invalid_length}
-use Rattle.cfg_records.specs.declared.key.Key.{Key}
-use Rattle.cfg_records.specs.Keys.{is_length}
+use Rattle.two_wire.specs.Codes.{pldm_invalid_data, pldm_invalid_length, pldm_invalid_attribute}
 use Rattle.cfg_records.specs.MaskLaws.{both_true, both}
 use Rattle.cfg_records.specs.Meaning.{Decides, IsRefusal}
 use Rattle.cfg_records.specs.InverseLaws.{some_where, made_where, tested_same, same_tested}
 use Rattle.cfg_records.specs.Kind.{KindLaws, RecordLaws}
-use Rattle.bios_attr.specs.declared.attribute_range.AttributeRange.{AttributeRange}
-use Rattle.bios_attr.specs.declared.attribute_range.AttributeRange.TheVariants as range
-use Rattle.bios_attr.specs.declared.value_entry.AttributeValue.{AttributeValue}
-use Rattle.bios_attr.specs.declared.value_entry.AttributeValue.TheVariants.{Indexes, Text, Number}
+use Rattle.cfg_records.specs.declared.attribute_range.AttributeRange.{AttributeRange}
+use Rattle.cfg_records.specs.declared.attribute_range.AttributeRange.TheVariants as range
+use Rattle.cfg_records.specs.declared.attribute_value.AttributeValue.{AttributeValue}
+use Rattle.cfg_records.specs.declared.attribute_value.AttributeValue.TheVariants.{Indexes, Text, Number}
+use Rattle.cfg_records.specs.BiosAttributeLaws.{sent_whole}
+use Rattle.cfg_records.specs.AttributeRangeLaws.{le_true, true_allows, allows_true, Allows-prop, value_length, length_tested}
 use Rattle.bios_attr.specs.declared.value_entry.ValueEntry.{ValueEntry}
 use Rattle.bios_attr.specs.declared.bios_attribute.AttributeLimits.{AttributeLimits}
-use Rattle.bios_attr.specs.declared.bios_attribute.SetBiosAttribute.{SetBiosAttribute}
-use Rattle.bios_attr.specs.Sizes.{most_value}
-use Rattle.bios_attr.specs.ValueEntry.{shown_type, value_in}
-use Rattle.bios_attr.specs.AttributeRange.{type_of, Allows, allows, IsValue, is_allowed}
-use Rattle.bios_attr.specs.BiosAttribute.{invalid_attribute, SetsAttribute, is_settable, value_given, attribute_view, is_within, is_entry_within, IsAttributeReply, is_attribute_reply, undo_attribute, words, record_words}
-
--- ---- tests say what they are named for
-
-le_true : (a b : ℕ) → a ≤ b → nat_le a b ≡ true
-le_true a b h = grind (arith, nat_tests)
-
-true_le : (a b : ℕ) → nat_le a b ≡ true → a ≤ b
-true_le a b h = grind (arith, nat_tests)
-
-true_stepped : (increment rest : ℕ) → (increment == 0 || rest == 0) ≡ true → increment ≢ 0 → rest ≡ 0
-true_stepped increment rest h some = grind (arith, nat_tests)
-
-stepped_true : (increment rest : ℕ) → (increment ≢ 0 → rest ≡ 0) → (increment == 0 || rest == 0) ≡ true
-stepped_true zero rest h = refl
-stepped_true (suc increment) rest h = let none : rest ≡ 0 = h (λ same. omega arith) in grind (arith, nat_tests)
-
-pub true_allows : (r : AttributeRange) (v : AttributeValue) → allows r v ≡ true → Allows r v
-true_allows (range.Enumeration possible) (Indexes indexes) h =
-    let tests = both_true _ _ h in
-    let more = both_true _ _ tests.1 in
-    record { some = true_le _ _ tests.0; few = true_le _ _ more.0; known = more.1 }
-true_allows (range.Text lengths) (Text text) h =
-    let tests = both_true _ _ h in record { enough = true_le _ _ tests.0; few = true_le _ _ tests.1 }
-true_allows (range.Integer steps) (Number n) h =
-    let tests = both_true _ _ h in
-    let more = both_true _ _ tests.1 in
-    record { above = true_le _ _ tests.0; below = true_le _ _ more.0; stepped = true_stepped _ _ more.1 }
-true_allows (range.Enumeration possible) (Text text) h = absurd cc
-true_allows (range.Enumeration possible) (Number n) h = absurd cc
-true_allows (range.Text lengths) (Indexes indexes) h = absurd cc
-true_allows (range.Text lengths) (Number n) h = absurd cc
-true_allows (range.Integer steps) (Indexes indexes) h = absurd cc
-true_allows (range.Integer steps) (Text text) h = absurd cc
-
-pub allows_true : (r : AttributeRange) (v : AttributeValue) → Allows r v → allows r v ≡ true
-allows_true (range.Enumeration possible) (Indexes indexes) is = both _ _ (le_true _ _ is.some) (both _ _ (le_true _ _ is.few) is.known)
-allows_true (range.Text lengths) (Text text) is = both _ _ (le_true _ _ is.enough) (le_true _ _ is.few)
-allows_true (range.Integer steps) (Number n) is = both _ _ (le_true _ _ is.above) (both _ _ (le_true _ _ is.below) (stepped_true _ _ is.stepped))
-allows_true (range.Enumeration possible) (Text text) is = absurd is
-allows_true (range.Enumeration possible) (Number n) is = absurd is
-allows_true (range.Text lengths) (Indexes indexes) is = absurd is
-allows_true (range.Text lengths) (Number n) is = absurd is
-allows_true (range.Integer steps) (Indexes indexes) is = absurd is
-allows_true (range.Integer steps) (Text text) is = absurd is
+use Rattle.cfg_records.specs.declared.bios_attribute.SetBiosAttribute.{SetBiosAttribute}
+use Rattle.cfg_records.specs.AttributeValue.{value_in}
+use Rattle.bios_attr.specs.ValueEntry.{shown_type}
+use Rattle.cfg_records.specs.AttributeRange.{type_of, Allows, allows, IsValue, is_allowed}
+use Rattle.bios_attr.specs.BiosAttribute.{SetsAttribute, is_settable, value_given, attribute_view, is_within, is_entry_within, IsAttributeReply, is_attribute_reply, undo_attribute, words, record_words}
 
 allowed : (r : AttributeRange) (o : Option AttributeValue) → is_allowed r o ≡ true → IsSomeAnd o (Allows r)
 allowed r (Some v) h = true_allows r v h
@@ -80,47 +36,9 @@ there r None is = absurd is
 
 -- ---- that a value is valid is proved in one way at most
 
-Allows-prop : (r : AttributeRange) (v : AttributeValue) → IsProp (Allows r v)
-Allows-prop (range.Enumeration possible) (Indexes indexes) = hlevel props
-Allows-prop (range.Text lengths) (Text text) = hlevel props
-Allows-prop (range.Integer steps) (Number n) = hlevel props
-Allows-prop (range.Enumeration possible) (Text text) = hlevel props
-Allows-prop (range.Enumeration possible) (Number n) = hlevel props
-Allows-prop (range.Text lengths) (Indexes indexes) = hlevel props
-Allows-prop (range.Text lengths) (Number n) = hlevel props
-Allows-prop (range.Integer steps) (Indexes indexes) = hlevel props
-Allows-prop (range.Integer steps) (Text text) = hlevel props
-
 some_prop : (r : AttributeRange) (o : Option AttributeValue) → IsProp (IsSomeAnd o (Allows r))
 some_prop r (Some v) = Allows-prop r v
 some_prop r None = hlevel props
-
--- ---- lengths
-
--- where one of two comes and has the property, the test holds
-comes : {X : Type 0} (b : Bool) (x : X) (P : X → Type 0) → IsSomeAnd (if b then Some x else None) P → (b ≡ true) × P x
-comes true x P h = (refl, h)
-comes false x P h = absurd h
-
--- a value has two bytes or more, and no more than the most
-pub record IsLength (n : ℕ) : Type 0 where
-  pub least : 2 ≤ n
-  pub most : n ≤ most_value
-
-pub value_length : (r : AttributeRange) (bytes : List ℕ) → IsValue r bytes → IsLength (length bytes)
-value_length (range.Enumeration possible) [] is = absurd is
-value_length (range.Enumeration possible) (count ∷ indexes) is =
-    let here = comes (count == length indexes) (Indexes indexes) (Allows (range.Enumeration possible)) is in
-    record { least = omega (arith, here.1.some); most = omega (arith, here.1.few, possible.few) }
-value_length (range.Text lengths) [] is = absurd is
-value_length (range.Text lengths) (low ∷ []) is = absurd is
-value_length (range.Text lengths) (low ∷ high ∷ text) is =
-    let here = comes _ (Text text) (Allows (range.Text lengths)) is in
-    record { least = omega arith; most = omega (arith, here.1.few, lengths.few) }
-value_length (range.Integer steps) bytes is =
-    let here = comes (length bytes == 8) _ (Allows (range.Integer steps)) is in
-    let eight : length bytes ≡ 8 = tested_same _ _ here.0 in
-    record { least = omega (arith, eight); most = omega (arith, eight) }
 
 -- ---- what a Set makes
 
@@ -130,7 +48,7 @@ data_refused = record { is_fault = lit< tt; is_byte = lit< tt; not_busy = λ sam
 length_refused : IsRefusal pldm_invalid_length
 length_refused = record { is_fault = lit< tt; is_byte = lit< tt; not_busy = λ same. omega arith; is_ready = λ same. omega arith }
 
-attribute_refused : IsRefusal invalid_attribute
+attribute_refused : IsRefusal pldm_invalid_attribute
 attribute_refused = record { is_fault = lit< tt; is_byte = lit< tt; not_busy = λ same. omega arith; is_ready = λ same. omega arith }
 
 not_true : (b : Bool) → not b ≡ true → b ≡ false
@@ -145,7 +63,7 @@ given limits op new s = subst (IsValue limits.range) s.is_new s.is_value
 
 decided : (limits : AttributeLimits) (op : SetBiosAttribute) (a b c d : Bool)
     → (op.attribute == limits.handle) ≡ a → is_settable limits op ≡ b → is_some (value_given limits op) ≡ c → is_allowed limits.range (value_given limits op) ≡ d
-    → Decides (if a then (if b then (if c then (if d then Ok op.value else Err pldm_invalid_data) else Err pldm_invalid_length) else Err pldm_invalid_data) else Err invalid_attribute) (SetsAttribute limits op)
+    → Decides (if a then (if b then (if c then (if d then Ok op.value else Err pldm_invalid_data) else Err pldm_invalid_length) else Err pldm_invalid_data) else Err pldm_invalid_attribute) (SetsAttribute limits op)
 decided limits op true true true true own set some is =
     let tests = both_true _ _ set in
     record { own = tested_same _ _ own; of_type = tested_same _ _ tests.0; can_be_set = not_true _ tests.1; is_new = refl; is_value = allowed limits.range (value_given limits op) is }
@@ -159,12 +77,12 @@ decided limits op false b c d own set some is = λ new s.
     let has : (op.attribute == limits.handle) ≡ true = same_tested _ _ s.own in cc
 
 refused : (made : List ℕ) (code : ℕ) (a b c d : Bool)
-    → (if a then (if b then (if c then (if d then Ok made else Err pldm_invalid_data) else Err pldm_invalid_length) else Err pldm_invalid_data) else Err invalid_attribute) ≡ Err code → IsRefusal code
+    → (if a then (if b then (if c then (if d then Ok made else Err pldm_invalid_data) else Err pldm_invalid_length) else Err pldm_invalid_data) else Err pldm_invalid_attribute) ≡ Err code → IsRefusal code
 refused made code true true true true is = cc
 refused made code true true true false is = let same : pldm_invalid_data ≡ code = cc in subst IsRefusal same data_refused
 refused made code true true false d is = let same : pldm_invalid_length ≡ code = cc in subst IsRefusal same length_refused
 refused made code true false c d is = let same : pldm_invalid_data ≡ code = cc in subst IsRefusal same data_refused
-refused made code false b c d is = let same : invalid_attribute ≡ code = cc in subst IsRefusal same attribute_refused
+refused made code false b c d is = let same : pldm_invalid_attribute ≡ code = cc in subst IsRefusal same attribute_refused
 
 -- ---- what a Get replies
 
@@ -209,14 +127,14 @@ undoes_attribute limits old can is = record {
   own = handle_told limits.handle;
   of_type = ap (λ (read_only : Bool). shown_type read_only (type_of limits.range)) can;
   can_be_set = can;
-  is_new = refl;
+  is_new = sym (sent_whole old (let size = value_length limits.range old is in omega (arith, size.most)));
   is_value = is;
 }
 
 -- ---- the kind
 
-pub kind_laws : (name : ℕ → Key) → KindLaws (words name)
-kind_laws name = record {
+pub kind_laws : KindLaws words
+kind_laws = record {
   set_short = λ op. omega arith;
   invertible = λ op reply. some_where (is_attribute_reply reply) (undo_attribute reply) _
       (λ is. let tests = both_true _ _ is in (record { flagged = tested_same _ _ tests.0; holds_entry = tests.1 }, tt))
@@ -224,19 +142,15 @@ kind_laws name = record {
   plain = λ op made reply is. tt;
 }
 
--- the kind's values may have from two bytes to the most
-abbrev pub HasRoom : (ℕ → Key) → Type 0
-HasRoom name = (handle n : ℕ) → IsLength n → IsTrue (is_length (name handle) n)
-
-pub record_laws : (name : ℕ → Key) → HasRoom name → (limits : AttributeLimits) → RecordLaws (words name) (record_words limits)
-record_laws name room limits = record {
+pub record_laws : (limits : AttributeLimits) → RecordLaws words (record_words limits)
+record_laws limits = record {
   one_proof = λ value. some_prop limits.range (value_in (type_of limits.range) value);
   taken = λ op old new done. done.own;
   decides = λ op value. decided limits op _ _ _ _ refl refl refl refl;
   refuses = λ op value code is. refused op.value code (op.attribute == limits.handle) (is_settable limits op) (is_some (value_given limits op)) (is_allowed limits.range (value_given limits op)) is;
   determined = λ op old new other done also. done.is_new ∙ sym also.is_new;
   keeps = λ op old new is_valid done. done.is_value;
-  fits = λ op old new done. room op.attribute (length new) (value_length limits.range new done.is_value);
+  fits = λ op old new done. length_tested (length new) (value_length limits.range new done.is_value);
   replies = λ op value live here is_valid. reply_is limits value is_valid;
   get_short = λ handle value live here is_valid. let size = value_length limits.range value is_valid in omega (arith, size.most);
   steady = λ value live other. refl;

@@ -1,9 +1,8 @@
-pub mod Sizes
 pub mod ValueEntry
 pub mod ValueEntryLaws
-pub mod AttributeRange
 pub mod BiosAttribute
 pub mod BiosAttributeLaws
+pub mod BiosAttributeKind
 pub mod Attributes
 pub mod AttributeLaws
 pub mod Values

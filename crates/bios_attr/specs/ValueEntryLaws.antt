@@ -5,10 +5,12 @@ use Rattle.std.specs.Int.{w64, to_le_bytes, from_le_bytes}
 use Rattle.std.proofs.lemmas.Nat.{from_le_bytes-to_le_bytes_8, le_bytes_8}
 use Rattle.std.proofs.lemmas.Bool.Decides.{nat_tests}
 use Rattle.cfg_records.specs.InverseLaws.{tested_same, same_tested}
-use Rattle.bios_attr.specs.declared.value_entry.AttributeValue.{AttributeValue}
-use Rattle.bios_attr.specs.declared.value_entry.AttributeValue.TheVariants.{Indexes, Text, Number}
+use Rattle.cfg_records.specs.declared.attribute_value.AttributeValue.{AttributeValue}
+use Rattle.cfg_records.specs.declared.attribute_value.AttributeValue.TheVariants.{Indexes, Text, Number}
+use Rattle.cfg_records.specs.AttributeRangeLaws.{value_back}
 use Rattle.bios_attr.specs.declared.value_entry.ValueEntry.{ValueEntry}
-use Rattle.bios_attr.specs.ValueEntry.{two_bytes, number_of, enumeration_type, string_type, integer_type, shown_type, type_of_value, value_bytes, entry_bytes, indexes_in, text_in, number_in, value_in, entry_in, HasEightBytes, AreBytes}
+use Rattle.cfg_records.specs.AttributeValue.{two_bytes, number_of, enumeration_type, string_type, integer_type, type_of_value, value_bytes, indexes_in, text_in, number_in, value_in, HasEightBytes}
+use Rattle.bios_attr.specs.ValueEntry.{shown_type, entry_bytes, entry_in, AreBytes}
 
 told : (n : ℕ) → n % 256 + 256 * (n / 256) ≡ n
 told n = omega arith
@@ -18,16 +20,7 @@ comes_of : {X : Type 0} (b : Bool) (x y : X) → (if b then Some x else None) �
 comes_of true x y h = (refl, cc)
 comes_of false x y h = absurd cc
 
-comes : {X : Type 0} (b : Bool) (x : X) → b ≡ true → (if b then Some x else None) ≡ Some x
-comes true x h = refl
-comes false x h = absurd cc
-
 -- ---- written, then read
-
-value_back : (v : AttributeValue) → HasEightBytes v → value_in (type_of_value v) (value_bytes v) ≡ Some v
-value_back (Indexes indexes) small = comes (length indexes == length indexes) (Indexes indexes) (same_tested _ _ refl)
-value_back (Text text) small = comes (number_of (length text % 256) (length text / 256) == length text) (Text text) (same_tested _ _ (told (length text)))
-value_back (Number n) small = ap (λ (m : ℕ). Some (Number m)) (from_le_bytes-to_le_bytes_8 n small)
 
 type_back : (read_only : Bool) (v : AttributeValue) → shown_type read_only (type_of_value v) % 128 ≡ type_of_value v
 type_back true (Indexes indexes) = refl

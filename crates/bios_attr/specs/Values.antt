@@ -1,10 +1,11 @@
 -- The entries of the value table (DSP0247).
 use Rattle.std.specs.Prelude.{ℕ, List, ◌∷◌, ◌++◌}
 use Rattle.std.specs.List.{flat_map}
-use Rattle.bios_attr.specs.declared.attribute.Attribute.{Attribute}
+use Rattle.cfg_records.specs.declared.attribute.Attribute.{Attribute}
 use Rattle.bios_attr.specs.declared.current_values.EntryHead.{EntryHead}
-use Rattle.bios_attr.specs.ValueEntry.{two_bytes, shown_type}
-use Rattle.bios_attr.specs.Attributes.{type_of_kind}
+use Rattle.cfg_records.specs.AttributeValue.{two_bytes}
+use Rattle.bios_attr.specs.ValueEntry.{shown_type}
+use Rattle.cfg_records.specs.Attribute.{type_of_kind}
 
 -- what an attribute's entry has before the value: its handle, and its type
 abbrev pub head_of : Attribute → EntryHead

@@ -1,19 +1,20 @@
 //! The value of a BIOS attribute, as a kind of record.
-ghost use Rattle.std.specs.Prelude.{◌≡◌, ◌+◌, ◌≤◌, ◌++◌, OnErr, IfOk, length, drop};
+ghost use Rattle.std.specs.Prelude.{◌≡◌, ◌+◌, ◌≤◌, ◌++◌, ◌∷◌, OnErr, length};
 ghost use Rattle.cfg_records.specs.Meaning.{told};
-ghost use Rattle.std.specs.Prelude.{◌∷◌, if◌then◌else◌, Some, None};
-ghost use Rattle.cfg_records.specs.Requests.{pldm_request};
-ghost use Rattle.bios_attr.specs.ValueEntry.{two_bytes};
-ghost use Rattle.bios_attr.specs.Sizes.{most_data};
-ghost use Rattle.bios_attr.specs.BiosAttribute.{bios, get_current_value, set_current_value, no_handle, get_first_part, attribute_outcome, attribute_body, attribute_in, attribute_view, is_within, is_attribute_reply, undo_attribute};
+ghost use Rattle.cfg_records.specs.AttributeSizes.{most_data};
+ghost use Rattle.cfg_records.specs.AttributeValue.{two_bytes};
+ghost use Rattle.bios_attr.specs.BiosAttribute.{no_handle, get_first_part, attribute_outcome, attribute_body, attribute_in, attribute_shown_in, attribute_view, is_within, is_attribute_reply};
 
-use crate::attribute_range::AttributeRange;
-use crate::sizes::{BEFORE_VALUE, MOST_INDEXES, MOST_SENT, MOST_TEXT};
-use crate::value_entry::{AttributeValue, read_entry, read_value, shown_type};
+use crate::value_entry::{read_entry, shown_type};
+use cfg_records::attribute_sizes::{BEFORE_VALUE, MOST_INDEXES, MOST_TEXT};
+use cfg_records::attribute_value::{AttributeValue, read_value};
 use cfg_records::value::DATA_CAPACITY;
-use cfg_records::{Asked, RecordData, Value};
-use two_wire::code::{PLDM_INVALID_DATA, PLDM_INVALID_LENGTH};
-use two_wire::{Below, Buffer, Code, Data};
+use cfg_records::{
+    Asked, Attribute, AttributeRange, Key, Live, RecordData, RecordKind, SetBiosAttribute, Value,
+    byte_at,
+};
+use two_wire::code::{PLDM_INVALID_ATTRIBUTE, PLDM_INVALID_DATA, PLDM_INVALID_LENGTH};
+use two_wire::{Below, Buffer, Code};
 
 /// The PLDM type of BIOS control and configuration.
 const BIOS: u8 = 3;
@@ -30,9 +31,6 @@ const START_AND_END: u8 = 0x05;
 /// The transfer operation that asks for the first part.
 const GET_FIRST_PART: u8 = 0x01;
 
-/// The number of the code that no attribute has the handle.
-const INVALID_ATTRIBUTE: u8 = 0x88;
-
 /// A transfer handle that stands for nothing.
 const NO_HANDLE: [u8; 4] = [0; 4];
 
@@ -42,15 +40,6 @@ pub struct AttributeLimits {
     pub handle: u16,
     pub read_only: bool,
     pub range: AttributeRange,
-}
-
-/// Sets the value of an attribute, by the bytes of the request's entry: the attribute, its type, and the value. They lie in the
-/// request.
-#[derive(Debug, Drop)]
-pub struct SetBiosAttribute<'a> {
-    pub attribute: u16,
-    pub attribute_type: u8,
-    pub value: Data<'a, { MOST_SENT }>,
 }
 
 /// Appends an entry's bytes.
@@ -64,7 +53,7 @@ fn write_entry<B: Buffer>(attribute: u16, code: u8, value: &[u8], out: &mut B)
 }
 
 /// The data of the request that carries out the operation.
-fn body(op: &SetBiosAttribute<'_>) -> RecordData
+fn body(op: &SetBiosAttribute) -> RecordData
     ensures value { result ≡ attribute_body op.now }
     ensures short { length result ≤ most_data }
 {
@@ -80,8 +69,7 @@ fn body(op: &SetBiosAttribute<'_>) -> RecordData
 }
 
 /// The operation that the data of its request says: nothing where they are too short, or where their flag says that they are a part.
-pub fn read_set(body: &[u8]) -> Result<SetBiosAttribute<'_>, Code>
-    requires { length body.now ≤ most_data }
+pub fn attribute_in(body: &[u8]) -> Result<SetBiosAttribute, Code>
     ensures { result ≡ attribute_in body.now }
 {
     if body.len() < BEFORE_VALUE {
@@ -90,11 +78,18 @@ pub fn read_set(body: &[u8]) -> Result<SetBiosAttribute<'_>, Code>
     if body[4] != START_AND_END {
         return Err(PLDM_INVALID_DATA);
     }
-    Ok(SetBiosAttribute {
-        attribute: u16::from_le_bytes([body[5], body[6]]),
-        attribute_type: body[7],
-        value: Data::new(&body[BEFORE_VALUE..]),
-    })
+    let attribute = u16::from_le_bytes([body[5], body[6]]);
+    Ok(SetBiosAttribute::of(attribute, body[7], &body[BEFORE_VALUE..]))
+}
+
+/// The attribute whose value the data of a request ask for, or the code that refuses another transfer operation.
+pub fn attribute_shown_in(body: &[u8]) -> Result<u16, Code>
+    ensures { result ≡ attribute_shown_in body.now }
+{
+    if byte_at(body, 4) != GET_FIRST_PART {
+        return Err(PLDM_INVALID_DATA);
+    }
+    Ok(u16::from_le_bytes([byte_at(body, 5), byte_at(body, 6)]))
 }
 
 /// Whether a value is within the limits of all attributes.
@@ -133,13 +128,26 @@ fn get_body(handle: u16) -> [u8; 7]
 }
 
 impl AttributeLimits {
+    ghost use Rattle.cfg_records.specs.Attribute.{range_of};
+
+    /// The limits that an attribute gives to the record of this handle.
+    pub fn of(handle: u16, attribute: &Attribute) -> Self
+        ensures { result ≡ record { handle = handle; read_only = attribute.now.read_only; range = range_of attribute.now.kind } }
+    {
+        AttributeLimits {
+            handle,
+            read_only: attribute.read_only,
+            range: attribute.kind.range(),
+        }
+    }
+
     /// Makes `new` the value that the operation makes.
-    pub fn set(&self, op: &SetBiosAttribute<'_>, new: &mut Value) -> Result<(), Code>
+    pub(crate) fn set(&self, op: &SetBiosAttribute, new: &mut Value) -> Result<(), Code>
         ensures outcome { told result new.new ≡ attribute_outcome self.now op.now }
         ensures kept { OnErr result (new.new ≡ new.old) }
     {
         if op.attribute != self.handle {
-            return Err(Code::new(INVALID_ATTRIBUTE).unwrap());
+            return Err(PLDM_INVALID_ATTRIBUTE);
         }
         if op.attribute_type != self.range.type_code() || self.read_only {
             return Err(PLDM_INVALID_DATA);
@@ -156,7 +164,7 @@ impl AttributeLimits {
     }
 
     /// Appends the data of the Get reply.
-    pub fn show<B: Buffer>(&self, value: &[u8], reply: &mut B)
+    pub(crate) fn show<B: Buffer>(&self, value: &[u8], reply: &mut B)
         requires { length (B.bytes reply.old) + length (attribute_view self.now value.now) ≤ B.capacity }
         ensures { B.bytes reply.new ≡ B.bytes reply.old ++ attribute_view self.now value.now }
     {
@@ -167,45 +175,50 @@ impl AttributeLimits {
     }
 }
 
-/// Appends the data of the reply to a Set: no further part is asked for.
-pub fn set_reply<B: Buffer>(reply: &mut B)
-    requires { length (B.bytes reply.old) + 4 ≤ B.capacity }
-    ensures { B.bytes reply.new ≡ B.bytes reply.old ++ no_handle }
-{
-    reply.extend_from_slice(&NO_HANDLE);
-}
+impl<'a> RecordKind<'a> for AttributeLimits {
+    ghost use Rattle.bios_attr.specs.BiosAttributeKind as attribute;
 
-/// The request that gets an attribute's value: from nobody.
-pub fn get_asked(handle: u16) -> Asked
-    ensures { result ≡ pldm_request bios get_current_value (no_handle ++ get_first_part ∷ two_bytes handle) }
-{
-    Asked::pldm(Below::new(BIOS), GET_CURRENT_VALUE, &get_body(handle))
-}
+    type Key = u16;
 
-/// The data of the request that carries out the operation.
-pub fn set_data(op: &SetBiosAttribute<'_>) -> RecordData
-    ensures { result ≡ attribute_body op.now }
-{
-    body(op)
-}
+    type Op = SetBiosAttribute;
 
-/// The request that carries out the operation: from nobody.
-pub fn set_asked(op: &SetBiosAttribute<'_>) -> Asked
-    ensures { result ≡ pldm_request bios set_current_value (attribute_body op.now) }
-{
-    Asked::pldm(Below::new(BIOS), SET_CURRENT_VALUE, body(op).as_slice())
-}
+    ghost kind = { attribute.kind };
 
-/// The operation that brings back what the Get reply shows, where it is such a reply: it sets the whole entry.
-pub fn inverse(get_data: &[u8]) -> Option<SetBiosAttribute<'_>>
-    ensures { result ≡ (if is_attribute_reply get_data.now then Some (undo_attribute get_data.now) else None) }
-{
-    if !is_attribute_reply(get_data) {
-        return None;
+    fn key(op: &SetBiosAttribute) -> Key {
+        Key::BiosAttribute(op.attribute)
     }
-    Some(SetBiosAttribute {
-        attribute: u16::from_le_bytes([get_data[5], get_data[6]]),
-        attribute_type: get_data[7],
-        value: Data::new(&get_data[BEFORE_VALUE..]),
-    })
+
+    fn apply(&self, op: &SetBiosAttribute, _value: &[u8], new: &mut Value) -> Result<(), Code> {
+        self.set(op, new)
+    }
+
+    fn set_reply<B: Buffer>(_op: &SetBiosAttribute, reply: &mut B) {
+        reply.extend_from_slice(&NO_HANDLE);
+    }
+
+    fn next_live(_op: &SetBiosAttribute, _live: &mut Live) {}
+
+    fn get_data<B: Buffer>(&self, value: &[u8], _live: &Live, reply: &mut B) {
+        self.show(value, reply);
+    }
+
+    fn get_asked(handle: &u16) -> Asked {
+        Asked::pldm(Below::new(BIOS), GET_CURRENT_VALUE, &get_body(*handle))
+    }
+
+    fn set_data(op: &SetBiosAttribute) -> RecordData {
+        body(op)
+    }
+
+    fn set_asked(op: &SetBiosAttribute) -> Asked {
+        Asked::pldm(Below::new(BIOS), SET_CURRENT_VALUE, body(op).as_slice())
+    }
+
+    fn inverse(_op: &SetBiosAttribute, get_data: &'a [u8]) -> Option<SetBiosAttribute> {
+        if !is_attribute_reply(get_data) {
+            return None;
+        }
+        let attribute = u16::from_le_bytes([get_data[5], get_data[6]]);
+        Some(SetBiosAttribute::of(attribute, get_data[7], &get_data[BEFORE_VALUE..]))
+    }
 }

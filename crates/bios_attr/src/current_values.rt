@@ -1,13 +1,13 @@
 //! The value table, which shows the values as they stand.
 ghost use Rattle.std.specs.Prelude.{◌≡◌, ◌+◌, ◌*◌, ◌≤◌, ◌++◌, ◌∷◌, map, IfOk, ℕ, List, length, vec_len, vec_capacity};
-ghost use Rattle.bios_attr.specs.Sizes.{most_value};
-ghost use Rattle.bios_attr.specs.ValueEntry.{two_bytes};
+ghost use Rattle.cfg_records.specs.AttributeSizes.{most_value};
+ghost use Rattle.cfg_records.specs.AttributeValue.{two_bytes};
 ghost use Rattle.bios_attr.specs.Values.{head_of, value_entries};
 ghost use Rattle.bios_attr.specs.Tables.{IsTable};
 
-use crate::attribute::Attribute;
 use crate::table::finish;
 use crate::value_entry::shown_type;
+use cfg_records::Attribute;
 use std::alloc::{AllocError, Global};
 
 /// What an entry of the value table has before the value: the attribute, and its type.

@@ -2,12 +2,15 @@
 ghost use Rattle.std.specs.Prelude.{◌≡◌, ◌+◌, ◌≤◌, ◌<◌, ◌*◌, ◌++◌, OnOk, length};
 ghost use Rattle.bios_attr.specs.Attributes.{handles_of, string_entry, string_entries, integer_fields, kind_fields, attribute_entry, attribute_entries};
 
-use crate::attribute::{Attribute, AttributeKind, IntegerAttribute, Text};
-use crate::sizes::MOST_ENTRY;
 use crate::strings::handle_of;
 use crate::value_entry::shown_type;
+use cfg_records::attribute_sizes::MOST_TEXT;
+use cfg_records::{Attribute, AttributeKind, IntegerAttribute, Text};
 use std::alloc::AllocError;
 use two_wire::Bytes;
+
+/// How many bytes an entry of a table has at most: a text with what stands before it.
+const MOST_ENTRY: usize = 16 + MOST_TEXT;
 
 /// An entry's bytes.
 type Entry = Bytes<{ MOST_ENTRY }>;

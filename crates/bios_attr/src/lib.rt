@@ -2,14 +2,11 @@
 //! tables that tell of them.
 #![tactic(auto)]
 
-pub mod attribute;
-pub mod attribute_range;
 pub mod bios_attribute;
 pub mod bios_table;
 pub mod current_values;
 mod entries;
 pub mod laws;
-pub mod sizes;
 mod strings;
 mod table;
 #[cfg(test)]
@@ -19,13 +16,8 @@ pub mod tables;
 mod tests;
 pub mod value_entry;
 
-pub use attribute::{
-    Attribute, AttributeKind, Attributes, EnumerationAttribute, Indexes, IntegerAttribute,
-    StringAttribute, Text,
-};
-pub use attribute_range::{AttributeRange, IntegerSteps, PossibleValues, TextLengths};
-pub use bios_attribute::{AttributeLimits, SetBiosAttribute};
+pub use bios_attribute::AttributeLimits;
 pub use bios_table::BiosTable;
 pub use current_values::{CurrentValues, EntryHead};
 pub use tables::Tables;
-pub use value_entry::{AttributeValue, ValueEntry};
+pub use value_entry::ValueEntry;

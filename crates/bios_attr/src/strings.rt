@@ -3,7 +3,7 @@ ghost use Rattle.std.specs.Prelude.{◌≡◌, ◌+◌, ◌≤◌, OnOk, IfOk, l
 ghost use Rattle.std.specs.List.{list_any, position};
 ghost use Rattle.bios_attr.specs.Attributes.{is_text, with_text, with_texts, texts_of, with_attributes, strings_of, handle_of};
 
-use crate::attribute::{Attribute, AttributeKind, Text};
+use cfg_records::{Attribute, AttributeKind, Text};
 use std::alloc::{AllocError, Global};
 
 /// Whether the texts are one.

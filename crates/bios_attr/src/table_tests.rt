@@ -1,10 +1,10 @@
 //! The tables of the sample board's attributes.
-use crate::sizes::{MOST_TEXT, MOST_VALUE};
-use crate::{
-    Attribute, AttributeKind, Attributes, BiosTable, CurrentValues, EnumerationAttribute, Indexes,
-    IntegerAttribute, IntegerSteps, StringAttribute, Tables, Text, TextLengths,
+use crate::{BiosTable, CurrentValues, Tables};
+use cfg_records::attribute_sizes::{MOST_TEXT, MOST_VALUE};
+use cfg_records::{
+    Attribute, AttributeKind, Attributes, Distinct, EnumerationAttribute, Indexes,
+    IntegerAttribute, IntegerSteps, StringAttribute, Text, TextLengths,
 };
-use cfg_records::Distinct;
 use pldm_base::{GET_FIRST_PART, GET_NEXT_PART, TransferFlag, crc32};
 use std::alloc::Global;
 use std::test::Fail;
@@ -59,25 +59,24 @@ fn off_or_on(alloc: Global) -> Result<AttributeKind, Fail> {
 
 /// A text of up to 200 bytes.
 fn a_text() -> Result<AttributeKind, Fail> {
-    Ok(AttributeKind::Text(StringAttribute {
-        string_type: 1,
-        lengths: TextLengths::new(0, 200).ok_or("lengths")?,
-        default: Text::new(),
-        current: Text::from_slice(b"rack-1"),
-    }))
+    let kind = StringAttribute::new(
+        1,
+        TextLengths::new(0, 200).ok_or("lengths")?,
+        Text::new(),
+        Text::from_slice(b"rack-1"),
+    );
+    Ok(AttributeKind::Text(kind.ok_or("texts")?))
 }
 
 /// A number from 0 to 300 by tens.
-fn by_tens() -> AttributeKind {
-    AttributeKind::Integer(IntegerAttribute {
-        steps: IntegerSteps {
-            lower: 0,
-            upper: 300,
-            increment: 10,
-        },
-        default: 30,
-        current: 30,
-    })
+fn by_tens() -> Result<AttributeKind, Fail> {
+    let steps = IntegerSteps {
+        lower: 0,
+        upper: 300,
+        increment: 10,
+    };
+    let kind = IntegerAttribute::new(steps, 30, 30);
+    Ok(AttributeKind::Integer(kind.ok_or("numbers")?))
 }
 
 /// So many bytes at the start; none where there aren't so many.
@@ -105,7 +104,7 @@ fn sample(alloc: Global, names: [&str; 3], read_only: bool) -> Result<Attributes
     let kinds = [
         (0, first, off_or_on(alloc)?, false),
         (1, second, a_text()?, false),
-        (2, third, by_tens(), read_only),
+        (2, third, by_tens()?, read_only),
     ];
     let mut attributes = Vec::new(alloc);
     for (handle, name, kind, read_only) in kinds {

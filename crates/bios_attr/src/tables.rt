@@ -3,13 +3,13 @@ ghost use Rattle.std.specs.Prelude.{◌≡◌, ◌≤◌, IfOk, ℕ, List, lengt
 ghost use Rattle.bios_attr.specs.Attributes.{string_entries, attribute_entries};
 ghost use Rattle.bios_attr.specs.Tables.{IsTable};
 
-use crate::attribute::{Attribute, Attributes, Text};
 use crate::bios_table::BiosTable;
 use crate::current_values::{CurrentValues, EntryHead, heads_of, show_values};
 use crate::entries::{push_attributes, push_strings};
-use crate::sizes::MOST_VALUE;
 use crate::strings::strings_of;
 use crate::table::{MOST_BEHIND, finish};
+use cfg_records::attribute_sizes::MOST_VALUE;
+use cfg_records::{Attribute, Attributes, Text};
 use pldm_base::{Part, part};
 use std::alloc::{AllocError, Global};
 use std::marker::Model;
@@ -27,7 +27,7 @@ pub struct Tables {
 impl Model for Tables {
     ghost use Rattle.std.specs.Prelude.{◌+◌, ◌*◌, ◌≤◌, length};
     ghost use Rattle.std.specs.Vec.{vec_capacity};
-    ghost use Rattle.bios_attr.specs.Sizes.{most_value};
+    ghost use Rattle.cfg_records.specs.AttributeSizes.{most_value};
     ghost use Rattle.bios_attr.specs.Tables.{Opened};
 
     ghost Value = { Opened };

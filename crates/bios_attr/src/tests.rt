@@ -1,8 +1,11 @@
 //! The sample board's attributes, by worked requests.
-use crate::bios_attribute::{inverse, read_set, set_data};
-use crate::{AttributeLimits, AttributeRange, IntegerSteps, PossibleValues, TextLengths};
+use crate::AttributeLimits;
+use crate::bios_attribute::attribute_in;
 use cfg_records::value::DATA_CAPACITY;
-use cfg_records::{RecordData, Value};
+use cfg_records::{
+    AttributeRange, IntegerSteps, PossibleValues, RecordData, RecordKind, SetBiosAttribute,
+    TextLengths, Value,
+};
 use std::test::Fail;
 
 /// The integer of the sample board: 0 to 300 by tens.
@@ -36,13 +39,18 @@ fn quiet() -> Result<AttributeLimits, Fail> {
     })
 }
 
+/// An operation, of which its inverse looks at nothing.
+fn any_op() -> SetBiosAttribute {
+    SetBiosAttribute::of(0, 0, &[])
+}
+
 /// The code that a Set of these data gets, 0 where it is carried out, and FFh where no request has so many.
 fn code_of(limits: &AttributeLimits, body: &[u8]) -> u8 {
     if body.len() > DATA_CAPACITY {
         return 0xFF;
     }
     let mut new = Value::new();
-    let op = match read_set(body) {
+    let op = match attribute_in(body) {
         Ok(op) => op,
         Err(code) => return code.value(),
     };
@@ -105,8 +113,11 @@ fn a_reply_shows_the_entry_and_is_undone_whole(rt: HostRuntime) -> Result<(), Fa
         0, 0, 0, 0, 5, 1, 0, 1, 6, 0, 0x72, 0x61, 0x63, 0x6B, 0x2D, 0x31,
     ];
     assert_eq!(rt; reply.as_slice(), shown.as_slice());
-    let undo = inverse(reply.as_slice()).ok_or("a reply")?;
-    assert_eq!(rt; set_data(&undo).as_slice(), shown.as_slice());
+    let undo = AttributeLimits::inverse(&any_op(), reply.as_slice()).ok_or("a reply")?;
+    assert_eq!(rt;
+        AttributeLimits::set_data(&undo).as_slice(),
+        shown.as_slice()
+    );
     let mut new = Value::new();
     assert_eq!(rt;
         asset()?.set(&undo, &mut new).err().map(|code| code.value()),
@@ -126,7 +137,7 @@ fn other_data_are_no_reply(rt: HostRuntime) -> Result<(), Fail> {
         &[0, 0, 0, 0, 5, 0],
     ];
     for reply in cases {
-        assert!(rt; inverse(reply).is_none());
+        assert!(rt; AttributeLimits::inverse(&any_op(), reply).is_none());
     }
     Ok(())
 }

@@ -15,7 +15,8 @@ use Rattle.record_kinds.specs.declared.limits.Limits.TheVariants as kinds
 use Rattle.record_kinds.specs.Limits.{is_of, sets, outcome, get_asked, set_asked}
 use Rattle.record_kinds.specs.LimitsLaws as laws
 use Rattle.std.specs.Option.{option_map}
-use Rattle.record_kinds.specs.Boards.{sensor_at, numeric_at, user_at, access_at, stored_at, limits_at}
+use Rattle.record_kinds.specs.Boards.{sensor_at, numeric_at, state_at, user_at, access_at, stored_at, attribute_at, limits_at}
+use Rattle.cfg_records.specs.Attribute.{range_of}
 use Rattle.record_kinds.specs.Sound.{IsSound, IsSoundAt}
 use Rattle.record_kinds.specs.SoundLaws.{sound_set, sound_with}
 use Rattle.bmc_board.specs.Request.{Request}
@@ -116,6 +117,9 @@ limits_are_of file (key.UserName user) limits e = of_item (user_at file.users.it
 limits_are_of file (key.UserAccess on) limits e = of_item (access_at file.user_accesses.items on) (λ a. kinds.UserAccess (record { user = on.user; most = length file.users.items })) limits (key.UserAccess on) e (λ a. tt)
 limits_are_of file (key.ChannelAccess at) limits e = of_item (stored_at file at) (λ c. kinds.ChannelAccess (record {})) limits (key.ChannelAccess at) e (λ c. tt)
 limits_are_of file (key.NumericEffecter id) limits e = of_item (numeric_at file.numeric_effecters.items id) (λ x. kinds.NumericEffecter (record { enabled = x.enabled; range = x.range })) limits (key.NumericEffecter id) e (λ x. tt)
+limits_are_of file (key.StateEffecter id) limits e = of_item (state_at file.state_effecters.items id) kinds.StateEffecter limits (key.StateEffecter id) e (λ x. tt)
+limits_are_of file (key.BiosAttribute handle) limits e =
+    of_item (attribute_at file.attributes.items handle) (λ x. kinds.BiosAttribute (record { handle = handle; read_only = x.read_only; range = range_of x.kind })) limits (key.BiosAttribute handle) e (λ x. refl)
 
 -- ---- its data fits the frame or message that carries it, and each record keeps a valid value
 

@@ -2,7 +2,7 @@
 use Rattle.std.proofs.Common.{◌≡◌, ◌≢◌, ℕ, ◌≤◌, nat_le, List, [], ◌∷◌, Option, Some, None, Result, Ok, Err, Bool, true, false, not, if◌then◌else◌, ◌==◌, ◌&&◌, ◌||◌, find, drop, length, ◌%◌, refl, arith}
 use Rattle.std.specs.List.{list_all}
 use Rattle.std.proofs.lemmas.Bool.Decides.{nat_tests}
-use Rattle.two_wire.specs.Codes.{node_busy, pldm_not_ready, invalid_command, invalid_for_lun, invalid_length, pldm_unsupported_command, pldm_invalid_type, pldm_invalid_length}
+use Rattle.two_wire.specs.Codes.{node_busy, pldm_not_ready, invalid_command, invalid_for_lun, invalid_length, pldm_unsupported_command, pldm_invalid_type, pldm_invalid_length, pldm_invalid_data}
 use Rattle.cfg_records.specs.Meaning.{room_for}
 use Rattle.cfg_records.specs.declared.message.Asked.{Asked}
 use Rattle.cfg_records.specs.declared.message.Asked.TheVariants.{Ipmi, Pldm}
@@ -16,13 +16,17 @@ use Rattle.watch_boot.specs.BootRequests.{progress_in, change_in, with_mark, par
 use Rattle.user_chan.specs.declared.channel_request.ChannelRequest.{ChannelRequest}
 use Rattle.user_chan.specs.declared.channel_request.ChannelRequest.TheVariants.{Leave, One, Two}
 use Rattle.user_chan.specs.ChannelRequests.{channel_request_in}
+use Rattle.cfg_records.specs.declared.bios_attribute.SetBiosAttribute.{SetBiosAttribute}
+use Rattle.cfg_records.specs.AttributeValue.{number_of}
+use Rattle.cfg_records.specs.BiosAttribute.{setting}
+use Rattle.bios_attr.specs.BiosAttribute.{start_and_end, get_first_part}
 use Rattle.bmc_board.specs.declared.command.Command.TheVariants as command
 use Rattle.bmc_board.specs.declared.command.Line.{Line}
 use Rattle.bmc_board.specs.declared.request.Refusals.{Refusals}
 use Rattle.bmc_board.specs.Request.{Request}
 use Rattle.bmc_board.specs.Request.{Live, Get, Set, SetStores}
 use Rattle.bmc_board.specs.Table.{Listed, table, pldm_table, line_in, line_under, line_of, pldm_line_of, is_allowed, is_pldm_type, changes, is_changing}
-use Rattle.bmc_board.specs.Request.{boot_set, boot_get, channel_asked, request_of, asked_at, asked_by, ipmi_refusals, pldm_refusals}
+use Rattle.bmc_board.specs.Request.{boot_set, boot_get, channel_asked, attribute_set, attribute_get, request_of, asked_at, asked_by, ipmi_refusals, pldm_refusals}
 use Rattle.bmc_board.specs.Room.{longest_reply}
 use Rattle.bmc_board.specs.AnyAnswer.{IsCode}
 
@@ -114,12 +118,29 @@ asked_right_of (Two first second) = refl
 channel_right : (body : List ℕ) → is_right 24 true (request_of command.SetChannelAccess body) ≡ true
 channel_right body = asked_right_of (channel_request_in body)
 
+-- and the commands of BIOS attributes
+attribute_set_where : (long whole : Bool) (change : SetBiosAttribute) → is_right 251 true (attribute_set (if long then (if whole then Ok change else Err pldm_invalid_data) else Err pldm_invalid_length)) ≡ true
+attribute_set_where true true change = refl
+attribute_set_where true false change = refl
+attribute_set_where false whole change = refl
+
+attribute_set_right : (body : List ℕ) → is_right 251 true (request_of command.SetBiosAttribute body) ≡ true
+attribute_set_right body =
+    attribute_set_where (nat_le 8 (length body)) (byte_at body 4 == start_and_end) (setting (number_of (byte_at body 5) (byte_at body 6)) (byte_at body 7) (drop 8 body))
+
+attribute_get_where : (first : Bool) (handle : ℕ) → is_right 251 false (attribute_get (if first then Ok handle else Err pldm_invalid_data)) ≡ true
+attribute_get_where true handle = refl
+attribute_get_where false handle = refl
+
+attribute_get_right : (body : List ℕ) → is_right 251 false (request_of command.GetBiosAttribute body) ≡ true
+attribute_get_right body = attribute_get_where (byte_at body 4 == get_first_part) (number_of (byte_at body 5) (byte_at body 6))
+
 -- whatever the data is, each line of the tables passes it
 all_right : (body : List ℕ) → list_all (λ (l : Listed). asks_rightly 24 body l.line) table ≡ true
 all_right body = both_right _ _ (set_right body) (both_right _ _ (get_right body) (both_right _ _ (channel_right body) refl))
 
 all_pldm_right : (body : List ℕ) → list_all (λ (l : Listed). asks_rightly 251 body l.line) pldm_table ≡ true
-all_pldm_right body = refl
+all_pldm_right body = both_right _ _ (attribute_set_right body) (both_right _ _ (attribute_get_right body) refl)
 
 -- ---- what passes it
 
@@ -187,7 +208,7 @@ pldm_codes = record { unlisted = code_of pldm_unsupported_command refl; not_allo
 right_at : (room : ℕ) (refusals : Refusals) (line : Option Line) (body : List ℕ) → AreCodes refusals → Passes (asks_rightly room body) line → IsRight room (changes line) (asked_at refusals line body)
 right_at room refusals None body are passes = are.unlisted
 right_at room refusals (Some line) body are passes =
-    where_right room line.changing (is_allowed line.lengths (length body)) (request_of line.command body) refusals.not_allowed are.not_allowed (right_of room line.changing (request_of line.command body) passes)
+    where_right room line.changing (is_allowed line.lengths body) (request_of line.command body) refusals.not_allowed are.not_allowed (right_of room line.changing (request_of line.command body) passes)
 
 pub asked_right : (asked : Asked) → IsRight (room_for asked) (is_changing asked) (asked_by asked)
 asked_right (Ipmi from net_fn lun number body) =

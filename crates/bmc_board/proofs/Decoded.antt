@@ -1,5 +1,5 @@
 -- Each request for a record, and each for an operation, is read as what it asks for: a line for each kind whose data don't show it by themselves.
-use Rattle.std.proofs.Common.{◌≡◌, ℕ, ◌+◌, ◌*◌, ◌/◌, ◌%◌, ◌<◌, ap, ◌∙◌, List, [], ◌∷◌, length, Bool, true, false, Option, Some, None, Result, Ok, refl, arith}
+use Rattle.std.proofs.Common.{◌≡◌, ℕ, ◌+◌, ◌*◌, ◌/◌, ◌%◌, ◌<◌, ap, ◌∙◌, List, [], ◌∷◌, take, length, Bool, true, false, if◌then◌else◌, Option, Some, None, Result, Ok, Err, refl, arith, nat_le}
 use Rattle.cfg_records.specs.declared.key.Key.TheVariants as key
 use Rattle.cfg_records.specs.declared.message.Asked.TheVariants.{Ipmi, Pldm}
 use Rattle.cfg_records.specs.declared.op.Op.{Op}
@@ -12,6 +12,13 @@ use Rattle.cfg_records.specs.declared.event_enable.SetEventEnable.{SetEventEnabl
 use Rattle.cfg_records.specs.declared.numeric_effecter.NumericBytes.{NumericBytes}
 use Rattle.cfg_records.specs.declared.numeric_effecter.NumericBytes.TheVariants.{One, Two, Four, Other}
 use Rattle.cfg_records.specs.declared.numeric_effecter.SetNumericEffecter.{SetNumericEffecter}
+use Rattle.cfg_records.specs.declared.state_effecter.SetStateEffecter.{SetStateEffecter}
+use Rattle.cfg_records.specs.declared.bios_attribute.SetBiosAttribute.{SetBiosAttribute}
+use Rattle.cfg_records.specs.AttributeSizes.{most_sent}
+use Rattle.cfg_records.specs.BiosAttribute.{setting}
+use Rattle.cfg_records.specs.AttributeRangeLaws.{le_true}
+use Rattle.two_wire.specs.Codes.{pldm_invalid_length}
+use Rattle.cfg_records.specs.BiosAttributeLaws.{few_sent, same_setting, sent_whole}
 use Rattle.cfg_records.specs.declared.op.Op.TheVariants as op
 use Rattle.cfg_records.specs.declared.boot_param.BootParameter.TheVariants as parameter
 use Rattle.cfg_records.specs.declared.boot_param.BootChange.{BootChange}
@@ -27,6 +34,12 @@ use Rattle.cfg_records.specs.declared.channel.SetChannelAccess.{SetChannelAccess
 use Rattle.cfg_records.specs.declared.user.UserNumber.{UserNumber}
 use Rattle.cfg_records.specs.declared.user.SetUserName.{SetUserName}
 use Rattle.cfg_records.specs.declared.user.SetUserAccess.{SetUserAccess}
+use Rattle.two_wire.specs.Codes.{pldm_invalid_length}
+use Rattle.cfg_records.specs.InverseLaws.{same_tested}
+use Rattle.effecter_recs.specs.ChangeLaws.{two_each, same_states, all_read}
+use Rattle.effecter_recs.specs.State.{state_body}
+use Rattle.bmc_board.specs.declared.command.Lengths.TheVariants.{PairsCountedAt}
+use Rattle.bmc_board.specs.Table.{is_allowed}
 use Rattle.cfg_records.specs.Boards.{stored}
 use Rattle.cfg_records.specs.Numbers.{channel_in, user_in, six_bits_in}
 use Rattle.cfg_records.specs.NumberLaws.{same_channel, same_user, same_bits}
@@ -37,7 +50,7 @@ use Rattle.std.proofs.Math.Nat.{ℕ_set}
 use Rattle.cfg_records.proofs.Operations.{set_thresholds, same_thresholds}
 use Rattle.record_kinds.specs.Limits.{set_asked}
 use Rattle.bmc_board.specs.Request as request
-use Rattle.bmc_board.specs.Request.{Request, channel_asked, asked_by}
+use Rattle.bmc_board.specs.Request.{Request, channel_asked, asked_by, attribute_set}
 use Rattle.bmc_board.specs.Decode.{IsReadFromAll, GetsAreRead, SetsAreRead}
 
 -- what holds of all lists of six holds of a list of length six
@@ -138,6 +151,17 @@ number_read effecter size (Two a b) = id_read effecter size (Two a b)
 number_read effecter size (Four a b c d) = id_read effecter size (Four a b c d)
 number_read effecter size Other = id_read effecter size Other
 
+-- so is a request for the states of an effecter: as many pairs as it counts stand behind the count
+where_taken : (b : Bool) (asked other : Result Request ℕ) (code : ℕ) → b ≡ true → asked ≡ other → (if b then asked else Err code) ≡ other
+where_taken true asked other code is same = same
+where_taken false asked other code is same = cc
+
+states_read : (o : SetStateEffecter) → asked_by (set_asked (op.StateEffecter o)) ≡ Ok (request.Set (op.StateEffecter o))
+states_read o =
+    where_taken (is_allowed (PairsCountedAt 2) (state_body o)) _ _ pldm_invalid_length
+    (same_tested _ _ (omega (arith, two_each o.changes)))
+    (ap (λ (made : SetStateEffecter). Ok (request.Set (op.StateEffecter made))) (same_states _ _ _ _ _ _ (two_bytes o.effecter) (all_read o.changes o.few)))
+
 -- so is a request for a name
 abbrev set_name : (user : ℕ) (name : List ℕ) → length name ≡ 16 → SetUserName
 set_name user name sixteen = record { user = user; name = name; sixteen = sixteen }
@@ -229,6 +253,22 @@ get_read Neither = refl
 abbrev gets_access : ChannelNumber → UserNumber → Result Request ℕ
 gets_access c u = Ok (request.Get (key.UserAccess (record { channel = c; user = u })))
 
+-- so is a request for the value of an attribute, which has eight bytes or more
+abbrev attribute_request : SetBiosAttribute → List ℕ
+attribute_request o = 0 ∷ 0 ∷ 0 ∷ 0 ∷ 5 ∷ o.attribute % 256 ∷ o.attribute / 256 ∷ o.attribute_type ∷ o.value
+
+abbrev read_where : Bool → SetBiosAttribute → Result Request ℕ
+read_where b change = if b then attribute_set (if b then Ok change else Err pldm_invalid_length) else Err pldm_invalid_length
+
+long_enough : (o : SetBiosAttribute) → nat_le 8 (length (attribute_request o)) ≡ true
+long_enough o = le_true 8 (length (attribute_request o)) (omega arith)
+
+attribute_read : (o : SetBiosAttribute) → asked_by (set_asked (op.BiosAttribute o)) ≡ Ok (request.Set (op.BiosAttribute o))
+attribute_read o =
+    ap (λ (b : Bool). read_where b (setting (o.attribute % 256 + 256 * (o.attribute / 256)) o.attribute_type o.value)) (long_enough o)
+    ∙ ap (λ (n : ℕ). Ok (request.Set (op.BiosAttribute (setting n o.attribute_type o.value)))) (two_bytes o.attribute)
+    ∙ ap (λ (change : SetBiosAttribute). Ok (request.Set (op.BiosAttribute change))) (same_setting o.attribute o.attribute_type (take most_sent o.value) o.value (few_sent o.value) o.fits (sent_whole o.value o.fits))
+
 pub gets_are_read : GetsAreRead
 gets_are_read (key.UserName user) = record { is_read = ap (λ (u : UserNumber). Ok (request.Get (key.UserName u))) (user_read user); from_nobody = (refl, refl) }
 gets_are_read (key.UserAccess on) = record { is_read = λ i. gets_access (channel_read on.channel i) (user_read on.user i); from_nobody = (refl, refl) }
@@ -238,6 +278,8 @@ gets_are_read (key.BootParam parameter.InfoAcknowledge) = record { is_read = ref
 gets_are_read (key.BootParam parameter.Flags) = record { is_read = refl; from_nobody = (refl, refl) }
 gets_are_read (key.Thresholds sensor) = record { is_read = refl; from_nobody = (refl, refl) }
 gets_are_read (key.NumericEffecter id) = record { is_read = ap (λ (n : ℕ). Ok (request.Get (key.NumericEffecter n))) (two_bytes id); from_nobody = refl }
+gets_are_read (key.StateEffecter id) = record { is_read = ap (λ (n : ℕ). Ok (request.Get (key.StateEffecter n))) (two_bytes id); from_nobody = refl }
+gets_are_read (key.BiosAttribute handle) = record { is_read = ap (λ (n : ℕ). Ok (request.Get (key.BiosAttribute n))) (two_bytes handle); from_nobody = refl }
 gets_are_read _ = record { is_read = refl; from_nobody = (refl, refl) }
 
 pub sets_are_read : SetsAreRead
@@ -246,9 +288,11 @@ sets_are_read (op.EventEnable o) = record { is_read = events_read o.sensor o.mes
 sets_are_read (op.Watchdog o) = record { is_read = ap (λ n. Ok (request.Set (set_watchdog o n))) (two_bytes o.initial); from_nobody = (refl, refl) }
 sets_are_read (op.BootParam o) = record { is_read = boot_read o.invalid o.change; from_nobody = (refl, refl) }
 sets_are_read (op.NumericEffecter o) = record { is_read = number_read o.effecter o.size o.value; from_nobody = refl }
+sets_are_read (op.StateEffecter o) = record { is_read = states_read o; from_nobody = refl }
 sets_are_read (op.UserName o) = record { is_read = name_read o; from_nobody = (refl, refl) }
 sets_are_read (op.UserAccess o) = record { is_read = access_read o.first o.user o.limit o.session_limit; from_nobody = (refl, refl) }
 sets_are_read (op.ChannelAccess o) = record { is_read = store_read o.channel o.store o.change; from_nobody = (refl, refl) }
+sets_are_read (op.BiosAttribute o) = record { is_read = attribute_read o; from_nobody = refl }
 sets_are_read _ = record { is_read = refl; from_nobody = (refl, refl) }
 
 pub is_read_from_all : IsReadFromAll

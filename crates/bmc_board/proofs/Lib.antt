@@ -10,3 +10,4 @@ pub mod Decoded
 pub mod Quiet
 pub mod ShownAgain
 pub mod Undone
+pub mod BiosTableFacts

@@ -1,9 +1,9 @@
 -- What every live command has in common: a line for each.
-use Rattle.std.proofs.Common.{◌≡◌, ◌≤◌, ◌<◌, ◌-◌, ◌%◌, subst, ℕ, nat_lt, List, [], ◌∷◌, ◌++◌, length, take, drop, Option, Some, None, Result, Ok, Err, Bool, true, false, if◌then◌else◌, ◌==◌, not, refl, arith, lit≤}
+use Rattle.std.proofs.Common.{◌≡◌, ◌≤◌, ◌<◌, ◌-◌, ◌%◌, subst, ℕ, nat_lt, List, [], ◌∷◌, ◌++◌, length, take, drop, Option, Some, None, Result, Ok, Err, Bool, true, false, if◌then◌else◌, ◌==◌, ◌||◌, not, refl, arith, lit≤}
 use Rattle.std.proofs.lemmas.Bool.Decides.{nat_tests}
 use Rattle.std.proofs.lemmas.List.{length-take}
 use Rattle.std.specs.Int.{w16, to_le_bytes}
-use Rattle.two_wire.specs.Codes.{success, uninitialized_watchdog, out_of_space, reservation_canceled, out_of_range, too_many_bytes, not_present, invalid_data_field, invalid_length}
+use Rattle.two_wire.specs.Codes.{success, uninitialized_watchdog, out_of_space, reservation_canceled, out_of_range, too_many_bytes, not_present, invalid_data_field, invalid_length, pldm_invalid_data, pldm_no_table, pldm_invalid_table}
 use Rattle.cfg_records.specs.Meaning.{IsRefusal}
 use Rattle.cfg_records.specs.Records.{Records}
 use Rattle.cfg_records.specs.Requests.{byte_at}
@@ -38,7 +38,11 @@ use Rattle.user_chan.specs.declared.password.PasswordChange.{PasswordChange}
 use Rattle.user_chan.specs.declared.password.PasswordChange.TheVariants.{Disable, Enable, Set as ToSet, Test}
 use Rattle.user_chan.specs.Passwords.{wrong_text, wrong_size, password_in, with_password, change_of, same_password, same_size, password_of}
 use Rattle.bmc_board.specs.AnyAnswer.{IsCode, UnknownIsRefused}
-use Rattle.bmc_board.specs.Live.{reset_answer, already_in_progress, with_progress, begun, progress_answer, leave_where, tested, password_changed, password_answer, with_log, longest_live_reply}
+use Rattle.bmc_board.specs.Live.{reset_answer, already_in_progress, with_progress, begun, progress_answer, leave_where, tested, password_changed, password_answer, with_log, longest_live_reply, longest_live}
+use Rattle.bios_attr.specs.declared.bios_table.BiosTable.{BiosTable}
+use Rattle.cfg_records.specs.declared.attribute.Attribute.{Attribute}
+use Rattle.pldm_base.specs.Parts.{asked_offset}
+use Rattle.bmc_board.specs.BiosTables.{values_in, table_bytes, table_numbered, table_asked, part_data, part_answer, handle_in, table_where, longest_part}
 use Rattle.bmc_board.specs.AnyLive.{IsLive, AreLive}
 use Rattle.bmc_board.proofs.AskedFacts.{code_of}
 
@@ -64,6 +68,14 @@ no_effecter_refuses = record {
   is_ready = λ same. omega arith;
 }
 
+no_attribute_refuses : IsRefusal 0x88
+no_attribute_refuses = record {
+  is_fault = omega arith;
+  is_byte = omega arith;
+  not_busy = λ same. omega arith;
+  is_ready = λ same. omega arith;
+}
+
 sessionless_refuses : IsRefusal sessionless_channel
 sessionless_refuses = record {
   is_fault = omega arith;
@@ -78,16 +90,23 @@ channel_refuses false = invalid_field
 
 pub unknown_is_refused : UnknownIsRefused
 unknown_is_refused setup (key.NumericEffecter id) = no_effecter_refuses
+unknown_is_refused setup (key.StateEffecter id) = no_effecter_refuses
 unknown_is_refused setup (key.UserName user) = invalid_field
 unknown_is_refused setup (key.UserAccess on) = invalid_field
 unknown_is_refused setup (key.ChannelAccess at) = channel_refuses (is_sessionless setup at.channel.number)
+unknown_is_refused setup (key.BiosAttribute handle) = no_attribute_refuses
 unknown_is_refused setup _ = not_present_refuses
 
 -- ---- live commands
 
+-- any live command's reply may be so long
+pub as_long : (command : LiveCommand) → longest_live_reply ≤ longest_live command
+as_long live.GetBiosTable = lit≤ tt
+as_long _ = lit≤ tt
+
 -- a command that is always carried out
 is_done : (command : LiveCommand) (asked : List ℕ) (records : Records) (before after : Activity) (body : List ℕ) → length body ≤ longest_live_reply → IsLive command asked records before (done body, after)
-is_done command asked records before after body short = record { has_code = code_of success refl; short = short; left = λ fault. absurd (fault refl) }
+is_done command asked records before after body short = record { has_code = code_of success refl; short = omega (arith, short, as_long command); left = λ fault. absurd (fault refl) }
 
 -- a refusal of the command leaves the state as it was
 abbrev Stays : LiveCommand → List ℕ → State → Type 0
@@ -224,6 +243,27 @@ passwords command asked records before None change user is stays = is_refused co
 passwords command asked records before (Some known) (Err code) user is stays = is_refused command asked records before code (is code refl) stays
 passwords command asked records before (Some known) (Ok change) user is stays = changes_password command asked records before change user stays
 
+-- a part of a table is short, and the codes are none of a busy controller's
+part_long : (table : List ℕ) (offset : ℕ) → length (part_data table offset) ≤ longest_part
+part_long table offset = omega (arith, length-take 192 (drop offset table))
+
+shows_part_of : (asked : List ℕ) (records : Records) (before : Activity) (table : List ℕ) (offset : Option ℕ) → IsLive live.GetBiosTable asked records before (part_answer table offset, before)
+shows_part_of asked records before table (Some offset) = record { has_code = code_of success refl; short = part_long table offset; left = λ fault. absurd (fault refl) }
+shows_part_of asked records before table None = is_refused live.GetBiosTable asked records before _ (code_of pldm_invalid_data refl) (λ code. refl)
+
+shows_table : (asked : List ℕ) (records : Records) (before : Activity) (table : Result BiosTable ℕ) (bytes_of : BiosTable → List ℕ) → ((code : ℕ) → table ≡ Err code → IsCode code)
+    → IsLive live.GetBiosTable asked records before (table_where table asked bytes_of, before)
+shows_table asked records before (Ok table) bytes_of is = shows_part_of asked records before (bytes_of table) (asked_offset (bytes_of table) (byte_at asked 4) (handle_in asked))
+shows_table asked records before (Err code) bytes_of is = is_refused live.GetBiosTable asked records before code (is code refl) (λ code. refl)
+
+code_where : (a b : Bool) (table : BiosTable) (code : ℕ) → (if a then Err pldm_invalid_table else (if b then Err pldm_no_table else Ok table)) ≡ Err code → IsCode code
+code_where true b table code e = let same : pldm_invalid_table ≡ code = cc in subst IsCode same (code_of pldm_invalid_table refl)
+code_where false true table code e = let same : pldm_no_table ≡ code = cc in subst IsCode same (code_of pldm_no_table refl)
+code_where false false table code e = cc
+
+asked_code : (attributes : List Attribute) (number : ℕ) (code : ℕ) → table_asked attributes number ≡ Err code → IsCode code
+asked_code attributes number code e = code_where (nat_lt 3 number) ((number == 3) || (length attributes == 0)) (table_numbered number) code e
+
 pub are_live : AreLive
 are_live setup records before live.GetDeviceId asked = is_done live.GetDeviceId asked records before before _ (lit≤ tt)
 are_live setup records before live.GetSelfTestResults asked = is_done live.GetSelfTestResults asked records before before _ (lit≤ tt)
@@ -246,3 +286,4 @@ are_live setup records before (live.LeaveChannelAccess channel) asked = leaves (
 are_live setup records before live.SetUserPassword asked = passwords live.SetUserPassword asked records before (user_at setup.users.items (user_in (byte_at asked 0)).number) (change_of asked) (user_in (byte_at asked 0)).number (change_code asked) (λ code. refl)
 are_live setup records before live.GetTid asked = is_done live.GetTid asked records before before _ (lit≤ tt)
 are_live setup records before live.GetPldmTypes asked = is_done live.GetPldmTypes asked records before before _ (lit≤ tt)
+are_live setup records before live.GetBiosTable asked = shows_table asked records before (table_asked setup.attributes.items (byte_at asked 5)) (table_bytes setup.attributes.items (values_in records)) (asked_code setup.attributes.items (byte_at asked 5))

@@ -17,3 +17,6 @@ pub mod PldmTypes
 pub mod Decode
 pub mod Undo
 pub mod Quiet
+pub mod ToldTables
+pub mod BiosTables
+pub mod BiosTableLaws

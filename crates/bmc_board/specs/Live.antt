@@ -1,4 +1,4 @@
--- What live commands do: commands that ask for no configuration record (IPMI 2.0; DSP0240, "GetTID" and "GetPLDMTypes").
+-- What live commands do: commands that ask for no configuration record (IPMI 2.0; DSP0240, "GetTID" and "GetPLDMTypes"; DSP0247, "GetBIOSTable").
 use Rattle.std.specs.Prelude.{ℕ, ◌/◌, ◌%◌, List, [], ◌∷◌, Option, Some, None, Result, Ok, Err, Bool, true, false, ◌==◌, if◌then◌else◌}
 use Rattle.two_wire.specs.Codes.{uninitialized_watchdog, invalid_data_field}
 use Rattle.std.specs.Int.{w16, w32, to_le_bytes}
@@ -29,6 +29,7 @@ use Rattle.sel_log.specs.Log.{info_of}
 use Rattle.bmc_board.specs.Storage.{sdr_info, sel_info, part_in, sdr_part, sel_part, LogGiven, added, cleared, time_in}
 use Rattle.bmc_board.specs.Sensing.{reading_answer}
 use Rattle.bmc_board.specs.Replies.{done, refused, unknown_code}
+use Rattle.bmc_board.specs.BiosTables.{table_answer, longest_part}
 
 -- what Get Device ID replies: three bytes of the device, its revisions, IPMI 2.0, what it supports, and whose it is, the lowest
 -- byte of a number first
@@ -137,7 +138,12 @@ live_answer setup records before (live.LeaveChannelAccess channel) body = (leave
 live_answer setup records before live.SetUserPassword body = password_answer (user_at setup.users.items (user_in (byte_at body 0)).number) (change_of body) (user_in (byte_at body 0)).number before
 live_answer setup records before live.GetTid body = (done (setup.tid ∷ []), before)
 live_answer setup records before live.GetPldmTypes body = (done pldm_types, before)
+live_answer setup records before live.GetBiosTable body = (table_answer setup records body, before)
 
--- the reply to a live command has at most so many bytes of data, which fit any frame
+-- the reply to a live command has at most so many bytes of data, which fit any frame; but a part of a table, which fits a message of PLDM
 abbrev pub longest_live_reply : ℕ
 longest_live_reply = 24
+
+abbrev pub longest_live : LiveCommand → ℕ
+longest_live live.GetBiosTable = longest_part
+longest_live _ = longest_live_reply

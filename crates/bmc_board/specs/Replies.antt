@@ -1,6 +1,6 @@
 -- Replies.
 use Rattle.std.specs.Prelude.{ℕ, List, [], if◌then◌else◌}
-use Rattle.two_wire.specs.Codes.{success, not_present, invalid_data_field, pldm_invalid_effecter}
+use Rattle.two_wire.specs.Codes.{success, not_present, invalid_data_field, pldm_invalid_effecter, pldm_invalid_attribute}
 use Rattle.cfg_records.specs.declared.key.Key.{Key}
 use Rattle.cfg_records.specs.declared.key.Key.TheVariants as key
 use Rattle.cfg_records.specs.declared.message.Answered.{Answered}
@@ -23,7 +23,9 @@ sessionless_channel = 0x82
 -- decides, has a line above this one.
 abbrev pub unknown_code : BoardFile → Key → ℕ
 unknown_code setup (key.NumericEffecter id) = pldm_invalid_effecter
+unknown_code setup (key.StateEffecter id) = pldm_invalid_effecter
 unknown_code setup (key.UserName user) = invalid_data_field
 unknown_code setup (key.UserAccess on) = invalid_data_field
 unknown_code setup (key.ChannelAccess at) = if is_sessionless setup at.channel.number then sessionless_channel else invalid_data_field
+unknown_code setup (key.BiosAttribute handle) = pldm_invalid_attribute
 unknown_code setup _ = not_present

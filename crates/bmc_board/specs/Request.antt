@@ -21,6 +21,7 @@ use Rattle.watch_boot.specs.declared.boot_request.BootShown.TheVariants as shown
 use Rattle.watch_boot.specs.BootRequests.{boot_request_in, boot_shown_in}
 use Rattle.effecter_recs.specs.Requests.{id_in}
 use Rattle.effecter_recs.specs.Numeric.{numeric_effecter_in}
+use Rattle.effecter_recs.specs.State.{state_effecter_in}
 use Rattle.cfg_records.specs.declared.channel.SetChannelAccess.{SetChannelAccess}
 use Rattle.cfg_records.specs.Numbers.{user_in, user_on}
 use Rattle.user_chan.specs.UserNames.{name_in}
@@ -28,6 +29,8 @@ use Rattle.user_chan.specs.UserAccess.{access_in}
 use Rattle.user_chan.specs.declared.channel_request.ChannelRequest.{ChannelRequest}
 use Rattle.user_chan.specs.declared.channel_request.ChannelRequest.TheVariants.{Leave, One, Two}
 use Rattle.user_chan.specs.ChannelRequests.{stored_in, channel_request_in}
+use Rattle.cfg_records.specs.declared.bios_attribute.SetBiosAttribute.{SetBiosAttribute}
+use Rattle.bios_attr.specs.BiosAttribute.{attribute_in, attribute_shown_in}
 use Rattle.bmc_board.specs.declared.command.Command.{Command}
 use Rattle.bmc_board.specs.declared.command.Command.TheVariants as command
 use Rattle.bmc_board.specs.declared.command.GetCommand.{GetCommand}
@@ -57,6 +60,7 @@ key_in get.GetChassisStatus body = key.PowerPolicy
 key_in get.GetWatchdogTimer body = key.Watchdog
 key_in get.GetGlobalEnables body = key.GlobalEnables
 key_in get.GetNumericEffecterValue body = key.NumericEffecter (id_in body)
+key_in get.GetStateEffecterStates body = key.StateEffecter (id_in body)
 key_in get.GetUserName body = key.UserName (user_in (byte_at body 0))
 key_in get.GetUserAccess body = key.UserAccess (user_on (byte_at body 0) (byte_at body 1))
 key_in get.GetChannelAccess body = key.ChannelAccess (stored_in body)
@@ -70,6 +74,7 @@ op_in set.SetPowerRestorePolicy body = op.PowerPolicy (policy_in body)
 op_in set.SetWatchdogTimer body = op.Watchdog (watchdog_in body)
 op_in set.SetGlobalEnables body = op.GlobalEnables (enables_in body)
 op_in set.SetNumericEffecterValue body = op.NumericEffecter (numeric_effecter_in body)
+op_in set.SetStateEffecterStates body = op.StateEffecter (state_effecter_in body)
 op_in set.SetUserName body = op.UserName (name_in body)
 op_in set.SetUserAccess body = op.UserAccess (access_in body)
 
@@ -90,6 +95,15 @@ channel_asked (Leave channel) = Live (live.LeaveChannelAccess channel) []
 channel_asked (One change) = Set (op.ChannelAccess change)
 channel_asked (Two first second) = SetStores first second
 
+-- what the commands of BIOS attributes ask for
+abbrev pub attribute_set : Result SetBiosAttribute ℕ → Result Request ℕ
+attribute_set (Ok change) = Ok (Set (op.BiosAttribute change))
+attribute_set (Err code) = Err code
+
+abbrev pub attribute_get : Result ℕ ℕ → Result Request ℕ
+attribute_get (Ok handle) = Ok (Get (key.BiosAttribute handle))
+attribute_get (Err code) = Err code
+
 -- what a command asks for with data of a length that it takes, or the code that refuses the data
 abbrev pub request_of : Command → List ℕ → Result Request ℕ
 request_of (command.Live command) body = Ok (Live command body)
@@ -98,6 +112,8 @@ request_of (command.Set set) body = Ok (Set (op_in set body))
 request_of command.SetBootOptions body = boot_set (boot_request_in body)
 request_of command.GetBootOptions body = boot_get (boot_shown_in body)
 request_of command.SetChannelAccess body = Ok (channel_asked (channel_request_in body))
+request_of command.SetBiosAttribute body = attribute_set (attribute_in body)
+request_of command.GetBiosAttribute body = attribute_get (attribute_shown_in body)
 
 -- the same of a command that was read, or the code that refused the request
 abbrev pub asked_of : Result Command ℕ → List ℕ → Result Request ℕ
@@ -114,7 +130,7 @@ pldm_refusals = record { unlisted = pldm_unsupported_command; not_allowed = pldm
 -- what a line's command asks for, where there is a line and the data has a length that it takes
 abbrev pub asked_at : Refusals → Option Line → List ℕ → Result Request ℕ
 asked_at refusals None body = Err refusals.unlisted
-asked_at refusals (Some line) body = if is_allowed line.lengths (length body) then request_of line.command body else Err refusals.not_allowed
+asked_at refusals (Some line) body = if is_allowed line.lengths body then request_of line.command body else Err refusals.not_allowed
 
 -- what a request asks for, or the first code that refuses it
 abbrev pub asked_by : Asked → Result Request ℕ

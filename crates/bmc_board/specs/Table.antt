@@ -1,13 +1,14 @@
--- The tables of commands (IPMI 2.0; DSP0240, "GetTID" and "GetPLDMTypes"; DSP0248, commands of effecters): one line each.
-use Rattle.std.specs.Prelude.{ℕ, List, [], ◌∷◌, Option, Some, None, Bool, true, false, find, nat_le, ◌==◌, ◌&&◌, ◌||◌}
+-- The tables of commands (IPMI 2.0; DSP0240, "GetTID" and "GetPLDMTypes"; DSP0248, commands of effecters; DSP0247, "GetBIOSTable" and commands of BIOS attributes): one line each.
+use Rattle.std.specs.Prelude.{ℕ, ◌+◌, ◌*◌, List, [], ◌∷◌, length, Option, Some, None, Bool, true, false, find, nat_le, ◌==◌, ◌&&◌, ◌||◌}
 use Rattle.cfg_records.specs.declared.message.Asked.{Asked}
 use Rattle.cfg_records.specs.declared.message.Asked.TheVariants.{Ipmi, Pldm}
+use Rattle.cfg_records.specs.Requests.{byte_at}
 use Rattle.bmc_board.specs.declared.command.Command.{Command}
 use Rattle.bmc_board.specs.declared.command.Command.TheVariants as command
 use Rattle.bmc_board.specs.declared.command.GetCommand.TheVariants as get
 use Rattle.bmc_board.specs.declared.command.SetCommand.TheVariants as set
 use Rattle.bmc_board.specs.declared.command.Lengths.{Lengths}
-use Rattle.bmc_board.specs.declared.command.Lengths.TheVariants.{Exactly, Between, AtLeast, OneOf}
+use Rattle.bmc_board.specs.declared.command.Lengths.TheVariants.{Exactly, Between, AtLeast, OneOf, PairsCountedAt}
 use Rattle.bmc_board.specs.declared.command.Line.{Line}
 use Rattle.bmc_board.specs.declared.live.LiveCommand.TheVariants as live
 
@@ -67,6 +68,11 @@ pldm_table =
     listed 0x00 0x04 (Exactly 0) false (command.Live live.GetPldmTypes) ∷
     listed 0x02 0x31 (AtLeast 4) true (command.Set set.SetNumericEffecterValue) ∷
     listed 0x02 0x32 (Exactly 2) false (command.Get get.GetNumericEffecterValue) ∷
+    listed 0x02 0x39 (PairsCountedAt 2) true (command.Set set.SetStateEffecterStates) ∷
+    listed 0x02 0x3A (Exactly 2) false (command.Get get.GetStateEffecterStates) ∷
+    listed 0x03 0x01 (Exactly 6) false (command.Live live.GetBiosTable) ∷
+    listed 0x03 0x07 (AtLeast 8) true command.SetBiosAttribute ∷
+    listed 0x03 0x08 (Exactly 7) false command.GetBiosAttribute ∷
     []
 
 abbrev pub line_in : Option Listed → Option Line
@@ -83,12 +89,13 @@ line_of net_fn number = line_under net_fn number table
 abbrev pub pldm_line_of : ℕ → ℕ → Option Line
 pldm_line_of kind number = line_under kind number pldm_table
 
--- the data may have this length
-abbrev pub is_allowed : Lengths → ℕ → Bool
-is_allowed (Exactly exact) length = length == exact
-is_allowed (Between least most) length = nat_le least length && nat_le length most
-is_allowed (AtLeast least) length = nat_le least length
-is_allowed (OneOf first second third) length = (length == first) || (length == second) || (length == third)
+-- the data have a length that the command takes
+abbrev pub is_allowed : Lengths → List ℕ → Bool
+is_allowed (Exactly exact) body = length body == exact
+is_allowed (Between least most) body = nat_le least (length body) && nat_le (length body) most
+is_allowed (AtLeast least) body = nat_le least (length body)
+is_allowed (OneOf first second third) body = (length body == first) || (length body == second) || (length body == third)
+is_allowed (PairsCountedAt place) body = length body == 1 + place + 2 * byte_at body place
 
 -- the PLDM types that the controller knows: base, platform monitoring and control, BIOS (DSP0240)
 abbrev pub is_pldm_type : ℕ → Bool

@@ -1,11 +1,16 @@
 //! A board.
 ghost use Rattle.record_kinds.specs.Sound.{IsSound};
 ghost use Rattle.record_kinds.specs.SoundLaws.{IsSound-prop};
+ghost use Rattle.bmc_board.specs.ToldTables.{Tells};
+ghost use Rattle.bmc_board.specs.BiosTableLaws.{Tells-prop};
 
+mod bios;
 mod happen;
 mod serve;
+mod set_data;
 
 use crate::activity::Activity;
+use bios_attr::Tables;
 use cfg_records::{Store, Value};
 use record_kinds::Setup;
 
@@ -18,5 +23,8 @@ pub struct Board<S: Store> {
     store: S,
     /// Where a Set makes the record's new value.
     made: Value,
+    /// The tables of its attributes.
+    tables: Tables,
     ghost sound: { IsSound setup (S.records store) } by { IsSound-prop setup (S.records store) },
+    ghost tell: { Tells setup.attributes.items tables } by { Tells-prop setup.attributes.items tables },
 }

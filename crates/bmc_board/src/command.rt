@@ -3,7 +3,7 @@ ghost use Rattle.std.specs.Prelude.{◌≡◌, None, Some};
 ghost use Rattle.bmc_board.specs.Table.{line_of, pldm_line_of, is_allowed, is_changing, is_pldm_type};
 
 use crate::live::LiveCommand;
-use cfg_records::Asked;
+use cfg_records::{Asked, byte_at};
 
 /// A command of the tables.
 #[derive(Clone, Copy, Debug, PartialEq, Eq)]
@@ -20,6 +20,10 @@ pub enum Command {
     GetBootOptions,
     /// Set Channel Access: it sets one record, two or none.
     SetChannelAccess,
+    /// SetBIOSAttributeCurrentValue: it sets a record, where its data are whole.
+    SetBiosAttribute,
+    /// GetBIOSAttributeCurrentValueByHandle: it shows a record, where its first part is asked for.
+    GetBiosAttribute,
 }
 
 /// A command that shows a record.
@@ -32,6 +36,7 @@ pub enum GetCommand {
     GetWatchdogTimer,
     GetGlobalEnables,
     GetNumericEffecterValue,
+    GetStateEffecterStates,
     GetUserName,
     GetUserAccess,
     GetChannelAccess,
@@ -47,6 +52,7 @@ pub enum SetCommand {
     SetWatchdogTimer,
     SetGlobalEnables,
     SetNumericEffecterValue,
+    SetStateEffecterStates,
     SetUserName,
     SetUserAccess,
 }
@@ -59,6 +65,8 @@ pub enum Lengths {
     Between(u8, u8),
     AtLeast(u8),
     OneOf(u8, u8, u8),
+    /// As many as the byte at this place tells: it counts the pairs of bytes behind it.
+    PairsCountedAt(u8),
 }
 
 /// What its table says of a command: how many bytes of data it takes, and whether it sets the configuration.
@@ -70,16 +78,21 @@ pub struct Line {
 }
 
 impl Lengths {
-    /// Whether the command takes so many bytes.
-    pub fn allow(self, length: usize) -> bool
-        ensures { result ≡ is_allowed self length }
+    /// Whether the command takes data of this length.
+    pub fn allow(self, body: &[u8]) -> bool
+        ensures { result ≡ is_allowed self body.now }
     {
+        let length = body.len();
         match self {
             Lengths::Exactly(exact) => length == exact as usize,
             Lengths::Between(least, most) => least as usize <= length && length <= most as usize,
             Lengths::AtLeast(least) => least as usize <= length,
             Lengths::OneOf(first, second, third) => {
                 length == first as usize || length == second as usize || length == third as usize
+            }
+            Lengths::PairsCountedAt(place) => {
+                let count = byte_at(body, place as usize);
+                length == 1 + place as usize + 2 * count as usize
             }
         }
     }
@@ -158,6 +171,11 @@ pub fn find_pldm_line(kind: u8, number: u8) -> Option<Line>
         (0x00, 0x04) => entry(Live(GetPldmTypes), Exactly(0), false),
         (0x02, 0x31) => entry(Set(SetNumericEffecterValue), AtLeast(4), true),
         (0x02, 0x32) => entry(Get(GetNumericEffecterValue), Exactly(2), false),
+        (0x02, 0x39) => entry(Set(SetStateEffecterStates), PairsCountedAt(2), true),
+        (0x02, 0x3A) => entry(Get(GetStateEffecterStates), Exactly(2), false),
+        (0x03, 0x01) => entry(Live(GetBiosTable), Exactly(6), false),
+        (0x03, 0x07) => entry(SetBiosAttribute, AtLeast(8), true),
+        (0x03, 0x08) => entry(GetBiosAttribute, Exactly(7), false),
         _ => return None,
     })
 }

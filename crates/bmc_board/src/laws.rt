@@ -31,7 +31,7 @@ pub fn sound_law()
     ensures fits { AnswersFit }
 {}
 
-/// A live command leaves the records. Its code isn't a busy controller's, its data fits any frame, and where it refuses it changes
+/// A live command leaves the records. Its code isn't a busy controller's, its data fits the frame or message that carries it, and where it refuses it changes
 /// nothing, but that a full log which refuses a record notes that it overflowed.
 pub fn live_law()
     ensures answers { AreLive }

@@ -32,6 +32,7 @@ pub enum LiveCommand {
     SetUserPassword,
     GetTid,
     GetPldmTypes,
+    GetBiosTable,
 }
 
 /// What Get Self Test Results replies (IPMI 2.0): no error was found.

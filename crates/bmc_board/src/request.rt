@@ -31,7 +31,7 @@ fn command_at(refusals: Refusals, line: Option<Line>, body: &[u8]) -> Result<Com
     let Some(line) = line else {
         return Err(refusals.unlisted);
     };
-    if !line.lengths.allow(body.len()) {
+    if !line.lengths.allow(body) {
         return Err(refusals.not_allowed);
     }
     Ok(line.command)

@@ -1,5 +1,5 @@
 //! Worked frames on the sample board, and what a run does where memory or a write is refused.
-mod boards;
+mod files;
 mod ipmb;
 mod runs;
 mod smbus;

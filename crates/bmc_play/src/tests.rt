@@ -1,10 +1,12 @@
 //! What runs write: stories, faults, refused texts and failing writers.
+mod attributes;
 mod faults;
 mod late;
 mod others;
 mod refused;
 mod smbus;
 mod stories;
+mod users;
 mod writers;
 
 use crate::play_run;
@@ -20,6 +22,7 @@ clock = 0
 log = 2
 enables = 0x08
 policy = 1
+users = [\"\", \"admin\"]
 watchdog = [0, 0, 0, 0]
 sdr = [\"010051C00100\"]
 boot3 = 0
@@ -55,6 +58,37 @@ supported = 0xFC0
 flags = 0
 assert = 0
 deassert = 0
+[[channel]]
+number = 1
+sessions = true
+access = [2, 2]
+limit = [4, 4]
+users = [0x14, 0x14]
+[[attribute]]
+name = \"Quiet\"
+kind = \"enumeration\"
+values = [\"off\", \"on\"]
+default = [0]
+current = [0]
+readonly = false
+[[attribute]]
+name = \"Asset\"
+kind = \"string\"
+string_type = 1
+least = 0
+most = 200
+default = \"\"
+current = \"rack-1\"
+readonly = false
+[[attribute]]
+name = \"Delay\"
+kind = \"integer\"
+lower = 0
+upper = 300
+increment = 10
+default = 30
+current = 30
+readonly = false
 ";
 
 /// A plan of one step on the events of sensor 5.

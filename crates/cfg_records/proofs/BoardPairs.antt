@@ -1,8 +1,9 @@
 -- The pairs of a board file, kind after kind.
-use Rattle.std.proofs.Common.{◌≡◌, ◌≢◌, ◌==◌, ℕ, zero, suc, ◌<◌, ◌⊎◌, inl, inr, List, [], ◌∷◌, ◌++◌, length, get_or, map, Option, Some, None, IsTrue, refl, ap, sym, ◌∙◌, arith}
+use Rattle.std.proofs.Common.{◌≡◌, ◌≢◌, ◌==◌, ℕ, zero, suc, ◌<◌, ◌≤◌, ◌⊎◌, inl, inr, List, [], ◌∷◌, ◌++◌, length, get_or, map, Option, Some, None, IsTrue, refl, ap, sym, ◌∙◌, arith}
 use Rattle.std.proofs.lemmas.Bool.Decides.{nat_tests}
 use Rattle.std.specs.List.{All, find}
 use Rattle.std.specs.Option.{option_map, option_or}
+use Rattle.std.proofs.lemmas.List.{length-map}
 use Rattle.std.proofs.lemmas.List.Elements.{All-append, All-map}
 use Rattle.std.proofs.lemmas.List.Folds.{find-append}
 use Rattle.cfg_records.specs.declared.key.Key.{Key}
@@ -13,6 +14,11 @@ use Rattle.cfg_records.specs.declared.boot_param.BootParameter.TheVariants.{Vali
 use Rattle.cfg_records.specs.declared.numeric_size.NumericSize.{NumericSize}
 use Rattle.cfg_records.specs.declared.numeric_size.NumericSize.TheVariants.{U8, S8, U16, S16, U32, S32}
 use Rattle.cfg_records.specs.NumericSize.{bytes_of}
+use Rattle.cfg_records.specs.declared.state_effecter.StateField.{StateField}
+use Rattle.cfg_records.specs.StateEffecter.{state_value}
+use Rattle.cfg_records.specs.declared.attribute.Attribute.{Attribute}
+use Rattle.cfg_records.specs.Attribute.{attribute_value}
+use Rattle.cfg_records.specs.AttributeLaws.{begins_long}
 use Rattle.cfg_records.specs.Keys.{is_length}
 use Rattle.cfg_records.specs.KeyLaws.{exact_key}
 use Rattle.cfg_records.specs.Distinct.{NamesDiffer}
@@ -27,9 +33,9 @@ use Rattle.cfg_records.proofs.Pairs.{has_key}
 
 -- the place of the pairs of a store, among the pairs of a file: no pair is of neither
 abbrev pub store_place : AccessStore → ℕ
-store_place NonVolatile = 6
-store_place Volatile = 7
-store_place Neither = 7
+store_place NonVolatile = 7
+store_place Volatile = 8
+store_place Neither = 8
 
 -- the place of a kind among the pairs of a file
 abbrev pub place_of : Key → ℕ
@@ -37,15 +43,17 @@ place_of (key.Thresholds sensor) = 0
 place_of (key.Hysteresis sensor) = 1
 place_of (key.EventEnable sensor) = 2
 place_of (key.NumericEffecter id) = 3
-place_of (key.UserName user) = 4
-place_of (key.UserAccess on) = 5
+place_of (key.StateEffecter id) = 4
+place_of (key.UserName user) = 5
+place_of (key.UserAccess on) = 6
 place_of (key.ChannelAccess stored) = store_place stored.store
-place_of key.PowerPolicy = 8
-place_of key.Watchdog = 9
-place_of key.GlobalEnables = 10
-place_of (key.BootParam ValidBitClearing) = 11
-place_of (key.BootParam InfoAcknowledge) = 12
-place_of (key.BootParam Flags) = 13
+place_of key.PowerPolicy = 9
+place_of key.Watchdog = 10
+place_of key.GlobalEnables = 11
+place_of (key.BootParam ValidBitClearing) = 12
+place_of (key.BootParam InfoAcknowledge) = 13
+place_of (key.BootParam Flags) = 14
+place_of (key.BiosAttribute handle) = 15
 
 -- the pairs of the kind at a place
 abbrev pub pairs_at : BoardFile → ℕ → List Pair
@@ -180,35 +188,47 @@ of_width S16 n = refl
 of_width U32 n = refl
 of_width S32 n = refl
 
+one_to_eight : (n : ℕ) → 1 ≤ n → n ≤ 8 → IsTrue (is_length (key.StateEffecter 0) n)
+one_to_eight n some few = grind (arith, nat_tests)
+
+of_fields : (fields : List StateField) → 1 ≤ length fields → length fields ≤ 8 → IsTrue (is_length (key.StateEffecter 0) (length (state_value fields)))
+of_fields fields some few = let long : length (state_value fields) ≡ length fields = length-map fields (λ (f : StateField). f.current) in one_to_eight (length (state_value fields)) (omega arith) (omega arith)
+
+of_attribute : (attribute : Attribute) → IsTrue (is_length (key.BiosAttribute attribute.handle) (length (attribute_value attribute)))
+of_attribute attribute = begins_long attribute
+
 -- the pairs of a file: a step for each kind
-pub pairs_are : (file : BoardFile) → AreBefore file 14 (pairs_of file)
+pub pairs_are : (file : BoardFile) → AreBefore file 16 (pairs_of file)
 pairs_are file =
     let before_1 = and_then file 0 [] (none_before file) (of_sensors file key.Thresholds _ 0 (λ m n same. cc) (λ n. refl) (λ s. six _ s.thresholds.valid.six)) in
     let before_2 = and_then file 1 _ before_1 (of_sensors file key.Hysteresis _ 1 (λ m n same. cc) (λ n. refl) (λ s. refl)) in
     let before_3 = and_then file 2 _ before_2 (of_sensors file key.EventEnable _ 2 (λ m n same. cc) (λ n. refl) (λ s. refl)) in
     let before_4 =
     and_then file 3 _ before_3 (of_numbered (λ e. e.id) key.NumericEffecter number_value 3 file.numeric_effecters.items file.numeric_effecters.differ (λ m n same. cc) (λ n. refl) (λ e. of_width e.range.size e.current)) in
-    let before_5 = and_then file 4 _ before_4 (of_items (λ u. u.number.number) (λ u. key.UserName u.number) (λ u. u.name) 4 file.users.items file.users.differ (λ u v same. ap user_number same) (λ u. refl) (λ u. sixteen _ u.sixteen)) in
-    let before_6 = and_then file 5 _ before_5 (of_items (λ a. number_on a.on) (λ a. key.UserAccess a.on) (λ a. a.byte ∷ []) 5 file.user_accesses.items file.user_accesses.differ (λ a b same. ap user_on_number same) (λ a. refl) (λ a. refl)) in
-    let before_7 =
-    and_then file 6 _ before_6
-    (of_items (λ c. c.number.number) (λ c. key.ChannelAccess (stored c.number NonVolatile)) (λ c. access_value c.non_volatile) 6 file.channels.items file.channels.differ (λ c d same. ap channel_number same) (λ c. refl) (λ c. refl)) in
+    let before_5 =
+    and_then file 4 _ before_4 (of_numbered (λ e. e.id) key.StateEffecter (λ e. state_value e.fields) 4 file.state_effecters.items file.state_effecters.differ (λ m n same. cc) (λ n. refl) (λ e. of_fields e.fields e.some e.few)) in
+    let before_6 = and_then file 5 _ before_5 (of_items (λ u. u.number.number) (λ u. key.UserName u.number) (λ u. u.name) 5 file.users.items file.users.differ (λ u v same. ap user_number same) (λ u. refl) (λ u. sixteen _ u.sixteen)) in
+    let before_7 = and_then file 6 _ before_6 (of_items (λ a. number_on a.on) (λ a. key.UserAccess a.on) (λ a. a.byte ∷ []) 6 file.user_accesses.items file.user_accesses.differ (λ a b same. ap user_on_number same) (λ a. refl) (λ a. refl)) in
     let before_8 =
     and_then file 7 _ before_7
-    (of_items (λ c. c.number.number) (λ c. key.ChannelAccess (stored c.number Volatile)) (λ c. access_value c.volatile) 7 file.channels.items file.channels.differ (λ c d same. ap channel_number same) (λ c. refl) (λ c. refl)) in
-    let before_9 = and_then file 8 _ before_8 (one_of 8 (key.PowerPolicy, policy_value file.policy) refl refl) in
-    let before_10 = and_then file 9 _ before_9 (one_of 9 (key.Watchdog, settings_value file.watchdog) refl refl) in
-    let before_11 = and_then file 10 _ before_10 (one_of 10 (key.GlobalEnables, enables_value file.enables) refl refl) in
-    let before_12 = and_then file 11 _ before_11 (one_of 11 (key.BootParam ValidBitClearing, boot_value file.boot ValidBitClearing) refl refl) in
-    let before_13 = and_then file 12 _ before_12 (one_of 12 (key.BootParam InfoAcknowledge, boot_value file.boot InfoAcknowledge) refl refl) in
-    and_then file 13 _ before_13 (one_of 13 (key.BootParam Flags, boot_value file.boot Flags) refl refl)
+    (of_items (λ c. c.number.number) (λ c. key.ChannelAccess (stored c.number NonVolatile)) (λ c. access_value c.non_volatile) 7 file.channels.items file.channels.differ (λ c d same. ap channel_number same) (λ c. refl) (λ c. refl)) in
+    let before_9 =
+    and_then file 8 _ before_8
+    (of_items (λ c. c.number.number) (λ c. key.ChannelAccess (stored c.number Volatile)) (λ c. access_value c.volatile) 8 file.channels.items file.channels.differ (λ c d same. ap channel_number same) (λ c. refl) (λ c. refl)) in
+    let before_10 = and_then file 9 _ before_9 (one_of 9 (key.PowerPolicy, policy_value file.policy) refl refl) in
+    let before_11 = and_then file 10 _ before_10 (one_of 10 (key.Watchdog, settings_value file.watchdog) refl refl) in
+    let before_12 = and_then file 11 _ before_11 (one_of 11 (key.GlobalEnables, enables_value file.enables) refl refl) in
+    let before_13 = and_then file 12 _ before_12 (one_of 12 (key.BootParam ValidBitClearing, boot_value file.boot ValidBitClearing) refl refl) in
+    let before_14 = and_then file 13 _ before_13 (one_of 13 (key.BootParam InfoAcknowledge, boot_value file.boot InfoAcknowledge) refl refl) in
+    let before_15 = and_then file 14 _ before_14 (one_of 14 (key.BootParam Flags, boot_value file.boot Flags) refl refl) in
+    and_then file 15 _ before_15 (of_numbered (λ a. a.handle) key.BiosAttribute attribute_value 15 file.attributes.items file.attributes.differ (λ m n same. cc) (λ n. refl) of_attribute)
 
-store_has_place : (s : AccessStore) → store_place s < 14
+store_has_place : (s : AccessStore) → store_place s < 16
 store_has_place NonVolatile = omega arith
 store_has_place Volatile = omega arith
 store_has_place Neither = omega arith
 
-has_place : (k : Key) → place_of k < 14
+has_place : (k : Key) → place_of k < 16
 has_place (key.Thresholds sensor) = omega arith
 has_place (key.ChannelAccess stored) = store_has_place stored.store
 has_place (key.BootParam ValidBitClearing) = omega arith

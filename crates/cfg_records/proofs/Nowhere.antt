@@ -1,11 +1,5 @@
 -- An index in which no key has a place.
 use Rattle.std.proofs.Common.{◌≡◌, ℕ, zero, suc, replicate, Option, None, slice_index_or, refl}
-use Rattle.std.specs.BTreeMap as btree
-use Rattle.cfg_records.specs.declared.key.Key.{Key}
-use Rattle.cfg_records.specs.declared.key.Key.TheVariants as key
-use Rattle.cfg_records.specs.declared.index.Index.{Index}
-use Rattle.cfg_records.specs.Keys.{key_cmp}
-use Rattle.cfg_records.specs.Index.{place_of}
 
 -- no number has a place in a table of none
 pub nowhere : (n i : ℕ) → slice_index_or {A = Option ℕ} (replicate n None) i None ≡ None

@@ -20,6 +20,8 @@ use Rattle.cfg_records.specs.declared.boot_param.BootParameter.{BootParameter}
 use Rattle.cfg_records.specs.declared.boot_param.BootParameter.TheVariants.{ValidBitClearing, InfoAcknowledge, Flags}
 use Rattle.cfg_records.specs.BootParam.{flag_bytes}
 use Rattle.cfg_records.specs.NumericSize.{bytes_of}
+use Rattle.cfg_records.specs.StateEffecter.{state_value}
+use Rattle.cfg_records.specs.Attribute.{attribute_value}
 use Rattle.cfg_records.specs.Records.{Pair}
 
 -- the values of what a board has once
@@ -62,11 +64,11 @@ sensor_kinds sensors =
     ∷ map (λ s. (key.EventEnable s.number, event_value s.events.messages s.events.scanning s.events.enabled)) sensors
     ∷ []
 
--- the keys of each kind of record that a sensor or an effecter has, with their values, kind after kind: a line for each kind
-abbrev pub part_kinds : BoardFile → List (List Pair)
-part_kinds file =
-    sensor_kinds file.sensors.items
-    ++ map (λ e. (key.NumericEffecter e.id, number_value e)) file.numeric_effecters.items
+-- the same of the records that an effecter has
+abbrev pub effecter_kinds : BoardFile → List (List Pair)
+effecter_kinds file =
+    map (λ e. (key.NumericEffecter e.id, number_value e)) file.numeric_effecters.items
+    ∷ map (λ e. (key.StateEffecter e.id, state_value e.fields)) file.state_effecters.items
     ∷ []
 
 -- the same of the records that a user or a channel has: channels in their stores, one store after the other
@@ -80,9 +82,13 @@ access_kinds file =
 
 -- the same of all items
 abbrev pub item_kinds : BoardFile → List (List Pair)
-item_kinds file = part_kinds file ++ access_kinds file
+item_kinds file = sensor_kinds file.sensors.items ++ effecter_kinds file ++ access_kinds file
 
--- the keys of each kind with their values: a line for each record that a board has once
+-- the keys of its attributes with their values
+abbrev pub attribute_pairs : BoardFile → List Pair
+attribute_pairs file = map (λ a. (key.BiosAttribute a.handle, attribute_value a)) file.attributes.items
+
+-- the keys of each kind with their values: a line for each record that a board has once, and one for its attributes
 abbrev pub kinds_of : BoardFile → List (List Pair)
 kinds_of file =
     item_kinds file
@@ -92,6 +98,7 @@ kinds_of file =
     ∷ ((key.BootParam ValidBitClearing, boot_value file.boot ValidBitClearing) ∷ [])
     ∷ ((key.BootParam InfoAcknowledge, boot_value file.boot InfoAcknowledge) ∷ [])
     ∷ ((key.BootParam Flags, boot_value file.boot Flags) ∷ [])
+    ∷ attribute_pairs file
     ∷ []
 
 -- the file's pairs, kind after kind

@@ -1,12 +1,12 @@
 -- The test of sets of events says what it is named for, and a value's bytes are its flags and events.
-use Rattle.std.proofs.Common.{◌≡◌, ℕ, zero, suc, ◌+◌, ◌-◌, ◌*◌, ◌/◌, ◌%◌, ◌^◌, ◌<◌, min, bit_and, List, ◌∷◌, [], length, slice_index, Bool, true, false, ◌||◌, ◌==◌, not, IsTrue, refl, sym, ◌∙◌, ap, subst, arith}
+use Rattle.std.proofs.Common.{◌≡◌, ℕ, zero, suc, ◌+◌, ◌-◌, ◌*◌, ◌/◌, ◌%◌, ◌^◌, ◌<◌, min, slice_index, Bool, true, false, ◌||◌, ◌==◌, not, IsTrue, refl, sym, ◌∙◌, ap, subst, arith}
 use Rattle.std.specs.Int.{bit_at}
 use Rattle.std.proofs.lemmas.Nat.{and_mask}
 use Rattle.std.proofs.lemmas.Nat.Bits.{bit_at_and, bit_at_ones, bit_at-lt}
 use Rattle.cfg_records.specs.Masks.{has}
 use Rattle.cfg_records.specs.MaskLaws.{all_below-at, at-all_below, implied, implies}
 use Rattle.cfg_records.specs.declared.event_enable.EventMasks.{EventMasks}
-use Rattle.cfg_records.specs.EventEnable.{AreWithin, are_within, flags_byte, makes_messages, is_scanning, event_value, enabled_in, IsEventValue, IsEventEnable}
+use Rattle.cfg_records.specs.EventEnable.{AreWithin, are_within, flags_byte, makes_messages, is_scanning, event_value, IsEventValue, IsEventEnable}
 
 -- ---- sets of events
 

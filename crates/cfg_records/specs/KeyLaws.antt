@@ -78,9 +78,11 @@ exact_key (key.BootParam ValidBitClearing) (key.BootParam ValidBitClearing) h = 
 exact_key (key.BootParam InfoAcknowledge) (key.BootParam InfoAcknowledge) h = refl
 exact_key (key.BootParam Flags) (key.BootParam Flags) h = refl
 exact_key (key.NumericEffecter a) (key.NumericEffecter b) h = ap key.NumericEffecter (exact_unsigned a b (equal_from_is_eq _ h))
+exact_key (key.StateEffecter a) (key.StateEffecter b) h = ap key.StateEffecter (exact_unsigned a b (equal_from_is_eq _ h))
 exact_key (key.UserName a) (key.UserName b) h = ap key.UserName (exact_user a b h)
 exact_key (key.UserAccess a) (key.UserAccess b) h = ap key.UserAccess (exact_user_on a b h)
 exact_key (key.ChannelAccess a) (key.ChannelAccess b) h = ap key.ChannelAccess (exact_stored a b h)
+exact_key (key.BiosAttribute a) (key.BiosAttribute b) h = ap key.BiosAttribute (exact_unsigned a b (equal_from_is_eq _ h))
 exact_key _ _ h = cc
 
 -- a key compares alike with itself

@@ -1,9 +1,10 @@
 -- The names of records, and how long their values are.
-use Rattle.std.specs.Prelude.{ℕ, Bool, ◌==◌, ◌||◌}
+use Rattle.std.specs.Prelude.{ℕ, Bool, nat_le, ◌==◌, ◌&&◌, ◌||◌}
 use Rattle.std.specs.Ordering.{is_eq}
 use Rattle.std.specs.declared.cmp.Ordering.{Ordering}
 use Rattle.cfg_records.specs.declared.key.Key.{Key}
 use Rattle.cfg_records.specs.declared.key.Key.TheVariants as key
+use Rattle.cfg_records.specs.AttributeSizes.{least_value, most_value}
 use Rattle.cfg_records.specs.BootParam.{boot_length}
 use Rattle.cfg_records.specs.contracts.key.KeyOrd.TheImpl as key_ord
 
@@ -17,9 +18,11 @@ is_length key.Watchdog n = n == 5
 is_length key.GlobalEnables n = n == 1
 is_length (key.BootParam parameter) n = n == boot_length parameter
 is_length (key.NumericEffecter id) n = (n == 1) || (n == 2) || (n == 4)
+is_length (key.StateEffecter id) n = nat_le 1 n && nat_le n 8
 is_length (key.UserName user) n = n == 16
 is_length (key.UserAccess on) n = n == 1
 is_length (key.ChannelAccess stored) n = n == 2
+is_length (key.BiosAttribute handle) n = nat_le least_value n && nat_le n most_value
 
 -- the order of keys
 abbrev pub key_cmp : Key → Key → Ordering

@@ -15,6 +15,9 @@ pub mod GlobalEnables
 pub mod BootParam
 pub mod NumericSize
 pub mod NumericEffecter
+pub mod StateField
+pub mod StateEffecter
+pub mod StateLaws
 pub mod UserAccess
 pub mod ChannelAccess
 pub mod NumberLaws
@@ -36,4 +39,12 @@ pub mod PlacesLaws
 pub mod RecordLaws
 pub mod Boards
 pub mod Distinct
+pub mod AttributeSizes
+pub mod AttributeValue
+pub mod AttributeRange
+pub mod AttributeRangeLaws
+pub mod Attribute
+pub mod AttributeLaws
+pub mod BiosAttribute
+pub mod BiosAttributeLaws
 pub mod Sample

@@ -1,5 +1,5 @@
 -- Numbers of channels and users, and parts of bytes, are one where their numbers are.
-use Rattle.std.proofs.Common.{◌≡◌, ℕ, ◌%◌, ◌<◌, arith, refl, subst}
+use Rattle.std.proofs.Common.{◌≡◌, ℕ, ◌%◌, ◌<◌, arith, subst}
 use Rattle.std.proofs.Props.{props}
 use Rattle.cfg_records.specs.declared.channel.ChannelNumber.{ChannelNumber}
 use Rattle.cfg_records.specs.declared.channel.SixBits.{SixBits}

@@ -1,5 +1,5 @@
 -- The sample board.
-use Rattle.std.specs.Prelude.{◌≡◌, ℕ, List, [], ◌∷◌, replicate}
+use Rattle.std.specs.Prelude.{◌≡◌, ℕ, List, [], ◌∷◌, replicate, false}
 use Rattle.cfg_records.specs.declared.sensor.Sensor.{Sensor}
 use Rattle.cfg_records.specs.declared.watchdog.Watchdog.{Watchdog}
 use Rattle.cfg_records.specs.declared.device.Device.{Device}
@@ -11,6 +11,12 @@ use Rattle.cfg_records.specs.declared.channel.Channel.{Channel}
 use Rattle.cfg_records.specs.declared.user.User.{User}
 use Rattle.cfg_records.specs.declared.user.UserAccess.{UserAccess}
 use Rattle.cfg_records.specs.Boards.{access_value}
+use Rattle.cfg_records.specs.declared.attribute.Attribute.{Attribute}
+use Rattle.cfg_records.specs.declared.attribute.AttributeKind.{AttributeKind}
+use Rattle.cfg_records.specs.declared.attribute.AttributeKind.TheVariants.{Enumeration, Text, Integer}
+use Rattle.cfg_records.specs.declared.attribute.EnumerationAttribute.{EnumerationAttribute}
+use Rattle.cfg_records.specs.declared.attribute.StringAttribute.{StringAttribute}
+use Rattle.cfg_records.specs.declared.attribute.IntegerAttribute.{IntegerAttribute}
 
 -- what Get Device ID says of the sample board
 pub record IsSampleDevice (device : Device) : Type 0 where
@@ -94,6 +100,54 @@ abbrev pub AreSampleAccesses : List UserAccess → Type 0
 AreSampleAccesses (a ∷ b ∷ []) = IsSampleAccess a 1 × IsSampleAccess b 2
 AreSampleAccesses _ = ⊥
 
+-- a setting that is off or on, and off at first
+pub record IsOffOrOn (e : EnumerationAttribute) : Type 0 where
+  pub values : e.values ≡ (0x6F ∷ 0x66 ∷ 0x66 ∷ []) ∷ (0x6F ∷ 0x6E ∷ []) ∷ []
+  pub default : e.default ≡ 0 ∷ []
+  pub current : e.current ≡ 0 ∷ []
+
+abbrev pub IsQuiet : AttributeKind → Type 0
+IsQuiet (Enumeration e) = IsOffOrOn e
+IsQuiet _ = ⊥
+
+-- a text of at most 200 bytes, which is "rack-1" at first
+pub record IsRack (t : StringAttribute) : Type 0 where
+  pub characters : t.string_type ≡ 1
+  pub least : t.lengths.least ≡ 0
+  pub most : t.lengths.most ≡ 200
+  pub default : t.default ≡ []
+  pub current : t.current ≡ 0x72 ∷ 0x61 ∷ 0x63 ∷ 0x6B ∷ 0x2D ∷ 0x31 ∷ []
+
+abbrev pub IsAsset : AttributeKind → Type 0
+IsAsset (Text t) = IsRack t
+IsAsset _ = ⊥
+
+-- a number up to 300 by tens, which is 30 at first
+pub record IsByTens (i : IntegerAttribute) : Type 0 where
+  pub lower : i.steps.lower ≡ 0
+  pub upper : i.steps.upper ≡ 300
+  pub increment : i.steps.increment ≡ 10
+  pub default : i.default ≡ 30
+  pub current : i.current ≡ 30
+
+abbrev pub IsDelay : AttributeKind → Type 0
+IsDelay (Integer i) = IsByTens i
+IsDelay _ = ⊥
+
+-- an attribute of this handle and name that can be set
+pub record IsAttribute (attribute : Attribute) (handle : ℕ) (name : List ℕ) : Type 0 where
+  pub numbered : attribute.handle ≡ handle
+  pub named : attribute.name ≡ name
+  pub can_be_set : attribute.read_only ≡ false
+
+-- "Quiet", "Asset" and "Delay"
+abbrev pub AreSampleAttributes : List Attribute → Type 0
+AreSampleAttributes (a ∷ b ∷ c ∷ []) =
+    IsAttribute a 0 (0x51 ∷ 0x75 ∷ 0x69 ∷ 0x65 ∷ 0x74 ∷ []) × IsQuiet a.kind
+    × IsAttribute b 1 (0x41 ∷ 0x73 ∷ 0x73 ∷ 0x65 ∷ 0x74 ∷ []) × IsAsset b.kind
+    × IsAttribute c 2 (0x44 ∷ 0x65 ∷ 0x6C ∷ 0x61 ∷ 0x79 ∷ []) × IsDelay c.kind
+AreSampleAttributes _ = ⊥
+
 -- the sample board
 pub record IsSampleBoard (file : BoardFile) : Type 0 where
   pub terminus : file.tid ≡ 5
@@ -107,7 +161,9 @@ pub record IsSampleBoard (file : BoardFile) : Type 0 where
   pub sdr : file.sdr.items ≡ sample_record ∷ []
   pub boot : IsSampleBoot file.boot
   pub no_numeric : file.numeric_effecters.items ≡ []
+  pub no_state : file.state_effecters.items ≡ []
   pub users : AreSampleUsers file.users.items
   pub channels : AreSampleChannels file.channels.items
   pub no_sessionless : file.sessionless.items ≡ []
   pub accesses : AreSampleAccesses file.user_accesses.items
+  pub attributes : AreSampleAttributes file.attributes.items

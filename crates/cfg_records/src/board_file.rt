@@ -1,4 +1,5 @@
 //! What a board begins with.
+use crate::attribute::Attributes;
 use crate::boot_param::{BootOptions, BootParameter};
 use crate::channel::{Channels, SessionlessChannels};
 use crate::device::Device;
@@ -9,6 +10,7 @@ use crate::numeric_effecter::NumericEffecters;
 use crate::power_policy::PowerPolicy;
 use crate::sdr_record::SdrRecords;
 use crate::sensor::Sensors;
+use crate::state_effecter::StateEffecters;
 use crate::user::{UserAccesses, Users};
 use crate::value::Value;
 use crate::watchdog::Watchdog;
@@ -30,34 +32,42 @@ pub struct BoardFile {
     pub sdr: SdrRecords,
     pub boot: BootOptions,
     pub numeric_effecters: NumericEffecters,
+    pub state_effecters: StateEffecters,
     pub users: Users,
     /// The channels with sessions, and those without.
     pub channels: Channels,
     pub sessionless: SessionlessChannels,
     /// What each user may do on each channel with sessions.
     pub user_accesses: UserAccesses,
+    /// The attributes of its BIOS.
+    pub attributes: Attributes,
 }
 
 impl BoardFile {
     ghost use Rattle.std.specs.Prelude.{◌≡◌, [], IfOk, OnOk};
     ghost use Rattle.cfg_records.specs.Records.{KeysDiffer, LengthsFit};
-    ghost use Rattle.cfg_records.specs.Boards.{joined, part_kinds, access_kinds, item_kinds, pairs_of};
+    ghost use Rattle.cfg_records.specs.Boards.{joined, sensor_kinds, effecter_kinds, access_kinds, item_kinds, attribute_pairs, pairs_of};
 
-    /// The records of its sensors and effecters: a line for each kind.
+    /// The records of its sensors: a line for each kind.
     fn sensor_records(&self, alloc: Global) -> Result<Vec<(Key, Value)>, AllocError>
-        ensures { IfOk result (λ pairs. pairs.items ≡ joined [] (part_kinds self.now)) }
+        ensures { IfOk result (λ pairs. pairs.items ≡ joined [] (sensor_kinds self.now.sensors.items)) }
     {
         let sensors = self.sensors.items.as_slice();
         let thresholds = sensors.iter().map(|s| s.thresholds.pair(s.number));
         let hysteresis = sensors.iter().map(|s| s.hysteresis.pair(s.number));
         let events = sensors.iter().map(|s| s.events.pair(s.number));
+        thresholds.chain(hysteresis).chain(events).collect(alloc)
+    }
+
+    /// The records of its effecters: a line for each kind.
+    fn effecter_records(&self, alloc: Global) -> Result<Vec<(Key, Value)>, AllocError>
+        ensures { IfOk result (λ pairs. pairs.items ≡ joined [] (effecter_kinds self.now)) }
+    {
         let numeric = self.numeric_effecters.items.as_slice();
         let numeric = numeric.iter().map(|e| e.pair());
-        thresholds
-            .chain(hysteresis)
-            .chain(events)
-            .chain(numeric)
-            .collect(alloc)
+        let state = self.state_effecters.items.as_slice();
+        let state = state.iter().map(|e| e.pair());
+        numeric.chain(state).collect(alloc)
     }
 
     /// The records of its users and channels: a line for each kind, and one for each store.
@@ -82,9 +92,19 @@ impl BoardFile {
         ensures { IfOk result (λ pairs. pairs.items ≡ joined [] (item_kinds self.now)) }
     {
         let mut pairs = self.sensor_records(alloc)?;
+        let mut effecters = self.effecter_records(alloc)?;
+        pairs.append(&mut effecters)?;
         let mut more = self.access_records(alloc)?;
         pairs.append(&mut more)?;
         Ok(pairs)
+    }
+
+    /// The records of its attributes.
+    fn attribute_records(&self, alloc: Global) -> Result<Vec<(Key, Value)>, AllocError>
+        ensures { IfOk result (λ pairs. pairs.items ≡ attribute_pairs self.now) }
+    {
+        let attributes = self.attributes.items.as_slice();
+        attributes.iter().map(|a| a.pair()).collect(alloc)
     }
 
     /// The keys of the board's records, each once, with the values that they begin with: kind after kind.
@@ -100,6 +120,8 @@ impl BoardFile {
         pairs.push(self.boot.pair(BootParameter::ValidBitClearing))?;
         pairs.push(self.boot.pair(BootParameter::InfoAcknowledge))?;
         pairs.push(self.boot.pair(BootParameter::Flags))?;
+        let mut more = self.attribute_records(alloc)?;
+        pairs.append(&mut more)?;
         Ok(pairs)
     }
 }

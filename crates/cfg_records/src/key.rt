@@ -2,6 +2,7 @@
 ghost use Rattle.std.specs.Prelude.{◌≡◌};
 ghost use Rattle.cfg_records.specs.Keys.{is_length};
 
+use crate::attribute_sizes::{LEAST_VALUE, MOST_VALUE};
 use crate::boot_param::BootParameter;
 use crate::channel::StoredAccess;
 use crate::user::{UserNumber, UserOnChannel};
@@ -25,12 +26,16 @@ pub enum Key {
     BootParam(BootParameter),
     /// The present value of the numeric effecter of this id.
     NumericEffecter(u16),
+    /// The present states of the state effecter of this id.
+    StateEffecter(u16),
     /// The name of a user.
     UserName(UserNumber),
     /// What a user may do on a channel.
     UserAccess(UserOnChannel),
     /// The access of a channel, in one of its stores.
     ChannelAccess(StoredAccess),
+    /// The value of the BIOS attribute of this handle.
+    BiosAttribute(u16),
 }
 
 impl Key {
@@ -47,9 +52,11 @@ impl Key {
             Key::GlobalEnables => length == 1,
             Key::BootParam(parameter) => length == parameter.length(),
             Key::NumericEffecter(_) => length == 1 || length == 2 || length == 4,
+            Key::StateEffecter(_) => 1 <= length && length <= 8,
             Key::UserName(_) => length == 16,
             Key::UserAccess(_) => length == 1,
             Key::ChannelAccess(_) => length == 2,
+            Key::BiosAttribute(_) => LEAST_VALUE <= length && length <= MOST_VALUE,
         }
     }
 }

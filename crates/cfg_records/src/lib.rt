@@ -2,12 +2,18 @@
 //! records are kept, and the board file that they begin from.
 #![tactic(auto)]
 
+pub mod attribute;
+pub mod attribute_range;
+pub mod attribute_sizes;
+pub mod attribute_value;
+pub mod bios_attribute;
 pub mod board_file;
 pub mod boot_param;
 pub mod channel;
 pub mod device;
 pub mod distinct;
 pub mod event_enable;
+pub mod field_changes;
 pub mod global_enables;
 pub mod hysteresis;
 mod index;
@@ -28,12 +34,20 @@ pub mod sample;
 pub mod sdr_record;
 pub mod sensor;
 pub mod sensor_thresholds;
+pub mod state_effecter;
 pub mod store;
 pub mod thresholds;
 pub mod user;
 pub mod value;
 pub mod watchdog;
 
+pub use attribute::{
+    Attribute, AttributeKind, Attributes, EnumerationAttribute, Indexes, IntegerAttribute,
+    StringAttribute, Text,
+};
+pub use attribute_range::{AttributeRange, IntegerSteps, PossibleValues, TextLengths};
+pub use attribute_value::AttributeValue;
+pub use bios_attribute::SetBiosAttribute;
 pub use board_file::BoardFile;
 pub use boot_param::{BootChange, BootFlags, BootOptions, BootParameter, MaskedBits, SetBootParam};
 pub use channel::{
@@ -43,6 +57,7 @@ pub use channel::{
 pub use device::{Bcd, Device, ManufacturerId};
 pub use distinct::{Distinct, Numbered};
 pub use event_enable::{EventChange, EventEnable, EventMasks, SetEventEnable};
+pub use field_changes::{FieldChange, FieldChanges};
 pub use global_enables::{GlobalEnables, SetGlobalEnables};
 pub use hysteresis::{Hysteresis, SetHysteresis};
 pub use items::Items;
@@ -61,6 +76,7 @@ pub use sample::sample_board;
 pub use sdr_record::{SdrRecord, SdrRecords};
 pub use sensor::{Sensor, Sensors};
 pub use sensor_thresholds::{SetThresholds, Thresholds};
+pub use state_effecter::{SetStateEffecter, StateEffecter, StateEffecters, StateField};
 pub use store::{NoKey, Store};
 pub use thresholds::ThresholdMasks;
 pub use user::{

@@ -1,4 +1,5 @@
 //! Changes of one record.
+use crate::bios_attribute::SetBiosAttribute;
 use crate::boot_param::SetBootParam;
 use crate::channel::SetChannelAccess;
 use crate::event_enable::SetEventEnable;
@@ -7,6 +8,7 @@ use crate::hysteresis::SetHysteresis;
 use crate::numeric_effecter::SetNumericEffecter;
 use crate::power_policy::SetPowerPolicy;
 use crate::sensor_thresholds::SetThresholds;
+use crate::state_effecter::SetStateEffecter;
 use crate::user::{SetUserAccess, SetUserName};
 use crate::watchdog::SetWatchdog;
 
@@ -22,7 +24,9 @@ pub enum Op {
     GlobalEnables(SetGlobalEnables),
     BootParam(SetBootParam),
     NumericEffecter(SetNumericEffecter),
+    StateEffecter(SetStateEffecter),
     UserName(SetUserName),
     UserAccess(SetUserAccess),
     ChannelAccess(SetChannelAccess),
+    BiosAttribute(SetBiosAttribute),
 }

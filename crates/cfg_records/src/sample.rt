@@ -1,7 +1,12 @@
 //! The sample board.
-ghost use Rattle.std.specs.Prelude.{◌≡◌, [], ◌∷◌, IfOk};
-ghost use Rattle.cfg_records.specs.Sample.{IsSampleDevice, IsTemperature, IsFan, IsUnset, sample_record, IsSampleBoot, AreSampleUsers, AreSampleChannels, AreSampleAccesses, IsSampleBoard};
+ghost use Rattle.std.specs.Prelude.{◌≡◌, [], ◌∷◌, IfOk, false};
+ghost use Rattle.cfg_records.specs.Sample.{IsSampleDevice, IsTemperature, IsFan, IsUnset, sample_record, IsSampleBoot, AreSampleUsers, AreSampleChannels, AreSampleAccesses, IsQuiet, IsAsset, IsDelay, AreSampleAttributes, IsSampleBoard};
 
+use crate::attribute::{
+    Attribute, AttributeKind, Attributes, EnumerationAttribute, Indexes, IntegerAttribute,
+    StringAttribute, Text,
+};
+use crate::attribute_range::{IntegerSteps, TextLengths};
 use crate::board_file::BoardFile;
 use crate::boot_param::{BootFlags, BootOptions};
 use crate::channel::{Channel, ChannelAccess, ChannelNumber, Channels};
@@ -184,6 +189,67 @@ fn user_accesses(alloc: Global) -> Result<UserAccesses, AllocError>
     Ok(Distinct::new(accesses).unwrap())
 }
 
+/// A setting that is off or on: "Quiet", now off.
+fn quiet(alloc: Global) -> Result<AttributeKind, AllocError>
+    ensures { IfOk result IsQuiet }
+{
+    let mut values = Vec::new(alloc);
+    values.push(Text::from_slice(&[0x6F, 0x66, 0x66]))?;
+    values.push(Text::from_slice(&[0x6F, 0x6E]))?;
+    let off = Indexes::from_slice(&[0]);
+    let kind = EnumerationAttribute::new(values, off.copy(), off);
+    Ok(AttributeKind::Enumeration(kind.unwrap()))
+}
+
+/// A text of at most 200 bytes: "Asset", now "rack-1".
+fn asset() -> AttributeKind
+    ensures { IsAsset result }
+{
+    let lengths = TextLengths {
+        least: 0,
+        most: 200,
+    };
+    let current = Text::from_slice(&[0x72, 0x61, 0x63, 0x6B, 0x2D, 0x31]);
+    let kind = StringAttribute::new(1, lengths, Text::new(), current);
+    AttributeKind::Text(kind.unwrap())
+}
+
+/// A number up to 300 by tens: "Delay", now 30.
+fn delay() -> AttributeKind
+    ensures { IsDelay result }
+{
+    let steps = IntegerSteps {
+        lower: 0,
+        upper: 300,
+        increment: 10,
+    };
+    let kind = IntegerAttribute::new(steps, 30, 30);
+    AttributeKind::Integer(kind.unwrap())
+}
+
+/// An attribute that can be set.
+fn attribute(handle: u16, name: &[u8; 5], kind: AttributeKind) -> Attribute
+    ensures { result ≡ record { handle = handle; name = name.now; read_only = false; kind = kind } }
+{
+    Attribute {
+        handle,
+        name: Text::from_slice(name),
+        read_only: false,
+        kind,
+    }
+}
+
+/// Its three attributes.
+fn attributes(alloc: Global) -> Result<Attributes, AllocError>
+    ensures { IfOk result (λ attributes. AreSampleAttributes attributes.items) }
+{
+    let mut attributes = Vec::new(alloc);
+    attributes.push(attribute(0, &[0x51, 0x75, 0x69, 0x65, 0x74], quiet(alloc)?))?;
+    attributes.push(attribute(1, &[0x41, 0x73, 0x73, 0x65, 0x74], asset()))?;
+    attributes.push(attribute(2, &[0x44, 0x65, 0x6C, 0x61, 0x79], delay()))?;
+    Ok(Distinct::new(attributes).unwrap())
+}
+
 /// The sample board, which the program takes where it is given no board file.
 pub fn sample_board(alloc: Global) -> Result<BoardFile, AllocError>
     ensures { IfOk result IsSampleBoard }
@@ -203,9 +269,11 @@ pub fn sample_board(alloc: Global) -> Result<BoardFile, AllocError>
         boot: boot(),
         sdr: sdr(alloc)?,
         numeric_effecters: Distinct::new(Vec::new(alloc)).unwrap(),
+        state_effecters: Distinct::new(Vec::new(alloc)).unwrap(),
         users: users(alloc)?,
         channels: channels(alloc)?,
         sessionless: Distinct::new(Vec::new(alloc)).unwrap(),
         user_accesses: user_accesses(alloc)?,
+        attributes: attributes(alloc)?,
     })
 }

@@ -2,3 +2,8 @@ pub mod Requests
 pub mod Numeric
 pub mod NumericLaws
 pub mod NumericKind
+pub mod FieldChanges
+pub mod ChangeLaws
+pub mod State
+pub mod StateLaws
+pub mod StateKind

@@ -48,7 +48,7 @@ fn value_of(bytes: &[u8]) -> NumericBytes
 }
 
 /// What stands behind so many bytes.
-fn behind(bytes: &[u8], count: usize) -> &[u8]
+pub(crate) fn behind(bytes: &[u8], count: usize) -> &[u8]
     ensures { result.now ≡ drop count bytes.now }
 {
     if count > bytes.len() {

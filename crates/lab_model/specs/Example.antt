@@ -11,6 +11,8 @@ use Rattle.cfg_records.specs.declared.thresholds.ThresholdMasks.{ThresholdMasks}
 use Rattle.cfg_records.specs.declared.board_file.BoardFile.{BoardFile}
 use Rattle.cfg_records.specs.declared.sensor.Sensor.{Sensor}
 use Rattle.cfg_records.specs.declared.numeric_effecter.NumericEffecter.{NumericEffecter}
+use Rattle.cfg_records.specs.declared.state_effecter.StateEffecter.{StateEffecter}
+use Rattle.cfg_records.specs.declared.attribute.Attribute.{Attribute}
 use Rattle.cfg_records.specs.declared.user.User.{User}
 use Rattle.cfg_records.specs.declared.user.UserAccess.{UserAccess}
 use Rattle.cfg_records.specs.declared.channel.Channel.{Channel}
@@ -73,6 +75,9 @@ no_records i j d below within = absurd (omega (arith, below, within))
 pub no_numbers : NamesDiffer (λ (e : NumericEffecter). e.id) []
 no_numbers i j d below within = absurd (omega (arith, below, within))
 
+pub no_states : NamesDiffer (λ (e : StateEffecter). e.id) []
+no_states i j d below within = absurd (omega (arith, below, within))
+
 pub no_users : NamesDiffer (λ (u : User). u.number.number) []
 no_users i j d below within = absurd (omega (arith, below, within))
 
@@ -84,6 +89,9 @@ no_sessionless i j d below within = absurd (omega (arith, below, within))
 
 pub no_accesses : NamesDiffer (λ (a : UserAccess). number_on a.on) []
 no_accesses i j d below within = absurd (omega (arith, below, within))
+
+pub no_attributes : NamesDiffer (λ (a : Attribute). a.handle) []
+no_attributes i j d below within = absurd (omega (arith, below, within))
 
 -- a board with that sensor
 abbrev pub board_file : BoardFile
@@ -119,10 +127,12 @@ board_file = record {
     byte = lit< tt;
   };
   numeric_effecters = record { items = []; differ = no_numbers; few = lit≤ tt };
+  state_effecters = record { items = []; differ = no_states; few = lit≤ tt };
   users = record { items = []; differ = no_users; few = lit≤ tt };
   channels = record { items = []; differ = no_channels; few = lit≤ tt };
   sessionless = record { items = []; differ = no_sessionless; few = lit≤ tt };
   user_accesses = record { items = []; differ = no_accesses; few = lit≤ tt };
+  attributes = record { items = []; differ = no_attributes; few = lit≤ tt };
 }
 
 -- ---- the runs

@@ -23,6 +23,7 @@ use Rattle.record_kinds.specs.Limits.{get_asked, set_asked}
 use Rattle.record_kinds.specs.Sound.{IsSound}
 use Rattle.cfg_records.specs.declared.numeric_effecter.NumericBytes.{NumericBytes}
 use Rattle.cfg_records.specs.declared.numeric_effecter.NumericBytes.TheVariants.{One, Two, Four, Other}
+use Rattle.effecter_recs.specs.ChangeLaws.{two_each}
 use Rattle.bmc_board.specs.State.{State}
 use Rattle.bmc_board.proofs.AnswerFacts.{answers_fit}
 use Rattle.bus_model.specs.Request.{Request as Heard, Entry, Carried}
@@ -78,9 +79,11 @@ get_short key.Watchdog = tt
 get_short key.GlobalEnables = tt
 get_short (key.BootParam parameter) = tt
 get_short (key.NumericEffecter id) = omega arith
+get_short (key.StateEffecter id) = omega arith
 get_short (key.UserName user) = tt
 get_short (key.UserAccess on) = tt
 get_short (key.ChannelAccess at) = tt
+get_short (key.BiosAttribute handle) = omega arith
 
 set_short : (o : Op) → IsShort (set_asked o)
 set_short (op.Thresholds o) = tt
@@ -91,9 +94,11 @@ set_short (op.Watchdog o) = tt
 set_short (op.GlobalEnables o) = tt
 set_short (op.BootParam o) = tt
 set_short (op.NumericEffecter o) = short_value o.effecter o.size o.value
+set_short (op.StateEffecter o) = omega (arith, two_each o.changes, o.few)
 set_short (op.UserName o) = tt
 set_short (op.UserAccess o) = tt
 set_short (op.ChannelAccess o) = tt
+set_short (op.BiosAttribute o) = omega (arith, o.fits)
 
 from_short : (at : Bus → Addresses) (asked : Asked) → IsShort asked → IsShort (from_manager at asked)
 from_short at (Ipmi from net_fn lun command body) h = tt

@@ -7,7 +7,7 @@ use Rattle.std.proofs.lemmas.List.Folds.{list_any_at}
 use Rattle.std.proofs.lemmas.List.Quantifiers.{all_pairs_push}
 use Rattle.std.proofs.lemmas.Slice.Zip.{AllZip-long, all_zipped_more}
 use Rattle.std.specs.List.{list_any, AllZip}
-use Rattle.toml.specs.Data.{Data}
+use Rattle.toml.specs.Data.{Data, Members}
 use Rattle.toml.specs.View.{view}
 use Rattle.toml.specs.declared.value.Value.{Value}
 use Rattle.cfg_records.specs.Distinct.{NamesDiffer}
@@ -28,10 +28,10 @@ first-append (y ∷ xs) ys x is = is
 equal_test : (a b : ℕ) → a ≡ b → (a == b) ≡ true
 equal_test a b same = grind (arith, nat_tests)
 
-module _ {A : Type 0} (Holds : Data → A → Type 0) (item_at : ℕ → Item) (rows : List Row) (named : Field) (number_of : A → ℕ) (numbered : (d : Data) (a : A) → Holds d a → number_in named (table_of d) ≡ Some (number_of a)) where
+module _ {A : Type 0} (Holds : Data → A → Type 0) (item_at : ℕ → Item) (rows : Members → List Row) (named : Field) (number_of : A → ℕ) (numbered : (d : Data) (a : A) → Holds d a → number_in named (table_of d) ≡ Some (number_of a)) where
   -- a fault of a member's fields counts
   pub field_first : (seen ds : List Data) (d : Data) (before : List A) (why : FileFault) → AllZip Holds seen before
-      → first (map (fault_at (item_at (length before))) (field_faults rows (table_of d))) ≡ Some why
+      → first (map (fault_at (item_at (length before))) (field_faults (rows (table_of d)) (table_of d))) ≡ Some why
       → first (item_faults item_at rows named seen (d ∷ ds)) ≡ Some why
   field_first seen ds d before why zip is = first-append _ _ why (rw (AllZip-long Holds seen before zip) at is)
 
@@ -48,14 +48,14 @@ module _ {A : Type 0} (Holds : Data → A → Type 0) (item_at : ℕ → Item) (
   taken seen before d n zip is = ap (λ o. list_any (λ other. same_number (number_in named (table_of other)) o) seen) is ∙ taken_as seen before n zip
 
   -- a number that is taken counts
-  pub taken_first : (seen ds : List Data) (d : Data) (before : List A) (n : ℕ) → AllZip Holds seen before → field_faults rows (table_of d) ≡ []
+  pub taken_first : (seen ds : List Data) (d : Data) (before : List A) (n : ℕ) → AllZip Holds seen before → field_faults (rows (table_of d)) (table_of d) ≡ []
       → number_in named (table_of d) ≡ Some n → list_any (λ (other : A). number_of other == n) before ≡ true
       → first (item_faults item_at rows named seen (d ∷ ds)) ≡ Some (file.Twice (record { item = item_at (length before); field = named }))
   taken_first seen ds d before n zip sound is some =
       rw (sound, taken seen before d n zip is ∙ some, AllZip-long Holds seen before zip)
 
   -- a member without a fault leaves the faults to those behind it
-  pub sound_next : (seen ds : List Data) (d : Data) (before : List A) (n : ℕ) → AllZip Holds seen before → field_faults rows (table_of d) ≡ []
+  pub sound_next : (seen ds : List Data) (d : Data) (before : List A) (n : ℕ) → AllZip Holds seen before → field_faults (rows (table_of d)) (table_of d) ≡ []
       → number_in named (table_of d) ≡ Some n → list_any (λ (other : A). number_of other == n) before ≡ false
       → item_faults item_at rows named seen (d ∷ ds) ≡ item_faults item_at rows named (seen ++ d ∷ []) ds
   sound_next seen ds d before n zip sound is none = rw (sound, taken seen before d n zip is ∙ none)
@@ -63,10 +63,10 @@ module _ {A : Type 0} (Holds : Data → A → Type 0) (item_at : ℕ → Item) (
 -- ---- the steps of a reader's loop
 
 module _ (vs : List Value) (i : ℕ) (v : Value) (within : i < length vs) (is : v ≡ get_or vs i v) where
-  taken_more : map view (take (i + 1) vs) ≡ map view (take i vs) ++ view v ∷ []
+  pub taken_more : map view (take (i + 1) vs) ≡ map view (take i vs) ++ view v ∷ []
   taken_more = rw (take_more vs i v within, ← is, map-append)
 
-  left_over : map view (drop i vs) ≡ view v ∷ map view (drop (i + 1) vs)
+  pub left_over : map view (drop i vs) ≡ view v ∷ map view (drop (i + 1) vs)
   left_over = rw (drop_more vs i v within, ← is)
 
   -- one more item that was read
@@ -74,9 +74,9 @@ module _ (vs : List Value) (i : ℕ) (v : Value) (within : i < length vs) (is : 
       → AllZip Holds (map view (take (i + 1) vs)) (before ++ a ∷ [])
   next_zip Holds before a zip holds = rw taken_more (all_zipped_more Holds (map view (take i vs)) before (view v) a zip holds)
 
-module _ (vs : List Value) (i : ℕ) (v : Value) (within : i < length vs) (is : v ≡ get_or vs i v) {A : Type 0} (Holds : Data → A → Type 0) (item_at : ℕ → Item) (rows : List Row) (named : Field) (number_of : A → ℕ) (numbered : (d : Data) (a : A) → Holds d a → number_in named (table_of d) ≡ Some (number_of a)) where
+module _ (vs : List Value) (i : ℕ) (v : Value) (within : i < length vs) (is : v ≡ get_or vs i v) {A : Type 0} (Holds : Data → A → Type 0) (item_at : ℕ → Item) (rows : Members → List Row) (named : Field) (number_of : A → ℕ) (numbered : (d : Data) (a : A) → Holds d a → number_in named (table_of d) ≡ Some (number_of a)) where
   -- the faults of those that are left
-  pub next_left : (before : List A) (a : A) → AllZip Holds (map view (take i vs)) before → Holds (view v) a → field_faults rows (table_of (view v)) ≡ []
+  pub next_left : (before : List A) (a : A) → AllZip Holds (map view (take i vs)) before → Holds (view v) a → field_faults (rows (table_of (view v))) (table_of (view v)) ≡ []
       → list_any (λ (other : A). number_of other == number_of a) before ≡ false
       → item_faults item_at rows named (map view (take i vs)) (map view (drop i vs))
       ≡ item_faults item_at rows named (map view (take (i + 1) vs)) (map view (drop (i + 1) vs))

@@ -22,7 +22,7 @@ pub record Sound (tree : Members) (row : Row) : Type 0 where
   pub typed : is_mistyped tree row ≡ false
   pub within : is_beyond tree row ≡ false
 
-both_empty : {A : Type 0} (xs ys : List A) → xs ++ ys ≡ [] → (xs ≡ []) × (ys ≡ [])
+pub both_empty : {A : Type 0} (xs ys : List A) → xs ++ ys ≡ [] → (xs ≡ []) × (ys ≡ [])
 both_empty [] ys is = (refl, is)
 both_empty (x ∷ xs) ys is = cc
 

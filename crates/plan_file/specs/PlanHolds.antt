@@ -1,7 +1,7 @@
 -- The plan that a tree holds.
-use Rattle.std.specs.Prelude.{◌≡◌, ℕ, ◌==◌, ◌/◌, ◌%◌, Bool, true, List, [], ◌∷◌, map, length, slice_get, Option, Some, None, is_some, option_and_then, Result, Ok, Err, MatchOption, codes}
-use Rattle.std.specs.List.{AllZip, list_any}
-use Rattle.toml.specs.Data.{Data, Members, as_bool}
+use Rattle.std.specs.Prelude.{◌≡◌, ℕ, ◌+◌, ◌*◌, ◌/◌, ◌%◌, Bool, true, if◌then◌else◌, List, [], ◌∷◌, map, length, slice_get, Option, Some, None, is_some, option_and_then, Result, Ok, Err, MatchOption, codes}
+use Rattle.std.specs.List.{AllZip}
+use Rattle.toml.specs.Data.{Data, Members, as_bool, as_str}
 use Rattle.toml.specs.Parse.{parse_document}
 use Rattle.cfg_records.specs.Masks.{has}
 use Rattle.cfg_records.specs.declared.op.Op.{Op}
@@ -18,9 +18,20 @@ use Rattle.cfg_records.specs.declared.global_enables.SetGlobalEnables.{SetGlobal
 use Rattle.cfg_records.specs.declared.boot_param.BootChange.{BootChange}
 use Rattle.cfg_records.specs.declared.boot_param.SetBootParam.{SetBootParam}
 use Rattle.cfg_records.specs.BootParam.{selector, parameter_of, change_bytes}
+use Rattle.cfg_records.specs.declared.attribute_value.AttributeValue.{AttributeValue}
+use Rattle.cfg_records.specs.declared.attribute_value.AttributeValue.TheVariants as attribute
+use Rattle.cfg_records.specs.AttributeValue.{type_of_value, value_bytes}
+use Rattle.cfg_records.specs.declared.bios_attribute.SetBiosAttribute.{SetBiosAttribute}
+use Rattle.cfg_records.specs.declared.field_changes.FieldChange.{FieldChange}
+use Rattle.cfg_records.specs.declared.state_effecter.SetStateEffecter.{SetStateEffecter}
 use Rattle.cfg_records.specs.declared.numeric_effecter.NumericBytes.{NumericBytes}
 use Rattle.cfg_records.specs.declared.numeric_effecter.NumericBytes.TheVariants as bytes
 use Rattle.cfg_records.specs.declared.numeric_effecter.SetNumericEffecter.{SetNumericEffecter}
+use Rattle.cfg_records.specs.declared.user.SetUserName.{SetUserName}
+use Rattle.cfg_records.specs.declared.user.SetUserAccess.{SetUserAccess}
+use Rattle.cfg_records.specs.declared.channel.ChannelChange.{ChannelChange}
+use Rattle.cfg_records.specs.declared.channel.ChannelChange.TheVariants as channel
+use Rattle.cfg_records.specs.declared.channel.SetChannelAccess.{SetChannelAccess}
 use Rattle.plans.specs.declared.plan.Plan.{Plan}
 use Rattle.plan_file.specs.declared.field.Field.{Field}
 use Rattle.plan_file.specs.declared.field.Field.TheVariants as field
@@ -28,13 +39,16 @@ use Rattle.plan_file.specs.declared.kind.Kind.TheVariants as kind
 use Rattle.plan_file.specs.declared.change.TheConstants.{LIMITS}
 use Rattle.plan_file.specs.declared.plan_fault.PlanFault.{PlanFault}
 use Rattle.plan_file.specs.declared.plan_fault.PlanFault.TheVariants as plan
-use Rattle.plan_file.specs.Trees.{in_field, natural, bytes_in, number_in, table_of, members_in}
+use Rattle.plan_file.specs.Trees.{in_field, bytes_in, number_in, table_of, members_in}
 use Rattle.plan_file.specs.Numeric.{sized_bytes}
-use Rattle.plan_file.specs.Ranges.{passes, has_text, or_zero}
+use Rattle.plan_file.specs.States.{change_of}
+use Rattle.plan_file.specs.Users.{name_of}
+use Rattle.plan_file.specs.Channels.{store_of}
+use Rattle.plan_file.specs.Ranges.{passes, has_text, or_zero, is_listed}
 use Rattle.plan_file.specs.Kinds.{kind_in}
 use Rattle.plan_file.specs.Faults.{first}
 use Rattle.plan_file.specs.PlanFaults.{plan_faults}
-use Rattle.plan_file.specs.Holds.{HasNumber}
+use Rattle.plan_file.specs.Holds.{HasNumber, IsNaturalIn}
 
 -- ---- thresholds
 
@@ -65,14 +79,6 @@ flag_in named tree = option_and_then as_bool (in_field named tree)
 -- the table has this boolean in the field
 abbrev pub HasFlag : Field → Members → Bool → Type 0
 HasFlag named tree b = flag_in named tree ≡ Some b
-
--- the value is this number
-abbrev pub is_number : ℕ → Data → Bool
-is_number n d = passes (λ m. m == n) (natural d)
-
--- the list has this number
-abbrev pub is_listed : List Data → ℕ → Bool
-is_listed ds n = list_any (is_number n) ds
 
 -- the mask has the events whose offsets the table lists in the field
 abbrev pub HasEvents : Field → Members → ℕ → Type 0
@@ -142,6 +148,37 @@ pub record HoldsBootParam (tree : Members) (set : SetBootParam) : Type 0 where
   pub invalid : HasFlag field.Invalid tree set.invalid
   pub change : HoldsBootChange tree set.change
 
+-- ---- BIOS attributes
+
+-- the table lacks the field
+abbrev pub Lacks : Field → Members → Type 0
+Lacks named tree = in_field named tree ≡ None
+
+-- the step gives this value of an attribute, its indexes, its text or its number, and none besides
+abbrev pub GivesValue : Members → AttributeValue → Type 0
+GivesValue tree (attribute.Indexes indexes) = AllZip IsNaturalIn (members_in field.Indexes tree) indexes × (Lacks field.Text tree × Lacks field.Number tree)
+GivesValue tree (attribute.Text text) = (option_and_then as_str (in_field field.Text tree) ≡ Some text) × (Lacks field.Indexes tree × Lacks field.Number tree)
+GivesValue tree (attribute.Number n) = HasNumber field.Number tree n × (Lacks field.Indexes tree × Lacks field.Text tree)
+
+-- the step holds a change of an attribute's value, to the one that it gives: the value's type, and its bytes
+pub record HoldsBiosAttribute (tree : Members) (set : SetBiosAttribute) : Type 0 where
+  pub handle : HasNumber field.Handle tree set.attribute
+  pub value : AttributeValue
+  pub given : GivesValue tree value
+  pub of_type : set.attribute_type ≡ type_of_value value
+  pub sent : set.value ≡ value_bytes value
+
+-- ---- state effecters
+
+-- the member of an array says what becomes of a field
+abbrev pub IsChangeIn : Data → FieldChange → Type 0
+IsChangeIn d change = change_of d ≡ Some change
+
+-- the step holds a change of a state effecter's states: one for each field
+pub record HoldsStateEffecter (tree : Members) (set : SetStateEffecter) : Type 0 where
+  pub effecter : HasNumber field.Effecter tree set.effecter
+  pub changes : AllZip IsChangeIn (members_in field.States tree) set.changes
+
 -- ---- numeric effecters
 
 -- what a step tells are the bytes of a request's value
@@ -157,6 +194,44 @@ pub record HoldsNumericEffecter (tree : Members) (set : SetNumericEffecter) : Ty
   pub size : HasNumber field.Size tree set.size
   pub value : AreBytes set.value (sized_bytes field.Value tree)
 
+-- ---- users and channels
+
+-- the step holds a change of a user's name
+pub record HoldsUserName (tree : Members) (set : SetUserName) : Type 0 where
+  pub user : HasNumber field.User tree set.user
+  pub name : option_and_then name_of (in_field field.NameText tree) ≡ Some set.name
+
+-- 1 for what is true
+abbrev pub bit_of : Option Bool → ℕ
+bit_of (Some b) = if b then 1 else 0
+bit_of None = 0
+
+-- bits 7:4 of the first byte of Set User Access (IPMI 2.0): that bits 6:4 change, where the step has them; callback, link and messages
+abbrev pub access_bits : Members → ℕ
+access_bits tree =
+    (if is_some (in_field field.Callback tree) then 8 else 0)
+    + (4 * bit_of (flag_in field.Callback tree) + (2 * bit_of (flag_in field.Link tree) + bit_of (flag_in field.Messaging tree)))
+
+-- the step holds a change of what a user may do on a channel
+pub record HoldsUserAccess (tree : Members) (set : SetUserAccess) : Type 0 where
+  pub channel : HasNumber field.Channel tree (set.first % 16)
+  pub bits : set.first / 16 ≡ access_bits tree
+  pub user : HasNumber field.User tree set.user
+  pub limit : HasNumber field.Limit tree set.limit
+  pub session_limit : set.session_limit ≡ None
+
+-- the step says what of a channel's access and limit changes: those that it gives
+abbrev pub HoldsChannelChange : Members → ChannelChange → Type 0
+HoldsChannelChange tree (channel.Access access) = HasNumber field.Access tree access.number × Lacks field.Limit tree
+HoldsChannelChange tree (channel.Limit limit) = Lacks field.Access tree × HasNumber field.Limit tree limit.number
+HoldsChannelChange tree (channel.Both access limit) = HasNumber field.Access tree access.number × HasNumber field.Limit tree limit.number
+
+-- the step holds a change of a channel's access in one of its stores
+pub record HoldsChannelAccess (tree : Members) (set : SetChannelAccess) : Type 0 where
+  pub channel : HasNumber field.Channel tree set.channel.number
+  pub store : option_and_then store_of (in_field field.Store tree) ≡ Some set.store
+  pub change : HoldsChannelChange tree set.change
+
 -- ---- plans
 
 -- the step holds a change of the kind that it names
@@ -168,11 +243,12 @@ HoldsStep tree (op.Watchdog set) = (kind_in tree ≡ Some kind.Watchdog) × Hold
 HoldsStep tree (op.PowerPolicy set) = (kind_in tree ≡ Some kind.PowerPolicy) × HoldsPowerPolicy tree set
 HoldsStep tree (op.GlobalEnables set) = (kind_in tree ≡ Some kind.GlobalEnables) × HoldsGlobalEnables tree set
 HoldsStep tree (op.BootParam set) = (kind_in tree ≡ Some kind.BootParam) × HoldsBootParam tree set
+HoldsStep tree (op.BiosAttribute set) = (kind_in tree ≡ Some kind.BiosAttribute) × HoldsBiosAttribute tree set
+HoldsStep tree (op.StateEffecter set) = (kind_in tree ≡ Some kind.StateEffecter) × HoldsStateEffecter tree set
 HoldsStep tree (op.NumericEffecter set) = (kind_in tree ≡ Some kind.NumericEffecter) × HoldsNumericEffecter tree set
--- no kind of step changes a user or a channel
-HoldsStep tree (op.UserName set) = ⊥
-HoldsStep tree (op.UserAccess set) = ⊥
-HoldsStep tree (op.ChannelAccess set) = ⊥
+HoldsStep tree (op.UserName set) = (kind_in tree ≡ Some kind.UserName) × HoldsUserName tree set
+HoldsStep tree (op.UserAccess set) = (kind_in tree ≡ Some kind.UserAccess) × HoldsUserAccess tree set
+HoldsStep tree (op.ChannelAccess set) = (kind_in tree ≡ Some kind.ChannelAccess) × HoldsChannelAccess tree set
 
 -- the member of an array holds a change
 abbrev pub IsStepIn : Data → Op → Type 0

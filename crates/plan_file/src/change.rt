@@ -5,9 +5,9 @@ ghost use Rattle.cfg_records.specs.Masks.{has};
 ghost use Rattle.toml.specs.View.{view, table_view};
 ghost use Rattle.plan_file.specs.Trees.{number_in, members_in};
 ghost use Rattle.plan_file.specs.Numeric.{sized_bytes};
-ghost use Rattle.plan_file.specs.Ranges.{is_offset, or_zero};
+ghost use Rattle.plan_file.specs.Ranges.{is_offset, or_zero, is_number};
 ghost use Rattle.plan_file.specs.Faults.{field_faults};
-ghost use Rattle.plan_file.specs.PlanHolds.{flag_in, is_given, is_number, HoldsEvents, HoldsThresholds, HoldsHysteresis, HoldsChange, HoldsEventEnable, HoldsWatchdog, HoldsPowerPolicy, HoldsGlobalEnables, HoldsBootChange, HoldsBootParam, AreBytes, HoldsNumericEffecter};
+ghost use Rattle.plan_file.specs.PlanHolds.{flag_in, is_given, HoldsEvents, HoldsThresholds, HoldsHysteresis, HoldsChange, HoldsEventEnable, HoldsWatchdog, HoldsPowerPolicy, HoldsGlobalEnables, HoldsBootChange, HoldsBootParam, AreBytes, HoldsNumericEffecter};
 
 use crate::board::{byte_in, value_in, word_in};
 use crate::field::Field;

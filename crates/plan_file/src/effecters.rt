@@ -20,7 +20,7 @@ use std::alloc::Global;
 use toml::{Table, Value};
 
 /// The operational state of an effecter that is enabled.
-const ENABLED: u8 = 1;
+pub const ENABLED: u8 = 1;
 
 /// The numbers that the effecter, which the table is, can be set to.
 fn range(table: &Table) -> NumericRange

@@ -22,6 +22,12 @@ pub enum Item {
     Device,
     /// The `[[sensor]]` of this place in the file, from 0.
     Sensor(usize),
+    /// The `[[channel]]` of this place in the file, from 0.
+    Channel(usize),
+    /// The `[[attribute]]` of this place in the file, from 0.
+    Attribute(usize),
+    /// The `[[state]]` of this place in the file, from 0.
+    State(usize),
     /// The `[[numeric]]` of this place in the file, from 0.
     Numeric(usize),
 }
@@ -61,6 +67,9 @@ impl fmt::Display for Item {
             Item::Top => f.write_str("top"),
             Item::Device => f.write_str("device"),
             Item::Sensor(place) => write!(f, "sensor {place}"),
+            Item::Channel(place) => write!(f, "channel {place}"),
+            Item::Attribute(place) => write!(f, "attribute {place}"),
+            Item::State(place) => write!(f, "state {place}"),
             Item::Numeric(place) => write!(f, "numeric {place}"),
         }
     }

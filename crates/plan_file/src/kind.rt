@@ -19,11 +19,16 @@ pub enum Kind {
     PowerPolicy,
     GlobalEnables,
     BootParam,
+    BiosAttribute,
+    StateEffecter,
     NumericEffecter,
+    UserName,
+    UserAccess,
+    ChannelAccess,
 }
 
 /// All kinds of step.
-pub const KINDS: [Kind; 8] = [
+pub const KINDS: [Kind; 13] = [
     Kind::Thresholds,
     Kind::Hysteresis,
     Kind::EventEnable,
@@ -31,7 +36,12 @@ pub const KINDS: [Kind; 8] = [
     Kind::PowerPolicy,
     Kind::GlobalEnables,
     Kind::BootParam,
+    Kind::BiosAttribute,
+    Kind::StateEffecter,
     Kind::NumericEffecter,
+    Kind::UserName,
+    Kind::UserAccess,
+    Kind::ChannelAccess,
 ];
 
 /// The field of a step that names its kind.
@@ -88,11 +98,49 @@ pub const BOOT_PARAM: [Row; 3] = [
     Row(Field::BootData, Shape::BootData, Need::Never),
 ];
 
+/// The fields of a step that sets the value of a BIOS attribute: one of the last three.
+pub const BIOS_ATTRIBUTE: [Row; 4] = [
+    Row(Field::Handle, Shape::Number(0, 0xFFFF), Need::Always),
+    Row(Field::Indexes, Shape::FewIndexes, Need::WithoutValue),
+    Row(Field::Text, Shape::AttributeText, Need::Never),
+    Row(Field::Number, Shape::Natural, Need::Never),
+];
+
+/// The fields of a step that sets states of a state effecter.
+pub const STATE_EFFECTER: [Row; 2] = [
+    Row(Field::Effecter, Shape::Number(0, 0xFFFF), Need::Always),
+    Row(Field::States, Shape::StateChanges, Need::Always),
+];
+
 /// The fields of a step that sets the value of a numeric effecter.
 pub const NUMERIC_EFFECTER: [Row; 3] = [
     Row(Field::Effecter, Shape::Number(0, 0xFFFF), Need::Always),
     Row(Field::Size, Shape::Number(0, 5), Need::Always),
     Row(Field::Value, Shape::Sized, Need::Always),
+];
+
+/// The fields of a step that sets the name of a user.
+pub const USER_NAME: [Row; 2] = [
+    Row(Field::User, Shape::Number(1, 63), Need::Always),
+    Row(Field::NameText, Shape::Name, Need::Always),
+];
+
+/// The fields of a step that sets what a user may do on a channel.
+pub const USER_ACCESS: [Row; 6] = [
+    Row(Field::Channel, Shape::Number(0, 15), Need::Always),
+    Row(Field::User, Shape::Number(1, 63), Need::Always),
+    Row(Field::Limit, Shape::UserLimit, Need::Always),
+    Row(Field::Callback, Shape::Flag, Need::WithBits),
+    Row(Field::Link, Shape::Flag, Need::WithBits),
+    Row(Field::Messaging, Shape::Flag, Need::WithBits),
+];
+
+/// The fields of a step that sets the access of a channel in one of its stores.
+pub const CHANNEL_ACCESS: [Row; 4] = [
+    Row(Field::Channel, Shape::Number(0, 15), Need::Always),
+    Row(Field::Store, Shape::Store, Need::Always),
+    Row(Field::Access, Shape::Access, Need::WithoutLimit),
+    Row(Field::Limit, Shape::Number(1, 5), Need::Never),
 ];
 
 impl Kind {
@@ -108,7 +156,12 @@ impl Kind {
             Kind::PowerPolicy => "power-policy",
             Kind::GlobalEnables => "global-enables",
             Kind::BootParam => "boot-param",
+            Kind::BiosAttribute => "bios-attribute",
+            Kind::StateEffecter => "state-effecter",
             Kind::NumericEffecter => "numeric-effecter",
+            Kind::UserName => "user-name",
+            Kind::UserAccess => "user-access",
+            Kind::ChannelAccess => "channel-access",
         }
     }
 
@@ -124,7 +177,12 @@ impl Kind {
             Kind::PowerPolicy => &POWER_POLICY,
             Kind::GlobalEnables => &GLOBAL_ENABLES,
             Kind::BootParam => &BOOT_PARAM,
+            Kind::BiosAttribute => &BIOS_ATTRIBUTE,
+            Kind::StateEffecter => &STATE_EFFECTER,
             Kind::NumericEffecter => &NUMERIC_EFFECTER,
+            Kind::UserName => &USER_NAME,
+            Kind::UserAccess => &USER_ACCESS,
+            Kind::ChannelAccess => &CHANNEL_ACCESS,
         }
     }
 }

@@ -1,8 +1,13 @@
 //! The texts of board files, of plans and of undo lists.
 #![tactic(auto)]
 
+mod attribute_items;
+mod attribute_steps;
+mod attributes;
 mod board;
 mod change;
+mod channel_items;
+mod channels;
 mod check;
 mod effecters;
 mod fault;
@@ -13,11 +18,15 @@ mod plan;
 mod plan_fault;
 mod range;
 mod row;
+mod state_items;
+mod state_steps;
+mod states;
 mod step;
 mod tree;
 mod undo_laws;
 mod undo_line;
 mod undo_text;
+mod users;
 
 pub use board::read_board;
 pub use fault::{FieldFault, FileFault, Item, Place};
@@ -25,6 +34,9 @@ pub use field::Field;
 pub use kind::Kind;
 pub use plan::read_plan;
 pub use plan_fault::{NoGet, OutsidePlan, PlanFault, StepFault};
-pub use row::{DEVICE, NUMERIC, Need, PLAN, Row, SENSOR, Shape, TOP};
+pub use row::{
+    ATTRIBUTE, CHANNEL, DEVICE, ENUMERATION, INTEGER, NUMERIC, Need, PLAN, Row, SENSOR, SESSIONS,
+    STATE, STRING, Shape, TOP,
+};
 pub use undo_laws::one_undo_list;
 pub use undo_text::{UndoFault, push_requests, read_undo, write_undo};

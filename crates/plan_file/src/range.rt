@@ -10,10 +10,18 @@ ghost use Rattle.plan_file.specs.Trees.{members, or_none, natural, naturals_in, 
 ghost use Rattle.plan_file.specs.Ranges.{passes, is_integer, is_table, is_array_of, has_type, is_between, are_digits, is_enables_byte, are_masks, are_thresholds, are_flags, is_text, is_record, record_of, record_in, are_settings, is_selection, is_offset, are_five_bits, are_boot_data, parameter_in, is_in_range};
 ghost use Rattle.plan_file.specs.Holds.{settings};
 
+use crate::attribute_steps::{are_only_indexes, is_only_text};
+use crate::attributes::{
+    are_indexes, are_values, is_kind, is_most, is_sized_text, is_step, is_upper_natural, text,
+};
+use crate::channels::{accesses, are_user_bytes, is_access, is_channel, limits, store};
 use crate::field::Field;
 use crate::numeric::{in_order, size_in, sized, sized_in};
 use crate::row::Shape;
+use crate::state_steps::are_changes;
+use crate::states::{are_present, are_state_lists};
 use crate::tree::{bytes, members, natural, naturals, number};
+use crate::users::{are_names, is_user_limit, name};
 use cfg_records::event_enable::are_within;
 use cfg_records::sdr_record::MOST_SDR_BYTES;
 use cfg_records::{
@@ -59,6 +67,23 @@ fn are_integers(value: &Value) -> bool
 {
     match members(value) {
         Some(values) => all_integers(values),
+        None => false,
+    }
+}
+
+/// Whether each of the values is an array of integers.
+fn all_lists(values: &[Value]) -> bool
+    ensures { result ≡ list_all (λ value. is_array_of is_integer (view value)) values.now }
+{
+    values.iter().all(|value| are_integers(value))
+}
+
+/// Whether the value is an array of arrays of integers.
+fn are_lists(value: &Value) -> bool
+    ensures { result ≡ is_array_of (is_array_of is_integer) (view value.now) }
+{
+    match members(value) {
+        Some(values) => all_lists(values),
         None => false,
     }
 }
@@ -413,13 +438,25 @@ impl Shape {
             Shape::Pair | Shape::Thresholds | Shape::Watchdog | Shape::Offsets => {
                 are_integers(value)
             }
-            Shape::Records(_) => are_texts(value),
-            Shape::BootFlags | Shape::BootData => are_integers(value),
+            Shape::Records(_) | Shape::Names => are_texts(value),
+            Shape::BootFlags | Shape::BootData | Shape::FewIndexes => are_integers(value),
+            Shape::AttributeText => value.is_str(),
+            Shape::Natural => value.is_integer(),
             Shape::Sized | Shape::Upper | Shape::Current => value.is_integer(),
             Shape::Table => value.is_table(),
             Shape::Tables(_) => are_tables(value),
             Shape::Flag => value.is_bool(),
             Shape::Text | Shape::Select => value.is_str(),
+            Shape::Name | Shape::Store => value.is_str(),
+            Shape::UserLimit | Shape::Access | Shape::ChannelNumber => value.is_integer(),
+            Shape::Accesses | Shape::Limits | Shape::UserBytes(_) => are_integers(value),
+            Shape::StateLists => are_lists(value),
+            Shape::States | Shape::StateChanges => are_integers(value),
+            Shape::ShortText | Shape::AttributeKind | Shape::SizedText => value.is_str(),
+            Shape::Values => are_texts(value),
+            Shape::Indexes => are_integers(value),
+            Shape::MostLength => value.is_integer(),
+            Shape::UpperNatural | Shape::Stepped => value.is_integer(),
         }
     }
 
@@ -444,9 +481,32 @@ impl Shape {
             Shape::Select => is_selection(value),
             Shape::Offsets => are_offsets(value),
             Shape::BootData => are_boot_data(item, value),
+            Shape::FewIndexes => are_only_indexes(item, value),
+            Shape::AttributeText => is_only_text(item, value),
+            Shape::Natural => natural(value).is_some(),
             Shape::Sized => is_sized(item, value),
             Shape::Upper => is_upper(item, value),
             Shape::Current => is_current(item, value),
+            Shape::Name => name(value).is_some(),
+            Shape::Names => are_names(value),
+            Shape::UserLimit => is_user_limit(value),
+            Shape::Store => store(value).is_some(),
+            Shape::Access => is_access(value),
+            Shape::Accesses => accesses(value).is_some(),
+            Shape::Limits => limits(value).is_some(),
+            Shape::UserBytes(users) => are_user_bytes(value, *users),
+            Shape::ChannelNumber => is_channel(value),
+            Shape::StateLists => are_state_lists(value),
+            Shape::States => are_present(item, value),
+            Shape::StateChanges => are_changes(value),
+            Shape::ShortText => text(value).is_some(),
+            Shape::AttributeKind => is_kind(value),
+            Shape::Values => are_values(value),
+            Shape::Indexes => are_indexes(item, value),
+            Shape::MostLength => is_most(item, value),
+            Shape::SizedText => is_sized_text(item, value),
+            Shape::UpperNatural => is_upper_natural(item, value),
+            Shape::Stepped => is_step(item, value),
         }
     }
 }

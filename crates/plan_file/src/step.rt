@@ -7,15 +7,19 @@ ghost use Rattle.plan_file.specs.Faults.{field_faults, first};
 ghost use Rattle.plan_file.specs.PlanFaults.{outside_word, is_outside, asks, kind_faults, step_faults};
 ghost use Rattle.plan_file.specs.PlanHolds.{HoldsStep};
 
+use crate::attribute_steps::bios_attribute;
 use crate::change::{
     boot_param, event_enable, global_enables, hysteresis, numeric_effecter, power_policy,
     thresholds, watchdog,
 };
+use crate::channels::channel_access;
 use crate::check::first_fault;
 use crate::field::Field;
 use crate::kind::{KIND, Kind, kind_in};
 use crate::plan_fault::{NoGet, OutsidePlan, StepFault};
+use crate::state_steps::state_effecter;
 use crate::tree::{has_text, in_field, number};
+use crate::users::{user_access, user_name};
 use cfg_records::Op;
 use toml::Table;
 
@@ -110,7 +114,12 @@ fn change(kind: Kind, step: &Table) -> Op
         Kind::PowerPolicy => Op::PowerPolicy(power_policy(step)),
         Kind::GlobalEnables => Op::GlobalEnables(global_enables(step)),
         Kind::BootParam => Op::BootParam(boot_param(step)),
+        Kind::BiosAttribute => Op::BiosAttribute(bios_attribute(step)),
+        Kind::StateEffecter => Op::StateEffecter(state_effecter(step)),
         Kind::NumericEffecter => Op::NumericEffecter(numeric_effecter(step)),
+        Kind::UserName => Op::UserName(user_name(step)),
+        Kind::UserAccess => Op::UserAccess(user_access(step)),
+        Kind::ChannelAccess => Op::ChannelAccess(channel_access(step)),
     }
 }
 

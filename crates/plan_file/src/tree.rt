@@ -1,7 +1,7 @@
 //! What the tables of a file have.
 ghost use Rattle.std.specs.Prelude.{◌≡◌, ◌<◌, ◌^◌, length, map, option_map, option_and_then};
 ghost use Rattle.toml.specs.View.{view, table_view};
-ghost use Rattle.plan_file.specs.Trees.{in_field, members, natural, naturals, naturals_in, all_bytes, bytes_in, number_in, members_in};
+ghost use Rattle.plan_file.specs.Trees.{in_field, lacks, members, or_none, natural, naturals, naturals_in, all_bytes, bytes_in, number_in, members_in};
 ghost use Rattle.plan_file.specs.Ranges.{has_text};
 
 use crate::field::Field;
@@ -14,6 +14,13 @@ pub fn in_field<'a>(table: &'a Table, field: Field) -> Option<&'a Value>
     table.get(field.word())
 }
 
+/// Whether the table lacks the field.
+pub fn lacks(table: &Table, field: Field) -> bool
+    ensures { result ≡ lacks field (table_view table.now) }
+{
+    in_field(table, field).is_none()
+}
+
 /// The members of the array that the value is.
 pub fn members(value: &Value) -> Option<&[Value]>
     ensures { option_map (λ values. map view values.now) result ≡ members (view value.now) }
@@ -21,6 +28,16 @@ pub fn members(value: &Value) -> Option<&[Value]>
     match value.as_array() {
         Some(array) => Some(array.as_slice()),
         None => None,
+    }
+}
+
+/// The members of the array that the value is, none where it is no array.
+pub fn members_of(value: &Value) -> &[Value]
+    ensures { map view result.now ≡ or_none (members (view value.now)) }
+{
+    match members(value) {
+        Some(values) => values,
+        None => &[],
     }
 }
 

@@ -1,8 +1,13 @@
 //! What the three texts hold, and their faults.
+mod attribute_items;
+mod attributes;
 mod board;
+mod channels;
 mod effecters;
 mod plan;
+mod states;
 mod undo;
+mod user_steps;
 
 /// A row of a table of fields: where a field is, its line in a file, and lines that say something else of it.
 #[derive(Clone, Copy)]

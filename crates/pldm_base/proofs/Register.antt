@@ -3,9 +3,9 @@ use Rattle.std.proofs.Common.{◌≡◌, ℕ, zero, suc, ◌+◌, ◌-◌, ◌/�
 use Rattle.std.proofs.lemmas.List.{length-map, length-take-le}
 use Rattle.std.specs.Int.Bits.{bit_xor}
 use Rattle.std.specs.List.{flat_map}
-use Rattle.two_wire.specs.Polynomial.{differ, zeros, plus, scaled, IsRemainder}
+use Rattle.two_wire.specs.Polynomial.{differ, zeros, plus, scaled, IsRemainder, divide, remainder_of}
 use Rattle.two_wire.specs.Bits.{bits, number_of}
-use Rattle.pldm_base.specs.Crc.{divisor, front_inverted, lengthened, dividend, IsCrc32}
+use Rattle.pldm_base.specs.Crc.{divisor, front_inverted, lengthened, dividend, IsCrc32, crc_of}
 use Rattle.pldm_base.specs.Register.{loaded, ReducesTo}
 use Rattle.two_wire.proofs.Division.{plus-assoc, plus-comm, plus-zeros, plus-longer, plus-append, length-plus, scaled-one, scaled-none, stop, step, divides, one-remainder}
 use Rattle.two_wire.proofs.Bits.{length-bits, bits-xor, same_bits, bits-number_of, number_of-lt}
@@ -175,18 +175,30 @@ one-crc32 bytes a b h k =
     same_bits 32 a b h.small k.small (h.spelled ∙ ap (map not) same ∙ sym k.spelled)
 
 -- the CRC-32 of a remainder
-number_of_remainder : (bytes : List ℕ) (r : List Bool) → IsRemainder (true ∷ bits 32 0xEDB88320) (dividend bytes) r → (crc : ℕ) × IsCrc32 bytes crc
-number_of_remainder bytes r h =
+remainder_crc : (bytes : List ℕ) (r : List Bool) → IsRemainder (true ∷ bits 32 0xEDB88320) (dividend bytes) r → IsCrc32 bytes (number_of (map not r))
+remainder_crc bytes r h =
     let long : length (map not r) ≡ 32 = omega (arith, length-map r not, h.lower, length-bits 32 0xEDB88320) in
     let small : number_of (map not r) < 2 ^ 32 =
     (let S : ℕ → Type 0 = λ n. number_of (map not r) < 2 ^ n in subst S long (number_of-lt (map not r))) in
     let spelled : bits 32 (number_of (map not r)) ≡ map not r =
     (let P : ℕ → Type 0 = λ n. bits n (number_of (map not r)) ≡ map not r in subst P long (bits-number_of (map not r))) in
     let Q : List Bool → Type 0 = λ p. IsRemainder p (dividend bytes) r in
-    (number_of (map not r), record { remainder = r; divided = subst Q (sym divisor-is) h; small = small; spelled = spelled })
+    record { remainder = r; divided = subst Q (sym divisor-is) h; small = small; spelled = spelled }
 
--- all bytes have a CRC-32
+-- long division leaves the remainder
+steps-are : (bytes : List ℕ) → remainder_of divisor (dividend bytes) ≡ divide (length (dividend bytes) - 32) (true ∷ bits 32 0xEDB88320) (dividend bytes)
+steps-are bytes =
+    ap (λ (p : List Bool). divide (length (dividend bytes) - (length p - 1)) p (dividend bytes)) divisor-is
+    ∙ ap (λ (n : ℕ). divide (length (dividend bytes) - n) (true ∷ bits 32 0xEDB88320) (dividend bytes)) (omega (arith, length-bits 32 0xEDB88320))
+
+-- all bytes have a CRC-32: that of long division
+pub crc_is : (bytes : List ℕ) → IsCrc32 bytes (crc_of bytes)
+unfolding crc_of
+crc_is bytes =
+    let Q : List Bool → Type 0 = λ r. IsRemainder (true ∷ bits 32 0xEDB88320) (dividend bytes) r in
+    let divided : Q (divide (length (dividend bytes) - 32) (true ∷ bits 32 0xEDB88320) (dividend bytes)) =
+    divides (length (dividend bytes) - 32) (bits 32 0xEDB88320) (dividend bytes) (omega (arith, length-bits 32 0xEDB88320, length-dividend bytes)) in
+    remainder_crc bytes (remainder_of divisor (dividend bytes)) (subst Q (sym (steps-are bytes)) divided)
+
 pub has_crc32 : (bytes : List ℕ) → (crc : ℕ) × IsCrc32 bytes crc
-has_crc32 bytes =
-    number_of_remainder bytes _
-    (divides (length (dividend bytes) - 32) (bits 32 0xEDB88320) (dividend bytes) (omega (arith, length-bits 32 0xEDB88320, length-dividend bytes)))
+has_crc32 bytes = (crc_of bytes, crc_is bytes)

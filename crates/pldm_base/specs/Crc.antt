@@ -1,8 +1,8 @@
 -- The CRC-32 of IEEE 802.3.
 use Rattle.std.specs.Prelude.{◌≡◌, ℕ, ◌^◌, ◌<◌, Bool, not, List, ◌++◌, take, drop, map}
 use Rattle.std.specs.List.{flat_map}
-use Rattle.two_wire.specs.Bits.{bits, highest_first}
-use Rattle.two_wire.specs.Polynomial.{zeros, IsRemainder}
+use Rattle.two_wire.specs.Bits.{bits, highest_first, number_of}
+use Rattle.two_wire.specs.Polynomial.{zeros, IsRemainder, remainder_of}
 
 -- the divisor: the powers 32, 26, 23, 22, 16, 12, 11, 10, 8, 7, 5, 4, 2, 1 and 0
 unfoldable pub divisor : List Bool
@@ -26,3 +26,7 @@ pub record IsCrc32 (bytes : List ℕ) (crc : ℕ) : Type 0 where
   pub divided : IsRemainder divisor (dividend bytes) remainder
   pub small : crc < 2 ^ 32
   pub spelled : bits 32 crc ≡ map not remainder
+
+-- that number, by long division
+unfoldable pub crc_of : List ℕ → ℕ
+crc_of bytes = number_of (map not (remainder_of divisor (dividend bytes)))

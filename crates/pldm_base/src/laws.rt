@@ -2,7 +2,7 @@
 ghost use Rattle.std.specs.Prelude.{◌≡◌, ◌==◌, ◌+◌, ◌*◌, ◌<◌, ◌⊎◌, ◌↔◌, List, ℕ, Some, None, length, slice_get, find, nat_lt};
 ghost use Rattle.pldm_base.specs.declared.message.PldmRequest.{PldmRequest};
 ghost use Rattle.pldm_base.specs.declared.message.PldmReply.{PldmReply};
-ghost use Rattle.pldm_base.specs.Crc.{IsCrc32};
+ghost use Rattle.pldm_base.specs.Crc.{IsCrc32, crc_of};
 ghost use Rattle.pldm_base.specs.Message.{IsRequest, IsReply, HasFault, HasReplyFault, has_fault, faults, has_reply_fault, reply_faults, request_in, reply_in};
 ghost use Rattle.pldm_base.specs.Parts.{AreParts, begins_part, is_last, part_bytes};
 
@@ -74,4 +74,9 @@ pub fn all_bytes_have_a_crc32()
 /// No bytes have two of them.
 pub fn one_crc32()
     ensures { (bytes : List ℕ) (crc check : ℕ) → IsCrc32 bytes crc → IsCrc32 bytes check → crc ≡ check }
+{}
+
+/// The one that bytes have is that of long division.
+pub fn crc32_is_by_division()
+    ensures { (bytes : List ℕ) → IsCrc32 bytes (crc_of bytes) }
 {}

@@ -22,6 +22,10 @@ use Rattle.cfg_records.specs.Records.{Pair, value_of, records_of}
 use Rattle.cfg_records.proofs.Pairs.{has_key}
 use Rattle.cfg_records.proofs.BoardPairs.{user_number, channel_number, place_of, pairs_at, record_of_kind}
 use Rattle.cfg_records.specs.Boards.{number_value, stored, access_value}
+use Rattle.cfg_records.specs.declared.state_effecter.StateField.{StateField}
+use Rattle.cfg_records.specs.StateEffecter.{are_states, state_value}
+use Rattle.cfg_records.specs.Attribute.{range_of, attribute_value}
+use Rattle.cfg_records.specs.AttributeLaws.{begins_valid}
 use Rattle.record_kinds.specs.declared.limits.Limits.{Limits}
 use Rattle.record_kinds.specs.declared.limits.Limits.TheVariants as limits
 use Rattle.record_kinds.specs.Limits.{valid}
@@ -121,6 +125,11 @@ sound_in_store file channel Volatile =
     (λ c. same_store_key Volatile c.number channel) (λ c. c.volatile.valid)
 sound_in_store file channel Neither = subst (IsSoundAt None) (sym (no_store file.channels.items channel)) tt
 
+-- fields begin in states that they can be in
+begin_allowed : (fields : List StateField) → are_states fields (state_value fields) ≡ true
+begin_allowed [] = refl
+begin_allowed (f ∷ fs) = both _ _ f.valid (begin_allowed fs)
+
 -- ---- each kind
 
 -- the record of a key is sound where only the pairs of its kind are: a line for each kind
@@ -137,12 +146,18 @@ sound_in_kind file (key.BootParam Flags) = record { long = refl; mark = omega ar
 sound_in_kind file (key.NumericEffecter id) =
     sound_of (λ e. (key.NumericEffecter e.id, number_value e)) (λ e. limits.NumericEffecter (record { enabled = e.enabled; range = e.range })) (λ e. e.id == id) file.numeric_effecters.items (key.NumericEffecter id)
     (λ e. same_numbered key.NumericEffecter (λ m n same. cc) e.id id) (λ e. e.valid)
+sound_in_kind file (key.StateEffecter id) =
+    sound_of (λ e. (key.StateEffecter e.id, state_value e.fields)) (λ e. limits.StateEffecter e) (λ e. e.id == id) file.state_effecters.items (key.StateEffecter id)
+    (λ e. same_numbered key.StateEffecter (λ m n same. cc) e.id id) (λ e. begin_allowed e.fields)
 sound_in_kind file (key.UserName user) =
     sound_of (λ u. (key.UserName u.number, u.name)) (λ u. limits.UserName (record {})) (λ u. u.number.number == user.number) file.users.items (key.UserName user) (λ u. same_user_key u.number user) (λ u. u.sixteen)
 sound_in_kind file (key.UserAccess on) =
     sound_of (λ a. (key.UserAccess a.on, a.byte ∷ [])) (λ a. limits.UserAccess (record { user = on.user; most = length file.users.items })) (λ a. is_on a.on on) file.user_accesses.items (key.UserAccess on)
     (λ a. same_on_key a.on on) (λ a. a.valid)
 sound_in_kind file (key.ChannelAccess at) = sound_in_store file at.channel at.store
+sound_in_kind file (key.BiosAttribute handle) =
+    sound_of (λ a. (key.BiosAttribute a.handle, attribute_value a)) (λ a. limits.BiosAttribute (record { handle = handle; read_only = a.read_only; range = range_of a.kind })) (λ a. a.handle == handle) file.attributes.items (key.BiosAttribute handle)
+    (λ a. same_numbered key.BiosAttribute (λ m n same. cc) a.handle handle) begins_valid
 
 pub starts_sound : StartsSound
 starts_sound file k = subst (IsSoundAt (limits_at file k)) (sym (record_of_kind file k)) (sound_in_kind file k)

@@ -2,16 +2,17 @@
 ghost use Rattle.std.specs.Prelude.{◌≡◌};
 
 use crate::setup::Setup;
+use bios_attr::AttributeLimits;
 use cfg_records::{Asked, Key, Live, Op, RecordData, RecordKind, Value};
-use effecter_recs::NumericLimits;
+use effecter_recs::{NumericLimits, StateLimits};
 use sensor_recs::{EventEnableLimits, HysteresisLimits, ThresholdLimits};
 use two_wire::{Buffer, Code};
 use user_chan::{ChannelAccessLimits, UserAccessLimits, UserNameLimits};
 use watch_boot::{BootParamLimits, GlobalEnablesLimits, PowerPolicyLimits, WatchdogLimits};
 
-/// The limits of one record.
-#[derive(Clone, Copy, Debug, PartialEq, Eq)]
-pub enum Limits {
+/// The limits of one record, of which those that are a table lie in the board file.
+#[derive(Debug, Drop)]
+pub enum Limits<'f> {
     Thresholds(ThresholdLimits),
     Hysteresis(HysteresisLimits),
     EventEnable(EventEnableLimits),
@@ -20,9 +21,11 @@ pub enum Limits {
     GlobalEnables(GlobalEnablesLimits),
     BootParam(BootParamLimits),
     NumericEffecter(NumericLimits),
+    StateEffecter(StateLimits<'f>),
     UserName(UserNameLimits),
     UserAccess(UserAccessLimits),
     ChannelAccess(ChannelAccessLimits),
+    BiosAttribute(AttributeLimits),
 }
 
 /// The kinds, a line for each: its name, its limits, and where its keys are.
@@ -37,9 +40,11 @@ macro_rules! of_each_kind {
             GlobalEnables GlobalEnablesLimits {Key::GlobalEnables => &()}
             BootParam BootParamLimits {Key::BootParam(parameter) => parameter}
             NumericEffecter NumericLimits {Key::NumericEffecter(id) => id}
+            StateEffecter StateLimits {Key::StateEffecter(id) => id}
             UserName UserNameLimits {Key::UserName(user) => user}
             UserAccess UserAccessLimits {Key::UserAccess(on) => on}
             ChannelAccess ChannelAccessLimits {Key::ChannelAccess(at) => at}
+            BiosAttribute AttributeLimits {Key::BiosAttribute(handle) => handle}
         }
     };
 }
@@ -81,11 +86,14 @@ macro_rules! by_op {
     };
 }
 
-/// The operation of its kind that the operation's kind gives.
+/// The operation of its kind that the operation's kind gives, if it gives one.
 macro_rules! op_by_op {
     ([$op:expr, $function:ident $more:tt] $($kind:ident $limits:ident $key:tt)*) => {
         match $op {
-            $(Op::$kind(op) => Op::$kind(call!($limits $function op $more)?),)*
+            $(Op::$kind(op) => match call!($limits $function op $more) {
+                Some(made) => Some(Op::$kind(made)),
+                None => None,
+            },)*
         }
     };
 }
@@ -103,7 +111,8 @@ impl Setup {
     ghost use Rattle.record_kinds.specs.Boards.{limits_at};
 
     /// The limits of the key's record.
-    pub fn limits(&self, key: &Key) -> Option<Limits>
+    #[inline(always)]
+    pub fn limits(&self, key: &Key) -> Option<Limits<'_>>
         ensures { result ≡ limits_at self.now key.now }
     {
         Some(match key {
@@ -118,6 +127,9 @@ impl Setup {
             }),
             Key::NumericEffecter(id) => {
                 Limits::NumericEffecter(NumericLimits::of(self.numeric_effecter(*id)?))
+            }
+            Key::StateEffecter(id) => {
+                Limits::StateEffecter(StateLimits::of(self.state_effecter(*id)?))
             }
             Key::UserName(user) => {
                 let _ = self.user(*user)?;
@@ -134,11 +146,16 @@ impl Setup {
                 let _ = self.stored_access(at)?;
                 Limits::ChannelAccess(ChannelAccessLimits)
             }
+            Key::BiosAttribute(handle) => {
+                let attribute = self.attribute(*handle)?;
+                Limits::BiosAttribute(AttributeLimits::of(*handle, attribute))
+            }
         })
     }
 }
 
-impl<'a> RecordKind<'a> for Limits {
+impl<'a, 'f> RecordKind<'a> for Limits<'f> {
+    ghost use Rattle.std.specs.Prelude.{◌≡◌, ◌+◌, ◌≤◌, ◌++◌, length};
     ghost use Rattle.record_kinds.specs.LimitsKind as all;
 
     type Key = Key;
@@ -147,7 +164,9 @@ impl<'a> RecordKind<'a> for Limits {
 
     ghost kind = { all.kind };
 
-    fn key(op: &Op) -> Key {
+    fn key(op: &Op) -> Key
+        ensures { result ≡ all.kind.words.name (all.kind.words.key_of op.now) }
+    {
         of_each_kind!(by_op [op, key()])
     }
 
@@ -155,11 +174,16 @@ impl<'a> RecordKind<'a> for Limits {
         of_each_kind!(by_both [self, op, value, new])
     }
 
-    fn set_reply<B: Buffer>(op: &Op, reply: &mut B) {
+    fn set_reply<B: Buffer>(op: &Op, reply: &mut B)
+        requires room { length (B.bytes reply.old) + length (all.kind.words.set_reply op.now) ≤ B.capacity }
+        ensures { B.bytes reply.new ≡ B.bytes reply.old ++ all.kind.words.set_reply op.now }
+    {
         of_each_kind!(by_op [op, set_reply(reply)])
     }
 
-    fn next_live(op: &Op, live: &mut Live) {
+    fn next_live(op: &Op, live: &mut Live)
+        ensures { live.new ≡ all.kind.words.next_live op.now live.old }
+    {
         of_each_kind!(by_op [op, next_live(live)])
     }
 
@@ -167,19 +191,27 @@ impl<'a> RecordKind<'a> for Limits {
         of_each_kind!(by_limits [self, get_data(value, live, reply)])
     }
 
-    fn get_asked(key: &Key) -> Asked {
+    fn get_asked(key: &Key) -> Asked
+        ensures { result ≡ all.kind.words.get_asked key.now }
+    {
         of_each_kind!(by_key [key, get_asked])
     }
 
-    fn set_data(op: &Op) -> RecordData {
+    fn set_data(op: &Op) -> RecordData
+        ensures { result ≡ all.kind.words.set_data op.now }
+    {
         of_each_kind!(by_op [op, set_data()])
     }
 
-    fn set_asked(op: &Op) -> Asked {
+    fn set_asked(op: &Op) -> Asked
+        ensures { result ≡ all.kind.words.set_asked op.now }
+    {
         of_each_kind!(by_op [op, set_asked()])
     }
 
-    fn inverse(op: &Op, get_data: &'a [u8]) -> Option<Op> {
-        Some(of_each_kind!(op_by_op [op, inverse(get_data)]))
+    fn inverse(op: &Op, get_data: &'a [u8]) -> Option<Op>
+        ensures { result ≡ all.kind.words.inverse op.now get_data.now }
+    {
+        of_each_kind!(op_by_op [op, inverse(get_data)])
     }
 }

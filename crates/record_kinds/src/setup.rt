@@ -5,8 +5,8 @@ ghost use Rattle.cfg_records.specs.Distinct.{NamesDiffer};
 ghost use Rattle.record_kinds.specs.Places.{ArePlaces};
 
 use cfg_records::{
-    AccessStore, BoardFile, Channel, ChannelNumber, Device, NumericEffecter, Sensor, StoredAccess,
-    User, UserAccess, UserNumber, UserOnChannel,
+    AccessStore, Attribute, Attributes, BoardFile, Channel, ChannelNumber, Device, NumericEffecter,
+    Sensor, StateEffecter, StoredAccess, User, UserAccess, UserNumber, UserOnChannel,
 };
 use std::marker::Model;
 
@@ -46,7 +46,7 @@ fn places_of(sensors: &[Sensor]) -> [u8; 256]
 }
 
 impl Setup {
-    ghost use Rattle.record_kinds.specs.Boards.{sensor_at, numeric_at, user_at, access_at, channel_at, is_sessionless, stored_at};
+    ghost use Rattle.record_kinds.specs.Boards.{sensor_at, numeric_at, state_at, user_at, access_at, channel_at, is_sessionless, stored_at, attribute_at};
 
     /// The set-up of this board file.
     pub fn new(file: BoardFile) -> Setup
@@ -83,6 +83,14 @@ impl Setup {
         ensures { option_copied result ≡ numeric_at self.now.numeric_effecters.items id }
     {
         let effecters = self.file.numeric_effecters.items.as_slice();
+        effecters.iter().find(|effecter| effecter.id == id)
+    }
+
+    /// The state effecter of this id, of at most 32.
+    pub fn state_effecter(&self, id: u16) -> Option<&StateEffecter>
+        ensures { option_copied result ≡ state_at self.now.state_effecters.items id }
+    {
+        let effecters = self.file.state_effecters.items.as_slice();
         effecters.iter().find(|effecter| effecter.id == id)
     }
 
@@ -130,6 +138,23 @@ impl Setup {
     {
         let channels = self.file.sessionless.items.as_slice();
         channels.iter().any(|c| c.number == number.number)
+    }
+
+    /// The attributes of its BIOS.
+    pub fn attributes(&self) -> &Attributes
+        ensures { result.now ≡ self.now.attributes }
+    {
+        &self.file.attributes
+    }
+
+    /// The attribute of this handle. It looks at one after another, of which there are at most 64.
+    pub fn attribute(&self, handle: u16) -> Option<&Attribute>
+        ensures { option_copied result ≡ attribute_at self.now.attributes.items handle }
+    {
+        let attributes = self.file.attributes.items.as_slice();
+        attributes
+            .iter()
+            .find(|attribute| attribute.handle == handle)
     }
 
     /// The channel whose access is kept there.

@@ -64,3 +64,15 @@ pldm_invalid_effecter = 0x80
 -- DSP0248: the effecter's field can't be set to this state
 abbrev pub pldm_invalid_state : ℕ
 pldm_invalid_state = 0x81
+
+-- DSP0247: the controller hasn't the table
+abbrev pub pldm_no_table : ℕ
+pldm_no_table = 0x83
+
+-- DSP0247: no table has this number
+abbrev pub pldm_invalid_table : ℕ
+pldm_invalid_table = 0x85
+
+-- DSP0247: no attribute has this handle
+abbrev pub pldm_invalid_attribute : ℕ
+pldm_invalid_attribute = 0x88

@@ -77,6 +77,15 @@ pub const PLDM_INVALID_EFFECTER: Code = Code { value: 0x80 };
 /// PLDM, SetStateEffecterStates: a field can't be set to this state.
 pub const PLDM_INVALID_STATE: Code = Code { value: 0x81 };
 
+/// PLDM, GetBIOSTable: the controller hasn't the table.
+pub const PLDM_NO_TABLE: Code = Code { value: 0x83 };
+
+/// PLDM, GetBIOSTable: no table has this number.
+pub const PLDM_INVALID_TABLE: Code = Code { value: 0x85 };
+
+/// PLDM, commands of BIOS attributes: no attribute has this handle.
+pub const PLDM_INVALID_ATTRIBUTE: Code = Code { value: 0x88 };
+
 /// The codes of IPMI, from the lowest, each by its constant. The clause ties a constant to the name that contracts have for it.
 pub fn of_ipmi() -> [Code; 11]
     ensures { result ≡ codes.uninitialized_watchdog ∷ codes.node_busy ∷ codes.invalid_command ∷ codes.invalid_for_lun ∷ codes.out_of_space ∷ codes.reservation_canceled ∷ codes.invalid_length ∷ codes.out_of_range ∷ codes.too_many_bytes ∷ codes.not_present ∷ codes.invalid_data_field ∷ [] }
@@ -97,8 +106,8 @@ pub fn of_ipmi() -> [Code; 11]
 }
 
 /// The codes of PLDM, from the lowest, each by its constant.
-pub fn of_pldm() -> [Code; 7]
-    ensures { result ≡ codes.pldm_invalid_data ∷ codes.pldm_invalid_length ∷ codes.pldm_not_ready ∷ codes.pldm_unsupported_command ∷ codes.pldm_invalid_type ∷ codes.pldm_invalid_effecter ∷ codes.pldm_invalid_state ∷ [] }
+pub fn of_pldm() -> [Code; 10]
+    ensures { result ≡ codes.pldm_invalid_data ∷ codes.pldm_invalid_length ∷ codes.pldm_not_ready ∷ codes.pldm_unsupported_command ∷ codes.pldm_invalid_type ∷ codes.pldm_invalid_effecter ∷ codes.pldm_invalid_state ∷ codes.pldm_no_table ∷ codes.pldm_invalid_table ∷ codes.pldm_invalid_attribute ∷ [] }
 {
     [
         PLDM_INVALID_DATA,
@@ -108,6 +117,9 @@ pub fn of_pldm() -> [Code; 7]
         PLDM_INVALID_TYPE,
         PLDM_INVALID_EFFECTER,
         PLDM_INVALID_STATE,
+        PLDM_NO_TABLE,
+        PLDM_INVALID_TABLE,
+        PLDM_INVALID_ATTRIBUTE,
     ]
 }
 

@@ -12,6 +12,8 @@ ghost use Rattle.bmc_board.specs.Sensing.{value_at};
 
 use crate::activity::Activity;
 use crate::board::Board;
+use crate::board::bios::{Standing, show_part, table_asked};
+use crate::board::set_data::{self, SetData};
 use crate::command::{Command, GetCommand, SetCommand};
 use crate::live::{
     LiveCommand, NO_ERROR, PLDM_TYPES, already_in_progress, device_data, progress_data,
@@ -21,22 +23,21 @@ use crate::request::read_request;
 use crate::storage::{
     add_entry, clear, part_in, sdr_info, sel_info, show_entry, show_sdr, time_in,
 };
+use bios_attr::Tables;
+use bios_attr::bios_attribute::{attribute_in, attribute_shown_in};
 use cfg_records::{
     AccessStore, Answered, Asked, BoardFile, ChannelNumber, Key, Op, RecordKind, SetChannelAccess,
     Store, StoredAccess, UserNumber, UserOnChannel, Value, byte_at,
 };
-use effecter_recs::numeric;
 use effecter_recs::request::id_in;
 use record_kinds::{Limits, Setup};
 use sensor_recs::taken::reading_data;
-use sensor_recs::{event_enable, hysteresis, thresholds};
 use std::alloc::{AllocError, Global};
 use two_wire::{Buffer, Bytes, Code, code};
 use user_chan::channel_request::{ChannelRequest, channel_request_in, stored_in};
 use user_chan::password::{PasswordChange, change_of, set_enabled};
-use user_chan::{user_access, user_name};
 use watch_boot::boot_request::{BootRequest, BootShown, boot_request_in, boot_shown_in};
-use watch_boot::{global_enables, power_policy, watchdog};
+use watch_boot::watchdog;
 
 /// The code for a record that isn't there.
 fn unknown_code(setup: &Setup, key: &Key) -> Code
@@ -51,7 +52,8 @@ fn unknown_code(setup: &Setup, key: &Key) -> Code
         | Key::Watchdog
         | Key::GlobalEnables
         | Key::BootParam(_) => code::NOT_PRESENT,
-        Key::NumericEffecter(_) => code::PLDM_INVALID_EFFECTER,
+        Key::NumericEffecter(_) | Key::StateEffecter(_) => code::PLDM_INVALID_EFFECTER,
+        Key::BiosAttribute(_) => code::PLDM_INVALID_ATTRIBUTE,
         Key::UserName(_) | Key::UserAccess(_) => code::INVALID_DATA_FIELD,
         Key::ChannelAccess(at) => {
             if setup.is_sessionless(at.channel) {
@@ -76,6 +78,7 @@ fn key_in(command: GetCommand, body: &[u8]) -> Key
         GetWatchdogTimer => Key::Watchdog,
         GetGlobalEnables => Key::GlobalEnables,
         GetNumericEffecterValue => Key::NumericEffecter(id_in(body)),
+        GetStateEffecterStates => Key::StateEffecter(id_in(body)),
         GetUserName => Key::UserName(UserNumber::of(byte_at(body, 0))),
         GetUserAccess => Key::UserAccess(UserOnChannel::of(byte_at(body, 0), byte_at(body, 1))),
         GetChannelAccess => Key::ChannelAccess(stored_in(body)),
@@ -115,7 +118,8 @@ impl<S: Store> Board<S> {
     ghost use Rattle.bmc_board.specs.State.{opened, state_of};
     ghost use Rattle.bmc_board.specs.Leaves.{Leaves};
     ghost use Rattle.bmc_board.specs.Sensing.{reading_answer};
-    ghost use Rattle.bmc_board.specs.Live.{reset_answer, progress_answer, leave_answer, password_answer, longest_live_reply};
+    ghost use Rattle.bmc_board.specs.Live.{reset_answer, progress_answer, leave_answer, password_answer, longest_live_reply, longest_live};
+    ghost use Rattle.bmc_board.specs.BiosTables.{table_answer, longest_part};
     ghost use Rattle.cfg_records.specs.Numbers.{user_in};
     ghost use Rattle.cfg_records.specs.Requests.{byte_at};
     ghost use Rattle.record_kinds.specs.Boards.{user_at};
@@ -137,11 +141,13 @@ impl<S: Store> Board<S> {
         ensures state { IfOk result (λ board. state_of S.records board ≡ opened file) }
     {
         let activity = Activity::opening(alloc, &file)?;
+        let tables = Tables::open(alloc, &file.attributes)?;
         Ok(Board {
             setup: Setup::new(file),
             activity,
             store,
             made: Value::new(),
+            tables,
         })
     }
 
@@ -242,9 +248,24 @@ impl<S: Store> Board<S> {
         )
     }
 
+    /// Appends a part of a table of the attributes, with their values as they stand.
+    #[inline(never)]
+    fn show_table<B: Buffer>(&mut self, body: &[u8], to: &mut B) -> Result<(), Code>
+        requires room { length (B.bytes to.old) + longest_part ≤ B.capacity }
+        ensures answer { Gives result (B.bytes to.old) (B.bytes to.new) (table_answer self.old.setup (S.records self.old.store) body.now) }
+        ensures activity { self.new.activity ≡ self.old.activity }
+        ensures store { self.new.store ≡ self.old.store }
+        ensures setup { self.new.setup ≡ self.old.setup }
+    {
+        let table = table_asked(self.setup.attributes(), byte_at(body, 5))?;
+        self.tables.show(&Standing { store: &self.store });
+        show_part(body, self.tables.table(table), to)
+    }
+
     /// Carries out a live command with this data, and appends the data of the reply.
+    #[tactic(auto, using(crate::proofs::LiveFacts::as_long))]
     fn live<B: Buffer>(&mut self, command: LiveCommand, body: &[u8], to: &mut B) -> Result<(), Code>
-        requires room { length (B.bytes to.old) + longest_live_reply ≤ B.capacity }
+        requires room { length (B.bytes to.old) + longest_live command ≤ B.capacity }
         ensures answer { Gives result (B.bytes to.old) (B.bytes to.new) (serve_of self.old.setup (state_of S.records self.old) (request.Live command body.now)).0 }
         ensures left { state_of S.records self.new ≡ (serve_of self.old.setup (state_of S.records self.old) (request.Live command body.now)).1 }
         ensures setup { self.new.setup ≡ self.old.setup }
@@ -275,6 +296,7 @@ impl<S: Store> Board<S> {
             LiveCommand::SetUserPassword => self.set_password(body),
             LiveCommand::GetTid => show(&[self.setup.tid()], to),
             LiveCommand::GetPldmTypes => show(&PLDM_TYPES, to),
+            LiveCommand::GetBiosTable => self.show_table(body, to),
         }
     }
 
@@ -313,8 +335,18 @@ impl<S: Store> Board<S> {
         }
     }
 
-    /// Carries out a command that changes a record. The operation is made here, of the data, and stays here.
+    /// Carries out the operation that the command's data is. It is made here, and stays here.
     #[inline(never)]
+    fn carry_out<D: SetData, B: Buffer>(&mut self, body: &[u8], to: &mut B) -> Result<(), Code>
+        requires room { length (B.bytes to.old) + longest_reply (request.Set (op_in D.command body.now)) ≤ B.capacity }
+        ensures answer { Gives result (B.bytes to.old) (B.bytes to.new) (serve_of self.old.setup (state_of S.records self.old) (request.Set (op_in D.command body.now))).0 }
+        ensures left { state_of S.records self.new ≡ (serve_of self.old.setup (state_of S.records self.old) (request.Set (op_in D.command body.now))).1 }
+        ensures setup { self.new.setup ≡ self.old.setup }
+    {
+        self.set(&D::op_in(body), to)
+    }
+
+    /// Carries out a command that changes a record.
     fn change<B: Buffer>(
         &mut self,
         command: SetCommand,
@@ -326,21 +358,25 @@ impl<S: Store> Board<S> {
         ensures left { state_of S.records self.new ≡ (serve_of self.old.setup (state_of S.records self.old) (request.Set (op_in command body.now))).1 }
         ensures setup { self.new.setup ≡ self.old.setup }
     {
-        use SetCommand::*;
         match command {
-            SetSensorHysteresis => self.set(&Op::Hysteresis(hysteresis::hysteresis_in(body)), to),
-            SetSensorThresholds => self.set(&Op::Thresholds(thresholds::thresholds_in(body)), to),
-            SetSensorEventEnable => {
-                self.set(&Op::EventEnable(event_enable::event_enable_in(body)), to)
-            }
-            SetPowerRestorePolicy => self.set(&Op::PowerPolicy(power_policy::policy_in(body)), to),
-            SetWatchdogTimer => self.set(&Op::Watchdog(watchdog::watchdog_in(body)), to),
-            SetGlobalEnables => self.set(&Op::GlobalEnables(global_enables::enables_in(body)), to),
-            SetNumericEffecterValue => {
-                self.set(&Op::NumericEffecter(numeric::numeric_effecter_in(body)), to)
-            }
-            SetUserName => self.set(&Op::UserName(user_name::name_in(body)), to),
-            SetUserAccess => self.set(&Op::UserAccess(user_access::access_in(body)), to),
+            SetCommand::SetSensorHysteresis => self.carry_out::<set_data::Hysteresis, B>(body, to),
+            SetCommand::SetSensorThresholds => self.carry_out::<set_data::Thresholds, B>(body, to),
+            SetCommand::SetSensorEventEnable => self.carry_out::<set_data::EventEnable, B>(
+                body, to,
+            ),
+            SetCommand::SetPowerRestorePolicy => self.carry_out::<set_data::PowerPolicy, B>(
+                body, to,
+            ),
+            SetCommand::SetWatchdogTimer => self.carry_out::<set_data::Watchdog, B>(body, to),
+            SetCommand::SetGlobalEnables => self.carry_out::<set_data::GlobalEnables, B>(body, to),
+            SetCommand::SetNumericEffecterValue => self.carry_out::<set_data::NumericEffecter, B>(
+                body, to,
+            ),
+            SetCommand::SetStateEffecterStates => self.carry_out::<set_data::StateEffecter, B>(
+                body, to,
+            ),
+            SetCommand::SetUserName => self.carry_out::<set_data::UserName, B>(body, to),
+            SetCommand::SetUserAccess => self.carry_out::<set_data::UserAccess, B>(body, to),
         }
     }
 
@@ -422,6 +458,29 @@ impl<S: Store> Board<S> {
         }
     }
 
+    /// Carries out SetBIOSAttributeCurrentValue. The operation is made here, of the data, and stays here.
+    #[inline(never)]
+    fn set_attribute<B: Buffer>(&mut self, body: &[u8], to: &mut B) -> Result<(), Code>
+        requires room { IfOk (request_of Command.SetBiosAttribute body.now) (λ r. length (B.bytes to.old) + longest_reply r ≤ B.capacity) }
+        ensures answer { Gives result (B.bytes to.old) (B.bytes to.new) (reply_of self.old.setup (state_of S.records self.old) (request_of Command.SetBiosAttribute body.now)).0 }
+        ensures left { state_of S.records self.new ≡ (reply_of self.old.setup (state_of S.records self.old) (request_of Command.SetBiosAttribute body.now)).1 }
+        ensures setup { self.new.setup ≡ self.old.setup }
+    {
+        let op = attribute_in(body)?;
+        self.set(&Op::BiosAttribute(op), to)
+    }
+
+    /// Carries out GetBIOSAttributeCurrentValueByHandle.
+    fn get_attribute<B: Buffer>(&mut self, body: &[u8], to: &mut B) -> Result<(), Code>
+        requires room { IfOk (request_of Command.GetBiosAttribute body.now) (λ r. length (B.bytes to.old) + longest_reply r ≤ B.capacity) }
+        ensures answer { Gives result (B.bytes to.old) (B.bytes to.new) (reply_of self.old.setup (state_of S.records self.old) (request_of Command.GetBiosAttribute body.now)).0 }
+        ensures left { state_of S.records self.new ≡ (reply_of self.old.setup (state_of S.records self.old) (request_of Command.GetBiosAttribute body.now)).1 }
+        ensures setup { self.new.setup ≡ self.old.setup }
+    {
+        let handle = attribute_shown_in(body)?;
+        self.get(&Key::BiosAttribute(handle), to)
+    }
+
     /// Carries out a command with this data, of a length that the command takes, and appends the data of the reply.
     fn serve<B: Buffer>(&mut self, command: Command, body: &[u8], to: &mut B) -> Result<(), Code>
         requires room { IfOk (request_of command body.now) (λ r. length (B.bytes to.old) + longest_reply r ≤ B.capacity) }
@@ -436,6 +495,8 @@ impl<S: Store> Board<S> {
             Command::SetBootOptions => self.set_boot_options(body, to),
             Command::GetBootOptions => self.get_boot_options(body, to),
             Command::SetChannelAccess => self.set_channel_access(body, to),
+            Command::SetBiosAttribute => self.set_attribute(body, to),
+            Command::GetBiosAttribute => self.get_attribute(body, to),
         }
     }
 

@@ -6,7 +6,7 @@ use std::alloc::{AllocError, Global};
 use std::test::Fail;
 
 /// The sample board.
-const SAMPLE: &str = "tid = 5
+pub(super) const SAMPLE: &str = "tid = 5
 clock = 0
 log = 2
 enables = 0x08
@@ -47,6 +47,37 @@ supported = 0xFC0
 flags = 0
 assert = 0
 deassert = 0
+[[channel]]
+number = 1
+sessions = true
+access = [2, 2]
+limit = [4, 4]
+users = [0x14, 0x14]
+[[attribute]]
+name = \"Quiet\"
+kind = \"enumeration\"
+values = [\"off\", \"on\"]
+default = [0]
+current = [0]
+readonly = false
+[[attribute]]
+name = \"Asset\"
+kind = \"string\"
+string_type = 1
+least = 0
+most = 200
+default = \"\"
+current = \"rack-1\"
+readonly = false
+[[attribute]]
+name = \"Delay\"
+kind = \"integer\"
+lower = 0
+upper = 300
+increment = 10
+default = 30
+current = 30
+readonly = false
 ";
 
 /// A row for each field: its place in faults, its line in the sample board's file, a line of another type, two that are beyond its range,
@@ -56,6 +87,8 @@ top clock | clock = 0 | clock = 0.5 | clock = -1 | clock = 0x100000000 | clock =
 top log | log = 2 | log = [2] | log = 0 | log = 1025 | log = 1 | log = 1024
 top enables | enables = 0x08 | enables = true | enables = 0x10 | enables = 0x100 | enables = 0 | enables = 0xEF
 top policy | policy = 1 | policy = \"1\" | policy = -1 | policy = 4 | policy = 0 | policy = 3
+top users | users = [\"\", \"admin\"] | users = [\"\", 1] | users = [\"admin\"] | users = [\"\", \"seventeen letters\"] | users = [\"\", \"\"] | users = [\"\", \"sixteen letters!\"]
+top users | users = [\"\", \"admin\"] | users = \"\" | users = [] | users = [\"a\", \"\"] | users = [\"\", \"éééééééé\"] | users = [\"\", \"a\"]
 top watchdog | watchdog = [0, 0, 0, 0] | watchdog = [0, 0, 0, false] | watchdog = [0x86, 0, 0, 0] | watchdog = [0, 0x44, 0, 65536] | watchdog = [0x85, 0x33, 255, 65535] | watchdog = [0, 0, 0, 1]
 top sdr | sdr = [\"010051C00100\"] | sdr = [\"010051C00100\", 1] | sdr = [\"010051C00200\"] | sdr = [\"FFFF51C000\"] | sdr = [] | sdr = [\"feFF51c000\", \"010051C00100\"]
 top boot3 | boot3 = 0 | boot3 = [0] | boot3 = -1 | boot3 = 32 | boot3 = 1 | boot3 = 31
@@ -121,6 +154,28 @@ fn the_sample_file_holds_the_sample_board(rt: HostRuntime) -> Result<(), Fail> {
     assert_eq!(rt; read.clock, known.clock);
     assert!(rt; read.log == known.log);
     assert_eq!(rt; read.enables.byte, known.enables.byte);
+    let users = read.users.items.as_slice();
+    assert_eq!(rt; users.len(), known.users.items.as_slice().len());
+    for (one, other) in users.iter().zip(known.users.items.as_slice()) {
+        assert!(rt; one.number == other.number);
+        assert!(rt; one.name == other.name);
+    }
+    let channels = read.channels.items.as_slice();
+    assert_eq!(rt; channels.len(), known.channels.items.as_slice().len());
+    for (one, other) in channels.iter().zip(known.channels.items.as_slice()) {
+        assert!(rt; one.number == other.number);
+        assert_eq!(rt; one.non_volatile.access, other.non_volatile.access);
+        assert_eq!(rt; one.non_volatile.limit, other.non_volatile.limit);
+        assert_eq!(rt; one.volatile.access, other.volatile.access);
+        assert_eq!(rt; one.volatile.limit, other.volatile.limit);
+    }
+    assert_eq!(rt; read.sessionless.items.as_slice().len(), 0);
+    let accesses = read.user_accesses.items.as_slice();
+    assert_eq!(rt; accesses.len(), known.user_accesses.items.as_slice().len());
+    for (one, other) in accesses.iter().zip(known.user_accesses.items.as_slice()) {
+        assert!(rt; one.on == other.on);
+        assert_eq!(rt; one.byte, other.byte);
+    }
     let records = read.sdr.items.as_slice();
     assert_eq!(rt; records.len(), known.sdr.items.as_slice().len());
     for (one, other) in records.iter().zip(known.sdr.items.as_slice()) {

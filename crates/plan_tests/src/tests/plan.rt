@@ -189,7 +189,7 @@ fn what_no_get_shows_is_refused(rt: HostRuntime) -> Result<(), Fail> {
             "kind = \"user-access\"\nsession_limit = \"\"",
             "0 NoGet SessionLimit",
         ),
-        ("kind = \"user-access\"", "0 UnknownKind"),
+        ("kind = \"user-access\"", "0 Missing channel"),
         ("kind = \"watchdog\"\nflags_clear = 0", "0 NoGet FlagsClear"),
         (
             "kind = \"watchdog\"\nflags_clear = true",
@@ -202,9 +202,9 @@ fn what_no_get_shows_is_refused(rt: HostRuntime) -> Result<(), Fail> {
         ),
         (
             "kind = \"channel-access\"\nstore = \"volatile\"",
-            "0 UnknownKind",
+            "0 Missing channel",
         ),
-        ("kind = \"channel-access\"\nstore = 0", "0 UnknownKind"),
+        ("kind = \"channel-access\"\nstore = 0", "0 Missing channel"),
         ("kind = \"boot-param\"\nparam = 0", "0 NoGet SetInProgress"),
         ("kind = \"boot-param\"\nparam = 3", "0 Missing invalid"),
         ("kind = \"boot-param\"\nparam = false", "0 Missing invalid"),

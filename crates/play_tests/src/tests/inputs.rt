@@ -10,6 +10,7 @@ clock = 0
 log = 2
 enables = 0x08
 policy = 1
+users = [\"\"]
 watchdog = [0, 0, 0, 0]
 sdr = []
 boot3 = 0

@@ -37,7 +37,7 @@ fn the_sample_board_begins_with_its_records(rt: HostRuntime) -> Result<(), Fail>
     let file = sample_board(rt.alloc())?;
     assert_eq!(rt; file.tid, 5);
     let pairs = file.records(rt.alloc())?;
-    assert_eq!(rt; pairs.len(), 18);
+    assert_eq!(rt; pairs.len(), 21);
     for (place, key, bytes) in [
         (
             0,
@@ -67,6 +67,13 @@ fn the_sample_board_begins_with_its_records(rt: HostRuntime) -> Result<(), Fail>
         (15, Key::BootParam(BootParameter::ValidBitClearing), &[0; 2]),
         (16, Key::BootParam(BootParameter::InfoAcknowledge), &[0; 2]),
         (17, Key::BootParam(BootParameter::Flags), &[0; 6]),
+        (18, Key::BiosAttribute(0), &[1, 0]),
+        (
+            19,
+            Key::BiosAttribute(1),
+            &[6, 0, 0x72, 0x61, 0x63, 0x6B, 0x2D, 0x31],
+        ),
+        (20, Key::BiosAttribute(2), &[0x1E, 0, 0, 0, 0, 0, 0, 0]),
     ] {
         expect_pair(&rt, pairs.as_slice(), place, key, bytes)?;
     }

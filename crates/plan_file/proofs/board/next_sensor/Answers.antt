@@ -16,14 +16,14 @@ returns-in_err-check-clause-err c =
     let p = err_from_is_err_and c.from_residual.result c.from_residual.ensures.1 in
     let table : table_of (view c.args.value.now) ≡ table_view c.unwrap-table.result.now = search rules in
     rw (p.1, p.2) (λ seen ds zip.
-    field_first IsSensorIn item.Sensor SENSOR field.Number number_of sensor_numbered seen ds (view c.args.value.now) c.args.before.now c.in_err-check.field-0.0 zip
+    field_first IsSensorIn item.Sensor (λ tree. SENSOR) field.Number number_of sensor_numbered seen ds (view c.args.value.now) c.args.before.now c.in_err-check.field-0.0 zip
     (ap (λ t. first (map (fault_at (item.Sensor (length c.args.before.now))) (field_faults SENSOR t))) table ∙ c.in_err-check.ensures.err))
 
 pub returns-then-is_taken-clause-err : goal.returns-then-is_taken-clause-err
 returns-then-is_taken-clause-err c =
     let table : table_of (view c.args.value.now) ≡ table_view c.unwrap-table.result.now = search rules in
     λ seen ds zip.
-    taken_first IsSensorIn item.Sensor SENSOR field.Number number_of sensor_numbered seen ds (view c.args.value.now) c.args.before.now c.sensor-sensor.result.number zip
+    taken_first IsSensorIn item.Sensor (λ tree. SENSOR) field.Number number_of sensor_numbered seen ds (view c.args.value.now) c.args.before.now c.sensor-sensor.result.number zip
     (ap (field_faults SENSOR) table ∙ c.in_ok-check.ensures.ok)
     (ap (number_in field.Number) table ∙ c.sensor-sensor.ensures.numbered)
     (sym c.is_taken.ensures ∙ c.if-is_taken.true)

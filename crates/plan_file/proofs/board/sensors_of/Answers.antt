@@ -22,6 +22,6 @@ loop-value-preserved c =
     ap (list_any (λ (other : Sensor). other.number == s.number)) (sym same) ∙ c.in_ok-sensor.ensures.fresh in
     rw pushed (record {
       zip = next_zip values i v c.loop-value-test.true c.value-item.is IsSensorIn before s c.loop-value.invariant.zip c.in_ok-sensor.ensures.held;
-      left = c.loop-value.invariant.left ∙ next_left values i v c.loop-value-test.true c.value-item.is IsSensorIn item.Sensor SENSOR field.Number number_of sensor_numbered before s c.loop-value.invariant.zip c.in_ok-sensor.ensures.held c.in_ok-sensor.ensures.sound fresh;
+      left = c.loop-value.invariant.left ∙ next_left values i v c.loop-value-test.true c.value-item.is IsSensorIn item.Sensor (λ tree. SENSOR) field.Number number_of sensor_numbered before s c.loop-value.invariant.zip c.in_ok-sensor.ensures.held c.in_ok-sensor.ensures.sound fresh;
       differ = next_differs number_of before s c.loop-value.invariant.differ fresh;
     })

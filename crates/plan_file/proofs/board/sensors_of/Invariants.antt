@@ -12,6 +12,6 @@ use Rattle.plan_file.proofs.board.sensors_of.Given as goal
 abbrev pub invariant-loop-value : goal.invariant-loop-value
 invariant-loop-value l = record {
   zip : AllZip IsSensorIn (map view (take l.value-index l.values)) l.sensors.items;
-  left : sensor_faults (map view l.values) ≡ item_faults item.Sensor SENSOR field.Number (map view (take l.value-index l.values)) (map view (drop l.value-index l.values));
+  left : sensor_faults (map view l.values) ≡ item_faults item.Sensor (λ tree. SENSOR) field.Number (map view (take l.value-index l.values)) (map view (drop l.value-index l.values));
   differ : NamesDiffer number_of l.sensors.items;
 }

@@ -5,8 +5,7 @@ use Rattle.toml.specs.View.{view, table_view}
 use Rattle.plan_file.specs.declared.field.Field.TheVariants as field
 use Rattle.plan_file.specs.declared.row.Need.TheVariants as need
 use Rattle.plan_file.specs.declared.kind.TheConstants.{EVENT_ENABLE}
-use Rattle.plan_file.specs.Ranges.{is_offset}
-use Rattle.plan_file.specs.PlanHolds.{is_number}
+use Rattle.plan_file.specs.Ranges.{is_offset, is_number}
 use Rattle.plan_file.proofs.Rows.{all_sound}
 use Rattle.plan_file.proofs.Changes.{offsets_there, listed_view}
 use Rattle.plan_file.proofs.change.events.Goals as goal

@@ -4,8 +4,7 @@ use Rattle.std.proofs.lemmas.List.Folds.{list_any_more}
 use Rattle.std.specs.List.{list_any}
 use Rattle.toml.specs.View.{view}
 use Rattle.toml.specs.declared.value.Value.{Value}
-use Rattle.plan_file.specs.Ranges.{is_offset}
-use Rattle.plan_file.specs.PlanHolds.{is_number}
+use Rattle.plan_file.specs.Ranges.{is_offset, is_number}
 use Rattle.plan_file.proofs.Changes.{has_none}
 use Rattle.plan_file.proofs.Sensors.{each_passes}
 use Rattle.plan_file.proofs.change.mask_of.Goals as goal

@@ -2,7 +2,7 @@ use Rattle.std.proofs.Common.{◌≡◌, ℕ, take}
 use Rattle.std.specs.List.{list_any}
 use Rattle.cfg_records.specs.Masks.{has}
 use Rattle.toml.specs.View.{view}
-use Rattle.plan_file.specs.PlanHolds.{is_number}
+use Rattle.plan_file.specs.Ranges.{is_number}
 use Rattle.plan_file.proofs.change.mask_of.Given as goal
 
 abbrev pub invariant-loop-offset : goal.invariant-loop-offset

@@ -22,6 +22,6 @@ loop-value-preserved c =
     ap (list_any (λ (other : NumericEffecter). other.id == e.id)) (sym same) ∙ c.in_ok-effecter.ensures.fresh in
     rw pushed (record {
       zip = next_zip values i v c.loop-value-test.true c.value-item.is IsNumericIn before e c.loop-value.invariant.zip c.in_ok-effecter.ensures.held;
-      left = c.loop-value.invariant.left ∙ next_left values i v c.loop-value-test.true c.value-item.is IsNumericIn item.Numeric NUMERIC field.Id effecter_id effecter_numbered before e c.loop-value.invariant.zip c.in_ok-effecter.ensures.held c.in_ok-effecter.ensures.sound fresh;
+      left = c.loop-value.invariant.left ∙ next_left values i v c.loop-value-test.true c.value-item.is IsNumericIn item.Numeric (λ tree. NUMERIC) field.Id effecter_id effecter_numbered before e c.loop-value.invariant.zip c.in_ok-effecter.ensures.held c.in_ok-effecter.ensures.sound fresh;
       differ = next_differs effecter_id before e c.loop-value.invariant.differ fresh;
     })

@@ -12,6 +12,6 @@ use Rattle.plan_file.proofs.effecters.effecters_of.Given as goal
 abbrev pub invariant-loop-value : goal.invariant-loop-value
 invariant-loop-value l = record {
   zip : AllZip IsNumericIn (map view (take l.value-index l.values)) l.effecters.items;
-  left : numeric_faults (map view l.values) ≡ item_faults item.Numeric NUMERIC field.Id (map view (take l.value-index l.values)) (map view (drop l.value-index l.values));
+  left : numeric_faults (map view l.values) ≡ item_faults item.Numeric (λ tree. NUMERIC) field.Id (map view (take l.value-index l.values)) (map view (drop l.value-index l.values));
   differ : NamesDiffer effecter_id l.effecters.items;
 }

@@ -4,10 +4,13 @@ use Rattle.cfg_records.specs.Records.{Records, records_of}
 use Rattle.cfg_records.specs.Boards.{pairs_of}
 use Rattle.record_kinds.specs.Sound.{IsSound}
 use Rattle.record_kinds.proofs.Starts.{starts_sound}
+use Rattle.bmc_board.specs.ToldTables.{Tells}
+use Rattle.bmc_board.proofs.BiosTableFacts.{opened_tell}
 use Rattle.bmc_board.proofs.board.Board.open.Goals as goal
 
 pub invariant_of-result : goal.invariant_of-result
 invariant_of-result g c = record {
   sound = subst (λ (r : Records). IsSound c.new.result r) (sym c.requires)
       (subst (λ (f : BoardFile). IsSound f (records_of (pairs_of c.args.file))) (sym c.new.ensures) (starts_sound c.args.file));
+  tell = subst (λ (f : BoardFile). Tells f.attributes.items c.in_ok-tables.tables) (sym c.new.ensures) (opened_tell c.args.file.attributes.items c.in_ok-tables.tables c.in_ok-tables.ensures);
 }

@@ -28,6 +28,9 @@ apply-requires-in-GlobalEnables-op c = (tt, subst (λ (s : Limits). valid s c.ar
 pub apply-requires-in-NumericEffecter-op : goal.apply-requires-in-NumericEffecter-op
 apply-requires-in-NumericEffecter-op c = (tt, subst (λ (s : Limits). valid s c.args.value.now) c.in-NumericEffecter.is c.requires.is_valid)
 
+pub apply-requires-in-StateEffecter-op : goal.apply-requires-in-StateEffecter-op
+apply-requires-in-StateEffecter-op c = (tt, subst (λ (s : Limits). valid s c.args.value.now) c.in-StateEffecter.is c.requires.is_valid)
+
 pub apply-requires-in-BootParam-op : goal.apply-requires-in-BootParam-op
 apply-requires-in-BootParam-op c = (
   moved _ _ _ _ c.in-BootParam.is c.in-BootParam-op.is c.requires.of_record,
@@ -58,6 +61,9 @@ returns-in-BootParam-op c = rw (c.in-BootParam.is, c.in-BootParam-op.is) c.apply
 pub returns-in-NumericEffecter-op : goal.returns-in-NumericEffecter-op
 returns-in-NumericEffecter-op c = rw (c.in-NumericEffecter.is, c.in-NumericEffecter-op.is) c.apply-in-NumericEffecter-op.ensures
 
+pub returns-in-StateEffecter-op : goal.returns-in-StateEffecter-op
+returns-in-StateEffecter-op c = rw (c.in-StateEffecter.is, c.in-StateEffecter-op.is) c.apply-in-StateEffecter-op.ensures
+
 pub apply-requires-in-UserName-op : goal.apply-requires-in-UserName-op
 apply-requires-in-UserName-op c = (tt, subst (λ (s : Limits). valid s c.args.value.now) c.in-UserName.is c.requires.is_valid)
 
@@ -75,3 +81,12 @@ apply-requires-in-ChannelAccess-op c = (tt, subst (λ (s : Limits). valid s c.ar
 
 pub returns-in-ChannelAccess-op : goal.returns-in-ChannelAccess-op
 returns-in-ChannelAccess-op c = rw (c.in-ChannelAccess.is, c.in-ChannelAccess-op.is) c.apply-in-ChannelAccess-op.ensures
+
+pub apply-requires-in-BiosAttribute-op : goal.apply-requires-in-BiosAttribute-op
+apply-requires-in-BiosAttribute-op c = (
+  moved _ _ _ _ c.in-BiosAttribute.is c.in-BiosAttribute-op.is c.requires.of_record,
+  subst (λ (s : Limits). valid s c.args.value.now) c.in-BiosAttribute.is c.requires.is_valid,
+)
+
+pub returns-in-BiosAttribute-op : goal.returns-in-BiosAttribute-op
+returns-in-BiosAttribute-op c = rw (c.in-BiosAttribute.is, c.in-BiosAttribute-op.is) c.apply-in-BiosAttribute-op.ensures

@@ -1,0 +1,72 @@
+//! The tables of a board's attributes.
+ghost use Rattle.std.specs.Prelude.{◌≡◌, ◌+◌, ◌≤◌, ◌++◌, ℕ, length};
+ghost use Rattle.cfg_records.specs.AttributeSizes.{most_value};
+ghost use Rattle.bmc_board.specs.Gives.{Gives};
+ghost use Rattle.bmc_board.specs.BiosTables.{values_in, table_asked, handle_in, asked_part, longest_part};
+
+use crate::board::serve::value_at;
+use bios_attr::{BiosTable, CurrentValues};
+use cfg_records::{Attributes, Key, Store, byte_at};
+use pldm_base::part;
+use two_wire::{Buffer, Code, code};
+
+/// The number of the pending table, which is no table of this controller.
+const PENDING_TABLE: u8 = 3;
+
+/// The values of attributes, as their records stand.
+#[derive(Drop)]
+pub(super) struct Standing<'a, S: Store> {
+    pub store: &'a S,
+    ghost short: { (handle : ℕ) → length (values_in (S.records store.now) handle) ≤ most_value },
+}
+
+impl<S: Store> CurrentValues for Standing<'_, S> {
+    ghost use Rattle.bmc_board.specs.BiosTables.{values_in};
+
+    ghost value_of = { λ s. values_in (S.records s.store.now) };
+
+    fn value(&self, attribute: u16) -> &[u8] {
+        value_at(self.store, &Key::BiosAttribute(attribute))
+    }
+}
+
+/// The table of this number, or the code that refuses it.
+pub(super) fn table_asked(attributes: &Attributes, number: u8) -> Result<BiosTable, Code>
+    ensures { result ≡ table_asked attributes.now.items number }
+{
+    if number > PENDING_TABLE {
+        return Err(code::PLDM_INVALID_TABLE);
+    }
+    if number == PENDING_TABLE || attributes.items.as_slice().len() == 0 {
+        return Err(code::PLDM_NO_TABLE);
+    }
+    Ok(match number {
+        0 => BiosTable::Strings,
+        1 => BiosTable::Attributes,
+        _ => BiosTable::Values,
+    })
+}
+
+/// The handle that the request gives.
+fn handle_in(body: &[u8]) -> u32
+    ensures { result ≡ handle_in body.now }
+{
+    u32::from_le_bytes([
+        byte_at(body, 0),
+        byte_at(body, 1),
+        byte_at(body, 2),
+        byte_at(body, 3),
+    ])
+}
+
+/// Appends the part of a table that the request asks for.
+pub(super) fn show_part<B: Buffer>(body: &[u8], table: &[u8], to: &mut B) -> Result<(), Code>
+    requires room { length (B.bytes to.old) + longest_part ≤ B.capacity }
+    ensures { Gives result (B.bytes to.old) (B.bytes to.new) (asked_part body.now table.now) }
+{
+    let part = part(table, byte_at(body, 4), handle_in(body))?;
+    to.extend_from_slice(&part.next.to_le_bytes());
+    to.push(part.flag.byte());
+    to.extend_from_slice(part.bytes);
+    Ok(())
+}

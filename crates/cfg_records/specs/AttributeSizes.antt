@@ -1,0 +1,34 @@
+-- How much a BIOS attribute can have.
+use Rattle.std.specs.Prelude.{ℕ, ◌+◌, ◌-◌}
+
+-- how many possible values an enumeration has at most
+abbrev pub most_indexes : ℕ
+most_indexes = 16
+
+-- how many bytes a text has at most
+abbrev pub most_text : ℕ
+most_text = 200
+
+-- how many bytes the value of an attribute has at least: how many indexes there are, and one; a text's length
+abbrev pub least_value : ℕ
+least_value = 2
+
+-- how many bytes the value of an attribute has at most: a text's length, and the text
+abbrev pub most_value : ℕ
+most_value = 2 + most_text
+
+-- how many bytes the data of a request have at most
+abbrev pub most_data : ℕ
+most_data = 252
+
+-- how many of them stand before a value: handle, flag, attribute and type
+abbrev pub before_value : ℕ
+before_value = 8
+
+-- how many bytes a request's value has at most
+abbrev pub most_sent : ℕ
+most_sent = most_data - before_value
+
+-- how many attributes a board has at most
+abbrev pub most_attributes : ℕ
+most_attributes = 64

@@ -1,0 +1,7 @@
+-- The fields of state effecters (DSP0248).
+use Rattle.std.specs.Prelude.{ℕ, List, Bool, ◌==◌}
+use Rattle.std.specs.List.{list_any}
+
+-- a field with these states can be in this one
+abbrev pub is_allowed : List ℕ → ℕ → Bool
+is_allowed states state = list_any (λ s. s == state) states

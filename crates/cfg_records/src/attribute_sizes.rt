@@ -1,0 +1,23 @@
+//! How much a BIOS attribute can have.
+use crate::value::DATA_CAPACITY;
+
+/// How many possible values an enumeration has at most.
+pub const MOST_INDEXES: usize = 16;
+
+/// How many bytes a text has at most.
+pub const MOST_TEXT: usize = 200;
+
+/// How many bytes the value of an attribute has at least: how many indexes there are, and one; a text's length.
+pub const LEAST_VALUE: usize = 2;
+
+/// How many bytes the value of an attribute has at most: a text's length, and the text.
+pub const MOST_VALUE: usize = 2 + MOST_TEXT;
+
+/// How many bytes stand before the value in the data of a Set or of a Get reply: handle, flag, attribute and type.
+pub const BEFORE_VALUE: usize = 8;
+
+/// How many bytes a request's value has at most.
+pub const MOST_SENT: usize = DATA_CAPACITY - BEFORE_VALUE;
+
+/// How many attributes a board has at most.
+pub const MOST_ATTRIBUTES: usize = 64;

@@ -1,0 +1,16 @@
+-- StateEffecter as one value, and where it stands among all kinds. The limits of a record are its effecter, where the board file has it.
+use Rattle.std.specs.Prelude.{ℕ}
+use Rattle.cfg_records.specs.declared.state_effecter.StateEffecter.{StateEffecter}
+use Rattle.cfg_records.specs.declared.state_effecter.SetStateEffecter.{SetStateEffecter}
+use Rattle.cfg_records.specs.Kind.{Kind}
+use Rattle.cfg_records.specs.Member.{Member}
+use Rattle.effecter_recs.specs.State.{words, record_words, place}
+use Rattle.effecter_recs.specs.StateLaws.{kind_laws, record_laws}
+
+-- what it says, and that it holds
+abbrev pub kind : Kind ℕ SetStateEffecter StateEffecter
+kind = record { words = words; record_words = record_words; kind_laws = kind_laws; record_laws = record_laws }
+
+-- the kind, and where it stands among all
+abbrev pub member : Member ℕ SetStateEffecter StateEffecter
+member = record { kind = kind; place = place }
