@@ -146,6 +146,19 @@ fn two_packets() -> Vec<Vec<u8>> {
         .collect()
 }
 
+/// A Set of the asset's name, the attribute of handle 1, and then a Get of it, each Set with another text than the last.
+fn attributes() -> Vec<Vec<u8>> {
+    (0..32)
+        .flat_map(|turn: u8| {
+            let mut set = vec![1, 0x80 | 2 * turn % 32, 3, 7, 0, 0, 0, 0, 5, 1, 0, 1, 24, 0];
+            set.extend([0x41 + turn % 26; 24]);
+            let get = [1, 0x80 | (2 * turn + 1) % 32, 3, 8, 0, 0, 0, 0, 1, 1, 0];
+            let tag = 2 * turn % 8;
+            [packets(8, tag, &set), packets(8, tag + 1, &get)].concat()
+        })
+        .collect()
+}
+
 /// What is measured.
 pub fn works() -> Vec<Work> {
     let all: Vec<u8> = (0..32).collect();
@@ -158,6 +171,7 @@ pub fn works() -> Vec<Work> {
         work("32 sensors", Kind::Sensors, thresholds(&all)),
         work("GetTID", Kind::Smbus, get_tid()),
         work("messages of two packets", Kind::Smbus, two_packets()),
+        work("Set and Get of an attribute", Kind::Smbus, attributes()),
     ]
 }
 
@@ -247,11 +261,45 @@ impl Random {
         }]
     }
 
+    /// A Set or a Get of an attribute's value, mostly of a right form.
+    fn of_attributes(&mut self, numbers: u8) -> Vec<u8> {
+        let handle = self.one_of(&[0, 1, 1, 2, 3]);
+        if self.below(2) == 0 {
+            let operation = self.one_of(&[1, 1, 1, 0]);
+            return vec![1, numbers, 3, 8, 0, 0, 0, 0, operation, handle, 0];
+        }
+        let flag = self.one_of(&[5, 5, 5, 1]);
+        let mut message = vec![1, numbers, 3, 7, 0, 0, 0, 0, flag, handle, 0];
+        let length = self.below(20);
+        let value = match self.below(4) {
+            0 => vec![0, 1, self.one_of(&[0, 1, 2])],
+            1 => [vec![1, length as u8, 0], self.bytes(length)].concat(),
+            2 => vec![
+                3,
+                self.one_of(&[0, 10, 35, 200]),
+                self.one_of(&[0, 0, 1]),
+                0,
+                0,
+                0,
+                0,
+                0,
+                0,
+            ],
+            _ => [vec![self.one_of(&[0, 1, 3])], self.bytes(length)].concat(),
+        };
+        message.extend(value);
+        message
+    }
+
     /// The packets of a message to the endpoint, or of one with a byte changed.
     fn smbus(&mut self) -> Vec<Vec<u8>> {
         let eid = self.one_of(&[8, 8, 8, 9, 0x0B, 0x0C, 0x0D, 0x0E, 0x0F, 0x10, 0x11, 0x12]);
         let length = self.one_of(&[0, 0, 0, 0, 0, 0, 0, 1, 60, 61, 130, 252]);
         let numbers = self.one_of(&[0x80, 0x80, 0x80, 0xA0, 0x00]) | self.byte() % 32;
+        if self.below(4) == 0 {
+            let message = self.of_attributes(numbers);
+            return packets(eid, self.byte() % 8, &message);
+        }
         let mut message = match self.below(4) {
             0 => vec![0, numbers, self.one_of(&[1, 2, 2, 2, 5, 7])],
             1 => {
@@ -275,7 +323,8 @@ impl Random {
     }
 }
 
-/// Whether the frame has a command that the plain controller lacks: of boot options, global enables, users, channels and numeric effecters.
+/// Whether the frame has a command that the plain controller lacks: of boot options, global enables, users, channels, effecters, and tables of
+/// attributes.
 fn is_lacking(kind: Kind, frame: &[u8]) -> bool {
     match kind {
         Kind::Ipmb | Kind::Sensors => {
@@ -286,7 +335,11 @@ fn is_lacking(kind: Kind, frame: &[u8]) -> bool {
                 )
         }
         Kind::Smbus => {
-            frame.len() > 11 && frame[10] & 0x3F == 2 && matches!(frame[11], 0x31 | 0x32)
+            frame.len() > 11
+                && matches!(
+                    (frame[10] & 0x3F, frame[11]),
+                    (2, 0x31 | 0x32 | 0x39 | 0x3A) | (3, 1)
+                )
         }
     }
 }

@@ -110,7 +110,7 @@ fn random_agree(kind: Kind) -> bool {
     );
     let (place, codes): (usize, &[u8]) = match kind {
         Kind::Ipmb | Kind::Sensors => (6, &[0x00, 0xC0, 0xC1, 0xC2, 0xC7, 0xCB, 0xCC]),
-        Kind::Smbus => (12, &[0x00, 0x03, 0x04, 0x05, 0x20]),
+        Kind::Smbus => (12, &[0x00, 0x02, 0x03, 0x04, 0x05, 0x20, 0x88]),
     };
     for code in codes {
         eprint!(", {} with {code:02X}h", count(&replies, place, *code));
@@ -178,7 +178,7 @@ fn main() -> ExitCode {
         Some("same") => println!("the controllers send the same bytes"),
         // One list with the proved controller alone, for a profiler.
         Some(place) => {
-            let work = &works[place.parse::<usize>().expect("same, or a number of 0 to 7")];
+            let work = &works[place.parse::<usize>().expect("same, or a number of 0 to 8")];
             let [speed] = fastest([proved::serve], work);
             println!("{:<28} {:>14.0}", work.name, speed);
         }

@@ -1,5 +1,5 @@
-//! The port on the System Management Bus once more in plain Rust, with no proof: packets, messages, the endpoint's control commands and
-//! PLDM.
+//! The port on the System Management Bus once more in plain Rust, with no proof: packets, messages, the endpoint's control commands,
+//! PLDM, and the values of BIOS attributes.
 
 use crate::plain::{Reply, WIRE};
 use crate::windows::{Found, Windows};
@@ -18,6 +18,7 @@ const INVALID_LENGTH: u8 = 0x03;
 const NOT_READY: u8 = 0x04;
 const UNSUPPORTED_COMMAND: u8 = 0x05;
 const INVALID_TYPE: u8 = 0x20;
+const INVALID_ATTRIBUTE: u8 = 0x88;
 
 /// The terminus of the sample board.
 const TID: u8 = 5;
@@ -121,6 +122,108 @@ impl Assembler {
     }
 }
 
+/// The values of the sample board's attributes: an enumeration of two values, a text of at most 200 bytes, and a number.
+struct Attributes {
+    quiet: Vec<u8>,
+    asset: [u8; 200],
+    length: usize,
+    delay: u64,
+}
+
+impl Attributes {
+    fn sample() -> Self {
+        let mut asset = [0; 200];
+        asset[..6].copy_from_slice(b"rack-1");
+        Attributes {
+            quiet: Vec::from([0]),
+            asset,
+            length: 6,
+            delay: 30,
+        }
+    }
+
+    /// Sets the value of the entry, and says with which completion code.
+    fn set(&mut self, data: &[u8]) -> u8 {
+        if data.len() < 8 {
+            return INVALID_LENGTH;
+        }
+        let (handle, kind, value) = (u16::from_le_bytes([data[5], data[6]]), data[7], &data[8..]);
+        if data[4] != 5 {
+            return INVALID_DATA;
+        }
+        if handle > 2 {
+            return INVALID_ATTRIBUTE;
+        }
+        match (handle, kind) {
+            (0, 0) => match value {
+                [count, indexes @ ..] if indexes.len() == *count as usize => {
+                    if !matches!(indexes, [0 | 1] | [0 | 1, 0 | 1]) {
+                        return INVALID_DATA;
+                    }
+                    self.quiet.clear();
+                    self.quiet.extend(indexes);
+                }
+                _ => return INVALID_LENGTH,
+            },
+            (1, 1) => match value {
+                [low, high, text @ ..]
+                    if text.len() == u16::from_le_bytes([*low, *high]) as usize =>
+                {
+                    if text.len() > 200 {
+                        return INVALID_DATA;
+                    }
+                    self.asset[..text.len()].copy_from_slice(text);
+                    self.length = text.len();
+                }
+                _ => return INVALID_LENGTH,
+            },
+            (2, 3) => {
+                let Ok(number) = value.try_into() else {
+                    return INVALID_LENGTH;
+                };
+                let number = u64::from_le_bytes(number);
+                if number > 300 || number % 10 != 0 {
+                    return INVALID_DATA;
+                }
+                self.delay = number;
+            }
+            _ => return INVALID_DATA,
+        }
+        0
+    }
+
+    /// Appends the entry that is asked for, behind its handle and flag, or says why not.
+    fn get(&self, data: &[u8], reply: &mut Reply) -> u8 {
+        let &[_, _, _, _, operation, low, high] = data else {
+            return INVALID_LENGTH;
+        };
+        if operation != 1 {
+            return INVALID_DATA;
+        }
+        let handle = u16::from_le_bytes([low, high]);
+        if handle > 2 {
+            return INVALID_ATTRIBUTE;
+        }
+        reply.extend(&[0, 0, 0, 0, 5, low, high]);
+        match handle {
+            0 => {
+                reply.extend(&[0, self.quiet.len() as u8]);
+                reply.extend(&self.quiet);
+            }
+            1 => {
+                reply.push(1);
+                reply.extend(&(self.length as u16).to_le_bytes());
+                reply.extend(&self.asset[..self.length]);
+            }
+            _ => {
+                reply.push(3);
+                reply.extend(&self.delay.to_le_bytes());
+            }
+        }
+        0
+    }
+}
+
 /// A reply in one packet, from its start to the packet error code.
 fn send(bytes: &mut [u8; 80], packet: &[u8], own: u8, body: &[u8]) -> usize {
     let mut reply = Reply { bytes, length: 0 };
@@ -135,6 +238,7 @@ fn send(bytes: &mut [u8; 80], packet: &[u8], own: u8, body: &[u8]) -> usize {
 /// A port, which keeps the messages of requests and of their replies.
 pub struct Port<W> {
     own: u8,
+    attributes: Attributes,
     assembler: Assembler,
     windows: W,
 }
@@ -143,6 +247,7 @@ impl<W: Windows> Port<W> {
     pub fn new() -> Self {
         Port {
             own: 0x0A,
+            attributes: Attributes::sample(),
             assembler: Assembler::new(),
             windows: W::new(),
         }
@@ -167,21 +272,22 @@ impl<W: Windows> Port<W> {
     }
 
     /// What a PLDM request is replied, behind its completion code.
-    fn serve(message: &[u8], reply: &mut Reply) -> u8 {
+    fn serve(&mut self, message: &[u8], reply: &mut Reply) -> u8 {
         let (kind, command, data) = (message[2], message[3], &message[4..]);
-        if !matches!(kind, 0 | 2 | 3) {
-            return INVALID_TYPE;
-        }
-        if kind != 0 || command != 2 && command != 4 {
-            return UNSUPPORTED_COMMAND;
-        }
-        if !data.is_empty() {
-            return INVALID_LENGTH;
-        }
-        if command == 2 {
-            reply.push(TID);
-        } else {
-            reply.extend(&TYPES);
+        match (kind, command) {
+            (0, 2 | 4) if !data.is_empty() => return INVALID_LENGTH,
+            (0, 2) => reply.push(TID),
+            (0, 4) => reply.extend(&TYPES),
+            (3, 7) => {
+                let code = self.attributes.set(data);
+                if code == 0 {
+                    reply.extend(&[0; 4]);
+                }
+                return code;
+            }
+            (3, 8) => return self.attributes.get(data, reply),
+            (0 | 2 | 3, _) => return UNSUPPORTED_COMMAND,
+            _ => return INVALID_TYPE,
         }
         0
     }
@@ -261,7 +367,7 @@ impl<W: Windows> Port<W> {
         };
         reply.extend(&[PLDM, number, message[2], message[3], NOT_READY]);
         if !is_busy {
-            let code = Self::serve(message, &mut reply);
+            let code = self.serve(message, &mut reply);
             reply.bytes[4] = code;
         }
         let length = reply.length;

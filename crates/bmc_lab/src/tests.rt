@@ -1,5 +1,4 @@
 //! Worked frames on the sample board, and what a run does where memory or a write is refused.
-mod boards;
 mod ipmb;
 mod runs;
 mod smbus;

@@ -1,4 +1,5 @@
 //! What runs write: stories, faults, refused texts and failing writers.
+mod attributes;
 mod faults;
 mod late;
 mod others;
@@ -63,6 +64,31 @@ sessions = true
 access = [2, 2]
 limit = [4, 4]
 users = [0x14, 0x14]
+[[attribute]]
+name = \"Quiet\"
+kind = \"enumeration\"
+values = [\"off\", \"on\"]
+default = [0]
+current = [0]
+readonly = false
+[[attribute]]
+name = \"Asset\"
+kind = \"string\"
+string_type = 1
+least = 0
+most = 200
+default = \"\"
+current = \"rack-1\"
+readonly = false
+[[attribute]]
+name = \"Delay\"
+kind = \"integer\"
+lower = 0
+upper = 300
+increment = 10
+default = 30
+current = 30
+readonly = false
 ";
 
 /// A plan of one step on the events of sensor 5.

@@ -1,5 +1,5 @@
--- Runs that compute, of a manager on SMBus: messages of several packets, both ways. No kind's messages on SMBus have two packets yet, so its words are a
--- stand-in's: a Get that the board knows, and a Set of four packets that it doesn't.
+-- Runs that compute, of a manager on SMBus: messages of several packets, both ways. Its words are a stand-in's: a Get that the board answers, and a Set of
+-- four packets that it refuses.
 use Rattle.std.specs.Prelude.{◌≡◌, refl, ℕ, false, List, [], ◌∷◌, ◌++◌, length, map, Some, None, slice_get, unwrap_or}
 use Rattle.two_wire.specs.declared.Bus.TheVariants as bus
 use Rattle.mctp_net.specs.declared.packet.Packet.{Packet}
@@ -68,14 +68,14 @@ abbrev pub set_mixed : List Event
 set_mixed =
     ToBmc 2 ∷ ToBmc 3 ∷ ToBmc 5 ∷ Calls Quiet ∷ ToBmc 6 ∷ other_tid 0x0B ∷ ToBmc 7 ∷ other_tid 0x0C ∷ ToBmc 8 ∷ ToBmc 5 ∷ ToBmc 9 ∷ ToMgr 12 ∷ []
 
--- thirteen frames; the board knows no such command
+-- thirteen frames; the board refuses the data, which have no transfer flag that it takes
 pub record SetsInPackets : Type 0 where
   pub taken : AllTaken stand_in board_file (set_sent ++ set_mixed) start
   pub own : AllOwn stand_in board_file (set_sent ++ set_mixed) start
   pub setting : phase_at (after set_sent) ≡ Setting 0
   pub packets : map carried_by (after set_sent).frames ≡ 4 ∷ 6 ∷ 64 ∷ 64 ∷ 64 ∷ 22 ∷ []
   pub frames : length (after (set_sent ++ set_mixed)).frames ≡ 13
-  pub phase : phase_at (after (set_sent ++ set_mixed)) ≡ Halted 0 (Refused 5)
+  pub phase : phase_at (after (set_sent ++ set_mixed)) ≡ Halted 0 (Refused 2)
   pub carried : length (after (set_sent ++ set_mixed)).smbus.log ≡ 4
 
 -- ---- a reply of two packets

@@ -1,5 +1,5 @@
 -- What a channel of a file without a fault has in its fields.
-use Rattle.std.proofs.Common.{◌≡◌, ℕ, zero, suc, ◌+◌, ◌<◌, ◌≤◌, ◌==◌, length, get_or, map, filter, subst, List, [], ◌∷◌, ◌++◌, Bool, true, false, cond, ◌&&◌, Option, Some, None, if◌then◌else◌, refl, sym, ap, ◌∙◌, arith}
+use Rattle.std.proofs.Common.{◌≡◌, ℕ, zero, suc, ◌<◌, ◌≤◌, ◌==◌, length, get_or, map, filter, subst, List, [], ◌∷◌, ◌++◌, Bool, true, false, Option, Some, None, if◌then◌else◌, refl, sym, arith}
 use Rattle.std.proofs.lemmas.Bool.{and_parts, cond_both}
 use Rattle.std.proofs.lemmas.Bool.Decides.{nat_tests}
 use Rattle.std.specs.List.{list_all, AllByRecursion}
@@ -8,7 +8,6 @@ use Rattle.toml.specs.View.{view}
 use Rattle.toml.specs.declared.value.Value.{Value}
 use Rattle.cfg_records.specs.declared.channel.ChannelNumber.{ChannelNumber}
 use Rattle.plan_file.specs.declared.field.Field.TheVariants as field
-use Rattle.plan_file.specs.declared.fault.FieldFault.{FieldFault}
 use Rattle.plan_file.specs.declared.fault.FileFault.{FileFault}
 use Rattle.plan_file.specs.declared.fault.FileFault.TheVariants as file
 use Rattle.plan_file.specs.declared.fault.Item.TheVariants as item

@@ -1,9 +1,9 @@
 -- The channels of a file that have sessions, those that have none, and what users may do on them: each has a number of its own.
-use Rattle.std.proofs.Common.{◌≡◌, ◌≢◌, ℕ, zero, suc, ◌+◌, ◌*◌, ◌<◌, ◌≤◌, length, get_or, map, filter, List, [], ◌∷◌, ◌++◌, Bool, true, false, cond, not, subst, refl, sym, ap, ◌∙◌, arith}
+use Rattle.std.proofs.Common.{◌≡◌, ◌≢◌, ℕ, zero, suc, ◌+◌, ◌*◌, ◌<◌, ◌≤◌, length, get_or, map, filter, List, [], ◌∷◌, ◌++◌, Bool, true, false, cond, subst, refl, sym, ap, ◌∙◌, arith}
 use Rattle.std.proofs.lemmas.List.{length-map, length-append, append-nil, append_assoc}
 use Rattle.std.proofs.lemmas.List.Kept.{AllPairs-cons}
 use Rattle.std.proofs.lemmas.Slice.Zip.{AllZip-long}
-use Rattle.std.specs.List.{AllZip, AllByRecursion, AllPairs}
+use Rattle.std.specs.List.{AllZip, AllByRecursion}
 use Rattle.toml.specs.Data.{Data}
 use Rattle.cfg_records.specs.declared.user.UserAccess.{UserAccess}
 use Rattle.cfg_records.specs.Distinct.{NamesDiffer}

@@ -66,7 +66,7 @@ module _ (vs : List Value) (i : ℕ) (v : Value) (within : i < length vs) (is : 
   pub taken_more : map view (take (i + 1) vs) ≡ map view (take i vs) ++ view v ∷ []
   taken_more = rw (take_more vs i v within, ← is, map-append)
 
-  left_over : map view (drop i vs) ≡ view v ∷ map view (drop (i + 1) vs)
+  pub left_over : map view (drop i vs) ≡ view v ∷ map view (drop (i + 1) vs)
   left_over = rw (drop_more vs i v within, ← is)
 
   -- one more item that was read

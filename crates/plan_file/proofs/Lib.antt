@@ -12,10 +12,12 @@ pub mod EffecterFields
 pub mod StateFields
 pub mod StateChanges
 pub mod BootSteps
+pub mod AttributeSteps
 pub mod UserSteps
 pub mod UserNames
 pub mod ChannelLists
 pub mod ChannelFields
+pub mod AttributeFields
 pub mod Changes
 pub mod Steps
 pub mod UndoLines

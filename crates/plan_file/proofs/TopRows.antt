@@ -24,6 +24,7 @@ pub record TopSound (tree : Members) : Type 0 where
   pub device : Sound tree (record { 0 = field.Device; 1 = shape.Table; 2 = need.Always })
   pub sensor : Sound tree (record { 0 = field.Sensor; 1 = shape.Tables 32; 2 = need.Never })
   pub channel : Sound tree (record { 0 = field.Channel; 1 = shape.Tables 8; 2 = need.Never })
+  pub attribute : Sound tree (record { 0 = field.Attribute; 1 = shape.Tables 64; 2 = need.Never })
   pub state : Sound tree (record { 0 = field.State; 1 = shape.Tables 32; 2 = need.Never })
   pub numeric : Sound tree (record { 0 = field.Numeric; 1 = shape.Tables 32; 2 = need.Never })
 
@@ -44,6 +45,7 @@ top_sound tree none =
       device = sound.1.1.1.1.1.1.1.1.1.1.1.0;
       sensor = sound.1.1.1.1.1.1.1.1.1.1.1.1.0;
       channel = sound.1.1.1.1.1.1.1.1.1.1.1.1.1.0;
-      state = sound.1.1.1.1.1.1.1.1.1.1.1.1.1.1.0;
-      numeric = sound.1.1.1.1.1.1.1.1.1.1.1.1.1.1.1.0;
+      attribute = sound.1.1.1.1.1.1.1.1.1.1.1.1.1.1.0;
+      state = sound.1.1.1.1.1.1.1.1.1.1.1.1.1.1.1.0;
+      numeric = sound.1.1.1.1.1.1.1.1.1.1.1.1.1.1.1.1.0;
     }

@@ -1,14 +1,11 @@
 -- What a step for a user or a channel has in its fields.
-use Rattle.std.proofs.Common.{◌≡◌, ℕ, ◌%◌, ◌<◌, nat_le, nat_lt, true, false, not, is_some, is_none, Option, Some, None, refl, sym, ap, ◌∙◌, arith, ◌==◌, ◌||◌, ◌&&◌}
+use Rattle.std.proofs.Common.{◌≡◌, ℕ, ◌%◌, ◌<◌, nat_le, nat_lt, true, false, not, is_some, is_none, Option, Some, None, refl, ap, arith}
 use Rattle.std.proofs.lemmas.Bool.{and_parts}
 use Rattle.std.proofs.lemmas.Bool.Decides.{nat_tests}
 use Rattle.cfg_records.specs.UserAccess.{is_limit}
 use Rattle.toml.specs.Data.{Data, Members}
-use Rattle.plan_file.specs.declared.field.Field.{Field}
 use Rattle.plan_file.specs.declared.field.Field.TheVariants as field
-use Rattle.plan_file.specs.declared.row.Row.{Row}
 use Rattle.plan_file.specs.declared.row.Shape.TheVariants as shape
-use Rattle.plan_file.specs.declared.row.Need.{Need}
 use Rattle.plan_file.specs.declared.row.Need.TheVariants as need
 use Rattle.plan_file.specs.Trees.{in_field, natural}
 use Rattle.plan_file.specs.Channels.{is_access}

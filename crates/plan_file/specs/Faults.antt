@@ -1,5 +1,5 @@
 -- The faults of a board file, in the order in which they count.
-use Rattle.std.specs.Prelude.{ℕ, ◌==◌, Bool, true, false, not, ◌&&◌, ◌||◌, List, [], ◌∷◌, ◌++◌, map, filter, length, Option, Some, None, if◌then◌else◌, is_some, is_none, option_and_then, codes}
+use Rattle.std.specs.Prelude.{ℕ, ◌+◌, ◌==◌, Bool, true, false, not, ◌&&◌, ◌||◌, List, [], ◌∷◌, ◌++◌, map, filter, length, Option, Some, None, if◌then◌else◌, is_some, is_none, option_and_then, codes}
 use Rattle.std.specs.List.{list_any}
 use Rattle.toml.specs.Data.{Data, Members, as_bool}
 use Rattle.plan_file.specs.declared.field.Field.{Field}
@@ -8,14 +8,14 @@ use Rattle.plan_file.specs.declared.row.Need.{Need}
 use Rattle.plan_file.specs.declared.row.Need.TheVariants as need
 use Rattle.plan_file.specs.declared.row.Row.{Row}
 use Rattle.plan_file.specs.declared.row.Shape.TheVariants as shape
-use Rattle.plan_file.specs.declared.row.TheConstants.{TOP, DEVICE, SENSOR, CHANNEL, SESSIONS, STATE, NUMERIC}
+use Rattle.plan_file.specs.declared.row.TheConstants.{TOP, DEVICE, SENSOR, CHANNEL, SESSIONS, ATTRIBUTE, ENUMERATION, STRING, INTEGER, STATE, NUMERIC}
 use Rattle.plan_file.specs.declared.fault.FieldFault.{FieldFault}
 use Rattle.plan_file.specs.declared.fault.FieldFault.TheVariants as fault
 use Rattle.plan_file.specs.declared.fault.FileFault.{FileFault}
 use Rattle.plan_file.specs.declared.fault.FileFault.TheVariants as file
 use Rattle.plan_file.specs.declared.fault.Item.{Item}
 use Rattle.plan_file.specs.declared.fault.Item.TheVariants as item
-use Rattle.plan_file.specs.Trees.{in_field, number_in, table_of, table_in, members_in}
+use Rattle.plan_file.specs.Trees.{in_field, lacks, number_in, table_of, table_in, members_in}
 use Rattle.cfg_records.specs.Sdr.{sdr_id}
 use Rattle.plan_file.specs.Ranges.{passes, has_text, has_type, is_in_range, record_in}
 
@@ -24,8 +24,9 @@ abbrev pub is_needed : Members → Need → Bool
 is_needed tree need.Always = true
 is_needed tree need.Never = false
 is_needed tree need.UnlessLeave = not (has_text field.Select (codes "leave") tree)
+is_needed tree need.WithoutValue = lacks field.Text tree && lacks field.Number tree
 is_needed tree need.WithBits = is_some (in_field field.Callback tree) || (is_some (in_field field.Link tree) || is_some (in_field field.Messaging tree))
-is_needed tree need.WithoutLimit = is_none (in_field field.Limit tree)
+is_needed tree need.WithoutLimit = lacks field.Limit tree
 
 -- the item lacks a field that it needs
 abbrev pub is_missing : Members → Row → Bool
@@ -93,6 +94,27 @@ channel_faults users ds = item_faults item.Channel (channel_rows users) field.Nu
 abbrev pub users_in : Members → ℕ
 users_in tree = length (members_in field.Users tree)
 
+-- the fields of an attribute: those of the kind that it names
+abbrev pub attribute_rows : Members → List Row
+attribute_rows tree =
+    if has_text field.Kind (codes "enumeration") tree then ENUMERATION
+    else (if has_text field.Kind (codes "string") tree then STRING
+    else (if has_text field.Kind (codes "integer") tree then INTEGER
+    else ATTRIBUTE))
+
+-- the faults of the attribute that a table is, at a place of its array
+abbrev pub attribute_faults_at : ℕ → Members → List FileFault
+attribute_faults_at place tree = map (fault_at (item.Attribute place)) (field_faults (attribute_rows tree) tree)
+
+-- the faults of the attributes that an array has, from a place on
+abbrev pub attribute_faults_from : ℕ → List Data → List FileFault
+attribute_faults_from place [] = []
+attribute_faults_from place (d ∷ ds) = attribute_faults_at place (table_of d) ++ attribute_faults_from (place + 1) ds
+
+-- the faults of the attributes that an array has
+abbrev pub attribute_faults : List Data → List FileFault
+attribute_faults ds = attribute_faults_from 0 ds
+
 -- the faults of the state effecters that an array has
 abbrev pub state_faults : List Data → List FileFault
 state_faults ds = item_faults item.State (λ tree. STATE) field.Id [] ds
@@ -121,7 +143,7 @@ abbrev pub record_faults : List Data → List FileFault
 record_faults ds = if has_twice (ids_in ds) then file.Twice (record { item = item.Top; field = field.Sdr }) ∷ [] else []
 
 -- the faults of a board file: those of its own fields, of its sensor data records, of `[device]`, of each `[[sensor]]`, of
--- each `[[channel]]`, of each `[[state]]` and of each `[[numeric]]`
+-- each `[[channel]]`, of each `[[attribute]]`, of each `[[state]]` and of each `[[numeric]]`
 unfoldable pub board_faults : Members → List FileFault
 board_faults tree =
     map (fault_at item.Top) (field_faults TOP tree)
@@ -129,8 +151,9 @@ board_faults tree =
     ++ (map (fault_at item.Device) (field_faults DEVICE (table_in field.Device tree))
     ++ (sensor_faults (members_in field.Sensor tree)
     ++ (channel_faults (users_in tree) (members_in field.Channel tree)
+    ++ (attribute_faults (members_in field.Attribute tree)
     ++ (state_faults (members_in field.State tree)
-    ++ numeric_faults (members_in field.Numeric tree))))))
+    ++ numeric_faults (members_in field.Numeric tree)))))))
 
 -- the fault that counts
 abbrev pub first : {A : Type 0} → List A → Option A

@@ -33,6 +33,7 @@ use Rattle.plan_file.specs.Trees.{members, natural, number_in, numbers_in, table
 use Rattle.plan_file.specs.Numeric.{sized_in}
 use Rattle.plan_file.specs.Users.{name_of}
 use Rattle.plan_file.specs.Ranges.{record_in, or_zero}
+use Rattle.plan_file.specs.AttributeItems.{HoldsAttributes}
 use Rattle.plan_file.specs.Faults.{has_sessions, channel_rows, item_faults, board_faults, first}
 
 -- the table has this number in the field
@@ -254,7 +255,7 @@ pub record HoldsBoard (tree : Members) (board : BoardFile) : Type 0 where
   pub channels : AllZip IsChannelIn (with_sessions (members_in field.Channel tree)) board.channels.items
   pub sessionless : AllZip IsNumberIn (without_sessions (members_in field.Channel tree)) board.sessionless.items
   pub accesses : map parts_of board.user_accesses.items ≡ accesses_in (with_sessions (members_in field.Channel tree))
-  pub no_attributes : board.attributes.items ≡ []
+  pub attributes : HoldsAttributes (members_in field.Attribute tree) board.attributes.items
 
 -- what the reading of a tree answers: the board that it holds where it has no fault, else its first fault
 abbrev pub Answers : Members → Result BoardFile FileFault → Type 0

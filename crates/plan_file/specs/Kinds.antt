@@ -6,7 +6,7 @@ use Rattle.plan_file.specs.declared.field.Field.TheVariants as field
 use Rattle.plan_file.specs.declared.row.Row.{Row}
 use Rattle.plan_file.specs.declared.kind.Kind.{Kind}
 use Rattle.plan_file.specs.declared.kind.Kind.TheVariants as kind
-use Rattle.plan_file.specs.declared.kind.TheConstants.{KINDS, THRESHOLDS, HYSTERESIS, EVENT_ENABLE, WATCHDOG, POWER_POLICY, GLOBAL_ENABLES, BOOT_PARAM, STATE_EFFECTER, NUMERIC_EFFECTER, USER_NAME, USER_ACCESS, CHANNEL_ACCESS}
+use Rattle.plan_file.specs.declared.kind.TheConstants.{KINDS, THRESHOLDS, HYSTERESIS, EVENT_ENABLE, WATCHDOG, POWER_POLICY, GLOBAL_ENABLES, BOOT_PARAM, BIOS_ATTRIBUTE, STATE_EFFECTER, NUMERIC_EFFECTER, USER_NAME, USER_ACCESS, CHANNEL_ACCESS}
 use Rattle.plan_file.specs.Ranges.{has_text}
 
 -- what a step's `kind` calls it
@@ -18,6 +18,7 @@ kind_word kind.Watchdog = codes "watchdog"
 kind_word kind.PowerPolicy = codes "power-policy"
 kind_word kind.GlobalEnables = codes "global-enables"
 kind_word kind.BootParam = codes "boot-param"
+kind_word kind.BiosAttribute = codes "bios-attribute"
 kind_word kind.StateEffecter = codes "state-effecter"
 kind_word kind.NumericEffecter = codes "numeric-effecter"
 kind_word kind.UserName = codes "user-name"
@@ -33,6 +34,7 @@ rows_of kind.Watchdog = WATCHDOG
 rows_of kind.PowerPolicy = POWER_POLICY
 rows_of kind.GlobalEnables = GLOBAL_ENABLES
 rows_of kind.BootParam = BOOT_PARAM
+rows_of kind.BiosAttribute = BIOS_ATTRIBUTE
 rows_of kind.StateEffecter = STATE_EFFECTER
 rows_of kind.NumericEffecter = NUMERIC_EFFECTER
 rows_of kind.UserName = USER_NAME

@@ -5,8 +5,10 @@ pub mod Numeric
 pub mod States
 pub mod Users
 pub mod Channels
+pub mod Attributes
 pub mod Ranges
 pub mod Faults
+pub mod AttributeItems
 pub mod Holds
 pub mod Kinds
 pub mod PlanNames

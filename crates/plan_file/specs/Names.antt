@@ -14,6 +14,7 @@ item_name item.Top = codes "top"
 item_name item.Device = codes "device"
 item_name (item.Sensor place) = codes "sensor " ++ decimal place
 item_name (item.Channel place) = codes "channel " ++ decimal place
+item_name (item.Attribute place) = codes "attribute " ++ decimal place
 item_name (item.State place) = codes "state " ++ decimal place
 item_name (item.Numeric place) = codes "numeric " ++ decimal place
 

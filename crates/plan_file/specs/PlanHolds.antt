@@ -1,7 +1,7 @@
 -- The plan that a tree holds.
-use Rattle.std.specs.Prelude.{◌≡◌, ℕ, ◌==◌, ◌+◌, ◌*◌, ◌/◌, ◌%◌, Bool, true, if◌then◌else◌, List, [], ◌∷◌, map, length, slice_get, Option, Some, None, is_some, option_and_then, Result, Ok, Err, MatchOption, codes}
+use Rattle.std.specs.Prelude.{◌≡◌, ℕ, ◌+◌, ◌*◌, ◌/◌, ◌%◌, Bool, true, if◌then◌else◌, List, [], ◌∷◌, map, length, slice_get, Option, Some, None, is_some, option_and_then, Result, Ok, Err, MatchOption, codes}
 use Rattle.std.specs.List.{AllZip}
-use Rattle.toml.specs.Data.{Data, Members, as_bool}
+use Rattle.toml.specs.Data.{Data, Members, as_bool, as_str}
 use Rattle.toml.specs.Parse.{parse_document}
 use Rattle.cfg_records.specs.Masks.{has}
 use Rattle.cfg_records.specs.declared.op.Op.{Op}
@@ -18,6 +18,10 @@ use Rattle.cfg_records.specs.declared.global_enables.SetGlobalEnables.{SetGlobal
 use Rattle.cfg_records.specs.declared.boot_param.BootChange.{BootChange}
 use Rattle.cfg_records.specs.declared.boot_param.SetBootParam.{SetBootParam}
 use Rattle.cfg_records.specs.BootParam.{selector, parameter_of, change_bytes}
+use Rattle.cfg_records.specs.declared.attribute_value.AttributeValue.{AttributeValue}
+use Rattle.cfg_records.specs.declared.attribute_value.AttributeValue.TheVariants as attribute
+use Rattle.cfg_records.specs.AttributeValue.{type_of_value, value_bytes}
+use Rattle.cfg_records.specs.declared.bios_attribute.SetBiosAttribute.{SetBiosAttribute}
 use Rattle.cfg_records.specs.declared.field_changes.FieldChange.{FieldChange}
 use Rattle.cfg_records.specs.declared.state_effecter.SetStateEffecter.{SetStateEffecter}
 use Rattle.cfg_records.specs.declared.numeric_effecter.NumericBytes.{NumericBytes}
@@ -35,7 +39,7 @@ use Rattle.plan_file.specs.declared.kind.Kind.TheVariants as kind
 use Rattle.plan_file.specs.declared.change.TheConstants.{LIMITS}
 use Rattle.plan_file.specs.declared.plan_fault.PlanFault.{PlanFault}
 use Rattle.plan_file.specs.declared.plan_fault.PlanFault.TheVariants as plan
-use Rattle.plan_file.specs.Trees.{in_field, natural, bytes_in, number_in, table_of, members_in}
+use Rattle.plan_file.specs.Trees.{in_field, bytes_in, number_in, table_of, members_in}
 use Rattle.plan_file.specs.Numeric.{sized_bytes}
 use Rattle.plan_file.specs.States.{change_of}
 use Rattle.plan_file.specs.Users.{name_of}
@@ -44,7 +48,7 @@ use Rattle.plan_file.specs.Ranges.{passes, has_text, or_zero, is_listed}
 use Rattle.plan_file.specs.Kinds.{kind_in}
 use Rattle.plan_file.specs.Faults.{first}
 use Rattle.plan_file.specs.PlanFaults.{plan_faults}
-use Rattle.plan_file.specs.Holds.{HasNumber}
+use Rattle.plan_file.specs.Holds.{HasNumber, IsNaturalIn}
 
 -- ---- thresholds
 
@@ -144,6 +148,26 @@ pub record HoldsBootParam (tree : Members) (set : SetBootParam) : Type 0 where
   pub invalid : HasFlag field.Invalid tree set.invalid
   pub change : HoldsBootChange tree set.change
 
+-- ---- BIOS attributes
+
+-- the table lacks the field
+abbrev pub Lacks : Field → Members → Type 0
+Lacks named tree = in_field named tree ≡ None
+
+-- the step gives this value of an attribute, its indexes, its text or its number, and none besides
+abbrev pub GivesValue : Members → AttributeValue → Type 0
+GivesValue tree (attribute.Indexes indexes) = AllZip IsNaturalIn (members_in field.Indexes tree) indexes × (Lacks field.Text tree × Lacks field.Number tree)
+GivesValue tree (attribute.Text text) = (option_and_then as_str (in_field field.Text tree) ≡ Some text) × (Lacks field.Indexes tree × Lacks field.Number tree)
+GivesValue tree (attribute.Number n) = HasNumber field.Number tree n × (Lacks field.Indexes tree × Lacks field.Text tree)
+
+-- the step holds a change of an attribute's value, to the one that it gives: the value's type, and its bytes
+pub record HoldsBiosAttribute (tree : Members) (set : SetBiosAttribute) : Type 0 where
+  pub handle : HasNumber field.Handle tree set.attribute
+  pub value : AttributeValue
+  pub given : GivesValue tree value
+  pub of_type : set.attribute_type ≡ type_of_value value
+  pub sent : set.value ≡ value_bytes value
+
 -- ---- state effecters
 
 -- the member of an array says what becomes of a field
@@ -196,10 +220,6 @@ pub record HoldsUserAccess (tree : Members) (set : SetUserAccess) : Type 0 where
   pub limit : HasNumber field.Limit tree set.limit
   pub session_limit : set.session_limit ≡ None
 
--- the step lacks the field
-abbrev pub Lacks : Field → Members → Type 0
-Lacks named tree = in_field named tree ≡ None
-
 -- the step says what of a channel's access and limit changes: those that it gives
 abbrev pub HoldsChannelChange : Members → ChannelChange → Type 0
 HoldsChannelChange tree (channel.Access access) = HasNumber field.Access tree access.number × Lacks field.Limit tree
@@ -223,13 +243,12 @@ HoldsStep tree (op.Watchdog set) = (kind_in tree ≡ Some kind.Watchdog) × Hold
 HoldsStep tree (op.PowerPolicy set) = (kind_in tree ≡ Some kind.PowerPolicy) × HoldsPowerPolicy tree set
 HoldsStep tree (op.GlobalEnables set) = (kind_in tree ≡ Some kind.GlobalEnables) × HoldsGlobalEnables tree set
 HoldsStep tree (op.BootParam set) = (kind_in tree ≡ Some kind.BootParam) × HoldsBootParam tree set
+HoldsStep tree (op.BiosAttribute set) = (kind_in tree ≡ Some kind.BiosAttribute) × HoldsBiosAttribute tree set
 HoldsStep tree (op.StateEffecter set) = (kind_in tree ≡ Some kind.StateEffecter) × HoldsStateEffecter tree set
 HoldsStep tree (op.NumericEffecter set) = (kind_in tree ≡ Some kind.NumericEffecter) × HoldsNumericEffecter tree set
 HoldsStep tree (op.UserName set) = (kind_in tree ≡ Some kind.UserName) × HoldsUserName tree set
 HoldsStep tree (op.UserAccess set) = (kind_in tree ≡ Some kind.UserAccess) × HoldsUserAccess tree set
 HoldsStep tree (op.ChannelAccess set) = (kind_in tree ≡ Some kind.ChannelAccess) × HoldsChannelAccess tree set
--- no kind of step changes an attribute
-HoldsStep tree (op.BiosAttribute set) = ⊥
 
 -- the member of an array holds a change
 abbrev pub IsStepIn : Data → Op → Type 0

@@ -11,6 +11,7 @@ use Rattle.cfg_records.specs.BootParam.{parameter_at}
 use Rattle.cfg_records.specs.declared.boot_param.BootParameter.{BootParameter}
 use Rattle.cfg_records.specs.declared.boot_param.BootParameter.TheVariants as parameter
 use Rattle.cfg_records.specs.Sdr.{sdr_id}
+use Rattle.cfg_records.specs.AttributeSizes.{most_indexes, most_text}
 use Rattle.hex.specs.Hex.{decode_of}
 use Rattle.hex.specs.declared.error.FromHexError.{FromHexError}
 use Rattle.toml.specs.Data.{Data, Members, as_str, as_integer, as_bool, as_table}
@@ -18,11 +19,12 @@ use Rattle.plan_file.specs.declared.field.Field.{Field}
 use Rattle.plan_file.specs.declared.field.Field.TheVariants as field
 use Rattle.plan_file.specs.declared.row.Shape.{Shape}
 use Rattle.plan_file.specs.declared.row.Shape.TheVariants as shape
-use Rattle.plan_file.specs.Trees.{in_field, members, natural, naturals_in, bytes_in, number_in, members_in, or_none}
+use Rattle.plan_file.specs.Trees.{in_field, lacks, members, natural, naturals_in, bytes_in, number_in, members_in, or_none}
 use Rattle.plan_file.specs.Numeric.{size_in, sized, sized_in, in_order}
 use Rattle.plan_file.specs.States.{change_of}
 use Rattle.plan_file.specs.Users.{name_of, are_names}
 use Rattle.plan_file.specs.Channels.{is_access, is_channel, is_user_byte, store_of}
+use Rattle.plan_file.specs.Attributes.{text_of, is_kind, are_values, are_indexes, is_as_long, is_stepped}
 
 -- the value is an integer
 abbrev pub is_integer : Data → Bool
@@ -68,6 +70,9 @@ has_type shape.Text d = is_some (as_str d)
 has_type shape.Select d = is_some (as_str d)
 has_type shape.Offsets d = is_array_of is_integer d
 has_type shape.BootData d = is_array_of is_integer d
+has_type shape.FewIndexes d = is_array_of is_integer d
+has_type shape.AttributeText d = is_text d
+has_type shape.Natural d = is_integer d
 has_type shape.Sized d = is_integer d
 has_type shape.Upper d = is_integer d
 has_type shape.Current d = is_integer d
@@ -83,6 +88,14 @@ has_type shape.ChannelNumber d = is_integer d
 has_type shape.StateLists d = is_array_of (is_array_of is_integer) d
 has_type shape.States d = is_array_of is_integer d
 has_type shape.StateChanges d = is_array_of is_integer d
+has_type shape.ShortText d = is_text d
+has_type shape.AttributeKind d = is_text d
+has_type shape.Values d = is_array_of is_text d
+has_type shape.Indexes d = is_array_of is_integer d
+has_type shape.MostLength d = is_integer d
+has_type shape.SizedText d = is_text d
+has_type shape.UpperNatural d = is_integer d
+has_type shape.Stepped d = is_integer d
 
 -- ---- ranges
 
@@ -173,6 +186,18 @@ are_boot_data parameter.Flags d = is_some (bytes_in 5 d)
 abbrev pub parameter_in : Members → Option BootParameter
 parameter_in tree = option_and_then parameter_at (number_in field.Param tree)
 
+-- the index of a possible value of an attribute, in a request
+abbrev pub is_index : Data → Bool
+is_index d = passes (is_between 0 255) (natural d)
+
+-- the indexes of an attribute's value
+abbrev pub are_few_indexes : List Data → Bool
+are_few_indexes ds = is_between 1 most_indexes (length ds) && list_all is_index ds
+
+-- a text that an attribute can have
+abbrev pub is_attribute_text : List ℕ → Bool
+is_attribute_text text = nat_le (length text) most_text
+
 -- a number, 0 where there is none
 abbrev pub or_zero : Option ℕ → ℕ
 or_zero (Some n) = n
@@ -216,6 +241,23 @@ are_present _ _ = false
 abbrev pub are_changes : List Data → Bool
 are_changes ds = is_between 1 8 (length ds) && list_all (λ d. is_some (change_of d)) ds
 
+-- a length that is the most of an item: at most 200 bytes, and not below its least
+abbrev pub is_most : Members → ℕ → Bool
+is_most tree n = passes (λ least. is_between least most_text n) (number_in field.Least tree)
+
+-- a text of a length from the item's least to its most
+abbrev pub is_sized_text : Members → List ℕ → Bool
+is_sized_text tree text = passes (λ least. passes (λ most. is_as_long least most text) (number_in field.Most tree)) (number_in field.Least tree)
+
+-- a number that is not below the item's lower bound
+abbrev pub is_upper_natural : Members → ℕ → Bool
+is_upper_natural tree n = passes (λ lower. nat_le lower n) (number_in field.Lower tree)
+
+-- a number within the item's bounds, by steps of its increment
+abbrev pub is_step : Members → ℕ → Bool
+is_step tree n =
+    passes (λ lower. passes (λ upper. passes (λ increment. is_stepped lower upper increment n) (number_in field.Increment tree)) (number_in field.Upper tree)) (number_in field.Lower tree)
+
 -- the item can have the value in a field of this shape
 abbrev pub is_in_range : Members → Shape → Data → Bool
 is_in_range tree (shape.Number least most) d = passes (is_between least most) (natural d)
@@ -237,6 +279,9 @@ is_in_range tree shape.Text d = true
 is_in_range tree shape.Select d = passes is_selection (as_str d)
 is_in_range tree shape.Offsets d = is_array_of is_offset d
 is_in_range tree shape.BootData d = passes (λ named. are_boot_data named d) (parameter_in tree)
+is_in_range tree shape.FewIndexes d = (lacks field.Text tree && lacks field.Number tree) && are_few_indexes (or_none (members d))
+is_in_range tree shape.AttributeText d = lacks field.Number tree && passes is_attribute_text (as_str d)
+is_in_range tree shape.Natural d = is_some (natural d)
 is_in_range tree shape.Sized d = passes (λ size. is_some (sized size d)) (size_in tree)
 is_in_range tree shape.Upper d = passes (λ size. in_order size (sized_in size field.Lower tree) (sized size d)) (size_in tree)
 is_in_range tree shape.Current d =
@@ -253,3 +298,11 @@ is_in_range tree shape.ChannelNumber d = passes is_channel (natural d)
 is_in_range tree shape.StateLists d = are_state_lists (or_none (members d))
 is_in_range tree shape.States d = are_present (members_in field.States tree) (or_none (members d))
 is_in_range tree shape.StateChanges d = are_changes (or_none (members d))
+is_in_range tree shape.ShortText d = is_some (text_of d)
+is_in_range tree shape.AttributeKind d = passes is_kind (as_str d)
+is_in_range tree shape.Values d = are_values (or_none (members d))
+is_in_range tree shape.Indexes d = are_indexes (length (members_in field.Values tree)) (or_none (members d))
+is_in_range tree shape.MostLength d = passes (is_most tree) (natural d)
+is_in_range tree shape.SizedText d = passes (is_sized_text tree) (as_str d)
+is_in_range tree shape.UpperNatural d = passes (is_upper_natural tree) (natural d)
+is_in_range tree shape.Stepped d = passes (is_step tree) (natural d)

@@ -1,5 +1,5 @@
 -- State effecters in plans.
-use Rattle.std.specs.Prelude.{ℕ, ◌==◌, ℤ, pos, negsuc, nat_lt, if◌then◌else◌, Option, Some, None, option_and_then}
+use Rattle.std.specs.Prelude.{◌==◌, ℤ, pos, negsuc, nat_lt, if◌then◌else◌, Option, Some, None, option_and_then}
 use Rattle.toml.specs.Data.{Data, as_integer}
 use Rattle.cfg_records.specs.declared.field_changes.FieldChange.{FieldChange}
 

@@ -1,5 +1,5 @@
 -- What the tables of a file have.
-use Rattle.std.specs.Prelude.{◌==◌, ℕ, ℤ, pos, negsuc, nat_lt, if◌then◌else◌, List, [], ◌∷◌, length, Option, Some, None, option_and_then, option_map}
+use Rattle.std.specs.Prelude.{◌==◌, ℕ, ℤ, pos, negsuc, nat_lt, if◌then◌else◌, List, [], ◌∷◌, length, Bool, Option, Some, None, is_none, option_and_then, option_map}
 use Rattle.std.specs.List.{list_all}
 use Rattle.toml.specs.Data.{Data, Items, no_items, item, Members, no_members, get_member, as_integer, as_array, as_table}
 use Rattle.plan_file.specs.declared.field.Field.{Field}
@@ -55,6 +55,10 @@ bytes_in count d = option_and_then all_bytes (naturals_in count d)
 -- what a table has in the field
 abbrev pub in_field : Field → Members → Option Data
 in_field field tree = get_member (word field) tree
+
+-- a table lacks the field
+abbrev pub lacks : Field → Members → Bool
+lacks field tree = is_none (in_field field tree)
 
 -- the number that a table has in the field
 abbrev pub number_in : Field → Members → Option ℕ

@@ -9,6 +9,7 @@ ghost use Rattle.plan_file.specs.Ranges.{is_table, record_in};
 ghost use Rattle.plan_file.specs.Faults.{field_faults, record_faults, sensor_faults, first};
 ghost use Rattle.plan_file.specs.Holds.{HasNumber, HasBelow, HoldsBoot, HoldsDevice, HoldsEvents, HoldsSensor, IsRecordIn, IsSensorIn, IsNextFault, number_of, Answers, Reads};
 
+use crate::attribute_items::attributes;
 use crate::channel_items::file_channels;
 use crate::check::check;
 use crate::effecters::numeric_effecters;
@@ -23,7 +24,7 @@ use cfg_records::event_enable::{MESSAGES_PLACE, SCANNING_PLACE};
 use cfg_records::mask::has;
 use cfg_records::{
     BoardFile, BootOptions, Device, Distinct, EventEnable, EventMasks, GlobalEnables, LogCapacity,
-    ManufacturerId, PowerPolicy, SdrRecord, SdrRecords, Sensor, Sensors,
+    ManufacturerId, Numbered, PowerPolicy, SdrRecord, SdrRecords, Sensor, Sensors,
 };
 use std::alloc::Global;
 use toml::{Table, Value};
@@ -37,7 +38,7 @@ pub fn value_in<'a>(table: &'a Table, field: Field) -> &'a Value
 }
 
 /// The number that the table has in the field.
-fn number_in(table: &Table, field: Field) -> u32
+pub fn number_in(table: &Table, field: Field) -> u32
     requires { HasBelow (2 ^ 32) field (table_view table.now) }
     ensures { HasNumber field (table_view table.now) result }
 {
@@ -231,13 +232,6 @@ fn boot_options(tree: &Table) -> BootOptions
     BootOptions::new(clearing, acknowledge, flags).unwrap()
 }
 
-/// A board file gives a board no attributes.
-fn no_items<T: Numbered + Drop, const MOST: usize>(alloc: Global) -> Distinct<T, MOST>
-    ensures { result.items ≡ [] }
-{
-    Distinct::new(Vec::new(alloc)).unwrap()
-}
-
 /// The board that the tree holds, or its first fault.
 fn board_of(alloc: Global, tree: &Table) -> Result<BoardFile, FileFault>
     ensures { (result ≡ Err FileFault.Memory) ⊎ Answers (table_view tree.now) result }
@@ -248,6 +242,7 @@ fn board_of(alloc: Global, tree: &Table) -> Result<BoardFile, FileFault>
     check(Item::Device, &DEVICE, board)?;
     let sensors = sensors(alloc, tree)?;
     let file_channels = file_channels(alloc, tree)?;
+    let attributes = attributes(alloc, tree)?;
     let state_effecters = state_effecters(alloc, tree)?;
     let numeric_effecters = numeric_effecters(alloc, tree)?;
     let users = users(alloc, tree)?;
@@ -268,12 +263,12 @@ fn board_of(alloc: Global, tree: &Table) -> Result<BoardFile, FileFault>
         channels: file_channels.channels,
         sessionless: file_channels.sessionless,
         user_accesses: file_channels.accesses,
-        attributes: no_items(alloc),
+        attributes,
     })
 }
 
 /// The board that the text holds, or why it is no board file: its first fault, in the order in which `TOP`, `DEVICE`, `SENSOR`,
-/// `STATE` and `NUMERIC` list fields. Keys that name no field are ignored.
+/// `SESSIONS`, `ENUMERATION`, `STRING`, `INTEGER`, `STATE` and `NUMERIC` list fields. Keys that name no field are ignored.
 pub fn read_board(alloc: Global, text: &str) -> Result<BoardFile, FileFault>
     ensures { (result ≡ Err FileFault.Memory) ⊎ Reads text.now result }
 {

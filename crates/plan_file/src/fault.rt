@@ -24,6 +24,8 @@ pub enum Item {
     Sensor(usize),
     /// The `[[channel]]` of this place in the file, from 0.
     Channel(usize),
+    /// The `[[attribute]]` of this place in the file, from 0.
+    Attribute(usize),
     /// The `[[state]]` of this place in the file, from 0.
     State(usize),
     /// The `[[numeric]]` of this place in the file, from 0.
@@ -66,6 +68,7 @@ impl fmt::Display for Item {
             Item::Device => f.write_str("device"),
             Item::Sensor(place) => write!(f, "sensor {place}"),
             Item::Channel(place) => write!(f, "channel {place}"),
+            Item::Attribute(place) => write!(f, "attribute {place}"),
             Item::State(place) => write!(f, "state {place}"),
             Item::Numeric(place) => write!(f, "numeric {place}"),
         }

@@ -63,6 +63,9 @@ pub enum Field {
     Param,
     Invalid,
     BootData,
+    Handle,
+    Indexes,
+    Text,
     Numeric,
     Size,
     Operational,
@@ -82,6 +85,14 @@ pub enum Field {
     Sessions,
     State,
     States,
+    Attribute,
+    Values,
+    Default,
+    StringType,
+    Least,
+    Most,
+    Increment,
+    ReadOnly,
 }
 
 impl Field {
@@ -146,6 +157,9 @@ impl Field {
             Field::Param => "param",
             Field::Invalid => "invalid",
             Field::BootData => "data",
+            Field::Handle => "handle",
+            Field::Indexes => "indexes",
+            Field::Text => "text",
             Field::Numeric => "numeric",
             Field::Size => "size",
             Field::Operational => "operational",
@@ -165,6 +179,14 @@ impl Field {
             Field::Sessions => "sessions",
             Field::State => "state",
             Field::States => "states",
+            Field::Attribute => "attribute",
+            Field::Values => "values",
+            Field::Default => "default",
+            Field::StringType => "string_type",
+            Field::Least => "least",
+            Field::Most => "most",
+            Field::Increment => "increment",
+            Field::ReadOnly => "readonly",
         }
     }
 }

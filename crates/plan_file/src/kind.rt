@@ -19,6 +19,7 @@ pub enum Kind {
     PowerPolicy,
     GlobalEnables,
     BootParam,
+    BiosAttribute,
     StateEffecter,
     NumericEffecter,
     UserName,
@@ -27,7 +28,7 @@ pub enum Kind {
 }
 
 /// All kinds of step.
-pub const KINDS: [Kind; 12] = [
+pub const KINDS: [Kind; 13] = [
     Kind::Thresholds,
     Kind::Hysteresis,
     Kind::EventEnable,
@@ -35,6 +36,7 @@ pub const KINDS: [Kind; 12] = [
     Kind::PowerPolicy,
     Kind::GlobalEnables,
     Kind::BootParam,
+    Kind::BiosAttribute,
     Kind::StateEffecter,
     Kind::NumericEffecter,
     Kind::UserName,
@@ -96,6 +98,14 @@ pub const BOOT_PARAM: [Row; 3] = [
     Row(Field::BootData, Shape::BootData, Need::Never),
 ];
 
+/// The fields of a step that sets the value of a BIOS attribute: one of the last three.
+pub const BIOS_ATTRIBUTE: [Row; 4] = [
+    Row(Field::Handle, Shape::Number(0, 0xFFFF), Need::Always),
+    Row(Field::Indexes, Shape::FewIndexes, Need::WithoutValue),
+    Row(Field::Text, Shape::AttributeText, Need::Never),
+    Row(Field::Number, Shape::Natural, Need::Never),
+];
+
 /// The fields of a step that sets states of a state effecter.
 pub const STATE_EFFECTER: [Row; 2] = [
     Row(Field::Effecter, Shape::Number(0, 0xFFFF), Need::Always),
@@ -146,6 +156,7 @@ impl Kind {
             Kind::PowerPolicy => "power-policy",
             Kind::GlobalEnables => "global-enables",
             Kind::BootParam => "boot-param",
+            Kind::BiosAttribute => "bios-attribute",
             Kind::StateEffecter => "state-effecter",
             Kind::NumericEffecter => "numeric-effecter",
             Kind::UserName => "user-name",
@@ -166,6 +177,7 @@ impl Kind {
             Kind::PowerPolicy => &POWER_POLICY,
             Kind::GlobalEnables => &GLOBAL_ENABLES,
             Kind::BootParam => &BOOT_PARAM,
+            Kind::BiosAttribute => &BIOS_ATTRIBUTE,
             Kind::StateEffecter => &STATE_EFFECTER,
             Kind::NumericEffecter => &NUMERIC_EFFECTER,
             Kind::UserName => &USER_NAME,

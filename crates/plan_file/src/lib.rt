@@ -1,6 +1,9 @@
 //! The texts of board files, of plans and of undo lists.
 #![tactic(auto)]
 
+mod attribute_items;
+mod attribute_steps;
+mod attributes;
 mod board;
 mod change;
 mod channel_items;
@@ -31,6 +34,9 @@ pub use field::Field;
 pub use kind::Kind;
 pub use plan::read_plan;
 pub use plan_fault::{NoGet, OutsidePlan, PlanFault, StepFault};
-pub use row::{CHANNEL, DEVICE, NUMERIC, Need, PLAN, Row, SENSOR, SESSIONS, STATE, Shape, TOP};
+pub use row::{
+    ATTRIBUTE, CHANNEL, DEVICE, ENUMERATION, INTEGER, NUMERIC, Need, PLAN, Row, SENSOR, SESSIONS,
+    STATE, STRING, Shape, TOP,
+};
 pub use undo_laws::one_undo_list;
 pub use undo_text::{UndoFault, push_requests, read_undo, write_undo};

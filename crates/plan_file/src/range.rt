@@ -10,6 +10,10 @@ ghost use Rattle.plan_file.specs.Trees.{members, or_none, natural, naturals_in, 
 ghost use Rattle.plan_file.specs.Ranges.{passes, is_integer, is_table, is_array_of, has_type, is_between, are_digits, is_enables_byte, are_masks, are_thresholds, are_flags, is_text, is_record, record_of, record_in, are_settings, is_selection, is_offset, are_five_bits, are_boot_data, parameter_in, is_in_range};
 ghost use Rattle.plan_file.specs.Holds.{settings};
 
+use crate::attribute_steps::{are_only_indexes, is_only_text};
+use crate::attributes::{
+    are_indexes, are_values, is_kind, is_most, is_sized_text, is_step, is_upper_natural, text,
+};
 use crate::channels::{accesses, are_user_bytes, is_access, is_channel, limits, store};
 use crate::field::Field;
 use crate::numeric::{in_order, size_in, sized, sized_in};
@@ -435,7 +439,9 @@ impl Shape {
                 are_integers(value)
             }
             Shape::Records(_) | Shape::Names => are_texts(value),
-            Shape::BootFlags | Shape::BootData => are_integers(value),
+            Shape::BootFlags | Shape::BootData | Shape::FewIndexes => are_integers(value),
+            Shape::AttributeText => value.is_str(),
+            Shape::Natural => value.is_integer(),
             Shape::Sized | Shape::Upper | Shape::Current => value.is_integer(),
             Shape::Table => value.is_table(),
             Shape::Tables(_) => are_tables(value),
@@ -446,6 +452,11 @@ impl Shape {
             Shape::Accesses | Shape::Limits | Shape::UserBytes(_) => are_integers(value),
             Shape::StateLists => are_lists(value),
             Shape::States | Shape::StateChanges => are_integers(value),
+            Shape::ShortText | Shape::AttributeKind | Shape::SizedText => value.is_str(),
+            Shape::Values => are_texts(value),
+            Shape::Indexes => are_integers(value),
+            Shape::MostLength => value.is_integer(),
+            Shape::UpperNatural | Shape::Stepped => value.is_integer(),
         }
     }
 
@@ -470,6 +481,9 @@ impl Shape {
             Shape::Select => is_selection(value),
             Shape::Offsets => are_offsets(value),
             Shape::BootData => are_boot_data(item, value),
+            Shape::FewIndexes => are_only_indexes(item, value),
+            Shape::AttributeText => is_only_text(item, value),
+            Shape::Natural => natural(value).is_some(),
             Shape::Sized => is_sized(item, value),
             Shape::Upper => is_upper(item, value),
             Shape::Current => is_current(item, value),
@@ -485,6 +499,14 @@ impl Shape {
             Shape::StateLists => are_state_lists(value),
             Shape::States => are_present(item, value),
             Shape::StateChanges => are_changes(value),
+            Shape::ShortText => text(value).is_some(),
+            Shape::AttributeKind => is_kind(value),
+            Shape::Values => are_values(value),
+            Shape::Indexes => are_indexes(item, value),
+            Shape::MostLength => is_most(item, value),
+            Shape::SizedText => is_sized_text(item, value),
+            Shape::UpperNatural => is_upper_natural(item, value),
+            Shape::Stepped => is_step(item, value),
         }
     }
 }

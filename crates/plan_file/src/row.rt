@@ -5,7 +5,7 @@ ghost use Rattle.toml.specs.View.{table_view};
 ghost use Rattle.plan_file.specs.Faults.{is_needed, session_rows};
 
 use crate::field::Field;
-use crate::tree::{has_text, in_field};
+use crate::tree::{has_text, in_field, lacks};
 use toml::Table;
 
 /// The type of a field, and its range.
@@ -45,6 +45,12 @@ pub enum Shape {
     Offsets,
     /// Bytes, in a list: data of the boot parameter that the item names.
     BootData,
+    /// 1 to 16 bytes, in a list: indexes of an attribute's possible values, where the item has neither `text` nor `number`.
+    FewIndexes,
+    /// A text of at most 200 bytes, where the item has no `number`.
+    AttributeText,
+    /// A whole number that isn't negative.
+    Natural,
     /// A whole number of the size that the item names.
     Sized,
     /// Such a number, not below the item's lower bound.
@@ -75,6 +81,22 @@ pub enum Shape {
     States,
     /// What becomes of each of 1 to 8 fields, in a list: a state, or -1 where it stays.
     StateChanges,
+    /// A text of at most 200 bytes.
+    ShortText,
+    /// A text: `enumeration`, `string` or `integer`.
+    AttributeKind,
+    /// At most 16 texts of at most 200 bytes, in a list: the possible values of an attribute.
+    Values,
+    /// Indexes of the item's values, in a list: at least one, and no more than there are values.
+    Indexes,
+    /// A length of at most 200 bytes, not below the item's least.
+    MostLength,
+    /// A text of a length from the item's least to its most.
+    SizedText,
+    /// A whole number from 0, not below the item's lower bound.
+    UpperNatural,
+    /// Such a number within the item's bounds, by steps of its increment from the lower one on where that isn't 0.
+    Stepped,
 }
 
 /// When an item needs a field.
@@ -84,6 +106,8 @@ pub enum Need {
     Never,
     /// Where its field `select` isn't the text `leave`.
     UnlessLeave,
+    /// Where it lacks the fields `text` and `number`.
+    WithoutValue,
     /// Where it has one of the fields `callback`, `link` and `messaging`.
     WithBits,
     /// Where it lacks the field `limit`.
@@ -99,12 +123,13 @@ impl Need {
             Need::Always => true,
             Need::Never => false,
             Need::UnlessLeave => !has_text(item, Field::Select, "leave"),
+            Need::WithoutValue => lacks(item, Field::Text) && lacks(item, Field::Number),
             Need::WithBits => {
                 in_field(item, Field::Callback).is_some()
                     || in_field(item, Field::Link).is_some()
                     || in_field(item, Field::Messaging).is_some()
             }
-            Need::WithoutLimit => in_field(item, Field::Limit).is_none(),
+            Need::WithoutLimit => lacks(item, Field::Limit),
         }
     }
 }
@@ -117,7 +142,7 @@ pub struct Row(pub Field, pub Shape, pub Need);
 pub const BYTE: Shape = Shape::Number(0, 255);
 
 /// A board file's own fields.
-pub const TOP: [Row; 16] = [
+pub const TOP: [Row; 17] = [
     Row(Field::Tid, BYTE, Need::Always),
     Row(Field::Clock, Shape::Number(0, 0xFFFF_FFFF), Need::Always),
     Row(Field::Log, Shape::Number(1, 1_024), Need::Always),
@@ -132,6 +157,7 @@ pub const TOP: [Row; 16] = [
     Row(Field::Device, Shape::Table, Need::Always),
     Row(Field::Sensor, Shape::Tables(32), Need::Never),
     Row(Field::Channel, Shape::Tables(8), Need::Never),
+    Row(Field::Attribute, Shape::Tables(64), Need::Never),
     Row(Field::State, Shape::Tables(32), Need::Never),
     Row(Field::Numeric, Shape::Tables(32), Need::Never),
 ];
@@ -187,6 +213,51 @@ pub fn session_rows(users: usize) -> [Row; 5]
     let users = Row(Field::Users, Shape::UserBytes(users), Need::Always);
     [number, sessions, access, limit, users]
 }
+
+/// The fields of an `[[attribute]]` whose kind isn't known.
+pub const ATTRIBUTE: [Row; 3] = [
+    Row(Field::NameText, Shape::ShortText, Need::Always),
+    Row(Field::Kind, Shape::AttributeKind, Need::Always),
+    Row(Field::ReadOnly, Shape::Flag, Need::Always),
+];
+
+/// The fields of an `[[attribute]]` that is an enumeration.
+pub const ENUMERATION: [Row; 6] = [
+    Row(Field::NameText, Shape::ShortText, Need::Always),
+    Row(Field::Kind, Shape::AttributeKind, Need::Always),
+    Row(Field::Values, Shape::Values, Need::Always),
+    Row(Field::Default, Shape::Indexes, Need::Always),
+    Row(Field::Current, Shape::Indexes, Need::Always),
+    Row(Field::ReadOnly, Shape::Flag, Need::Always),
+];
+
+/// The fields of an `[[attribute]]` that is a string.
+pub const STRING: [Row; 8] = [
+    Row(Field::NameText, Shape::ShortText, Need::Always),
+    Row(Field::Kind, Shape::AttributeKind, Need::Always),
+    Row(Field::StringType, BYTE, Need::Always),
+    Row(Field::Least, Shape::Number(0, 0xFFFF), Need::Always),
+    Row(Field::Most, Shape::MostLength, Need::Always),
+    Row(Field::Default, Shape::SizedText, Need::Always),
+    Row(Field::Current, Shape::SizedText, Need::Always),
+    Row(Field::ReadOnly, Shape::Flag, Need::Always),
+];
+
+/// The fields of an `[[attribute]]` that is an integer.
+pub const INTEGER: [Row; 8] = [
+    Row(Field::NameText, Shape::ShortText, Need::Always),
+    Row(Field::Kind, Shape::AttributeKind, Need::Always),
+    Row(Field::Lower, Shape::Natural, Need::Always),
+    Row(Field::Upper, Shape::UpperNatural, Need::Always),
+    Row(
+        Field::Increment,
+        Shape::Number(0, 0xFFFF_FFFF),
+        Need::Always,
+    ),
+    Row(Field::Default, Shape::Stepped, Need::Always),
+    Row(Field::Current, Shape::Stepped, Need::Always),
+    Row(Field::ReadOnly, Shape::Flag, Need::Always),
+];
 
 /// The fields of a `[[state]]`.
 pub const STATE: [Row; 4] = [

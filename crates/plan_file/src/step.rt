@@ -7,6 +7,7 @@ ghost use Rattle.plan_file.specs.Faults.{field_faults, first};
 ghost use Rattle.plan_file.specs.PlanFaults.{outside_word, is_outside, asks, kind_faults, step_faults};
 ghost use Rattle.plan_file.specs.PlanHolds.{HoldsStep};
 
+use crate::attribute_steps::bios_attribute;
 use crate::change::{
     boot_param, event_enable, global_enables, hysteresis, numeric_effecter, power_policy,
     thresholds, watchdog,
@@ -113,6 +114,7 @@ fn change(kind: Kind, step: &Table) -> Op
         Kind::PowerPolicy => Op::PowerPolicy(power_policy(step)),
         Kind::GlobalEnables => Op::GlobalEnables(global_enables(step)),
         Kind::BootParam => Op::BootParam(boot_param(step)),
+        Kind::BiosAttribute => Op::BiosAttribute(bios_attribute(step)),
         Kind::StateEffecter => Op::StateEffecter(state_effecter(step)),
         Kind::NumericEffecter => Op::NumericEffecter(numeric_effecter(step)),
         Kind::UserName => Op::UserName(user_name(step)),

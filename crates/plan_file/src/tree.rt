@@ -1,7 +1,7 @@
 //! What the tables of a file have.
 ghost use Rattle.std.specs.Prelude.{◌≡◌, ◌<◌, ◌^◌, length, map, option_map, option_and_then};
 ghost use Rattle.toml.specs.View.{view, table_view};
-ghost use Rattle.plan_file.specs.Trees.{in_field, members, or_none, natural, naturals, naturals_in, all_bytes, bytes_in, number_in, members_in};
+ghost use Rattle.plan_file.specs.Trees.{in_field, lacks, members, or_none, natural, naturals, naturals_in, all_bytes, bytes_in, number_in, members_in};
 ghost use Rattle.plan_file.specs.Ranges.{has_text};
 
 use crate::field::Field;
@@ -12,6 +12,13 @@ pub fn in_field<'a>(table: &'a Table, field: Field) -> Option<&'a Value>
     ensures { option_map (λ v. view v.now) result ≡ in_field field (table_view table.now) }
 {
     table.get(field.word())
+}
+
+/// Whether the table lacks the field.
+pub fn lacks(table: &Table, field: Field) -> bool
+    ensures { result ≡ lacks field (table_view table.now) }
+{
+    in_field(table, field).is_none()
 }
 
 /// The members of the array that the value is.

@@ -1,4 +1,6 @@
 //! What the three texts hold, and their faults.
+mod attribute_items;
+mod attributes;
 mod board;
 mod channels;
 mod effecters;

@@ -6,7 +6,7 @@ ghost use Rattle.cfg_records.specs.Boards.{pairs_of};
 ghost use Rattle.cfg_records.specs.Meaning.{room_for};
 ghost use Rattle.cfg_records.specs.declared.message.Answered.{Answered as Reply};
 ghost use Rattle.bmc_board.specs.Gives.{Gives};
-ghost use Rattle.bmc_board.specs.Request.{key_in};
+ghost use Rattle.bmc_board.specs.Request.{key_in, op_in};
 ghost use Rattle.bmc_board.specs.Replies.{done, unknown_code};
 ghost use Rattle.bmc_board.specs.Sensing.{value_at};
 
@@ -84,6 +84,26 @@ fn key_in(command: GetCommand, body: &[u8]) -> Key
         GetUserName => Key::UserName(UserNumber::of(byte_at(body, 0))),
         GetUserAccess => Key::UserAccess(UserOnChannel::of(byte_at(body, 0), byte_at(body, 1))),
         GetChannelAccess => Key::ChannelAccess(stored_in(body)),
+    }
+}
+
+/// The operation that a command carries out.
+#[inline(always)]
+fn op_in(command: SetCommand, body: &[u8]) -> Op
+    ensures { result ≡ op_in command body.now }
+{
+    use SetCommand::*;
+    match command {
+        SetSensorHysteresis => Op::Hysteresis(hysteresis::hysteresis_in(body)),
+        SetSensorThresholds => Op::Thresholds(thresholds::thresholds_in(body)),
+        SetSensorEventEnable => Op::EventEnable(event_enable::event_enable_in(body)),
+        SetPowerRestorePolicy => Op::PowerPolicy(power_policy::policy_in(body)),
+        SetWatchdogTimer => Op::Watchdog(watchdog::watchdog_in(body)),
+        SetGlobalEnables => Op::GlobalEnables(global_enables::enables_in(body)),
+        SetNumericEffecterValue => Op::NumericEffecter(numeric::numeric_effecter_in(body)),
+        SetStateEffecterStates => Op::StateEffecter(state::state_effecter_in(body)),
+        SetUserName => Op::UserName(user_name::name_in(body)),
+        SetUserAccess => Op::UserAccess(user_access::access_in(body)),
     }
 }
 
@@ -337,7 +357,8 @@ impl<S: Store> Board<S> {
         }
     }
 
-    /// Carries out a command that changes a record. The operation is made here, of the data, and stays here.
+    /// Carries out a command that changes a record. The operation is made here, once for all kinds, and stays here: an operation has
+    /// room for that of the bulkiest kind, and a function fills each of its own with zeros.
     #[inline(never)]
     fn change<B: Buffer>(
         &mut self,
@@ -350,25 +371,7 @@ impl<S: Store> Board<S> {
         ensures left { state_of S.records self.new ≡ (serve_of self.old.setup (state_of S.records self.old) (request.Set (op_in command body.now))).1 }
         ensures setup { self.new.setup ≡ self.old.setup }
     {
-        use SetCommand::*;
-        match command {
-            SetSensorHysteresis => self.set(&Op::Hysteresis(hysteresis::hysteresis_in(body)), to),
-            SetSensorThresholds => self.set(&Op::Thresholds(thresholds::thresholds_in(body)), to),
-            SetSensorEventEnable => {
-                self.set(&Op::EventEnable(event_enable::event_enable_in(body)), to)
-            }
-            SetPowerRestorePolicy => self.set(&Op::PowerPolicy(power_policy::policy_in(body)), to),
-            SetWatchdogTimer => self.set(&Op::Watchdog(watchdog::watchdog_in(body)), to),
-            SetGlobalEnables => self.set(&Op::GlobalEnables(global_enables::enables_in(body)), to),
-            SetNumericEffecterValue => {
-                self.set(&Op::NumericEffecter(numeric::numeric_effecter_in(body)), to)
-            }
-            SetStateEffecterStates => {
-                self.set(&Op::StateEffecter(state::state_effecter_in(body)), to)
-            }
-            SetUserName => self.set(&Op::UserName(user_name::name_in(body)), to),
-            SetUserAccess => self.set(&Op::UserAccess(user_access::access_in(body)), to),
-        }
+        self.set(&op_in(command, body), to)
     }
 
     /// Carries out Set System Boot Options.

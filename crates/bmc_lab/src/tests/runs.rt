@@ -40,21 +40,46 @@ fn new_paper(alloc: Global, left: Option<usize>) -> Paper {
     }
 }
 
-/// A run writes this text and nothing else, and ends so.
+/// What a run writes to its output and its error, and with which status it ends.
+#[derive(Drop)]
+struct Run {
+    out: Vec<u8>,
+    err: Vec<u8>,
+    status: u8,
+}
+
+/// The run of a frame in hexadecimal on a board; its output fails behind so many calls, if it does.
+fn run_of(
+    alloc: Global,
+    bus: Bus,
+    file: Option<&str>,
+    digits: &str,
+    left: Option<usize>,
+) -> Result<Run, Fail> {
+    let bytes = hex::decode(alloc, digits)?;
+    let mut console = Console::new(new_paper(alloc, left), new_paper(alloc, None));
+    let status = frame_run(alloc, bus, file, bytes.as_slice(), &mut console);
+    Ok(Run {
+        out: console.out.text,
+        err: console.err.text,
+        status,
+    })
+}
+
+/// A run on the board of the file writes this text and nothing else, and ends so.
 fn expect_run(
     rt: &impl Abort,
     alloc: Global,
     bus: Bus,
+    file: Option<&str>,
     digits: &str,
     text: &str,
     status: u8,
 ) -> Result<(), Fail> {
-    let bytes = hex::decode(alloc, digits)?;
-    let mut console = Console::new(new_paper(alloc, None), new_paper(alloc, None));
-    let ended = frame_run(alloc, bus, None, bytes.as_slice(), &mut console);
-    assert_eq!(rt; ended, status, "{digits}");
-    assert_eq!(rt; console.out.text.as_slice(), text.as_bytes(), "{digits}");
-    assert!(rt; console.err.text.is_empty(), "{digits}");
+    let run = run_of(alloc, bus, file, digits, None)?;
+    assert_eq!(rt; run.status, status, "{digits}");
+    assert_eq!(rt; run.out.as_slice(), text.as_bytes(), "{digits}");
+    assert!(rt; run.err.is_empty(), "{digits}");
     Ok(())
 }
 
@@ -110,7 +135,7 @@ fn a_run_says_what_was_sent_or_why_nothing_was(rt: HostRuntime) -> Result<(), Fa
         (Bus::Smbus, "200F0931010A08C801800002BF", "ignored Pec\n", 1),
         (Bus::Smbus, set, "ignored NotMctp\n", 1),
     ] {
-        expect_run(&rt, rt.alloc(), bus, digits, text, status)?;
+        expect_run(&rt, rt.alloc(), bus, None, digits, text, status)?;
     }
     Ok(())
 }
@@ -163,6 +188,31 @@ sessions = true
 access = [2, 2]
 limit = [4, 4]
 users = [0x14, 0x14]
+[[attribute]]
+name = \"Quiet\"
+kind = \"enumeration\"
+values = [\"off\", \"on\"]
+default = [0]
+current = [0]
+readonly = false
+[[attribute]]
+name = \"Asset\"
+kind = \"string\"
+string_type = 1
+least = 0
+most = 200
+default = \"\"
+current = \"rack-1\"
+readonly = false
+[[attribute]]
+name = \"Delay\"
+kind = \"integer\"
+lower = 0
+upper = 300
+increment = 10
+default = 30
+current = 30
+readonly = false
 ";
 
 /// The sample board's file, with the first such words in place of others.
@@ -172,6 +222,23 @@ fn changed(alloc: Global, old: &str, new: &str) -> Result<String, Fail> {
     text.push_str(new)?;
     text.push_str(back)?;
     Ok(text)
+}
+
+/// A run on the board of the file writes what it writes on the sample board.
+fn expect_same(
+    rt: &impl Abort,
+    alloc: Global,
+    bus: Bus,
+    file: &str,
+    digits: &str,
+) -> Result<(), Fail> {
+    let given = run_of(alloc, bus, Some(file), digits, None)?;
+    let left_out = run_of(alloc, bus, None, digits, None)?;
+    assert_eq!(rt; given.status, 0, "{digits}");
+    assert_eq!(rt; left_out.status, 0, "{digits}");
+    assert_eq!(rt; given.out.as_slice(), left_out.out.as_slice(), "{digits}");
+    assert!(rt; given.err.is_empty(), "{digits}");
+    Ok(())
 }
 
 #[test]
@@ -184,18 +251,10 @@ fn sample_file_is_answered_for_as_the_sample_board(rt: HostRuntime) -> Result<()
         (Bus::Ipmb, "2010D02C0C27059C"),
         (Bus::Ipmb, "2010D02C08260510000000005A0037"),
         (Bus::Smbus, "200F0931010A08C801800002BE"),
+        // The name of the asset.
+        (Bus::Smbus, "200F1031010A08C801800308000000000101000B"),
     ] {
-        let bytes = hex::decode(rt.alloc(), digits)?;
-        let mut given = Console::new(new_paper(rt.alloc(), None), new_paper(rt.alloc(), None));
-        let mut left_out = Console::new(new_paper(rt.alloc(), None), new_paper(rt.alloc(), None));
-        let file = Some(SAMPLE);
-        let ended = frame_run(rt.alloc(), bus, file, bytes.as_slice(), &mut given);
-        let other = frame_run(rt.alloc(), bus, None, bytes.as_slice(), &mut left_out);
-        assert_eq!(rt; ended, 0, "{digits}");
-        assert_eq!(rt; other, 0, "{digits}");
-        let text = left_out.out.text.as_slice();
-        assert_eq!(rt; given.out.text.as_slice(), text, "{digits}");
-        assert!(rt; given.err.text.is_empty(), "{digits}");
+        expect_same(&rt, rt.alloc(), bus, SAMPLE, digits)?;
     }
     Ok(())
 }
@@ -203,15 +262,17 @@ fn sample_file_is_answered_for_as_the_sample_board(rt: HostRuntime) -> Result<()
 #[test]
 fn board_of_the_file_is_the_one_that_answers(rt: HostRuntime) -> Result<(), Fail> {
     // Get Device ID shows the file's device.
-    let bytes = hex::decode(rt.alloc(), "2018C82C0001D3")?;
     let file = changed(rt.alloc(), "id = 0x20", "id = 0x21")?;
-    let mut console = Console::new(new_paper(rt.alloc(), None), new_paper(rt.alloc(), None));
-    let file = Some(file.as_str());
-    let ended = frame_run(rt.alloc(), Bus::Ipmb, file, bytes.as_slice(), &mut console);
-    assert_eq!(rt; ended, 0);
-    let line = b"2C1CB820000100210101050207CDAB003412F0\n";
-    assert_eq!(rt; console.out.text.as_slice(), line.as_slice());
-    Ok(())
+    let (get, line) = ("2018C82C0001D3", "2C1CB820000100210101050207CDAB003412F0\n");
+    expect_run(
+        &rt,
+        rt.alloc(),
+        Bus::Ipmb,
+        Some(file.as_str()),
+        get,
+        line,
+        0,
+    )
 }
 
 #[test]
@@ -242,13 +303,31 @@ fn numeric_effecter_of_the_file_is_served_over_smbus(rt: HostRuntime) -> Result<
             "300F0A2101080AC00100023280B8\n",
         ),
     ] {
-        let bytes = hex::decode(rt.alloc(), digits)?;
-        let mut console = Console::new(new_paper(rt.alloc(), None), new_paper(rt.alloc(), None));
         let file = Some(file.as_str());
-        let ended = frame_run(rt.alloc(), Bus::Smbus, file, bytes.as_slice(), &mut console);
-        assert_eq!(rt; ended, 0, "{digits}");
-        assert_eq!(rt; console.out.text.as_slice(), line.as_bytes(), "{digits}");
+        expect_run(&rt, rt.alloc(), Bus::Smbus, file, digits, line, 0)?;
     }
+    Ok(())
+}
+
+/// With such words in place of others, the sample board's file is refused with this line.
+fn expect_refused(
+    rt: &impl Abort,
+    alloc: Global,
+    old: &str,
+    new: &str,
+    line: &str,
+) -> Result<(), Fail> {
+    let file = changed(alloc, old, new)?;
+    let run = run_of(
+        alloc,
+        Bus::Ipmb,
+        Some(file.as_str()),
+        "2018C82C0001D3",
+        None,
+    )?;
+    assert_eq!(rt; run.status, 3, "{new}");
+    assert_eq!(rt; run.err.as_slice(), line.as_bytes(), "{new}");
+    assert!(rt; run.out.is_empty(), "{new}");
     Ok(())
 }
 
@@ -261,14 +340,7 @@ fn file_without_a_board_is_refused_by_its_first_fault(rt: HostRuntime) -> Result
         ("id = 0x20", "id = true", "board WrongType device id\n"),
         ("tid = 5", "tid = ", "board Text\n"),
     ] {
-        let bytes = hex::decode(rt.alloc(), "2018C82C0001D3")?;
-        let file = changed(rt.alloc(), old, new)?;
-        let mut console = Console::new(new_paper(rt.alloc(), None), new_paper(rt.alloc(), None));
-        let file = Some(file.as_str());
-        let ended = frame_run(rt.alloc(), Bus::Ipmb, file, bytes.as_slice(), &mut console);
-        assert_eq!(rt; ended, 3, "{new}");
-        assert_eq!(rt; console.err.text.as_slice(), line.as_bytes(), "{new}");
-        assert!(rt; console.out.text.is_empty(), "{new}");
+        expect_refused(&rt, rt.alloc(), old, new, line)?;
     }
     Ok(())
 }
@@ -284,24 +356,32 @@ fn file_that_is_not_read_is_named(rt: HostRuntime) -> Result<(), Fail> {
     Ok(())
 }
 
+/// A run whose output fails behind so many calls writes so many bytes of its line, and ends so.
+fn expect_cut(
+    rt: &impl Abort,
+    alloc: Global,
+    left: usize,
+    written: usize,
+    status: u8,
+) -> Result<(), Fail> {
+    let set = "2010D02C08260510000000005A0037";
+    let run = run_of(alloc, Bus::Ipmb, None, set, Some(left))?;
+    let line = b"2C14C020082600B2\n";
+    assert_eq!(rt; run.status, status, "with {left} calls");
+    assert_eq!(rt;
+        run.out.as_slice(),
+        line.get(..written).ok_or("line")?,
+        "with {left} calls"
+    );
+    assert!(rt; run.err.is_empty(), "with {left} calls");
+    Ok(())
+}
+
 #[test]
 fn a_write_that_fails_ends_a_run_with_6_and_is_not_repeated(rt: HostRuntime) -> Result<(), Fail> {
-    let bytes = hex::decode(rt.alloc(), "2010D02C08260510000000005A0037")?;
-    let line = b"2C14C020082600B2\n";
     // The line of 17 bytes takes three calls of a writer that takes 7 at a time.
     for (left, written, status) in [(0, 0, 6), (1, 7, 6), (2, 14, 6), (3, 17, 0)] {
-        let mut console = Console::new(
-            new_paper(rt.alloc(), Some(left)),
-            new_paper(rt.alloc(), None),
-        );
-        let ended = frame_run(rt.alloc(), Bus::Ipmb, None, bytes.as_slice(), &mut console);
-        assert_eq!(rt; ended, status, "with {left} calls");
-        assert_eq!(rt;
-            console.out.text.as_slice(),
-            &line[..written],
-            "with {left} calls"
-        );
-        assert!(rt; console.err.text.is_empty(), "with {left} calls");
+        expect_cut(&rt, rt.alloc(), left, written, status)?;
     }
     Ok(())
 }

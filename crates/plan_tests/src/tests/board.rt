@@ -6,7 +6,7 @@ use std::alloc::{AllocError, Global};
 use std::test::Fail;
 
 /// The sample board.
-const SAMPLE: &str = "tid = 5
+pub(super) const SAMPLE: &str = "tid = 5
 clock = 0
 log = 2
 enables = 0x08
@@ -53,6 +53,31 @@ sessions = true
 access = [2, 2]
 limit = [4, 4]
 users = [0x14, 0x14]
+[[attribute]]
+name = \"Quiet\"
+kind = \"enumeration\"
+values = [\"off\", \"on\"]
+default = [0]
+current = [0]
+readonly = false
+[[attribute]]
+name = \"Asset\"
+kind = \"string\"
+string_type = 1
+least = 0
+most = 200
+default = \"\"
+current = \"rack-1\"
+readonly = false
+[[attribute]]
+name = \"Delay\"
+kind = \"integer\"
+lower = 0
+upper = 300
+increment = 10
+default = 30
+current = 30
+readonly = false
 ";
 
 /// A row for each field: its place in faults, its line in the sample board's file, a line of another type, two that are beyond its range,

@@ -1,14 +1,15 @@
 //! State effecters, over PLDM.
-use crate::tests::effecters::{asked, board_with};
-use bmc_board::{Board, changing};
+use super::changes::{Change, expect_changes};
+use super::story::{Step, board_of, expect_settings, expect_story, platform};
+use bmc_board::Board;
 use cfg_records::{
-    Answered, Distinct, FieldChange, FieldChanges, Items, Op, PlainStore, RecordKind,
-    SetStateEffecter, StateEffecter, StateField,
+    Asked, BoardFile, Distinct, FieldChange, FieldChanges, Items, Op, RecordKind, SetStateEffecter,
+    StateEffecter, StateField, Store, sample_board,
 };
 use effecter_recs::StateLimits;
-use record_kinds::Limits;
 use std::alloc::Global;
 use std::test::Fail;
+use two_wire::Below;
 
 /// A field that can be in these states, and is in this one.
 fn field(alloc: Global, states: &[u8], current: u8) -> Result<StateField, Fail> {
@@ -20,7 +21,7 @@ fn field(alloc: Global, states: &[u8], current: u8) -> Result<StateField, Fail> 
 }
 
 /// The sample board with two state effecters: 9 of two fields, and 10 of one, which is disabled.
-fn board(alloc: Global) -> Result<Board<PlainStore>, Fail> {
+fn file(alloc: Global) -> Result<BoardFile, Fail> {
     let mut two = Vec::new(alloc);
     two.push(field(alloc, &[1, 2], 1)?)?;
     two.push(field(alloc, &[1, 2, 3], 1)?)?;
@@ -29,9 +30,10 @@ fn board(alloc: Global) -> Result<Board<PlainStore>, Fail> {
     let mut effecters = Vec::new(alloc);
     effecters.push(StateEffecter::new(9, true, two).ok_or("9")?)?;
     effecters.push(StateEffecter::new(10, false, one).ok_or("10")?)?;
-    let numeric = Distinct::new(Vec::new(alloc)).ok_or("none")?;
-    let state = Distinct::new(effecters).ok_or("effecters")?;
-    board_with(alloc, numeric, state)
+    Ok(BoardFile {
+        state_effecters: Distinct::new(effecters).ok_or("effecters")?,
+        ..sample_board(alloc)?
+    })
 }
 
 /// These changes of an effecter's two fields.
@@ -57,109 +59,87 @@ fn left() -> FieldChange {
 
 #[test]
 fn a_field_of_a_state_effecter_is_set(rt: HostRuntime) -> Result<(), Fail> {
-    let mut board = board(rt.alloc())?;
-    let set = asked(0x39, &[0x09, 0x00, 0x02, 0x01, 0x02, 0x00, 0x00]).ok_or("set")?;
-    assert!(rt; changing(&set));
-    assert!(rt; board.answer(&set).is(&Answered::done(&[])));
-    let get = asked(0x3A, &[0x09, 0x00]).ok_or("get")?;
-    assert!(rt; !changing(&get));
-    let shown = Answered::done(&[0x02, 0x01, 0x02, 0x02, 0x01, 0x01, 0x01]);
-    assert!(rt; board.answer(&get).is(&shown));
-    let beyond = asked(0x39, &[0x09, 0x00, 0x02, 0x00, 0x00, 0x01, 0x04]).ok_or("beyond")?;
-    assert_eq!(rt; board.answer(&beyond).code, 0x81);
-    assert!(rt; board.answer(&get).is(&shown));
-    Ok(())
+    let set = sets(&[0x09, 0x00, 0x02, 0x01, 0x02, 0x00, 0x00], 0x00);
+    let shown = &[0x02, 0x01, 0x02, 0x02, 0x01, 0x01, 0x01];
+    let get = platform(0x3A, &[0x09, 0x00], 0x00, shown);
+    let beyond = sets(&[0x09, 0x00, 0x02, 0x00, 0x00, 0x01, 0x04], 0x81);
+    expect_settings(&rt, &[(set, true), (get, false)])?;
+    expect_story(&rt, rt.alloc(), file(rt.alloc())?, &[set, get, beyond, get])
+}
+
+/// A Set of states, and its code.
+fn sets(body: &'static [u8], code: u8) -> Step {
+    platform(0x39, body, code, &[])
 }
 
 #[test]
 fn a_state_effecter_refuses_in_order(rt: HostRuntime) -> Result<(), Fail> {
-    let mut board = board(rt.alloc())?;
-    for (command, body, code) in [
+    let story = [
         // Not as many bytes as the count tells, before the effecter is looked for.
-        (0x39, &[][..], 0x03),
-        (0x39, &[0x08, 0x00], 0x03),
-        (0x39, &[0x08, 0x00, 0x01], 0x03),
-        (0x39, &[0x09, 0x00, 0x02, 0x01, 0x02, 0x00], 0x03),
-        (
-            0x39,
-            &[0x09, 0x00, 0x02, 0x01, 0x02, 0x00, 0x00, 0x00],
-            0x03,
-        ),
-        (0x39, &[0x08, 0x00, 0x01, 0x02, 0x01], 0x80),
-        (0x39, &[0x09, 0x01, 0x01, 0x01, 0x01], 0x80),
+        sets(&[], 0x03),
+        sets(&[0x08, 0x00], 0x03),
+        sets(&[0x08, 0x00, 0x01], 0x03),
+        sets(&[0x09, 0x00, 0x02, 0x01, 0x02, 0x00], 0x03),
+        sets(&[0x09, 0x00, 0x02, 0x01, 0x02, 0x00, 0x00, 0x00], 0x03),
+        sets(&[0x08, 0x00, 0x01, 0x02, 0x01], 0x80),
+        sets(&[0x09, 0x01, 0x01, 0x01, 0x01], 0x80),
         // Another number of fields: the effecter has two.
-        (0x39, &[0x09, 0x00, 0x00], 0x02),
-        (0x39, &[0x09, 0x00, 0x01, 0x01, 0x01], 0x02),
-        (
-            0x39,
+        sets(&[0x09, 0x00, 0x00], 0x02),
+        sets(&[0x09, 0x00, 0x01, 0x01, 0x01], 0x02),
+        sets(
             &[0x09, 0x00, 0x03, 0x01, 0x01, 0x01, 0x01, 0x01, 0x01],
             0x02,
         ),
         // Neither set nor left, in the second field, before the state of the first.
-        (0x39, &[0x09, 0x00, 0x02, 0x00, 0x00, 0x02, 0x01], 0x02),
-        (0x39, &[0x09, 0x00, 0x02, 0x01, 0x04, 0x02, 0x01], 0x02),
-        (0x39, &[0x09, 0x00, 0x02, 0x01, 0x03, 0x01, 0x03], 0x81),
+        sets(&[0x09, 0x00, 0x02, 0x00, 0x00, 0x02, 0x01], 0x02),
+        sets(&[0x09, 0x00, 0x02, 0x01, 0x04, 0x02, 0x01], 0x02),
+        sets(&[0x09, 0x00, 0x02, 0x01, 0x03, 0x01, 0x03], 0x81),
         // The state of a field that is left isn't looked at.
-        (0x39, &[0x09, 0x00, 0x02, 0x00, 0xFF, 0x01, 0x03], 0x00),
+        sets(&[0x09, 0x00, 0x02, 0x00, 0xFF, 0x01, 0x03], 0x00),
         // Disabled: before the state, and only where a field is set.
-        (0x39, &[0x0A, 0x00, 0x01, 0x01, 0x01], 0x02),
-        (0x39, &[0x0A, 0x00, 0x01, 0x01, 0x07], 0x02),
-        (0x39, &[0x0A, 0x00, 0x01, 0x00, 0x07], 0x00),
-        (0x3A, &[0x09], 0x03),
-        (0x3A, &[0x09, 0x00, 0x00], 0x03),
-        (0x3A, &[0x09, 0x01], 0x80),
-    ] {
-        let asked = asked(command, body).ok_or("request")?;
-        assert_eq!(rt; board.answer(&asked).code, code, "{command} {body:?}");
-    }
-    Ok(())
+        sets(&[0x0A, 0x00, 0x01, 0x01, 0x01], 0x02),
+        sets(&[0x0A, 0x00, 0x01, 0x01, 0x07], 0x02),
+        sets(&[0x0A, 0x00, 0x01, 0x00, 0x07], 0x00),
+        platform(0x3A, &[0x09], 0x03, &[]),
+        platform(0x3A, &[0x09, 0x00, 0x00], 0x03, &[]),
+        platform(0x3A, &[0x09, 0x01], 0x80, &[]),
+    ];
+    expect_story(&rt, rt.alloc(), file(rt.alloc())?, &story)
+}
+
+/// The code of a Set of 124 fields of this effecter, as many as a message holds.
+fn code_of_many<S: Store>(board: &mut Board<S>, effecter: u8) -> u8 {
+    let mut body = [0; 251];
+    body[0] = effecter;
+    body[2] = 124;
+    board.answer(&Asked::pldm(Below::new(2), 0x39, &body)).code
 }
 
 #[test]
 fn more_fields_than_an_effecter_can_have_are_refused(rt: HostRuntime) -> Result<(), Fail> {
-    let mut board = board(rt.alloc())?;
-    // 124 fields, as many as a message holds.
-    let mut body = [0; 251];
-    body[0] = 0x09;
-    body[2] = 124;
-    let many = asked(0x39, &body).ok_or("many")?;
-    assert_eq!(rt; board.answer(&many).code, 0x02);
-    body[0] = 0x08;
-    let unknown = asked(0x39, &body).ok_or("unknown")?;
-    assert_eq!(rt; board.answer(&unknown).code, 0x80);
+    let mut board = board_of(rt.alloc(), file(rt.alloc())?)?;
+    assert_eq!(rt; code_of_many(&mut board, 9), 0x02);
+    assert_eq!(rt; code_of_many(&mut board, 8), 0x80);
     Ok(())
 }
 
 #[test]
 fn a_disabled_state_effecter_shows_that_it_is(rt: HostRuntime) -> Result<(), Fail> {
-    let mut board = board(rt.alloc())?;
-    let get = asked(0x3A, &[0x0A, 0x00]).ok_or("get")?;
-    assert!(rt;
-        board
-            .answer(&get)
-            .is(&Answered::done(&[0x01, 0x02, 0x02, 0x02]))
-    );
-    Ok(())
+    let get = platform(0x3A, &[0x0A, 0x00], 0x00, &[0x01, 0x02, 0x02, 0x02]);
+    expect_story(&rt, rt.alloc(), file(rt.alloc())?, &[get])
 }
 
 #[test]
 fn a_change_of_a_state_effecter_is_undone(rt: HostRuntime) -> Result<(), Fail> {
-    let mut board = board(rt.alloc())?;
     let op = Op::StateEffecter(set(9, left(), to(3)));
-    let got = board.answer(&Limits::get_asked(&Limits::key(&op)));
-    let shown = [0x02, 0x01, 0x01, 0x01, 0x01, 0x01, 0x01];
-    assert!(rt; got.is(&Answered::done(&shown)));
-    assert_eq!(rt; board.answer(&Limits::set_asked(&op)).code, 0);
-    let changed = board.answer(&Limits::get_asked(&Limits::key(&op)));
-    let now = [0x02, 0x01, 0x01, 0x01, 0x01, 0x03, 0x03];
-    assert!(rt; changed.is(&Answered::done(&now)));
-    let undo = Limits::inverse(&op, got.body.as_slice()).ok_or("an inverse")?;
-    let sent = asked(0x39, &[0x09, 0x00, 0x02, 0x00, 0x00, 0x01, 0x01]).ok_or("sent")?;
-    assert!(rt; Limits::set_asked(&undo).is(&sent));
-    assert_eq!(rt; board.answer(&sent).code, 0);
-    let back = board.answer(&Limits::get_asked(&Limits::key(&op)));
-    assert!(rt; back.is(&Answered::done(&shown)));
-    Ok(())
+    let change = Change {
+        op: &op,
+        data: &[0x09, 0x00, 0x02, 0x00, 0x00, 0x01, 0x03],
+        before: &[0x02, 0x01, 0x01, 0x01, 0x01, 0x01, 0x01],
+        after: &[0x02, 0x01, 0x01, 0x01, 0x01, 0x03, 0x03],
+        undo: &[0x09, 0x00, 0x02, 0x00, 0x00, 0x01, 0x01],
+    };
+    expect_changes(&rt, rt.alloc(), file(rt.alloc())?, &[change])
 }
 
 #[test]

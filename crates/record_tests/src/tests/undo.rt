@@ -1,4 +1,5 @@
 //! A change and its undo, on the sample board.
+use super::story::{application, board_of, expect_sample, expect_told, sensor};
 use bmc_board::{Board, Lengths};
 use cfg_records::{
     AccessStore, Answered, Asked, BootChange, BootFlags, BootParameter, ChannelChange,
@@ -11,14 +12,6 @@ use record_kinds::Limits;
 use std::alloc::Global;
 use std::process::Abort;
 use std::test::Fail;
-use two_wire::{NetFn, code};
-
-/// A fresh sample board.
-fn board(alloc: Global) -> Result<Board<PlainStore>, Fail> {
-    let file = sample_board(alloc)?;
-    let store = PlainStore::of_file(alloc, &file)?;
-    Ok(Board::open(alloc, file, store)?)
-}
 
 /// The IPMI request, from this requester.
 fn sent_by(requester: u8, asked: Asked) -> Asked {
@@ -79,6 +72,27 @@ fn expect_undone<S: Store>(
     Ok(())
 }
 
+/// A change, and what a Get replies before it and in between.
+type Undone<'a> = (&'a Op, &'a [u8], &'a [u8]);
+
+/// A fresh sample board carries out the operation that comes first, and then each change, which is undone.
+fn expect_all_undone(
+    rt: &impl Abort,
+    alloc: Global,
+    first: &Op,
+    changes: &[Undone<'_>],
+) -> Result<(), Fail> {
+    let mut board = board_of(alloc, sample_board(alloc)?)?;
+    assert_eq!(rt; set(&mut board, 0x2C, first), 0);
+    for (op, before, between) in changes {
+        expect_undone(rt, &mut board, op, before, between)?;
+    }
+    Ok(())
+}
+
+/// The policy that the sample board has.
+const KEPT: Op = Op::PowerPolicy(SetPowerPolicy { policy: 1 });
+
 #[test]
 fn a_change_is_undone(rt: HostRuntime) -> Result<(), Fail> {
     let thresholds = Op::Thresholds(SetThresholds {
@@ -109,8 +123,7 @@ fn a_change_is_undone(rt: HostRuntime) -> Result<(), Fail> {
     let power_up = Op::PowerPolicy(SetPowerPolicy { policy: 2 });
     let stay_off = Op::PowerPolicy(SetPowerPolicy { policy: 0 });
     let enables = Op::GlobalEnables(SetGlobalEnables { byte: 0xE7 });
-    let mut board = board(rt.alloc())?;
-    for (op, before, between) in [
+    let changes: [Undone<'_>; 8] = [
         (
             &thresholds,
             &[0x3F, 0x14, 0x0A, 0x05, 0x50, 0x5F, 0x6E][..],
@@ -123,10 +136,8 @@ fn a_change_is_undone(rt: HostRuntime) -> Result<(), Fail> {
         (&power_up, &[0x20, 0, 0], &[0x40, 0, 0]),
         (&stay_off, &[0x20, 0, 0], &[0, 0, 0]),
         (&enables, &[0x08], &[0xE7]),
-    ] {
-        expect_undone(&rt, &mut board, op, before, between)?;
-    }
-    Ok(())
+    ];
+    expect_all_undone(&rt, rt.alloc(), &KEPT, &changes)
 }
 
 /// A change of what user 2 may do: the limit, and the bits where the first byte asks for it.
@@ -152,8 +163,7 @@ fn a_change_of_a_user_or_a_channel_is_undone(rt: HostRuntime) -> Result<(), Fail
         store: AccessStore::NonVolatile,
         change: ChannelChange::Both(SixBits::of(0x39), SixBits::of(5)),
     });
-    let mut board = board(rt.alloc())?;
-    for (op, before, between) in [
+    let changes: [Undone<'_>; 4] = [
         (
             &name,
             &[
@@ -164,10 +174,8 @@ fn a_change_of_a_user_or_a_channel_is_undone(rt: HostRuntime) -> Result<(), Fail
         (&bits_and_limit, &[2, 0x80, 1, 0x14], &[2, 0x80, 1, 0x23]),
         (&limit_alone, &[2, 0x80, 1, 0x14], &[2, 0x80, 1, 0x13]),
         (&stored, &[2, 4], &[0x39, 5]),
-    ] {
-        expect_undone(&rt, &mut board, op, before, between)?;
-    }
-    Ok(())
+    ];
+    expect_all_undone(&rt, rt.alloc(), &KEPT, &changes)
 }
 
 /// A change of a boot parameter, with a mark or without.
@@ -177,7 +185,6 @@ fn boot(invalid: bool, change: BootChange) -> Op {
 
 #[test]
 fn a_change_of_a_boot_parameter_is_undone(rt: HostRuntime) -> Result<(), Fail> {
-    let mut board = board(rt.alloc())?;
     let masked = |mask, bits| BootChange::InfoAcknowledge(MaskedBits { mask, bits });
     let flags = BootChange::Flags(BootFlags {
         validity: 0x80,
@@ -187,9 +194,8 @@ fn a_change_of_a_boot_parameter_is_undone(rt: HostRuntime) -> Result<(), Fail> {
         instance: 3,
     });
     let first = boot(false, masked(0xFF, 0xA5));
-    assert_eq!(rt; set(&mut board, 0x2C, &first), 0);
     let masked = boot(true, masked(0x0F, 0x5A));
-    for (op, before, between) in [
+    let changes: [Undone<'_>; 5] = [
         (
             &boot(true, BootChange::ValidBitClearing(0x15)),
             &[1, 0x03, 0][..],
@@ -211,10 +217,19 @@ fn a_change_of_a_boot_parameter_is_undone(rt: HostRuntime) -> Result<(), Fail> {
             &[1, 0x05, 0, 0, 0, 0, 0],
             &[1, 0x85, 0, 0, 0, 0, 0],
         ),
-    ] {
-        expect_undone(&rt, &mut board, op, before, between)?;
-    }
-    // What undoes the masked change has its mask, and the whole old byte.
+    ];
+    expect_all_undone(&rt, rt.alloc(), &first, &changes)
+}
+
+#[test]
+fn what_undoes_masked_bits_has_their_mask_and_the_whole_old_byte(
+    rt: HostRuntime,
+) -> Result<(), Fail> {
+    let bits = MaskedBits {
+        mask: 0x0F,
+        bits: 0x5A,
+    };
+    let masked = boot(true, BootChange::InfoAcknowledge(bits));
     let undo = Limits::inverse(&masked, &[1, 0x04, 0, 0xA5]).ok_or("undo")?;
     assert!(rt; Limits::set_data(&undo).is(&[0x04, 0x0F, 0xA5]));
     // A reply of another parameter's length has no undo.
@@ -233,33 +248,42 @@ fn watchdog_for(initial: u16) -> Op {
     })
 }
 
+/// Other settings, which don't stop a timer.
+const LATER: Op = Op::Watchdog(SetWatchdog {
+    timer_use: 0xC4,
+    actions: 0x11,
+    pre_timeout: 5,
+    flags_to_clear: 0x10,
+    initial: 6000,
+});
+
 #[test]
 fn a_change_of_a_watchdog_that_was_set_is_undone(rt: HostRuntime) -> Result<(), Fail> {
-    let mut board = board(rt.alloc())?;
     let first = watchdog_for(3000);
-    let never_set = shown(&mut board, 0x2C, &first);
-    assert!(rt; never_set.is(&Answered::done(&[0; 8])));
-    assert!(rt; Limits::inverse(&first, never_set.body.as_slice()).is_none());
-    assert_eq!(rt; set(&mut board, 0x40, &first), 0);
+    let longer = watchdog_for(6000);
     let before = [4, 1, 10, 0, 0xB8, 0x0B, 0xB8, 0x0B];
-    let between = [4, 1, 10, 0, 0x70, 0x17, 0x70, 0x17];
-    expect_undone(&rt, &mut board, &watchdog_for(6000), &before, &between)?;
-    // Other settings, which don't stop a timer.
-    let other = Op::Watchdog(SetWatchdog {
-        timer_use: 0xC4,
-        actions: 0x11,
-        pre_timeout: 5,
-        flags_to_clear: 0x10,
-        initial: 6000,
-    });
-    let between = [0x84, 0x11, 5, 0, 0x70, 0x17, 0x70, 0x17];
-    expect_undone(&rt, &mut board, &other, &before, &between)?;
-    // While the timer runs, nothing has an undo.
-    let reset = Asked::ipmi(NetFn::new(0x06), 0x22, &[]);
-    assert_eq!(rt; board.answer(&reset).code, 0);
-    let running = shown(&mut board, 0x40, &other);
-    assert!(rt; running.is(&Answered::done(&[0x44, 1, 10, 0, 0xB8, 0x0B, 0xB8, 0x0B])));
-    assert!(rt; Limits::inverse(&other, running.body.as_slice()).is_none());
+    let changes: [Undone<'_>; 2] = [
+        (&longer, &before, &[4, 1, 10, 0, 0x70, 0x17, 0x70, 0x17]),
+        (&LATER, &before, &[0x84, 0x11, 5, 0, 0x70, 0x17, 0x70, 0x17]),
+    ];
+    expect_all_undone(&rt, rt.alloc(), &first, &changes)
+}
+
+/// The board shows this of the record that the operation changes, from which there is no undo.
+fn expect_no_undo<S: Store>(rt: &impl Abort, board: &mut Board<S>, op: &Op, body: &[u8]) {
+    let reply = shown(board, 0x2C, op);
+    assert_eq!(rt; reply.code, 0);
+    assert_eq!(rt; reply.body.as_slice(), body);
+    assert!(rt; Limits::inverse(op, reply.body.as_slice()).is_none());
+}
+
+#[test]
+fn a_watchdog_that_was_never_set_or_runs_has_no_undo(rt: HostRuntime) -> Result<(), Fail> {
+    let mut fresh = board_of(rt.alloc(), sample_board(rt.alloc())?)?;
+    expect_no_undo(&rt, &mut fresh, &LATER, &[0; 8]);
+    let mut running = running_board(&rt, rt.alloc())?;
+    let shown = [0x44, 1, 10, 0, 0xB8, 0x0B, 0xB8, 0x0B];
+    expect_no_undo(&rt, &mut running, &LATER, &shown);
     Ok(())
 }
 
@@ -270,25 +294,18 @@ fn a_threshold_that_cannot_be_read_has_no_undo(rt: HostRuntime) -> Result<(), Fa
         mask: 0x20,
         values: [0, 0, 0, 0, 0, 0xB8],
     });
-    let mut board = board(rt.alloc())?;
-    let reply = shown(&mut board, 0x2C, &op);
-    assert!(rt; reply.is(&Answered::done(&[0x18, 0, 0, 0, 0x90, 0xA0, 0])));
-    assert!(rt; Limits::inverse(&op, reply.body.as_slice()).is_none());
+    let mut board = board_of(rt.alloc(), sample_board(rt.alloc())?)?;
+    expect_no_undo(&rt, &mut board, &op, &[0x18, 0, 0, 0, 0x90, 0xA0, 0]);
     Ok(())
 }
 
 #[test]
 fn a_sensor_that_is_not_there_is_refused(rt: HostRuntime) -> Result<(), Fail> {
-    let op = Op::Hysteresis(SetHysteresis {
-        sensor: 9,
-        positive: 3,
-        negative: 1,
-    });
-    let mut board = board(rt.alloc())?;
-    let refused = Answered::refused(code::NOT_PRESENT);
-    assert!(rt; shown(&mut board, 0x2C, &op).is(&refused));
-    assert!(rt; board.answer(&Limits::set_asked(&op)).is(&refused));
-    Ok(())
+    let story = [
+        sensor(0x25, &[9, 0xFF], 0xCB, &[]),
+        sensor(0x24, &[9, 0xFF, 3, 1], 0xCB, &[]),
+    ];
+    expect_sample(&rt, rt.alloc(), &story)
 }
 
 /// What is kept of the records, and shown of what isn't configuration.
@@ -333,11 +350,19 @@ fn expect_refused(
 
 /// A sample board whose timer was set, and runs.
 fn running_board(rt: &impl Abort, alloc: Global) -> Result<Board<PlainStore>, Fail> {
-    let mut board = board(alloc)?;
+    let mut board = board_of(alloc, sample_board(alloc)?)?;
     assert_eq!(rt; set(&mut board, 0x2C, &watchdog_for(3000)), 0);
-    let reset = Asked::ipmi(NetFn::new(0x06), 0x22, &[]);
-    assert_eq!(rt; board.answer(&reset).code, 0);
+    expect_told(rt, &mut board, &[application(0x22, &[], 0, &[])])?;
     Ok(board)
+}
+
+/// A sample board whose timer runs refuses each change with its code.
+fn expect_all_refused(rt: &impl Abort, alloc: Global, changes: &[(&Op, u8)]) -> Result<(), Fail> {
+    let mut board = running_board(rt, alloc)?;
+    for (op, refused) in changes {
+        expect_refused(rt, alloc, &mut board, op, *refused)?;
+    }
+    Ok(())
 }
 
 /// A change of the events of sensor 5, which allows neither messages nor scanning.
@@ -352,7 +377,6 @@ fn events(change: EventChange) -> Op {
 
 #[test]
 fn a_refused_change_of_a_sensor_leaves_records_and_activity(rt: HostRuntime) -> Result<(), Fail> {
-    let mut board = running_board(&rt, rt.alloc())?;
     // Upper critical above upper non-recoverable, a sensor that isn't there, a reserved selection of events, and events that
     // aren't supported.
     let thresholds = Op::Thresholds(SetThresholds {
@@ -372,21 +396,18 @@ fn a_refused_change_of_a_sensor_leaves_records_and_activity(rt: HostRuntime) -> 
     let reserved = events(EventChange::Reserved);
     let enabled = events(EventChange::Enable(unsupported));
     let disabled = events(EventChange::Disable(unsupported));
-    for (op, refused) in [
+    let changes = [
         (&thresholds, 0xCC),
         (&hysteresis, 0xCB),
         (&reserved, 0xCC),
         (&enabled, 0xCC),
         (&disabled, 0xCC),
-    ] {
-        expect_refused(&rt, rt.alloc(), &mut board, op, refused)?;
-    }
-    Ok(())
+    ];
+    expect_all_refused(&rt, rt.alloc(), &changes)
 }
 
 #[test]
 fn a_refused_change_of_the_board_leaves_records_and_activity(rt: HostRuntime) -> Result<(), Fail> {
-    let mut board = running_board(&rt, rt.alloc())?;
     // A policy of 4, a use of 6, and a reserved bit.
     let policy = Op::PowerPolicy(SetPowerPolicy { policy: 4 });
     let watchdog = Op::Watchdog(SetWatchdog {
@@ -397,10 +418,8 @@ fn a_refused_change_of_the_board_leaves_records_and_activity(rt: HostRuntime) ->
         initial: 1,
     });
     let enables = Op::GlobalEnables(SetGlobalEnables { byte: 0x18 });
-    for op in [&policy, &watchdog, &enables] {
-        expect_refused(&rt, rt.alloc(), &mut board, op, 0xCC)?;
-    }
-    Ok(())
+    let changes = [(&policy, 0xCC), (&watchdog, 0xCC), (&enables, 0xCC)];
+    expect_all_refused(&rt, rt.alloc(), &changes)
 }
 
 #[test]

@@ -1,11 +1,13 @@
 //! Users, channels and passwords: each refusal in the order of the checks, what is shown, and changes that are undone.
 ghost use Rattle.std.specs.Prelude.{◌≤◌};
 
+use super::changes::{Change, expect_changes};
+use super::story::{Step, application, board_of, expect_told};
 use bmc_board::{Board, changing};
 use cfg_records::{
     AccessStore, Asked, BoardFile, Channel, ChannelAccess, ChannelChange, ChannelNumber, Distinct,
     Key, Op, PlainStore, RecordKind, SetChannelAccess, SetUserAccess, SetUserName, SixBits, Store,
-    UserAccess, UserNumber, UserOnChannel, sample_board,
+    UserAccess, UserOnChannel, sample_board,
 };
 use record_kinds::Limits;
 use std::alloc::Global;
@@ -16,12 +18,8 @@ use two_wire::{Bytes, Lun, NetFn};
 /// The network function of applications.
 const APPLICATION: u8 = 0x06;
 
-/// What is asked of a board: a command of applications with its data; and the completion code and data that it replies.
-type Step = (u8, &'static [u8], u8, &'static [u8]);
-
 /// The sample board with two channels more: 2 has sessions, and an access of its own in each store; 15 has none.
-fn board(alloc: Global) -> Result<Board<PlainStore>, Fail> {
-    let sample = sample_board(alloc)?;
+fn file(alloc: Global) -> Result<BoardFile, Fail> {
     let mut channels = Vec::new(alloc);
     for (number, non_volatile, volatile) in [(1, (2, 4), (2, 4)), (2, (0x3A, 3), (0x09, 5))] {
         channels.push(Channel {
@@ -37,37 +35,12 @@ fn board(alloc: Global) -> Result<Board<PlainStore>, Fail> {
         let on = UserOnChannel::of(channel, user);
         accesses.push(UserAccess::new(on, byte).ok_or("user access")?)?;
     }
-    let file = BoardFile {
-        tid: sample.tid,
-        device: sample.device,
-        sensors: sample.sensors,
-        policy: sample.policy,
-        watchdog: sample.watchdog,
-        clock: sample.clock,
-        log: sample.log,
-        enables: sample.enables,
-        boot: sample.boot,
-        sdr: sample.sdr,
-        numeric_effecters: sample.numeric_effecters,
-        state_effecters: sample.state_effecters,
-        users: sample.users,
+    Ok(BoardFile {
         channels: Distinct::new(channels).ok_or("channels")?,
         sessionless: Distinct::new(sessionless).ok_or("sessionless")?,
         user_accesses: Distinct::new(accesses).ok_or("user accesses")?,
-        attributes: sample.attributes,
-    };
-    let store = PlainStore::of_file(alloc, &file)?;
-    Ok(Board::open(alloc, file, store)?)
-}
-
-/// The board replies so to each command of applications, one after another.
-fn replies(rt: &impl Abort, board: &mut Board<PlainStore>, steps: &[Step]) {
-    for (command, body, code, data) in steps {
-        assert!(rt; body.len() <= 25);
-        let reply = board.answer(&Asked::ipmi(NetFn::new(APPLICATION), *command, body));
-        assert_eq!(rt; reply.code, *code, "{command:02X} {body:?}");
-        assert_eq!(rt; reply.body.as_slice(), *data, "{command:02X} {body:?}");
-    }
+        ..sample_board(alloc)?
+    })
 }
 
 /// The name of user 2.
@@ -75,42 +48,39 @@ const ADMIN: &[u8] = &[
     0x61, 0x64, 0x6D, 0x69, 0x6E, 0, 0, 0, 0, 0, 0, 0, 0, 0, 0, 0,
 ];
 
-/// What is shown of users and channels is what is shown at first.
-fn expect_at_first(rt: &impl Abort, board: &mut Board<PlainStore>) {
-    replies(
-        rt,
-        board,
-        &[
-            (0x41, &[0x01, 0x40], 0x00, &[0x02, 0x04]),
-            (0x41, &[0x01, 0x80], 0x00, &[0x02, 0x04]),
-            (0x41, &[0x02, 0x40], 0x00, &[0x3A, 0x03]),
-            (0x41, &[0x02, 0x80], 0x00, &[0x09, 0x05]),
-            (0x44, &[0x01, 0x01], 0x00, &[0x02, 0x80, 0x01, 0x14]),
-            (0x44, &[0x01, 0x02], 0x00, &[0x02, 0x80, 0x01, 0x14]),
-            (0x44, &[0x02, 0x01], 0x00, &[0x02, 0x80, 0x01, 0x71]),
-            (0x44, &[0x02, 0x02], 0x00, &[0x02, 0x80, 0x01, 0x2F]),
-            (0x46, &[0x01], 0x00, &[0; 16]),
-            (0x46, &[0x02], 0x00, ADMIN),
-        ],
-    );
+/// What is shown of users and channels at first.
+fn at_first() -> [Step; 10] {
+    [
+        application(0x41, &[0x01, 0x40], 0x00, &[0x02, 0x04]),
+        application(0x41, &[0x01, 0x80], 0x00, &[0x02, 0x04]),
+        application(0x41, &[0x02, 0x40], 0x00, &[0x3A, 0x03]),
+        application(0x41, &[0x02, 0x80], 0x00, &[0x09, 0x05]),
+        application(0x44, &[0x01, 0x01], 0x00, &[0x02, 0x80, 0x01, 0x14]),
+        application(0x44, &[0x01, 0x02], 0x00, &[0x02, 0x80, 0x01, 0x14]),
+        application(0x44, &[0x02, 0x01], 0x00, &[0x02, 0x80, 0x01, 0x71]),
+        application(0x44, &[0x02, 0x02], 0x00, &[0x02, 0x80, 0x01, 0x2F]),
+        application(0x46, &[0x01], 0x00, &[0; 16]),
+        application(0x46, &[0x02], 0x00, ADMIN),
+    ]
+}
+
+/// The story comes to a fresh board, which then shows what it showed at first.
+fn expect_same(rt: &impl Abort, alloc: Global, story: &[Step]) -> Result<(), Fail> {
+    let mut board = board_of(alloc, file(alloc)?)?;
+    expect_told(rt, &mut board, story)?;
+    expect_told(rt, &mut board, &at_first())
 }
 
 #[test]
 fn users_and_channels_are_shown_by_their_bits_alone(rt: HostRuntime) -> Result<(), Fail> {
-    let mut board = board(rt.alloc())?;
-    expect_at_first(&rt, &mut board);
-    // Bits beside a channel, a store and a user are ignored.
-    replies(
-        &rt,
-        &mut board,
-        &[
-            (0x41, &[0xF2, 0x7F], 0x00, &[0x3A, 0x03]),
-            (0x41, &[0xA2, 0xBF], 0x00, &[0x09, 0x05]),
-            (0x44, &[0xF2, 0xC2], 0x00, &[0x02, 0x80, 0x01, 0x2F]),
-            (0x46, &[0xC2], 0x00, ADMIN),
-        ],
-    );
-    Ok(())
+    let story = [
+        // Bits beside a channel, a store and a user are ignored.
+        application(0x41, &[0xF2, 0x7F], 0x00, &[0x3A, 0x03]),
+        application(0x41, &[0xA2, 0xBF], 0x00, &[0x09, 0x05]),
+        application(0x44, &[0xF2, 0xC2], 0x00, &[0x02, 0x80, 0x01, 0x2F]),
+        application(0x46, &[0xC2], 0x00, ADMIN),
+    ];
+    expect_same(&rt, rt.alloc(), &story)
 }
 
 /// The request of a command of applications to a logical unit, with so many bytes FFh.
@@ -146,7 +116,7 @@ fn expect_lengths(
 
 #[test]
 fn the_unit_and_the_length_come_first(rt: HostRuntime) -> Result<(), Fail> {
-    let mut board = board(rt.alloc())?;
+    let mut board = board_of(rt.alloc(), file(rt.alloc())?)?;
     for (command, sets, lengths) in [
         (0x40, true, &[0, 2, 4][..]),
         (0x41, false, &[0, 1, 3]),
@@ -158,109 +128,103 @@ fn the_unit_and_the_length_come_first(rt: HostRuntime) -> Result<(), Fail> {
     ] {
         expect_lengths(&rt, &mut board, command, sets, lengths);
     }
-    expect_at_first(&rt, &mut board);
-    Ok(())
+    expect_told(&rt, &mut board, &at_first())
 }
 
 #[test]
 fn set_channel_access_refuses_in_order(rt: HostRuntime) -> Result<(), Fail> {
-    let mut board = board(rt.alloc())?;
-    replies(
-        &rt,
-        &mut board,
-        &[
-            // An unknown channel, and one without sessions, before all that is to be set, and where nothing is.
-            (0x40, &[0x03, 0x42, 0x44], 0xCC, &[]),
-            (0x40, &[0x03, 0x00, 0x00], 0xCC, &[]),
-            (0x40, &[0x0F, 0xC4, 0xC6], 0x82, &[]),
-            (0x40, &[0x0F, 0x00, 0x00], 0x82, &[]),
-            // A store of 11b.
-            (0x40, &[0x02, 0xC2, 0x00], 0xCC, &[]),
-            (0x40, &[0x02, 0x00, 0xC4], 0xCC, &[]),
-            (0x40, &[0x02, 0x41, 0xC4], 0xCC, &[]),
-            (0x40, &[0x02, 0xC1, 0x84], 0xCC, &[]),
-            // A mode above 3.
-            (0x40, &[0x02, 0x44, 0x00], 0xCC, &[]),
-            (0x40, &[0x02, 0xBF, 0x84], 0xCC, &[]),
-            // A limit that is none of 1 to 5.
-            (0x40, &[0x02, 0x00, 0x40], 0xCC, &[]),
-            (0x40, &[0x02, 0x00, 0x86], 0xCC, &[]),
-            (0x40, &[0x02, 0x81, 0x8F], 0xCC, &[]),
-            // Where neither is set, mode and limit may be any.
-            (0x40, &[0x02, 0x07, 0x0F], 0x00, &[]),
-        ],
-    );
-    expect_at_first(&rt, &mut board);
-    Ok(())
+    let story = [
+        // An unknown channel, and one without sessions, before all that is to be set, and where nothing is.
+        application(0x40, &[0x03, 0x42, 0x44], 0xCC, &[]),
+        application(0x40, &[0x03, 0x00, 0x00], 0xCC, &[]),
+        application(0x40, &[0x0F, 0xC4, 0xC6], 0x82, &[]),
+        application(0x40, &[0x0F, 0x00, 0x00], 0x82, &[]),
+        // A store of 11b.
+        application(0x40, &[0x02, 0xC2, 0x00], 0xCC, &[]),
+        application(0x40, &[0x02, 0x00, 0xC4], 0xCC, &[]),
+        application(0x40, &[0x02, 0x41, 0xC4], 0xCC, &[]),
+        application(0x40, &[0x02, 0xC1, 0x84], 0xCC, &[]),
+        // A mode above 3.
+        application(0x40, &[0x02, 0x44, 0x00], 0xCC, &[]),
+        application(0x40, &[0x02, 0xBF, 0x84], 0xCC, &[]),
+        // A limit that is none of 1 to 5.
+        application(0x40, &[0x02, 0x00, 0x40], 0xCC, &[]),
+        application(0x40, &[0x02, 0x00, 0x86], 0xCC, &[]),
+        application(0x40, &[0x02, 0x81, 0x8F], 0xCC, &[]),
+        // Where neither is set, mode and limit may be any.
+        application(0x40, &[0x02, 0x07, 0x0F], 0x00, &[]),
+    ];
+    expect_same(&rt, rt.alloc(), &story)
 }
 
 #[test]
 fn get_channel_access_refuses_in_order(rt: HostRuntime) -> Result<(), Fail> {
-    let mut board = board(rt.alloc())?;
-    replies(
-        &rt,
-        &mut board,
-        &[
-            (0x41, &[0x03, 0x40], 0xCC, &[]),
-            (0x41, &[0x00, 0x80], 0xCC, &[]),
-            // Without sessions, before a store that is none.
-            (0x41, &[0x0F, 0x40], 0x82, &[]),
-            (0x41, &[0x0F, 0x00], 0x82, &[]),
-            (0x41, &[0x0F, 0xC0], 0x82, &[]),
-            (0x41, &[0x01, 0x00], 0xCC, &[]),
-            (0x41, &[0x01, 0xC0], 0xCC, &[]),
-        ],
-    );
-    Ok(())
+    let story = [
+        application(0x41, &[0x03, 0x40], 0xCC, &[]),
+        application(0x41, &[0x00, 0x80], 0xCC, &[]),
+        // Without sessions, before a store that is none.
+        application(0x41, &[0x0F, 0x40], 0x82, &[]),
+        application(0x41, &[0x0F, 0x00], 0x82, &[]),
+        application(0x41, &[0x0F, 0xC0], 0x82, &[]),
+        application(0x41, &[0x01, 0x00], 0xCC, &[]),
+        application(0x41, &[0x01, 0xC0], 0xCC, &[]),
+    ];
+    expect_same(&rt, rt.alloc(), &story)
 }
 
 #[test]
 fn user_access_refuses_in_order(rt: HostRuntime) -> Result<(), Fail> {
-    let mut board = board(rt.alloc())?;
-    replies(
-        &rt,
-        &mut board,
-        &[
-            // An unknown channel, one without sessions, user 0, and a user above the most.
-            (0x43, &[0x83, 0x02, 0x04], 0xCC, &[]),
-            (0x43, &[0x8F, 0x02, 0x04], 0xCC, &[]),
-            (0x43, &[0x82, 0x00, 0x04], 0xCC, &[]),
-            (0x43, &[0x82, 0x03, 0x04, 0x00], 0xCC, &[]),
-            // A limit that is none of 1 to 5, and not 15.
-            (0x43, &[0x82, 0x02, 0x00], 0xCC, &[]),
-            (0x43, &[0x82, 0x02, 0x06], 0xCC, &[]),
-            (0x43, &[0x02, 0x02, 0x0E, 0x00], 0xCC, &[]),
-            (0x44, &[0x03, 0x02], 0xCC, &[]),
-            (0x44, &[0x0F, 0x02], 0xCC, &[]),
-            (0x44, &[0x01, 0x00], 0xCC, &[]),
-            (0x44, &[0x01, 0x03], 0xCC, &[]),
-        ],
-    );
-    expect_at_first(&rt, &mut board);
-    Ok(())
+    let story = [
+        // An unknown channel, one without sessions, user 0, and a user above the most.
+        application(0x43, &[0x83, 0x02, 0x04], 0xCC, &[]),
+        application(0x43, &[0x8F, 0x02, 0x04], 0xCC, &[]),
+        application(0x43, &[0x82, 0x00, 0x04], 0xCC, &[]),
+        application(0x43, &[0x82, 0x03, 0x04, 0x00], 0xCC, &[]),
+        // A limit that is none of 1 to 5, and not 15.
+        application(0x43, &[0x82, 0x02, 0x00], 0xCC, &[]),
+        application(0x43, &[0x82, 0x02, 0x06], 0xCC, &[]),
+        application(0x43, &[0x02, 0x02, 0x0E, 0x00], 0xCC, &[]),
+        application(0x44, &[0x03, 0x02], 0xCC, &[]),
+        application(0x44, &[0x0F, 0x02], 0xCC, &[]),
+        application(0x44, &[0x01, 0x00], 0xCC, &[]),
+        application(0x44, &[0x01, 0x03], 0xCC, &[]),
+    ];
+    expect_same(&rt, rt.alloc(), &story)
 }
 
 #[test]
 fn user_names_refuse_in_order(rt: HostRuntime) -> Result<(), Fail> {
-    let mut board = board(rt.alloc())?;
-    // User 0, a user above the most, and user 1, whose name is fixed.
-    for (user, code) in [(0x00, 0xCC), (0x03, 0xCC), (0x01, 0xCC), (0x41, 0xCC)] {
-        let mut body = [0x7A; 17];
-        body[0] = user;
-        let asked = Asked::ipmi(NetFn::new(APPLICATION), 0x45, &body);
-        assert_eq!(rt; board.answer(&asked).code, code, "{user:02X}");
-    }
-    replies(
-        &rt,
-        &mut board,
-        &[
-            (0x46, &[0x00], 0xCC, &[]),
-            (0x46, &[0x03], 0xCC, &[]),
-            (0x46, &[0x3F], 0xCC, &[]),
-        ],
-    );
-    expect_at_first(&rt, &mut board);
-    Ok(())
+    let story = [
+        // User 0, a user above the most, and user 1, whose name is fixed.
+        application(
+            0x45,
+            &[0x00, 0x7A, 0, 0, 0, 0, 0, 0, 0, 0, 0, 0, 0, 0, 0, 0, 0],
+            0xCC,
+            &[],
+        ),
+        application(
+            0x45,
+            &[0x03, 0x7A, 0, 0, 0, 0, 0, 0, 0, 0, 0, 0, 0, 0, 0, 0, 0],
+            0xCC,
+            &[],
+        ),
+        application(
+            0x45,
+            &[0x01, 0x7A, 0, 0, 0, 0, 0, 0, 0, 0, 0, 0, 0, 0, 0, 0, 0],
+            0xCC,
+            &[],
+        ),
+        application(
+            0x45,
+            &[0x41, 0x7A, 0, 0, 0, 0, 0, 0, 0, 0, 0, 0, 0, 0, 0, 0, 0],
+            0xCC,
+            &[],
+        ),
+        application(0x46, &[0x00], 0xCC, &[]),
+        application(0x46, &[0x03], 0xCC, &[]),
+        application(0x46, &[0x3F], 0xCC, &[]),
+    ];
+    expect_same(&rt, rt.alloc(), &story)
 }
 
 /// What Set User Password answers of a user, an operation, and a password of so many bytes that are all the same.
@@ -277,7 +241,7 @@ fn password_code(board: &mut Board<PlainStore>, user: u8, operation: u8, text: (
 
 #[test]
 fn set_user_password_refuses_in_order(rt: HostRuntime) -> Result<(), Fail> {
-    let mut board = board(rt.alloc())?;
+    let mut board = board_of(rt.alloc(), file(rt.alloc())?)?;
     for (user, operation, text, code) in [
         // The length, before an unknown user.
         (0x00, 2, (15, 0), 0xC7),
@@ -309,29 +273,18 @@ fn set_user_password_refuses_in_order(rt: HostRuntime) -> Result<(), Fail> {
         let given = password_code(&mut board, user, operation, text);
         assert_eq!(rt; given, code, "{user:02X} {operation} {text:?}");
     }
-    expect_at_first(&rt, &mut board);
-    Ok(())
+    expect_told(&rt, &mut board, &at_first())
 }
 
 /// Sets the password of user 2: sixteen bytes, from 01h to 10h.
-const SET_16: Step = (
-    0x47,
-    &[
-        0x02, 0x02, 1, 2, 3, 4, 5, 6, 7, 8, 9, 10, 11, 12, 13, 14, 15, 16,
-    ],
-    0x00,
-    &[],
-);
+const SET_16: &[u8] = &[
+    0x02, 0x02, 1, 2, 3, 4, 5, 6, 7, 8, 9, 10, 11, 12, 13, 14, 15, 16,
+];
 
 /// Sets the password of user 2: twenty bytes, from 01h to 14h.
-const SET_20: Step = (
-    0x47,
-    &[
-        0x82, 0x02, 1, 2, 3, 4, 5, 6, 7, 8, 9, 10, 11, 12, 13, 14, 15, 16, 17, 18, 19, 20,
-    ],
-    0x00,
-    &[],
-);
+const SET_20: &[u8] = &[
+    0x82, 0x02, 1, 2, 3, 4, 5, 6, 7, 8, 9, 10, 11, 12, 13, 14, 15, 16, 17, 18, 19, 20,
+];
 
 /// Tests it for the sixteen bytes.
 const TEST_16: &[u8] = &[
@@ -343,88 +296,80 @@ const TEST_20: &[u8] = &[
     0x82, 0x03, 1, 2, 3, 4, 5, 6, 7, 8, 9, 10, 11, 12, 13, 14, 15, 16, 17, 18, 19, 20,
 ];
 
+/// Tests it for sixteen bytes, of which the last is another.
+const OTHER_16: &[u8] = &[
+    0x02, 0x03, 1, 2, 3, 4, 5, 6, 7, 8, 9, 10, 11, 12, 13, 14, 15, 0,
+];
+
+/// Tests it for twenty bytes, of which the first is another.
+const OTHER_20: &[u8] = &[
+    0x82, 0x03, 0, 2, 3, 4, 5, 6, 7, 8, 9, 10, 11, 12, 13, 14, 15, 16, 17, 18, 19, 20,
+];
+
+/// Tests the password of user 1 for sixteen bytes 00h, that of the opening.
+const TEST_1: &[u8] = &[0x01, 0x03, 0, 0, 0, 0, 0, 0, 0, 0, 0, 0, 0, 0, 0, 0, 0, 0];
+
+/// Tests the password of user 2 for these.
+const TEST_2: &[u8] = &[0x02, 0x03, 0, 0, 0, 0, 0, 0, 0, 0, 0, 0, 0, 0, 0, 0, 0, 0];
+
 #[test]
 fn a_password_is_tested_by_size_and_text(rt: HostRuntime) -> Result<(), Fail> {
-    let mut board = board(rt.alloc())?;
-    // The last byte, and the first, is another.
-    let last: Step = (
-        0x47,
-        &[
-            0x02, 0x03, 1, 2, 3, 4, 5, 6, 7, 8, 9, 10, 11, 12, 13, 14, 15, 0,
-        ],
-        0x80,
-        &[],
-    );
-    let first: Step = (
-        0x47,
-        &[
-            0x82, 0x03, 0, 2, 3, 4, 5, 6, 7, 8, 9, 10, 11, 12, 13, 14, 15, 16, 17, 18, 19, 20,
-        ],
-        0x80,
-        &[],
-    );
-    replies(
-        &rt,
-        &mut board,
-        &[
-            SET_16,
-            (0x47, TEST_16, 0x00, &[]),
-            last,
-            (0x47, TEST_20, 0x81, &[]),
-            with_code(0x81, first),
-            SET_20,
-            (0x47, TEST_20, 0x00, &[]),
-            first,
-            (0x47, TEST_16, 0x81, &[]),
-            with_code(0x81, last),
-        ],
-    );
-    // User 1's is what it was.
-    assert_eq!(rt; password_code(&mut board, 0x01, 3, (16, 0)), 0x00);
-    assert_eq!(rt; password_code(&mut board, 0x02, 3, (16, 0)), 0x81);
-    Ok(())
-}
-
-/// The step, where another code is answered.
-fn with_code(code: u8, step: Step) -> Step {
-    (step.0, step.1, code, step.3)
+    let story = [
+        application(0x47, SET_16, 0x00, &[]),
+        application(0x47, TEST_16, 0x00, &[]),
+        application(0x47, OTHER_16, 0x80, &[]),
+        application(0x47, TEST_20, 0x81, &[]),
+        application(0x47, OTHER_20, 0x81, &[]),
+        application(0x47, SET_20, 0x00, &[]),
+        application(0x47, TEST_20, 0x00, &[]),
+        application(0x47, OTHER_20, 0x80, &[]),
+        application(0x47, TEST_16, 0x81, &[]),
+        application(0x47, OTHER_16, 0x81, &[]),
+        // User 1's is what it was.
+        application(0x47, TEST_1, 0x00, &[]),
+        application(0x47, TEST_2, 0x81, &[]),
+    ];
+    expect_same(&rt, rt.alloc(), &story)
 }
 
 #[test]
 fn a_password_is_never_shown(rt: HostRuntime) -> Result<(), Fail> {
-    let mut board = board(rt.alloc())?;
-    replies(&rt, &mut board, &[SET_16]);
-    expect_at_first(&rt, &mut board);
-    replies(&rt, &mut board, &[SET_20, (0x47, TEST_20, 0x00, &[])]);
-    expect_at_first(&rt, &mut board);
-    Ok(())
+    let story = [application(0x47, SET_16, 0x00, &[])];
+    expect_same(&rt, rt.alloc(), &story)?;
+    let story = [
+        application(0x47, SET_20, 0x00, &[]),
+        application(0x47, TEST_20, 0x00, &[]),
+    ];
+    expect_same(&rt, rt.alloc(), &story)
 }
 
-#[test]
-fn who_is_enabled_is_shown_and_no_configuration(rt: HostRuntime) -> Result<(), Fail> {
-    let mut board = board(rt.alloc())?;
-    replies(
-        &rt,
-        &mut board,
-        &[
-            // Enabled twice, which counts once; other bits of the operation's byte are ignored.
-            (0x47, &[0x02, 0x01], 0x00, &[]),
-            (0x47, &[0x42, 0xFD], 0x00, &[]),
-            (0x44, &[0x01, 0x02], 0x00, &[0x02, 0x41, 0x01, 0x14]),
-            (0x44, &[0x02, 0x02], 0x00, &[0x02, 0x41, 0x01, 0x2F]),
-            (0x44, &[0x01, 0x01], 0x00, &[0x02, 0x81, 0x01, 0x14]),
-            (0x47, &[0x01, 0x01], 0x00, &[]),
-            (0x44, &[0x01, 0x01], 0x00, &[0x02, 0x42, 0x01, 0x14]),
-            (0x47, &[0x02, 0x00], 0x00, &[]),
-            (0x44, &[0x01, 0x02], 0x00, &[0x02, 0x81, 0x01, 0x14]),
-            (0x44, &[0x01, 0x01], 0x00, &[0x02, 0x41, 0x01, 0x14]),
-        ],
-    );
+/// The board keeps user 1's and 2's access on channel 1 as it was.
+fn expect_kept(rt: &impl Abort, board: &Board<PlainStore>) -> Result<(), Fail> {
     for (user, byte) in [(1, 0x14), (2, 0x14)] {
         let key = Key::UserAccess(UserOnChannel::of(1, user));
         assert_eq!(rt; board.store().get(&key).ok_or("record")?, [byte].as_slice());
     }
     Ok(())
+}
+
+#[test]
+fn who_is_enabled_is_shown_and_no_configuration(rt: HostRuntime) -> Result<(), Fail> {
+    let story = [
+        // Enabled twice, which counts once; other bits of the operation's byte are ignored.
+        application(0x47, &[0x02, 0x01], 0x00, &[]),
+        application(0x47, &[0x42, 0xFD], 0x00, &[]),
+        application(0x44, &[0x01, 0x02], 0x00, &[0x02, 0x41, 0x01, 0x14]),
+        application(0x44, &[0x02, 0x02], 0x00, &[0x02, 0x41, 0x01, 0x2F]),
+        application(0x44, &[0x01, 0x01], 0x00, &[0x02, 0x81, 0x01, 0x14]),
+        application(0x47, &[0x01, 0x01], 0x00, &[]),
+        application(0x44, &[0x01, 0x01], 0x00, &[0x02, 0x42, 0x01, 0x14]),
+        application(0x47, &[0x02, 0x00], 0x00, &[]),
+        application(0x44, &[0x01, 0x02], 0x00, &[0x02, 0x81, 0x01, 0x14]),
+        application(0x44, &[0x01, 0x01], 0x00, &[0x02, 0x41, 0x01, 0x14]),
+    ];
+    let mut board = board_of(rt.alloc(), file(rt.alloc())?)?;
+    expect_told(&rt, &mut board, &story)?;
+    expect_kept(&rt, &board)
 }
 
 #[test]
@@ -461,50 +406,9 @@ fn name(user: u8, name: [u8; 16]) -> Op {
     Op::UserName(SetUserName { user, name })
 }
 
-/// A change: the data of its request, what a Get replies before it and after, and the data of the request that undoes it.
-#[derive(Clone, Copy)]
-struct Change<'a> {
-    op: &'a Op,
-    data: &'a [u8],
-    before: &'a [u8],
-    after: &'a [u8],
-    undo: &'a [u8],
-}
-
-/// What a Get replies of the record that the operation changes.
-fn shown(board: &mut Board<PlainStore>, op: &Op) -> Bytes<251> {
-    board.answer(&Limits::get_asked(&Limits::key(op))).body
-}
-
-/// The change is carried out and undone from what a Get replied.
-fn expect_undone(
-    rt: &impl Abort,
-    board: &mut Board<PlainStore>,
-    change: &Change<'_>,
-) -> Result<(), Fail> {
-    let Change {
-        op,
-        data,
-        before,
-        after,
-        undo,
-    } = *change;
-    assert_eq!(rt; Limits::set_data(op).as_slice(), data);
-    let reply = shown(board, op);
-    assert_eq!(rt; reply.as_slice(), before);
-    let back = Limits::inverse(op, reply.as_slice()).ok_or("undo")?;
-    assert_eq!(rt; Limits::set_data(&back).as_slice(), undo);
-    assert_eq!(rt; board.answer(&Limits::set_asked(op)).code, 0);
-    assert_eq!(rt; shown(board, op).as_slice(), after);
-    assert_eq!(rt; board.answer(&Limits::set_asked(&back)).code, 0);
-    assert_eq!(rt; shown(board, op).as_slice(), before);
-    Ok(())
-}
-
 #[test]
 fn a_change_of_user_access_is_undone(rt: HostRuntime) -> Result<(), Fail> {
-    let mut board = board(rt.alloc())?;
-    for change in [
+    let changes = [
         // Bits 6:4 and the limit; the old limit is 15, no access.
         Change {
             op: &access(0xD2, 2, 3, None),
@@ -529,17 +433,13 @@ fn a_change_of_user_access_is_undone(rt: HostRuntime) -> Result<(), Fail> {
             after: &[0x02, 0x80, 0x01, 0x0F],
             undo: &[0xF2, 0x01, 0x01],
         },
-    ] {
-        expect_undone(&rt, &mut board, &change)?;
-    }
-    expect_at_first(&rt, &mut board);
-    Ok(())
+    ];
+    expect_changes(&rt, rt.alloc(), file(rt.alloc())?, &changes)
 }
 
 #[test]
 fn a_change_of_channel_access_in_one_store_is_undone(rt: HostRuntime) -> Result<(), Fail> {
-    let mut board = board(rt.alloc())?;
-    for change in [
+    let changes = [
         Change {
             op: &stored(
                 AccessStore::NonVolatile,
@@ -567,29 +467,24 @@ fn a_change_of_channel_access_in_one_store_is_undone(rt: HostRuntime) -> Result<
             after: &[0x33, 0x01],
             undo: &[0x02, 0x89, 0x85],
         },
-    ] {
-        expect_undone(&rt, &mut board, &change)?;
-    }
-    expect_at_first(&rt, &mut board);
-    Ok(())
+    ];
+    expect_changes(&rt, rt.alloc(), file(rt.alloc())?, &changes)
 }
 
 #[test]
-fn a_change_of_both_stores_is_whole_and_undone(rt: HostRuntime) -> Result<(), Fail> {
-    let mut board = board(rt.alloc())?;
+fn a_change_of_both_stores_is_whole(rt: HostRuntime) -> Result<(), Fail> {
     // One store's part is refused, so the other's isn't carried out.
-    replies(
-        &rt,
-        &mut board,
-        &[
-            (0x40, &[0x02, 0x41, 0x86], 0xCC, &[]),
-            (0x40, &[0x02, 0x44, 0x82], 0xCC, &[]),
-            (0x40, &[0x02, 0x81, 0x40], 0xCC, &[]),
-            (0x40, &[0x02, 0x87, 0x42], 0xCC, &[]),
-        ],
-    );
-    expect_at_first(&rt, &mut board);
-    // Each store's record has its own undo, which is of its part alone.
+    let story = [
+        application(0x40, &[0x02, 0x41, 0x86], 0xCC, &[]),
+        application(0x40, &[0x02, 0x44, 0x82], 0xCC, &[]),
+        application(0x40, &[0x02, 0x81, 0x40], 0xCC, &[]),
+        application(0x40, &[0x02, 0x87, 0x42], 0xCC, &[]),
+    ];
+    expect_same(&rt, rt.alloc(), &story)
+}
+
+#[test]
+fn each_store_has_an_undo_of_its_part_alone(rt: HostRuntime) -> Result<(), Fail> {
     let access = stored(
         AccessStore::NonVolatile,
         ChannelChange::Access(SixBits::of(0x01)),
@@ -599,36 +494,31 @@ fn a_change_of_both_stores_is_whole_and_undone(rt: HostRuntime) -> Result<(), Fa
     let old_limit = Limits::inverse(&limit, &[0x09, 0x05]).ok_or("undo")?;
     assert!(rt; Limits::set_data(&old_access).is(&[0x02, 0x7A, 0x00]));
     assert!(rt; Limits::set_data(&old_limit).is(&[0x02, 0x00, 0x85]));
-    replies(
-        &rt,
-        &mut board,
-        &[
-            (0x40, &[0x02, 0x41, 0x82], 0x00, &[]),
-            (0x41, &[0x02, 0x40], 0x00, &[0x01, 0x03]),
-            (0x41, &[0x02, 0x80], 0x00, &[0x09, 0x02]),
-        ],
-    );
-    assert_eq!(rt; board.answer(&Limits::set_asked(&old_limit)).code, 0);
-    assert_eq!(rt; board.answer(&Limits::set_asked(&old_access)).code, 0);
-    expect_at_first(&rt, &mut board);
-    // The stores the other way round, and back by one request.
-    replies(
-        &rt,
-        &mut board,
-        &[
-            (0x40, &[0x02, 0x83, 0x41], 0x00, &[]),
-            (0x41, &[0x02, 0x40], 0x00, &[0x3A, 0x01]),
-            (0x41, &[0x02, 0x80], 0x00, &[0x03, 0x05]),
-            (0x40, &[0x02, 0x89, 0x43], 0x00, &[]),
-        ],
-    );
-    expect_at_first(&rt, &mut board);
     Ok(())
 }
 
 #[test]
+fn a_change_of_both_stores_is_undone(rt: HostRuntime) -> Result<(), Fail> {
+    let story = [
+        application(0x40, &[0x02, 0x41, 0x82], 0x00, &[]),
+        application(0x41, &[0x02, 0x40], 0x00, &[0x01, 0x03]),
+        application(0x41, &[0x02, 0x80], 0x00, &[0x09, 0x02]),
+        application(0x40, &[0x02, 0x00, 0x85], 0x00, &[]),
+        application(0x40, &[0x02, 0x7A, 0x00], 0x00, &[]),
+    ];
+    expect_same(&rt, rt.alloc(), &story)?;
+    // The stores the other way round, and back by one request.
+    let story = [
+        application(0x40, &[0x02, 0x83, 0x41], 0x00, &[]),
+        application(0x41, &[0x02, 0x40], 0x00, &[0x3A, 0x01]),
+        application(0x41, &[0x02, 0x80], 0x00, &[0x03, 0x05]),
+        application(0x40, &[0x02, 0x89, 0x43], 0x00, &[]),
+    ];
+    expect_same(&rt, rt.alloc(), &story)
+}
+
+#[test]
 fn a_change_of_a_name_is_undone(rt: HostRuntime) -> Result<(), Fail> {
-    let mut board = board(rt.alloc())?;
     let root = [
         0x72, 0x6F, 0x6F, 0x74, 0, 0, 0, 0, 0, 0, 0, 0, 0, 0, 0, 0xFF,
     ];
@@ -646,9 +536,5 @@ fn a_change_of_a_name_is_undone(rt: HostRuntime) -> Result<(), Fail> {
         after: &root,
         undo: &undo,
     };
-    expect_undone(&rt, &mut board, &change)?;
-    let key = Key::UserName(UserNumber::of(2));
-    assert_eq!(rt; board.store().get(&key).ok_or("record")?, ADMIN);
-    expect_at_first(&rt, &mut board);
-    Ok(())
+    expect_changes(&rt, rt.alloc(), file(rt.alloc())?, &[change])
 }

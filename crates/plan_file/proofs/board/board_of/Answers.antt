@@ -12,7 +12,7 @@ use Rattle.plan_file.specs.Faults.{field_faults, fault_at, first}
 use Rattle.plan_file.specs.Holds.{HoldsDevice}
 use Rattle.plan_file.proofs.Rows.{number_of, value_of, below, at_least, within, same_value}
 use Rattle.plan_file.proofs.TopRows.{top_sound}
-use Rattle.plan_file.proofs.Sensors.{table_there, top_first, records_first, device_first, sensors_first, channels_first, states_first, effecters_first, no_faults}
+use Rattle.plan_file.proofs.Sensors.{table_there, top_first, records_first, device_first, sensors_first, channels_first, attributes_first, states_first, effecters_first, no_faults}
 use Rattle.plan_file.proofs.board.board_of.Goals as goal
 
 pub returns-in_err-check : goal.returns-in_err-check
@@ -58,13 +58,25 @@ returns-in_err-file_channels c =
 pub file_channels-requires : goal.file_channels-requires
 file_channels-requires c = c.in_ok-check.ensures.ok
 
+pub returns-in_err-attributes : goal.returns-in_err-attributes
+returns-in_err-attributes c =
+    let p = err_from_is_err_and c.from_residual-in_err-attributes.result c.from_residual-in_err-attributes.ensures.1 in
+    let device : field_faults DEVICE (table_in field.Device (table_view c.args.tree.now)) ≡ [] = ap (field_faults DEVICE) (sym c.table_in-board.ensures) ∙ c.in_ok-check-2.ensures.ok in
+    rw (p.1, p.2) (elim c.in_err-attributes.ensures.err [
+      | inl memory ↦ inl (ap Err memory)
+      | inr counts ↦ inr (attributes_first (table_view c.args.tree.now) c.in_err-attributes.field-0.0 c.in_ok-check.ensures.ok c.in_ok-sdr.ensures.sound device c.in_ok-sensors.ensures.sound c.in_ok-file_channels.ensures.sound counts)
+    ])
+
+pub attributes-requires : goal.attributes-requires
+attributes-requires c = c.in_ok-check.ensures.ok
+
 pub returns-in_err-state_effecters : goal.returns-in_err-state_effecters
 returns-in_err-state_effecters c =
     let p = err_from_is_err_and c.from_residual-in_err-state_effecters.result c.from_residual-in_err-state_effecters.ensures.1 in
     let device : field_faults DEVICE (table_in field.Device (table_view c.args.tree.now)) ≡ [] = ap (field_faults DEVICE) (sym c.table_in-board.ensures) ∙ c.in_ok-check-2.ensures.ok in
     rw (p.1, p.2) (elim c.in_err-state_effecters.ensures.err [
       | inl memory ↦ inl (ap Err memory)
-      | inr counts ↦ inr (states_first (table_view c.args.tree.now) c.in_err-state_effecters.field-0.0 c.in_ok-check.ensures.ok c.in_ok-sdr.ensures.sound device c.in_ok-sensors.ensures.sound c.in_ok-file_channels.ensures.sound counts)
+      | inr counts ↦ inr (states_first (table_view c.args.tree.now) c.in_err-state_effecters.field-0.0 c.in_ok-check.ensures.ok c.in_ok-sdr.ensures.sound device c.in_ok-sensors.ensures.sound c.in_ok-file_channels.ensures.sound c.in_ok-attributes.ensures.sound counts)
     ])
 
 pub state_effecters-requires : goal.state_effecters-requires
@@ -76,7 +88,7 @@ returns-in_err-numeric_effecters c =
     let device : field_faults DEVICE (table_in field.Device (table_view c.args.tree.now)) ≡ [] = ap (field_faults DEVICE) (sym c.table_in-board.ensures) ∙ c.in_ok-check-2.ensures.ok in
     rw (p.1, p.2) (elim c.in_err-numeric_effecters.ensures.err [
       | inl memory ↦ inl (ap Err memory)
-      | inr counts ↦ inr (effecters_first (table_view c.args.tree.now) c.in_err-numeric_effecters.field-0.0 c.in_ok-check.ensures.ok c.in_ok-sdr.ensures.sound device c.in_ok-sensors.ensures.sound c.in_ok-file_channels.ensures.sound c.in_ok-state_effecters.ensures.sound counts)
+      | inr counts ↦ inr (effecters_first (table_view c.args.tree.now) c.in_err-numeric_effecters.field-0.0 c.in_ok-check.ensures.ok c.in_ok-sdr.ensures.sound device c.in_ok-sensors.ensures.sound c.in_ok-file_channels.ensures.sound c.in_ok-attributes.ensures.sound c.in_ok-state_effecters.ensures.sound counts)
     ])
 
 pub returns-in_err-users : goal.returns-in_err-users
@@ -143,7 +155,7 @@ returns c =
     let device : field_faults DEVICE (table_in field.Device tree) ≡ [] = ap (field_faults DEVICE) (sym c.table_in-board.ensures) ∙ c.in_ok-check-2.ensures.ok in
     let holds : HoldsDevice (table_in field.Device tree) c.device.result = rw (← c.table_in-board.ensures) c.device.ensures in
     inr (
-      no_faults tree c.in_ok-check.ensures.ok c.in_ok-sdr.ensures.sound device c.in_ok-sensors.ensures.sound c.in_ok-file_channels.ensures.sound c.in_ok-state_effecters.ensures.sound c.in_ok-numeric_effecters.ensures.sound,
+      no_faults tree c.in_ok-check.ensures.ok c.in_ok-sdr.ensures.sound device c.in_ok-sensors.ensures.sound c.in_ok-file_channels.ensures.sound c.in_ok-attributes.ensures.sound c.in_ok-state_effecters.ensures.sound c.in_ok-numeric_effecters.ensures.sound,
       record {
         terminus = c.byte_in.ensures;
         clock = c.number_in.ensures;
@@ -161,6 +173,6 @@ returns c =
         channels = c.in_ok-file_channels.ensures.channels;
         sessionless = c.in_ok-file_channels.ensures.sessionless;
         accesses = c.in_ok-file_channels.ensures.accesses;
-        no_attributes = c.no_items-2.ensures;
+        attributes = c.in_ok-attributes.ensures.held;
       },
     )

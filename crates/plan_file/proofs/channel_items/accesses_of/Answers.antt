@@ -1,9 +1,8 @@
-use Rattle.std.proofs.Common.{◌≡◌, ◌≤◌, true, false, ◌+◌, ◌++◌, ◌∷◌, [], map, take, length, sym, ◌∙◌, ap, arith}
+use Rattle.std.proofs.Common.{◌≡◌, ◌+◌, ◌++◌, ◌∷◌, [], map, take, length, sym, ◌∙◌, ap, arith}
 use Rattle.std.proofs.lemmas.List.{append-nil, map-append, length-map}
 use Rattle.std.proofs.lemmas.List.Elements.{filter-append}
 use Rattle.std.proofs.lemmas.List.Folds.{list_all-map}
 use Rattle.std.specs.List.{list_all}
-use Rattle.toml.specs.Data.{Data}
 use Rattle.toml.specs.View.{view, table_view}
 use Rattle.plan_file.specs.declared.field.Field.TheVariants as field
 use Rattle.plan_file.specs.Trees.{table_of, number_in, members_in}
@@ -11,7 +10,7 @@ use Rattle.plan_file.specs.Ranges.{may_do, or_zero}
 use Rattle.plan_file.specs.Faults.{field_faults, has_sessions, channel_rows}
 use Rattle.plan_file.specs.Holds.{parts_of, on_channel, accesses_in, serves, with_sessions}
 use Rattle.plan_file.proofs.Items.{taken_more}
-use Rattle.plan_file.proofs.ChannelLists.{accesses_more, channel_of}
+use Rattle.plan_file.proofs.ChannelLists.{accesses_more}
 use Rattle.plan_file.proofs.ChannelFields.{number_below, with_rows, users_told, sound_at, kept, left_out}
 use Rattle.plan_file.proofs.channel_items.accesses_of.Goals as goal
 use Rattle.plan_file.proofs.channel_items.accesses_of.Goals.{then-has_sessions+in_ok-on+in-Ok, else-has_sessions}

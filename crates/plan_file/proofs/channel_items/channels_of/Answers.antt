@@ -1,9 +1,7 @@
-use Rattle.std.proofs.Common.{◌≡◌, true, false, ◌+◌, ◌++◌, ◌∷◌, [], map, take, List, subst, sym, ◌∙◌, ap}
+use Rattle.std.proofs.Common.{◌≡◌, ◌+◌, ◌++◌, ◌∷◌, [], map, take, subst, sym, ◌∙◌, ap}
 use Rattle.std.proofs.lemmas.List.{append-nil}
 use Rattle.std.proofs.lemmas.List.Elements.{filter-append}
 use Rattle.std.proofs.lemmas.Slice.Zip.{all_zipped_more}
-use Rattle.std.specs.List.{AllZip}
-use Rattle.toml.specs.Data.{Data}
 use Rattle.toml.specs.View.{view, table_view}
 use Rattle.plan_file.specs.Trees.{table_of}
 use Rattle.plan_file.specs.Faults.{field_faults, has_sessions, channel_rows}

@@ -1,4 +1,4 @@
-use Rattle.std.proofs.Common.{◌≡◌, true, false, not, ◌+◌, ◌++◌, ◌∷◌, [], map, take, subst, sym, ◌∙◌, ap}
+use Rattle.std.proofs.Common.{◌≡◌, not, ◌+◌, ◌++◌, ◌∷◌, [], map, take, subst, sym, ◌∙◌, ap}
 use Rattle.std.proofs.lemmas.List.{append-nil}
 use Rattle.std.proofs.lemmas.List.Elements.{filter-append}
 use Rattle.std.proofs.lemmas.Slice.Zip.{all_zipped_more}

@@ -1,4 +1,4 @@
-use Rattle.std.proofs.Common.{◌≡◌, ◌≤◌, length, map, true, sym, ◌∙◌, ap, lit<}
+use Rattle.std.proofs.Common.{◌≡◌, ◌≤◌, length, map, sym, ◌∙◌, ap, lit<}
 use Rattle.std.proofs.lemmas.List.Folds.{list_all-map}
 use Rattle.std.proofs.lemmas.Slice.Zip.{AllZip-long}
 use Rattle.std.specs.List.{list_all, AllZip}
@@ -6,7 +6,7 @@ use Rattle.toml.specs.View.{view, table_view}
 use Rattle.plan_file.specs.declared.field.Field.TheVariants as field
 use Rattle.plan_file.specs.declared.row.TheConstants.{STATE}
 use Rattle.plan_file.specs.Trees.{members_in}
-use Rattle.plan_file.specs.Ranges.{is_state_list, are_present}
+use Rattle.plan_file.specs.Ranges.{is_state_list}
 use Rattle.plan_file.specs.Holds.{IsFieldIn, IsPresentIn}
 use Rattle.plan_file.proofs.Rows.{all_sound, number_of, below, at_least, within}
 use Rattle.plan_file.proofs.Sizes.{state_told}

@@ -1,4 +1,4 @@
-use Rattle.std.proofs.Common.{◌≡◌, ◌≤◌, length, map, is_some, sym, ◌∙◌, ap}
+use Rattle.std.proofs.Common.{◌≤◌, length, map, is_some, sym, ◌∙◌, ap}
 use Rattle.std.proofs.lemmas.List.Folds.{list_all-map}
 use Rattle.std.proofs.lemmas.List.{length-map}
 use Rattle.std.proofs.lemmas.Slice.Zip.{AllZip-long}

@@ -6,7 +6,7 @@ use Rattle.lab_model.specs.ManagerSteps.{called}
 use Rattle.lab.specs.Meaning.{lab_names, call_of}
 use Rattle.lab.specs.Played.{plans}
 use Rattle.lab_play.proofs.Sent.{on_ok}
-use Rattle.lab_play.proofs.ManagerSide.{called_shown}
+use Rattle.lab_play.proofs.ManagerSide.{called_shown, refused_shown}
 use Rattle.lab_play.proofs.lab_state.Lab.call.Goals as goal
 
 pub returns-in-Ok-clause-becomes : goal.returns-in-Ok-clause-becomes
@@ -16,3 +16,10 @@ returns-in-Ok-clause-becomes c = on_ok c.send.result c.send.ensures.becomes (λ 
     called_shown file c.args.self.now x m shows c.send.new.self c.in-Ok.sent deed
     (subst (λ (r : Result (Option Sent) WrongPhase). IsCalled lab_names x.manager m r deed) c.in-Ok.is (c.made.ensures lab_names x.manager shows.manager))
     (sends file))
+
+pub returns-in-Err-clause-becomes : goal.returns-in-Err-clause-becomes
+returns-in-Err-clause-becomes c = λ file x shows.
+    let m = c.made.new.manager in
+    let deed = called plans (call_of c.args.call) x.manager in
+    refused_shown file c.args.self.now x m shows c.in-Err.field-0 deed
+    (subst (λ (r : Result (Option Sent) WrongPhase). IsCalled lab_names x.manager m r deed) c.in-Err.is (c.made.ensures lab_names x.manager shows.manager))

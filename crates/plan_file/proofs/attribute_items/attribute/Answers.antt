@@ -1,0 +1,11 @@
+use Rattle.toml.specs.View.{table_view}
+use Rattle.plan_file.specs.declared.field.Field.TheVariants as field
+use Rattle.plan_file.proofs.AttributeFields.{text_there, common_there}
+use Rattle.plan_file.proofs.Changes.{flag_there}
+use Rattle.plan_file.proofs.attribute_items.attribute.Goals as goal
+
+pub text_in-requires : goal.text_in-requires
+text_in-requires c = text_there (table_view c.args.table.now) field.NameText (common_there (table_view c.args.table.now) c.requires).name
+
+pub boolean_in-requires : goal.boolean_in-requires
+boolean_in-requires c = flag_there (table_view c.args.table.now) field.ReadOnly (common_there (table_view c.args.table.now) c.requires).read_only
