@@ -1,2 +1,3 @@
 pub mod Account
 pub mod Run
+pub mod Drawn

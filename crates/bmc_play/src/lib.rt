@@ -2,8 +2,10 @@
 #![tactic(auto)]
 
 mod account;
+mod drawn;
 mod run;
 #[cfg(test)]
 mod tests;
 
+pub use drawn::chart_run;
 pub use run::play_run;

@@ -1,4 +1,5 @@
 //! What runs write: stories, faults, refused texts and failing writers.
+mod charts;
 mod faults;
 mod late;
 mod others;
@@ -8,7 +9,7 @@ mod stories;
 mod users;
 mod writers;
 
-use crate::play_run;
+use crate::{chart_run, play_run};
 use bmc_lab::Console;
 use std::alloc::Global;
 use std::io;
@@ -122,6 +123,24 @@ fn on_sample<'a>(plan: &'a str, schedule: &'a str) -> Texts<'a> {
     }
 }
 
+/// A run of these texts wrote this text to standard output and this one to standard error, and ended so.
+fn expect_written(
+    rt: &impl Abort,
+    texts: Texts,
+    console: &Console<Paper, Paper>,
+    ended: u8,
+    wanted: (&str, &str, u8),
+) -> Result<(), Fail> {
+    let schedule = texts.schedule;
+    let (out, err, status) = wanted;
+    let written = str::from_utf8(console.out.text.as_slice())?;
+    assert_eq!(rt; written, out, "{schedule}");
+    let written = str::from_utf8(console.err.text.as_slice())?;
+    assert_eq!(rt; written, err, "{schedule}");
+    assert_eq!(rt; ended, status, "{schedule}");
+    Ok(())
+}
+
 /// A run writes this text to standard output and this one to standard error, and ends so.
 fn expect_run(
     rt: &impl Abort,
@@ -137,11 +156,22 @@ fn expect_run(
         schedule,
     } = texts;
     let ended = play_run(alloc, frames, board, plan, schedule, &mut console);
-    let (out, err, status) = wanted;
-    let written = str::from_utf8(console.out.text.as_slice())?;
-    assert_eq!(rt; written, out, "{schedule}");
-    let written = str::from_utf8(console.err.text.as_slice())?;
-    assert_eq!(rt; written, err, "{schedule}");
-    assert_eq!(rt; ended, status, "{schedule}");
-    Ok(())
+    expect_written(rt, texts, &console, ended, wanted)
+}
+
+/// A run that draws a chart does so.
+fn expect_chart(
+    rt: &impl Abort,
+    alloc: Global,
+    texts: Texts,
+    wanted: (&str, &str, u8),
+) -> Result<(), Fail> {
+    let mut console = Console::new(new_paper(alloc, None), new_paper(alloc, None));
+    let Texts {
+        board,
+        plan,
+        schedule,
+    } = texts;
+    let ended = chart_run(alloc, board, plan, schedule, &mut console);
+    expect_written(rt, texts, &console, ended, wanted)
 }

@@ -7,9 +7,10 @@ mod tests;
 mod words;
 
 use crate::file::{Unread, refuse, text_of};
-use crate::words::{FrameWords, PlayWords, Words};
+use crate::words::{FrameWords, PlayWords, Shown, Words};
 use bmc_lab::{Console, Ending, frame_run};
-use bmc_play::play_run;
+use bmc_play::{chart_run, play_run};
+use std::alloc::Global;
 use std::io;
 use std::process::ExitCode;
 use std::rt::{Env, Files};
@@ -53,6 +54,23 @@ fn texts_of<'a, R: Files + AllocGlobal>(rt: &R, words: &'a PlayWords) -> Result<
     })
 }
 
+/// Plays what the texts tell, and shows this of it.
+fn show<W: io::Write, E: io::Write>(
+    alloc: Global,
+    shown: Shown,
+    texts: &Texts,
+    console: &mut Console<W, E>,
+) -> u8 {
+    let board = texts.board.as_str();
+    let plan = texts.plan.as_str();
+    let schedule = texts.schedule.as_str();
+    match shown {
+        Shown::Account => play_run(alloc, false, board, plan, schedule, console),
+        Shown::Frames => play_run(alloc, true, board, plan, schedule, console),
+        Shown::Chart => chart_run(alloc, board, plan, schedule, console),
+    }
+}
+
 /// Plays what the words ask for, once all files that they name are read.
 fn play<R: Files + AllocGlobal, W: io::Write, E: io::Write>(
     rt: &R,
@@ -60,14 +78,7 @@ fn play<R: Files + AllocGlobal, W: io::Write, E: io::Write>(
     console: &mut Console<W, E>,
 ) -> u8 {
     match texts_of(rt, words) {
-        Ok(texts) => play_run(
-            rt.alloc(),
-            words.frames,
-            texts.board.as_str(),
-            texts.plan.as_str(),
-            texts.schedule.as_str(),
-            console,
-        ),
+        Ok(texts) => show(rt.alloc(), words.shown, &texts, console),
         Err(unread) => refuse(rt.alloc(), &unread, console),
     }
 }

@@ -1,5 +1,5 @@
 //! The words of the command line, as the program gets them.
-use crate::words::{FrameWords, PlayWords, Words, read};
+use crate::words::{FrameWords, PlayWords, Shown, Words, read};
 use bmc_lab::Status;
 use std::alloc::{AllocError, Global};
 use std::test::Fail;
@@ -80,9 +80,18 @@ fn other_lines_are_refused(rt: HostRuntime) -> Result<(), Fail> {
         &[
             "play",
             "--chart",
+            "--frames",
             "sample.toml",
             "plan.toml",
             "schedule.txt",
+        ],
+        &[
+            "play",
+            "--frames",
+            "sample.toml",
+            "plan.toml",
+            "schedule.txt",
+            "--chart",
         ],
         &[
             "play",
@@ -127,7 +136,7 @@ fn a_play_names_its_files_in_their_order(rt: HostRuntime) -> Result<(), Fail> {
     for (words, told) in [
         (
             &["play", "sample.toml", "plan.toml", "schedule.txt"][..],
-            false,
+            Shown::Account,
         ),
         (
             &[
@@ -137,7 +146,7 @@ fn a_play_names_its_files_in_their_order(rt: HostRuntime) -> Result<(), Fail> {
                 "plan.toml",
                 "schedule.txt",
             ],
-            true,
+            Shown::Frames,
         ),
         (
             &[
@@ -147,7 +156,7 @@ fn a_play_names_its_files_in_their_order(rt: HostRuntime) -> Result<(), Fail> {
                 "schedule.txt",
                 "--frames",
             ],
-            true,
+            Shown::Frames,
         ),
         (
             &[
@@ -157,23 +166,33 @@ fn a_play_names_its_files_in_their_order(rt: HostRuntime) -> Result<(), Fail> {
                 "plan.toml",
                 "schedule.txt",
             ],
-            true,
+            Shown::Frames,
+        ),
+        (
+            &[
+                "play",
+                "--chart",
+                "sample.toml",
+                "plan.toml",
+                "schedule.txt",
+            ],
+            Shown::Chart,
         ),
         (
             &["play", "--", "sample.toml", "plan.toml", "schedule.txt"],
-            false,
+            Shown::Account,
         ),
     ] {
         let Ok(Words::Play(play)) = named(rt.alloc(), words)? else {
             return Err("refused".into());
         };
         let PlayWords {
-            frames,
+            shown,
             board,
             plan,
             schedule,
         } = play;
-        assert_eq!(rt; frames, told, "{words:?}");
+        assert_eq!(rt; shown, told, "{words:?}");
         assert_eq!(rt; board.as_str(), "sample.toml", "{words:?}");
         assert_eq!(rt; plan.as_str(), "plan.toml", "{words:?}");
         assert_eq!(rt; schedule.as_str(), "schedule.txt", "{words:?}");

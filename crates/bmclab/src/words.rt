@@ -21,11 +21,21 @@ pub struct FrameWords {
     pub frame: AskedFrame,
 }
 
+/// What is to be shown of a play.
+#[derive(Clone, Copy, Debug, PartialEq, Eq)]
+pub enum Shown {
+    /// Its account.
+    Account,
+    /// Its account, with the frames.
+    Frames,
+    /// Its chart.
+    Chart,
+}
+
 /// What the words of `bmclab play` ask for.
 #[derive(Debug, Drop)]
 pub struct PlayWords {
-    /// Whether the frames are told too.
-    pub frames: bool,
+    pub shown: Shown,
     /// The word of the board file.
     pub board: String,
     /// The word of the plan.
@@ -42,12 +52,15 @@ fn frame_command<'a>(alloc: Global) -> Result<Command<'a>, AllocError> {
     Command::new(alloc, "frame").arg(bus)?.arg(board)?.arg(hex)
 }
 
-/// `play [--frames] BOARD PLAN SCHEDULE`.
+/// `play [--frames|--chart] BOARD PLAN SCHEDULE`.
 fn play_command<'a>(alloc: Global) -> Result<Command<'a>, AllocError> {
     let frames = Arg::new(alloc, "frames")
         .long("frames")
         .action(ArgAction::SetTrue);
-    let mut play = Command::new(alloc, "play").arg(frames)?;
+    let chart = Arg::new(alloc, "chart")
+        .long("chart")
+        .action(ArgAction::SetTrue);
+    let mut play = Command::new(alloc, "play").arg(frames)?.arg(chart)?;
     for name in ["BOARD", "PLAN", "SCHEDULE"] {
         play = play.arg(Arg::new(alloc, name).required(true))?;
     }
@@ -99,10 +112,20 @@ fn frame_words(alloc: Global, matches: &ArgMatches) -> Result<FrameWords, Status
     Ok(FrameWords { board, frame })
 }
 
+/// What is to be shown of a play: not both the frames and the chart.
+fn what_is_shown(matches: &ArgMatches) -> Result<Shown, Status> {
+    match (matches.get_flag("frames"), matches.get_flag("chart")) {
+        (false, false) => Ok(Shown::Account),
+        (true, false) => Ok(Shown::Frames),
+        (false, true) => Ok(Shown::Chart),
+        (true, true) => Err(Status::RefusedWords),
+    }
+}
+
 /// What the words behind `play` ask for.
 fn play_words(alloc: Global, matches: &ArgMatches) -> Result<PlayWords, Status> {
     Ok(PlayWords {
-        frames: matches.get_flag("frames"),
+        shown: what_is_shown(matches)?,
         board: named(alloc, matches, "BOARD")?,
         plan: named(alloc, matches, "PLAN")?,
         schedule: named(alloc, matches, "SCHEDULE")?,
