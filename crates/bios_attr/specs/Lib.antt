@@ -7,3 +7,6 @@ pub mod Attributes
 pub mod AttributeLaws
 pub mod Values
 pub mod Tables
+pub mod StringEntry
+pub mod AttributeEntry
+pub mod EntryLaws

@@ -1,9 +1,13 @@
 //! What holds of the definitions.
-ghost use Rattle.std.specs.Prelude.{◌≡◌, ◌↔◌, ℕ, List, Some, IsTrue};
+ghost use Rattle.std.specs.Prelude.{◌≡◌, ◌↔◌, ◌++◌, ℕ, List, Some, IsTrue};
 ghost use Rattle.cfg_records.specs.declared.attribute_range.AttributeRange.{AttributeRange};
 ghost use Rattle.cfg_records.specs.declared.attribute_value.AttributeValue.{AttributeValue};
 ghost use Rattle.bios_attr.specs.declared.value_entry.ValueEntry.{ValueEntry};
+ghost use Rattle.bios_attr.specs.declared.string_entry.StringEntry.{StringEntry};
+ghost use Rattle.bios_attr.specs.declared.attribute_entry.AttributeEntry.{AttributeEntry};
 ghost use Rattle.cfg_records.specs.AttributeValue.{HasEightBytes};
+ghost use Rattle.bios_attr.specs.StringEntry.{string_bytes, string_at};
+ghost use Rattle.bios_attr.specs.AttributeEntry.{HasItsBytes, attribute_bytes, attribute_at};
 ghost use Rattle.bios_attr.specs.ValueEntry.{entry_bytes, entry_in, AreBytes};
 ghost use Rattle.cfg_records.specs.AttributeRange.{Allows, allows};
 
@@ -11,6 +15,18 @@ ghost use Rattle.cfg_records.specs.AttributeRange.{Allows, allows};
 pub fn entries_are_read_as_written()
     ensures written { (entry : ValueEntry) → HasEightBytes entry.value → entry_in (entry_bytes entry) ≡ Some entry }
     ensures read { (bytes : List ℕ) (entry : ValueEntry) → AreBytes bytes → entry_in bytes ≡ Some entry → entry_bytes entry ≡ bytes }
+{}
+
+/// A string entry that is written is read as itself, with what is behind it; and one that is read is written as the same bytes.
+pub fn strings_are_read_as_written()
+    ensures written { (entry : StringEntry) (rest : List ℕ) → string_at (string_bytes entry ++ rest) ≡ Some (entry, rest) }
+    ensures read { (bytes : List ℕ) (entry : StringEntry) (rest : List ℕ) → AreBytes bytes → string_at bytes ≡ Some (entry, rest) → string_bytes entry ++ rest ≡ bytes }
+{}
+
+/// An attribute entry that is written is read as itself, with what is behind it; and one that is read is written as the same bytes.
+pub fn attributes_are_read_as_written()
+    ensures written { (entry : AttributeEntry) (rest : List ℕ) → HasItsBytes entry.kind → attribute_at (attribute_bytes entry ++ rest) ≡ Some (entry, rest) }
+    ensures read { (bytes : List ℕ) (entry : AttributeEntry) (rest : List ℕ) → AreBytes bytes → attribute_at bytes ≡ Some (entry, rest) → (attribute_bytes entry ++ rest ≡ bytes) × HasItsBytes entry.kind }
 {}
 
 /// The test says which values an attribute can have.

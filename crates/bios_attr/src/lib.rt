@@ -2,11 +2,14 @@
 //! tables that tell of them.
 #![tactic(auto)]
 
+pub mod attribute_entry;
 pub mod bios_attribute;
 pub mod bios_table;
 pub mod current_values;
 mod entries;
 pub mod laws;
+pub mod rest;
+pub mod string_entry;
 mod strings;
 mod table;
 #[cfg(test)]
@@ -16,8 +19,11 @@ pub mod tables;
 mod tests;
 pub mod value_entry;
 
+pub use attribute_entry::{AttributeEntry, EnumerationFields, IntegerFields, KindFields, TextFields};
 pub use bios_attribute::AttributeLimits;
 pub use bios_table::BiosTable;
 pub use current_values::{CurrentValues, EntryHead};
+pub use rest::Rest;
+pub use string_entry::StringEntry;
 pub use tables::Tables;
 pub use value_entry::ValueEntry;
