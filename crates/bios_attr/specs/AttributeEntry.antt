@@ -1,5 +1,5 @@
 -- Attribute entries (DSP0247): an attribute's handle, its type, the handle of its name, and what its type wants.
-use Rattle.std.specs.Prelude.{◌≡◌, ℕ, ◌^◌, ◌<◌, ◌*◌, ◌/◌, ◌%◌, nat_le, List, [], ◌∷◌, ◌++◌, ◌==◌, length, take, drop, if◌then◌else◌, Option, Some, None}
+use Rattle.std.specs.Prelude.{◌≡◌, ℕ, ◌^◌, ◌<◌, ◌*◌, ◌/◌, ◌%◌, nat_le, List, ◌∷◌, ◌++◌, ◌==◌, length, take, drop, if◌then◌else◌, Option, Some, None}
 use Rattle.std.specs.Option.{option_map}
 use Rattle.std.specs.Int.{w32, w64, to_le_bytes, from_le_bytes}
 use Rattle.cfg_records.specs.AttributeValue.{two_bytes, number_of, enumeration_type, string_type, integer_type}

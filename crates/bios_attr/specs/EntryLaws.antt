@@ -1,12 +1,12 @@
 -- What is written as a string or an attribute entry is read as it, with what is behind it, and the other way round.
-use Rattle.std.proofs.Common.{◌≡◌, ℕ, zero, suc, ◌+◌, ◌*◌, ◌/◌, ◌%◌, ◌<◌, ◌≤◌, ◌^◌, List, [], ◌∷◌, ◌++◌, length, take, drop, get_or, Bool, true, false, ◌==◌, nat_le, if◌then◌else◌, Option, Some, None, refl, sym, ◌∙◌, ap, subst, arith}
+use Rattle.std.proofs.Common.{◌≡◌, ℕ, zero, suc, ◌+◌, ◌*◌, ◌/◌, ◌%◌, ◌<◌, ◌≤◌, ◌^◌, List, [], ◌∷◌, ◌++◌, length, take, drop, Bool, true, false, ◌==◌, nat_le, if◌then◌else◌, Option, Some, None, refl, sym, ◌∙◌, ap, subst, arith}
 use Rattle.std.specs.Option.{option_map}
 use Rattle.std.specs.Int.{w32, w64, to_le_bytes, from_le_bytes}
 use Rattle.std.proofs.lemmas.List.{append_assoc, take-append-drop, length-append, length-drop, length-take-le, get_or-drop, drop-drop}
 use Rattle.std.proofs.lemmas.Bool.Decides.{nat_tests}
 use Rattle.std.proofs.Math.Seq.{take-append_seam, drop-append_seam}
 use Rattle.std.proofs.lemmas.Nat.{from_le_bytes-to_le_bytes_4, from_le_bytes-to_le_bytes_8, le_bytes_4, le_bytes_8}
-use Rattle.cfg_records.specs.InverseLaws.{tested_same, same_tested}
+use Rattle.cfg_records.specs.InverseLaws.{tested_same}
 use Rattle.cfg_records.specs.AttributeRangeLaws.{le_true, true_le}
 use Rattle.cfg_records.specs.AttributeValue.{two_bytes, number_of, enumeration_type, string_type, integer_type}
 use Rattle.bios_attr.specs.declared.string_entry.StringEntry.{StringEntry}

@@ -6,7 +6,9 @@ pub mod BiosAttributeKind
 pub mod Attributes
 pub mod AttributeLaws
 pub mod Values
-pub mod Tables
 pub mod StringEntry
 pub mod AttributeEntry
 pub mod EntryLaws
+pub mod StringTable
+pub mod StringTableLaws
+pub mod Tables

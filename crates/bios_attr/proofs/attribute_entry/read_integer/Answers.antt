@@ -1,4 +1,4 @@
-use Rattle.std.proofs.Common.{◌≡◌, ◌-◌, ◌≤◌, ℕ, List, length, take, drop, true, arith, length-drop, nat_le, Some, sym, ◌∙◌}
+use Rattle.std.proofs.Common.{◌≡◌, ◌-◌, ℕ, List, length, take, drop, true, arith, length-drop, nat_le, Some, sym, ◌∙◌}
 use Rattle.std.proofs.lemmas.List.{take_all}
 use Rattle.cfg_records.specs.AttributeRangeLaws.{le_true}
 use Rattle.bios_attr.specs.declared.attribute_entry.KindFields.TheVariants.{Integer}

@@ -1,4 +1,4 @@
-use Rattle.std.proofs.Common.{◌≡◌, ◌++◌, ℕ, List, ◌∙◌, ap}
+use Rattle.std.proofs.Common.{◌++◌, ℕ, List, ◌∙◌, ap}
 use Rattle.std.specs.Int.{w32, w64, to_le_bytes}
 use Rattle.bios_attr.specs.AttributeLaws.{four_pieces}
 use Rattle.bios_attr.proofs.attribute_entry.write_integer.Goals as goal
