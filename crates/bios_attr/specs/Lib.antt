@@ -12,3 +12,4 @@ pub mod EntryLaws
 pub mod StringTable
 pub mod StringTableLaws
 pub mod Tables
+pub mod TableEntry

@@ -12,6 +12,7 @@ pub mod rest;
 pub mod string_entry;
 mod strings;
 mod table;
+pub mod table_entry;
 #[cfg(test)]
 mod table_tests;
 pub mod tables;
@@ -25,5 +26,6 @@ pub use bios_table::BiosTable;
 pub use current_values::{CurrentValues, EntryHead};
 pub use rest::Rest;
 pub use string_entry::StringEntry;
+pub use table_entry::TableEntry;
 pub use tables::Tables;
 pub use value_entry::ValueEntry;
