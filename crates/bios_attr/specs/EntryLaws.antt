@@ -17,7 +17,7 @@ use Rattle.bios_attr.specs.ValueEntry.{shown_type, AreBytes}
 use Rattle.bios_attr.specs.StringEntry.{piece, string_bytes, string_at}
 use Rattle.bios_attr.specs.AttributeEntry.{HasItsBytes, type_of_fields, fields_bytes, attribute_bytes, default_at, enumeration_at, text_at, numbers_in, integer_at, fields_at, attribute_at}
 
-told : (n : ℕ) → n % 256 + 256 * (n / 256) ≡ n
+pub told : (n : ℕ) → n % 256 + 256 * (n / 256) ≡ n
 told n = omega arith
 
 -- ---- pieces
@@ -30,7 +30,7 @@ pub comes_of : {X : Type 0} (b : Bool) (x : Option X) (y : X) → (if b then x e
 comes_of true x y h = (refl, h)
 comes_of false x y h = absurd cc
 
-piece_back : {X : Type 0} (count : ℕ) (xs ys : List ℕ) (make : List ℕ → List ℕ → Option X) → count ≡ length xs → piece count (xs ++ ys) make ≡ make xs ys
+pub piece_back : {X : Type 0} (count : ℕ) (xs ys : List ℕ) (make : List ℕ → List ℕ → Option X) → count ≡ length xs → piece count (xs ++ ys) make ≡ make xs ys
 piece_back count xs ys make is =
     let within : nat_le (length xs) (length (xs ++ ys)) ≡ true = le_true _ _ (omega (arith, length-append xs ys)) in
     ap (λ (n : ℕ). piece n (xs ++ ys) make) is
@@ -190,13 +190,13 @@ text_told (type ∷ a ∷ b ∷ c ∷ d ∷ low ∷ high ∷ bytes) found small 
       whole = tt;
     })
 
-small_front : (count : ℕ) (bytes : List ℕ) → AreBytes bytes → AreBytes (take count bytes)
+pub small_front : (count : ℕ) (bytes : List ℕ) → AreBytes bytes → AreBytes (take count bytes)
 small_front zero bytes small place = omega arith
 small_front (suc count) [] small place = omega arith
 small_front (suc count) (byte ∷ bytes) small zero = small 0
 small_front (suc count) (byte ∷ bytes) small (suc place) = small_front count bytes (λ i. small (suc i)) place
 
-fits_eight : (bytes : List ℕ) → AreBytes bytes → from_le_bytes w64 bytes < 2 ^ 64
+pub fits_eight : (bytes : List ℕ) → AreBytes bytes → from_le_bytes w64 bytes < 2 ^ 64
 fits_eight bytes small = omega (arith, small 0, small 1, small 2, small 3, small 4, small 5, small 6, small 7)
 
 fits_four : (bytes : List ℕ) → AreBytes bytes → from_le_bytes w32 bytes < 2 ^ 32
@@ -266,7 +266,7 @@ shown_back : (high : Bool) (code : ℕ) → code < 256 → nat_le 128 code ≡ h
 shown_back true code small is = let above : 128 < code + 1 = grind (arith, nat_tests) in omega (arith, above)
 shown_back false code small is = let below : code < 128 = grind (arith, nat_tests) in omega (arith, below)
 
-mapped : {X Y : Type 0} (make : X → Y) (o : Option X) (y : Y) → option_map make o ≡ Some y → (x : X) × (o ≡ Some x) × (make x ≡ y)
+pub mapped : {X Y : Type 0} (make : X → Y) (o : Option X) (y : Y) → option_map make o ≡ Some y → (x : X) × (o ≡ Some x) × (make x ≡ y)
 mapped make (Some x) y h = (x, refl, cc)
 mapped make None y h = absurd cc
 

@@ -13,3 +13,4 @@ pub mod StringTable
 pub mod StringTableLaws
 pub mod Tables
 pub mod TableEntry
+pub mod TableEntryLaws

@@ -22,7 +22,7 @@ comes_of false x y h = absurd cc
 
 -- ---- written, then read
 
-type_back : (read_only : Bool) (v : AttributeValue) → shown_type read_only (type_of_value v) % 128 ≡ type_of_value v
+pub type_back : (read_only : Bool) (v : AttributeValue) → shown_type read_only (type_of_value v) % 128 ≡ type_of_value v
 type_back true (Indexes indexes) = refl
 type_back true (Text text) = refl
 type_back true (Number n) = refl
@@ -30,7 +30,7 @@ type_back false (Indexes indexes) = refl
 type_back false (Text text) = refl
 type_back false (Number n) = refl
 
-bit_back : (read_only : Bool) (v : AttributeValue) → nat_le 128 (shown_type read_only (type_of_value v)) ≡ read_only
+pub bit_back : (read_only : Bool) (v : AttributeValue) → nat_le 128 (shown_type read_only (type_of_value v)) ≡ read_only
 bit_back true (Indexes indexes) = refl
 bit_back true (Text text) = refl
 bit_back true (Number n) = refl

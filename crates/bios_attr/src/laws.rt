@@ -1,5 +1,5 @@
 //! What holds of the definitions.
-ghost use Rattle.std.specs.Prelude.{◌≡◌, ◌↔◌, ◌++◌, ℕ, List, Some, IsTrue};
+ghost use Rattle.std.specs.Prelude.{◌≡◌, ◌↔◌, ◌≤◌, ◌++◌, ℕ, List, length, Some, IsTrue};
 ghost use Rattle.cfg_records.specs.declared.attribute_range.AttributeRange.{AttributeRange};
 ghost use Rattle.cfg_records.specs.declared.attribute_value.AttributeValue.{AttributeValue};
 ghost use Rattle.bios_attr.specs.declared.value_entry.ValueEntry.{ValueEntry};
@@ -9,6 +9,10 @@ ghost use Rattle.cfg_records.specs.AttributeValue.{HasEightBytes};
 ghost use Rattle.bios_attr.specs.StringEntry.{string_bytes, string_at};
 ghost use Rattle.bios_attr.specs.AttributeEntry.{HasItsBytes, attribute_bytes, attribute_at};
 ghost use Rattle.bios_attr.specs.ValueEntry.{entry_bytes, entry_in, AreBytes};
+ghost use Rattle.bios_attr.specs.declared.bios_table.BiosTable.{BiosTable};
+ghost use Rattle.bios_attr.specs.declared.table_entry.TableEntry.{TableEntry};
+ghost use Rattle.bios_attr.specs.TableEntry.{table_of, written, IsWhole, entry_at};
+ghost use Rattle.bios_attr.specs.TableEntryLaws.{IsRead};
 ghost use Rattle.cfg_records.specs.AttributeRange.{Allows, allows};
 
 /// A value entry that is written is read as itself, so bytes are at most one; and one that is read is written as the same bytes.
@@ -27,6 +31,14 @@ pub fn strings_are_read_as_written()
 pub fn attributes_are_read_as_written()
     ensures written { (entry : AttributeEntry) (rest : List ℕ) → HasItsBytes entry.kind → attribute_at (attribute_bytes entry ++ rest) ≡ Some (entry, rest) }
     ensures read { (bytes : List ℕ) (entry : AttributeEntry) (rest : List ℕ) → AreBytes bytes → attribute_at bytes ≡ Some (entry, rest) → (attribute_bytes entry ++ rest ≡ bytes) × HasItsBytes entry.kind }
+{}
+
+/// An entry of a table that is written is read as itself, with what is behind it; one that is read is written as the same bytes; and none has fewer
+/// than four of them.
+pub fn table_entries_are_read_as_written()
+    ensures written { (entry : TableEntry) (rest : List ℕ) → IsWhole entry → entry_at (table_of entry) (written entry ++ rest) ≡ Some (entry, rest) }
+    ensures read { (table : BiosTable) (bytes : List ℕ) (entry : TableEntry) (rest : List ℕ) → AreBytes bytes → entry_at table bytes ≡ Some (entry, rest) → IsRead table bytes (entry, rest) }
+    ensures long { (entry : TableEntry) → 4 ≤ length (written entry) }
 {}
 
 /// The test says which values an attribute can have.
