@@ -1,5 +1,5 @@
 -- The entries of the three tables (DSP0247), and whole tables as lists of them.
-use Rattle.std.specs.Prelude.{◌≡◌, ℕ, ◌+◌, ◌%◌, ◌≤◌, nat_le, List, [], ◌∷◌, ◌==◌, length, slice_index, if◌then◌else◌, Option, None}
+use Rattle.std.specs.Prelude.{◌≡◌, ℕ, ◌+◌, ◌%◌, ◌≤◌, nat_le, List, [], ◌∷◌, ◌++◌, ◌==◌, length, slice_index, if◌then◌else◌, Option, None}
 use Rattle.std.specs.List.{flat_map}
 use Rattle.std.specs.Option.{option_map}
 use Rattle.cfg_records.specs.AttributeSizes.{most_sent}
@@ -12,7 +12,7 @@ use Rattle.bios_attr.specs.declared.table_entry.TableEntry.TheVariants.{String, 
 use Rattle.bios_attr.specs.ValueEntry.{read_only_bit, entry_bytes}
 use Rattle.bios_attr.specs.StringEntry.{piece, string_bytes, string_at}
 use Rattle.bios_attr.specs.AttributeEntry.{HasItsBytes, attribute_bytes, attribute_at}
-use Rattle.bios_attr.specs.Tables.{IsTable}
+use Rattle.bios_attr.specs.Tables.{padded, IsTable}
 
 -- ---- value entries at the front of bytes
 
@@ -63,6 +63,12 @@ entry_at table.Strings bytes = option_map (λ found. (String found.0, found.1)) 
 entry_at table.Attributes bytes = option_map (λ found. (Attribute found.0, found.1)) (attribute_at bytes)
 entry_at table.Values bytes = option_map (λ found. (Value found.0, found.1)) (value_at bytes)
 
+-- an entry of a table and what is behind it, as they were read from these bytes
+pub record IsRead (t : BiosTable) (bytes : List ℕ) (read : TableEntry × List ℕ) : Type 0 where
+  pub of_table : table_of read.0 ≡ t
+  pub spelled : written read.0 ++ read.1 ≡ bytes
+  pub whole : IsWhole read.0
+
 -- ---- whole tables
 
 -- each is a whole entry of this table
@@ -75,3 +81,26 @@ AreOf t (entry ∷ entries) = (table_of entry ≡ t) × IsWhole entry × AreOf t
 pub record IsTableOf (t : BiosTable) (entries : List TableEntry) (bytes : List ℕ) : Type 0 where
   pub of_table : AreOf t entries
   pub spelled : IsTable (flat_map written entries) bytes
+
+-- they are the table of so many entries
+pub record HasEntries (t : BiosTable) (bytes : List ℕ) (count : ℕ) : Type 0 where
+  pub entries : List TableEntry
+  pub counted : length entries ≡ count
+  pub is_table : IsTableOf t entries bytes
+
+-- they are the table of no entries at all, not even of none
+abbrev pub IsNoTable : BiosTable → List ℕ → Type 0
+IsNoTable t bytes = (entries : List TableEntry) → IsTableOf t entries bytes → ⊥
+
+-- the entries and the padding of a table
+pub record IsBody (t : BiosTable) (bytes : List ℕ) (entries : List TableEntry) : Type 0 where
+  pub of_table : AreOf t entries
+  pub spelled : padded (flat_map written entries) ≡ bytes
+
+pub record HasBody (t : BiosTable) (bytes : List ℕ) (count : ℕ) : Type 0 where
+  pub entries : List TableEntry
+  pub counted : length entries ≡ count
+  pub is_body : IsBody t bytes entries
+
+abbrev pub IsNoBody : BiosTable → List ℕ → Type 0
+IsNoBody t bytes = (entries : List TableEntry) → IsBody t bytes entries → ⊥

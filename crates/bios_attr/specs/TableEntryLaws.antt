@@ -21,7 +21,7 @@ use Rattle.bios_attr.specs.ValueEntryLaws.{entry_told, type_back, bit_back}
 use Rattle.bios_attr.specs.StringEntry.{piece, string_bytes, string_at}
 use Rattle.bios_attr.specs.AttributeEntry.{attribute_bytes, attribute_at}
 use Rattle.bios_attr.specs.EntryLaws.{told, fits, comes_of, piece_back, piece_told, fits_eight, mapped, small_front, string_back, string_told, attribute_back, attribute_told}
-use Rattle.bios_attr.specs.TableEntry.{value_size, value_at, table_of, written, IsValueEntry, IsWhole, entry_at}
+use Rattle.bios_attr.specs.TableEntry.{value_size, value_at, table_of, written, IsValueEntry, IsWhole, IsRead, entry_at}
 
 -- ---- value entries, written, then read
 
@@ -101,12 +101,6 @@ pub entry_back : (entry : TableEntry) (rest : List ℕ) → IsWhole entry → en
 entry_back (String e) rest whole = ap (option_map (λ found. (String found.0, found.1))) (string_back e rest)
 entry_back (Attribute e) rest whole = ap (option_map (λ found. (Attribute found.0, found.1))) (attribute_back e rest whole)
 entry_back (Value e) rest whole = ap (option_map (λ found. (Value found.0, found.1))) (value_entry_back e rest whole)
-
--- an entry of a table and what is behind it, as they were read from these bytes
-pub record IsRead (t : BiosTable) (bytes : List ℕ) (read : TableEntry × List ℕ) : Type 0 where
-  pub of_table : table_of read.0 ≡ t
-  pub spelled : written read.0 ++ read.1 ≡ bytes
-  pub whole : IsWhole read.0
 
 pub entry_is_read : (t : BiosTable) (bytes : List ℕ) (read : TableEntry × List ℕ) → AreBytes bytes → entry_at t bytes ≡ Some read → IsRead t bytes read
 entry_is_read table.Strings bytes read small h =

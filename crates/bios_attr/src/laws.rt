@@ -11,8 +11,7 @@ ghost use Rattle.bios_attr.specs.AttributeEntry.{HasItsBytes, attribute_bytes, a
 ghost use Rattle.bios_attr.specs.ValueEntry.{entry_bytes, entry_in, AreBytes};
 ghost use Rattle.bios_attr.specs.declared.bios_table.BiosTable.{BiosTable};
 ghost use Rattle.bios_attr.specs.declared.table_entry.TableEntry.{TableEntry};
-ghost use Rattle.bios_attr.specs.TableEntry.{table_of, written, IsWhole, entry_at};
-ghost use Rattle.bios_attr.specs.TableEntryLaws.{IsRead};
+ghost use Rattle.bios_attr.specs.TableEntry.{table_of, written, IsWhole, IsRead, entry_at};
 ghost use Rattle.cfg_records.specs.AttributeRange.{Allows, allows};
 
 /// A value entry that is written is read as itself, so bytes are at most one; and one that is read is written as the same bytes.

@@ -19,6 +19,7 @@ pub mod tables;
 #[cfg(test)]
 mod tests;
 pub mod value_entry;
+pub mod whole_table;
 
 pub use attribute_entry::{AttributeEntry, EnumerationFields, IntegerFields, KindFields, TextFields};
 pub use bios_attribute::AttributeLimits;
@@ -29,3 +30,4 @@ pub use string_entry::StringEntry;
 pub use table_entry::TableEntry;
 pub use tables::Tables;
 pub use value_entry::ValueEntry;
+pub use whole_table::{TableError, count_table};
