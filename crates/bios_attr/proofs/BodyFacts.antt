@@ -64,7 +64,7 @@ left_read : (t : BiosTable) (rest pad : List ℕ) (entry : TableEntry) (entries 
 left_read t rest pad entry entries of_table spelled =
     subst (λ (xs : List ℕ). entry_at t xs ≡ Some (entry, all_written entries ++ pad)) (sym (first_written entry entries pad) ∙ spelled)
     (subst (λ (u : BiosTable). entry_at u (written entry ++ (all_written entries ++ pad)) ≡ Some (entry, all_written entries ++ pad)) of_table.0
-        (entry_back entry (all_written entries ++ pad) of_table.1))
+    (entry_back entry (all_written entries ++ pad) of_table.1))
 
 -- where an entry stands, the first that is left is it
 goes_on : (t : BiosTable) (rest behind pad : List ℕ) (entry : TableEntry) → entry_at t rest ≡ Some (entry, behind) → 4 ≤ length rest → length pad < 4

@@ -81,18 +81,21 @@ fields_back (Enumeration e) rest pairs =
     ∙ piece_back (length e.default) e.default rest (λ default rest. Some (Enumeration (record { values = e.values; default = default }), rest)) refl
 fields_back (Text t) rest tt =
     piece_back (number_of (length t.default % 256) (length t.default / 256)) t.default rest
-        (λ default rest. Some (Text (record { string_type = t.string_type; least = number_of (t.least % 256) (t.least / 256); most = number_of (t.most % 256) (t.most / 256); default = default }), rest))
-        (told (length t.default))
+    (λ default rest. Some (Text (record { string_type = t.string_type; least = number_of (t.least % 256) (t.least / 256); most = number_of (t.most % 256) (t.most / 256); default = default }), rest))
+    (told (length t.default))
     ∙ (λ i. Some (Text (record { string_type = t.string_type; least = told t.least i; most = told t.most i; default = t.default }), rest))
 fields_back (Integer n) rest small =
     let within : nat_le 28 (length (fields_bytes (Integer n) ++ rest)) ≡ true = le_true _ _ (omega arith) in
     fits _ _ within
-    ∙ (λ i. Some (Integer (record {
-      lower = from_le_bytes-to_le_bytes_8 n.lower small.lower i;
-      upper = from_le_bytes-to_le_bytes_8 n.upper small.upper i;
-      increment = from_le_bytes-to_le_bytes_4 n.increment small.increment i;
-      default = from_le_bytes-to_le_bytes_8 n.default small.default i;
-    }), rest))
+    ∙ (λ i. Some (
+      Integer (record {
+        lower = from_le_bytes-to_le_bytes_8 n.lower small.lower i;
+        upper = from_le_bytes-to_le_bytes_8 n.upper small.upper i;
+        increment = from_le_bytes-to_le_bytes_4 n.increment small.increment i;
+        default = from_le_bytes-to_le_bytes_8 n.default small.default i;
+      }),
+      rest,
+    ))
 
 type_back : (read_only : Bool) (kind : KindFields) → shown_type read_only (type_of_fields kind) % 128 ≡ type_of_fields kind
 type_back true (Enumeration e) = refl
@@ -182,11 +185,11 @@ text_told (type ∷ a ∷ b ∷ c ∷ d ∷ low ∷ high ∷ bytes) found small 
       spelled = ap (λ (xs : List ℕ). type ∷ xs)
           (two_back a b (two_bytes (number_of c d) ++ (two_bytes (length (take count bytes)) ++ text)) (small 1)
           ∙ ap (λ (xs : List ℕ). a ∷ b ∷ xs)
-              (two_back c d (two_bytes (length (take count bytes)) ++ text) (small 3)
-              ∙ ap (λ (xs : List ℕ). c ∷ d ∷ xs)
-                  (ap (λ (n : ℕ). two_bytes n ++ text) long
-                  ∙ two_back low high text (small 5)
-                  ∙ ap (λ (xs : List ℕ). low ∷ high ∷ xs) (take-append-drop count bytes))));
+          (two_back c d (two_bytes (length (take count bytes)) ++ text) (small 3)
+          ∙ ap (λ (xs : List ℕ). c ∷ d ∷ xs)
+          (ap (λ (n : ℕ). two_bytes n ++ text) long
+          ∙ two_back low high text (small 5)
+          ∙ ap (λ (xs : List ℕ). low ∷ high ∷ xs) (take-append-drop count bytes))));
       whole = tt;
     })
 

@@ -88,8 +88,9 @@ ordered_more used strings text is i j d less within =
 there_more : (used new : List (List ℕ)) (text : List ℕ) → ((k : ℕ) (d : List ℕ) → k < length used → list_any (is_text (get_or used k d)) new ≡ true) → list_any (is_text text) new ≡ true
     → (k : ℕ) (d : List ℕ) → k < length (used ++ text ∷ []) → list_any (is_text (get_or (used ++ text ∷ []) k d)) new ≡ true
 there_more used new text before has k d within = elim (cases_lt k (length used)) [
-    inl less ↦ subst (λ (other : List ℕ). list_any (is_text other) new ≡ true) (sym (get_or_append_left used (text ∷ []) d k less)) (before k d less)
-    | inr no_less ↦ subst (λ (other : List ℕ). list_any (is_text other) new ≡ true) (sym (get_or_push used text d k (omega (arith, within, no_less, length-append used (text ∷ []))))) has ]
+  | inl less ↦ subst (λ (other : List ℕ). list_any (is_text other) new ≡ true) (sym (get_or_append_left used (text ∷ []) d k less)) (before k d less)
+  | inr no_less ↦ subst (λ (other : List ℕ). list_any (is_text other) new ≡ true) (sym (get_or_push used text d k (omega (arith, within, no_less, length-append used (text ∷ []))))) has
+]
 
 is_there_already : (used strings : List (List ℕ)) (text : List ℕ) → InOrder used strings → list_any (is_text text) strings ≡ true → InOrder (used ++ text ∷ []) strings
 is_there_already used strings text is has = record {
@@ -111,10 +112,11 @@ is_new used strings text is none =
     let last = first_end used strings text is none in
     record {
       known = λ k d within. elim (cases_lt k (length strings)) [
-          inl less ↦ subst (λ (other : List ℕ). first_use (used ++ text ∷ []) other < length (used ++ text ∷ [])) (sym (get_or_append_left strings (text ∷ []) d k less))
-              (omega (arith, known_more used strings text is k d less, length-append used (text ∷ [])))
-          | inr no_less ↦ subst (λ (other : List ℕ). first_use (used ++ text ∷ []) other < length (used ++ text ∷ [])) (sym (get_or_push strings text d k (omega (arith, within, no_less, length-append strings (text ∷ [])))))
-              (omega (arith, last, length-append used (text ∷ []))) ];
+        | inl less ↦ subst (λ (other : List ℕ). first_use (used ++ text ∷ []) other < length (used ++ text ∷ [])) (sym (get_or_append_left strings (text ∷ []) d k less))
+            (omega (arith, known_more used strings text is k d less, length-append used (text ∷ [])))
+        | inr no_less ↦ subst (λ (other : List ℕ). first_use (used ++ text ∷ []) other < length (used ++ text ∷ [])) (sym (get_or_push strings text d k (omega (arith, within, no_less, length-append strings (text ∷ [])))))
+            (omega (arith, last, length-append used (text ∷ [])))
+      ];
       ordered = all_pairs_push (λ a b. first_use (used ++ text ∷ []) a < first_use (used ++ text ∷ []) b) strings text (ordered_more used strings text is)
           (λ k d within. omega (arith, last, known_more used strings text is k d within));
       there = there_more used (strings ++ text ∷ []) text

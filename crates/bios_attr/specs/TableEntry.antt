@@ -28,7 +28,7 @@ abbrev pub value_at : List ℕ → Option (ValueEntry × List ℕ)
 value_at (low ∷ high ∷ code ∷ bytes) =
     if nat_le (value_size (code % read_only_bit) bytes) most_sent
     then piece (value_size (code % read_only_bit) bytes) bytes (λ value rest.
-        option_map (λ v. (record { attribute = number_of low high; read_only = nat_le read_only_bit code; value = v }, rest)) (value_in (code % read_only_bit) value))
+    option_map (λ v. (record { attribute = number_of low high; read_only = nat_le read_only_bit code; value = v }, rest)) (value_in (code % read_only_bit) value))
     else None
 value_at _ = None
 

@@ -147,10 +147,7 @@ fn read_default<'a>(values: &'a [u8], bytes: &'a [u8]) -> Option<(KindFields<'a>
         values: Data::new(values),
         default: Data::new(&behind[..count]),
     };
-    Some((
-        KindFields::Enumeration(fields),
-        Rest::new(&behind[count..]),
-    ))
+    Some((KindFields::Enumeration(fields), Rest::new(&behind[count..])))
 }
 
 /// What an enumeration's entry says behind its name.

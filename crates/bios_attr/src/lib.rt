@@ -7,6 +7,8 @@ pub mod bios_attribute;
 pub mod bios_table;
 pub mod current_values;
 mod entries;
+#[cfg(test)]
+mod entry_tests;
 pub mod laws;
 pub mod rest;
 pub mod string_entry;
@@ -21,7 +23,9 @@ mod tests;
 pub mod value_entry;
 pub mod whole_table;
 
-pub use attribute_entry::{AttributeEntry, EnumerationFields, IntegerFields, KindFields, TextFields};
+pub use attribute_entry::{
+    AttributeEntry, EnumerationFields, IntegerFields, KindFields, TextFields,
+};
 pub use bios_attribute::AttributeLimits;
 pub use bios_table::BiosTable;
 pub use current_values::{CurrentValues, EntryHead};

@@ -7,7 +7,7 @@ pub returns-then-ne : goal.returns-then-ne
 returns-then-ne c =
     wrong_check c.args.table c.args.bytes.now c.crc32.result (subst (λ (xs : List ℕ). IsCrc32 xs c.crc32.result) c.split_at.ensures.front c.crc32.ensures)
     (λ same. other_bytes c.as_slice.result.now c.split_at.result.1.now c.ne.result c.ne.ensures c.if-ne.true
-        (c.as_slice.ensures ∙ c.to_le_bytes.ensures ∙ sym same ∙ sym c.split_at.ensures.back))
+    (c.as_slice.ensures ∙ c.to_le_bytes.ensures ∙ sym same ∙ sym c.split_at.ensures.back))
 
 pub count_entries-requires : goal.count_entries-requires
 count_entries-requires c =
