@@ -1,6 +1,6 @@
 -- Entries are read one by one up to the padding: what was read, and that nothing else could be.
 use Rattle.std.proofs.Common.{◌≡◌, ◌≢◌, ℕ, zero, suc, ◌+◌, ◌-◌, ◌*◌, ◌%◌, ◌<◌, ◌≤◌, min, List, [], ◌∷◌, ◌++◌, length, take, drop, Bool, true, false, ◌==◌, ◌&&◌, Option, Some, None, Ok, Err, not, nat_eq, refl, sym, ◌∙◌, ap, subst, arith, length-append}
-use Rattle.std.specs.Prelude.{Result, MatchResult}
+use Rattle.std.specs.Prelude.{Result, MatchResult, map}
 use Rattle.std.specs.Cmp.Lexicographic.{pointwise, same_text, other_text}
 use Rattle.std.specs.List.{flat_map, list_all}
 use Rattle.std.proofs.lemmas.List.{append_assoc, length-take, length-take-le, take-append-drop}
@@ -14,6 +14,13 @@ use Rattle.cfg_records.specs.MaskLaws.{both_true}
 use Rattle.cfg_records.specs.InverseLaws.{tested_same}
 use Rattle.bios_attr.specs.declared.bios_table.BiosTable.{BiosTable}
 use Rattle.bios_attr.specs.declared.table_entry.TableEntry.{TableEntry}
+use Rattle.bios_attr.specs.declared.bios_table.BiosTable.TheVariants.{Strings}
+use Rattle.bios_attr.specs.declared.string_entry.StringEntry.{StringEntry}
+use Rattle.bios_attr.specs.declared.table_entry.TableEntry.TheVariants.{String}
+use Rattle.bios_attr.specs.Attributes.{string_entries}
+use Rattle.bios_attr.specs.StringEntry.{string_bytes}
+use Rattle.bios_attr.specs.StringTable.{numbered}
+use Rattle.bios_attr.specs.StringTableLaws.{numbered_entries}
 use Rattle.bios_attr.specs.ValueEntry.{AreBytes}
 use Rattle.bios_attr.specs.Tables.{padded, IsTable}
 use Rattle.bios_attr.specs.TableEntry.{table_of, written, IsWhole, IsRead, entry_at, AreOf, IsBody, HasBody, IsNoBody, IsTableOf, HasEntries, IsNoTable}
@@ -252,3 +259,47 @@ same_bytes xs ys b is h = same_text xs ys (let same : not (pointwise nat_eq xs y
 
 pub other_bytes : (xs ys : List ℕ) (b : Bool) → b ≡ not (pointwise nat_eq xs ys) → b ≡ true → xs ≢ ys
 other_bytes xs ys b is h = other_text xs ys (let same : not (pointwise nat_eq xs ys) ≡ true = sym is ∙ h in unnegated (pointwise nat_eq xs ys) same)
+
+-- ---- a table has one list of entries
+
+-- padding is no entries
+not_padding : (entry : TableEntry) (entries : List TableEntry) (pad other : List ℕ) → length other < 4 → all_written (entry ∷ entries) ++ pad ≡ other → ⊥
+not_padding entry entries pad other short same =
+    let lengths : length (written entry ++ (all_written entries ++ pad)) ≡ length other = ap (λ (xs : List ℕ). length xs) (sym (first_written entry entries pad) ∙ same) in
+    omega (arith, lengths, short, length-append (written entry) (all_written entries ++ pad), four_or_more entry)
+
+one_list : (t : BiosTable) (entries others : List TableEntry) (pad padding : List ℕ) → AreOf t entries → AreOf t others → length pad < 4 → length padding < 4 → all_written entries ++ pad ≡ all_written others ++ padding → entries ≡ others
+one_list t [] [] pad padding are also short small same = refl
+one_list t [] (other ∷ others) pad padding are also short small same = absurd (not_padding other others padding pad short (sym same))
+one_list t (entry ∷ entries) [] pad padding are also short small same = absurd (not_padding entry entries pad padding small same)
+one_list t (entry ∷ entries) (other ∷ others) pad padding are also short small same =
+    let rest : List ℕ = all_written (entry ∷ entries) ++ pad in
+    let read = left_read t rest pad entry entries are refl in
+    let read_too = left_read t rest padding other others also (sym same) in
+    let pair = some_same (entry, all_written entries ++ pad) (other, all_written others ++ padding) (sym read ∙ read_too) in
+    let first : entry ≡ other = ap (λ (found : TableEntry × List ℕ). found.0) pair in
+    let behind : all_written entries ++ pad ≡ all_written others ++ padding = ap (λ (found : TableEntry × List ℕ). found.1) pair in
+    let more : entries ≡ others = one_list t entries others pad padding are.2 also.2 short small behind in
+    λ i. first i ∷ more i
+
+pub one_table : (t : BiosTable) (entries others : List TableEntry) (bytes : List ℕ) → IsTableOf t entries bytes → IsTableOf t others bytes → entries ≡ others
+one_table t entries others bytes is also =
+    one_list t entries others (padding (all_written entries)) (padding (all_written others)) is.of_table also.of_table (padding_short (all_written entries)) (padding_short (all_written others))
+    (sym (table_front (all_written entries) bytes is.spelled) ∙ table_front (all_written others) bytes also.spelled)
+
+-- ---- the table of strings
+
+strings_of_table : (strings : List StringEntry) → AreOf Strings (map String strings)
+strings_of_table [] = tt
+strings_of_table (entry ∷ strings) = (refl, tt, strings_of_table strings)
+
+strings_written : (strings : List StringEntry) → all_written (map String strings) ≡ flat_map string_bytes strings
+strings_written [] = refl
+strings_written (entry ∷ strings) =
+    flat_map-cons written (String entry) (map String strings) ∙ ap (λ (xs : List ℕ). string_bytes entry ++ xs) (strings_written strings) ∙ sym (flat_map-cons string_bytes entry strings)
+
+pub string_table : (strings : List (List ℕ)) (bytes : List ℕ) → IsTable (string_entries 0 strings) bytes → IsTableOf Strings (map String (numbered 0 strings)) bytes
+string_table strings bytes is = record {
+  of_table = strings_of_table (numbered 0 strings);
+  spelled = subst (λ (entries : List ℕ). IsTable entries bytes) (numbered_entries 0 strings ∙ sym (strings_written (numbered 0 strings))) is;
+}
