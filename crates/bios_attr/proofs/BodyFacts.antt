@@ -1,5 +1,5 @@
 -- Entries are read one by one up to the padding: what was read, and that nothing else could be.
-use Rattle.std.proofs.Common.{◌≡◌, ◌≢◌, ℕ, zero, suc, ◌+◌, ◌-◌, ◌*◌, ◌%◌, ◌<◌, ◌≤◌, min, List, [], ◌∷◌, ◌++◌, length, take, drop, Bool, true, false, ◌==◌, ◌&&◌, Option, Some, None, Ok, Err, not, nat_eq, refl, sym, ◌∙◌, ap, subst, arith, length-append}
+use Rattle.std.proofs.Common.{◌≡◌, ◌≢◌, ℕ, zero, suc, ◌+◌, ◌-◌, ◌%◌, ◌<◌, ◌≤◌, List, [], ◌∷◌, ◌++◌, length, take, drop, Bool, true, false, ◌==◌, ◌&&◌, Some, None, Ok, Err, not, nat_eq, refl, sym, ◌∙◌, ap, subst, arith, length-append}
 use Rattle.std.specs.Prelude.{Result, MatchResult, map}
 use Rattle.std.specs.Cmp.Lexicographic.{pointwise, same_text, other_text}
 use Rattle.std.specs.List.{flat_map, list_all}
@@ -9,7 +9,6 @@ use Rattle.std.specs.Int.{w32, to_le_bytes}
 use Rattle.pldm_base.specs.Crc.{IsCrc32}
 use Rattle.pldm_base.proofs.Register.{one-crc32}
 use Rattle.std.proofs.lemmas.List.Concat.{flat_map-append, flat_map-cons}
-use Rattle.std.proofs.lemmas.Bool.Decides.{nat_tests}
 use Rattle.cfg_records.specs.MaskLaws.{both_true}
 use Rattle.cfg_records.specs.InverseLaws.{tested_same}
 use Rattle.bios_attr.specs.declared.bios_table.BiosTable.{BiosTable}
@@ -23,7 +22,7 @@ use Rattle.bios_attr.specs.StringTable.{numbered}
 use Rattle.bios_attr.specs.StringTableLaws.{numbered_entries}
 use Rattle.bios_attr.specs.ValueEntry.{AreBytes}
 use Rattle.bios_attr.specs.Tables.{padded, IsTable}
-use Rattle.bios_attr.specs.TableEntry.{table_of, written, IsWhole, IsRead, entry_at, AreOf, IsBody, HasBody, IsNoBody, IsTableOf, HasEntries, IsNoTable}
+use Rattle.bios_attr.specs.TableEntry.{table_of, written, IsWhole, entry_at, AreOf, HasBody, IsNoBody, IsTableOf, HasEntries, IsNoTable}
 use Rattle.bios_attr.specs.TableEntryLaws.{entry_back, entry_is_read, four_or_more}
 
 abbrev pub all_written : List TableEntry → List ℕ

@@ -1,14 +1,13 @@
 -- What is written as an entry of a table is read as it, with what is behind it, and the other way round.
-use Rattle.std.proofs.Common.{◌≡◌, ℕ, zero, suc, ◌+◌, ◌*◌, ◌/◌, ◌%◌, ◌<◌, ◌≤◌, ◌^◌, List, [], ◌∷◌, ◌++◌, length, take, drop, Bool, true, false, ◌==◌, nat_le, if◌then◌else◌, Option, Some, None, refl, sym, ◌∙◌, ap, subst, arith}
+use Rattle.std.proofs.Common.{◌≡◌, ℕ, suc, ◌/◌, ◌%◌, ◌≤◌, List, [], ◌∷◌, ◌++◌, length, take, drop, Bool, true, false, ◌==◌, nat_le, if◌then◌else◌, Option, Some, None, refl, ◌∙◌, ap, subst, arith}
 use Rattle.std.specs.Option.{option_map}
 use Rattle.std.specs.Int.{w64, from_le_bytes}
-use Rattle.std.proofs.lemmas.List.{append_assoc, take-append-drop, length-append, length-take-le}
-use Rattle.cfg_records.specs.InverseLaws.{tested_same}
+use Rattle.std.proofs.lemmas.List.{take-append-drop, length-take-le}
 use Rattle.cfg_records.specs.AttributeRangeLaws.{le_true, true_le, value_back}
 use Rattle.cfg_records.specs.AttributeSizes.{most_sent}
 use Rattle.cfg_records.specs.declared.attribute_value.AttributeValue.{AttributeValue}
 use Rattle.cfg_records.specs.declared.attribute_value.AttributeValue.TheVariants.{Indexes, Text, Number}
-use Rattle.cfg_records.specs.AttributeValue.{number_of, enumeration_type, string_type, integer_type, type_of_value, value_bytes, indexes_in, text_in, number_in, value_in, HasEightBytes}
+use Rattle.cfg_records.specs.AttributeValue.{number_of, type_of_value, value_bytes, indexes_in, text_in, number_in, value_in, HasEightBytes}
 use Rattle.bios_attr.specs.declared.bios_table.BiosTable.{BiosTable}
 use Rattle.bios_attr.specs.declared.bios_table.BiosTable.TheVariants as table
 use Rattle.bios_attr.specs.declared.value_entry.ValueEntry.{ValueEntry}
@@ -18,7 +17,7 @@ use Rattle.bios_attr.specs.declared.table_entry.TableEntry.{TableEntry}
 use Rattle.bios_attr.specs.declared.table_entry.TableEntry.TheVariants.{String, Attribute, Value}
 use Rattle.bios_attr.specs.ValueEntry.{shown_type, entry_bytes, AreBytes}
 use Rattle.bios_attr.specs.ValueEntryLaws.{entry_told, type_back, bit_back}
-use Rattle.bios_attr.specs.StringEntry.{piece, string_bytes, string_at}
+use Rattle.bios_attr.specs.StringEntry.{piece, string_at}
 use Rattle.bios_attr.specs.AttributeEntry.{attribute_bytes, attribute_at}
 use Rattle.bios_attr.specs.EntryLaws.{told, fits, comes_of, piece_back, piece_told, fits_eight, mapped, small_front, string_back, string_told, attribute_back, attribute_told}
 use Rattle.bios_attr.specs.TableEntry.{value_size, value_at, table_of, written, IsValueEntry, IsWhole, IsRead, entry_at}

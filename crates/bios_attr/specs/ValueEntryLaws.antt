@@ -1,15 +1,15 @@
 -- What is written as a value entry is read as it, and the other way round.
-use Rattle.std.proofs.Common.{◌≡◌, ℕ, suc, ◌+◌, ◌*◌, ◌/◌, ◌%◌, ◌<◌, ◌^◌, List, [], ◌∷◌, ◌++◌, length, get_or, Bool, true, false, ◌==◌, nat_le, if◌then◌else◌, Option, Some, None, refl, sym, ◌∙◌, ap, subst, ◌⊎◌, inl, inr, arith}
+use Rattle.std.proofs.Common.{◌≡◌, ℕ, suc, ◌+◌, ◌*◌, ◌/◌, ◌%◌, ◌<◌, List, [], ◌∷◌, length, Bool, true, false, ◌==◌, nat_le, if◌then◌else◌, Option, Some, None, refl, sym, ◌∙◌, ap, subst, arith}
 use Rattle.std.specs.Option.{option_map}
-use Rattle.std.specs.Int.{w64, to_le_bytes, from_le_bytes}
-use Rattle.std.proofs.lemmas.Nat.{from_le_bytes-to_le_bytes_8, le_bytes_8}
+use Rattle.std.specs.Int.{w64, from_le_bytes}
+use Rattle.std.proofs.lemmas.Nat.{le_bytes_8}
 use Rattle.std.proofs.lemmas.Bool.Decides.{nat_tests}
-use Rattle.cfg_records.specs.InverseLaws.{tested_same, same_tested}
+use Rattle.cfg_records.specs.InverseLaws.{tested_same}
 use Rattle.cfg_records.specs.declared.attribute_value.AttributeValue.{AttributeValue}
 use Rattle.cfg_records.specs.declared.attribute_value.AttributeValue.TheVariants.{Indexes, Text, Number}
 use Rattle.cfg_records.specs.AttributeRangeLaws.{value_back}
 use Rattle.bios_attr.specs.declared.value_entry.ValueEntry.{ValueEntry}
-use Rattle.cfg_records.specs.AttributeValue.{two_bytes, number_of, enumeration_type, string_type, integer_type, type_of_value, value_bytes, indexes_in, text_in, number_in, value_in, HasEightBytes}
+use Rattle.cfg_records.specs.AttributeValue.{number_of, enumeration_type, string_type, integer_type, type_of_value, value_bytes, indexes_in, text_in, number_in, value_in, HasEightBytes}
 use Rattle.bios_attr.specs.ValueEntry.{shown_type, entry_bytes, entry_in, AreBytes}
 
 told : (n : ℕ) → n % 256 + 256 * (n / 256) ≡ n

@@ -1,7 +1,5 @@
-use Rattle.std.proofs.Common.{◌≡◌, ◌<◌, ◌+◌, List, ℕ, length, sym, arith, ◌∙◌, subst}
+use Rattle.std.proofs.Common.{◌<◌, ◌+◌, List, ℕ, length, sym, arith, ◌∙◌, subst}
 use Rattle.bios_attr.specs.ValueEntry.{AreBytes}
-use Rattle.bios_attr.specs.declared.table_entry.TableEntry.{TableEntry}
-use Rattle.bios_attr.specs.TableEntry.{entry_at}
 use Rattle.bios_attr.proofs.BodyFacts.{SoFar, small_rest, one_more, behind_less, whole_body, no_entry, no_padding}
 use Rattle.bios_attr.proofs.whole_table.count_entries.Goals as goal
 

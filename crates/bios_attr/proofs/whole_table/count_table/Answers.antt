@@ -1,4 +1,4 @@
-use Rattle.std.proofs.Common.{◌≡◌, ◌%◌, List, ℕ, length, sym, ◌∙◌, ap, subst}
+use Rattle.std.proofs.Common.{◌%◌, List, ℕ, length, sym, ◌∙◌, ap, subst}
 use Rattle.pldm_base.specs.Crc.{IsCrc32}
 use Rattle.bios_attr.proofs.BodyFacts.{wrong_check, even_body, table_found, same_bytes, other_bytes}
 use Rattle.bios_attr.proofs.whole_table.count_table.Goals as goal
