@@ -14,6 +14,8 @@ use Rattle.cfg_records.specs.InverseLaws.{tested_same}
 use Rattle.bios_attr.specs.declared.bios_table.BiosTable.{BiosTable}
 use Rattle.bios_attr.specs.declared.table_entry.TableEntry.{TableEntry}
 use Rattle.bios_attr.specs.declared.bios_table.BiosTable.TheVariants.{Strings}
+use Rattle.bios_attr.specs.declared.whole_table.TableError.{TableError}
+use Rattle.bios_attr.specs.declared.whole_table.TableError.TheVariants.{WrongLength, WrongCheck, NotAnEntry, WrongPadding}
 use Rattle.bios_attr.specs.declared.string_entry.StringEntry.{StringEntry}
 use Rattle.bios_attr.specs.declared.table_entry.TableEntry.TheVariants.{String}
 use Rattle.bios_attr.specs.Attributes.{string_entries}
@@ -22,7 +24,7 @@ use Rattle.bios_attr.specs.StringTable.{numbered}
 use Rattle.bios_attr.specs.StringTableLaws.{numbered_entries}
 use Rattle.bios_attr.specs.ValueEntry.{AreBytes}
 use Rattle.bios_attr.specs.Tables.{padded, IsTable}
-use Rattle.bios_attr.specs.TableEntry.{table_of, written, IsWhole, entry_at, AreOf, HasBody, IsNoBody, IsTableOf, HasEntries, IsNoTable}
+use Rattle.bios_attr.specs.TableEntry.{table_of, written, IsWhole, entry_at, AreOf, HasBody, IsNoBody, IsTableOf, HasEntries, IsNoTable, BeginsWith, IsBodyFault, IsChecked, HasLength, IsFault}
 use Rattle.bios_attr.specs.TableEntryLaws.{entry_back, entry_is_read, four_or_more}
 
 abbrev pub all_written : List TableEntry → List ℕ
@@ -80,6 +82,9 @@ goes_on t rest behind pad entry read long short [] of_table spelled =
 goes_on t rest behind pad entry read long short (first ∷ entries) of_table spelled =
     let pair = some_same (first, all_written entries ++ pad) (entry, behind) (sym (left_read t rest pad first entries of_table spelled) ∙ read) in
     record { entries = entries; of_table = of_table.2; spelled = ap (λ (found : TableEntry × List ℕ). found.1) pair }
+
+pub begins : (t : BiosTable) (bytes rest : List ℕ) (count : ℕ) → SoFar t bytes rest count → BeginsWith t bytes rest
+begins t bytes rest count so_far = record { entries = so_far.before; of_table = so_far.of_table; spelled = so_far.spelled }
 
 small_end : (xs rest : List ℕ) → AreBytes (xs ++ rest) → AreBytes rest
 small_end [] rest small = small
@@ -220,6 +225,10 @@ wrong_check t bytes crc checked wrong entries is =
     let own : IsCrc32 (padded (all_written entries)) crc = subst (λ (xs : List ℕ). IsCrc32 xs crc) (table_front (all_written entries) bytes is.spelled) checked in
     wrong (table_end (all_written entries) bytes is.spelled ∙ ap (to_le_bytes w32) (one-crc32 (padded (all_written entries)) is.spelled.crc crc is.spelled.checked own))
 
+-- no other number is the CRC-32 of the same bytes
+pub unchecked : (bytes : List ℕ) (crc : ℕ) → IsCrc32 (take (length bytes - 4) bytes) crc → drop (length bytes - 4) bytes ≢ to_le_bytes w32 crc → (other : ℕ) → IsChecked bytes other → ⊥
+unchecked bytes crc checked wrong other is = wrong (is.spelled ∙ ap (to_le_bytes w32) (one-crc32 (take (length bytes - 4) bytes) other crc is.checked checked))
+
 pub no_body : (t : BiosTable) (bytes : List ℕ) → IsNoBody t (take (length bytes - 4) bytes) → IsNoTable t bytes
 no_body t bytes none entries is = none entries (record { of_table = is.of_table; spelled = sym (table_front (all_written entries) bytes is.spelled) })
 
@@ -240,10 +249,20 @@ a_table t bytes crc count checked end body = record {
 pub even_body : (bytes : List ℕ) → 4 ≤ length bytes → length bytes % 4 ≡ 0 → length (take (length bytes - 4) bytes) % 4 ≡ 0
 even_body bytes long even = omega (arith, length-take-le (length bytes - 4) bytes (omega arith), long, even)
 
-pub table_found : {X : Type 0} (t : BiosTable) (bytes body : List ℕ) (crc : ℕ) (r : Result ℕ X) → body ≡ take (length bytes - 4) bytes → IsCrc32 body crc → drop (length bytes - 4) bytes ≡ to_le_bytes w32 crc
-    → MatchResult r (HasBody t body) (λ error. IsNoBody t body) → MatchResult r (HasEntries t bytes) (λ error. IsNoTable t bytes)
-table_found t bytes body crc (Ok count) is checked end has = a_table t bytes crc count (subst (λ (xs : List ℕ). IsCrc32 xs crc) is checked) end (subst (λ (xs : List ℕ). HasBody t xs count) is has)
-table_found t bytes body crc (Err error) is checked end has = no_body t bytes (subst (IsNoBody t) is has)
+-- a fault of what stands before the CRC-32 is one of the table
+later_fault : (t : BiosTable) (bytes : List ℕ) (crc : ℕ) (error : TableError) → HasLength bytes → IsChecked bytes crc → IsBodyFault t (take (length bytes - 4) bytes) error → IsFault t bytes error
+later_fault t bytes crc WrongLength sized checked fault = absurd fault
+later_fault t bytes crc WrongCheck sized checked fault = absurd fault
+later_fault t bytes crc NotAnEntry sized checked fault = (sized, (crc, checked), fault)
+later_fault t bytes crc WrongPadding sized checked fault = (sized, (crc, checked), fault)
+
+pub table_found : (t : BiosTable) (bytes body : List ℕ) (crc : ℕ) (r : Result ℕ TableError) → HasLength bytes → body ≡ take (length bytes - 4) bytes → IsCrc32 body crc → drop (length bytes - 4) bytes ≡ to_le_bytes w32 crc
+    → MatchResult r (HasBody t body) (λ error. IsNoBody t body × IsBodyFault t body error) → MatchResult r (HasEntries t bytes) (λ error. IsNoTable t bytes × IsFault t bytes error)
+table_found t bytes body crc (Ok count) sized is checked end has = a_table t bytes crc count (subst (λ (xs : List ℕ). IsCrc32 xs crc) is checked) end (subst (λ (xs : List ℕ). HasBody t xs count) is has)
+table_found t bytes body crc (Err error) sized is checked end has = (
+  no_body t bytes (subst (IsNoBody t) is has.0),
+  later_fault t bytes crc error sized (record { checked = subst (λ (xs : List ℕ). IsCrc32 xs crc) is checked; spelled = end }) (subst (λ (xs : List ℕ). IsBodyFault t xs error) is has.1),
+)
 
 negated : (b : Bool) → not b ≡ false → true ≡ b
 negated true h = refl

@@ -1,6 +1,8 @@
 -- The entries of the three tables (DSP0247), and whole tables as lists of them.
-use Rattle.std.specs.Prelude.{◌≡◌, ℕ, ◌+◌, ◌%◌, ◌≤◌, nat_le, List, [], ◌∷◌, ◌++◌, ◌==◌, length, slice_index, if◌then◌else◌, Option, None}
-use Rattle.std.specs.List.{flat_map}
+use Rattle.std.specs.Prelude.{◌≡◌, ℕ, ◌+◌, ◌%◌, ◌≤◌, nat_le, List, [], ◌∷◌, ◌++◌, ◌==◌, length, slice_index, if◌then◌else◌, Option, None, ◌-◌, ◌<◌, take, drop, false}
+use Rattle.std.specs.List.{flat_map, list_all}
+use Rattle.std.specs.Int.{w32, to_le_bytes}
+use Rattle.pldm_base.specs.Crc.{IsCrc32}
 use Rattle.std.specs.Option.{option_map}
 use Rattle.cfg_records.specs.AttributeSizes.{most_sent}
 use Rattle.cfg_records.specs.AttributeValue.{number_of, enumeration_type, string_type, value_bytes, value_in, HasEightBytes}
@@ -8,6 +10,8 @@ use Rattle.bios_attr.specs.declared.bios_table.BiosTable.{BiosTable}
 use Rattle.bios_attr.specs.declared.bios_table.BiosTable.TheVariants as table
 use Rattle.bios_attr.specs.declared.value_entry.ValueEntry.{ValueEntry}
 use Rattle.bios_attr.specs.declared.table_entry.TableEntry.{TableEntry}
+use Rattle.bios_attr.specs.declared.whole_table.TableError.{TableError}
+use Rattle.bios_attr.specs.declared.whole_table.TableError.TheVariants.{WrongLength, WrongCheck, NotAnEntry, WrongPadding}
 use Rattle.bios_attr.specs.declared.table_entry.TableEntry.TheVariants.{String, Attribute, Value}
 use Rattle.bios_attr.specs.ValueEntry.{read_only_bit, entry_bytes}
 use Rattle.bios_attr.specs.StringEntry.{piece, string_bytes, string_at}
@@ -104,3 +108,47 @@ pub record HasBody (t : BiosTable) (bytes : List ℕ) (count : ℕ) : Type 0 whe
 
 abbrev pub IsNoBody : BiosTable → List ℕ → Type 0
 IsNoBody t bytes = (entries : List TableEntry) → IsBody t bytes entries → ⊥
+
+-- ---- why bytes are no table: the first fault
+
+-- whole entries of the table that stand first, and what is behind them
+pub record BeginsWith (t : BiosTable) (bytes rest : List ℕ) : Type 0 where
+  pub entries : List TableEntry
+  pub of_table : AreOf t entries
+  pub spelled : flat_map written entries ++ rest ≡ bytes
+
+-- behind whole entries stand four bytes or more that are no entry
+pub record StopsAtBytes (t : BiosTable) (bytes : List ℕ) : Type 0 where
+  pub rest : List ℕ
+  pub begins : BeginsWith t bytes rest
+  pub long : 4 ≤ length rest
+  pub unread : entry_at t rest ≡ None
+
+-- behind whole entries stand fewer than four bytes, and one of them isn't 00h
+pub record StopsAtPadding (t : BiosTable) (bytes : List ℕ) : Type 0 where
+  pub rest : List ℕ
+  pub begins : BeginsWith t bytes rest
+  pub short : length rest < 4
+  pub other : list_all (λ byte. byte == 0) rest ≡ false
+
+-- a fault of entries and their padding
+abbrev pub IsBodyFault : BiosTable → List ℕ → TableError → Type 0
+IsBodyFault t bytes NotAnEntry = StopsAtBytes t bytes
+IsBodyFault t bytes WrongPadding = StopsAtPadding t bytes
+IsBodyFault t bytes _ = ⊥
+
+-- the last four bytes are the CRC-32 of the others
+pub record IsChecked (bytes : List ℕ) (crc : ℕ) : Type 0 where
+  pub checked : IsCrc32 (take (length bytes - 4) bytes) crc
+  pub spelled : drop (length bytes - 4) bytes ≡ to_le_bytes w32 crc
+
+-- bytes of this kind come in fours, and are four or more
+pub record HasLength (bytes : List ℕ) : Type 0 where
+  pub long : 4 ≤ length bytes
+  pub even : length bytes % 4 ≡ 0
+
+-- the length comes first, then the CRC-32, then entries and padding
+abbrev pub IsFault : BiosTable → List ℕ → TableError → Type 0
+IsFault t bytes WrongLength = HasLength bytes → ⊥
+IsFault t bytes WrongCheck = HasLength bytes × ((crc : ℕ) → IsChecked bytes crc → ⊥)
+IsFault t bytes error = HasLength bytes × ((crc : ℕ) × IsChecked bytes crc) × IsBodyFault t (take (length bytes - 4) bytes) error

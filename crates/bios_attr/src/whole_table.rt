@@ -1,7 +1,7 @@
 //! Whole tables, as they are read.
 ghost use Rattle.std.specs.Prelude.{◌≡◌, ◌%◌, ◌==◌, length, MatchResult};
 ghost use Rattle.std.specs.List.{list_all};
-ghost use Rattle.bios_attr.specs.TableEntry.{HasEntries, IsNoTable, HasBody, IsNoBody};
+ghost use Rattle.bios_attr.specs.TableEntry.{HasEntries, IsNoTable, HasBody, IsNoBody, IsBodyFault, IsFault};
 
 use crate::bios_table::BiosTable;
 use crate::table_entry::read_table_entry;
@@ -36,7 +36,7 @@ fn is_padding(bytes: &[u8]) -> bool
 /// How many entries stand before the padding, or why that isn't so.
 fn count_entries(table: BiosTable, bytes: &[u8]) -> Result<usize, TableError>
     requires { length bytes.now % 4 ≡ 0 }
-    ensures { MatchResult result (HasBody table bytes.now) (λ error. IsNoBody table bytes.now) }
+    ensures { MatchResult result (HasBody table bytes.now) (λ error. IsNoBody table bytes.now × IsBodyFault table bytes.now error) }
 {
     let mut rest = bytes;
     let mut count = 0;
@@ -57,7 +57,7 @@ fn count_entries(table: BiosTable, bytes: &[u8]) -> Result<usize, TableError>
 /// How many entries the bytes are the table of, or why they are none. It takes no memory: the entries lie where they are, and
 /// `read_table_entry` shows them one by one.
 pub fn count_table(table: BiosTable, bytes: &[u8]) -> Result<usize, TableError>
-    ensures { MatchResult result (HasEntries table bytes.now) (λ error. IsNoTable table bytes.now) }
+    ensures { MatchResult result (HasEntries table bytes.now) (λ error. IsNoTable table bytes.now × IsFault table bytes.now error) }
 {
     if bytes.len() < CHECK_LENGTH || bytes.len() % 4 != 0 {
         return Err(TableError::WrongLength);

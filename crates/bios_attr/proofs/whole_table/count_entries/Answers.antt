@@ -1,11 +1,14 @@
 use Rattle.std.proofs.Common.{◌<◌, ◌+◌, List, ℕ, length, sym, arith, ◌∙◌, subst}
 use Rattle.bios_attr.specs.ValueEntry.{AreBytes}
-use Rattle.bios_attr.proofs.BodyFacts.{SoFar, small_rest, one_more, behind_less, whole_body, no_entry, no_padding}
+use Rattle.bios_attr.proofs.BodyFacts.{SoFar, small_rest, one_more, behind_less, whole_body, no_entry, no_padding, begins}
 use Rattle.bios_attr.proofs.whole_table.count_entries.Goals as goal
 
 pub returns-in_default : goal.returns-in_default
 returns-in_default c =
-    no_entry c.args.table c.args.bytes.now c.loop-rest.rest.now c.loop-rest.count c.loop-rest.invariant c.loop-rest-test.true (sym c.read_table_entry.ensures ∙ c.in_default.is)
+    let unread = sym c.read_table_entry.ensures ∙ c.in_default.is in (
+      no_entry c.args.table c.args.bytes.now c.loop-rest.rest.now c.loop-rest.count c.loop-rest.invariant c.loop-rest-test.true unread,
+      record { rest = c.loop-rest.rest.now; begins = begins c.args.table c.args.bytes.now c.loop-rest.rest.now c.loop-rest.count c.loop-rest.invariant; long = c.loop-rest-test.true; unread = unread },
+    )
 
 pub loop-rest-smaller : goal.loop-rest-smaller
 loop-rest-smaller c =
@@ -25,4 +28,7 @@ returns-then-is_padding c =
 
 pub returns-else-is_padding : goal.returns-else-is_padding
 returns-else-is_padding c =
-    no_padding c.args.table c.args.bytes.now c.loop-rest.rest.now c.loop-rest.count c.loop-rest.invariant c.loop-rest-test.false (sym c.is_padding.ensures ∙ c.if-is_padding.false)
+    let other = sym c.is_padding.ensures ∙ c.if-is_padding.false in (
+      no_padding c.args.table c.args.bytes.now c.loop-rest.rest.now c.loop-rest.count c.loop-rest.invariant c.loop-rest-test.false other,
+      record { rest = c.loop-rest.rest.now; begins = begins c.args.table c.args.bytes.now c.loop-rest.rest.now c.loop-rest.count c.loop-rest.invariant; short = c.loop-rest-test.false; other = other },
+    )
