@@ -186,47 +186,31 @@ fn channels_come_between_sensors_and_effecters(rt: HostRuntime) -> Result<(), Fa
     expect_around(&rt, rt.alloc(), BARE, &cases)
 }
 
-/// What stands before each part of a list of so many, its first part, and the others, in whose number's place is `#`.
-fn list(alloc: Global, first: &str, count: u8, other: &str) -> Result<String, AllocError> {
+/// The line of users: the first, and so many others, in whose number's place is `#`.
+fn users_line(alloc: Global, first: &str, count: u8, other: &str) -> Result<String, AllocError> {
     let others = numbered(alloc, count, other)?;
     joined(alloc, &["users = [", first, others.as_str(), "]\n"])
 }
 
-/// The board without the line of its users.
-const NO_USERS: (&str, &str) = (
-    "tid = 5
-clock = 0
-log = 2
-enables = 0x08
-policy = 1
-",
-    "watchdog = [0, 0, 0, 0]
-boot3 = 0
-boot4 = 0
-boot5 = [0, 0, 0, 0, 0]
-sdr = []
-[device]
-id = 0x20
-revision = 1
-major = 1
-minor = 0x05
-support = 0x07
-manufacturer = 0xABCD
-product = 0x1234
-",
-);
+/// What the board has before the line of its users, and behind it.
+fn around_users() -> Result<(&'static str, &'static str), Fail> {
+    Ok(
+        BARE.split_once("users = [\"\", \"admin\"]\n")
+            .ok_or("users")?,
+    )
+}
 
 /// A channel that lacks the line of its users, in whose number's place is `#`.
 const ITEM: &str = "[[channel]]\nnumber = #\nsessions = true\naccess = [2, 2]\nlimit = [4, 4]\n";
 
 /// A board of so many users besides the first and so many channels, on each of which each user may do the same.
-fn with_channels(alloc: Global, users: u8, channels: u8) -> Result<String, AllocError> {
-    let names = list(alloc, "\"\"", users, ", \"user #\"")?;
-    let bytes = list(alloc, "0x14", users, ", 0x14")?;
+fn with_channels(alloc: Global, users: u8, channels: u8) -> Result<String, Fail> {
+    let names = users_line(alloc, "\"\"", users, ", \"user #\"")?;
+    let bytes = users_line(alloc, "0x14", users, ", 0x14")?;
     let item = joined(alloc, &[ITEM, bytes.as_str()])?;
     let items = numbered(alloc, channels, item.as_str())?;
-    let (head, tail) = NO_USERS;
-    joined(alloc, &[head, names.as_str(), tail, items.as_str()])
+    let (head, tail) = around_users()?;
+    Ok(joined(alloc, &[head, names.as_str(), tail, items.as_str()])?)
 }
 
 /// How many users, channels and accesses of users a board has.

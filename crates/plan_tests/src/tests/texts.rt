@@ -133,7 +133,7 @@ fn item_of(alloc: Global, item: &str, number: u8) -> Result<String, AllocError> 
     Ok(text)
 }
 
-/// So many items, from number 0, with its number in the place of each `#`. An item begins with another letter.
+/// So many items, each with its number, from 0, in the place of `#`. An item doesn't begin with `#`.
 pub fn numbered(alloc: Global, count: u8, item: &str) -> Result<String, AllocError> {
     let mut text = String::new(alloc);
     for number in 0..count {
