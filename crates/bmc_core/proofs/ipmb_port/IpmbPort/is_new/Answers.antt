@@ -19,9 +19,11 @@ returns-in-Repeats-clause-settles c p r shows head same =
     ap (λ (q : Heard). outcome (is_above 64) q shows.frames.log) (sym same)
     ∙ sym (ap (outcome_of_found whole) (sym c.in-Repeats.is) ∙ c.find.ensures whole shows.frames.log shows.frames.keeps) in
     subst (λ (o : Outcome). Settles r o false c.repeat.new.out)
-    (ap (outcome_of_found reading) (sym c.in-Repeats.is) ∙ c.find.ensures reading p.log shows.keeps ∙ ap (λ (q : Heard). outcome (is_above 64) q p.log) same)
-    (refl, subst (λ (kept : List ℕ). IsSent (response_after r (Some (reading.reply kept))) done.Repeated c.repeat.new.out) c.as_slice.ensures.value
-    (c.repeat.ensures r head (subst (λ (kept : List ℕ). IsAnswered (record { request = heard_in r; reply = kept })) (sym c.as_slice.ensures.value) (found_answers (heard_in r) shows.frames.log kept found shows.frames.answered))))
+    (ap (outcome_of_found reading) (sym c.in-Repeats.is) ∙ c.find.ensures reading p.log shows.keeps ∙ ap (λ (q : Heard). outcome (is_above 64) q p.log) same) (
+      refl,
+      subst (λ (kept : List ℕ). IsSent (response_after r (Some (reading.reply kept))) done.Repeated c.repeat.new.out) c.as_slice.ensures.value
+          (c.repeat.ensures r head (subst (λ (kept : List ℕ). IsAnswered (record { request = heard_in r; reply = kept })) (sym c.as_slice.ensures.value) (found_answers (heard_in r) shows.frames.log kept found shows.frames.answered))),
+    )
 
 pub returns-in-Busy-clause-settles : goal.returns-in-Busy-clause-settles
 returns-in-Busy-clause-settles c p r shows head same =
