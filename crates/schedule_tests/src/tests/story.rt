@@ -273,12 +273,7 @@ struct Made {
 
 impl Made {
     /// The last event that was offered has a fault, and changes nothing.
-    fn refuse(
-        &mut self,
-        rt: &impl Abort,
-        fault: LabFault,
-        tally: &mut Tally,
-    ) -> Result<(), Fail> {
+    fn refuse(&mut self, rt: &impl Abort, fault: LabFault, tally: &mut Tally) -> Result<(), Fail> {
         let LabFault::Event { fault, place, .. } = fault else {
             return Err("memory was refused".into());
         };
