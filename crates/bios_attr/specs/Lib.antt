@@ -6,4 +6,11 @@ pub mod BiosAttributeKind
 pub mod Attributes
 pub mod AttributeLaws
 pub mod Values
+pub mod StringEntry
+pub mod AttributeEntry
+pub mod EntryLaws
+pub mod StringTable
+pub mod StringTableLaws
 pub mod Tables
+pub mod TableEntry
+pub mod TableEntryLaws

@@ -7,6 +7,7 @@ use Rattle.bios_attr.specs.declared.current_values.EntryHead.{EntryHead}
 use Rattle.bios_attr.specs.declared.bios_table.BiosTable.{BiosTable}
 use Rattle.bios_attr.specs.declared.bios_table.BiosTable.TheVariants.{Strings, Attributes, Values}
 use Rattle.bios_attr.specs.Attributes.{strings_of, string_entries, attribute_entries}
+use Rattle.bios_attr.specs.StringTable.{texts_used, AreStrings}
 use Rattle.bios_attr.specs.Values.{head_of, value_entries}
 
 -- entries, with the bytes 00h behind them that make their number a multiple of four
@@ -27,11 +28,12 @@ pub record Opened : Type 0 where
   pub heads : List EntryHead
   pub values : List ℕ
 
--- they are those of these attributes
+-- they are those of these attributes, whose strings are the texts that these use
 pub record AreTables (attributes : List Attribute) (tables : Opened) : Type 0 where
   pub strings : IsTable (string_entries 0 (strings_of attributes)) tables.strings
   pub described : IsTable (attribute_entries (strings_of attributes) attributes) tables.attributes
   pub heads : tables.heads ≡ map head_of attributes
+  pub texts : AreStrings (texts_used attributes) (strings_of attributes)
 
 -- the same tables, with values that now stand
 pub record ShowsValues (before : Opened) (values : ℕ → List ℕ) (after : Opened) : Type 0 where

@@ -1,15 +1,15 @@
 -- What is written as a value entry is read as it, and the other way round.
-use Rattle.std.proofs.Common.{◌≡◌, ℕ, suc, ◌+◌, ◌*◌, ◌/◌, ◌%◌, ◌<◌, ◌^◌, List, [], ◌∷◌, ◌++◌, length, get_or, Bool, true, false, ◌==◌, nat_le, if◌then◌else◌, Option, Some, None, refl, sym, ◌∙◌, ap, subst, ◌⊎◌, inl, inr, arith}
+use Rattle.std.proofs.Common.{◌≡◌, ℕ, suc, ◌+◌, ◌*◌, ◌/◌, ◌%◌, ◌<◌, List, [], ◌∷◌, length, Bool, true, false, ◌==◌, nat_le, if◌then◌else◌, Option, Some, None, refl, sym, ◌∙◌, ap, subst, arith}
 use Rattle.std.specs.Option.{option_map}
-use Rattle.std.specs.Int.{w64, to_le_bytes, from_le_bytes}
-use Rattle.std.proofs.lemmas.Nat.{from_le_bytes-to_le_bytes_8, le_bytes_8}
+use Rattle.std.specs.Int.{w64, from_le_bytes}
+use Rattle.std.proofs.lemmas.Nat.{le_bytes_8}
 use Rattle.std.proofs.lemmas.Bool.Decides.{nat_tests}
-use Rattle.cfg_records.specs.InverseLaws.{tested_same, same_tested}
+use Rattle.cfg_records.specs.InverseLaws.{tested_same}
 use Rattle.cfg_records.specs.declared.attribute_value.AttributeValue.{AttributeValue}
 use Rattle.cfg_records.specs.declared.attribute_value.AttributeValue.TheVariants.{Indexes, Text, Number}
 use Rattle.cfg_records.specs.AttributeRangeLaws.{value_back}
 use Rattle.bios_attr.specs.declared.value_entry.ValueEntry.{ValueEntry}
-use Rattle.cfg_records.specs.AttributeValue.{two_bytes, number_of, enumeration_type, string_type, integer_type, type_of_value, value_bytes, indexes_in, text_in, number_in, value_in, HasEightBytes}
+use Rattle.cfg_records.specs.AttributeValue.{number_of, enumeration_type, string_type, integer_type, type_of_value, value_bytes, indexes_in, text_in, number_in, value_in, HasEightBytes}
 use Rattle.bios_attr.specs.ValueEntry.{shown_type, entry_bytes, entry_in, AreBytes}
 
 told : (n : ℕ) → n % 256 + 256 * (n / 256) ≡ n
@@ -22,7 +22,7 @@ comes_of false x y h = absurd cc
 
 -- ---- written, then read
 
-type_back : (read_only : Bool) (v : AttributeValue) → shown_type read_only (type_of_value v) % 128 ≡ type_of_value v
+pub type_back : (read_only : Bool) (v : AttributeValue) → shown_type read_only (type_of_value v) % 128 ≡ type_of_value v
 type_back true (Indexes indexes) = refl
 type_back true (Text text) = refl
 type_back true (Number n) = refl
@@ -30,7 +30,7 @@ type_back false (Indexes indexes) = refl
 type_back false (Text text) = refl
 type_back false (Number n) = refl
 
-bit_back : (read_only : Bool) (v : AttributeValue) → nat_le 128 (shown_type read_only (type_of_value v)) ≡ read_only
+pub bit_back : (read_only : Bool) (v : AttributeValue) → nat_le 128 (shown_type read_only (type_of_value v)) ≡ read_only
 bit_back true (Indexes indexes) = refl
 bit_back true (Text text) = refl
 bit_back true (Number n) = refl

@@ -1,5 +1,5 @@
 //! The tables of the sample board's attributes.
-use crate::{BiosTable, CurrentValues, Tables};
+use crate::{BiosTable, CurrentValues, Tables, count_table};
 use cfg_records::attribute_sizes::{MOST_TEXT, MOST_VALUE};
 use cfg_records::{
     Attribute, AttributeKind, Attributes, Distinct, EnumerationAttribute, Indexes,
@@ -182,6 +182,19 @@ fn a_first_part_that_is_whole_has_no_next(rt: HostRuntime) -> Result<(), Fail> {
         assert_eq!(rt; part.flag, TransferFlag::StartAndEnd);
         assert_eq!(rt; part.bytes.len(), length);
         assert!(rt; tables.part(table, GET_NEXT_PART, 192).is_err());
+    }
+    Ok(())
+}
+
+#[test]
+fn the_tables_are_read_back(rt: HostRuntime) -> Result<(), Fail> {
+    let tables = sample_tables(rt.alloc())?;
+    for (table, count) in [
+        (BiosTable::Strings, 5),
+        (BiosTable::Attributes, 3),
+        (BiosTable::Values, 3),
+    ] {
+        assert_eq!(rt; count_table(table, tables.table(table)), Ok(count));
     }
     Ok(())
 }

@@ -3,8 +3,12 @@ ghost use Rattle.std.specs.Prelude.{◌≡◌, ◌+◌, ◌≤◌, ◌++◌, len
 ghost use Rattle.cfg_records.specs.AttributeSizes.{most_sent};
 ghost use Rattle.cfg_records.specs.AttributeValue.{two_bytes, number_of, type_of_value, value_bytes, indexes_in, text_in, number_in, value_in};
 ghost use Rattle.bios_attr.specs.ValueEntry.{shown_type, entry_bytes, entry_in};
+ghost use Rattle.bios_attr.specs.TableEntry.{value_size, value_at};
 
-use cfg_records::attribute_value::{AttributeValue, read_value};
+use crate::rest::Rest;
+use cfg_records::attribute_sizes::MOST_SENT;
+use cfg_records::attribute_value::{AttributeValue, ENUMERATION_TYPE, STRING_TYPE, read_value};
+use cfg_records::byte_at;
 use two_wire::Buffer;
 
 /// What is added to the type of an attribute that can only be read.
@@ -56,4 +60,39 @@ pub fn read_entry(bytes: &[u8]) -> Option<ValueEntry<'_>>
         read_only: bytes[2] >= READ_ONLY_BIT,
         value,
     })
+}
+
+/// How many bytes a value has, by its type and its first bytes.
+fn value_size(code: u8, bytes: &[u8]) -> usize
+    ensures size { result ≡ value_size code bytes.now }
+    ensures small { result ≤ 65537 }
+{
+    let first = byte_at(bytes, 0);
+    match code {
+        ENUMERATION_TYPE => 1 + usize::from(first),
+        STRING_TYPE => 2 + usize::from(u16::from_le_bytes([first, byte_at(bytes, 1)])),
+        _ => 8,
+    }
+}
+
+/// The value entry at the front of the bytes, and what is behind it. Its value is no longer than one in a request.
+pub fn read_value_entry(bytes: &[u8]) -> Option<(ValueEntry<'_>, Rest<'_>)>
+    ensures { result ≡ value_at bytes.now }
+{
+    if bytes.len() < 3 {
+        return None;
+    }
+    let code = bytes[2] % READ_ONLY_BIT;
+    let behind = &bytes[3..];
+    let size = value_size(code, behind);
+    if size > MOST_SENT || behind.len() < size {
+        return None;
+    }
+    let value = read_value(code, &behind[..size])?;
+    let entry = ValueEntry {
+        attribute: u16::from_le_bytes([bytes[0], bytes[1]]),
+        read_only: bytes[2] >= READ_ONLY_BIT,
+        value,
+    };
+    Some((entry, Rest::new(&behind[size..])))
 }

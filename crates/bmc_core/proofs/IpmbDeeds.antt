@@ -38,9 +38,9 @@ module _ (setup : BoardFile) (p : PortState) (before : State) (r : Request) wher
 
   settled : (port : IpmbPort) (out : Out) (o : Outcome) → outcome_at p r ≡ o → Settles r o false out → Shows port p → Does (hears_request setup p before r) (done_by o) port before out
   settled port out (Repeats reply) is settles shows =
-      subst (λ (d : Deed). Does d (done_by (Repeats reply)) port before out) (sym (repeat_deed reply is)) (record { shows = shows; left = refl; sent = settles.1; read = settles.2 })
+      subst (λ (d : Deed). Does d (done_by (Repeats reply)) port before out) (sym (repeat_deed reply is)) (record { shows = shows; left = refl; sent = settles.1.0; read = settles.1.1 })
   settled port out IsBusy is settles shows =
-      subst (λ (d : Deed). Does d (done_by IsBusy) port before out) (sym (busy_deed is)) (record { shows = shows; left = refl; sent = settles.1; read = settles.2 })
+      subst (λ (d : Deed). Does d (done_by IsBusy) port before out) (sym (busy_deed is)) (record { shows = shows; left = refl; sent = settles.1.0; read = settles.1.1 })
   settled port out IsNew is settles shows = absurd (true≢false (sym settles))
 
   -- a request that isn't new
@@ -79,8 +79,8 @@ module _ (p : PortState) (r : Request) (a : Answered) where
   IsToldBy port out o = Shows port (after_by o) × (out ≡ answers_by o) × AreRead Ipmb (response_by o ∷ [])
 
   settled_told : (port : IpmbPort) (out : Out) (o : Outcome) → Settles r o false out → Shows port p → IsToldBy port out o
-  settled_told port out (Repeats reply) settles shows = (shows, settles.1, settles.2)
-  settled_told port out IsBusy settles shows = (shows, settles.1, settles.2)
+  settled_told port out (Repeats reply) settles shows = (shows, settles.1.0, settles.1.1)
+  settled_told port out IsBusy settles shows = (shows, settles.1.0, settles.1.1)
   settled_told port out IsNew settles shows = absurd (true≢false (sym settles))
 
   -- to a request that isn't new any more

@@ -4,6 +4,7 @@ use Rattle.std.specs.Prelude.{slice_index}
 use Rattle.std.proofs.Math.Seq.{take-append_seam}
 use Rattle.std.proofs.lemmas.List.{length-append}
 use Rattle.two_wire.specs.Check.{check_byte}
+use Rattle.ipmb_frame.specs.declared.message.Header.{Header}
 use Rattle.ipmb_frame.specs.declared.message.Request.{Request}
 use Rattle.ipmb_frame.specs.declared.message.Response.{Response}
 use Rattle.ipmb_frame.specs.Grammar.{packed, request_bytes, request_head, request_tail, response_connection, response_lead, response_head, response_tail, frame, IsRequest, IsResponse}
@@ -13,11 +14,11 @@ use Rattle.bus_model.specs.Request.{Request as Asking, Kept, Entry, Carried}
 use Rattle.bus_model.specs.Numbering.{is_above}
 use Rattle.bus_model.specs.Carried.{IsNew, outcome}
 use Rattle.windows.specs.declared.request.Request.{Request as Heard}
-use Rattle.windows.specs.Keeps.{Keeps}
+use Rattle.windows.specs.Keeps.{Reading, Keeps}
 use Rattle.windows.specs.Heard.{request_of, kept_of as kept_as}
 use Rattle.lab_model.specs.PortSteps.{PortState}
 use Rattle.bmc_core.specs.declared.ipmb_port.IpmbPort.{IpmbPort}
-use Rattle.bmc_core.specs.IpmbShown.{reading, response_giving, kept_of, outcome_at, carries, Shows}
+use Rattle.bmc_core.specs.IpmbShown.{reading, whole, response, response_giving, kept_of, outcome_at, carries, IsFresh, Shows}
 
 -- all but the last byte
 butlast : (xs : List ℕ) (last n : ℕ) → n ≡ length xs → take n (xs ++ last ∷ []) ≡ xs
@@ -46,30 +47,47 @@ frame_size r bytes is =
     let whole : length bytes ≡ length (frame (response_head r) (response_tail r)) = ap (λ (xs : List ℕ). length xs) is.spelled in
     (omega (arith, size, whole), omega (arith, size, whole, is.fits))
 
--- what is kept of the frame of the response that gives the answer is the reply that gives it
-kept_reply : (r : Request) (a : Answered) (bytes : List ℕ) → IsResponse (response_giving r a) bytes → reading.reply (take (length bytes - 1) bytes) ≡ (kept_of r a).reply
+-- a response's bytes beside addresses and check bytes
+abbrev pub reply_bytes : Header → ℕ → List ℕ → List ℕ
+reply_bytes h code body = packed (h.net_fn + 1) h.requester.lun ∷ packed h.sequence h.responder.lun ∷ h.command ∷ code ∷ body
+
+-- its frame is read as these
+pub frame_reply : (h : Header) (code : ℕ) (body bytes : List ℕ) → IsResponse (response h code body) bytes → reading.reply bytes ≡ reply_bytes h code body
+frame_reply h code body bytes is =
+    let start : List ℕ = response_lead h code ++ body in
+    let head : List ℕ = response_connection h in
+    let all : List ℕ = head ++ check_byte head ∷ start in
+    let last : ℕ = check_byte start in
+    let size : length (all ++ last ∷ []) ≡ length all + 1 = length-append all (last ∷ []) in
+    ap (λ (xs : List ℕ). reading.reply xs) is.spelled
+    ∙ ap (λ (xs : List ℕ). packed (h.net_fn + 1) h.requester.lun ∷ drop 4 xs) (butlast all last (length (all ++ last ∷ []) - 1) (omega (arith, size)))
+
+-- so that of the response that gives the answer is the reply that gives it
+kept_reply : (r : Request) (a : Answered) (bytes : List ℕ) → IsResponse (response_giving r a) bytes → reading.reply bytes ≡ (kept_of r a).reply
 kept_reply r a bytes is =
     let h = r.header in
-    let start : List ℕ = response_lead h a.code ++ a.body in
-    let head : List ℕ = response_connection h in
-    let whole : List ℕ = head ++ check_byte head ∷ start in
-    let last : ℕ = check_byte start in
-    let size : length (whole ++ last ∷ []) ≡ length whole + 1 = length-append whole (last ∷ []) in
-    ap (λ (xs : List ℕ). reading.reply (take (length xs - 1) xs)) is.spelled
-    ∙ ap (λ (xs : List ℕ). reading.reply xs) (butlast whole last (length (whole ++ last ∷ []) - 1) (omega (arith, size)))
+    frame_reply h a.code a.body bytes is
     ∙ sym (λ i. packed (high h.net_fn h.responder.lun is.header.responder.lun i + 1) (low h.sequence h.requester.lun is.header.requester.lun i)
     ∷ packed (high h.sequence h.requester.lun is.header.requester.lun i) (low h.net_fn h.responder.lun is.header.responder.lun i) ∷ h.command ∷ a.code ∷ a.body)
 
 -- so a port that keeps the request and this frame is the lab's port that carried the request out
 pub carried_shows : (old next : IpmbPort) (heard : Heard 64) (r : Request) (a : Answered) (bytes given : List ℕ)
     → request_of reading heard ≡ heard_in r → IsResponse (response_giving r a) bytes → given ≡ bytes → next.wire ≡ old.wire
-    → ((log : List Entry) → Keeps 64 reading old.windows log → outcome (is_above 64) (request_of reading heard) log ≡ IsNew
-    → Keeps 64 reading next.windows (Carried (kept_as reading heard (take (length given - 1) given)) ∷ log))
-    → (p : PortState) → Shows old p → outcome_at p r ≡ IsNew → Shows next (carries p r a)
-carried_shows old next heard r a bytes given same is whole wire carried p shows new =
-    let reply : reading.reply (take (length given - 1) given) ≡ (kept_of r a).reply = ap (λ (xs : List ℕ). reading.reply (take (length xs - 1) xs)) whole ∙ kept_reply r a bytes is in
+    → ((how : Reading) (log : List Entry) → Keeps 64 how old.windows log → outcome (is_above 64) (request_of how heard) log ≡ IsNew
+    → Keeps 64 how next.windows (Carried (kept_as how heard given) ∷ log))
+    → (p : PortState) → Shows old p → outcome_at p r ≡ IsNew → IsFresh old heard → Shows next (carries p r a)
+carried_shows old next heard r a bytes given same is written wire carried p shows new fresh =
+    let reply : reading.reply given ≡ (kept_of r a).reply = ap (λ (xs : List ℕ). reading.reply xs) written ∙ kept_reply r a bytes is in
     record {
       wire = wire ∙ shows.wire;
       keeps = subst (λ (k : Kept). Keeps 64 reading next.windows (Carried k ∷ p.log)) (λ i. record { request = same i; reply = reply i })
-          (carried p.log shows.keeps (ap (λ (q : Asking). outcome (is_above 64) q p.log) same ∙ new));
+          (carried reading p.log shows.keeps (ap (λ (q : Asking). outcome (is_above 64) q p.log) same ∙ new));
+      frames = record {
+        log = Carried (kept_as whole heard given) ∷ shows.frames.log;
+        keeps = carried whole shows.frames.log shows.frames.keeps (fresh shows.frames.log shows.frames.keeps);
+        answered = (
+          record { asked = r; code = a.code; body = a.body; same = sym same; frame = subst (λ (xs : List ℕ). IsResponse (response_giving r a) xs) (sym written) is },
+          shows.frames.answered,
+        );
+      };
     }

@@ -3,6 +3,7 @@ pub mod IpmbDeeds
 pub mod IpmbFrames
 pub mod IpmbHearing
 pub mod IpmbLists
+pub mod IpmbRepeats
 pub mod SmbusReplies
 pub mod SmbusPorts
 pub mod SmbusLists

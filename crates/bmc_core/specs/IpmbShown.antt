@@ -1,16 +1,19 @@
 -- The lab's port that a port on IPMB shows, and what each call makes of it.
-use Rattle.std.specs.Prelude.{◌≡◌, ℕ, List, [], ◌∷◌, Bool, true, false, drop, slice_index, map, Some, None, Result, Ok, Err, refl}
+use Rattle.std.specs.Prelude.{◌≡◌, ℕ, ◌-◌, ◌<◌, List, [], ◌∷◌, Bool, true, false, length, take, drop, slice_index, map, Some, None, Result, Ok, Err, refl}
 use Rattle.ipmb_frame.specs.declared.message.Header.{Header}
 use Rattle.ipmb_frame.specs.declared.message.Request.{Request}
 use Rattle.ipmb_frame.specs.declared.message.Response.{Response}
+use Rattle.ipmb_frame.specs.Grammar.{IsResponse}
 use Rattle.cfg_records.specs.declared.message.Answered.{Answered}
 use Rattle.cfg_records.specs.declared.board_file.BoardFile.{BoardFile}
-use Rattle.bus_model.specs.Request.{Kept, Carried}
+use Rattle.bus_model.specs.Request.{Kept, Entry, Carried, Idled}
 use Rattle.bus_model.specs.Numbering.{is_above}
 use Rattle.bus_model.specs.Carried.{Outcome, Repeats, IsBusy, IsNew, outcome, log_after, reply_after}
 use Rattle.two_wire.specs.declared.Bus.TheVariants.{Ipmb}
 use Rattle.bmc_board.specs.State.{State}
-use Rattle.windows.specs.Keeps.{Reading, Keeps}
+use Rattle.windows.specs.Keeps.{Reading, Held, Keeps}
+use Rattle.windows.specs.declared.request.Request.{Request as Heard}
+use Rattle.windows.specs.Heard.{request_of}
 use Rattle.lab_model.specs.Bytes.{heard_in}
 use Rattle.lab_model.specs.Values.{Value, Tells, written}
 use Rattle.lab_model.specs.PortSteps.{PortState, Deed, stays, spelled, response_after, hears_request}
@@ -24,15 +27,44 @@ use Rattle.bmc_core.specs.declared.ipmb_port.IpmbPort.{IpmbPort}
 use Rattle.bmc_core.specs.Outs.{sends, done_by, AreRead}
 use Rattle.bmc_core.specs.IpmbHeard.{IsHeard}
 
--- A request is kept as it is. A reply is kept as its frame but for the last check byte, and is what stands there beside the addresses and
--- the first check byte.
+-- A request is kept as it is. A reply is kept as its frame, and is what stands there beside the addresses and the check bytes.
 abbrev pub reading : Reading
-reading = record { request = λ bytes. bytes; reply = λ kept. slice_index kept 1 ∷ drop 4 kept; same = λ a b. refl }
+reading = record { request = λ bytes. bytes; reply = λ kept. slice_index kept 1 ∷ drop 4 (take (length kept - 1) kept); same = λ a b. refl }
+
+-- where the whole frame is looked at
+abbrev pub whole : Reading
+whole = record { request = λ bytes. bytes; reply = λ kept. kept; same = λ a b. refl }
+
+-- what is kept for the request is the frame of a response to it, at whichever address it was heard
+pub record IsAnswered (k : Kept) : Type 0 where
+  pub asked : Request
+  pub code : ℕ
+  pub body : List ℕ
+  pub same : heard_in asked ≡ k.request
+  pub frame : IsResponse (record { header = asked.header; code = code; body = body }) k.reply
+
+-- the numbers of a header's logical units are below 4
+pub record HasUnits (h : Header) : Type 0 where
+  pub responder : h.responder.lun < 4
+  pub requester : h.requester.lun < 4
+
+-- all that was carried out is so
+abbrev pub AllAnswered : List Entry → Type 0
+AllAnswered [] = Unit {0}
+AllAnswered (Carried k ∷ log) = IsAnswered k × AllAnswered log
+AllAnswered (Idled requester ∷ log) = AllAnswered log
+
+-- the windows keep frames, each for the request that it answers
+pub record KeepsFrames (windows : Held) : Type 0 where
+  pub log : List Entry
+  pub keeps : Keeps 64 whole windows log
+  pub answered : AllAnswered log
 
 -- the port has the lab's address, and keeps what the lab's log leaves
 pub record Shows (port : IpmbPort) (p : PortState) : Type 0 where
   pub wire : port.wire ≡ p.wire
   pub keeps : Keeps 64 reading port.windows p.log
+  pub frames : KeepsFrames port.windows
 
 -- ---- responses
 
@@ -75,14 +107,22 @@ abbrev pub Hears : BoardFile → IpmbPort → State → List ℕ → Out → Ipm
 Hears setup port before bytes out next after = (p : PortState) → Shows port p → (heard : Result Request Reason) → IsHeard p.wire bytes heard
     → Does (deed_of setup p before heard) (done_of p heard) next after out
 
+-- the value is what is sent, alone, and it is read as itself
+abbrev pub IsSent : Value → Done → Out → Type 0
+IsSent v what out = (out ≡ sends (written v ∷ []) what) × AreRead Ipmb (v ∷ [])
+
 -- ---- before the board is asked
+
+-- a request is new by the frames that the port keeps
+abbrev pub IsFresh : IpmbPort → Heard 64 → Type 0
+IsFresh port heard = (log : List Entry) → Keeps 64 whole port.windows log → outcome (is_above 64) (request_of whole heard) log ≡ IsNew
 
 -- a request is new, or else its response is sent, which is read as itself
 abbrev pub Settles : Request → Outcome → Bool → Out → Type 0
 Settles r (Repeats reply) new out =
-    (new ≡ false) × (out ≡ sends (written (response_after r (Some reply)) ∷ []) done.Repeated) × AreRead Ipmb (response_after r (Some reply) ∷ [])
+    (new ≡ false) × IsSent (response_after r (Some reply)) done.Repeated out
 Settles r IsBusy new out =
-    (new ≡ false) × (out ≡ sends (written (response_after r None) ∷ []) done.Busy) × AreRead Ipmb (response_after r None ∷ [])
+    (new ≡ false) × IsSent (response_after r None) done.Busy out
 Settles r IsNew new out = new ≡ true
 
 -- what is to be done next: a new request is to be carried out

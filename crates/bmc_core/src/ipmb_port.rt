@@ -1,5 +1,5 @@
 //! A port on IPMB.
-ghost use Rattle.std.specs.Prelude.{◌≡◌, ◌==◌, ◌≤◌, ◌-◌, ℕ, [], ◌∷◌, List, length, take, drop, slice_index, IfOk, Result};
+ghost use Rattle.std.specs.Prelude.{◌≡◌, ◌==◌, ◌≤◌, ◌-◌, ◌<◌, ℕ, true, [], ◌∷◌, List, length, drop, slice_index, IfOk, Result, Some};
 ghost use Rattle.std.specs.List.{list_any};
 ghost use Rattle.ipmb_frame.specs.declared.message.Request.{Request as AnyRequest};
 ghost use Rattle.ipmb_frame.specs.Grammar.{request_bytes, IsRequest, IsResponse};
@@ -10,14 +10,14 @@ ghost use Rattle.bus_model.specs.Carried.{IsBusy, IsNew, outcome, requesters};
 ghost use Rattle.bmc_board.specs.Request.{asked_by, asked_of};
 ghost use Rattle.bmc_board.specs.Answer.{answer_of};
 ghost use Rattle.bmc_board.specs.State.{state_of};
-ghost use Rattle.windows.specs.Keeps.{Keeps};
+ghost use Rattle.windows.specs.Keeps.{Reading, Keeps};
 ghost use Rattle.windows.specs.Heard.{request_of, kept_of as kept_as};
 ghost use Rattle.lab_model.specs.Bytes.{heard_in};
-ghost use Rattle.lab_model.specs.PortSteps.{PortState, quiet_port, asked_in, idles};
+ghost use Rattle.lab_model.specs.PortSteps.{PortState, quiet_port, asked_in, idles, response_after};
 ghost use Rattle.bmc_core.specs.declared.out.Reason.{Reason as AnyReason};
 ghost use Rattle.bmc_core.specs.Outs.{sends, AreRead};
 ghost use Rattle.bmc_core.specs.IpmbHeard.{IsHeard};
-ghost use Rattle.bmc_core.specs.IpmbShown.{reading, response, response_frame, response_giving, Shows, Hears, Settles, Steps, outcome_at, after, answers, response_told, carries, first_answer, first_response};
+ghost use Rattle.bmc_core.specs.IpmbShown.{reading, HasUnits, IsAnswered, IsFresh, IsSent, response, response_frame, response_giving, Shows, Hears, Settles, Steps, outcome_at, after, answers, response_told, carries, first_answer, first_response};
 
 pub mod laws;
 
@@ -38,8 +38,8 @@ use windows::{Found, Request as Heard, Windows};
 #[derive(Drop)]
 pub struct IpmbPort {
     wire: Address,
-    /// A response has at most 31 bytes before its last check byte, and a request at most 27 behind the first that is kept.
-    windows: Windows<64, 31>,
+    /// A response has at most 32 bytes, and a request at most 27 behind the first that is kept.
+    windows: Windows<64, 32>,
 }
 
 /// A request that is to be carried out, and isn't kept yet. Contracts see it as that request.
@@ -77,7 +77,8 @@ impl IpmbPending {
 
     /// The request's bytes behind the first that is compared.
     fn rest(&self) -> Bytes<27>
-        ensures { result ≡ drop 1 (request_bytes self.now) }
+        ensures bytes { result ≡ drop 1 (request_bytes self.now) }
+        ensures requester { self.now.header.requester.lun < 4 }
     {
         let mut rest = Bytes::new();
         rest.push(self.header.sequence.number() << 2 | self.header.requester.lun.number());
@@ -91,6 +92,7 @@ impl IpmbPending {
         requires { rest.now ≡ drop 1 (request_bytes self.now) }
         ensures heard { request_of reading result ≡ heard_in self.now }
         ensures fits { length result.rest.now ≤ 27 }
+        ensures responder { self.now.header.responder.lun < 4 }
     {
         Heard {
             requester: self.header.requester.address.byte(),
@@ -187,14 +189,39 @@ fn send(out: &mut Out, header: &Header, code: u8, body: &[u8])
     }
 }
 
-/// The code and the data of a response, in what is kept of it.
-fn reply_in(kept: &[u8]) -> (u8, &[u8])
-    ensures code { result.0 ≡ slice_index (reading.reply kept.now) 3 }
-    ensures body { result.1.now ≡ drop 4 (reading.reply kept.now) }
+/// The code and the data of a response, in its frame.
+fn reply_in(frame: &[u8]) -> (u8, &[u8])
+    ensures code { result.0 ≡ slice_index (reading.reply frame.now) 3 }
+    ensures body { result.1.now ≡ drop 4 (reading.reply frame.now) }
+    ensures fits { length result.1.now ≤ length frame.now - 8 }
 {
-    let code = byte_at(kept, 6);
-    let body = kept.get(7..).unwrap_or(&[]);
-    (code, body)
+    let [checked @ .., _check] = frame else {
+        return (0, &[]);
+    };
+    (byte_at(checked, 6), checked.get(7..).unwrap_or(&[]))
+}
+
+/// Sends the frame that is kept for the request of this header once more. One from another address is written anew, from the
+/// header's. What was done stands in `out` already.
+#[inline(always)]
+fn repeat(out: &mut Out, header: &Header, kept: &[u8])
+    requires units { HasUnits header.now }
+    requires fits { length kept.now ≤ 32 }
+    ensures { (r : AnyRequest) → r.header ≡ header.now → IsAnswered (record { request = heard_in r; reply = kept.now })
+        → IsSent (response_after r (Some (reading.reply kept.now))) out.old.done out.new }
+{
+    out.frames.keep_one();
+    match out.frames.list.as_mut_slice() {
+        [frame] => {
+            if byte_at(kept, 3) == header.responder.address.byte() {
+                frame.replace(kept);
+            } else {
+                let (code, body) = reply_in(kept);
+                write_response_into(frame, header, code, body);
+            }
+        }
+        _ => unreachable!(),
+    }
 }
 
 impl IpmbPort {
@@ -211,14 +238,15 @@ impl IpmbPort {
     /// Sends the response to a request that is kept or for which there is no window, and says whether it's neither, and so to be
     /// carried out.
     fn is_new(&self, header: &Header, heard: &Heard<'_, 64>, out: &mut Out) -> bool
-        ensures { (p : PortState) (r : AnyRequest) → Shows self.now p → r.header ≡ header.now → request_of reading heard.now ≡ heard_in r
+        requires { HasUnits header.now }
+        ensures fresh { result ≡ true → IsFresh self.now heard.now }
+        ensures settles { (p : PortState) (r : AnyRequest) → Shows self.now p → r.header ≡ header.now → request_of reading heard.now ≡ heard_in r
             → Settles r (outcome_at p r) result out.new }
     {
         match self.windows.find(heard) {
             Found::Repeats(kept) => {
-                let (code, body) = reply_in(kept.as_slice());
                 out.done = Done::Repeated;
-                send(out, header, code, body);
+                repeat(out, header, kept.as_slice());
                 false
             }
             Found::Busy => {
@@ -233,16 +261,15 @@ impl IpmbPort {
     /// Keeps a request that was carried out, with its response's frame.
     fn keep(&mut self, heard: &Heard<'_, 64>, frame: &[u8])
         requires heard { length heard.now.rest.now ≤ 27 }
-        requires least { 8 ≤ length frame.now }
-        requires most { length frame.now ≤ 32 }
+        requires fits { length frame.now ≤ 32 }
         ensures wire { self.new.wire ≡ self.old.wire }
-        ensures carried { (log : List Entry) → Keeps 64 reading self.old.windows log
+        ensures carried { (reading : Reading) (log : List Entry) → Keeps 64 reading self.old.windows log
             → outcome (is_above 64) (request_of reading heard.now) log ≡ IsNew
-            → Keeps 64 reading self.new.windows (Carried (kept_as reading heard.now (take (length frame.now - 1) frame.now)) ∷ log) }
-        ensures busy { (log : List Entry) → Keeps 64 reading self.old.windows log
+            → Keeps 64 reading self.new.windows (Carried (kept_as reading heard.now frame.now) ∷ log) }
+        ensures busy { (reading : Reading) (log : List Entry) → Keeps 64 reading self.old.windows log
             → outcome (is_above 64) (request_of reading heard.now) log ≡ IsBusy → self.new ≡ self.old }
     {
-        self.windows.keep(heard, &frame[..frame.len() - 1]);
+        self.windows.keep(heard, frame);
     }
 
     /// Has a new request carried out, sends the response, and keeps both.
@@ -255,7 +282,7 @@ impl IpmbPort {
     )
         requires heard { request_of reading heard.now ≡ heard_in request.now }
         requires fits { length heard.now.rest.now ≤ 27 }
-        ensures carried { (p : PortState) → Shows self.old p → outcome_at p request.now ≡ IsNew
+        ensures carried { (p : PortState) → Shows self.old p → outcome_at p request.now ≡ IsNew → IsFresh self.old heard.now
             → Shows self.new (carries p request.now (answer_of board.old.setup (state_of S.records board.old) (asked_in request.now)).0) }
         ensures sent { out.new ≡ first_answer request.now (answer_of board.old.setup (state_of S.records board.old) (asked_in request.now)).0 }
         ensures read { AreRead Ipmb (first_response request.now (answer_of board.old.setup (state_of S.records board.old) (asked_in request.now)).0 ∷ []) }

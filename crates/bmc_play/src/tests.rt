@@ -148,6 +148,30 @@ fn on_sample<'a>(plan: &'a str, schedule: &'a str) -> Texts<'a> {
     }
 }
 
+/// The run of the texts, and its status.
+fn run(alloc: Global, frames: bool, texts: Texts, console: &mut Console<Paper, Paper>) -> u8 {
+    play_run(
+        alloc,
+        frames,
+        texts.board,
+        texts.plan,
+        texts.schedule,
+        console,
+    )
+}
+
+/// The paper got this text, where the schedule was played.
+fn expect_written(
+    rt: &impl Abort,
+    paper: &Paper,
+    wanted: &str,
+    schedule: &str,
+) -> Result<(), Fail> {
+    let written = str::from_utf8(paper.text.as_slice())?;
+    assert_eq!(rt; written, wanted, "{schedule}");
+    Ok(())
+}
+
 /// A run writes this text to standard output and this one to standard error, and ends so.
 fn expect_run(
     rt: &impl Abort,
@@ -157,17 +181,56 @@ fn expect_run(
     wanted: (&str, &str, u8),
 ) -> Result<(), Fail> {
     let mut console = Console::new(new_paper(alloc, None), new_paper(alloc, None));
-    let Texts {
-        board,
-        plan,
-        schedule,
-    } = texts;
-    let ended = play_run(alloc, frames, board, plan, schedule, &mut console);
-    let (out, err, status) = wanted;
-    let written = str::from_utf8(console.out.text.as_slice())?;
-    assert_eq!(rt; written, out, "{schedule}");
-    let written = str::from_utf8(console.err.text.as_slice())?;
-    assert_eq!(rt; written, err, "{schedule}");
-    assert_eq!(rt; ended, status, "{schedule}");
+    let ended = run(alloc, frames, texts, &mut console);
+    expect_written(rt, &console.out, wanted.0, texts.schedule)?;
+    expect_written(rt, &console.err, wanted.1, texts.schedule)?;
+    assert_eq!(rt; ended, wanted.2, "{}", texts.schedule);
     Ok(())
+}
+
+/// The pieces, one behind the other.
+fn joined(alloc: Global, pieces: &[&str]) -> Result<String, Fail> {
+    let mut text = String::new(alloc);
+    for piece in pieces {
+        text.push_str(*piece)?;
+    }
+    Ok(text)
+}
+
+/// The texts that a run is given, and what it writes to standard output, in pieces.
+#[derive(Clone, Copy)]
+struct Pieces<'a> {
+    board: &'a [&'a str],
+    plan: &'a [&'a str],
+    schedule: &'a [&'a str],
+    out: &'a [&'a str],
+}
+
+/// A run on these texts writes what is said and nothing to standard error, and ends so.
+fn expect_joined(
+    rt: &impl Abort,
+    alloc: Global,
+    frames: bool,
+    pieces: Pieces,
+    status: u8,
+) -> Result<(), Fail> {
+    let board = joined(alloc, pieces.board)?;
+    let plan = joined(alloc, pieces.plan)?;
+    let schedule = joined(alloc, pieces.schedule)?;
+    let out = joined(alloc, pieces.out)?;
+    let texts = Texts {
+        board: board.as_str(),
+        plan: plan.as_str(),
+        schedule: schedule.as_str(),
+    };
+    expect_run(rt, alloc, frames, texts, (out.as_str(), "", status))
+}
+
+/// The line so many times.
+fn repeated(alloc: Global, line: &str, times: u32) -> Result<String, Fail> {
+    let mut text = String::new(alloc);
+    for _ in 0..times {
+        text.push_str(line)?;
+    }
+    Ok(text)
 }

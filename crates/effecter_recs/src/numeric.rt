@@ -154,6 +154,7 @@ impl<'a> RecordKind<'a> for NumericLimits {
         Key::NumericEffecter(op.effecter)
     }
 
+    #[inline(always)]
     fn apply(&self, op: &SetNumericEffecter, _value: &[u8], new: &mut Value) -> Result<(), Code> {
         self.set(op, new)
     }

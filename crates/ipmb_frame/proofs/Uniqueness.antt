@@ -13,7 +13,7 @@ packed-one : (a b m n : ℕ) → b < 4 → n < 4 → packed a b ≡ packed m n �
 packed-one a b m n h k e = (omega arith, omega arith)
 
 -- two headers with the same fields are one
-header-one : (h k : Header) → h.responder.address ≡ k.responder.address → h.responder.lun ≡ k.responder.lun
+pub header-one : (h k : Header) → h.responder.address ≡ k.responder.address → h.responder.lun ≡ k.responder.lun
     → h.requester.address ≡ k.requester.address → h.requester.lun ≡ k.requester.lun
     → h.net_fn ≡ k.net_fn → h.sequence ≡ k.sequence → h.command ≡ k.command → h ≡ k
 header-one h k a b c d e f g = λ i. record {

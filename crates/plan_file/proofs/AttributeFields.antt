@@ -2,8 +2,6 @@
 use Rattle.std.proofs.Common.{◌≡◌, ℕ, zero, suc, ◌+◌, ◌<◌, ◌≤◌, nat_le, nat_lt, length, get_or, map, drop, List, [], ◌∷◌, ◌++◌, Bool, true, false, ◌&&◌, ◌||◌, Option, Some, None, IsSome, is_some, if◌then◌else◌, refl, sym, ap, ◌∙◌, arith, codes}
 use Rattle.std.proofs.lemmas.Bool.{and_parts}
 use Rattle.std.proofs.lemmas.Bool.Decides.{nat_tests}
-use Rattle.std.proofs.lemmas.List.{length-map}
-use Rattle.std.proofs.lemmas.List.Folds.{list_all-map}
 use Rattle.std.proofs.lemmas.Option.{same_Some}
 use Rattle.std.proofs.lemmas.Slice.Zip.{AllZip-long}
 use Rattle.std.specs.List.{list_all, AllZip}
@@ -25,15 +23,14 @@ use Rattle.plan_file.specs.declared.fault.FileFault.{FileFault}
 use Rattle.plan_file.specs.declared.row.Shape.TheVariants as shape
 use Rattle.plan_file.specs.declared.row.Need.TheVariants as need
 use Rattle.plan_file.specs.declared.row.TheConstants.{ATTRIBUTE, ENUMERATION, STRING, INTEGER}
-use Rattle.plan_file.specs.Trees.{in_field, natural, members, members_in, number_in, table_of, or_none}
-use Rattle.plan_file.specs.Attributes.{short_text, text_of, is_kind, is_below, are_indexes, is_as_long, is_stepped}
+use Rattle.plan_file.specs.Trees.{in_field, natural, IsNaturalIn, members, members_in, number_in, table_of, or_none}
+use Rattle.plan_file.specs.Attributes.{short_text, text_of, text_in, is_kind, is_below, are_indexes, is_as_long, is_stepped}
 use Rattle.plan_file.specs.Ranges.{passes, has_text, is_between, is_sized_text, is_step}
 use Rattle.plan_file.specs.Faults.{field_faults, attribute_rows, attribute_faults_at, attribute_faults_from, first}
-use Rattle.plan_file.specs.AttributeItems.{text_in, IsIndexIn, HaveHandles}
+use Rattle.plan_file.specs.AttributeItems.{HaveHandles}
 use Rattle.plan_file.specs.Holds.{HasBelow}
 use Rattle.plan_file.proofs.Rows.{Sound, all_sound, value_of}
 use Rattle.plan_file.proofs.Items.{first-append, left_over}
-use Rattle.plan_file.proofs.Sensors.{each_passes}
 use Rattle.plan_file.proofs.TestFacts.{both_true}
 
 -- ---- what passes is there
@@ -62,7 +59,7 @@ values_there tree sound =
     rw v.found (true_le _ 16 few, all)
 
 -- the indexes that it has
-pub indexes_there : (tree : Members) (named : Field) → Sound tree (record { 0 = named; 1 = shape.Indexes; 2 = need.Always }) → are_indexes (length (members_in field.Values tree)) (members_in named tree) ≡ true
+pub indexes_there : (tree : Members) (named : Field) → Sound tree (record { 0 = named; 1 = shape.Indexes; 2 = need.Always }) → are_indexes (length (members_in field.Values tree)) (length (members_in field.Values tree)) (members_in named tree) ≡ true
 indexes_there tree named sound =
     let v = value_of tree (record { 0 = named; 1 = shape.Indexes; 2 = need.Always }) (in_field named tree) refl refl sound in
     rw v.found v.within
@@ -71,28 +68,33 @@ below_more : (m n : ℕ) (o : Option ℕ) → m ≤ n → is_below m o ≡ true 
 below_more m n (Some k) most is = grind (arith, nat_tests)
 below_more m n None most is = cc
 
--- each of the values is an index of fewer than 256 values
-pub index_below : (count : ℕ) (vs : List Value) (i : ℕ) (v : Value) → count ≤ 16 → are_indexes count (map view vs) ≡ true → i < length vs → v ≡ get_or vs i v → is_below 256 (natural (view v)) ≡ true
-index_below count vs i v few are within is =
-    let ds : List Data = map view vs in
-    let (some, more) = and_parts (nat_le 1 (length ds)) (nat_le (length ds) count && list_all (λ d. is_below count (natural d)) ds) are in
-    let (most, all) = and_parts (nat_le (length ds) count) (list_all (λ d. is_below count (natural d)) ds) more in
-    let each : list_all (λ (value : Value). is_below count (natural (view value))) vs ≡ true = sym (list_all-map (λ (d : Data). is_below count (natural d)) view vs) ∙ all in
-    below_more count 256 (natural (view v)) (omega (arith, few)) (each_passes (λ (value : Value). is_below count (natural (view value))) vs i v each within is)
+all_below_more : (m n : ℕ) (ds : List Data) → m ≤ n → list_all (λ d. is_below m (natural d)) ds ≡ true → list_all (λ d. is_below n (natural d)) ds ≡ true
+all_below_more m n [] most all = refl
+all_below_more m n (d ∷ ds) most all =
+    let (here, more) = and_parts (is_below m (natural d)) (list_all (λ d. is_below m (natural d)) ds) all in
+    both_true (is_below n (natural d)) (list_all (λ d. is_below n (natural d)) ds) (below_more m n (natural d) most here) (all_below_more m n ds most more)
 
--- they are as many at most
-pub few_indexes : (count : ℕ) (vs : List Value) → are_indexes count (map view vs) ≡ true → length vs ≤ count
-few_indexes count vs are =
-    let ds : List Data = map view vs in
-    let (some, more) = and_parts (nat_le 1 (length ds)) (nat_le (length ds) count && list_all (λ d. is_below count (natural d)) ds) are in
-    let (most, all) = and_parts (nat_le (length ds) count) (list_all (λ d. is_below count (natural d)) ds) more in
-    rw (length-map vs view) at (true_le (length ds) count most)
+-- the list is as long at most, and has indexes
+pub record Listed (most count : ℕ) (ds : List Data) : Type 0 where
+  pub some : nat_le 1 (length ds) ≡ true
+  pub few : length ds ≤ most
+  pub all : list_all (λ d. is_below count (natural d)) ds ≡ true
+
+pub listed : (most count : ℕ) (ds : List Data) → are_indexes most count ds ≡ true → Listed most count ds
+listed most count ds are =
+    let (some, more) = and_parts (nat_le 1 (length ds)) (nat_le (length ds) most && list_all (λ d. is_below count (natural d)) ds) are in
+    let (few, all) = and_parts (nat_le (length ds) most) (list_all (λ d. is_below count (natural d)) ds) more in
+    record { some = some; few = true_le (length ds) most few; all = all }
+
+-- indexes of at most 16 values are bytes
+pub all_bytes : (count : ℕ) (ds : List Data) → count ≤ 16 → are_indexes count count ds ≡ true → list_all (λ d. is_below 256 (natural d)) ds ≡ true
+all_bytes count ds few are = all_below_more count 256 ds (omega (arith, few)) (listed count count ds are).all
 
 here_known : (count n : ℕ) (o : Option ℕ) → o ≡ Some n → is_below count o ≡ true → nat_lt n count ≡ true
 here_known count n (Some m) same is = let told : m ≡ n = cc in rw (← told) is
 here_known count n None same is = cc
 
-all_known : (count : ℕ) (ds : List Data) (ns : List ℕ) → list_all (λ d. is_below count (natural d)) ds ≡ true → AllZip IsIndexIn ds ns → list_all (λ (index : ℕ). nat_lt index count) ns ≡ true
+all_known : (count : ℕ) (ds : List Data) (ns : List ℕ) → list_all (λ d. is_below count (natural d)) ds ≡ true → AllZip IsNaturalIn ds ns → list_all (λ (index : ℕ). nat_lt index count) ns ≡ true
 all_known count [] [] all zip = refl
 all_known count [] (n ∷ ns) all zip = absurd zip
 all_known count (d ∷ ds) [] all zip = absurd zip
@@ -101,12 +103,11 @@ all_known count (d ∷ ds) (n ∷ ns) all zip =
     both_true (nat_lt n count) (list_all (λ (index : ℕ). nat_lt index count) ns) (here_known count n (natural d) zip.0 here) (all_known count ds ns more zip.1)
 
 -- an enumeration of so many values can have these indexes
-pub indexes_allowed : (count : ℕ) (ds : List Data) (ns : List ℕ) → are_indexes count ds ≡ true → AllZip IsIndexIn ds ns → AllowsIndexes count ns
+pub indexes_allowed : (count : ℕ) (ds : List Data) (ns : List ℕ) → are_indexes count count ds ≡ true → AllZip IsNaturalIn ds ns → AllowsIndexes count ns
 indexes_allowed count ds ns are zip =
-    let (some, more) = and_parts (nat_le 1 (length ds)) (nat_le (length ds) count && list_all (λ d. is_below count (natural d)) ds) are in
-    let (few, all) = and_parts (nat_le (length ds) count) (list_all (λ d. is_below count (natural d)) ds) more in
-    let long : length ns ≡ length ds = AllZip-long IsIndexIn ds ns zip in
-    record { some = rw long (true_le 1 _ some); few = rw long (true_le _ count few); known = all_known count ds ns all zip }
+    let there = listed count count ds are in
+    let long : length ns ≡ length ds = AllZip-long IsNaturalIn ds ns zip in
+    record { some = rw long (true_le 1 _ there.some); few = rw long there.few; known = all_known count ds ns there.all zip }
 
 -- ---- strings
 

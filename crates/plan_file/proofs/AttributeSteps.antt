@@ -1,7 +1,8 @@
 -- What a step for an attribute has in its fields.
-use Rattle.std.proofs.Common.{◌≡◌, ℕ, ◌≤◌, nat_le, length, List, true, false, ◌&&◌, is_some, is_none, Option, Some, None, option_and_then, refl, arith}
+use Rattle.std.proofs.Common.{◌≡◌, ℕ, ◌≤◌, nat_le, length, List, Bool, true, false, ◌&&◌, if◌then◌else◌, is_some, is_none, Option, Some, None, option_and_then, refl, arith}
 use Rattle.std.proofs.lemmas.Bool.{and_parts}
 use Rattle.std.proofs.lemmas.Bool.Decides.{nat_tests}
+use Rattle.std.proofs.lemmas.Option.{same_Some}
 use Rattle.std.specs.List.{list_all}
 use Rattle.toml.specs.Data.{Data, Members, as_str}
 use Rattle.plan_file.specs.declared.field.Field.TheVariants as field
@@ -9,8 +10,10 @@ use Rattle.plan_file.specs.declared.row.Row.{Row}
 use Rattle.plan_file.specs.declared.row.Shape.TheVariants as shape
 use Rattle.plan_file.specs.declared.row.Need.TheVariants as need
 use Rattle.plan_file.specs.Trees.{in_field, lacks, natural, members, members_in, number_in, or_none}
-use Rattle.plan_file.specs.Ranges.{passes, has_type, is_between, is_in_range, is_index, are_few_indexes, is_attribute_text}
+use Rattle.plan_file.specs.Ranges.{has_type, is_in_range}
+use Rattle.plan_file.specs.Attributes.{short_text, text_of, text_in, is_below, are_indexes}
 use Rattle.plan_file.proofs.Rows.{Sound, Value, not_false}
+use Rattle.plan_file.proofs.AttributeFields.{listed}
 
 -- a value that the item has, whether it needs it or not
 value_given : (tree : Members) (row : Row) (o : Option Data) → in_field row.0 tree ≡ o → is_some o ≡ true → Sound tree row → Value tree row.0 row.1
@@ -37,7 +40,7 @@ indexes_row = record { 0 = field.Indexes; 1 = shape.FewIndexes; 2 = need.Without
 -- the indexes that a step gives, and nothing besides
 pub record Indexed (tree : Members) : Type 0 where
   pub few : length (members_in field.Indexes tree) ≤ 16
-  pub all : list_all is_index (members_in field.Indexes tree) ≡ true
+  pub all : list_all (λ d. is_below 256 (natural d)) (members_in field.Indexes tree) ≡ true
   pub no_text : in_field field.Text tree ≡ None
   pub no_number : in_field field.Number tree ≡ None
 
@@ -45,13 +48,12 @@ pub indexes_there : (tree : Members) → is_some (in_field field.Indexes tree) �
 indexes_there tree some sound =
     let v = value_given tree indexes_row (in_field field.Indexes tree) refl some sound in
     let ds = or_none (members v.value) in
-    let (only, good) = and_parts (lacks field.Text tree && lacks field.Number tree) (are_few_indexes ds) v.within in
+    let (only, good) = and_parts (lacks field.Text tree && lacks field.Number tree) (are_indexes 16 256 ds) v.within in
     let (text, number) = and_parts (lacks field.Text tree) (lacks field.Number tree) only in
-    let (count, all) = and_parts (is_between 1 16 (length ds)) (list_all is_index ds) good in
-    let (least, most) = and_parts (nat_le 1 (length ds)) (nat_le (length ds) 16) count in
+    let there = listed 16 256 ds good in
     record {
-      few = rw v.found (le_from _ 16 most);
-      all = rw v.found all;
+      few = rw v.found there.few;
+      all = rw v.found there.all;
       no_text = none_there (in_field field.Text tree) text;
       no_number = none_there (in_field field.Number tree) number;
     }
@@ -64,19 +66,27 @@ text_row = record { 0 = field.Text; 1 = shape.AttributeText; 2 = need.Never }
 -- the text that a step gives, and no number besides
 pub record Texted (tree : Members) : Type 0 where
   pub text : List ℕ
-  pub found : option_and_then as_str (in_field field.Text tree) ≡ Some text
+  pub found : text_in field.Text tree ≡ Some text
   pub few : length text ≤ 200
   pub no_number : in_field field.Number tree ≡ None
 
-text_cases : (tree : Members) (d : Data) (o : Option (List ℕ)) → in_field field.Text tree ≡ Some d → as_str d ≡ o → passes is_attribute_text o ≡ true → in_field field.Number tree ≡ None → Texted tree
-text_cases tree d (Some text) found is short none = record { text = text; found = rw (found, is); few = le_from (length text) 200 short; no_number = none }
+few_cases : (text held : List ℕ) (b : Bool) → nat_le (length text) 200 ≡ b → (if b then Some text else None) ≡ Some held → length held ≤ 200
+few_cases text held true is same = let told : text ≡ held = same_Some text held same in rw (← told) (le_from (length text) 200 is)
+few_cases text held false is same = cc
+
+few_bytes : (o : Option (List ℕ)) (held : List ℕ) → option_and_then short_text o ≡ Some held → length held ≤ 200
+few_bytes (Some text) held is = few_cases text held (nat_le (length text) 200) refl is
+few_bytes None held is = cc
+
+text_cases : (tree : Members) (d : Data) (o : Option (List ℕ)) → in_field field.Text tree ≡ Some d → text_of d ≡ o → is_some o ≡ true → in_field field.Number tree ≡ None → Texted tree
+text_cases tree d (Some text) found is short none = record { text = text; found = rw (found, is) refl; few = few_bytes (as_str d) text is; no_number = none }
 text_cases tree d None found is short none = cc
 
 pub text_there : (tree : Members) → is_some (in_field field.Text tree) ≡ true → Sound tree text_row → Texted tree
 text_there tree some sound =
     let v = value_given tree text_row (in_field field.Text tree) refl some sound in
-    let (number, short) = and_parts (lacks field.Number tree) (passes is_attribute_text (as_str v.value)) v.within in
-    text_cases tree v.value (as_str v.value) v.found refl short (none_there (in_field field.Number tree) number)
+    let (number, short) = and_parts (lacks field.Number tree) (is_some (text_of v.value)) v.within in
+    text_cases tree v.value (text_of v.value) v.found refl short (none_there (in_field field.Number tree) number)
 
 -- ---- numbers
 

@@ -16,9 +16,9 @@ use Rattle.plan_file.specs.declared.field.Field.TheVariants as field
 use Rattle.plan_file.specs.declared.row.Need.{Need}
 use Rattle.plan_file.specs.declared.row.Need.TheVariants as need
 use Rattle.plan_file.specs.declared.row.Shape.TheVariants as shape
-use Rattle.plan_file.specs.Trees.{in_field, members, natural, number_in, members_in, or_none}
+use Rattle.plan_file.specs.Trees.{flag_in, in_field, members, natural, number_in, members_in, or_none}
 use Rattle.plan_file.specs.Ranges.{passes, has_text, is_between, is_offset, is_array_of, is_selection, is_number}
-use Rattle.plan_file.specs.PlanHolds.{flag_in, is_given}
+use Rattle.plan_file.specs.PlanHolds.{is_given}
 use Rattle.plan_file.proofs.Rows.{Sound, value_of, not_false}
 
 -- ---- numbers

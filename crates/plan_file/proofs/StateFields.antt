@@ -12,9 +12,9 @@ use Rattle.cfg_records.specs.declared.state_effecter.StateEffecter.{StateEffecte
 use Rattle.plan_file.specs.declared.field.Field.TheVariants as field
 use Rattle.plan_file.specs.declared.row.Shape.TheVariants as shape
 use Rattle.plan_file.specs.declared.row.Need.TheVariants as need
-use Rattle.plan_file.specs.Trees.{in_field, natural, members, members_in, number_in, table_of, or_none}
+use Rattle.plan_file.specs.Trees.{IsNaturalIn, in_field, natural, members, members_in, number_in, table_of, or_none}
 use Rattle.plan_file.specs.Ranges.{passes, is_between, is_number, is_listed, is_state, is_state_list, can_be, are_present}
-use Rattle.plan_file.specs.Holds.{IsNaturalIn, IsStateIn, state_id}
+use Rattle.plan_file.specs.Holds.{IsStateIn, state_id}
 use Rattle.plan_file.proofs.Rows.{Sound, value_of}
 
 -- a state effecter that a member of an array holds has its id

@@ -1,40 +1,27 @@
 -- The BIOS attributes of a board file: what an item `[[attribute]]` holds.
-use Rattle.std.specs.Prelude.{◌≡◌, ℕ, ◌+◌, Bool, true, List, [], ◌∷◌, Option, Some, option_and_then, codes}
+use Rattle.std.specs.Prelude.{◌≡◌, ℕ, ◌+◌, true, List, [], ◌∷◌, Some, codes}
 use Rattle.std.specs.List.{AllZip}
-use Rattle.toml.specs.Data.{Data, Members, as_bool}
+use Rattle.toml.specs.Data.{Data, Members}
 use Rattle.cfg_records.specs.declared.attribute.Attribute.{Attribute}
 use Rattle.cfg_records.specs.declared.attribute.AttributeKind.{AttributeKind}
 use Rattle.cfg_records.specs.declared.attribute.AttributeKind.TheVariants as kind
 use Rattle.cfg_records.specs.declared.attribute.EnumerationAttribute.{EnumerationAttribute}
 use Rattle.cfg_records.specs.declared.attribute.StringAttribute.{StringAttribute}
 use Rattle.cfg_records.specs.declared.attribute.IntegerAttribute.{IntegerAttribute}
-use Rattle.plan_file.specs.declared.field.Field.{Field}
 use Rattle.plan_file.specs.declared.field.Field.TheVariants as field
-use Rattle.plan_file.specs.Trees.{in_field, natural, number_in, members_in, table_of}
-use Rattle.plan_file.specs.Attributes.{text_of}
+use Rattle.plan_file.specs.Trees.{IsNaturalIn, flag_in, number_in, members_in, table_of}
+use Rattle.plan_file.specs.Attributes.{text_of, text_in}
 use Rattle.plan_file.specs.Ranges.{has_text}
-
--- the text that a table has in the field
-abbrev pub text_in : Field → Members → Option (List ℕ)
-text_in named tree = option_and_then text_of (in_field named tree)
-
--- the boolean that a table has in the field
-abbrev pub boolean_in : Field → Members → Option Bool
-boolean_in named tree = option_and_then as_bool (in_field named tree)
 
 -- the member of an array is this text
 abbrev pub IsTextIn : Data → List ℕ → Type 0
 IsTextIn d text = text_of d ≡ Some text
 
--- the member of an array is this index
-abbrev pub IsIndexIn : Data → ℕ → Type 0
-IsIndexIn d n = natural d ≡ Some n
-
 -- the item holds an enumeration
 pub record HoldsEnumeration (tree : Members) (attribute : EnumerationAttribute) : Type 0 where
   pub values : AllZip IsTextIn (members_in field.Values tree) attribute.values
-  pub default : AllZip IsIndexIn (members_in field.Default tree) attribute.default
-  pub current : AllZip IsIndexIn (members_in field.Current tree) attribute.current
+  pub default : AllZip IsNaturalIn (members_in field.Default tree) attribute.default
+  pub current : AllZip IsNaturalIn (members_in field.Current tree) attribute.current
 
 -- the item holds a string
 pub record HoldsString (tree : Members) (attribute : StringAttribute) : Type 0 where
@@ -62,7 +49,7 @@ HoldsKind tree (kind.Integer attribute) = (has_text field.Kind (codes "integer")
 pub record HoldsAttribute (tree : Members) (attribute : Attribute) : Type 0 where
   pub name : text_in field.NameText tree ≡ Some attribute.name
   pub kind : HoldsKind tree attribute.kind
-  pub read_only : boolean_in field.ReadOnly tree ≡ Some attribute.read_only
+  pub read_only : flag_in field.ReadOnly tree ≡ Some attribute.read_only
 
 -- the member of an array holds an attribute
 abbrev pub IsAttributeIn : Data → Attribute → Type 0

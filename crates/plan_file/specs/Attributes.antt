@@ -3,8 +3,9 @@ use Rattle.std.specs.Prelude.{ℕ, ◌==◌, ◌-◌, ◌%◌, nat_lt, nat_le, B
 use Rattle.std.specs.List.{list_all}
 use Rattle.std.specs.Str.{bytes_eq}
 use Rattle.cfg_records.specs.AttributeSizes.{most_text, most_indexes}
-use Rattle.toml.specs.Data.{Data, as_str}
-use Rattle.plan_file.specs.Trees.{natural}
+use Rattle.toml.specs.Data.{Data, Members, as_str}
+use Rattle.plan_file.specs.declared.field.Field.{Field}
+use Rattle.plan_file.specs.Trees.{in_field, natural}
 
 -- a text of at most 200 bytes
 abbrev pub short_text : List ℕ → Option (List ℕ)
@@ -13,6 +14,10 @@ short_text text = if nat_le (length text) most_text then Some text else None
 -- the text of at most 200 bytes that a value is
 abbrev pub text_of : Data → Option (List ℕ)
 text_of d = option_and_then short_text (as_str d)
+
+-- the text of at most 200 bytes that a table has in the field
+abbrev pub text_in : Field → Members → Option (List ℕ)
+text_in named tree = option_and_then text_of (in_field named tree)
 
 -- what an attribute is
 abbrev pub is_kind : List ℕ → Bool
@@ -27,9 +32,9 @@ abbrev pub is_below : ℕ → Option ℕ → Bool
 is_below count (Some n) = nat_lt n count
 is_below count None = false
 
--- indexes of so many possible values: one or more, and no more than there are values
-abbrev pub are_indexes : ℕ → List Data → Bool
-are_indexes count ds = nat_le 1 (length ds) && (nat_le (length ds) count && list_all (λ d. is_below count (natural d)) ds)
+-- a list of at least one and at most so many indexes, each of so many possible values
+abbrev pub are_indexes : ℕ → ℕ → List Data → Bool
+are_indexes most count ds = nat_le 1 (length ds) && (nat_le (length ds) most && list_all (λ d. is_below count (natural d)) ds)
 
 -- a text of a length from the least to the most
 abbrev pub is_as_long : ℕ → ℕ → List ℕ → Bool

@@ -29,7 +29,7 @@ use Rattle.plan_file.specs.declared.fault.Item.{Item}
 use Rattle.plan_file.specs.declared.fault.Item.TheVariants as item
 use Rattle.plan_file.specs.declared.row.Row.{Row}
 use Rattle.plan_file.specs.declared.row.TheConstants.{SENSOR, STATE, NUMERIC}
-use Rattle.plan_file.specs.Trees.{members, natural, number_in, numbers_in, table_of, table_in, members_in, or_none}
+use Rattle.plan_file.specs.Trees.{members, natural, IsNaturalIn, number_in, numbers_in, table_of, table_in, members_in, or_none}
 use Rattle.plan_file.specs.Numeric.{sized_in}
 use Rattle.plan_file.specs.Users.{name_of}
 use Rattle.plan_file.specs.Ranges.{record_in, or_zero}
@@ -101,10 +101,6 @@ IsNextFault before d why = IsNextAmong IsSensorIn item.Sensor (λ tree. SENSOR) 
 -- the number of an operational state: enabled without a pending update, or disabled
 abbrev pub operational : Bool → ℕ
 operational enabled = if enabled then 1 else 2
-
--- the member of an array is this number
-abbrev pub IsNaturalIn : Data → ℕ → Type 0
-IsNaturalIn d n = natural d ≡ Some n
 
 -- the member of an array lists the states that a field can be in
 abbrev pub IsFieldIn : Data → StateField → Type 0

@@ -1,7 +1,7 @@
 -- The plan that a tree holds.
 use Rattle.std.specs.Prelude.{◌≡◌, ℕ, ◌+◌, ◌*◌, ◌/◌, ◌%◌, Bool, true, if◌then◌else◌, List, [], ◌∷◌, map, length, slice_get, Option, Some, None, is_some, option_and_then, Result, Ok, Err, MatchOption, codes}
 use Rattle.std.specs.List.{AllZip}
-use Rattle.toml.specs.Data.{Data, Members, as_bool, as_str}
+use Rattle.toml.specs.Data.{Data, Members}
 use Rattle.toml.specs.Parse.{parse_document}
 use Rattle.cfg_records.specs.Masks.{has}
 use Rattle.cfg_records.specs.declared.op.Op.{Op}
@@ -39,16 +39,17 @@ use Rattle.plan_file.specs.declared.kind.Kind.TheVariants as kind
 use Rattle.plan_file.specs.declared.change.TheConstants.{LIMITS}
 use Rattle.plan_file.specs.declared.plan_fault.PlanFault.{PlanFault}
 use Rattle.plan_file.specs.declared.plan_fault.PlanFault.TheVariants as plan
-use Rattle.plan_file.specs.Trees.{in_field, bytes_in, number_in, table_of, members_in}
+use Rattle.plan_file.specs.Trees.{in_field, bytes_in, IsNaturalIn, flag_in, number_in, table_of, members_in}
 use Rattle.plan_file.specs.Numeric.{sized_bytes}
 use Rattle.plan_file.specs.States.{change_of}
 use Rattle.plan_file.specs.Users.{name_of}
+use Rattle.plan_file.specs.Attributes.{text_in}
 use Rattle.plan_file.specs.Channels.{store_of}
 use Rattle.plan_file.specs.Ranges.{passes, has_text, or_zero, is_listed}
 use Rattle.plan_file.specs.Kinds.{kind_in}
 use Rattle.plan_file.specs.Faults.{first}
 use Rattle.plan_file.specs.PlanFaults.{plan_faults}
-use Rattle.plan_file.specs.Holds.{HasNumber, IsNaturalIn}
+use Rattle.plan_file.specs.Holds.{HasNumber}
 
 -- ---- thresholds
 
@@ -71,10 +72,6 @@ pub record HoldsHysteresis (tree : Members) (set : SetHysteresis) : Type 0 where
   pub negative : HasNumber field.Negative tree set.negative
 
 -- ---- events
-
--- the boolean that a table has in the field
-abbrev pub flag_in : Field → Members → Option Bool
-flag_in named tree = option_and_then as_bool (in_field named tree)
 
 -- the table has this boolean in the field
 abbrev pub HasFlag : Field → Members → Bool → Type 0
@@ -157,7 +154,7 @@ Lacks named tree = in_field named tree ≡ None
 -- the step gives this value of an attribute, its indexes, its text or its number, and none besides
 abbrev pub GivesValue : Members → AttributeValue → Type 0
 GivesValue tree (attribute.Indexes indexes) = AllZip IsNaturalIn (members_in field.Indexes tree) indexes × (Lacks field.Text tree × Lacks field.Number tree)
-GivesValue tree (attribute.Text text) = (option_and_then as_str (in_field field.Text tree) ≡ Some text) × (Lacks field.Indexes tree × Lacks field.Number tree)
+GivesValue tree (attribute.Text text) = (text_in field.Text tree ≡ Some text) × (Lacks field.Indexes tree × Lacks field.Number tree)
 GivesValue tree (attribute.Number n) = HasNumber field.Number tree n × (Lacks field.Indexes tree × Lacks field.Text tree)
 
 -- the step holds a change of an attribute's value, to the one that it gives: the value's type, and its bytes

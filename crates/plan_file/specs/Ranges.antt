@@ -186,18 +186,6 @@ are_boot_data parameter.Flags d = is_some (bytes_in 5 d)
 abbrev pub parameter_in : Members → Option BootParameter
 parameter_in tree = option_and_then parameter_at (number_in field.Param tree)
 
--- the index of a possible value of an attribute, in a request
-abbrev pub is_index : Data → Bool
-is_index d = passes (is_between 0 255) (natural d)
-
--- the indexes of an attribute's value
-abbrev pub are_few_indexes : List Data → Bool
-are_few_indexes ds = is_between 1 most_indexes (length ds) && list_all is_index ds
-
--- a text that an attribute can have
-abbrev pub is_attribute_text : List ℕ → Bool
-is_attribute_text text = nat_le (length text) most_text
-
 -- a number, 0 where there is none
 abbrev pub or_zero : Option ℕ → ℕ
 or_zero (Some n) = n
@@ -279,8 +267,8 @@ is_in_range tree shape.Text d = true
 is_in_range tree shape.Select d = passes is_selection (as_str d)
 is_in_range tree shape.Offsets d = is_array_of is_offset d
 is_in_range tree shape.BootData d = passes (λ named. are_boot_data named d) (parameter_in tree)
-is_in_range tree shape.FewIndexes d = (lacks field.Text tree && lacks field.Number tree) && are_few_indexes (or_none (members d))
-is_in_range tree shape.AttributeText d = lacks field.Number tree && passes is_attribute_text (as_str d)
+is_in_range tree shape.FewIndexes d = (lacks field.Text tree && lacks field.Number tree) && are_indexes most_indexes 256 (or_none (members d))
+is_in_range tree shape.AttributeText d = lacks field.Number tree && is_some (text_of d)
 is_in_range tree shape.Natural d = is_some (natural d)
 is_in_range tree shape.Sized d = passes (λ size. is_some (sized size d)) (size_in tree)
 is_in_range tree shape.Upper d = passes (λ size. in_order size (sized_in size field.Lower tree) (sized size d)) (size_in tree)
@@ -301,7 +289,7 @@ is_in_range tree shape.StateChanges d = are_changes (or_none (members d))
 is_in_range tree shape.ShortText d = is_some (text_of d)
 is_in_range tree shape.AttributeKind d = passes is_kind (as_str d)
 is_in_range tree shape.Values d = are_values (or_none (members d))
-is_in_range tree shape.Indexes d = are_indexes (length (members_in field.Values tree)) (or_none (members d))
+is_in_range tree shape.Indexes d = are_indexes (length (members_in field.Values tree)) (length (members_in field.Values tree)) (or_none (members d))
 is_in_range tree shape.MostLength d = passes (is_most tree) (natural d)
 is_in_range tree shape.SizedText d = passes (is_sized_text tree) (as_str d)
 is_in_range tree shape.UpperNatural d = passes (is_upper_natural tree) (natural d)

@@ -1,7 +1,7 @@
 -- What the tables of a file have.
-use Rattle.std.specs.Prelude.{◌==◌, ℕ, ℤ, pos, negsuc, nat_lt, if◌then◌else◌, List, [], ◌∷◌, length, Bool, Option, Some, None, is_none, option_and_then, option_map}
+use Rattle.std.specs.Prelude.{◌≡◌, ◌==◌, ℕ, ℤ, pos, negsuc, nat_lt, if◌then◌else◌, List, [], ◌∷◌, length, Bool, Option, Some, None, is_none, option_and_then, option_map}
 use Rattle.std.specs.List.{list_all}
-use Rattle.toml.specs.Data.{Data, Items, no_items, item, Members, no_members, get_member, as_integer, as_array, as_table}
+use Rattle.toml.specs.Data.{Data, Items, no_items, item, Members, no_members, get_member, as_bool, as_integer, as_array, as_table}
 use Rattle.plan_file.specs.declared.field.Field.{Field}
 use Rattle.plan_file.specs.Words.{word}
 
@@ -22,6 +22,10 @@ not_negative (negsuc n) = None
 -- the natural number that a value is
 abbrev pub natural : Data → Option ℕ
 natural d = option_and_then not_negative (as_integer d)
+
+-- a value is this number
+abbrev pub IsNaturalIn : Data → ℕ → Type 0
+IsNaturalIn d n = natural d ≡ Some n
 
 -- a number before a list of numbers
 abbrev pub before : Option ℕ → Option (List ℕ) → Option (List ℕ)
@@ -63,6 +67,10 @@ lacks field tree = is_none (in_field field tree)
 -- the number that a table has in the field
 abbrev pub number_in : Field → Members → Option ℕ
 number_in field tree = option_and_then natural (in_field field tree)
+
+-- the boolean that a table has in the field
+abbrev pub flag_in : Field → Members → Option Bool
+flag_in named tree = option_and_then as_bool (in_field named tree)
 
 -- the so many numbers that a table has in the field
 abbrev pub numbers_in : ℕ → Field → Members → Option (List ℕ)

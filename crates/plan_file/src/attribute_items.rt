@@ -2,19 +2,19 @@
 ghost use Rattle.std.specs.Prelude.{◌≡◌, ◌⊎◌, ◌≤◌, ◌<◌, [], true, is_some, length, Some, IsSome, IfOk, IfErr, map};
 ghost use Rattle.std.specs.List.{list_all, AllZip};
 ghost use Rattle.toml.specs.View.{view, table_view};
-ghost use Rattle.plan_file.specs.Trees.{natural, number_in, table_of, members_in};
-ghost use Rattle.plan_file.specs.Attributes.{text_of, is_below, are_indexes};
-ghost use Rattle.plan_file.specs.AttributeItems.{text_in, boolean_in, IsTextIn, IsIndexIn, HoldsEnumeration, HoldsString, HoldsInteger, HoldsKind, HoldsAttribute, IsAttributeIn, HoldsAttributes};
+ghost use Rattle.plan_file.specs.Trees.{IsNaturalIn, number_in, table_of, members_in};
+ghost use Rattle.plan_file.specs.Attributes.{text_of, are_indexes};
+ghost use Rattle.plan_file.specs.AttributeItems.{IsTextIn, HoldsEnumeration, HoldsString, HoldsInteger, HoldsKind, HoldsAttribute, IsAttributeIn, HoldsAttributes};
 ghost use Rattle.plan_file.specs.Ranges.{is_table};
 ghost use Rattle.plan_file.specs.Faults.{field_faults, attribute_rows, attribute_faults_at, attribute_faults, first};
 
-use crate::attributes::text;
+use crate::attributes::{indexes_of, text, text_in};
 use crate::board::{byte_in, number_in, word_in};
 use crate::check::check;
 use crate::fault::{FileFault, Item};
 use crate::field::Field;
 use crate::row::{ATTRIBUTE, ENUMERATION, INTEGER, Row, STRING, TOP};
-use crate::tree::{has_text, in_field, members_in, natural, number};
+use crate::tree::{flag, has_text, members_in, number};
 use cfg_records::{
     Attribute, AttributeKind, Attributes, Distinct, EnumerationAttribute, Indexes,
     IntegerAttribute, IntegerSteps, StringAttribute, Text, TextLengths,
@@ -36,28 +36,6 @@ fn rows(table: &Table) -> &'static [Row]
         return &INTEGER;
     }
     &ATTRIBUTE
-}
-
-/// The text of at most 200 bytes that the table has in the field.
-fn text_in(table: &Table, field: Field) -> Text
-    requires { IsSome (text_in field (table_view table.now)) }
-    ensures { text_in field (table_view table.now) ≡ Some result }
-{
-    match in_field(table, field) {
-        Some(value) => text(value).unwrap(),
-        None => unreachable!(),
-    }
-}
-
-/// The boolean that the table has in the field.
-fn boolean_in(table: &Table, field: Field) -> bool
-    requires { IsSome (boolean_in field (table_view table.now)) }
-    ensures { boolean_in field (table_view table.now) ≡ Some result }
-{
-    match in_field(table, field) {
-        Some(value) => value.as_bool().unwrap(),
-        None => unreachable!(),
-    }
 }
 
 /// The number that the table has in the field.
@@ -84,35 +62,13 @@ fn texts_of(alloc: Global, values: &[Value]) -> Result<Vec<Text>, FileFault>
     Ok(texts)
 }
 
-/// The index that the value is.
-fn index(value: &Value) -> u8
-    requires { is_below 256 (natural (view value.now)) ≡ true }
-    ensures { IsIndexIn (view value.now) result }
-{
-    natural(value).unwrap() as u8
-}
-
-/// The indexes, of so many possible values, that these values are.
-fn indexes_of(count: usize, values: &[Value]) -> Indexes
-    requires few { count ≤ 16 }
-    requires known { are_indexes count (map view values.now) ≡ true }
-    ensures { AllZip IsIndexIn (map view values.now) result }
-{
-    let mut indexes = Indexes::new();
-    for value in values {
-        indexes.push(index(value));
-    }
-    indexes
-}
-
 /// The indexes of its values that the table has in the field.
 fn indexes_in(table: &Table, field: Field) -> Indexes
     requires few { length (members_in Field.Values (table_view table.now)) ≤ 16 }
-    requires known { are_indexes (length (members_in Field.Values (table_view table.now))) (members_in field (table_view table.now)) ≡ true }
-    ensures { AllZip IsIndexIn (members_in field (table_view table.now)) result }
+    requires known { are_indexes (length (members_in Field.Values (table_view table.now))) (length (members_in Field.Values (table_view table.now))) (members_in field (table_view table.now)) ≡ true }
+    ensures { AllZip IsNaturalIn (members_in field (table_view table.now)) result }
 {
-    let count = members_in(table, Field::Values).len();
-    indexes_of(count, members_in(table, field))
+    indexes_of(members_in(table, field))
 }
 
 /// The enumeration that the table is.
@@ -190,7 +146,7 @@ fn attribute(alloc: Global, handle: u16, table: &Table) -> Result<Attribute, Fil
     Ok(Attribute {
         handle,
         name: text_in(table, Field::NameText),
-        read_only: boolean_in(table, Field::ReadOnly),
+        read_only: flag(table, Field::ReadOnly),
         kind,
     })
 }

@@ -1,16 +1,17 @@
 //! BIOS attributes in files: their texts, lists and numbers.
-ghost use Rattle.std.specs.Prelude.{◌≡◌, is_some, length};
-ghost use Rattle.std.specs.List.{list_all};
+ghost use Rattle.std.specs.Prelude.{◌≡◌, ◌≤◌, true, map, is_some, Some, IsSome, length};
+ghost use Rattle.std.specs.List.{list_all, AllZip};
+ghost use Rattle.cfg_records.specs.AttributeSizes.{most_indexes};
 ghost use Rattle.toml.specs.Data.{as_str};
 ghost use Rattle.toml.specs.View.{view, table_view};
-ghost use Rattle.plan_file.specs.Trees.{natural, members, or_none, members_in};
-ghost use Rattle.plan_file.specs.Attributes.{short_text, text_of, is_kind, are_values, is_below, are_indexes, is_as_long, is_stepped};
+ghost use Rattle.plan_file.specs.Trees.{natural, IsNaturalIn, members, or_none, members_in};
+ghost use Rattle.plan_file.specs.Attributes.{short_text, text_of, text_in, is_kind, are_values, is_below, are_indexes, is_as_long, is_stepped};
 ghost use Rattle.plan_file.specs.Ranges.{passes, is_most, is_sized_text, is_upper_natural, is_step};
 
 use crate::field::Field;
-use crate::tree::{members_in, members_of, natural, number};
-use cfg_records::Text;
+use crate::tree::{in_field, members_in, members_of, natural, number};
 use cfg_records::attribute_sizes::{MOST_INDEXES, MOST_TEXT};
+use cfg_records::{Indexes, Text};
 use toml::{Table, Value};
 
 /// The text, where it has at most 200 bytes.
@@ -30,6 +31,17 @@ pub fn text(value: &Value) -> Option<Text>
     match value.as_str() {
         Some(text) => short_text(text),
         None => None,
+    }
+}
+
+/// The text of at most 200 bytes that the table has in the field.
+pub fn text_in(table: &Table, field: Field) -> Text
+    requires { IsSome (text_in field (table_view table.now)) }
+    ensures { text_in field (table_view table.now) ≡ Some result }
+{
+    match in_field(table, field) {
+        Some(value) => text(value).unwrap(),
+        None => unreachable!(),
     }
 }
 
@@ -75,16 +87,45 @@ fn all_below(values: &[Value], count: usize) -> bool
     values.iter().all(|value| is_below(value, count))
 }
 
-/// Whether the value has indexes of the item's values.
-pub fn are_indexes(item: &Table, value: &Value) -> bool
-    ensures { result ≡ are_indexes (length (members_in Field.Values (table_view item.now))) (or_none (members (view value.now))) }
+/// Whether the value is a list of at least one and at most so many indexes, each of so many possible values.
+pub fn are_indexes(value: &Value, most: usize, count: usize) -> bool
+    ensures { result ≡ are_indexes most count (or_none (members (view value.now))) }
 {
-    let count = members_in(item, Field::Values).len();
     let indexes = members_of(value);
     if indexes.is_empty() {
         return false;
     }
-    indexes.len() <= count && all_below(indexes, count)
+    indexes.len() <= most && all_below(indexes, count)
+}
+
+/// Whether the value has indexes of the item's values, at most one for each.
+pub fn are_own_indexes(item: &Table, value: &Value) -> bool
+    ensures { result ≡ are_indexes (length (members_in Field.Values (table_view item.now))) (length (members_in Field.Values (table_view item.now))) (or_none (members (view value.now))) }
+{
+    let count = members_in(item, Field::Values).len();
+    are_indexes(value, count, count)
+}
+
+/// The index that the value is.
+fn index(value: &Value) -> u8
+    requires { is_below 256 (natural (view value.now)) ≡ true }
+    ensures { IsNaturalIn (view value.now) result }
+{
+    natural(value).unwrap() as u8
+}
+
+/// The indexes that these values are.
+pub fn indexes_of(values: &[Value]) -> Indexes
+    requires few { length values.now ≤ most_indexes }
+    requires indexes { list_all (λ value. is_below 256 (natural (view value))) values.now ≡ true }
+    ensures held { AllZip IsNaturalIn (map view values.now) result }
+    ensures few { length result ≤ most_indexes }
+{
+    let mut indexes = Indexes::new();
+    for value in values {
+        indexes.push(index(value));
+    }
+    indexes
 }
 
 /// Whether the value is a length that can be the item's most.

@@ -7,7 +7,7 @@ ghost use Rattle.plan_file.specs.Trees.{number_in, members_in};
 ghost use Rattle.plan_file.specs.Numeric.{sized_bytes};
 ghost use Rattle.plan_file.specs.Ranges.{is_offset, or_zero, is_number};
 ghost use Rattle.plan_file.specs.Faults.{field_faults};
-ghost use Rattle.plan_file.specs.PlanHolds.{flag_in, is_given, HoldsEvents, HoldsThresholds, HoldsHysteresis, HoldsChange, HoldsEventEnable, HoldsWatchdog, HoldsPowerPolicy, HoldsGlobalEnables, HoldsBootChange, HoldsBootParam, AreBytes, HoldsNumericEffecter};
+ghost use Rattle.plan_file.specs.PlanHolds.{is_given, HoldsEvents, HoldsThresholds, HoldsHysteresis, HoldsChange, HoldsEventEnable, HoldsWatchdog, HoldsPowerPolicy, HoldsGlobalEnables, HoldsBootChange, HoldsBootParam, AreBytes, HoldsNumericEffecter};
 
 use crate::board::{byte_in, value_in, word_in};
 use crate::field::Field;
@@ -17,7 +17,7 @@ use crate::kind::{
 };
 use crate::numeric::{numeric_bytes, size_in, sized_in};
 use crate::range::{boot_change, enables, is_between, parameter_in};
-use crate::tree::{has_text, in_field, members_in, natural, number};
+use crate::tree::{flag, has_text, in_field, members_in, natural, number};
 use cfg_records::event_enable::MESSAGES_PLACE;
 use cfg_records::{
     BootChange, EventChange, EventMasks, NumericBytes, SetBootParam, SetEventEnable,
@@ -105,17 +105,6 @@ pub fn hysteresis(step: &Table) -> SetHysteresis
         sensor: byte_in(step, Field::Sensor),
         positive: byte_in(step, Field::Positive),
         negative: byte_in(step, Field::Negative),
-    }
-}
-
-/// The boolean that the step has in the field.
-fn flag(step: &Table, field: Field) -> bool
-    requires { IsSome (flag_in field (table_view step.now)) }
-    ensures { flag_in field (table_view step.now) ≡ Some result }
-{
-    match in_field(step, field) {
-        Some(value) => value.as_bool().unwrap(),
-        None => unreachable!(),
     }
 }
 

@@ -12,7 +12,7 @@ ghost use Rattle.plan_file.specs.Holds.{settings};
 
 use crate::attribute_steps::{are_only_indexes, is_only_text};
 use crate::attributes::{
-    are_indexes, are_values, is_kind, is_most, is_sized_text, is_step, is_upper_natural, text,
+    are_own_indexes, are_values, is_kind, is_most, is_sized_text, is_step, is_upper_natural, text,
 };
 use crate::channels::{accesses, are_user_bytes, is_access, is_channel, limits, store};
 use crate::field::Field;
@@ -502,7 +502,7 @@ impl Shape {
             Shape::ShortText => text(value).is_some(),
             Shape::AttributeKind => is_kind(value),
             Shape::Values => are_values(value),
-            Shape::Indexes => are_indexes(item, value),
+            Shape::Indexes => are_own_indexes(item, value),
             Shape::MostLength => is_most(item, value),
             Shape::SizedText => is_sized_text(item, value),
             Shape::UpperNatural => is_upper_natural(item, value),

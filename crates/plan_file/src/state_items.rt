@@ -3,10 +3,10 @@ ghost use Rattle.std.specs.Prelude.{◌≡◌, ◌⊎◌, ◌==◌, [], true, fa
 ghost use Rattle.std.specs.List.{list_all, list_any, AllZip};
 ghost use Rattle.cfg_records.specs.Distinct.{NamesDiffer};
 ghost use Rattle.toml.specs.View.{view, table_view};
-ghost use Rattle.plan_file.specs.Trees.{table_of, members_in};
+ghost use Rattle.plan_file.specs.Trees.{IsNaturalIn, table_of, members_in};
 ghost use Rattle.plan_file.specs.Ranges.{is_table, is_state, is_state_list, can_be, are_present};
 ghost use Rattle.plan_file.specs.Faults.{field_faults, state_faults, first};
-ghost use Rattle.plan_file.specs.Holds.{IsNaturalIn, IsFieldIn, IsPresentIn, HoldsState, IsStateIn, IsNextStateFault, state_id};
+ghost use Rattle.plan_file.specs.Holds.{IsFieldIn, IsPresentIn, HoldsState, IsStateIn, IsNextStateFault, state_id};
 
 use crate::board::{byte_in, word_in};
 use crate::check::check;

@@ -1,7 +1,7 @@
 //! What the tables of a file have.
-ghost use Rattle.std.specs.Prelude.{◌≡◌, ◌<◌, ◌^◌, length, map, option_map, option_and_then};
+ghost use Rattle.std.specs.Prelude.{◌≡◌, ◌<◌, ◌^◌, Some, IsSome, length, map, option_map, option_and_then};
 ghost use Rattle.toml.specs.View.{view, table_view};
-ghost use Rattle.plan_file.specs.Trees.{in_field, lacks, members, or_none, natural, naturals, naturals_in, all_bytes, bytes_in, number_in, members_in};
+ghost use Rattle.plan_file.specs.Trees.{in_field, lacks, members, or_none, natural, naturals, naturals_in, all_bytes, bytes_in, flag_in, number_in, members_in};
 ghost use Rattle.plan_file.specs.Ranges.{has_text};
 
 use crate::field::Field;
@@ -101,6 +101,17 @@ pub fn bytes<const N: usize>(value: &Value) -> Option<[u8; N]>
     match naturals(value) {
         Some(numbers) => all_bytes(numbers),
         None => None,
+    }
+}
+
+/// The boolean that the table has in the field.
+pub fn flag(table: &Table, field: Field) -> bool
+    requires { IsSome (flag_in field (table_view table.now)) }
+    ensures { flag_in field (table_view table.now) ≡ Some result }
+{
+    match in_field(table, field) {
+        Some(value) => value.as_bool().unwrap(),
+        None => unreachable!(),
     }
 }
 

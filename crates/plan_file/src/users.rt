@@ -3,12 +3,12 @@ ghost use Rattle.std.specs.Prelude.{◌≡◌, ◌<◌, ◌≤◌, ◌+◌, ◌/
 ghost use Rattle.std.specs.List.{list_all, AllZip};
 ghost use Rattle.cfg_records.specs.UserAccess.{is_limit};
 ghost use Rattle.toml.specs.View.{view, table_view};
-ghost use Rattle.plan_file.specs.Trees.{natural, members, or_none, members_in};
+ghost use Rattle.plan_file.specs.Trees.{natural, members, or_none, members_in, flag_in};
 ghost use Rattle.plan_file.specs.Ranges.{passes};
 ghost use Rattle.plan_file.specs.Users.{padded, name_of, begins_unnamed, are_names};
 ghost use Rattle.plan_file.specs.Faults.{field_faults};
 ghost use Rattle.plan_file.specs.Holds.{HasNumber, HasBelow, IsNameIn, AreNumbered, HoldsUsers};
-ghost use Rattle.plan_file.specs.PlanHolds.{flag_in, bit_of, access_bits, HoldsUserName, HoldsUserAccess};
+ghost use Rattle.plan_file.specs.PlanHolds.{bit_of, access_bits, HoldsUserName, HoldsUserAccess};
 
 use crate::board::{byte_in, value_in};
 use crate::fault::FileFault;

@@ -221,6 +221,7 @@ impl<'a> RecordKind<'a> for EventEnableLimits {
         Key::EventEnable(op.sensor)
     }
 
+    #[inline(always)]
     fn apply(&self, op: &SetEventEnable, value: &[u8], new: &mut Value) -> Result<(), Code> {
         self.set(op, value, new)
     }

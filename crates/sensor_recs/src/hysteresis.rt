@@ -68,6 +68,7 @@ impl<'a> RecordKind<'a> for HysteresisLimits {
         Key::Hysteresis(op.sensor)
     }
 
+    #[inline(always)]
     fn apply(&self, op: &SetHysteresis, _value: &[u8], new: &mut Value) -> Result<(), Code> {
         new.replace(&both_bytes(op));
         Ok(())

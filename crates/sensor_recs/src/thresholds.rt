@@ -119,6 +119,7 @@ impl<'a> RecordKind<'a> for ThresholdLimits {
         Key::Thresholds(op.sensor)
     }
 
+    #[inline(always)]
     fn apply(&self, op: &SetThresholds, value: &[u8], new: &mut Value) -> Result<(), Code> {
         self.set(op, value, new)
     }

@@ -55,6 +55,7 @@ impl<'a> RecordKind<'a> for GlobalEnablesLimits {
         Key::GlobalEnables
     }
 
+    #[inline(always)]
     fn apply(&self, op: &SetGlobalEnables, _value: &[u8], new: &mut Value) -> Result<(), Code> {
         set(op, new)
     }

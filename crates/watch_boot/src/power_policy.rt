@@ -63,6 +63,7 @@ impl<'a> RecordKind<'a> for PowerPolicyLimits {
         Key::PowerPolicy
     }
 
+    #[inline(always)]
     fn apply(&self, op: &SetPowerPolicy, value: &[u8], new: &mut Value) -> Result<(), Code> {
         set(op, value, new)
     }

@@ -178,6 +178,7 @@ impl<'a> RecordKind<'a> for WatchdogLimits {
         Key::Watchdog
     }
 
+    #[inline(always)]
     fn apply(&self, op: &SetWatchdog, _value: &[u8], new: &mut Value) -> Result<(), Code> {
         set(op, new)
     }

@@ -1,8 +1,9 @@
 //! Worked frames on IPMB.
-use super::{Lab, talk};
-use bmc_core::{Done, Reason};
+use super::{Lab, Turn, go_on, open_lab, talk};
+use bmc_core::{Done, Out, Reason};
 use cfg_records::{Key, Store};
 use ipmb_frame::FrameFault;
+use std::alloc::Global;
 use std::process::Abort;
 use std::test::Fail;
 use two_wire::Bus;
@@ -12,12 +13,25 @@ const ANSWERED: Done = Done::Answered;
 const NOT_OURS: Done = Done::Ignored(Reason::NotOurs);
 
 /// The thresholds of sensor 5 as the board begins with them.
-const BEFORE: [u8; 6] = [0x14, 0x0A, 0x05, 0x50, 0x5F, 0x6E];
+const BEFORE: &[u8] = &[0x14, 0x0A, 0x05, 0x50, 0x5F, 0x6E];
 
 /// The record of sensor 5's thresholds.
 fn expect_thresholds(rt: &impl Abort, lab: &Lab, thresholds: &[u8]) {
     let value = lab.board.store().get(&Key::Thresholds(5));
     assert_eq!(rt; value, Some(thresholds));
+}
+
+/// A fresh lab's port does what the turns say, and leaves these thresholds of sensor 5.
+fn expect_left(
+    rt: &impl Abort,
+    alloc: Global,
+    turns: &[Turn],
+    thresholds: &[u8],
+) -> Result<(), Fail> {
+    let mut lab = open_lab(alloc, Bus::Ipmb)?;
+    go_on(rt, alloc, &mut lab, &mut Out::new(), turns)?;
+    expect_thresholds(rt, &lab, thresholds);
+    Ok(())
 }
 
 #[test]
@@ -28,25 +42,22 @@ fn get_device_id_is_answered(rt: HostRuntime) -> Result<(), Fail> {
         rt.alloc(),
         Bus::Ipmb,
         &[("2018C82C0001D3", ANSWERED, reply)],
-    )?;
-    Ok(())
+    )
 }
 
 #[test]
 fn upper_critical_is_set_over_ipmb_and_got_again(rt: HostRuntime) -> Result<(), Fail> {
     let set = "2010D02C08260510000000005A0037";
     let got = "2C14C0200C27003F140A05505A6E33";
-    let lab = talk(
+    expect_left(
         &rt,
         rt.alloc(),
-        Bus::Ipmb,
         &[
             (set, ANSWERED, "2C14C020082600B2"),
             ("2010D02C0C27059C", ANSWERED, got),
         ],
-    )?;
-    expect_thresholds(&rt, &lab, &[0x14, 0x0A, 0x05, 0x50, 0x5A, 0x6E]);
-    Ok(())
+        &[0x14, 0x0A, 0x05, 0x50, 0x5A, 0x6E],
+    )
 }
 
 #[test]
@@ -59,8 +70,7 @@ fn hysteresis_is_set_over_ipmb_and_got_again(rt: HostRuntime) -> Result<(), Fail
             ("2010D02C002405FF0301A8", ANSWERED, "2C14C020002400BC"),
             ("2010D02C042505FFA7", ANSWERED, "2C14C0200425000301B3"),
         ],
-    )?;
-    Ok(())
+    )
 }
 
 #[test]
@@ -73,8 +83,7 @@ fn events_are_enabled_over_ipmb_and_got_again(rt: HostRuntime) -> Result<(), Fai
             ("2010D02C042805D08002000051", ANSWERED, "2C14C020042800B4"),
             ("2010D02C0829059E", ANSWERED, "2C14C020082900C0800200006D"),
         ],
-    )?;
-    Ok(())
+    )
 }
 
 #[test]
@@ -84,8 +93,7 @@ fn the_self_test_found_no_error(rt: HostRuntime) -> Result<(), Fail> {
         rt.alloc(),
         Bus::Ipmb,
         &[("2018C82C0004D0", ANSWERED, "2C1CB820000400550087")],
-    )?;
-    Ok(())
+    )
 }
 
 #[test]
@@ -95,8 +103,7 @@ fn a_watchdog_that_was_never_set_is_not_reset(rt: HostRuntime) -> Result<(), Fai
         rt.alloc(),
         Bus::Ipmb,
         &[("2018C82C0022B2", ANSWERED, "2C1CB8200022803E")],
-    )?;
-    Ok(())
+    )
 }
 
 #[test]
@@ -111,8 +118,7 @@ fn the_chassis_status_shows_the_power_policy(rt: HostRuntime) -> Result<(), Fail
             ("2000E02C04060AC0", ANSWERED, "2C04D02004060007CF"),
             ("2000E02C0801CB", ANSWERED, "2C04D02008010040000097"),
         ],
-    )?;
-    Ok(())
+    )
 }
 
 #[test]
@@ -120,19 +126,17 @@ fn a_frame_with_a_fault_is_ignored_and_changes_nothing(rt: HostRuntime) -> Resul
     let head_sum = Done::Ignored(Reason::Frame(FrameFault::HeadSum));
     let body_sum = Done::Ignored(Reason::Frame(FrameFault::BodySum));
     let short = Done::Ignored(Reason::Frame(FrameFault::Short));
-    let lab = talk(
+    expect_left(
         &rt,
         rt.alloc(),
-        Bus::Ipmb,
         &[
             ("2010D02C08260510000000005A0038", body_sum, ""),
             // Both checksums are wrong.
             ("2010D12C08260510000000005A0038", head_sum, ""),
             ("2018C82C0001", short, ""),
         ],
-    )?;
-    expect_thresholds(&rt, &lab, &BEFORE);
-    Ok(())
+        BEFORE,
+    )
 }
 
 #[test]
@@ -149,16 +153,14 @@ fn the_longest_frame_is_heard_and_a_longer_one_is_not(rt: HostRuntime) -> Result
             (longest.as_str(), ANSWERED, "2C1CB8200401C714"),
             (longer.as_str(), long, ""),
         ],
-    )?;
-    Ok(())
+    )
 }
 
 #[test]
 fn thresholds_out_of_order_are_refused_and_change_nothing(rt: HostRuntime) -> Result<(), Fail> {
-    let lab = talk(
+    expect_left(
         &rt,
         rt.alloc(),
-        Bus::Ipmb,
         &[
             // Upper critical above upper non-recoverable.
             (
@@ -173,9 +175,8 @@ fn thresholds_out_of_order_are_refused_and_change_nothing(rt: HostRuntime) -> Re
                 "2C14C0201026CCDE",
             ),
         ],
-    )?;
-    expect_thresholds(&rt, &lab, &BEFORE);
-    Ok(())
+        BEFORE,
+    )
 }
 
 #[test]
@@ -192,8 +193,7 @@ fn frames_to_others_and_responses_are_ignored(rt: HostRuntime) -> Result<(), Fai
             ("201CC42C000100D3", not_request, ""),
             ("221CC22C000100D3", NOT_OURS, ""),
         ],
-    )?;
-    Ok(())
+    )
 }
 
 #[test]
@@ -204,6 +204,5 @@ fn a_logical_unit_is_looked_at_before_the_command(rt: HostRuntime) -> Result<(),
         rt.alloc(),
         Bus::Ipmb,
         &[("2011CF2C142B95", ANSWERED, "2C14C020152BC2DE")],
-    )?;
-    Ok(())
+    )
 }

@@ -386,8 +386,28 @@ fn a_write_that_fails_ends_a_run_with_6_and_is_not_repeated(rt: HostRuntime) -> 
     Ok(())
 }
 
-#[test]
-fn a_run_that_is_refused_memory_says_so_and_ends_with_5(rt: HostRuntime) {
+/// The status of a console to which the ending was written.
+fn written(ending: &Ending, console: &mut Console<Paper, Paper>) -> Status {
+    ending.write(console)
+}
+
+/// The ending is written to standard error, whose writer fails behind so many calls, if it does: this text, and this status.
+fn expect_told(
+    rt: &impl Abort,
+    alloc: Global,
+    ending: &Ending,
+    left: Option<usize>,
+    text: &[u8],
+    status: Status,
+) {
+    let mut console = Console::new(new_paper(alloc, Some(0)), new_paper(alloc, left));
+    assert_eq!(rt; written(ending, &mut console), status);
+    assert!(rt; console.out.text.is_empty());
+    assert_eq!(rt; console.err.text.as_slice(), text);
+}
+
+/// The ending of a run that is refused memory goes to standard error.
+fn expect_memory(rt: &impl Abort, alloc: Global) {
     let refused = Err(AllocError);
     let ending = Ending::of(&refused);
     assert_eq!(rt; ending.stream, Stream::Error);
@@ -395,14 +415,38 @@ fn a_run_that_is_refused_memory_says_so_and_ends_with_5(rt: HostRuntime) {
         (None, &b"memory\n"[..], Status::Memory),
         (Some(0), &[], Status::Output),
     ] {
-        let mut console = Console::new(new_paper(rt.alloc(), Some(0)), new_paper(rt.alloc(), left));
-        assert_eq!(rt; ending.write(&mut console), status);
-        assert!(rt; console.out.text.is_empty());
-        assert_eq!(rt; console.err.text.as_slice(), text);
+        expect_told(rt, alloc, &ending, left, text, status);
     }
+}
+
+/// A run whose words are refused writes nothing, and ends with 2.
+fn expect_refused_words(rt: &impl Abort) {
     let words = Ending::without_report(Status::RefusedWords);
     assert!(rt; words.text.is_empty());
     assert_eq!(rt; u8::from(words.status), 2);
+}
+
+#[test]
+fn a_run_that_is_refused_memory_says_so_and_ends_with_5(rt: HostRuntime) {
+    expect_memory(&rt, rt.alloc());
+    expect_refused_words(&rt);
+}
+
+/// The words name this bus and these bytes.
+fn expect_named(
+    rt: &impl Abort,
+    alloc: Global,
+    word: Option<&str>,
+    digits: &str,
+    bus: Bus,
+    bytes: &[u8],
+) -> Result<(), Fail> {
+    let Ok(frame) = asked_frame(alloc, word, digits) else {
+        return Err("refused".into());
+    };
+    assert_eq!(rt; frame.bus, bus, "{digits}");
+    assert_eq!(rt; frame.bytes.as_slice(), bytes, "{digits}");
+    Ok(())
 }
 
 #[test]
@@ -412,13 +456,15 @@ fn words_name_a_bus_and_bytes(rt: HostRuntime) -> Result<(), Fail> {
         (Some("ipmb"), "00", Bus::Ipmb, &[0x00]),
         (Some("smbus"), "C8aB", Bus::Smbus, &[0xC8, 0xAB]),
     ] {
-        let Ok(frame) = asked_frame(rt.alloc(), word, digits) else {
-            return Err("refused".into());
-        };
-        assert_eq!(rt; frame.bus, bus, "{digits}");
-        assert_eq!(rt; frame.bytes.as_slice(), bytes, "{digits}");
+        expect_named(&rt, rt.alloc(), word, digits, bus, bytes)?;
     }
     Ok(())
+}
+
+/// The words are refused.
+fn expect_other(rt: &impl Abort, alloc: Global, word: Option<&str>, digits: &str) {
+    let refusal = asked_frame(alloc, word, digits).err();
+    assert_eq!(rt; refusal, Some(Status::RefusedWords), "{digits}");
 }
 
 #[test]
@@ -434,7 +480,6 @@ fn other_words_are_refused(rt: HostRuntime) {
         (None, "2G"),
         (Some("smbus"), "0x20"),
     ] {
-        let refusal = asked_frame(rt.alloc(), word, digits).err();
-        assert_eq!(rt; refusal, Some(Status::RefusedWords), "{digits}");
+        expect_other(&rt, rt.alloc(), word, digits);
     }
 }

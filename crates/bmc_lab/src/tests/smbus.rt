@@ -1,9 +1,10 @@
 //! Worked packets on the sample board.
-use super::{Lab, go_on, open_lab, talk};
+use super::{Lab, Turn, go_on, hear, open_lab, talk};
 use bmc_core::{Done, Out, Reason};
 use ipmb_frame::FrameFault;
 use mctp_net::{DropCause, PacketFault};
 use pldm_base::PldmFault;
+use std::alloc::Global;
 use std::process::Abort;
 use std::test::Fail;
 use two_wire::{Bus, pec};
@@ -42,8 +43,7 @@ fn an_endpoint_says_its_identifier(rt: HostRuntime) -> Result<(), Fail> {
         rt.alloc(),
         Bus::Smbus,
         &[("200F0831010008C800800250", Done::Control, reply)],
-    )?;
-    Ok(())
+    )
 }
 
 #[test]
@@ -65,8 +65,7 @@ fn the_terminus_and_its_types_are_told_over_smbus(rt: HostRuntime) -> Result<(),
                 "300F0A2101080AC0010001022095",
             ),
         ],
-    )?;
-    Ok(())
+    )
 }
 
 #[test]
@@ -87,8 +86,7 @@ fn an_identifier_that_was_taken_is_the_endpoints_from_then_on(rt: HostRuntime) -
                 "300F0B21010809C3010500020005A2",
             ),
         ],
-    )?;
-    Ok(())
+    )
 }
 
 #[test]
@@ -108,8 +106,7 @@ fn a_message_of_two_packets_is_answered_to_where_the_last_came_from(
                 "320F0A2101080AC0010000020338",
             ),
         ],
-    )?;
-    Ok(())
+    )
 }
 
 #[test]
@@ -135,8 +132,7 @@ fn each_packet_fault_is_a_reason(rt: HostRuntime) -> Result<(), Fail> {
             // The packet error code and the version are wrong.
             ("200F0931020A08C8018000028A", faulty(PacketFault::Pec), ""),
         ],
-    )?;
-    Ok(())
+    )
 }
 
 #[test]
@@ -183,15 +179,31 @@ fn each_message_that_is_no_request_of_the_controller_has_its_reason(
             ),
             (GET_TID, ANSWERED, TERMINUS),
         ],
+    )
+}
+
+/// With one `Out`, a lab on IPMB does what the frames say, then one on SMBus what the packets say, then the first what the frames say.
+fn expect_in_turn(
+    rt: &impl Abort,
+    alloc: Global,
+    frames: &[Turn],
+    packets: &[Turn],
+) -> Result<(), Fail> {
+    let mut ipmb = open_lab(alloc, Bus::Ipmb)?;
+    let mut out = Out::new();
+    go_on(rt, alloc, &mut ipmb, &mut out, frames)?;
+    go_on(
+        rt,
+        alloc,
+        &mut open_lab(alloc, Bus::Smbus)?,
+        &mut out,
+        packets,
     )?;
-    Ok(())
+    go_on(rt, alloc, &mut ipmb, &mut out, frames)
 }
 
 #[test]
 fn one_out_serves_for_many_calls(rt: HostRuntime) -> Result<(), Fail> {
-    let mut ipmb = open_lab(rt.alloc(), Bus::Ipmb)?;
-    let mut smbus = open_lab(rt.alloc(), Bus::Smbus)?;
-    let mut out = Out::new();
     let reply = "2C1CB820000100200101050207CDAB003412F1";
     let body_sum = Done::Ignored(Reason::Frame(FrameFault::BodySum));
     let frames = [
@@ -213,30 +225,61 @@ fn one_out_serves_for_many_calls(rt: HostRuntime) -> Result<(), Fail> {
             "",
         ),
     ];
-    go_on(&rt, rt.alloc(), &mut ipmb, &mut out, &frames);
-    go_on(&rt, rt.alloc(), &mut smbus, &mut out, &packets);
-    go_on(&rt, rt.alloc(), &mut ipmb, &mut out, &frames);
-    Ok(())
+    expect_in_turn(&rt, rt.alloc(), &frames, &packets)
 }
 
-/// The port does this with a packet of 64 bytes of payload that is no end, from this endpoint and with these flags.
-fn expect_unit(rt: &impl Abort, lab: &mut Lab, source: u8, flags: u8, done: Done) {
+/// A packet of 64 bytes of payload that is no end, from this endpoint and with these flags.
+fn unit(source: u8, flags: u8) -> [u8; 73] {
     let mut frame = [0u8; 73];
     frame[..8].copy_from_slice(&[0x20, 0x0F, 0x45, 0x31, 0x01, 0x0A, source, flags]);
     frame[8] = 0x01;
     frame[72] = pec(&frame[..72]);
+    frame
+}
+
+/// The port does this with a packet of 64 bytes of payload that is no end, from this endpoint and with these flags.
+fn expect_unit(rt: &impl Abort, lab: &mut Lab, source: u8, flags: u8, done: Done) {
     let mut out = Out::new();
-    lab.port.on_frame(&mut lab.board, &frame, &mut out);
+    hear(lab, &unit(source, flags), &mut out);
     assert!(rt; out.frames.as_slice().is_empty());
     assert_eq!(rt; out.done, done, "from {source:02X} with {flags:02X}");
 }
 
+/// A message of five packets is too long; and beside eight messages in parts there is no room for a ninth.
+fn expect_no_room(rt: &impl Abort, lab: &mut Lab) {
+    for (source, flags, done) in [
+        (0x08, 0x88, Done::Waiting),
+        (0x08, 0x18, Done::Waiting),
+        (0x08, 0x28, Done::Waiting),
+        (0x08, 0x38, Done::Waiting),
+        (0x08, 0x08, dropped(DropCause::TooLong)),
+        (0x10, 0x88, Done::Waiting),
+        (0x11, 0x88, Done::Waiting),
+        (0x12, 0x88, Done::Waiting),
+        (0x13, 0x88, Done::Waiting),
+        (0x14, 0x88, Done::Waiting),
+        (0x15, 0x88, Done::Waiting),
+        (0x16, 0x88, Done::Waiting),
+        (0x17, 0x88, Done::Waiting),
+        (0x18, 0x88, dropped(DropCause::NoSlot)),
+    ] {
+        expect_unit(rt, lab, source, flags, done);
+    }
+}
+
+/// A lab does what the turns say, then has no room, and does what the last turns say.
+fn expect_drops(rt: &impl Abort, alloc: Global, turns: &[Turn], last: &[Turn]) -> Result<(), Fail> {
+    let mut lab = open_lab(alloc, Bus::Smbus)?;
+    go_on(rt, alloc, &mut lab, &mut Out::new(), turns)?;
+    expect_no_room(rt, &mut lab);
+    go_on(rt, alloc, &mut lab, &mut Out::new(), last)
+}
+
 #[test]
 fn each_drop_cause_is_a_reason(rt: HostRuntime) -> Result<(), Fail> {
-    let mut lab = talk(
+    expect_drops(
         &rt,
         rt.alloc(),
-        Bus::Smbus,
         &[
             (
                 "200F0931010B08C80180000261",
@@ -265,17 +308,7 @@ fn each_drop_cause_is_a_reason(rt: HostRuntime) -> Result<(), Fail> {
                 "",
             ),
         ],
-    )?;
-    for flags in [0x88, 0x18, 0x28, 0x38] {
-        expect_unit(&rt, &mut lab, 0x08, flags, Done::Waiting);
-    }
-    expect_unit(&rt, &mut lab, 0x08, 0x08, dropped(DropCause::TooLong));
-    for source in 0x10..0x18 {
-        expect_unit(&rt, &mut lab, source, 0x88, Done::Waiting);
-    }
-    expect_unit(&rt, &mut lab, 0x18, 0x88, dropped(DropCause::NoSlot));
-    // A message in one packet needs no room.
-    let whole = [(GET_TID, ANSWERED, TERMINUS)];
-    go_on(&rt, rt.alloc(), &mut lab, &mut Out::new(), &whole);
-    Ok(())
+        // A message in one packet needs no room.
+        &[(GET_TID, ANSWERED, TERMINUS)],
+    )
 }

@@ -1,5 +1,5 @@
 //! A plan of two steps on the sample board, over IPMB.
-use super::{Lab, open_lab};
+use super::{Lab, hear, open_lab};
 use bmc_core::Out;
 use cfg_records::{PlainStore, Store, sample_board};
 use plan_file::{read_plan, read_undo, write_undo};
@@ -8,17 +8,19 @@ use std::alloc::Global;
 use std::process::Abort;
 use std::test::Fail;
 use two_wire::{Address, Bus};
-use undo_core::{Manager, OpenFault, Phase, Sent, Why, WrongPhase};
+use undo_core::{Manager, OpenFault, Phase, Sent, Why};
 
-fn names() -> Names {
-    Names {
-        own_address: Address::new(0x2C).unwrap(),
-        peer_address: Address::new(0x20).unwrap(),
-        own_wire: Address::new(0x2C).unwrap(),
-        peer_wire: Address::new(0x20).unwrap(),
+fn names() -> Result<Names, Fail> {
+    let own = Address::new(0x2C).ok_or("an address")?;
+    let peer = Address::new(0x20).ok_or("an address")?;
+    Ok(Names {
+        own_address: own,
+        peer_address: peer,
+        own_wire: own,
+        peer_wire: peer,
         own_eid: 0x0B,
         peer_eid: 0x0A,
-    }
+    })
 }
 
 /// Upper non-critical 4Bh and upper critical 5Ah of sensor 5; then upper critical 5Ch and upper non-recoverable 64h.
@@ -78,20 +80,68 @@ fn exchange(
         return None;
     };
     assert_eq!(rt; sent.bus, Bus::Ipmb);
-    lab.port.on_frame(&mut lab.board, frame.as_slice(), out);
+    hear(lab, frame.as_slice(), out);
     let [reply] = out.frames.as_slice() else {
         assert!(rt; false, "one frame is a response on IPMB");
         return None;
     };
-    manager.on_frame(Bus::Ipmb, reply.as_slice())
+    take(manager, reply.as_slice())
 }
 
-/// The calls' first frames.
-fn sent_by(called: Result<Option<Sent>, WrongPhase>) -> Result<Option<Sent>, Fail> {
-    let Ok(sent) = called else {
+/// The reply comes to the manager. What that sends then.
+fn take(manager: &mut Manager, reply: &[u8]) -> Option<Sent> {
+    manager.on_frame(Bus::Ipmb, reply)
+}
+
+/// A manager of the plan.
+fn open_manager(alloc: Global) -> Result<Manager, Fail> {
+    let Ok(manager) = Manager::open(alloc, plan(alloc)?, names()?, 3) else {
+        return Err("no manager".into());
+    };
+    Ok(manager)
+}
+
+/// A manager that undoes what the undo list's text says.
+fn resumed(alloc: Global, text: &str) -> Result<Manager, Fail> {
+    let Ok(list) = read_undo(alloc, text) else {
+        return Err("no undo list".into());
+    };
+    let Ok(manager) = Manager::resume(alloc, list, names()?, 3) else {
+        return Err("no manager".into());
+    };
+    Ok(manager)
+}
+
+/// The first frames that the manager sends for the plan.
+fn start(manager: &mut Manager) -> Result<Option<Sent>, Fail> {
+    let Ok(sent) = manager.start() else {
         return Err("the phase isn't one for the call".into());
     };
     Ok(sent)
+}
+
+/// The first frames that the manager sends to undo the plan.
+fn undo(manager: &mut Manager) -> Result<Option<Sent>, Fail> {
+    let Ok(sent) = manager.undo() else {
+        return Err("the phase isn't one for the call".into());
+    };
+    Ok(sent)
+}
+
+/// The text of the manager's undo list.
+fn undo_text(alloc: Global, manager: &Manager) -> Result<String, Fail> {
+    Ok(write_undo(alloc, manager.undo_list())?)
+}
+
+/// The manager's undo list is that of both steps.
+fn expect_undo_list(rt: &impl Abort, alloc: Global, manager: &Manager) -> Result<(), Fail> {
+    let text = undo_text(alloc, manager)?;
+    assert_eq!(rt; text.as_str(), UNDO);
+    Ok(())
+}
+
+fn expect_phase(rt: &impl Abort, manager: &Manager, phase: Phase) {
+    assert_eq!(rt; manager.phase(), phase);
 }
 
 /// Whether each record of the board is as in its file.
@@ -108,18 +158,29 @@ fn is_as_in_its_file(alloc: Global, lab: &Lab) -> Result<bool, Fail> {
     Ok(true)
 }
 
-/// A fresh board, and a manager that carried the plan out on it.
-fn carried_out(rt: &impl Abort, alloc: Global) -> Result<(Lab, Manager), Fail> {
-    let mut lab = open_lab(alloc, Bus::Ipmb)?;
-    let Ok(mut manager) = Manager::open(alloc, plan(alloc)?, names(), 3) else {
-        return Err("no manager".into());
+/// The manager carries the plan out on the board.
+fn carry_out(
+    rt: &impl Abort,
+    alloc: Global,
+    lab: &mut Lab,
+    manager: &mut Manager,
+) -> Result<(), Fail> {
+    assert!(rt; is_as_in_its_file(alloc, lab)?);
+    let first = start(manager)?;
+    assert_eq!(rt; drive(rt, lab, manager, first), 4);
+    expect_phase(rt, manager, Phase::Done);
+    assert!(rt; !is_as_in_its_file(alloc, lab)?);
+    expect_undo_list(rt, alloc, manager)
+}
+
+/// What is sent is this one frame.
+fn expect_frame(rt: &impl Abort, alloc: Global, sent: &Sent, frame: &str) -> Result<(), Fail> {
+    let [only] = sent.frames.as_slice() else {
+        return Err("one frame is a request on IPMB".into());
     };
-    assert!(rt; is_as_in_its_file(alloc, &lab)?);
-    let first = sent_by(manager.start())?;
-    assert_eq!(rt; drive(rt, &mut lab, &mut manager, first), 4);
-    assert_eq!(rt; manager.phase(), Phase::Done);
-    assert!(rt; !is_as_in_its_file(alloc, &lab)?);
-    Ok((lab, manager))
+    let digits = hex::encode_upper(alloc, only.as_slice())?;
+    assert_eq!(rt; digits.as_str(), frame);
+    Ok(())
 }
 
 /// The undo begins with this frame, and leaves every record as it was.
@@ -129,48 +190,48 @@ fn undone(
     lab: &mut Lab,
     manager: &mut Manager,
 ) -> Result<(), Fail> {
-    let Some(first) = sent_by(manager.undo())? else {
+    let Some(first) = undo(manager)? else {
         return Err("nothing is sent".into());
     };
-    let [frame] = first.frames.as_slice() else {
-        return Err("one frame is a request on IPMB".into());
-    };
-    let digits = hex::encode_upper(alloc, frame.as_slice())?;
-    assert_eq!(rt; digits.as_str(), "2010D02C10260530000000005A6EA1");
+    expect_frame(rt, alloc, &first, "2010D02C10260530000000005A6EA1")?;
     assert_eq!(rt; drive(rt, lab, manager, Some(first)), 2);
-    assert_eq!(rt; manager.phase(), Phase::Undone);
+    expect_phase(rt, manager, Phase::Undone);
     assert!(rt; is_as_in_its_file(alloc, lab)?);
     Ok(())
 }
 
+/// Another manager takes the place of this one, by what its undo list says.
+fn take_over(rt: &impl Abort, alloc: Global, manager: &mut Manager) -> Result<(), Fail> {
+    let text = undo_text(alloc, manager)?;
+    *manager = resumed(alloc, text.as_str())?;
+    expect_phase(rt, manager, Phase::Halted(2, Why::Stop));
+    expect_undo_list(rt, alloc, manager)
+}
+
+/// The plan is carried out on a fresh board, and undone by its manager or by another.
+fn expect_undone(rt: &impl Abort, alloc: Global, by_another: bool) -> Result<(), Fail> {
+    let mut lab = open_lab(alloc, Bus::Ipmb)?;
+    let mut manager = open_manager(alloc)?;
+    carry_out(rt, alloc, &mut lab, &mut manager)?;
+    if by_another {
+        take_over(rt, alloc, &mut manager)?;
+    }
+    undone(rt, alloc, &mut lab, &mut manager)
+}
+
 #[test]
 fn a_plan_is_carried_out_and_undone(rt: HostRuntime) -> Result<(), Fail> {
-    let alloc = rt.alloc();
-    let (mut lab, mut manager) = carried_out(&rt, alloc)?;
-    assert_eq!(rt; write_undo(alloc, manager.undo_list())?.as_str(), UNDO);
-    undone(&rt, alloc, &mut lab, &mut manager)
+    expect_undone(&rt, rt.alloc(), false)
 }
 
 #[test]
 fn another_manager_undoes_the_plan(rt: HostRuntime) -> Result<(), Fail> {
-    let alloc = rt.alloc();
-    let (mut lab, manager) = carried_out(&rt, alloc)?;
-    let text = write_undo(alloc, manager.undo_list())?;
-    let Ok(list) = read_undo(alloc, text.as_str()) else {
-        return Err("no undo list".into());
-    };
-    let Ok(mut other) = Manager::resume(alloc, list, names(), 3) else {
-        return Err("no manager".into());
-    };
-    assert_eq!(rt; other.phase(), Phase::Halted(2, Why::Stop));
-    assert_eq!(rt; write_undo(alloc, other.undo_list())?.as_str(), UNDO);
-    undone(&rt, alloc, &mut lab, &mut other)
+    expect_undone(&rt, rt.alloc(), true)
 }
 
 #[test]
 fn a_manager_has_at_most_15_retries(rt: HostRuntime) -> Result<(), Fail> {
-    let alloc = rt.alloc();
-    let opened = Manager::open(alloc, plan(alloc)?, names(), 16);
+    let opened = Manager::open(rt.alloc(), plan(rt.alloc())?, names()?, 16);
     assert_eq!(rt; opened.err(), Some(OpenFault::Retries));
     Ok(())
 }

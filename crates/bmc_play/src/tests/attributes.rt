@@ -1,5 +1,5 @@
 //! Plans with steps on BIOS attributes, of which some requests are of several packets.
-use super::{SAMPLE, Texts, expect_run, on_sample};
+use super::{Pieces, SAMPLE, expect_joined, expect_run, on_sample};
 use std::test::Fail;
 
 /// Four steps and their undo, in which each frame comes once.
@@ -113,15 +113,19 @@ records changed 1
 
 #[test]
 fn a_request_of_four_packets_is_undone_by_one_of_one(rt: HostRuntime) -> Result<(), Fail> {
-    let schedule = format!(in rt.alloc(); "{OUT_OF_SEQUENCE}undo\nto-bmc 13\nto-mgr 14\n")?;
     let output = "phase Undone
 frames 15
 undo 1
 smbus 0307000000000501000106007261636B2D31
 records same
 ";
-    let texts = on_sample(STEP, schedule.as_str());
-    expect_run(&rt, rt.alloc(), false, texts, (output, "", 0))
+    let pieces = Pieces {
+        board: &[SAMPLE],
+        plan: &[STEP],
+        schedule: &[OUT_OF_SEQUENCE, "undo\nto-bmc 13\nto-mgr 14\n"],
+        out: &[output],
+    };
+    expect_joined(&rt, rt.alloc(), false, pieces, 0)
 }
 
 /// Notes as long as they can be, behind the attributes of the sample board.
@@ -205,7 +209,6 @@ to-mgr 40
 /// No event has a fault, and the plan is undone; but the asset has a name that nobody gave it.
 #[test]
 fn packets_that_join_another_requests_change_a_record(rt: HostRuntime) -> Result<(), Fail> {
-    let board = format!(in rt.alloc(); "{SAMPLE}{NOTES}")?;
     let output = "phase Undone
 frames 41
 undo 4
@@ -215,10 +218,11 @@ smbus 0307000000000501000106007261636B2D31
 smbus 03070000000005030001C8007979797979797979797979797979797979797979797979797979797979797979797979797979797979797979797979797979797979797979797979797979797979797979797979797979797979797979797979797979797979797979797979797979797979797979797979797979797979797979797979797979797979797979797979797979797979797979797979797979797979797979797979797979797979797979797979797979797979797979797979797979797979797979797979797979797979797979
 records changed 1
 ";
-    let texts = Texts {
-        board: board.as_str(),
-        plan: FOUR_STEPS,
-        schedule: JOINED,
+    let pieces = Pieces {
+        board: &[SAMPLE, NOTES],
+        plan: &[FOUR_STEPS],
+        schedule: &[JOINED],
+        out: &[output],
     };
-    expect_run(&rt, rt.alloc(), false, texts, (output, "", 0))
+    expect_joined(&rt, rt.alloc(), false, pieces, 0)
 }

@@ -1,5 +1,5 @@
 //! Events that a lab doesn't take.
-use super::{EVENTS, expect_run, on_sample};
+use super::{EVENTS, Pieces, SAMPLE, expect_joined, expect_run, on_sample, repeated};
 use std::test::Fail;
 
 /// No frame was sent.
@@ -10,7 +10,6 @@ const BEGUN: &str = "phase Getting 0\nframes 1\nundo 0\nrecords same\n";
 
 #[test]
 fn the_event_that_has_a_fault_is_told_last(rt: HostRuntime) -> Result<(), Fail> {
-    let alloc = rt.alloc();
     for (schedule, before, fault) in [
         ("to-bmc 9\n", FRESH, "fault 1 NoFrame\n"),
         ("start\nto-mgr 0\n", BEGUN, "fault 2 WrongWay\n"),
@@ -31,10 +30,13 @@ fn the_event_that_has_a_fault_is_told_last(rt: HostRuntime) -> Result<(), Fail> 
             "fault 2 WrongWay\n",
         ),
     ] {
-        let mut text = String::from_str(alloc, before)?;
-        text.push_str(fault)?;
-        let wanted = (text.as_str(), "", 4);
-        expect_run(&rt, alloc, false, on_sample(EVENTS, schedule), wanted)?;
+        let pieces = Pieces {
+            board: &[SAMPLE],
+            plan: &[EVENTS],
+            schedule: &[schedule],
+            out: &[before, fault],
+        };
+        expect_joined(&rt, rt.alloc(), false, pieces, 4)?;
     }
     Ok(())
 }
@@ -71,12 +73,8 @@ fault 7 Aged
 
 #[test]
 fn a_lab_that_sent_65536_frames_has_no_room(rt: HostRuntime) -> Result<(), Fail> {
-    let alloc = rt.alloc();
-    let mut schedule = String::new(alloc);
-    for _ in 0..65_537 {
-        schedule.push_str("other ipmb 40 280042\n")?;
-    }
+    let schedule = repeated(rt.alloc(), "other ipmb 40 280042\n", 65_537)?;
     let texts = on_sample(EVENTS, schedule.as_str());
     let text = "phase Fresh\nframes 65536\nundo 0\nrecords same\nfault 65537 Room\n";
-    expect_run(&rt, alloc, false, texts, (text, "", 4))
+    expect_run(&rt, rt.alloc(), false, texts, (text, "", 4))
 }

@@ -1,5 +1,5 @@
 //! What others ask, what happens on the bench, and noise.
-use super::{EVENTS, expect_run, on_sample};
+use super::{EVENTS, Pieces, SAMPLE, expect_joined, expect_run, on_sample};
 use std::test::Fail;
 
 #[test]
@@ -67,9 +67,6 @@ fn noise_changes_nothing(rt: HostRuntime) -> Result<(), Fail> {
 
 #[test]
 fn each_record_that_changed_counts(rt: HostRuntime) -> Result<(), Fail> {
-    let alloc = rt.alloc();
-    let mut plan = String::from_str(alloc, EVENTS)?;
-    plan.push_str("[[step]]\nkind = \"power-policy\"\npolicy = 2\n")?;
     let schedule =
         "start\nto-bmc 0\nto-mgr 1\nto-bmc 2\nto-mgr 3\nto-bmc 4\nto-mgr 5\nto-bmc 6\nto-mgr 7\n";
     let text = "phase Done
@@ -79,11 +76,11 @@ ipmb 000601
 ipmb 102805E080000000
 records changed 2
 ";
-    expect_run(
-        &rt,
-        alloc,
-        false,
-        on_sample(plan.as_str(), schedule),
-        (text, "", 0),
-    )
+    let pieces = Pieces {
+        board: &[SAMPLE],
+        plan: &[EVENTS, "[[step]]\nkind = \"power-policy\"\npolicy = 2\n"],
+        schedule: &[schedule],
+        out: &[text],
+    };
+    expect_joined(&rt, rt.alloc(), false, pieces, 0)
 }

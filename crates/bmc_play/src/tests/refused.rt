@@ -1,5 +1,5 @@
 //! Texts that are refused.
-use super::{EVENTS, SAMPLE, Texts, expect_run};
+use super::{EVENTS, SAMPLE, Texts, expect_run, on_sample, repeated};
 use std::test::Fail;
 
 #[test]
@@ -43,15 +43,8 @@ fn the_first_text_that_is_refused_is_named(rt: HostRuntime) -> Result<(), Fail> 
 
 #[test]
 fn a_plan_of_257_steps_has_too_many(rt: HostRuntime) -> Result<(), Fail> {
-    let alloc = rt.alloc();
-    let mut plan = String::new(alloc);
-    for _ in 0..257 {
-        plan.push_str("[[step]]\nkind = \"power-policy\"\npolicy = 2\n")?;
-    }
-    let texts = Texts {
-        board: SAMPLE,
-        plan: plan.as_str(),
-        schedule: "start\n",
-    };
-    expect_run(&rt, alloc, false, texts, ("", "plan TooMany\n", 3))
+    let step = "[[step]]\nkind = \"power-policy\"\npolicy = 2\n";
+    let plan = repeated(rt.alloc(), step, 257)?;
+    let texts = on_sample(plan.as_str(), "start\n");
+    expect_run(&rt, rt.alloc(), false, texts, ("", "plan TooMany\n", 3))
 }

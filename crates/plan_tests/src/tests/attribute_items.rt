@@ -1,9 +1,16 @@
 //! BIOS attributes of board files.
 use super::board::SAMPLE;
-use super::row_of;
-use cfg_records::{Attribute, AttributeKind, AttributeRange, sample_board};
-use plan_file::{Field, FileFault, Item, Place, read_board};
+use super::texts::{
+    Form, Text, board_of, edited, expect_around, expect_edits, expect_fault, expect_fields,
+    expect_too_many, joined, numbered, times,
+};
+use cfg_records::{
+    Attribute, AttributeKind, AttributeRange, EnumerationAttribute, IntegerAttribute,
+    StringAttribute, sample_board,
+};
+use plan_file::Field;
 use std::alloc::{AllocError, Global};
+use std::process::Abort;
 use std::test::Fail;
 
 /// A board without sensors, channels, attributes and effecters.
@@ -74,30 +81,6 @@ attribute 2 increment | increment = 10 | increment = [10] | increment = -1 | inc
 attribute 2 default | default = 30 | default = \"30\" | default = 35 | default = 10 | default = 20 | default = 300
 attribute 2 current | current = 40 | current = true | current = 310 | current = 41 | current = 20 | current = 300";
 
-/// The board's file and the attributes, with a line in another's place.
-fn edited(alloc: Global, old: &'static str, new: &'static str) -> Result<String, AllocError> {
-    let mut text = String::from_str(alloc, BARE)?;
-    for line in THREE.lines() {
-        text.push_str(if line == old { new } else { line })?;
-        text.push('\n')?;
-    }
-    Ok(text)
-}
-
-/// What the fault of a text is called, and nothing where it is a board.
-fn called(alloc: Global, text: &str) -> Result<String, AllocError> {
-    match read_board(alloc, text) {
-        Ok(_) => Ok(String::new(alloc)),
-        Err(fault) => format!(in alloc; "{fault}"),
-    }
-}
-
-/// What the fault is called with a line in another's place.
-fn fault(alloc: Global, old: &'static str, new: &'static str) -> Result<String, AllocError> {
-    let text = edited(alloc, old, new)?;
-    called(alloc, text.as_str())
-}
-
 /// Whether two attributes have the same handle, name, values and current value.
 fn are_alike(one: &Attribute, other: &Attribute) -> bool {
     let (key, value) = one.pair();
@@ -109,99 +92,148 @@ fn are_alike(one: &Attribute, other: &Attribute) -> bool {
         && value.as_slice() == other_value.as_slice()
 }
 
+/// Whether the attributes are alike, one by one.
+fn are_all_alike(ones: &[Attribute], others: &[Attribute]) -> bool {
+    ones.len() == others.len()
+        && ones
+            .iter()
+            .zip(others)
+            .all(|(one, other)| are_alike(one, other))
+}
+
 #[test]
 fn the_sample_file_has_the_sample_boards_attributes(rt: HostRuntime) -> Result<(), Fail> {
-    let read = read_board(rt.alloc(), SAMPLE).map_err(|_| "a board")?;
+    let read = board_of(rt.alloc(), SAMPLE)?;
     let known = sample_board(rt.alloc())?;
-    let attributes = read.attributes.items.as_slice();
-    assert_eq!(rt; attributes.len(), known.attributes.items.as_slice().len());
-    for (one, other) in attributes.iter().zip(known.attributes.items.as_slice()) {
-        assert!(rt; are_alike(one, other));
-    }
+    assert!(rt;
+        are_all_alike(
+            read.attributes.items.as_slice(),
+            known.attributes.items.as_slice()
+        )
+    );
     Ok(())
+}
+
+/// An attribute as a table says it: its handle and its name, and whether it can only be read.
+type Named = (u16, &'static [u8], bool);
+
+/// Whether the attribute has this handle and this name, and can only be read where it is said.
+fn is_named(attribute: &Attribute, want: &Named) -> bool {
+    let (handle, name, read_only) = want;
+    attribute.handle == *handle
+        && attribute.name.as_slice() == *name
+        && attribute.read_only == *read_only
+}
+
+/// Whether the enumeration has two values, these, and these defaults and present ones.
+fn is_enumeration(
+    kind: &EnumerationAttribute,
+    values: (&[u8], &[u8]),
+    default: &[u8],
+    current: &[u8],
+) -> Result<bool, Fail> {
+    let held = kind.values.as_slice();
+    let first = held.get(0).ok_or("a value")?;
+    let second = held.get(1).ok_or("a value")?;
+    Ok(
+        held.len() == 2
+            && (first.as_slice(), second.as_slice()) == values
+            && kind.default.as_slice() == default
+            && kind.current.as_slice() == current,
+    )
+}
+
+/// Whether the text is of this type, of so many bytes at least and at most, and has this default and this present value.
+fn is_string(
+    kind: &StringAttribute,
+    string_type: u8,
+    lengths: (u16, u16),
+    default: &[u8],
+    current: &[u8],
+) -> bool {
+    kind.string_type == string_type
+        && (kind.lengths.least, kind.lengths.most) == lengths
+        && kind.default.as_slice() == default
+        && kind.current.as_slice() == current
+}
+
+/// Whether the number has these bounds and this increment, and this default and this present value.
+fn is_integer(kind: &IntegerAttribute, steps: (u64, u64, u32), default: u64, current: u64) -> bool {
+    (kind.steps.lower, kind.steps.upper, kind.steps.increment) == steps
+        && kind.default == default
+        && kind.current == current
+}
+
+/// Whether the attribute is the first of the file, but for its present values, which are 1 and 0.
+fn is_boot(attribute: &Attribute) -> Result<bool, Fail> {
+    match &attribute.kind {
+        AttributeKind::Enumeration(boot) => Ok(
+            is_named(attribute, &(0, b"Boot", false))
+                && is_enumeration(boot, (b"disk", b"net"), &[0], &[1, 0])?,
+        ),
+        _ => Err(Fail::from("an enumeration")),
+    }
+}
+
+/// Whether the attribute is the second of the file.
+fn is_owner(attribute: &Attribute) -> Result<bool, Fail> {
+    match &attribute.kind {
+        AttributeKind::Text(owner) => Ok(
+            is_named(attribute, &(1, b"Owner", true))
+                && is_string(owner, 1, (2, 8), b"abcd", b"rack-2"),
+        ),
+        _ => Err(Fail::from("a string")),
+    }
+}
+
+/// Whether the attribute is the third of the file.
+fn is_wait(attribute: &Attribute) -> Result<bool, Fail> {
+    match &attribute.kind {
+        AttributeKind::Integer(wait) => Ok(
+            is_named(attribute, &(2, b"Wait", false)) && is_integer(wait, (20, 300, 10), 30, 40),
+        ),
+        _ => Err(Fail::from("an integer")),
+    }
 }
 
 #[test]
 fn an_enumeration_of_a_file_is_the_boards(rt: HostRuntime) -> Result<(), Fail> {
-    let text = edited(rt.alloc(), "current = [1]", "current = [1, 0]")?;
-    let read = read_board(rt.alloc(), text.as_str()).map_err(|_| "a board")?;
+    let text = edited(rt.alloc(), &FILE, "current = [1]", "current = [1, 0]")?;
+    let read = board_of(rt.alloc(), text.as_str())?;
     let one = read.attributes.items.as_slice().get(0).ok_or("one")?;
-    assert_eq!(rt; one.handle, 0);
-    assert_eq!(rt; one.name.as_slice(), b"Boot".as_slice());
-    assert!(rt; !one.read_only);
-    let AttributeKind::Enumeration(boot) = &one.kind else {
-        return Err(Fail::from("an enumeration"));
-    };
-    let values = boot.values.as_slice();
-    assert_eq!(rt; values.len(), 2);
-    let first = values.get(0).ok_or("a value")?;
-    assert_eq!(rt; first.as_slice(), b"disk".as_slice());
-    let second = values.get(1).ok_or("a value")?;
-    assert_eq!(rt; second.as_slice(), b"net".as_slice());
-    assert_eq!(rt; boot.default.as_slice(), [0].as_slice());
-    assert_eq!(rt; boot.current.as_slice(), [1, 0].as_slice());
+    assert!(rt; is_boot(one)?);
     Ok(())
 }
 
 #[test]
 fn a_string_of_a_file_is_the_boards(rt: HostRuntime) -> Result<(), Fail> {
-    let text = edited(rt.alloc(), "", "")?;
-    let read = read_board(rt.alloc(), text.as_str()).map_err(|_| "a board")?;
+    let text = edited(rt.alloc(), &FILE, "", "")?;
+    let read = board_of(rt.alloc(), text.as_str())?;
     let one = read.attributes.items.as_slice().get(1).ok_or("one")?;
-    assert_eq!(rt; one.handle, 1);
-    assert_eq!(rt; one.name.as_slice(), b"Owner".as_slice());
-    assert!(rt; one.read_only);
-    let AttributeKind::Text(owner) = &one.kind else {
-        return Err(Fail::from("a string"));
-    };
-    assert_eq!(rt; owner.string_type, 1);
-    assert_eq!(rt; owner.lengths.least, 2);
-    assert_eq!(rt; owner.lengths.most, 8);
-    assert_eq!(rt; owner.default.as_slice(), b"abcd".as_slice());
-    assert_eq!(rt; owner.current.as_slice(), b"rack-2".as_slice());
+    assert!(rt; is_owner(one)?);
     Ok(())
 }
 
 #[test]
 fn an_integer_of_a_file_is_the_boards(rt: HostRuntime) -> Result<(), Fail> {
-    let text = edited(rt.alloc(), "", "")?;
-    let read = read_board(rt.alloc(), text.as_str()).map_err(|_| "a board")?;
+    let text = edited(rt.alloc(), &FILE, "", "")?;
+    let read = board_of(rt.alloc(), text.as_str())?;
     let attributes = read.attributes.items.as_slice();
     assert_eq!(rt; attributes.len(), 3);
-    let one = attributes.get(2).ok_or("one")?;
-    assert_eq!(rt; one.handle, 2);
-    assert_eq!(rt; one.name.as_slice(), b"Wait".as_slice());
-    assert!(rt; !one.read_only);
-    let AttributeKind::Integer(wait) = &one.kind else {
-        return Err(Fail::from("an integer"));
-    };
-    assert_eq!(rt; wait.steps.lower, 20);
-    assert_eq!(rt; wait.steps.upper, 300);
-    assert_eq!(rt; wait.steps.increment, 10);
-    assert_eq!(rt; wait.default, 30);
-    assert_eq!(rt; wait.current, 40);
+    assert!(rt; is_wait(attributes.get(2).ok_or("one")?)?);
     Ok(())
 }
 
+/// The board's file and the attributes.
+const FILE: Text = Text {
+    form: Form::Board,
+    head: BARE,
+    lines: THREE,
+};
+
 #[test]
 fn a_field_that_is_left_out_mistyped_or_out_of_range_is_named(rt: HostRuntime) -> Result<(), Fail> {
-    let alloc = rt.alloc();
-    for text in FIELDS.lines() {
-        let row = row_of(text).ok_or("seven cells")?;
-        for (other, name) in [
-            ("", "Missing"),
-            (row.mistyped, "WrongType"),
-            (row.beyond[0], "Range"),
-            (row.beyond[1], "Range"),
-        ] {
-            let want = format!(in alloc; "{name} {}", row.place)?;
-            assert_eq!(rt; fault(alloc, row.line, other)?, want, "{text} {other}");
-        }
-        for other in row.inside {
-            assert_eq!(rt; fault(alloc, row.line, other)?.as_str(), "", "{other}");
-        }
-    }
-    Ok(())
+    expect_fields(&rt, rt.alloc(), &FILE, FIELDS, &[])
 }
 
 #[test]
@@ -266,10 +298,7 @@ fn an_attribute_has_the_fields_of_its_kind(rt: HostRuntime) -> Result<(), Fail> 
         ("name = \"Owner\"", "name = \"\"", ""),
         ("name = \"Owner\"", "name = \"Boot\"", ""),
     ];
-    for (old, new, want) in cases {
-        assert_eq!(rt; fault(rt.alloc(), old, new)?.as_str(), want, "{new}");
-    }
-    Ok(())
+    expect_edits(&rt, rt.alloc(), &FILE, &cases)
 }
 
 #[test]
@@ -337,10 +366,7 @@ fn the_first_fault_counts(rt: HostRuntime) -> Result<(), Fail> {
             "Missing attribute 1 name",
         ),
     ];
-    for (old, new, want) in cases {
-        assert_eq!(rt; fault(rt.alloc(), old, new)?.as_str(), want, "{new}");
-    }
-    Ok(())
+    expect_edits(&rt, rt.alloc(), &FILE, &cases)
 }
 
 /// A channel and a state effecter that lack all but their numbers.
@@ -350,8 +376,7 @@ const STATE: &str = "[[state]]\nid = 1\n";
 
 #[test]
 fn attributes_come_between_channels_and_state_effecters(rt: HostRuntime) -> Result<(), Fail> {
-    let alloc = rt.alloc();
-    for (top, behind, want) in [
+    let cases = [
         ("", "", ""),
         ("attribute = []\n", "", ""),
         ("attribute = 1\n", "", "WrongType top attribute"),
@@ -361,80 +386,71 @@ fn attributes_come_between_channels_and_state_effecters(rt: HostRuntime) -> Resu
         ("attribute = [{}]\n", STATE, "Missing attribute 0 name"),
         ("channel = 1\nattribute = 1\n", "", "WrongType top channel"),
         ("state = 1\nattribute = 1\n", "", "WrongType top attribute"),
-    ] {
-        let text = format!(in alloc; "{top}{BARE}{behind}")?;
-        let found = called(alloc, text.as_str())?;
-        assert_eq!(rt; found.as_str(), want, "{top}{behind}");
-    }
-    Ok(())
+    ];
+    expect_around(&rt, rt.alloc(), BARE, &cases)
 }
 
+/// An attribute that is one number, in each of whose places is `#`.
+const ITEM: &str = "[[attribute]]\nname = \"a\"\nkind = \"integer\"\nlower = #\nupper = #
+increment = 0\ndefault = #\ncurrent = #\nreadonly = false\n";
+
 /// The board's file with so many attributes.
-fn with_attributes(alloc: Global, count: u8) -> Result<String, Fail> {
-    let mut text = String::from_str(alloc, BARE)?;
-    for number in 0..count {
-        let item = format!(in alloc;
-            "[[attribute]]\nname = \"a\"\nkind = \"integer\"\nlower = {number}\nupper = {number}\n"
-        )?;
-        text.push_str(item.as_str())?;
-        let item = format!(in alloc;
-            "increment = 0\ndefault = {number}\ncurrent = {number}\nreadonly = false\n"
-        )?;
-        text.push_str(item.as_str())?;
+fn with_attributes(alloc: Global, count: u8) -> Result<String, AllocError> {
+    let items = numbered(alloc, count, ITEM)?;
+    joined(alloc, &[BARE, items.as_str()])
+}
+
+/// Whether the attribute has the place as its handle and as its lower bound.
+fn is_at(attribute: &Attribute, place: usize) -> bool {
+    match attribute.kind.range() {
+        AttributeRange::Integer(steps) => {
+            usize::from(attribute.handle) == place && steps.lower == place as u64
+        }
+        _ => false,
     }
-    Ok(text)
 }
 
 #[test]
 fn a_board_has_at_most_64_attributes(rt: HostRuntime) -> Result<(), Fail> {
     let most = with_attributes(rt.alloc(), 64)?;
-    let read = read_board(rt.alloc(), most.as_str()).map_err(|_| "a board")?;
+    let read = board_of(rt.alloc(), most.as_str())?;
     let attributes = read.attributes.items.as_slice();
     assert_eq!(rt; attributes.len(), 64);
     for (place, attribute) in attributes.iter().enumerate() {
-        assert_eq!(rt; usize::from(attribute.handle), place);
-        let AttributeRange::Integer(steps) = attribute.kind.range() else {
-            return Err(Fail::from("an integer"));
-        };
-        assert_eq!(rt; steps.lower, place as u64);
+        assert!(rt; is_at(attribute, place), "{place}");
     }
     let more = with_attributes(rt.alloc(), 65)?;
-    let found = read_board(rt.alloc(), more.as_str()).err();
-    let place = Place {
-        item: Item::Top,
-        field: Field::Attribute,
-    };
-    assert_eq!(rt; found, Some(FileFault::Range(place)));
-    Ok(())
+    expect_too_many(&rt, rt.alloc(), more.as_str(), Field::Attribute)
 }
 
-/// A text of so many bytes.
-fn long(alloc: Global, count: u16) -> Result<String, AllocError> {
-    let mut text = String::new(alloc);
-    for _ in 0..count {
-        text.push('n')?;
-    }
-    Ok(text)
-}
+/// The lines of an attribute before a text and behind it, and what the fault is called where the text is too long.
+type Around = (&'static str, &'static str, &'static str);
 
-/// What the fault of a file is called whose attribute has these lines, with a text of so many bytes between them.
-fn fault_of_long(
+/// The fault of a file is called so whose attribute has these lines, with a text of so many bytes between them.
+fn expect_long(
+    rt: &impl Abort,
     alloc: Global,
-    before: &'static str,
-    behind: &'static str,
-    count: u16,
-) -> Result<String, AllocError> {
-    let text = long(alloc, count)?;
-    let file = format!(in alloc;
-        "{BARE}[[attribute]]\n{before}{text}{behind}\nreadonly = false\n"
-    )?;
-    called(alloc, file.as_str())
+    case: &Around,
+    count: usize,
+    want: &str,
+) -> Result<(), Fail> {
+    let (before, behind, _) = case;
+    let text = times(alloc, count, "n")?;
+    let parts = [
+        BARE,
+        "[[attribute]]\n",
+        before,
+        text.as_str(),
+        behind,
+        "\nreadonly = false\n",
+    ];
+    let file = joined(alloc, &parts)?;
+    expect_fault(rt, alloc, Form::Board, file.as_str(), want)
 }
 
 #[test]
 fn texts_have_at_most_200_bytes(rt: HostRuntime) -> Result<(), Fail> {
-    let alloc = rt.alloc();
-    for (before, behind, want) in [
+    let cases: [Around; 4] = [
         (
             "name = \"",
             "\"\nkind = \"enumeration\"\nvalues = [\"a\"]\ndefault = [0]\ncurrent = [0]",
@@ -455,11 +471,11 @@ fn texts_have_at_most_200_bytes(rt: HostRuntime) -> Result<(), Fail> {
             "\"",
             "Range attribute 0 current",
         ),
-    ] {
-        let most = fault_of_long(alloc, before, behind, 200)?;
-        assert_eq!(rt; most.as_str(), "", "{want}");
-        let more = fault_of_long(alloc, before, behind, 201)?;
-        assert_eq!(rt; more.as_str(), want);
+    ];
+    for case in cases {
+        let (_, _, want) = case;
+        expect_long(&rt, rt.alloc(), &case, 200, "")?;
+        expect_long(&rt, rt.alloc(), &case, 201, want)?;
     }
     Ok(())
 }
@@ -474,17 +490,23 @@ current = [15, 14, 13, 12, 11, 10, 9, 8, 7, 6, 5, 4, 3, 2, 1, 0]
 readonly = false
 ";
 
+/// Whether the attribute has 16 values, of which it is all, and the last alone by default.
+fn is_all(attribute: &Attribute) -> bool {
+    match &attribute.kind {
+        AttributeKind::Enumeration(all) => {
+            all.values.as_slice().len() == 16
+                && all.default.as_slice() == [15].as_slice()
+                && all.current.as_slice().len() == 16
+        }
+        _ => false,
+    }
+}
+
 #[test]
 fn an_enumeration_can_be_all_of_its_16_values(rt: HostRuntime) -> Result<(), Fail> {
-    let alloc = rt.alloc();
-    let text = format!(in alloc; "{BARE}{ALL}")?;
-    let read = read_board(alloc, text.as_str()).map_err(|_| "a board")?;
+    let text = joined(rt.alloc(), &[BARE, ALL])?;
+    let read = board_of(rt.alloc(), text.as_str())?;
     let one = read.attributes.items.as_slice().get(0).ok_or("one")?;
-    let AttributeKind::Enumeration(all) = &one.kind else {
-        return Err(Fail::from("an enumeration"));
-    };
-    assert_eq!(rt; all.values.as_slice().len(), 16);
-    assert_eq!(rt; all.default.as_slice(), [15].as_slice());
-    assert_eq!(rt; all.current.as_slice().len(), 16);
+    assert!(rt; is_all(one));
     Ok(())
 }

@@ -1,9 +1,10 @@
 //! Steps of plans that set the value of a BIOS attribute.
-use super::row_of;
-use cfg_records::{Op, SetBiosAttribute};
-use plan_file::read_plan;
-use plans::Plan;
+use super::texts::{
+    Form, Named, Text, expect_fault, expect_fields, expect_plans, joined, plan_of, times,
+};
+use cfg_records::Op;
 use std::alloc::{AllocError, Global};
+use std::process::Abort;
 use std::test::Fail;
 
 /// A row for each field: its place in faults, its line, a line of another type, two that are beyond its range, and two that are just
@@ -32,75 +33,23 @@ handle = 9
 number = 30
 ";
 
-/// The plan with a line in another's place.
-fn edited(alloc: Global, old: &'static str, new: &'static str) -> Result<String, AllocError> {
-    let mut text = String::new(alloc);
-    for line in PLAN.lines() {
-        text.push_str(if line == old { new } else { line })?;
-        text.push('\n')?;
-    }
-    Ok(text)
-}
+/// A step that gives no value lacks the indexes.
+const NO_VALUE: [Named; 1] = [("2 number", "2 Missing indexes")];
 
-/// The fault of a text, as programs print it, and nothing where it is a plan.
-fn named(alloc: Global, text: &str) -> Result<String, AllocError> {
-    match read_plan(alloc, text) {
-        Ok(_) => Ok(String::new(alloc)),
-        Err(fault) => format!(in alloc; "{fault}"),
-    }
-}
-
-/// The fault of the plan with a line in another's place.
-fn fault(alloc: Global, old: &'static str, new: &'static str) -> Result<String, AllocError> {
-    let text = edited(alloc, old, new)?;
-    named(alloc, text.as_str())
-}
-
-/// What the fault of this name is called, of the field at a place.
-fn called(alloc: Global, place: &str, name: &str) -> Result<String, Fail> {
-    let (step, field) = place.split_once(' ').ok_or("a place")?;
-    Ok(format!(in alloc; "{step} {name} {field}")?)
-}
-
-/// What a step without this field lacks: where it gives no value, the indexes.
-fn missing(place: &'static str) -> &'static str {
-    if place == "2 number" {
-        "2 indexes"
-    } else {
-        place
-    }
-}
+/// The plan.
+const FILE: Text = Text {
+    form: Form::Plan,
+    head: "",
+    lines: PLAN,
+};
 
 #[test]
 fn a_field_that_is_left_out_mistyped_or_out_of_range_is_named(rt: HostRuntime) -> Result<(), Fail> {
-    let alloc = rt.alloc();
-    for text in FIELDS.lines() {
-        let row = row_of(text).ok_or("seven cells")?;
-        for (other, name) in [
-            ("", "Missing"),
-            (row.mistyped, "WrongType"),
-            (row.beyond[0], "Range"),
-            (row.beyond[1], "Range"),
-        ] {
-            let place = if other.is_empty() {
-                missing(row.place)
-            } else {
-                row.place
-            };
-            let want = called(alloc, place, name)?;
-            assert_eq!(rt; fault(alloc, row.line, other)?, want, "{text} {other}");
-        }
-        for other in row.inside {
-            assert_eq!(rt; fault(alloc, row.line, other)?.as_str(), "", "{other}");
-        }
-    }
-    Ok(())
+    expect_fields(&rt, rt.alloc(), &FILE, FIELDS, &NO_VALUE)
 }
 
-/// A plan of one step, with these lines.
-fn step(alloc: Global, lines: &str) -> Result<String, AllocError> {
-    format!(in alloc; "[[step]]\nkind = \"bios-attribute\"\n{lines}\n")
-}
+/// A step that has no more than its kind.
+const STEP: &str = "[[step]]\nkind = \"bios-attribute\"\n";
 
 #[test]
 fn a_step_gives_one_value(rt: HostRuntime) -> Result<(), Fail> {
@@ -138,78 +87,122 @@ fn a_step_gives_one_value(rt: HostRuntime) -> Result<(), Fail> {
         ("handle = -1\nindexes = [1]\ntext = \"\"", "0 Range handle"),
         ("handle = -1\nindexes = []", "0 Range handle"),
     ];
-    for (lines, want) in cases {
-        let text = step(rt.alloc(), lines)?;
-        assert_eq!(rt; named(rt.alloc(), text.as_str())?.as_str(), want, "{lines}");
+    expect_plans(&rt, rt.alloc(), (STEP, "\n"), &cases)
+}
+
+/// A value: its attribute, and its type and bytes.
+type Value = (u16, u8, &'static [u8]);
+
+/// Whether the operation sets the attribute to the value.
+fn is_set(op: &Op, want: &Value) -> bool {
+    let (attribute, attribute_type, value) = want;
+    match op {
+        Op::BiosAttribute(set) => {
+            set.attribute == *attribute
+                && set.attribute_type == *attribute_type
+                && set.value.as_slice() == *value
+        }
+        _ => false,
+    }
+}
+
+/// The steps of the plan set these values.
+fn expect_values(rt: &impl Abort, alloc: Global, text: &str, values: &[Value]) -> Result<(), Fail> {
+    let plan = plan_of(alloc, text)?;
+    assert_eq!(rt; plan.steps.as_slice().len(), values.len(), "{text}");
+    for (step, want) in plan.steps.as_slice().iter().zip(values) {
+        assert!(rt; is_set(step, want), "{text}");
     }
     Ok(())
 }
 
-/// What the step at the place sets, where it sets an attribute.
-fn at(plan: &Plan, place: usize) -> Option<&SetBiosAttribute> {
-    match plan.steps.as_slice().get(place) {
-        Some(Op::BiosAttribute(set)) => Some(set),
-        _ => None,
-    }
+/// A step on attribute 261 with this line sets it to the value of this type and these bytes.
+fn expect_value(
+    rt: &impl Abort,
+    alloc: Global,
+    line: &str,
+    attribute_type: u8,
+    value: &'static [u8],
+) -> Result<(), Fail> {
+    let text = joined(alloc, &[STEP, "handle = 261\n", line, "\n"])?;
+    expect_values(rt, alloc, text.as_str(), &[(261, attribute_type, value)])
 }
 
-/// Whether a step with this line sets attribute 261 to the value of this type and these bytes.
-fn sets(alloc: Global, line: &str, attribute_type: u8, value: &[u8]) -> Result<bool, Fail> {
-    let lines = format!(in alloc; "handle = 261\n{line}")?;
-    let text = step(alloc, lines.as_str())?;
-    let plan = read_plan(alloc, text.as_str()).map_err(|_| "a plan")?;
-    let set = at(&plan, 0).ok_or("an attribute")?;
-    Ok(
-        set.attribute == 261
-            && set.attribute_type == attribute_type
-            && set.value.as_slice() == value,
-    )
-}
+/// A line of a step, and the type and the bytes of the value that it gives.
+type Given = (&'static str, u8, &'static [u8]);
 
 #[test]
 fn a_value_has_the_bytes_of_its_entry(rt: HostRuntime) -> Result<(), Fail> {
-    let alloc = rt.alloc();
-    // How many indexes there are, and these.
-    assert!(rt; sets(alloc, "indexes = [0]", 0x00, &[1, 0])?);
-    assert!(rt; sets(alloc, "indexes = [255, 0, 3]", 0x00, &[3, 255, 0, 3])?);
-    // A text's length in two bytes, and the text in UTF-8.
-    assert!(rt; sets(alloc, "text = \"\"", 0x01, &[0, 0])?);
-    assert!(rt; sets(alloc, "text = \"ab\"", 0x01, &[2, 0, 0x61, 0x62])?);
-    assert!(rt; sets(alloc, "text = \"é\"", 0x01, &[2, 0, 0xC3, 0xA9])?);
-    // A number in eight bytes, the low one first.
-    assert!(rt; sets(alloc, "number = 0", 0x03, &[0; 8])?);
-    let number = [0x08, 0x07, 0x06, 0x05, 0x04, 0x03, 0x02, 0x01];
-    assert!(rt; sets(alloc, "number = 0x0102030405060708", 0x03, &number)?);
-    let most = [255, 255, 255, 255, 255, 255, 255, 127];
-    assert!(rt; sets(alloc, "number = 9223372036854775807", 0x03, &most)?);
+    let cases: [Given; 8] = [
+        // How many indexes there are, and these.
+        ("indexes = [0]", 0x00, &[1, 0]),
+        ("indexes = [255, 0, 3]", 0x00, &[3, 255, 0, 3]),
+        // A text's length in two bytes, and the text in UTF-8.
+        ("text = \"\"", 0x01, &[0, 0]),
+        ("text = \"ab\"", 0x01, &[2, 0, 0x61, 0x62]),
+        ("text = \"é\"", 0x01, &[2, 0, 0xC3, 0xA9]),
+        // A number in eight bytes, the low one first.
+        ("number = 0", 0x03, &[0, 0, 0, 0, 0, 0, 0, 0]),
+        (
+            "number = 0x0102030405060708",
+            0x03,
+            &[0x08, 0x07, 0x06, 0x05, 0x04, 0x03, 0x02, 0x01],
+        ),
+        (
+            "number = 9223372036854775807",
+            0x03,
+            &[255, 255, 255, 255, 255, 255, 255, 127],
+        ),
+    ];
+    for (line, attribute_type, value) in cases {
+        expect_value(&rt, rt.alloc(), line, attribute_type, value)?;
+    }
     Ok(())
 }
 
 #[test]
 fn each_form_is_read(rt: HostRuntime) -> Result<(), Fail> {
-    let plan = read_plan(rt.alloc(), PLAN).map_err(|_| "a plan")?;
-    assert_eq!(rt; plan.steps.as_slice().len(), 3);
-    for (place, attribute, attribute_type, length) in [
-        (0, 7, 0x00, 2),
-        (1, 8, 0x01, 8),
-        (2, 9, 0x03, 8),
-    ] {
-        let set = at(&plan, place).ok_or("an attribute")?;
-        assert_eq!(rt; set.attribute, attribute);
-        assert_eq!(rt; set.attribute_type, attribute_type);
-        assert_eq!(rt; set.value.len(), length);
-    }
-    Ok(())
+    let values: [Value; 3] = [
+        (7, 0x00, &[1, 3]),
+        (8, 0x01, b"\x06\x00rack-1"),
+        (9, 0x03, &[30, 0, 0, 0, 0, 0, 0, 0]),
+    ];
+    expect_values(&rt, rt.alloc(), PLAN, &values)
 }
 
-/// So many times this text.
-fn times(alloc: Global, count: usize, part: &str) -> Result<String, AllocError> {
-    let mut text = String::new(alloc);
-    for _ in 0..count {
-        text.push_str(part)?;
-    }
-    Ok(text)
+/// The text of a value that is so many times a part, between two others.
+fn long(
+    alloc: Global,
+    head: &str,
+    count: usize,
+    part: &str,
+    tail: &str,
+) -> Result<String, AllocError> {
+    let parts = times(alloc, count, part)?;
+    joined(alloc, &[head, parts.as_str(), tail])
 }
+
+/// A line of a step, which is so many times a part between two texts, and what the fault is called.
+type Long = (
+    &'static str,
+    usize,
+    &'static str,
+    &'static str,
+    &'static str,
+);
+
+/// The fault of a step on attribute 1 with the line is called so.
+fn expect_long(rt: &impl Abort, alloc: Global, case: &Long) -> Result<(), Fail> {
+    let (head, count, part, tail, want) = case;
+    let line = long(alloc, head, *count, part, tail)?;
+    let text = joined(alloc, &[STEP, "handle = 1\n", line.as_str(), "\n"])?;
+    expect_fault(rt, alloc, Form::Plan, text.as_str(), want)
+}
+
+/// 16, and 16 times 255.
+const SIXTEEN: [u8; 17] = [
+    16, 255, 255, 255, 255, 255, 255, 255, 255, 255, 255, 255, 255, 255, 255, 255, 255,
+];
 
 #[test]
 fn a_step_lists_1_to_16_indexes(rt: HostRuntime) -> Result<(), Fail> {
@@ -220,18 +213,15 @@ fn a_step_lists_1_to_16_indexes(rt: HostRuntime) -> Result<(), Fail> {
         (16, ""),
         (17, "0 Range indexes"),
     ] {
-        let list = times(alloc, count, "255, ")?;
-        let lines = format!(in alloc; "handle = 1\nindexes = [{list}]")?;
-        let text = step(alloc, lines.as_str())?;
-        assert_eq!(rt; named(alloc, text.as_str())?.as_str(), want, "{count}");
+        expect_long(&rt, alloc, &("indexes = [", count, "255, ", "]", want))?;
     }
-    let list = times(alloc, 16, "255, ")?;
-    let line = format!(in alloc; "indexes = [{list}]")?;
-    let mut bytes = [255; 17];
-    bytes[0] = 16;
-    assert!(rt; sets(alloc, line.as_str(), 0x00, &bytes)?);
-    Ok(())
+    let line = long(alloc, "indexes = [", 16, "255, ", "]")?;
+    expect_value(&rt, alloc, line.as_str(), 0x00, &SIXTEEN)
 }
+
+/// 200 in two bytes, and 200 times `a`.
+const TWO_HUNDRED: &[u8] =
+    b"\xC8\x00aaaaaaaaaaaaaaaaaaaaaaaaaaaaaaaaaaaaaaaaaaaaaaaaaaaaaaaaaaaaaaaaaaaaaaaaaaaaaaaaaaaaaaaaaaaaaaaaaaaaaaaaaaaaaaaaaaaaaaaaaaaaaaaaaaaaaaaaaaaaaaaaaaaaaaaaaaaaaaaaaaaaaaaaaaaaaaaaaaaaaaaaaaaaaaaaaaaaaaaa";
 
 #[test]
 fn a_step_has_a_text_of_at_most_200_bytes(rt: HostRuntime) -> Result<(), Fail> {
@@ -244,16 +234,8 @@ fn a_step_has_a_text_of_at_most_200_bytes(rt: HostRuntime) -> Result<(), Fail> {
         (100, "é", ""),
         (101, "é", "0 Range text"),
     ] {
-        let long = times(alloc, count, part)?;
-        let lines = format!(in alloc; "handle = 1\ntext = \"{long}\"")?;
-        let text = step(alloc, lines.as_str())?;
-        assert_eq!(rt; named(alloc, text.as_str())?.as_str(), want, "{count}");
+        expect_long(&rt, alloc, &("text = \"", count, part, "\"", want))?;
     }
-    let long = times(alloc, 200, "a")?;
-    let line = format!(in alloc; "text = \"{long}\"")?;
-    let mut bytes = [0x61; 202];
-    bytes[0] = 200;
-    bytes[1] = 0;
-    assert!(rt; sets(alloc, line.as_str(), 0x01, &bytes)?);
-    Ok(())
+    let line = long(alloc, "text = \"", 200, "a", "\"")?;
+    expect_value(&rt, alloc, line.as_str(), 0x01, TWO_HUNDRED)
 }

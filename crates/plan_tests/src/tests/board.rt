@@ -1,8 +1,11 @@
 //! Board files: the sample board, and the faults of files.
-use super::row_of;
-use cfg_records::sample_board;
-use plan_file::{Field, FileFault, Item, Place, read_board};
-use std::alloc::{AllocError, Global};
+use super::texts::{
+    Form, Text, board_of, edited, expect_edits, expect_fields, expect_too_many, joined, numbered,
+};
+use cfg_records::{BoardFile, Channel, SdrRecord, Sensor, User, UserAccess, sample_board};
+use plan_file::{Field, read_board};
+use std::alloc::Global;
+use std::process::Abort;
 use std::test::Fail;
 
 /// The sample board.
@@ -112,89 +115,127 @@ sensor 1 flags | flags = 0 | flags = true | flags = 0x20 | flags = 0x100 | flags
 sensor 1 assert | assert = 0 | assert = [6] | assert = -1 | assert = 0x20 | assert = 0x40 | assert = 0xFC0
 sensor 0 deassert | deassert = 0 | deassert = \"0\" | deassert = -1 | deassert = 0x1000 | deassert = 0x40 | deassert = 0xFC0";
 
-/// A place at the top of a file.
-const fn top(field: Field) -> Place {
-    Place {
-        item: Item::Top,
-        field,
-    }
+/// Whether two boards are the same controller, with the same log and clock.
+fn are_same_controller(one: &BoardFile, other: &BoardFile) -> bool {
+    one.tid == other.tid
+        && one.device == other.device
+        && one.clock == other.clock
+        && one.log == other.log
 }
 
-/// The sample board's file with a line in another's place.
-fn edited(alloc: Global, old: &'static str, new: &'static str) -> Result<String, AllocError> {
-    let mut text = String::new(alloc);
-    for line in SAMPLE.lines() {
-        text.push_str(if line == old { new } else { line })?;
-        text.push('\n')?;
-    }
-    Ok(text)
+/// Whether two boards begin with the same values of the records that each has once.
+fn have_same_values(one: &BoardFile, other: &BoardFile) -> bool {
+    one.boot.valid_bit_clearing == other.boot.valid_bit_clearing
+        && one.boot.info_acknowledge == other.boot.info_acknowledge
+        && one.boot.flags == other.boot.flags
+        && one.policy.number == other.policy.number
+        && one.watchdog.timer_use == other.watchdog.timer_use
+        && one.watchdog.initial == other.watchdog.initial
+        && one.enables.byte == other.enables.byte
 }
 
-/// What the fault of the sample board's file with a line in another's place is called, and nothing where it is a board.
-fn fault(alloc: Global, old: &'static str, new: &'static str) -> Result<String, AllocError> {
-    let text = edited(alloc, old, new)?;
-    match read_board(alloc, text.as_str()) {
-        Ok(_) => Ok(String::new(alloc)),
-        Err(fault) => format!(in alloc; "{fault}"),
-    }
+/// Whether the users are the same.
+fn are_same_users(ones: &[User], others: &[User]) -> bool {
+    ones.len() == others.len()
+        && ones.iter().zip(others).all(|(one, other)| one.number == other.number
+            && one.name == other.name)
+}
+
+/// Whether two channels have the same number, and the same access in both stores.
+fn is_same_channel(one: &Channel, other: &Channel) -> bool {
+    one.number == other.number
+        && one.non_volatile.access == other.non_volatile.access
+        && one.non_volatile.limit == other.non_volatile.limit
+        && one.volatile.access == other.volatile.access
+        && one.volatile.limit == other.volatile.limit
+}
+
+/// Whether the channels are the same.
+fn are_same_channels(ones: &[Channel], others: &[Channel]) -> bool {
+    ones.len() == others.len()
+        && ones
+            .iter()
+            .zip(others)
+            .all(|(one, other)| is_same_channel(one, other))
+}
+
+/// Whether the users may do the same on the same channels.
+fn are_same_accesses(ones: &[UserAccess], others: &[UserAccess]) -> bool {
+    ones.len() == others.len()
+        && ones.iter().zip(others).all(|(one, other)| one.on == other.on && one.byte == other.byte)
+}
+
+/// Whether the sensor data records have the same bytes.
+fn are_same_records(ones: &[SdrRecord], others: &[SdrRecord]) -> bool {
+    ones.len() == others.len()
+        && ones
+            .iter()
+            .zip(others)
+            .all(|(one, other)| one.as_slice() == other.as_slice())
+}
+
+/// Whether two sensors have the same number, type and records.
+fn is_same_sensor(one: &Sensor, other: &Sensor) -> bool {
+    one.number == other.number
+        && one.sensor_type == other.sensor_type
+        && one.thresholds.masks == other.thresholds.masks
+        && one.thresholds.values == other.thresholds.values
+        && one.hysteresis == other.hysteresis
+        && one.events.supported == other.events.supported
+        && one.events.messages == other.events.messages
+        && one.events.scanning == other.events.scanning
+        && one.events.enabled == other.events.enabled
+}
+
+/// Whether the sensors are the same.
+fn are_same_sensors(ones: &[Sensor], others: &[Sensor]) -> bool {
+    ones.len() == others.len()
+        && ones
+            .iter()
+            .zip(others)
+            .all(|(one, other)| is_same_sensor(one, other))
+}
+
+/// The board is the known one, and has no channel without sessions.
+fn expect_alike(rt: &impl Abort, read: &BoardFile, known: &BoardFile) {
+    assert!(rt; are_same_controller(read, known));
+    assert!(rt; have_same_values(read, known));
+    assert!(rt; are_same_users(read.users.items.as_slice(), known.users.items.as_slice()));
+    assert!(rt;
+        are_same_channels(
+            read.channels.items.as_slice(),
+            known.channels.items.as_slice()
+        )
+    );
+    assert_eq!(rt; read.sessionless.items.as_slice().len(), 0);
+    assert!(rt;
+        are_same_accesses(
+            read.user_accesses.items.as_slice(),
+            known.user_accesses.items.as_slice()
+        )
+    );
+    assert!(rt; are_same_records(read.sdr.items.as_slice(), known.sdr.items.as_slice()));
+    assert!(rt;
+        are_same_sensors(
+            read.sensors.items.as_slice(),
+            known.sensors.items.as_slice()
+        )
+    );
 }
 
 #[test]
 fn the_sample_file_holds_the_sample_board(rt: HostRuntime) -> Result<(), Fail> {
-    let read = read_board(rt.alloc(), SAMPLE).map_err(|_| "a board")?;
+    let read = board_of(rt.alloc(), SAMPLE)?;
     let known = sample_board(rt.alloc())?;
-    assert_eq!(rt; read.tid, known.tid);
-    assert!(rt; read.device == known.device);
-    assert_eq!(rt; read.boot.valid_bit_clearing, known.boot.valid_bit_clearing);
-    assert_eq!(rt; read.boot.info_acknowledge, known.boot.info_acknowledge);
-    assert!(rt; read.boot.flags == known.boot.flags);
-    assert_eq!(rt; read.policy.number, known.policy.number);
-    assert_eq!(rt; read.watchdog.timer_use, known.watchdog.timer_use);
-    assert_eq!(rt; read.watchdog.initial, known.watchdog.initial);
-    assert_eq!(rt; read.clock, known.clock);
-    assert!(rt; read.log == known.log);
-    assert_eq!(rt; read.enables.byte, known.enables.byte);
-    let users = read.users.items.as_slice();
-    assert_eq!(rt; users.len(), known.users.items.as_slice().len());
-    for (one, other) in users.iter().zip(known.users.items.as_slice()) {
-        assert!(rt; one.number == other.number);
-        assert!(rt; one.name == other.name);
-    }
-    let channels = read.channels.items.as_slice();
-    assert_eq!(rt; channels.len(), known.channels.items.as_slice().len());
-    for (one, other) in channels.iter().zip(known.channels.items.as_slice()) {
-        assert!(rt; one.number == other.number);
-        assert_eq!(rt; one.non_volatile.access, other.non_volatile.access);
-        assert_eq!(rt; one.non_volatile.limit, other.non_volatile.limit);
-        assert_eq!(rt; one.volatile.access, other.volatile.access);
-        assert_eq!(rt; one.volatile.limit, other.volatile.limit);
-    }
-    assert_eq!(rt; read.sessionless.items.as_slice().len(), 0);
-    let accesses = read.user_accesses.items.as_slice();
-    assert_eq!(rt; accesses.len(), known.user_accesses.items.as_slice().len());
-    for (one, other) in accesses.iter().zip(known.user_accesses.items.as_slice()) {
-        assert!(rt; one.on == other.on);
-        assert_eq!(rt; one.byte, other.byte);
-    }
-    let records = read.sdr.items.as_slice();
-    assert_eq!(rt; records.len(), known.sdr.items.as_slice().len());
-    for (one, other) in records.iter().zip(known.sdr.items.as_slice()) {
-        assert_eq!(rt; one.as_slice(), other.as_slice());
-    }
-    let sensors = read.sensors.items.as_slice();
-    assert_eq!(rt; sensors.len(), known.sensors.items.as_slice().len());
-    for (one, other) in sensors.iter().zip(known.sensors.items.as_slice()) {
-        assert_eq!(rt; one.number, other.number);
-        assert_eq!(rt; one.sensor_type, other.sensor_type);
-        assert!(rt; one.thresholds.masks == other.thresholds.masks);
-        assert!(rt; one.thresholds.values == other.thresholds.values);
-        assert!(rt; one.hysteresis == other.hysteresis);
-        assert_eq!(rt; one.events.supported, other.events.supported);
-        assert_eq!(rt; one.events.messages, other.events.messages);
-        assert_eq!(rt; one.events.scanning, other.events.scanning);
-        assert!(rt; one.events.enabled == other.events.enabled);
-    }
+    expect_alike(&rt, &read, &known);
     Ok(())
+}
+
+/// Whether the second sensor of the file makes event messages, and whether readings of it are taken.
+fn said_of_fan(alloc: Global, text: &str) -> Result<(bool, bool), Fail> {
+    let read = board_of(alloc, text)?;
+    let sensor = read.sensors.items.as_slice().get(1).ok_or("a sensor")?;
+    Ok((sensor.events.messages, sensor.events.scanning))
 }
 
 #[test]
@@ -205,34 +246,23 @@ fn flags_say_messages_and_scanning(rt: HostRuntime) -> Result<(), Fail> {
         ("flags = 0xC0", true, true),
     ];
     for (line, messages, scanning) in cases {
-        let text = edited(rt.alloc(), "flags = 0", line)?;
-        let read = read_board(rt.alloc(), text.as_str()).map_err(|_| "a board")?;
-        let sensor = read.sensors.items.as_slice().get(1).ok_or("a sensor")?;
-        assert_eq!(rt; sensor.events.messages, messages, "{line}");
-        assert_eq!(rt; sensor.events.scanning, scanning, "{line}");
+        let text = edited(rt.alloc(), &FILE, "flags = 0", line)?;
+        let said = said_of_fan(rt.alloc(), text.as_str())?;
+        assert_eq!(rt; said, (messages, scanning), "{line}");
     }
     Ok(())
 }
 
+/// The sample board's file.
+const FILE: Text = Text {
+    form: Form::Board,
+    head: "",
+    lines: SAMPLE,
+};
+
 #[test]
 fn a_field_that_is_left_out_mistyped_or_out_of_range_is_named(rt: HostRuntime) -> Result<(), Fail> {
-    let alloc = rt.alloc();
-    for text in FIELDS.lines() {
-        let row = row_of(text).ok_or("seven cells")?;
-        for (other, name) in [
-            ("", "Missing"),
-            (row.mistyped, "WrongType"),
-            (row.beyond[0], "Range"),
-            (row.beyond[1], "Range"),
-        ] {
-            let want = format!(in alloc; "{name} {}", row.place)?;
-            assert_eq!(rt; fault(alloc, row.line, other)?, want, "{text} {other}");
-        }
-        for other in row.inside {
-            assert_eq!(rt; fault(alloc, row.line, other)?.as_str(), "", "{other}");
-        }
-    }
-    Ok(())
+    expect_fields(&rt, rt.alloc(), &FILE, FIELDS, &[])
 }
 
 #[test]
@@ -289,58 +319,62 @@ fn the_first_fault_counts(rt: HostRuntime) -> Result<(), Fail> {
         ),
         ("deassert = 0", "deassert = 0x20", "Range sensor 1 deassert"),
     ];
-    for (old, new, want) in cases {
-        assert_eq!(rt; fault(rt.alloc(), old, new)?.as_str(), want, "{new}");
-    }
-    Ok(())
+    expect_edits(&rt, rt.alloc(), &FILE, &cases)
 }
+
+/// The sample board's file as far as its first sensor.
+fn without_sensors(alloc: Global) -> Result<String, Fail> {
+    let (head, _) = SAMPLE.split_once("[[sensor]]").ok_or("a sensor")?;
+    Ok(String::from_str(alloc, head)?)
+}
+
+/// A sensor, in whose number's place is `#`.
+const ITEM: &str = "[[sensor]]\nnumber = #\ntype = 1\nreadable = 0\nsettable = 0
+thresholds = [0, 0, 0, 0, 0, 0]\nhysteresis = [0, 0]
+supported = 0\nflags = 0\nassert = 0\ndeassert = 0\n";
 
 /// A file with so many sensors.
 fn with_sensors(alloc: Global, count: u8) -> Result<String, Fail> {
-    let mut text = String::new(alloc);
-    for line in SAMPLE.lines() {
-        if line == "[[sensor]]" {
-            break;
-        }
-        text.push_str(line)?;
-        text.push('\n')?;
-    }
-    for number in 0..count {
-        let item = format!(in alloc;
-            "[[sensor]]\nnumber = {number}\ntype = 1\nreadable = 0\nsettable = 0\n"
-        )?;
-        text.push_str(item.as_str())?;
-        text.push_str("thresholds = [0, 0, 0, 0, 0, 0]\nhysteresis = [0, 0]\n")?;
-        text.push_str("supported = 0\nflags = 0\nassert = 0\ndeassert = 0\n")?;
-    }
-    Ok(text)
+    let head = without_sensors(alloc)?;
+    let items = numbered(alloc, count, ITEM)?;
+    Ok(joined(alloc, &[head.as_str(), items.as_str()])?)
+}
+
+/// How many sensors the board has of a file with so many.
+fn sensors_of(alloc: Global, count: u8) -> Result<usize, Fail> {
+    let text = with_sensors(alloc, count)?;
+    Ok(
+        board_of(alloc, text.as_str())?
+            .sensors
+            .items
+            .as_slice()
+            .len(),
+    )
 }
 
 #[test]
 fn a_board_has_at_most_32_sensors(rt: HostRuntime) -> Result<(), Fail> {
-    let most = with_sensors(rt.alloc(), 32)?;
-    let read = read_board(rt.alloc(), most.as_str()).map_err(|_| "a board")?;
-    assert_eq!(rt; read.sensors.items.as_slice().len(), 32);
-    let none = with_sensors(rt.alloc(), 0)?;
-    assert!(rt; read_board(rt.alloc(), none.as_str()).is_ok());
+    for count in [0, 32] {
+        assert_eq!(rt; sensors_of(rt.alloc(), count)?, usize::from(count));
+    }
     let more = with_sensors(rt.alloc(), 33)?;
-    let found = read_board(rt.alloc(), more.as_str()).err();
-    assert_eq!(rt; found, Some(FileFault::Range(top(Field::Sensor))));
-    Ok(())
+    expect_too_many(&rt, rt.alloc(), more.as_str(), Field::Sensor)
 }
 
 /// The shortest part of the file that has each field that a file needs ends with `product = 0x1`.
 const SHORTEST: usize = 268;
 
+/// Whether so much of the file is a board.
+fn is_read(alloc: Global, end: usize) -> Result<bool, Fail> {
+    let text = SAMPLE.get(..end).ok_or("ASCII")?;
+    Ok(read_board(alloc, text).is_ok())
+}
+
 #[test]
 fn each_prefix_is_read_or_refused(rt: HostRuntime) -> Result<(), Fail> {
-    let bytes = SAMPLE.as_bytes();
-    for end in 0..bytes.len() {
-        let text = std::str::from_utf8(&bytes[..end]).map_err(|_| "ASCII")?;
-        let read = read_board(rt.alloc(), text);
-        assert!(rt; end >= SHORTEST || read.is_err(), "{end}");
+    for end in 0..SAMPLE.len() {
+        assert!(rt; end >= SHORTEST || !is_read(rt.alloc(), end)?, "{end}");
     }
-    let text = std::str::from_utf8(&bytes[..SHORTEST]).map_err(|_| "ASCII")?;
-    assert!(rt; read_board(rt.alloc(), text).is_ok());
+    assert!(rt; is_read(rt.alloc(), SHORTEST)?);
     Ok(())
 }

@@ -1,6 +1,10 @@
 //! Users and channels of board files.
-use super::row_of;
-use plan_file::{Field, FileFault, Item, Place, read_board};
+use super::texts::{
+    Form, Text, board_of, edited, expect_around, expect_edits, expect_fields, expect_too_many,
+    joined, numbered,
+};
+use cfg_records::{BoardFile, Channel, UserAccess};
+use plan_file::Field;
 use std::alloc::{AllocError, Global};
 use std::test::Fail;
 
@@ -51,75 +55,68 @@ channel 0 users | users = [0x14, 0x2F] | users = 0x14 | users = [0x14, 0x14, 0x1
 channel 0 users | users = [0x14, 0x2F] | users = [[]] | users = [-1, 0x14] | users = [0x14, 0x16] | users = [1, 1] | users = [2, 3]
 channel 1 number | number = 15 | number = [15] | number = 16 | number = -1 | number = 0 | number = 2";
 
-/// The board's file and the channels, with a line in another's place.
-fn edited(alloc: Global, old: &'static str, new: &'static str) -> Result<String, AllocError> {
-    let mut text = String::from_str(alloc, BARE)?;
-    for line in TWO.lines() {
-        text.push_str(if line == old { new } else { line })?;
-        text.push('\n')?;
-    }
-    Ok(text)
+/// Whether the board has one channel with sessions, which is the file's.
+fn has_channel(board: &BoardFile) -> Result<bool, Fail> {
+    let channels = board.channels.items.as_slice();
+    let channel = channels.get(0).ok_or("a channel")?;
+    Ok(channels.len() == 1 && is_first(channel))
 }
 
-/// What the fault of a text is called, and nothing where it is a board.
-fn called(alloc: Global, text: &str) -> Result<String, AllocError> {
-    match read_board(alloc, text) {
-        Ok(_) => Ok(String::new(alloc)),
-        Err(fault) => format!(in alloc; "{fault}"),
-    }
+/// Whether the channel is the file's first.
+fn is_first(channel: &Channel) -> bool {
+    channel.number.number == 1
+        && channel.non_volatile.access == 2
+        && channel.non_volatile.limit == 4
+        && channel.volatile.access == 0x3B
+        && channel.volatile.limit == 5
 }
 
-/// What the fault is called with a line in another's place.
-fn fault(alloc: Global, old: &'static str, new: &'static str) -> Result<String, AllocError> {
-    let text = edited(alloc, old, new)?;
-    called(alloc, text.as_str())
+/// Whether the board has channel 15 alone without sessions.
+fn has_sessionless(board: &BoardFile) -> Result<bool, Fail> {
+    let channels = board.sessionless.items.as_slice();
+    let channel = channels.get(0).ok_or("a channel")?;
+    Ok(channels.len() == 1 && channel.number == 15)
+}
+
+/// The numbers of a channel and of a user, and the byte of what the user may do on it.
+type Access = (u8, u8, u8);
+
+/// Whether the user may do this on the channel.
+fn is_access(access: &UserAccess, want: &Access) -> bool {
+    let (channel, user, byte) = want;
+    access.on.channel.number == *channel && access.on.user.number == *user && access.byte == *byte
+}
+
+/// Whether the users of the board may do this and nothing else.
+fn has_accesses(board: &BoardFile, want: &[Access]) -> bool {
+    let accesses = board.user_accesses.items.as_slice();
+    accesses.len() == want.len()
+        && accesses
+            .iter()
+            .zip(want)
+            .all(|(access, want)| is_access(access, want))
 }
 
 #[test]
 fn channels_of_a_file_are_the_boards(rt: HostRuntime) -> Result<(), Fail> {
-    let text = edited(rt.alloc(), "", "")?;
-    let read = read_board(rt.alloc(), text.as_str()).map_err(|_| "a board")?;
-    let channels = read.channels.items.as_slice();
-    assert_eq!(rt; channels.len(), 1);
-    let channel = channels.get(0).ok_or("a channel")?;
-    assert_eq!(rt; channel.number.number, 1);
-    assert_eq!(rt; channel.non_volatile.access, 2);
-    assert_eq!(rt; channel.non_volatile.limit, 4);
-    assert_eq!(rt; channel.volatile.access, 0x3B);
-    assert_eq!(rt; channel.volatile.limit, 5);
-    let sessionless = read.sessionless.items.as_slice();
-    assert_eq!(rt; sessionless.len(), 1);
-    assert_eq!(rt; sessionless.get(0).ok_or("a channel")?.number, 15);
-    let accesses = read.user_accesses.items.as_slice();
-    assert_eq!(rt; accesses.len(), 2);
-    for (place, user, byte) in [(0, 1, 0x14), (1, 2, 0x2F)] {
-        let access = accesses.get(place).ok_or("an access")?;
-        assert_eq!(rt; access.on.channel.number, 1);
-        assert_eq!(rt; access.on.user.number, user);
-        assert_eq!(rt; access.byte, byte);
-    }
+    let text = edited(rt.alloc(), &FILE, "", "")?;
+    let read = board_of(rt.alloc(), text.as_str())?;
+    assert!(rt; has_channel(&read)?);
+    assert!(rt; has_sessionless(&read)?);
+    assert!(rt; has_accesses(&read, &[(1, 1, 0x14), (1, 2, 0x2F)]));
     Ok(())
 }
 
+/// The board's file and the channels.
+const FILE: Text = Text {
+    form: Form::Board,
+    head: BARE,
+    lines: TWO,
+};
+
 #[test]
 fn a_field_that_is_left_out_mistyped_or_out_of_range_is_named(rt: HostRuntime) -> Result<(), Fail> {
-    let alloc = rt.alloc();
-    for text in FIELDS.lines() {
-        let row = row_of(text).ok_or("seven cells")?;
-        for (other, name) in [
-            ("", "Missing"),
-            (row.mistyped, "WrongType"),
-            (row.beyond[0], "Range"),
-            (row.beyond[1], "Range"),
-        ] {
-            let want = format!(in alloc; "{name} {}", row.place)?;
-            assert_eq!(rt; fault(alloc, row.line, other)?, want, "{text} {other}");
-        }
-        for other in row.inside {
-            assert_eq!(rt; fault(alloc, row.line, other)?.as_str(), "", "{other}");
-        }
-    }
-    Ok(())
+    expect_fields(&rt, rt.alloc(), &FILE, FIELDS, &[])
 }
 
 #[test]
@@ -166,10 +163,7 @@ fn the_first_fault_counts(rt: HostRuntime) -> Result<(), Fail> {
             "Twice channel 2 number",
         ),
     ];
-    for (old, new, want) in cases {
-        assert_eq!(rt; fault(rt.alloc(), old, new)?.as_str(), want, "{new}");
-    }
-    Ok(())
+    expect_edits(&rt, rt.alloc(), &FILE, &cases)
 }
 
 /// A sensor and an effecter that lack all but their numbers.
@@ -179,8 +173,7 @@ const NUMERIC: &str = "[[numeric]]\nid = 1\n";
 
 #[test]
 fn channels_come_between_sensors_and_effecters(rt: HostRuntime) -> Result<(), Fail> {
-    let alloc = rt.alloc();
-    for (top, behind, want) in [
+    let cases = [
         ("channel = []\n", "", ""),
         ("channel = 1\n", "", "WrongType top channel"),
         ("channel = [{}, 1]\n", "", "WrongType top channel"),
@@ -189,62 +182,62 @@ fn channels_come_between_sensors_and_effecters(rt: HostRuntime) -> Result<(), Fa
         ("channel = [{}]\n", NUMERIC, "Missing channel 0 number"),
         ("sensor = 1\nchannel = 1\n", "", "WrongType top sensor"),
         ("numeric = 1\nchannel = 1\n", "", "WrongType top channel"),
-    ] {
-        let text = format!(in alloc; "{top}{BARE}{behind}")?;
-        assert_eq!(rt;
-            called(alloc, text.as_str())?.as_str(),
-            want,
-            "{top}{behind}"
-        );
-    }
-    Ok(())
+    ];
+    expect_around(&rt, rt.alloc(), BARE, &cases)
 }
 
-/// A board of so many users and so many channels, on each of which each user may do the same.
+/// The line of users: the first, and so many others, in whose number's place is `#`.
+fn users_line(alloc: Global, first: &str, count: u8, other: &str) -> Result<String, AllocError> {
+    let others = numbered(alloc, count, other)?;
+    joined(alloc, &["users = [", first, others.as_str(), "]\n"])
+}
+
+/// What the board has before the line of its users, and behind it.
+fn around_users() -> Result<(&'static str, &'static str), Fail> {
+    Ok(
+        BARE.split_once("users = [\"\", \"admin\"]\n")
+            .ok_or("users")?,
+    )
+}
+
+/// A channel that lacks the line of its users, in whose number's place is `#`.
+const ITEM: &str = "[[channel]]\nnumber = #\nsessions = true\naccess = [2, 2]\nlimit = [4, 4]\n";
+
+/// A board of so many users besides the first and so many channels, on each of which each user may do the same.
 fn with_channels(alloc: Global, users: u8, channels: u8) -> Result<String, Fail> {
-    let mut names = String::from_str(alloc, "users = [\"\"")?;
-    let mut bytes = String::from_str(alloc, "users = [0x14")?;
-    for user in 1..users {
-        let name = format!(in alloc; ", \"user {user}\"")?;
-        names.push_str(name.as_str())?;
-        bytes.push_str(", 0x14")?;
-    }
-    names.push_str("]")?;
-    bytes.push_str("]")?;
-    let mut text = String::new(alloc);
-    for line in BARE.lines() {
-        let is_users = line == "users = [\"\", \"admin\"]";
-        text.push_str(if is_users { names.as_str() } else { line })?;
-        text.push('\n')?;
-    }
-    for number in 0..channels {
-        let item = format!(in alloc;
-            "[[channel]]\nnumber = {number}\nsessions = true\naccess = [2, 2]\nlimit = [4, 4]\n{bytes}\n"
-        )?;
-        text.push_str(item.as_str())?;
-    }
-    Ok(text)
+    let names = users_line(alloc, "\"\"", users, ", \"user #\"")?;
+    let bytes = users_line(alloc, "0x14", users, ", 0x14")?;
+    let item = joined(alloc, &[ITEM, bytes.as_str()])?;
+    let items = numbered(alloc, channels, item.as_str())?;
+    let (head, tail) = around_users()?;
+    Ok(joined(alloc, &[head, names.as_str(), tail, items.as_str()])?)
+}
+
+/// How many users, channels and accesses of users a board has.
+fn counts_of(board: &BoardFile) -> (usize, usize, usize) {
+    (
+        board.users.items.as_slice().len(),
+        board.channels.items.as_slice().len(),
+        board.user_accesses.items.as_slice().len(),
+    )
+}
+
+/// Whether the last of the board's 128 accesses is that of user 16 on channel 7.
+fn ends_with_last(board: &BoardFile) -> Result<bool, Fail> {
+    let accesses = board.user_accesses.items.as_slice();
+    let last = accesses.get(127).ok_or("an access")?;
+    Ok(is_access(last, &(7, 16, 0x14)))
 }
 
 #[test]
 fn a_board_has_at_most_16_users_and_8_channels(rt: HostRuntime) -> Result<(), Fail> {
-    let most = with_channels(rt.alloc(), 16, 8)?;
-    let read = read_board(rt.alloc(), most.as_str()).map_err(|_| "a board")?;
-    assert_eq!(rt; read.users.items.as_slice().len(), 16);
-    assert_eq!(rt; read.channels.items.as_slice().len(), 8);
-    let accesses = read.user_accesses.items.as_slice();
-    assert_eq!(rt; accesses.len(), 128);
-    let last = accesses.get(127).ok_or("an access")?;
-    assert_eq!(rt; last.on.channel.number, 7);
-    assert_eq!(rt; last.on.user.number, 16);
-    for (users, channels, field) in [(17, 8, Field::Users), (16, 9, Field::Channel)] {
+    let most = with_channels(rt.alloc(), 15, 8)?;
+    let read = board_of(rt.alloc(), most.as_str())?;
+    assert_eq!(rt; counts_of(&read), (16, 8, 128));
+    assert!(rt; ends_with_last(&read)?);
+    for (users, channels, field) in [(16, 8, Field::Users), (15, 9, Field::Channel)] {
         let more = with_channels(rt.alloc(), users, channels)?;
-        let place = Place {
-            item: Item::Top,
-            field,
-        };
-        let found = read_board(rt.alloc(), more.as_str()).err();
-        assert_eq!(rt; found, Some(FileFault::Range(place)));
+        expect_too_many(&rt, rt.alloc(), more.as_str(), field)?;
     }
     Ok(())
 }

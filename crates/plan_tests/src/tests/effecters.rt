@@ -1,8 +1,12 @@
 //! Numeric effecters: of board files, and of the steps of plans.
-use super::row_of;
-use cfg_records::{NumericBytes, NumericSize, Op, SetNumericEffecter};
-use plan_file::{Field, FileFault, Item, Place, read_board, read_plan};
+use super::texts::{
+    Form, Text, board_of, edited, expect_around, expect_edits, expect_fault, expect_fields,
+    expect_plans, expect_step, expect_too_many, joined, numbered,
+};
+use cfg_records::{NumericBytes, NumericEffecter, NumericSize, Op, SetNumericEffecter};
+use plan_file::Field;
 use std::alloc::{AllocError, Global};
+use std::process::Abort;
 use std::test::Fail;
 
 /// A board without sensors and effecters.
@@ -59,73 +63,56 @@ numeric 1 lower | lower = -2 | lower = -2.0 | lower = -129 | lower = 128 | lower
 numeric 1 upper | upper = 1 | upper = {} | upper = -3 | upper = 128 | upper = -1 | upper = 127
 numeric 1 current | current = -1 | current = true | current = -3 | current = 2 | current = -2 | current = 1";
 
-/// The board's file and the effecters, with a line in another's place.
-fn edited(alloc: Global, old: &'static str, new: &'static str) -> Result<String, AllocError> {
-    let mut text = String::from_str(alloc, BARE)?;
-    for line in TWO.lines() {
-        text.push_str(if line == old { new } else { line })?;
-        text.push('\n')?;
-    }
-    Ok(text)
+/// An effecter: its id, whether it is enabled, its size, the bits of its bounds, and those of its value.
+type Numeric = (u16, bool, NumericSize, (u32, u32), u32);
+
+/// Whether the effecter is this.
+fn is_numeric(effecter: &NumericEffecter, want: &Numeric) -> bool {
+    let (id, enabled, size, bounds, current) = want;
+    effecter.id == *id
+        && effecter.enabled == *enabled
+        && effecter.range.size == *size
+        && (effecter.range.lower, effecter.range.upper) == *bounds
+        && effecter.current == *current
 }
 
-/// What the fault of a text is called, and nothing where it is a board.
-fn called(alloc: Global, text: &str) -> Result<String, AllocError> {
-    match read_board(alloc, text) {
-        Ok(_) => Ok(String::new(alloc)),
-        Err(fault) => format!(in alloc; "{fault}"),
+/// The effecters of the board's file are these.
+fn expect_effecters(
+    rt: &impl Abort,
+    alloc: Global,
+    text: &str,
+    want: &[Numeric],
+) -> Result<(), Fail> {
+    let read = board_of(alloc, text)?;
+    let effecters = read.numeric_effecters.items.as_slice();
+    assert_eq!(rt; effecters.len(), want.len());
+    for (effecter, want) in effecters.iter().zip(want) {
+        assert!(rt; is_numeric(effecter, want), "{text}");
     }
-}
-
-/// What the fault is called with a line in another's place.
-fn fault(alloc: Global, old: &'static str, new: &'static str) -> Result<String, AllocError> {
-    let text = edited(alloc, old, new)?;
-    called(alloc, text.as_str())
+    Ok(())
 }
 
 #[test]
 fn numeric_effecters_of_a_file_are_the_boards(rt: HostRuntime) -> Result<(), Fail> {
-    let text = edited(rt.alloc(), "", "")?;
-    let read = read_board(rt.alloc(), text.as_str()).map_err(|_| "a board")?;
-    let effecters = read.numeric_effecters.items.as_slice();
-    assert_eq!(rt; effecters.len(), 2);
-    let one = effecters.get(0).ok_or("an effecter")?;
-    assert_eq!(rt; one.id, 4);
-    assert!(rt; one.enabled);
-    assert!(rt; one.range.size == NumericSize::U16);
-    assert_eq!(rt; one.range.lower, 0);
-    assert_eq!(rt; one.range.upper, 1000);
-    assert_eq!(rt; one.current, 500);
+    let text = edited(rt.alloc(), &FILE, "", "")?;
     // -2 to 1, and -1, in two's complement.
-    let other = effecters.get(1).ok_or("an effecter")?;
-    assert_eq!(rt; other.id, 5);
-    assert!(rt; !other.enabled);
-    assert!(rt; other.range.size == NumericSize::S8);
-    assert_eq!(rt; other.range.lower, 0xFE);
-    assert_eq!(rt; other.range.upper, 1);
-    assert_eq!(rt; other.current, 0xFF);
-    Ok(())
+    let want = [
+        (4, true, NumericSize::U16, (0, 1000), 500),
+        (5, false, NumericSize::S8, (0xFE, 1), 0xFF),
+    ];
+    expect_effecters(&rt, rt.alloc(), text.as_str(), &want)
 }
+
+/// The board's file and the effecters.
+const FILE: Text = Text {
+    form: Form::Board,
+    head: BARE,
+    lines: TWO,
+};
 
 #[test]
 fn a_field_that_is_left_out_mistyped_or_out_of_range_is_named(rt: HostRuntime) -> Result<(), Fail> {
-    let alloc = rt.alloc();
-    for text in FIELDS.lines() {
-        let row = row_of(text).ok_or("seven cells")?;
-        for (other, name) in [
-            ("", "Missing"),
-            (row.mistyped, "WrongType"),
-            (row.beyond[0], "Range"),
-            (row.beyond[1], "Range"),
-        ] {
-            let want = format!(in alloc; "{name} {}", row.place)?;
-            assert_eq!(rt; fault(alloc, row.line, other)?, want, "{text} {other}");
-        }
-        for other in row.inside {
-            assert_eq!(rt; fault(alloc, row.line, other)?.as_str(), "", "{other}");
-        }
-    }
-    Ok(())
+    expect_fields(&rt, rt.alloc(), &FILE, FIELDS, &[])
 }
 
 #[test]
@@ -160,10 +147,7 @@ fn the_first_fault_counts(rt: HostRuntime) -> Result<(), Fail> {
         ),
         ("id = 5", "id = 4\n[[numeric]]", "Missing numeric 1 size"),
     ];
-    for (old, new, want) in cases {
-        assert_eq!(rt; fault(rt.alloc(), old, new)?.as_str(), want, "{new}");
-    }
-    Ok(())
+    expect_edits(&rt, rt.alloc(), &FILE, &cases)
 }
 
 /// A sensor that lacks all but its number.
@@ -171,8 +155,7 @@ const SENSOR: &str = "[[sensor]]\nnumber = 1\n";
 
 #[test]
 fn numeric_effecters_come_behind_all_else(rt: HostRuntime) -> Result<(), Fail> {
-    let alloc = rt.alloc();
-    for (top, behind, want) in [
+    let cases = [
         ("", "", ""),
         ("numeric = []\n", "", ""),
         ("numeric = 1\n", "", "WrongType top numeric"),
@@ -182,87 +165,93 @@ fn numeric_effecters_come_behind_all_else(rt: HostRuntime) -> Result<(), Fail> {
         ("numeric = [{}]\n", SENSOR, "Missing sensor 0 type"),
         ("numeric = 1\n", SENSOR, "WrongType top numeric"),
         ("sensor = 1\nnumeric = 1\n", "", "WrongType top sensor"),
-    ] {
-        let text = format!(in alloc; "{top}{BARE}{behind}")?;
-        assert_eq!(rt;
-            called(alloc, text.as_str())?.as_str(),
-            want,
-            "{top}{behind}"
-        );
-    }
-    Ok(())
+    ];
+    expect_around(&rt, rt.alloc(), BARE, &cases)
 }
 
+/// An effecter, in whose number's place is `#`.
+const ITEM: &str =
+    "[[numeric]]\nid = #\nsize = 0\noperational = 1\nlower = 0\nupper = 0\ncurrent = 0\n";
+
 /// The board's file with so many effecters.
-fn with_effecters(alloc: Global, count: u8) -> Result<String, Fail> {
-    let mut text = String::from_str(alloc, BARE)?;
-    for id in 0..count {
-        let item = format!(in alloc;
-            "[[numeric]]\nid = {id}\nsize = 0\noperational = 1\nlower = 0\nupper = 0\ncurrent = 0\n"
-        )?;
-        text.push_str(item.as_str())?;
-    }
-    Ok(text)
+fn with_effecters(alloc: Global, count: u8) -> Result<String, AllocError> {
+    let items = numbered(alloc, count, ITEM)?;
+    joined(alloc, &[BARE, items.as_str()])
+}
+
+/// How many effecters the board has of the text.
+fn effecters_of(alloc: Global, text: &str) -> Result<usize, Fail> {
+    let read = board_of(alloc, text)?;
+    Ok(read.numeric_effecters.items.as_slice().len())
 }
 
 #[test]
 fn a_board_has_at_most_32_numeric_effecters(rt: HostRuntime) -> Result<(), Fail> {
     let most = with_effecters(rt.alloc(), 32)?;
-    let read = read_board(rt.alloc(), most.as_str()).map_err(|_| "a board")?;
-    assert_eq!(rt; read.numeric_effecters.items.as_slice().len(), 32);
+    assert_eq!(rt; effecters_of(rt.alloc(), most.as_str())?, 32);
     let more = with_effecters(rt.alloc(), 33)?;
-    let found = read_board(rt.alloc(), more.as_str()).err();
-    let place = Place {
-        item: Item::Top,
-        field: Field::Numeric,
-    };
-    assert_eq!(rt; found, Some(FileFault::Range(place)));
-    Ok(())
+    expect_too_many(&rt, rt.alloc(), more.as_str(), Field::Numeric)
 }
 
 /// A line for each size: the least and the greatest of its numbers, each with its bits.
-const SIZES: &str = "0 0 00000000 255 000000FF
-1 -128 00000080 127 0000007F
-2 0 00000000 65535 0000FFFF
-3 -32768 00008000 32767 00007FFF
-4 0 00000000 4294967295 FFFFFFFF
-5 -2147483648 80000000 2147483647 7FFFFFFF";
+const SIZES: [(&str, NumericSize, (&str, u32), (&str, u32)); 6] = [
+    ("0", NumericSize::U8, ("0", 0), ("255", 0x000000FF)),
+    (
+        "1",
+        NumericSize::S8,
+        ("-128", 0x00000080),
+        ("127", 0x0000007F),
+    ),
+    ("2", NumericSize::U16, ("0", 0), ("65535", 0x0000FFFF)),
+    (
+        "3",
+        NumericSize::S16,
+        ("-32768", 0x00008000),
+        ("32767", 0x00007FFF),
+    ),
+    ("4", NumericSize::U32, ("0", 0), ("4294967295", 0xFFFFFFFF)),
+    (
+        "5",
+        NumericSize::S32,
+        ("-2147483648", 0x80000000),
+        ("2147483647", 0x7FFFFFFF),
+    ),
+];
 
 /// A line for each size: the numbers just below the least and just above the greatest.
-const BEYOND: &str = "0 -1 256
-1 -129 128
-2 -1 65536
-3 -32769 32768
-4 -1 4294967296
-5 -2147483649 2147483648";
+const BEYOND: [(&str, &str, &str); 6] = [
+    ("0", "-1", "256"),
+    ("1", "-129", "128"),
+    ("2", "-1", "65536"),
+    ("3", "-32769", "32768"),
+    ("4", "-1", "4294967296"),
+    ("5", "-2147483649", "2147483648"),
+];
 
 /// A board's file with one effecter, whose value is its upper bound.
 fn only(alloc: Global, size: &str, lower: &str, upper: &str) -> Result<String, AllocError> {
-    format!(in alloc;
-        "{BARE}[[numeric]]\nid = 0\nsize = {size}\noperational = 1\nlower = {lower}\nupper = {upper}\ncurrent = {upper}\n"
-    )
+    let parts = [
+        BARE,
+        "[[numeric]]\nid = 0\nsize = ",
+        size,
+        "\noperational = 1\nlower = ",
+        lower,
+        "\nupper = ",
+        upper,
+        "\ncurrent = ",
+        upper,
+        "\n",
+    ];
+    joined(alloc, &parts)
 }
 
 #[test]
 fn each_size_has_its_numbers(rt: HostRuntime) -> Result<(), Fail> {
     let alloc = rt.alloc();
-    for line in SIZES.lines() {
-        let mut cells = line.split(' ');
-        let size = cells.next().ok_or("a size")?;
-        let least = cells.next().ok_or("the least")?;
-        let lower = cells.next().ok_or("its bits")?;
-        let most = cells.next().ok_or("the greatest")?;
-        let upper = cells.next().ok_or("its bits")?;
-        let text = only(alloc, size, least, most)?;
-        let read = read_board(alloc, text.as_str()).map_err(|_| "a board")?;
-        let effecters = read.numeric_effecters.items.as_slice();
-        let effecter = effecters.get(0).ok_or("an effecter")?;
-        let bits = format!(in alloc; "{:08X}", effecter.range.lower)?;
-        assert_eq!(rt; bits.as_str(), lower, "{line}");
-        let bits = format!(in alloc; "{:08X}", effecter.range.upper)?;
-        assert_eq!(rt; bits.as_str(), upper, "{line}");
-        let bits = format!(in alloc; "{:08X}", effecter.current)?;
-        assert_eq!(rt; bits.as_str(), upper, "{line}");
+    for (number, size, (least, lower), (most, upper)) in SIZES {
+        let text = only(alloc, number, least, most)?;
+        let want = [(0, true, size, (lower, upper), upper)];
+        expect_effecters(&rt, alloc, text.as_str(), &want)?;
     }
     Ok(())
 }
@@ -270,25 +259,20 @@ fn each_size_has_its_numbers(rt: HostRuntime) -> Result<(), Fail> {
 #[test]
 fn numbers_beyond_a_size_are_out_of_range(rt: HostRuntime) -> Result<(), Fail> {
     let alloc = rt.alloc();
-    for line in BEYOND.lines() {
-        let mut cells = line.split(' ');
-        let size = cells.next().ok_or("a size")?;
-        let below = cells.next().ok_or("below")?;
-        let above = cells.next().ok_or("above")?;
-        let text = only(alloc, size, below, "0")?;
-        let want = "Range numeric 0 lower";
-        assert_eq!(rt; called(alloc, text.as_str())?.as_str(), want, "{line}");
-        let text = only(alloc, size, "0", above)?;
-        let want = "Range numeric 0 upper";
-        assert_eq!(rt; called(alloc, text.as_str())?.as_str(), want, "{line}");
+    for (size, below, above) in BEYOND {
+        for (lower, upper, want) in [
+            (below, "0", "Range numeric 0 lower"),
+            ("0", above, "Range numeric 0 upper"),
+        ] {
+            let text = only(alloc, size, lower, upper)?;
+            expect_fault(&rt, alloc, Form::Board, text.as_str(), want)?;
+        }
     }
     Ok(())
 }
 
-/// A plan of one step on effecter 261, with these lines.
-fn step(alloc: Global, lines: &str) -> Result<String, AllocError> {
-    format!(in alloc; "[[step]]\nkind = \"numeric-effecter\"\neffecter = 261\n{lines}\n")
-}
+/// A step on effecter 261 that lacks the size and the value.
+const STEP: &str = "[[step]]\nkind = \"numeric-effecter\"\neffecter = 261\n";
 
 #[test]
 fn a_step_has_the_bytes_of_its_number(rt: HostRuntime) -> Result<(), Fail> {
@@ -315,24 +299,19 @@ fn a_step_has_the_bytes_of_its_number(rt: HostRuntime) -> Result<(), Fail> {
         ),
     ];
     for (lines, size, value) in cases {
-        let text = step(rt.alloc(), lines)?;
-        let plan = read_plan(rt.alloc(), text.as_str()).map_err(|_| "a plan")?;
         let set = SetNumericEffecter {
             effecter: 261,
             size,
             value,
         };
-        assert!(rt;
-            matches!(plan.steps.as_slice().get(0), Some(Op::NumericEffecter(held)) if *held == set),
-            "{lines}"
-        );
+        expect_step(&rt, rt.alloc(), STEP, lines, Op::NumericEffecter(set))?;
     }
     Ok(())
 }
 
 #[test]
 fn a_value_is_of_the_size_that_its_step_has(rt: HostRuntime) -> Result<(), Fail> {
-    for (lines, want) in [
+    let cases = [
         ("size = 0\nvalue = 256", "0 Range value"),
         ("size = 0\nvalue = -1", "0 Range value"),
         ("size = 1\nvalue = 128", "0 Range value"),
@@ -349,14 +328,6 @@ fn a_value_is_of_the_size_that_its_step_has(rt: HostRuntime) -> Result<(), Fail>
         ("size = true\nvalue = 1", "0 WrongType size"),
         ("size = 0", "0 Missing value"),
         ("value = 0", "0 Missing size"),
-    ] {
-        let text = step(rt.alloc(), lines)?;
-        let found = read_plan(rt.alloc(), text.as_str()).err().ok_or("a fault")?;
-        assert_eq!(rt;
-            format!(in rt.alloc(); "{found}")?.as_str(),
-            want,
-            "{lines}"
-        );
-    }
-    Ok(())
+    ];
+    expect_plans(&rt, rt.alloc(), (STEP, "\n"), &cases)
 }

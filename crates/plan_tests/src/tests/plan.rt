@@ -1,5 +1,8 @@
 //! Plans: what they hold, and their faults.
-use super::row_of;
+use super::texts::{
+    Form, Named, Text, expect_edits, expect_fault, expect_fields, expect_plan, expect_plans,
+    expect_step, joined, plan_of, times,
+};
 use cfg_records::{
     BootChange, BootFlags, BootParameter, EventChange, EventMasks, MaskedBits, NumericBytes, Op,
     SetBootParam, SetEventEnable, SetGlobalEnables, SetHysteresis, SetNumericEffecter,
@@ -7,6 +10,7 @@ use cfg_records::{
 };
 use plan_file::{NoGet, OutsidePlan, PlanFault, StepFault, read_plan};
 use std::alloc::{AllocError, Global};
+use std::process::Abort;
 use std::test::Fail;
 
 /// A step of each kind. No line stands in it twice but `[[step]]`.
@@ -86,66 +90,27 @@ const FIELDS: &str =
 7 size | size = 2 | size = \"2\" | size = -1 | size = 6 | size = 3 | size = 5
 7 value | value = 1000 | value = 1000.0 | value = -1 | value = 65536 | value = 0 | value = 65535";
 
-/// The fields that a step needs not have.
-const OPTIONAL: [&str; 6] = ["0 lnc", "0 lc", "0 lnr", "0 unc", "0 uc", "0 unr"];
+/// The fields that a step needs not have, and no fault.
+const OPTIONAL: [Named; 6] = [
+    ("0 lnc", ""),
+    ("0 lc", ""),
+    ("0 lnr", ""),
+    ("0 unc", ""),
+    ("0 uc", ""),
+    ("0 unr", ""),
+];
 
-/// The plan with a line in another's place.
-fn edited(alloc: Global, old: &'static str, new: &'static str) -> Result<String, AllocError> {
-    let mut text = String::new(alloc);
-    for line in PLAN.lines() {
-        text.push_str(if line == old { new } else { line })?;
-        text.push('\n')?;
-    }
-    Ok(text)
-}
-
-/// The fault of a text, as programs print it, and nothing where it is a plan.
-fn named(alloc: Global, text: &str) -> Result<String, Fail> {
-    match read_plan(alloc, text) {
-        Ok(_) => Ok(String::new(alloc)),
-        Err(fault) => Ok(format!(in alloc; "{fault}")?),
-    }
-}
-
-/// The fault of the plan with a line in another's place.
-fn fault(alloc: Global, old: &'static str, new: &'static str) -> Result<String, Fail> {
-    let text = edited(alloc, old, new)?;
-    named(alloc, text.as_str())
-}
-
-/// What the fault of this name is called, of the field at a place.
-fn called(alloc: Global, place: &str, name: &str) -> Result<String, Fail> {
-    let (step, field) = place.split_once(' ').ok_or("a place")?;
-    Ok(format!(in alloc; "{step} {name} {field}")?)
-}
+/// The plan.
+const FILE: Text = Text {
+    form: Form::Plan,
+    head: "",
+    lines: PLAN,
+};
 
 #[test]
 fn a_field_that_is_left_out_mistyped_or_out_of_range_is_named(rt: HostRuntime) -> Result<(), Fail> {
-    let alloc = rt.alloc();
-    for text in FIELDS.lines() {
-        let row = row_of(text).ok_or("seven cells")?;
-        for (other, name) in [
-            ("", "Missing"),
-            (row.mistyped, "WrongType"),
-            (row.beyond[0], "Range"),
-            (row.beyond[1], "Range"),
-        ] {
-            let want = if other.is_empty() && OPTIONAL.contains(&row.place) {
-                String::new(alloc)
-            } else {
-                called(alloc, row.place, name)?
-            };
-            assert_eq!(rt; fault(alloc, row.line, other)?, want, "{text} {other}");
-        }
-        for other in row.inside {
-            assert_eq!(rt; fault(alloc, row.line, other)?.as_str(), "", "{other}");
-        }
-    }
-    Ok(())
+    expect_fields(&rt, rt.alloc(), &FILE, FIELDS, &OPTIONAL)
 }
-
-/// A text and what its fault is called.
-type Named = (&'static str, &'static str);
 
 #[test]
 fn the_first_fault_counts(rt: HostRuntime) -> Result<(), Fail> {
@@ -176,10 +141,7 @@ fn the_first_fault_counts(rt: HostRuntime) -> Result<(), Fail> {
             "0 Missing sensor",
         ),
     ];
-    for (text, want) in cases {
-        assert_eq!(rt; named(rt.alloc(), text)?.as_str(), want, "{text}");
-    }
-    Ok(())
+    expect_plans(&rt, rt.alloc(), ("", ""), &cases)
 }
 
 #[test]
@@ -210,35 +172,44 @@ fn what_no_get_shows_is_refused(rt: HostRuntime) -> Result<(), Fail> {
         ("kind = \"boot-param\"\nparam = false", "0 Missing invalid"),
         ("kind = \"thresholds\"\nflags_clear = 0", "0 Missing sensor"),
     ];
-    for (step, want) in cases {
-        let text = format!(in rt.alloc(); "[[step]]\n{step}\n")?;
-        assert_eq!(rt; named(rt.alloc(), text.as_str())?.as_str(), want, "{step}");
-    }
+    expect_plans(&rt, rt.alloc(), ("[[step]]\n", "\n"), &cases)
+}
+
+/// The text is refused for this.
+fn expect_refused(rt: &impl Abort, alloc: Global, text: &str, want: PlanFault) -> Result<(), Fail> {
+    let found = read_plan(alloc, text).err().ok_or("a fault")?;
+    assert_eq!(rt; found, want, "{text}");
     Ok(())
 }
 
 #[test]
 fn passwords_the_clock_and_the_log_stand_outside_plans(rt: HostRuntime) -> Result<(), Fail> {
     let cases = [
-        ("password", OutsidePlan::Password, "0 OutsidePlan Password"),
-        ("clock", OutsidePlan::Clock, "0 OutsidePlan Clock"),
-        ("log", OutsidePlan::Log, "0 OutsidePlan Log"),
+        (
+            "[[step]]\nkind = \"password\"\n",
+            StepFault::OutsidePlan(OutsidePlan::Password),
+            "0 OutsidePlan Password",
+        ),
+        (
+            "[[step]]\nkind = \"clock\"\n",
+            StepFault::OutsidePlan(OutsidePlan::Clock),
+            "0 OutsidePlan Clock",
+        ),
+        (
+            "[[step]]\nkind = \"log\"\n",
+            StepFault::OutsidePlan(OutsidePlan::Log),
+            "0 OutsidePlan Log",
+        ),
+        (
+            "step = [{kind = \"watchdog\", flags_clear = 0}]",
+            StepFault::NoGet(NoGet::FlagsClear),
+            "0 NoGet FlagsClear",
+        ),
     ];
-    for (kind, outside, name) in cases {
-        let text = format!(in rt.alloc(); "[[step]]\nkind = \"{kind}\"\n")?;
-        let found = read_plan(rt.alloc(), text.as_str()).err().ok_or("a fault")?;
-        assert_eq!(rt; found, PlanFault::Step(0, StepFault::OutsidePlan(outside)));
-        assert_eq!(rt; format!(in rt.alloc(); "{found}")?.as_str(), name);
+    for (text, fault, name) in cases {
+        expect_refused(&rt, rt.alloc(), text, PlanFault::Step(0, fault))?;
+        expect_fault(&rt, rt.alloc(), Form::Plan, text, name)?;
     }
-    let found = read_plan(
-        rt.alloc(),
-        "step = [{kind = \"watchdog\", flags_clear = 0}]",
-    )
-    .err();
-    assert_eq!(rt;
-        found,
-        Some(PlanFault::Step(0, StepFault::NoGet(NoGet::FlagsClear)))
-    );
     Ok(())
 }
 
@@ -258,11 +229,12 @@ fn booleans_are_no_numbers_and_numbers_no_booleans(rt: HostRuntime) -> Result<()
         ("no_log = true", "", "3 Missing no_log"),
         ("no_log = true", "no_log = false", ""),
     ];
-    for (old, new, want) in cases {
-        assert_eq!(rt; fault(rt.alloc(), old, new)?.as_str(), want, "{old} {new}");
-    }
-    Ok(())
+    expect_edits(&rt, rt.alloc(), &FILE, &cases)
 }
+
+/// A step on the events of a sensor that lacks what is done with them.
+const EVENT_ENABLE: &str =
+    "[[step]]\nkind = \"event-enable\"\nsensor = 0\nmessages = true\nscanning = true\n";
 
 #[test]
 fn events_are_needed_unless_they_are_left(rt: HostRuntime) -> Result<(), Fail> {
@@ -275,68 +247,55 @@ fn events_are_needed_unless_they_are_left(rt: HostRuntime) -> Result<(), Fail> {
         ("select = 0", "0 Missing assert"),
         ("assert = []", "0 Missing select"),
     ];
-    for (lines, want) in cases {
-        let text = format!(in rt.alloc();
-            "[[step]]\nkind = \"event-enable\"\nsensor = 0\nmessages = true\nscanning = true\n{lines}\n"
-        )?;
-        assert_eq!(rt; named(rt.alloc(), text.as_str())?.as_str(), want, "{lines}");
-    }
-    Ok(())
+    expect_plans(&rt, rt.alloc(), (EVENT_ENABLE, "\n"), &cases)
 }
 
 #[test]
 fn each_kind_is_read(rt: HostRuntime) -> Result<(), Fail> {
-    let plan = read_plan(rt.alloc(), PLAN).map_err(|_| "a plan")?;
-    let steps = plan.steps.as_slice();
-    assert_eq!(rt; steps.len(), 8);
-    let thresholds = SetThresholds {
-        sensor: 5,
-        mask: 0x3F,
-        values: [1, 2, 3, 4, 5, 6],
-    };
-    assert!(rt; matches!(steps.get(0), Some(Op::Thresholds(set)) if *set == thresholds));
-    let hysteresis = SetHysteresis {
-        sensor: 6,
-        positive: 7,
-        negative: 8,
-    };
-    assert!(rt; matches!(steps.get(1), Some(Op::Hysteresis(set)) if *set == hysteresis));
-    let events = EventMasks {
-        assertions: 0x280,
-        deassertions: 0x801,
-    };
-    let enable = SetEventEnable {
-        sensor: 9,
-        messages: true,
-        scanning: false,
-        change: EventChange::Enable(events),
-    };
-    assert!(rt; matches!(steps.get(2), Some(Op::EventEnable(set)) if *set == enable));
-    let watchdog = SetWatchdog {
-        timer_use: 0x83,
-        actions: 0x21,
-        pre_timeout: 10,
-        flags_to_clear: 0,
-        initial: 3000,
-    };
-    assert!(rt; matches!(steps.get(3), Some(Op::Watchdog(set)) if *set == watchdog));
-    let policy = SetPowerPolicy { policy: 2 };
-    assert!(rt; matches!(steps.get(4), Some(Op::PowerPolicy(set)) if *set == policy));
-    let enables = SetGlobalEnables { byte: 0x08 };
-    assert!(rt; matches!(steps.get(5), Some(Op::GlobalEnables(set)) if *set == enables));
-    let acknowledge = SetBootParam {
-        invalid: false,
-        change: BootChange::InfoAcknowledge(MaskedBits { mask: 3, bits: 1 }),
-    };
-    assert!(rt; matches!(steps.get(6), Some(Op::BootParam(set)) if *set == acknowledge));
-    let numeric = SetNumericEffecter {
-        effecter: 261,
-        size: 2,
-        value: NumericBytes::Two(0xE8, 0x03),
-    };
-    assert!(rt; matches!(steps.get(7), Some(Op::NumericEffecter(set)) if *set == numeric));
-    Ok(())
+    let steps = [
+        Op::Thresholds(SetThresholds {
+            sensor: 5,
+            mask: 0x3F,
+            values: [1, 2, 3, 4, 5, 6],
+        }),
+        Op::Hysteresis(SetHysteresis {
+            sensor: 6,
+            positive: 7,
+            negative: 8,
+        }),
+        Op::EventEnable(SetEventEnable {
+            sensor: 9,
+            messages: true,
+            scanning: false,
+            change: EventChange::Enable(EventMasks {
+                assertions: 0x280,
+                deassertions: 0x801,
+            }),
+        }),
+        Op::Watchdog(SetWatchdog {
+            timer_use: 0x83,
+            actions: 0x21,
+            pre_timeout: 10,
+            flags_to_clear: 0,
+            initial: 3000,
+        }),
+        Op::PowerPolicy(SetPowerPolicy { policy: 2 }),
+        Op::GlobalEnables(SetGlobalEnables { byte: 0x08 }),
+        Op::BootParam(SetBootParam {
+            invalid: false,
+            change: BootChange::InfoAcknowledge(MaskedBits { mask: 3, bits: 1 }),
+        }),
+        Op::NumericEffecter(SetNumericEffecter {
+            effecter: 261,
+            size: 2,
+            value: NumericBytes::Two(0xE8, 0x03),
+        }),
+    ];
+    expect_plan(&rt, rt.alloc(), PLAN, &steps, 3)
 }
+
+/// A step on a boot parameter that lacks its number and its data.
+const BOOT_PARAM: &str = "[[step]]\nkind = \"boot-param\"\ninvalid = true\n";
 
 #[test]
 fn each_boot_parameter_is_read_with_its_data_or_none(rt: HostRuntime) -> Result<(), Fail> {
@@ -364,18 +323,11 @@ fn each_boot_parameter_is_read_with_its_data_or_none(rt: HostRuntime) -> Result<
         ("param = 5", BootChange::MarkAlone(BootParameter::Flags)),
     ];
     for (lines, change) in cases {
-        let text = format!(in rt.alloc();
-            "[[step]]\nkind = \"boot-param\"\ninvalid = true\n{lines}\n"
-        )?;
-        let plan = read_plan(rt.alloc(), text.as_str()).map_err(|_| "a plan")?;
         let set = SetBootParam {
             invalid: true,
             change,
         };
-        assert!(rt;
-            matches!(plan.steps.as_slice().get(0), Some(Op::BootParam(held)) if *held == set),
-            "{lines}"
-        );
+        expect_step(&rt, rt.alloc(), BOOT_PARAM, lines, Op::BootParam(set))?;
     }
     Ok(())
 }
@@ -393,13 +345,7 @@ fn data_of_a_boot_parameter_are_its_own(rt: HostRuntime) -> Result<(), Fail> {
         ("param = 5\ndata = [0, 0, 0, 0]", "0 Range data"),
         ("data = [0]", "0 Missing param"),
     ];
-    for (lines, want) in cases {
-        let text = format!(in rt.alloc();
-            "[[step]]\nkind = \"boot-param\"\ninvalid = true\n{lines}\n"
-        )?;
-        assert_eq!(rt; named(rt.alloc(), text.as_str())?.as_str(), want, "{lines}");
-    }
-    Ok(())
+    expect_plans(&rt, rt.alloc(), (BOOT_PARAM, "\n"), &cases)
 }
 
 #[test]
@@ -415,23 +361,19 @@ sensor = 5
 uc = 0x5C
 unr = 0x64
 ";
-    let plan = read_plan(rt.alloc(), text).map_err(|_| "a plan")?;
-    assert_eq!(rt; plan.retries.number(), 3);
-    let steps = plan.steps.as_slice();
-    assert_eq!(rt; steps.len(), 2);
-    let first = SetThresholds {
-        sensor: 5,
-        mask: 0x18,
-        values: [0, 0, 0, 0x4B, 0x5A, 0],
-    };
-    assert!(rt; matches!(steps.get(0), Some(Op::Thresholds(set)) if *set == first));
-    let second = SetThresholds {
-        sensor: 5,
-        mask: 0x30,
-        values: [0, 0, 0, 0, 0x5C, 0x64],
-    };
-    assert!(rt; matches!(steps.get(1), Some(Op::Thresholds(set)) if *set == second));
-    Ok(())
+    let steps = [
+        Op::Thresholds(SetThresholds {
+            sensor: 5,
+            mask: 0x18,
+            values: [0, 0, 0, 0x4B, 0x5A, 0],
+        }),
+        Op::Thresholds(SetThresholds {
+            sensor: 5,
+            mask: 0x30,
+            values: [0, 0, 0, 0, 0x5C, 0x64],
+        }),
+    ];
+    expect_plan(&rt, rt.alloc(), text, &steps, 3)
 }
 
 #[test]
@@ -443,35 +385,39 @@ fn retries_are_3_where_none_are_given(rt: HostRuntime) -> Result<(), Fail> {
         ("step = []\nretry = 16", 3),
     ];
     for (text, retries) in cases {
-        let plan = read_plan(rt.alloc(), text).map_err(|_| "a plan")?;
-        assert_eq!(rt; plan.retries.number(), retries, "{text}");
-        assert_eq!(rt; plan.steps.as_slice().len(), 0, "{text}");
+        expect_plan(&rt, rt.alloc(), text, &[], retries)?;
     }
     Ok(())
 }
 
-/// A plan of so many steps, after these lines.
-fn with_steps(alloc: Global, lines: &str, count: usize) -> Result<String, Fail> {
-    let mut text = String::from_str(alloc, lines)?;
-    for _ in 0..count {
-        text.push_str("[[step]]\nkind = \"power-policy\"\npolicy = 1\n")?;
-    }
-    Ok(text)
+/// A step.
+const POLICY: &str = "[[step]]\nkind = \"power-policy\"\npolicy = 1\n";
+
+/// How many steps the plan has.
+fn steps_of(alloc: Global, text: &str) -> Result<usize, Fail> {
+    Ok(plan_of(alloc, text)?.steps.as_slice().len())
+}
+
+/// A plan of so many steps, behind these lines.
+fn with_steps(alloc: Global, lines: &str, count: usize) -> Result<String, AllocError> {
+    let steps = times(alloc, count, POLICY)?;
+    joined(alloc, &[lines, steps.as_str()])
 }
 
 #[test]
 fn a_plan_has_at_most_256_steps(rt: HostRuntime) -> Result<(), Fail> {
-    let most = with_steps(rt.alloc(), "", 256)?;
-    let plan = read_plan(rt.alloc(), most.as_str()).map_err(|_| "a plan")?;
-    assert_eq!(rt; plan.steps.as_slice().len(), 256);
-    let more = with_steps(rt.alloc(), "", 257)?;
-    let found = read_plan(rt.alloc(), more.as_str()).err();
-    assert_eq!(rt; found, Some(PlanFault::TooMany));
-    let faulty = with_steps(rt.alloc(), "[[step]]\nkind = \"log\"\n", 256)?;
-    assert_eq!(rt; named(rt.alloc(), faulty.as_str())?.as_str(), "TooMany");
-    let also = with_steps(rt.alloc(), "retries = 16\n", 257)?;
-    assert_eq!(rt; named(rt.alloc(), also.as_str())?.as_str(), "Range retries");
-    Ok(())
+    let alloc = rt.alloc();
+    let most = with_steps(alloc, "", 256)?;
+    assert_eq!(rt; steps_of(alloc, most.as_str())?, 256);
+    for (head, count, want) in [
+        ("[[step]]\nkind = \"log\"\n", 256, "TooMany"),
+        ("retries = 16\n", 257, "Range retries"),
+    ] {
+        let text = with_steps(alloc, head, count)?;
+        expect_fault(&rt, alloc, Form::Plan, text.as_str(), want)?;
+    }
+    let more = with_steps(alloc, "", 257)?;
+    expect_refused(&rt, alloc, more.as_str(), PlanFault::TooMany)
 }
 
 /// A plan of one step, of which six prefixes are plans.

@@ -1,8 +1,12 @@
 //! State effecters: of board files, and of the steps of plans.
-use super::row_of;
-use cfg_records::{FieldChange, Op};
-use plan_file::{Field, FileFault, Item, Place, read_board, read_plan};
+use super::texts::{
+    Form, Text, board_of, edited, expect_around, expect_edits, expect_fault, expect_fields,
+    expect_plans, expect_too_many, joined, numbered, plan_of, times,
+};
+use cfg_records::{FieldChange, Op, StateEffecter, StateField};
+use plan_file::Field;
 use std::alloc::{AllocError, Global};
+use std::process::Abort;
 use std::test::Fail;
 
 /// A board without sensors, channels and effecters.
@@ -55,77 +59,71 @@ state 1 operational | operational = 2 | operational = true | operational = -1 | 
 state 1 states | states = [[0]] | states = [{}] | states = [[0, 256]] | states = [[0], [0], [0], [0], [0], [0], [0], [0], [0]] | states = [[1, 0]] | states = [[0, 255]]
 state 1 current | current = [0] | current = \"0\" | current = [1] | current = [256] | current = [0x00] | current = [0b0]";
 
-/// The board's file and the effecters, with a line in another's place.
-fn edited(alloc: Global, old: &'static str, new: &'static str) -> Result<String, AllocError> {
-    let mut text = String::from_str(alloc, BARE)?;
-    for line in TWO.lines() {
-        text.push_str(if line == old { new } else { line })?;
-        text.push('\n')?;
-    }
-    Ok(text)
+/// The states that a field can be in, and the present one.
+type States = (&'static [u8], u8);
+
+/// An effecter: its id, whether it is enabled, and its fields.
+type State = (u16, bool, &'static [States]);
+
+/// Whether the field is this.
+fn is_field(field: &StateField, want: &States) -> bool {
+    let (allowed, current) = want;
+    field.allowed.as_slice() == *allowed && field.current == *current
 }
 
-/// What the fault of a text is called, and nothing where it is a board.
-fn called(alloc: Global, text: &str) -> Result<String, AllocError> {
-    match read_board(alloc, text) {
-        Ok(_) => Ok(String::new(alloc)),
-        Err(fault) => format!(in alloc; "{fault}"),
-    }
+/// Whether the fields are these.
+fn are_fields(fields: &[StateField], want: &[States]) -> bool {
+    fields.len() == want.len()
+        && fields
+            .iter()
+            .zip(want)
+            .all(|(field, want)| is_field(field, want))
 }
 
-/// What the fault is called with a line in another's place.
-fn fault(alloc: Global, old: &'static str, new: &'static str) -> Result<String, AllocError> {
-    let text = edited(alloc, old, new)?;
-    called(alloc, text.as_str())
+/// Whether the effecter is this.
+fn is_state(effecter: &StateEffecter, want: &State) -> bool {
+    let (id, enabled, fields) = want;
+    effecter.id == *id
+        && effecter.enabled == *enabled
+        && are_fields(effecter.fields.as_slice(), fields)
+}
+
+/// The effecters of the board's file are these.
+fn expect_effecters(
+    rt: &impl Abort,
+    alloc: Global,
+    text: &str,
+    want: &[State],
+) -> Result<(), Fail> {
+    let read = board_of(alloc, text)?;
+    let effecters = read.state_effecters.items.as_slice();
+    assert_eq!(rt; effecters.len(), want.len());
+    for (effecter, want) in effecters.iter().zip(want) {
+        assert!(rt; is_state(effecter, want), "{text}");
+    }
+    Ok(())
 }
 
 #[test]
 fn state_effecters_of_a_file_are_the_boards(rt: HostRuntime) -> Result<(), Fail> {
-    let text = edited(rt.alloc(), "", "")?;
-    let read = read_board(rt.alloc(), text.as_str()).map_err(|_| "a board")?;
-    let effecters = read.state_effecters.items.as_slice();
-    assert_eq!(rt; effecters.len(), 2);
-    let one = effecters.get(0).ok_or("an effecter")?;
-    assert_eq!(rt; one.id, 4);
-    assert!(rt; one.enabled);
-    let fields = one.fields.as_slice();
-    assert_eq!(rt; fields.len(), 2);
-    let first = fields.get(0).ok_or("a field")?;
-    assert_eq!(rt; first.allowed.as_slice(), [1, 2, 255].as_slice());
-    assert_eq!(rt; first.current, 2);
-    let second = fields.get(1).ok_or("a field")?;
-    assert_eq!(rt; second.allowed.as_slice(), [7].as_slice());
-    assert_eq!(rt; second.current, 7);
-    let other = effecters.get(1).ok_or("an effecter")?;
-    assert_eq!(rt; other.id, 5);
-    assert!(rt; !other.enabled);
-    let fields = other.fields.as_slice();
-    assert_eq!(rt; fields.len(), 1);
-    let only = fields.get(0).ok_or("a field")?;
-    assert_eq!(rt; only.allowed.as_slice(), [0].as_slice());
-    assert_eq!(rt; only.current, 0);
-    Ok(())
+    let text = edited(rt.alloc(), &FILE, "", "")?;
+    let want: [State; 2] = [
+        (4, true, &[(&[1, 2, 255], 2), (&[7], 7)]),
+        (5, false, &[(&[0], 0)]),
+    ];
+    expect_effecters(&rt, rt.alloc(), text.as_str(), &want)
 }
+
+/// The board's file and the effecters.
+const FILE: Text = Text {
+    form: Form::Board,
+    head: BARE,
+    lines: TWO,
+};
 
 #[test]
 fn a_field_that_is_left_out_mistyped_or_out_of_range_is_named(rt: HostRuntime) -> Result<(), Fail> {
-    let alloc = rt.alloc();
-    for text in FIELDS.lines() {
-        let row = row_of(text).ok_or("seven cells")?;
-        for (other, name) in [
-            ("", "Missing"),
-            (row.mistyped, "WrongType"),
-            (row.beyond[0], "Range"),
-            (row.beyond[1], "Range"),
-        ] {
-            let want = format!(in alloc; "{name} {}", row.place)?;
-            assert_eq!(rt; fault(alloc, row.line, other)?, want, "{text} {other}");
-        }
-        for other in row.inside {
-            assert_eq!(rt; fault(alloc, row.line, other)?.as_str(), "", "{other}");
-        }
-    }
-    Ok(())
+    expect_fields(&rt, rt.alloc(), &FILE, FIELDS, &[])
 }
 
 #[test]
@@ -182,10 +180,7 @@ fn the_first_fault_counts(rt: HostRuntime) -> Result<(), Fail> {
             "Twice state 2 id",
         ),
     ];
-    for (old, new, want) in cases {
-        assert_eq!(rt; fault(rt.alloc(), old, new)?.as_str(), want, "{new}");
-    }
-    Ok(())
+    expect_edits(&rt, rt.alloc(), &FILE, &cases)
 }
 
 /// A channel and a numeric effecter that lack all but their numbers.
@@ -195,8 +190,7 @@ const NUMERIC: &str = "[[numeric]]\nid = 1\n";
 
 #[test]
 fn state_effecters_come_between_channels_and_numeric_ones(rt: HostRuntime) -> Result<(), Fail> {
-    let alloc = rt.alloc();
-    for (top, behind, want) in [
+    let cases = [
         ("", "", ""),
         ("state = []\n", "", ""),
         ("state = 1\n", "", "WrongType top state"),
@@ -206,15 +200,8 @@ fn state_effecters_come_between_channels_and_numeric_ones(rt: HostRuntime) -> Re
         ("state = [{}]\n", NUMERIC, "Missing state 0 id"),
         ("channel = 1\nstate = 1\n", "", "WrongType top channel"),
         ("numeric = 1\nstate = 1\n", "", "WrongType top state"),
-    ] {
-        let text = format!(in alloc; "{top}{BARE}{behind}")?;
-        assert_eq!(rt;
-            called(alloc, text.as_str())?.as_str(),
-            want,
-            "{top}{behind}"
-        );
-    }
-    Ok(())
+    ];
+    expect_around(&rt, rt.alloc(), BARE, &cases)
 }
 
 /// An effecter of the board whose id is a numeric one's too.
@@ -232,58 +219,58 @@ upper = 1
 current = 1
 ";
 
+/// How many state effecters and numeric ones the board has of the text.
+fn counts_of(alloc: Global, text: &str) -> Result<(usize, usize), Fail> {
+    let read = board_of(alloc, text)?;
+    Ok((
+        read.state_effecters.items.as_slice().len(),
+        read.numeric_effecters.items.as_slice().len(),
+    ))
+}
+
 #[test]
 fn ids_are_distinct_among_state_effecters_alone(rt: HostRuntime) -> Result<(), Fail> {
-    let text = format!(in rt.alloc(); "{BARE}{BOTH}")?;
-    let read = read_board(rt.alloc(), text.as_str()).map_err(|_| "a board")?;
-    assert_eq!(rt; read.state_effecters.items.as_slice().len(), 1);
-    assert_eq!(rt; read.numeric_effecters.items.as_slice().len(), 1);
+    let text = joined(rt.alloc(), &[BARE, BOTH])?;
+    assert_eq!(rt; counts_of(rt.alloc(), text.as_str())?, (1, 1));
     Ok(())
 }
 
+/// An effecter, in whose number's place is `#`.
+const ITEM: &str = "[[state]]\nid = #\noperational = 1\nstates = [[3]]\ncurrent = [3]\n";
+
 /// The board's file with so many effecters.
-fn with_effecters(alloc: Global, count: u8) -> Result<String, Fail> {
-    let mut text = String::from_str(alloc, BARE)?;
-    for id in 0..count {
-        let item = format!(in alloc;
-            "[[state]]\nid = {id}\noperational = 1\nstates = [[3]]\ncurrent = [3]\n"
-        )?;
-        text.push_str(item.as_str())?;
-    }
-    Ok(text)
+fn with_effecters(alloc: Global, count: u8) -> Result<String, AllocError> {
+    let items = numbered(alloc, count, ITEM)?;
+    joined(alloc, &[BARE, items.as_str()])
 }
 
 #[test]
 fn a_board_has_at_most_32_state_effecters(rt: HostRuntime) -> Result<(), Fail> {
     let most = with_effecters(rt.alloc(), 32)?;
-    let read = read_board(rt.alloc(), most.as_str()).map_err(|_| "a board")?;
-    assert_eq!(rt; read.state_effecters.items.as_slice().len(), 32);
+    assert_eq!(rt; counts_of(rt.alloc(), most.as_str())?, (32, 0));
     let more = with_effecters(rt.alloc(), 33)?;
-    let found = read_board(rt.alloc(), more.as_str()).err();
-    let place = Place {
-        item: Item::Top,
-        field: Field::State,
-    };
-    assert_eq!(rt; found, Some(FileFault::Range(place)));
-    Ok(())
+    expect_too_many(&rt, rt.alloc(), more.as_str(), Field::State)
 }
 
 /// A list of so many members, each of which is this text.
-fn list(alloc: Global, count: u16, member: &str) -> Result<String, AllocError> {
-    let mut text = String::from_str(alloc, "[")?;
-    for _ in 0..count {
-        text.push_str(member)?;
-        text.push_str(", ")?;
-    }
-    text.push_str("]")?;
-    Ok(text)
+fn list(alloc: Global, count: usize, member: &str) -> Result<String, AllocError> {
+    let member = joined(alloc, &[member, ", "])?;
+    let members = times(alloc, count, member.as_str())?;
+    joined(alloc, &["[", members.as_str(), "]"])
 }
 
-/// The board's file with one effecter, with these states and these present ones.
-fn only(alloc: Global, states: &str, current: &str) -> Result<String, AllocError> {
-    format!(in alloc;
-        "{BARE}[[state]]\nid = 9\noperational = 1\nstates = {states}\ncurrent = {current}\n"
-    )
+/// The fault of the board's file with one effecter, with these states and these present ones, is called so.
+fn expect_only(
+    rt: &impl Abort,
+    alloc: Global,
+    states: &str,
+    current: &str,
+    want: &str,
+) -> Result<(), Fail> {
+    let head = "[[state]]\nid = 9\noperational = 1\nstates = ";
+    let parts = [BARE, head, states, "\ncurrent = ", current, "\n"];
+    let text = joined(alloc, &parts)?;
+    expect_fault(rt, alloc, Form::Board, text.as_str(), want)
 }
 
 #[test]
@@ -297,8 +284,7 @@ fn an_effecter_has_at_most_8_fields(rt: HostRuntime) -> Result<(), Fail> {
     ] {
         let states = list(alloc, count, "[1, 2]")?;
         let current = list(alloc, count, "2")?;
-        let text = only(alloc, states.as_str(), current.as_str())?;
-        assert_eq!(rt; called(alloc, text.as_str())?.as_str(), want, "{count}");
+        expect_only(&rt, alloc, states.as_str(), current.as_str(), want)?;
     }
     Ok(())
 }
@@ -308,17 +294,14 @@ fn a_field_lists_at_most_256_states(rt: HostRuntime) -> Result<(), Fail> {
     let alloc = rt.alloc();
     for (count, want) in [(256, ""), (257, "Range state 0 states")] {
         let states = list(alloc, count, "7")?;
-        let text = format!(in alloc; "[{states}]")?;
-        let text = only(alloc, text.as_str(), "[7]")?;
-        assert_eq!(rt; called(alloc, text.as_str())?.as_str(), want, "{count}");
+        let states = joined(alloc, &["[", states.as_str(), "]"])?;
+        expect_only(&rt, alloc, states.as_str(), "[7]", want)?;
     }
     Ok(())
 }
 
-/// A plan of one step, with these lines.
-fn step(alloc: Global, lines: &str) -> Result<String, AllocError> {
-    format!(in alloc; "[[step]]\nkind = \"state-effecter\"\n{lines}\n")
-}
+/// A step on states that has no more than its kind.
+const STEP: &str = "[[step]]\nkind = \"state-effecter\"\n";
 
 /// A change that leaves its field.
 const STAY: FieldChange = FieldChange {
@@ -331,34 +314,41 @@ fn to(state: u8) -> FieldChange {
     FieldChange { choice: 1, state }
 }
 
+/// Whether the operation makes these changes of effecter 261.
+fn is_set(op: &Op, changes: &[FieldChange]) -> bool {
+    match op {
+        Op::StateEffecter(set) => set.effecter == 261 && set.changes.as_slice() == changes,
+        _ => false,
+    }
+}
+
 /// Whether a step with these states makes these changes.
 fn makes(alloc: Global, states: &str, changes: &[FieldChange]) -> Result<bool, Fail> {
-    let lines = format!(in alloc; "effecter = 261\nstates = {states}")?;
-    let text = step(alloc, lines.as_str())?;
-    let plan = read_plan(alloc, text.as_str()).map_err(|_| "a plan")?;
-    match plan.steps.as_slice().get(0) {
-        Some(Op::StateEffecter(set)) => {
-            Ok(set.effecter == 261 && set.changes.as_slice() == changes)
-        }
-        _ => Ok(false),
-    }
+    let text = joined(alloc, &[STEP, "effecter = 261\nstates = ", states, "\n"])?;
+    let plan = plan_of(alloc, text.as_str())?;
+    let step = plan.steps.as_slice().get(0).ok_or("a step")?;
+    Ok(is_set(step, changes))
 }
 
 #[test]
 fn a_step_has_a_change_for_each_field(rt: HostRuntime) -> Result<(), Fail> {
-    let alloc = rt.alloc();
-    assert!(rt; makes(alloc, "[0]", &[to(0)])?);
-    assert!(rt; makes(alloc, "[255]", &[to(255)])?);
-    assert!(rt; makes(alloc, "[-1]", &[STAY])?);
-    assert!(rt; makes(alloc, "[2, -1, 7]", &[to(2), STAY, to(7)])?);
     let eight = [to(1), to(2), to(3), to(4), to(5), to(6), to(7), STAY];
-    assert!(rt; makes(alloc, "[1, 2, 3, 4, 5, 6, 7, -1]", &eight)?);
+    let cases: [(&str, &[FieldChange]); 5] = [
+        ("[0]", &[to(0)]),
+        ("[255]", &[to(255)]),
+        ("[-1]", &[STAY]),
+        ("[2, -1, 7]", &[to(2), STAY, to(7)]),
+        ("[1, 2, 3, 4, 5, 6, 7, -1]", &eight),
+    ];
+    for (states, changes) in cases {
+        assert!(rt; makes(rt.alloc(), states, changes)?, "{states}");
+    }
     Ok(())
 }
 
 #[test]
 fn a_step_on_states_names_its_faults(rt: HostRuntime) -> Result<(), Fail> {
-    for (lines, want) in [
+    let cases = [
         ("effecter = 0\nstates = [0]", ""),
         ("effecter = 65535\nstates = [0]", ""),
         ("effecter = 65536\nstates = [0]", "0 Range effecter"),
@@ -385,13 +375,6 @@ fn a_step_on_states_names_its_faults(rt: HostRuntime) -> Result<(), Fail> {
             "effecter = 1\nstates = [1, 2, 3, 4, 5, 6, 7, 8, 9]",
             "0 Range states",
         ),
-    ] {
-        let text = step(rt.alloc(), lines)?;
-        let found = match read_plan(rt.alloc(), text.as_str()) {
-            Ok(_) => String::new(rt.alloc()),
-            Err(fault) => format!(in rt.alloc(); "{fault}")?,
-        };
-        assert_eq!(rt; found.as_str(), want, "{lines}");
-    }
-    Ok(())
+    ];
+    expect_plans(&rt, rt.alloc(), (STEP, "\n"), &cases)
 }

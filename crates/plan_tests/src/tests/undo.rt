@@ -1,8 +1,10 @@
 //! Undo texts: the list of a plan of two steps on thresholds, and bad lines.
+use super::texts::{joined, times};
 use cfg_records::Asked;
 use plan_file::{UndoFault, read_undo, write_undo};
 use plans::{NextNumbers, Requests, UndoList};
 use std::alloc::{AllocError, Global};
+use std::process::Abort;
 use std::test::Fail;
 use two_wire::{Below, NetFn};
 
@@ -39,11 +41,35 @@ fn fault(alloc: Global, text: &str) -> Option<UndoFault> {
     read_undo(alloc, text).err()
 }
 
+/// The text of the list is this.
+fn expect_written(rt: &impl Abort, alloc: Global, list: &UndoList, want: &str) -> Result<(), Fail> {
+    let text = write_undo(alloc, list)?;
+    assert_eq!(rt; text.as_str(), want);
+    Ok(())
+}
+
 #[test]
 fn list_of_two_steps_is_written(rt: HostRuntime) -> Result<(), Fail> {
-    let text = write_undo(rt.alloc(), &list(rt.alloc())?)?;
-    assert_eq!(rt; text.as_str(), TEXT);
-    Ok(())
+    expect_written(&rt, rt.alloc(), &list(rt.alloc())?, TEXT)
+}
+
+/// The list of the text.
+fn list_of(alloc: Global, text: &str) -> Result<UndoList, Fail> {
+    match read_undo(alloc, text) {
+        Ok(list) => Ok(list),
+        Err(_) => Err(Fail::from("refused")),
+    }
+}
+
+/// Whether two lists have the same two requests and the same numbers of the next ones.
+fn are_same(one: &UndoList, other: &UndoList) -> Result<bool, Fail> {
+    let mut same = one.next == other.next && one.requests.len() == 2;
+    for place in 0..2 {
+        let request = one.requests.get(place).ok_or("no request")?;
+        let wanted = other.requests.get(place).ok_or("no request")?;
+        same = same && request.is(wanted);
+    }
+    Ok(same)
 }
 
 #[test]
@@ -52,21 +78,8 @@ fn text_is_read_as_its_list(rt: HostRuntime) -> Result<(), Fail> {
         TEXT,
         "undo 1\nnext ipmb 4 smbus 0\nipmb 10260530000000005a6e\nipmb 10260518000000505f00\n",
     ] {
-        let Ok(read) = read_undo(rt.alloc(), text) else {
-            return Err("refused".into());
-        };
-        let wanted = list(rt.alloc())?;
-        assert_eq!(rt; read.next, wanted.next);
-        assert_eq!(rt; read.requests.len(), 2);
-        for place in 0..2 {
-            let (Some(request), Some(other)) = (
-                read.requests.get(place),
-                wanted.requests.get(place),
-            ) else {
-                return Err("no request".into());
-            };
-            assert!(rt; request.is(other), "{place}");
-        }
+        let read = list_of(rt.alloc(), text)?;
+        assert!(rt; are_same(&read, &list(rt.alloc())?)?, "{text}");
     }
     Ok(())
 }
@@ -86,12 +99,9 @@ fn empty_list_and_requests_of_both_buses_are_read(rt: HostRuntime) -> Result<(),
             2,
         ),
     ] {
-        let Ok(read) = read_undo(rt.alloc(), text) else {
-            return Err("refused".into());
-        };
+        let read = list_of(rt.alloc(), text)?;
         assert_eq!(rt; read.requests.len(), count, "{text}");
-        let again = write_undo(rt.alloc(), &read)?;
-        assert_eq!(rt; again.as_str(), text);
+        expect_written(&rt, rt.alloc(), &read, text)?;
     }
     Ok(())
 }
@@ -144,41 +154,47 @@ fn text_of_length(
     first: &str,
     more: usize,
 ) -> Result<String, AllocError> {
-    let mut text = String::from_str(alloc, "undo 1\nnext ipmb 0 smbus 0\n")?;
-    text.push_str(bus)?;
-    text.push_str(" ")?;
-    text.push_str(first)?;
-    for _ in 0..more {
-        text.push_str("00")?;
-    }
-    text.push_str("\n")?;
-    Ok(text)
+    let bytes = times(alloc, more, "00")?;
+    joined(
+        alloc,
+        &[
+            "undo 1\nnext ipmb 0 smbus 0\n",
+            bus,
+            " ",
+            first,
+            bytes.as_str(),
+            "\n",
+        ],
+    )
 }
 
 #[test]
 fn longest_requests_are_read(rt: HostRuntime) -> Result<(), Fail> {
-    for (bus, first, most) in [("ipmb", "F8", 26), ("smbus", "3F", 253)] {
-        let text = text_of_length(rt.alloc(), bus, first, most)?;
-        assert!(rt; fault(rt.alloc(), text.as_str()).is_none(), "{bus}");
-        let longer = text_of_length(rt.alloc(), bus, first, most + 1)?;
-        let why = fault(rt.alloc(), longer.as_str());
-        assert_eq!(rt; why, Some(UndoFault::Line(3)), "{bus}");
+    for (bus, first, count, want) in [
+        ("ipmb", "F8", 26, None),
+        ("ipmb", "F8", 27, Some(UndoFault::Line(3))),
+        ("smbus", "3F", 253, None),
+        ("smbus", "3F", 254, Some(UndoFault::Line(3))),
+    ] {
+        let text = text_of_length(rt.alloc(), bus, first, count)?;
+        assert_eq!(rt; fault(rt.alloc(), text.as_str()), want, "{bus}");
     }
     Ok(())
 }
 
+/// A text of so many requests.
+fn text_of_requests(alloc: Global, count: usize) -> Result<String, AllocError> {
+    let requests = times(alloc, count, "ipmb 1026\n")?;
+    joined(alloc, &["undo 1\nnext ipmb 0 smbus 0\n", requests.as_str()])
+}
+
 #[test]
 fn most_requests_are_256(rt: HostRuntime) -> Result<(), Fail> {
-    let mut text = String::from_str(rt.alloc(), "undo 1\nnext ipmb 0 smbus 0\n")?;
-    for _ in 0..256 {
-        text.push_str("ipmb 1026\n")?;
-    }
-    let Ok(read) = read_undo(rt.alloc(), text.as_str()) else {
-        return Err("refused".into());
-    };
+    let most = text_of_requests(rt.alloc(), 256)?;
+    let read = list_of(rt.alloc(), most.as_str())?;
     assert_eq!(rt; read.requests.len(), 256);
-    text.push_str("ipmb 1026\n")?;
-    let why = fault(rt.alloc(), text.as_str());
+    let more = text_of_requests(rt.alloc(), 257)?;
+    let why = fault(rt.alloc(), more.as_str());
     assert_eq!(rt; why, Some(UndoFault::Line(259)));
     Ok(())
 }

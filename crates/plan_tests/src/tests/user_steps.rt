@@ -1,11 +1,11 @@
 //! Steps of plans that change users and channels.
-use super::row_of;
+use super::texts::{
+    Form, Named, Text, expect_edits, expect_fields, expect_plan, expect_plans, expect_step,
+};
 use cfg_records::{
     AccessStore, ChannelChange, ChannelNumber, Op, SetChannelAccess, SetUserAccess, SetUserName,
     SixBits,
 };
-use plan_file::read_plan;
-use std::alloc::{AllocError, Global};
 use std::test::Fail;
 
 /// A step of each kind. No line stands in it twice but `[[step]]`.
@@ -43,63 +43,23 @@ const FIELDS: &str = "0 user | user = 2 | user = \"2\" | user = 0 | user = 64 | 
 2 access | access = 0x2B | access = [2] | access = -1 | access = 7 | access = 3 | access = 0x38
 2 limit | limit = 5 | limit = \"5\" | limit = 0 | limit = 6 | limit = 1 | limit = 4";
 
-/// The fields of which a step needs one.
-const ONE_OF: [&str; 2] = ["2 access", "2 limit"];
+/// The fields of which a step needs one, and no fault.
+const ONE_OF: [Named; 2] = [("2 access", ""), ("2 limit", "")];
 
-/// The plan with a line in another's place.
-fn edited(alloc: Global, old: &'static str, new: &'static str) -> Result<String, AllocError> {
-    let mut text = String::new(alloc);
-    for line in PLAN.lines() {
-        text.push_str(if line == old { new } else { line })?;
-        text.push('\n')?;
-    }
-    Ok(text)
-}
-
-/// The fault of a text, as programs print it, and nothing where it is a plan.
-fn named(alloc: Global, text: &str) -> Result<String, AllocError> {
-    match read_plan(alloc, text) {
-        Ok(_) => Ok(String::new(alloc)),
-        Err(fault) => format!(in alloc; "{fault}"),
-    }
-}
-
-/// The fault of the plan with a line in another's place.
-fn fault(alloc: Global, old: &'static str, new: &'static str) -> Result<String, AllocError> {
-    let text = edited(alloc, old, new)?;
-    named(alloc, text.as_str())
-}
-
-/// What the fault of this name is called, of the field at a place.
-fn called(alloc: Global, place: &str, name: &str) -> Result<String, Fail> {
-    let (step, field) = place.split_once(' ').ok_or("a place")?;
-    Ok(format!(in alloc; "{step} {name} {field}")?)
-}
+/// The plan.
+const FILE: Text = Text {
+    form: Form::Plan,
+    head: "",
+    lines: PLAN,
+};
 
 #[test]
 fn a_field_that_is_left_out_mistyped_or_out_of_range_is_named(rt: HostRuntime) -> Result<(), Fail> {
-    let alloc = rt.alloc();
-    for text in FIELDS.lines() {
-        let row = row_of(text).ok_or("seven cells")?;
-        for (other, name) in [
-            ("", "Missing"),
-            (row.mistyped, "WrongType"),
-            (row.beyond[0], "Range"),
-            (row.beyond[1], "Range"),
-        ] {
-            let want = if other.is_empty() && ONE_OF.contains(&row.place) {
-                String::new(alloc)
-            } else {
-                called(alloc, row.place, name)?
-            };
-            assert_eq!(rt; fault(alloc, row.line, other)?, want, "{text} {other}");
-        }
-        for other in row.inside {
-            assert_eq!(rt; fault(alloc, row.line, other)?.as_str(), "", "{other}");
-        }
-    }
-    Ok(())
+    expect_fields(&rt, rt.alloc(), &FILE, FIELDS, &ONE_OF)
 }
+
+/// A step on a user's access that lacks the limit of privileges.
+const USER_ACCESS: &str = "[[step]]\nkind = \"user-access\"\nchannel = 1\nuser = 2\n";
 
 #[test]
 fn callback_link_and_messages_come_together(rt: HostRuntime) -> Result<(), Fail> {
@@ -116,22 +76,15 @@ fn callback_link_and_messages_come_together(rt: HostRuntime) -> Result<(), Fail>
         ),
         ("limit = 4", "session_limit = 4", "1 NoGet SessionLimit"),
     ];
-    for (old, new, want) in cases {
-        assert_eq!(rt; fault(rt.alloc(), old, new)?.as_str(), want, "{old} {new}");
-    }
-    for (lines, want) in [
+    expect_edits(&rt, rt.alloc(), &FILE, &cases)?;
+    let steps = [
         ("limit = 4", ""),
         ("limit = 6\nlink = true", "0 Missing callback"),
         ("limit = 6\ncallback = true", "0 Missing link"),
         ("limit = 6\ncallback = 0\nlink = 0", "0 Missing messaging"),
         ("callback = true", "0 Missing limit"),
-    ] {
-        let text = format!(in rt.alloc();
-            "[[step]]\nkind = \"user-access\"\nchannel = 1\nuser = 2\n{lines}\n"
-        )?;
-        assert_eq!(rt; named(rt.alloc(), text.as_str())?.as_str(), want, "{lines}");
-    }
-    Ok(())
+    ];
+    expect_plans(&rt, rt.alloc(), (USER_ACCESS, "\n"), &steps)
 }
 
 /// The text with 00h behind it.
@@ -147,49 +100,45 @@ fn name(text: &str) -> [u8; 16] {
 
 #[test]
 fn each_kind_is_read(rt: HostRuntime) -> Result<(), Fail> {
-    let plan = read_plan(rt.alloc(), PLAN).map_err(|_| "a plan")?;
-    let steps = plan.steps.as_slice();
-    assert_eq!(rt; steps.len(), 3);
-    let named = SetUserName {
-        user: 2,
-        name: name("operator"),
-    };
-    assert!(rt; matches!(steps.get(0), Some(Op::UserName(set)) if *set == named));
-    // Bit 7: bits 6:4 change. Bit 6 is callback, bit 4 messages.
-    let allowed = SetUserAccess {
-        first: 0xD1,
-        user: 3,
-        limit: 4,
-        session_limit: None,
-    };
-    assert!(rt; matches!(steps.get(1), Some(Op::UserAccess(set)) if *set == allowed));
-    let stored = SetChannelAccess {
-        channel: ChannelNumber::of(6),
-        store: AccessStore::Volatile,
-        change: ChannelChange::Both(SixBits::of(0x2B), SixBits::of(5)),
-    };
-    assert!(rt; matches!(steps.get(2), Some(Op::ChannelAccess(set)) if *set == stored));
-    Ok(())
+    let steps = [
+        Op::UserName(SetUserName {
+            user: 2,
+            name: name("operator"),
+        }),
+        // Bit 7: bits 6:4 change. Bit 6 is callback, bit 4 messages.
+        Op::UserAccess(SetUserAccess {
+            first: 0xD1,
+            user: 3,
+            limit: 4,
+            session_limit: None,
+        }),
+        Op::ChannelAccess(SetChannelAccess {
+            channel: ChannelNumber::of(6),
+            store: AccessStore::Volatile,
+            change: ChannelChange::Both(SixBits::of(0x2B), SixBits::of(5)),
+        }),
+    ];
+    expect_plan(&rt, rt.alloc(), PLAN, &steps, 3)
 }
+
+/// A step on a user's name that lacks the name.
+const USER_NAME: &str = "[[step]]\nkind = \"user-name\"\nuser = 63\n";
 
 #[test]
 fn a_name_has_sixteen_bytes(rt: HostRuntime) -> Result<(), Fail> {
     for text in ["", "a", "sixteen letters!", "éa"] {
-        let step = format!(in rt.alloc();
-            "[[step]]\nkind = \"user-name\"\nuser = 63\nname = \"{text}\"\n"
-        )?;
-        let plan = read_plan(rt.alloc(), step.as_str()).map_err(|_| "a plan")?;
+        let line = format!(in rt.alloc(); "name = \"{text}\"")?;
         let set = SetUserName {
             user: 63,
             name: name(text),
         };
-        assert!(rt;
-            matches!(plan.steps.as_slice().get(0), Some(Op::UserName(held)) if *held == set),
-            "{text}"
-        );
+        expect_step(&rt, rt.alloc(), USER_NAME, line.as_str(), Op::UserName(set))?;
     }
     Ok(())
 }
+
+/// A step that takes a user's access away.
+const NO_ACCESS: &str = "[[step]]\nkind = \"user-access\"\nchannel = 15\nuser = 1\nlimit = 15\n";
 
 #[test]
 fn bits_of_a_user_change_where_a_step_has_them(rt: HostRuntime) -> Result<(), Fail> {
@@ -201,23 +150,20 @@ fn bits_of_a_user_change_where_a_step_has_them(rt: HostRuntime) -> Result<(), Fa
         ("callback = true\nlink = false\nmessaging = false", 0xCF),
         ("callback = true\nlink = true\nmessaging = true", 0xFF),
     ] {
-        let step = format!(in rt.alloc();
-            "[[step]]\nkind = \"user-access\"\nchannel = 15\nuser = 1\nlimit = 15\n{lines}\n"
-        )?;
-        let plan = read_plan(rt.alloc(), step.as_str()).map_err(|_| "a plan")?;
         let set = SetUserAccess {
             first,
             user: 1,
             limit: 15,
             session_limit: None,
         };
-        assert!(rt;
-            matches!(plan.steps.as_slice().get(0), Some(Op::UserAccess(held)) if *held == set),
-            "{lines}"
-        );
+        expect_step(&rt, rt.alloc(), NO_ACCESS, lines, Op::UserAccess(set))?;
     }
     Ok(())
 }
+
+/// A step on a channel's access in one store that changes nothing yet.
+const NON_VOLATILE: &str =
+    "[[step]]\nkind = \"channel-access\"\nchannel = 0\nstore = \"non-volatile\"\n";
 
 #[test]
 fn a_channel_changes_in_what_a_step_gives(rt: HostRuntime) -> Result<(), Fail> {
@@ -230,26 +176,22 @@ fn a_channel_changes_in_what_a_step_gives(rt: HostRuntime) -> Result<(), Fail> {
         ),
     ];
     for (lines, change) in cases {
-        let step = format!(in rt.alloc();
-            "[[step]]\nkind = \"channel-access\"\nchannel = 0\nstore = \"non-volatile\"\n{lines}\n"
-        )?;
-        let plan = read_plan(rt.alloc(), step.as_str()).map_err(|_| "a plan")?;
         let set = SetChannelAccess {
             channel: ChannelNumber::of(0),
             store: AccessStore::NonVolatile,
             change,
         };
-        assert!(rt;
-            matches!(plan.steps.as_slice().get(0), Some(Op::ChannelAccess(held)) if *held == set),
-            "{lines}"
-        );
+        expect_step(&rt, rt.alloc(), NON_VOLATILE, lines, Op::ChannelAccess(set))?;
     }
     Ok(())
 }
 
+/// A step on a channel's access that has no more than the channel.
+const CHANNEL_ACCESS: &str = "[[step]]\nkind = \"channel-access\"\nchannel = 1\n";
+
 #[test]
 fn a_channel_step_changes_something_in_one_store(rt: HostRuntime) -> Result<(), Fail> {
-    for (lines, want) in [
+    let cases = [
         ("store = \"volatile\"", "0 Missing access"),
         ("store = \"both\"", "0 NoGet BothStores"),
         ("access = 1", "0 Missing store"),
@@ -257,11 +199,6 @@ fn a_channel_step_changes_something_in_one_store(rt: HostRuntime) -> Result<(), 
         ("store = 0\nlimit = 0", "0 WrongType store"),
         ("store = \"volatile\"\nlimit = true", "0 WrongType limit"),
         ("store = \"volatile\"\nlimit = 15", "0 Range limit"),
-    ] {
-        let text = format!(in rt.alloc();
-            "[[step]]\nkind = \"channel-access\"\nchannel = 1\n{lines}\n"
-        )?;
-        assert_eq!(rt; named(rt.alloc(), text.as_str())?.as_str(), want, "{lines}");
-    }
-    Ok(())
+    ];
+    expect_plans(&rt, rt.alloc(), (CHANNEL_ACCESS, "\n"), &cases)
 }

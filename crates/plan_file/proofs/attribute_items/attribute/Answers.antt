@@ -7,5 +7,5 @@ use Rattle.plan_file.proofs.attribute_items.attribute.Goals as goal
 pub text_in-requires : goal.text_in-requires
 text_in-requires c = text_there (table_view c.args.table.now) field.NameText (common_there (table_view c.args.table.now) c.requires).name
 
-pub boolean_in-requires : goal.boolean_in-requires
-boolean_in-requires c = flag_there (table_view c.args.table.now) field.ReadOnly (common_there (table_view c.args.table.now) c.requires).read_only
+pub flag-requires : goal.flag-requires
+flag-requires c = flag_there (table_view c.args.table.now) field.ReadOnly (common_there (table_view c.args.table.now) c.requires).read_only

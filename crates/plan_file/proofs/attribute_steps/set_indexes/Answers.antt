@@ -2,12 +2,12 @@ use Rattle.std.proofs.Common.{length, sym, ◌∙◌, ap}
 use Rattle.std.proofs.lemmas.List.{length-map}
 use Rattle.std.proofs.lemmas.List.Folds.{list_all-map}
 use Rattle.std.specs.List.{list_all, AllZip}
+use Rattle.toml.specs.Data.{Data}
 use Rattle.toml.specs.View.{view, table_view}
 use Rattle.plan_file.specs.declared.field.Field.TheVariants as field
 use Rattle.plan_file.specs.declared.kind.TheConstants.{BIOS_ATTRIBUTE}
-use Rattle.plan_file.specs.Trees.{members_in}
-use Rattle.plan_file.specs.Ranges.{is_index}
-use Rattle.plan_file.specs.Holds.{IsNaturalIn}
+use Rattle.plan_file.specs.Trees.{natural, IsNaturalIn, members_in}
+use Rattle.plan_file.specs.Attributes.{is_below}
 use Rattle.plan_file.proofs.Rows.{all_sound}
 use Rattle.plan_file.proofs.AttributeSteps.{indexes_there}
 use Rattle.plan_file.proofs.attribute_steps.set_indexes.Goals as goal
@@ -22,7 +22,7 @@ pub indexes_of-indexes-requires-clause-indexes : goal.indexes_of-indexes-require
 indexes_of-indexes-requires-clause-indexes c =
     let tree = table_view c.args.step.now in
     let there = indexes_there tree c.requires.given (all_sound BIOS_ATTRIBUTE tree c.requires.sound).1.0 in
-    sym (list_all-map is_index view c.members_in.result.now) ∙ ap (list_all is_index) c.members_in.ensures ∙ there.all
+    sym (list_all-map (λ (d : Data). is_below 256 (natural d)) view c.members_in.result.now) ∙ ap (list_all (λ (d : Data). is_below 256 (natural d))) c.members_in.ensures ∙ there.all
 
 pub set_to-requires-clause-given : goal.set_to-requires-clause-given
 set_to-requires-clause-given c =

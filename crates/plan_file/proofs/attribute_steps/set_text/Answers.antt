@@ -22,18 +22,18 @@ pub new-requires : goal.new-requires
 new-requires c =
     let tree = table_view c.args.step.now in
     let there = text_there tree c.requires.given (all_sound BIOS_ATTRIBUTE tree c.requires.sound).1.1.0 in
-    let same : c.as_bytes.result.now ≡ there.text = c.as_bytes.ensures.value ∙ same_Some _ _ (sym c.text_in-text.ensures ∙ there.found) in
-    (lit< tt, fits c.as_bytes.result.now (rw same there.few))
+    let same : c.as_slice.result.now ≡ there.text = c.as_slice.ensures.value ∙ same_Some _ _ (sym c.text_in-text.ensures ∙ there.found) in
+    (lit< tt, fits c.as_slice.result.now (rw same there.few))
 
 pub set_to-requires-clause-given : goal.set_to-requires-clause-given
 set_to-requires-clause-given c =
     let tree = table_view c.args.step.now in
     let there = text_there tree c.requires.given (all_sound BIOS_ATTRIBUTE tree c.requires.sound).1.1.0 in
-    (rw (c.new.ensures, c.as_bytes.ensures.value) c.text_in-text.ensures, (c.requires.first, there.no_number))
+    (rw (c.new.ensures, c.as_slice.ensures.value) c.text_in-text.ensures, (c.requires.first, there.no_number))
 
 pub set_to-requires-clause-few : goal.set_to-requires-clause-few
 set_to-requires-clause-few c =
     let tree = table_view c.args.step.now in
     let there = text_there tree c.requires.given (all_sound BIOS_ATTRIBUTE tree c.requires.sound).1.1.0 in
-    let same : c.new.result ≡ there.text = c.new.ensures ∙ c.as_bytes.ensures.value ∙ same_Some _ _ (sym c.text_in-text.ensures ∙ there.found) in
+    let same : c.new.result ≡ there.text = c.new.ensures ∙ c.as_slice.ensures.value ∙ same_Some _ _ (sym c.text_in-text.ensures ∙ there.found) in
     with_length c.new.result (rw same there.few)

@@ -4,9 +4,8 @@ use Rattle.std.proofs.lemmas.List.Folds.{list_all-map}
 use Rattle.std.specs.List.{list_all, AllZip}
 use Rattle.toml.specs.View.{view}
 use Rattle.cfg_records.specs.StateField.{is_allowed}
-use Rattle.plan_file.specs.Trees.{members, or_none}
+use Rattle.plan_file.specs.Trees.{IsNaturalIn, members, or_none}
 use Rattle.plan_file.specs.Ranges.{is_state}
-use Rattle.plan_file.specs.Holds.{IsNaturalIn}
 use Rattle.plan_file.proofs.StateFields.{present_small, present_allowed}
 use Rattle.plan_file.proofs.state_items.field_of.Goals as goal
 

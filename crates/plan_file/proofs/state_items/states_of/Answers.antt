@@ -2,7 +2,7 @@ use Rattle.std.proofs.Common.{◌≡◌, ◌++◌, ◌∷◌, []}
 use Rattle.toml.specs.View.{view}
 use Rattle.toml.specs.declared.value.Value.{Value}
 use Rattle.plan_file.specs.Ranges.{is_state}
-use Rattle.plan_file.specs.Holds.{IsNaturalIn}
+use Rattle.plan_file.specs.Trees.{IsNaturalIn}
 use Rattle.plan_file.proofs.Items.{next_zip}
 use Rattle.plan_file.proofs.Sensors.{each_passes}
 use Rattle.plan_file.proofs.state_items.states_of.Goals as goal

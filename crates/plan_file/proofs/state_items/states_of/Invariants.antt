@@ -1,7 +1,7 @@
 use Rattle.std.proofs.Common.{map, take}
 use Rattle.std.specs.List.{AllZip}
 use Rattle.toml.specs.View.{view}
-use Rattle.plan_file.specs.Holds.{IsNaturalIn}
+use Rattle.plan_file.specs.Trees.{IsNaturalIn}
 use Rattle.plan_file.proofs.state_items.states_of.Given as goal
 
 abbrev pub invariant-loop-value : goal.invariant-loop-value

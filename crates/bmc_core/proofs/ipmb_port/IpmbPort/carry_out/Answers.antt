@@ -3,8 +3,8 @@ use Rattle.bmc_core.proofs.OwnBytes.{response_read}
 use Rattle.bmc_core.proofs.IpmbFrames.{frame_size, carried_shows}
 use Rattle.bmc_core.proofs.ipmb_port.IpmbPort.carry_out.Goals as goal
 
-pub keep-requires-clause-most : goal.keep-requires-clause-most
-keep-requires-clause-most g c = subst (λ (xs : List ℕ). length xs ≤ 32) (sym c.as_slice.ensures.value) (frame_size _ _ c.respond.ensures.answer).1
+pub keep-requires-clause-fits : goal.keep-requires-clause-fits
+keep-requires-clause-fits g c = subst (λ (xs : List ℕ). length xs ≤ 32) (sym c.as_slice.ensures.value) (frame_size _ _ c.respond.ensures.answer).1
 
 pub returns-clause-carried : goal.returns-clause-carried
 returns-clause-carried g c =

@@ -29,9 +29,9 @@ returns-then-is_new-clause-heard g c p shows heard is =
     let r = c.in-Ok.request in
     let same : c.read.result ≡ heard = one_heard p.wire bytes c.read.result heard (subst (λ (w : ℕ). IsHeard w bytes c.read.result) shows.wire c.read.ensures) is in
     let new : outcome_at p r ≡ IsNew = is_new r (outcome_at p r) c.is_new.new.out
-    (subst (λ (b : Bool). Settles r (outcome_at p r) b c.is_new.new.out) c.if-is_new.true (c.is_new.ensures p r shows refl c.in_frame-heard.ensures.heard)) in
+    (subst (λ (b : Bool). Settles r (outcome_at p r) b c.is_new.new.out) c.if-is_new.true (c.is_new.ensures.settles p r shows refl c.in_frame-heard.ensures.heard)) in
     subst (λ (h : Result Request Reason). Does (deed_of setup p before h) (done_of p h) c.carry_out.new.self after c.carry_out.new.out) (sym c.in-Ok.is ∙ same)
-    (new_does setup p before r c.carry_out.new.self after c.carry_out.new.out new (c.carry_out.ensures.carried p shows new) c.carry_out.ensures.left c.carry_out.ensures.sent c.carry_out.ensures.read)
+    (new_does setup p before r c.carry_out.new.self after c.carry_out.new.out new (c.carry_out.ensures.carried p shows new (c.is_new.ensures.fresh c.if-is_new.true)) c.carry_out.ensures.left c.carry_out.ensures.sent c.carry_out.ensures.read)
 
 pub returns-else-is_new-clause-heard : goal.returns-else-is_new-clause-heard
 returns-else-is_new-clause-heard g c p shows heard is =
@@ -42,4 +42,4 @@ returns-else-is_new-clause-heard g c p shows heard is =
     let same : c.read.result ≡ heard = one_heard p.wire bytes c.read.result heard (subst (λ (w : ℕ). IsHeard w bytes c.read.result) shows.wire c.read.ensures) is in
     subst (λ (h : Result Request Reason). Does (deed_of setup p before h) (done_of p h) c.args.self.now before c.is_new.new.out) (sym c.in-Ok.is ∙ same)
     (settled_does setup p before r c.args.self.now c.is_new.new.out
-    (subst (λ (b : Bool). Settles r (outcome_at p r) b c.is_new.new.out) c.if-is_new.false (c.is_new.ensures p r shows refl c.in_frame-heard.ensures.heard)) shows)
+    (subst (λ (b : Bool). Settles r (outcome_at p r) b c.is_new.new.out) c.if-is_new.false (c.is_new.ensures.settles p r shows refl c.in_frame-heard.ensures.heard)) shows)

@@ -1,15 +1,15 @@
 use Rattle.std.proofs.Common.{◌≡◌, ◌<◌, ◌≤◌, length, arith}
 use Rattle.toml.specs.View.{view}
 use Rattle.toml.specs.declared.value.Value.{Value}
-use Rattle.plan_file.specs.Ranges.{is_index}
-use Rattle.plan_file.specs.Holds.{IsNaturalIn}
+use Rattle.plan_file.specs.Attributes.{is_below}
+use Rattle.plan_file.specs.Trees.{natural, IsNaturalIn}
 use Rattle.plan_file.proofs.Items.{next_zip}
 use Rattle.plan_file.proofs.Sensors.{each_passes}
 use Rattle.plan_file.proofs.UserNames.{read_so_far}
-use Rattle.plan_file.proofs.attribute_steps.indexes_of.Goals as goal
+use Rattle.plan_file.proofs.attributes.indexes_of.Goals as goal
 
 pub index-requires : goal.index-requires
-index-requires c = each_passes (λ (value : Value). is_index (view value)) c.args.values.now c.loop-value.value-index c.value-item.result c.requires.indexes c.loop-value-test.true c.value-item.is
+index-requires c = each_passes (λ (value : Value). is_below 256 (natural (view value))) c.args.values.now c.loop-value.value-index c.value-item.result c.requires.indexes c.loop-value-test.true c.value-item.is
 
 pub push-requires : goal.push-requires
 push-requires c =
