@@ -45,6 +45,13 @@ const GOT_AFTER: &[u8] = &[
     0x40, 0x14, 0xAC, 0x20, 0x10, 0x27, 0x00, 0x3F, 0x14, 0x0A, 0x05, 0x50, 0x5A, 0x6E, 0x2F,
 ];
 
+/// The Get to 22h, and its response.
+const GET_AT_22: &[u8] = &[0x22, 0x10, 0xCE, 0x40, 0x0C, 0x27, 0x05, 0x88];
+
+const GOT_AT_22: &[u8] = &[
+    0x40, 0x14, 0xAC, 0x22, 0x0C, 0x27, 0x00, 0x3F, 0x14, 0x0A, 0x05, 0x50, 0x5F, 0x6E, 0x2C,
+];
+
 /// The same Get with sequence number 4.
 const NEXT_GET: &[u8] = &[0x20, 0x10, 0xD0, 0x40, 0x10, 0x27, 0x05, 0x84];
 
@@ -104,15 +111,15 @@ struct Lab {
     out: Out,
 }
 
-fn open_port(alloc: Global) -> Result<IpmbPort, Fail> {
-    let wire = Address::new(0x20).ok_or("an address")?;
+fn open_port(alloc: Global, wire: u8) -> Result<IpmbPort, Fail> {
+    let wire = Address::new(wire).ok_or("an address")?;
     Ok(IpmbPort::new(alloc, wire)?)
 }
 
 fn open_lab(alloc: Global) -> Result<Lab, Fail> {
     Ok(Lab {
         board: open_board(alloc)?,
-        port: open_port(alloc)?,
+        port: open_port(alloc, 0x20)?,
         out: Out::new(),
     })
 }
@@ -353,4 +360,22 @@ const NOT_TOLD: &[Turn] = &[Drops(GET), Tells(GET, GOT_BEFORE), Keeps(GET, GOT_B
 #[test]
 fn a_request_that_was_not_told_is_to_be_carried_out_again(rt: HostRuntime) -> Result<(), Fail> {
     play(&rt, rt.alloc(), NOT_TOLD)
+}
+
+/// The lab's port hears the request that the bytes are. This other one is told, and takes its place.
+fn tell_another(rt: &impl Abort, lab: &mut Lab, another: IpmbPort, bytes: &[u8]) {
+    let pending = expect_pending(rt, lab, bytes);
+    let answered = lab.board.answer(&pending.asked());
+    lab.port = another;
+    lab.port.told(pending, &answered, &mut lab.out);
+}
+
+/// The port at 22h keeps a frame that goes from 20h, and doesn't send that one again.
+#[test]
+fn a_reply_that_is_kept_goes_from_the_address_that_is_asked(rt: HostRuntime) -> Result<(), Fail> {
+    let mut lab = open_lab(rt.alloc())?;
+    tell_another(&rt, &mut lab, open_port(rt.alloc(), 0x22)?, GET);
+    expect_sent(&rt, &lab.out, Done::Answered, GOT_BEFORE);
+    expect_reply(&rt, &mut lab, Frame(GET_AT_22), Done::Repeated, GOT_AT_22);
+    Ok(())
 }
