@@ -1,1 +1,2 @@
 pub mod BodyFacts
+pub mod Contents

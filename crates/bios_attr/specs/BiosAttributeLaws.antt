@@ -1,8 +1,7 @@
 -- The laws of the value of a BIOS attribute, as a kind of record.
-use Rattle.std.proofs.Common.{◌≡◌, ◌≢◌, ℕ, zero, suc, ◌+◌, ◌*◌, ◌-◌, ◌/◌, ◌%◌, ◌≤◌, List, [], ◌∷◌, ◌++◌, length, drop, slice_index, Bool, true, false, IsTrue, ◌&&◌, ◌||◌, ◌==◌, nat_le, not, if◌then◌else◌, is_some, Option, Some, None, Ok, Err, refl, sym, ◌∙◌, ap, subst, lit<, arith}
-use Rattle.std.specs.Option.{IsSomeAnd, IsSomeAnd-prop, option_map}
+use Rattle.std.proofs.Common.{◌≡◌, ℕ, ◌+◌, ◌*◌, ◌/◌, ◌%◌, List, length, drop, Bool, true, false, ◌==◌, not, if◌then◌else◌, is_some, Option, Some, None, Ok, Err, refl, sym, ◌∙◌, ap, subst, lit<, arith}
+use Rattle.std.specs.Option.{IsSomeAnd, option_map}
 use Rattle.std.proofs.Props.{props}
-use Rattle.std.proofs.lemmas.Bool.Decides.{nat_tests}
 use Rattle.two_wire.specs.Codes.{pldm_invalid_data, pldm_invalid_length, pldm_invalid_attribute}
 use Rattle.cfg_records.specs.MaskLaws.{both_true, both}
 use Rattle.cfg_records.specs.Meaning.{Decides, IsRefusal}
@@ -19,7 +18,7 @@ use Rattle.bios_attr.specs.declared.bios_attribute.AttributeLimits.{AttributeLim
 use Rattle.cfg_records.specs.declared.bios_attribute.SetBiosAttribute.{SetBiosAttribute}
 use Rattle.cfg_records.specs.AttributeValue.{value_in}
 use Rattle.bios_attr.specs.ValueEntry.{shown_type}
-use Rattle.cfg_records.specs.AttributeRange.{type_of, Allows, allows, IsValue, is_allowed}
+use Rattle.cfg_records.specs.AttributeRange.{type_of, Allows, IsValue, is_allowed}
 use Rattle.bios_attr.specs.BiosAttribute.{SetsAttribute, is_settable, value_given, attribute_view, is_within, is_entry_within, IsAttributeReply, is_attribute_reply, undo_attribute, words, record_words}
 
 allowed : (r : AttributeRange) (o : Option AttributeValue) → is_allowed r o ≡ true → IsSomeAnd o (Allows r)

@@ -14,3 +14,4 @@ pub mod StringTableLaws
 pub mod Tables
 pub mod TableEntry
 pub mod TableEntryLaws
+pub mod TableContents

@@ -46,7 +46,7 @@ value_entry_back entry rest whole =
 
 -- ---- value entries, read, then written
 
-value_fits : (code : ℕ) (bytes : List ℕ) (v : AttributeValue) → AreBytes bytes → (a b c : Bool)
+pub value_fits : (code : ℕ) (bytes : List ℕ) (v : AttributeValue) → AreBytes bytes → (a b c : Bool)
     → (if a then indexes_in bytes else (if b then text_in bytes else (if c then number_in bytes else None))) ≡ Some v → HasEightBytes v
 value_fits code [] v small true b c h = absurd cc
 value_fits code (count ∷ indexes) v small true b c h =

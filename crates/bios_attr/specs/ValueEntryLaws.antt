@@ -48,9 +48,10 @@ entry_back entry small =
 
 -- ---- read, then written
 
-record IsTold (code : ℕ) (bytes : List ℕ) (v : AttributeValue) : Type 0 where
-  of_type : type_of_value v ≡ code
-  spelled : value_bytes v ≡ bytes
+-- a value that is read of these bytes
+pub record IsTold (code : ℕ) (bytes : List ℕ) (v : AttributeValue) : Type 0 where
+  pub of_type : type_of_value v ≡ code
+  pub spelled : value_bytes v ≡ bytes
 
 indexes_told : (bytes : List ℕ) (v : AttributeValue) → indexes_in bytes ≡ Some v → IsTold enumeration_type bytes v
 indexes_told [] v h = absurd cc
@@ -81,7 +82,7 @@ chosen code bytes v small false true c p q r h = subst (λ (n : ℕ). IsTold n b
 chosen code bytes v small false false true p q r h = subst (λ (n : ℕ). IsTold n bytes v) (sym (tested_same _ _ r)) (number_told bytes v small h)
 chosen code bytes v small false false false p q r h = absurd cc
 
-value_told : (code : ℕ) (bytes : List ℕ) (v : AttributeValue) → AreBytes bytes → value_in code bytes ≡ Some v → IsTold code bytes v
+pub value_told : (code : ℕ) (bytes : List ℕ) (v : AttributeValue) → AreBytes bytes → value_in code bytes ≡ Some v → IsTold code bytes v
 value_told code bytes v small h = chosen code bytes v small _ _ _ refl refl refl h
 
 shown_back : (high : Bool) (code : ℕ) → code < 256 → nat_le 128 code ≡ high → shown_type high (code % 128) ≡ code

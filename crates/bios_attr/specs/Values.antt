@@ -1,10 +1,11 @@
 -- The entries of the value table (DSP0247).
-use Rattle.std.specs.Prelude.{ℕ, List, ◌∷◌, ◌++◌}
+use Rattle.std.specs.Prelude.{ℕ, ◌≤◌, List, ◌∷◌, ◌++◌, length}
 use Rattle.std.specs.List.{flat_map}
 use Rattle.cfg_records.specs.declared.attribute.Attribute.{Attribute}
 use Rattle.bios_attr.specs.declared.current_values.EntryHead.{EntryHead}
 use Rattle.cfg_records.specs.AttributeValue.{two_bytes}
-use Rattle.bios_attr.specs.ValueEntry.{shown_type}
+use Rattle.cfg_records.specs.AttributeSizes.{most_value}
+use Rattle.bios_attr.specs.ValueEntry.{shown_type, AreBytes}
 use Rattle.cfg_records.specs.Attribute.{type_of_kind}
 
 -- what an attribute's entry has before the value: its handle, and its type
@@ -14,3 +15,8 @@ head_of a = record { attribute = a.handle; code = shown_type a.read_only (type_o
 -- the entries of the values that attributes have
 abbrev pub value_entries : (ℕ → List ℕ) → List EntryHead → List ℕ
 value_entries values heads = flat_map (λ head. two_bytes head.attribute ++ head.code ∷ values head.attribute) heads
+
+-- they are bytes, and no more than an attribute's value has
+pub record IsShown (value : List ℕ) : Type 0 where
+  pub small : AreBytes value
+  pub short : length value ≤ most_value

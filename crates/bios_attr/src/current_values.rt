@@ -1,8 +1,9 @@
 //! The value table, which shows the values as they stand.
-ghost use Rattle.std.specs.Prelude.{◌≡◌, ◌+◌, ◌*◌, ◌≤◌, ◌++◌, ◌∷◌, map, IfOk, ℕ, List, length, vec_len, vec_capacity};
+ghost use Rattle.std.specs.Prelude.{◌≡◌, ◌+◌, ◌*◌, ◌≤◌, ◌++◌, ◌∷◌, map, All, IfOk, ℕ, List, length, vec_len, vec_capacity};
 ghost use Rattle.cfg_records.specs.AttributeSizes.{most_value};
 ghost use Rattle.cfg_records.specs.AttributeValue.{two_bytes};
-ghost use Rattle.bios_attr.specs.Values.{head_of, value_entries};
+ghost use Rattle.bios_attr.specs.ValueEntry.{AreBytes};
+ghost use Rattle.bios_attr.specs.Values.{head_of, value_entries, IsShown};
 ghost use Rattle.bios_attr.specs.Tables.{IsTable};
 
 use crate::table::finish;
@@ -42,6 +43,7 @@ fn head_of(attribute: &Attribute) -> EntryHead
 fn push_value(table: &mut Vec<u8>, head: EntryHead, value: &[u8])
     requires { vec_len table.old + 3 + length value.now ≤ vec_capacity table.old }
     ensures bytes { table.new.items ≡ table.old.items ++ (two_bytes head.attribute ++ head.code ∷ value.now) }
+    ensures small { AreBytes value.now }
     ensures len { vec_len table.new ≡ vec_len table.old + 3 + length value.now }
     ensures capacity { vec_capacity table.old ≤ vec_capacity table.new }
 {
@@ -54,6 +56,7 @@ fn push_value(table: &mut Vec<u8>, head: EntryHead, value: &[u8])
 pub(crate) fn show_values<V: CurrentValues>(table: &mut Vec<u8>, heads: &[EntryHead], current: &V)
     requires { (3 + most_value) * length heads.now + 7 ≤ vec_capacity table.old }
     ensures table { IsTable (value_entries (V.value_of current.now) heads.now) table.new.items }
+    ensures shown { All (λ head. IsShown (V.value_of current.now head.attribute)) heads.now }
     ensures capacity { vec_capacity table.old ≤ vec_capacity table.new }
 {
     table.clear();

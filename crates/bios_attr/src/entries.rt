@@ -1,11 +1,15 @@
 //! The entries of the string table and of the attribute table.
 ghost use Rattle.std.specs.Prelude.{◌≡◌, ◌+◌, ◌≤◌, ◌<◌, ◌*◌, ◌++◌, OnOk, length};
+ghost use Rattle.bios_attr.specs.declared.bios_table.BiosTable.TheVariants.{Attributes};
 ghost use Rattle.bios_attr.specs.Attributes.{handles_of, string_entry, string_entries, integer_fields, kind_fields, attribute_entry, attribute_entries};
+ghost use Rattle.bios_attr.specs.AttributeEntry.{AreSmall, HasItsBytes};
+ghost use Rattle.bios_attr.specs.TableEntry.{AreOf};
+ghost use Rattle.bios_attr.specs.TableContents.{numbers_of, fields_of, attribute_contents};
 
 use crate::strings::handle_of;
 use crate::value_entry::shown_type;
 use cfg_records::attribute_sizes::MOST_TEXT;
-use cfg_records::{Attribute, AttributeKind, IntegerAttribute, Text};
+use cfg_records::{Attribute, AttributeKind, IntegerAttribute, IntegerSteps, Text};
 use std::alloc::AllocError;
 use two_wire::Bytes;
 
@@ -54,19 +58,27 @@ fn push_handles(entry: &mut Entry, strings: &[Text], texts: &[Text])
 /// Appends what an integer's entry says.
 fn push_integer(entry: &mut Entry, integer: &IntegerAttribute)
     requires { length entry.old ≤ 5 }
-    ensures { entry.new ≡ entry.old ++ integer_fields integer.now }
+    ensures bytes { entry.new ≡ entry.old ++ integer_fields integer.now }
+    ensures small { AreSmall (numbers_of integer.now) }
 {
-    entry.extend_from_slice(&integer.steps.lower.to_le_bytes());
-    entry.extend_from_slice(&integer.steps.upper.to_le_bytes());
-    entry.extend_from_slice(&integer.steps.increment.to_le_bytes());
-    entry.extend_from_slice(&integer.default.to_le_bytes());
+    let IntegerSteps {
+        lower,
+        upper,
+        increment,
+    } = integer.steps;
+    let default = integer.default;
+    entry.extend_from_slice(&lower.to_le_bytes());
+    entry.extend_from_slice(&upper.to_le_bytes());
+    entry.extend_from_slice(&increment.to_le_bytes());
+    entry.extend_from_slice(&default.to_le_bytes());
 }
 
 /// Appends what an attribute's entry says of its kind.
 fn push_kind(entry: &mut Entry, strings: &[Text], kind: &AttributeKind)
     requires few { length strings.now ≤ 65535 }
     requires room { length entry.old ≤ 5 }
-    ensures { entry.new ≡ entry.old ++ kind_fields strings.now kind.now }
+    ensures bytes { entry.new ≡ entry.old ++ kind_fields strings.now kind.now }
+    ensures whole { HasItsBytes (fields_of strings.now kind.now) }
 {
     match kind {
         AttributeKind::Enumeration(enumeration) => {
@@ -92,7 +104,8 @@ fn push_kind(entry: &mut Entry, strings: &[Text], kind: &AttributeKind)
 /// An attribute's entry.
 fn attribute_entry(strings: &[Text], attribute: &Attribute) -> Entry
     requires { length strings.now ≤ 65535 }
-    ensures { result ≡ attribute_entry strings.now attribute.now }
+    ensures bytes { result ≡ attribute_entry strings.now attribute.now }
+    ensures whole { HasItsBytes (fields_of strings.now attribute.now.kind) }
 {
     let mut entry = Entry::new();
     entry.extend_from_slice(&attribute.handle.to_le_bytes());
@@ -110,7 +123,8 @@ pub(crate) fn push_attributes(
     attributes: &[Attribute],
 ) -> Result<(), AllocError>
     requires { length strings.now ≤ 65535 }
-    ensures { OnOk result (table.new.items ≡ table.old.items ++ attribute_entries strings.now attributes.now) }
+    ensures bytes { OnOk result (table.new.items ≡ table.old.items ++ attribute_entries strings.now attributes.now) }
+    ensures whole { OnOk result (AreOf Attributes (attribute_contents strings.now attributes.now)) }
 {
     for attribute in attributes {
         let entry = attribute_entry(strings, attribute);

@@ -2,6 +2,9 @@
 ghost use Rattle.std.specs.Prelude.{◌≡◌, ◌≤◌, IfOk, ℕ, List, length};
 ghost use Rattle.bios_attr.specs.Attributes.{string_entries, attribute_entries};
 ghost use Rattle.bios_attr.specs.Tables.{IsTable};
+ghost use Rattle.bios_attr.specs.declared.bios_table.BiosTable.TheVariants as table_name;
+ghost use Rattle.bios_attr.specs.TableEntry.{IsTableOf};
+ghost use Rattle.bios_attr.specs.TableContents.{attribute_contents};
 
 use crate::bios_table::BiosTable;
 use crate::current_values::{CurrentValues, EntryHead, heads_of, show_values};
@@ -60,7 +63,8 @@ fn attribute_table(
     attributes: &[Attribute],
 ) -> Result<Vec<u8>, AllocError>
     requires { length strings.now ≤ 65535 }
-    ensures { IfOk result (λ table. IsTable (attribute_entries strings.now attributes.now) table.items) }
+    ensures table { IfOk result (λ table. IsTable (attribute_entries strings.now attributes.now) table.items) }
+    ensures contents { IfOk result (λ table. IsTableOf table_name.Attributes (attribute_contents strings.now attributes.now) table.items) }
 {
     let mut table = Vec::new(alloc);
     push_attributes(&mut table, strings, attributes)?;
@@ -73,10 +77,12 @@ impl Tables {
     ghost use Rattle.two_wire.specs.Codes.{pldm_invalid_data};
     ghost use Rattle.pldm_base.specs.Parts.{asked_offset, IsPart};
     ghost use Rattle.bios_attr.specs.Tables.{AreTables, ShowsValues, table_named};
+    ghost use Rattle.bios_attr.specs.TableContents.{HaveContents, HasValues};
 
     /// The tables of these attributes. The table of values is empty until values are shown.
     pub fn open(alloc: Global, attributes: &Attributes) -> Result<Tables, AllocError>
-        ensures { IfOk result (λ tables. AreTables attributes.now.items tables) }
+        ensures tables { IfOk result (λ tables. AreTables attributes.now.items tables) }
+        ensures contents { IfOk result (λ tables. HaveContents attributes.now.items tables) }
     {
         let attributes = attributes.items.as_slice();
         let strings = strings_of(alloc, attributes)?;
@@ -92,7 +98,8 @@ impl Tables {
 
     /// Makes the table of values that of the values that stand now. It takes no memory.
     pub fn show<V: CurrentValues>(&mut self, current: &V)
-        ensures { ShowsValues self.old (V.value_of current.now) self.new }
+        ensures shown { ShowsValues self.old (V.value_of current.now) self.new }
+        ensures contents { HasValues self.old.heads (V.value_of current.now) self.new.values }
     {
         show_values(&mut self.values, self.heads.as_slice(), current);
     }

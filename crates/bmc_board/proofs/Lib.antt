@@ -11,3 +11,4 @@ pub mod Quiet
 pub mod ShownAgain
 pub mod Undone
 pub mod BiosTableFacts
+pub mod AttributeValues

@@ -20,3 +20,4 @@ pub mod Quiet
 pub mod ToldTables
 pub mod BiosTables
 pub mod BiosTableLaws
+pub mod StandingValues

@@ -5,6 +5,7 @@ ghost use Rattle.bmc_board.specs.Decode.{IsReadFromAll, GetsAreRead, SetsAreRead
 ghost use Rattle.bmc_board.specs.Undo.{IsAReply, IsUndone, IsSteady, IsShownAsBefore};
 ghost use Rattle.bmc_board.specs.PldmTypes.{TypesAreNamed};
 ghost use Rattle.bmc_board.specs.Quiet.{KeepsRecords};
+ghost use Rattle.bmc_board.specs.StandingValues.{AttributesHaveValues};
 ghost use Rattle.bmc_board.specs.Stores.{BothOrNone};
 
 /// Each request has an answer and a state after it, and no other.
@@ -76,4 +77,10 @@ pub fn stores_law()
 /// GetPLDMTypes names exactly the types whose requests aren't refused for their type.
 pub fn pldm_types_law()
     ensures { TypesAreNamed }
+{}
+
+/// Where each record has a value that its limits allow, the bytes of the attributes' records are values of their types. So the table of values
+/// that is shown of them is the table of these values' entries.
+pub fn attribute_values_law()
+    ensures { AttributesHaveValues }
 {}

@@ -1,5 +1,6 @@
 pub mod Asked
 pub mod Console
 pub mod Ending
+pub mod Files
 pub mod Report
 pub mod Run

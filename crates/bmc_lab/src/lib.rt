@@ -4,6 +4,7 @@
 pub mod asked;
 pub mod console;
 pub mod ending;
+pub mod files;
 pub mod frame;
 pub mod report;
 pub mod status;
@@ -11,9 +12,7 @@ pub mod status;
 pub use asked::{AskedFrame, asked_frame};
 pub use console::{Console, Stream};
 pub use ending::Ending;
+pub use files::{TextFiles, Unread, Unreadable, frame_of_file, refuse, text_of};
 pub use frame::frame_run;
 pub use report::Report;
 pub use status::Status;
-
-#[cfg(test)]
-mod tests;

@@ -32,6 +32,7 @@ use Rattle.bmc_core.specs.declared.out.Reason.TheVariants.{NotOurs, NotRequest}
 use Rattle.bmc_core.specs.IpmbHeard.{IsHeard}
 use Rattle.bmc_core.specs.IpmbShown.{deed_of}
 use Rattle.lab.specs.Played.{plans}
+use Rattle.lab_play.specs.Hearing.{heard_at}
 
 -- no window was forgotten, and the port is where it was
 pub record Keeps (port : PortState) (d : Deed) : Type 0 where
@@ -118,22 +119,25 @@ module _ (setup : BoardFile) (p : PortState) (before : State) (bytes : List ℕ)
     pub heard : Result Request Reason
     pub is : IsHeard p.wire bytes heard
     pub same : deed_of setup p before heard ≡ hears setup p before v
+    pub says : heard ≡ heard_at p.wire v
 
   asks_as : (r : Request) (b : Bool) → (r.header.responder.address == p.wire) ≡ b → IsRequest r bytes → HeardAs (Asks r)
   asks_as r true e is = record {
     heard = Ok r;
     is = (is, eqb-true _ _ e);
+    says = sym (ap (λ (b : Bool). cond b (Ok r) (Err NotOurs)) e);
     same = sym (ap (λ (b : Bool). cond b (hears_request setup p before r) (stays p before)) e);
   }
   asks_as r false e is = record {
     heard = Err NotOurs;
     is = (msg.Request r, is, λ there. true≢false (sym (eq-eqb _ _ there) ∙ e));
+    says = sym (ap (λ (b : Bool). cond b (Ok r) (Err NotOurs)) e);
     same = sym (ap (λ (b : Bool). cond b (hears_request setup p before r) (stays p before)) e);
   }
 
   tells_as : (r : Response) (b : Bool) → (r.header.requester.address == p.wire) ≡ b → IsResponse r bytes → HeardAs (Tells r)
-  tells_as r true e is = record { heard = Err NotRequest; is = (r, is, eqb-true _ _ e); same = refl }
-  tells_as r false e is = record { heard = Err NotOurs; is = (msg.Response r, is, λ there. true≢false (sym (eq-eqb _ _ there) ∙ e)); same = refl }
+  tells_as r true e is = record { heard = Err NotRequest; is = (r, is, eqb-true _ _ e); same = refl; says = sym (ap (λ (b : Bool). cond b (Err NotRequest) (Err NotOurs)) e) }
+  tells_as r false e is = record { heard = Err NotOurs; is = (msg.Response r, is, λ there. true≢false (sym (eq-eqb _ _ there) ∙ e)); same = refl; says = sym (ap (λ (b : Bool). cond b (Err NotRequest) (Err NotOurs)) e) }
 
   pub heard_as : (v : Value) → IsFrameOn bus.Ipmb v bytes → HeardAs v
   heard_as (Asks r) is = asks_as r (r.header.responder.address == p.wire) refl is

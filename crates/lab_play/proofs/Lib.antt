@@ -7,3 +7,4 @@ pub mod ManagerSide
 pub mod Deeds
 pub mod PortSide
 pub mod Playing
+pub mod Noting

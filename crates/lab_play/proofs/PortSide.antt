@@ -1,5 +1,5 @@
 -- What the ports do in a lab, those of the model do.
-use Rattle.std.proofs.Common.{◌≡◌, ℕ, Bool, cond, List, ◌++◌, map, Option, Some, None, refl, sym, ◌∙◌, ap, subst, ◌&&◌, [], ◌∷◌, take, length}
+use Rattle.std.proofs.Common.{◌≡◌, ℕ, Bool, cond, List, ◌++◌, map, Option, Some, None, Result, refl, sym, ◌∙◌, ap, subst, ◌&&◌, [], ◌∷◌, take, length}
 use Rattle.std.specs.Prelude.{◌==◌, slice_get}
 use Rattle.std.specs.List.{All, AllZip}
 use Rattle.std.proofs.lemmas.Bool.{cond_both}
@@ -14,6 +14,7 @@ use Rattle.mctp_net.specs.Assembly.{is_ours}
 use Rattle.cfg_records.specs.declared.board_file.BoardFile.{BoardFile}
 use Rattle.bmc_board.specs.State.{State, state_of}
 use Rattle.bus_model.specs.Request.{idles_of}
+use Rattle.ipmb_frame.specs.declared.message.Request.{Request}
 use Rattle.lab_model.specs.declared.marks.Mark.{Mark}
 use Rattle.lab_model.specs.Values.{Value, Asks, Tells, Part, written, IsFrameOn, parts_of}
 use Rattle.lab_model.specs.PortSteps.{PortState, Deed, hears, hears_all}
@@ -21,6 +22,7 @@ use Rattle.lab_model.specs.ManagerSteps.{own_on}
 use Rattle.lab_model.specs.Lab.{ToManager, ToOthers, LabFrame, Lab as LabModel, port_on, with_port, idles_on, port_does, opens, delivered}
 use Rattle.bmc_core.specs.declared.out.Out.{Out}
 use Rattle.bmc_core.specs.declared.out.Done.{Done}
+use Rattle.bmc_core.specs.declared.out.Reason.{Reason}
 use Rattle.bmc_core.specs.declared.ipmb_port.IpmbPort.{IpmbPort}
 use Rattle.bmc_core.specs.declared.smbus_port.SmbusPort.{SmbusPort}
 use Rattle.bmc_core.specs.Outs.{sent, AreRead}
@@ -34,7 +36,7 @@ use Rattle.lab.specs.Played.{plans}
 use Rattle.lab_play.specs.declared.lab_state.Idles.{Idles}
 use Rattle.lab_play.specs.declared.lab_state.Lab.{Lab}
 use Rattle.lab_play.specs.Shown.{Shows, IsSentFrame, plain_records, idles_in}
-use Rattle.lab_play.specs.Hearing.{HasFrames, HasHeard}
+use Rattle.lab_play.specs.Hearing.{HasFrames, HasHeard, done_on}
 use Rattle.lab_play.proofs.Sent.{beside, none_beside}
 use Rattle.lab_play.proofs.Deeds.{Keeps, hears_keeps, HeardAs, heard_as, two_deeds, no_deed, hears_each, one_more_heard, all_heard}
 
@@ -133,6 +135,21 @@ module _ (file : BoardFile) (old new : Lab) (x : LabModel plans) (shows : Shows 
       subst (λ (t : BoardFile × State). smbus.HearsBytes t.0 x.smbus t.1 bytes new.smbus new.out (state_of plain_records new.board)) (λ i. (shows.setup i, sym shows.board i)) (hearing x.smbus shows.smbus) in
       smbus_did (Part p) _ other (now.packet p is)
 
+  -- what the port did stands in what is to be sent
+  pub ipmb_done : (bytes : List ℕ) (v : Value) → ipmb.Hears old.board.setup old.ipmb (state_of plain_records old.board) bytes new.out new.ipmb (state_of plain_records new.board)
+      → IsFrameOn bus.Ipmb v bytes → new.out.done ≡ done_on bus.Ipmb x.ipmb v
+  ipmb_done bytes v hearing is =
+      let told = heard_as file x.ipmb x.board bytes v is in
+      let did = hearing x.ipmb shows.ipmb told.heard told.is in
+      ap (λ (o : Out). o.done) did.sent ∙ ap (λ (h : Result Request Reason). ipmb.done_of x.ipmb h) told.says
+
+  pub smbus_done : (bytes : List ℕ) (v : Value)
+      → ((p : PortState) → smbus.Shows old.smbus p → smbus.HearsBytes old.board.setup p (state_of plain_records old.board) bytes new.smbus new.out (state_of plain_records new.board))
+      → IsFrameOn bus.Smbus v bytes → new.out.done ≡ done_on bus.Smbus x.smbus v
+  smbus_done bytes (Asks r) hearing is = absurd is
+  smbus_done bytes (Tells r) hearing is = absurd is
+  smbus_done bytes (Part p) hearing is = ap (λ (o : Out). o.done) ((hearing x.smbus shows.smbus).packet p is).sent
+
 -- ---- which request a start opened isn't shown
 
 opens_by : (v : Value) (n : ℕ) (x : LabModel plans) (Q : LabModel plans → Type 0) → Q x → ((g : ℕ → ℕ) → Q (record x { opened = g })) → Q (opens plans v n x)
@@ -213,3 +230,20 @@ message_heard file new x m frames n read is shown =
     let values = map (λ (p : Packet). Part p) (parts_of m) in
     let whole : take n values ≡ values = ap (λ (k : ℕ). take k values) (is ∙ AllZip-long (IsFrameOn bus.Smbus) values frames read) ∙ take-length values in
     subst (λ (d : Deed). Shows file new (port_does plans bus.Smbus ToOthers 0 d x)) (ap (hears_each file x.smbus x.board) whole ∙ all_heard file m x.smbus x.board) shown
+
+-- ---- what the port did with a frame of a number
+
+-- of a frame that was sent it did what is said of its value
+pub done_shown : (file : BoardFile) (old : Lab) (x : LabModel plans) (number : ℕ) (s : SentFrame) (f : LabFrame) (what : Done) → Shows file old x → slice_get old.frames number ≡ Some s
+    → slice_get x.frames number ≡ Some f → ((v : Value) → IsFrameOn s.mark.on v s.bytes → what ≡ done_on s.mark.on (port_on plans s.mark.on x) v) → what ≡ done_on f.on (port_on plans f.on x) f.value
+done_shown file old x number s f what shows there is did =
+    let at = beside IsSentFrame old.frames x.frames number s shows.frames there in
+    let same : at.0 ≡ f = cc (sym at.1 ∙ is) in
+    let sent : IsSentFrame s f = subst (IsSentFrame s) same at.2 in
+    let read : IsFrameOn s.mark.on f.value s.bytes = subst (λ (b : Bus). IsFrameOn b f.value s.bytes) sent.is.mark.on sent.read in
+    subst (λ (b : Bus). what ≡ done_on b (port_on plans b x) f.value) (sym sent.is.mark.on) (did f.value read)
+
+-- there is none that wasn't sent
+pub none_done : (file : BoardFile) (old : Lab) (x : LabModel plans) (number : ℕ) (f : LabFrame) (P : Type 0) → Shows file old x → slice_get old.frames number ≡ None
+    → slice_get x.frames number ≡ Some f → P
+none_done file old x number f P shows none is = cc (sym (none_beside IsSentFrame old.frames x.frames number shows.frames none) ∙ is)

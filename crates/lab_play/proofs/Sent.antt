@@ -20,6 +20,10 @@ pub on_ok : {A E P Q : Type 0} (r : Result A E) → OnOk r P → (P → Q) → O
 on_ok (Ok a) is then = then is
 on_ok (Err e) is then = tt
 
+pub on_any : {A E P : Type 0} (r : Result A E) → P → OnOk r P
+on_any (Ok a) is = is
+on_any (Err e) is = tt
+
 -- ---- lists that are alike at each place
 
 pub all_append : {A B : Type 0} (R : A → B → Type 0) (xs us : List A) (ys vs : List B) → AllZip R xs ys → AllZip R us vs → AllZip R (xs ++ us) (ys ++ vs)

@@ -4,10 +4,11 @@
 mod calls;
 mod lab_state;
 mod names;
+mod noted;
 mod played;
 mod port_side;
 mod run;
 mod step;
 
 pub use names::lab_names;
-pub use played::{LabFault, Played, play};
+pub use played::{LabFault, Played, play, play_noted};

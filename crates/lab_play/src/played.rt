@@ -1,5 +1,5 @@
 //! A plan played by a schedule.
-ghost use Rattle.std.specs.Prelude.{◌≡◌, not};
+ghost use Rattle.std.specs.Prelude.{◌≡◌, [], not};
 ghost use Rattle.std.specs.List.{AllZip};
 ghost use Rattle.cfg_records.specs.Records.{records_of};
 ghost use Rattle.undo_core.specs.Phases.{phase_of};
@@ -7,11 +7,13 @@ ghost use Rattle.undo_core.specs.Shown.{backs};
 ghost use Rattle.lab.specs.Meaning.{lab_names};
 ghost use Rattle.lab.specs.Played.{Told};
 ghost use Rattle.lab_play.specs.Shown.{IsSentFrame, plain_records};
+ghost use Rattle.lab_play.specs.Noted.{NotesPlay};
 ghost use Rattle.lab_play.specs.Ends.{Tells, Plays, changed_in, is_value};
 
 use crate::lab_state::Lab;
 use crate::step::Refused;
 use cfg_records::{BoardFile, Key, PlainStore, Store, Value};
+use chart_text::Note;
 use lab::{Fault, SentFrame};
 use plans::{Plan, UndoList};
 use schedules::Event;
@@ -109,6 +111,39 @@ pub fn play(
         return Err(LabFault::Memory);
     };
     let ended = lab.run(events);
+    let played = Played { start, lab };
+    match ended {
+        Ok(()) => Ok(played),
+        Err(halt) => match halt.why {
+            Refused::Memory => Err(LabFault::Memory),
+            Refused::Fault(fault) => Err(LabFault::Event {
+                fault,
+                place: halt.place,
+                played,
+            }),
+        },
+    }
+}
+
+/// Plays a plan as `play` does, and notes each event that happens.
+pub fn play_noted<'a>(
+    alloc: Global,
+    file: BoardFile,
+    plan: Plan,
+    events: &'a [Event],
+    notes: &mut Vec<Note<'a>>,
+) -> Result<Played, LabFault>
+    requires { notes.now.items ≡ [] }
+    ensures plays { Plays file plan.steps plan.retries events.now result }
+    ensures noted { NotesPlay file plan.steps plan.retries events.now result notes.new.items }
+{
+    let Ok(start) = file.records(alloc) else {
+        return Err(LabFault::Memory);
+    };
+    let Ok(mut lab) = Lab::open(alloc, file, plan) else {
+        return Err(LabFault::Memory);
+    };
+    let ended = lab.run_noted(events, notes);
     let played = Played { start, lab };
     match ended {
         Ok(()) => Ok(played),

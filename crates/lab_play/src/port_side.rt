@@ -1,5 +1,5 @@
 //! What the controller's ports hear, and what they forget.
-ghost use Rattle.std.specs.Prelude.{◌≡◌, ◌<◌, ◌≤◌, List, map, OnOk, suc, slice_get};
+ghost use Rattle.std.specs.Prelude.{◌≡◌, ◌<◌, ◌≤◌, List, Some, map, OnOk, suc, slice_get};
 ghost use Rattle.std.specs.List.{AllZip};
 ghost use Rattle.two_wire.specs.declared.Bus.{Bus as AnyBus};
 ghost use Rattle.two_wire.specs.declared.Bus.TheVariants.{Ipmb, Smbus};
@@ -7,12 +7,12 @@ ghost use Rattle.ipmb_frame.specs.Grammar.{IsRequest};
 ghost use Rattle.cfg_records.specs.declared.board_file.BoardFile.{BoardFile as AnyFile};
 ghost use Rattle.lab_model.specs.Values.{Value, Asks, Part, IsFrameOn, parts_of};
 ghost use Rattle.lab_model.specs.PortSteps.{hears, hears_all, idles};
-ghost use Rattle.lab_model.specs.Lab.{Lab as LabModel, ToOthers, delivered, port_does, port_on, with_port, with_frames};
+ghost use Rattle.lab_model.specs.Lab.{LabFrame, Lab as LabModel, ToOthers, delivered, port_does, port_on, with_port, with_frames};
 ghost use Rattle.lab.specs.Meaning.{lab_names as the_names, other_wire, request_of, message_of};
 ghost use Rattle.lab.specs.Played.{plans};
 ghost use Rattle.lab.specs.Shown.{way_of};
 ghost use Rattle.lab_play.specs.Shown.{Shows, Becomes, idles_in};
-ghost use Rattle.lab_play.specs.Hearing.{HasFrames, HasHeard};
+ghost use Rattle.lab_play.specs.Hearing.{HasFrames, HasHeard, done_on};
 
 use crate::lab_state::Lab;
 use arrayvec::ArrayVec;
@@ -73,6 +73,8 @@ impl Lab {
     /// The frame of this number comes to the controller's port on its bus, if there is such a frame.
     pub(crate) fn to_port(&mut self, number: u32) -> Result<(), AllocError>
         ensures becomes { OnOk result (Becomes self.old self.new (λ file x. delivered plans file (slice_get x.frames number) x)) }
+        ensures done { OnOk result ((file : AnyFile) (x : LabModel plans) (f : LabFrame) → Shows file self.old x → slice_get x.frames number ≡ Some f
+            → self.new.out.done ≡ done_on f.on (port_on plans f.on x) f.value) }
         ensures idles { self.new.idles ≡ self.old.idles }
     {
         let Some(frame) = self.frames.get(number) else {
@@ -125,6 +127,8 @@ impl Lab {
     fn hear(&mut self, on: Bus, bytes: &[u8])
         ensures heard { (file : AnyFile) (x : LabModel plans) (v : Value) → Shows file self.old x → IsFrameOn on v bytes.now
             → HasHeard file on x (hears file (port_on plans on x) x.board v) self.new }
+        ensures done { (file : AnyFile) (x : LabModel plans) (v : Value) → Shows file self.old x → IsFrameOn on v bytes.now
+            → self.new.out.done ≡ done_on on (port_on plans on x) v }
         ensures idles { self.new.idles ≡ self.old.idles }
     {
         match on {
@@ -138,6 +142,7 @@ impl Lab {
         requires { mark.idles ≡ idles_in mark.on self.old.idles }
         ensures sent { OnOk result ((file : AnyFile) (x : LabModel plans) (values : List Value) → Shows file self.old x → HasFrames mark.on values self.old.out
             → Shows file self.new (with_frames plans mark.on (way_of way) mark.request values x)) }
+        ensures out { self.new.out ≡ self.old.out }
         ensures idles { self.new.idles ≡ self.old.idles }
     {
         self.frames.send(way, mark, self.out.frames.as_slice())

@@ -6,6 +6,7 @@ ghost use Rattle.lab_model.specs.Lab.{Lab as LabModel};
 ghost use Rattle.lab.specs.Played.{plans, fault_at, happens};
 ghost use Rattle.lab.specs.Shown.{fault_of};
 ghost use Rattle.lab_play.specs.Shown.{Shows, Becomes, Steps, own_bench, idles_in};
+ghost use Rattle.lab_play.specs.Hearing.{Did};
 ghost use Rattle.bmc_board.specs.Sensing.{bench_of};
 
 use crate::lab_state::Lab;
@@ -61,6 +62,7 @@ impl Lab {
     fn happen(&mut self, event: &Event) -> Result<(), AllocError>
         requires { (on : AnyBus) → idles_in on self.now.idles < 9223372036854775807 }
         ensures becomes { OnOk result (Becomes self.old self.new (λ file. happens (own_bench file) file event.now)) }
+        ensures done { OnOk result (Did event.now self.old self.new) }
         ensures few { (on : AnyBus) → idles_in on self.new.idles ≤ suc (idles_in on self.old.idles) }
     {
         match event {
@@ -84,6 +86,7 @@ impl Lab {
     pub(crate) fn step(&mut self, event: &Event) -> Result<(), Refused>
         requires { (on : AnyBus) → idles_in on self.now.idles < 9223372036854775807 }
         ensures steps { Steps event.now self.old result self.new }
+        ensures done { OnOk result (Did event.now self.old self.new) }
         ensures few { (on : AnyBus) → idles_in on self.new.idles ≤ suc (idles_in on self.old.idles) }
     {
         if let Some(fault) = self.fault(event) {

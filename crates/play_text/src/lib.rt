@@ -7,3 +7,4 @@ mod lines;
 
 pub use account::{Account, Stopped};
 pub use inputs::{InputFault, Inputs, read_inputs};
+pub use lines::push_stopped;

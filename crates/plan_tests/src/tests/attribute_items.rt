@@ -1,8 +1,9 @@
 //! BIOS attributes of board files.
 use super::board::SAMPLE;
+use super::effecters::BARE;
 use super::texts::{
     Form, Text, board_of, edited, expect_around, expect_edits, expect_fault, expect_fields,
-    expect_too_many, joined, numbered, times,
+    expect_too_many, joined, times, with_items,
 };
 use cfg_records::{
     Attribute, AttributeKind, AttributeRange, EnumerationAttribute, IntegerAttribute,
@@ -11,29 +12,6 @@ use cfg_records::{
 use plan_file::Field;
 use std::alloc::{AllocError, Global};
 use std::process::Abort;
-use std::test::Fail;
-
-/// A board without sensors, channels, attributes and effecters.
-const BARE: &str = "tid = 5
-clock = 0
-log = 2
-enables = 0x08
-policy = 1
-users = [\"\"]
-watchdog = [0, 0, 0, 0]
-boot3 = 0
-boot4 = 0
-boot5 = [0, 0, 0, 0, 0]
-sdr = []
-[device]
-id = 0x20
-revision = 1
-major = 1
-minor = 0x05
-support = 0x07
-manufacturer = 0xABCD
-product = 0x1234
-";
 
 /// An attribute of each kind. No line stands in them twice but `[[attribute]]`, nor in the board above.
 const THREE: &str = "[[attribute]]
@@ -102,16 +80,15 @@ fn are_all_alike(ones: &[Attribute], others: &[Attribute]) -> bool {
 }
 
 #[test]
-fn the_sample_file_has_the_sample_boards_attributes(rt: HostRuntime) -> Result<(), Fail> {
-    let read = board_of(rt.alloc(), SAMPLE)?;
-    let known = sample_board(rt.alloc())?;
+fn the_sample_file_has_the_sample_boards_attributes(rt: HostRuntime) {
+    let read = board_of(rt.alloc(), SAMPLE).expect(&rt, "a board");
+    let known = sample_board(rt.alloc()).expect(&rt, "memory");
     assert!(rt;
         are_all_alike(
             read.attributes.items.as_slice(),
             known.attributes.items.as_slice()
         )
     );
-    Ok(())
 }
 
 /// An attribute as a table says it: its handle and its name, and whether it can only be read.
@@ -131,11 +108,11 @@ fn is_enumeration(
     values: (&[u8], &[u8]),
     default: &[u8],
     current: &[u8],
-) -> Result<bool, Fail> {
+) -> Option<bool> {
     let held = kind.values.as_slice();
-    let first = held.get(0).ok_or("a value")?;
-    let second = held.get(1).ok_or("a value")?;
-    Ok(
+    let first = held.get(0)?;
+    let second = held.get(1)?;
+    Some(
         held.len() == 2
             && (first.as_slice(), second.as_slice()) == values
             && kind.default.as_slice() == default
@@ -165,63 +142,60 @@ fn is_integer(kind: &IntegerAttribute, steps: (u64, u64, u32), default: u64, cur
 }
 
 /// Whether the attribute is the first of the file, but for its present values, which are 1 and 0.
-fn is_boot(attribute: &Attribute) -> Result<bool, Fail> {
+fn is_boot(attribute: &Attribute) -> Option<bool> {
     match &attribute.kind {
-        AttributeKind::Enumeration(boot) => Ok(
+        AttributeKind::Enumeration(boot) => Some(
             is_named(attribute, &(0, b"Boot", false))
                 && is_enumeration(boot, (b"disk", b"net"), &[0], &[1, 0])?,
         ),
-        _ => Err(Fail::from("an enumeration")),
+        _ => None,
     }
 }
 
 /// Whether the attribute is the second of the file.
-fn is_owner(attribute: &Attribute) -> Result<bool, Fail> {
+fn is_owner(attribute: &Attribute) -> Option<bool> {
     match &attribute.kind {
-        AttributeKind::Text(owner) => Ok(
+        AttributeKind::Text(owner) => Some(
             is_named(attribute, &(1, b"Owner", true))
                 && is_string(owner, 1, (2, 8), b"abcd", b"rack-2"),
         ),
-        _ => Err(Fail::from("a string")),
+        _ => None,
     }
 }
 
 /// Whether the attribute is the third of the file.
-fn is_wait(attribute: &Attribute) -> Result<bool, Fail> {
+fn is_wait(attribute: &Attribute) -> Option<bool> {
     match &attribute.kind {
-        AttributeKind::Integer(wait) => Ok(
+        AttributeKind::Integer(wait) => Some(
             is_named(attribute, &(2, b"Wait", false)) && is_integer(wait, (20, 300, 10), 30, 40),
         ),
-        _ => Err(Fail::from("an integer")),
+        _ => None,
     }
 }
 
 #[test]
-fn an_enumeration_of_a_file_is_the_boards(rt: HostRuntime) -> Result<(), Fail> {
-    let text = edited(rt.alloc(), &FILE, "current = [1]", "current = [1, 0]")?;
-    let read = board_of(rt.alloc(), text.as_str())?;
-    let one = read.attributes.items.as_slice().get(0).ok_or("one")?;
-    assert!(rt; is_boot(one)?);
-    Ok(())
+fn an_enumeration_of_a_file_is_the_boards(rt: HostRuntime) {
+    let text = edited(rt.alloc(), &FILE, "current = [1]", "current = [1, 0]").expect(&rt, "memory");
+    let read = board_of(rt.alloc(), text.as_str()).expect(&rt, "a board");
+    let one = read.attributes.items.as_slice().get(0).expect(&rt, "one");
+    assert!(rt; is_boot(one).expect(&rt, "a case"));
 }
 
 #[test]
-fn a_string_of_a_file_is_the_boards(rt: HostRuntime) -> Result<(), Fail> {
-    let text = edited(rt.alloc(), &FILE, "", "")?;
-    let read = board_of(rt.alloc(), text.as_str())?;
-    let one = read.attributes.items.as_slice().get(1).ok_or("one")?;
-    assert!(rt; is_owner(one)?);
-    Ok(())
+fn a_string_of_a_file_is_the_boards(rt: HostRuntime) {
+    let text = edited(rt.alloc(), &FILE, "", "").expect(&rt, "memory");
+    let read = board_of(rt.alloc(), text.as_str()).expect(&rt, "a board");
+    let one = read.attributes.items.as_slice().get(1).expect(&rt, "one");
+    assert!(rt; is_owner(one).expect(&rt, "a case"));
 }
 
 #[test]
-fn an_integer_of_a_file_is_the_boards(rt: HostRuntime) -> Result<(), Fail> {
-    let text = edited(rt.alloc(), &FILE, "", "")?;
-    let read = board_of(rt.alloc(), text.as_str())?;
+fn an_integer_of_a_file_is_the_boards(rt: HostRuntime) {
+    let text = edited(rt.alloc(), &FILE, "", "").expect(&rt, "memory");
+    let read = board_of(rt.alloc(), text.as_str()).expect(&rt, "a board");
     let attributes = read.attributes.items.as_slice();
     assert_eq!(rt; attributes.len(), 3);
-    assert!(rt; is_wait(attributes.get(2).ok_or("one")?)?);
-    Ok(())
+    assert!(rt; is_wait(attributes.get(2).expect(&rt, "one")).expect(&rt, "a case"));
 }
 
 /// The board's file and the attributes.
@@ -232,12 +206,12 @@ const FILE: Text = Text {
 };
 
 #[test]
-fn a_field_that_is_left_out_mistyped_or_out_of_range_is_named(rt: HostRuntime) -> Result<(), Fail> {
-    expect_fields(&rt, rt.alloc(), &FILE, FIELDS, &[])
+fn a_field_that_is_left_out_mistyped_or_out_of_range_is_named(rt: HostRuntime) {
+    expect_fields(&rt, rt.alloc(), &FILE, FIELDS, &[]);
 }
 
 #[test]
-fn an_attribute_has_the_fields_of_its_kind(rt: HostRuntime) -> Result<(), Fail> {
+fn an_attribute_has_the_fields_of_its_kind(rt: HostRuntime) {
     let cases = [
         ("kind = \"enumeration\"", "", "Missing attribute 0 kind"),
         (
@@ -298,11 +272,11 @@ fn an_attribute_has_the_fields_of_its_kind(rt: HostRuntime) -> Result<(), Fail> 
         ("name = \"Owner\"", "name = \"\"", ""),
         ("name = \"Owner\"", "name = \"Boot\"", ""),
     ];
-    expect_edits(&rt, rt.alloc(), &FILE, &cases)
+    expect_edits(&rt, rt.alloc(), &FILE, &cases);
 }
 
 #[test]
-fn the_first_fault_counts(rt: HostRuntime) -> Result<(), Fail> {
+fn the_first_fault_counts(rt: HostRuntime) {
     let cases = [
         // An enumeration without values can have none.
         (
@@ -366,7 +340,7 @@ fn the_first_fault_counts(rt: HostRuntime) -> Result<(), Fail> {
             "Missing attribute 1 name",
         ),
     ];
-    expect_edits(&rt, rt.alloc(), &FILE, &cases)
+    expect_edits(&rt, rt.alloc(), &FILE, &cases);
 }
 
 /// A channel and a state effecter that lack all but their numbers.
@@ -375,7 +349,7 @@ const CHANNEL: &str = "[[channel]]\nnumber = 1\n";
 const STATE: &str = "[[state]]\nid = 1\n";
 
 #[test]
-fn attributes_come_between_channels_and_state_effecters(rt: HostRuntime) -> Result<(), Fail> {
+fn attributes_come_between_channels_and_state_effecters(rt: HostRuntime) {
     let cases = [
         ("", "", ""),
         ("attribute = []\n", "", ""),
@@ -387,18 +361,12 @@ fn attributes_come_between_channels_and_state_effecters(rt: HostRuntime) -> Resu
         ("channel = 1\nattribute = 1\n", "", "WrongType top channel"),
         ("state = 1\nattribute = 1\n", "", "WrongType top attribute"),
     ];
-    expect_around(&rt, rt.alloc(), BARE, &cases)
+    expect_around(&rt, rt.alloc(), BARE, &cases);
 }
 
 /// An attribute that is one number, in each of whose places is `#`.
 const ITEM: &str = "[[attribute]]\nname = \"a\"\nkind = \"integer\"\nlower = #\nupper = #
 increment = 0\ndefault = #\ncurrent = #\nreadonly = false\n";
-
-/// The board's file with so many attributes.
-fn with_attributes(alloc: Global, count: u8) -> Result<String, AllocError> {
-    let items = numbered(alloc, count, ITEM)?;
-    joined(alloc, &[BARE, items.as_str()])
-}
 
 /// Whether the attribute has the place as its handle and as its lower bound.
 fn is_at(attribute: &Attribute, place: usize) -> bool {
@@ -411,31 +379,25 @@ fn is_at(attribute: &Attribute, place: usize) -> bool {
 }
 
 #[test]
-fn a_board_has_at_most_64_attributes(rt: HostRuntime) -> Result<(), Fail> {
-    let most = with_attributes(rt.alloc(), 64)?;
-    let read = board_of(rt.alloc(), most.as_str())?;
+fn a_board_has_at_most_64_attributes(rt: HostRuntime) {
+    let most = with_items(rt.alloc(), BARE, 64, ITEM).expect(&rt, "memory");
+    let read = board_of(rt.alloc(), most.as_str()).expect(&rt, "a board");
     let attributes = read.attributes.items.as_slice();
     assert_eq!(rt; attributes.len(), 64);
     for (place, attribute) in attributes.iter().enumerate() {
         assert!(rt; is_at(attribute, place), "{place}");
     }
-    let more = with_attributes(rt.alloc(), 65)?;
-    expect_too_many(&rt, rt.alloc(), more.as_str(), Field::Attribute)
+    let more = with_items(rt.alloc(), BARE, 65, ITEM).expect(&rt, "memory");
+    expect_too_many(&rt, rt.alloc(), more.as_str(), Field::Attribute);
 }
 
 /// The lines of an attribute before a text and behind it, and what the fault is called where the text is too long.
 type Around = (&'static str, &'static str, &'static str);
 
 /// The fault of a file is called so whose attribute has these lines, with a text of so many bytes between them.
-fn expect_long(
-    rt: &impl Abort,
-    alloc: Global,
-    case: &Around,
-    count: usize,
-    want: &str,
-) -> Result<(), Fail> {
+fn expect_long(rt: &impl Abort, alloc: Global, case: &Around, count: usize, want: &str) {
     let (before, behind, _) = case;
-    let text = times(alloc, count, "n")?;
+    let text = times(alloc, count, "n").expect(rt, "memory");
     let parts = [
         BARE,
         "[[attribute]]\n",
@@ -444,12 +406,12 @@ fn expect_long(
         behind,
         "\nreadonly = false\n",
     ];
-    let file = joined(alloc, &parts)?;
-    expect_fault(rt, alloc, Form::Board, file.as_str(), want)
+    let file = joined(alloc, &parts).expect(rt, "memory");
+    expect_fault(rt, alloc, Form::Board, file.as_str(), want);
 }
 
 #[test]
-fn texts_have_at_most_200_bytes(rt: HostRuntime) -> Result<(), Fail> {
+fn texts_have_at_most_200_bytes(rt: HostRuntime) {
     let cases: [Around; 4] = [
         (
             "name = \"",
@@ -474,10 +436,9 @@ fn texts_have_at_most_200_bytes(rt: HostRuntime) -> Result<(), Fail> {
     ];
     for case in cases {
         let (_, _, want) = case;
-        expect_long(&rt, rt.alloc(), &case, 200, "")?;
-        expect_long(&rt, rt.alloc(), &case, 201, want)?;
+        expect_long(&rt, rt.alloc(), &case, 200, "");
+        expect_long(&rt, rt.alloc(), &case, 201, want);
     }
-    Ok(())
 }
 
 /// An attribute that is all of its values.
@@ -503,10 +464,9 @@ fn is_all(attribute: &Attribute) -> bool {
 }
 
 #[test]
-fn an_enumeration_can_be_all_of_its_16_values(rt: HostRuntime) -> Result<(), Fail> {
-    let text = joined(rt.alloc(), &[BARE, ALL])?;
-    let read = board_of(rt.alloc(), text.as_str())?;
-    let one = read.attributes.items.as_slice().get(0).ok_or("one")?;
+fn an_enumeration_can_be_all_of_its_16_values(rt: HostRuntime) {
+    let text = joined(rt.alloc(), &[BARE, ALL]).expect(&rt, "memory");
+    let read = board_of(rt.alloc(), text.as_str()).expect(&rt, "a board");
+    let one = read.attributes.items.as_slice().get(0).expect(&rt, "one");
     assert!(rt; is_all(one));
-    Ok(())
 }

@@ -5,7 +5,6 @@ use super::texts::{
 use cfg_records::Op;
 use std::alloc::{AllocError, Global};
 use std::process::Abort;
-use std::test::Fail;
 
 /// A row for each field: its place in faults, its line, a line of another type, two that are beyond its range, and two that are just
 /// inside.
@@ -44,15 +43,15 @@ const FILE: Text = Text {
 };
 
 #[test]
-fn a_field_that_is_left_out_mistyped_or_out_of_range_is_named(rt: HostRuntime) -> Result<(), Fail> {
-    expect_fields(&rt, rt.alloc(), &FILE, FIELDS, &NO_VALUE)
+fn a_field_that_is_left_out_mistyped_or_out_of_range_is_named(rt: HostRuntime) {
+    expect_fields(&rt, rt.alloc(), &FILE, FIELDS, &NO_VALUE);
 }
 
 /// A step that has no more than its kind.
 const STEP: &str = "[[step]]\nkind = \"bios-attribute\"\n";
 
 #[test]
-fn a_step_gives_one_value(rt: HostRuntime) -> Result<(), Fail> {
+fn a_step_gives_one_value(rt: HostRuntime) {
     let cases = [
         ("handle = 1", "0 Missing indexes"),
         ("handle = 65536", "0 Missing indexes"),
@@ -87,7 +86,7 @@ fn a_step_gives_one_value(rt: HostRuntime) -> Result<(), Fail> {
         ("handle = -1\nindexes = [1]\ntext = \"\"", "0 Range handle"),
         ("handle = -1\nindexes = []", "0 Range handle"),
     ];
-    expect_plans(&rt, rt.alloc(), (STEP, "\n"), &cases)
+    expect_plans(&rt, rt.alloc(), (STEP, "\n"), &cases);
 }
 
 /// A value: its attribute, and its type and bytes.
@@ -107,13 +106,12 @@ fn is_set(op: &Op, want: &Value) -> bool {
 }
 
 /// The steps of the plan set these values.
-fn expect_values(rt: &impl Abort, alloc: Global, text: &str, values: &[Value]) -> Result<(), Fail> {
-    let plan = plan_of(alloc, text)?;
+fn expect_values(rt: &impl Abort, alloc: Global, text: &str, values: &[Value]) {
+    let plan = plan_of(alloc, text).expect(rt, "a plan");
     assert_eq!(rt; plan.steps.as_slice().len(), values.len(), "{text}");
     for (step, want) in plan.steps.as_slice().iter().zip(values) {
         assert!(rt; is_set(step, want), "{text}");
     }
-    Ok(())
 }
 
 /// A step on attribute 261 with this line sets it to the value of this type and these bytes.
@@ -123,16 +121,16 @@ fn expect_value(
     line: &str,
     attribute_type: u8,
     value: &'static [u8],
-) -> Result<(), Fail> {
-    let text = joined(alloc, &[STEP, "handle = 261\n", line, "\n"])?;
-    expect_values(rt, alloc, text.as_str(), &[(261, attribute_type, value)])
+) {
+    let text = joined(alloc, &[STEP, "handle = 261\n", line, "\n"]).expect(rt, "memory");
+    expect_values(rt, alloc, text.as_str(), &[(261, attribute_type, value)]);
 }
 
 /// A line of a step, and the type and the bytes of the value that it gives.
 type Given = (&'static str, u8, &'static [u8]);
 
 #[test]
-fn a_value_has_the_bytes_of_its_entry(rt: HostRuntime) -> Result<(), Fail> {
+fn a_value_has_the_bytes_of_its_entry(rt: HostRuntime) {
     let cases: [Given; 8] = [
         // How many indexes there are, and these.
         ("indexes = [0]", 0x00, &[1, 0]),
@@ -155,19 +153,18 @@ fn a_value_has_the_bytes_of_its_entry(rt: HostRuntime) -> Result<(), Fail> {
         ),
     ];
     for (line, attribute_type, value) in cases {
-        expect_value(&rt, rt.alloc(), line, attribute_type, value)?;
+        expect_value(&rt, rt.alloc(), line, attribute_type, value);
     }
-    Ok(())
 }
 
 #[test]
-fn each_form_is_read(rt: HostRuntime) -> Result<(), Fail> {
+fn each_form_is_read(rt: HostRuntime) {
     let values: [Value; 3] = [
         (7, 0x00, &[1, 3]),
         (8, 0x01, b"\x06\x00rack-1"),
         (9, 0x03, &[30, 0, 0, 0, 0, 0, 0, 0]),
     ];
-    expect_values(&rt, rt.alloc(), PLAN, &values)
+    expect_values(&rt, rt.alloc(), PLAN, &values);
 }
 
 /// The text of a value that is so many times a part, between two others.
@@ -192,11 +189,11 @@ type Long = (
 );
 
 /// The fault of a step on attribute 1 with the line is called so.
-fn expect_long(rt: &impl Abort, alloc: Global, case: &Long) -> Result<(), Fail> {
+fn expect_long(rt: &impl Abort, alloc: Global, case: &Long) {
     let (head, count, part, tail, want) = case;
-    let line = long(alloc, head, *count, part, tail)?;
-    let text = joined(alloc, &[STEP, "handle = 1\n", line.as_str(), "\n"])?;
-    expect_fault(rt, alloc, Form::Plan, text.as_str(), want)
+    let line = long(alloc, head, *count, part, tail).expect(rt, "memory");
+    let text = joined(alloc, &[STEP, "handle = 1\n", line.as_str(), "\n"]).expect(rt, "memory");
+    expect_fault(rt, alloc, Form::Plan, text.as_str(), want);
 }
 
 /// 16, and 16 times 255.
@@ -205,7 +202,7 @@ const SIXTEEN: [u8; 17] = [
 ];
 
 #[test]
-fn a_step_lists_1_to_16_indexes(rt: HostRuntime) -> Result<(), Fail> {
+fn a_step_lists_1_to_16_indexes(rt: HostRuntime) {
     let alloc = rt.alloc();
     for (count, want) in [
         (0, "0 Range indexes"),
@@ -213,10 +210,10 @@ fn a_step_lists_1_to_16_indexes(rt: HostRuntime) -> Result<(), Fail> {
         (16, ""),
         (17, "0 Range indexes"),
     ] {
-        expect_long(&rt, alloc, &("indexes = [", count, "255, ", "]", want))?;
+        expect_long(&rt, alloc, &("indexes = [", count, "255, ", "]", want));
     }
-    let line = long(alloc, "indexes = [", 16, "255, ", "]")?;
-    expect_value(&rt, alloc, line.as_str(), 0x00, &SIXTEEN)
+    let line = long(alloc, "indexes = [", 16, "255, ", "]").expect(&rt, "memory");
+    expect_value(&rt, alloc, line.as_str(), 0x00, &SIXTEEN);
 }
 
 /// 200 in two bytes, and 200 times `a`.
@@ -224,7 +221,7 @@ const TWO_HUNDRED: &[u8] =
     b"\xC8\x00aaaaaaaaaaaaaaaaaaaaaaaaaaaaaaaaaaaaaaaaaaaaaaaaaaaaaaaaaaaaaaaaaaaaaaaaaaaaaaaaaaaaaaaaaaaaaaaaaaaaaaaaaaaaaaaaaaaaaaaaaaaaaaaaaaaaaaaaaaaaaaaaaaaaaaaaaaaaaaaaaaaaaaaaaaaaaaaaaaaaaaaaaaaaaaaaaaaaaaaa";
 
 #[test]
-fn a_step_has_a_text_of_at_most_200_bytes(rt: HostRuntime) -> Result<(), Fail> {
+fn a_step_has_a_text_of_at_most_200_bytes(rt: HostRuntime) {
     let alloc = rt.alloc();
     // A text has bytes: 101 letters can be 202.
     for (count, part, want) in [
@@ -234,8 +231,8 @@ fn a_step_has_a_text_of_at_most_200_bytes(rt: HostRuntime) -> Result<(), Fail> {
         (100, "é", ""),
         (101, "é", "0 Range text"),
     ] {
-        expect_long(&rt, alloc, &("text = \"", count, part, "\"", want))?;
+        expect_long(&rt, alloc, &("text = \"", count, part, "\"", want));
     }
-    let line = long(alloc, "text = \"", 200, "a", "\"")?;
-    expect_value(&rt, alloc, line.as_str(), 0x01, TWO_HUNDRED)
+    let line = long(alloc, "text = \"", 200, "a", "\"").expect(&rt, "memory");
+    expect_value(&rt, alloc, line.as_str(), 0x01, TWO_HUNDRED);
 }

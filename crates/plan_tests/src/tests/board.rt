@@ -1,12 +1,12 @@
 //! Board files: the sample board, and the faults of files.
+use super::effecters::BARE;
 use super::texts::{
-    Form, Text, board_of, edited, expect_edits, expect_fields, expect_too_many, joined, numbered,
+    Form, Text, board_of, edited, expect_edits, expect_fields, expect_too_many, joined, with_items,
 };
 use cfg_records::{BoardFile, Channel, SdrRecord, Sensor, User, UserAccess, sample_board};
 use plan_file::{Field, read_board};
 use std::alloc::Global;
 use std::process::Abort;
-use std::test::Fail;
 
 /// The sample board.
 pub(super) const SAMPLE: &str = "tid = 5
@@ -224,33 +224,31 @@ fn expect_alike(rt: &impl Abort, read: &BoardFile, known: &BoardFile) {
 }
 
 #[test]
-fn the_sample_file_holds_the_sample_board(rt: HostRuntime) -> Result<(), Fail> {
-    let read = board_of(rt.alloc(), SAMPLE)?;
-    let known = sample_board(rt.alloc())?;
+fn the_sample_file_holds_the_sample_board(rt: HostRuntime) {
+    let read = board_of(rt.alloc(), SAMPLE).expect(&rt, "a board");
+    let known = sample_board(rt.alloc()).expect(&rt, "memory");
     expect_alike(&rt, &read, &known);
-    Ok(())
 }
 
 /// Whether the second sensor of the file makes event messages, and whether readings of it are taken.
-fn said_of_fan(alloc: Global, text: &str) -> Result<(bool, bool), Fail> {
+fn said_of_fan(alloc: Global, text: &str) -> Option<(bool, bool)> {
     let read = board_of(alloc, text)?;
-    let sensor = read.sensors.items.as_slice().get(1).ok_or("a sensor")?;
-    Ok((sensor.events.messages, sensor.events.scanning))
+    let sensor = read.sensors.items.as_slice().get(1)?;
+    Some((sensor.events.messages, sensor.events.scanning))
 }
 
 #[test]
-fn flags_say_messages_and_scanning(rt: HostRuntime) -> Result<(), Fail> {
+fn flags_say_messages_and_scanning(rt: HostRuntime) {
     let cases = [
         ("flags = 0x40", false, true),
         ("flags = 0x80", true, false),
         ("flags = 0xC0", true, true),
     ];
     for (line, messages, scanning) in cases {
-        let text = edited(rt.alloc(), &FILE, "flags = 0", line)?;
-        let said = said_of_fan(rt.alloc(), text.as_str())?;
+        let text = edited(rt.alloc(), &FILE, "flags = 0", line).expect(&rt, "memory");
+        let said = said_of_fan(rt.alloc(), text.as_str()).expect(&rt, "a case");
         assert_eq!(rt; said, (messages, scanning), "{line}");
     }
-    Ok(())
 }
 
 /// The sample board's file.
@@ -261,12 +259,12 @@ const FILE: Text = Text {
 };
 
 #[test]
-fn a_field_that_is_left_out_mistyped_or_out_of_range_is_named(rt: HostRuntime) -> Result<(), Fail> {
-    expect_fields(&rt, rt.alloc(), &FILE, FIELDS, &[])
+fn a_field_that_is_left_out_mistyped_or_out_of_range_is_named(rt: HostRuntime) {
+    expect_fields(&rt, rt.alloc(), &FILE, FIELDS, &[]);
 }
 
 #[test]
-fn the_first_fault_counts(rt: HostRuntime) -> Result<(), Fail> {
+fn the_first_fault_counts(rt: HostRuntime) {
     let cases = [
         ("number = 7", "number = 5", "Twice sensor 1 number"),
         (
@@ -319,13 +317,7 @@ fn the_first_fault_counts(rt: HostRuntime) -> Result<(), Fail> {
         ),
         ("deassert = 0", "deassert = 0x20", "Range sensor 1 deassert"),
     ];
-    expect_edits(&rt, rt.alloc(), &FILE, &cases)
-}
-
-/// The sample board's file as far as its first sensor.
-fn without_sensors(alloc: Global) -> Result<String, Fail> {
-    let (head, _) = SAMPLE.split_once("[[sensor]]").ok_or("a sensor")?;
-    Ok(String::from_str(alloc, head)?)
+    expect_edits(&rt, rt.alloc(), &FILE, &cases);
 }
 
 /// A sensor, in whose number's place is `#`.
@@ -333,17 +325,10 @@ const ITEM: &str = "[[sensor]]\nnumber = #\ntype = 1\nreadable = 0\nsettable = 0
 thresholds = [0, 0, 0, 0, 0, 0]\nhysteresis = [0, 0]
 supported = 0\nflags = 0\nassert = 0\ndeassert = 0\n";
 
-/// A file with so many sensors.
-fn with_sensors(alloc: Global, count: u8) -> Result<String, Fail> {
-    let head = without_sensors(alloc)?;
-    let items = numbered(alloc, count, ITEM)?;
-    Ok(joined(alloc, &[head.as_str(), items.as_str()])?)
-}
-
 /// How many sensors the board has of a file with so many.
-fn sensors_of(alloc: Global, count: u8) -> Result<usize, Fail> {
-    let text = with_sensors(alloc, count)?;
-    Ok(
+fn sensors_of(alloc: Global, count: u8) -> Option<usize> {
+    let text = with_items(alloc, BARE, count, ITEM).ok()?;
+    Some(
         board_of(alloc, text.as_str())?
             .sensors
             .items
@@ -353,28 +338,33 @@ fn sensors_of(alloc: Global, count: u8) -> Result<usize, Fail> {
 }
 
 #[test]
-fn a_board_has_at_most_32_sensors(rt: HostRuntime) -> Result<(), Fail> {
+fn a_board_has_at_most_32_sensors(rt: HostRuntime) {
     for count in [0, 32] {
-        assert_eq!(rt; sensors_of(rt.alloc(), count)?, usize::from(count));
+        assert_eq!(rt;
+            sensors_of(rt.alloc(), count).expect(&rt, "a case"),
+            usize::from(count)
+        );
     }
-    let more = with_sensors(rt.alloc(), 33)?;
-    expect_too_many(&rt, rt.alloc(), more.as_str(), Field::Sensor)
+    let more = with_items(rt.alloc(), BARE, 33, ITEM).expect(&rt, "memory");
+    expect_too_many(&rt, rt.alloc(), more.as_str(), Field::Sensor);
 }
 
 /// The shortest part of the file that has each field that a file needs ends with `product = 0x1`.
 const SHORTEST: usize = 268;
 
 /// Whether so much of the file is a board.
-fn is_read(alloc: Global, end: usize) -> Result<bool, Fail> {
-    let text = SAMPLE.get(..end).ok_or("ASCII")?;
-    Ok(read_board(alloc, text).is_ok())
+fn is_read(alloc: Global, end: usize) -> Option<bool> {
+    let text = SAMPLE.get(..end)?;
+    Some(read_board(alloc, text).is_ok())
 }
 
 #[test]
-fn each_prefix_is_read_or_refused(rt: HostRuntime) -> Result<(), Fail> {
+fn each_prefix_is_read_or_refused(rt: HostRuntime) {
     for end in 0..SAMPLE.len() {
-        assert!(rt; end >= SHORTEST || !is_read(rt.alloc(), end)?, "{end}");
+        assert!(rt;
+            end >= SHORTEST || !is_read(rt.alloc(), end).expect(&rt, "a case"),
+            "{end}"
+        );
     }
-    assert!(rt; is_read(rt.alloc(), SHORTEST)?);
-    Ok(())
+    assert!(rt; is_read(rt.alloc(), SHORTEST).expect(&rt, "a case"));
 }

@@ -1,12 +1,11 @@
 //! Users and channels of board files.
 use super::texts::{
     Form, Text, board_of, edited, expect_around, expect_edits, expect_fields, expect_too_many,
-    joined, numbered,
+    joined, numbered, with_items,
 };
 use cfg_records::{BoardFile, Channel, UserAccess};
 use plan_file::Field;
 use std::alloc::{AllocError, Global};
-use std::test::Fail;
 
 /// A board of two users, without sensors, channels and effecters.
 const BARE: &str = "tid = 5
@@ -56,10 +55,10 @@ channel 0 users | users = [0x14, 0x2F] | users = [[]] | users = [-1, 0x14] | use
 channel 1 number | number = 15 | number = [15] | number = 16 | number = -1 | number = 0 | number = 2";
 
 /// Whether the board has one channel with sessions, which is the file's.
-fn has_channel(board: &BoardFile) -> Result<bool, Fail> {
+fn has_channel(board: &BoardFile) -> Option<bool> {
     let channels = board.channels.items.as_slice();
-    let channel = channels.get(0).ok_or("a channel")?;
-    Ok(channels.len() == 1 && is_first(channel))
+    let channel = channels.get(0)?;
+    Some(channels.len() == 1 && is_first(channel))
 }
 
 /// Whether the channel is the file's first.
@@ -72,10 +71,10 @@ fn is_first(channel: &Channel) -> bool {
 }
 
 /// Whether the board has channel 15 alone without sessions.
-fn has_sessionless(board: &BoardFile) -> Result<bool, Fail> {
+fn has_sessionless(board: &BoardFile) -> Option<bool> {
     let channels = board.sessionless.items.as_slice();
-    let channel = channels.get(0).ok_or("a channel")?;
-    Ok(channels.len() == 1 && channel.number == 15)
+    let channel = channels.get(0)?;
+    Some(channels.len() == 1 && channel.number == 15)
 }
 
 /// The numbers of a channel and of a user, and the byte of what the user may do on it.
@@ -98,14 +97,20 @@ fn has_accesses(board: &BoardFile, want: &[Access]) -> bool {
 }
 
 #[test]
-fn channels_of_a_file_are_the_boards(rt: HostRuntime) -> Result<(), Fail> {
-    let text = edited(rt.alloc(), &FILE, "", "")?;
-    let read = board_of(rt.alloc(), text.as_str())?;
-    assert!(rt; has_channel(&read)?);
-    assert!(rt; has_sessionless(&read)?);
+fn channels_of_a_file_are_the_boards(rt: HostRuntime) {
+    let text = edited(rt.alloc(), &FILE, "", "").expect(&rt, "memory");
+    let read = board_of(rt.alloc(), text.as_str()).expect(&rt, "a board");
+    assert!(rt; has_channel(&read).expect(&rt, "a case"));
+    assert!(rt; has_sessionless(&read).expect(&rt, "a case"));
     assert!(rt; has_accesses(&read, &[(1, 1, 0x14), (1, 2, 0x2F)]));
-    Ok(())
 }
+
+/// The board's file.
+const BOARD: Text = Text {
+    form: Form::Board,
+    head: "",
+    lines: BARE,
+};
 
 /// The board's file and the channels.
 const FILE: Text = Text {
@@ -115,12 +120,12 @@ const FILE: Text = Text {
 };
 
 #[test]
-fn a_field_that_is_left_out_mistyped_or_out_of_range_is_named(rt: HostRuntime) -> Result<(), Fail> {
-    expect_fields(&rt, rt.alloc(), &FILE, FIELDS, &[])
+fn a_field_that_is_left_out_mistyped_or_out_of_range_is_named(rt: HostRuntime) {
+    expect_fields(&rt, rt.alloc(), &FILE, FIELDS, &[]);
 }
 
 #[test]
-fn the_first_fault_counts(rt: HostRuntime) -> Result<(), Fail> {
+fn the_first_fault_counts(rt: HostRuntime) {
     let cases = [
         ("number = 15", "number = 1", "Twice channel 1 number"),
         ("sessions = true", "", "Missing channel 0 sessions"),
@@ -163,7 +168,7 @@ fn the_first_fault_counts(rt: HostRuntime) -> Result<(), Fail> {
             "Twice channel 2 number",
         ),
     ];
-    expect_edits(&rt, rt.alloc(), &FILE, &cases)
+    expect_edits(&rt, rt.alloc(), &FILE, &cases);
 }
 
 /// A sensor and an effecter that lack all but their numbers.
@@ -172,7 +177,7 @@ const SENSOR: &str = "[[sensor]]\nnumber = 1\n";
 const NUMERIC: &str = "[[numeric]]\nid = 1\n";
 
 #[test]
-fn channels_come_between_sensors_and_effecters(rt: HostRuntime) -> Result<(), Fail> {
+fn channels_come_between_sensors_and_effecters(rt: HostRuntime) {
     let cases = [
         ("channel = []\n", "", ""),
         ("channel = 1\n", "", "WrongType top channel"),
@@ -183,34 +188,34 @@ fn channels_come_between_sensors_and_effecters(rt: HostRuntime) -> Result<(), Fa
         ("sensor = 1\nchannel = 1\n", "", "WrongType top sensor"),
         ("numeric = 1\nchannel = 1\n", "", "WrongType top channel"),
     ];
-    expect_around(&rt, rt.alloc(), BARE, &cases)
+    expect_around(&rt, rt.alloc(), BARE, &cases);
 }
 
 /// The line of users: the first, and so many others, in whose number's place is `#`.
 fn users_line(alloc: Global, first: &str, count: u8, other: &str) -> Result<String, AllocError> {
     let others = numbered(alloc, count, other)?;
-    joined(alloc, &["users = [", first, others.as_str(), "]\n"])
-}
-
-/// What the board has before the line of its users, and behind it.
-fn around_users() -> Result<(&'static str, &'static str), Fail> {
-    Ok(
-        BARE.split_once("users = [\"\", \"admin\"]\n")
-            .ok_or("users")?,
-    )
+    joined(alloc, &["users = [", first, others.as_str(), "]"])
 }
 
 /// A channel that lacks the line of its users, in whose number's place is `#`.
 const ITEM: &str = "[[channel]]\nnumber = #\nsessions = true\naccess = [2, 2]\nlimit = [4, 4]\n";
 
 /// A board of so many users besides the first and so many channels, on each of which each user may do the same.
-fn with_channels(alloc: Global, users: u8, channels: u8) -> Result<String, Fail> {
-    let names = users_line(alloc, "\"\"", users, ", \"user #\"")?;
+fn with_channels(alloc: Global, users: u8, channels: u8) -> Result<String, AllocError> {
     let bytes = users_line(alloc, "0x14", users, ", 0x14")?;
-    let item = joined(alloc, &[ITEM, bytes.as_str()])?;
-    let items = numbered(alloc, channels, item.as_str())?;
-    let (head, tail) = around_users()?;
-    Ok(joined(alloc, &[head, names.as_str(), tail, items.as_str()])?)
+    let item = joined(alloc, &[ITEM, bytes.as_str(), "\n"])?;
+    with_items(
+        alloc,
+        with_users(alloc, users)?.as_str(),
+        channels,
+        item.as_str(),
+    )
+}
+
+/// The board with so many users besides the first.
+fn with_users(alloc: Global, users: u8) -> Result<String, AllocError> {
+    let names = users_line(alloc, "\"\"", users, ", \"user #\"")?;
+    edited(alloc, &BOARD, "users = [\"\", \"admin\"]", names.as_str())
 }
 
 /// How many users, channels and accesses of users a board has.
@@ -223,21 +228,20 @@ fn counts_of(board: &BoardFile) -> (usize, usize, usize) {
 }
 
 /// Whether the last of the board's 128 accesses is that of user 16 on channel 7.
-fn ends_with_last(board: &BoardFile) -> Result<bool, Fail> {
+fn ends_with_last(board: &BoardFile) -> Option<bool> {
     let accesses = board.user_accesses.items.as_slice();
-    let last = accesses.get(127).ok_or("an access")?;
-    Ok(is_access(last, &(7, 16, 0x14)))
+    let last = accesses.get(127)?;
+    Some(is_access(last, &(7, 16, 0x14)))
 }
 
 #[test]
-fn a_board_has_at_most_16_users_and_8_channels(rt: HostRuntime) -> Result<(), Fail> {
-    let most = with_channels(rt.alloc(), 15, 8)?;
-    let read = board_of(rt.alloc(), most.as_str())?;
+fn a_board_has_at_most_16_users_and_8_channels(rt: HostRuntime) {
+    let most = with_channels(rt.alloc(), 15, 8).expect(&rt, "memory");
+    let read = board_of(rt.alloc(), most.as_str()).expect(&rt, "a board");
     assert_eq!(rt; counts_of(&read), (16, 8, 128));
-    assert!(rt; ends_with_last(&read)?);
+    assert!(rt; ends_with_last(&read).expect(&rt, "a case"));
     for (users, channels, field) in [(16, 8, Field::Users), (15, 9, Field::Channel)] {
-        let more = with_channels(rt.alloc(), users, channels)?;
-        expect_too_many(&rt, rt.alloc(), more.as_str(), field)?;
+        let more = with_channels(rt.alloc(), users, channels).expect(&rt, "memory");
+        expect_too_many(&rt, rt.alloc(), more.as_str(), field);
     }
-    Ok(())
 }

@@ -1,16 +1,17 @@
 //! Numeric effecters: of board files, and of the steps of plans.
 use super::texts::{
     Form, Text, board_of, edited, expect_around, expect_edits, expect_fault, expect_fields,
-    expect_plans, expect_step, expect_too_many, joined, numbered,
+    expect_plans, expect_step, expect_too_many, joined, with_items,
 };
-use cfg_records::{NumericBytes, NumericEffecter, NumericSize, Op, SetNumericEffecter};
+use cfg_records::{
+    NumericBytes, NumericEffecter, NumericRange, NumericSize, Op, SetNumericEffecter,
+};
 use plan_file::Field;
 use std::alloc::{AllocError, Global};
 use std::process::Abort;
-use std::test::Fail;
 
 /// A board without sensors and effecters.
-const BARE: &str = "tid = 5
+pub const BARE: &str = "tid = 5
 clock = 0
 log = 2
 enables = 0x08
@@ -66,41 +67,39 @@ numeric 1 current | current = -1 | current = true | current = -3 | current = 2 |
 /// An effecter: its id, whether it is enabled, its size, the bits of its bounds, and those of its value.
 type Numeric = (u16, bool, NumericSize, (u32, u32), u32);
 
+/// Whether the range is of the size, and has these bounds.
+fn is_range(range: &NumericRange, size: NumericSize, lower: u32, upper: u32) -> bool {
+    range.size == size && range.lower == lower && range.upper == upper
+}
+
 /// Whether the effecter is this.
 fn is_numeric(effecter: &NumericEffecter, want: &Numeric) -> bool {
-    let (id, enabled, size, bounds, current) = want;
-    effecter.id == *id
-        && effecter.enabled == *enabled
-        && effecter.range.size == *size
-        && (effecter.range.lower, effecter.range.upper) == *bounds
-        && effecter.current == *current
+    let (id, enabled, size, bounds, current) = *want;
+    effecter.id == id
+        && effecter.enabled == enabled
+        && effecter.current == current
+        && is_range(&effecter.range, size, bounds.0, bounds.1)
 }
 
 /// The effecters of the board's file are these.
-fn expect_effecters(
-    rt: &impl Abort,
-    alloc: Global,
-    text: &str,
-    want: &[Numeric],
-) -> Result<(), Fail> {
-    let read = board_of(alloc, text)?;
+fn expect_effecters(rt: &impl Abort, alloc: Global, text: &str, want: &[Numeric]) {
+    let read = board_of(alloc, text).expect(rt, "a board");
     let effecters = read.numeric_effecters.items.as_slice();
     assert_eq!(rt; effecters.len(), want.len());
     for (effecter, want) in effecters.iter().zip(want) {
         assert!(rt; is_numeric(effecter, want), "{text}");
     }
-    Ok(())
 }
 
 #[test]
-fn numeric_effecters_of_a_file_are_the_boards(rt: HostRuntime) -> Result<(), Fail> {
-    let text = edited(rt.alloc(), &FILE, "", "")?;
+fn numeric_effecters_of_a_file_are_the_boards(rt: HostRuntime) {
+    let text = edited(rt.alloc(), &FILE, "", "").expect(&rt, "memory");
     // -2 to 1, and -1, in two's complement.
     let want = [
         (4, true, NumericSize::U16, (0, 1000), 500),
         (5, false, NumericSize::S8, (0xFE, 1), 0xFF),
     ];
-    expect_effecters(&rt, rt.alloc(), text.as_str(), &want)
+    expect_effecters(&rt, rt.alloc(), text.as_str(), &want);
 }
 
 /// The board's file and the effecters.
@@ -111,12 +110,12 @@ const FILE: Text = Text {
 };
 
 #[test]
-fn a_field_that_is_left_out_mistyped_or_out_of_range_is_named(rt: HostRuntime) -> Result<(), Fail> {
-    expect_fields(&rt, rt.alloc(), &FILE, FIELDS, &[])
+fn a_field_that_is_left_out_mistyped_or_out_of_range_is_named(rt: HostRuntime) {
+    expect_fields(&rt, rt.alloc(), &FILE, FIELDS, &[]);
 }
 
 #[test]
-fn the_first_fault_counts(rt: HostRuntime) -> Result<(), Fail> {
+fn the_first_fault_counts(rt: HostRuntime) {
     let cases = [
         ("id = 5", "id = 4", "Twice numeric 1 id"),
         // A lower bound above the upper one is the upper one's fault.
@@ -147,14 +146,14 @@ fn the_first_fault_counts(rt: HostRuntime) -> Result<(), Fail> {
         ),
         ("id = 5", "id = 4\n[[numeric]]", "Missing numeric 1 size"),
     ];
-    expect_edits(&rt, rt.alloc(), &FILE, &cases)
+    expect_edits(&rt, rt.alloc(), &FILE, &cases);
 }
 
 /// A sensor that lacks all but its number.
 const SENSOR: &str = "[[sensor]]\nnumber = 1\n";
 
 #[test]
-fn numeric_effecters_come_behind_all_else(rt: HostRuntime) -> Result<(), Fail> {
+fn numeric_effecters_come_behind_all_else(rt: HostRuntime) {
     let cases = [
         ("", "", ""),
         ("numeric = []\n", "", ""),
@@ -166,31 +165,28 @@ fn numeric_effecters_come_behind_all_else(rt: HostRuntime) -> Result<(), Fail> {
         ("numeric = 1\n", SENSOR, "WrongType top numeric"),
         ("sensor = 1\nnumeric = 1\n", "", "WrongType top sensor"),
     ];
-    expect_around(&rt, rt.alloc(), BARE, &cases)
+    expect_around(&rt, rt.alloc(), BARE, &cases);
 }
 
 /// An effecter, in whose number's place is `#`.
 const ITEM: &str =
     "[[numeric]]\nid = #\nsize = 0\noperational = 1\nlower = 0\nupper = 0\ncurrent = 0\n";
 
-/// The board's file with so many effecters.
-fn with_effecters(alloc: Global, count: u8) -> Result<String, AllocError> {
-    let items = numbered(alloc, count, ITEM)?;
-    joined(alloc, &[BARE, items.as_str()])
-}
-
 /// How many effecters the board has of the text.
-fn effecters_of(alloc: Global, text: &str) -> Result<usize, Fail> {
+fn effecters_of(alloc: Global, text: &str) -> Option<usize> {
     let read = board_of(alloc, text)?;
-    Ok(read.numeric_effecters.items.as_slice().len())
+    Some(read.numeric_effecters.items.as_slice().len())
 }
 
 #[test]
-fn a_board_has_at_most_32_numeric_effecters(rt: HostRuntime) -> Result<(), Fail> {
-    let most = with_effecters(rt.alloc(), 32)?;
-    assert_eq!(rt; effecters_of(rt.alloc(), most.as_str())?, 32);
-    let more = with_effecters(rt.alloc(), 33)?;
-    expect_too_many(&rt, rt.alloc(), more.as_str(), Field::Numeric)
+fn a_board_has_at_most_32_numeric_effecters(rt: HostRuntime) {
+    let most = with_items(rt.alloc(), BARE, 32, ITEM).expect(&rt, "memory");
+    assert_eq!(rt;
+        effecters_of(rt.alloc(), most.as_str()).expect(&rt, "a case"),
+        32
+    );
+    let more = with_items(rt.alloc(), BARE, 33, ITEM).expect(&rt, "memory");
+    expect_too_many(&rt, rt.alloc(), more.as_str(), Field::Numeric);
 }
 
 /// A line for each size: the least and the greatest of its numbers, each with its bits.
@@ -230,52 +226,48 @@ const BEYOND: [(&str, &str, &str); 6] = [
 
 /// A board's file with one effecter, whose value is its upper bound.
 fn only(alloc: Global, size: &str, lower: &str, upper: &str) -> Result<String, AllocError> {
-    let parts = [
-        BARE,
-        "[[numeric]]\nid = 0\nsize = ",
-        size,
-        "\noperational = 1\nlower = ",
-        lower,
-        "\nupper = ",
-        upper,
-        "\ncurrent = ",
-        upper,
-        "\n",
-    ];
-    joined(alloc, &parts)
+    let lower = joined(alloc, &[size, "\noperational = 1\nlower = ", lower])?;
+    let upper = joined(alloc, &["\nupper = ", upper, "\ncurrent = ", upper, "\n"])?;
+    joined(
+        alloc,
+        &[
+            BARE,
+            "[[numeric]]\nid = 0\nsize = ",
+            lower.as_str(),
+            upper.as_str(),
+        ],
+    )
 }
 
 #[test]
-fn each_size_has_its_numbers(rt: HostRuntime) -> Result<(), Fail> {
+fn each_size_has_its_numbers(rt: HostRuntime) {
     let alloc = rt.alloc();
     for (number, size, (least, lower), (most, upper)) in SIZES {
-        let text = only(alloc, number, least, most)?;
+        let text = only(alloc, number, least, most).expect(&rt, "memory");
         let want = [(0, true, size, (lower, upper), upper)];
-        expect_effecters(&rt, alloc, text.as_str(), &want)?;
+        expect_effecters(&rt, alloc, text.as_str(), &want);
     }
-    Ok(())
 }
 
 #[test]
-fn numbers_beyond_a_size_are_out_of_range(rt: HostRuntime) -> Result<(), Fail> {
+fn numbers_beyond_a_size_are_out_of_range(rt: HostRuntime) {
     let alloc = rt.alloc();
     for (size, below, above) in BEYOND {
         for (lower, upper, want) in [
             (below, "0", "Range numeric 0 lower"),
             ("0", above, "Range numeric 0 upper"),
         ] {
-            let text = only(alloc, size, lower, upper)?;
-            expect_fault(&rt, alloc, Form::Board, text.as_str(), want)?;
+            let text = only(alloc, size, lower, upper).expect(&rt, "memory");
+            expect_fault(&rt, alloc, Form::Board, text.as_str(), want);
         }
     }
-    Ok(())
 }
 
 /// A step on effecter 261 that lacks the size and the value.
 const STEP: &str = "[[step]]\nkind = \"numeric-effecter\"\neffecter = 261\n";
 
 #[test]
-fn a_step_has_the_bytes_of_its_number(rt: HostRuntime) -> Result<(), Fail> {
+fn a_step_has_the_bytes_of_its_number(rt: HostRuntime) {
     let cases = [
         ("size = 0\nvalue = 255", 0, NumericBytes::One(0xFF)),
         ("size = 1\nvalue = -128", 1, NumericBytes::One(0x80)),
@@ -304,13 +296,12 @@ fn a_step_has_the_bytes_of_its_number(rt: HostRuntime) -> Result<(), Fail> {
             size,
             value,
         };
-        expect_step(&rt, rt.alloc(), STEP, lines, Op::NumericEffecter(set))?;
+        expect_step(&rt, rt.alloc(), STEP, lines, Op::NumericEffecter(set));
     }
-    Ok(())
 }
 
 #[test]
-fn a_value_is_of_the_size_that_its_step_has(rt: HostRuntime) -> Result<(), Fail> {
+fn a_value_is_of_the_size_that_its_step_has(rt: HostRuntime) {
     let cases = [
         ("size = 0\nvalue = 256", "0 Range value"),
         ("size = 0\nvalue = -1", "0 Range value"),
@@ -329,5 +320,5 @@ fn a_value_is_of_the_size_that_its_step_has(rt: HostRuntime) -> Result<(), Fail>
         ("size = 0", "0 Missing value"),
         ("value = 0", "0 Missing size"),
     ];
-    expect_plans(&rt, rt.alloc(), (STEP, "\n"), &cases)
+    expect_plans(&rt, rt.alloc(), (STEP, "\n"), &cases);
 }

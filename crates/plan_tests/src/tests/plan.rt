@@ -11,7 +11,6 @@ use cfg_records::{
 use plan_file::{NoGet, OutsidePlan, PlanFault, StepFault, read_plan};
 use std::alloc::{AllocError, Global};
 use std::process::Abort;
-use std::test::Fail;
 
 /// A step of each kind. No line stands in it twice but `[[step]]`.
 const PLAN: &str = "[[step]]
@@ -108,12 +107,12 @@ const FILE: Text = Text {
 };
 
 #[test]
-fn a_field_that_is_left_out_mistyped_or_out_of_range_is_named(rt: HostRuntime) -> Result<(), Fail> {
-    expect_fields(&rt, rt.alloc(), &FILE, FIELDS, &OPTIONAL)
+fn a_field_that_is_left_out_mistyped_or_out_of_range_is_named(rt: HostRuntime) {
+    expect_fields(&rt, rt.alloc(), &FILE, FIELDS, &OPTIONAL);
 }
 
 #[test]
-fn the_first_fault_counts(rt: HostRuntime) -> Result<(), Fail> {
+fn the_first_fault_counts(rt: HostRuntime) {
     let cases: [Named; 16] = [
         ("retries =", "Text"),
         ("retries = 99999999999999999999", "Text"),
@@ -141,11 +140,11 @@ fn the_first_fault_counts(rt: HostRuntime) -> Result<(), Fail> {
             "0 Missing sensor",
         ),
     ];
-    expect_plans(&rt, rt.alloc(), ("", ""), &cases)
+    expect_plans(&rt, rt.alloc(), ("", ""), &cases);
 }
 
 #[test]
-fn what_no_get_shows_is_refused(rt: HostRuntime) -> Result<(), Fail> {
+fn what_no_get_shows_is_refused(rt: HostRuntime) {
     let cases: [Named; 12] = [
         (
             "kind = \"user-access\"\nsession_limit = \"\"",
@@ -172,18 +171,17 @@ fn what_no_get_shows_is_refused(rt: HostRuntime) -> Result<(), Fail> {
         ("kind = \"boot-param\"\nparam = false", "0 Missing invalid"),
         ("kind = \"thresholds\"\nflags_clear = 0", "0 Missing sensor"),
     ];
-    expect_plans(&rt, rt.alloc(), ("[[step]]\n", "\n"), &cases)
+    expect_plans(&rt, rt.alloc(), ("[[step]]\n", "\n"), &cases);
 }
 
 /// The text is refused for this.
-fn expect_refused(rt: &impl Abort, alloc: Global, text: &str, want: PlanFault) -> Result<(), Fail> {
-    let found = read_plan(alloc, text).err().ok_or("a fault")?;
+fn expect_refused(rt: &impl Abort, alloc: Global, text: &str, want: PlanFault) {
+    let found = read_plan(alloc, text).err().expect(rt, "a fault");
     assert_eq!(rt; found, want, "{text}");
-    Ok(())
 }
 
 #[test]
-fn passwords_the_clock_and_the_log_stand_outside_plans(rt: HostRuntime) -> Result<(), Fail> {
+fn passwords_the_clock_and_the_log_stand_outside_plans(rt: HostRuntime) {
     let cases = [
         (
             "[[step]]\nkind = \"password\"\n",
@@ -207,14 +205,13 @@ fn passwords_the_clock_and_the_log_stand_outside_plans(rt: HostRuntime) -> Resul
         ),
     ];
     for (text, fault, name) in cases {
-        expect_refused(&rt, rt.alloc(), text, PlanFault::Step(0, fault))?;
-        expect_fault(&rt, rt.alloc(), Form::Plan, text, name)?;
+        expect_refused(&rt, rt.alloc(), text, PlanFault::Step(0, fault));
+        expect_fault(&rt, rt.alloc(), Form::Plan, text, name);
     }
-    Ok(())
 }
 
 #[test]
-fn booleans_are_no_numbers_and_numbers_no_booleans(rt: HostRuntime) -> Result<(), Fail> {
+fn booleans_are_no_numbers_and_numbers_no_booleans(rt: HostRuntime) {
     let cases = [
         ("messages = true", "messages = 1", "2 WrongType messages"),
         ("messages = true", "", "2 Missing messages"),
@@ -229,7 +226,7 @@ fn booleans_are_no_numbers_and_numbers_no_booleans(rt: HostRuntime) -> Result<()
         ("no_log = true", "", "3 Missing no_log"),
         ("no_log = true", "no_log = false", ""),
     ];
-    expect_edits(&rt, rt.alloc(), &FILE, &cases)
+    expect_edits(&rt, rt.alloc(), &FILE, &cases);
 }
 
 /// A step on the events of a sensor that lacks what is done with them.
@@ -237,7 +234,7 @@ const EVENT_ENABLE: &str =
     "[[step]]\nkind = \"event-enable\"\nsensor = 0\nmessages = true\nscanning = true\n";
 
 #[test]
-fn events_are_needed_unless_they_are_left(rt: HostRuntime) -> Result<(), Fail> {
+fn events_are_needed_unless_they_are_left(rt: HostRuntime) {
     let cases: [Named; 7] = [
         ("select = \"leave\"", ""),
         ("select = \"leave\"\nassert = [12]", "0 Range assert"),
@@ -247,11 +244,11 @@ fn events_are_needed_unless_they_are_left(rt: HostRuntime) -> Result<(), Fail> {
         ("select = 0", "0 Missing assert"),
         ("assert = []", "0 Missing select"),
     ];
-    expect_plans(&rt, rt.alloc(), (EVENT_ENABLE, "\n"), &cases)
+    expect_plans(&rt, rt.alloc(), (EVENT_ENABLE, "\n"), &cases);
 }
 
 #[test]
-fn each_kind_is_read(rt: HostRuntime) -> Result<(), Fail> {
+fn each_kind_is_read(rt: HostRuntime) {
     let steps = [
         Op::Thresholds(SetThresholds {
             sensor: 5,
@@ -291,14 +288,14 @@ fn each_kind_is_read(rt: HostRuntime) -> Result<(), Fail> {
             value: NumericBytes::Two(0xE8, 0x03),
         }),
     ];
-    expect_plan(&rt, rt.alloc(), PLAN, &steps, 3)
+    expect_plan(&rt, rt.alloc(), PLAN, &steps, 3);
 }
 
 /// A step on a boot parameter that lacks its number and its data.
 const BOOT_PARAM: &str = "[[step]]\nkind = \"boot-param\"\ninvalid = true\n";
 
 #[test]
-fn each_boot_parameter_is_read_with_its_data_or_none(rt: HostRuntime) -> Result<(), Fail> {
+fn each_boot_parameter_is_read_with_its_data_or_none(rt: HostRuntime) {
     let flags = BootFlags {
         validity: 1,
         device: 2,
@@ -327,13 +324,12 @@ fn each_boot_parameter_is_read_with_its_data_or_none(rt: HostRuntime) -> Result<
             invalid: true,
             change,
         };
-        expect_step(&rt, rt.alloc(), BOOT_PARAM, lines, Op::BootParam(set))?;
+        expect_step(&rt, rt.alloc(), BOOT_PARAM, lines, Op::BootParam(set));
     }
-    Ok(())
 }
 
 #[test]
-fn data_of_a_boot_parameter_are_its_own(rt: HostRuntime) -> Result<(), Fail> {
+fn data_of_a_boot_parameter_are_its_own(rt: HostRuntime) {
     let cases: [Named; 9] = [
         ("param = 2", "0 Range param"),
         ("param = 6\ndata = 0", "0 WrongType data"),
@@ -345,11 +341,11 @@ fn data_of_a_boot_parameter_are_its_own(rt: HostRuntime) -> Result<(), Fail> {
         ("param = 5\ndata = [0, 0, 0, 0]", "0 Range data"),
         ("data = [0]", "0 Missing param"),
     ];
-    expect_plans(&rt, rt.alloc(), (BOOT_PARAM, "\n"), &cases)
+    expect_plans(&rt, rt.alloc(), (BOOT_PARAM, "\n"), &cases);
 }
 
 #[test]
-fn a_plan_of_two_threshold_steps_is_read(rt: HostRuntime) -> Result<(), Fail> {
+fn a_plan_of_two_threshold_steps_is_read(rt: HostRuntime) {
     let text = "[[step]]
 kind = \"thresholds\"
 sensor = 5
@@ -373,11 +369,11 @@ unr = 0x64
             values: [0, 0, 0, 0, 0x5C, 0x64],
         }),
     ];
-    expect_plan(&rt, rt.alloc(), text, &steps, 3)
+    expect_plan(&rt, rt.alloc(), text, &steps, 3);
 }
 
 #[test]
-fn retries_are_3_where_none_are_given(rt: HostRuntime) -> Result<(), Fail> {
+fn retries_are_3_where_none_are_given(rt: HostRuntime) {
     let cases = [
         ("", 3),
         ("retries = 0", 0),
@@ -385,17 +381,16 @@ fn retries_are_3_where_none_are_given(rt: HostRuntime) -> Result<(), Fail> {
         ("step = []\nretry = 16", 3),
     ];
     for (text, retries) in cases {
-        expect_plan(&rt, rt.alloc(), text, &[], retries)?;
+        expect_plan(&rt, rt.alloc(), text, &[], retries);
     }
-    Ok(())
 }
 
 /// A step.
 const POLICY: &str = "[[step]]\nkind = \"power-policy\"\npolicy = 1\n";
 
 /// How many steps the plan has.
-fn steps_of(alloc: Global, text: &str) -> Result<usize, Fail> {
-    Ok(plan_of(alloc, text)?.steps.as_slice().len())
+fn steps_of(alloc: Global, text: &str) -> Option<usize> {
+    Some(plan_of(alloc, text)?.steps.as_slice().len())
 }
 
 /// A plan of so many steps, behind these lines.
@@ -405,32 +400,31 @@ fn with_steps(alloc: Global, lines: &str, count: usize) -> Result<String, AllocE
 }
 
 #[test]
-fn a_plan_has_at_most_256_steps(rt: HostRuntime) -> Result<(), Fail> {
+fn a_plan_has_at_most_256_steps(rt: HostRuntime) {
     let alloc = rt.alloc();
-    let most = with_steps(alloc, "", 256)?;
-    assert_eq!(rt; steps_of(alloc, most.as_str())?, 256);
+    let most = with_steps(alloc, "", 256).expect(&rt, "memory");
+    assert_eq!(rt; steps_of(alloc, most.as_str()).expect(&rt, "a case"), 256);
     for (head, count, want) in [
         ("[[step]]\nkind = \"log\"\n", 256, "TooMany"),
         ("retries = 16\n", 257, "Range retries"),
     ] {
-        let text = with_steps(alloc, head, count)?;
-        expect_fault(&rt, alloc, Form::Plan, text.as_str(), want)?;
+        let text = with_steps(alloc, head, count).expect(&rt, "memory");
+        expect_fault(&rt, alloc, Form::Plan, text.as_str(), want);
     }
-    let more = with_steps(alloc, "", 257)?;
-    expect_refused(&rt, alloc, more.as_str(), PlanFault::TooMany)
+    let more = with_steps(alloc, "", 257).expect(&rt, "memory");
+    expect_refused(&rt, alloc, more.as_str(), PlanFault::TooMany);
 }
 
 /// A plan of one step, of which six prefixes are plans.
 const SHORT: &str = "retries = 15\n[[step]]\nkind = \"power-policy\"\npolicy = 2\n";
 
 #[test]
-fn each_prefix_is_read_or_refused(rt: HostRuntime) -> Result<(), Fail> {
+fn each_prefix_is_read_or_refused(rt: HostRuntime) {
     let bytes = SHORT.as_bytes();
     let plans = [0, 11, 12, 13, bytes.len() - 1, bytes.len()];
     for end in 0..=bytes.len() {
-        let text = std::str::from_utf8(&bytes[..end]).map_err(|_| "ASCII")?;
+        let text = std::str::from_utf8(&bytes[..end]).expect(&rt, "ASCII");
         let read = read_plan(rt.alloc(), text);
         assert_eq!(rt; read.is_ok(), plans.contains(&end), "{end}");
     }
-    Ok(())
 }

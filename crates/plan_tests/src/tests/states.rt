@@ -1,35 +1,13 @@
 //! State effecters: of board files, and of the steps of plans.
+use super::effecters::BARE;
 use super::texts::{
     Form, Text, board_of, edited, expect_around, expect_edits, expect_fault, expect_fields,
-    expect_plans, expect_too_many, joined, numbered, plan_of, times,
+    expect_plans, expect_too_many, joined, plan_of, times, with_items,
 };
 use cfg_records::{FieldChange, Op, StateEffecter, StateField};
 use plan_file::Field;
 use std::alloc::{AllocError, Global};
 use std::process::Abort;
-use std::test::Fail;
-
-/// A board without sensors, channels and effecters.
-const BARE: &str = "tid = 5
-clock = 0
-log = 2
-enables = 0x08
-policy = 1
-users = [\"\"]
-watchdog = [0, 0, 0, 0]
-boot3 = 0
-boot4 = 0
-boot5 = [0, 0, 0, 0, 0]
-sdr = []
-[device]
-id = 0x20
-revision = 1
-major = 1
-minor = 0x05
-support = 0x07
-manufacturer = 0xABCD
-product = 0x1234
-";
 
 /// Two state effecters. No line stands in them twice but `[[state]]`, nor in the board above.
 const TWO: &str = "[[state]]
@@ -89,29 +67,23 @@ fn is_state(effecter: &StateEffecter, want: &State) -> bool {
 }
 
 /// The effecters of the board's file are these.
-fn expect_effecters(
-    rt: &impl Abort,
-    alloc: Global,
-    text: &str,
-    want: &[State],
-) -> Result<(), Fail> {
-    let read = board_of(alloc, text)?;
+fn expect_effecters(rt: &impl Abort, alloc: Global, text: &str, want: &[State]) {
+    let read = board_of(alloc, text).expect(rt, "a board");
     let effecters = read.state_effecters.items.as_slice();
     assert_eq!(rt; effecters.len(), want.len());
     for (effecter, want) in effecters.iter().zip(want) {
         assert!(rt; is_state(effecter, want), "{text}");
     }
-    Ok(())
 }
 
 #[test]
-fn state_effecters_of_a_file_are_the_boards(rt: HostRuntime) -> Result<(), Fail> {
-    let text = edited(rt.alloc(), &FILE, "", "")?;
+fn state_effecters_of_a_file_are_the_boards(rt: HostRuntime) {
+    let text = edited(rt.alloc(), &FILE, "", "").expect(&rt, "memory");
     let want: [State; 2] = [
         (4, true, &[(&[1, 2, 255], 2), (&[7], 7)]),
         (5, false, &[(&[0], 0)]),
     ];
-    expect_effecters(&rt, rt.alloc(), text.as_str(), &want)
+    expect_effecters(&rt, rt.alloc(), text.as_str(), &want);
 }
 
 /// The board's file and the effecters.
@@ -122,12 +94,12 @@ const FILE: Text = Text {
 };
 
 #[test]
-fn a_field_that_is_left_out_mistyped_or_out_of_range_is_named(rt: HostRuntime) -> Result<(), Fail> {
-    expect_fields(&rt, rt.alloc(), &FILE, FIELDS, &[])
+fn a_field_that_is_left_out_mistyped_or_out_of_range_is_named(rt: HostRuntime) {
+    expect_fields(&rt, rt.alloc(), &FILE, FIELDS, &[]);
 }
 
 #[test]
-fn the_first_fault_counts(rt: HostRuntime) -> Result<(), Fail> {
+fn the_first_fault_counts(rt: HostRuntime) {
     let cases = [
         ("id = 5", "id = 4", "Twice state 1 id"),
         // A field that can be in no state is in none.
@@ -180,7 +152,7 @@ fn the_first_fault_counts(rt: HostRuntime) -> Result<(), Fail> {
             "Twice state 2 id",
         ),
     ];
-    expect_edits(&rt, rt.alloc(), &FILE, &cases)
+    expect_edits(&rt, rt.alloc(), &FILE, &cases);
 }
 
 /// A channel and a numeric effecter that lack all but their numbers.
@@ -189,7 +161,7 @@ const CHANNEL: &str = "[[channel]]\nnumber = 1\n";
 const NUMERIC: &str = "[[numeric]]\nid = 1\n";
 
 #[test]
-fn state_effecters_come_between_channels_and_numeric_ones(rt: HostRuntime) -> Result<(), Fail> {
+fn state_effecters_come_between_channels_and_numeric_ones(rt: HostRuntime) {
     let cases = [
         ("", "", ""),
         ("state = []\n", "", ""),
@@ -201,7 +173,7 @@ fn state_effecters_come_between_channels_and_numeric_ones(rt: HostRuntime) -> Re
         ("channel = 1\nstate = 1\n", "", "WrongType top channel"),
         ("numeric = 1\nstate = 1\n", "", "WrongType top state"),
     ];
-    expect_around(&rt, rt.alloc(), BARE, &cases)
+    expect_around(&rt, rt.alloc(), BARE, &cases);
 }
 
 /// An effecter of the board whose id is a numeric one's too.
@@ -220,36 +192,35 @@ current = 1
 ";
 
 /// How many state effecters and numeric ones the board has of the text.
-fn counts_of(alloc: Global, text: &str) -> Result<(usize, usize), Fail> {
+fn counts_of(alloc: Global, text: &str) -> Option<(usize, usize)> {
     let read = board_of(alloc, text)?;
-    Ok((
+    Some((
         read.state_effecters.items.as_slice().len(),
         read.numeric_effecters.items.as_slice().len(),
     ))
 }
 
 #[test]
-fn ids_are_distinct_among_state_effecters_alone(rt: HostRuntime) -> Result<(), Fail> {
-    let text = joined(rt.alloc(), &[BARE, BOTH])?;
-    assert_eq!(rt; counts_of(rt.alloc(), text.as_str())?, (1, 1));
-    Ok(())
+fn ids_are_distinct_among_state_effecters_alone(rt: HostRuntime) {
+    let text = joined(rt.alloc(), &[BARE, BOTH]).expect(&rt, "memory");
+    assert_eq!(rt;
+        counts_of(rt.alloc(), text.as_str()).expect(&rt, "a case"),
+        (1, 1)
+    );
 }
 
 /// An effecter, in whose number's place is `#`.
 const ITEM: &str = "[[state]]\nid = #\noperational = 1\nstates = [[3]]\ncurrent = [3]\n";
 
-/// The board's file with so many effecters.
-fn with_effecters(alloc: Global, count: u8) -> Result<String, AllocError> {
-    let items = numbered(alloc, count, ITEM)?;
-    joined(alloc, &[BARE, items.as_str()])
-}
-
 #[test]
-fn a_board_has_at_most_32_state_effecters(rt: HostRuntime) -> Result<(), Fail> {
-    let most = with_effecters(rt.alloc(), 32)?;
-    assert_eq!(rt; counts_of(rt.alloc(), most.as_str())?, (32, 0));
-    let more = with_effecters(rt.alloc(), 33)?;
-    expect_too_many(&rt, rt.alloc(), more.as_str(), Field::State)
+fn a_board_has_at_most_32_state_effecters(rt: HostRuntime) {
+    let most = with_items(rt.alloc(), BARE, 32, ITEM).expect(&rt, "memory");
+    assert_eq!(rt;
+        counts_of(rt.alloc(), most.as_str()).expect(&rt, "a case"),
+        (32, 0)
+    );
+    let more = with_items(rt.alloc(), BARE, 33, ITEM).expect(&rt, "memory");
+    expect_too_many(&rt, rt.alloc(), more.as_str(), Field::State);
 }
 
 /// A list of so many members, each of which is this text.
@@ -260,21 +231,15 @@ fn list(alloc: Global, count: usize, member: &str) -> Result<String, AllocError>
 }
 
 /// The fault of the board's file with one effecter, with these states and these present ones, is called so.
-fn expect_only(
-    rt: &impl Abort,
-    alloc: Global,
-    states: &str,
-    current: &str,
-    want: &str,
-) -> Result<(), Fail> {
+fn expect_only(rt: &impl Abort, alloc: Global, states: &str, current: &str, want: &str) {
     let head = "[[state]]\nid = 9\noperational = 1\nstates = ";
     let parts = [BARE, head, states, "\ncurrent = ", current, "\n"];
-    let text = joined(alloc, &parts)?;
-    expect_fault(rt, alloc, Form::Board, text.as_str(), want)
+    let text = joined(alloc, &parts).expect(rt, "memory");
+    expect_fault(rt, alloc, Form::Board, text.as_str(), want);
 }
 
 #[test]
-fn an_effecter_has_at_most_8_fields(rt: HostRuntime) -> Result<(), Fail> {
+fn an_effecter_has_at_most_8_fields(rt: HostRuntime) {
     let alloc = rt.alloc();
     for (count, want) in [
         (0, "Range state 0 states"),
@@ -282,22 +247,20 @@ fn an_effecter_has_at_most_8_fields(rt: HostRuntime) -> Result<(), Fail> {
         (8, ""),
         (9, "Range state 0 states"),
     ] {
-        let states = list(alloc, count, "[1, 2]")?;
-        let current = list(alloc, count, "2")?;
-        expect_only(&rt, alloc, states.as_str(), current.as_str(), want)?;
+        let states = list(alloc, count, "[1, 2]").expect(&rt, "memory");
+        let current = list(alloc, count, "2").expect(&rt, "memory");
+        expect_only(&rt, alloc, states.as_str(), current.as_str(), want);
     }
-    Ok(())
 }
 
 #[test]
-fn a_field_lists_at_most_256_states(rt: HostRuntime) -> Result<(), Fail> {
+fn a_field_lists_at_most_256_states(rt: HostRuntime) {
     let alloc = rt.alloc();
     for (count, want) in [(256, ""), (257, "Range state 0 states")] {
-        let states = list(alloc, count, "7")?;
-        let states = joined(alloc, &["[", states.as_str(), "]"])?;
-        expect_only(&rt, alloc, states.as_str(), "[7]", want)?;
+        let states = list(alloc, count, "7").expect(&rt, "memory");
+        let states = joined(alloc, &["[", states.as_str(), "]"]).expect(&rt, "memory");
+        expect_only(&rt, alloc, states.as_str(), "[7]", want);
     }
-    Ok(())
 }
 
 /// A step on states that has no more than its kind.
@@ -323,15 +286,15 @@ fn is_set(op: &Op, changes: &[FieldChange]) -> bool {
 }
 
 /// Whether a step with these states makes these changes.
-fn makes(alloc: Global, states: &str, changes: &[FieldChange]) -> Result<bool, Fail> {
-    let text = joined(alloc, &[STEP, "effecter = 261\nstates = ", states, "\n"])?;
+fn makes(alloc: Global, states: &str, changes: &[FieldChange]) -> Option<bool> {
+    let text = joined(alloc, &[STEP, "effecter = 261\nstates = ", states, "\n"]).ok()?;
     let plan = plan_of(alloc, text.as_str())?;
-    let step = plan.steps.as_slice().get(0).ok_or("a step")?;
-    Ok(is_set(step, changes))
+    let step = plan.steps.as_slice().get(0)?;
+    Some(is_set(step, changes))
 }
 
 #[test]
-fn a_step_has_a_change_for_each_field(rt: HostRuntime) -> Result<(), Fail> {
+fn a_step_has_a_change_for_each_field(rt: HostRuntime) {
     let eight = [to(1), to(2), to(3), to(4), to(5), to(6), to(7), STAY];
     let cases: [(&str, &[FieldChange]); 5] = [
         ("[0]", &[to(0)]),
@@ -341,13 +304,15 @@ fn a_step_has_a_change_for_each_field(rt: HostRuntime) -> Result<(), Fail> {
         ("[1, 2, 3, 4, 5, 6, 7, -1]", &eight),
     ];
     for (states, changes) in cases {
-        assert!(rt; makes(rt.alloc(), states, changes)?, "{states}");
+        assert!(rt;
+            makes(rt.alloc(), states, changes).expect(&rt, "a case"),
+            "{states}"
+        );
     }
-    Ok(())
 }
 
 #[test]
-fn a_step_on_states_names_its_faults(rt: HostRuntime) -> Result<(), Fail> {
+fn a_step_on_states_names_its_faults(rt: HostRuntime) {
     let cases = [
         ("effecter = 0\nstates = [0]", ""),
         ("effecter = 65535\nstates = [0]", ""),
@@ -376,5 +341,5 @@ fn a_step_on_states_names_its_faults(rt: HostRuntime) -> Result<(), Fail> {
             "0 Range states",
         ),
     ];
-    expect_plans(&rt, rt.alloc(), (STEP, "\n"), &cases)
+    expect_plans(&rt, rt.alloc(), (STEP, "\n"), &cases);
 }

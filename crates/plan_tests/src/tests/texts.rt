@@ -4,7 +4,6 @@ use plan_file::{Field, FileFault, Item, Place, read_board, read_plan};
 use plans::Plan;
 use std::alloc::{AllocError, Global};
 use std::process::Abort;
-use std::test::Fail;
 
 /// What a text is of.
 #[derive(Clone, Copy)]
@@ -22,7 +21,7 @@ pub struct Text {
 }
 
 /// A line, another in its place, and what the fault is called then: nothing where there is none.
-pub type Edit = (&'static str, &'static str, &'static str);
+pub type Edit<'a> = (&'a str, &'a str, &'a str);
 
 /// A text, and what its fault is called.
 pub type Named = (&'static str, &'static str);
@@ -50,19 +49,13 @@ fn row_of(text: &'static str) -> Option<Row> {
 }
 
 /// The board of the text.
-pub fn board_of(alloc: Global, text: &str) -> Result<BoardFile, Fail> {
-    match read_board(alloc, text) {
-        Ok(board) => Ok(board),
-        Err(_) => Err(Fail::from("a board")),
-    }
+pub fn board_of(alloc: Global, text: &str) -> Option<BoardFile> {
+    read_board(alloc, text).ok()
 }
 
 /// The plan of the text.
-pub fn plan_of(alloc: Global, text: &str) -> Result<Plan, Fail> {
-    match read_plan(alloc, text) {
-        Ok(plan) => Ok(plan),
-        Err(_) => Err(Fail::from("a plan")),
-    }
+pub fn plan_of(alloc: Global, text: &str) -> Option<Plan> {
+    read_plan(alloc, text).ok()
 }
 
 /// What the fault of a board file is called, and nothing where it is a board.
@@ -82,19 +75,12 @@ fn plan_fault(alloc: Global, text: &str) -> Result<String, AllocError> {
 }
 
 /// The fault of the text is called so: nothing where there is none.
-pub fn expect_fault(
-    rt: &impl Abort,
-    alloc: Global,
-    form: Form,
-    text: &str,
-    want: &str,
-) -> Result<(), Fail> {
+pub fn expect_fault(rt: &impl Abort, alloc: Global, form: Form, text: &str, want: &str) {
     let found = match form {
-        Form::Board => board_fault(alloc, text)?,
-        Form::Plan => plan_fault(alloc, text)?,
+        Form::Board => board_fault(alloc, text).expect(rt, "memory"),
+        Form::Plan => plan_fault(alloc, text).expect(rt, "memory"),
     };
     assert_eq!(rt; found.as_str(), want, "{text}");
-    Ok(())
 }
 
 /// The parts, one behind another.
@@ -142,67 +128,61 @@ pub fn numbered(alloc: Global, count: u8, item: &str) -> Result<String, AllocErr
     Ok(text)
 }
 
+/// Appends a line.
+fn push_line(text: &mut String, line: &str) -> Result<(), AllocError> {
+    text.push_str(line)?;
+    text.push_str("\n")
+}
+
+/// The text of a board with so many items, each with its number in the place of `#`.
+pub fn with_items(alloc: Global, board: &str, count: u8, item: &str) -> Result<String, AllocError> {
+    let items = numbered(alloc, count, item)?;
+    joined(alloc, &[board, items.as_str()])
+}
+
 /// The text with a line in another's place.
-pub fn edited(
-    alloc: Global,
-    text: &Text,
-    old: &'static str,
-    new: &'static str,
-) -> Result<String, AllocError> {
+pub fn edited(alloc: Global, text: &Text, old: &str, new: &str) -> Result<String, AllocError> {
     let mut all = String::from_str(alloc, text.head)?;
     for line in text.lines.lines() {
-        all.push_str(if line == old { new } else { line })?;
-        all.push('\n')?;
+        push_line(&mut all, if line == old { new } else { line })?;
     }
     Ok(all)
 }
 
 /// With a line in another's place, the fault of the text is called so.
-fn expect_edit(
-    rt: &impl Abort,
-    alloc: Global,
-    text: &Text,
-    line: (&'static str, &'static str),
-    want: &str,
-) -> Result<(), Fail> {
-    let (old, new) = line;
-    let all = edited(alloc, text, old, new)?;
-    expect_fault(rt, alloc, text.form, all.as_str(), want)
+fn expect_edit(rt: &impl Abort, alloc: Global, text: &Text, edit: &Edit<'_>) {
+    let (old, new, want) = *edit;
+    let all = edited(alloc, text, old, new).expect(rt, "memory");
+    expect_fault(rt, alloc, text.form, all.as_str(), want);
 }
 
 /// With each line in another's place, the fault of the text is called so.
-pub fn expect_edits(
-    rt: &impl Abort,
-    alloc: Global,
-    text: &Text,
-    edits: &[Edit],
-) -> Result<(), Fail> {
-    for (old, new, want) in edits {
-        expect_edit(rt, alloc, text, (old, new), want)?;
+pub fn expect_edits(rt: &impl Abort, alloc: Global, text: &Text, edits: &[Edit<'_>]) {
+    for edit in edits {
+        expect_edit(rt, alloc, text, edit);
     }
-    Ok(())
 }
 
 /// What the fault of this name is called, of the field at a place of a plan.
-fn called_in_plan(alloc: Global, name: &str, place: &str) -> Result<String, Fail> {
-    let (step, field) = place.split_once(' ').ok_or("a place")?;
-    Ok(format!(in alloc; "{step} {name} {field}")?)
+fn called_in_plan(alloc: Global, name: &str, place: &str) -> Option<String> {
+    let (step, field) = place.split_once(' ')?;
+    joined(alloc, &[step, " ", name, " ", field]).ok()
 }
 
 /// What the fault of this name is called, of the field at a place.
-fn called(alloc: Global, form: Form, name: &str, place: &str) -> Result<String, Fail> {
+fn called(alloc: Global, form: Form, name: &str, place: &str) -> Option<String> {
     match form {
-        Form::Board => Ok(format!(in alloc; "{name} {place}")?),
+        Form::Board => joined(alloc, &[name, " ", place]).ok(),
         Form::Plan => called_in_plan(alloc, name, place),
     }
 }
 
 /// What the fault of a text is called that lacks the line of the field at a place: the field is missing, unless the others name
 /// the place.
-fn lacking(alloc: Global, form: Form, place: &str, others: &[Named]) -> Result<String, Fail> {
+fn lacking(alloc: Global, form: Form, place: &str, others: &[Named]) -> Option<String> {
     for (other, want) in others {
         if *other == place {
-            return Ok(String::from_str(alloc, want)?);
+            return String::from_str(alloc, want).ok();
         }
     }
     called(alloc, form, "Missing", place)
@@ -216,24 +196,17 @@ fn expect_lines(
     line: &'static str,
     others: &[&'static str],
     want: &str,
-) -> Result<(), Fail> {
+) {
     for other in others {
-        expect_edit(rt, alloc, text, (line, other), want)?;
+        expect_edit(rt, alloc, text, &(line, other, want));
     }
-    Ok(())
 }
 
 /// Each line of the row stands in the place of the field's, and what is wrong is named.
-fn expect_row(
-    rt: &impl Abort,
-    alloc: Global,
-    text: &Text,
-    row: &Row,
-    others: &[Named],
-) -> Result<(), Fail> {
-    let missing = lacking(alloc, text.form, row.place, others)?;
-    expect_lines(rt, alloc, text, row.line, &[""], missing.as_str())?;
-    let mistyped = called(alloc, text.form, "WrongType", row.place)?;
+fn expect_row(rt: &impl Abort, alloc: Global, text: &Text, row: &Row, others: &[Named]) {
+    let missing = lacking(alloc, text.form, row.place, others).expect(rt, "a case");
+    expect_lines(rt, alloc, text, row.line, &[""], missing.as_str());
+    let mistyped = called(alloc, text.form, "WrongType", row.place).expect(rt, "a case");
     expect_lines(
         rt,
         alloc,
@@ -241,10 +214,10 @@ fn expect_row(
         row.line,
         &[row.mistyped],
         mistyped.as_str(),
-    )?;
-    let beyond = called(alloc, text.form, "Range", row.place)?;
-    expect_lines(rt, alloc, text, row.line, &row.beyond, beyond.as_str())?;
-    expect_lines(rt, alloc, text, row.line, &row.inside, "")
+    );
+    let beyond = called(alloc, text.form, "Range", row.place).expect(rt, "a case");
+    expect_lines(rt, alloc, text, row.line, &row.beyond, beyond.as_str());
+    expect_lines(rt, alloc, text, row.line, &row.inside, "");
 }
 
 /// A field that is left out, mistyped or out of range is named, for each row of the table. The others name the places of the
@@ -255,57 +228,44 @@ pub fn expect_fields(
     text: &Text,
     rows: &'static str,
     others: &[Named],
-) -> Result<(), Fail> {
+) {
     for line in rows.lines() {
-        let row = row_of(line).ok_or("seven cells")?;
-        expect_row(rt, alloc, text, &row, others)?;
+        let row = row_of(line).expect(rt, "seven cells");
+        expect_row(rt, alloc, text, &row, others);
     }
-    Ok(())
 }
 
 /// The fault of each plan is called so that has these lines between two texts.
-pub fn expect_plans(
-    rt: &impl Abort,
-    alloc: Global,
-    frame: (&str, &str),
-    cases: &[Named],
-) -> Result<(), Fail> {
+pub fn expect_plans(rt: &impl Abort, alloc: Global, frame: (&str, &str), cases: &[Named]) {
     let (head, tail) = frame;
     for (lines, want) in cases {
-        let text = between(alloc, head, lines, tail)?;
-        expect_fault(rt, alloc, Form::Plan, text.as_str(), want)?;
+        let text = between(alloc, head, lines, tail).expect(rt, "memory");
+        expect_fault(rt, alloc, Form::Plan, text.as_str(), want);
     }
-    Ok(())
 }
 
 /// The fault of the board is called so with a text before it and one behind it, for each case.
-pub fn expect_around(
-    rt: &impl Abort,
-    alloc: Global,
-    board: &str,
-    cases: &[Edit],
-) -> Result<(), Fail> {
-    for (top, behind, want) in cases {
-        let text = between(alloc, top, board, behind)?;
-        expect_fault(rt, alloc, Form::Board, text.as_str(), want)?;
+pub fn expect_around(rt: &impl Abort, alloc: Global, board: &str, cases: &[Edit<'_>]) {
+    for case in cases {
+        expect_between(rt, alloc, board, case);
     }
-    Ok(())
+}
+
+/// The fault of the board is called so with a text before it and one behind it.
+fn expect_between(rt: &impl Abort, alloc: Global, board: &str, case: &Edit<'_>) {
+    let (top, behind, want) = *case;
+    let text = between(alloc, top, board, behind).expect(rt, "memory");
+    expect_fault(rt, alloc, Form::Board, text.as_str(), want);
 }
 
 /// The board is refused since it has too many items of the field.
-pub fn expect_too_many(
-    rt: &impl Abort,
-    alloc: Global,
-    text: &str,
-    field: Field,
-) -> Result<(), Fail> {
+pub fn expect_too_many(rt: &impl Abort, alloc: Global, text: &str, field: Field) {
     let place = Place {
         item: Item::Top,
         field,
     };
-    let found = read_board(alloc, text).err().ok_or("a fault")?;
+    let found = read_board(alloc, text).err().expect(rt, "a fault");
     assert_eq!(rt; found, FileFault::Range(place));
-    Ok(())
 }
 
 /// Whether two operations on sensors are the same.
@@ -357,30 +317,17 @@ fn is_op(one: &Op, other: &Op) -> bool {
 }
 
 /// The steps of the plan are these, and it retries so often.
-pub fn expect_plan(
-    rt: &impl Abort,
-    alloc: Global,
-    text: &str,
-    steps: &[Op],
-    retries: u8,
-) -> Result<(), Fail> {
-    let plan = plan_of(alloc, text)?;
+pub fn expect_plan(rt: &impl Abort, alloc: Global, text: &str, steps: &[Op], retries: u8) {
+    let plan = plan_of(alloc, text).expect(rt, "a plan");
     assert_eq!(rt; plan.retries.number(), retries, "{text}");
     assert_eq!(rt; plan.steps.as_slice().len(), steps.len(), "{text}");
     for (step, want) in plan.steps.as_slice().iter().zip(steps) {
         assert!(rt; is_op(step, want), "{text}");
     }
-    Ok(())
 }
 
 /// The plan of these lines behind the head has this step alone.
-pub fn expect_step(
-    rt: &impl Abort,
-    alloc: Global,
-    head: &str,
-    lines: &str,
-    step: Op,
-) -> Result<(), Fail> {
-    let text = joined(alloc, &[head, lines, "\n"])?;
-    expect_plan(rt, alloc, text.as_str(), &[step], 3)
+pub fn expect_step(rt: &impl Abort, alloc: Global, head: &str, lines: &str, step: Op) {
+    let text = joined(alloc, &[head, lines, "\n"]).expect(rt, "memory");
+    expect_plan(rt, alloc, text.as_str(), &[step], 3);
 }

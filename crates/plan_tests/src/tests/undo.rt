@@ -5,7 +5,6 @@ use plan_file::{UndoFault, read_undo, write_undo};
 use plans::{NextNumbers, Requests, UndoList};
 use std::alloc::{AllocError, Global};
 use std::process::Abort;
-use std::test::Fail;
 use two_wire::{Below, NetFn};
 
 /// The text of a plan that sets upper thresholds of sensor 5 twice.
@@ -42,50 +41,58 @@ fn fault(alloc: Global, text: &str) -> Option<UndoFault> {
 }
 
 /// The text of the list is this.
-fn expect_written(rt: &impl Abort, alloc: Global, list: &UndoList, want: &str) -> Result<(), Fail> {
-    let text = write_undo(alloc, list)?;
+fn expect_written(rt: &impl Abort, alloc: Global, list: &UndoList, want: &str) {
+    let text = write_undo(alloc, list).expect(rt, "memory");
     assert_eq!(rt; text.as_str(), want);
-    Ok(())
 }
 
 #[test]
-fn list_of_two_steps_is_written(rt: HostRuntime) -> Result<(), Fail> {
-    expect_written(&rt, rt.alloc(), &list(rt.alloc())?, TEXT)
+fn list_of_two_steps_is_written(rt: HostRuntime) {
+    expect_written(
+        &rt,
+        rt.alloc(),
+        &list(rt.alloc()).expect(&rt, "memory"),
+        TEXT,
+    );
 }
 
 /// The list of the text.
-fn list_of(alloc: Global, text: &str) -> Result<UndoList, Fail> {
-    match read_undo(alloc, text) {
-        Ok(list) => Ok(list),
-        Err(_) => Err(Fail::from("refused")),
+fn list_of(alloc: Global, text: &str) -> Option<UndoList> {
+    read_undo(alloc, text).ok()
+}
+
+/// Whether the requests of this place are there and the same.
+fn is_same_at(one: &UndoList, other: &UndoList, place: usize) -> bool {
+    match (one.requests.get(place), other.requests.get(place)) {
+        (Some(request), Some(wanted)) => request.is(wanted),
+        _ => false,
     }
 }
 
 /// Whether two lists have the same two requests and the same numbers of the next ones.
-fn are_same(one: &UndoList, other: &UndoList) -> Result<bool, Fail> {
-    let mut same = one.next == other.next && one.requests.len() == 2;
-    for place in 0..2 {
-        let request = one.requests.get(place).ok_or("no request")?;
-        let wanted = other.requests.get(place).ok_or("no request")?;
-        same = same && request.is(wanted);
-    }
-    Ok(same)
+fn are_same(one: &UndoList, other: &UndoList) -> bool {
+    one.next == other.next
+        && one.requests.len() == 2
+        && is_same_at(one, other, 0)
+        && is_same_at(one, other, 1)
 }
 
 #[test]
-fn text_is_read_as_its_list(rt: HostRuntime) -> Result<(), Fail> {
+fn text_is_read_as_its_list(rt: HostRuntime) {
     for text in [
         TEXT,
         "undo 1\nnext ipmb 4 smbus 0\nipmb 10260530000000005a6e\nipmb 10260518000000505f00\n",
     ] {
-        let read = list_of(rt.alloc(), text)?;
-        assert!(rt; are_same(&read, &list(rt.alloc())?)?, "{text}");
+        let read = list_of(rt.alloc(), text).expect(&rt, "a list");
+        assert!(rt;
+            are_same(&read, &list(rt.alloc()).expect(&rt, "memory")),
+            "{text}"
+        );
     }
-    Ok(())
 }
 
 #[test]
-fn empty_list_and_requests_of_both_buses_are_read(rt: HostRuntime) -> Result<(), Fail> {
+fn empty_list_and_requests_of_both_buses_are_read(rt: HostRuntime) {
     for (text, count) in [
         ("undo 1\nnext ipmb 0 smbus 0\n", 0),
         (
@@ -99,15 +106,14 @@ fn empty_list_and_requests_of_both_buses_are_read(rt: HostRuntime) -> Result<(),
             2,
         ),
     ] {
-        let read = list_of(rt.alloc(), text)?;
+        let read = list_of(rt.alloc(), text).expect(&rt, "a list");
         assert_eq!(rt; read.requests.len(), count, "{text}");
-        expect_written(&rt, rt.alloc(), &read, text)?;
+        expect_written(&rt, rt.alloc(), &read, text);
     }
-    Ok(())
 }
 
 #[test]
-fn first_bad_line_is_named(rt: HostRuntime) -> Result<(), Fail> {
+fn first_bad_line_is_named(rt: HostRuntime) {
     for (text, line) in [
         ("", 1),
         ("undo 1", 1),
@@ -144,7 +150,6 @@ fn first_bad_line_is_named(rt: HostRuntime) -> Result<(), Fail> {
         let why = fault(rt.alloc(), text);
         assert_eq!(rt; why, Some(UndoFault::Line(line)), "{text:?}");
     }
-    Ok(())
 }
 
 /// A text of one request, which has so many bytes behind its first.
@@ -169,17 +174,16 @@ fn text_of_length(
 }
 
 #[test]
-fn longest_requests_are_read(rt: HostRuntime) -> Result<(), Fail> {
+fn longest_requests_are_read(rt: HostRuntime) {
     for (bus, first, count, want) in [
         ("ipmb", "F8", 26, None),
         ("ipmb", "F8", 27, Some(UndoFault::Line(3))),
         ("smbus", "3F", 253, None),
         ("smbus", "3F", 254, Some(UndoFault::Line(3))),
     ] {
-        let text = text_of_length(rt.alloc(), bus, first, count)?;
+        let text = text_of_length(rt.alloc(), bus, first, count).expect(&rt, "memory");
         assert_eq!(rt; fault(rt.alloc(), text.as_str()), want, "{bus}");
     }
-    Ok(())
 }
 
 /// A text of so many requests.
@@ -189,18 +193,17 @@ fn text_of_requests(alloc: Global, count: usize) -> Result<String, AllocError> {
 }
 
 #[test]
-fn most_requests_are_256(rt: HostRuntime) -> Result<(), Fail> {
-    let most = text_of_requests(rt.alloc(), 256)?;
-    let read = list_of(rt.alloc(), most.as_str())?;
+fn most_requests_are_256(rt: HostRuntime) {
+    let most = text_of_requests(rt.alloc(), 256).expect(&rt, "memory");
+    let read = list_of(rt.alloc(), most.as_str()).expect(&rt, "a list");
     assert_eq!(rt; read.requests.len(), 256);
-    let more = text_of_requests(rt.alloc(), 257)?;
+    let more = text_of_requests(rt.alloc(), 257).expect(&rt, "memory");
     let why = fault(rt.alloc(), more.as_str());
     assert_eq!(rt; why, Some(UndoFault::Line(259)));
-    Ok(())
 }
 
 #[test]
-fn every_prefix_is_refused_or_read(rt: HostRuntime) -> Result<(), Fail> {
+fn every_prefix_is_refused_or_read(rt: HostRuntime) {
     let mut read = 0_usize;
     for end in 0..=TEXT.len() {
         if let Some(prefix) = TEXT.get(..end) {
@@ -211,12 +214,10 @@ fn every_prefix_is_refused_or_read(rt: HostRuntime) -> Result<(), Fail> {
     }
     // Those that end behind lines 2, 3 and 4.
     assert_eq!(rt; read, 3);
-    Ok(())
 }
 
 #[test]
-fn faults_are_named(rt: HostRuntime) -> Result<(), Fail> {
-    let line = format!(in rt.alloc(); "{}", UndoFault::Line(3))?;
+fn faults_are_named(rt: HostRuntime) {
+    let line = format!(in rt.alloc(); "{}", UndoFault::Line(3)).expect(&rt, "memory");
     assert_eq!(rt; line.as_str(), "Line 3");
-    Ok(())
 }

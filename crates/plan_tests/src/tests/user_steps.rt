@@ -6,7 +6,6 @@ use cfg_records::{
     AccessStore, ChannelChange, ChannelNumber, Op, SetChannelAccess, SetUserAccess, SetUserName,
     SixBits,
 };
-use std::test::Fail;
 
 /// A step of each kind. No line stands in it twice but `[[step]]`.
 const PLAN: &str = "[[step]]
@@ -54,15 +53,15 @@ const FILE: Text = Text {
 };
 
 #[test]
-fn a_field_that_is_left_out_mistyped_or_out_of_range_is_named(rt: HostRuntime) -> Result<(), Fail> {
-    expect_fields(&rt, rt.alloc(), &FILE, FIELDS, &ONE_OF)
+fn a_field_that_is_left_out_mistyped_or_out_of_range_is_named(rt: HostRuntime) {
+    expect_fields(&rt, rt.alloc(), &FILE, FIELDS, &ONE_OF);
 }
 
 /// A step on a user's access that lacks the limit of privileges.
 const USER_ACCESS: &str = "[[step]]\nkind = \"user-access\"\nchannel = 1\nuser = 2\n";
 
 #[test]
-fn callback_link_and_messages_come_together(rt: HostRuntime) -> Result<(), Fail> {
+fn callback_link_and_messages_come_together(rt: HostRuntime) {
     let cases = [
         ("callback = true", "", "1 Missing callback"),
         ("link = false", "", "1 Missing link"),
@@ -76,7 +75,7 @@ fn callback_link_and_messages_come_together(rt: HostRuntime) -> Result<(), Fail>
         ),
         ("limit = 4", "session_limit = 4", "1 NoGet SessionLimit"),
     ];
-    expect_edits(&rt, rt.alloc(), &FILE, &cases)?;
+    expect_edits(&rt, rt.alloc(), &FILE, &cases);
     let steps = [
         ("limit = 4", ""),
         ("limit = 6\nlink = true", "0 Missing callback"),
@@ -84,7 +83,7 @@ fn callback_link_and_messages_come_together(rt: HostRuntime) -> Result<(), Fail>
         ("limit = 6\ncallback = 0\nlink = 0", "0 Missing messaging"),
         ("callback = true", "0 Missing limit"),
     ];
-    expect_plans(&rt, rt.alloc(), (USER_ACCESS, "\n"), &steps)
+    expect_plans(&rt, rt.alloc(), (USER_ACCESS, "\n"), &steps);
 }
 
 /// The text with 00h behind it.
@@ -99,7 +98,7 @@ fn name(text: &str) -> [u8; 16] {
 }
 
 #[test]
-fn each_kind_is_read(rt: HostRuntime) -> Result<(), Fail> {
+fn each_kind_is_read(rt: HostRuntime) {
     let steps = [
         Op::UserName(SetUserName {
             user: 2,
@@ -118,30 +117,29 @@ fn each_kind_is_read(rt: HostRuntime) -> Result<(), Fail> {
             change: ChannelChange::Both(SixBits::of(0x2B), SixBits::of(5)),
         }),
     ];
-    expect_plan(&rt, rt.alloc(), PLAN, &steps, 3)
+    expect_plan(&rt, rt.alloc(), PLAN, &steps, 3);
 }
 
 /// A step on a user's name that lacks the name.
 const USER_NAME: &str = "[[step]]\nkind = \"user-name\"\nuser = 63\n";
 
 #[test]
-fn a_name_has_sixteen_bytes(rt: HostRuntime) -> Result<(), Fail> {
+fn a_name_has_sixteen_bytes(rt: HostRuntime) {
     for text in ["", "a", "sixteen letters!", "éa"] {
-        let line = format!(in rt.alloc(); "name = \"{text}\"")?;
+        let line = format!(in rt.alloc(); "name = \"{text}\"").expect(&rt, "memory");
         let set = SetUserName {
             user: 63,
             name: name(text),
         };
-        expect_step(&rt, rt.alloc(), USER_NAME, line.as_str(), Op::UserName(set))?;
+        expect_step(&rt, rt.alloc(), USER_NAME, line.as_str(), Op::UserName(set));
     }
-    Ok(())
 }
 
 /// A step that takes a user's access away.
 const NO_ACCESS: &str = "[[step]]\nkind = \"user-access\"\nchannel = 15\nuser = 1\nlimit = 15\n";
 
 #[test]
-fn bits_of_a_user_change_where_a_step_has_them(rt: HostRuntime) -> Result<(), Fail> {
+fn bits_of_a_user_change_where_a_step_has_them(rt: HostRuntime) {
     for (lines, first) in [
         ("", 0x0F),
         ("callback = false\nlink = false\nmessaging = false", 0x8F),
@@ -156,9 +154,8 @@ fn bits_of_a_user_change_where_a_step_has_them(rt: HostRuntime) -> Result<(), Fa
             limit: 15,
             session_limit: None,
         };
-        expect_step(&rt, rt.alloc(), NO_ACCESS, lines, Op::UserAccess(set))?;
+        expect_step(&rt, rt.alloc(), NO_ACCESS, lines, Op::UserAccess(set));
     }
-    Ok(())
 }
 
 /// A step on a channel's access in one store that changes nothing yet.
@@ -166,7 +163,7 @@ const NON_VOLATILE: &str =
     "[[step]]\nkind = \"channel-access\"\nchannel = 0\nstore = \"non-volatile\"\n";
 
 #[test]
-fn a_channel_changes_in_what_a_step_gives(rt: HostRuntime) -> Result<(), Fail> {
+fn a_channel_changes_in_what_a_step_gives(rt: HostRuntime) {
     let cases = [
         ("access = 2", ChannelChange::Access(SixBits::of(2))),
         ("limit = 3", ChannelChange::Limit(SixBits::of(3))),
@@ -181,16 +178,15 @@ fn a_channel_changes_in_what_a_step_gives(rt: HostRuntime) -> Result<(), Fail> {
             store: AccessStore::NonVolatile,
             change,
         };
-        expect_step(&rt, rt.alloc(), NON_VOLATILE, lines, Op::ChannelAccess(set))?;
+        expect_step(&rt, rt.alloc(), NON_VOLATILE, lines, Op::ChannelAccess(set));
     }
-    Ok(())
 }
 
 /// A step on a channel's access that has no more than the channel.
 const CHANNEL_ACCESS: &str = "[[step]]\nkind = \"channel-access\"\nchannel = 1\n";
 
 #[test]
-fn a_channel_step_changes_something_in_one_store(rt: HostRuntime) -> Result<(), Fail> {
+fn a_channel_step_changes_something_in_one_store(rt: HostRuntime) {
     let cases = [
         ("store = \"volatile\"", "0 Missing access"),
         ("store = \"both\"", "0 NoGet BothStores"),
@@ -200,5 +196,5 @@ fn a_channel_step_changes_something_in_one_store(rt: HostRuntime) -> Result<(), 
         ("store = \"volatile\"\nlimit = true", "0 WrongType limit"),
         ("store = \"volatile\"\nlimit = 15", "0 Range limit"),
     ];
-    expect_plans(&rt, rt.alloc(), (CHANNEL_ACCESS, "\n"), &cases)
+    expect_plans(&rt, rt.alloc(), (CHANNEL_ACCESS, "\n"), &cases);
 }

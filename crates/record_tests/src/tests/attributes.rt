@@ -1,245 +1,157 @@
 //! BIOS attributes, over PLDM.
 use super::changes::{Change, expect_changes};
-use super::story::{Step, bios, board_of, expect_sample, expect_settings, expect_story};
-use bmc_board::Board;
+use super::story::{Story, expect_sample, expect_story, sample};
 use cfg_records::{
-    Asked, Attribute, AttributeKind, BoardFile, Distinct, IntegerAttribute, IntegerSteps, Op,
-    SetBiosAttribute, Store, Text, sample_board,
+    Attribute, AttributeKind, BoardFile, Distinct, IntegerAttribute, IntegerSteps, Op,
+    SetBiosAttribute, Text,
 };
 use std::alloc::Global;
 use std::process::Abort;
-use std::test::Fail;
-use two_wire::Below;
 
-/// The sample board with these attributes in place of its own.
-fn file_with(alloc: Global, attributes: Vec<Attribute>) -> Result<BoardFile, Fail> {
-    Ok(BoardFile {
-        attributes: Distinct::new(attributes).ok_or("attributes")?,
-        ..sample_board(alloc)?
-    })
+const SET: Story = (
+    "an attribute is set and shown",
+    "pldm 03 07 00000000050200032800000000000000 -> 00 00000000
+pldm 03 08 00000000010200 -> 00 00000000050200032800000000000000",
+);
+
+const IN_ORDER: Story = (
+    "an attribute refuses in order",
+    "# Under eight bytes, before the flag; then the flag, before the attribute is looked for.
+pldm 03 07 00000000010900 -> 03
+pldm 03 07 0000000001090003 -> 02
+pldm 03 07 00000000050300032300000000000000 -> 88
+# Another type, before the entry's length; then this, before the value.
+pldm 03 07 000000000502000105 -> 02
+pldm 03 07 000000000502008305 -> 02
+pldm 03 07 000000000502000305 -> 03
+pldm 03 07 00000000050000000209 -> 03
+pldm 03 07 0000000005010001020061 -> 03
+# 35 is no step of 10, 310 is above the upper bound, and there is no third possible value.
+pldm 03 07 00000000050200032300000000000000 -> 02
+pldm 03 07 00000000050200033601000000000000 -> 02
+pldm 03 07 00000000050000000102 -> 02
+pldm 03 07 000000000500000000 -> 02
+pldm 03 08 000000000102 -> 03
+pldm 03 08 0000000001020000 -> 03
+# The operation, before the attribute is looked for.
+pldm 03 08 00000000000300 -> 02
+pldm 03 08 00000000020000 -> 02
+pldm 03 08 00000000010300 -> 88
+pldm 03 08 00000000010001 -> 88
+pldm 03 02 -> 05
+# The values are those that the board began with.
+pldm 03 08 00000000010200 -> 00 00000000050200031E00000000000000
+pldm 03 08 00000000010000 -> 00 00000000050000000100",
+);
+
+const LONGEST: Story = (
+    "a text of 200 bytes fits, and one of 201 does not",
+    "pldm 03 07 0000000005 010001 C800 61*C8 -> 00 00000000
+pldm 03 07 0000000005 010001 C900 61*C9 -> 02
+pldm 03 07 0000000005 010001 C800 61*C7 -> 03",
+);
+
+#[test]
+fn attributes_are_set_and_refuse_in_order(rt: HostRuntime) {
+    expect_sample(&rt, rt.alloc(), &[SET, IN_ORDER, LONGEST]);
 }
 
 #[test]
-fn an_attribute_is_set_and_shown(rt: HostRuntime) -> Result<(), Fail> {
-    let forty = &[0, 0, 0, 0, 5, 2, 0, 3, 40, 0, 0, 0, 0, 0, 0, 0];
-    let set = bios(0x07, forty, 0x00, &[0, 0, 0, 0]);
-    let get = bios(0x08, &[0, 0, 0, 0, 1, 2, 0], 0x00, forty);
-    let first = bios(0x01, &[0, 0, 0, 0, 1, 0], 0x00, &[]);
-    expect_settings(&rt, &[(set, true), (get, false), (first, false)])?;
-    expect_sample(&rt, rt.alloc(), &[set, get])
-}
-
-/// A Set of an attribute that is refused.
-fn refused(body: &'static [u8], code: u8) -> Step {
-    bios(0x07, body, code, &[])
-}
-
-#[test]
-fn an_attribute_refuses_in_order(rt: HostRuntime) -> Result<(), Fail> {
-    let story = [
-        // Under eight bytes, before the flag; then the flag, before the attribute is looked for.
-        refused(&[0, 0, 0, 0, 1, 9, 0], 0x03),
-        refused(&[0, 0, 0, 0, 1, 9, 0, 3], 0x02),
-        refused(&[0, 0, 0, 0, 5, 3, 0, 3, 0x23, 0, 0, 0, 0, 0, 0, 0], 0x88),
-        // Another type, before the entry's length; then this, before the value.
-        refused(&[0, 0, 0, 0, 5, 2, 0, 1, 5], 0x02),
-        refused(&[0, 0, 0, 0, 5, 2, 0, 0x83, 5], 0x02),
-        refused(&[0, 0, 0, 0, 5, 2, 0, 3, 5], 0x03),
-        refused(&[0, 0, 0, 0, 5, 0, 0, 0, 2, 9], 0x03),
-        refused(&[0, 0, 0, 0, 5, 1, 0, 1, 2, 0, 0x61], 0x03),
-        // 35 is no step of 10, 310 is above the upper bound, and there is no third possible value.
-        refused(&[0, 0, 0, 0, 5, 2, 0, 3, 0x23, 0, 0, 0, 0, 0, 0, 0], 0x02),
-        refused(&[0, 0, 0, 0, 5, 2, 0, 3, 0x36, 1, 0, 0, 0, 0, 0, 0], 0x02),
-        refused(&[0, 0, 0, 0, 5, 0, 0, 0, 1, 2], 0x02),
-        refused(&[0, 0, 0, 0, 5, 0, 0, 0, 0], 0x02),
-        bios(0x08, &[0, 0, 0, 0, 1, 2], 0x03, &[]),
-        bios(0x08, &[0, 0, 0, 0, 1, 2, 0, 0], 0x03, &[]),
-        // The operation, before the attribute is looked for.
-        bios(0x08, &[0, 0, 0, 0, 0, 3, 0], 0x02, &[]),
-        bios(0x08, &[0, 0, 0, 0, 2, 0, 0], 0x02, &[]),
-        bios(0x08, &[0, 0, 0, 0, 1, 3, 0], 0x88, &[]),
-        bios(0x08, &[0, 0, 0, 0, 1, 0, 1], 0x88, &[]),
-        bios(0x02, &[], 0x05, &[]),
-        // The values are those that the board began with.
-        bios(
-            0x08,
-            &[0, 0, 0, 0, 1, 2, 0],
-            0x00,
-            &[0, 0, 0, 0, 5, 2, 0, 3, 30, 0, 0, 0, 0, 0, 0, 0],
-        ),
-        bios(
-            0x08,
-            &[0, 0, 0, 0, 1, 0, 0],
-            0x00,
-            &[0, 0, 0, 0, 5, 0, 0, 0, 1, 0],
-        ),
-    ];
-    expect_sample(&rt, rt.alloc(), &story)
-}
-
-#[test]
-fn a_change_of_an_attribute_is_undone(rt: HostRuntime) -> Result<(), Fail> {
+fn a_change_of_an_attribute_is_undone(rt: HostRuntime) {
     let op = Op::BiosAttribute(SetBiosAttribute::of(1, 1, &[2, 0, 0x61, 0x62]));
-    let before = [
-        0, 0, 0, 0, 5, 1, 0, 1, 6, 0, 0x72, 0x61, 0x63, 0x6B, 0x2D, 0x31,
-    ];
-    let after = [0, 0, 0, 0, 5, 1, 0, 1, 2, 0, 0x61, 0x62];
-    let change = Change {
-        op: &op,
-        data: &after,
-        before: &before,
-        after: &after,
-        undo: &before,
-    };
-    expect_changes(&rt, rt.alloc(), sample_board(rt.alloc())?, &[change])
+    let change: Change<'_> = (
+        &op,
+        "0000000005 010001 0600 7261636B2D31 -> 0000000005 010001 0200 6162 : 0000000005 010001 0200 6162 -> 0000000005 010001 0600 7261636B2D31",
+    );
+    expect_changes(&rt, rt.alloc(), sample(&rt, rt.alloc()), &[change]);
 }
 
-/// A Set of the asset's name to so many bytes 61h, of which so many are sent.
-fn set_name(told: u8, sent: usize) -> Option<Asked> {
-    let mut body = [0x61; 211];
-    body[..10].copy_from_slice(&[0, 0, 0, 0, 5, 1, 0, 1, told, 0]);
-    Some(Asked::pldm(Below::new(3), 0x07, body.get(..sent)?))
-}
+/// Behind the next handle and the flag of a part that is the first and the last: entries, padding and the check of both.
+const TABLES: Story = (
+    "the tables of the sample board are given",
+    "pldm 03 01 000000000100 -> 00 0000000005000005005175696574010003006F6666020002006F6E0300050041737365740400050044656C6179AAE025EC
+pldm 03 01 000000000101 -> 00 00000000050000000000020100020001000100010300010000C800000002000304 00*09 2C010000000000000A0000001E 00*0A EEDB3230
+pldm 03 01 000000000102 -> 00 0000000005000000010001000106007261636B2D310200031E 00*08 C02AB2D2
+pldm 03 01 000000000103 -> 83
+pldm 03 01 000000000104 -> 85",
+);
 
-/// The board answers the Set with this code.
-fn expect_code<S: Store>(
-    rt: &impl Abort,
-    board: &mut Board<S>,
-    set: (u8, usize),
-    code: u8,
-) -> Result<(), Fail> {
-    let asked = set_name(set.0, set.1).ok_or("set")?;
-    assert_eq!(rt; board.answer(&asked).code, code, "{set:?}");
-    Ok(())
-}
+const NOW: Story = (
+    "a table refuses in order and shows what stands now",
+    "pldm 03 01 0000000001 -> 03
+pldm 03 01 000000000904 -> 85
+pldm 03 01 000000000903 -> 83
+pldm 03 01 000000000202 -> 02
+pldm 03 01 000000000002 -> 02
+pldm 03 01 C00000000002 -> 02
+pldm 03 07 00000000050100010000 -> 00 00000000
+pldm 03 01 000000000102 -> 00 0000000005000000010001000100000200031E 00*0A 35FB2F06
+# The handle of a first part isn't looked at.
+pldm 03 01 123456780102 -> 00 0000000005000000010001000100000200031E 00*0A 35FB2F06",
+);
+
+/// 5, 205 and 11 bytes of entries, three of padding and four of the check: 228, of which a part has 192 at most.
+const LONG: Story = (
+    "a long table is given in parts",
+    "pldm 03 07 0000000005 010001 C800 61*C8 -> 00 00000000
+pldm 03 01 000000000102 -> 00 C000000001 0000000100 010001C800 61*B6
+pldm 03 01 C00000000002 -> 00 0000000004 61*12 0200031E 00*07 00*03 A2936022",
+);
 
 #[test]
-fn a_text_of_200_bytes_fits_and_one_of_201_does_not(rt: HostRuntime) -> Result<(), Fail> {
-    let mut board = board_of(rt.alloc(), sample_board(rt.alloc())?)?;
-    for (set, code) in [((200, 210), 0), ((201, 211), 0x02), ((200, 209), 0x03)] {
-        expect_code(&rt, &mut board, set, code)?;
-    }
-    Ok(())
+fn tables_of_attributes_are_given_as_they_stand_now(rt: HostRuntime) {
+    expect_sample(&rt, rt.alloc(), &[TABLES, NOW, LONG]);
 }
 
 /// An attribute that can only be read: a number, 7.
-fn serial() -> Option<Attribute> {
+fn serial(rt: &impl Abort) -> Attribute {
     let steps = IntegerSteps {
         lower: 0,
         upper: 9,
         increment: 0,
     };
-    Some(Attribute {
+    let seven = IntegerAttribute::new(steps, 7, 7).expect(rt, "seven");
+    Attribute {
         handle: 0,
         name: Text::from_slice(b"Serial"),
         read_only: true,
-        kind: AttributeKind::Integer(IntegerAttribute::new(steps, 7, 7)?),
-    })
+        kind: AttributeKind::Integer(seven),
+    }
 }
+
+/// The sample board with one attribute in place of its own, which can only be read, or with none.
+fn file(rt: &impl Abort, alloc: Global, has_serial: bool) -> BoardFile {
+    let mut attributes = Vec::new(alloc);
+    if has_serial {
+        attributes.push(serial(rt)).expect(rt, "memory");
+    }
+    BoardFile {
+        attributes: Distinct::new(attributes).expect(rt, "attributes"),
+        ..sample(rt, alloc)
+    }
+}
+
+const READ_ONLY: Story = (
+    "an attribute that can only be read is shown and not set",
+    "pldm 03 08 00000000010000 -> 00 00000000050000830700000000000000
+pldm 03 07 00000000050000030800000000000000 -> 02
+pldm 03 07 00000000050000830800000000000000 -> 02
+pldm 03 08 00000000010000 -> 00 00000000050000830700000000000000",
+);
+
+const NONE: Story = (
+    "a board without attributes has no table",
+    "pldm 03 01 000000000100 -> 83
+pldm 03 01 000000000101 -> 83
+pldm 03 01 000000000102 -> 83
+pldm 03 01 000000000103 -> 83
+pldm 03 01 000000000104 -> 85
+pldm 03 08 00000000010000 -> 88",
+);
 
 #[test]
-fn an_attribute_that_can_only_be_read_is_shown_and_not_set(rt: HostRuntime) -> Result<(), Fail> {
-    let mut attributes = Vec::new(rt.alloc());
-    attributes.push(serial().ok_or("serial")?)?;
-    let seven = &[0, 0, 0, 0, 5, 0, 0, 0x83, 7, 0, 0, 0, 0, 0, 0, 0];
-    let get = bios(0x08, &[0, 0, 0, 0, 1, 0, 0], 0x00, seven);
-    let story = [
-        get,
-        refused(&[0, 0, 0, 0, 5, 0, 0, 0x03, 8, 0, 0, 0, 0, 0, 0, 0], 0x02),
-        refused(&[0, 0, 0, 0, 5, 0, 0, 0x83, 8, 0, 0, 0, 0, 0, 0, 0], 0x02),
-        get,
-    ];
-    expect_story(&rt, rt.alloc(), file_with(rt.alloc(), attributes)?, &story)
-}
-
-/// GetBIOSTable for the first part of the table of this number, and what is replied.
-fn table(body: &'static [u8; 6], code: u8, reply: &'static [u8]) -> Step {
-    bios(0x01, body, code, reply)
-}
-
-#[test]
-fn the_tables_of_the_sample_board_are_given(rt: HostRuntime) -> Result<(), Fail> {
-    // Behind the next handle and the flag of a part that is the first and the last: entries, padding and the check of both.
-    let strings = &[
-        0, 0, 0, 0, 5, 0, 0, 5, 0, 0x51, 0x75, 0x69, 0x65, 0x74, 1, 0, 3, 0, 0x6F, 0x66, 0x66, 2,
-        0, 2, 0, 0x6F, 0x6E, 3, 0, 5, 0, 0x41, 0x73, 0x73, 0x65, 0x74, 4, 0, 5, 0, 0x44, 0x65,
-        0x6C, 0x61, 0x79, 0xAA, 0xE0, 0x25, 0xEC,
-    ];
-    let attributes = &[
-        0, 0, 0, 0, 5, 0, 0, 0, 0, 0, 2, 1, 0, 2, 0, 1, 0, 1, 0, 1, 3, 0, 1, 0, 0, 0xC8, 0, 0, 0,
-        2, 0, 3, 4, 0, 0, 0, 0, 0, 0, 0, 0, 0, 0x2C, 1, 0, 0, 0, 0, 0, 0, 0x0A, 0, 0, 0, 0x1E, 0,
-        0, 0, 0, 0, 0, 0, 0, 0, 0, 0xEE, 0xDB, 0x32, 0x30,
-    ];
-    let values = &[
-        0, 0, 0, 0, 5, 0, 0, 0, 1, 0, 1, 0, 1, 6, 0, 0x72, 0x61, 0x63, 0x6B, 0x2D, 0x31, 2, 0, 3,
-        0x1E, 0, 0, 0, 0, 0, 0, 0, 0, 0xC0, 0x2A, 0xB2, 0xD2,
-    ];
-    let story = [
-        table(&[0, 0, 0, 0, 1, 0], 0x00, strings),
-        table(&[0, 0, 0, 0, 1, 1], 0x00, attributes),
-        table(&[0, 0, 0, 0, 1, 2], 0x00, values),
-        table(&[0, 0, 0, 0, 1, 3], 0x83, &[]),
-        table(&[0, 0, 0, 0, 1, 4], 0x85, &[]),
-    ];
-    expect_sample(&rt, rt.alloc(), &story)
-}
-
-#[test]
-fn a_table_refuses_in_order_and_shows_what_stands_now(rt: HostRuntime) -> Result<(), Fail> {
-    let values = &[
-        0, 0, 0, 0, 5, 0, 0, 0, 1, 0, 1, 0, 1, 0, 0, 2, 0, 3, 0x1E, 0, 0, 0, 0, 0, 0, 0, 0, 0, 0,
-        0x35, 0xFB, 0x2F, 6,
-    ];
-    let story = [
-        bios(0x01, &[0, 0, 0, 0, 1], 0x03, &[]),
-        table(&[0, 0, 0, 0, 9, 4], 0x85, &[]),
-        table(&[0, 0, 0, 0, 9, 3], 0x83, &[]),
-        table(&[0, 0, 0, 0, 2, 2], 0x02, &[]),
-        table(&[0, 0, 0, 0, 0, 2], 0x02, &[]),
-        table(&[0xC0, 0, 0, 0, 0, 2], 0x02, &[]),
-        bios(0x07, &[0, 0, 0, 0, 5, 1, 0, 1, 0, 0], 0x00, &[0, 0, 0, 0]),
-        table(&[0, 0, 0, 0, 1, 2], 0x00, values),
-        // The handle of a first part isn't looked at.
-        table(&[0x12, 0x34, 0x56, 0x78, 1, 2], 0x00, values),
-    ];
-    expect_sample(&rt, rt.alloc(), &story)
-}
-
-#[test]
-fn a_board_without_attributes_has_no_table(rt: HostRuntime) -> Result<(), Fail> {
-    let story = [
-        table(&[0, 0, 0, 0, 1, 0], 0x83, &[]),
-        table(&[0, 0, 0, 0, 1, 1], 0x83, &[]),
-        table(&[0, 0, 0, 0, 1, 2], 0x83, &[]),
-        table(&[0, 0, 0, 0, 1, 3], 0x83, &[]),
-        table(&[0, 0, 0, 0, 1, 4], 0x85, &[]),
-        bios(0x08, &[0, 0, 0, 0, 1, 0, 0], 0x88, &[]),
-    ];
-    let file = file_with(rt.alloc(), Vec::new(rt.alloc()))?;
-    expect_story(&rt, rt.alloc(), file, &story)
-}
-
-/// The part of the table of values that begins so has this length, and begins with this handle and flag.
-fn expect_part<S: Store>(
-    rt: &impl Abort,
-    board: &mut Board<S>,
-    body: &[u8; 6],
-    length: usize,
-    head: [u8; 5],
-) -> Result<(), Fail> {
-    let reply = board.answer(&Asked::pldm(Below::new(3), 0x01, body)).body;
-    assert_eq!(rt; reply.len(), length);
-    assert_eq!(rt; reply.as_slice().get(..5).ok_or("head")?, head.as_slice());
-    Ok(())
-}
-
-#[test]
-fn a_long_table_is_given_in_parts(rt: HostRuntime) -> Result<(), Fail> {
-    let mut board = board_of(rt.alloc(), sample_board(rt.alloc())?)?;
-    expect_code(&rt, &mut board, (200, 210), 0)?;
-    // 5, 205 and 11 bytes of entries, three of padding and four of the check: 228.
-    let first = [0, 0, 0, 0, 1, 2];
-    expect_part(&rt, &mut board, &first, 5 + 192, [0xC0, 0, 0, 0, 1])?;
-    let next = [0xC0, 0, 0, 0, 0, 2];
-    expect_part(&rt, &mut board, &next, 5 + 36, [0, 0, 0, 0, 4])
+fn attributes_that_can_only_be_read_are_not_set_and_a_board_may_have_none(rt: HostRuntime) {
+    for (has_serial, story) in [(true, READ_ONLY), (false, NONE)] {
+        expect_story(&rt, rt.alloc(), file(&rt, rt.alloc(), has_serial), story);
+    }
 }

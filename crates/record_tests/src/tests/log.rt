@@ -1,29 +1,86 @@
-//! What a board shows of its sensors, its timer and its log, by worked values.
-use super::story::{Step, application, expect_sample, expect_story, sensor, storage};
-use Step::{Reads, Ticks};
-use cfg_records::{BoardFile, sample_board};
-use std::test::Fail;
+//! The System Event Log and the sensor data records of a board, by worked values.
+use super::story::{Story, expect_sample, expect_story, sample};
+use cfg_records::{BoardFile, Distinct, SdrRecord};
+use std::alloc::Global;
+use std::process::Abort;
 use two_wire::code;
 
-/// A record that a requester adds.
-const ADDED: &[u8] = &[0, 0, 0x02, 0, 0, 0, 0, 1, 2, 3, 4, 5, 6, 7, 8, 9];
+const FULL: Story = (
+    "a full log refuses and is cleared",
+    "reads 05 60
+ipmi 28 44 00000200000000010203040506070809 -> 00 0200
+ipmi 28 44 00000200000000010203040506070809 -> C4
+ipmi 28 40 -> 00 5102 00*0B 82
+ipmi 28 47 0000434C52AA -> C5
+ipmi 28 42 -> 00 0100
+ipmi 28 47 0200434C52AA -> C5
+ipmi 28 47 0100434C53AA -> CC
+ipmi 28 47 0100434C5201 -> CC
+ipmi 28 47 0100434C5200 -> 00 01
+ipmi 28 40 -> 00 5102 00*0B 82
+ipmi 28 47 0100434C52AA -> 00 01
+ipmi 28 40 -> 00 51000020 00*09 02
+ipmi 28 43 0000000000FF -> CB
+ipmi 28 47 0100434C5200 -> C5
+ipmi 28 44 00000200000000010203040506070809 -> 00 0100",
+);
+
+const TIMES: Story = (
+    "the log tells when it grew and when it was cleared",
+    "ipmi 28 49 10203040 -> 00
+ipmi 28 44 00000200000000010203040506070809 -> 00 0100
+ipmi 28 40 -> 00 5101001000102030400000000002
+ipmi 28 49 11213141 -> 00
+ipmi 28 42 -> 00 0100
+ipmi 28 47 0100434C52AA -> 00 01
+ipmi 28 40 -> 00 5100002000102030401121314102",
+);
+
+const ENTRIES: Story = (
+    "entries are got by id and in parts",
+    "ipmi 28 44 00000200000000010203040506070809 -> 00 0100
+ipmi 28 44 00000200000000010203040506070809 -> 00 0200
+ipmi 28 43 0000010000FF -> 00 020001000200000000010203040506070809
+ipmi 28 43 000002000003 -> 00 FFFF020002
+ipmi 28 43 0000FFFF0003 -> 00 FFFF020002
+ipmi 28 43 000001000702 -> C5
+# The repository's reservations are others.
+ipmi 28 22 -> 00 0100
+ipmi 28 22 -> 00 0200
+ipmi 28 42 -> 00 0100
+ipmi 28 43 020001000702 -> C5
+ipmi 28 43 010001000702 -> 00 02000102
+ipmi 28 43 010001001102 -> C9",
+);
+
+const OVERFLOW: Story = (
+    "an event that finds the log full is noted",
+    "ipmi 28 44 00000200000000010203040506070809 -> 00 0100
+ipmi 28 44 00000200000000010203040506070809 -> 00 0200
+reads 05 60
+ipmi 28 40 -> 00 5102 00*0B 82",
+);
+
+const RECORD: Story = (
+    "the sample record is shown",
+    "ipmi 28 20 -> 00 5101 00*0B 02
+ipmi 28 23 0000000000FF -> 00 FFFF010051C00100
+ipmi 28 23 0000010000FF -> 00 FFFF010051C00100
+ipmi 28 23 0000FFFF00FF -> 00 FFFF010051C00100
+ipmi 28 23 0000020009FF -> CB
+ipmi 28 23 0000010007FF -> C5
+ipmi 28 22 -> 00 0100
+ipmi 28 23 0100010007FF -> C9
+ipmi 28 23 0100010006FF -> 00 FFFF
+ipmi 28 23 010001000409 -> 00 FFFF0100
+# The log's reservations are others.
+ipmi 28 42 -> 00 0100
+ipmi 28 22 -> 00 0200",
+);
 
 #[test]
-fn the_log_tells_when_it_grew_and_when_it_was_cleared(rt: HostRuntime) -> Result<(), Fail> {
-    let grown = &[0x51, 1, 0, 16, 0, 0x10, 0x20, 0x30, 0x40, 0, 0, 0, 0, 0x02];
-    let cleared = &[
-        0x51, 0, 0, 32, 0, 0x10, 0x20, 0x30, 0x40, 0x11, 0x21, 0x31, 0x41, 0x02,
-    ];
-    let story = [
-        storage(0x49, &[0x10, 0x20, 0x30, 0x40], 0, &[]),
-        storage(0x44, ADDED, 0, &[1, 0]),
-        storage(0x40, &[], 0, grown),
-        storage(0x49, &[0x11, 0x21, 0x31, 0x41], 0, &[]),
-        storage(0x42, &[], 0, &[1, 0]),
-        storage(0x47, &[1, 0, 0x43, 0x4C, 0x52, 0xAA], 0, &[1]),
-        storage(0x40, &[], 0, cleared),
-    ];
-    expect_sample(&rt, rt.alloc(), &story)
+fn the_log_and_the_record_of_a_sample_board_are_shown(rt: HostRuntime) {
+    expect_sample(&rt, rt.alloc(), &[FULL, TIMES, ENTRIES, OVERFLOW, RECORD]);
 }
 
 #[test]
@@ -33,99 +90,33 @@ fn the_codes_of_a_log_are_the_standards(rt: HostRuntime) {
     assert_eq!(rt; code::NOT_PRESENT.value(), 0xCB);
 }
 
-#[test]
-fn entries_are_got_by_id_and_in_parts(rt: HostRuntime) -> Result<(), Fail> {
-    let first = &[2, 0, 1, 0, 0x02, 0, 0, 0, 0, 1, 2, 3, 4, 5, 6, 7, 8, 9];
-    let begun = &[0xFF, 0xFF, 2, 0, 0x02];
-    let story = [
-        storage(0x44, ADDED, 0, &[1, 0]),
-        storage(0x44, ADDED, 0, &[2, 0]),
-        storage(0x43, &[0, 0, 1, 0, 0, 0xFF], 0, first),
-        storage(0x43, &[0, 0, 2, 0, 0, 3], 0, begun),
-        storage(0x43, &[0, 0, 0xFF, 0xFF, 0, 3], 0, begun),
-        storage(0x43, &[0, 0, 1, 0, 7, 2], 0xC5, &[]),
-        // The repository's reservations are others.
-        storage(0x22, &[], 0, &[1, 0]),
-        storage(0x22, &[], 0, &[2, 0]),
-        storage(0x42, &[], 0, &[1, 0]),
-        storage(0x43, &[2, 0, 1, 0, 7, 2], 0xC5, &[]),
-        storage(0x43, &[1, 0, 1, 0, 7, 2], 0, &[2, 0, 1, 2]),
-        storage(0x43, &[1, 0, 1, 0, 17, 2], 0xC9, &[]),
-    ];
-    expect_sample(&rt, rt.alloc(), &story)
+/// The sample board with two records in place of its own, of which the first has 23 bytes 11h behind its header.
+fn file(rt: &impl Abort, alloc: Global) -> BoardFile {
+    let mut bytes = [0x11; 28];
+    let header = [0x34, 0x12, 0x51, 0xC0, 23];
+    bytes[..5].copy_from_slice(&header);
+    let mut records = Vec::new(alloc);
+    for record in [&bytes[..], &[1, 0, 0x51, 0xC0, 0]] {
+        let record = SdrRecord::new(record).expect(rt, "a record");
+        records.push(record).expect(rt, "memory");
+    }
+    BoardFile {
+        sdr: Distinct::new(records).expect(rt, "the records"),
+        ..sample(rt, alloc)
+    }
 }
 
-#[test]
-fn a_fall_is_logged_as_a_deassertion(rt: HostRuntime) -> Result<(), Fail> {
-    let fall = &[
-        0xFF, 0xFF, 2, 0, 0x02, 0, 0, 0, 0, 0x20, 0x00, 0x04, 0x01, 0x05, 0x81, 0x59, 0x5C, 0x5F,
-    ];
-    let story = [
-        sensor(0x28, &[5, 0xD0, 0, 0, 0x00, 0x02], 0, &[]),
-        Reads(5, 0x60),
-        Reads(5, 0x5D),
-        Reads(5, 0x5C),
-        storage(0x43, &[0, 0, 0xFF, 0xFF, 0, 0xFF], 0, fall),
-    ];
-    expect_sample(&rt, rt.alloc(), &story)
-}
+const PARTS: Story = (
+    "a long record is shown in parts",
+    "ipmi 28 23 0000000000FF -> CA
+ipmi 28 23 000000000017 -> CA
+ipmi 28 23 000034120005 -> 00 0100341251C017
+ipmi 28 22 -> 00 0100
+ipmi 28 23 010034121AFF -> 00 01001111
+ipmi 28 23 0100FFFF0002 -> 00 FFFF0100",
+);
 
 #[test]
-fn each_threshold_has_its_bit(rt: HostRuntime) -> Result<(), Fail> {
-    let story = [
-        Reads(5, 0x09),
-        sensor(0x2D, &[5], 0, &[0x09, 0xC0, 0xC3]),
-        Reads(5, 0x05),
-        sensor(0x2D, &[5], 0, &[0x05, 0xC0, 0xC7]),
-        Reads(5, 0x6E),
-        sensor(0x2D, &[5], 0, &[0x6E, 0xC0, 0xF8]),
-    ];
-    expect_sample(&rt, rt.alloc(), &story)
-}
-
-#[test]
-fn a_sensor_that_scans_without_messages_shows_so(rt: HostRuntime) -> Result<(), Fail> {
-    let story = [
-        sensor(0x28, &[5, 0x40], 0, &[]),
-        Reads(5, 0x60),
-        sensor(0x2D, &[5], 0, &[0x60, 0x40, 0xD8]),
-    ];
-    expect_sample(&rt, rt.alloc(), &story)
-}
-
-#[test]
-fn each_use_of_the_timer_has_its_flag(rt: HostRuntime) -> Result<(), Fail> {
-    let story = [
-        application(0x24, &[2, 0, 0, 0, 1, 0], 0, &[]),
-        application(0x22, &[], 0, &[]),
-        Ticks(1),
-        application(0x25, &[], 0, &[2, 0, 0, 0x04, 1, 0, 0, 0]),
-        application(0x24, &[3, 0, 0, 0, 0, 0], 0, &[]),
-        application(0x22, &[], 0, &[]),
-        Ticks(1),
-        application(0x25, &[], 0, &[3, 0, 0, 0x0C, 0, 0, 0, 0]),
-    ];
-    expect_sample(&rt, rt.alloc(), &story)
-}
-
-#[test]
-fn the_clock_begins_as_its_file_says(rt: HostRuntime) -> Result<(), Fail> {
-    let file = BoardFile {
-        clock: 0x0403_0201,
-        ..sample_board(rt.alloc())?
-    };
-    let story = [storage(0x48, &[], 0, &[1, 2, 3, 4])];
-    expect_story(&rt, rt.alloc(), file, &story)
-}
-
-#[test]
-fn an_event_that_finds_the_log_full_is_noted(rt: HostRuntime) -> Result<(), Fail> {
-    let overflown = &[0x51, 2, 0, 0, 0, 0, 0, 0, 0, 0, 0, 0, 0, 0x82];
-    let story = [
-        storage(0x44, ADDED, 0, &[1, 0]),
-        storage(0x44, ADDED, 0, &[2, 0]),
-        Reads(5, 0x60),
-        storage(0x40, &[], 0, overflown),
-    ];
-    expect_sample(&rt, rt.alloc(), &story)
+fn a_long_record_is_shown_in_parts(rt: HostRuntime) {
+    expect_story(&rt, rt.alloc(), file(&rt, rt.alloc()), PARTS);
 }

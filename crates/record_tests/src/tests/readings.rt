@@ -1,7 +1,6 @@
 //! Readings of a sensor.
 use cfg_records::{EventMasks, Hysteresis, ThresholdMasks};
 use sensor_recs::{Compared, Event};
-use std::test::Fail;
 
 /// A temperature sensor whose upper critical event is enabled, asserted and deasserted.
 fn temperature() -> Option<Compared> {
@@ -30,8 +29,8 @@ const fn upper_critical(deasserted: bool) -> Event {
 }
 
 #[test]
-fn upper_critical_rises_and_falls(rt: HostRuntime) -> Result<(), Fail> {
-    let sensor = temperature().ok_or("a sensor")?;
+fn upper_critical_rises_and_falls(rt: HostRuntime) {
+    let sensor = temperature().expect(&rt, "a sensor");
     let mut beyond = [false; 6];
     for (reading, upper, events) in [
         (0x5E, [true, false, false], &[][..]),
@@ -52,12 +51,11 @@ fn upper_critical_rises_and_falls(rt: HostRuntime) -> Result<(), Fail> {
         deasserted: false,
     };
     assert_eq!(rt; asserted.offset(), 9);
-    Ok(())
 }
 
 #[test]
-fn all_events_of_a_reading_come_in_order(rt: HostRuntime) -> Result<(), Fail> {
-    let mut sensor = temperature().ok_or("a sensor")?;
+fn all_events_of_a_reading_come_in_order(rt: HostRuntime) {
+    let mut sensor = temperature().expect(&rt, "a sensor");
     sensor.enabled = EventMasks {
         assertions: 0xFFF,
         deassertions: 0xFFF,
@@ -84,12 +82,11 @@ fn all_events_of_a_reading_come_in_order(rt: HostRuntime) -> Result<(), Fail> {
     }
     sensor.messages = false;
     assert_eq!(rt; sensor.read_taken(&mut beyond, 0x00).len(), 0);
-    Ok(())
 }
 
 #[test]
-fn hysteresis_does_not_wrap(rt: HostRuntime) -> Result<(), Fail> {
-    let mut sensor = temperature().ok_or("a sensor")?;
+fn hysteresis_does_not_wrap(rt: HostRuntime) {
+    let mut sensor = temperature().expect(&rt, "a sensor");
     sensor.thresholds = [0xFE, 0, 0, 0xFF, 0xFF, 0xFF];
     let mut beyond = [true, false, false, true, true, true];
     sensor.read_taken(&mut beyond, 0xFE);
@@ -98,5 +95,4 @@ fn hysteresis_does_not_wrap(rt: HostRuntime) -> Result<(), Fail> {
     assert!(rt; beyond[0]);
     sensor.read_taken(&mut beyond, 0xFC);
     assert!(rt; &beyond[3..] == [false; 3].as_slice());
-    Ok(())
 }

@@ -2,28 +2,22 @@
 ghost use Rattle.std.specs.Prelude.{◌<◌, IsTrue, length};
 ghost use Rattle.cfg_records.specs.Keys.{is_length};
 
+use super::story::sample;
 use cfg_records::{
     AccessStore, Answered, Asked, Bcd, BootFlags, BootOptions, BootParameter, ChannelNumber,
     EventEnable, EventMasks, GlobalEnables, Hysteresis, Key, Live, ManufacturerId, NoKey,
     PlainStore, PowerPolicy, Sensor, Sensors, Store, StoreFault, StoredAccess, ThresholdMasks,
-    Thresholds, UserNumber, UserOnChannel, Value, Watchdog, sample_board,
+    Thresholds, UserNumber, UserOnChannel, Value, Watchdog,
 };
+use std::alloc::Global;
 use std::process::Abort;
-use std::test::Fail;
 use two_wire::{Below, Bytes, Lun, NetFn, code};
 
 /// The pair of this place is the record and its value.
-fn expect_pair(
-    rt: &impl Abort,
-    pairs: &[(Key, Value)],
-    place: usize,
-    key: Key,
-    bytes: &[u8],
-) -> Result<(), Fail> {
-    let (found, value) = pairs.get(place).ok_or("pair")?;
-    assert!(rt; *found == key);
-    assert!(rt; value.is(bytes));
-    Ok(())
+fn expect_pair(rt: &impl Abort, pairs: &[(Key, Value)], place: usize, key: Key, bytes: &[u8]) {
+    let (found, value) = pairs.get(place).expect(rt, "a pair");
+    assert!(rt; *found == key, "{place}");
+    assert!(rt; value.is(bytes), "{place}");
 }
 
 /// The access of channel 1 in the store.
@@ -33,10 +27,10 @@ fn stored(store: AccessStore) -> Key {
 }
 
 #[test]
-fn the_sample_board_begins_with_its_records(rt: HostRuntime) -> Result<(), Fail> {
-    let file = sample_board(rt.alloc())?;
+fn the_sample_board_begins_with_its_records(rt: HostRuntime) {
+    let file = sample(&rt, rt.alloc());
     assert_eq!(rt; file.tid, 5);
-    let pairs = file.records(rt.alloc())?;
+    let pairs = file.records(rt.alloc()).expect(&rt, "memory");
     assert_eq!(rt; pairs.len(), 21);
     for (place, key, bytes) in [
         (
@@ -75,48 +69,42 @@ fn the_sample_board_begins_with_its_records(rt: HostRuntime) -> Result<(), Fail>
         ),
         (20, Key::BiosAttribute(2), &[0x1E, 0, 0, 0, 0, 0, 0, 0]),
     ] {
-        expect_pair(&rt, pairs.as_slice(), place, key, bytes)?;
+        expect_pair(&rt, pairs.as_slice(), place, key, bytes);
     }
-    Ok(())
 }
 
 /// The record has the old value where it lies, and the new one once that was written there.
-fn expect_written<S: Store>(
-    rt: &impl Abort,
-    store: &mut S,
-    key: &Key,
-    old: &[u8],
-    new: &[u8],
-) -> Result<(), Fail>
+fn expect_written<S: Store>(rt: &impl Abort, store: &mut S, key: &Key, old: &[u8], new: &[u8])
     requires { IsTrue (is_length key.now (length new.now)) }
 {
-    let place = store.find(key).ok_or("place")?;
+    let place = store.find(key).expect(rt, "a place");
     assert_eq!(rt; store.value(place), old);
     store.write(place, new);
-    assert_eq!(rt; store.get(key).ok_or("record")?, new);
-    Ok(())
+    assert_eq!(rt; store.get(key).expect(rt, "a record"), new);
 }
 
 #[test]
-fn a_store_has_what_was_put(rt: HostRuntime) -> Result<(), Fail> {
-    let mut store = PlainStore::of_file(rt.alloc(), &sample_board(rt.alloc())?)?;
+fn a_store_has_what_was_put(rt: HostRuntime) {
+    let mut store = PlainStore::of_file(rt.alloc(), &sample(&rt, rt.alloc())).expect(&rt, "memory");
     let key = Key::Hysteresis(7);
     assert_eq!(rt; store.put(&key, &[3, 1]), Ok(()));
-    assert_eq!(rt; store.get(&key).ok_or("hysteresis")?, [3, 1].as_slice());
+    assert_eq!(rt;
+        store.get(&key).expect(&rt, "hysteresis"),
+        [3, 1].as_slice()
+    );
     let place = store.find(&key);
-    expect_written(&rt, &mut store, &key, &[3, 1], &[4, 2])?;
+    expect_written(&rt, &mut store, &key, &[3, 1], &[4, 2]);
     assert!(rt; store.find(&key) == place);
     let missing = Key::Hysteresis(9);
     assert_eq!(rt; store.put(&missing, &[3, 1]), Err(NoKey));
     assert!(rt; store.get(&missing).is_none());
-    Ok(())
 }
 
 #[test]
-fn a_store_refuses_a_key_twice_before_a_bad_value(rt: HostRuntime) -> Result<(), Fail> {
+fn a_store_refuses_a_key_twice_before_a_bad_value(rt: HostRuntime) {
     let pair = || (Key::Hysteresis(5), Value::from_slice(&[1]));
-    let bad = vec![in rt.alloc(); pair()]?;
-    let twice = vec![in rt.alloc(); pair(), pair()]?;
+    let bad = vec![in rt.alloc(); pair()].expect(&rt, "memory");
+    let twice = vec![in rt.alloc(); pair(), pair()].expect(&rt, "memory");
     assert!(rt;
         matches!(
             PlainStore::new(rt.alloc(), bad.as_slice()),
@@ -129,13 +117,12 @@ fn a_store_refuses_a_key_twice_before_a_bad_value(rt: HostRuntime) -> Result<(),
             Err(StoreFault::TwiceTheSameKey)
         )
     );
-    Ok(())
 }
 
 #[test]
-fn a_sensor_has_its_thresholds_in_order(rt: HostRuntime) -> Result<(), Fail> {
-    let all = ThresholdMasks::new(0x3F, 0x3F).ok_or("masks")?;
-    let upper = ThresholdMasks::new(0x18, 0x38).ok_or("masks")?;
+fn a_sensor_has_its_thresholds_in_order(rt: HostRuntime) {
+    let all = ThresholdMasks::new(0x3F, 0x3F).expect(&rt, "masks");
+    let upper = ThresholdMasks::new(0x18, 0x38).expect(&rt, "masks");
     for (masks, thresholds, are_thresholds) in [
         (upper, [0, 0, 0, 0x90, 0xA0, 0xB0], true),
         (upper, [0, 0, 0, 0x90, 0xB0, 0xA0], false),
@@ -148,7 +135,6 @@ fn a_sensor_has_its_thresholds_in_order(rt: HostRuntime) -> Result<(), Fail> {
         assert_eq!(rt; made.is_some(), are_thresholds, "{thresholds:?}");
     }
     assert!(rt; ThresholdMasks::new(0x40, 0).is_none());
-    Ok(())
 }
 
 /// No event.
@@ -174,70 +160,64 @@ fn bare(number: u8) -> Option<Sensor>
 }
 
 #[test]
-fn events_are_two_for_each_threshold_and_enabled_ones_are_supported(
-    rt: HostRuntime,
-) -> Result<(), Fail> {
+fn events_are_two_for_each_threshold_and_enabled_ones_are_supported(rt: HostRuntime) {
     let two = EventMasks {
         assertions: 0x200,
         deassertions: 0x001,
     };
-    let events = EventEnable::new(0xFFF, true, false, two).ok_or("events")?;
+    let events = EventEnable::new(0xFFF, true, false, two).expect(&rt, "events");
     assert!(rt; events.pair(5).1.is(&[0x80, 0x00, 0x02, 0x01, 0x00]));
     assert!(rt; EventEnable::new(0x201, false, true, two).is_some());
     assert!(rt; EventEnable::new(0x200, true, true, two).is_none());
     assert!(rt; EventEnable::new(0x1000, true, true, NO_EVENTS).is_none());
-    Ok(())
 }
 
-#[test]
-fn sensors_have_numbers_of_their_own(rt: HostRuntime) -> Result<(), Fail> {
-    let apart = vec![in rt.alloc(); bare(1).ok_or("1")?, bare(2).ok_or("2")?]?;
-    let alike = vec![in rt.alloc(); bare(1).ok_or("1")?, bare(1).ok_or("1")?]?;
-    assert!(rt; Sensors::new(apart).is_some());
-    assert!(rt; Sensors::new(alike).is_none());
-    Ok(())
-}
-
-#[test]
-fn a_board_has_at_most_32_sensors(rt: HostRuntime) -> Result<(), Fail> {
-    let mut most = Vec::new(rt.alloc());
-    let mut more = Vec::new(rt.alloc());
-    for number in 0..32 {
-        most.push(bare(number).ok_or("sensor")?)?;
-        more.push(bare(number).ok_or("sensor")?)?;
+/// Sensors with these numbers, without thresholds and events, and the first of them once more where it is asked for.
+fn bare_sensors(rt: &impl Abort, alloc: Global, count: u8, again: bool) -> Vec<Sensor> {
+    let mut sensors = Vec::new(alloc);
+    for number in 0..count {
+        let number = if again && number + 1 == count {
+            0
+        } else {
+            number
+        };
+        let sensor = bare(number).expect(rt, "a sensor");
+        sensors.push(sensor).expect(rt, "memory");
     }
-    more.push(bare(32).ok_or("sensor")?)?;
-    assert!(rt; Sensors::new(most).is_some());
-    assert!(rt; Sensors::new(more).is_none());
-    Ok(())
+    sensors
 }
 
 #[test]
-fn a_device_has_decimal_digits_and_a_short_manufacturer(rt: HostRuntime) -> Result<(), Fail> {
-    assert_eq!(rt; Bcd::new(0x19).ok_or("minor")?.byte, 0x19);
+fn a_board_has_at_most_32_sensors_with_numbers_of_their_own(rt: HostRuntime) {
+    for (count, again, are_sensors) in [
+        (2, false, true),
+        (2, true, false),
+        (32, false, true),
+        (33, false, false),
+    ] {
+        let made = Sensors::new(bare_sensors(&rt, rt.alloc(), count, again));
+        assert_eq!(rt; made.is_some(), are_sensors, "{count} {again}");
+    }
+}
+
+#[test]
+fn numbers_and_bits_of_a_board_are_within_their_ranges(rt: HostRuntime) {
+    // A device has decimal digits and a short manufacturer.
+    assert_eq!(rt; Bcd::new(0x19).expect(&rt, "minor").byte, 0x19);
     assert!(rt; Bcd::new(0x1A).is_none());
-    let manufacturer = ManufacturerId::new(0xFF_FFFF).ok_or("manufacturer")?;
+    let manufacturer = ManufacturerId::new(0xFF_FFFF).expect(&rt, "manufacturer");
     assert_eq!(rt; manufacturer.number, 0xFF_FFFF);
     assert!(rt; ManufacturerId::new(1 << 24).is_none());
-    Ok(())
-}
-
-#[test]
-fn a_policy_is_at_most_3(rt: HostRuntime) -> Result<(), Fail> {
-    assert_eq!(rt; PowerPolicy::new(3).ok_or("policy")?.number, 3);
+    // A policy is at most 3.
+    assert_eq!(rt; PowerPolicy::new(3).expect(&rt, "policy").number, 3);
     assert!(rt; PowerPolicy::new(4).is_none());
-    Ok(())
-}
-
-#[test]
-fn global_enables_have_no_reserved_bit(rt: HostRuntime) -> Result<(), Fail> {
-    assert_eq!(rt; GlobalEnables::new(0xEF).ok_or("enables")?.byte, 0xEF);
+    // Global enables have no reserved bit.
+    assert_eq!(rt; GlobalEnables::new(0xEF).expect(&rt, "enables").byte, 0xEF);
     assert!(rt; GlobalEnables::new(0x10).is_none());
-    Ok(())
 }
 
 #[test]
-fn boot_parameter_3_has_five_bits(rt: HostRuntime) -> Result<(), Fail> {
+fn boot_parameter_3_has_five_bits(rt: HostRuntime) {
     let flags = BootFlags {
         validity: 1,
         device: 2,
@@ -245,12 +225,11 @@ fn boot_parameter_3_has_five_bits(rt: HostRuntime) -> Result<(), Fail> {
         overrides: 4,
         instance: 5,
     };
-    let boot = BootOptions::new(0x1F, 0xFF, flags).ok_or("boot options")?;
+    let boot = BootOptions::new(0x1F, 0xFF, flags).expect(&rt, "boot options");
     let (key, value) = boot.pair(BootParameter::Flags);
     assert!(rt; key == Key::BootParam(BootParameter::Flags));
     assert!(rt; value.is(&[0, 1, 2, 3, 4, 5]));
     assert!(rt; BootOptions::new(0x20, 0, flags).is_none());
-    Ok(())
 }
 
 #[test]

@@ -1,14 +1,11 @@
 //! Thresholds, hysteresis and enabled events.
+use super::changes::expect_inverses;
 use cfg_records::{
-    EventChange, EventMasks, Live, RecordData, RecordKind, SetEventEnable, SetHysteresis,
+    EventChange, EventMasks, Live, Op, RecordData, RecordKind, SetEventEnable, SetHysteresis,
     SetThresholds, ThresholdMasks, Thresholds, Value,
 };
-use sensor_recs::{EventEnableLimits, HysteresisLimits, ThresholdLimits};
-use std::test::Fail;
+use sensor_recs::{HysteresisLimits, ThresholdLimits};
 use two_wire::code::INVALID_DATA_FIELD;
-
-/// The Get reply of a fan sensor, of which the upper thresholds but the highest can be read.
-const FAN_REPLY: [u8; 7] = [0x18, 0, 0, 0, 0x90, 0xA0, 0];
 
 /// The thresholds of a temperature sensor, all of which can be read and set.
 fn temperature() -> Option<Thresholds> {
@@ -16,39 +13,35 @@ fn temperature() -> Option<Thresholds> {
     Thresholds::new(masks, [0x14, 0x0A, 0x05, 0x50, 0x5F, 0x6E])
 }
 
-/// The data of the Set request that undoes the operation from the Get reply.
-fn undo_data<'a, K: RecordKind<'a>>(op: &K::Op, reply: &'a [u8]) -> Option<RecordData> {
-    let undo = K::inverse(op, reply)?;
-    Some(K::set_data(&undo))
+#[test]
+fn thresholds_and_hysteresis_are_undone_from_the_reply_where_it_shows_them(rt: HostRuntime) {
+    // A fan sensor, of which the upper thresholds but the highest can be read.
+    for (mask, values, line) in [
+        (0x20, [0, 0, 0, 0, 0, 0xB8], "1800000090A000 -> none"),
+        (
+            0x10,
+            [0, 0, 0, 0, 0xA8, 0],
+            "1800000090A000 -> 071000000000A000",
+        ),
+    ] {
+        let op = Op::Thresholds(SetThresholds {
+            sensor: 7,
+            mask,
+            values,
+        });
+        expect_inverses(&rt, rt.alloc(), &op, line);
+    }
+    let lines = "0202 -> 05FF0202
+02 -> none";
+    expect_inverses(&rt, rt.alloc(), &Op::Hysteresis(THREE_AND_ONE), lines);
 }
 
-#[test]
-fn a_threshold_is_undone_from_its_reply_where_it_is_read(rt: HostRuntime) -> Result<(), Fail> {
-    let mut op = SetThresholds {
-        sensor: 7,
-        mask: 0x20,
-        values: [0, 0, 0, 0, 0, 0xB8],
-    };
-    assert!(rt; ThresholdLimits::inverse(&op, &FAN_REPLY).is_none());
-    op.mask = 0x10;
-    op.values = [0, 0, 0, 0, 0xA8, 0];
-    let undo = undo_data::<ThresholdLimits>(&op, &FAN_REPLY).ok_or("undo")?;
-    assert!(rt; undo.is(&[0x07, 0x10, 0, 0, 0, 0, 0xA0, 0]));
-    Ok(())
-}
-
-#[test]
-fn hysteresis_is_undone_from_its_reply(rt: HostRuntime) -> Result<(), Fail> {
-    let op = SetHysteresis {
-        sensor: 5,
-        positive: 3,
-        negative: 1,
-    };
-    let undo = undo_data::<HysteresisLimits>(&op, &[2, 2]).ok_or("undo")?;
-    assert!(rt; undo.is(&[0x05, 0xFF, 2, 2]));
-    assert!(rt; undo_data::<HysteresisLimits>(&op, &[2]).is_none());
-    Ok(())
-}
+/// An operation on sensor 5's hysteresis.
+const THREE_AND_ONE: SetHysteresis = SetHysteresis {
+    sensor: 5,
+    positive: 3,
+    negative: 1,
+};
 
 /// The events of offsets 7 and 9, asserted, and of offset 0, deasserted.
 const SOME_EVENTS: EventMasks = EventMasks {
@@ -56,44 +49,39 @@ const SOME_EVENTS: EventMasks = EventMasks {
     deassertions: 0x001,
 };
 
-/// An operation on sensor 5's events, which leaves messages and scanning on.
-fn of_events(change: EventChange) -> SetEventEnable {
-    SetEventEnable {
-        sensor: 5,
-        messages: true,
-        scanning: true,
-        change,
-    }
-}
-
 #[test]
-fn events_are_undone_by_the_reverse_of_what_changed(rt: HostRuntime) -> Result<(), Fail> {
-    // Messages alone; offset 9 is enabled, asserted and deasserted.
-    let reply = [0x80, 0x00, 0x02, 0x00, 0x02];
-    for (change, data) in [
+fn events_are_undone_by_the_reverse_of_what_changed(rt: HostRuntime) {
+    // The reply shows messages alone; offset 9 is enabled, asserted and deasserted.
+    for (change, lines) in [
         // The events that weren't enabled are disabled: 7 and 0.
         (
             EventChange::Enable(SOME_EVENTS),
-            &[5, 0xA0, 0x80, 0x00, 0x01, 0x00][..],
+            "8000020002 -> 05A080000100",
         ),
         // The events that were enabled are enabled: 9.
         (
             EventChange::Disable(SOME_EVENTS),
-            &[5, 0x90, 0x00, 0x02, 0x00, 0x00],
+            "8000020002 -> 059000020000",
         ),
-        (EventChange::Leave, &[5, 0x80]),
+        (
+            EventChange::Leave,
+            "8000020002 -> 0580
+800002000200 -> none",
+        ),
     ] {
-        let undo = undo_data::<EventEnableLimits>(&of_events(change), &reply).ok_or("undo")?;
-        assert!(rt; undo.is(data), "{data:?}");
+        let op = Op::EventEnable(SetEventEnable {
+            sensor: 5,
+            messages: true,
+            scanning: true,
+            change,
+        });
+        expect_inverses(&rt, rt.alloc(), &op, lines);
     }
-    let long = [0x80, 0, 2, 0, 2, 0];
-    assert!(rt; undo_data::<EventEnableLimits>(&of_events(EventChange::Leave), &long).is_none());
-    Ok(())
 }
 
 #[test]
-fn thresholds_out_of_order_are_refused(rt: HostRuntime) -> Result<(), Fail> {
-    let thresholds = temperature().ok_or("thresholds")?;
+fn thresholds_out_of_order_are_refused(rt: HostRuntime) {
+    let thresholds = temperature().expect(&rt, "thresholds");
     let limits = ThresholdLimits {
         masks: thresholds.masks,
     };
@@ -108,29 +96,22 @@ fn thresholds_out_of_order_are_refused(rt: HostRuntime) -> Result<(), Fail> {
     assert!(rt; new.is(&[0xEE]));
 
     set.values[4] = 0x60;
-    let Ok(()) = limits.apply(&set, &thresholds.values, &mut new) else {
-        return Err("refused".into());
-    };
+    let low = limits.apply(&set, &thresholds.values, &mut new);
+    assert!(rt; low.is_ok());
     assert!(rt; new.is(&[0x14, 0x0A, 0x05, 0x50, 0x60, 0x6E]));
-    Ok(())
 }
 
 #[test]
-fn replies_are_appended(rt: HostRuntime) -> Result<(), Fail> {
-    let thresholds = temperature().ok_or("thresholds")?;
+fn replies_are_appended(rt: HostRuntime) {
+    let thresholds = temperature().expect(&rt, "thresholds");
     let limits = ThresholdLimits {
         masks: thresholds.masks,
     };
     let live = Live::opening();
-    let op = SetHysteresis {
-        sensor: 5,
-        positive: 3,
-        negative: 1,
-    };
+    let op = THREE_AND_ONE;
     let mut reply = RecordData::from_slice(&[0xEE]);
     HysteresisLimits::set_reply(&op, &mut reply);
     HysteresisLimits.get_data(&[3, 1], &live, &mut reply);
     limits.get_data(&thresholds.values, &live, &mut reply);
     assert!(rt; reply.is(&[0xEE, 3, 1, 0x3F, 0x14, 0x0A, 0x05, 0x50, 0x5F, 0x6E]));
-    Ok(())
 }

@@ -1,9 +1,8 @@
 //! The power restore policy and the watchdog.
-
+use super::changes::expect_inverses;
 use cfg_records::{
-    Asked, Live, RecordData, RecordKind, SetPowerPolicy, SetWatchdog, Value, there_and_back,
+    Asked, Live, Op, RecordData, RecordKind, SetPowerPolicy, SetWatchdog, Value, there_and_back,
 };
-use std::test::Fail;
 use two_wire::{Below, NetFn};
 use watch_boot::watchdog::reset;
 use watch_boot::{PowerPolicyLimits, WatchdogLimits};
@@ -41,43 +40,30 @@ fn applied<'a, K: RecordKind<'a>>(limits: &K, op: &K::Op, value: &[u8]) -> Optio
     Some(new)
 }
 
-/// The data of the Set request that undoes the operation from the Get reply.
-fn undo_data<'a, K: RecordKind<'a>>(op: &K::Op, reply: &'a [u8]) -> Option<RecordData> {
-    let undo = K::inverse(op, reply)?;
-    Some(K::set_data(&undo))
-}
-
-/// Whether these data were given, or none.
-fn is_data<const LENGTH: usize>(given: Option<RecordData>, wanted: Option<[u8; LENGTH]>) -> bool {
-    match (given, wanted) {
-        (Some(given), Some(wanted)) => given.is(&wanted),
-        (None, None) => true,
-        _ => false,
-    }
+#[test]
+fn a_policy_and_a_timer_that_is_stopped_are_undone_from_the_reply(rt: HostRuntime) {
+    let op = Op::PowerPolicy(SetPowerPolicy { policy: 2 });
+    let lines = "200000 -> 01
+600000 -> none
+2000 -> none";
+    expect_inverses(&rt, rt.alloc(), &op, lines);
+    // Bits 7 and 3 of the actions are no settings. Then: a timer that runs, settings that were never set, and a reply that is too short.
+    let lines = "84010A10B80B0000 -> 84010A00B80B
+84990A10B80B0000 -> 84110A00B80B
+44010A00B80B1000 -> none
+00*08 -> none
+84010A10B80B00 -> none";
+    expect_inverses(&rt, rt.alloc(), &Op::Watchdog(LATER), lines);
 }
 
 #[test]
-fn a_policy_is_undone_from_the_chassis_status(rt: HostRuntime) {
-    let op = SetPowerPolicy { policy: 2 };
-    for (reply, undo) in [
-        (&[0x20, 0, 0][..], Some([0x01])),
-        (&[0x60, 0, 0], None),
-        (&[0x20, 0], None),
-    ] {
-        let given = undo_data::<PowerPolicyLimits>(&op, reply);
-        assert!(rt; is_data(given, undo), "{reply:?}");
-    }
-}
-
-#[test]
-fn a_policy_of_3_changes_nothing(rt: HostRuntime) -> Result<(), Fail> {
+fn a_policy_of_3_changes_nothing(rt: HostRuntime) {
     let no_change = SetPowerPolicy { policy: 3 };
-    let new = applied(&PowerPolicyLimits, &no_change, &[1]).ok_or("refused")?;
+    let new = applied(&PowerPolicyLimits, &no_change, &[1]).expect(&rt, "refused");
     assert!(rt; new.is(&[1]));
     let mut reply = RecordData::from_slice(&[0x2C]);
     PowerPolicyLimits::set_reply(&no_change, &mut reply);
     assert!(rt; reply.is(&[0x2C, 0x07]));
-    Ok(())
 }
 
 #[test]
@@ -113,28 +99,8 @@ fn chassis_bits_leave_the_policy_bits(rt: HostRuntime) {
 }
 
 #[test]
-fn settings_are_undone_from_a_timer_that_is_stopped(rt: HostRuntime) {
-    let stopped = [0x84, 0x01, 0x0A, 0x10, 0xB8, 0x0B, 0x00, 0x00];
-    for (reply, undo) in [
-        (&stopped[..], Some([0x84, 0x01, 0x0A, 0x00, 0xB8, 0x0B])),
-        // Bits 7 and 3 of the actions are no settings.
-        (
-            &[0x84, 0x99, 0x0A, 0x10, 0xB8, 0x0B, 0x00, 0x00],
-            Some([0x84, 0x11, 0x0A, 0x00, 0xB8, 0x0B]),
-        ),
-        // A timer that runs, settings that were never set, and a reply that is too short.
-        (&[0x44, 0x01, 0x0A, 0x00, 0xB8, 0x0B, 0x10, 0x00], None),
-        (&[0; 8], None),
-        (&stopped[..7], None),
-    ] {
-        let given = undo_data::<WatchdogLimits>(&LATER, reply);
-        assert!(rt; is_data(given, undo), "{reply:?}");
-    }
-}
-
-#[test]
-fn a_set_begins_the_countdown_anew(rt: HostRuntime) -> Result<(), Fail> {
-    let new = applied(&WatchdogLimits, &LATER, &SETTINGS).ok_or("refused")?;
+fn a_set_begins_the_countdown_anew(rt: HostRuntime) {
+    let new = applied(&WatchdogLimits, &LATER, &SETTINGS).expect(&rt, "refused");
     assert!(rt; new.is(&[0x84, 0x11, 0x05, 0x70, 0x17]));
     let mut live = running();
     WatchdogLimits::next_live(&LATER, &mut live);
@@ -148,7 +114,6 @@ fn a_set_begins_the_countdown_anew(rt: HostRuntime) -> Result<(), Fail> {
     };
     WatchdogLimits::next_live(&stop, &mut live);
     assert!(rt; !live.running);
-    Ok(())
 }
 
 #[test]
@@ -161,15 +126,14 @@ fn a_get_shows_the_settings_and_the_timer(rt: HostRuntime) {
 }
 
 #[test]
-fn a_reset_starts_a_timer_that_was_set(rt: HostRuntime) -> Result<(), Fail> {
-    let live = reset(&SETTINGS, &running()).ok_or("never set")?;
+fn a_reset_starts_a_timer_that_was_set(rt: HostRuntime) {
+    let live = reset(&SETTINGS, &running()).expect(&rt, "never set");
     assert!(rt; live.running && live.countdown == 3000);
     // The flags stay.
     assert_eq!(rt; live.expired, 0x18);
-    let live = reset(&SETTINGS, &Live::opening()).ok_or("never set")?;
+    let live = reset(&SETTINGS, &Live::opening()).expect(&rt, "never set");
     assert!(rt; live.running && live.countdown == 3000 && live.expired == 0);
     assert!(rt; reset(&[0; 5], &Live::opening()).is_none());
-    Ok(())
 }
 
 #[test]

@@ -1,10 +1,10 @@
-use Rattle.std.proofs.Common.{◌≡◌, ◌++◌, ℕ, List, ◌∙◌, ap}
+use Rattle.std.proofs.Common.{◌++◌, ℕ, List, ◌∙◌, ap}
 use Rattle.std.specs.Int.{w32, w64, to_le_bytes}
 use Rattle.bios_attr.specs.AttributeLaws.{four_pieces}
 use Rattle.bios_attr.proofs.entries.push_integer.Goals as goal
 
-pub returns : goal.returns
-returns c =
+pub returns-clause-bytes : goal.returns-clause-bytes
+returns-clause-bytes c =
     let old = c.args.entry.now in
     let steps = c.args.integer.now.steps in
     let lower = c.to_le_bytes.result in

@@ -12,5 +12,5 @@ pub invariant_of-result : goal.invariant_of-result
 invariant_of-result g c = record {
   sound = subst (λ (r : Records). IsSound c.new.result r) (sym c.requires)
       (subst (λ (f : BoardFile). IsSound f (records_of (pairs_of c.args.file))) (sym c.new.ensures) (starts_sound c.args.file));
-  tell = subst (λ (f : BoardFile). Tells f.attributes.items c.in_ok-tables.tables) (sym c.new.ensures) (opened_tell c.args.file.attributes.items c.in_ok-tables.tables c.in_ok-tables.ensures);
+  tell = subst (λ (f : BoardFile). Tells f.attributes.items c.in_ok-tables.tables) (sym c.new.ensures) (opened_tell c.args.file.attributes.items c.in_ok-tables.tables c.in_ok-tables.ensures.tables);
 }

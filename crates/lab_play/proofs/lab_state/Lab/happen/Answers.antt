@@ -6,6 +6,8 @@ use Rattle.schedules.specs.declared.event.Event.{Event}
 use Rattle.lab.specs.Played.{plans, happens}
 use Rattle.lab_play.specs.declared.lab_state.Lab.{Lab}
 use Rattle.lab_play.specs.Shown.{Shows, Becomes, own_bench}
+use Rattle.lab_play.specs.Hearing.{Did}
+use Rattle.lab_play.proofs.Sent.{on_any}
 use Rattle.lab_play.proofs.lab_state.Lab.happen.Goals as goal
 
 -- the lab becomes what it is after an event
@@ -50,3 +52,32 @@ returns-in-Scan-clause-becomes c = subst (After c.args.self.now c.bench.new.self
 pub returns-in-Tick-clause-becomes : goal.returns-in-Tick-clause-becomes
 unfolding step
 returns-in-Tick-clause-becomes c = subst (After c.args.self.now c.bench-in-Tick.new.self) (sym c.in-Tick.is) c.bench-in-Tick.ensures.becomes
+
+-- ---- what the controller did
+
+pub returns-in-ToBmc-clause-done : goal.returns-in-ToBmc-clause-done
+returns-in-ToBmc-clause-done c = subst (λ (e : Event). OnOk c.to_port.result (Did e c.args.self.now c.to_port.new.self)) (sym c.in-ToBmc.is) c.to_port.ensures.done
+
+pub returns-in-Calls-clause-done : goal.returns-in-Calls-clause-done
+returns-in-Calls-clause-done c = subst (λ (e : Event). OnOk c.call.result (Did e c.args.self.now c.call.new.self)) (sym c.in-Calls.is) (on_any c.call.result tt)
+
+pub returns-in-ToMgr-clause-done : goal.returns-in-ToMgr-clause-done
+returns-in-ToMgr-clause-done c = subst (λ (e : Event). OnOk c.to_manager.result (Did e c.args.self.now c.to_manager.new.self)) (sym c.in-ToMgr.is) (on_any c.to_manager.result tt)
+
+pub returns-in-OtherIpmb-clause-done : goal.returns-in-OtherIpmb-clause-done
+returns-in-OtherIpmb-clause-done c = subst (λ (e : Event). OnOk c.other_request.result (Did e c.args.self.now c.other_request.new.self)) (sym c.in-OtherIpmb.is) (on_any c.other_request.result tt)
+
+pub returns-in-OtherSmbus-clause-done : goal.returns-in-OtherSmbus-clause-done
+returns-in-OtherSmbus-clause-done c = subst (λ (e : Event). OnOk c.other_message.result (Did e c.args.self.now c.other_message.new.self)) (sym c.in-OtherSmbus.is) (on_any c.other_message.result tt)
+
+pub returns-in-Noise-clause-done : goal.returns-in-Noise-clause-done
+returns-in-Noise-clause-done c = subst (λ (e : Event). Did e c.args.self.now c.args.self.now) (sym c.in-Noise.is) tt
+
+pub returns-in-Idle-clause-done : goal.returns-in-Idle-clause-done
+returns-in-Idle-clause-done c = subst (λ (e : Event). Did e c.args.self.now c.idle.new.self) (sym c.in-Idle.is) tt
+
+pub returns-in-Scan-clause-done : goal.returns-in-Scan-clause-done
+returns-in-Scan-clause-done c = subst (λ (e : Event). Did e c.args.self.now c.bench.new.self) (sym c.in-Scan.is) tt
+
+pub returns-in-Tick-clause-done : goal.returns-in-Tick-clause-done
+returns-in-Tick-clause-done c = subst (λ (e : Event). Did e c.args.self.now c.bench-in-Tick.new.self) (sym c.in-Tick.is) tt

@@ -3,11 +3,12 @@ use Rattle.lab_model.specs.declared.marks.Mark.{Mark}
 use Rattle.lab_model.specs.Values.{IsFrameOn}
 use Rattle.lab_model.specs.PortSteps.{hears}
 use Rattle.lab_model.specs.Lab.{ToManager, port_on, with_port, with_frames}
+use Rattle.bmc_core.specs.declared.out.Out.{Out}
 use Rattle.lab.specs.Played.{plans}
 use Rattle.lab_play.specs.Shown.{Shows}
-use Rattle.lab_play.specs.Hearing.{HasFrames}
-use Rattle.lab_play.proofs.Sent.{on_ok}
-use Rattle.lab_play.proofs.PortSide.{delivered_shown, not_delivered}
+use Rattle.lab_play.specs.Hearing.{HasFrames, done_on}
+use Rattle.lab_play.proofs.Sent.{on_ok, on_any}
+use Rattle.lab_play.proofs.PortSide.{delivered_shown, not_delivered, done_shown, none_done}
 use Rattle.lab_play.proofs.lab_state.Lab.to_port.Goals as goal
 
 pub returns-in_default-clause-becomes : goal.returns-in_default-clause-becomes
@@ -25,3 +26,14 @@ returns-clause-becomes c = on_ok c.send_out.result c.send_out.ensures.sent (λ s
     let heard = c.hear.ensures.heard file y v shown (subst (IsFrameOn s.mark.on v) (sym bytes) is) in
     subst (λ (m : Mark). Shows file new (with_frames plans m.on ToManager m.request d.sent z)) mark
     (sends file z d.sent heard.shows (subst (λ (m : Mark). HasFrames m.on d.sent c.hear.new.self.out) (sym mark) heard.out))))
+
+pub returns-in_default-clause-done : goal.returns-in_default-clause-done
+returns-in_default-clause-done c file x f shows is =
+    none_done file c.args.self.now x c.args.number f (c.args.self.now.out.done ≡ done_on f.on (port_on plans f.on x) f.value) shows c.in_default.ensures.none is
+
+pub returns-clause-done : goal.returns-clause-done
+returns-clause-done c = on_any c.send_out.result (λ file x f shows is.
+    let s = c.in-Some.frame.now in
+    let bytes : c.as_slice.result.now ≡ s.bytes = c.as_slice.ensures.value ∙ c.copy-bytes.ensures in
+    done_shown file c.args.self.now x c.args.number s f c.send_out.new.self.out.done shows c.in-Some.ensures.some is
+    (λ v read. ap (λ (o : Out). o.done) c.send_out.ensures.out ∙ c.hear.ensures.done file x v shows (subst (IsFrameOn s.mark.on v) (sym bytes) read)))

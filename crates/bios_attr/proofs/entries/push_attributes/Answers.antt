@@ -1,0 +1,29 @@
+use Rattle.std.proofs.Common.{◌≡◌, ◌+◌, ◌++◌, ◌∷◌, [], ℕ, List, take, sym, ◌∙◌, ap, subst, arith}
+use Rattle.std.proofs.lemmas.List.{take_more, append_assoc}
+use Rattle.cfg_records.specs.declared.attribute.Attribute.{Attribute}
+use Rattle.bios_attr.specs.declared.bios_table.BiosTable.TheVariants.{Attributes}
+use Rattle.bios_attr.specs.Attributes.{attribute_entry, attribute_entries}
+use Rattle.bios_attr.specs.AttributeLaws.{pieces_more}
+use Rattle.bios_attr.specs.TableEntry.{AreOf}
+use Rattle.bios_attr.specs.TableContents.{attribute_contents}
+use Rattle.bios_attr.proofs.Contents.{contents_more}
+use Rattle.bios_attr.proofs.entries.push_attributes.Goals as goal
+
+pub loop-attribute-preserved : goal.loop-attribute-preserved
+loop-attribute-preserved c =
+    let item = c.attribute-item.result in
+    let strings = c.args.strings.now in
+    let before = take c.loop-attribute.attribute-index c.args.attributes.now in
+    let old = c.args.table.now.items in
+    let more : take (c.loop-attribute.attribute-index + 1) c.args.attributes.now ≡ before ++ item ∷ [] =
+    take_more c.args.attributes.now c.loop-attribute.attribute-index item (omega arith) ∙ ap (λ (x : Attribute). before ++ x ∷ []) (sym c.attribute-item.is) in
+    let added : c.as_slice.result.now ≡ attribute_entry strings item = c.as_slice.ensures.value ∙ c.attribute_entry-entry.ensures.bytes in
+    let bytes =
+    c.in_ok-extend_from_slice.ensures.items
+    ∙ ap (λ (xs : List ℕ). xs ++ c.as_slice.result.now) c.loop-attribute.invariant.0
+    ∙ ap (λ (xs : List ℕ). old ++ attribute_entries strings before ++ xs) added
+    ∙ append_assoc old (attribute_entries strings before) (attribute_entry strings item)
+    ∙ sym (ap (λ (xs : List ℕ). old ++ xs) (ap (attribute_entries strings) more ∙ pieces_more (attribute_entry strings) before item)) in (
+      bytes,
+      subst (λ (xs : List Attribute). AreOf Attributes (attribute_contents strings xs)) (sym more) (contents_more strings before item c.loop-attribute.invariant.1 c.attribute_entry-entry.ensures.whole),
+    )

@@ -1,0 +1,145 @@
+-- Notes of events, one after another.
+use Rattle.std.proofs.Common.{◌≡◌, ℕ, zero, suc, ◌+◌, ◌-◌, List, [], ◌∷◌, ◌++◌, length, take, Option, Some, None, Ok, Err, refl, sym, ◌∙◌, ap, subst, arith, option_map}
+use Rattle.std.specs.Prelude.{slice_get}
+use Rattle.std.proofs.lemmas.List.{length-append}
+use Rattle.std.proofs.Math.Seq.{take-length}
+use Rattle.std.proofs.lemmas.Slice.Zip.{AllZip-long}
+use Rattle.two_wire.specs.declared.Bus.{Bus}
+use Rattle.std.specs.List.{AllZip}
+use Rattle.cfg_records.specs.declared.board_file.BoardFile.{BoardFile}
+use Rattle.cfg_records.specs.declared.op.Op.{Op}
+use Rattle.lab_model.specs.Lab.{LabFrame, Lab as LabModel, port_on, opening}
+use Rattle.bmc_core.specs.declared.out.Done.{Done}
+use Rattle.schedules.specs.declared.event.Event.{Event}
+use Rattle.lab.specs.declared.frames.SentFrame.{SentFrame}
+use Rattle.lab.specs.Meaning.{lab_names, Bench}
+use Rattle.lab.specs.Played.{plans, happens, after}
+use Rattle.chart_text.specs.declared.note.Note.{Note}
+use Rattle.lab_play.specs.declared.lab_state.Lab.{Lab}
+use Rattle.lab_play.specs.declared.step.Refused.{Refused}
+use Rattle.lab_play.specs.declared.step.Refused.TheVariants as refused
+use Rattle.lab_play.specs.Shown.{IsSentFrame, Shows, own_bench}
+use Rattle.lab_play.specs.Hearing.{done_on}
+use Rattle.undo_core.specs.Phases as phases
+use Rattle.undo_model.specs.Machine.{phase_of}
+use Rattle.lab_model.specs.Faults.{NoFrame, first_of, delivery}
+use Rattle.lab_model.specs.Lab.{ToPort}
+use Rattle.schedules.specs.declared.event.Event.TheVariants as event
+use Rattle.lab.specs.Played.{fault_at}
+use Rattle.lab_play.specs.Hearing.{Did}
+use Rattle.lab_play.specs.Noted.{IsNote, came_at, done_at, done_in, noted_at, noted_from, AreNotes, NotesStep, Notes, NotesBefore}
+use Rattle.lab_play.specs.Runs.{Take}
+use Rattle.lab_play.proofs.Sent.{all_append, beside, none_beside}
+
+module _ (bench : Bench) (file : BoardFile) where
+  -- what there is to note of one event more
+  noted_more : (es : List Event) (e : Event) (x : LabModel plans) → noted_from bench file (es ++ e ∷ []) x ≡ noted_from bench file es x ++ noted_at bench file (after bench file es x) e ∷ []
+  noted_more [] e x = refl
+  noted_more (d ∷ es) e x = ap (λ ns. noted_at bench file x d ∷ ns) (noted_more es e (happens bench file d x))
+
+-- one event more was noted
+pub notes_one_more : (es : List Event) (e : Event) (old mid : Lab) (notes : List Note) (note : Note) → Take es old mid → Notes es old notes
+    → ((file : BoardFile) (x : LabModel plans) → Shows file mid x → IsNote note (noted_at (own_bench file) file x e)) → Notes (es ++ e ∷ []) old (notes ++ note ∷ [])
+notes_one_more es e old mid notes note took noted one file x shows =
+    let last = noted_at (own_bench file) file (after (own_bench file) file es x) e in
+    subst (λ ns. AllZip IsNote (notes ++ note ∷ []) ns) (sym (noted_more (own_bench file) file es e x))
+    (all_append IsNote notes (note ∷ []) (noted_from (own_bench file) file es x) (last ∷ []) (noted file x shows) (one file (after (own_bench file) file es x) (took file x shows).1, tt))
+
+-- ---- one event
+
+module _ (file : BoardFile) (old new : Lab) (x : LabModel plans) (shows : Shows file old x) where
+  -- a frame that is delivered was sent
+  done_of_frame : (number : ℕ) (o : Option LabFrame) → slice_get x.frames number ≡ o → fault_at (own_bench file) file x (event.ToBmc number) ≡ None → Did (event.ToBmc number) old new
+      → Some new.out.done ≡ option_map (λ f. done_on f.on (port_on plans f.on x) f.value) o
+  done_of_frame number (Some f) is none did = ap (λ (d : Done). Some d) (did file x f shows is)
+  done_of_frame number None is none did =
+      let no : Some NoFrame ≡ None = sym (ap (λ (o : Option LabFrame). first_of (delivery plans ToPort x o)) is) ∙ none in cc no
+
+  pub done_is : (e : Event) → fault_at (own_bench file) file x e ≡ None → Did e old new → done_in e new ≡ done_at x e
+  done_is (event.Calls call) none did = refl
+  done_is (event.ToBmc number) none did =
+      done_of_frame number (slice_get x.frames number) refl none did
+  done_is (event.ToMgr number) none did = refl
+  done_is (event.OtherIpmb request) none did = refl
+  done_is (event.OtherSmbus message) none did = refl
+  done_is (event.Noise on bytes) none did = refl
+  done_is (event.Idle on requester) none did = refl
+  done_is (event.Scan sensor reading) none did = refl
+  done_is event.Tick none did = refl
+
+-- ---- the bus of a frame that is sent
+
+module _ (file : BoardFile) (lab : Lab) (x : LabModel plans) (number : ℕ) (shows : Shows file lab x) where
+  pub bus_shown : (s : SentFrame) → slice_get lab.frames number ≡ Some s → Some s.mark.on ≡ option_map (λ f. f.on) (slice_get x.frames number)
+  bus_shown s there =
+      let at = beside IsSentFrame lab.frames x.frames number s shows.frames there in
+      ap (λ (b : Bus). Some b) (sym at.2.is.mark.on) ∙ ap (option_map (λ (f : LabFrame). f.on)) (sym at.1)
+
+  pub no_bus : slice_get lab.frames number ≡ None → None ≡ option_map (λ f. f.on) (slice_get x.frames number)
+  no_bus none = ap (option_map (λ (f : LabFrame). f.on)) (sym (none_beside IsSentFrame lab.frames x.frames number shows.frames none))
+
+-- ---- the note of an event that happened
+
+-- what is noted is what there is to note
+pub is_noted : (e : Event) (old new : Lab) (note : Note) (file : BoardFile) (x : LabModel plans) → Shows file old x
+    → (fault_at (own_bench file) file x e ≡ None) × Shows file new (happens (own_bench file) file e x) → Did e old new
+    → note.event.now ≡ e → note.came ≡ came_at x e → note.done ≡ done_in e new
+    → ((y : LabModel plans) → Shows file new y → note.sends ≡ option_map (λ f. f.on) (slice_get y.frames note.before))
+    → note.before ≡ length old.frames → note.after ≡ length new.frames
+    → ((y : LabModel plans) → Shows file new y → phases.phase_of note.phase ≡ phase_of plans.words y.manager.machine)
+    → IsNote note (noted_at (own_bench file) file x e)
+is_noted e old new note file x shows stepped did named came done sends before after phase =
+    let y = happens (own_bench file) file e x in
+    let begun : note.before ≡ length x.frames = before ∙ sym (AllZip-long IsSentFrame old.frames x.frames shows.frames) in
+    let over : note.after ≡ length y.frames = after ∙ sym (AllZip-long IsSentFrame new.frames y.frames stepped.1.frames) in
+    record {
+      event = named;
+      came = came;
+      done = done ∙ done_is file old new x shows e stepped.0 did;
+      sends = sends y stepped.1 ∙ ap (λ (n : ℕ). option_map (λ (f : LabFrame). f.on) (slice_get y.frames n)) begun;
+      before = begun;
+      after = over;
+      phase = phase y stepped.1;
+    }
+
+-- an event that isn't taken isn't noted
+pub unnoted : (e : Event) (old : Lab) (why : Refused) (notes : List Note) → NotesStep e old (Err why) notes notes
+unnoted e old (refused.Fault fault) notes = refl
+unnoted e old refused.Memory notes = tt
+
+-- ---- events, one after another
+
+pub noted_step : (es : List Event) (e : Event) (old mid : Lab) (before after : List Note) → Take es old mid → Notes es old before → NotesStep e mid (Ok tt) before after
+    → Notes (es ++ e ∷ []) old after
+noted_step es e old mid before after took noted (note, is, says) =
+    subst (λ (ns : List Note). Notes (es ++ e ∷ []) old ns) (sym is) (notes_one_more es e old mid before note took noted says)
+
+pub one_longer : (e : Event) (mid : Lab) (before after : List Note) → NotesStep e mid (Ok tt) before after → length after ≡ length before + 1
+one_longer e mid before after (note, is, says) = ap length is ∙ length-append before (note ∷ [])
+
+-- those before the one that isn't taken were noted
+pub noted_before : (events : List Event) (old mid : Lab) (e : Event) (place : ℕ) (why : Refused) (before after : List Note) → Notes (take place events) old before
+    → length before ≡ place → NotesStep e mid (Err why) before after → NotesBefore events old (place + 1) why after
+noted_before events old mid e place (refused.Fault fault) before after noted long same =
+    let back : place ≡ place + 1 - 1 = omega arith in (
+      subst (λ (ns : List Note). Notes (take (place + 1 - 1) events) old ns) (sym same) (subst (λ (n : ℕ). Notes (take n events) old before) back noted),
+      ap (λ (n : ℕ). n + 1) (sym long) ∙ ap (λ (ns : List Note). length ns + 1) (sym same),
+    )
+noted_before events old mid e place refused.Memory before after noted long same = tt
+
+-- ---- plays
+
+module _ (file : BoardFile) (steps : List Op) (retries : ℕ) (events : List Event) (old : Lab) (shows : Shows file old (opening plans file lab_names steps retries)) (notes : List Note) where
+  -- all events of a play were noted
+  pub all_noted : Notes events old notes → length notes ≡ length events → AreNotes (own_bench file) file steps retries events notes
+  all_noted noted long =
+      let first = opening plans file lab_names steps retries in
+      let whole : take (length notes) events ≡ events = ap (λ (n : ℕ). take n events) long ∙ take-length events in
+      record { each = subst (λ (es : List Event). AllZip IsNote notes (noted_from (own_bench file) file es first)) (sym whole) (noted file first shows) }
+
+  -- those before the one of this place were
+  pub some_noted : (place : ℕ) → Notes (take (place - 1) events) old notes → place ≡ length notes + 1 → AreNotes (own_bench file) file steps retries events notes
+  some_noted place noted at =
+      let first = opening plans file lab_names steps retries in
+      let count : place - 1 ≡ length notes = omega (arith, at) in
+      record { each = subst (λ (n : ℕ). AllZip IsNote notes (noted_from (own_bench file) file (take n events) first)) count (noted file first shows) }

@@ -1,0 +1,124 @@
+-- What is noted of each event of a play.
+use Rattle.std.specs.Prelude.{◌≡◌, ℕ, ◌+◌, ◌-◌, nat_lt, List, [], ◌∷◌, ◌++◌, length, take, Option, Some, None, Result, Ok, Err, option_map, slice_get}
+use Rattle.std.specs.List.{AllZip}
+use Rattle.two_wire.specs.declared.Bus.{Bus}
+use Rattle.cfg_records.specs.declared.board_file.BoardFile.{BoardFile}
+use Rattle.cfg_records.specs.declared.op.Op.{Op}
+use Rattle.undo_model.specs.Phase.{Phase}
+use Rattle.undo_model.specs.Machine.{phase_of}
+use Rattle.lab_model.specs.Lab.{LabFrame, Lab as LabModel, port_on, opening}
+use Rattle.lab_model.specs.Faults.{begun_on}
+use Rattle.bmc_core.specs.declared.out.Done.{Done}
+use Rattle.undo_core.specs.Phases as phases
+use Rattle.schedules.specs.declared.event.Event.{Event}
+use Rattle.schedules.specs.declared.event.Event.TheVariants as event
+use Rattle.lab.specs.Meaning.{lab_names, Bench}
+use Rattle.lab.specs.Played.{plans, happens}
+use Rattle.chart_text.specs.declared.note.Came.{Came}
+use Rattle.chart_text.specs.declared.note.Note.{Note}
+use Rattle.lab_play.specs.declared.lab_state.Lab.{Lab}
+use Rattle.lab_play.specs.declared.run.Halt.{Halt}
+use Rattle.lab_play.specs.declared.step.Refused.{Refused}
+use Rattle.lab_play.specs.declared.step.Refused.TheVariants as refused
+use Rattle.lab_play.specs.declared.played.Played.{Played}
+use Rattle.lab_play.specs.declared.played.LabFault.{LabFault}
+use Rattle.lab_play.specs.declared.played.LabFault.TheVariants as fault
+use Rattle.lab_play.specs.Shown.{Shows, own_bench}
+use Rattle.lab_play.specs.Hearing.{done_on}
+
+-- ---- what comes, and what the controller does with it
+
+-- a frame that comes now: it is late where more requests were begun on its bus from its own on than that one
+abbrev pub comes : LabModel plans → LabFrame → Came
+comes x f = record { on = f.on; late = nat_lt 1 (begun_on plans.words f.on x.manager.machine - f.request) }
+
+-- the frame that the event delivers, if there is such a frame
+abbrev pub came_at : LabModel plans → Event → Option Came
+came_at x (event.ToBmc number) = option_map (comes x) (slice_get x.frames number)
+came_at x (event.ToMgr number) = option_map (comes x) (slice_get x.frames number)
+came_at x _ = None
+
+-- what the controller does with the frame that the event delivers
+abbrev pub done_at : LabModel plans → Event → Option Done
+done_at x (event.ToBmc number) = option_map (λ f. done_on f.on (port_on plans f.on x) f.value) (slice_get x.frames number)
+done_at x _ = None
+
+-- ---- notes
+
+-- what there is to note of an event
+pub record Noted : Type 0 where
+  pub event : Event
+  pub came : Option Came
+  pub done : Option Done
+  pub sends : Option Bus
+  pub before : ℕ
+  pub after : ℕ
+  pub phase : Phase
+
+-- the note says it
+pub record IsNote (note : Note) (n : Noted) : Type 0 where
+  pub event : note.event.now ≡ n.event
+  pub came : note.came ≡ n.came
+  pub done : note.done ≡ n.done
+  pub sends : note.sends ≡ n.sends
+  pub before : note.before ≡ n.before
+  pub after : note.after ≡ n.after
+  pub phase : phases.phase_of note.phase ≡ n.phase
+
+module _ (bench : Bench) (file : BoardFile) where
+  -- what there is to note of an event that happens in a lab: frames are numbered as they are sent
+  abbrev pub noted_at : LabModel plans → Event → Noted
+  noted_at x e =
+      let y = happens bench file e x in
+      record {
+        event = e;
+        came = came_at x e;
+        done = done_at x e;
+        sends = option_map (λ f. f.on) (slice_get y.frames (length x.frames));
+        before = length x.frames;
+        after = length y.frames;
+        phase = phase_of plans.words y.manager.machine;
+      }
+
+  -- and of events, one after another
+  abbrev pub noted_from : List Event → LabModel plans → List Noted
+  noted_from [] x = []
+  noted_from (e ∷ es) x = noted_at x e ∷ noted_from es (happens bench file e x)
+
+-- the notes are those of a play's first events, as many as there are notes
+pub record AreNotes (bench : Bench) (file : BoardFile) (steps : List Op) (retries : ℕ) (events : List Event) (notes : List Note) : Type 0 where
+  pub each : AllZip IsNote notes (noted_from bench file (take (length notes) events) (opening plans file lab_names steps retries))
+
+-- ---- what calls note
+
+-- what the controller's port did last, where the event delivered a frame to it
+abbrev pub done_in : Event → Lab → Option Done
+done_in (event.ToBmc number) lab = Some lab.out.done
+done_in _ lab = None
+
+-- an event is asked of a lab: a note is added where it happens, and none where it has a fault; where memory was refused, nothing is said
+abbrev pub NotesStep : Event → Lab → Result (Unit {0}) Refused → (before after : List Note) → Type 0
+NotesStep e old (Ok done) before after =
+    (note : Note) × (after ≡ before ++ note ∷ []) × ((file : BoardFile) (x : LabModel plans) → Shows file old x → IsNote note (noted_at (own_bench file) file x e))
+NotesStep e old (Err (refused.Fault why)) before after = after ≡ before
+NotesStep e old (Err refused.Memory) before after = Unit {0}
+
+-- of events that were asked of a lab, these were noted: whatever lab of the model it showed
+abbrev pub Notes : List Event → Lab → List Note → Type 0
+Notes events old notes = (file : BoardFile) (x : LabModel plans) → Shows file old x → AllZip IsNote notes (noted_from (own_bench file) file events x)
+
+-- those before the event of this place were noted, which has a fault; where memory was refused, nothing is said
+abbrev pub NotesBefore : List Event → Lab → (place : ℕ) → Refused → List Note → Type 0
+NotesBefore events old place (refused.Fault why) notes = Notes (take (place - 1) events) old notes × (place ≡ length notes + 1)
+NotesBefore events old place refused.Memory notes = Unit {0}
+
+-- all events were noted, or those before the one that isn't taken
+abbrev pub NotesRun : List Event → Lab → Result (Unit {0}) Halt → List Note → Type 0
+NotesRun events old (Ok done) notes = Notes events old notes × (length notes ≡ length events)
+NotesRun events old (Err halt) notes = NotesBefore events old halt.place halt.why notes
+
+-- how many events of a play were noted: all, or those before the one that has the fault
+abbrev pub NotesPlay : BoardFile → List Op → (retries : ℕ) → List Event → Result Played LabFault → List Note → Type 0
+NotesPlay file steps retries events (Ok played) notes = AreNotes (own_bench file) file steps retries events notes × (length notes ≡ length events)
+NotesPlay file steps retries events (Err (fault.Event why place played)) notes = AreNotes (own_bench file) file steps retries events notes × (place ≡ length notes + 1)
+NotesPlay file steps retries events (Err fault.Memory) notes = Unit {0}
