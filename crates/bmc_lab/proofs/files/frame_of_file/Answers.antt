@@ -17,11 +17,13 @@ returns-in-Err g c = elim c.refuse.ensures [
       file_line c.in-Err.unread.word.now,
       RefusedFile,
       subst (λ board. SaysOfFile (g.F.TextFiles.gives c.args.files.now) (option_copied board) c.args.bus c.args.bytes.now Error (file_line c.in-Err.unread.word.now) RefusedFile)
-        (sym c.in-Some.is)
-        (inr (
-          subst (λ (why : Unreadable). g.F.TextFiles.gives c.args.files.now c.in-Some.word.now (Err why)) said.0 c.in-Err.ensures.unread,
-          record { complains = refl; said = ap file_line c.in-Err.ensures.word; ended = refl })),
+          (sym c.in-Some.is)
+          (inr (
+            subst (λ (why : Unreadable). g.F.TextFiles.gives c.args.files.now c.in-Some.word.now (Err why)) said.0 c.in-Err.ensures.unread,
+            record { complains = refl; said = ap file_line c.in-Err.ensures.word; ended = refl },
+          )),
       said.1,
-      said.2))
+      said.2,
+    ))
   ]
 ]
