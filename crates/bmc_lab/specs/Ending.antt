@@ -1,10 +1,14 @@
 -- What a run writes, where, and the status that it ends with.
-use Rattle.std.specs.Prelude.{◌≡◌, ℕ, List, [], Result, Ok, Err, codes, string_bytes}
+use Rattle.std.specs.Prelude.{◌≡◌, ◌⊎◌, ℕ, List, [], Option, Result, Ok, Err, codes, string_bytes}
+use Rattle.std.specs.Io.KnownBytes.{Appends, Keeps}
+use Rattle.bmc_lab.specs.declared.console.Console.{Console}
 use Rattle.bmc_lab.specs.declared.console.Stream.{Stream}
 use Rattle.bmc_lab.specs.declared.console.Stream.TheVariants.{Error}
 use Rattle.bmc_lab.specs.declared.report.Report.{Report}
 use Rattle.bmc_lab.specs.declared.status.Status.{Status}
 use Rattle.bmc_lab.specs.declared.status.Status.TheVariants.{Memory}
+use Rattle.bmc_lab.specs.Console.{HasFailed, Written}
+use Rattle.bmc_lab.specs.Report.{byte_of}
 
 -- what standard error says of a run that ends so without a report
 abbrev pub complaint_of : Status → List ℕ
@@ -15,3 +19,16 @@ complaint_of _ = []
 abbrev pub Ends : {E : Type 0} → Result Report E → Stream → List ℕ → Status → Type 0
 Ends (Ok report) stream text status = (stream ≡ report.stream) × (text ≡ string_bytes report.text) × (status ≡ report.status)
 Ends (Err e) stream text status = (stream ≡ Error) × (text ≡ codes "memory\n") × (status ≡ Memory)
+
+-- what a run may say: where, in which text, and with which status
+abbrev pub Saying : Type 1
+Saying = Stream → List ℕ → Status → Type 0
+
+-- How a run of this console ends that has something to say, and with which status: 6 where a write failed, 5 where memory was refused,
+-- which standard error says, or that of what it says, once that is written.
+abbrev pub RunEnds : {W E : Type 0} → (out : W → Option (List ℕ)) → (err : E → Option (List ℕ)) → Saying → (old new : Console W E) → ℕ → Type 0
+RunEnds out err says old new result =
+    ((result ≡ 6) × HasFailed new)
+    ⊎ (((result ≡ 5) × Appends (err old.err) (err new.err) (codes "memory\n") × Keeps (out old.out) (out new.out))
+    ⊎ ((stream : Stream) × (text : List ℕ) × (status : Status) × says stream text status × (result ≡ byte_of status)
+    × Written stream text (out old.out) (out new.out) (err old.err) (err new.err)))

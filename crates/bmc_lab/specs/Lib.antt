@@ -1,6 +1,7 @@
 pub mod Asked
 pub mod Console
 pub mod Ending
+pub mod EndingLaws
 pub mod Files
 pub mod Report
 pub mod Run

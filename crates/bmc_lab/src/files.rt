@@ -1,14 +1,8 @@
 //! The files that a run reads, by the words that name them.
-ghost use Rattle.std.specs.Prelude.{◌≡◌, ◌⊎◌, ℕ, List, Result, Ok, Err, IfOk, IfErr, codes, string_bytes};
+ghost use Rattle.std.specs.Prelude.{◌≡◌, ℕ, List, Result, Ok, Err, IfOk, IfErr, string_bytes};
 ghost use Rattle.std.specs.Option.{option_copied};
-ghost use Rattle.std.specs.Io.KnownBytes.{Appends, Keeps};
-ghost use Rattle.bmc_lab.specs.declared.console.Stream.{Stream as AnyStream};
-ghost use Rattle.bmc_lab.specs.declared.console.Stream.TheVariants.{Error};
-ghost use Rattle.bmc_lab.specs.declared.status.Status.{Status as End};
-ghost use Rattle.bmc_lab.specs.declared.status.Status.TheVariants.{RefusedFile};
-ghost use Rattle.bmc_lab.specs.Console.{HasFailed, Written};
-ghost use Rattle.bmc_lab.specs.Report.{byte_of, file_line};
-ghost use Rattle.bmc_lab.specs.Files.{SaysOfFile};
+ghost use Rattle.bmc_lab.specs.Ending.{RunEnds};
+ghost use Rattle.bmc_lab.specs.Files.{Refuses, SaysOfFile};
 
 use crate::console::Console;
 use crate::ending::Ending;
@@ -67,10 +61,7 @@ pub fn refuse<W: io::Write, E: io::Write>(
     unread: &Unread,
     console: &mut Console<W, E>,
 ) -> u8
-    ensures { ((result ≡ 6) × HasFailed console.new)
-        ⊎ (((result ≡ 5) × Appends (E.contents console.old.err) (E.contents console.new.err) (codes "memory\n") × Keeps (W.contents console.old.out) (W.contents console.new.out))
-        ⊎ ((unread.now.why ≡ Unreadable.NoText) × (result ≡ byte_of RefusedFile)
-        × Written Error (file_line unread.now.word.now) (W.contents console.old.out) (W.contents console.new.out) (E.contents console.old.err) (E.contents console.new.err))) }
+    ensures { RunEnds W.contents E.contents (Refuses unread.now.why unread.now.word.now) console.old console.new result }
 {
     match unread.why {
         Unreadable::NoText => {
@@ -91,10 +82,7 @@ pub fn frame_of_file<F: TextFiles, W: io::Write, E: io::Write>(
     bytes: &[u8],
     console: &mut Console<W, E>,
 ) -> u8
-    ensures { ((result ≡ 6) × HasFailed console.new)
-        ⊎ (((result ≡ 5) × Appends (E.contents console.old.err) (E.contents console.new.err) (codes "memory\n") × Keeps (W.contents console.old.out) (W.contents console.new.out))
-        ⊎ ((stream : AnyStream) × (text : List ℕ) × (status : End) × SaysOfFile (F.gives files.now) (option_copied board.entry) bus bytes.now stream text status × (result ≡ byte_of status)
-        × Written stream text (W.contents console.old.out) (W.contents console.new.out) (E.contents console.old.err) (E.contents console.new.err))) }
+    ensures { RunEnds W.contents E.contents (SaysOfFile (F.gives files.now) (option_copied board.entry) bus bytes.now) console.old console.new result }
 {
     let Some(word) = board else {
         return frame_run(alloc, bus, None, bytes, console);

@@ -1,12 +1,8 @@
 //! `bmclab frame`: one frame to a fresh controller with a board.
-ghost use Rattle.std.specs.Prelude.{◌≡◌, ◌⊎◌, ℕ, List, Option, IfOk, IfErr, codes, string_bytes};
+ghost use Rattle.std.specs.Prelude.{◌≡◌, ◌⊎◌, ℕ, List, Option, IfOk, IfErr, string_bytes};
 ghost use Rattle.std.specs.Option.{option_copied};
-ghost use Rattle.std.specs.Io.KnownBytes.{Appends, Keeps};
-ghost use Rattle.bmc_lab.specs.declared.console.Stream.{Stream as AnyStream};
 ghost use Rattle.bmc_lab.specs.declared.console.Stream.TheVariants.{Output};
-ghost use Rattle.bmc_lab.specs.declared.status.Status.{Status as End};
-ghost use Rattle.bmc_lab.specs.Console.{HasFailed, Written};
-ghost use Rattle.bmc_lab.specs.Report.{byte_of};
+ghost use Rattle.bmc_lab.specs.Ending.{RunEnds};
 ghost use Rattle.bmc_lab.specs.Run.{controller, IsBoardOf, IsFaultOf, Tells, Says};
 
 use crate::console::Console;
@@ -95,10 +91,7 @@ pub fn frame_run<W: io::Write, E: io::Write>(
     bytes: &[u8],
     console: &mut Console<W, E>,
 ) -> u8
-    ensures { ((result ≡ 6) × HasFailed console.new)
-        ⊎ (((result ≡ 5) × Appends (E.contents console.old.err) (E.contents console.new.err) (codes "memory\n") × Keeps (W.contents console.old.out) (W.contents console.new.out))
-        ⊎ ((stream : AnyStream) × (text : List ℕ) × (status : End) × Says (option_copied board.entry) bus bytes.now stream text status × (result ≡ byte_of status)
-        × Written stream text (W.contents console.old.out) (W.contents console.new.out) (E.contents console.old.err) (E.contents console.new.err))) }
+    ensures { RunEnds W.contents E.contents (Says (option_copied board.entry) bus bytes.now) console.old console.new result }
 {
     let report = frame_report(alloc, bus, board, bytes);
     u8::from(Ending::of(&report).write(console))

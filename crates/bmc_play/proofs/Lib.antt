@@ -1,1 +1,3 @@
+pub mod AlikeEnds
+pub mod Noted
 pub mod Plays

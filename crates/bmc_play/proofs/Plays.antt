@@ -14,7 +14,7 @@ use Rattle.bmc_lab.specs.declared.console.Stream.{Stream}
 use Rattle.bmc_lab.specs.declared.console.Stream.TheVariants.{Output}
 use Rattle.bmc_lab.specs.declared.report.Report.{Report}
 use Rattle.bmc_play.specs.Account.{Accounts, IsAccountOf, status_of}
-use Rattle.bmc_play.specs.Run.{Recounts, Says}
+use Rattle.bmc_play.specs.Run.{Recounts, Telling, Says}
 
 -- whatever is told of what was played, the account says it
 abbrev pub SaysOf : Account → Played → Type 0
@@ -66,10 +66,10 @@ recounts_stopped frames inputs (Ok report) why place played account plays says n
 }
 recounts_stopped frames inputs (Err e) why place played account plays says named said ended = tt
 
--- a report that recounts the play which the texts tell says so
-pub says_play : {E : Type 0} (frames : Bool) (board plan schedule : List ℕ) (r : Result Report E) (inputs : Inputs) → AreRead board plan schedule (Ok inputs)
-    → IfOk r (λ report. report.stream ≡ Output) → IfOk r (λ report. Recounts frames inputs (string_bytes report.text) report.status)
-    → IfOk r (λ report. Says frames board plan schedule report.stream (string_bytes report.text) report.status)
-says_play frames board plan schedule (Ok report) inputs read written told =
-    subst (λ (stream : Stream). Says frames board plan schedule stream (string_bytes report.text) report.status) (sym written) (inputs, read, told)
-says_play frames board plan schedule (Err e) inputs read written told = tt
+-- a report of the play that the texts tell says so
+pub says_play : {E : Type 0} (tells : Telling) (board plan schedule : List ℕ) (r : Result Report E) (inputs : Inputs) → AreRead board plan schedule (Ok inputs)
+    → IfOk r (λ report. report.stream ≡ Output) → IfOk r (λ report. tells inputs (string_bytes report.text) report.status)
+    → IfOk r (λ report. Says tells board plan schedule report.stream (string_bytes report.text) report.status)
+says_play tells board plan schedule (Ok report) inputs read written told =
+    subst (λ (stream : Stream). Says tells board plan schedule stream (string_bytes report.text) report.status) (sym written) (inputs, read, told)
+says_play tells board plan schedule (Err e) inputs read written told = tt

@@ -1,2 +1,5 @@
 pub mod Account
+pub mod Alike
+pub mod Drawn
+pub mod Files
 pub mod Run

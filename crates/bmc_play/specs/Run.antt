@@ -12,11 +12,14 @@ use Rattle.play_text.specs.Account.{text_of}
 use Rattle.lab.specs.Played.{Ending, IsPlayed}
 use Rattle.lab_stands.specs.Plays.{StandsIfOwn}
 use Rattle.lab_play.specs.Shown.{own_bench}
-use Rattle.bmc_lab.specs.declared.console.Stream.{Stream}
 use Rattle.bmc_lab.specs.declared.console.Stream.TheVariants.{Output, Error}
 use Rattle.bmc_lab.specs.declared.status.Status.{Status}
 use Rattle.bmc_lab.specs.declared.status.Status.TheVariants.{RefusedFile}
+use Rattle.bmc_lab.specs.Ending.{Saying}
+use Rattle.bmc_play.specs.declared.run.Shown.{Shown}
+use Rattle.bmc_play.specs.declared.run.Shown.TheVariants as shown
 use Rattle.bmc_play.specs.Account.{IsAccountOf, status_of}
+use Rattle.bmc_play.specs.Drawn.{Draws}
 
 -- a text wasn't read for want of memory
 abbrev pub is_memory : InputFault → Bool
@@ -40,9 +43,18 @@ pub record Recounts (frames : Bool) (inputs : Inputs) (text : List ℕ) (status 
   pub said : text ≡ text_of frames account
   pub ended : status ≡ status_of account.stopped
 
+-- what a text and a status say of inputs
+abbrev pub Telling : Type 1
+Telling = Inputs → List ℕ → Status → Type 0
+
+-- the play of these inputs, as it is shown
+abbrev pub tells_of : Shown → Telling
+tells_of (shown.Lines frames) = Recounts frames
+tells_of shown.Chart = Draws
+
 -- what a run says, and where: on standard output the play that the texts tell, or on standard error which text is the first that is
 -- refused, and why
-abbrev pub Says : Bool → (board plan schedule : List ℕ) → Stream → List ℕ → Status → Type 0
-Says frames board plan schedule Output text status = (inputs : Inputs) × AreRead board plan schedule (Ok inputs) × Recounts frames inputs text status
-Says frames board plan schedule Error text status =
+abbrev pub Says : Telling → (board plan schedule : List ℕ) → Saying
+Says tells board plan schedule Output text status = (inputs : Inputs) × AreRead board plan schedule (Ok inputs) × tells inputs text status
+Says tells board plan schedule Error text status =
     (why : InputFault) × (is_memory why ≡ false) × AreRead board plan schedule (Err why) × (text ≡ refusal_line why) × (status ≡ RefusedFile)

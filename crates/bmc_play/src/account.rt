@@ -26,7 +26,7 @@ pub(crate) fn account_of(played: &Played, stopped: Option<Stopped>) -> Account<'
 }
 
 /// How a run with this account ends.
-fn status(stopped: Option<Stopped>) -> Status
+pub(crate) fn status(stopped: Option<Stopped>) -> Status
     ensures { result ≡ status_of stopped }
 {
     match stopped {

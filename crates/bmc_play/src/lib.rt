@@ -1,9 +1,13 @@
-//! What `bmclab play` does, over writers of any kind: a plan run and undone by a schedule.
+//! What `bmclab play` does, over files and writers of any kind: a plan run and undone by a schedule.
 #![tactic(auto)]
 
 mod account;
-mod run;
+mod drawn;
+pub mod files;
+pub mod laws;
+pub mod run;
 #[cfg(test)]
 mod tests;
 
-pub use run::play_run;
+pub use files::{PlayFiles, play_of_files};
+pub use run::{Shown, chart_run, play_run, show};

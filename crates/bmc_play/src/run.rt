@@ -1,15 +1,13 @@
-//! `bmclab play`: a plan run and undone by a schedule.
-ghost use Rattle.std.specs.Prelude.{◌≡◌, ◌⊎◌, ℕ, List, IfOk, codes, string_bytes};
-ghost use Rattle.std.specs.Io.KnownBytes.{Appends, Keeps};
-ghost use Rattle.bmc_lab.specs.declared.console.Stream.{Stream as AnyStream};
+//! A plan run and undone by a schedule: what is said of three texts, in lines or drawn.
+ghost use Rattle.std.specs.Prelude.{◌≡◌, IfOk, string_bytes};
 ghost use Rattle.bmc_lab.specs.declared.console.Stream.TheVariants.{Output, Error};
-ghost use Rattle.bmc_lab.specs.declared.status.Status.{Status as End};
 ghost use Rattle.bmc_lab.specs.declared.status.Status.TheVariants.{RefusedFile};
-ghost use Rattle.bmc_lab.specs.Console.{HasFailed, Written};
-ghost use Rattle.bmc_lab.specs.Report.{byte_of};
-ghost use Rattle.bmc_play.specs.Run.{is_memory, refusal_line, Recounts, Says};
+ghost use Rattle.bmc_lab.specs.Ending.{RunEnds};
+ghost use Rattle.bmc_play.specs.Drawn.{Draws};
+ghost use Rattle.bmc_play.specs.Run.{is_memory, refusal_line, tells_of, Recounts, Says};
 
 use crate::account::{account_of, account_report};
+use crate::drawn::drawn_report;
 use bmc_lab::{Console, Ending, Report, Status, Stream};
 use lab_play::{LabFault, play};
 use plan_file::{FileFault, PlanFault};
@@ -17,6 +15,15 @@ use play_text::{InputFault, Inputs, Stopped, read_inputs};
 use schedules::ScheduleFault;
 use std::alloc::{AllocError, Global};
 use std::io;
+
+/// How what was played is shown.
+#[derive(Clone, Copy, Debug, PartialEq, Eq)]
+pub enum Shown {
+    /// In lines, with those of the frames or without.
+    Lines { frames: bool },
+    /// As a sequence chart.
+    Chart,
+}
 
 /// Whether a text wasn't read for want of memory.
 fn is_memory(why: &InputFault) -> bool
@@ -66,21 +73,48 @@ fn played_report(alloc: Global, frames: bool, inputs: Inputs) -> Result<Report, 
     }
 }
 
+/// What is said of the play that these inputs tell, as it is to be shown.
+fn shown_report(alloc: Global, shown: Shown, inputs: Inputs) -> Result<Report, AllocError>
+    ensures stream { IfOk result (λ report. report.stream ≡ Output) }
+    ensures told { IfOk result (λ report. tells_of shown inputs (string_bytes report.text) report.status) }
+{
+    match shown {
+        Shown::Lines { frames } => played_report(alloc, frames, inputs),
+        Shown::Chart => drawn_report(alloc, inputs),
+    }
+}
+
 /// What is said of the play that the texts tell, or of the first text that is refused.
 fn play_report(
     alloc: Global,
-    frames: bool,
+    shown: Shown,
     board: &str,
     plan: &str,
     schedule: &str,
 ) -> Result<Report, AllocError>
-    ensures { IfOk result (λ report. Says frames board.now plan.now schedule.now report.stream (string_bytes report.text) report.status) }
+    ensures { IfOk result (λ report. Says (tells_of shown) board.now plan.now schedule.now report.stream (string_bytes report.text) report.status) }
 {
     match read_inputs(alloc, board, plan, schedule) {
-        Ok(inputs) => played_report(alloc, frames, inputs),
+        Ok(inputs) => shown_report(alloc, shown, inputs),
         Err(why) if is_memory(&why) => Err(AllocError),
         Err(why) => refusal_report(alloc, why),
     }
+}
+
+/// Plays a plan on the board of a board file by a schedule, each given as its text, and shows what was played: what `play_run` or
+/// `chart_run` does.
+pub fn show<W: io::Write, E: io::Write>(
+    alloc: Global,
+    shown: Shown,
+    board: &str,
+    plan: &str,
+    schedule: &str,
+    console: &mut Console<W, E>,
+) -> u8
+    ensures { RunEnds W.contents E.contents (Says (tells_of shown) board.now plan.now schedule.now) console.old console.new result }
+{
+    let report = play_report(alloc, shown, board, plan, schedule);
+    u8::from(Ending::of(&report).write(console))
 }
 
 /// Plays a plan on the board of a board file by a schedule, each given as its text. Writes to standard output the lines of what was
@@ -95,11 +129,28 @@ pub fn play_run<W: io::Write, E: io::Write>(
     schedule: &str,
     console: &mut Console<W, E>,
 ) -> u8
-    ensures { ((result ≡ 6) × HasFailed console.new)
-        ⊎ (((result ≡ 5) × Appends (E.contents console.old.err) (E.contents console.new.err) (codes "memory\n") × Keeps (W.contents console.old.out) (W.contents console.new.out))
-        ⊎ ((stream : AnyStream) × (text : List ℕ) × (status : End) × Says frames board.now plan.now schedule.now stream text status × (result ≡ byte_of status)
-        × Written stream text (W.contents console.old.out) (W.contents console.new.out) (E.contents console.old.err) (E.contents console.new.err))) }
+    ensures { RunEnds W.contents E.contents (Says (Recounts frames) board.now plan.now schedule.now) console.old console.new result }
 {
-    let report = play_report(alloc, frames, board, plan, schedule);
-    u8::from(Ending::of(&report).write(console))
+    show(
+        alloc,
+        Shown::Lines { frames },
+        board,
+        plan,
+        schedule,
+        console,
+    )
+}
+
+/// Plays as `play_run` does, and draws the play in place of its lines: manager, bus and controller side by side, a line an event, of
+/// at most eighty columns. Where an event has a fault its line is the last, as without a chart.
+pub fn chart_run<W: io::Write, E: io::Write>(
+    alloc: Global,
+    board: &str,
+    plan: &str,
+    schedule: &str,
+    console: &mut Console<W, E>,
+) -> u8
+    ensures { RunEnds W.contents E.contents (Says Draws board.now plan.now schedule.now) console.old console.new result }
+{
+    show(alloc, Shown::Chart, board, plan, schedule, console)
 }

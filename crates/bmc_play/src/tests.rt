@@ -1,6 +1,8 @@
 //! What runs write: stories, faults, refused texts and failing writers.
 mod attributes;
+mod charts;
 mod faults;
+mod files;
 mod late;
 mod others;
 mod refused;
@@ -9,7 +11,7 @@ mod stories;
 mod users;
 mod writers;
 
-use crate::play_run;
+use crate::{chart_run, play_run};
 use bmc_lab::Console;
 use std::alloc::Global;
 use std::io;
@@ -172,6 +174,20 @@ fn expect_written(
     Ok(())
 }
 
+/// A run with these papers wrote this text to standard output and this one to standard error, and ended so.
+fn expect_ended(
+    rt: &impl Abort,
+    console: &Console<Paper, Paper>,
+    ended: u8,
+    schedule: &str,
+    wanted: (&str, &str, u8),
+) -> Result<(), Fail> {
+    expect_written(rt, &console.out, wanted.0, schedule)?;
+    expect_written(rt, &console.err, wanted.1, schedule)?;
+    assert_eq!(rt; ended, wanted.2, "{schedule}");
+    Ok(())
+}
+
 /// A run writes this text to standard output and this one to standard error, and ends so.
 fn expect_run(
     rt: &impl Abort,
@@ -182,10 +198,19 @@ fn expect_run(
 ) -> Result<(), Fail> {
     let mut console = Console::new(new_paper(alloc, None), new_paper(alloc, None));
     let ended = run(alloc, frames, texts, &mut console);
-    expect_written(rt, &console.out, wanted.0, texts.schedule)?;
-    expect_written(rt, &console.err, wanted.1, texts.schedule)?;
-    assert_eq!(rt; ended, wanted.2, "{}", texts.schedule);
-    Ok(())
+    expect_ended(rt, &console, ended, texts.schedule, wanted)
+}
+
+/// A run that draws writes this text to standard output and this one to standard error, and ends so.
+fn expect_chart(
+    rt: &impl Abort,
+    alloc: Global,
+    texts: Texts,
+    wanted: (&str, &str, u8),
+) -> Result<(), Fail> {
+    let mut console = Console::new(new_paper(alloc, None), new_paper(alloc, None));
+    let ended = chart_run(alloc, texts.board, texts.plan, texts.schedule, &mut console);
+    expect_ended(rt, &console, ended, texts.schedule, wanted)
 }
 
 /// The pieces, one behind the other.

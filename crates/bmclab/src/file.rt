@@ -1,37 +1,24 @@
-//! The files that words name.
-use bmc_lab::{Console, Ending, Report, Status};
-use std::alloc::Global;
+//! The files of the host.
+use bmc_lab::{TextFiles, Unreadable};
 use std::rt::Files;
 use std::{fs, io};
 
-/// A file that isn't read.
-#[derive(Debug, Drop)]
-pub struct Unread<'a> {
-    /// The word that names it.
-    pub word: &'a str,
-    /// `RefusedFile` where it can't be read or isn't UTF-8, `Memory` where memory was refused.
-    pub status: Status,
+/// The files of the host, by their paths.
+#[derive(Drop)]
+pub struct HostFiles<'a, R: Files + AllocGlobal> {
+    /// What gives them.
+    pub rt: &'a R,
 }
 
-/// The text of the file that the word names.
-pub fn text_of<'a, R: Files + AllocGlobal>(rt: &R, word: &'a str) -> Result<String, Unread<'a>> {
-    let status = match fs::read_to_string(rt, word) {
-        Ok(text) => return Ok(text),
-        Err(error) if error.kind() == io::ErrorKind::OutOfMemory => Status::Memory,
-        Err(_) => Status::RefusedFile,
-    };
-    Err(Unread { word, status })
-}
+impl<R: Files + AllocGlobal> TextFiles for HostFiles<'_, R> {
+    // Nothing is promised of what the host's files hold.
+    ghost gives = { λ files word given. Unit {0} };
 
-/// Says that a file can't be read, or that memory was refused.
-pub fn refuse<W: io::Write, E: io::Write>(
-    alloc: Global,
-    unread: &Unread,
-    console: &mut Console<W, E>,
-) -> u8 {
-    let Unread { word, status } = unread;
-    match status {
-        Status::RefusedFile => u8::from(Ending::of(&Report::of_file(alloc, word)).write(console)),
-        _ => u8::from(Ending::without_report(*status).write(console)),
+    fn text(&self, word: &str) -> Result<String, Unreadable> {
+        match fs::read_to_string(self.rt, word) {
+            Ok(text) => Ok(text),
+            Err(error) if error.kind() == io::ErrorKind::OutOfMemory => Err(Unreadable::Memory),
+            Err(_) => Err(Unreadable::NoText),
+        }
     }
 }

@@ -6,70 +6,47 @@ mod file;
 mod tests;
 mod words;
 
-use crate::file::{Unread, refuse, text_of};
+use crate::file::HostFiles;
 use crate::words::{FrameWords, PlayWords, Words};
-use bmc_lab::{Console, Ending, frame_run};
-use bmc_play::play_run;
+use bmc_lab::{Console, Ending, frame_of_file};
+use bmc_play::{PlayFiles, play_of_files};
 use std::io;
 use std::process::ExitCode;
 use std::rt::{Env, Files};
 
-/// Sends the frame that the words ask for, once the file that they name is read.
+/// Sends the frame that the words ask for.
 fn send<R: Files + AllocGlobal, W: io::Write, E: io::Write>(
     rt: &R,
     words: &FrameWords,
     console: &mut Console<W, E>,
 ) -> u8 {
     let frame = &words.frame;
-    let Some(word) = &words.board else {
-        return frame_run(rt.alloc(), frame.bus, None, frame.bytes.as_slice(), console);
+    let board = match &words.board {
+        Some(word) => Some(word.as_str()),
+        None => None,
     };
-    match text_of(rt, word.as_str()) {
-        Ok(text) => frame_run(
-            rt.alloc(),
-            frame.bus,
-            Some(text.as_str()),
-            frame.bytes.as_slice(),
-            console,
-        ),
-        Err(unread) => refuse(rt.alloc(), &unread, console),
-    }
+    frame_of_file(
+        rt.alloc(),
+        &HostFiles { rt },
+        frame.bus,
+        board,
+        frame.bytes.as_slice(),
+        console,
+    )
 }
 
-/// The texts that a play is told in.
-#[derive(Drop)]
-struct Texts {
-    board: String,
-    plan: String,
-    schedule: String,
-}
-
-/// The texts of the files that the words name, or the first file that isn't read.
-fn texts_of<'a, R: Files + AllocGlobal>(rt: &R, words: &'a PlayWords) -> Result<Texts, Unread<'a>> {
-    Ok(Texts {
-        board: text_of(rt, words.board.as_str())?,
-        plan: text_of(rt, words.plan.as_str())?,
-        schedule: text_of(rt, words.schedule.as_str())?,
-    })
-}
-
-/// Plays what the words ask for, once all files that they name are read.
+/// Plays what the words ask for.
 fn play<R: Files + AllocGlobal, W: io::Write, E: io::Write>(
     rt: &R,
     words: &PlayWords,
     console: &mut Console<W, E>,
 ) -> u8 {
-    match texts_of(rt, words) {
-        Ok(texts) => play_run(
-            rt.alloc(),
-            words.frames,
-            texts.board.as_str(),
-            texts.plan.as_str(),
-            texts.schedule.as_str(),
-            console,
-        ),
-        Err(unread) => refuse(rt.alloc(), &unread, console),
-    }
+    let files = PlayFiles {
+        board: words.board.as_str(),
+        plan: words.plan.as_str(),
+        schedule: words.schedule.as_str(),
+    };
+    play_of_files(rt.alloc(), &HostFiles { rt }, words.shown, files, console)
 }
 
 fn run<R: Env + Files + AllocGlobal, W: io::Write, E: io::Write>(

@@ -1,6 +1,7 @@
 //! The words of the command line, as the program gets them.
 use crate::words::{FrameWords, PlayWords, Words, read};
 use bmc_lab::Status;
+use bmc_play::Shown;
 use std::alloc::{AllocError, Global};
 use std::test::Fail;
 use two_wire::Bus;
@@ -80,10 +81,28 @@ fn other_lines_are_refused(rt: HostRuntime) -> Result<(), Fail> {
         &[
             "play",
             "--chart",
+            "--frames",
             "sample.toml",
             "plan.toml",
             "schedule.txt",
         ],
+        &[
+            "play",
+            "--frames",
+            "sample.toml",
+            "plan.toml",
+            "schedule.txt",
+            "--chart",
+        ],
+        &[
+            "play",
+            "--chart",
+            "--chart",
+            "sample.toml",
+            "plan.toml",
+            "schedule.txt",
+        ],
+        &["play", "--chart", "sample.toml", "plan.toml"],
         &[
             "play",
             "--board",
@@ -92,6 +111,7 @@ fn other_lines_are_refused(rt: HostRuntime) -> Result<(), Fail> {
             "schedule.txt",
         ],
         &["frame", "--frames", "2018"],
+        &["frame", "--chart", "2018"],
         &["play", "--help"],
         &["help"],
         &["--help"],
@@ -122,12 +142,16 @@ fn the_board_file_is_the_one_that_is_named(rt: HostRuntime) -> Result<(), Fail> 
     Ok(())
 }
 
+const LINES: Shown = Shown::Lines { frames: false };
+
+const LINES_AND_FRAMES: Shown = Shown::Lines { frames: true };
+
 #[test]
 fn a_play_names_its_files_in_their_order(rt: HostRuntime) -> Result<(), Fail> {
-    for (words, told) in [
+    for (words, wanted) in [
         (
             &["play", "sample.toml", "plan.toml", "schedule.txt"][..],
-            false,
+            LINES,
         ),
         (
             &[
@@ -137,7 +161,7 @@ fn a_play_names_its_files_in_their_order(rt: HostRuntime) -> Result<(), Fail> {
                 "plan.toml",
                 "schedule.txt",
             ],
-            true,
+            LINES_AND_FRAMES,
         ),
         (
             &[
@@ -147,7 +171,7 @@ fn a_play_names_its_files_in_their_order(rt: HostRuntime) -> Result<(), Fail> {
                 "schedule.txt",
                 "--frames",
             ],
-            true,
+            LINES_AND_FRAMES,
         ),
         (
             &[
@@ -157,23 +181,43 @@ fn a_play_names_its_files_in_their_order(rt: HostRuntime) -> Result<(), Fail> {
                 "plan.toml",
                 "schedule.txt",
             ],
-            true,
+            LINES_AND_FRAMES,
         ),
         (
             &["play", "--", "sample.toml", "plan.toml", "schedule.txt"],
-            false,
+            LINES,
+        ),
+        (
+            &[
+                "play",
+                "--chart",
+                "sample.toml",
+                "plan.toml",
+                "schedule.txt",
+            ],
+            Shown::Chart,
+        ),
+        (
+            &[
+                "play",
+                "sample.toml",
+                "plan.toml",
+                "schedule.txt",
+                "--chart",
+            ],
+            Shown::Chart,
         ),
     ] {
         let Ok(Words::Play(play)) = named(rt.alloc(), words)? else {
             return Err("refused".into());
         };
         let PlayWords {
-            frames,
+            shown,
             board,
             plan,
             schedule,
         } = play;
-        assert_eq!(rt; frames, told, "{words:?}");
+        assert_eq!(rt; shown, wanted, "{words:?}");
         assert_eq!(rt; board.as_str(), "sample.toml", "{words:?}");
         assert_eq!(rt; plan.as_str(), "plan.toml", "{words:?}");
         assert_eq!(rt; schedule.as_str(), "schedule.txt", "{words:?}");

@@ -1,5 +1,6 @@
 //! The words of the command line.
 use bmc_lab::{AskedFrame, Status, asked_frame};
+use bmc_play::Shown;
 use clap::error::{Error, ErrorKind};
 use clap::{Arg, ArgAction, ArgMatches, Command};
 use std::alloc::{AllocError, Global};
@@ -24,8 +25,8 @@ pub struct FrameWords {
 /// What the words of `bmclab play` ask for.
 #[derive(Debug, Drop)]
 pub struct PlayWords {
-    /// Whether the frames are told too.
-    pub frames: bool,
+    /// How the play is shown.
+    pub shown: Shown,
     /// The word of the board file.
     pub board: String,
     /// The word of the plan.
@@ -42,12 +43,17 @@ fn frame_command<'a>(alloc: Global) -> Result<Command<'a>, AllocError> {
     Command::new(alloc, "frame").arg(bus)?.arg(board)?.arg(hex)
 }
 
-/// `play [--frames] BOARD PLAN SCHEDULE`.
+/// A flag of this name.
+fn flag<'a>(alloc: Global, name: &'a str) -> Arg<'a> {
+    Arg::new(alloc, name).long(name).action(ArgAction::SetTrue)
+}
+
+/// `play [--frames | --chart] BOARD PLAN SCHEDULE`.
 fn play_command<'a>(alloc: Global) -> Result<Command<'a>, AllocError> {
-    let frames = Arg::new(alloc, "frames")
-        .long("frames")
-        .action(ArgAction::SetTrue);
-    let mut play = Command::new(alloc, "play").arg(frames)?;
+    let mut play = Command::new(alloc, "play");
+    for name in ["frames", "chart"] {
+        play = play.arg(flag(alloc, name))?;
+    }
     for name in ["BOARD", "PLAN", "SCHEDULE"] {
         play = play.arg(Arg::new(alloc, name).required(true))?;
     }
@@ -99,10 +105,19 @@ fn frame_words(alloc: Global, matches: &ArgMatches) -> Result<FrameWords, Status
     Ok(FrameWords { board, frame })
 }
 
+/// How a play is shown with these flags. A chart has no lines of frames.
+fn shown(frames: bool, chart: bool) -> Result<Shown, Status> {
+    match (frames, chart) {
+        (true, true) => Err(Status::RefusedWords),
+        (false, true) => Ok(Shown::Chart),
+        (frames, false) => Ok(Shown::Lines { frames }),
+    }
+}
+
 /// What the words behind `play` ask for.
 fn play_words(alloc: Global, matches: &ArgMatches) -> Result<PlayWords, Status> {
     Ok(PlayWords {
-        frames: matches.get_flag("frames"),
+        shown: shown(matches.get_flag("frames"), matches.get_flag("chart"))?,
         board: named(alloc, matches, "BOARD")?,
         plan: named(alloc, matches, "PLAN")?,
         schedule: named(alloc, matches, "SCHEDULE")?,

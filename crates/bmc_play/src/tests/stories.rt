@@ -2,7 +2,7 @@
 use super::{EVENTS, Texts, expect_run, on_sample};
 use std::test::Fail;
 
-const CLEAN_PLAN: &str = "# Two changes of the upper thresholds of sensor 5.
+pub const CLEAN_PLAN: &str = "# Two changes of the upper thresholds of sensor 5.
 [[step]]
 kind = \"thresholds\"
 sensor = 5
@@ -16,7 +16,7 @@ uc = 0x5C
 unr = 0x64
 ";
 
-const CLEAN_SCHEDULE: &str =
+pub const CLEAN_SCHEDULE: &str =
     "# Each frame comes once, as soon as it is sent. A step takes a Get (0, then 4) and a Set (2, then 6).
 start
 to-bmc 0
@@ -44,7 +44,7 @@ ipmb 10260518000000505F00
 records same
 ";
 
-const REPLY_LOST_PLAN: &str =
+pub const REPLY_LOST_PLAN: &str =
     "# Sensor 5 reports when its upper non-critical threshold (offset 7) and its upper critical one (offset 9) are going high. The sample
 # board has 9 enabled.
 [[step]]
@@ -57,7 +57,7 @@ assert = [7, 9]
 deassert = []
 ";
 
-const REPLY_LOST_SCHEDULE: &str = "start
+pub const REPLY_LOST_SCHEDULE: &str = "start
 to-bmc 0
 to-mgr 1
 # The controller carries the Set out. Its reply, frame 3, is lost.
@@ -78,7 +78,7 @@ ipmb 102805E080000000
 records same
 ";
 
-const REPLY_LATE_PLAN: &str = "# The hysteresis of sensor 5, then the power restore policy.
+pub const REPLY_LATE_PLAN: &str = "# The hysteresis of sensor 5, then the power restore policy.
 [[step]]
 kind = \"hysteresis\"
 sensor = 5
@@ -90,7 +90,7 @@ kind = \"power-policy\"
 policy = 2
 ";
 
-const REPLY_LATE_SCHEDULE: &str = "start
+pub const REPLY_LATE_SCHEDULE: &str = "start
 to-bmc 0
 to-mgr 1
 # The controller carries the first Set out, and its reply (3) is slow: the manager sends the Set again (4).
@@ -120,7 +120,7 @@ ipmb 102405FF0202
 records same
 ";
 
-const RETRY_PLAN: &str = "# A request may be sent again once.
+pub const RETRY_PLAN: &str = "# A request may be sent again once.
 retries = 1
 
 [[step]]
@@ -128,12 +128,12 @@ kind = \"power-policy\"
 policy = 0
 ";
 
-const RETRY_SCHEDULE: &str = "# The Get (0) is lost, and its second copy (1) is answered.
+pub const RETRY_SCHEDULE: &str = "# The Get (0) is lost, and its second copy (1) is answered.
 start
 quiet
 to-bmc 1
 to-mgr 2
-# The same befalls the Set (3, then 4). The first copy comes after the plan is done, and changes nothing.
+# The Set (3) is slow, and its second copy (4) is answered. The first copy comes after the plan is done, and changes nothing.
 quiet
 to-bmc 4
 to-mgr 5
@@ -150,7 +150,7 @@ ipmb 000601
 records same
 ";
 
-const UNSETTLED_PLAN: &str = "# No request is sent again by itself.
+pub const UNSETTLED_PLAN: &str = "# No request is sent again by itself.
 retries = 0
 
 [[step]]
@@ -163,7 +163,7 @@ assert = [7, 9]
 deassert = []
 ";
 
-const UNSETTLED_SCHEDULE: &str = "start
+pub const UNSETTLED_SCHEDULE: &str = "start
 to-bmc 0
 to-mgr 1
 # No reply comes to the Set (2), and none is waited for any more: nobody knows whether it was carried out.
@@ -186,7 +186,7 @@ ipmb 102805E080000000
 records same
 ";
 
-const REFUSED_PLAN: &str =
+pub const REFUSED_PLAN: &str =
     "# The controller refuses the second step: upper critical would lie above upper non-recoverable, which is 6Eh on the sample board.
 [[step]]
 kind = \"hysteresis\"
@@ -200,7 +200,7 @@ sensor = 5
 uc = 0x70
 ";
 
-const REFUSED_SCHEDULE: &str = "start
+pub const REFUSED_SCHEDULE: &str = "start
 to-bmc 0
 to-mgr 1
 to-bmc 2
@@ -223,7 +223,7 @@ ipmb 102405FF0202
 records same
 ";
 
-const NOT_RESTORABLE_PLAN: &str =
+pub const NOT_RESTORABLE_PLAN: &str =
     "# The watchdog timer of the sample board was never set. No Set brings that back, so the manager doesn't send one.
 [[step]]
 kind = \"watchdog\"
@@ -235,7 +235,7 @@ pre = 10
 initial = 600
 ";
 
-const NOT_RESTORABLE_SCHEDULE: &str = "# The Get shows a timer that was never set.
+pub const NOT_RESTORABLE_SCHEDULE: &str = "# The Get shows a timer that was never set.
 start
 to-bmc 0
 to-mgr 1

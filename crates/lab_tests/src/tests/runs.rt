@@ -9,8 +9,8 @@ use two_wire::Bus;
 
 /// What a writer was given, and how many of its calls are left before the one that fails, if one is to fail.
 #[derive(Drop)]
-struct Paper {
-    text: Vec<u8>,
+pub struct Paper {
+    pub text: Vec<u8>,
     left: Option<usize>,
 }
 
@@ -33,7 +33,7 @@ impl io::Write for Paper {
     }
 }
 
-fn new_paper(alloc: Global, left: Option<usize>) -> Paper {
+pub fn new_paper(alloc: Global, left: Option<usize>) -> Paper {
     Paper {
         text: Vec::new(alloc),
         left,

@@ -1,0 +1,59 @@
+-- What is drawn of a play, once it is known how it ended and what was noted.
+use Rattle.std.proofs.Common.{◌≡◌, ℕ, ◌+◌, List, length, Option, Some, None, Result, Ok, Err, IfOk, string_bytes, sym}
+use Rattle.cfg_records.specs.declared.board_file.BoardFile.{BoardFile}
+use Rattle.cfg_records.specs.declared.op.Op.{Op}
+use Rattle.schedules.specs.declared.event.Event.{Event}
+use Rattle.lab.specs.declared.fault.Fault.{Fault}
+use Rattle.lab.specs.Played.{Ending, Whole, Stops}
+use Rattle.chart_text.specs.declared.note.Note.{Note}
+use Rattle.lab_play.specs.Ends.{IsEnding, Plays}
+use Rattle.lab_play.specs.Noted.{NotesPlay}
+use Rattle.lab_play.specs.declared.played.Played.{Played}
+use Rattle.lab_play.specs.declared.played.LabFault.TheVariants as fault
+use Rattle.play_text.specs.declared.account.Stopped.{Stopped}
+use Rattle.play_text.specs.declared.inputs.Inputs.{Inputs}
+use Rattle.bmc_lab.specs.declared.report.Report.{Report}
+use Rattle.bmc_play.specs.Account.{status_of}
+use Rattle.bmc_play.specs.Drawn.{EndsAt, NotesPlayOf, Draws, drawing}
+
+-- the notes of a play of all events are as many as these
+ends_whole : (events : List Event) (notes : ℕ) (played : Played) (ending : Ending) → IsEnding (Ok played) ending → notes ≡ length events → EndsAt events notes None ending
+ends_whole events notes played (Whole told) is all = all
+ends_whole events notes played (Stops cause at told) is all = absurd is
+
+-- and those of one that an event's fault ended are those before it
+ends_stopped : (events : List Event) (notes : ℕ) (why : Fault) (place : ℕ) (played : Played) (ending : Ending) → IsEnding (Err (fault.Event why place played)) ending
+    → place ≡ notes + 1 → EndsAt events notes (Some (record { place = place; fault = why })) ending
+ends_stopped events notes why place played (Whole told) is behind = absurd is
+ends_stopped events notes why place played (Stops cause at told) is behind = (sym is.0, sym is.1, behind)
+
+-- what was noted of a play of all events
+pub notes_whole : (file : BoardFile) (steps : List Op) (retries : ℕ) (events : List Event) (notes : List Note) (played : Played)
+    → Plays file steps retries events (Ok played) → NotesPlay file steps retries events (Ok played) notes → NotesPlayOf file steps retries events None notes
+notes_whole file steps retries events notes played plays noted = record {
+  ending = plays.ending;
+  played = plays.played;
+  stands = plays.stands;
+  ends = ends_whole events (length notes) played plays.ending plays.is noted.1;
+  are = noted.0;
+}
+
+-- and of one that an event's fault ended
+pub notes_stopped : (file : BoardFile) (steps : List Op) (retries : ℕ) (events : List Event) (notes : List Note) (why : Fault) (place : ℕ) (played : Played)
+    → Plays file steps retries events (Err (fault.Event why place played)) → NotesPlay file steps retries events (Err (fault.Event why place played)) notes
+    → NotesPlayOf file steps retries events (Some (record { place = place; fault = why })) notes
+notes_stopped file steps retries events notes why place played plays noted = record {
+  ending = plays.ending;
+  played = plays.played;
+  stands = plays.stands;
+  ends = ends_stopped events (length notes) why place played plays.ending plays.is noted.1;
+  are = noted.0;
+}
+
+-- a report of the drawing draws the play
+pub draws : {E : Type 0} (inputs : Inputs) (r : Result Report E) (notes : List Note) (stopped : Option Stopped)
+    → NotesPlayOf inputs.file inputs.plan.steps inputs.plan.retries inputs.events stopped notes
+    → IfOk r (λ report. string_bytes report.text ≡ drawing notes stopped) → IfOk r (λ report. report.status ≡ status_of stopped)
+    → IfOk r (λ report. Draws inputs (string_bytes report.text) report.status)
+draws inputs (Ok report) notes stopped play said ended = record { notes = notes; stopped = stopped; play = play; said = said; ended = ended }
+draws inputs (Err e) notes stopped play said ended = tt

@@ -1,0 +1,21 @@
+-- What a run says of three files, by the words that name them.
+use Rattle.std.specs.Prelude.{◌⊎◌, ℕ, List, [], ◌∷◌}
+use Rattle.bmc_lab.specs.declared.files.Unreadable.{Unreadable}
+use Rattle.bmc_lab.specs.Ending.{Saying}
+use Rattle.bmc_lab.specs.Files.{Readings, Give, FirstUnread, Refuses}
+use Rattle.bmc_play.specs.declared.files.PlayFiles.{PlayFiles}
+use Rattle.bmc_play.specs.Run.{Telling, Says}
+
+-- the words, in their order
+abbrev pub words_of : PlayFiles → List (List ℕ)
+words_of files = files.board.now ∷ files.plan.now ∷ files.schedule.now ∷ []
+
+-- the three files are read, and have these texts
+abbrev pub AreTexts : Readings → PlayFiles → (board plan schedule : List ℕ) → Type 0
+AreTexts gives files board plan schedule = Give gives (words_of files) (board ∷ plan ∷ schedule ∷ [])
+
+-- what a run says of the files: what it says of their texts, or that one isn't read, the first of them
+abbrev pub SaysOfFiles : Readings → Telling → PlayFiles → Saying
+SaysOfFiles gives tells files stream text status =
+    ((board : List ℕ) × (plan : List ℕ) × (schedule : List ℕ) × AreTexts gives files board plan schedule × Says tells board plan schedule stream text status)
+    ⊎ ((word : List ℕ) × (why : Unreadable) × FirstUnread gives (words_of files) word why × Refuses why word stream text status)

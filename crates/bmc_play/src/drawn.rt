@@ -1,0 +1,67 @@
+//! A play drawn as a sequence chart.
+ghost use Rattle.std.specs.Prelude.{◌≡◌, [], IfOk, string_bytes};
+ghost use Rattle.bmc_lab.specs.declared.console.Stream.TheVariants.{Output};
+ghost use Rattle.bmc_play.specs.Account.{status_of};
+ghost use Rattle.bmc_play.specs.Drawn.{NotesPlayOf, Draws, drawing};
+
+use crate::account::status;
+use bmc_lab::{Report, Stream};
+use cfg_records::BoardFile;
+use chart_text::{Note, chart};
+use lab_play::{LabFault, play_noted};
+use plans::Plan;
+use play_text::{Inputs, Stopped, push_stopped};
+use schedules::Event;
+use std::alloc::{AllocError, Global};
+
+/// Plays a plan on a board by a schedule, notes each event that happens, and gives the event that the lab didn't take.
+fn noted<'a>(
+    alloc: Global,
+    file: BoardFile,
+    plan: Plan,
+    events: &'a [Event],
+    notes: &mut Vec<Note<'a>>,
+) -> Result<Option<Stopped>, AllocError>
+    requires { notes.now.items ≡ [] }
+    ensures { IfOk result (λ stopped. NotesPlayOf file plan.steps plan.retries events.now stopped notes.new.items) }
+{
+    match play_noted(alloc, file, plan, events, notes) {
+        Ok(_played) => Ok(None),
+        Err(LabFault::Memory) => Err(AllocError),
+        Err(
+            LabFault::Event {
+                fault,
+                place,
+                played: _played,
+            },
+        ) => Ok(Some(Stopped { place, fault })),
+    }
+}
+
+/// The chart with these notes, and the line of the event that wasn't taken.
+fn drawing(alloc: Global, notes: &[Note], stopped: Option<Stopped>) -> Result<Report, AllocError>
+    ensures stream { IfOk result (λ report. report.stream ≡ Output) }
+    ensures text { IfOk result (λ report. string_bytes report.text ≡ drawing notes.now stopped) }
+    ensures status { IfOk result (λ report. report.status ≡ status_of stopped) }
+{
+    let mut text = chart(alloc, notes)?;
+    if let Some(stopped) = stopped {
+        push_stopped(&mut text, stopped)?;
+    }
+    Ok(Report {
+        stream: Stream::Output,
+        text,
+        status: status(stopped),
+    })
+}
+
+/// What is drawn of the play that these inputs tell.
+pub(crate) fn drawn_report(alloc: Global, inputs: Inputs) -> Result<Report, AllocError>
+    ensures stream { IfOk result (λ report. report.stream ≡ Output) }
+    ensures drawn { IfOk result (λ report. Draws inputs (string_bytes report.text) report.status) }
+{
+    let Inputs { file, plan, events } = inputs;
+    let mut notes = Vec::new(alloc);
+    let stopped = noted(alloc, file, plan, events.as_slice(), &mut notes)?;
+    drawing(alloc, notes.as_slice(), stopped)
+}
