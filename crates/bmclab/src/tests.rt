@@ -1,10 +1,8 @@
 //! The words of the command line, as the program gets them.
-use crate::file::HostFiles;
 use crate::words::{FrameWords, PlayWords, Words, read};
-use bmc_lab::{Status, TextFiles, Unreadable};
+use bmc_lab::Status;
 use bmc_play::Shown;
 use std::alloc::{AllocError, Global};
-use std::fs;
 use std::test::Fail;
 use two_wire::Bus;
 
@@ -223,19 +221,6 @@ fn a_play_names_its_files_in_their_order(rt: HostRuntime) -> Result<(), Fail> {
         assert_eq!(rt; board.as_str(), "sample.toml", "{words:?}");
         assert_eq!(rt; plan.as_str(), "plan.toml", "{words:?}");
         assert_eq!(rt; schedule.as_str(), "schedule.txt", "{words:?}");
-    }
-    Ok(())
-}
-
-#[test]
-fn a_file_of_the_host_has_its_text(rt: HostRuntime) -> Result<(), Fail> {
-    fs::write(&rt, "text.toml", "tid = 5\n")?;
-    fs::write(&rt, "no_text.toml", &[0xFF, 0x0A][..])?;
-    let files = HostFiles { rt: &rt };
-    let text = files.text("text.toml");
-    assert!(rt; text.is_ok_and(|text| text.as_str() == "tid = 5\n"));
-    for word in ["no_text.toml", "none.toml"] {
-        assert_eq!(rt; files.text(word).err(), Some(Unreadable::NoText), "{word}");
     }
     Ok(())
 }
