@@ -20,5 +20,3 @@ pub mod ChannelFields
 pub mod AttributeFields
 pub mod Changes
 pub mod Steps
-pub mod UndoLines
-pub mod UndoLists

@@ -14,5 +14,3 @@ pub mod Kinds
 pub mod PlanNames
 pub mod PlanFaults
 pub mod PlanHolds
-pub mod UndoText
-pub mod UndoNames

@@ -1,4 +1,4 @@
-//! The texts of board files, of plans and of undo lists.
+//! The texts of board files and of plans.
 #![tactic(auto)]
 
 mod attribute_items;
@@ -23,9 +23,6 @@ mod state_steps;
 mod states;
 mod step;
 mod tree;
-mod undo_laws;
-mod undo_line;
-mod undo_text;
 mod users;
 
 pub use board::read_board;
@@ -38,5 +35,3 @@ pub use row::{
     ATTRIBUTE, CHANNEL, DEVICE, ENUMERATION, INTEGER, NUMERIC, Need, PLAN, Row, SENSOR, SESSIONS,
     STATE, STRING, Shape, TOP,
 };
-pub use undo_laws::one_undo_list;
-pub use undo_text::{UndoFault, push_requests, read_undo, write_undo};
