@@ -7,7 +7,7 @@ use Rattle.line_text.specs.Cuts.{ended}
 use Rattle.two_wire.specs.declared.Bus.{Bus}
 use Rattle.two_wire.specs.declared.Bus.TheVariants.{Ipmb, Smbus}
 use Rattle.cfg_records.specs.declared.message.Asked.{Asked}
-use Rattle.plan_file.specs.UndoText.{line_of}
+use Rattle.undo_text.specs.UndoText.{line_of}
 use Rattle.undo_core.specs.PhaseNames.{phase_name}
 use Rattle.lab.specs.declared.frames.Way.{Way}
 use Rattle.lab.specs.declared.frames.Way.TheVariants.{ToPort, ToManager, ToOthers}

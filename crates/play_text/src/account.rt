@@ -4,10 +4,10 @@ ghost use Rattle.play_text.specs.Account.{text_of};
 
 use crate::lines::{push_frames, push_records, push_stopped};
 use lab::{Fault, SentFrame};
-use plan_file::push_requests;
 use plans::Requests;
 use std::alloc::{AllocError, Global};
 use undo_core::Phase;
+use undo_text::push_requests;
 
 /// The event that the lab didn't take.
 #[derive(Clone, Copy, Debug, PartialEq, Eq)]

@@ -2,12 +2,13 @@
 use super::story::{hear, open_port, sample};
 use bmc_core::{Board, Out, Port};
 use cfg_records::{PlainStore, Store, sample_board};
-use plan_file::{read_plan, read_undo, write_undo};
+use plan_file::read_plan;
 use plans::{Names, Plan};
 use std::alloc::Global;
 use std::process::Abort;
 use two_wire::{Address, Bus};
 use undo_core::{Manager, OpenFault, Phase, Sent, Why};
+use undo_text::{read_undo, write_undo};
 
 fn names(rt: &impl Abort) -> Names {
     let own = Address::new(0x2C).expect(rt, "an address");

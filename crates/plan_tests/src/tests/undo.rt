@@ -1,11 +1,11 @@
 //! Undo texts: the list of a plan of two steps on thresholds, and bad lines.
 use super::texts::{joined, times};
 use cfg_records::Asked;
-use plan_file::{UndoFault, read_undo, write_undo};
 use plans::{NextNumbers, Requests, UndoList};
 use std::alloc::{AllocError, Global};
 use std::process::Abort;
 use two_wire::{Below, NetFn};
+use undo_text::{UndoFault, read_undo, write_undo};
 
 /// The text of a plan that sets upper thresholds of sensor 5 twice.
 const TEXT: &str =

@@ -1,0 +1,2 @@
+pub mod UndoLines
+pub mod UndoLists

@@ -1,0 +1,2 @@
+pub mod UndoText
+pub mod UndoNames
