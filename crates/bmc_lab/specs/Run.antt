@@ -10,8 +10,8 @@ use Rattle.bmc_board.specs.State.{State, opened}
 use Rattle.bmc_core.specs.Outs.{sent}
 use Rattle.lab_model.specs.PortSteps.{quiet_port}
 use Rattle.bmc_core.specs.Port.{bus_of, Shows, Hears}
-use Rattle.plan_file.specs.declared.fault.FileFault.{FileFault}
-use Rattle.plan_file.specs.Holds.{Reads}
+use Rattle.board_file.specs.declared.fault.FileFault.{FileFault}
+use Rattle.board_file.specs.Holds.{Reads}
 use Rattle.bmc_lab.specs.declared.console.Stream.{Stream}
 use Rattle.bmc_lab.specs.declared.console.Stream.TheVariants.{Output, Error}
 use Rattle.bmc_lab.specs.declared.status.Status.{Status}

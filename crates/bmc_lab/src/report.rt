@@ -6,7 +6,7 @@ ghost use Rattle.bmc_lab.specs.Report.{status_of, frame_line, text_of, file_line
 use crate::console::Stream;
 use crate::status::Status;
 use bmc_core::{Done, Out};
-use plan_file::FileFault;
+use board_file::FileFault;
 use std::alloc::{AllocError, Global};
 use two_wire::Frame;
 

@@ -1,6 +1,6 @@
 -- What a run says of three texts.
 use Rattle.std.specs.Prelude.{◌≡◌, ℕ, Bool, true, false, List, [], ◌∷◌, ◌++◌, Ok, Err}
-use Rattle.plan_file.specs.declared.fault.FileFault.TheVariants as of_file
+use Rattle.board_file.specs.declared.fault.FileFault.TheVariants as of_file
 use Rattle.plan_file.specs.declared.plan_fault.PlanFault.TheVariants as of_plan
 use Rattle.schedules.specs.declared.schedule.ScheduleFault.TheVariants as of_schedule
 use Rattle.play_text.specs.declared.inputs.Inputs.{Inputs}

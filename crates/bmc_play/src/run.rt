@@ -9,8 +9,9 @@ ghost use Rattle.bmc_play.specs.Run.{is_memory, refusal_line, tells_of, Recounts
 use crate::account::{account_of, account_report};
 use crate::drawn::drawn_report;
 use bmc_lab::{Console, Ending, Report, Status, Stream};
+use board_file::FileFault;
 use lab_play::{LabFault, play};
-use plan_file::{FileFault, PlanFault};
+use plan_file::PlanFault;
 use play_text::{InputFault, Inputs, Stopped, read_inputs};
 use schedules::ScheduleFault;
 use std::alloc::{AllocError, Global};

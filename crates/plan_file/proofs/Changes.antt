@@ -1,25 +1,23 @@
 -- What a step without a fault has in the fields of its kind.
-use Rattle.std.proofs.Common.{◌≡◌, ◌≢◌, ◌&&◌, nat_lt, ℕ, zero, suc, ◌+◌, ◌==◌, ◌≤◌, List, [], ◌∷◌, map, Bool, true, false, not, ◌||◌, Option, Some, None, IsSome, is_some, option_and_then, refl, sym, ap, ◌∙◌, arith, nat_le, codes}
+use Rattle.std.proofs.Common.{◌≡◌, ◌≢◌, ◌&&◌, nat_lt, ℕ, zero, suc, ◌+◌, ◌==◌, ◌≤◌, List, Bool, true, false, not, ◌||◌, Option, Some, None, IsSome, option_and_then, refl, sym, ap, ◌∙◌, arith, nat_le, codes}
 use Rattle.std.proofs.lemmas.Bool.{and_parts, false≢true}
 use Rattle.std.proofs.lemmas.Nat.Bits.{bit_at-zero}
 use Rattle.std.specs.Int.{bit_at}
 use Rattle.std.proofs.lemmas.Bool.Decides.{nat_tests}
 use Rattle.std.proofs.lemmas.Option.{same_Some}
-use Rattle.std.specs.List.{list_all, list_any}
+use Rattle.std.specs.List.{list_all}
 use Rattle.std.specs.Str.{bytes_eq}
 use Rattle.cfg_records.specs.Masks.{has}
-use Rattle.toml.specs.Data.{Data, Members, as_str, as_bool}
-use Rattle.toml.specs.View.{view}
-use Rattle.toml.specs.declared.value.Value.{Value}
-use Rattle.plan_file.specs.declared.field.Field.{Field}
-use Rattle.plan_file.specs.declared.field.Field.TheVariants as field
-use Rattle.plan_file.specs.declared.row.Need.{Need}
-use Rattle.plan_file.specs.declared.row.Need.TheVariants as need
-use Rattle.plan_file.specs.declared.row.Shape.TheVariants as shape
-use Rattle.plan_file.specs.Trees.{flag_in, in_field, members, natural, number_in, members_in, or_none}
-use Rattle.plan_file.specs.Ranges.{passes, has_text, is_between, is_offset, is_array_of, is_selection, is_number}
-use Rattle.plan_file.specs.PlanHolds.{is_given}
-use Rattle.plan_file.proofs.Rows.{Sound, value_of, not_false}
+use Rattle.toml.specs.Data.{Data, Members, as_str}
+use Rattle.file_fields.specs.declared.field.Field.{Field}
+use Rattle.file_fields.specs.declared.field.Field.TheVariants as field
+use Rattle.file_fields.specs.declared.row.Need.{Need}
+use Rattle.file_fields.specs.declared.row.Need.TheVariants as need
+use Rattle.file_fields.specs.declared.row.Shape.TheVariants as shape
+use Rattle.file_fields.specs.Trees.{in_field, members, natural, number_in, members_in, or_none}
+use Rattle.file_fields.specs.Ranges.{passes, has_text, is_between, is_offset, is_array_of, is_selection}
+use Rattle.plan_file.specs.Thresholds.{is_given}
+use Rattle.file_fields.proofs.Rows.{Sound, value_of, not_false}
 
 -- ---- numbers
 
@@ -39,17 +37,6 @@ data_cases tree named least most n None is within has = cc
 pub at_most : (tree : Members) (named : Field) (least most : ℕ) (wanted : Need) → Sound tree (record { 0 = named; 1 = shape.Number least most; 2 = wanted })
     → (n : ℕ) → number_in named tree ≡ Some n → n ≤ most
 at_most tree named least most wanted sound n has = data_cases tree named least most n (in_field named tree) refl sound.within has
-
--- ---- booleans
-
-flag_cases : (d : Data) (o : Option Bool) → as_bool d ≡ o → is_some o ≡ true → IsSome (as_bool d)
-flag_cases d o is some = rw is some
-
--- a boolean that the step has
-pub flag_there : (tree : Members) (named : Field) → Sound tree (record { 0 = named; 1 = shape.Flag; 2 = need.Always }) → IsSome (flag_in named tree)
-flag_there tree named sound =
-    let v = value_of tree (record { 0 = named; 1 = shape.Flag; 2 = need.Always }) (in_field named tree) refl refl sound in
-    rw v.found v.typed
 
 -- ---- lists of offsets
 
@@ -193,8 +180,3 @@ pub offset_small : (d : Data) (n : ℕ) → is_offset d ≡ true → natural d �
 offset_small d n is has =
     let within : passes (is_between 0 11) (Some n) ≡ true = rw has at is in
     most_cases 0 11 n n within refl
-
--- each value is what each passes
-pub listed_view : (offset : ℕ) (vs : List Value) → list_any (λ value. is_number offset (view value)) vs ≡ list_any (is_number offset) (map view vs)
-listed_view offset [] = refl
-listed_view offset (v ∷ vs) = ap (λ b. is_number offset (view v) || b) (listed_view offset vs)

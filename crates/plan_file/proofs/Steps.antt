@@ -7,8 +7,8 @@ use Rattle.toml.specs.Data.{Members}
 use Rattle.toml.specs.View.{view}
 use Rattle.toml.specs.declared.value.Value.{Value}
 use Rattle.cfg_records.specs.declared.op.Op.{Op}
-use Rattle.plan_file.specs.declared.field.Field.TheVariants as field
-use Rattle.plan_file.specs.declared.fault.FieldFault.{FieldFault}
+use Rattle.file_fields.specs.declared.field.Field.TheVariants as field
+use Rattle.file_fields.specs.declared.fault.FieldFault.{FieldFault}
 use Rattle.plan_file.specs.declared.kind.Kind.{Kind}
 use Rattle.plan_file.specs.declared.kind.TheConstants.{KIND}
 use Rattle.plan_file.specs.declared.plan_fault.OutsidePlan.{OutsidePlan}
@@ -17,15 +17,14 @@ use Rattle.plan_file.specs.declared.plan_fault.StepFault.{StepFault}
 use Rattle.plan_file.specs.declared.plan_fault.StepFault.TheVariants as step
 use Rattle.plan_file.specs.declared.plan_fault.PlanFault.{PlanFault}
 use Rattle.plan_file.specs.declared.plan_fault.PlanFault.TheVariants as plan
-use Rattle.plan_file.specs.declared.row.TheConstants.{PLAN}
+use Rattle.plan_file.specs.declared.plan.TheConstants.{PLAN}
 use Rattle.plan_file.specs.declared.step.TheConstants.{OUTSIDE, NO_GETS}
-use Rattle.plan_file.specs.Trees.{table_of, members_in}
+use Rattle.file_fields.specs.Trees.{table_of, members_in}
 use Rattle.plan_file.specs.Kinds.{kind_in, rows_of}
-use Rattle.plan_file.specs.Faults.{field_faults, first}
+use Rattle.file_fields.specs.Faults.{field_faults, first}
 use Rattle.plan_file.specs.PlanFaults.{is_outside, asks, kind_faults, step_faults, steps_faults, own_fault, plan_faults}
 use Rattle.plan_file.specs.PlanHolds.{IsStepIn}
-use Rattle.plan_file.proofs.First.{found, none_found, first-map, empty}
-use Rattle.plan_file.proofs.Items.{first-append}
+use Rattle.file_fields.proofs.First.{found, none_found, first-map, empty, first-append}
 
 -- ---- of a step
 

@@ -4,15 +4,14 @@ use Rattle.std.proofs.lemmas.Bool.{and_parts}
 use Rattle.std.proofs.lemmas.Bool.Decides.{nat_tests}
 use Rattle.cfg_records.specs.UserAccess.{is_limit}
 use Rattle.toml.specs.Data.{Data, Members}
-use Rattle.plan_file.specs.declared.field.Field.TheVariants as field
-use Rattle.plan_file.specs.declared.row.Shape.TheVariants as shape
-use Rattle.plan_file.specs.declared.row.Need.TheVariants as need
-use Rattle.plan_file.specs.Trees.{in_field, natural}
-use Rattle.plan_file.specs.Channels.{is_access}
-use Rattle.plan_file.specs.Ranges.{passes, is_between}
-use Rattle.plan_file.specs.Faults.{is_needed}
-use Rattle.plan_file.specs.Holds.{HasBelow}
-use Rattle.plan_file.proofs.Rows.{Sound, value_of, not_false}
+use Rattle.file_fields.specs.declared.field.Field.TheVariants as field
+use Rattle.file_fields.specs.declared.row.Shape.TheVariants as shape
+use Rattle.file_fields.specs.declared.row.Need.TheVariants as need
+use Rattle.file_fields.specs.Trees.{in_field, natural, HasBelow}
+use Rattle.file_fields.specs.Channels.{is_access}
+use Rattle.file_fields.specs.Ranges.{passes, is_between}
+use Rattle.file_fields.specs.Faults.{is_needed}
+use Rattle.file_fields.proofs.Rows.{Sound, value_of, not_false}
 
 -- ---- limits of users
 

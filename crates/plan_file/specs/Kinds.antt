@@ -2,12 +2,25 @@
 use Rattle.std.specs.Prelude.{ℕ, List, codes, Option}
 use Rattle.std.specs.List.{find}
 use Rattle.toml.specs.Data.{Members}
-use Rattle.plan_file.specs.declared.field.Field.TheVariants as field
-use Rattle.plan_file.specs.declared.row.Row.{Row}
+use Rattle.file_fields.specs.declared.field.Field.TheVariants as field
+use Rattle.file_fields.specs.declared.row.Row.{Row}
 use Rattle.plan_file.specs.declared.kind.Kind.{Kind}
 use Rattle.plan_file.specs.declared.kind.Kind.TheVariants as kind
-use Rattle.plan_file.specs.declared.kind.TheConstants.{KINDS, THRESHOLDS, HYSTERESIS, EVENT_ENABLE, WATCHDOG, POWER_POLICY, GLOBAL_ENABLES, BOOT_PARAM, BIOS_ATTRIBUTE, STATE_EFFECTER, NUMERIC_EFFECTER, USER_NAME, USER_ACCESS, CHANNEL_ACCESS}
-use Rattle.plan_file.specs.Ranges.{has_text}
+use Rattle.plan_file.specs.declared.kind.TheConstants.{KINDS}
+use Rattle.plan_file.specs.declared.thresholds.TheConstants as thresholds
+use Rattle.plan_file.specs.declared.hysteresis.TheConstants as hysteresis
+use Rattle.plan_file.specs.declared.event_enable.TheConstants as event_enable
+use Rattle.plan_file.specs.declared.watchdog.TheConstants as watchdog
+use Rattle.plan_file.specs.declared.power_policy.TheConstants as power_policy
+use Rattle.plan_file.specs.declared.global_enables.TheConstants as global_enables
+use Rattle.plan_file.specs.declared.boot_param.TheConstants as boot_param
+use Rattle.plan_file.specs.declared.bios_attribute.TheConstants as bios_attribute
+use Rattle.plan_file.specs.declared.state_effecter.TheConstants as state_effecter
+use Rattle.plan_file.specs.declared.numeric_effecter.TheConstants as numeric_effecter
+use Rattle.plan_file.specs.declared.user_name.TheConstants as user_name
+use Rattle.plan_file.specs.declared.user_access.TheConstants as user_access
+use Rattle.plan_file.specs.declared.channel_access.TheConstants as channel_access
+use Rattle.file_fields.specs.Ranges.{has_text}
 
 -- what a step's `kind` calls it
 abbrev pub kind_word : Kind → List ℕ
@@ -27,19 +40,19 @@ kind_word kind.ChannelAccess = codes "channel-access"
 
 -- the fields of its steps
 abbrev pub rows_of : Kind → List Row
-rows_of kind.Thresholds = THRESHOLDS
-rows_of kind.Hysteresis = HYSTERESIS
-rows_of kind.EventEnable = EVENT_ENABLE
-rows_of kind.Watchdog = WATCHDOG
-rows_of kind.PowerPolicy = POWER_POLICY
-rows_of kind.GlobalEnables = GLOBAL_ENABLES
-rows_of kind.BootParam = BOOT_PARAM
-rows_of kind.BiosAttribute = BIOS_ATTRIBUTE
-rows_of kind.StateEffecter = STATE_EFFECTER
-rows_of kind.NumericEffecter = NUMERIC_EFFECTER
-rows_of kind.UserName = USER_NAME
-rows_of kind.UserAccess = USER_ACCESS
-rows_of kind.ChannelAccess = CHANNEL_ACCESS
+rows_of kind.Thresholds = thresholds.FIELDS
+rows_of kind.Hysteresis = hysteresis.FIELDS
+rows_of kind.EventEnable = event_enable.FIELDS
+rows_of kind.Watchdog = watchdog.FIELDS
+rows_of kind.PowerPolicy = power_policy.FIELDS
+rows_of kind.GlobalEnables = global_enables.FIELDS
+rows_of kind.BootParam = boot_param.FIELDS
+rows_of kind.BiosAttribute = bios_attribute.FIELDS
+rows_of kind.StateEffecter = state_effecter.FIELDS
+rows_of kind.NumericEffecter = numeric_effecter.FIELDS
+rows_of kind.UserName = user_name.FIELDS
+rows_of kind.UserAccess = user_access.FIELDS
+rows_of kind.ChannelAccess = channel_access.FIELDS
 
 -- the kind that a step names
 unfoldable pub kind_in : Members → Option Kind

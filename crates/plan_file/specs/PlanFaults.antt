@@ -1,9 +1,9 @@
 -- The faults of a plan, in the order in which they count.
 use Rattle.std.specs.Prelude.{ℕ, ◌+◌, ◌==◌, Bool, ◌&&◌, List, [], ◌∷◌, ◌++◌, map, filter, Option, Some, None, is_some, codes}
 use Rattle.toml.specs.Data.{Data, Members}
-use Rattle.plan_file.specs.declared.field.Field.TheVariants as field
-use Rattle.plan_file.specs.declared.fault.FieldFault.{FieldFault}
-use Rattle.plan_file.specs.declared.fault.FieldFault.TheVariants as fault
+use Rattle.file_fields.specs.declared.field.Field.TheVariants as field
+use Rattle.file_fields.specs.declared.fault.FieldFault.{FieldFault}
+use Rattle.file_fields.specs.declared.fault.FieldFault.TheVariants as fault
 use Rattle.plan_file.specs.declared.kind.Kind.{Kind}
 use Rattle.plan_file.specs.declared.kind.TheConstants.{KIND}
 use Rattle.plan_file.specs.declared.plan_fault.OutsidePlan.{OutsidePlan}
@@ -14,12 +14,12 @@ use Rattle.plan_file.specs.declared.plan_fault.StepFault.{StepFault}
 use Rattle.plan_file.specs.declared.plan_fault.StepFault.TheVariants as step
 use Rattle.plan_file.specs.declared.plan_fault.PlanFault.{PlanFault}
 use Rattle.plan_file.specs.declared.plan_fault.PlanFault.TheVariants as plan
-use Rattle.plan_file.specs.declared.row.TheConstants.{PLAN}
+use Rattle.plan_file.specs.declared.plan.TheConstants.{PLAN}
 use Rattle.plan_file.specs.declared.step.TheConstants.{OUTSIDE, NO_GETS}
-use Rattle.plan_file.specs.Trees.{in_field, number_in, table_of, members_in}
-use Rattle.plan_file.specs.Ranges.{passes, has_text}
+use Rattle.file_fields.specs.Trees.{in_field, number_in, table_of, members_in}
+use Rattle.file_fields.specs.Ranges.{passes, has_text}
 use Rattle.plan_file.specs.Kinds.{kind_in, rows_of}
-use Rattle.plan_file.specs.Faults.{field_faults}
+use Rattle.file_fields.specs.Faults.{field_faults}
 
 -- what a step's `kind` calls it
 abbrev pub outside_word : OutsidePlan → List ℕ

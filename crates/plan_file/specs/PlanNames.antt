@@ -1,8 +1,6 @@
 -- How faults of a plan are named: [STEP] NAME [DETAIL].
 use Rattle.std.specs.Prelude.{ℕ, List, ◌++◌, codes}
 use Rattle.std.specs.Fmt.{decimal}
-use Rattle.plan_file.specs.declared.fault.FieldFault.{FieldFault}
-use Rattle.plan_file.specs.declared.fault.FieldFault.TheVariants as field
 use Rattle.plan_file.specs.declared.plan_fault.OutsidePlan.{OutsidePlan}
 use Rattle.plan_file.specs.declared.plan_fault.OutsidePlan.TheVariants as outside
 use Rattle.plan_file.specs.declared.plan_fault.NoGet.{NoGet}
@@ -11,7 +9,7 @@ use Rattle.plan_file.specs.declared.plan_fault.StepFault.{StepFault}
 use Rattle.plan_file.specs.declared.plan_fault.StepFault.TheVariants as step
 use Rattle.plan_file.specs.declared.plan_fault.PlanFault.{PlanFault}
 use Rattle.plan_file.specs.declared.plan_fault.PlanFault.TheVariants as fault
-use Rattle.plan_file.specs.Words.{word}
+use Rattle.file_fields.specs.FaultNames.{field_fault_name}
 
 -- what no plan changes
 abbrev pub outside_name : OutsidePlan → List ℕ
@@ -25,12 +23,6 @@ no_get_name no_get.SessionLimit = codes "SessionLimit"
 no_get_name no_get.FlagsClear = codes "FlagsClear"
 no_get_name no_get.BothStores = codes "BothStores"
 no_get_name no_get.SetInProgress = codes "SetInProgress"
-
--- a fault and the key of its field
-abbrev pub field_fault_name : FieldFault → List ℕ
-field_fault_name (field.Missing named) = codes "Missing " ++ word named
-field_fault_name (field.WrongType named) = codes "WrongType " ++ word named
-field_fault_name (field.Range named) = codes "Range " ++ word named
 
 -- a fault of a step
 abbrev pub step_fault_name : StepFault → List ℕ

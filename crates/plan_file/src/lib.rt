@@ -1,37 +1,24 @@
-//! The texts of board files and of plans.
+//! The text of a plan.
 #![tactic(auto)]
 
-mod attribute_items;
-mod attribute_steps;
-mod attributes;
-mod board;
-mod change;
-mod channel_items;
-mod channels;
-mod check;
-mod effecters;
-mod fault;
-mod field;
+mod bios_attribute;
+mod boot_param;
+mod channel_access;
+mod event_enable;
+mod global_enables;
+mod hysteresis;
 mod kind;
-mod numeric;
+mod numeric_effecter;
 mod plan;
 mod plan_fault;
-mod range;
-mod row;
-mod state_items;
-mod state_steps;
-mod states;
+mod power_policy;
+mod state_effecter;
 mod step;
-mod tree;
-mod users;
+mod thresholds;
+mod user_access;
+mod user_name;
+mod watchdog;
 
-pub use board::read_board;
-pub use fault::{FieldFault, FileFault, Item, Place};
-pub use field::Field;
 pub use kind::Kind;
-pub use plan::read_plan;
+pub use plan::{PLAN, read_plan};
 pub use plan_fault::{NoGet, OutsidePlan, PlanFault, StepFault};
-pub use row::{
-    ATTRIBUTE, CHANNEL, DEVICE, ENUMERATION, INTEGER, NUMERIC, Need, PLAN, Row, SENSOR, SESSIONS,
-    STATE, STRING, Shape, TOP,
-};

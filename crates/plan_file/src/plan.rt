@@ -1,37 +1,38 @@
 //! The text of a plan.
 ghost use Rattle.std.specs.Prelude.{◌≡◌, ◌⊎◌, ◌≤◌, [], true, Err, Some, IfOk, IfErr, map};
+ghost use Rattle.toml.specs.View.{table_view, view};
 ghost use Rattle.std.specs.List.{list_all, AllZip};
-ghost use Rattle.toml.specs.View.{view, table_view};
-ghost use Rattle.plan_file.specs.Trees.{number_in, table_of, members_in};
-ghost use Rattle.plan_file.specs.Ranges.{is_table};
-ghost use Rattle.plan_file.specs.Faults.{field_faults, first};
+ghost use Rattle.file_fields.specs.Trees.{number_in, table_of};
+ghost use Rattle.file_fields.specs.Ranges.{is_table};
+ghost use Rattle.file_fields.specs.Faults.{field_faults, first};
 ghost use Rattle.plan_file.specs.PlanFaults.{own_fault, step_faults, steps_faults};
 ghost use Rattle.plan_file.specs.PlanHolds.{IsStepIn, or_three, AnswersPlan, ReadsPlan};
 
-use crate::check::first_fault;
-use crate::fault::FieldFault;
-use crate::field::Field;
 use crate::plan_fault::PlanFault;
-use crate::row::PLAN;
 use crate::step::read_step;
-use crate::tree::{members_in, number};
 use cfg_records::Op;
+use file_fields::tree::{members_in, number};
+use file_fields::{Field, FieldFault, Need, Row, Shape, first_fault};
 use plans::{Plan, Retries, Steps};
 use std::alloc::Global;
 use toml::{Table, Value};
 
+/// A plan's own fields.
+pub const PLAN: [Row; 2] = [
+    Row(Field::Retries, Shape::Number(0, 15), Need::Never),
+    Row(Field::Step, Shape::Tables(256), Need::Never),
+];
+
 /// How often the frames of a request are sent again where a plan doesn't say it.
 pub const RETRIES: u8 = 3;
 
-impl FieldFault {
-    /// The fault, of a plan's own field: too many steps have a name of their own.
-    fn of_plan(self) -> PlanFault
-        ensures { result ≡ own_fault self }
-    {
-        match self {
-            FieldFault::Range(Field::Step) => PlanFault::TooMany,
-            fault => PlanFault::Field(fault),
-        }
+/// The fault, of a plan's own field: too many steps have a name of their own.
+fn of_plan(fault: FieldFault) -> PlanFault
+    ensures { result ≡ own_fault fault }
+{
+    match fault {
+        FieldFault::Range(Field::Step) => PlanFault::TooMany,
+        fault => PlanFault::Field(fault),
     }
 }
 
@@ -90,7 +91,7 @@ fn plan_of(alloc: Global, tree: &Table) -> Result<Plan, PlanFault>
     ensures { (result ≡ Err PlanFault.Memory) ⊎ AnswersPlan (table_view tree.now) result }
 {
     if let Some(fault) = first_fault(&PLAN, tree) {
-        return Err(fault.of_plan());
+        return Err(of_plan(fault));
     }
     let ops = steps_of(alloc, members_in(tree, Field::Step))?;
     Ok(Plan {

@@ -1,5 +1,5 @@
 //! Why a text is no plan.
-use crate::fault::FieldFault;
+use file_fields::FieldFault;
 use std::fmt;
 
 /// What no plan changes, since nothing can undo it.
@@ -75,21 +75,6 @@ impl fmt::Display for NoGet {
             NoGet::FlagsClear => f.write_str("FlagsClear"),
             NoGet::BothStores => f.write_str("BothStores"),
             NoGet::SetInProgress => f.write_str("SetInProgress"),
-        }
-    }
-}
-
-impl fmt::Display for FieldFault {
-    ghost use Rattle.std.specs.Prelude.{Some};
-    ghost use Rattle.plan_file.specs.PlanNames.{field_fault_name};
-
-    ghost output = { λ fault. Some (field_fault_name fault) };
-
-    fn fmt<W: fmt::Write>(&self, f: &mut fmt::Formatter<W>) -> fmt::Result {
-        match self {
-            FieldFault::Missing(field) => write!(f, "Missing {field}"),
-            FieldFault::WrongType(field) => write!(f, "WrongType {field}"),
-            FieldFault::Range(field) => write!(f, "Range {field}"),
         }
     }
 }

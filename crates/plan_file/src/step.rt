@@ -3,24 +3,19 @@ ghost use Rattle.std.specs.Prelude.{◌≡◌, [], None, Some, IfOk, IfErr};
 ghost use Rattle.std.specs.List.{find};
 ghost use Rattle.toml.specs.View.{table_view};
 ghost use Rattle.plan_file.specs.Kinds.{kind_in, rows_of};
-ghost use Rattle.plan_file.specs.Faults.{field_faults, first};
+ghost use Rattle.file_fields.specs.Faults.{field_faults, first};
 ghost use Rattle.plan_file.specs.PlanFaults.{outside_word, is_outside, asks, kind_faults, step_faults};
 ghost use Rattle.plan_file.specs.PlanHolds.{HoldsStep};
 
-use crate::attribute_steps::bios_attribute;
-use crate::change::{
-    boot_param, event_enable, global_enables, hysteresis, numeric_effecter, power_policy,
-    thresholds, watchdog,
-};
-use crate::channels::channel_access;
-use crate::check::first_fault;
-use crate::field::Field;
 use crate::kind::{KIND, Kind, kind_in};
 use crate::plan_fault::{NoGet, OutsidePlan, StepFault};
-use crate::state_steps::state_effecter;
-use crate::tree::{has_text, in_field, number};
-use crate::users::{user_access, user_name};
+use crate::{
+    bios_attribute, boot_param, channel_access, event_enable, global_enables, hysteresis,
+    numeric_effecter, power_policy, state_effecter, thresholds, user_access, user_name, watchdog,
+};
 use cfg_records::Op;
+use file_fields::tree::{has_text, in_field, number};
+use file_fields::{Field, first_fault};
 use toml::Table;
 
 /// All that no plan changes.
@@ -107,19 +102,19 @@ fn change(kind: Kind, step: &Table) -> Op
     ensures { HoldsStep (table_view step.now) result }
 {
     match kind {
-        Kind::Thresholds => Op::Thresholds(thresholds(step)),
-        Kind::Hysteresis => Op::Hysteresis(hysteresis(step)),
-        Kind::EventEnable => Op::EventEnable(event_enable(step)),
-        Kind::Watchdog => Op::Watchdog(watchdog(step)),
-        Kind::PowerPolicy => Op::PowerPolicy(power_policy(step)),
-        Kind::GlobalEnables => Op::GlobalEnables(global_enables(step)),
-        Kind::BootParam => Op::BootParam(boot_param(step)),
-        Kind::BiosAttribute => Op::BiosAttribute(bios_attribute(step)),
-        Kind::StateEffecter => Op::StateEffecter(state_effecter(step)),
-        Kind::NumericEffecter => Op::NumericEffecter(numeric_effecter(step)),
-        Kind::UserName => Op::UserName(user_name(step)),
-        Kind::UserAccess => Op::UserAccess(user_access(step)),
-        Kind::ChannelAccess => Op::ChannelAccess(channel_access(step)),
+        Kind::Thresholds => Op::Thresholds(thresholds::read(step)),
+        Kind::Hysteresis => Op::Hysteresis(hysteresis::read(step)),
+        Kind::EventEnable => Op::EventEnable(event_enable::read(step)),
+        Kind::Watchdog => Op::Watchdog(watchdog::read(step)),
+        Kind::PowerPolicy => Op::PowerPolicy(power_policy::read(step)),
+        Kind::GlobalEnables => Op::GlobalEnables(global_enables::read(step)),
+        Kind::BootParam => Op::BootParam(boot_param::read(step)),
+        Kind::BiosAttribute => Op::BiosAttribute(bios_attribute::read(step)),
+        Kind::StateEffecter => Op::StateEffecter(state_effecter::read(step)),
+        Kind::NumericEffecter => Op::NumericEffecter(numeric_effecter::read(step)),
+        Kind::UserName => Op::UserName(user_name::read(step)),
+        Kind::UserAccess => Op::UserAccess(user_access::read(step)),
+        Kind::ChannelAccess => Op::ChannelAccess(channel_access::read(step)),
     }
 }
 

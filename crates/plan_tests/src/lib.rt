@@ -1,5 +1,5 @@
-//! Tests of the texts of board files, of plans and of undo lists. They stand apart from the crate that reads them, which would be
-//! proved once more with tests of its own.
+//! Tests of the texts of board files, of plans and of undo lists. They stand apart from the crates that read them, which
+//! would be proved once more with tests of their own.
 #![tactic(auto)]
 
 #[cfg(test)]

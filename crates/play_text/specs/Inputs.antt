@@ -2,11 +2,11 @@
 use Rattle.std.specs.Prelude.{◌≡◌, ◌⊎◌, ℕ, List, ◌++◌, Result, Ok, Err, codes}
 use Rattle.cfg_records.specs.declared.board_file.BoardFile.{BoardFile}
 use Rattle.plans.specs.declared.plan.Plan.{Plan}
-use Rattle.plan_file.specs.declared.fault.FileFault.TheVariants as of_file
+use Rattle.board_file.specs.declared.fault.FileFault.TheVariants as of_file
 use Rattle.plan_file.specs.declared.plan_fault.PlanFault.TheVariants as of_plan
-use Rattle.plan_file.specs.Holds.{Reads}
+use Rattle.board_file.specs.Holds.{Reads}
 use Rattle.plan_file.specs.PlanHolds.{ReadsPlan}
-use Rattle.plan_file.specs.Names.{fault_name}
+use Rattle.board_file.specs.Names.{fault_name}
 use Rattle.plan_file.specs.PlanNames.{plan_fault_name}
 use Rattle.schedules.specs.Schedule.{IsRead}
 use Rattle.schedules.specs.Names.{schedule_fault_name}

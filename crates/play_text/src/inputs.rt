@@ -1,8 +1,9 @@
 //! The texts that a play is told in: a board file, a plan and a schedule.
 ghost use Rattle.play_text.specs.Inputs.{AreRead};
 
+use board_file::{FileFault, read_board};
 use cfg_records::BoardFile;
-use plan_file::{FileFault, PlanFault, read_board, read_plan};
+use plan_file::{PlanFault, read_plan};
 use plans::Plan;
 use schedules::{Schedule, ScheduleFault, read_schedule};
 use std::alloc::Global;

@@ -1,8 +1,8 @@
 //! Boards that files hold: one with effecters, and one that has as much of everything as a file can.
 use super::story::{Story, expect_told, open_board};
 use bmc_core::Board;
+use board_file::read_board;
 use cfg_records::PlainStore;
-use plan_file::read_board;
 use std::alloc::Global;
 use std::process::Abort;
 

@@ -9,7 +9,7 @@ use cfg_records::{
     Attribute, AttributeKind, AttributeRange, EnumerationAttribute, IntegerAttribute,
     StringAttribute, sample_board,
 };
-use plan_file::Field;
+use file_fields::Field;
 use std::alloc::{AllocError, Global};
 use std::process::Abort;
 

@@ -3,8 +3,9 @@ use super::effecters::BARE;
 use super::texts::{
     Form, Text, board_of, edited, expect_edits, expect_fields, expect_too_many, joined, with_items,
 };
+use board_file::read_board;
 use cfg_records::{BoardFile, Channel, SdrRecord, Sensor, User, UserAccess, sample_board};
-use plan_file::{Field, read_board};
+use file_fields::Field;
 use std::alloc::Global;
 use std::process::Abort;
 

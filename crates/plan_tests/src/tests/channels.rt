@@ -4,7 +4,7 @@ use super::texts::{
     joined, numbered, with_items,
 };
 use cfg_records::{BoardFile, Channel, UserAccess};
-use plan_file::Field;
+use file_fields::Field;
 use std::alloc::{AllocError, Global};
 
 /// A board of two users, without sensors, channels and effecters.

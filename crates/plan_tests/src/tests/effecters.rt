@@ -6,7 +6,7 @@ use super::texts::{
 use cfg_records::{
     NumericBytes, NumericEffecter, NumericRange, NumericSize, Op, SetNumericEffecter,
 };
-use plan_file::Field;
+use file_fields::Field;
 use std::alloc::{AllocError, Global};
 use std::process::Abort;
 

@@ -5,7 +5,7 @@ use super::texts::{
     expect_plans, expect_too_many, joined, plan_of, times, with_items,
 };
 use cfg_records::{FieldChange, Op, StateEffecter, StateField};
-use plan_file::Field;
+use file_fields::Field;
 use std::alloc::{AllocError, Global};
 use std::process::Abort;
 

@@ -1,6 +1,8 @@
 //! Texts of board files and of plans with a line in another's place, and what their faults are called.
+use board_file::{FileFault, Item, Place, read_board};
 use cfg_records::{BoardFile, Op};
-use plan_file::{Field, FileFault, Item, Place, read_board, read_plan};
+use file_fields::Field;
+use plan_file::read_plan;
 use plans::Plan;
 use std::alloc::{AllocError, Global};
 use std::process::Abort;

@@ -4,16 +4,16 @@ use Rattle.std.proofs.lemmas.Result.{err_from_is_err_and}
 use Rattle.std.proofs.lemmas.Slice.Zip.{AllZip-long}
 use Rattle.std.specs.List.{list_all, AllZip}
 use Rattle.toml.specs.View.{view, table_view}
-use Rattle.plan_file.specs.declared.field.Field.TheVariants as field
-use Rattle.plan_file.specs.declared.row.TheConstants.{PLAN}
-use Rattle.plan_file.specs.Trees.{members_in}
-use Rattle.plan_file.specs.Ranges.{is_table}
-use Rattle.plan_file.specs.Faults.{field_faults, first}
+use Rattle.file_fields.specs.declared.field.Field.TheVariants as field
+use Rattle.plan_file.specs.declared.plan.TheConstants.{PLAN}
+use Rattle.file_fields.specs.Trees.{members_in}
+use Rattle.file_fields.specs.Ranges.{is_table}
+use Rattle.file_fields.specs.Faults.{field_faults, first}
 use Rattle.plan_file.specs.PlanFaults.{steps_faults}
 use Rattle.plan_file.specs.PlanHolds.{IsStepIn}
-use Rattle.plan_file.proofs.First.{empty}
-use Rattle.plan_file.proofs.Rows.{all_sound}
-use Rattle.plan_file.proofs.Sensors.{tables_of}
+use Rattle.file_fields.proofs.First.{empty}
+use Rattle.file_fields.proofs.Rows.{all_sound}
+use Rattle.file_fields.proofs.Members.{tables_of}
 use Rattle.plan_file.proofs.Steps.{own_first, steps_first, no_plan_faults}
 use Rattle.plan_file.proofs.plan.plan_of.Goals as goal
 

@@ -1,9 +1,9 @@
 use Rattle.std.proofs.Common.{sym, ◌∙◌}
 use Rattle.toml.specs.View.{table_view}
-use Rattle.plan_file.specs.declared.field.Field.TheVariants as field
-use Rattle.plan_file.specs.declared.row.Need.TheVariants as need
-use Rattle.plan_file.specs.declared.row.TheConstants.{PLAN}
-use Rattle.plan_file.proofs.Rows.{all_sound}
+use Rattle.file_fields.specs.declared.field.Field.TheVariants as field
+use Rattle.file_fields.specs.declared.row.Need.TheVariants as need
+use Rattle.plan_file.specs.declared.plan.TheConstants.{PLAN}
+use Rattle.file_fields.proofs.Rows.{all_sound}
 use Rattle.plan_file.proofs.Changes.{at_most}
 use Rattle.plan_file.proofs.plan.retries.Goals as goal
 

@@ -1,0 +1,11 @@
+pub mod TopRows
+pub mod Events
+pub mod RecordIds
+pub mod Items
+pub mod Sensors
+pub mod EffecterFields
+pub mod StateFields
+pub mod UserNames
+pub mod ChannelLists
+pub mod ChannelFields
+pub mod AttributeFields

@@ -1,0 +1,14 @@
+use Rattle.std.proofs.Common.{◌≡◌, ◌++◌, ◌∷◌, [], sym, ◌∙◌}
+use Rattle.toml.specs.View.{view}
+use Rattle.board_file.specs.AttributeItems.{IsTextIn}
+use Rattle.file_fields.proofs.Members.{next_zip}
+use Rattle.board_file.proofs.attribute_items.texts_of.Goals as goal
+
+pub loop-value-preserved : goal.loop-value-preserved
+loop-value-preserved c =
+    let i = c.loop-value.value-index in
+    let before = c.loop-value.texts.items in
+    let text = c.unwrap.result in
+    let pushed : c.push.new.self.items ≡ before ++ text ∷ [] = c.in-Ok.ensures.items in
+    let holds : IsTextIn (view c.value-item.result) text = sym c.text.ensures ∙ c.unwrap.ensures in
+    rw pushed (next_zip c.args.values.now i c.value-item.result c.loop-value-test.true c.value-item.is IsTextIn before text c.loop-value.invariant holds)

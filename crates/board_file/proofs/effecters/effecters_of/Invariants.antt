@@ -1,0 +1,17 @@
+use Rattle.std.proofs.Common.{◌≡◌, map, take, drop}
+use Rattle.std.specs.List.{AllZip}
+use Rattle.toml.specs.View.{view}
+use Rattle.cfg_records.specs.Distinct.{NamesDiffer}
+use Rattle.file_fields.specs.declared.field.Field.TheVariants as field
+use Rattle.board_file.specs.declared.fault.Item.TheVariants as item
+use Rattle.board_file.specs.declared.tables.TheConstants.{NUMERIC}
+use Rattle.board_file.specs.Faults.{item_faults, numeric_faults}
+use Rattle.board_file.specs.Holds.{IsNumericIn, effecter_id}
+use Rattle.board_file.proofs.effecters.effecters_of.Given as goal
+
+abbrev pub invariant-loop-value : goal.invariant-loop-value
+invariant-loop-value l = record {
+  zip : AllZip IsNumericIn (map view (take l.value-index l.values)) l.effecters.items;
+  left : numeric_faults (map view l.values) ≡ item_faults item.Numeric (λ tree. NUMERIC) field.Id (map view (take l.value-index l.values)) (map view (drop l.value-index l.values));
+  differ : NamesDiffer effecter_id l.effecters.items;
+}

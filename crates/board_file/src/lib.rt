@@ -1,0 +1,18 @@
+//! The text of a board file.
+#![tactic(auto)]
+
+mod attribute_items;
+mod board;
+mod channel_items;
+mod check;
+mod effecters;
+mod fault;
+mod state_items;
+mod tables;
+mod users;
+
+pub use board::read_board;
+pub use fault::{FileFault, Item, Place};
+pub use tables::{
+    ATTRIBUTE, CHANNEL, DEVICE, ENUMERATION, INTEGER, NUMERIC, SENSOR, SESSIONS, STATE, STRING, TOP,
+};

@@ -1,0 +1,9 @@
+pub mod Values
+pub mod TestFacts
+pub mod First
+pub mod Rows
+pub mod Members
+pub mod Records
+pub mod Sizes
+pub mod SizedFields
+pub mod StateChanges

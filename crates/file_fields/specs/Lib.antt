@@ -1,0 +1,10 @@
+pub mod Words
+pub mod Trees
+pub mod Numeric
+pub mod States
+pub mod Users
+pub mod Channels
+pub mod Attributes
+pub mod Ranges
+pub mod Faults
+pub mod FaultNames
