@@ -7,7 +7,6 @@ ghost use Rattle.bmc_board.specs.BiosTableLaws.{Tells-prop};
 mod bios;
 mod happen;
 mod serve;
-mod set_data;
 
 use crate::activity::Activity;
 use bios_attr::Tables;

@@ -1,14 +1,27 @@
 -- Where the record of each key lies.
-use Rattle.std.specs.Prelude.{ℕ, Option, None, slice_index_or}
+use Rattle.std.specs.Prelude.{ℕ, Option, Some, None, [], slice_index_or}
 use Rattle.std.specs.BTreeMap as btree
 use Rattle.cfg_records.specs.declared.key.Key.{Key}
 use Rattle.cfg_records.specs.declared.key.Key.TheVariants as key
 use Rattle.cfg_records.specs.declared.index.Index.{Index}
+use Rattle.cfg_records.specs.declared.index.SensorPlaces.{SensorPlaces}
 use Rattle.cfg_records.specs.Keys.{key_cmp}
 
--- the place of the key's record: a sensor's by its number, any other's by the map
+-- the table and the number under which a sensor's record is found: a line for each kind
+abbrev pub slot : Key → Option (ℕ × ℕ)
+slot (key.Thresholds sensor) = Some (0, sensor)
+slot (key.Hysteresis sensor) = Some (1, sensor)
+slot (key.EventEnable sensor) = Some (2, sensor)
+slot _ = None
+
+-- the place that the tables have there
+abbrev pub place_at : SensorPlaces → (ℕ × ℕ) → Option ℕ
+place_at places at = slice_index_or (slice_index_or places.tables at.0 []) at.1 None
+
+-- the place of the key's record: a sensor's in the tables, any other's in the map
+abbrev pub place_in : Index → Option (ℕ × ℕ) → Key → Option ℕ
+place_in index (Some at) key = place_at index.sensors at
+place_in index None key = btree.get key_cmp index.others key
+
 abbrev pub place_of : Index → Key → Option ℕ
-place_of index (key.Thresholds sensor) = slice_index_or index.thresholds sensor None
-place_of index (key.Hysteresis sensor) = slice_index_or index.hysteresis sensor None
-place_of index (key.EventEnable sensor) = slice_index_or index.events sensor None
-place_of index other = btree.get key_cmp index.others other
+place_of index key = place_in index (slot key) key

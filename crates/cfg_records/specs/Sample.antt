@@ -1,16 +1,15 @@
 -- The sample board.
-use Rattle.std.specs.Prelude.{◌≡◌, ℕ, List, [], ◌∷◌, replicate, false}
+use Rattle.std.specs.Prelude.{◌≡◌, ℕ, List, [], ◌∷◌, map, replicate, false}
 use Rattle.cfg_records.specs.declared.sensor.Sensor.{Sensor}
 use Rattle.cfg_records.specs.declared.watchdog.Watchdog.{Watchdog}
 use Rattle.cfg_records.specs.declared.device.Device.{Device}
 use Rattle.cfg_records.specs.declared.board_file.BoardFile.{BoardFile}
-use Rattle.cfg_records.specs.EventEnable.{event_value}
 use Rattle.cfg_records.specs.declared.boot_param.BootOptions.{BootOptions}
 use Rattle.cfg_records.specs.BootParam.{flag_bytes}
 use Rattle.cfg_records.specs.declared.channel.Channel.{Channel}
 use Rattle.cfg_records.specs.declared.user.User.{User}
 use Rattle.cfg_records.specs.declared.user.UserAccess.{UserAccess}
-use Rattle.cfg_records.specs.Boards.{access_value}
+use Rattle.cfg_records.specs.Boards.{access_value, joined, sensor_kinds}
 use Rattle.cfg_records.specs.declared.attribute.Attribute.{Attribute}
 use Rattle.cfg_records.specs.declared.attribute.AttributeKind.{AttributeKind}
 use Rattle.cfg_records.specs.declared.attribute.AttributeKind.TheVariants.{Enumeration, Text, Integer}
@@ -28,25 +27,22 @@ pub record IsSampleDevice (device : Device) : Type 0 where
   pub manufacturer : device.manufacturer.number ≡ 0xABCD
   pub product : device.product ≡ 0x1234
 
--- a sensor of these words
-pub record IsSensor (sensor : Sensor) (number sensor_type readable settable : ℕ) (thresholds : List ℕ) (positive negative supported : ℕ) (enabled : List ℕ) : Type 0 where
+-- a sensor of these words, whose records have these values: kind after kind
+pub record IsSensor (sensor : Sensor) (number sensor_type readable settable supported : ℕ) (values : List (List ℕ)) : Type 0 where
   pub numbered : sensor.number ≡ number
   pub measures : sensor.sensor_type ≡ sensor_type
   pub can_be_read : sensor.thresholds.masks.readable ≡ readable
   pub can_be_set : sensor.thresholds.masks.settable ≡ settable
-  pub has_thresholds : sensor.thresholds.values ≡ thresholds
-  pub rises : sensor.hysteresis.positive ≡ positive
-  pub falls : sensor.hysteresis.negative ≡ negative
   pub supports : sensor.events.supported ≡ supported
-  pub enables : event_value sensor.events.messages sensor.events.scanning sensor.events.enabled ≡ enabled
+  pub has : map (λ pair. pair.1) (joined [] (sensor_kinds (sensor ∷ []))) ≡ values
 
 -- a temperature sensor, all of whose thresholds can be read and set, and which makes messages of the upper critical threshold's crossing
 abbrev pub IsTemperature : Sensor → Type 0
-IsTemperature sensor = IsSensor sensor 5 0x01 0x3F 0x3F (0x14 ∷ 0x0A ∷ 0x05 ∷ 0x50 ∷ 0x5F ∷ 0x6E ∷ []) 2 2 0xFFF (0xC0 ∷ 0x00 ∷ 0x02 ∷ 0 ∷ 0 ∷ [])
+IsTemperature sensor = IsSensor sensor 5 0x01 0x3F 0x3F 0xFFF ((0x14 ∷ 0x0A ∷ 0x05 ∷ 0x50 ∷ 0x5F ∷ 0x6E ∷ []) ∷ (2 ∷ 2 ∷ []) ∷ (0xC0 ∷ 0x00 ∷ 0x02 ∷ 0 ∷ 0 ∷ []) ∷ [])
 
 -- a fan sensor with upper thresholds alone, of which the highest can be set and not read
 abbrev pub IsFan : Sensor → Type 0
-IsFan sensor = IsSensor sensor 7 0x04 0x18 0x38 (0 ∷ 0 ∷ 0 ∷ 0x90 ∷ 0xA0 ∷ 0xB0 ∷ []) 0 0 0xFC0 (0 ∷ 0 ∷ 0 ∷ 0 ∷ 0 ∷ [])
+IsFan sensor = IsSensor sensor 7 0x04 0x18 0x38 0xFC0 ((0 ∷ 0 ∷ 0 ∷ 0x90 ∷ 0xA0 ∷ 0xB0 ∷ []) ∷ (0 ∷ 0 ∷ []) ∷ (0 ∷ 0 ∷ 0 ∷ 0 ∷ 0 ∷ []) ∷ [])
 
 -- the sensors of the sample board
 abbrev pub AreSampleSensors : List Sensor → Type 0

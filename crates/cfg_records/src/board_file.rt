@@ -54,9 +54,10 @@ impl BoardFile {
     {
         let sensors = self.sensors.items.as_slice();
         let thresholds = sensors.iter().map(|s| s.thresholds.pair(s.number));
-        let hysteresis = sensors.iter().map(|s| s.hysteresis.pair(s.number));
-        let events = sensors.iter().map(|s| s.events.pair(s.number));
-        thresholds.chain(hysteresis).chain(events).collect(alloc)
+        thresholds
+            .chain(sensors.iter().map(|s| s.hysteresis.pair(s.number)))
+            .chain(sensors.iter().map(|s| s.events.pair(s.number)))
+            .collect(alloc)
     }
 
     /// The records of its effecters: a line for each kind.

@@ -1,33 +1,62 @@
 //! The place of each record, found by its key.
-ghost use Rattle.std.specs.Prelude.{◌≡◌, Some, None, IfOk, slice_index_or, slice_set, if◌then◌else◌};
+ghost use Rattle.std.specs.Prelude.{◌≡◌, ◌<◌, ℕ, Some, None, IfOk, IfSome, slice_index_or, slice_set, if◌then◌else◌};
 ghost use Rattle.cfg_records.specs.declared.key.Key.{Key as AnyKey};
 ghost use Rattle.cfg_records.specs.Keys.{same_key};
-ghost use Rattle.cfg_records.specs.Index.{place_of};
+ghost use Rattle.cfg_records.specs.Index.{slot, place_at, place_of};
 
 use crate::key::Key;
 use std::alloc::{AllocError, Global};
 use std::collections::BTreeMap;
 
-/// For each number of a sensor, the place of one of its records.
-type BySensor = [Option<usize>; 256];
+/// How many kinds of record a sensor has.
+const SENSOR_KINDS: usize = 3;
+
+/// For each kind of record that a sensor has, and each number of a sensor, the place of its record.
+#[derive(Drop)]
+struct SensorPlaces {
+    tables: [[Option<usize>; 256]; SENSOR_KINDS],
+}
 
 /// For each key, the place of its record in a list. A sensor's records are found by its number, in one step.
 #[derive(Drop)]
 pub(crate) struct Index {
-    thresholds: BySensor,
-    hysteresis: BySensor,
-    events: BySensor,
+    sensors: SensorPlaces,
     others: BTreeMap<Key, usize>,
 }
 
+/// The table and the number under which a sensor's record is found.
+#[inline(always)]
+fn slot(key: &Key) -> Option<(usize, u8)>
+    ensures is { result ≡ slot key.now }
+    ensures table { IfSome result (λ at. at.0 < 3) }
+{
+    match key {
+        Key::Thresholds(sensor) => Some((0, *sensor)),
+        Key::Hysteresis(sensor) => Some((1, *sensor)),
+        Key::EventEnable(sensor) => Some((2, *sensor)),
+        _ => None,
+    }
+}
+
+impl SensorPlaces {
+    /// No record has a place.
+    fn new() -> SensorPlaces
+        ensures { (table number : ℕ) → place_at result (table, number) ≡ None }
+    {
+        SensorPlaces {
+            tables: [[None; 256]; SENSOR_KINDS],
+        }
+    }
+}
+
 /// Puts the sensor's record at this place, and gives the place that it had.
-fn put(table: &mut BySensor, sensor: u8, place: usize) -> Option<usize>
+fn put(table: &mut [Option<usize>; 256], sensor: u8, place: usize) -> Option<usize>
     ensures old { result ≡ slice_index_or table.old sensor None }
     ensures new { table.new ≡ slice_set table.old sensor (Some place) }
 {
-    let slot = &mut table[usize::from(sensor)];
-    let old = *slot;
-    *slot = Some(place);
+    let entry = &mut table[usize::from(sensor)];
+    let old = *entry;
+    *entry = Some(place);
     old
 }
 
@@ -37,9 +66,7 @@ impl Index {
         ensures { (key : AnyKey) → place_of result key ≡ None }
     {
         Index {
-            thresholds: [None; 256],
-            hysteresis: [None; 256],
-            events: [None; 256],
+            sensors: SensorPlaces::new(),
             others: BTreeMap::new(alloc),
         }
     }
@@ -48,11 +75,9 @@ impl Index {
     pub fn get(&self, key: &Key) -> Option<usize>
         ensures { result ≡ place_of self.now key.now }
     {
-        match key {
-            Key::Thresholds(sensor) => self.thresholds[usize::from(*sensor)],
-            Key::Hysteresis(sensor) => self.hysteresis[usize::from(*sensor)],
-            Key::EventEnable(sensor) => self.events[usize::from(*sensor)],
-            other => self.others.get(other).copied(),
+        match slot(key) {
+            Some((table, sensor)) => self.sensors.tables[table][usize::from(sensor)],
+            None => self.others.get(key).copied(),
         }
     }
 
@@ -61,14 +86,12 @@ impl Index {
         ensures old { IfOk result (λ found. found ≡ place_of self.old key) }
         ensures updates { IfOk result (λ found. (k : AnyKey) → place_of self.new k ≡ (if same_key key k then Some place else place_of self.old k)) }
     {
-        match key {
-            Key::Thresholds(sensor) => Ok(put(&mut self.thresholds, sensor, place)),
-            Key::Hysteresis(sensor) => Ok(put(&mut self.hysteresis, sensor, place)),
-            Key::EventEnable(sensor) => Ok(put(&mut self.events, sensor, place)),
-            other => match self.others.insert(other, place) {
-                Ok(old) => Ok(old),
-                Err(_) => Err(AllocError),
-            },
+        if let Some((table, sensor)) = slot(&key) {
+            return Ok(put(&mut self.sensors.tables[table], sensor, place));
+        }
+        match self.others.insert(key, place) {
+            Ok(old) => Ok(old),
+            Err(_) => Err(AllocError),
         }
     }
 }

@@ -4,8 +4,8 @@ ghost use Rattle.effecter_recs.specs.Numeric.{value_bytes, value_of, numeric_bod
 
 use crate::request::{ENABLED, effecter_request, id_bytes, id_in, operational_state};
 use cfg_records::{
-    Asked, Key, Live, NumericBytes, NumericEffecter, NumericRange, RecordData, RecordKind,
-    SetNumericEffecter, Value, byte_at,
+    Asked, Key, Live, NumericBytes, NumericEffecter, NumericRange, Op, RecordData, RecordKind,
+    SetNumericEffecter, SetReader, Value, byte_at,
 };
 use two_wire::code::{PLDM_INVALID_DATA, PLDM_INVALID_LENGTH};
 use two_wire::{Buffer, Bytes, Code};
@@ -69,7 +69,7 @@ fn body(op: &SetNumericEffecter) -> RecordData
 }
 
 /// The operation that the data of its request says.
-pub fn numeric_effecter_in(body: &[u8]) -> SetNumericEffecter
+fn numeric_effecter_in(body: &[u8]) -> SetNumericEffecter
     ensures { result ≡ numeric_effecter_in body.now }
 {
     SetNumericEffecter {
@@ -138,6 +138,17 @@ impl NumericLimits {
         }
         new.replace(value.as_slice());
         Ok(())
+    }
+}
+
+impl SetReader for NumericLimits {
+    ghost use Rattle.cfg_records.specs.declared.op.Op.TheVariants as op;
+
+    ghost said = { λ body. op.NumericEffecter (numeric_effecter_in body) };
+
+    #[inline(always)]
+    fn op_in(body: &[u8]) -> Op {
+        Op::NumericEffecter(numeric_effecter_in(body))
     }
 }
 

@@ -8,8 +8,8 @@ use crate::field_changes::{
 use crate::numeric::behind;
 use crate::request::{effecter_request, id_bytes, id_in, operational_state};
 use cfg_records::{
-    Asked, FieldChange, Key, Live, RecordData, RecordKind, SetStateEffecter, StateEffecter, Value,
-    byte_at,
+    Asked, FieldChange, Key, Live, Op, RecordData, RecordKind, SetReader, SetStateEffecter,
+    StateEffecter, Value, byte_at,
 };
 use std::marker::Model;
 use two_wire::code::{PLDM_INVALID_DATA, PLDM_INVALID_STATE};
@@ -52,7 +52,7 @@ fn body(op: &SetStateEffecter) -> RecordData
 }
 
 /// The operation that the data of its request says.
-pub fn state_effecter_in(body: &[u8]) -> SetStateEffecter
+fn state_effecter_in(body: &[u8]) -> SetStateEffecter
     ensures { result ≡ state_effecter_in body.now }
 {
     SetStateEffecter {
@@ -123,6 +123,19 @@ impl<'f> StateLimits<'f> {
         }
         new.replace(states.as_slice());
         Ok(())
+    }
+}
+
+impl SetReader for StateLimits<'_> {
+    ghost use Rattle.cfg_records.specs.declared.op.Op.TheVariants as op;
+
+    ghost said = { λ body. op.StateEffecter (state_effecter_in body) };
+
+    #[inline(always)]
+    fn op_in(body: &[u8]) -> Op
+        ensures { result ≡ op.StateEffecter (state_effecter_in body.now) }
+    {
+        Op::StateEffecter(state_effecter_in(body))
     }
 }
 

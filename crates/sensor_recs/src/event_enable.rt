@@ -10,8 +10,8 @@ use cfg_records::event_enable::{
 };
 use cfg_records::mask::has;
 use cfg_records::{
-    Asked, EventChange, EventMasks, Key, Live, RecordData, RecordKind, Sensor, SetEventEnable,
-    Value, byte_at,
+    Asked, EventChange, EventMasks, Key, Live, Op, RecordData, RecordKind, Sensor, SetEventEnable,
+    SetReader, Value, byte_at,
 };
 use two_wire::code::INVALID_DATA_FIELD;
 use two_wire::{Buffer, Code};
@@ -152,7 +152,7 @@ fn event_change_in(body: &[u8]) -> EventChange
 }
 
 /// The operation that the data of its request says. Masks that are missing are empty.
-pub fn event_enable_in(body: &[u8]) -> SetEventEnable
+fn event_enable_in(body: &[u8]) -> SetEventEnable
     ensures { result ≡ event_enable_in body.now }
 {
     let flags = byte_at(body, 1);
@@ -205,6 +205,17 @@ impl EventEnableLimits {
         let enabled = events_after(&op.change, enabled_in(old));
         new.replace(&event_value(op.messages, op.scanning, &enabled));
         Ok(())
+    }
+}
+
+impl SetReader for EventEnableLimits {
+    ghost use Rattle.cfg_records.specs.declared.op.Op.TheVariants as op;
+
+    ghost said = { λ body. op.EventEnable (event_enable_in body) };
+
+    #[inline(always)]
+    fn op_in(body: &[u8]) -> Op {
+        Op::EventEnable(event_enable_in(body))
     }
 }
 

@@ -4,7 +4,7 @@ ghost use Rattle.sensor_recs.specs.Hysteresis.{both_bytes, hysteresis_body, hyst
 
 use crate::request::sensor_request;
 use cfg_records::{
-    Asked, Key, Live, RecordData, RecordKind, Sensor, SetHysteresis, Value, byte_at,
+    Asked, Key, Live, Op, RecordData, RecordKind, Sensor, SetHysteresis, SetReader, Value, byte_at,
 };
 use two_wire::{Buffer, Code};
 
@@ -45,13 +45,24 @@ fn body(op: &SetHysteresis) -> RecordData
 }
 
 /// The operation that the data of its request says.
-pub fn hysteresis_in(body: &[u8]) -> SetHysteresis
+fn hysteresis_in(body: &[u8]) -> SetHysteresis
     ensures { result ≡ hysteresis_in body.now }
 {
     SetHysteresis {
         sensor: byte_at(body, 0),
         positive: byte_at(body, 2),
         negative: byte_at(body, 3),
+    }
+}
+
+impl SetReader for HysteresisLimits {
+    ghost use Rattle.cfg_records.specs.declared.op.Op.TheVariants as op;
+
+    ghost said = { λ body. op.Hysteresis (hysteresis_in body) };
+
+    #[inline(always)]
+    fn op_in(body: &[u8]) -> Op {
+        Op::Hysteresis(hysteresis_in(body))
     }
 }
 

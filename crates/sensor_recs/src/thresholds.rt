@@ -5,7 +5,8 @@ ghost use Rattle.sensor_recs.specs.Thresholds.{choose, thresholds_body, threshol
 use crate::request::sensor_request;
 use cfg_records::mask::{has, is_within};
 use cfg_records::{
-    Asked, Key, Live, RecordData, RecordKind, Sensor, SetThresholds, ThresholdMasks, Value, byte_at,
+    Asked, Key, Live, Op, RecordData, RecordKind, Sensor, SetReader, SetThresholds, ThresholdMasks,
+    Value, byte_at,
 };
 use two_wire::code::INVALID_DATA_FIELD;
 use two_wire::{Buffer, Code};
@@ -53,7 +54,7 @@ fn body(op: &SetThresholds) -> RecordData
 }
 
 /// The operation that the data of its request says.
-pub fn thresholds_in(body: &[u8]) -> SetThresholds
+fn thresholds_in(body: &[u8]) -> SetThresholds
     ensures { result ≡ thresholds_in body.now }
 {
     SetThresholds {
@@ -103,6 +104,17 @@ impl ThresholdLimits {
         }
         new.replace(&values);
         Ok(())
+    }
+}
+
+impl SetReader for ThresholdLimits {
+    ghost use Rattle.cfg_records.specs.declared.op.Op.TheVariants as op;
+
+    ghost said = { λ body. op.Thresholds (thresholds_in body) };
+
+    #[inline(always)]
+    fn op_in(body: &[u8]) -> Op {
+        Op::Thresholds(thresholds_in(body))
     }
 }
 

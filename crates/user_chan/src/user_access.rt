@@ -6,8 +6,8 @@ ghost use Rattle.user_chan.specs.UserAccess.{bits_of, changes_bits, access_outco
 use cfg_records::mask::has;
 use cfg_records::user::is_limit;
 use cfg_records::{
-    Asked, Key, Live, RecordData, RecordKind, SetUserAccess, UserNumber, UserOnChannel, Value,
-    byte_at,
+    Asked, Key, Live, Op, RecordData, RecordKind, SetReader, SetUserAccess, UserNumber,
+    UserOnChannel, Value, byte_at,
 };
 use two_wire::code::INVALID_DATA_FIELD;
 use two_wire::{Buffer, Code, NetFn};
@@ -82,7 +82,7 @@ fn session_limit_in(body: &[u8]) -> Option<u8>
 }
 
 /// The operation that the data of its request says.
-pub fn access_in(body: &[u8]) -> SetUserAccess
+fn access_in(body: &[u8]) -> SetUserAccess
     ensures { result ≡ access_in body.now }
 {
     SetUserAccess {
@@ -118,6 +118,17 @@ fn first_byte(op: &SetUserAccess, bits: u8) -> u8
         128 + bits * 16 + channel
     } else {
         channel
+    }
+}
+
+impl SetReader for UserAccessLimits {
+    ghost use Rattle.cfg_records.specs.declared.op.Op.TheVariants as op;
+
+    ghost said = { λ body. op.UserAccess (access_in body) };
+
+    #[inline(always)]
+    fn op_in(body: &[u8]) -> Op {
+        Op::UserAccess(access_in(body))
     }
 }
 

@@ -4,7 +4,8 @@ ghost use Rattle.cfg_records.specs.Meaning.{told};
 ghost use Rattle.user_chan.specs.UserNames.{name_outcome, shown_name, undo_name, name_body, name_in};
 
 use cfg_records::{
-    Asked, Key, Live, RecordData, RecordKind, SetUserName, UserNumber, Value, byte_at,
+    Asked, Key, Live, Op, RecordData, RecordKind, SetReader, SetUserName, UserNumber, Value,
+    byte_at,
 };
 use two_wire::code::INVALID_DATA_FIELD;
 use two_wire::{Buffer, Code, NetFn};
@@ -60,7 +61,7 @@ fn undo_name(op: &SetUserName, reply: &[u8]) -> SetUserName
 }
 
 /// The operation that the data of its request says.
-pub fn name_in(body: &[u8]) -> SetUserName
+fn name_in(body: &[u8]) -> SetUserName
     ensures { result ≡ name_in body.now }
 {
     SetUserName {
@@ -106,6 +107,17 @@ fn body(op: &SetUserName) -> RecordData
     let mut body = RecordData::from_slice(&[op.user]);
     body.extend_from_slice(&op.name);
     body
+}
+
+impl SetReader for UserNameLimits {
+    ghost use Rattle.cfg_records.specs.declared.op.Op.TheVariants as op;
+
+    ghost said = { λ body. op.UserName (name_in body) };
+
+    #[inline(always)]
+    fn op_in(body: &[u8]) -> Op {
+        Op::UserName(name_in(body))
+    }
 }
 
 impl<'a> RecordKind<'a> for UserNameLimits {

@@ -4,7 +4,9 @@ ghost use Rattle.cfg_records.specs.Meaning.{told};
 ghost use Rattle.watch_boot.specs.GlobalEnables.{enables_outcome, enables_in};
 
 use cfg_records::global_enables::are_enables;
-use cfg_records::{Asked, Key, Live, RecordData, RecordKind, SetGlobalEnables, Value, byte_at};
+use cfg_records::{
+    Asked, Key, Live, Op, RecordData, RecordKind, SetGlobalEnables, SetReader, Value, byte_at,
+};
 use two_wire::code::INVALID_DATA_FIELD;
 use two_wire::{Buffer, Code, NetFn};
 
@@ -34,11 +36,22 @@ fn set(op: &SetGlobalEnables, new: &mut Value) -> Result<(), Code>
 }
 
 /// The operation that the data of its request says.
-pub fn enables_in(body: &[u8]) -> SetGlobalEnables
+fn enables_in(body: &[u8]) -> SetGlobalEnables
     ensures { result ≡ enables_in body.now }
 {
     SetGlobalEnables {
         byte: byte_at(body, 0),
+    }
+}
+
+impl SetReader for GlobalEnablesLimits {
+    ghost use Rattle.cfg_records.specs.declared.op.Op.TheVariants as op;
+
+    ghost said = { λ body. op.GlobalEnables (enables_in body) };
+
+    #[inline(always)]
+    fn op_in(body: &[u8]) -> Op {
+        Op::GlobalEnables(enables_in(body))
     }
 }
 

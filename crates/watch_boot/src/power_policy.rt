@@ -3,7 +3,9 @@ ghost use Rattle.std.specs.Prelude.{◌≡◌, OnErr, length};
 ghost use Rattle.cfg_records.specs.Meaning.{told};
 ghost use Rattle.watch_boot.specs.PowerPolicy.{policy_outcome, policy_in};
 
-use cfg_records::{Asked, Key, Live, RecordData, RecordKind, SetPowerPolicy, Value, byte_at};
+use cfg_records::{
+    Asked, Key, Live, Op, RecordData, RecordKind, SetPowerPolicy, SetReader, Value, byte_at,
+};
 use two_wire::code::INVALID_DATA_FIELD;
 use two_wire::{Buffer, Code, NetFn};
 
@@ -42,11 +44,22 @@ fn set(op: &SetPowerPolicy, old: &[u8], new: &mut Value) -> Result<(), Code>
 }
 
 /// The operation that the data of its request says.
-pub fn policy_in(body: &[u8]) -> SetPowerPolicy
+fn policy_in(body: &[u8]) -> SetPowerPolicy
     ensures { result ≡ policy_in body.now }
 {
     SetPowerPolicy {
         policy: byte_at(body, 0),
+    }
+}
+
+impl SetReader for PowerPolicyLimits {
+    ghost use Rattle.cfg_records.specs.declared.op.Op.TheVariants as op;
+
+    ghost said = { λ body. op.PowerPolicy (policy_in body) };
+
+    #[inline(always)]
+    fn op_in(body: &[u8]) -> Op {
+        Op::PowerPolicy(policy_in(body))
     }
 }
 

@@ -6,7 +6,9 @@ ghost use Rattle.cfg_records.specs.Watchdog.{IsWatchdog};
 ghost use Rattle.watch_boot.specs.Watchdog.{kept_use, kept_actions, is_accepted, watchdog_outcome, live_after_set, watchdog_body, watchdog_in, shown_use, watchdog_view, WasSet, live_after_reset, live_after_tick};
 
 use cfg_records::mask::has;
-use cfg_records::{Asked, Key, Live, RecordData, RecordKind, SetWatchdog, Value, byte_at};
+use cfg_records::{
+    Asked, Key, Live, Op, RecordData, RecordKind, SetReader, SetWatchdog, Value, byte_at,
+};
 use two_wire::code::INVALID_DATA_FIELD;
 use two_wire::{Buffer, Code, NetFn};
 
@@ -91,7 +93,7 @@ fn body(op: &SetWatchdog) -> RecordData
 }
 
 /// The operation that the data of its request says.
-pub fn watchdog_in(body: &[u8]) -> SetWatchdog
+fn watchdog_in(body: &[u8]) -> SetWatchdog
     ensures { result ≡ watchdog_in body.now }
 {
     SetWatchdog {
@@ -162,6 +164,17 @@ pub fn tick(value: &[u8], live: &mut Live)
     if live.countdown == 0 {
         live.running = false;
         live.expired |= 1 << (byte_at(value, 0) % 8);
+    }
+}
+
+impl SetReader for WatchdogLimits {
+    ghost use Rattle.cfg_records.specs.declared.op.Op.TheVariants as op;
+
+    ghost said = { λ body. op.Watchdog (watchdog_in body) };
+
+    #[inline(always)]
+    fn op_in(body: &[u8]) -> Op {
+        Op::Watchdog(watchdog_in(body))
     }
 }
 

@@ -13,7 +13,6 @@ ghost use Rattle.bmc_board.specs.Sensing.{value_at};
 use crate::activity::Activity;
 use crate::board::Board;
 use crate::board::bios::{Standing, show_part, table_asked};
-use crate::board::set_data::{self, SetData};
 use crate::command::{Command, GetCommand, SetCommand};
 use crate::live::{
     LiveCommand, NO_ERROR, PLDM_TYPES, already_in_progress, device_data, progress_data,
@@ -27,17 +26,20 @@ use bios_attr::Tables;
 use bios_attr::bios_attribute::{attribute_in, attribute_shown_in};
 use cfg_records::{
     AccessStore, Answered, Asked, BoardFile, ChannelNumber, Key, Op, RecordKind, SetChannelAccess,
-    Store, StoredAccess, UserNumber, UserOnChannel, Value, byte_at,
+    SetReader, Store, StoredAccess, UserNumber, UserOnChannel, Value, byte_at,
 };
 use effecter_recs::request::id_in;
+use effecter_recs::{NumericLimits, StateLimits};
 use record_kinds::{Limits, Setup};
 use sensor_recs::taken::reading_data;
+use sensor_recs::{EventEnableLimits, HysteresisLimits, ThresholdLimits};
 use std::alloc::{AllocError, Global};
 use two_wire::{Buffer, Bytes, Code, code};
 use user_chan::channel_request::{ChannelRequest, channel_request_in, stored_in};
 use user_chan::password::{PasswordChange, change_of, set_enabled};
+use user_chan::{UserAccessLimits, UserNameLimits};
 use watch_boot::boot_request::{BootRequest, BootShown, boot_request_in, boot_shown_in};
-use watch_boot::watchdog;
+use watch_boot::{GlobalEnablesLimits, PowerPolicyLimits, WatchdogLimits, watchdog};
 
 /// The code for a record that isn't there.
 fn unknown_code(setup: &Setup, key: &Key) -> Code
@@ -335,15 +337,16 @@ impl<S: Store> Board<S> {
         }
     }
 
-    /// Carries out the operation that the command's data is. It is made here, and stays here.
+    /// Carries out the operation that the data say, which is made here and stays here. Each kind has a function of its own: an operation has
+    /// room for that of the bulkiest kind, and a function fills all operations of its own with zeros.
     #[inline(never)]
-    fn carry_out<D: SetData, B: Buffer>(&mut self, body: &[u8], to: &mut B) -> Result<(), Code>
-        requires room { length (B.bytes to.old) + longest_reply (request.Set (op_in D.command body.now)) ≤ B.capacity }
-        ensures answer { Gives result (B.bytes to.old) (B.bytes to.new) (serve_of self.old.setup (state_of S.records self.old) (request.Set (op_in D.command body.now))).0 }
-        ensures left { state_of S.records self.new ≡ (serve_of self.old.setup (state_of S.records self.old) (request.Set (op_in D.command body.now))).1 }
+    fn carry_out<K: SetReader, B: Buffer>(&mut self, body: &[u8], to: &mut B) -> Result<(), Code>
+        requires room { length (B.bytes to.old) + longest_reply (request.Set (K.said body.now)) ≤ B.capacity }
+        ensures answer { Gives result (B.bytes to.old) (B.bytes to.new) (serve_of self.old.setup (state_of S.records self.old) (request.Set (K.said body.now))).0 }
+        ensures left { state_of S.records self.new ≡ (serve_of self.old.setup (state_of S.records self.old) (request.Set (K.said body.now))).1 }
         ensures setup { self.new.setup ≡ self.old.setup }
     {
-        self.set(&D::op_in(body), to)
+        self.set(&K::op_in(body), to)
     }
 
     /// Carries out a command that changes a record.
@@ -359,24 +362,16 @@ impl<S: Store> Board<S> {
         ensures setup { self.new.setup ≡ self.old.setup }
     {
         match command {
-            SetCommand::SetSensorHysteresis => self.carry_out::<set_data::Hysteresis, B>(body, to),
-            SetCommand::SetSensorThresholds => self.carry_out::<set_data::Thresholds, B>(body, to),
-            SetCommand::SetSensorEventEnable => self.carry_out::<set_data::EventEnable, B>(
-                body, to,
-            ),
-            SetCommand::SetPowerRestorePolicy => self.carry_out::<set_data::PowerPolicy, B>(
-                body, to,
-            ),
-            SetCommand::SetWatchdogTimer => self.carry_out::<set_data::Watchdog, B>(body, to),
-            SetCommand::SetGlobalEnables => self.carry_out::<set_data::GlobalEnables, B>(body, to),
-            SetCommand::SetNumericEffecterValue => self.carry_out::<set_data::NumericEffecter, B>(
-                body, to,
-            ),
-            SetCommand::SetStateEffecterStates => self.carry_out::<set_data::StateEffecter, B>(
-                body, to,
-            ),
-            SetCommand::SetUserName => self.carry_out::<set_data::UserName, B>(body, to),
-            SetCommand::SetUserAccess => self.carry_out::<set_data::UserAccess, B>(body, to),
+            SetCommand::SetSensorHysteresis => self.carry_out::<HysteresisLimits, B>(body, to),
+            SetCommand::SetSensorThresholds => self.carry_out::<ThresholdLimits, B>(body, to),
+            SetCommand::SetSensorEventEnable => self.carry_out::<EventEnableLimits, B>(body, to),
+            SetCommand::SetPowerRestorePolicy => self.carry_out::<PowerPolicyLimits, B>(body, to),
+            SetCommand::SetWatchdogTimer => self.carry_out::<WatchdogLimits, B>(body, to),
+            SetCommand::SetGlobalEnables => self.carry_out::<GlobalEnablesLimits, B>(body, to),
+            SetCommand::SetNumericEffecterValue => self.carry_out::<NumericLimits, B>(body, to),
+            SetCommand::SetStateEffecterStates => self.carry_out::<StateLimits, B>(body, to),
+            SetCommand::SetUserName => self.carry_out::<UserNameLimits, B>(body, to),
+            SetCommand::SetUserAccess => self.carry_out::<UserAccessLimits, B>(body, to),
         }
     }
 
