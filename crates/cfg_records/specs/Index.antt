@@ -18,10 +18,11 @@ slot _ = None
 abbrev pub place_at : SensorPlaces → (ℕ × ℕ) → Option ℕ
 place_at places at = slice_index_or (slice_index_or places.tables at.0 []) at.1 None
 
--- the place of the key's record: a sensor's in the tables, any other's in the map
+-- the place in the tables for a key that has a slot, and in the map for any other
 abbrev pub place_in : Index → Option (ℕ × ℕ) → Key → Option ℕ
 place_in index (Some at) key = place_at index.sensors at
 place_in index None key = btree.get key_cmp index.others key
 
+-- the place of the key's record
 abbrev pub place_of : Index → Key → Option ℕ
 place_of index key = place_in index (slot key) key
