@@ -71,34 +71,16 @@ short_value id size (Four a b c d) = omega arith
 short_value id size Other = omega arith
 
 get_short : (k : Key) → IsShort (get_asked k)
-get_short (key.Thresholds sensor) = tt
-get_short (key.Hysteresis sensor) = tt
-get_short (key.EventEnable sensor) = tt
-get_short key.PowerPolicy = tt
-get_short key.Watchdog = tt
-get_short key.GlobalEnables = tt
-get_short (key.BootParam parameter) = tt
 get_short (key.NumericEffecter id) = omega arith
 get_short (key.StateEffecter id) = omega arith
-get_short (key.UserName user) = tt
-get_short (key.UserAccess on) = tt
-get_short (key.ChannelAccess at) = tt
 get_short (key.BiosAttribute handle) = omega arith
+get_short _ = tt
 
 set_short : (o : Op) → IsShort (set_asked o)
-set_short (op.Thresholds o) = tt
-set_short (op.Hysteresis o) = tt
-set_short (op.EventEnable o) = tt
-set_short (op.PowerPolicy o) = tt
-set_short (op.Watchdog o) = tt
-set_short (op.GlobalEnables o) = tt
-set_short (op.BootParam o) = tt
 set_short (op.NumericEffecter o) = short_value o.effecter o.size o.value
 set_short (op.StateEffecter o) = omega (arith, two_each o.changes, o.few)
-set_short (op.UserName o) = tt
-set_short (op.UserAccess o) = tt
-set_short (op.ChannelAccess o) = tt
 set_short (op.BiosAttribute o) = omega (arith, o.fits)
+set_short _ = tt
 
 from_short : (at : Bus → Addresses) (asked : Asked) → IsShort asked → IsShort (from_manager at asked)
 from_short at (Ipmi from net_fn lun command body) h = tt
