@@ -40,6 +40,7 @@ pub trait TextFiles {
 pub struct Unread<'a> {
     /// The word that names it.
     pub word: &'a str,
+    /// Why it isn't read.
     pub why: Unreadable,
 }
 

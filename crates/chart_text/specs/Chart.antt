@@ -98,10 +98,10 @@ sends_cell notes note _ = sent_cell Manager note.sends note.before (count_of not
 
 -- ---- the controller's column
 
--- what the controller did: it carried the request out, answered it from what was kept, was busy, waits for more packets, answered a
--- control message, or ignored what came
+-- what the controller did: it put the request to the board and answered, answered from what was kept, was busy, waits for more packets,
+-- answered a control message, or ignored what came
 abbrev pub done_word : Done → List ℕ
-done_word done.Answered = codes "carried"
+done_word done.Answered = codes "answers"
 done_word done.Repeated = codes "kept"
 done_word done.Busy = codes "busy"
 done_word done.Waiting = codes "waits"

@@ -168,7 +168,7 @@ fn done_word(done: Done) -> &'static str
     ensures { result.now ≡ done_word done }
 {
     match done {
-        Done::Answered => "carried",
+        Done::Answered => "answers",
         Done::Repeated => "kept",
         Done::Busy => "busy",
         Done::Waiting => "waits",

@@ -7,6 +7,7 @@ use undo_core::Phase;
 /// A frame that came to an end.
 #[derive(Clone, Copy, Debug, PartialEq, Eq)]
 pub struct Came {
+    /// The bus that it came over.
     pub on: Bus,
     /// Whether the manager had begun a newer request on the bus.
     pub late: bool,

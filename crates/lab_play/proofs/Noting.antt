@@ -27,7 +27,7 @@ use Rattle.lab_model.specs.Lab.{ToPort}
 use Rattle.schedules.specs.declared.event.Event.TheVariants as event
 use Rattle.lab.specs.Played.{fault_at}
 use Rattle.lab_play.specs.Hearing.{Did}
-use Rattle.lab_play.specs.Noted.{IsNote, came_at, done_at, done_in, noted_at, noted_from, AreNotes, NotesStep, Notes, NotesBefore}
+use Rattle.lab_play.specs.Noted.{IsNote, comes_at, done_at, done_in, noted_at, noted_from, AreNotes, NotesStep, Notes, NotesBefore}
 use Rattle.lab_play.specs.Runs.{Take}
 use Rattle.lab_play.proofs.Sent.{all_append, beside, none_beside}
 
@@ -83,7 +83,7 @@ module _ (file : BoardFile) (lab : Lab) (x : LabModel plans) (number : ℕ) (sho
 -- what is noted is what there is to note
 pub is_noted : (e : Event) (old new : Lab) (note : Note) (file : BoardFile) (x : LabModel plans) → Shows file old x
     → (fault_at (own_bench file) file x e ≡ None) × Shows file new (happens (own_bench file) file e x) → Did e old new
-    → note.event.now ≡ e → note.came ≡ came_at x e → note.done ≡ done_in e new
+    → note.event.now ≡ e → note.came ≡ comes_at x e → note.done ≡ done_in e new
     → ((y : LabModel plans) → Shows file new y → note.sends ≡ option_map (λ f. f.on) (slice_get y.frames note.before))
     → note.before ≡ length old.frames → note.after ≡ length new.frames
     → ((y : LabModel plans) → Shows file new y → phases.phase_of note.phase ≡ phase_of plans.words y.manager.machine)

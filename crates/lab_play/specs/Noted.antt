@@ -33,10 +33,10 @@ abbrev pub comes : LabModel plans → LabFrame → Came
 comes x f = record { on = f.on; late = nat_lt 1 (begun_on plans.words f.on x.manager.machine - f.request) }
 
 -- the frame that the event delivers, if there is such a frame
-abbrev pub came_at : LabModel plans → Event → Option Came
-came_at x (event.ToBmc number) = option_map (comes x) (slice_get x.frames number)
-came_at x (event.ToMgr number) = option_map (comes x) (slice_get x.frames number)
-came_at x _ = None
+abbrev pub comes_at : LabModel plans → Event → Option Came
+comes_at x (event.ToBmc number) = option_map (comes x) (slice_get x.frames number)
+comes_at x (event.ToMgr number) = option_map (comes x) (slice_get x.frames number)
+comes_at x _ = None
 
 -- what the controller does with the frame that the event delivers
 abbrev pub done_at : LabModel plans → Event → Option Done
@@ -72,7 +72,7 @@ module _ (bench : Bench) (file : BoardFile) where
       let y = happens bench file e x in
       record {
         event = e;
-        came = came_at x e;
+        came = comes_at x e;
         done = done_at x e;
         sends = option_map (λ f. f.on) (slice_get y.frames (length x.frames));
         before = length x.frames;

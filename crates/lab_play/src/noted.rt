@@ -6,7 +6,7 @@ ghost use Rattle.lab_model.specs.Lab.{Lab as LabModel};
 ghost use Rattle.lab.specs.Played.{plans};
 ghost use Rattle.lab_play.specs.Shown.{Shows, Steps, idles_in};
 ghost use Rattle.lab_play.specs.Runs.{Runs};
-ghost use Rattle.lab_play.specs.Noted.{comes, came_at, done_in, NotesStep, NotesRun};
+ghost use Rattle.lab_play.specs.Noted.{comes, comes_at, done_in, NotesStep, NotesRun};
 
 use crate::lab_state::Lab;
 use crate::run::Halt;
@@ -35,7 +35,7 @@ impl Lab {
 
     /// The frame that the event delivers, if there is such a frame.
     fn came(&self, event: &Event) -> Option<Came>
-        ensures { (file : AnyFile) (x : LabModel plans) → Shows file self.now x → result ≡ came_at x event.now }
+        ensures { (file : AnyFile) (x : LabModel plans) → Shows file self.now x → result ≡ comes_at x event.now }
     {
         match event {
             Event::ToBmc(number) | Event::ToMgr(number) => self.coming(*number),

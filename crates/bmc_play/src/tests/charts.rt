@@ -9,114 +9,114 @@ use std::test::Fail;
 
 const CLEAN_CHART: &str = "event mgr  |comes             sends            |bmc     phase
 1     start|                  ->0              |        Getting 0
-2          |->0               <-1              |carried Getting 0
+2          |->0               <-1              |answers Getting 0
 3          |<-1               ->2              |        Setting 0
-4          |->2               <-3              |carried Setting 0
+4          |->2               <-3              |answers Setting 0
 5          |<-3               ->4              |        Getting 1
-6          |->4               <-5              |carried Getting 1
+6          |->4               <-5              |answers Getting 1
 7          |<-5               ->6              |        Setting 1
-8          |->6               <-7              |carried Setting 1
+8          |->6               <-7              |answers Setting 1
 9          |<-7                                |        Done
 10    undo |                  ->8              |        Undoing 1
-11         |->8               <-9              |carried Undoing 1
+11         |->8               <-9              |answers Undoing 1
 12         |<-9               ->10             |        Undoing 0
-13         |->10              <-11             |carried Undoing 0
+13         |->10              <-11             |answers Undoing 0
 14         |<-11                               |        Undone
 ";
 
 const RETRY_CHART: &str = "event mgr  |comes             sends            |bmc     phase
 1     start|                  ->0 lost         |        Getting 0
 2     quiet|                  ->1              |        Getting 0
-3          |->1               <-2              |carried Getting 0
+3          |->1               <-2              |answers Getting 0
 4          |<-2               ->3              |        Setting 0
 5     quiet|                  ->4              |        Setting 0
-6          |->4               <-5              |carried Setting 0
+6          |->4               <-5              |answers Setting 0
 7          |<-5                                |        Done
 8          |->3               <-6 lost         |kept    Done
 9     undo |                  ->7              |        Undoing 0
-10         |->7               <-8              |carried Undoing 0
+10         |->7               <-8              |answers Undoing 0
 11         |<-8                                |        Undone
 ";
 
 const REFUSED_CHART: &str = "event mgr  |comes             sends            |bmc     phase
 1     start|                  ->0              |        Getting 0
-2          |->0               <-1              |carried Getting 0
+2          |->0               <-1              |answers Getting 0
 3          |<-1               ->2              |        Setting 0
-4          |->2               <-3              |carried Setting 0
+4          |->2               <-3              |answers Setting 0
 5          |<-3               ->4              |        Getting 1
-6          |->4               <-5              |carried Getting 1
+6          |->4               <-5              |answers Getting 1
 7          |<-5               ->6              |        Setting 1
-8          |->6               <-7              |carried Setting 1
+8          |->6               <-7              |answers Setting 1
 9          |<-7                                |        Halted 1 Refused CC
 10    undo |                  ->8              |        Undoing 0
-11         |->8               <-9              |carried Undoing 0
+11         |->8               <-9              |answers Undoing 0
 12         |<-9                                |        Undone
 ";
 
 const NOT_RESTORABLE_CHART: &str = "event mgr  |comes             sends            |bmc     phase
 1     start|                  ->0              |        Getting 0
-2          |->0               <-1              |carried Getting 0
+2          |->0               <-1              |answers Getting 0
 3          |<-1                                |        Halted 0 NotRestorable
 4     undo |                                   |        Undone
 ";
 
 const REPLY_LOST_CHART: &str = "event mgr  |comes             sends            |bmc     phase
 1     start|                  ->0              |        Getting 0
-2          |->0               <-1              |carried Getting 0
+2          |->0               <-1              |answers Getting 0
 3          |<-1               ->2              |        Setting 0
-4          |->2               <-3 lost         |carried Setting 0
+4          |->2               <-3 lost         |answers Setting 0
 5     quiet|                  ->4              |        Setting 0
 6          |->4               <-5              |kept    Setting 0
 7          |<-5                                |        Done
 8     undo |                  ->6              |        Undoing 0
-9          |->6               <-7              |carried Undoing 0
+9          |->6               <-7              |answers Undoing 0
 10         |<-7                                |        Undone
 ";
 
 const REPLY_LATE_CHART: &str = "event mgr  |comes             sends            |bmc     phase
 1     start|                  ->0              |        Getting 0
-2          |->0               <-1              |carried Getting 0
+2          |->0               <-1              |answers Getting 0
 3          |<-1               ->2              |        Setting 0
-4          |->2               <-3              |carried Setting 0
+4          |->2               <-3              |answers Setting 0
 5     quiet|                  ->4              |        Setting 0
 6          |<-3               ->5              |        Getting 1
 7          |->4 late          <-6              |kept    Getting 1
 8          |<-6 late                           |        Getting 1
-9          |->5               <-7              |carried Getting 1
+9          |->5               <-7              |answers Getting 1
 10         |<-7               ->8              |        Setting 1
-11         |->8               <-9              |carried Setting 1
+11         |->8               <-9              |answers Setting 1
 12         |<-9                                |        Done
 13    undo |                  ->10             |        Undoing 1
-14         |->10              <-11             |carried Undoing 1
+14         |->10              <-11             |answers Undoing 1
 15         |<-11              ->12             |        Undoing 0
-16         |->12              <-13             |carried Undoing 0
+16         |->12              <-13             |answers Undoing 0
 17         |<-13                               |        Undone
 ";
 
 const UNSETTLED_CHART: &str = "event mgr  |comes             sends            |bmc     phase
 1     start|                  ->0              |        Getting 0
-2          |->0               <-1              |carried Getting 0
+2          |->0               <-1              |answers Getting 0
 3          |<-1               ->2 lost         |        Setting 0
 4     quiet|                                   |        Unsettled 0
 5     undo |                                   |        Unsettled 0
 6     again|                  ->3              |        Setting 0
-7          |->3               <-4              |carried Setting 0
+7          |->3               <-4              |answers Setting 0
 8          |<-4                                |        Done
 9     undo |                  ->5              |        Undoing 0
-10         |->5               <-6              |carried Undoing 0
+10         |->5               <-6              |answers Undoing 0
 11         |<-6                                |        Undone
 ";
 
 const REFUSED_GET_CHART: &str = "event mgr  |comes             sends            |bmc     phase
 1     start|                  ->0              |        Getting 0
-2          |->0               <-1              |carried Getting 0
+2          |->0               <-1              |answers Getting 0
 3          |<-1                                |        Halted 0 GetRefused CB
 ";
 
 /// Two frames that come twice; the second copy of the reply is late.
 const COPIES_CHART: &str = "event mgr  |comes             sends            |bmc     phase
 1     start|                  ->0              |        Getting 0
-2          |->0               <-1              |carried Getting 0
+2          |->0               <-1              |answers Getting 0
 3          |->0 copy          <-2 lost         |kept    Getting 0
 4          |<-1               ->3 lost         |        Setting 0
 5          |<-1 late copy                      |        Setting 0
@@ -211,7 +211,7 @@ text = \"xxxxxxxxxxxxxxxxxxxxxxxxxxxxxxxxxxxxxxxxxxxxxxxxxxxxxxxxxxxxxxxxxxxxxxx
 /// The last two packets of the Set's first copy are lost.
 const PACKETS_CHART: &str = "event mgr  |comes             sends            |bmc     phase
 1     start|                  =>0              |        Getting 0
-2          |=>0               <=1              |carried Getting 0
+2          |=>0               <=1              |answers Getting 0
 3          |<=1               =>2+3 2 lost     |        Setting 0
 4          |=>2                                |waits   Setting 0
 5          |=>3                                |waits   Setting 0
@@ -219,14 +219,14 @@ const PACKETS_CHART: &str = "event mgr  |comes             sends            |bmc
 7          |=>6                                |waits   Setting 0
 8          |=>7                                |waits   Setting 0
 9          |=>8                                |waits   Setting 0
-10         |=>9               <=10             |carried Setting 0
+10         |=>9               <=10             |answers Setting 0
 11         |<=10                               |        Done
 ";
 
 /// The Set's first packet is lost, so that nothing waits for its second.
 const NO_START_CHART: &str = "event mgr  |comes             sends            |bmc     phase
 1     start|                  =>0              |        Getting 0
-2          |=>0               <=1              |carried Getting 0
+2          |=>0               <=1              |answers Getting 0
 3          |<=1               =>2+3 3 lost     |        Setting 0
 4          |=>3                                |ignored Setting 0
 ";
@@ -250,7 +250,7 @@ const HEAD: &str = "event mgr  |comes             sends            |bmc     phas
 
 /// The Get was sent and answered.
 const ANSWERED: &str = "1     start|                  ->0              |        Getting 0
-2          |->0               <-1 lost         |carried Getting 0
+2          |->0               <-1 lost         |answers Getting 0
 ";
 
 #[test]
