@@ -1,8 +1,10 @@
-//! The words of the command line, as the program gets them.
+//! The words of the command line, as the program gets them, and the files of the host.
+use crate::file::HostFiles;
 use crate::words::{FrameWords, PlayWords, Words, read};
-use bmc_lab::Status;
+use bmc_lab::{Status, TextFiles, Unreadable};
 use bmc_play::Shown;
 use std::alloc::{AllocError, Global};
+use std::fs;
 use std::test::Fail;
 use two_wire::Bus;
 
@@ -221,6 +223,38 @@ fn a_play_names_its_files_in_their_order(rt: HostRuntime) -> Result<(), Fail> {
         assert_eq!(rt; board.as_str(), "sample.toml", "{words:?}");
         assert_eq!(rt; plan.as_str(), "plan.toml", "{words:?}");
         assert_eq!(rt; schedule.as_str(), "schedule.txt", "{words:?}");
+    }
+    Ok(())
+}
+
+/// Whether the host's file of this name is read as this text.
+fn is_read_as(rt: &HostRuntime, word: &str, wanted: &str) -> bool {
+    match (HostFiles { rt }).text(word) {
+        Ok(text) => text.as_str() == wanted,
+        Err(_) => false,
+    }
+}
+
+/// Why the host's file of this name isn't read, if it isn't.
+fn fault_of(rt: &HostRuntime, word: &str) -> Option<Unreadable> {
+    HostFiles { rt }.text(word).err()
+}
+
+#[test]
+fn a_file_of_the_host_has_its_text(rt: HostRuntime) -> Result<(), Fail> {
+    fs::write(&rt, "text.toml", "tid = 5\n")?;
+    assert!(rt; is_read_as(&rt, "text.toml", "tid = 5\n"));
+    Ok(())
+}
+
+#[test]
+fn a_file_of_the_host_without_a_text_is_not_read(rt: HostRuntime) -> Result<(), Fail> {
+    fs::write(&rt, "no_text.toml", &[0xFF, 0x0A][..])?;
+    for (word, wanted) in [
+        ("no_text.toml", Unreadable::NoText),
+        ("none.toml", Unreadable::NoText),
+    ] {
+        assert_eq!(rt; fault_of(&rt, word), Some(wanted), "{word}");
     }
     Ok(())
 }
