@@ -18,9 +18,8 @@ use two_wire::Below;
 /// A window of a port.
 type Slot = Below<8>;
 
-/// The requests that a port carried out, with their replies, for at most eight requesters. There are 64 `NUMBERS` on IPMB, and
-/// 32 of PLDM. A reply has at most `CAP` bytes, and so has
-/// a request behind its first.
+/// The requests that a port carried out, with their replies, for at most eight requesters. `NUMBERS` is 64 on IPMB and 32 for
+/// PLDM. A reply has at most `CAP` bytes, and so has a request behind its first byte.
 #[derive(Drop)]
 pub struct Windows<const NUMBERS: u8, const CAP: usize> {
     /// The window that each requester has, by its byte.
