@@ -110,7 +110,7 @@ fn serve(
 
 /// Hands the frames in turn, so many times over and once more, to a fresh controller at 20h (EID 0Ah), with one `Out` for all of them, and
 /// leaves the first frame that it sent at last to each. The kind is 0 for the sample board on IPMB, 1 for that on the System Management
-/// Bus, 2 for a board of 32 sensors on IPMB. Whether memory was given.
+/// Bus, 2 for a board of 32 sensors on IPMB. Returns whether memory was given.
 #[unsafe(no_mangle)]
 pub extern "C" fn bench_port_serve(
     alloc: Global,

@@ -48,9 +48,9 @@ pub fn decode_law()
     ensures plain { UndosArePlain }
 {}
 
-/// A Get replies data from which `inverse` makes an operation wherever one undoes it. Where a record was got and then set, and the Set
-/// has an inverse from the Get reply, the request of that inverse is carried out, and then every record of the board is what it was
-/// before, whoever asks, and whatever became of the activity.
+/// A Get that is carried out replies data of the kind. Where a record was got and then set, and the Set has an inverse from the Get
+/// reply, the request of that inverse is carried out, and then every record of the board is what it was before, whoever asks, and
+/// whatever became of the activity.
 pub fn undo_law()
     ensures reply { IsAReply }
     ensures undone { IsUndone }

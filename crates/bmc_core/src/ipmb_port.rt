@@ -175,7 +175,7 @@ fn respond<S: Store>(board: &mut Board<S>, request: &Request<'_>, frame: &mut Fr
     end_response(frame);
 }
 
-/// Sends the response of this header, code and data, to a request that isn't carried out. What was done stands in `out` already.
+/// Sends the response of this header, code and data, to a request that isn't carried out. The caller has noted in `out` what was done.
 #[inline(always)]
 fn send(out: &mut Out, header: &Header, code: u8, body: &[u8])
     requires { length body.now ≤ 24 }
@@ -202,7 +202,7 @@ fn reply_in(frame: &[u8]) -> (u8, &[u8])
 }
 
 /// Sends the frame that is kept for the request of this header once more. One from another address is written anew, from the
-/// header's. What was done stands in `out` already.
+/// header's. The caller has noted in `out` what was done.
 #[inline(always)]
 fn repeat(out: &mut Out, header: &Header, kept: &[u8])
     requires units { HasUnits header.now }
@@ -235,8 +235,7 @@ impl IpmbPort {
         })
     }
 
-    /// Sends the response to a request that is kept or for which there is no window, and says whether it's neither, and so to be
-    /// carried out.
+    /// Answers a request that is kept, or for which no window is free. Returns whether it is neither, and so is to be carried out.
     fn is_new(&self, header: &Header, heard: &Heard<'_, 64>, out: &mut Out) -> bool
         requires { HasUnits header.now }
         ensures fresh { result ≡ true → IsFresh self.now heard.now }
@@ -335,8 +334,9 @@ impl IpmbPort {
         }
     }
 
-    /// Takes the answer to a request that `hear` gave, and fills in what is to be sent. A request that repeats another by now, or for
-    /// which there is no window any more, is answered as such. The answer has at most 24 bytes of data, as a board's to this request.
+    /// Takes the answer to a request that `hear` gave, and fills in what is to be sent. Where the request repeats another by
+    /// now, it gets the kept response; where no window is free any more, the port answers that it's busy. The answer has at most 24
+    /// bytes of data, as a board's to this request.
     pub fn told(&mut self, pending: IpmbPending, answered: &Answered, out: &mut Out)
         requires { length answered.now.body ≤ 24 }
         ensures shows { (p : PortState) → Shows self.old p → Shows self.new (after p pending answered.now) }

@@ -27,7 +27,7 @@ pub enum Reason {
     Pldm(PldmFault),
 }
 
-/// The reason's name, or the fault's or the cause's.
+/// Writes the name of the reason, or of the fault or the cause that it holds.
 impl fmt::Display for Reason {
     ghost use Rattle.std.specs.Prelude.{Some};
     ghost use Rattle.bmc_core.specs.Names.{reason_name};
@@ -88,7 +88,7 @@ impl Frames {
         }
     }
 
-    /// Makes it one frame, of any bytes.
+    /// Leaves one frame, of unspecified bytes.
     pub(crate) fn keep_one(&mut self)
         ensures { length self.new.list.items ≡ 1 }
     {
@@ -106,7 +106,7 @@ impl Frames {
     }
 }
 
-/// What a port sends, and what it did. A port fills it in, and leaves nothing of what it was, so one serves for many calls.
+/// What a port sends, and what it did. A port overwrites all of it, so one `Out` serves for many calls.
 #[derive(Debug, Drop)]
 pub struct Out {
     pub frames: Frames,

@@ -19,7 +19,7 @@ use mctp_net::EndpointId;
 use std::alloc::{AllocError, Global};
 use two_wire::{Address, Bus};
 
-/// Where the controller is on a bus: its two-wire address, and the EID that its endpoint begins with, which IPMB doesn't look at.
+/// Where the controller is on a bus: its two-wire address, and the EID that its endpoint begins with, which a port on IPMB ignores.
 #[derive(Clone, Copy, Debug, PartialEq, Eq)]
 pub struct At {
     pub wire: Address,
@@ -94,8 +94,9 @@ impl Port {
         }
     }
 
-    /// Takes the answer to a request that a port of this bus heard, and fills in what is to be sent. It takes no memory. A request that
-    /// repeats another by now, or for which there is no window any more, is answered as such. The answer fits a reply, as a board's does.
+    /// Takes the answer to a request that a port of this bus heard, and fills in what is to be sent. It takes no memory. Where the
+    /// request repeats another by now, it gets the kept reply; where no window is free any more, the port answers that it's busy. The
+    /// answer fits a reply, as a board's does.
     pub fn told(&mut self, pending: Pending, answered: &Answered, out: &mut Out)
         requires bus { bus_asked pending ≡ bus_of self.old }
         requires fits { length answered.now.body ≤ room_for (asked_of pending) }

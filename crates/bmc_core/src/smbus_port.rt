@@ -100,8 +100,8 @@ impl SmbusPort {
         Step::Ask(request.pending())
     }
 
-    /// Takes the answer to what was asked, and fills in what is to be sent. It takes no memory. A request that has become a repeat, or
-    /// for which there is no window any more, is answered as one.
+    /// Takes the answer to what was asked, and fills in what is to be sent. It takes no memory. Where the request
+    /// repeats another by now, it gets the kept reply; where no window is free any more, the port answers that it's busy.
     pub fn told(&mut self, pending: SmbusPending, answered: &Answered, out: &mut Out)
         ensures { (p : PortState) → Shows self.old p → Ends self.new out.new p (Asks (request_in pending)) answered.now }
     {

@@ -13,7 +13,8 @@ pub enum Stream {
     Error,
 }
 
-/// What stands for standard output and standard error, and whether a write to one of them failed. Nothing else makes it say so.
+/// The writers of standard output and standard error, and a note of whether a write to one of them failed. Only a failed write sets
+/// that note.
 #[derive(Debug, Drop)]
 pub struct Console<W, E> {
     pub out: W,

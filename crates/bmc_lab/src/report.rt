@@ -38,7 +38,7 @@ fn status(out: &Out) -> Status
 }
 
 impl Report {
-    /// What is said of what a port did: a line for each frame that it sent, and why it ignored what it heard, or that it waits for
+    /// The report of what a port did: a line for each frame that it sent, and why it ignored what it heard, or that it waits for
     /// the rest of a message.
     pub fn new(alloc: Global, out: &Out) -> Result<Report, AllocError>
         ensures stream { IfOk result (λ report. report.stream ≡ Stream.Output) }

@@ -1,6 +1,6 @@
 -- The assembly of packets at one end of the bus.
 use Rattle.std.specs.Prelude.{ℕ, Bool, ◌==◌, nat_lt, ◌&&◌, ◌||◌, not, List, [], ◌∷◌, ◌++◌, length, if◌then◌else◌}
-use Rattle.bus_model.specs.Packet.{Packet}
+use Rattle.bus_model.specs.Packet.{Packet, unit_size}
 
 -- an assembly's name: where its packets come from, their tag owner bit and their tag
 pub record Name : Type 0 where
@@ -27,12 +27,12 @@ pub data Step : Type 0 where
   Drops : Step
 
 -- A packet that is taken to the packets that wait under its name: dropped, with all that wait, where four wait, where its
--- sequence isn't its place, or where it isn't the end and hasn't 64 bytes.
+-- sequence isn't its place, or where it isn't the end and hasn't `unit_size` bytes.
 abbrev pub joined : List Sent → Sent → Step × List Sent
 joined taken s =
     if nat_lt 3 (length taken) || not (s.packet.sequence == length taken) then (Drops, [])
     else if s.packet.last then (Whole (taken ++ s ∷ []), [])
-    else if not (length s.packet.payload == 64) then (Drops, [])
+    else if not (length s.packet.payload == unit_size) then (Drops, [])
     else (Waits, taken ++ s ∷ [])
 
 -- a start opens an assembly anew; what is no start needs an open one, and is dropped where none is

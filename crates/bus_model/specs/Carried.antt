@@ -18,9 +18,13 @@ requesters [] = []
 requesters (Carried k ∷ log) = if list_any (λ q. q == k.request.requester) (requesters log) then requesters log else k.request.requester ∷ requesters log
 requesters (Idled p ∷ log) = filter (λ q. not (q == p)) (requesters log)
 
+-- how many requesters have a window at once
+abbrev pub most_windows : ℕ
+most_windows = 8
+
 -- a requester has no window among these, and they are eight or more
 abbrev pub has_no_slot : ℕ → List ℕ → Bool
-has_no_slot q slots = not (list_any (λ p. p == q) slots) && nat_le 8 (length slots)
+has_no_slot q slots = not (list_any (λ p. p == q) slots) && nat_le most_windows (length slots)
 
 -- a ninth window would be needed
 abbrev pub is_busy : ℕ → List Entry → Bool

@@ -3,10 +3,18 @@ use Rattle.std.specs.Prelude.{ℕ}
 use Rattle.bus_model.specs.declared.numbers.Numbers.{Numbers}
 use Rattle.bus_model.specs.declared.numbers.Numbers.TheVariants.{Ipmb, Pldm}
 
--- how many numbers there are: 64 sequence numbers on IPMB, 32 instances of PLDM
+-- how many sequence numbers IPMB has
+abbrev pub sequence_numbers : ℕ
+sequence_numbers = 64
+
+-- how many instances PLDM has
+abbrev pub instances : ℕ
+instances = 32
+
+-- how many numbers there are
 abbrev pub circle_of : Numbers → ℕ
-circle_of Ipmb = 64
-circle_of Pldm = 32
+circle_of Ipmb = sequence_numbers
+circle_of Pldm = instances
 
 -- how many newer requests make a frame too old: 32 on IPMB, 8 on SMBus
 abbrev pub span_of : Numbers → ℕ

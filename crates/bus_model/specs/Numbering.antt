@@ -1,5 +1,7 @@
 -- Sequence numbers and instances: how a bus numbers the manager's requests, and which number is above which.
 use Rattle.std.specs.Prelude.{ℕ, ◌+◌, ◌-◌, ◌%◌, ◌/◌, Bool, nat_lt, nat_le, ◌&&◌}
+use Rattle.bus_model.specs.declared.numbers.Numbers.TheVariants.{Ipmb, Pldm}
+use Rattle.bus_model.specs.Circle.{sequence_numbers, instances, span_of}
 
 -- going up from one number on a circle, how far the other is
 abbrev pub distance : ℕ → ℕ → ℕ → ℕ
@@ -22,13 +24,13 @@ pub record Bus : Type 0 where
   pub is_above : ℕ → ℕ → Bool
   pub span : ℕ
 
--- IPMB, for a manager whose requests count from `first`: sequence numbers modulo 64
+-- IPMB, for a manager whose requests count from `first`: sequence numbers
 abbrev pub ipmb : ℕ → ℕ → ℕ → Bus
-ipmb manager controller first = record { manager = manager; controller = controller; number_of = λ n. (first + n) % 64; is_above = is_above 64; span = 32 }
+ipmb manager controller first = record { manager = manager; controller = controller; number_of = λ n. (first + n) % sequence_numbers; is_above = is_above sequence_numbers; span = span_of Ipmb }
 
--- PLDM over MCTP on SMBus: instances modulo 32
+-- PLDM over MCTP on SMBus: instances
 abbrev pub smbus : ℕ → ℕ → ℕ → Bus
-smbus manager controller first = record { manager = manager; controller = controller; number_of = λ n. (first + n) % 32; is_above = is_above 32; span = 8 }
+smbus manager controller first = record { manager = manager; controller = controller; number_of = λ n. (first + n) % instances; is_above = is_above instances; span = span_of Pldm }
 
 -- the tag of the manager's n-th request on SMBus
 abbrev pub tag_of : ℕ → ℕ → ℕ

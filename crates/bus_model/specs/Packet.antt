@@ -9,13 +9,17 @@ pub record Packet : Type 0 where
   pub sequence : ℕ
   pub payload : List ℕ
 
--- The packets are the bytes, cut: numbered from the place on, all but the last of 64 bytes; the one at place 0 is the
+-- how many bytes of a message each packet carries but the last, which may carry fewer
+abbrev pub unit_size : ℕ
+unit_size = 64
+
+-- The packets are the bytes, cut: numbered from the place on, all but the last of `unit_size` bytes; the one at place 0 is the
 -- start, the last is the end.
 abbrev pub IsCutFrom : ℕ → List Packet → List ℕ → Type 0
 IsCutFrom place [] bytes = ⊥
 IsCutFrom place (p ∷ []) bytes = (p.sequence ≡ place) × (p.first ≡ (place == 0)) × (p.last ≡ true) × (p.payload ≡ bytes)
 IsCutFrom place (p ∷ q ∷ ps) bytes =
-    (p.sequence ≡ place) × (p.first ≡ (place == 0)) × (p.last ≡ false) × (length p.payload ≡ 64)
+    (p.sequence ≡ place) × (p.first ≡ (place == 0)) × (p.last ≡ false) × (length p.payload ≡ unit_size)
     × (rest : List ℕ) × (bytes ≡ p.payload ++ rest) × IsCutFrom (suc place) (q ∷ ps) rest
 
 -- a message's packets: at most four
@@ -30,14 +34,14 @@ IsCutting split = (bytes : List ℕ) (p : Packet) → In p (split bytes) → IsC
 abbrev pub packets_from : ℕ → ℕ → List ℕ → List Packet
 packets_from zero place bytes = []
 packets_from (suc left) place bytes =
-    if nat_le (length bytes) 64
+    if nat_le (length bytes) unit_size
     then record { first = place == 0; last = true; sequence = place; payload = bytes } ∷ []
-    else record { first = place == 0; last = false; sequence = place; payload = take 64 bytes } ∷ packets_from left (suc place) (drop 64 bytes)
+    else record { first = place == 0; last = false; sequence = place; payload = take unit_size bytes } ∷ packets_from left (suc place) (drop unit_size bytes)
 
--- the way that there is: up to 256 bytes in runs of 64
+-- the way that there is: up to 256 bytes in runs of `unit_size`
 abbrev pub packets_of : List ℕ → List Packet
 packets_of bytes = if nat_le (length bytes) 256 then packets_from 4 0 bytes else []
 
--- each message of at most 256 bytes has a cut, of packets of at most 64 bytes
+-- each message of at most 256 bytes has a cut, of packets of at most `unit_size` bytes
 abbrev pub CutsAll : (List ℕ → List Packet) → Type 0
-CutsAll split = (bytes : List ℕ) → length bytes ≤ 256 → IsCut (split bytes) bytes × ((p : Packet) → In p (split bytes) → length p.payload ≤ 64)
+CutsAll split = (bytes : List ℕ) → length bytes ≤ 256 → IsCut (split bytes) bytes × ((p : Packet) → In p (split bytes) → length p.payload ≤ unit_size)

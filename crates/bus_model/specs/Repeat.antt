@@ -1,7 +1,7 @@
 -- The rule for repeats as a sentence, and what busy means.
 use Rattle.std.specs.Prelude.{◌≡◌, ◌≢◌, ℕ, ◌≤◌, ◌↔◌, Bool, true, List, [], ◌∷◌, ◌++◌, length, ◌⊎◌}
 use Rattle.bus_model.specs.Request.{Request, Kept, Entry, Carried, Idled, carried_since}
-use Rattle.bus_model.specs.Carried.{Repeats, IsBusy, IsNew, outcome, requesters, Heard, log_with}
+use Rattle.bus_model.specs.Carried.{Repeats, IsBusy, IsNew, outcome, requesters, most_windows, Heard, log_with}
 use Rattle.bus_model.specs.Numbering.{is_above}
 
 -- a value is in a list
@@ -37,7 +37,7 @@ AllDifferent (q ∷ qs) = (¬ (In q qs)) × AllDifferent qs
 -- the requester has carried nothing since its last idle, and eight or more have
 pub record NeedsNinth (q : ℕ) (log : List Entry) : Type 0 where
   pub nothing : carried_since q log ≡ []
-  pub full : 8 ≤ length (requesters log)
+  pub full : most_windows ≤ length (requesters log)
 
 -- a repeat is answered by the kept reply; busy is what repeats none and needs a ninth window; all else is new
 pub record RuleIsSentence (is_above : ℕ → ℕ → Bool) : Type 0 where
@@ -51,4 +51,4 @@ RequestersOf log = AllDifferent (requesters log) × ((q : ℕ) → In q (request
 
 -- the rule never lets in more than eight requesters at a time
 abbrev pub EightSuffice : (ℕ → ℕ → Bool) → Type 0
-EightSuffice is_above = (h : Heard) (log : List Entry) → length (requesters log) ≤ 8 → length (requesters (log_with is_above h log)) ≤ 8
+EightSuffice is_above = (h : Heard) (log : List Entry) → length (requesters log) ≤ most_windows → length (requesters (log_with is_above h log)) ≤ most_windows

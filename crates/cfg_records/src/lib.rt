@@ -24,6 +24,7 @@ pub mod live;
 pub mod log_capacity;
 pub mod mask;
 pub mod message;
+pub mod net_fn;
 pub mod numeric_effecter;
 pub mod numeric_range;
 pub mod numeric_size;

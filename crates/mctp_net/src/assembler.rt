@@ -23,12 +23,13 @@ pub struct Assembler {
 impl Model for Assembler {
     ghost use Rattle.std.specs.Prelude.{◌<◌, IfSome};
     ghost use Rattle.mctp_net.specs.Places.{Kept, AreSound};
+    ghost use Rattle.mctp_net.specs.Sizes.{most_assemblies};
 
     ghost Value = { Kept };
 
     ghost view = { λ a. record { places = a.places.items; made = a.made } };
 
-    ghost invariant = { λ a. AreSound a.places.items × IfSome a.made (λ i. i < 8) };
+    ghost invariant = { λ a. AreSound a.places.items × IfSome a.made (λ i. i < most_assemblies) };
 }
 
 impl Assembler {

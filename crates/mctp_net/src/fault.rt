@@ -17,7 +17,7 @@ pub enum PacketFault {
     Version,
 }
 
-/// The fault's name, as it stands here.
+/// Writes the name of the variant.
 impl fmt::Display for PacketFault {
     ghost use Rattle.std.specs.Prelude.{Some};
     ghost use Rattle.mctp_net.specs.Grammar.{fault_name};

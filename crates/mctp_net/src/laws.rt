@@ -5,6 +5,7 @@ ghost use Rattle.mctp_net.specs.declared.packet.Name.{Name};
 ghost use Rattle.mctp_net.specs.declared.message.Message.{Message};
 ghost use Rattle.mctp_net.specs.Grammar.{IsPacket, HasFault, has_fault, faults};
 ghost use Rattle.mctp_net.specs.Cut.{IsCutOf};
+ghost use Rattle.mctp_net.specs.Sizes.{most_assemblies};
 ghost use Rattle.mctp_net.specs.Assembly.{Assemblies, nothing, name_of, is_name, is_ours, open_beside, drop_cause, named_where, after, ComesBack};
 ghost use Rattle.mctp_net.specs.Sound.{IsSound};
 
@@ -33,7 +34,7 @@ pub fn one_cut()
 /// other names are open if they are more than one.
 pub fn comes_back()
     ensures { (own : ℕ) (a : Assemblies) (m : Message) (ps : List Packet) → IsCutOf m ps
-        → All (λ p. is_ours own p ≡ true) ps → (1 < length ps → open_beside (name_of m.envelope) a < 8) → ComesBack own a ps m }
+        → All (λ p. is_ours own p ≡ true) ps → (1 < length ps → open_beside (name_of m.envelope) a < most_assemblies) → ComesBack own a ps m }
 {}
 
 /// Whatever packets come, under each name those that wait are the first of a cut, and at most eight assemblies are open.

@@ -26,7 +26,7 @@ pub struct Name {
     pub tag: Tag,
 }
 
-/// Between whom a message goes, and under which tag.
+/// The sender, the receiver and the tag of a message.
 #[derive(Clone, Copy, Debug, PartialEq, Eq)]
 pub struct Envelope {
     /// The two-wire address to which it is sent.

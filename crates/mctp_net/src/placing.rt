@@ -3,6 +3,7 @@ ghost use Rattle.std.specs.Prelude.{◌≡◌, ◌<◌, ◌≤◌, Some, None, t
 ghost use Rattle.mctp_net.specs.Assembly.{name_of, open_beside, drop_cause, closed, ended, kept_with};
 ghost use Rattle.mctp_net.specs.Places.{assemblies_in, AreSound, IsPlaceOf, IsRoomFor, open_in, under_in};
 ghost use Rattle.mctp_net.specs.Sound.{Fits};
+ghost use Rattle.mctp_net.specs.Sizes.{unit_size, most_assemblies};
 
 use crate::packet::UNIT_SIZE;
 use crate::place::{MOST_ASSEMBLIES, Place, place_of};
@@ -124,7 +125,7 @@ fn begin(places: &mut Vec<Place>, place: Option<usize>, packet: &Packet<'_>)
 fn room_for(places: &[Place], place: Option<usize>, packet: &Packet<'_>) -> usize
     requires sound { AreSound places.now }
     requires place { IsPlaceOf (Some (name_of packet.now.envelope)) places.now place }
-    requires room { open_beside (name_of packet.now.envelope) (assemblies_in places.now None) < 8 }
+    requires room { open_beside (name_of packet.now.envelope) (assemblies_in places.now None) < most_assemblies }
     ensures { IsRoomFor (name_of packet.now.envelope) places.now result }
 {
     match place {
@@ -159,9 +160,9 @@ pub(crate) fn end(
     requires fits { Fits (assemblies_in places.old.items None) packet.now }
     ensures sound { AreSound places.new.items }
     ensures after { assemblies_in places.new.items result ≡ ended packet.now (assemblies_in places.old.items None) }
-    ensures made { IfSome result (λ i. i < 8) }
+    ensures made { IfSome result (λ i. i < most_assemblies) }
     ensures some { 0 < length packet.now.payload }
-    ensures most { length packet.now.payload ≤ 64 }
+    ensures most { length packet.now.payload ≤ unit_size }
 {
     let payload = packet.payload.as_slice();
     if packet.start {

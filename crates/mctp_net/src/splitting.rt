@@ -27,7 +27,7 @@ pub fn split_into(message: &Message<'_>, frames: &mut ArrayVec<Frame, 4>)
     write_each(message, frames.as_mut_slice());
 }
 
-// Makes them so many frames, of any bytes.
+// Leaves so many frames, of unspecified bytes.
 fn keep(frames: &mut ArrayVec<Frame, 4>, count: usize)
     requires { count ≤ 4 }
     ensures { length frames.new.items ≡ count }
@@ -38,7 +38,7 @@ fn keep(frames: &mut ArrayVec<Frame, 4>, count: usize)
     }
 }
 
-// Makes each of the frames that of the packet of its place.
+// Writes into each frame the packet of the frame's place.
 fn write_each(message: &Message<'_>, frames: &mut [Frame])
     requires { length frames.old ≡ count_of message.now }
     ensures { AreWritten (pieces_of message.now (count_of message.now)) frames.new }

@@ -19,7 +19,7 @@ pub enum DropCause {
     NoSlot,
 }
 
-/// The cause's name, as it stands here.
+/// Writes the name of the variant.
 impl fmt::Display for DropCause {
     ghost use Rattle.std.specs.Prelude.{Some};
     ghost use Rattle.mctp_net.specs.Assembly.{cause_name};

@@ -6,9 +6,10 @@ ghost use Rattle.std.specs.Prelude.{◌≡◌, ◌++◌, ◌∷◌, [], ℕ, tru
 ghost use Rattle.mctp_net.specs.declared.packet.Name.{Name};
 ghost use Rattle.mctp_net.specs.declared.packet.Packet.{Packet};
 ghost use Rattle.mctp_net.specs.declared.message.Message.{Message};
+ghost use Rattle.mctp_net.specs.Sizes.{unit_size};
 ghost use Rattle.mctp_net.specs.Cut.{piece, IsCutOf};
 ghost use Rattle.mctp_net.specs.Assembly.{Assemblies, name_of, taken_under, drop_cause, after, message_of};
-ghost use Rattle.bus_model.specs.Packet.{packets_of};
+ghost use Rattle.bus_model.specs.Packet.{packets_of, unit_size as model_unit_size};
 ghost use Rattle.bus_model.specs.Assembly.{Name as ModelName, Sent, takes, waiting, message_of as model_message_of};
 ghost use Rattle.packet_model.specs.Seen.{seen, seen_name, AreSeen, WaitsAlike, Agrees, model_after};
 
@@ -24,7 +25,8 @@ pub fn assemblies_agree()
         → model_message_of (waiting taken s ++ s ∷ []) ≡ (message_of (after own a p) p).body }
 {}
 
-/// The packets of a message are those of the model's cut.
+/// The packets of a message are those of the model's cut, whose unit is the assembler's.
 pub fn cuts_agree()
-    ensures { (m : Message) (ps : List Packet) → IsCutOf m ps → map (λ (p : Packet). seen (piece p)) ps ≡ packets_of m.body }
+    ensures unit { model_unit_size ≡ unit_size }
+    ensures cut { (m : Message) (ps : List Packet) → IsCutOf m ps → map (λ (p : Packet). seen (piece p)) ps ≡ packets_of m.body }
 {}

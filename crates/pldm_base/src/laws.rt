@@ -4,7 +4,7 @@ ghost use Rattle.pldm_base.specs.declared.message.PldmRequest.{PldmRequest};
 ghost use Rattle.pldm_base.specs.declared.message.PldmReply.{PldmReply};
 ghost use Rattle.pldm_base.specs.Crc.{IsCrc32, crc_of};
 ghost use Rattle.pldm_base.specs.Message.{IsRequest, IsReply, HasFault, HasReplyFault, has_fault, faults, has_reply_fault, reply_faults, request_in, reply_in};
-ghost use Rattle.pldm_base.specs.Parts.{AreParts, begins_part, is_last, part_bytes};
+ghost use Rattle.pldm_base.specs.Parts.{AreParts, part_length, begins_part, is_last, part_bytes};
 
 use crate::{PldmBytes, read_pldm, read_pldm_reply};
 
@@ -56,14 +56,14 @@ pub fn one_list_of_parts()
         → parts ≡ pieces }
 {}
 
-/// The parts of a table stand at the multiples of 192: each begins there, with its bytes, and the last is the last.
+/// The parts of a table stand at the multiples of `part_length`: each begins there, with its bytes, and the last is the last.
 pub fn parts_stand_at_their_offsets()
     ensures begins { (table : List ℕ) (parts : List (List ℕ)) → AreParts table parts
-        → (k : ℕ) → begins_part table (192 * k) ≡ nat_lt k (length parts) }
+        → (k : ℕ) → begins_part table (part_length * k) ≡ nat_lt k (length parts) }
     ensures bytes { (table : List ℕ) (parts : List (List ℕ)) → AreParts table parts
-        → (k : ℕ) → k < length parts → slice_get parts k ≡ Some (part_bytes table (192 * k)) }
+        → (k : ℕ) → k < length parts → slice_get parts k ≡ Some (part_bytes table (part_length * k)) }
     ensures last { (table : List ℕ) (parts : List (List ℕ)) → AreParts table parts
-        → (k : ℕ) → k < length parts → is_last table (192 * k) ≡ (k + 1 == length parts) }
+        → (k : ℕ) → k < length parts → is_last table (part_length * k) ≡ (k + 1 == length parts) }
 {}
 
 /// All bytes have a CRC-32.

@@ -3,10 +3,8 @@ ghost use Rattle.std.specs.Prelude.{◌≡◌, ◌≤◌, length};
 ghost use Rattle.sensor_recs.specs.Requests.{sensor_request};
 
 use cfg_records::Asked;
+use cfg_records::net_fn::SENSOR_EVENT;
 use two_wire::NetFn;
-
-/// The number of the network function of sensors and events.
-const SENSOR_EVENT: u8 = 0x04;
 
 /// The sensor request with this command and data: from nobody, to logical unit 0.
 pub fn sensor_request(command: u8, body: &[u8]) -> Asked

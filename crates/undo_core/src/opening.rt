@@ -90,7 +90,7 @@ impl Manager {
     }
 }
 
-/// So many retries, where they may be so many.
+/// The number of retries, or nothing where it is above `MOST_RETRIES`.
 fn retries_of(number: u8) -> Option<Retries>
     ensures { SomeIff result (number < 16) number }
 {

@@ -20,8 +20,8 @@ use two_wire::{Bus, Bytes, Data, Frame, Lun, NetFn};
 /// The message type of PLDM (DSP0239).
 pub const PLDM_TYPE: u8 = 0x01;
 
-/// How many of a manager's requests were answered on each bus. So it is the number of the open one, counted from 0, and, where
-/// none is open, of the next.
+/// How many of a manager's requests were answered on each bus. Counted from 0, that is the number of the open request, or
+/// of the next where none is open.
 #[derive(Clone, Copy, Debug, PartialEq, Eq)]
 pub struct Counts {
     pub ipmb: u16,
@@ -179,7 +179,7 @@ fn message_frames(
     })
 }
 
-/// Between whom the message of a request goes, and under which tag.
+/// The sender, the receiver and the tag of a request's message.
 fn envelope_of(names: &Names, counts: Counts) -> Envelope
     ensures { result ≡ record {
       destination = names.now.peer_wire;

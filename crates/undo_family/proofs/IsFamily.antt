@@ -20,7 +20,7 @@ use Rattle.record_kinds.specs.declared.limits.Limits.{Limits}
 use Rattle.record_kinds.specs.Limits.{key_of, get_asked, set_asked, restorable, inverse, is_reply, is_of, sets, conf}
 use Rattle.record_kinds.specs.LimitsLaws as laws
 use Rattle.record_kinds.specs.Boards.{limits_at}
-use Rattle.bmc_board.specs.Request.{Request}
+use Rattle.bmc_board.specs.Request.{Request as BoardRequest}
 use Rattle.bmc_board.specs.Request.{Get, Set}
 use Rattle.bmc_board.specs.Request.{asked_by}
 use Rattle.bmc_board.specs.State.{State, IsUnchanged}
@@ -89,8 +89,8 @@ valid_where setup records key new all is k false e v at = all k v at
 
 -- ---- requests that are read
 
-read_as : (setup : BoardFile) (before : State) (asked : Asked) (request : Request) (answered : BoardAnswer) (after : State) → asked_by asked ≡ Ok request → Row setup before asked answered after → Serves setup before request answered after
-read_as setup before asked request answered after is row = subst (λ (r : Result Request ℕ). Replies setup before r answered after) is row
+read_as : (setup : BoardFile) (before : State) (asked : Asked) (request : BoardRequest) (answered : BoardAnswer) (after : State) → asked_by asked ≡ Ok request → Row setup before asked answered after → Serves setup before request answered after
+read_as setup before asked request answered after is row = subst (λ (r : Result BoardRequest ℕ). Replies setup before r answered after) is row
 
 get_is_read : (at : Bus → Addresses) (key : Key) → asked_by (from_manager at (get_asked key)) ≡ Ok (Get key)
 get_is_read at key = is_read_from_all (at (bus_of (get_asked key))).manager (get_asked key) ∙ (gets_are_read key).is_read

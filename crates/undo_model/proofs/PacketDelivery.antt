@@ -3,7 +3,7 @@ use Rattle.std.proofs.Common.{◌≡◌, ◌⊎◌, ℕ, suc, ◌+◌, ◌≤◌
 use Rattle.std.specs.Prelude.{slice_get, IfSome, if◌then◌else◌}
 use Rattle.std.proofs.lemmas.Bool.{cond_both, cond-true, and_from, eq-eqb}
 use Rattle.std.proofs.lemmas.Option.{same_Some}
-use Rattle.bus_model.specs.Request.{Request}
+use Rattle.bus_model.specs.Request.{Request as Heard}
 use Rattle.bus_model.specs.Carried.{Outcome, IsNew, outcome, is_busy}
 use Rattle.bus_model.specs.Numbering.{tag_of}
 use Rattle.bus_model.specs.BusState.{BusState, Frame, Content, Ask, Reply, request_of, new_bytes, hears, taken_content, takes_if}
@@ -120,10 +120,10 @@ module _ (b : PacketBus) (cutting : IsCutting b.split) (x : Ends) (which : ℕ) 
         let carries : (packets b).carries (at_port port) (event place) ≡ Some (record { bytes = bytes; reply = answer }) =
         completes_so place p port there
         ∙ ap (λ (r : Step × List Sent). exchange (carried_of (rules_of b) (whole_request (rules_of b) f.request r.0) x.bus) answer) completes
-        ∙ ap (λ (r : Request). exchange (carried_of (rules_of b) (Some r) x.bus) answer) request_is
+        ∙ ap (λ (r : Heard). exchange (carried_of (rules_of b) (Some r) x.bus) answer) request_is
         ∙ ap (λ (o : Outcome). exchange (new_bytes o bytes) answer) is_new in
         let bus_is : whole_comes (rules_of b) answer f.request (Whole whole) x.bus ≡ heard (rules_of b) (smbus_numbers b.manager b.controller b.first) x.bus (length x.bus.taken) (record { request = request_of (rules_of b) (length x.bus.taken) bytes; reply = answer }) IsNew =
-        ap (λ (r : Request). hears (rules_of b) f.request (record { request = r; reply = answer }) x.bus) request_is
+        ap (λ (r : Heard). hears (rules_of b) f.request (record { request = r; reply = answer }) x.bus) request_is
         ∙ ap (λ (m : ℕ). hears (rules_of b) m (record { request = request_of (rules_of b) (length x.bus.taken) bytes; reply = answer }) x.bus) own
         ∙ ap (heard (rules_of b) (smbus_numbers b.manager b.controller b.first) x.bus (length x.bus.taken) (record { request = request_of (rules_of b) (length x.bus.taken) bytes; reply = answer })) is_new in
         let bus_after : (packet_happens b (at_port port) (event place)).bus ≡ whole_comes (rules_of b) answer f.request (Whole whole) x.bus =

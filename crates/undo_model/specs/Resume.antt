@@ -40,7 +40,7 @@ pub data Call : Type 0 where
   Replies : (answered : Answered) → Call
 
 -- a request as it goes out: under its number
-pub record Request (M : Words) : Type 0 where
+pub record NumberedRequest (M : Words) : Type 0 where
   pub bus : Bus
   pub number : ℕ
   pub asked : M.Asked
@@ -59,16 +59,16 @@ module _ (M : Words) where
   after None m = m
   after (Some t) m = t.machine
 
-  abbrev pub request_of : Sending M → Request M
+  abbrev pub request_of : Sending M → NumberedRequest M
   request_of s = record { bus = s.bus; number = number_of s.bus s.count; asked = s.asked }
 
   -- the request that goes out then
-  abbrev pub goes_out : Option (Turn M) → Option (Request M)
+  abbrev pub goes_out : Option (Turn M) → Option (NumberedRequest M)
   goes_out None = None
   goes_out (Some t) = option_map request_of t.sends
 
   -- the phase after each call, and the request that goes out
-  abbrev pub trace : List Call → Machine M → List (Phase × Option (Request M))
+  abbrev pub trace : List Call → Machine M → List (Phase × Option (NumberedRequest M))
   trace [] m = []
   trace (c ∷ cs) m = (phase_of M (after (turn_of c m) m), goes_out (turn_of c m)) ∷ trace cs (after (turn_of c m) m)
 

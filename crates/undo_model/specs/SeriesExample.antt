@@ -5,7 +5,7 @@ use Rattle.two_wire.specs.declared.Bus.TheVariants.{Ipmb}
 use Rattle.undo_model.specs.Words.{Words}
 use Rattle.undo_model.specs.Phase.{Phase, Stop, Refused, NotRestorable, Getting, Setting, Done, Halted, Undoing, Undone}
 use Rattle.undo_model.specs.Machine.{Machine, opened}
-use Rattle.undo_model.specs.Resume.{Call, CallStart, CallStop, CallUndo, Replies, Request, trace}
+use Rattle.undo_model.specs.Resume.{Call, CallStart, CallStop, CallUndo, Replies, NumberedRequest, trace}
 
 -- an operation gives both bytes
 pub record Pair : Type 0 where
@@ -58,7 +58,7 @@ pairs = record {
 }
 
 -- a request goes out under the number
-abbrev pub sent : ℕ → Asked → Option (Request pairs)
+abbrev pub sent : ℕ → Asked → Option (NumberedRequest pairs)
 sent number asked = Some (record { bus = Ipmb; number = number; asked = asked })
 
 -- a request is carried out, and shows these data; or it is refused
@@ -73,7 +73,7 @@ abbrev pub begun : Machine pairs
 begun = opened pairs (record { low = 1; high = 2 } ∷ []) 0
 
 abbrev pub Seen : Type 0
-Seen = List (Phase × Option (Request pairs))
+Seen = List (Phase × Option (NumberedRequest pairs))
 
 abbrev pub seen : List Call → Seen
 seen calls = trace pairs calls begun

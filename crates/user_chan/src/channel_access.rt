@@ -4,15 +4,13 @@ ghost use Rattle.cfg_records.specs.Meaning.{told};
 ghost use Rattle.cfg_records.specs.ChannelAccess.{IsChannelAccess};
 ghost use Rattle.user_chan.specs.ChannelAccess.{is_access, is_limit, is_change, channel_outcome, store_bits, in_store, channel_body};
 
+use cfg_records::net_fn::APPLICATION;
 use cfg_records::{
     AccessStore, Asked, ChannelChange, Key, Live, RecordData, RecordKind, SetChannelAccess,
     SixBits, StoredAccess, Value,
 };
 use two_wire::code::INVALID_DATA_FIELD;
 use two_wire::{Buffer, Code, NetFn};
-
-/// The number of the network function of applications.
-const APPLICATION: u8 = 0x06;
 
 /// The number of the command that sets it.
 const SET_CHANNEL_ACCESS: u8 = 0x40;

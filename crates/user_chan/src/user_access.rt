@@ -4,6 +4,7 @@ ghost use Rattle.cfg_records.specs.Meaning.{told};
 ghost use Rattle.user_chan.specs.UserAccess.{bits_of, changes_bits, access_outcome, access_body, session_limit_in, access_in, is_enabled, status_of, first_byte};
 
 use cfg_records::mask::has;
+use cfg_records::net_fn::APPLICATION;
 use cfg_records::user::is_limit;
 use cfg_records::{
     Asked, Key, Live, Op, RecordData, RecordKind, SetReader, SetUserAccess, UserNumber,
@@ -11,9 +12,6 @@ use cfg_records::{
 };
 use two_wire::code::INVALID_DATA_FIELD;
 use two_wire::{Buffer, Code, NetFn};
-
-/// The number of the network function of applications.
-const APPLICATION: u8 = 0x06;
 
 /// The number of the command that sets it.
 const SET_USER_ACCESS: u8 = 0x43;

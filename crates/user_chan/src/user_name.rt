@@ -3,15 +3,13 @@ ghost use Rattle.std.specs.Prelude.{◌≡◌, OnErr, length};
 ghost use Rattle.cfg_records.specs.Meaning.{told};
 ghost use Rattle.user_chan.specs.UserNames.{name_outcome, shown_name, undo_name, name_body, name_in};
 
+use cfg_records::net_fn::APPLICATION;
 use cfg_records::{
     Asked, Key, Live, Op, RecordData, RecordKind, SetReader, SetUserName, UserNumber, Value,
     byte_at,
 };
 use two_wire::code::INVALID_DATA_FIELD;
 use two_wire::{Buffer, Code, NetFn};
-
-/// The number of the network function of applications.
-const APPLICATION: u8 = 0x06;
 
 /// The number of the command that sets a name.
 const SET_USER_NAME: u8 = 0x45;

@@ -5,14 +5,12 @@ ghost use Rattle.cfg_records.specs.BootParam.{selector, parameter_of, IsBootPara
 ghost use Rattle.watch_boot.specs.BootParam.{same_parameter, mark_of, masked_byte, boot_outcome, marked, boot_body, boot_view, undo_change};
 
 use cfg_records::mask::has;
+use cfg_records::net_fn::CHASSIS;
 use cfg_records::{
     Asked, BootChange, BootFlags, BootParameter, Key, Live, MaskedBits, RecordData, RecordKind,
     SetBootParam, Value,
 };
 use two_wire::{Buffer, Code, NetFn};
-
-/// The number of the network function of the chassis.
-const CHASSIS: u8 = 0x00;
 
 /// The number of the command that sets them.
 const SET_SYSTEM_BOOT_OPTIONS: u8 = 0x08;

@@ -4,14 +4,12 @@ ghost use Rattle.cfg_records.specs.Meaning.{told};
 ghost use Rattle.watch_boot.specs.GlobalEnables.{enables_outcome, enables_in};
 
 use cfg_records::global_enables::are_enables;
+use cfg_records::net_fn::APPLICATION;
 use cfg_records::{
     Asked, Key, Live, Op, RecordData, RecordKind, SetGlobalEnables, SetReader, Value, byte_at,
 };
 use two_wire::code::INVALID_DATA_FIELD;
 use two_wire::{Buffer, Code, NetFn};
-
-/// The number of the network function of applications.
-const APPLICATION: u8 = 0x06;
 
 /// The number of the command that sets them.
 const SET_GLOBAL_ENABLES: u8 = 0x2E;

@@ -3,14 +3,12 @@ ghost use Rattle.std.specs.Prelude.{◌≡◌, OnErr, length};
 ghost use Rattle.cfg_records.specs.Meaning.{told};
 ghost use Rattle.watch_boot.specs.PowerPolicy.{policy_outcome, policy_in};
 
+use cfg_records::net_fn::CHASSIS;
 use cfg_records::{
     Asked, Key, Live, Op, RecordData, RecordKind, SetPowerPolicy, SetReader, Value, byte_at,
 };
 use two_wire::code::INVALID_DATA_FIELD;
 use two_wire::{Buffer, Code, NetFn};
-
-/// The number of the network function of the chassis.
-const CHASSIS: u8 = 0x00;
 
 /// The number of the command that gets it.
 const GET_CHASSIS_STATUS: u8 = 0x01;

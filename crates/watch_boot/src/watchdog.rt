@@ -6,14 +6,12 @@ ghost use Rattle.cfg_records.specs.Watchdog.{IsWatchdog};
 ghost use Rattle.watch_boot.specs.Watchdog.{kept_use, kept_actions, is_accepted, watchdog_outcome, live_after_set, watchdog_body, watchdog_in, shown_use, watchdog_view, WasSet, live_after_reset, live_after_tick};
 
 use cfg_records::mask::has;
+use cfg_records::net_fn::APPLICATION;
 use cfg_records::{
     Asked, Key, Live, Op, RecordData, RecordKind, SetReader, SetWatchdog, Value, byte_at,
 };
 use two_wire::code::INVALID_DATA_FIELD;
 use two_wire::{Buffer, Code, NetFn};
-
-/// The number of the network function of applications.
-const APPLICATION: u8 = 0x06;
 
 /// The number of the command that sets it.
 const SET_WATCHDOG_TIMER: u8 = 0x24;

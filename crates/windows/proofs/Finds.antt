@@ -6,7 +6,7 @@ use Rattle.std.specs.Option.{option_map, is_none}
 use Rattle.std.specs.Str.{bytes_eq}
 use Rattle.std.proofs.lemmas.Bool.{cond_both, cases_lt, cond-true, cond-false, eq-eqb, and_left, and_from, lt-ltb, le-leb, lt-leb, ltb-true, not_from_true, not_from_false, false_from_ne_true}
 use Rattle.std.proofs.lemmas.Option.{none-some, cond_some, slice_get_read}
-use Rattle.bus_model.specs.Request.{Request, Kept, Entry}
+use Rattle.bus_model.specs.Request.{Request as Heard, Kept, Entry}
 use Rattle.bus_model.specs.Carried.{requesters, is_busy, has_no_slot, IsBusy, IsNew, outcome, outcome_of}
 use Rattle.bus_model.specs.Numbering.{is_above}
 use Rattle.bus_model.specs.Window.{reply_in, RowsAreTheRule}
@@ -24,7 +24,7 @@ rule : (numbers : ℕ) → is_circle numbers ≡ true → RowsAreTheRule numbers
 rule numbers is = elim (circles numbers is) [ inl size ↦ subst RowsAreTheRule (sym size) rows_64 | inr size ↦ subst RowsAreTheRule (sym size) rows_32 ]
 
 -- the request that the bytes say
-abbrev pub said : Reading → ℕ → ℕ → List ℕ → Request
+abbrev pub said : Reading → ℕ → ℕ → List ℕ → Heard
 said reading q n bytes = record { requester = q; number = n; bytes = reading.request bytes }
 
 -- a row tells by the bytes that are kept

@@ -1,10 +1,11 @@
 -- The circles of numbers that windows are for.
 use Rattle.std.specs.Prelude.{ℕ, Bool, ◌==◌, ◌||◌, if◌then◌else◌}
+use Rattle.bus_model.specs.Circle.{sequence_numbers, instances}
 use Rattle.bus_model.specs.Numbering.{is_next}
 
--- 64 sequence numbers on IPMB, or 32 instances of PLDM
+-- the sequence numbers of IPMB, or the instances of PLDM
 abbrev pub is_circle : ℕ → Bool
-is_circle numbers = (numbers == 64) || (numbers == 32)
+is_circle numbers = (numbers == sequence_numbers) || (numbers == instances)
 
 -- 1 where the number is one of the next half of the circle, which are forgotten when a request is carried out; else 0
 abbrev pub next_bit : ℕ → ℕ → ℕ → ℕ

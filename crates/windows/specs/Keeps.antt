@@ -3,22 +3,23 @@ use Rattle.std.specs.Prelude.{◌≡◌, ℕ, ◌<◌, ◌≤◌, ◌↔◌, tru
 use Rattle.std.specs.Option.{option_map, option_and_then}
 use Rattle.std.specs.Str.{bytes_eq}
 use Rattle.bus_model.specs.Request.{Kept, Entry}
+use Rattle.bus_model.specs.Carried.{most_windows}
 use Rattle.bus_model.specs.Window.{windows_of, AllOnCircle}
 use Rattle.bus_model.specs.Slots.{AreSlots}
 use Rattle.windows.specs.Circle.{is_circle}
 use Rattle.windows.specs.Window.{Pair, Room, pair_at}
 
--- eight windows: which one each requester has, which requester has each one, and what it holds
+-- `most_windows` windows: which one each requester has, which requester has each one, and what it holds
 pub record Held : Type 0 where
   pub slots : List (Option ℕ)
   pub owners : List (Option ℕ)
   pub rooms : List Room
 
--- any byte may have one of eight windows; numbers go round one of the two circles, and a place's capacity fits
+-- any byte may have one of the windows; numbers go round one of the two circles, and a place's capacity fits
 pub record AreSound (numbers capacity : ℕ) (held : Held) : Type 0 where
   pub bytes : length held.slots ≡ 256
-  pub owners : length held.owners ≡ 8
-  pub rooms : length held.rooms ≡ 8
+  pub owners : length held.owners ≡ most_windows
+  pub rooms : length held.rooms ≡ most_windows
   pub circle : is_circle numbers ≡ true
   pub fits : capacity ≤ 65535
 

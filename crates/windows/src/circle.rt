@@ -3,7 +3,7 @@ ghost use Rattle.std.specs.Prelude.{◌≡◌, ℕ, ◌<◌, IsTrue};
 ghost use Rattle.std.specs.Int.{bit_at};
 ghost use Rattle.windows.specs.Circle.{is_circle, next_bit};
 
-/// The next half of the circle, which are forgotten when a request of this number is carried out.
+/// The numbers of the next half of the circle, which a window forgets when it keeps a request of this number.
 pub(crate) fn next_half<const NUMBERS: u8>(number: u8) -> u64
     requires circle { IsTrue (is_circle NUMBERS) }
     requires on { number < NUMBERS }

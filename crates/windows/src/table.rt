@@ -15,18 +15,23 @@ use std::alloc::{AllocError, Global};
 use std::marker::Model;
 use two_wire::Below;
 
-/// A window of a port.
-type Slot = Below<8>;
+/// How many requesters can have a window at once.
+const MOST_WINDOWS: u8 = 8;
 
-/// The requests that a port carried out, with their replies, for at most eight requesters. There are 64 `NUMBERS` on IPMB, and
-/// 32 of PLDM. A reply has at most `CAP` bytes, and so has
-/// a request behind its first.
+/// The number of windows, as a length.
+const COUNT: usize = MOST_WINDOWS as usize;
+
+/// A window of a port.
+type Slot = Below<{ MOST_WINDOWS }>;
+
+/// The requests that a port carried out, with their replies, for at most `MOST_WINDOWS` requesters. `NUMBERS` is 64 on IPMB and 32 for
+/// PLDM. A reply has at most `CAP` bytes, and so has a request behind its first byte.
 #[derive(Drop)]
 pub struct Windows<const NUMBERS: u8, const CAP: usize> {
     /// The window that each requester has, by its byte.
     slots: [Option<Slot>; 256],
     /// The requester that has each window.
-    owners: [Option<u8>; 8],
+    owners: [Option<u8>; COUNT],
     windows: Vec<Window<NUMBERS, CAP>>,
 }
 
@@ -47,13 +52,13 @@ impl<const NUMBERS: u8, const CAP: usize> Windows<NUMBERS, CAP> {
         requires room { CAP ≤ 65535 }
         ensures { IfOk result (λ windows. (reading : Reading) → Keeps NUMBERS reading windows []) }
     {
-        let mut windows = Vec::with_capacity(alloc, 8)?;
-        for _place in 0..8_u8 {
+        let mut windows = Vec::with_capacity(alloc, COUNT)?;
+        for _place in 0..MOST_WINDOWS {
             windows.push(Window::new(alloc)?)?;
         }
         Ok(Windows {
             slots: [None; 256],
-            owners: [None; 8],
+            owners: [None; COUNT],
             windows,
         })
     }

@@ -29,7 +29,7 @@ impl<const CAP: usize> Model for Place<CAP> {
 }
 
 impl<const CAP: usize> Place<CAP> {
-    /// A place in which nothing was put.
+    /// A place that holds no request.
     fn new() -> Self {
         Place {
             first: 0,

@@ -8,12 +8,12 @@ ghost use Rattle.bmc_core.specs.declared.out.Reason.{Reason};
 ghost use Rattle.bmc_core.specs.IpmbHeard.{IsHeard};
 ghost use Rattle.bmc_core.specs.IpmbRuns.{IsHeardThenTold, Coming, KeepsTheRule, Ends, Happening, CarriesTheRule};
 
-/// One thing at most is heard in bytes.
+/// A port at an address hears at most one thing in the same bytes.
 pub fn one_thing_is_heard()
     ensures { (wire : ℕ) (bytes : List ℕ) (a b : Result Request Reason) → IsHeard wire bytes a → IsHeard wire bytes b → a ≡ b }
 {}
 
-/// A request at a port of a board is heard, and then the board's answer to it is told.
+/// A port of a board hears a request, and then is told the board's answer to it.
 pub fn a_request_is_heard_and_then_told()
     ensures { (setup : BoardFile) (port : PortState) (before : State) (r : Request) → IsHeardThenTold setup port before r }
 {}

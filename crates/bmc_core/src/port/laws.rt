@@ -5,7 +5,7 @@ ghost use Rattle.bmc_board.specs.State.{State};
 ghost use Rattle.bmc_core.specs.declared.port.Port.{Port};
 ghost use Rattle.bmc_core.specs.Port.{IsHeardThenTold};
 
-/// What `on_frame` does is to hear the bytes, to have what is asked answered by the board, and to be told that answer.
+/// `on_frame` hears the bytes, has the board answer what is asked, and is told that answer.
 pub fn bytes_are_heard_and_then_told()
     ensures { (setup : BoardFile) (port : Port) (before : State) (bytes : List ℕ) → IsHeardThenTold setup port before bytes }
 {}

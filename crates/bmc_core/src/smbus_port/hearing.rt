@@ -21,7 +21,7 @@ const CONTROL: u8 = 0x00;
 /// The type of a PLDM message.
 pub(super) const PLDM: u8 = 0x01;
 
-/// Takes a packet at this two-wire address, and says whether it ends a message. Else it fills in what is to be sent.
+/// Takes a packet at this two-wire address, and returns whether it ends a message. Where it doesn't, `out` says what was done.
 pub(super) fn take(
     wire: Address,
     endpoint: &Endpoint,

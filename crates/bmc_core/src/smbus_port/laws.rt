@@ -6,7 +6,7 @@ ghost use Rattle.bmc_board.specs.State.{State};
 ghost use Rattle.lab_model.specs.PortSteps.{PortState};
 ghost use Rattle.bmc_core.specs.SmbusRuns.{IsHeardThenTold, Coming, KeepsTheRule, Ends, Happening, CarriesTheRule};
 
-/// A packet at a port of a board is heard, and then the board's answer to what it asks is told.
+/// A port of a board hears a packet, and then is told the board's answer to what the packet asks.
 pub fn a_packet_is_heard_and_then_told()
     ensures { (setup : BoardFile) (port : PortState) (before : State) (p : Packet) → IsHeardThenTold setup port before p }
 {}

@@ -21,7 +21,7 @@ const REQUEST: u8 = 0x80;
 /// A request of PLDM, where it lies in its message.
 #[derive(Debug, Drop)]
 pub(super) struct Request<'a> {
-    /// That of the message.
+    /// The envelope of its message.
     pub envelope: Envelope,
     pub request: PldmRequest<'a>,
     /// Its bytes behind the first: the type, the command and the data.
@@ -42,7 +42,7 @@ impl<'a> Model for Request<'a> {
 impl<'a> Request<'a> {
     ghost use Rattle.std.specs.Prelude.{◌∷◌};
 
-    /// The request, whose bytes behind the first are these.
+    /// The request, with its bytes behind the first.
     pub fn new(envelope: Envelope, request: PldmRequest<'a>, rest: &'a [u8]) -> Self
         requires { rest.now ≡ request.header.pldm_type ∷ request.header.command ∷ request.body }
         ensures { result ≡ record { envelope = envelope; request = request.entry } }
@@ -54,7 +54,7 @@ impl<'a> Request<'a> {
         }
     }
 
-    /// As the windows keep it: the ignored bit is 0 there.
+    /// The request as the windows keep it, with the ignored bit 0.
     pub fn kept(&self) -> windows::Request<'_, { INSTANCES }>
         ensures is { request_of pldm_reading result ≡ pldm_heard_in self.now.envelope.source_eid self.now.request }
         ensures room { length result.rest.now ≤ 256 }
@@ -69,7 +69,7 @@ impl<'a> Request<'a> {
         }
     }
 
-    /// As it waits for an answer.
+    /// A copy that waits for an answer.
     pub fn pending(&self) -> SmbusPending
         ensures { result ≡ record { envelope = self.now.envelope; header = self.now.request.header; body = self.now.request.body } }
     {
@@ -81,10 +81,10 @@ impl<'a> Request<'a> {
     }
 }
 
-/// A request that waits for an answer of the board. The port is told that with it.
+/// A request that waits for an answer of the board. The caller gives it back to the port together with that answer.
 #[derive(Debug, Drop)]
 pub struct SmbusPending {
-    /// That of the message, which names where the reply goes.
+    /// The envelope of the message, which says where the reply goes.
     envelope: Envelope,
     header: Header,
     /// The command's data.

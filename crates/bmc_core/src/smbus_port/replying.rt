@@ -34,7 +34,7 @@ pub(super) type Kept = Windows<{ INSTANCES }, { MESSAGE }>;
 /// A reply's bytes, its type first.
 pub(super) type Reply = Bytes<{ MESSAGE }>;
 
-/// Sends a reply of these bytes from this place, to where a message of the envelope came from. What was done stands in `out` already.
+/// Sends a reply of these bytes from this place to the sender of the envelope's message. The caller has noted in `out` what was done.
 pub(super) fn send(at: &At, to: &Envelope, body: &[u8], out: &mut Out)
     requires { length body.now ≤ MESSAGE }
     ensures sent { 0 < length body.now → out.new ≡ sends (frames_from at.now.wire at.now.eid to.now body.now) out.old.done }
@@ -57,7 +57,7 @@ pub(super) fn send(at: &At, to: &Envelope, body: &[u8], out: &mut Out)
     split_into(&message, &mut out.frames.list);
 }
 
-/// Puts the start of a reply in place of what is there: all that stands before its data.
+/// Replaces the bytes by the start of a reply: all that stands before its data.
 fn begin(header: &Header, code: u8, reply: &mut Reply)
     ensures started { reply.new ≡ 1 ∷ reply_start header.now code }
     ensures header { IsHeader header.now }
@@ -81,7 +81,7 @@ fn refuse(at: &At, request: &Request<'_>, out: &mut Out)
     send(at, &request.envelope, reply.as_slice(), out);
 }
 
-/// Answers a request that isn't new: by the reply that is kept for it, or that the port is busy. Says whether it did.
+/// Answers a request that isn't new: by the reply that is kept for it, or that the port is busy. Returns whether it did.
 pub(super) fn settle(windows: &Kept, at: &At, request: &Request<'_>, out: &mut Out) -> bool
     ensures { (log : List Entry) → AreOf windows.now log
         → IsSettled (outcome (is_above 32) (asking request.now) log) (said Smbus (asking request.now) None) (parts_from at.now.wire at.now.eid request.now.envelope) out.old out.new result }

@@ -1,4 +1,4 @@
-//! A manager whose requests go over SMBus. No kind of record is there yet, so it goes on from a list of such requests.
+//! A manager whose requests go over SMBus. It goes on from a list of such requests.
 use super::{digits, hear_on, names};
 use cfg_records::Asked;
 use plans::{NextNumbers, Requests, UndoList};

@@ -1,5 +1,9 @@
+use Rattle.std.proofs.Common.{refl}
 use Rattle.packet_model.proofs.Cutting.{packets-agree}
 use Rattle.packet_model.proofs.cuts_agree.Goals as goal
 
-pub returns : goal.returns
-returns c = packets-agree
+pub returns-clause-unit : goal.returns-clause-unit
+returns-clause-unit c = refl
+
+pub returns-clause-cut : goal.returns-clause-cut
+returns-clause-cut c = packets-agree
