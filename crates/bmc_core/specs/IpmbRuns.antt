@@ -4,6 +4,7 @@ use Rattle.ipmb_frame.specs.declared.message.Request.{Request}
 use Rattle.cfg_records.specs.declared.message.Answered.{Answered}
 use Rattle.cfg_records.specs.declared.board_file.BoardFile.{BoardFile}
 use Rattle.bus_model.specs.Request.{Entry, Idled}
+use Rattle.bus_model.specs.Circle.{sequence_numbers}
 use Rattle.bus_model.specs.Numbering.{is_above}
 use Rattle.bus_model.specs.Carried.{Outcome, Repeats, IsBusy, IsNew, Heard as Brought, HeardRequest, HeardIdle, outcome, log_with, reply_after, outcomes}
 use Rattle.bmc_board.specs.State.{State}
@@ -80,10 +81,10 @@ settled_then r IsNew rest = rest
 -- the replies to a list, by the rule
 abbrev pub replied : List Entry → List Coming → List Replied
 replied log [] = []
-replied log (Comes (Ok r) ∷ cs) = settled_then r (outcome (is_above 64) (heard_in r) log) (replied log cs)
+replied log (Comes (Ok r) ∷ cs) = settled_then r (outcome (is_above sequence_numbers) (heard_in r) log) (replied log cs)
 replied log (Comes (Err why) ∷ cs) = replied log cs
 replied log (IsTold r a ∷ cs) =
-    record { request = r; reply = reply_after (outcome (is_above 64) (heard_in r) log) (kept_of r a) } ∷ replied (log_with (is_above 64) (HeardRequest (kept_of r a)) log) cs
+    record { request = r; reply = reply_after (outcome (is_above sequence_numbers) (heard_in r) log) (kept_of r a) } ∷ replied (log_with (is_above sequence_numbers) (HeardRequest (kept_of r a)) log) cs
 replied log (IsIdle requester ∷ cs) = replied (Idled requester ∷ log) cs
 
 -- the frames that a port sends when a request is heard with which this is done
@@ -107,8 +108,8 @@ all_sent p (c ∷ cs) = sent_at p c ++ all_sent (port_after p c) cs
 -- The requests that are carried out, and kept, are the rule's: of what is told, whatever frames are heard between, and whatever is dropped.
 -- What is sent is, frame for frame, the responses with the rule's replies.
 pub record KeepsTheRule (p : PortState) (cs : List Coming) : Type 0 where
-  pub log : (ports_after p cs).log ≡ logs_with (is_above 64) (brought cs) p.log
-  pub done : done_with_told p cs ≡ outcomes (is_above 64) p.log (brought cs)
+  pub log : (ports_after p cs).log ≡ logs_with (is_above sequence_numbers) (brought cs) p.log
+  pub done : done_with_told p cs ≡ outcomes (is_above sequence_numbers) p.log (brought cs)
   pub sent : all_sent p cs ≡ map response_of (replied p.log cs)
 
 -- ---- lists at a board
@@ -180,6 +181,6 @@ sent_in_all setup x (e ∷ es) = sent_when setup x e ++ sent_in_all setup (ends_
 -- The requests that are carried out are the rule's, of all that are heard, whatever others do to the board between. What is sent is, frame
 -- for frame, the responses to them with the rule's replies.
 pub record CarriesTheRule (setup : BoardFile) (x : Ends) (es : List Happening) : Type 0 where
-  pub log : (all_after setup x es).port.log ≡ logs_with (is_above 64) (heard_in_all setup x es) x.port.log
-  pub done : done_in_all setup x es ≡ outcomes (is_above 64) x.port.log (heard_in_all setup x es)
-  pub sent : sent_in_all setup x es ≡ responses (requests_in es) (replies (is_above 64) x.port.log (heard_in_all setup x es))
+  pub log : (all_after setup x es).port.log ≡ logs_with (is_above sequence_numbers) (heard_in_all setup x es) x.port.log
+  pub done : done_in_all setup x es ≡ outcomes (is_above sequence_numbers) x.port.log (heard_in_all setup x es)
+  pub sent : sent_in_all setup x es ≡ responses (requests_in es) (replies (is_above sequence_numbers) x.port.log (heard_in_all setup x es))

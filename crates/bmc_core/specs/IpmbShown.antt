@@ -7,6 +7,7 @@ use Rattle.ipmb_frame.specs.Grammar.{IsResponse}
 use Rattle.cfg_records.specs.declared.message.Answered.{Answered}
 use Rattle.cfg_records.specs.declared.board_file.BoardFile.{BoardFile}
 use Rattle.bus_model.specs.Request.{Kept, Entry, Carried, Idled}
+use Rattle.bus_model.specs.Circle.{sequence_numbers}
 use Rattle.bus_model.specs.Numbering.{is_above}
 use Rattle.bus_model.specs.Carried.{Outcome, Repeats, IsBusy, IsNew, outcome, log_after, reply_after}
 use Rattle.two_wire.specs.declared.Bus.TheVariants.{Ipmb}
@@ -57,13 +58,13 @@ AllAnswered (Idled requester ∷ log) = AllAnswered log
 -- the windows keep frames, each for the request that it answers
 pub record KeepsFrames (windows : Held) : Type 0 where
   pub log : List Entry
-  pub keeps : Keeps 64 whole windows log
+  pub keeps : Keeps sequence_numbers whole windows log
   pub answered : AllAnswered log
 
 -- the port has the lab's address, and keeps what the lab's log leaves
 pub record Shows (port : IpmbPort) (p : PortState) : Type 0 where
   pub wire : port.wire ≡ p.wire
-  pub keeps : Keeps 64 reading port.windows p.log
+  pub keeps : Keeps sequence_numbers reading port.windows p.log
   pub frames : KeepsFrames port.windows
 
 -- ---- responses
@@ -88,7 +89,7 @@ deed_of setup p before (Err why) = stays p before
 
 -- what the rule does with a request at the lab's port
 abbrev pub outcome_at : PortState → Request → Outcome
-outcome_at p r = outcome (is_above 64) (heard_in r) p.log
+outcome_at p r = outcome (is_above sequence_numbers) (heard_in r) p.log
 
 -- what was done
 abbrev pub done_of : PortState → Result Request Reason → Done
@@ -114,8 +115,8 @@ IsSent v what out = (out ≡ sends (written v ∷ []) what) × AreRead Ipmb (v �
 -- ---- before the board is asked
 
 -- a request is new by the frames that the port keeps
-abbrev pub IsFresh : IpmbPort → Heard 64 → Type 0
-IsFresh port heard = (log : List Entry) → Keeps 64 whole port.windows log → outcome (is_above 64) (request_of whole heard) log ≡ IsNew
+abbrev pub IsFresh : IpmbPort → Heard sequence_numbers → Type 0
+IsFresh port heard = (log : List Entry) → Keeps sequence_numbers whole port.windows log → outcome (is_above sequence_numbers) (request_of whole heard) log ≡ IsNew
 
 -- a request is new, or else its response is sent, which is read as itself
 abbrev pub Settles : Request → Outcome → Bool → Out → Type 0

@@ -12,6 +12,7 @@ use Rattle.pldm_base.specs.declared.message.PldmRequest.{PldmRequest}
 use Rattle.pldm_base.specs.Message.{request_in as pldm_request_in, has_fault as has_pldm_fault, faults as pldm_faults}
 use Rattle.cfg_records.specs.declared.message.Asked.{Asked}
 use Rattle.cfg_records.specs.declared.message.Answered.{Answered}
+use Rattle.bus_model.specs.Circle.{instances}
 use Rattle.bus_model.specs.Request.{Request as Asking, Kept}
 use Rattle.bus_model.specs.Numbering.{is_above}
 use Rattle.bus_model.specs.Carried.{Outcome, Repeats, IsBusy, IsNew, outcome, log_after, reply_after}
@@ -90,7 +91,7 @@ asked_of m = pldm_asked m.envelope.source_eid m.request
 
 -- what the port does with it: a repeat is looked for first
 abbrev pub found : PortState → InMessage → Outcome
-found port m = outcome (is_above 32) (asking m) port.log
+found port m = outcome (is_above instances) (asking m) port.log
 
 abbrev pub asks_of : InMessage → Outcome → Option InMessage
 asks_of m IsNew = Some m

@@ -7,6 +7,7 @@ use Rattle.mctp_net.specs.Control.{reply_to as control_reply_to, eid_after}
 use Rattle.mctp_net.specs.declared.packet.Packet.{Packet}
 use Rattle.cfg_records.specs.declared.message.Answered.{Answered}
 use Rattle.cfg_records.specs.declared.board_file.BoardFile.{BoardFile}
+use Rattle.bus_model.specs.Circle.{instances}
 use Rattle.bus_model.specs.Numbering.{is_above}
 use Rattle.bus_model.specs.Carried.{Outcome, Repeats, IsBusy, IsNew, Heard as Brought, HeardRequest, HeardIdle, reply_after, outcomes}
 use Rattle.bmc_board.specs.State.{State}
@@ -121,8 +122,8 @@ all_sent port (c ∷ cs) = sent_at port c ++ all_sent (port_after port c) cs
 -- The requests that are carried out, and kept, are the rule's: of what is told, whatever packets are heard between, and whatever is dropped.
 -- What is sent is, frame for frame, the replies by the rule, and the endpoint's to control messages.
 pub record KeepsTheRule (port : PortState) (cs : List Coming) : Type 0 where
-  pub log : (ports_after port cs).log ≡ logs_with (is_above 32) (brought cs) port.log
-  pub done : done_with_told port cs ≡ outcomes (is_above 32) port.log (brought cs)
+  pub log : (ports_after port cs).log ≡ logs_with (is_above instances) (brought cs) port.log
+  pub done : done_with_told port cs ≡ outcomes (is_above instances) port.log (brought cs)
   pub sent : all_sent port cs ≡ all_frames (replied port cs)
 
 -- ---- lists at a board
@@ -205,6 +206,6 @@ sent_in_all setup x (e ∷ es) = sent_when setup x e ++ sent_in_all setup (ends_
 -- The requests that are carried out are the rule's, of all that are heard, whatever others do to the board between. What is sent is, frame
 -- for frame, the replies by the rule, and the endpoint's to control messages.
 pub record CarriesTheRule (setup : BoardFile) (x : Ends) (es : List Happening) : Type 0 where
-  pub log : (all_after setup x es).port.log ≡ logs_with (is_above 32) (heard_in_all setup x es) x.port.log
-  pub done : done_in_all setup x es ≡ outcomes (is_above 32) x.port.log (heard_in_all setup x es)
+  pub log : (all_after setup x es).port.log ≡ logs_with (is_above instances) (heard_in_all setup x es) x.port.log
+  pub done : done_in_all setup x es ≡ outcomes (is_above instances) x.port.log (heard_in_all setup x es)
   pub sent : sent_in_all setup x es ≡ all_frames (answered_in_all setup x es)

@@ -9,6 +9,7 @@ use Rattle.mctp_net.specs.Grammar.{IsPacket, has_fault, faults}
 use Rattle.mctp_net.specs.Places.{seen}
 use Rattle.cfg_records.specs.declared.message.Answered.{Answered}
 use Rattle.cfg_records.specs.declared.board_file.BoardFile.{BoardFile}
+use Rattle.bus_model.specs.Circle.{instances}
 use Rattle.bus_model.specs.Request.{Entry, Carried, Idled}
 use Rattle.bus_model.specs.Carried.{Outcome, Repeats, IsBusy, IsNew}
 use Rattle.windows.specs.Keeps.{Reading, Held, Keeps}
@@ -41,7 +42,7 @@ AreReplies (Idled requester ∷ log) = AreReplies log
 
 -- the windows keep what this log leaves
 pub record AreOf (windows : Held) (log : List Entry) : Type 0 where
-  pub kept : Keeps 32 pldm_reading windows log
+  pub kept : Keeps instances pldm_reading windows log
   pub replies : AreReplies log
 
 -- the port shows this one of the lab

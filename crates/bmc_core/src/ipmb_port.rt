@@ -5,6 +5,7 @@ ghost use Rattle.ipmb_frame.specs.declared.message.Request.{Request as AnyReques
 ghost use Rattle.ipmb_frame.specs.Grammar.{request_bytes, IsRequest, IsResponse};
 ghost use Rattle.two_wire.specs.declared.Bus.TheVariants.{Ipmb};
 ghost use Rattle.bus_model.specs.Request.{Entry, Carried};
+ghost use Rattle.bus_model.specs.Circle.{sequence_numbers};
 ghost use Rattle.bus_model.specs.Numbering.{is_above};
 ghost use Rattle.bus_model.specs.Carried.{IsBusy, IsNew, outcome, requesters};
 ghost use Rattle.bmc_board.specs.Request.{asked_by, asked_of};
@@ -34,12 +35,15 @@ use std::marker::Model;
 use two_wire::{Address, Bytes, Code, Frame, code};
 use windows::{Found, Request as Heard, Windows};
 
+/// How many sequence numbers IPMB has.
+const SEQUENCE_NUMBERS: u8 = 64;
+
 /// A port on IPMB, at one address. It keeps the requests that it carried out, with their replies.
 #[derive(Drop)]
 pub struct IpmbPort {
     wire: Address,
     /// A response has at most 32 bytes, and a request at most 27 behind the first that is kept.
-    windows: Windows<64, 32>,
+    windows: Windows<{ SEQUENCE_NUMBERS }, 32>,
 }
 
 /// A request that is to be carried out, and isn't kept yet. Contracts see it as that request.
@@ -88,7 +92,7 @@ impl IpmbPending {
     }
 
     /// The request as windows compare it.
-    fn compared<'a>(&self, rest: &'a Bytes<27>) -> Heard<'a, 64>
+    fn compared<'a>(&self, rest: &'a Bytes<27>) -> Heard<'a, { SEQUENCE_NUMBERS }>
         requires { rest.now ≡ drop 1 (request_bytes self.now) }
         ensures heard { request_of reading result ≡ heard_in self.now }
         ensures fits { length result.rest.now ≤ 27 }
@@ -134,7 +138,7 @@ fn read(wire: Address, bytes: &[u8]) -> Result<Request<'_>, Reason>
 }
 
 /// The request as windows compare it, where it lies in its frame.
-fn in_frame<'a>(request: &Request<'_>, bytes: &'a [u8]) -> Heard<'a, 64>
+fn in_frame<'a>(request: &Request<'_>, bytes: &'a [u8]) -> Heard<'a, { SEQUENCE_NUMBERS }>
     requires { IsRequest request.now bytes.now }
     ensures heard { request_of reading result ≡ heard_in request.now }
     ensures fits { length result.rest.now ≤ 27 }
@@ -236,7 +240,12 @@ impl IpmbPort {
     }
 
     /// Answers a request that is kept, or for which no window is free. Returns whether it is neither, and so is to be carried out.
-    fn is_new(&self, header: &Header, heard: &Heard<'_, 64>, out: &mut Out) -> bool
+    fn is_new(
+        &self,
+        header: &Header,
+        heard: &Heard<'_, { SEQUENCE_NUMBERS }>,
+        out: &mut Out,
+    ) -> bool
         requires { HasUnits header.now }
         ensures fresh { result ≡ true → IsFresh self.now heard.now }
         ensures settles { (p : PortState) (r : AnyRequest) → Shows self.now p → r.header ≡ header.now → request_of reading heard.now ≡ heard_in r
@@ -258,15 +267,15 @@ impl IpmbPort {
     }
 
     /// Keeps a request that was carried out, with its response's frame.
-    fn keep(&mut self, heard: &Heard<'_, 64>, frame: &[u8])
+    fn keep(&mut self, heard: &Heard<'_, { SEQUENCE_NUMBERS }>, frame: &[u8])
         requires heard { length heard.now.rest.now ≤ 27 }
         requires fits { length frame.now ≤ 32 }
         ensures wire { self.new.wire ≡ self.old.wire }
-        ensures carried { (reading : Reading) (log : List Entry) → Keeps 64 reading self.old.windows log
-            → outcome (is_above 64) (request_of reading heard.now) log ≡ IsNew
-            → Keeps 64 reading self.new.windows (Carried (kept_as reading heard.now frame.now) ∷ log) }
-        ensures busy { (reading : Reading) (log : List Entry) → Keeps 64 reading self.old.windows log
-            → outcome (is_above 64) (request_of reading heard.now) log ≡ IsBusy → self.new ≡ self.old }
+        ensures carried { (reading : Reading) (log : List Entry) → Keeps sequence_numbers reading self.old.windows log
+            → outcome (is_above sequence_numbers) (request_of reading heard.now) log ≡ IsNew
+            → Keeps sequence_numbers reading self.new.windows (Carried (kept_as reading heard.now frame.now) ∷ log) }
+        ensures busy { (reading : Reading) (log : List Entry) → Keeps sequence_numbers reading self.old.windows log
+            → outcome (is_above sequence_numbers) (request_of reading heard.now) log ≡ IsBusy → self.new ≡ self.old }
     {
         self.windows.keep(heard, frame);
     }
@@ -276,7 +285,7 @@ impl IpmbPort {
         &mut self,
         board: &mut Board<S>,
         request: &Request<'_>,
-        heard: &Heard<'_, 64>,
+        heard: &Heard<'_, { SEQUENCE_NUMBERS }>,
         out: &mut Out,
     )
         requires heard { request_of reading heard.now ≡ heard_in request.now }

@@ -4,7 +4,7 @@ use Rattle.std.specs.Prelude.{◌==◌, nat_le}
 use Rattle.std.specs.List.{list_any, list_all}
 use Rattle.std.proofs.lemmas.Bool.{and_left, and_right, eq-eqb, cond-true, cond-false, cases_eq, cases_Bool}
 use Rattle.std.proofs.lemmas.List.Folds.{list_any_at}
-use Rattle.bus_model.specs.Request.{Request, Kept, Entry, Carried, is_same, carried_since}
+use Rattle.bus_model.specs.Request.{Request as Heard, Kept, Entry, Carried, is_same, carried_since}
 use Rattle.bus_model.specs.Carried.{IsNew, kept_for, requesters, is_busy, outcome, outcome_of}
 use Rattle.bus_model.specs.Numbering.{Bus as Rules}
 use Rattle.bus_model.specs.BusState.{request_of}
@@ -21,8 +21,8 @@ module _ (b : Rules) (numbers : IsNumbering b) where
       → kept_for b.is_above (request_of b top bytes) newer (carried_since b.manager log) ≡ None
   not_kept zero log newer top bytes is below all = ap (λ (l : List Entry). kept_for b.is_above (request_of b top bytes) newer (carried_since b.manager l)) is
   not_kept (suc n) log newer top bytes (k, rest, e, r, is) below all =
-      let at_n : k.request.number ≡ b.number_of n = ap (λ (q : Request). q.number) r in
-      let mine : (k.request.requester == b.manager) ≡ true = eq-eqb _ _ (ap (λ (q : Request). q.requester) r) in
+      let at_n : k.request.number ≡ b.number_of n = ap (λ (q : Heard). q.number) r in
+      let mine : (k.request.requester == b.manager) ≡ true = eq-eqb _ _ (ap (λ (q : Heard). q.requester) r) in
       let all' : (d : ℕ) → n ≤ d → d < top → Has (k.request.number ∷ newer) (b.number_of d) =
       (λ d from to. elim (cases_eq n d) [ inl same ↦ inl (at_n ∙ ap b.number_of same) | inr other ↦ inr (all d (omega arith) to) ]) in
       let next = not_kept n rest (k.request.number ∷ newer) top bytes is (omega arith) all' in
@@ -41,7 +41,7 @@ module _ (b : Rules) (numbers : IsNumbering b) where
   alone : (n : ℕ) (log : List Entry) → IsLogOf b n log → (requesters log ≡ []) ⊎ (requesters log ≡ b.manager ∷ [])
   alone zero log is = inl (ap requesters is)
   alone (suc n) log (k, rest, e, r, is) =
-      let mine : k.request.requester ≡ b.manager = ap (λ (q : Request). q.requester) r in
+      let mine : k.request.requester ≡ b.manager = ap (λ (q : Heard). q.requester) r in
       elim (alone n rest is) [
         | inl none ↦ inr (
             ap requesters e

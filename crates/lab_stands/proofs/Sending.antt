@@ -19,7 +19,7 @@ use Rattle.cfg_records.specs.declared.message.Asked.TheVariants.{Ipmi, Pldm}
 use Rattle.cfg_records.specs.declared.board_file.BoardFile.{BoardFile}
 use Rattle.record_kinds.specs.Limits.{get_asked, set_asked}
 use Rattle.bmc_board.specs.Table.{is_pldm_type, pldm_line_of}
-use Rattle.bmc_board.specs.Request.{Request, asked_by, asked_at, pldm_refusals}
+use Rattle.bmc_board.specs.Request.{Request as BoardRequest, asked_by, asked_at, pldm_refusals}
 use Rattle.bmc_board.proofs.Decoded.{gets_are_read, sets_are_read}
 use Rattle.bus_model.specs.Repeat.{In}
 use Rattle.bus_model.specs.Packet.{Packet as ModelPacket, packets_of, packets_from}
@@ -63,7 +63,7 @@ abbrev HasType : Asked → Type 0
 HasType (Ipmi from net_fn lun command body) = Unit {0}
 HasType (Pldm from kind command body) = kind < 64
 
-read_type : (asked : Asked) (r : Request) → asked_by asked ≡ Ok r → HasType asked
+read_type : (asked : Asked) (r : BoardRequest) → asked_by asked ≡ Ok r → HasType asked
 read_type (Ipmi from net_fn lun command body) r e = tt
 read_type (Pldm from kind command body) r e = by (is_pldm_type kind) refl e
   where

@@ -13,9 +13,7 @@ use mctp_net::Assembler;
 use plans::{Names, NextNumbers, Plan, Requests, Retries, Steps, UndoList};
 use std::alloc::Global;
 use two_wire::Below;
-
-/// The most times that the frames of a request may be sent again.
-const MOST_RETRIES: u8 = 15;
+use undo_model::manager::MOST_RETRIES;
 
 impl Manager {
     /// A manager of a plan, which it hasn't begun.

@@ -7,7 +7,7 @@ ghost use Rattle.lab_model.specs.PortSteps.{PortState};
 ghost use Rattle.bmc_core.specs.SmbusShown.{HasTaken, HasHeard};
 ghost use Rattle.bmc_core.specs.SmbusHeard.{message_heard, control_heard, pldm_heard};
 
-use super::pending::Request;
+use super::pending::RequestInMessage;
 use super::replying::send;
 use crate::out::{Done, Out, Reason};
 use crate::port::At;
@@ -57,7 +57,7 @@ pub(super) fn hear<'a>(
     envelope: Envelope,
     body: &'a [u8],
     out: &mut Out,
-) -> Option<Request<'a>>
+) -> Option<RequestInMessage<'a>>
     requires { length body.now ≤ 256 }
     ensures { HasHeard wire endpoint.old (message_heard (record { envelope = envelope; body = body.now })) endpoint.new out.new result }
 {
@@ -96,12 +96,12 @@ fn control(wire: Address, endpoint: &mut Endpoint, envelope: Envelope, body: &[u
 }
 
 /// Reads a request in the bytes of a PLDM message, if they are one.
-fn pldm<'a>(envelope: Envelope, bytes: &'a [u8], out: &mut Out) -> Option<Request<'a>>
+fn pldm<'a>(envelope: Envelope, bytes: &'a [u8], out: &mut Out) -> Option<RequestInMessage<'a>>
     requires { length bytes.now ≤ 255 }
     ensures { (wire eid : ℕ) → HasHeard wire eid (pldm_heard envelope (pldm_request_in bytes.now) (find (has_fault bytes.now) faults)) eid out.new result }
 {
     match read_pldm(&PldmBytes::new(bytes)) {
-        Ok(request) => Some(Request::new(envelope, request, &bytes[1..])),
+        Ok(request) => Some(RequestInMessage::new(envelope, request, &bytes[1..])),
         Err(fault) => {
             out.ignore(Reason::Pldm(fault));
             None

@@ -20,7 +20,7 @@ const REQUEST: u8 = 0x80;
 
 /// A request of PLDM, where it lies in its message.
 #[derive(Debug, Drop)]
-pub(super) struct Request<'a> {
+pub(super) struct RequestInMessage<'a> {
     /// The envelope of its message.
     pub envelope: Envelope,
     pub request: PldmRequest<'a>,
@@ -28,7 +28,7 @@ pub(super) struct Request<'a> {
     rest: &'a [u8],
 }
 
-impl<'a> Model for Request<'a> {
+impl<'a> Model for RequestInMessage<'a> {
     ghost use Rattle.std.specs.Prelude.{◌≡◌, ◌∷◌};
     ghost use Rattle.bmc_core.specs.SmbusHeard.{InMessage};
 
@@ -39,7 +39,7 @@ impl<'a> Model for Request<'a> {
     ghost invariant = { λ r. r.rest.now ≡ r.request.header.pldm_type ∷ r.request.header.command ∷ r.request.body };
 }
 
-impl<'a> Request<'a> {
+impl<'a> RequestInMessage<'a> {
     ghost use Rattle.std.specs.Prelude.{◌∷◌};
 
     /// The request, with its bytes behind the first.
@@ -47,7 +47,7 @@ impl<'a> Request<'a> {
         requires { rest.now ≡ request.header.pldm_type ∷ request.header.command ∷ request.body }
         ensures { result ≡ record { envelope = envelope; request = request.entry } }
     {
-        Request {
+        RequestInMessage {
             envelope,
             request,
             rest,
@@ -123,10 +123,10 @@ impl SmbusPending {
     }
 
     /// The request, where these are its bytes.
-    pub(super) fn request<'a>(&'a self, bytes: &'a Bytes<255>) -> Request<'a>
+    pub(super) fn request<'a>(&'a self, bytes: &'a Bytes<255>) -> RequestInMessage<'a>
         requires { bytes.now ≡ request_bytes (record { header = self.now.header; body = self.now.body }) }
         ensures { result ≡ record { envelope = self.now.envelope; request = record { header = self.now.header; body = self.now.body } } }
     {
-        Request::new(self.envelope, self.as_request(), &bytes.as_slice()[1..])
+        RequestInMessage::new(self.envelope, self.as_request(), &bytes.as_slice()[1..])
     }
 }

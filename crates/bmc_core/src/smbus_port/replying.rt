@@ -2,6 +2,7 @@
 ghost use Rattle.std.specs.Prelude.{◌≡◌, ◌<◌, ◌≤◌, ◌∷◌, length, List, None};
 ghost use Rattle.two_wire.specs.declared.Bus.TheVariants.{Smbus};
 ghost use Rattle.pldm_base.specs.Message.{IsHeader, reply_start};
+ghost use Rattle.bus_model.specs.Circle.{instances};
 ghost use Rattle.bus_model.specs.Request.{Entry, Carried};
 ghost use Rattle.bus_model.specs.Numbering.{is_above};
 ghost use Rattle.bus_model.specs.Carried.{outcome, IsNew};
@@ -14,7 +15,7 @@ ghost use Rattle.bmc_core.specs.SmbusHeard.{asking, asked_of, kept_with};
 ghost use Rattle.bmc_core.specs.SmbusShown.{AreOf, parts_from, frames_from, IsSettled};
 
 use super::hearing::PLDM;
-use super::pending::{INSTANCES, Request};
+use super::pending::{INSTANCES, RequestInMessage};
 use crate::out::{Done, Out};
 use crate::port::At;
 use bmc_board::Board;
@@ -67,7 +68,7 @@ fn begin(header: &Header, code: u8, reply: &mut Reply)
 }
 
 /// Answers that the port is busy.
-fn refuse(at: &At, request: &Request<'_>, out: &mut Out)
+fn refuse(at: &At, request: &RequestInMessage<'_>, out: &mut Out)
     ensures sent { out.new ≡ sends (frames_from at.now.wire at.now.eid request.now.envelope (said Smbus (asking request.now) None)) done_as.Busy }
     ensures read { AreRead Smbus (parts_from at.now.wire at.now.eid request.now.envelope (said Smbus (asking request.now) None)) }
 {
@@ -82,9 +83,9 @@ fn refuse(at: &At, request: &Request<'_>, out: &mut Out)
 }
 
 /// Answers a request that isn't new: by the reply that is kept for it, or that the port is busy. Returns whether it did.
-pub(super) fn settle(windows: &Kept, at: &At, request: &Request<'_>, out: &mut Out) -> bool
+pub(super) fn settle(windows: &Kept, at: &At, request: &RequestInMessage<'_>, out: &mut Out) -> bool
     ensures { (log : List Entry) → AreOf windows.now log
-        → IsSettled (outcome (is_above 32) (asking request.now) log) (said Smbus (asking request.now) None) (parts_from at.now.wire at.now.eid request.now.envelope) out.old out.new result }
+        → IsSettled (outcome (is_above instances) (asking request.now) log) (said Smbus (asking request.now) None) (parts_from at.now.wire at.now.eid request.now.envelope) out.old out.new result }
 {
     match windows.find(&request.kept()) {
         Found::Repeats(reply) => {
@@ -101,10 +102,10 @@ pub(super) fn settle(windows: &Kept, at: &At, request: &Request<'_>, out: &mut O
 }
 
 /// Keeps a new request with its reply, and sends that.
-fn keep(windows: &mut Kept, at: &At, request: &Request<'_>, reply: &[u8], out: &mut Out)
+fn keep(windows: &mut Kept, at: &At, request: &RequestInMessage<'_>, reply: &[u8], out: &mut Out)
     requires some { 0 < length reply.now }
     requires fits { length reply.now ≤ MESSAGE }
-    ensures kept { (log : List Entry) → AreOf windows.old log → outcome (is_above 32) (asking request.now) log ≡ IsNew
+    ensures kept { (log : List Entry) → AreOf windows.old log → outcome (is_above instances) (asking request.now) log ≡ IsNew
         → AreOf windows.new (Carried (record { request = asking request.now; reply = reply.now }) ∷ log) }
     ensures sent { out.new ≡ sends (frames_from at.now.wire at.now.eid request.now.envelope reply.now) done_as.Answered }
     ensures read { AreRead Smbus (parts_from at.now.wire at.now.eid request.now.envelope reply.now) }
@@ -119,11 +120,11 @@ pub(super) fn keep_answer(
     windows: &mut Kept,
     made: &mut Reply,
     at: &At,
-    request: &Request<'_>,
+    request: &RequestInMessage<'_>,
     answered: &Answered,
     out: &mut Out,
 )
-    ensures kept { (log : List Entry) → AreOf windows.old log → outcome (is_above 32) (asking request.now) log ≡ IsNew
+    ensures kept { (log : List Entry) → AreOf windows.old log → outcome (is_above instances) (asking request.now) log ≡ IsNew
         → AreOf windows.new (Carried (kept_with request.now answered.now) ∷ log) }
     ensures sent { out.new ≡ sends (frames_from at.now.wire at.now.eid request.now.envelope (kept_with request.now answered.now).reply) done_as.Answered }
     ensures read { AreRead Smbus (parts_from at.now.wire at.now.eid request.now.envelope (kept_with request.now answered.now).reply) }
@@ -139,10 +140,10 @@ pub(super) fn carry_out<S: Store>(
     made: &mut Reply,
     board: &mut Board<S>,
     at: &At,
-    request: &Request<'_>,
+    request: &RequestInMessage<'_>,
     out: &mut Out,
 )
-    ensures kept { (log : List Entry) → AreOf windows.old log → outcome (is_above 32) (asking request.now) log ≡ IsNew
+    ensures kept { (log : List Entry) → AreOf windows.old log → outcome (is_above instances) (asking request.now) log ≡ IsNew
         → AreOf windows.new (Carried (kept_with request.now (answer_of board.old.setup (state_of S.records board.old) (asked_of request.now)).0) ∷ log) }
     ensures sent { out.new ≡ sends (frames_from at.now.wire at.now.eid request.now.envelope (kept_with request.now (answer_of board.old.setup (state_of S.records board.old) (asked_of request.now)).0).reply) done_as.Answered }
     ensures read { AreRead Smbus (parts_from at.now.wire at.now.eid request.now.envelope (kept_with request.now (answer_of board.old.setup (state_of S.records board.old) (asked_of request.now)).0).reply) }
@@ -154,7 +155,7 @@ pub(super) fn carry_out<S: Store>(
 }
 
 /// Has a request carried out, and makes its reply.
-fn respond<S: Store>(board: &mut Board<S>, request: &Request<'_>, reply: &mut Reply)
+fn respond<S: Store>(board: &mut Board<S>, request: &RequestInMessage<'_>, reply: &mut Reply)
     ensures reply { reply.new ≡ (kept_with request.now (answer_of board.old.setup (state_of S.records board.old) (asked_of request.now)).0).reply }
     ensures left { state_of S.records board.new ≡ (answer_of board.old.setup (state_of S.records board.old) (asked_of request.now)).1 }
     ensures setup { board.new.setup ≡ board.old.setup }

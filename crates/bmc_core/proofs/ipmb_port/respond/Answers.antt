@@ -4,7 +4,7 @@ use Rattle.std.proofs.lemmas.List.{append-nil, length-append}
 use Rattle.ipmb_frame.specs.declared.message.Header.{Header}
 use Rattle.ipmb_frame.specs.Grammar.{response_start}
 use Rattle.cfg_records.specs.declared.message.Answered.{Answered as Reply}
-use Rattle.bmc_board.specs.Request.{Request, asked_of, asked_by}
+use Rattle.bmc_board.specs.Request.{Request as BoardRequest, asked_of, asked_by}
 use Rattle.bmc_board.specs.Room.{longest_reply}
 use Rattle.bmc_board.specs.Table.{is_changing}
 use Rattle.bmc_board.specs.State.{State, state_of}
@@ -35,11 +35,11 @@ returns-clause-answer g c =
     let setup = c.args.board.now.setup in
     let before : State = state_of g.S.Store.records c.args.board.now in
     let request = c.args.request.now in
-    let given : Result Request ℕ → Given = λ r. reply setup before r in
+    let given : Result BoardRequest ℕ → Given = λ r. reply setup before r in
     let read : asked_of c.command_in.result c.as_slice.result.now ≡ asked_by (asked_in request) = ap (asked_of c.command_in.result) c.as_slice.ensures.value ∙ c.command_in.ensures in
     let answer : Reply = (answer_of setup before (asked_in request)).0 in
     let gives : Gives c.reply.result c.begin_response.new.frame c.reply.new.to answer =
-    subst (λ (r : Result Request ℕ). Gives c.reply.result c.begin_response.new.frame c.reply.new.to (given r).0) read c.reply.ensures.answer in
+    subst (λ (r : Result BoardRequest ℕ). Gives c.reply.result c.begin_response.new.frame c.reply.new.to (given r).0) read c.reply.ensures.answer in
     let started : c.match-reply.frame ≡ response_start request.header answer.code ++ answer.body =
     elim c.match-reply.branch [
       | in-Ok w ↦ w.frame-is ∙ done_frame _ c.reply.result request.header c.begin_response.new.frame c.reply.new.to answer w.in-Ok.is c.begin_response.ensures.started gives
@@ -52,7 +52,7 @@ returns-clause-left g c =
     let setup = c.args.board.now.setup in
     let before : State = state_of g.S.Store.records c.args.board.now in
     let read : asked_of c.command_in.result c.as_slice.result.now ≡ asked_by (asked_in c.args.request.now) = ap (asked_of c.command_in.result) c.as_slice.ensures.value ∙ c.command_in.ensures in
-    c.reply.ensures.left ∙ ap (λ (r : Result Request ℕ). (reply setup before r).1) read
+    c.reply.ensures.left ∙ ap (λ (r : Result BoardRequest ℕ). (reply setup before r).1) read
 
 -- the frame of a response with so few bytes of data has room for its check byte
 has_room : (h : Header) (code : ℕ) (body frame : List ℕ) → length body ≤ 24 → frame ≡ response_start h code ++ body → length frame < 80
@@ -62,7 +62,7 @@ has_room h code body frame few is =
     omega (arith, start, whole, few)
 
 -- behind the start of a response there is room for the reply to what is asked for
-reply_fits : (r : Result Request ℕ) (changing : Bool) (h : Header) (frame : List ℕ) → IsRight 24 changing r → frame ≡ response_start h 0 → IfOk r (λ q. length frame + longest_reply q ≤ 80)
+reply_fits : (r : Result BoardRequest ℕ) (changing : Bool) (h : Header) (frame : List ℕ) → IsRight 24 changing r → frame ≡ response_start h 0 → IfOk r (λ q. length frame + longest_reply q ≤ 80)
 reply_fits (Ok q) changing h frame right is =
     let few : longest_reply q ≤ 24 = right.0 in
     let start : length (response_start h 0) ≤ 8 = lit≤ tt in
@@ -75,18 +75,18 @@ reply-requires g c =
     let asked = asked_in c.args.request.now in
     let frame : List ℕ = c.begin_response.new.frame in
     let read : asked_of c.command_in.result c.as_slice.result.now ≡ asked_by asked = ap (asked_of c.command_in.result) c.as_slice.ensures.value ∙ c.command_in.ensures in
-    record { room = subst (λ (r : Result Request ℕ). IfOk r (λ q. length frame + longest_reply q ≤ 80)) (sym read) (reply_fits (asked_by asked) (is_changing asked) c.args.request.now.header frame (asked_right asked) c.begin_response.ensures.started) }
+    record { room = subst (λ (r : Result BoardRequest ℕ). IfOk r (λ q. length frame + longest_reply q ≤ 80)) (sym read) (reply_fits (asked_by asked) (is_changing asked) c.args.request.now.header frame (asked_right asked) c.begin_response.ensures.started) }
 
 pub end_response-requires-clause-room : goal.end_response-requires-clause-room
 end_response-requires-clause-room g c =
     let setup = c.args.board.now.setup in
     let before : State = state_of g.S.Store.records c.args.board.now in
     let request = c.args.request.now in
-    let given : Result Request ℕ → Given = λ r. reply setup before r in
+    let given : Result BoardRequest ℕ → Given = λ r. reply setup before r in
     let read : asked_of c.command_in.result c.as_slice.result.now ≡ asked_by (asked_in request) = ap (asked_of c.command_in.result) c.as_slice.ensures.value ∙ c.command_in.ensures in
     let answer : Reply = (answer_of setup before (asked_in request)).0 in
     let gives : Gives c.reply.result c.begin_response.new.frame c.reply.new.to answer =
-    subst (λ (r : Result Request ℕ). Gives c.reply.result c.begin_response.new.frame c.reply.new.to (given r).0) read c.reply.ensures.answer in
+    subst (λ (r : Result BoardRequest ℕ). Gives c.reply.result c.begin_response.new.frame c.reply.new.to (given r).0) read c.reply.ensures.answer in
     let started : c.match-reply.frame ≡ response_start request.header answer.code ++ answer.body =
     elim c.match-reply.branch [
       | in-Ok w ↦ w.frame-is ∙ done_frame _ c.reply.result request.header c.begin_response.new.frame c.reply.new.to answer w.in-Ok.is c.begin_response.ensures.started gives

@@ -1,5 +1,5 @@
 use Rattle.std.proofs.Common.{◌≡◌, ◌≤◌, length, ℕ, List, suc, arith, ap, subst}
-use Rattle.bmc_core.proofs.smbus_port.pending.Request.kept.Goals as goal
+use Rattle.bmc_core.proofs.smbus_port.pending.RequestInMessage.kept.Goals as goal
 
 pub returns-clause-room : goal.returns-clause-room
 returns-clause-room c =
