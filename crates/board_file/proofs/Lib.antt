@@ -9,3 +9,4 @@ pub mod UserNames
 pub mod ChannelLists
 pub mod ChannelFields
 pub mod AttributeFields
+pub mod OneBoard

@@ -7,12 +7,14 @@ mod channel_items;
 mod check;
 mod effecters;
 mod fault;
+mod laws;
 mod state_items;
 mod tables;
 mod users;
 
 pub use board::read_board;
 pub use fault::{FileFault, Item, Place};
+pub use laws::one_board;
 pub use tables::{
     ATTRIBUTE, CHANNEL, DEVICE, ENUMERATION, INTEGER, NUMERIC, SENSOR, SESSIONS, STATE, STRING, TOP,
 };

@@ -7,3 +7,4 @@ pub mod Records
 pub mod Sizes
 pub mod SizedFields
 pub mod StateChanges
+pub mod Unique

@@ -3,3 +3,4 @@ pub mod AttributeSteps
 pub mod UserSteps
 pub mod Changes
 pub mod Steps
+pub mod OnePlan

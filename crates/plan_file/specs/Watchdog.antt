@@ -1,15 +1,16 @@
 -- What a step that sets the watchdog timer holds.
-use Rattle.std.specs.Prelude.{◌≡◌, ◌/◌, ◌%◌}
+use Rattle.std.specs.Prelude.{◌≡◌, ◌<◌, ◌/◌, ◌%◌}
 use Rattle.toml.specs.Data.{Members}
 use Rattle.cfg_records.specs.Masks.{has}
 use Rattle.cfg_records.specs.declared.watchdog.SetWatchdog.{SetWatchdog}
 use Rattle.file_fields.specs.declared.field.Field.TheVariants as field
 use Rattle.file_fields.specs.Trees.{HasNumber, HasFlag}
 
--- the step holds a change of the watchdog timer: bit 6 of the use byte (don't stop) and the flags to clear are 0
+-- the step holds a change of the watchdog timer: of the byte of its use bit 6 (don't stop) is 0, and so are the flags to clear
 pub record HoldsWatchdog (tree : Members) (set : SetWatchdog) : Type 0 where
   pub timer_use : HasNumber field.Use tree (set.timer_use % 128)
   pub no_log : HasFlag field.NoLog tree (has set.timer_use 7)
+  pub byte : set.timer_use < 256
   pub action : HasNumber field.Action tree (set.actions % 16)
   pub interrupt : HasNumber field.Interrupt tree (set.actions / 16)
   pub pre_timeout : HasNumber field.Pre tree set.pre_timeout

@@ -8,6 +8,7 @@ mod event_enable;
 mod global_enables;
 mod hysteresis;
 mod kind;
+mod laws;
 mod numeric_effecter;
 mod plan;
 mod plan_fault;
@@ -20,5 +21,6 @@ mod user_name;
 mod watchdog;
 
 pub use kind::Kind;
+pub use laws::one_plan;
 pub use plan::{PLAN, read_plan};
 pub use plan_fault::{NoGet, OutsidePlan, PlanFault, StepFault};
