@@ -33,7 +33,7 @@ fn controller_place() -> At
 }
 
 /// The board of the file's text, or the sample board where no file is given.
-fn board_file(alloc: Global, board: Option<&str>) -> Result<BoardFile, FileFault>
+fn board_or_sample(alloc: Global, board: Option<&str>) -> Result<BoardFile, FileFault>
     ensures file { IfOk result (IsBoardOf (option_copied board.entry)) }
     ensures fault { IfErr result (λ why. (why ≡ FileFault.Memory) ⊎ IsFaultOf (option_copied board.entry) why) }
 {
@@ -73,7 +73,7 @@ fn frame_report(
 ) -> Result<Report, AllocError>
     ensures { IfOk result (λ report. Says (option_copied board.entry) bus bytes.now report.stream (string_bytes report.text) report.status) }
 {
-    match board_file(alloc, board) {
+    match board_or_sample(alloc, board) {
         Ok(file) => heard_report(alloc, file, bus, bytes),
         Err(FileFault::Memory) => Err(AllocError),
         Err(why) => Report::of_board(alloc, why),
