@@ -25,7 +25,7 @@ use Rattle.bmc_board.specs.declared.command.Line.{Line}
 use Rattle.bmc_board.specs.declared.request.Refusals.{Refusals}
 use Rattle.bmc_board.specs.Request.{Request}
 use Rattle.bmc_board.specs.Request.{Live, Get, Set, SetStores}
-use Rattle.bmc_board.specs.Table.{Listed, table, pldm_table, line_in, line_under, line_of, pldm_line_of, is_allowed, is_pldm_type, changes, is_changing}
+use Rattle.bmc_board.specs.Table.{Listed, table, pldm_table, line_in, line_under, line_of, pldm_line_of, allow, is_pldm_type, changes, is_changing}
 use Rattle.bmc_board.specs.Request.{boot_set, boot_get, channel_asked, attribute_set, attribute_get, request_of, asked_at, asked_by, ipmi_refusals, pldm_refusals}
 use Rattle.bmc_board.specs.Room.{longest_reply}
 use Rattle.bmc_board.specs.AnyAnswer.{IsCode}
@@ -208,7 +208,7 @@ pldm_codes = record { unlisted = code_of pldm_unsupported_command refl; not_allo
 right_at : (room : ℕ) (refusals : Refusals) (line : Option Line) (body : List ℕ) → AreCodes refusals → Passes (asks_rightly room body) line → IsRight room (changes line) (asked_at refusals line body)
 right_at room refusals None body are passes = are.unlisted
 right_at room refusals (Some line) body are passes =
-    where_right room line.changing (is_allowed line.lengths body) (request_of line.command body) refusals.not_allowed are.not_allowed (right_of room line.changing (request_of line.command body) passes)
+    where_right room line.changing (allow line.lengths body) (request_of line.command body) refusals.not_allowed are.not_allowed (right_of room line.changing (request_of line.command body) passes)
 
 pub asked_right : (asked : Asked) → IsRight (room_for asked) (is_changing asked) (asked_by asked)
 asked_right (Ipmi from net_fn lun number body) =

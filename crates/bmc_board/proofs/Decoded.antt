@@ -39,7 +39,7 @@ use Rattle.cfg_records.specs.InverseLaws.{same_tested}
 use Rattle.effecter_recs.specs.ChangeLaws.{two_each, same_states, all_read}
 use Rattle.effecter_recs.specs.State.{state_body}
 use Rattle.bmc_board.specs.declared.command.Lengths.TheVariants.{PairsCountedAt}
-use Rattle.bmc_board.specs.Table.{is_allowed}
+use Rattle.bmc_board.specs.Table.{allow}
 use Rattle.cfg_records.specs.Boards.{stored}
 use Rattle.cfg_records.specs.Numbers.{channel_in, user_in, six_bits_in}
 use Rattle.cfg_records.specs.NumberLaws.{same_channel, same_user, same_bits}
@@ -158,7 +158,7 @@ where_taken false asked other code is same = cc
 
 states_read : (o : SetStateEffecter) → asked_by (set_asked (op.StateEffecter o)) ≡ Ok (request.Set (op.StateEffecter o))
 states_read o =
-    where_taken (is_allowed (PairsCountedAt 2) (state_body o)) _ _ pldm_invalid_length
+    where_taken (allow (PairsCountedAt 2) (state_body o)) _ _ pldm_invalid_length
     (same_tested _ _ (omega (arith, two_each o.changes)))
     (ap (λ (made : SetStateEffecter). Ok (request.Set (op.StateEffecter made))) (same_states _ _ _ _ _ _ (two_bytes o.effecter) (all_read o.changes o.few)))
 

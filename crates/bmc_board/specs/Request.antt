@@ -41,7 +41,7 @@ use Rattle.bmc_board.specs.declared.command.Line.{Line}
 use Rattle.bmc_board.specs.declared.live.LiveCommand.{LiveCommand}
 use Rattle.bmc_board.specs.declared.live.LiveCommand.TheVariants as live
 use Rattle.bmc_board.specs.declared.request.Refusals.{Refusals}
-use Rattle.bmc_board.specs.Table.{line_of, pldm_line_of, is_allowed, is_pldm_type}
+use Rattle.bmc_board.specs.Table.{line_of, pldm_line_of, allow, is_pldm_type}
 
 -- what is asked for: to carry out a live command with its data, to show a record, to change one, or to change the access of a channel in one
 -- store and its limit in another
@@ -130,7 +130,7 @@ pldm_refusals = record { unlisted = pldm_unsupported_command; not_allowed = pldm
 -- what a line's command asks for, where there is a line and the data has a length that it takes
 abbrev pub asked_at : Refusals → Option Line → List ℕ → Result Request ℕ
 asked_at refusals None body = Err refusals.unlisted
-asked_at refusals (Some line) body = if is_allowed line.lengths body then request_of line.command body else Err refusals.not_allowed
+asked_at refusals (Some line) body = if allow line.lengths body then request_of line.command body else Err refusals.not_allowed
 
 -- what a request asks for, or the first code that refuses it
 abbrev pub asked_by : Asked → Result Request ℕ

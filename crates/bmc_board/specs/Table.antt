@@ -90,12 +90,12 @@ abbrev pub pldm_line_of : ℕ → ℕ → Option Line
 pldm_line_of kind number = line_under kind number pldm_table
 
 -- the data have a length that the command takes
-abbrev pub is_allowed : Lengths → List ℕ → Bool
-is_allowed (Exactly exact) body = length body == exact
-is_allowed (Between least most) body = nat_le least (length body) && nat_le (length body) most
-is_allowed (AtLeast least) body = nat_le least (length body)
-is_allowed (OneOf first second third) body = (length body == first) || (length body == second) || (length body == third)
-is_allowed (PairsCountedAt place) body = length body == 1 + place + 2 * byte_at body place
+abbrev pub allow : Lengths → List ℕ → Bool
+allow (Exactly exact) body = length body == exact
+allow (Between least most) body = nat_le least (length body) && nat_le (length body) most
+allow (AtLeast least) body = nat_le least (length body)
+allow (OneOf first second third) body = (length body == first) || (length body == second) || (length body == third)
+allow (PairsCountedAt place) body = length body == 1 + place + 2 * byte_at body place
 
 -- the PLDM types that the controller knows: base, platform monitoring and control, BIOS (DSP0240)
 abbrev pub is_pldm_type : ℕ → Bool

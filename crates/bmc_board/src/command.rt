@@ -1,6 +1,6 @@
 //! The tables of commands.
 ghost use Rattle.std.specs.Prelude.{◌≡◌, None, Some};
-ghost use Rattle.bmc_board.specs.Table.{line_of, pldm_line_of, is_allowed, is_changing, is_pldm_type};
+ghost use Rattle.bmc_board.specs.Table.{line_of, pldm_line_of, allow, is_changing, is_pldm_type};
 
 use crate::live::LiveCommand;
 use cfg_records::{Asked, byte_at};
@@ -80,7 +80,7 @@ pub struct Line {
 impl Lengths {
     /// Whether the command takes data of this length.
     pub fn allow(self, body: &[u8]) -> bool
-        ensures { result ≡ is_allowed self body.now }
+        ensures { result ≡ allow self body.now }
     {
         let length = body.len();
         match self {
@@ -109,7 +109,7 @@ const fn entry(command: Command, lengths: Lengths, changing: bool) -> Line
 }
 
 /// The line of IPMI's table for the network function and the command number, if they are listed.
-pub fn find_line(net_fn: u8, number: u8) -> Option<Line>
+pub fn line_of(net_fn: u8, number: u8) -> Option<Line>
     ensures { result ≡ line_of net_fn number }
 {
     use Command::*;
@@ -158,7 +158,7 @@ pub fn find_line(net_fn: u8, number: u8) -> Option<Line>
 }
 
 /// The line of PLDM's table for the type and the command number, if they are listed.
-pub fn find_pldm_line(kind: u8, number: u8) -> Option<Line>
+pub fn pldm_line_of(kind: u8, number: u8) -> Option<Line>
     ensures { result ≡ pldm_line_of kind number }
 {
     use Command::*;
@@ -188,7 +188,7 @@ pub fn is_pldm_type(kind: u8) -> bool
 }
 
 /// Whether the request's command sets the configuration, be the request valid or not.
-pub fn changing(asked: &Asked) -> bool
+pub fn is_changing(asked: &Asked) -> bool
     ensures { result ≡ is_changing asked.now }
 {
     let line = match asked {
@@ -196,8 +196,8 @@ pub fn changing(asked: &Asked) -> bool
             net_fn,
             command,
             ..
-        } => find_line(net_fn.number(), *command),
-        Asked::Pldm { kind, command, .. } => find_pldm_line(kind.number(), *command),
+        } => line_of(net_fn.number(), *command),
+        Asked::Pldm { kind, command, .. } => pldm_line_of(kind.number(), *command),
     };
     match line {
         Some(line) => line.changing,

@@ -13,6 +13,6 @@ pub mod storage;
 pub use activity::Activity;
 pub use bench::{Bench, NoSensor};
 pub use board::Board;
-pub use command::{Command, Lengths, Line, changing};
+pub use command::{Command, Lengths, Line, is_changing};
 pub use live::LiveCommand;
 pub use request::read_request;

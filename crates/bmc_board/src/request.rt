@@ -2,7 +2,7 @@
 ghost use Rattle.std.specs.Prelude.{◌≡◌, ℕ};
 ghost use Rattle.bmc_board.specs.Request.{asked_of, asked_by, asked_at};
 
-use crate::command::{Command, Line, find_line, find_pldm_line, is_pldm_type};
+use crate::command::{Command, Line, line_of, pldm_line_of, is_pldm_type};
 use cfg_records::Asked;
 use two_wire::{Below, Code, Lun, NetFn, code};
 
@@ -45,7 +45,7 @@ pub fn read_ipmi(lun: Lun, net_fn: NetFn, number: u8, body: &[u8]) -> Result<Com
     if lun.number() != 0 {
         return Err(code::INVALID_FOR_LUN);
     }
-    command_at(IPMI, find_line(net_fn.number(), number), body)
+    command_at(IPMI, line_of(net_fn.number(), number), body)
 }
 
 /// The command of a PLDM request, or the first code that refuses it: the type comes first, then the command, then the length of
@@ -57,7 +57,7 @@ pub fn read_pldm(kind: Below<64>, number: u8, body: &[u8]) -> Result<Command, Co
     if !is_pldm_type(kind) {
         return Err(code::PLDM_INVALID_TYPE);
     }
-    command_at(PLDM, find_pldm_line(kind, number), body)
+    command_at(PLDM, pldm_line_of(kind, number), body)
 }
 
 /// The command of a request, or the first code that refuses it, and the request's data.

@@ -7,7 +7,7 @@ pub mod port;
 pub mod smbus_port;
 pub mod step;
 
-pub use bmc_board::{Board, Command, Lengths, Line, changing, read_request};
+pub use bmc_board::{Board, Command, Lengths, Line, is_changing, read_request};
 pub use ipmb_port::{IpmbPending, IpmbPort};
 pub use out::{Done, Frames, Out, Reason};
 pub use port::{At, Pending, Port};

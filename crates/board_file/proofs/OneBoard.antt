@@ -23,7 +23,7 @@ use Rattle.cfg_records.specs.NumericEffecter.{IsNumeric}
 use Rattle.cfg_records.specs.NumericSize.{code_of, numbers_of, bytes_of}
 use Rattle.cfg_records.specs.UserAccess.{IsUserAccess}
 use Rattle.cfg_records.specs.ChannelAccess.{IsChannelAccess}
-use Rattle.cfg_records.specs.StateField.{is_allowed}
+use Rattle.cfg_records.specs.StateField.{allows}
 use Rattle.cfg_records.specs.BootParam.{flag_bytes}
 use Rattle.cfg_records.specs.declared.board_file.BoardFile.{BoardFile}
 use Rattle.cfg_records.specs.declared.device.Device.{Device}
@@ -222,7 +222,7 @@ one_field : (a b : StateField) → a.allowed ≡ b.allowed → a.current ≡ b.c
 one_field a b p q = λ i. record {
   allowed = p i;
   current = q i;
-  valid = is_prop→PathP (λ j. IsTrue (is_allowed (p j) (q j))) (λ j. hlevel props) a.valid b.valid i;
+  valid = is_prop→PathP (λ j. IsTrue (allows (p j) (q j))) (λ j. hlevel props) a.valid b.valid i;
 }
 
 one_fields : (ds es : List Data) (xs ys : List StateField) → AllZip IsFieldIn ds xs → AllZip IsPresentIn es xs → AllZip IsFieldIn ds ys → AllZip IsPresentIn es ys → xs ≡ ys

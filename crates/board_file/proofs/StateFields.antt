@@ -6,7 +6,7 @@ use Rattle.std.specs.List.{list_all, AllZip}
 use Rattle.toml.specs.Data.{Data, Members}
 use Rattle.toml.specs.View.{view}
 use Rattle.toml.specs.declared.value.Value.{Value}
-use Rattle.cfg_records.specs.StateField.{is_allowed}
+use Rattle.cfg_records.specs.StateField.{allows}
 use Rattle.cfg_records.specs.declared.state_effecter.StateEffecter.{StateEffecter}
 use Rattle.file_fields.specs.declared.field.Field.TheVariants as field
 use Rattle.file_fields.specs.declared.row.Shape.TheVariants as shape
@@ -50,14 +50,14 @@ present_cases states d None is list some = cc
 pub present_small : (states d : Data) → is_state_list states ≡ true → can_be states d ≡ true → is_state d ≡ true
 present_small states d list can = present_cases states d (natural d) refl list can
 
-listed_as : (ds : List Data) (states : List ℕ) (n : ℕ) → AllZip IsNaturalIn ds states → is_listed ds n ≡ is_allowed states n
+listed_as : (ds : List Data) (states : List ℕ) (n : ℕ) → AllZip IsNaturalIn ds states → is_listed ds n ≡ allows states n
 listed_as [] [] n zip = refl
 listed_as [] (s ∷ states) n zip = absurd zip
 listed_as (d ∷ ds) [] n zip = absurd zip
 listed_as (d ∷ ds) (s ∷ states) n zip = rw zip.0 (ap (λ b. (s == n) || b) (listed_as ds states n zip.1))
 
 -- a field can be in the state
-pub present_allowed : (states d : Data) (allowed : List ℕ) (n : ℕ) → can_be states d ≡ true → natural d ≡ Some n → AllZip IsNaturalIn (or_none (members states)) allowed → is_allowed allowed n ≡ true
+pub present_allowed : (states d : Data) (allowed : List ℕ) (n : ℕ) → can_be states d ≡ true → natural d ≡ Some n → AllZip IsNaturalIn (or_none (members states)) allowed → allows allowed n ≡ true
 present_allowed states d allowed n can is zip =
     let listed : is_listed (or_none (members states)) n ≡ true = rw is at can in
     sym (listed_as (or_none (members states)) allowed n zip) ∙ listed

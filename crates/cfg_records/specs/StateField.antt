@@ -3,5 +3,5 @@ use Rattle.std.specs.Prelude.{ℕ, List, Bool, ◌==◌}
 use Rattle.std.specs.List.{list_any}
 
 -- a field with these states can be in this one
-abbrev pub is_allowed : List ℕ → ℕ → Bool
-is_allowed states state = list_any (λ s. s == state) states
+abbrev pub allows : List ℕ → ℕ → Bool
+allows states state = list_any (λ s. s == state) states

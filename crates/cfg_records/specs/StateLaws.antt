@@ -2,13 +2,13 @@
 use Rattle.std.proofs.Common.{◌≡◌, ◌≢◌, ℕ, List, [], ◌∷◌, length, true, false, refl, arith}
 use Rattle.cfg_records.specs.MaskLaws.{both_true, is_false}
 use Rattle.cfg_records.specs.declared.state_effecter.StateField.{StateField}
-use Rattle.cfg_records.specs.StateField.{is_allowed}
+use Rattle.cfg_records.specs.StateField.{allows}
 use Rattle.cfg_records.specs.StateEffecter.{are_states}
 
 -- there are as many states as fields
 pub as_many : (fields : List StateField) (states : List ℕ) → are_states fields states ≡ true → length states ≡ length fields
 as_many [] [] h = refl
-as_many (f ∷ fs) (s ∷ ss) h = let rest : length ss ≡ length fs = as_many fs ss (both_true (is_allowed f.allowed s) (are_states fs ss) h).1 in omega arith
+as_many (f ∷ fs) (s ∷ ss) h = let rest : length ss ≡ length fs = as_many fs ss (both_true (allows f.allowed s) (are_states fs ss) h).1 in omega arith
 as_many [] (s ∷ ss) h = cc
 as_many (f ∷ fs) [] h = cc
 

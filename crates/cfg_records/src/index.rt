@@ -72,7 +72,7 @@ impl Index {
     }
 
     /// The place of the key's record.
-    pub fn get(&self, key: &Key) -> Option<usize>
+    pub fn place_of(&self, key: &Key) -> Option<usize>
         ensures { result ≡ place_of self.now key.now }
     {
         match slot(key) {

@@ -92,7 +92,7 @@ impl Store for PlainStore {
     ghost places = { λ s. place_of s.places };
 
     fn find(&self, key: &Key) -> Option<usize> {
-        self.places.get(key)
+        self.places.place_of(key)
     }
 
     fn value(&self, place: usize) -> &[u8] {

@@ -1,6 +1,6 @@
 //! A state effecter: in a board file, and as it is set.
 ghost use Rattle.std.specs.Prelude.{◌≡◌, ◌≤◌, IsTrue, length};
-ghost use Rattle.cfg_records.specs.StateField.{is_allowed};
+ghost use Rattle.cfg_records.specs.StateField.{allows};
 
 use crate::distinct::{Distinct, Numbered};
 use crate::field_changes::FieldChanges;
@@ -13,7 +13,7 @@ use crate::value::Value;
 pub struct StateField {
     pub allowed: Items<u8>,
     pub current: u8,
-    ghost valid: { IsTrue (is_allowed allowed current) },
+    ghost valid: { IsTrue (allows allowed current) },
 }
 
 /// A state effecter: its id, whether it is enabled, and its fields, 1 to 8.
@@ -48,14 +48,14 @@ impl Numbered for StateEffecter {
 
 impl StateField {
     ghost use Rattle.std.specs.Prelude.{◌≡◌, ◌↔◌, IsTrue, IsSome, IfSome};
-    ghost use Rattle.cfg_records.specs.StateField.{is_allowed};
+    ghost use Rattle.cfg_records.specs.StateField.{allows};
 
     /// This field, or nothing where the present state is none that it can be in.
     pub fn new(allowed: Items<u8>, current: u8) -> Option<StateField>
-        ensures made { IsSome result ↔ IsTrue (is_allowed allowed current) }
+        ensures made { IsSome result ↔ IsTrue (allows allowed current) }
         ensures parts { IfSome result (λ made. (made.allowed ≡ allowed) × (made.current ≡ current)) }
     {
-        if !is_state(allowed.as_slice(), current) {
+        if !allows(allowed.as_slice(), current) {
             return None;
         }
         Some(StateField { allowed, current })
@@ -63,15 +63,15 @@ impl StateField {
 
     /// Whether it can be in this state.
     pub fn allows(&self, state: u8) -> bool
-        ensures { result ≡ is_allowed self.now.allowed state }
+        ensures { result ≡ allows self.now.allowed state }
     {
-        is_state(self.allowed.as_slice(), state)
+        allows(self.allowed.as_slice(), state)
     }
 }
 
 /// Whether it is one of the states.
-fn is_state(states: &[u8], state: u8) -> bool
-    ensures { result ≡ is_allowed states.now state }
+fn allows(states: &[u8], state: u8) -> bool
+    ensures { result ≡ allows states.now state }
 {
     states.iter().any(|s| *s == state)
 }

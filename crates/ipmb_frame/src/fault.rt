@@ -5,7 +5,7 @@ ghost use Rattle.ipmb_frame.specs.declared.fault.FrameFault.TheVariants.{Short};
 
 use std::error::Error;
 use std::fmt;
-use two_wire::sum8;
+use two_wire::check_byte;
 
 /// A frame has at least so many bytes: no data, and no completion code.
 const SHORTEST: usize = 7;
@@ -62,10 +62,10 @@ pub(crate) fn fault_of(bytes: &[u8]) -> Option<FrameFault>
     if bytes.len() > LONGEST {
         return Some(FrameFault::Long);
     }
-    if sum8(&bytes[..HEAD]) != 0 {
+    if check_byte(&bytes[..HEAD]) != 0 {
         return Some(FrameFault::HeadSum);
     }
-    if sum8(&bytes[HEAD..]) != 0 {
+    if check_byte(&bytes[HEAD..]) != 0 {
         return Some(FrameFault::BodySum);
     }
     if bytes[0] % 2 != 0 || bytes[3] % 2 != 0 {

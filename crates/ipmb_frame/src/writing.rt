@@ -5,7 +5,7 @@ ghost use Rattle.ipmb_frame.specs.declared.message.Header.{Header as TheHeader};
 ghost use Rattle.ipmb_frame.specs.Grammar.{IsParty, IsHeader, IsRequest, IsResponse, packed, checked, response_start, response_lead};
 
 use crate::{Header, Party, Request, Response, Sequence};
-use two_wire::{Frame, sum8};
+use two_wire::{Frame, check_byte};
 
 /// The frame of a request.
 pub fn write_request(request: &Request) -> Frame
@@ -63,7 +63,7 @@ fn body_sum(header: &Header, code: u8, body: &[u8]) -> u8
         header.command,
         code,
     ];
-    sum8(&lead).wrapping_add(sum8(body))
+    check_byte(&lead).wrapping_add(check_byte(body))
 }
 
 /// Makes the frame all of the response that stands before its data, whatever it was. The data are appended next, and
@@ -108,7 +108,7 @@ fn start(frame: &mut Frame, to: Party, function: u8, from: Party, sequence: Sequ
     *frame = Frame::new();
     frame.push(to.address.byte());
     frame.push(function << 2 | to.lun.number());
-    frame.push(sum8(frame.as_slice()));
+    frame.push(check_byte(frame.as_slice()));
     frame.push(from.address.byte());
     frame.push(sequence.number() << 2 | from.lun.number());
 }
@@ -119,5 +119,5 @@ fn finish(frame: &mut Frame)
     requires room { length frame.old < 80 }
     ensures { frame.new ≡ frame.old ++ check_byte (drop 3 frame.old) ∷ [] }
 {
-    frame.push(sum8(&frame.as_slice()[3..]));
+    frame.push(check_byte(&frame.as_slice()[3..]));
 }

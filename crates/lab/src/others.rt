@@ -12,7 +12,7 @@ ghost use Rattle.lab.specs.Shown.{fault_of};
 ghost use Rattle.lab.specs.Meaning.{request_of};
 
 use crate::fault::Fault;
-use bmc_board::changing;
+use bmc_board::is_changing;
 use cfg_records::Asked;
 use ipmb_frame::read_frame;
 use lab_model::marks::is_still_open;
@@ -76,7 +76,7 @@ pub fn request_fault(names: &Names, request: &OtherRequest) -> Option<Fault>
     ensures { option_map fault_of result ≡ first_of (check Changing (is_changing (asked_in (request_of names.now request.now)))
         ∷ check Impersonates (is_own Ipmb names.now request.now.requester.address) ∷ []) }
 {
-    if changing(&asked(request)) {
+    if is_changing(&asked(request)) {
         return Some(Fault::Changing);
     }
     if is_own(Bus::Ipmb, names, request.requester.address.byte()) {
@@ -97,7 +97,7 @@ fn message_changes(from: u8, bytes: &[u8]) -> bool
         return false;
     }
     match read_pldm(&PldmBytes::new(rest)) {
-        Ok(request) => changing(&Asked::Pldm {
+        Ok(request) => is_changing(&Asked::Pldm {
             from,
             kind: request.header.pldm_type,
             command: request.header.command,

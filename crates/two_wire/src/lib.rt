@@ -17,7 +17,7 @@ pub use address::Address;
 pub use buffer::Buffer;
 pub use bus::Bus;
 pub use bytes::{Bytes, Frame};
-pub use checks::sum8;
+pub use checks::check_byte;
 pub use code::Code;
 pub use data::Data;
 pub use laws::{all_bytes_have_a_pec, one_pec};

@@ -5,7 +5,7 @@ use cfg_records::PlainStore;
 use std::alloc::Global;
 use std::process::Abort;
 use std::test::Fail;
-use two_wire::{Address, sum8};
+use two_wire::{Address, check_byte};
 
 /// The response to 40h's Get Device ID with sequence number 5.
 const FIRST_REPLY: &[u8] = &[
@@ -126,13 +126,13 @@ fn open_lab(alloc: Global) -> Result<Lab, Fail> {
 
 /// The frame of a command without data, with its network function's byte and the checksum of the head.
 fn request(net_fn: u8, head_sum: u8, requester: u8, numbers: u8, command: u8) -> [u8; 7] {
-    let check = sum8(&[requester, numbers, command]);
+    let check = check_byte(&[requester, numbers, command]);
     [0x20, net_fn, head_sum, requester, numbers, command, check]
 }
 
 /// The response to this requester's Get Device ID with sequence number 0.
 fn device_id_reply(requester: u8) -> [u8; 19] {
-    let check = sum8(&[requester, 0x1C]);
+    let check = check_byte(&[requester, 0x1C]);
     [
         requester, 0x1C, check, 0x20, 0x00, 0x01, 0x00, 0x20, 0x01, 0x01, 0x05, 0x02, 0x07, 0xCD,
         0xAB, 0x00, 0x34, 0x12, 0xF1,

@@ -1,5 +1,5 @@
 //! Stories: what is asked of a board with what it replies, and what comes to it between, told as lines.
-use bmc_board::{Bench, Board, NoSensor, changing};
+use bmc_board::{Bench, Board, NoSensor, is_changing};
 use cfg_records::{Asked, BoardFile, PlainStore, sample_board};
 use std::alloc::Global;
 use std::process::Abort;
@@ -180,7 +180,7 @@ pub fn expect_settings(rt: &impl Abort, alloc: Global, lines: &str) {
         let (kind, digits) = what.split_once(' ').expect(rt, "a kind");
         let bytes = bytes_of(rt, alloc, digits);
         let asked = asked_of(kind, bytes.as_slice()).expect(rt, "a request");
-        let found = if changing(&asked) { "sets" } else { "gets" };
+        let found = if is_changing(&asked) { "sets" } else { "gets" };
         assert_eq!(rt; found, want, "{line}");
     }
 }

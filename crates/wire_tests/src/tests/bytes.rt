@@ -3,12 +3,12 @@ ghost use Rattle.std.specs.Prelude.{◌+◌, ◌≤◌, length};
 
 use super::bytes_of;
 use std::test::Fail;
-use two_wire::{Address, Buffer, Bytes, Code, Data, Lun, NetFn, code, pec, sum8};
+use two_wire::{Address, Buffer, Bytes, Code, Data, Lun, NetFn, code, pec, check_byte};
 
 #[test]
 fn the_check_bytes_of_heads_bodies_and_packets(rt: HostRuntime) {
     for (text, sum) in [("20 18", 0xC8), ("2C 00 01", 0xD3), ("", 0)] {
-        assert_eq!(rt; sum8(bytes_of(text).as_slice()), sum, "{text}");
+        assert_eq!(rt; check_byte(bytes_of(text).as_slice()), sum, "{text}");
     }
     for (text, code) in [
         ("31 32 33 34 35 36 37 38 39", 0xF4),

@@ -3,7 +3,7 @@ use Rattle.std.proofs.lemmas.Bool.{and_parts}
 use Rattle.std.proofs.lemmas.List.Folds.{list_all-map}
 use Rattle.std.specs.List.{list_all, AllZip}
 use Rattle.toml.specs.View.{view}
-use Rattle.cfg_records.specs.StateField.{is_allowed}
+use Rattle.cfg_records.specs.StateField.{allows}
 use Rattle.file_fields.specs.Trees.{IsNaturalIn, members, or_none}
 use Rattle.file_fields.specs.Ranges.{is_state}
 use Rattle.board_file.proofs.StateFields.{present_small, present_allowed}
@@ -23,5 +23,5 @@ unwrap-requires c =
     let states = view c.args.states.now in
     let allowed = c.in_ok-allowed.allowed.items in
     let zip : AllZip IsNaturalIn (or_none (members states)) allowed = rw (← c.members_of.ensures) c.in_ok-allowed.ensures.held in
-    let can : is_allowed allowed c.state.result ≡ true = present_allowed states (view c.args.current.now) allowed c.state.result c.requires.current c.state.ensures zip in
+    let can : allows allowed c.state.result ≡ true = present_allowed states (view c.args.current.now) allowed c.state.result c.requires.current c.state.ensures zip in
     c.new-2.ensures.made.1 (rw c.new.ensures can)

@@ -11,5 +11,5 @@ returns-clause-absent c =
     let pairs : List Pair = c.args.self.now.records.items in
     let places : Key → Option ℕ = place_of c.args.self.now.places in
     let key : Key = c.args.key.now in
-    let same : c.get.result ≡ places key = search rules in
+    let same : c.place_of.result ≡ places key = search rules in
     subst (λ (found : Option ℕ). IsNone found ↔ IsNone (value_at pairs (places key))) (sym same) (absent_together pairs places c.args.self.now.placed key (places key) refl)
