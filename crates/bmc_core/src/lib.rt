@@ -13,6 +13,3 @@ pub use out::{Done, Frames, Out, Reason};
 pub use port::{At, Pending, Port};
 pub use smbus_port::{SmbusPending, SmbusPort};
 pub use step::Step;
-
-#[cfg(test)]
-mod tests;

@@ -11,8 +11,6 @@ mod hearing;
 pub mod laws;
 mod pending;
 mod replying;
-#[cfg(test)]
-mod tests;
 
 use crate::out::{Out, Reason};
 use crate::port::At;

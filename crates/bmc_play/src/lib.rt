@@ -6,8 +6,6 @@ mod drawn;
 pub mod files;
 pub mod laws;
 pub mod run;
-#[cfg(test)]
-mod tests;
 
 pub use files::{PlayFiles, play_of_files};
 pub use run::{Shown, chart_run, play_run, show};

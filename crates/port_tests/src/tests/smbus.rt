@@ -1,6 +1,6 @@
 //! Requests to a port on the System Management Bus, and what it keeps of them.
-use crate::tests::{expect_sent, open_board};
-use crate::{At, Board, Done, Out, SmbusPending, SmbusPort, Step};
+use super::{expect_sent, open_board};
+use bmc_core::{At, Board, Done, Out, SmbusPending, SmbusPort, Step};
 use cfg_records::PlainStore;
 use mctp_net::EndpointId;
 use std::alloc::Global;

@@ -1,6 +1,6 @@
 //! Requests that come again over IPMB.
 use super::{expect_sent, open_board};
-use crate::{Board, Done, IpmbPending, IpmbPort, Out, Step};
+use bmc_core::{Board, Done, IpmbPending, IpmbPort, Out, Step};
 use cfg_records::PlainStore;
 use std::alloc::Global;
 use std::process::Abort;

@@ -3,7 +3,7 @@ ghost use Rattle.std.specs.Prelude.{◌≡◌};
 ghost use Rattle.bmc_core.specs.Port.{bus_of, bus_asked};
 
 use super::{expect_sent, open_board};
-use crate::{At, Board, Done, Out, Pending, Port, Step};
+use bmc_core::{At, Board, Done, Out, Pending, Port, Step};
 use cfg_records::PlainStore;
 use mctp_net::EndpointId;
 use std::alloc::Global;

@@ -1,8 +1,9 @@
 //! What ports do with requests that come again, on the sample board.
 mod ipmb;
 mod port;
+mod smbus;
 
-use crate::{Board, Done, Out};
+use bmc_core::{Board, Done, Out};
 use cfg_records::{PlainStore, sample_board};
 use std::alloc::{AllocError, Global};
 use std::process::Abort;

@@ -1,7 +1,7 @@
 //! Runs of three files.
 use super::{EVENTS, SAMPLE, expect_ended, new_paper};
-use crate::{PlayFiles, Shown, play_of_files};
 use bmc_lab::{Console, TextFiles, Unreadable};
+use bmc_play::{PlayFiles, Shown, play_of_files};
 use std::alloc::Global;
 use std::process::Abort;
 use std::test::Fail;

@@ -11,8 +11,8 @@ mod stories;
 mod users;
 mod writers;
 
-use crate::{chart_run, play_run};
 use bmc_lab::Console;
+use bmc_play::{chart_run, play_run};
 use std::alloc::Global;
 use std::io;
 use std::process::Abort;
