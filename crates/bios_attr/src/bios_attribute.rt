@@ -141,8 +141,8 @@ impl AttributeLimits {
         }
     }
 
-    /// Makes `new` the value that the operation makes.
-    pub(crate) fn set(&self, op: &SetBiosAttribute, new: &mut Value) -> Result<(), Code>
+    /// Makes `new` the value that the operation makes. Where the attribute can't have it, `new` stays, and the error is the reply's code.
+    pub fn set(&self, op: &SetBiosAttribute, new: &mut Value) -> Result<(), Code>
         ensures outcome { told result new.new ≡ attribute_outcome self.now op.now }
         ensures kept { OnErr result (new.new ≡ new.old) }
     {
@@ -163,8 +163,8 @@ impl AttributeLimits {
         Ok(())
     }
 
-    /// Appends the data of the Get reply.
-    pub(crate) fn show<B: Buffer>(&self, value: &[u8], reply: &mut B)
+    /// Appends the data of the Get reply, which show this value.
+    pub fn show<B: Buffer>(&self, value: &[u8], reply: &mut B)
         requires { length (B.bytes reply.old) + length (attribute_view self.now value.now) ≤ B.capacity }
         ensures { B.bytes reply.new ≡ B.bytes reply.old ++ attribute_view self.now value.now }
     {

@@ -7,19 +7,13 @@ pub mod bios_attribute;
 pub mod bios_table;
 pub mod current_values;
 mod entries;
-#[cfg(test)]
-mod entry_tests;
 pub mod laws;
 pub mod rest;
 pub mod string_entry;
 mod strings;
 mod table;
 pub mod table_entry;
-#[cfg(test)]
-mod table_tests;
 pub mod tables;
-#[cfg(test)]
-mod tests;
 pub mod value_entry;
 pub mod whole_table;
 

@@ -2,7 +2,7 @@
 ghost use Rattle.std.specs.Prelude.{◌≡◌, ℕ};
 ghost use Rattle.bmc_board.specs.Request.{asked_of, asked_by, asked_at};
 
-use crate::command::{Command, Line, line_of, pldm_line_of, is_pldm_type};
+use crate::command::{Command, Line, is_pldm_type, line_of, pldm_line_of};
 use cfg_records::Asked;
 use two_wire::{Below, Code, Lun, NetFn, code};
 

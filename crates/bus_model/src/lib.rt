@@ -9,6 +9,3 @@ mod numbers;
 
 pub use live_frames::{End, SentFrame, Step, sent_frames};
 pub use numbers::Numbers;
-
-#[cfg(test)]
-mod tests;

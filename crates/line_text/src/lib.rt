@@ -5,8 +5,6 @@ mod cut;
 mod decimals;
 mod laws;
 mod spelt;
-#[cfg(test)]
-mod tests;
 
 pub use cut::{behind, first_line, first_word};
 pub use decimals::{number, plain_number};

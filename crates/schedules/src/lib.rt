@@ -6,8 +6,6 @@ mod laws;
 mod line;
 mod octets;
 mod schedule;
-#[cfg(test)]
-mod tests;
 mod words;
 
 pub use event::{Call, Event, OtherMessage, OtherRequest};

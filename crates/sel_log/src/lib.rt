@@ -6,8 +6,6 @@ mod info;
 mod log_record;
 mod reservations;
 mod sel;
-#[cfg(test)]
-mod tests;
 
 pub use clock::Clock;
 pub use info::Info;

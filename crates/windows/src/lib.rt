@@ -8,6 +8,3 @@ mod window;
 
 pub use request::{Found, Request};
 pub use table::Windows;
-
-#[cfg(test)]
-mod tests;

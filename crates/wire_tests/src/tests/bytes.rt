@@ -3,7 +3,7 @@ ghost use Rattle.std.specs.Prelude.{◌+◌, ◌≤◌, length};
 
 use super::bytes_of;
 use std::test::Fail;
-use two_wire::{Address, Buffer, Bytes, Code, Data, Lun, NetFn, code, pec, check_byte};
+use two_wire::{Address, Buffer, Bytes, Code, Data, Lun, NetFn, check_byte, code, pec};
 
 #[test]
 fn the_check_bytes_of_heads_bodies_and_packets(rt: HostRuntime) {

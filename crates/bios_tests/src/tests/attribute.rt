@@ -1,6 +1,6 @@
 //! The sample board's attributes, by worked requests.
-use crate::AttributeLimits;
-use crate::bios_attribute::attribute_in;
+use bios_attr::AttributeLimits;
+use bios_attr::bios_attribute::attribute_in;
 use cfg_records::value::DATA_CAPACITY;
 use cfg_records::{
     AttributeRange, IntegerSteps, PossibleValues, RecordData, RecordKind, SetBiosAttribute,

@@ -1,5 +1,5 @@
 //! Examples from outside.
-use crate::{behind, byte, bytes, first_line, first_word, number, plain_number};
+use line_text::{behind, byte, bytes, first_line, first_word, number, plain_number};
 use std::test::Fail;
 
 #[test]

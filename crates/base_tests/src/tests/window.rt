@@ -1,10 +1,10 @@
 //! What a port finds in its windows, over lists of requests.
 ghost use Rattle.std.specs.Prelude.{◌≤◌};
 
-use crate::{Found, Request, Windows};
 use std::process::Abort;
 use std::test::Fail;
 use two_wire::Below;
+use windows::{Found, Request, Windows};
 
 /// The windows of a port on IPMB, and of PLDM.
 type Ipmb = Windows<64, 32>;

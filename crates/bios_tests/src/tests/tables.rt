@@ -1,5 +1,5 @@
 //! The tables of the sample board's attributes.
-use crate::{BiosTable, CurrentValues, Tables, count_table};
+use bios_attr::{BiosTable, CurrentValues, Tables, count_table};
 use cfg_records::attribute_sizes::{MOST_TEXT, MOST_VALUE};
 use cfg_records::{
     Attribute, AttributeKind, Attributes, Distinct, EnumerationAttribute, Indexes,

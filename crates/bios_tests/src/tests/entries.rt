@@ -1,8 +1,8 @@
 //! Entries and whole tables of the sample board, read from their bytes.
-use crate::attribute_entry::{AttributeEntry, KindFields, read_attribute};
-use crate::string_entry::read_string;
-use crate::table_entry::read_table_entry;
-use crate::{BiosTable, TableError, count_table};
+use bios_attr::attribute_entry::{AttributeEntry, KindFields, read_attribute};
+use bios_attr::string_entry::read_string;
+use bios_attr::table_entry::read_table_entry;
+use bios_attr::{BiosTable, TableError, count_table};
 use pldm_base::crc32;
 use std::test::Fail;
 use two_wire::Bytes;

@@ -1,5 +1,5 @@
 //! The lines of schedules, good and bad.
-use crate::{Call, Event, OtherMessage, OtherRequest, ScheduleFault, read_schedule};
+use schedules::{Call, Event, OtherMessage, OtherRequest, ScheduleFault, read_schedule};
 use std::test::Fail;
 use two_wire::Bus;
 

@@ -1,0 +1,6 @@
+//! Worked examples, a file for each crate.
+mod lines;
+mod log;
+mod numbers;
+mod schedule;
+mod window;

@@ -1,0 +1,4 @@
+//! Worked requests and tables.
+mod attribute;
+mod entries;
+mod tables;
