@@ -1,4 +1,4 @@
--- What is written as an entry of a table is read as it, with what is behind it, and the other way round.
+-- An entry of a table that is written is read as itself, with what is behind it, and the other way round.
 use Rattle.std.proofs.Common.{◌≡◌, ℕ, suc, ◌/◌, ◌%◌, ◌≤◌, List, [], ◌∷◌, ◌++◌, length, take, drop, Bool, true, false, ◌==◌, nat_le, if◌then◌else◌, Option, Some, None, refl, ◌∙◌, ap, subst, arith}
 use Rattle.std.specs.Option.{option_map}
 use Rattle.std.specs.Int.{w64, from_le_bytes}

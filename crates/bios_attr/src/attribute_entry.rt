@@ -134,7 +134,7 @@ impl AttributeEntry<'_> {
 }
 
 /// What is left of an enumeration's entry behind the handles of its values.
-fn read_default<'a>(values: &'a [u8], bytes: &'a [u8]) -> Option<(KindFields<'a>, Rest<'a>)>
+fn default_at<'a>(values: &'a [u8], bytes: &'a [u8]) -> Option<(KindFields<'a>, Rest<'a>)>
     requires { length values.now ≤ 510 }
     ensures { result ≡ default_at values.now bytes.now }
 {
@@ -151,7 +151,7 @@ fn read_default<'a>(values: &'a [u8], bytes: &'a [u8]) -> Option<(KindFields<'a>
 }
 
 /// What an enumeration's entry says behind its name.
-fn read_enumeration(bytes: &[u8]) -> Option<(KindFields<'_>, Rest<'_>)>
+fn enumeration_at(bytes: &[u8]) -> Option<(KindFields<'_>, Rest<'_>)>
     ensures { result ≡ enumeration_at bytes.now }
 {
     let (count, behind) = bytes.split_first()?;
@@ -159,11 +159,11 @@ fn read_enumeration(bytes: &[u8]) -> Option<(KindFields<'_>, Rest<'_>)>
     if behind.len() < count {
         return None;
     }
-    read_default(&behind[..count], &behind[count..])
+    default_at(&behind[..count], &behind[count..])
 }
 
 /// What a string's entry says behind its name.
-fn read_text(bytes: &[u8]) -> Option<(KindFields<'_>, Rest<'_>)>
+fn text_at(bytes: &[u8]) -> Option<(KindFields<'_>, Rest<'_>)>
     ensures { result ≡ text_at bytes.now }
 {
     if bytes.len() < 7 {
@@ -217,7 +217,7 @@ fn numbers_in(bytes: &[u8]) -> IntegerFields
 }
 
 /// What an integer's entry says behind its name.
-fn read_integer(bytes: &[u8]) -> Option<(KindFields<'_>, Rest<'_>)>
+fn integer_at(bytes: &[u8]) -> Option<(KindFields<'_>, Rest<'_>)>
     ensures { result ≡ integer_at bytes.now }
 {
     if bytes.len() < NUMBERS {
@@ -228,25 +228,25 @@ fn read_integer(bytes: &[u8]) -> Option<(KindFields<'_>, Rest<'_>)>
 }
 
 /// What an entry of this type says behind its name.
-fn read_fields(code: u8, bytes: &[u8]) -> Option<(KindFields<'_>, Rest<'_>)>
+fn fields_at(code: u8, bytes: &[u8]) -> Option<(KindFields<'_>, Rest<'_>)>
     ensures { result ≡ fields_at code bytes.now }
 {
     match code {
-        ENUMERATION_TYPE => read_enumeration(bytes),
-        STRING_TYPE => read_text(bytes),
-        INTEGER_TYPE => read_integer(bytes),
+        ENUMERATION_TYPE => enumeration_at(bytes),
+        STRING_TYPE => text_at(bytes),
+        INTEGER_TYPE => integer_at(bytes),
         _ => None,
     }
 }
 
 /// The attribute entry at the front of the bytes, and what is behind it.
-pub fn read_attribute(bytes: &[u8]) -> Option<(AttributeEntry<'_>, Rest<'_>)>
+pub fn attribute_at(bytes: &[u8]) -> Option<(AttributeEntry<'_>, Rest<'_>)>
     ensures { result ≡ attribute_at bytes.now }
 {
     if bytes.len() < 5 {
         return None;
     }
-    let (kind, rest) = read_fields(bytes[2] % READ_ONLY_BIT, &bytes[5..])?;
+    let (kind, rest) = fields_at(bytes[2] % READ_ONLY_BIT, &bytes[5..])?;
     let entry = AttributeEntry {
         attribute: u16::from_le_bytes([bytes[0], bytes[1]]),
         read_only: bytes[2] >= READ_ONLY_BIT,

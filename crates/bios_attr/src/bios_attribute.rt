@@ -5,7 +5,7 @@ ghost use Rattle.cfg_records.specs.AttributeSizes.{most_data};
 ghost use Rattle.cfg_records.specs.AttributeValue.{two_bytes};
 ghost use Rattle.bios_attr.specs.BiosAttribute.{no_handle, get_first_part, attribute_outcome, attribute_body, attribute_in, attribute_shown_in, attribute_view, is_within, is_attribute_reply};
 
-use crate::value_entry::{read_entry, shown_type};
+use crate::value_entry::{entry_in, shown_type};
 use cfg_records::attribute_sizes::{BEFORE_VALUE, MOST_INDEXES, MOST_TEXT};
 use cfg_records::attribute_value::{AttributeValue, read_value};
 use cfg_records::value::DATA_CAPACITY;
@@ -113,7 +113,7 @@ fn is_attribute_reply(reply: &[u8]) -> bool
     if reply.len() < BEFORE_VALUE || reply.len() > DATA_CAPACITY || reply[4] != START_AND_END {
         return false;
     }
-    match read_entry(&reply[5..]) {
+    match entry_in(&reply[5..]) {
         Some(entry) => is_within(&entry.value),
         None => false,
     }

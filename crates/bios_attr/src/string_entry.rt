@@ -29,7 +29,7 @@ impl StringEntry<'_> {
 }
 
 /// The string entry at the front of the bytes, and what is behind it.
-pub fn read_string(bytes: &[u8]) -> Option<(StringEntry<'_>, Rest<'_>)>
+pub fn string_at(bytes: &[u8]) -> Option<(StringEntry<'_>, Rest<'_>)>
     ensures { result ≡ string_at bytes.now }
 {
     if bytes.len() < 4 {

@@ -2,11 +2,11 @@
 ghost use Rattle.std.specs.Prelude.{◌≡◌};
 ghost use Rattle.bios_attr.specs.TableEntry.{entry_at};
 
-use crate::attribute_entry::{AttributeEntry, read_attribute};
+use crate::attribute_entry::{AttributeEntry, attribute_at};
 use crate::bios_table::BiosTable;
 use crate::rest::Rest;
-use crate::string_entry::{StringEntry, read_string};
-use crate::value_entry::{ValueEntry, read_value_entry};
+use crate::string_entry::{StringEntry, string_at};
+use crate::value_entry::{ValueEntry, value_at};
 
 /// An entry of a table.
 #[derive(Debug, Drop)]
@@ -20,20 +20,20 @@ pub enum TableEntry<'a> {
 }
 
 /// The entry of a table at the front of the bytes, and what is behind it.
-pub fn read_table_entry(table: BiosTable, bytes: &[u8]) -> Option<(TableEntry<'_>, Rest<'_>)>
+pub fn entry_at(table: BiosTable, bytes: &[u8]) -> Option<(TableEntry<'_>, Rest<'_>)>
     ensures { result ≡ entry_at table bytes.now }
 {
     match table {
         BiosTable::Strings => {
-            let (entry, rest) = read_string(bytes)?;
+            let (entry, rest) = string_at(bytes)?;
             Some((TableEntry::String(entry), rest))
         }
         BiosTable::Attributes => {
-            let (entry, rest) = read_attribute(bytes)?;
+            let (entry, rest) = attribute_at(bytes)?;
             Some((TableEntry::Attribute(entry), rest))
         }
         BiosTable::Values => {
-            let (entry, rest) = read_value_entry(bytes)?;
+            let (entry, rest) = value_at(bytes)?;
             Some((TableEntry::Value(entry), rest))
         }
     }

@@ -47,7 +47,7 @@ impl ValueEntry<'_> {
 }
 
 /// The entry that the bytes are, if they are one.
-pub fn read_entry(bytes: &[u8]) -> Option<ValueEntry<'_>>
+pub fn entry_in(bytes: &[u8]) -> Option<ValueEntry<'_>>
     requires { length bytes.now ≤ 3 + most_sent }
     ensures { result ≡ entry_in bytes.now }
 {
@@ -76,7 +76,7 @@ fn value_size(code: u8, bytes: &[u8]) -> usize
 }
 
 /// The value entry at the front of the bytes, and what is behind it. Its value is no longer than one in a request.
-pub fn read_value_entry(bytes: &[u8]) -> Option<(ValueEntry<'_>, Rest<'_>)>
+pub fn value_at(bytes: &[u8]) -> Option<(ValueEntry<'_>, Rest<'_>)>
     ensures { result ≡ value_at bytes.now }
 {
     if bytes.len() < 3 {

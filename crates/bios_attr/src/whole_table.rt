@@ -4,7 +4,7 @@ ghost use Rattle.std.specs.List.{list_all};
 ghost use Rattle.bios_attr.specs.TableEntry.{HasEntries, IsNoTable, HasBody, IsNoBody, IsBodyFault, IsFault};
 
 use crate::bios_table::BiosTable;
-use crate::table_entry::read_table_entry;
+use crate::table_entry::entry_at;
 use pldm_base::crc32;
 
 /// How many bytes an entry has at least.
@@ -41,7 +41,7 @@ fn count_entries(table: BiosTable, bytes: &[u8]) -> Result<usize, TableError>
     let mut rest = bytes;
     let mut count = 0;
     while rest.len() >= LEAST_ENTRY {
-        let Some((_, behind)) = read_table_entry(table, rest) else {
+        let Some((_, behind)) = entry_at(table, rest) else {
             return Err(TableError::NotAnEntry);
         };
         rest = behind.as_slice();
@@ -55,7 +55,7 @@ fn count_entries(table: BiosTable, bytes: &[u8]) -> Result<usize, TableError>
 }
 
 /// How many entries the bytes are the table of, or why they are none. It takes no memory: the entries lie where they are, and
-/// `read_table_entry` shows them one by one.
+/// `entry_at` shows them one by one.
 pub fn count_table(table: BiosTable, bytes: &[u8]) -> Result<usize, TableError>
     ensures { MatchResult result (HasEntries table bytes.now) (λ error. IsNoTable table bytes.now × IsFault table bytes.now error) }
 {

@@ -1,4 +1,4 @@
--- What a change and its undo do to the records of a board, and to what its Gets show. What isn't configuration may be another at
+-- What a change and its undo do to the records of a board, and to what its Gets show. The activity may be another at
 -- each moment.
 use Rattle.std.specs.Prelude.{◌≡◌, ℕ, Some}
 use Rattle.two_wire.specs.Codes.{success}

@@ -40,7 +40,7 @@ pub fn live_law()
 {}
 
 /// The request that gets a record is read as that Get, and the request that carries out an operation as that Set. Both are from
-/// nobody, to logical unit 0, and mean the same from anyone. What undoes an operation has 0 in each bit that a controller ignores.
+/// nobody, to logical unit 0, and mean the same from anyone. The inverse of an operation has 0 in each bit that a controller ignores.
 pub fn decode_law()
     ensures gets { GetsAreRead }
     ensures sets { SetsAreRead }

@@ -106,7 +106,7 @@ all_sent p [] = []
 all_sent p (c ∷ cs) = sent_at p c ++ all_sent (port_after p c) cs
 
 -- The requests that are carried out, and kept, are the rule's: of what is told, whatever frames are heard between, and whatever is dropped.
--- What is sent is, frame for frame, the responses with the rule's replies.
+-- The port sends, frame for frame, the responses with the rule's replies.
 pub record KeepsTheRule (p : PortState) (cs : List Coming) : Type 0 where
   pub log : (ports_after p cs).log ≡ logs_with (is_above sequence_numbers) (brought cs) p.log
   pub done : done_with_told p cs ≡ outcomes (is_above sequence_numbers) p.log (brought cs)
@@ -178,7 +178,7 @@ abbrev pub sent_in_all : BoardFile → Ends → List Happening → List (List �
 sent_in_all setup x [] = []
 sent_in_all setup x (e ∷ es) = sent_when setup x e ++ sent_in_all setup (ends_after setup x e) es
 
--- The requests that are carried out are the rule's, of all that are heard, whatever others do to the board between. What is sent is, frame
+-- The requests that are carried out are the rule's, of all that are heard, whatever others do to the board between. The port sends, frame
 -- for frame, the responses to them with the rule's replies.
 pub record CarriesTheRule (setup : BoardFile) (x : Ends) (es : List Happening) : Type 0 where
   pub log : (all_after setup x es).port.log ≡ logs_with (is_above sequence_numbers) (heard_in_all setup x es) x.port.log

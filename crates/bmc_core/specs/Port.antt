@@ -30,7 +30,7 @@ Shows (Ipmb port) p = ipmb.Shows port p
 Shows (Smbus port) p = smbus.Shows port p
 
 -- A port of a board with this setup hears the bytes: whatever port of the lab it shows, it and the board go on as that one and its board
--- do, and what is sent is what that one sends.
+-- do, and it sends what that one sends.
 abbrev pub Hears : BoardFile → Port → State → List ℕ → Out → Port → State → Type 0
 Hears setup (Ipmb port) before bytes out (Ipmb next) after = ipmb.Hears setup port before bytes out next after
 Hears setup (Smbus port) before bytes out (Smbus next) after = (p : PortState) → smbus.Shows port p → smbus.HearsBytes setup p before bytes next out after

@@ -120,7 +120,7 @@ all_sent port [] = []
 all_sent port (c ∷ cs) = sent_at port c ++ all_sent (port_after port c) cs
 
 -- The requests that are carried out, and kept, are the rule's: of what is told, whatever packets are heard between, and whatever is dropped.
--- What is sent is, frame for frame, the replies by the rule, and the endpoint's to control messages.
+-- The port sends, frame for frame, the replies by the rule, and the endpoint's to control messages.
 pub record KeepsTheRule (port : PortState) (cs : List Coming) : Type 0 where
   pub log : (ports_after port cs).log ≡ logs_with (is_above instances) (brought cs) port.log
   pub done : done_with_told port cs ≡ outcomes (is_above instances) port.log (brought cs)
@@ -203,7 +203,7 @@ abbrev pub sent_in_all : BoardFile → Ends → List Happening → List (List �
 sent_in_all setup x [] = []
 sent_in_all setup x (e ∷ es) = sent_when setup x e ++ sent_in_all setup (ends_after setup x e) es
 
--- The requests that are carried out are the rule's, of all that are heard, whatever others do to the board between. What is sent is, frame
+-- The requests that are carried out are the rule's, of all that are heard, whatever others do to the board between. The port sends, frame
 -- for frame, the replies by the rule, and the endpoint's to control messages.
 pub record CarriesTheRule (setup : BoardFile) (x : Ends) (es : List Happening) : Type 0 where
   pub log : (all_after setup x es).port.log ≡ logs_with (is_above instances) (heard_in_all setup x es) x.port.log

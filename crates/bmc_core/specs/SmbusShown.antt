@@ -109,7 +109,7 @@ HasHeard wire eid (Control e r) next out given =
     × AreRead Smbus (parts_from wire next e (control_reply_to eid r))
 HasHeard wire eid (Asks m) next out given = (next ≡ eid) × (given ≡ Some m)
 
--- What is heard in a packet is its message, if it ends one. Else the endpoint has its identifier still, and comes what is sent.
+-- The port hears in a packet its message, if it ends one. Else the endpoint has its identifier still, and comes what is sent.
 abbrev pub IsPart : PortState → Packet → Heard → Out → (whole : Bool) → Type 0
 IsPart port p h out true = h ≡ message_heard (message_of port.kept p)
 IsPart port p h out false = HasHeard port.wire port.eid h port.eid out None

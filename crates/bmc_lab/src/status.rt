@@ -3,7 +3,7 @@
 /// The status that a run ends with, as the process gives it.
 #[derive(Clone, Copy, Debug, PartialEq, Eq)]
 pub enum Status {
-    /// What was asked for was done: a frame was sent, or every event was played.
+    /// The run did what was asked for: a frame was sent, or every event was played.
     Success = 0,
     /// No frame was sent.
     NotSent = 1,

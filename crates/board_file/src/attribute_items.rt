@@ -119,7 +119,7 @@ fn integer(table: &Table) -> IntegerAttribute
     IntegerAttribute::new(steps, default, current).unwrap()
 }
 
-/// What the attribute that the table is is, by the kind that it names.
+/// The kind of attribute that the table is, by the kind that it names.
 fn kind(alloc: Global, table: &Table) -> Result<AttributeKind, FileFault>
     requires { field_faults (attribute_rows (table_view table.now)) (table_view table.now) ≡ [] }
     ensures held { IfOk result (HoldsKind (table_view table.now)) }

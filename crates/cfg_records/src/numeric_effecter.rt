@@ -61,7 +61,7 @@ impl NumericEffecter {
         ensures numbers { IfSome result (λ made. (made.range ≡ range) × (made.current ≡ current)) }
     {
         let bytes = range.size.bytes_of(current);
-        if current as u64 >= range.size.numbers() || !range.is_value(bytes.as_slice()) {
+        if current as u64 >= range.size.numbers() || !range.is_numeric(bytes.as_slice()) {
             return None;
         }
         Some(NumericEffecter {

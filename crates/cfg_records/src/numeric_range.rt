@@ -40,7 +40,7 @@ impl NumericRange {
     }
 
     /// Whether an effecter with these bounds can have the value.
-    pub fn is_value(&self, value: &[u8]) -> bool
+    pub fn is_numeric(&self, value: &[u8]) -> bool
         ensures test { result ≡ is_numeric self.now value.now }
         ensures means { IsTrue result ↔ IsNumeric self.now value.now }
     {

@@ -109,7 +109,7 @@ impl StateEffecter {
     }
 
     /// Whether the effecter can have the value.
-    pub fn is_value(&self, value: &[u8]) -> bool
+    pub fn are_states(&self, value: &[u8]) -> bool
         ensures { result ≡ are_states self.now.fields value.now }
     {
         let fields = self.fields.as_slice();

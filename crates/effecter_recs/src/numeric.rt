@@ -133,7 +133,7 @@ impl NumericLimits {
         if value.len() != self.range.size.width() {
             return Err(PLDM_INVALID_LENGTH);
         }
-        if !self.enabled || !self.range.is_value(value.as_slice()) {
+        if !self.enabled || !self.range.is_numeric(value.as_slice()) {
             return Err(PLDM_INVALID_DATA);
         }
         new.replace(value.as_slice());

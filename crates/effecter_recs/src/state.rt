@@ -118,7 +118,7 @@ impl<'f> StateLimits<'f> {
             return Err(PLDM_INVALID_DATA);
         }
         let states = changed_states(changes, old);
-        if !self.effecter.is_value(states.as_slice()) {
+        if !self.effecter.are_states(states.as_slice()) {
             return Err(PLDM_INVALID_STATE);
         }
         new.replace(states.as_slice());

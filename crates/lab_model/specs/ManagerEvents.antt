@@ -75,7 +75,7 @@ module _ (P : Plans) where
     pub heeded : heeded_on P on m.machine.stage ≡ Some open_part
     pub opened : slice_get s.begun (length s.taken) ≡ Some (open_bytes P on m open_part)
 
-  -- What waits at the model's manager waits at the lab's, under every name, and that is of the open request alone, which has the count
+  -- The packets that wait at the model's manager wait at the lab's, under every name, all of the open request, which has the count
   -- and the controller of the model.
   pub record IsManagerOf (m : ManagerState P) (b : PacketBus) (x : Ends) : Type 0 where
     pub waits : WaitsAlike x.manager m.joined

@@ -98,7 +98,7 @@ pub record IsManagersPart (b : PacketBus) (x : Ends) (which place : ℕ) (p : Pa
   pub named : name_in p ≡ request_name b frame.request
   pub read : request_in b.manager bytes ≡ Some (request_of (rules_of b) frame.request bytes)
 
--- What a packet of at most 64 bytes leaves at the lab's port, the model's event leaves at its own: the log, and what waits. The packet is
+-- The model's event leaves at its port what a packet of at most 64 bytes leaves at the lab's: the log, and what waits. The packet is
 -- another requester's, or the manager's, where the event does what it does in each honest schedule.
 pub record PartsAreEvents (setup : BoardFile) (port : PortState) (before : State) (p : Packet) (b : PacketBus) (x : Ends) : Type 0 where
   pub others : IsPortOf (after_part b port p (OtherPacket (name_in p) (seen (piece p)) (part_answer_to setup port before p)) x) (hears_part setup port before p).port

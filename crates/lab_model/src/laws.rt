@@ -25,7 +25,7 @@ pub fn bytes_are_the_models()
     ensures { AreTheModels }
 {}
 
-/// The manager's test against a request takes the reply to it, unless that has a code of a busy port. What it takes has the request's number.
+/// The manager's test against a request takes the reply to it, unless that has a code of a busy port. A taken reply has the request's number.
 pub fn test_takes_the_reply()
     ensures accepts { Accepts }
     ensures numbered { IsNumbered }

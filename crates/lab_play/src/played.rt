@@ -87,7 +87,7 @@ fn is_changed(store: &PlainStore, first: &(Key, Value)) -> bool
 pub enum LabFault {
     /// Memory was refused.
     Memory,
-    /// The event of this place, counted from 1, has the fault and isn't taken. What was played is as it stood before.
+    /// The event of this place, counted from 1, has the fault and isn't taken. The play is as it stood before.
     Event {
         fault: Fault,
         place: usize,

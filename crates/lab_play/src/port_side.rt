@@ -137,7 +137,7 @@ impl Lab {
         }
     }
 
-    /// What a port filled in last is sent, this way and with this mark.
+    /// The lab sends what a port filled in last, this way and with this mark.
     fn send_out(&mut self, way: Way, mark: Mark) -> Result<(), AllocError>
         requires { mark.idles ≡ idles_in mark.on self.old.idles }
         ensures sent { OnOk result ((file : AnyFile) (x : LabModel plans) (values : List Value) → Shows file self.old x → HasFrames mark.on values self.old.out

@@ -50,7 +50,7 @@ impl Lab {
         }
     }
 
-    /// What isn't configuration changes on the board beside requests. A reading of a sensor that the board doesn't have changes nothing.
+    /// The activity of the board changes beside requests. A reading of a sensor that the board doesn't have changes nothing.
     fn bench(&mut self, event: Bench)
         ensures becomes { Becomes self.old self.new (λ file x. record x { board = (bench_of file x.board event).1 }) }
         ensures idles { self.new.idles ≡ self.old.idles }

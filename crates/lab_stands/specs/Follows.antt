@@ -1,4 +1,4 @@
--- What a lab does at an event, the model's world does: the laws of single steps.
+-- The model's world does what a lab does at an event: the laws of single steps.
 use Rattle.std.specs.Prelude.{ℕ, List}
 use Rattle.two_wire.specs.declared.Bus.{Bus}
 use Rattle.ipmb_frame.specs.declared.message.Request.{Request}

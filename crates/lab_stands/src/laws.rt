@@ -1,4 +1,4 @@
-//! What a lab does at an event, the model's world does.
+//! The model's world does what a lab does at an event.
 
 ghost use Rattle.std.specs.Prelude.{ℕ, List};
 ghost use Rattle.cfg_records.specs.declared.op.Op.{Op};

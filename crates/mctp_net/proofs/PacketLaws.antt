@@ -4,7 +4,7 @@ use Rattle.std.specs.Result.{result_err}
 use Rattle.std.proofs.lemmas.Bool.{eq-eqb}
 use Rattle.std.proofs.lemmas.Bool.Decides.{nat_tests}
 use Rattle.std.proofs.Math.Seq.{take-append_seam, get_or-append_seam}
-use Rattle.two_wire.specs.Pec.{pec_of}
+use Rattle.two_wire.specs.Pec.{pec}
 use Rattle.mctp_net.specs.declared.fault.PacketFault.{PacketFault}
 use Rattle.mctp_net.specs.declared.fault.PacketFault.TheVariants.{Short, NotMctp, Count, Pec, Version}
 use Rattle.mctp_net.specs.declared.packet.Packet.{Packet}
@@ -30,7 +30,7 @@ bit-lt false = omega arith
 -- bytes are at most one packet
 pub packet-one : (p q : Packet) (bytes : List ℕ) → IsPacket p bytes → IsPacket q bytes → p ≡ q
 packet-one p q bytes (i, low, h) (j, also, k) =
-    let front : unchecked p i ≡ unchecked q j = push-front (unchecked p i) (unchecked q j) (pec_of (unchecked p i)) (pec_of (unchecked q j)) (sym h.spelled ∙ k.spelled) in
+    let front : unchecked p i ≡ unchecked q j = push-front (unchecked p i) (unchecked q j) (pec (unchecked p i)) (pec (unchecked q j)) (sym h.spelled ∙ k.spelled) in
     let destination : p.envelope.destination ≡ q.envelope.destination = cc in
     let source : p.envelope.source + 1 ≡ q.envelope.source + 1 = cc in
     let destination_eid : p.envelope.destination_eid ≡ q.envelope.destination_eid = cc in
@@ -62,10 +62,10 @@ packet-one p q bytes (i, low, h) (j, also, k) =
     }
 
 -- the last byte behind its front is the front's packet error code
-pec-holds : (front : List ℕ) → not (pec_of (take (length (with_pec front) - 1) (with_pec front)) == get_or (with_pec front) (length (with_pec front) - 1) 0) ≡ false
+pec-holds : (front : List ℕ) → not (pec (take (length (with_pec front) - 1) (with_pec front)) == get_or (with_pec front) (length (with_pec front) - 1) 0) ≡ false
 pec-holds front =
-    let n : length (with_pec front) - 1 ≡ length front = omega (arith, length-append front (pec_of front ∷ [])) in
-    rw (n, take-append_seam front (pec_of front ∷ []), get_or-append_seam front (pec_of front) [] 0, eq-eqb (pec_of front) (pec_of front) refl) refl
+    let n : length (with_pec front) - 1 ≡ length front = omega (arith, length-append front (pec front ∷ [])) in
+    rw (n, take-append_seam front (pec front ∷ []), get_or-append_seam front (pec front) [] 0, eq-eqb (pec front) (pec front) refl) refl
 
 -- a packet has no fault
 pub packet-whole : (p : Packet) (bytes : List ℕ) → IsPacket p bytes → find (has_fault bytes) faults ≡ None
@@ -75,7 +75,7 @@ packet-whole p bytes (i, low, h) = rw h.spelled (no_fault p i low h.envelope h.s
         → find (has_fault (with_pec (unchecked p i))) faults ≡ None
     no_fault p i low envelope some fits =
         let bytes : List ℕ = with_pec (unchecked p i) in
-        let n : length bytes ≡ length p.payload + 9 = omega (arith, length-append p.payload (pec_of (unchecked p i) ∷ [])) in
+        let n : length bytes ≡ length p.payload + 9 = omega (arith, length-append p.payload (pec (unchecked p i) ∷ [])) in
         let even : p.envelope.destination % 2 ≡ 0 = envelope.destination.1 in
         let also : p.envelope.source % 2 ≡ 0 = envelope.source.1 in
         let short : has_fault bytes Short ≡ false = grind (arith, nat_tests) in

@@ -5,7 +5,7 @@ use Rattle.std.proofs.Math.Seq.{take-length}
 use Rattle.std.specs.Prelude.{bit_and}
 use Rattle.std.specs.List.{range_with_len}
 use Rattle.std.proofs.lemmas.List.FromFn.{get_or-map-range_with_len, get_or-range_with_len}
-use Rattle.two_wire.specs.Pec.{pec_of}
+use Rattle.two_wire.specs.Pec.{pec}
 use Rattle.mctp_net.specs.declared.packet.Packet.{Packet}
 use Rattle.mctp_net.specs.Grammar.{bit, flags_of, unchecked, with_pec, IsEnvelope, IsPacket}
 
@@ -16,7 +16,7 @@ all_but_last bytes some =
     sym (take_more bytes n 0 (omega arith)) ∙ (let e : n + 1 ≡ length bytes = omega arith in rw e (take-length bytes))
 
 -- bytes whose last is their packet error code
-pub pec-front : (bytes : List ℕ) → 0 < length bytes → pec_of (take (length bytes - 1) bytes) ≡ get_or bytes (length bytes - 1) 0 → with_pec (take (length bytes - 1) bytes) ≡ bytes
+pub pec-front : (bytes : List ℕ) → 0 < length bytes → pec (take (length bytes - 1) bytes) ≡ get_or bytes (length bytes - 1) 0 → with_pec (take (length bytes - 1) bytes) ≡ bytes
 pec-front bytes some is = rw is (all_but_last bytes some)
 
 -- the places of a packet's bytes
@@ -46,7 +46,7 @@ flags_is b h =
 -- a packet is what its fields are in the bytes
 pub packet_is : (bytes : List ℕ) (p : Packet) → 10 ≤ length bytes → length bytes ≤ 73
     → IsEnvelope p.envelope → p.sequence < 4
-    → pec_of (take (length bytes - 1) bytes) ≡ get_or bytes (length bytes - 1) 0
+    → pec (take (length bytes - 1) bytes) ≡ get_or bytes (length bytes - 1) 0
     → p.envelope.destination ≡ get_or bytes 0 0 → 15 ≡ get_or bytes 1 0 → get_or bytes 2 0 + 4 ≡ length bytes → p.envelope.source + 1 ≡ get_or bytes 3 0
     → get_or bytes 4 0 % 16 ≡ 1 → get_or bytes 4 0 < 256 → p.envelope.destination_eid ≡ get_or bytes 5 0 → p.envelope.source_eid ≡ get_or bytes 6 0
     → flags_of p ≡ get_or bytes 7 0 → p.payload ≡ take (length bytes - 1 - 8) (drop 8 bytes) → IsPacket p bytes

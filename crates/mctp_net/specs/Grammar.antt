@@ -1,6 +1,6 @@
 -- Packets of the System Management Bus.
 use Rattle.std.specs.Prelude.{◌≡◌, ℕ, ◌+◌, ◌-◌, ◌*◌, ◌%◌, ◌<◌, ◌≤◌, List, [], ◌∷◌, ◌++◌, length, take, slice_index, Bool, nat_lt, ◌==◌, ◌||◌, not, if◌then◌else◌, codes, find, Some}
-use Rattle.two_wire.specs.Pec.{pec_of}
+use Rattle.two_wire.specs.Pec.{pec}
 use Rattle.mctp_net.specs.declared.fault.PacketFault.{PacketFault}
 use Rattle.mctp_net.specs.declared.fault.PacketFault.TheVariants.{Short, NotMctp, Count, Pec, Version}
 use Rattle.mctp_net.specs.declared.packet.Envelope.{Envelope}
@@ -23,7 +23,7 @@ unchecked p ignored =
 
 -- bytes, and behind them their packet error code
 abbrev pub with_pec : List ℕ → List ℕ
-with_pec bytes = bytes ++ pec_of bytes ∷ []
+with_pec bytes = bytes ++ pec bytes ∷ []
 
 -- the fields are in their ranges
 pub record IsEnvelope (e : Envelope) : Type 0 where
@@ -50,7 +50,7 @@ abbrev pub has_fault : List ℕ → PacketFault → Bool
 has_fault bytes Short = nat_lt (length bytes) 10
 has_fault bytes NotMctp = not (slice_index bytes 1 == 15) || slice_index bytes 0 % 2 == 1 || slice_index bytes 3 % 2 == 0
 has_fault bytes Count = not (slice_index bytes 2 + 4 == length bytes) || nat_lt 73 (length bytes)
-has_fault bytes Pec = not (pec_of (take (length bytes - 1) bytes) == slice_index bytes (length bytes - 1))
+has_fault bytes Pec = not (pec (take (length bytes - 1) bytes) == slice_index bytes (length bytes - 1))
 has_fault bytes Version = not (slice_index bytes 4 % 16 == 1)
 
 -- the faults in their order

@@ -11,7 +11,7 @@ use Rattle.std.proofs.lemmas.List.FromFn.{get_or-map-range_with_len}
 use Rattle.std.proofs.lemmas.Nat.{xor_lt}
 use Rattle.two_wire.specs.Bits.{bits, highest_first, number_of}
 use Rattle.two_wire.specs.Polynomial.{zeros, plus, scaled, divide, IsRemainder, remainder_of}
-use Rattle.two_wire.specs.Pec.{divisor, dividend, IsPec, pec_of}
+use Rattle.two_wire.specs.Pec.{divisor, dividend, IsPec, pec}
 use Rattle.two_wire.specs.declared.packet_error.TheConstants.{REMAINDERS, BEFORE_ONE, BEFORE_TWO, BEFORE_THREE}
 use Rattle.two_wire.proofs.Bits.{bits-xor, same_from_highest, bits-number_of, number_of-lt}
 use Rattle.two_wire.proofs.Division.{plus-comm, plus-zeros, plus-append, divides, divide-plus, divide-zeros, divide-on, one-remainder}
@@ -246,8 +246,8 @@ left_of-end code [] bytes small past same =
     record { small = small; divided = (let P : List Bool → Type 0 = λ r. IsRemainder divisor (dividend bytes) r in subst P (sym is) (divided bytes)) }
 
 -- all bytes have a packet error code
-pub has_pec : (bytes : List ℕ) → IsPec bytes (pec_of bytes)
-unfolding pec_of
+pub has_pec : (bytes : List ℕ) → IsPec bytes (pec bytes)
+unfolding pec
 has_pec bytes =
     let found : List Bool = remainder_of divisor (dividend bytes) in
     let long : length (reverse found) ≡ 8 = omega (arith, length-reverse found, (divided bytes).lower, ap length divisor-is, length-byte 0x07) in

@@ -18,5 +18,5 @@ pub record IsPec (bytes : List ℕ) (code : ℕ) : Type 0 where
   pub divided : IsRemainder divisor (dividend bytes) (highest_first 8 code)
 
 -- that byte, by long division
-unfoldable pub pec_of : List ℕ → ℕ
-pec_of bytes = number_of (reverse (remainder_of divisor (dividend bytes)))
+unfoldable pub pec : List ℕ → ℕ
+pec bytes = number_of (reverse (remainder_of divisor (dividend bytes)))

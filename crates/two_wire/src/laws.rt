@@ -1,10 +1,10 @@
 //! What holds of the definitions.
 ghost use Rattle.std.specs.Prelude.{◌≡◌, List, ℕ};
-ghost use Rattle.two_wire.specs.Pec.{IsPec, pec_of};
+ghost use Rattle.two_wire.specs.Pec.{IsPec, pec};
 
 /// All bytes have a packet error code.
 pub fn all_bytes_have_a_pec()
-    ensures { (bytes : List ℕ) → IsPec bytes (pec_of bytes) }
+    ensures { (bytes : List ℕ) → IsPec bytes (pec bytes) }
 {}
 
 /// No bytes have two of them.

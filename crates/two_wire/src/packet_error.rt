@@ -1,6 +1,6 @@
 //! The packet error code of the System Management Bus.
 ghost use Rattle.std.specs.Prelude.{◌≡◌};
-ghost use Rattle.two_wire.specs.Pec.{IsPec, pec_of};
+ghost use Rattle.two_wire.specs.Pec.{IsPec, pec};
 
 // What is left of each byte that no other follows, with eight zero bits behind it.
 #[rattlefmt::skip]
@@ -90,7 +90,7 @@ static BEFORE_THREE: [u8; 256] = [
 /// looked up by itself, so that no look-up but the first waits for the code before.
 pub fn pec(bytes: &[u8]) -> u8
     ensures remainder { IsPec bytes.now result }
-    ensures value { result ≡ pec_of bytes.now }
+    ensures value { result ≡ pec bytes.now }
 {
     let mut code = 0u8;
     let mut left = bytes;

@@ -135,7 +135,7 @@ fn show<B: Buffer>(value: &[u8], live: &Live, reply: &mut B)
 }
 
 /// What isn't configuration, after Reset Watchdog Timer: its countdown begins anew and it runs. None where it was never set.
-pub fn reset(value: &[u8], live: &Live) -> Option<Live>
+pub fn live_after_reset(value: &[u8], live: &Live) -> Option<Live>
     requires { IsWatchdog value.now }
     ensures { SomeIff result (WasSet value.now) (live_after_reset value.now live.now) }
 {
@@ -152,7 +152,7 @@ pub fn reset(value: &[u8], live: &Live) -> Option<Live>
 }
 
 /// A tenth of a second has passed: changes what isn't configuration, by the settings.
-pub fn tick(value: &[u8], live: &mut Live)
+pub fn live_after_tick(value: &[u8], live: &mut Live)
     ensures { live.new ≡ live_after_tick value.now live.old }
 {
     if !live.running {

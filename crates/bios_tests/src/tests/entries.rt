@@ -1,7 +1,7 @@
 //! Entries and whole tables of the sample board, read from their bytes.
-use bios_attr::attribute_entry::{AttributeEntry, KindFields, read_attribute};
-use bios_attr::string_entry::read_string;
-use bios_attr::table_entry::read_table_entry;
+use bios_attr::attribute_entry::{AttributeEntry, KindFields, attribute_at};
+use bios_attr::string_entry::string_at;
+use bios_attr::table_entry::entry_at;
 use bios_attr::{BiosTable, TableError, count_table};
 use pldm_base::crc32;
 use std::test::Fail;
@@ -48,7 +48,7 @@ fn count(table: BiosTable, entries: &[u8], padding: &[u8]) -> Result<usize, Tabl
 
 /// How many bytes the first entry has, if there is one.
 fn first_length(table: BiosTable, bytes: &[u8]) -> Option<usize> {
-    let (_, rest) = read_table_entry(table, bytes)?;
+    let (_, rest) = entry_at(table, bytes)?;
     bytes.len().checked_sub(rest.as_slice().len())
 }
 
@@ -104,7 +104,7 @@ fn other_bytes_are_no_table(rt: HostRuntime) -> Result<(), Fail> {
 
 #[test]
 fn a_string_is_shown_where_it_lies(rt: HostRuntime) -> Result<(), Fail> {
-    let (entry, rest) = read_string(&STRINGS).ok_or("an entry")?;
+    let (entry, rest) = string_at(&STRINGS).ok_or("an entry")?;
     assert_eq!(rt; entry.handle, 0);
     assert_eq!(rt; entry.text.as_slice(), b"Quiet".as_slice());
     assert_eq!(rt; rest.as_slice().len(), 31);
@@ -113,7 +113,7 @@ fn a_string_is_shown_where_it_lies(rt: HostRuntime) -> Result<(), Fail> {
 
 #[test]
 fn an_attribute_is_shown_where_it_lies(rt: HostRuntime) -> Result<(), Fail> {
-    let (entry, rest) = read_attribute(&ATTRIBUTES).ok_or("an entry")?;
+    let (entry, rest) = attribute_at(&ATTRIBUTES).ok_or("an entry")?;
     assert_eq!(rt; heads(&entry), (0, 0, false));
     assert_eq!(rt; rest.as_slice().len(), 45);
     let KindFields::Enumeration(fields) = &entry.kind else {

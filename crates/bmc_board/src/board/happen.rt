@@ -80,7 +80,7 @@ impl<S: Store> Board<S> {
         ensures setup { self.new.setup ≡ self.old.setup }
     {
         let settings = value_at(&self.store, &Key::Watchdog);
-        watchdog::tick(settings, &mut self.activity.live);
+        watchdog::live_after_tick(settings, &mut self.activity.live);
         self.activity.log.tick();
     }
 

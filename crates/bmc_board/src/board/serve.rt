@@ -170,7 +170,7 @@ impl<S: Store> Board<S> {
         let Some(value) = self.store.get(&Key::Watchdog) else {
             return Err(unknown_code(&self.setup, &Key::Watchdog));
         };
-        match watchdog::reset(value, &self.activity.live) {
+        match watchdog::live_after_reset(value, &self.activity.live) {
             Some(live) => {
                 self.activity.live = live;
                 Ok(())

@@ -4,7 +4,7 @@ use cfg_records::{
     Asked, Live, Op, RecordData, RecordKind, SetPowerPolicy, SetWatchdog, Value, there_and_back,
 };
 use two_wire::{Below, NetFn};
-use watch_boot::watchdog::reset;
+use watch_boot::watchdog::live_after_reset;
 use watch_boot::{PowerPolicyLimits, WatchdogLimits};
 
 /// Settings of a watchdog: for the operating system, a reset after 3000 times 100 ms.
@@ -127,13 +127,13 @@ fn a_get_shows_the_settings_and_the_timer(rt: HostRuntime) {
 
 #[test]
 fn a_reset_starts_a_timer_that_was_set(rt: HostRuntime) {
-    let live = reset(&SETTINGS, &running()).expect(&rt, "never set");
+    let live = live_after_reset(&SETTINGS, &running()).expect(&rt, "never set");
     assert!(rt; live.running && live.countdown == 3000);
     // The flags stay.
     assert_eq!(rt; live.expired, 0x18);
-    let live = reset(&SETTINGS, &Live::opening()).expect(&rt, "never set");
+    let live = live_after_reset(&SETTINGS, &Live::opening()).expect(&rt, "never set");
     assert!(rt; live.running && live.countdown == 3000 && live.expired == 0);
-    assert!(rt; reset(&[0; 5], &Live::opening()).is_none());
+    assert!(rt; live_after_reset(&[0; 5], &Live::opening()).is_none());
 }
 
 #[test]

@@ -5,7 +5,7 @@ use Rattle.bios_attr.proofs.whole_table.count_entries.Goals as goal
 
 pub returns-in_default : goal.returns-in_default
 returns-in_default c =
-    let unread = sym c.read_table_entry.ensures ∙ c.in_default.is in (
+    let unread = sym c.entry_at.ensures ∙ c.in_default.is in (
       no_entry c.args.table c.args.bytes.now c.loop-rest.rest.now c.loop-rest.count c.loop-rest.invariant c.loop-rest-test.true unread,
       record { rest = c.loop-rest.rest.now; begins = begins c.args.table c.args.bytes.now c.loop-rest.rest.now c.loop-rest.count c.loop-rest.invariant; long = c.loop-rest-test.true; unread = unread },
     )
@@ -14,13 +14,13 @@ pub loop-rest-smaller : goal.loop-rest-smaller
 loop-rest-smaller c =
     let small : AreBytes c.loop-rest.rest.now = small_rest c.args.table c.args.bytes.now c.loop-rest.rest.now c.loop-rest.count c.loop-rest.invariant (λ i. let fits = c.type_inv.bytes i in omega (arith, fits)) in
     subst (λ (xs : List ℕ). length xs < length c.loop-rest.rest.now) (sym c.as_slice-rest.ensures)
-    (behind_less c.args.table c.loop-rest.rest.now c.in-Some.behind c.in-Some.field-0-0 small (sym c.read_table_entry.ensures ∙ c.in-Some.is))
+    (behind_less c.args.table c.loop-rest.rest.now c.in-Some.behind c.in-Some.field-0-0 small (sym c.entry_at.ensures ∙ c.in-Some.is))
 
 pub loop-rest-preserved : goal.loop-rest-preserved
 loop-rest-preserved c =
     let small : AreBytes c.loop-rest.rest.now = small_rest c.args.table c.args.bytes.now c.loop-rest.rest.now c.loop-rest.count c.loop-rest.invariant (λ i. let fits = c.type_inv.bytes i in omega (arith, fits)) in
     subst (λ (xs : List ℕ). SoFar c.args.table c.args.bytes.now xs (c.loop-rest.count + 1)) (sym c.as_slice-rest.ensures)
-    (one_more c.args.table c.args.bytes.now c.loop-rest.rest.now c.in-Some.behind c.loop-rest.count c.in-Some.field-0-0 c.loop-rest.invariant small c.loop-rest-test.true (sym c.read_table_entry.ensures ∙ c.in-Some.is))
+    (one_more c.args.table c.args.bytes.now c.loop-rest.rest.now c.in-Some.behind c.loop-rest.count c.in-Some.field-0-0 c.loop-rest.invariant small c.loop-rest-test.true (sym c.entry_at.ensures ∙ c.in-Some.is))
 
 pub returns-then-is_padding : goal.returns-then-is_padding
 returns-then-is_padding c =

@@ -4,7 +4,7 @@ use Rattle.cfg_records.specs.AttributeRangeLaws.{le_true}
 use Rattle.bios_attr.specs.declared.attribute_entry.KindFields.TheVariants.{Integer}
 use Rattle.bios_attr.specs.AttributeEntry.{numbers_in}
 use Rattle.bios_attr.specs.EntryLaws.{fits}
-use Rattle.bios_attr.proofs.attribute_entry.read_integer.Goals as goal
+use Rattle.bios_attr.proofs.attribute_entry.integer_at.Goals as goal
 
 pub returns : goal.returns
 returns c =
