@@ -7,7 +7,7 @@ ghost use Rattle.bios_attr.specs.BiosAttribute.{no_handle, get_first_part, attri
 
 use crate::value_entry::{entry_in, shown_type};
 use cfg_records::attribute_sizes::{BEFORE_VALUE, MOST_INDEXES, MOST_TEXT};
-use cfg_records::attribute_value::{AttributeValue, read_value};
+use cfg_records::attribute_value::{AttributeValue, value_in};
 use cfg_records::value::DATA_CAPACITY;
 use cfg_records::{
     Asked, Attribute, AttributeRange, Key, Live, RecordData, RecordKind, SetBiosAttribute, Value,
@@ -153,7 +153,7 @@ impl AttributeLimits {
             return Err(PLDM_INVALID_DATA);
         }
         let bytes = op.value.as_slice();
-        let Some(value) = read_value(op.attribute_type, bytes) else {
+        let Some(value) = value_in(op.attribute_type, bytes) else {
             return Err(PLDM_INVALID_LENGTH);
         };
         if !self.range.allows(&value) {

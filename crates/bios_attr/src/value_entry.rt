@@ -7,7 +7,7 @@ ghost use Rattle.bios_attr.specs.TableEntry.{value_size, value_at};
 
 use crate::rest::Rest;
 use cfg_records::attribute_sizes::MOST_SENT;
-use cfg_records::attribute_value::{AttributeValue, ENUMERATION_TYPE, STRING_TYPE, read_value};
+use cfg_records::attribute_value::{AttributeValue, ENUMERATION_TYPE, STRING_TYPE, value_in};
 use cfg_records::byte_at;
 use two_wire::Buffer;
 
@@ -54,7 +54,7 @@ pub fn entry_in(bytes: &[u8]) -> Option<ValueEntry<'_>>
     if bytes.len() < 3 {
         return None;
     }
-    let value = read_value(bytes[2] % READ_ONLY_BIT, &bytes[3..])?;
+    let value = value_in(bytes[2] % READ_ONLY_BIT, &bytes[3..])?;
     Some(ValueEntry {
         attribute: u16::from_le_bytes([bytes[0], bytes[1]]),
         read_only: bytes[2] >= READ_ONLY_BIT,
@@ -88,7 +88,7 @@ pub fn value_at(bytes: &[u8]) -> Option<(ValueEntry<'_>, Rest<'_>)>
     if size > MOST_SENT || behind.len() < size {
         return None;
     }
-    let value = read_value(code, &behind[..size])?;
+    let value = value_in(code, &behind[..size])?;
     let entry = ValueEntry {
         attribute: u16::from_le_bytes([bytes[0], bytes[1]]),
         read_only: bytes[2] >= READ_ONLY_BIT,

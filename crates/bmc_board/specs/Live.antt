@@ -2,6 +2,7 @@
 use Rattle.std.specs.Prelude.{ℕ, ◌/◌, ◌%◌, List, [], ◌∷◌, Option, Some, None, Result, Ok, Err, Bool, true, false, ◌==◌, if◌then◌else◌}
 use Rattle.two_wire.specs.Codes.{uninitialized_watchdog, invalid_data_field}
 use Rattle.std.specs.Int.{w16, w32, to_le_bytes}
+use Rattle.two_wire.specs.Sizes.{most_ipmi_reply_data}
 use Rattle.cfg_records.specs.Records.{Records}
 use Rattle.cfg_records.specs.Requests.{byte_at}
 use Rattle.cfg_records.specs.declared.key.Key.TheVariants as key
@@ -142,7 +143,7 @@ live_answer setup records before live.GetBiosTable body = (table_answer setup re
 
 -- the reply to a live command has at most so many bytes of data, which fit any frame; but a part of a table, which fits a message of PLDM
 abbrev pub longest_live_reply : ℕ
-longest_live_reply = 24
+longest_live_reply = most_ipmi_reply_data
 
 abbrev pub longest_live : LiveCommand → ℕ
 longest_live live.GetBiosTable = longest_part

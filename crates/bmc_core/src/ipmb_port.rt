@@ -1,6 +1,7 @@
 //! A port on IPMB.
 ghost use Rattle.std.specs.Prelude.{◌≡◌, ◌==◌, ◌≤◌, ◌-◌, ◌<◌, ℕ, true, [], ◌∷◌, List, length, drop, slice_index, IfOk, Result, Some};
 ghost use Rattle.std.specs.List.{list_any};
+ghost use Rattle.two_wire.specs.Sizes.{most_ipmi_reply_data};
 ghost use Rattle.ipmb_frame.specs.declared.message.Request.{Request as AnyRequest};
 ghost use Rattle.ipmb_frame.specs.Grammar.{request_bytes, IsRequest, IsResponse};
 ghost use Rattle.two_wire.specs.declared.Bus.TheVariants.{Ipmb};
@@ -32,6 +33,7 @@ use ipmb_frame::{
 };
 use std::alloc::{AllocError, Global};
 use std::marker::Model;
+use two_wire::size::MOST_IPMI_REQUEST_DATA;
 use two_wire::{Address, Bytes, Code, Frame, code};
 use windows::{Found, Request as Heard, Windows};
 
@@ -50,7 +52,7 @@ pub struct IpmbPort {
 #[derive(Debug, Drop)]
 pub struct IpmbPending {
     header: Header,
-    body: Bytes<25>,
+    body: Bytes<{ MOST_IPMI_REQUEST_DATA }>,
 }
 
 impl Model for IpmbPending {
@@ -182,7 +184,7 @@ fn respond<S: Store>(board: &mut Board<S>, request: &Request<'_>, frame: &mut Fr
 /// Sends the response of this header, code and data, to a request that isn't carried out. The caller has noted in `out` what was done.
 #[inline(always)]
 fn send(out: &mut Out, header: &Header, code: u8, body: &[u8])
-    requires { length body.now ≤ 24 }
+    requires { length body.now ≤ most_ipmi_reply_data }
     ensures sent { out.new ≡ sends (response_frame header.now code body.now ∷ []) out.old.done }
     ensures read { IsResponse (response header.now code body.now) (response_frame header.now code body.now) }
 {
@@ -344,10 +346,10 @@ impl IpmbPort {
     }
 
     /// Takes the answer to a request that `hear` gave, and fills in what is to be sent. Where the request repeats another by
-    /// now, it gets the kept response; where no window is free any more, the port answers that it's busy. The answer has at most 24
-    /// bytes of data, as a board's to this request.
+    /// now, it gets the kept response; where no window is free any more, the port answers that it's busy. The answer's
+    /// data fit a response, as those of a board's answer to this request do.
     pub fn told(&mut self, pending: IpmbPending, answered: &Answered, out: &mut Out)
-        requires { length answered.now.body ≤ 24 }
+        requires { length answered.now.body ≤ most_ipmi_reply_data }
         ensures shows { (p : PortState) → Shows self.old p → Shows self.new (after p pending answered.now) }
         ensures sent { (p : PortState) → Shows self.old p → out.new ≡ answers p pending answered.now }
         ensures read { (p : PortState) → Shows self.old p → AreRead Ipmb (response_told p pending answered.now ∷ []) }

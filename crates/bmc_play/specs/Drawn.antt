@@ -24,8 +24,8 @@ EndsAt events notes None (Whole told) = notes ≡ length events
 EndsAt events notes (Some stopped) (Stops cause at told) = (fault_of stopped.fault ≡ cause) × (stopped.place ≡ at) × (stopped.place ≡ notes + 1)
 EndsAt events notes _ _ = ⊥
 
--- These are the notes of a play: of all its events, or of those before this one, which has a fault. The play tells what stands: the
--- phase says what the records are.
+-- These are the notes of a play: of all its events, or of those before this one, which has a fault. The
+-- play's phase is true: it says what the records are.
 pub record NotesPlayOf (file : BoardFile) (steps : List Op) (retries : ℕ) (events : List Event) (stopped : Option Stopped) (notes : List Note) : Type 0 where
   pub ending : Ending
   pub played : IsPlayed (own_bench file) file steps retries events ending

@@ -33,7 +33,7 @@ abbrev pub refusal_line : InputFault → List ℕ
 refusal_line why = input_fault_name why ++ 10 ∷ []
 
 -- The text is the account of a play of these inputs: of the lab's run of the schedule, up to the first event that has a fault. The
--- play tells what stands: the phase says what the records are.
+-- play's phase is true: it says what the records are.
 pub record Recounts (frames : Bool) (inputs : Inputs) (text : List ℕ) (status : Status) : Type 0 where
   pub ending : Ending
   pub played : IsPlayed (own_bench inputs.file) inputs.file inputs.plan.steps inputs.plan.retries inputs.events ending

@@ -1,5 +1,6 @@
 -- A message as packets.
 use Rattle.std.specs.Prelude.{◌≡◌, ℕ, zero, suc, ◌≤◌, Bool, true, false, ◌==◌, nat_le, List, [], ◌∷◌, ◌++◌, length, take, drop, if◌then◌else◌}
+use Rattle.two_wire.specs.Sizes.{most_message_bytes}
 use Rattle.bus_model.specs.Repeat.{In}
 
 -- what an assembly looks at in a packet: the marks of start and end, the sequence number and the payload
@@ -38,10 +39,10 @@ packets_from (suc left) place bytes =
     then record { first = place == 0; last = true; sequence = place; payload = bytes } ∷ []
     else record { first = place == 0; last = false; sequence = place; payload = take unit_size bytes } ∷ packets_from left (suc place) (drop unit_size bytes)
 
--- the way that there is: up to 256 bytes in runs of `unit_size`
+-- the way that there is: up to `most_message_bytes` in runs of `unit_size`
 abbrev pub packets_of : List ℕ → List Packet
-packets_of bytes = if nat_le (length bytes) 256 then packets_from 4 0 bytes else []
+packets_of bytes = if nat_le (length bytes) most_message_bytes then packets_from 4 0 bytes else []
 
--- each message of at most 256 bytes has a cut, of packets of at most `unit_size` bytes
+-- each message of at most `most_message_bytes` has a cut, of packets of at most `unit_size` bytes
 abbrev pub CutsAll : (List ℕ → List Packet) → Type 0
-CutsAll split = (bytes : List ℕ) → length bytes ≤ 256 → IsCut (split bytes) bytes × ((p : Packet) → In p (split bytes) → length p.payload ≤ unit_size)
+CutsAll split = (bytes : List ℕ) → length bytes ≤ most_message_bytes → IsCut (split bytes) bytes × ((p : Packet) → In p (split bytes) → length p.payload ≤ unit_size)

@@ -1,4 +1,4 @@
--- What a BIOS attribute begins with is a value that it can have.
+-- A BIOS attribute begins with a value that it can have.
 use Rattle.std.proofs.Common.{◌≡◌, ℕ, List, length, Option, Some, refl, sym, subst, true, ◌&&◌, nat_le}
 use Rattle.std.specs.Option.{IsSomeAnd}
 use Rattle.cfg_records.specs.declared.attribute.Attribute.{Attribute}

@@ -1,5 +1,6 @@
 -- How much a BIOS attribute can have.
 use Rattle.std.specs.Prelude.{ℕ, ◌+◌, ◌-◌}
+use Rattle.two_wire.specs.Sizes.{most_pldm_request_data}
 
 -- how many possible values an enumeration has at most
 abbrev pub most_indexes : ℕ
@@ -19,7 +20,7 @@ most_value = 2 + most_text
 
 -- how many bytes the data of a request have at most
 abbrev pub most_data : ℕ
-most_data = 252
+most_data = most_pldm_request_data
 
 -- how many of them stand before a value: handle, flag, attribute and type
 abbrev pub before_value : ℕ

@@ -1,6 +1,7 @@
 -- What a kind of record says of an operation.
 use Rattle.std.specs.Prelude.{◌≢◌, ℕ, ◌<◌, List, Result, Ok, Err}
 use Rattle.two_wire.specs.Codes.{node_busy, pldm_not_ready}
+use Rattle.two_wire.specs.Sizes.{most_ipmi_reply_data, most_pldm_reply_data}
 use Rattle.cfg_records.specs.declared.message.Asked.{Asked}
 use Rattle.cfg_records.specs.declared.message.Asked.TheVariants.{Ipmi, Pldm}
 
@@ -23,5 +24,5 @@ pub record IsRefusal (code : ℕ) : Type 0 where
 
 -- how many bytes of data the reply to the request may have: 24 over IPMB, 251 over PLDM
 abbrev pub room_for : Asked → ℕ
-room_for (Ipmi from net_fn lun command body) = 24
-room_for (Pldm from kind command body) = 251
+room_for (Ipmi from net_fn lun command body) = most_ipmi_reply_data
+room_for (Pldm from kind command body) = most_pldm_reply_data

@@ -1,4 +1,4 @@
--- That a part of a board file is in its range is proved in one way at most.
+-- A part of a board file has at most one proof of being in its range.
 use Rattle.std.specs.Prelude.{ℕ, List}
 use Rattle.std.proofs.Props.{props}
 use Rattle.cfg_records.specs.declared.thresholds.ThresholdMasks.{ThresholdMasks}

@@ -96,7 +96,7 @@ fn read_number(bytes: &[u8]) -> Option<AttributeValue<'static>>
 }
 
 /// The value of this type that the bytes are, if their length is its.
-pub fn read_value(code: u8, bytes: &[u8]) -> Option<AttributeValue<'_>>
+pub fn value_in(code: u8, bytes: &[u8]) -> Option<AttributeValue<'_>>
     requires { length bytes.now ≤ most_sent }
     ensures { result ≡ value_in code bytes.now }
 {

@@ -1,7 +1,9 @@
 //! Requests and replies, without their frames.
 ghost use Rattle.std.specs.Prelude.{◌≡◌, ◌≤◌, ◌↔◌, [], length, IsTrue};
+ghost use Rattle.two_wire.specs.Sizes.{most_ipmi_request_data, most_pldm_request_data, most_pldm_reply_data};
 ghost use Rattle.cfg_records.specs.Requests.{byte_at};
 
+use two_wire::size::{MOST_IPMI_REQUEST_DATA, MOST_PLDM_REPLY_DATA, MOST_PLDM_REQUEST_DATA};
 use two_wire::{Below, Bytes, Code, Lun, NetFn};
 
 /// A request, and who sent it: its IPMB address, or its endpoint's EID.
@@ -13,14 +15,14 @@ pub enum Asked {
         net_fn: NetFn,
         lun: Lun,
         command: u8,
-        body: Bytes<25>,
+        body: Bytes<{ MOST_IPMI_REQUEST_DATA }>,
     },
     /// PLDM: type, command and data.
     Pldm {
         from: u8,
         kind: Below<64>,
         command: u8,
-        body: Bytes<252>,
+        body: Bytes<{ MOST_PLDM_REQUEST_DATA }>,
     },
 }
 
@@ -28,13 +30,13 @@ pub enum Asked {
 #[derive(Debug, PartialEq, Eq, Drop)]
 pub struct Answered {
     pub code: u8,
-    pub body: Bytes<251>,
+    pub body: Bytes<{ MOST_PLDM_REPLY_DATA }>,
 }
 
 impl Answered {
     /// The reply to a request that was carried out.
     pub fn done(body: &[u8]) -> Self
-        requires { length body.now ≤ 251 }
+        requires { length body.now ≤ most_pldm_reply_data }
         ensures { result ≡ record { code = 0; body = body.now } }
     {
         Answered {
@@ -86,7 +88,7 @@ impl Asked {
 
     /// The IPMI request of this network function and command, with these bytes of data: from nobody, to logical unit 0.
     pub fn ipmi(net_fn: NetFn, command: u8, bytes: &[u8]) -> Self
-        requires { length bytes.now ≤ 25 }
+        requires { length bytes.now ≤ most_ipmi_request_data }
         ensures { result ≡ ipmi_request net_fn command bytes.now }
     {
         Asked::Ipmi {
@@ -100,7 +102,7 @@ impl Asked {
 
     /// The PLDM request of this type and command, with these bytes of data: from nobody.
     pub fn pldm(kind: Below<64>, command: u8, bytes: &[u8]) -> Self
-        requires { length bytes.now ≤ 252 }
+        requires { length bytes.now ≤ most_pldm_request_data }
         ensures { result ≡ pldm_request kind command bytes.now }
     {
         Asked::Pldm {

@@ -11,7 +11,7 @@ use crate::key::Key;
 #[derive(Clone, Copy, Debug, PartialEq, Eq)]
 pub struct NoKey;
 
-/// Records by their keys. Which keys there are never changes, nor where each key's record lies.
+/// Records by their keys. The keys never change, nor does the place of a key's record.
 pub trait Store: Drop {
     ghost use Rattle.cfg_records.specs.declared.key.Key.{Key};
 

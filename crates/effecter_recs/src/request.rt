@@ -1,5 +1,6 @@
 //! Requests to effecters.
 ghost use Rattle.std.specs.Prelude.{◌≡◌, ◌≤◌, length};
+ghost use Rattle.two_wire.specs.Sizes.{most_pldm_request_data};
 ghost use Rattle.effecter_recs.specs.Requests.{effecter_request, id_bytes, id_in, operational_state};
 
 use cfg_records::{Asked, byte_at};
@@ -16,7 +17,7 @@ const DISABLED: u8 = 2;
 
 /// The request of platform monitoring and control with this command and data: from nobody.
 pub fn effecter_request(command: u8, body: &[u8]) -> Asked
-    requires { length body.now ≤ 252 }
+    requires { length body.now ≤ most_pldm_request_data }
     ensures { result ≡ effecter_request command body.now }
 {
     Asked::pldm(Below::new(PLATFORM), command, body)

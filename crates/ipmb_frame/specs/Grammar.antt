@@ -1,6 +1,7 @@
 -- Frames of the Intelligent Platform Management Bus (its communications protocol 1.0, message formats).
 use Rattle.std.specs.Prelude.{◌≡◌, ℕ, ◌+◌, ◌*◌, ◌%◌, ◌<◌, ◌≤◌, List, [], ◌∷◌, ◌++◌, length}
 use Rattle.two_wire.specs.Check.{check_byte}
+use Rattle.two_wire.specs.Sizes.{most_ipmi_request_data, most_ipmi_reply_data}
 use Rattle.ipmb_frame.specs.declared.message.Party.{Party}
 use Rattle.ipmb_frame.specs.declared.message.Header.{Header}
 use Rattle.ipmb_frame.specs.declared.message.Request.{Request}
@@ -70,13 +71,13 @@ pub record IsHeader (h : Header) : Type 0 where
 -- the bytes are the request
 pub record IsRequest (r : Request) (bytes : List ℕ) : Type 0 where
   pub header : IsHeader r.header
-  pub fits : length r.body ≤ 25
+  pub fits : length r.body ≤ most_ipmi_request_data
   pub spelled : bytes ≡ frame (request_head r) (request_tail r)
 
 -- the bytes are the response
 pub record IsResponse (r : Response) (bytes : List ℕ) : Type 0 where
   pub header : IsHeader r.header
-  pub fits : length r.body ≤ 24
+  pub fits : length r.body ≤ most_ipmi_reply_data
   pub spelled : bytes ≡ frame (response_head r) (response_tail r)
 
 -- the bytes are the message

@@ -1,4 +1,5 @@
 //! Requests and responses.
+use two_wire::size::{MOST_IPMI_REPLY_DATA, MOST_IPMI_REQUEST_DATA};
 use two_wire::{Address, Below, Data, Lun, NetFn};
 
 /// The number that a requester gives to a request, and that the response has too.
@@ -28,7 +29,7 @@ pub struct Header {
 pub struct Request<'a> {
     pub header: Header,
     /// The command's data.
-    pub body: Data<'a, 25>,
+    pub body: Data<'a, { MOST_IPMI_REQUEST_DATA }>,
 }
 
 /// The response to a request, whose header it has.
@@ -38,7 +39,7 @@ pub struct Response<'a> {
     /// The completion code. 00h stands for success.
     pub code: u8,
     /// The data behind the completion code.
-    pub body: Data<'a, 24>,
+    pub body: Data<'a, { MOST_IPMI_REPLY_DATA }>,
 }
 
 /// A message of the bus. A frame starts with the address that it goes to (Intelligent Platform Management Bus

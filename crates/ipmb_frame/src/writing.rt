@@ -1,5 +1,6 @@
 //! Messages to frames.
 ghost use Rattle.std.specs.Prelude.{◌≡◌, ◌+◌, ◌<◌, ◌≤◌, List, ℕ, [], ◌∷◌, ◌++◌, length, drop};
+ghost use Rattle.two_wire.specs.Sizes.{most_ipmi_reply_data};
 ghost use Rattle.two_wire.specs.Check.{check_byte};
 ghost use Rattle.ipmb_frame.specs.declared.message.Header.{Header as TheHeader};
 ghost use Rattle.ipmb_frame.specs.Grammar.{IsParty, IsHeader, IsRequest, IsResponse, packed, checked, response_start, response_lead};
@@ -43,7 +44,7 @@ pub fn write_response(response: &Response) -> Frame
 /// Makes the frame that of the response of this header, code and data, whatever it was. It reads nothing of what it writes, since
 /// bytes that were just written are slow to read.
 pub fn write_response_into(frame: &mut Frame, header: &Header, code: u8, body: &[u8])
-    requires { length body.now ≤ 24 }
+    requires { length body.now ≤ most_ipmi_reply_data }
     ensures { IsResponse (record { header = header.now; code = code; body = body.now }) frame.new }
 {
     begin_response(frame, header, code);
@@ -88,7 +89,7 @@ pub fn begin_response(frame: &mut Frame, header: &Header, code: u8)
 pub fn end_response(frame: &mut Frame)
     requires started { 3 ≤ length frame.old }
     requires room { length frame.old < 80 }
-    ensures response { (header : TheHeader) (code : ℕ) (body : List ℕ) → IsHeader header → length body ≤ 24
+    ensures response { (header : TheHeader) (code : ℕ) (body : List ℕ) → IsHeader header → length body ≤ most_ipmi_reply_data
         → frame.old ≡ response_start header code ++ body
         → IsResponse (record { header = header; code = code; body = body }) frame.new }
     ensures checksum { frame.new ≡ frame.old ++ check_byte (drop 3 frame.old) ∷ [] }

@@ -1,5 +1,6 @@
 //! What is wrong with what others do.
 ghost use Rattle.std.specs.Prelude.{◌≡◌, ◌≤◌, length, List, ℕ, [], ◌∷◌, Some, None, option_map, if◌then◌else◌};
+ghost use Rattle.two_wire.specs.Sizes.{most_message_bytes};
 ghost use Rattle.plans.specs.declared.names.Names.{Names as AnyNames};
 ghost use Rattle.undo_model.specs.Machine.{open_bus};
 ghost use Rattle.lab_model.specs.PortSteps.{asked_in};
@@ -87,7 +88,7 @@ pub fn request_fault(names: &Names, request: &OtherRequest) -> Option<Fault>
 
 /// Whether a message's bytes are a PLDM request whose command sets the configuration.
 fn message_changes(from: u8, bytes: &[u8]) -> bool
-    requires { length bytes.now ≤ 256 }
+    requires { length bytes.now ≤ most_message_bytes }
     ensures { result ≡ message_changes from bytes.now }
 {
     let [kind, rest @ ..] = bytes else {

@@ -1,5 +1,6 @@
 -- That the packets of a message are a cut of it, and those of the model; and what a port does with all of them.
 use Rattle.std.specs.Prelude.{◌≡◌, ℕ, ◌<◌, ◌≤◌, Bool, nat_le, nat_lt, ◌==◌, ◌||◌, ◌&&◌, List, [], ◌∷◌, length, map, if◌then◌else◌}
+use Rattle.two_wire.specs.Sizes.{most_message_bytes}
 use Rattle.mctp_net.specs.declared.packet.Packet.{Packet}
 use Rattle.mctp_net.specs.declared.message.Message.{Message}
 use Rattle.mctp_net.specs.Cut.{piece, IsCutOf}
@@ -12,9 +13,9 @@ use Rattle.packet_model.specs.Seen.{seen}
 use Rattle.lab_model.specs.Values.{parts_of}
 use Rattle.lab_model.specs.PortSteps.{PortState, stays, hears_message, hears_parts}
 
--- the packets of a message of 1 to 256 bytes are a cut of it, and those of the model
+-- the packets of a message of some bytes, at most `most_message_bytes`, are a cut of it, and those of the model
 pub record PartsAreCuts : Type 0 where
-  pub cut : (m : Message) → 0 < length m.body → length m.body ≤ 256 → IsCutOf m (parts_of m)
+  pub cut : (m : Message) → 0 < length m.body → length m.body ≤ most_message_bytes → IsCutOf m (parts_of m)
   pub seen_so : (m : Message) → map (λ (p : Packet). seen (piece p)) (parts_of m) ≡ packets_of m.body
 
 -- what an assembler keeps after packets, one after another
@@ -37,6 +38,6 @@ has_slot port m = nat_le (length (parts_of m)) 1 || nat_lt (open_beside (name_of
 -- All packets of a message, one after another, are heard as the message where it is for the port and has a slot, and not at all where it
 -- isn't or hasn't.
 abbrev pub PartsAreHeard : Type 0
-PartsAreHeard = (setup : BoardFile) (port : PortState) (before : State) (m : Message) → 0 < length m.body → length m.body ≤ 256
+PartsAreHeard = (setup : BoardFile) (port : PortState) (before : State) (m : Message) → 0 < length m.body → length m.body ≤ most_message_bytes
     → hears_parts setup port before (parts_of m)
     ≡ (if is_for port m && has_slot port m then hears_message setup (kept_with_parts port m) before m else stays (kept_with_parts port m) before)

@@ -5,10 +5,10 @@ mod phases;
 mod replies;
 
 use cfg_records::{Op, SetThresholds};
-use plans::{Names, Plan, Retries, Steps};
+use plans::{Names, Plan, Steps};
 use std::alloc::Global;
 use std::process::Abort;
-use two_wire::{Address, Bus};
+use two_wire::{Address, Bus, Retries};
 use undo_core::{Manager, Sent, WrongPhase};
 
 fn names() -> Names {

@@ -2,6 +2,7 @@
 use Rattle.std.specs.Prelude.{◌≡◌, ◌⊎◌, ℕ, ◌+◌, ◌/◌, ◌%◌, ◌<◌, ◌≤◌, zero, suc, ◌==◌, Bool, true, false, not, if◌then◌else◌, List, [], ◌∷◌, length, take, drop, filter, slice_index_or, All, Option, Some, None, slice_get}
 use Rattle.std.specs.List.{flat_map}
 use Rattle.std.specs.Option.{option_map_or}
+use Rattle.two_wire.specs.Sizes.{most_message_bytes}
 use Rattle.mctp_net.specs.Sizes.{unit_size, most_assemblies}
 use Rattle.mctp_net.specs.declared.packet.Name.{Name}
 use Rattle.mctp_net.specs.declared.place.Place.{Place}
@@ -70,7 +71,7 @@ IsFilled s = is_used s ≡ true → (0 < length s.bytes) × (length s.bytes % un
 pub record AreSound (ps : List Place) : Type 0 where
   pub eight : length ps ≡ most_assemblies
   pub filled : All IsFilled ps
-  pub fits : All (λ s. length s.bytes ≤ 256) ps
+  pub fits : All (λ s. length s.bytes ≤ most_message_bytes) ps
   pub apart : (n : Name) → length (filter (λ s. is_at s.name (Some n)) ps) ≤ 1
 
 -- the place is the one of the name, or a free one; none where there is none

@@ -1,12 +1,13 @@
 //! Packets to messages.
 ghost use Rattle.std.specs.Prelude.{◌≡◌, ◌<◌, ◌≤◌, ◌↔◌, length, IfOk};
+ghost use Rattle.two_wire.specs.Sizes.{most_message_bytes};
 ghost use Rattle.mctp_net.specs.declared.message.Message.{Message as AnyMessage};
 ghost use Rattle.mctp_net.specs.declared.taken.Taken.TheVariants.{Whole as IsWhole, Waiting as IsWaiting};
 ghost use Rattle.mctp_net.specs.Assembly.{nothing, drop_cause, after, message_of, MakesWhole, IsTaken, dropped_for};
 ghost use Rattle.mctp_net.specs.Places.{seen};
 
 use crate::place::{Place, close_all, free_places, place_of};
-use crate::placing::{end, first_cause, keep, let_go};
+use crate::placing::{drop_cause, end, keep, let_go};
 use crate::{DropCause, Message, Packet, SomeData, Taken};
 use std::alloc::{AllocError, Global};
 use std::marker::Model;
@@ -55,7 +56,7 @@ impl Assembler {
     {
         let place = place_of(self.places.as_slice(), Some(packet.envelope.name()));
         self.made = None;
-        match first_cause(own, self.places.as_slice(), place, packet) {
+        match drop_cause(own, self.places.as_slice(), place, packet) {
             Some(cause) => {
                 if !matches!(cause, DropCause::NotOurs | DropCause::NoStart) {
                     let_go(&mut self.places, place, packet);
@@ -87,7 +88,7 @@ impl Assembler {
     /// The bytes of that message.
     pub fn body<'a>(&'a self, packet: &'a Packet<'_>) -> &'a [u8]
         ensures value { result.now ≡ (message_of (seen self.now) packet.now).body }
-        ensures fits { length result.now ≤ 256 }
+        ensures fits { length result.now ≤ most_message_bytes }
     {
         if packet.start {
             packet.payload.as_slice()
@@ -107,7 +108,7 @@ impl Assembler {
     // The bytes of the message that several packets made.
     fn made(&self) -> &[u8]
         ensures value { result.now ≡ (seen self.now).made }
-        ensures fits { length result.now ≤ 256 }
+        ensures fits { length result.now ≤ most_message_bytes }
     {
         match self.made {
             Some(place) => self.places[place].bytes.as_slice(),

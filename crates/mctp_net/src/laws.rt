@@ -1,5 +1,6 @@
 //! What holds of the definitions alone.
 ghost use Rattle.std.specs.Prelude.{◌≡◌, ◌<◌, ◌≤◌, ◌⊎◌, List, [], ℕ, All, length, true, false, find, None};
+ghost use Rattle.two_wire.specs.Sizes.{most_message_bytes};
 ghost use Rattle.mctp_net.specs.declared.packet.Packet.{Packet};
 ghost use Rattle.mctp_net.specs.declared.packet.Name.{Name};
 ghost use Rattle.mctp_net.specs.declared.message.Message.{Message};
@@ -22,7 +23,7 @@ pub fn fault_or_packet()
 
 /// A message of 1 to 256 bytes has a cut.
 pub fn has_cut()
-    ensures { (m : Message) → 0 < length m.body → length m.body ≤ 256 → (ps : List Packet) × IsCutOf m ps }
+    ensures { (m : Message) → 0 < length m.body → length m.body ≤ most_message_bytes → (ps : List Packet) × IsCutOf m ps }
 {}
 
 /// A message is cut in one way.

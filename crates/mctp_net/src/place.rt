@@ -1,11 +1,13 @@
 //! Where the bytes of a message that is put together lie.
 ghost use Rattle.std.specs.Prelude.{◌≡◌, ◌+◌, ◌/◌, ◌≤◌, ◌++◌, Some, None, length, replicate, All, IfOk};
+ghost use Rattle.two_wire.specs.Sizes.{most_message_bytes};
 ghost use Rattle.mctp_net.specs.Places.{free_place, is_at as at_name, is_used as is_used_place, IsPlaceOf};
 
 use crate::Name;
 use crate::packet::UNIT_SIZE;
 use std::alloc::{AllocError, Global};
 use two_wire::Bytes;
+use two_wire::size::MOST_MESSAGE_BYTES;
 
 /// How many messages can be put together at once.
 pub(crate) const MOST_ASSEMBLIES: usize = 8;
@@ -15,7 +17,7 @@ pub(crate) const MOST_ASSEMBLIES: usize = 8;
 #[derive(Drop)]
 pub(crate) struct Place {
     pub(crate) name: Option<Name>,
-    pub(crate) bytes: Bytes<256>,
+    pub(crate) bytes: Bytes<{ MOST_MESSAGE_BYTES }>,
 }
 
 impl Place {
@@ -32,14 +34,14 @@ impl Place {
     /// How many packets wait here.
     pub(crate) fn count(&self) -> usize
         ensures value { result ≡ length self.now.bytes / UNIT_SIZE }
-        ensures fits { length self.now.bytes ≤ 256 }
+        ensures fits { length self.now.bytes ≤ most_message_bytes }
     {
         self.bytes.len() / UNIT_SIZE
     }
 
     /// Begins a message with its first bytes, whatever was here.
     pub(crate) fn begin(&mut self, name: Name, payload: &[u8])
-        requires { length payload.now ≤ 256 }
+        requires { length payload.now ≤ most_message_bytes }
         ensures { self.new ≡ record { name = Some name; bytes = payload.now } }
     {
         self.name = Some(name);
@@ -48,7 +50,7 @@ impl Place {
 
     /// Appends what a packet carries.
     pub(crate) fn append(&mut self, payload: &[u8])
-        requires { length self.old.bytes + length payload.now ≤ 256 }
+        requires { length self.old.bytes + length payload.now ≤ most_message_bytes }
         ensures { self.new ≡ record { name = self.old.name; bytes = self.old.bytes ++ payload.now } }
     {
         self.bytes.extend_from_slice(payload);
@@ -56,7 +58,7 @@ impl Place {
 
     /// Appends what the last packet of a message carries, and is free: the bytes stay until the next message.
     pub(crate) fn finish(&mut self, payload: &[u8])
-        requires { length self.old.bytes + length payload.now ≤ 256 }
+        requires { length self.old.bytes + length payload.now ≤ most_message_bytes }
         ensures { self.new ≡ record { name = None; bytes = self.old.bytes ++ payload.now } }
     {
         self.append(payload);
@@ -91,10 +93,10 @@ pub(crate) fn free_places(alloc: Global) -> Result<Vec<Place>, AllocError>
 
 /// Lets go of all that waits.
 pub(crate) fn close_all(places: &mut Vec<Place>)
-    requires { All (λ s. length s.bytes ≤ 256) places.old.items }
+    requires { All (λ s. length s.bytes ≤ most_message_bytes) places.old.items }
     ensures length { length places.new.items ≡ length places.old.items }
     ensures free { All (λ s. s.name ≡ None) places.new.items }
-    ensures fits { All (λ s. length s.bytes ≤ 256) places.new.items }
+    ensures fits { All (λ s. length s.bytes ≤ most_message_bytes) places.new.items }
 {
     for place in 0..places.len() {
         places[place].close();

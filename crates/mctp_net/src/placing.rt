@@ -10,7 +10,7 @@ use crate::place::{MOST_ASSEMBLIES, Place, place_of};
 use crate::{DropCause, Envelope, Packet};
 
 /// The first cause to drop the packet, whose name has this place.
-pub(crate) fn first_cause(
+pub(crate) fn drop_cause(
     own: u8,
     places: &[Place],
     place: Option<usize>,

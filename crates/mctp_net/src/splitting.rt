@@ -1,5 +1,6 @@
 //! Messages to frames.
 ghost use Rattle.std.specs.Prelude.{◌≡◌, ◌+◌, ◌*◌, ◌<◌, ◌≤◌, List, length, take, drop};
+ghost use Rattle.two_wire.specs.Sizes.{most_message_bytes};
 ghost use Rattle.mctp_net.specs.declared.packet.Packet.{Packet as AnyPacket};
 ghost use Rattle.mctp_net.specs.Cut.{IsCutOf, AreWritten};
 ghost use Rattle.mctp_net.specs.Pieces.{piece_of, pieces_of, count_of};
@@ -52,7 +53,7 @@ fn write_each(message: &Message<'_>, frames: &mut [Frame])
 fn piece<'a>(message: &Message<'a>, number: usize) -> Packet<'a>
     requires { UNIT_SIZE * number < length message.now.body }
     ensures value { result ≡ piece_of message.now number }
-    ensures fits { length message.now.body ≤ 256 }
+    ensures fits { length message.now.body ≤ most_message_bytes }
 {
     let body = message.body.as_slice();
     Packet {
@@ -67,7 +68,7 @@ fn piece<'a>(message: &Message<'a>, number: usize) -> Packet<'a>
 // The bytes that the packet of this number carries.
 fn run(body: &[u8], number: usize) -> &[u8]
     requires some { UNIT_SIZE * number < length body.now }
-    requires few { length body.now ≤ 256 }
+    requires few { length body.now ≤ most_message_bytes }
     ensures value { result.now ≡ take UNIT_SIZE (drop (UNIT_SIZE * number) body.now) }
     ensures some { 0 < length result.now }
     ensures fits { length result.now ≤ UNIT_SIZE }

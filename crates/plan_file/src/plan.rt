@@ -2,6 +2,7 @@
 ghost use Rattle.std.specs.Prelude.{◌≡◌, ◌⊎◌, ◌≤◌, [], true, Err, Some, IfOk, IfErr, map};
 ghost use Rattle.toml.specs.View.{table_view, view};
 ghost use Rattle.std.specs.List.{list_all, AllZip};
+ghost use Rattle.two_wire.specs.Retries.{most_retries};
 ghost use Rattle.file_fields.specs.Trees.{number_in, table_of};
 ghost use Rattle.file_fields.specs.Ranges.{is_table};
 ghost use Rattle.file_fields.specs.Faults.{field_faults, first};
@@ -13,14 +14,19 @@ use crate::step::read_step;
 use cfg_records::Op;
 use file_fields::tree::{members_in, number};
 use file_fields::{Field, FieldFault, Need, Row, Shape, first_fault};
-use plans::{Plan, Retries, Steps};
+use plans::{MOST_STEPS, Plan, Steps};
 use std::alloc::Global;
 use toml::{Table, Value};
+use two_wire::{MOST_RETRIES, Retries};
 
 /// A plan's own fields.
 pub const PLAN: [Row; 2] = [
-    Row(Field::Retries, Shape::Number(0, 15), Need::Never),
-    Row(Field::Step, Shape::Tables(256), Need::Never),
+    Row(
+        Field::Retries,
+        Shape::Number(0, MOST_RETRIES as u32),
+        Need::Never,
+    ),
+    Row(Field::Step, Shape::Tables(MOST_STEPS), Need::Never),
 ];
 
 /// How often the frames of a request are sent again where a plan doesn't say it.
@@ -67,9 +73,9 @@ fn steps_of(alloc: Global, values: &[Value]) -> Result<Vec<Op>, PlanFault>
     Ok(ops)
 }
 
-/// The number, at most 15, as one of retries.
+/// The number, as one of retries.
 fn retries_of(number: u64) -> Retries
-    requires { number ≤ 15 }
+    requires { number ≤ most_retries }
     ensures { result ≡ number }
 {
     Retries::new(number as u8)

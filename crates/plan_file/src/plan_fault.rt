@@ -42,7 +42,7 @@ pub enum PlanFault {
     Text,
     /// A field of the plan's own.
     Field(FieldFault),
-    /// There are over 256 steps.
+    /// There are more steps than a plan can have.
     TooMany,
     /// The step of this place in the file, from 0.
     Step(usize, StepFault),

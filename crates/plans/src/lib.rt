@@ -6,5 +6,5 @@ mod plan;
 mod undo_list;
 
 pub use names::Names;
-pub use plan::{MOST_STEPS, Plan, Retries, Steps};
+pub use plan::{MOST_STEPS, Plan, Steps};
 pub use undo_list::{NextNumbers, Requests, UndoList};

@@ -1,18 +1,16 @@
 //! Plans.
 ghost use Rattle.std.specs.Prelude.{◌≡◌, ◌≤◌, ◌↔◌, [], IsSome, IfSome, length};
+ghost use Rattle.plans.specs.Steps.{most_steps};
 
 use cfg_records::Op;
 use std::alloc::Global;
 use std::marker::Model;
-use two_wire::Below;
+use two_wire::Retries;
 
 /// The most steps that a plan can have.
 pub const MOST_STEPS: usize = 256;
 
-/// How often the frames of a request may be sent again: at most 15 times.
-pub type Retries = Below<16>;
-
-/// The steps of a plan, in its order: an operation each, and at most 256.
+/// The steps of a plan, in its order: an operation each, and at most `MOST_STEPS`.
 #[derive(Debug, Drop)]
 pub struct Steps {
     ops: Vec<Op>,
@@ -21,18 +19,19 @@ pub struct Steps {
 impl Model for Steps {
     ghost use Rattle.std.specs.Prelude.{List, length, ◌≤◌};
     ghost use Rattle.cfg_records.specs.declared.op.Op.{Op};
+    ghost use Rattle.plans.specs.Steps.{most_steps};
 
     ghost Value = { List Op };
 
     ghost view = { λ s. s.ops.items };
 
-    ghost invariant = { λ s. length s.ops.items ≤ 256 };
+    ghost invariant = { λ s. length s.ops.items ≤ most_steps };
 }
 
 impl Steps {
     /// These steps, or nothing where they are too many.
     pub fn new(ops: Vec<Op>) -> Option<Self>
-        ensures made { IsSome result ↔ (length ops.items ≤ 256) }
+        ensures made { IsSome result ↔ (length ops.items ≤ most_steps) }
         ensures steps { IfSome result (λ steps. steps ≡ ops.items) }
     {
         if ops.len() > MOST_STEPS {
@@ -53,7 +52,7 @@ impl Steps {
     /// The steps.
     pub fn as_slice(&self) -> &[Op]
         ensures value { result.now ≡ self.now }
-        ensures few { length result.now ≤ 256 }
+        ensures few { length result.now ≤ most_steps }
     {
         self.ops.as_slice()
     }

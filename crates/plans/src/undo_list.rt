@@ -1,5 +1,6 @@
 //! Requests that undo a plan.
 ghost use Rattle.std.specs.Prelude.{◌≡◌, ◌<◌, ◌≤◌, [], ◌∷◌, ◌++◌, length, slice_get, IfOk, IfSome, IfNone, None, Some};
+ghost use Rattle.plans.specs.Steps.{most_steps};
 
 use crate::plan::MOST_STEPS;
 use cfg_records::Asked;
@@ -7,7 +8,7 @@ use std::alloc::{AllocError, Global};
 use std::marker::Model;
 use two_wire::Below;
 
-/// At most 256 requests, each of which undoes a step, in the order of the steps. All memory is taken when the list is made.
+/// At most `MOST_STEPS` requests, each of which undoes a step, in the order of the steps. All memory is taken when the list is made.
 #[derive(Debug, Drop)]
 pub struct Requests {
     items: Vec<Asked>,
@@ -17,12 +18,13 @@ impl Model for Requests {
     ghost use Rattle.std.specs.Prelude.{List, length, ◌≤◌};
     ghost use Rattle.std.specs.Vec.{vec_capacity};
     ghost use Rattle.cfg_records.specs.declared.message.Asked.{Asked};
+    ghost use Rattle.plans.specs.Steps.{most_steps};
 
     ghost Value = { List Asked };
 
     ghost view = { λ r. r.items.items };
 
-    ghost invariant = { λ r. (length r.items.items ≤ 256) × (256 ≤ vec_capacity r.items) };
+    ghost invariant = { λ r. (length r.items.items ≤ most_steps) × (most_steps ≤ vec_capacity r.items) };
 }
 
 impl Requests {
@@ -37,7 +39,7 @@ impl Requests {
     /// How many there are.
     pub fn len(&self) -> usize
         ensures value { result ≡ length self.now }
-        ensures few { result ≤ 256 }
+        ensures few { result ≤ most_steps }
     {
         self.items.len()
     }
@@ -52,7 +54,7 @@ impl Requests {
 
     /// Adds the request that undoes the next step.
     pub fn push(&mut self, request: Asked)
-        requires { length self.old < 256 }
+        requires { length self.old < most_steps }
         ensures { self.new ≡ self.old ++ request ∷ [] }
     {
         self.items.push_reserved(request);

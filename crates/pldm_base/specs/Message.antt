@@ -1,5 +1,6 @@
 -- Requests and replies as bytes.
 use Rattle.std.specs.Prelude.{◌≡◌, ℕ, ◌+◌, ◌*◌, ◌/◌, ◌%◌, ◌<◌, ◌≤◌, List, [], ◌∷◌, length, slice_index, Bool, nat_lt, nat_le, ◌==◌, ◌&&◌, not, if◌then◌else◌, codes, find, Option, Some, None}
+use Rattle.two_wire.specs.Sizes.{most_pldm_request_data, most_pldm_reply_data}
 use Rattle.pldm_base.specs.declared.message.Header.{Header}
 use Rattle.pldm_base.specs.declared.message.PldmRequest.{PldmRequest}
 use Rattle.pldm_base.specs.declared.message.PldmReply.{PldmReply}
@@ -33,14 +34,14 @@ reply_bytes r = message 0 0 r.header (r.code ∷ r.body)
 pub record SpellsRequest (ignored : ℕ) (r : PldmRequest) (bytes : List ℕ) : Type 0 where
   pub bit : ignored < 2
   pub header : IsHeader r.header
-  pub fits : length r.body ≤ 252
+  pub fits : length r.body ≤ most_pldm_request_data
   pub spelled : bytes ≡ message 1 ignored r.header r.body
 
 -- the bytes are the reply, with this ignored bit
 pub record SpellsReply (ignored : ℕ) (r : PldmReply) (bytes : List ℕ) : Type 0 where
   pub bit : ignored < 2
   pub header : IsHeader r.header
-  pub fits : length r.body ≤ 251
+  pub fits : length r.body ≤ most_pldm_reply_data
   pub spelled : bytes ≡ message 0 ignored r.header (r.code ∷ r.body)
 
 -- the bytes are the request, whatever the ignored bit is
@@ -92,11 +93,11 @@ header_in first second command = record { instance = first % 32; pldm_type = sec
 -- the request that the bytes are, if they are one: request and datagram bit 10b, version 00b, at most 252 bytes of data
 abbrev pub request_in : List ℕ → Option PldmRequest
 request_in (first ∷ second ∷ command ∷ body) =
-    if first / 64 == 2 && second / 64 == 0 && nat_le (length body) 252 then Some (record { header = header_in first second command; body = body }) else None
+    if first / 64 == 2 && second / 64 == 0 && nat_le (length body) most_pldm_request_data then Some (record { header = header_in first second command; body = body }) else None
 request_in _ = None
 
 -- the reply that the bytes are, if they are one: request and datagram bit 00b, version 00b, at most 251 bytes of data
 abbrev pub reply_in : List ℕ → Option PldmReply
 reply_in (first ∷ second ∷ command ∷ code ∷ body) =
-    if first / 64 == 0 && second / 64 == 0 && nat_le (length body) 251 then Some (record { header = header_in first second command; code = code; body = body }) else None
+    if first / 64 == 0 && second / 64 == 0 && nat_le (length body) most_pldm_reply_data then Some (record { header = header_in first second command; code = code; body = body }) else None
 reply_in _ = None

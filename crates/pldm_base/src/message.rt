@@ -1,4 +1,5 @@
 //! Requests and replies.
+use two_wire::size::{MOST_PLDM_REPLY_DATA, MOST_PLDM_REQUEST_DATA};
 use two_wire::{Below, Data};
 
 /// The number that a requester gives to a request, and that its reply has.
@@ -31,7 +32,7 @@ pub struct Header {
 pub struct PldmRequest<'a> {
     pub header: Header,
     /// The command's data, where they lie.
-    pub body: Data<'a, 252>,
+    pub body: Data<'a, { MOST_PLDM_REQUEST_DATA }>,
 }
 
 /// A reply: bits 7 and 6 are clear, and the completion code, which is 00h for success, and the data follow the header.
@@ -41,5 +42,5 @@ pub struct PldmReply<'a> {
     pub header: Header,
     pub code: u8,
     /// The data behind the completion code, where they lie.
-    pub body: Data<'a, 251>,
+    pub body: Data<'a, { MOST_PLDM_REPLY_DATA }>,
 }

@@ -2,6 +2,7 @@
 use Rattle.std.specs.Prelude.{◌≡◌, ℕ, ◌<◌, ◌≤◌, ◌%◌, List, [], ◌∷◌, length, codes}
 use Rattle.two_wire.specs.declared.Bus.{Bus}
 use Rattle.two_wire.specs.declared.Bus.TheVariants.{Ipmb, Smbus}
+use Rattle.two_wire.specs.Sizes.{most_ipmi_request_data, most_message_bytes}
 use Rattle.ipmb_frame.specs.Grammar.{packed}
 use Rattle.schedules.specs.declared.event.Call.{Call as Called}
 use Rattle.schedules.specs.declared.event.Call.TheVariants.{Start, Quiet, Stop, Again, Undo}
@@ -29,13 +30,13 @@ pub record AreSome (most : ℕ) (bytes : List ℕ) : Type 0 where
   pub few : length bytes ≤ most
 
 -- The bytes of a request without addresses and checksums: an even netFn with the responder's logical unit, rqSeq with the requester's,
--- cmd, and 0 to 25 bytes of data. It comes from an even address.
+-- cmd, and 0 to `most_ipmi_request_data` bytes of data. It comes from an even address.
 pub record IsRequest (r : OtherRequest) (bytes : List ℕ) : Type 0 where
   pub all : bytes ≡ packed r.net_fn r.responder ∷ packed r.sequence r.requester.lun ∷ r.command ∷ r.body
   pub net_fn : r.net_fn % 2 ≡ 0
   pub responder : r.responder < 4
   pub requester : r.requester.lun < 4
-  pub few : length r.body ≤ 25
+  pub few : length r.body ≤ most_ipmi_request_data
   pub address : r.requester.address % 2 ≡ 0
 
 -- the words say the event
@@ -46,7 +47,7 @@ Say words (ToMgr number) = (digits : List ℕ) × (words ≡ codes "to-mgr" ∷ 
 Say words (OtherIpmb r) =
     (from digits bytes : List ℕ) × (words ≡ codes "other" ∷ codes "ipmb" ∷ from ∷ digits ∷ []) × IsByte from r.requester.address × AreBytes digits bytes × IsRequest r bytes
 Say words (OtherSmbus m) =
-    (from digits : List ℕ) × (words ≡ codes "other" ∷ codes "smbus" ∷ from ∷ digits ∷ []) × IsByte from m.from × AreBytes digits m.body × AreSome 256 m.body
+    (from digits : List ℕ) × (words ≡ codes "other" ∷ codes "smbus" ∷ from ∷ digits ∷ []) × IsByte from m.from × AreBytes digits m.body × AreSome most_message_bytes m.body
 Say words (Noise on bytes) = (digits : List ℕ) × (words ≡ codes "noise" ∷ bus_name on ∷ digits ∷ []) × AreBytes digits bytes × AreSome 80 bytes
 Say words (Idle on requester) = (from : List ℕ) × (words ≡ codes "idle" ∷ bus_name on ∷ from ∷ []) × IsByte from requester
 Say words (Scan sensor reading) = (first second : List ℕ) × (words ≡ codes "scan" ∷ first ∷ second ∷ []) × IsByte first sensor × IsByte second reading

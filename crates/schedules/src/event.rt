@@ -1,6 +1,7 @@
 //! What happens in a lab.
 use crate::octets::Octets;
 use ipmb_frame::{Party, Sequence};
+use two_wire::size::{MOST_IPMI_REQUEST_DATA, MOST_MESSAGE_BYTES};
 use two_wire::{Bus, Bytes, Lun, NetFn};
 
 /// A call of the manager.
@@ -24,7 +25,7 @@ pub struct OtherRequest {
     pub sequence: Sequence,
     pub command: u8,
     /// The command's data.
-    pub body: Bytes<25>,
+    pub body: Bytes<{ MOST_IPMI_REQUEST_DATA }>,
 }
 
 /// Somebody else's message to the controller on SMBus.
@@ -33,7 +34,7 @@ pub struct OtherMessage {
     /// The endpoint from which it comes.
     pub from: u8,
     /// All bytes of the message, the type first.
-    pub body: Octets<256>,
+    pub body: Octets<{ MOST_MESSAGE_BYTES }>,
 }
 
 /// What can happen.

@@ -10,6 +10,7 @@ use crate::words::{find_bus, find_call, frame_number, words};
 use ipmb_frame::Party;
 use line_text::{byte, bytes};
 use std::alloc::Global;
+use two_wire::size::MOST_IPMI_REQUEST_DATA;
 use two_wire::{Address, Below, Bus, Bytes, NetFn};
 
 /// Why a line gives no event.
@@ -95,7 +96,7 @@ fn request(from: Address, bytes: &[u8]) -> Option<OtherRequest>
         return None;
     };
     let net_fn = function / 4;
-    if net_fn % 2 != 0 || body.len() > 25 {
+    if net_fn % 2 != 0 || body.len() > MOST_IPMI_REQUEST_DATA {
         return None;
     }
     Some(OtherRequest {

@@ -3,8 +3,8 @@ ghost use Rattle.std.specs.Prelude.{◌≡◌, ◌+◌, ◌<◌, ◌≤◌, ℕ,
 
 use crate::bytes::Bytes;
 
-/// Bytes that grow at their end, up to a capacity. What writes a reply's data writes it into one of these, so that the data
-/// come to lie where they are sent from.
+/// Bytes that grow at their end, up to a capacity. A command writes a reply's data into one of these, so that they
+/// lie where they are sent from.
 pub trait Buffer {
     /// The bytes that are there.
     ghost bytes: { Self → List ℕ };

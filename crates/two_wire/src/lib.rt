@@ -12,6 +12,8 @@ mod data;
 mod laws;
 mod number;
 mod packet_error;
+mod retries;
+pub mod size;
 
 pub use address::Address;
 pub use buffer::Buffer;
@@ -23,3 +25,4 @@ pub use data::Data;
 pub use laws::{all_bytes_have_a_pec, one_pec};
 pub use number::{Below, Lun, NetFn};
 pub use packet_error::pec;
+pub use retries::{MOST_RETRIES, RETRIES_END, Retries};

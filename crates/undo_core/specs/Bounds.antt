@@ -2,14 +2,11 @@
 use Rattle.std.specs.Prelude.{ℕ, suc, ◌+◌, ◌-◌, ◌*◌, ◌==◌, List, [], ◌∷◌, ◌++◌, Option, Some, None, if◌then◌else◌}
 use Rattle.two_wire.specs.Codes.{success}
 use Rattle.cfg_records.specs.declared.message.Asked.{Asked}
+use Rattle.plans.specs.Steps.{most_steps}
 use Rattle.undo_core.specs.declared.stage.Task.{Task}
 use Rattle.undo_core.specs.declared.stage.Task.TheVariants.{Gets, Sets, Undoes}
 use Rattle.undo_core.specs.declared.stage.Stage.{Stage}
 use Rattle.undo_core.specs.declared.stage.Stage.TheVariants.{AtStart, Opened, AtEnd, AtHalt, AtUndone, AtRefused}
-
--- the most requests that a list which undoes has, and the most steps of a plan
-pub most_steps : ℕ
-most_steps = 256
 
 -- the request that is kept once a request of the task was answered with this code
 abbrev pub done_by : Task → ℕ → Option Asked
@@ -46,12 +43,12 @@ undone_needed _ = 0
 abbrev pub task_backs : Task → ℕ
 task_backs (Gets k) = k
 task_backs (Sets k back) = k
-task_backs (Undoes k) = 256
+task_backs (Undoes k) = most_steps
 
 abbrev pub most_backs : Stage → ℕ
 most_backs AtStart = 0
 most_backs (Opened heeded task asked) = task_backs task
-most_backs _ = 256
+most_backs _ = most_steps
 
 -- how many replies may still be taken, of a plan of so many steps, with so many requests that undo
 abbrev pub task_left : ℕ → ℕ → Task → ℕ

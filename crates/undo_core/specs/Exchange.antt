@@ -3,6 +3,7 @@ use Rattle.std.specs.Prelude.{◌≡◌, ℕ, ◌%◌, ◌<◌, ◌≤◌, false
 use Rattle.std.specs.List.{AllZip}
 use Rattle.two_wire.specs.declared.Bus.{Bus}
 use Rattle.two_wire.specs.declared.Bus.TheVariants.{Ipmb, Smbus}
+use Rattle.two_wire.specs.Sizes.{most_ipmi_request_data, most_ipmi_reply_data, most_pldm_request_data, most_pldm_reply_data}
 use Rattle.mctp_net.specs.declared.message.Message.{Message}
 use Rattle.mctp_net.specs.declared.packet.Name.{Name}
 use Rattle.mctp_net.specs.Sizes.{most_assemblies}
@@ -54,13 +55,13 @@ pub record AreNames (names : Names) : Type 0 where
 
 -- the request fits the frames of its bus
 abbrev pub CanBeAsked : Asked → Type 0
-CanBeAsked (Ipmi from net_fn lun command body) = (net_fn < 64) × (net_fn % 2 ≡ 0) × (lun < 4) × (length body ≤ 25)
-CanBeAsked (Pldm from kind command body) = (kind < 64) × (length body ≤ 252)
+CanBeAsked (Ipmi from net_fn lun command body) = (net_fn < 64) × (net_fn % 2 ≡ 0) × (lun < 4) × (length body ≤ most_ipmi_request_data)
+CanBeAsked (Pldm from kind command body) = (kind < 64) × (length body ≤ most_pldm_request_data)
 
 -- and the reply with this answer
 abbrev pub CanBeTold : Bus → Answered → Type 0
-CanBeTold Ipmb a = length a.body ≤ 24
-CanBeTold Smbus a = length a.body ≤ 251
+CanBeTold Ipmb a = length a.body ≤ most_ipmi_reply_data
+CanBeTold Smbus a = length a.body ≤ most_pldm_reply_data
 
 -- ---- a request
 

@@ -1,10 +1,12 @@
 //! Frames that come to a manager.
 ghost use Rattle.std.specs.Prelude.{◌≡◌, ◌&&◌, not, ◌+◌, ◌-◌, ◌*◌, ◌≤◌, ◌<◌, ◌==◌, ℕ, suc, length, take, slice_get, List, Some, None, IfSome, false, if◌then◌else◌};
+ghost use Rattle.two_wire.specs.Sizes.{most_message_bytes};
 ghost use Rattle.two_wire.specs.Codes.{success};
 ghost use Rattle.cfg_records.specs.declared.op.Op.{Op};
 ghost use Rattle.cfg_records.specs.declared.message.Asked.{Asked as AnyAsked};
 ghost use Rattle.record_kinds.specs.Limits.{inverse};
 ghost use Rattle.plans.specs.declared.names.Names.{Names};
+ghost use Rattle.plans.specs.Steps.{most_steps};
 ghost use Rattle.undo_model.specs.Phase.{Refused, GetRefused};
 ghost use Rattle.undo_model.specs.Machine as machine;
 ghost use Rattle.undo_core.specs.Shown.{words_of, own, backs, IsTask, IsStage};
@@ -32,6 +34,7 @@ use mctp_net::{Packet, Taken, read_packet};
 use plans::NextNumbers;
 use pldm_base::{Instance, PldmBytes, read_pldm_reply};
 use record_kinds::Limits;
+use two_wire::size::MOST_MESSAGE_BYTES;
 use two_wire::{Bus, Bytes, Code, code};
 
 /// A reply that passed the test against the open request.
@@ -108,7 +111,7 @@ impl Manager {
         let Taken::Whole = self.joined.take(self.names.own_eid, packet) else {
             return None;
         };
-        let message: Bytes<256> = Bytes::from_slice(self.joined.body(packet));
+        let message: Bytes<{ MOST_MESSAGE_BYTES }> = Bytes::from_slice(self.joined.body(packet));
         self.on_message(message.as_slice())
     }
 
@@ -137,7 +140,7 @@ impl Manager {
 
     /// Hears a whole message.
     fn on_message(&mut self, message: &[u8]) -> Option<Sent>
-        requires { length message.now ≤ 256 }
+        requires { length message.now ≤ most_message_bytes }
         ensures { (names : Names) (s : ManagerState (board_plans names)) → Shows names self.old s → Does names self.new result (hears_reply (board_plans names) IsSmbus message.now s) }
     {
         let Some(asked) = self.stage.heeded_on(Bus::Smbus) else {
@@ -190,7 +193,7 @@ impl Manager {
         ensures kept { undone_needed result ≤ task_undone task.now }
         ensures few { task_backs task.now ≤ most_backs result }
         ensures more { (back : AnyAsked) → done_by task.now reply.entry.code ≡ Some back → suc (task_backs task.now) ≤ most_backs result }
-        ensures room { (back : AnyAsked) → done_by task.now reply.entry.code ≡ Some back → task_backs task.now < 256 }
+        ensures room { (back : AnyAsked) → done_by task.now reply.entry.code ≡ Some back → task_backs task.now < most_steps }
         ensures left { (undone : ℕ) → suc (replies_left (length self.now.steps) undone result) ≤ task_left (length self.now.steps) undone task.now }
         ensures left_more { (undone : ℕ) (back : AnyAsked) → done_by task.now reply.entry.code ≡ Some back
             → suc (replies_left (length self.now.steps) (suc undone) result) ≤ task_left (length self.now.steps) undone task.now }
@@ -248,7 +251,7 @@ impl Manager {
         ensures planned { steps_needed result ≤ length self.now.steps }
         ensures kept { undone_needed result ≡ 0 }
         ensures few { suc step ≤ most_backs result }
-        ensures room { step < 256 }
+        ensures room { step < most_steps }
         ensures left { (undone : ℕ) → suc (suc (replies_left (length self.now.steps) undone result)) ≤ 3 * (length self.now.steps - step) - 1 + undone }
     {
         let _steps = self.steps.as_slice();
@@ -264,7 +267,7 @@ impl Manager {
             (if code == success then machine.undo_stage (words_of names) (backs names (take step self.now.undo.requests)) else machine.AtRefused step code) }
         ensures planned { steps_needed result ≡ 0 }
         ensures kept { undone_needed result ≤ step }
-        ensures few { most_backs result ≡ 256 }
+        ensures few { most_backs result ≡ most_steps }
         ensures left { (steps undone : ℕ) → replies_left steps undone result ≤ step }
     {
         match Code::new(code) {
@@ -297,7 +300,7 @@ fn is_answer_to(asked: &Asked, sequence: Sequence, response: &Response<'_>) -> b
 
 /// The reply that a message is, where it has the instance, the type and the command of the request.
 fn reply_to<'a>(asked: &Asked, instance: Instance, message: &'a [u8]) -> Option<Reply<'a>>
-    requires { length message.now ≤ 256 }
+    requires { length message.now ≤ most_message_bytes }
     ensures some { IfSome result (λ r. (answered_from IsSmbus message.now ≡ record { code = r.code; body = r.body.now })
         × ((names : Names) → bus_of_request asked.now ≡ IsSmbus → pldm_answers (bytes_of instance (own names asked.now)) message.now ≡ not (is_busy_code r.code))) }
     ensures none { result ≡ None → (names : Names) → bus_of_request asked.now ≡ IsSmbus → pldm_answers (bytes_of instance (own names asked.now)) message.now ≡ false }

@@ -5,14 +5,15 @@ ghost use Rattle.undo_core.specs.Bounds.{steps_needed, undone_needed, most_backs
 use crate::sending::Counts;
 use crate::stage::Stage;
 use mctp_net::Assembler;
-use plans::{Names, Retries, Steps, UndoList};
+use plans::{Names, Steps, UndoList};
+use two_wire::Retries;
 
 /// Why no manager is made.
 #[derive(Clone, Copy, Debug, PartialEq, Eq)]
 pub enum OpenFault {
     /// Memory was refused.
     Memory,
-    /// The retries are above 15.
+    /// The retries are above `MOST_RETRIES`.
     Retries,
 }
 

@@ -1,5 +1,6 @@
 //! How a manager begins.
-ghost use Rattle.std.specs.Prelude.{◌≡◌, ◌<◌, ◌↔◌, IfOk, SomeIff, Err};
+ghost use Rattle.std.specs.Prelude.{◌≡◌, ◌<◌, ◌≤◌, ◌↔◌, IfOk, SomeIff, Err};
+ghost use Rattle.two_wire.specs.Retries.{most_retries};
 ghost use Rattle.mctp_net.specs.Assembly.{nothing};
 ghost use Rattle.undo_model.specs.Machine as machine;
 ghost use Rattle.undo_model.specs.Resume.{resumed};
@@ -10,15 +11,14 @@ use crate::manager::{Manager, OpenFault};
 use crate::sending::Counts;
 use crate::stage::Stage;
 use mctp_net::Assembler;
-use plans::{Names, NextNumbers, Plan, Requests, Retries, Steps, UndoList};
+use plans::{Names, NextNumbers, Plan, Requests, Steps, UndoList};
 use std::alloc::Global;
-use two_wire::Below;
-use undo_model::manager::MOST_RETRIES;
+use two_wire::{Below, MOST_RETRIES, Retries};
 
 impl Manager {
     /// A manager of a plan, which it hasn't begun.
     pub fn open(alloc: Global, plan: Plan, names: Names, retries: u8) -> Result<Self, OpenFault>
-        ensures refused { (result ≡ Err OpenFault.Retries) ↔ (15 < retries) }
+        ensures refused { (result ≡ Err OpenFault.Retries) ↔ (most_retries < retries) }
         ensures opened { IfOk result (λ m. Shows names m (record { machine = machine.opened (words_of names) plan.steps retries; names = names; joined = nothing })) }
     {
         let next = NextNumbers {
@@ -55,7 +55,7 @@ impl Manager {
         names: Names,
         retries: u8,
     ) -> Result<Self, OpenFault>
-        ensures refused { (result ≡ Err OpenFault.Retries) ↔ (15 < retries) }
+        ensures refused { (result ≡ Err OpenFault.Retries) ↔ (most_retries < retries) }
         ensures resumed { IfOk result (λ m. Shows names m (record {
           machine = resumed (words_of names) retries (record { series = backs names undo.requests; next = record { ipmb = undo.next.ipmb; smbus = undo.next.smbus } });
           names = names;
@@ -90,7 +90,7 @@ impl Manager {
 
 /// The number of retries, or nothing where it is above `MOST_RETRIES`.
 fn retries_of(number: u8) -> Option<Retries>
-    ensures { SomeIff result (number < 16) number }
+    ensures { SomeIff result (number ≤ most_retries) number }
 {
     if number > MOST_RETRIES {
         return None;

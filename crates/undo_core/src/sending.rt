@@ -15,6 +15,7 @@ use ipmb_frame::{Party, Request, Sequence, write_request};
 use mctp_net::{Envelope, Message, SomeData, Tag, split};
 use plans::Names;
 use pldm_base::{Instance, PldmRequest, PldmType, write_pldm};
+use two_wire::size::{MOST_IPMI_REQUEST_DATA, MOST_MESSAGE_BYTES, MOST_PLDM_REQUEST_DATA};
 use two_wire::{Bus, Bytes, Data, Frame, Lun, NetFn};
 
 /// The message type of PLDM (DSP0239).
@@ -131,7 +132,7 @@ fn request_frame(
     net_fn: NetFn,
     lun: Lun,
     command: u8,
-    body: &Bytes<25>,
+    body: &Bytes<{ MOST_IPMI_REQUEST_DATA }>,
 ) -> Frame
     ensures frames { (from : ℕ) → result ∷ [] ≡ map written (values_of names.now counts.ipmb (asked_as.Ipmi from net_fn lun command body.now)) }
     ensures read { (from : ℕ) → AllZip (IsFrameOn IsIpmb) (values_of names.now counts.ipmb (asked_as.Ipmi from net_fn lun command body.now)) (result ∷ []) }
@@ -159,7 +160,7 @@ fn message_frames(
     counts: Counts,
     kind: PldmType,
     command: u8,
-    body: &Bytes<252>,
+    body: &Bytes<{ MOST_PLDM_REQUEST_DATA }>,
 ) -> ArrayVec<Frame, 4>
     ensures frames { (from : ℕ) → result.items ≡ map written (values_of names.now counts.smbus (asked_as.Pldm from kind command body.now)) }
     ensures read { (from : ℕ) → AllZip (IsFrameOn IsSmbus) (values_of names.now counts.smbus (asked_as.Pldm from kind command body.now)) result.items }
@@ -169,7 +170,7 @@ fn message_frames(
         pldm_type: kind,
         command,
     };
-    let mut bytes: Bytes<256> = Bytes::new();
+    let mut bytes: Bytes<{ MOST_MESSAGE_BYTES }> = Bytes::new();
     bytes.push(PLDM_TYPE);
     let body = Data::new(body.as_slice());
     write_pldm(&PldmRequest { header, body }, &mut bytes);

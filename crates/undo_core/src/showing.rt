@@ -4,6 +4,7 @@ ghost use Rattle.std.specs.Prelude.{false, List, [], ◌∷◌, take, slice_get,
 ghost use Rattle.cfg_records.specs.declared.op.Op.{Op};
 ghost use Rattle.cfg_records.specs.declared.message.Asked.{Asked as AnyAsked};
 ghost use Rattle.plans.specs.declared.names.Names.{Names as AnyNames};
+ghost use Rattle.plans.specs.Steps.{most_steps};
 ghost use Rattle.undo_model.specs.Machine as machine;
 ghost use Rattle.lab_model.specs.ManagerSteps.{ManagerState, board_plans, sent_of};
 ghost use Rattle.lab_model.specs.Faults.{begun_on};
@@ -102,7 +103,7 @@ impl Manager {
         ensures stage { (names : AnyNames) (plan : List Op) → IsStage names plan self.now.undo.requests result (machine.undo_stage (words_of names) (backs names (take left self.now.undo.requests))) }
         ensures planned { steps_needed result ≡ 0 }
         ensures kept { undone_needed result ≤ left }
-        ensures few { most_backs result ≡ 256 }
+        ensures few { most_backs result ≡ most_steps }
         ensures left { (steps undone : ℕ) → replies_left steps undone result ≤ left }
     {
         if left == 0 {

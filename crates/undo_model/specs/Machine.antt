@@ -1,6 +1,7 @@
 -- A manager as a machine: what each call and each reply makes of it, and which request it then sends.
 use Rattle.std.specs.Prelude.{ℕ, suc, ◌+◌, ◌==◌, nat_le, nat_lt, Bool, true, false, List, [], ◌∷◌, ◌++◌, length, Option, Some, None, if◌then◌else◌, slice_get}
 use Rattle.two_wire.specs.Codes.{success}
+use Rattle.two_wire.specs.Retries.{most_retries}
 use Rattle.two_wire.specs.declared.Bus.{Bus}
 use Rattle.two_wire.specs.declared.Bus.TheVariants.{Ipmb, Smbus}
 use Rattle.undo_model.specs.Words.{Answered, is_busy, Words}
@@ -289,10 +290,6 @@ opened M plan retries = record {
   undo = [];
   counts = record { ipmb = 0; smbus = 0 };
 }
-
--- a manager may be opened with so many retries
-abbrev pub most_retries : ℕ
-most_retries = 15
 
 -- a manager is opened: none with more retries
 abbrev pub open_of : (M : Words) → List M.Op → ℕ → Option (Machine M)

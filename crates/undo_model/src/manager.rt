@@ -7,10 +7,7 @@ ghost use Rattle.undo_model.specs.Numbered.{numbered, phase_seen, part_of, plan_
 ghost use Rattle.undo_model.specs.Wires.{number_of};
 ghost use Rattle.undo_model.specs.declared.manager.Asked.TheVariants.{Get, Set, Back};
 
-use two_wire::Bus;
-
-/// How many retries a manager may have.
-pub const MOST_RETRIES: u8 = 15;
+use two_wire::{Bus, MOST_RETRIES};
 
 /// A request about a step.
 #[derive(Clone, Copy, PartialEq, Eq, Debug)]

@@ -8,6 +8,8 @@ use Rattle.cfg_records.specs.declared.message.Asked.{Asked}
 use Rattle.cfg_records.specs.declared.message.Asked.TheVariants.{Ipmi, Pldm}
 use Rattle.two_wire.specs.declared.Bus.{Bus}
 use Rattle.two_wire.specs.declared.Bus.TheVariants.{Ipmb, Smbus}
+use Rattle.two_wire.specs.Sizes.{most_ipmi_request_data, most_pldm_request_data}
+use Rattle.plans.specs.Steps.{most_steps}
 use Rattle.plans.specs.declared.undo_list.NextNumbers.{NextNumbers}
 use Rattle.plans.specs.declared.undo_list.UndoList.{UndoList}
 
@@ -49,8 +51,8 @@ IsPlain (Pldm from kind command body) = from ≡ 0
 
 -- the request's network function or type is one, and its data fit a request
 abbrev pub Fits : Asked → Type 0
-Fits (Ipmi from net_fn lun command body) = (net_fn < 64) × (net_fn % 2 ≡ 0) × (length body ≤ 25)
-Fits (Pldm from kind command body) = (kind < 64) × (length body ≤ 252)
+Fits (Ipmi from net_fn lun command body) = (net_fn < 64) × (net_fn % 2 ≡ 0) × (length body ≤ most_ipmi_request_data)
+Fits (Pldm from kind command body) = (kind < 64) × (length body ≤ most_pldm_request_data)
 
 -- the bytes are what a line of the bus of this name has of the request
 pub record IsOf (bus bytes : List ℕ) (asked : Asked) : Type 0 where
@@ -74,13 +76,13 @@ BeginsWith Sort text rest = (line : List ℕ) × (text ≡ line ++ line_feed ∷
 -- ---- the text
 
 -- The text stands for the list: its lines, each of which a line feed ends, are the version, the numbers, and a line for each of at
--- most 256 requests, in the order in which they are sent, that of the last step first.
+-- most `most_steps` requests, in the order in which they are sent, that of the last step first.
 pub record Stands (text : List ℕ) (list : UndoList) : Type 0 where
   pub lines : List (List ℕ)
   pub spelt : text ≡ flat_map ended (version_line ∷ numbers_line list.next ∷ lines)
   pub next : IsNumbersLine (numbers_line list.next) list.next
   pub told : AllZip IsRequestLine lines (reverse list.requests)
-  pub few : length lines ≤ 256
+  pub few : length lines ≤ most_steps
 
 -- the line that is written for a request, in upper case
 abbrev pub line_of : Asked → List ℕ

@@ -1,6 +1,7 @@
 //! The lines of an undo text.
 ghost use Rattle.std.specs.Prelude.{◌≡◌, ◌≢◌, ◌++◌, ◌∷◌, ◌<◌, ◌≤◌, ℕ, List, IfOk, IfSome, IfNone, OnOk, Ok, MatchOption, length, codes, string_bytes};
 ghost use Rattle.std.specs.Fmt.{decimal};
+ghost use Rattle.two_wire.specs.Sizes.{most_pldm_request_data};
 ghost use Rattle.hex.specs.Hex.{IsBytes, decode_of, encode_upper};
 ghost use Rattle.line_text.specs.Cuts.{line_feed, ended};
 ghost use Rattle.cfg_records.specs.declared.message.Asked.{Asked as AnyAsked};
@@ -11,6 +12,7 @@ use cfg_records::Asked;
 use line_text::{behind, bytes, first_line, first_word, plain_number};
 use plans::NextNumbers;
 use std::alloc::{AllocError, Global};
+use two_wire::size::{MOST_IPMI_REQUEST_DATA, MOST_PLDM_REQUEST_DATA};
 use two_wire::{Below, Bus, Bytes, Lun, NetFn};
 
 /// The line of the numbers of the next requests, up to the first number.
@@ -18,12 +20,6 @@ const NEXT_IPMB: &str = "next ipmb ";
 
 /// What stands between the two numbers, behind the first space.
 const NEXT_SMBUS: &str = "smbus ";
-
-/// The most data bytes of an IPMI request in a frame.
-const MOST_IPMI_DATA: usize = 25;
-
-/// The most data bytes of a PLDM request in a message.
-const MOST_PLDM_DATA: usize = 252;
 
 /// The most bytes of a line.
 const MOST_BYTES: usize = 254;
@@ -87,7 +83,7 @@ fn ipmi(bytes: &[u8]) -> Option<Asked>
     let [first, command, body @ ..] = bytes else {
         return None;
     };
-    if *first % 8 != 0 || body.len() > MOST_IPMI_DATA {
+    if *first % 8 != 0 || body.len() > MOST_IPMI_REQUEST_DATA {
         return None;
     }
     Some(Asked::Ipmi {
@@ -107,7 +103,7 @@ fn pldm(bytes: &[u8]) -> Option<Asked>
     let [kind, command, body @ ..] = bytes else {
         return None;
     };
-    if *kind >= 64 || body.len() > MOST_PLDM_DATA {
+    if *kind >= 64 || body.len() > MOST_PLDM_REQUEST_DATA {
         return None;
     }
     Some(Asked::Pldm {
@@ -168,7 +164,7 @@ fn push_line(
     command: u8,
     body: &[u8],
 ) -> Result<(), AllocError>
-    requires { length body.now ≤ 252 }
+    requires { length body.now ≤ most_pldm_request_data }
     ensures text { OnOk result (string_bytes text.new ≡ string_bytes text.old ++ ended (bus.now ++ encode_upper (first ∷ command ∷ body.now))) }
     ensures bytes { IsBytes (first ∷ command ∷ body.now) }
 {

@@ -3,6 +3,7 @@ ghost use Rattle.std.specs.Prelude.{◌≡◌, ◌⊎◌, ◌≤◌, ◌++◌, �
 ghost use Rattle.std.specs.List.{All, AllZip, flat_map};
 ghost use Rattle.line_text.specs.Cuts.{ended};
 ghost use Rattle.std.specs.Vec.{vec_len};
+ghost use Rattle.plans.specs.Steps.{most_steps};
 ghost use Rattle.plans.specs.declared.undo_list.UndoList.{UndoList as AnyList};
 ghost use Rattle.undo_text.specs.UndoText.{IsPlain, IsRequestLine, AreLinesOf, Stands, IsFirstBad, IsFirstBadFrom, line_of, text_of};
 
@@ -52,7 +53,7 @@ pub fn push_requests(
 ) -> Result<(), AllocError>
     ensures text { OnOk result (string_bytes text.new ≡ string_bytes text.old ++ flat_map ended (map line_of (reverse requests.now))) }
     ensures told { OnOk result (All IsPlain requests.now → AllZip IsRequestLine (map line_of (reverse requests.now)) (reverse requests.now)) }
-    ensures few { length requests.now ≤ 256 }
+    ensures few { length requests.now ≤ most_steps }
 {
     let mut place = requests.len();
     while place > 0 {
@@ -65,7 +66,7 @@ pub fn push_requests(
 
 /// The requests of these lines, in their order, or the number of the first bad line.
 fn read_requests(alloc: Global, text: &str) -> Result<Vec<Asked>, UndoFault>
-    ensures told { IfOk result (λ told. (vec_len told ≤ 256) × AreLinesOf text.now told.items) }
+    ensures told { IfOk result (λ told. (vec_len told ≤ most_steps) × AreLinesOf text.now told.items) }
     ensures fault { IfErr result (λ why. (why ≡ UndoFault.Memory) ⊎ ((n : ℕ) × (why ≡ UndoFault.Line n) × IsFirstBadFrom 3 text.now n)) }
 {
     let mut told = Vec::new(alloc);
@@ -92,7 +93,7 @@ fn read_requests(alloc: Global, text: &str) -> Result<Vec<Asked>, UndoFault>
 
 /// The requests in the order of the steps, which is not the order of their lines.
 fn in_order(alloc: Global, mut told: Vec<Asked>) -> Result<Requests, AllocError>
-    requires { vec_len told ≤ 256 }
+    requires { vec_len told ≤ most_steps }
     ensures { IfOk result (λ requests. requests ≡ reverse told.items) }
 {
     let mut requests = Requests::new(alloc)?;
@@ -104,7 +105,7 @@ fn in_order(alloc: Global, mut told: Vec<Asked>) -> Result<Requests, AllocError>
 
 /// The list of these next numbers and of the requests that were told.
 fn listed(alloc: Global, next: NextNumbers, told: Vec<Asked>) -> Result<UndoList, UndoFault>
-    requires { vec_len told ≤ 256 }
+    requires { vec_len told ≤ most_steps }
     ensures list { IfOk result (λ list. (list.next ≡ next) × (list.requests ≡ reverse told.items)) }
     ensures fault { IfErr result (λ why. why ≡ UndoFault.Memory) }
 {

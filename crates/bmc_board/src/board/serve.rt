@@ -34,6 +34,7 @@ use record_kinds::{Limits, Setup};
 use sensor_recs::taken::reading_data;
 use sensor_recs::{EventEnableLimits, HysteresisLimits, ThresholdLimits};
 use std::alloc::{AllocError, Global};
+use two_wire::size::MOST_PLDM_REPLY_DATA;
 use two_wire::{Buffer, Bytes, Code, code};
 use user_chan::channel_request::{ChannelRequest, channel_request_in, stored_in};
 use user_chan::password::{PasswordChange, change_of, set_enabled};
@@ -107,7 +108,7 @@ fn show<B: Buffer>(shown: &[u8], to: &mut B) -> Result<(), Code>
 }
 
 /// The answer of a call that appended its data to nothing.
-fn answered(done: Result<(), Code>, body: Bytes<251>) -> Answered
+fn answered(done: Result<(), Code>, body: Bytes<{ MOST_PLDM_REPLY_DATA }>) -> Answered
     ensures { (answer : Reply) → Gives done [] body answer → result ≡ answer }
 {
     match done {

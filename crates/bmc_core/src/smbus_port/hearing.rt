@@ -1,5 +1,6 @@
 //! Packets to requests, and what becomes of all else.
 ghost use Rattle.std.specs.Prelude.{◌≡◌, ◌≤◌, ℕ, length, find, None};
+ghost use Rattle.two_wire.specs.Sizes.{most_message_bytes};
 ghost use Rattle.mctp_net.specs.Control.{request_of as control_request_of};
 ghost use Rattle.mctp_net.specs.Places.{seen};
 ghost use Rattle.pldm_base.specs.Message.{request_in as pldm_request_in, has_fault, faults};
@@ -58,7 +59,7 @@ pub(super) fn hear<'a>(
     body: &'a [u8],
     out: &mut Out,
 ) -> Option<RequestInMessage<'a>>
-    requires { length body.now ≤ 256 }
+    requires { length body.now ≤ most_message_bytes }
     ensures { HasHeard wire endpoint.old (message_heard (record { envelope = envelope; body = body.now })) endpoint.new out.new result }
 {
     if !envelope.tag_owner {

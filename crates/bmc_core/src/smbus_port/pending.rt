@@ -1,5 +1,6 @@
 //! Requests that a port has heard, where they lie, and as they wait for an answer.
 ghost use Rattle.std.specs.Prelude.{◌≡◌, ◌≤◌, length};
+ghost use Rattle.two_wire.specs.Sizes.{most_message_bytes};
 ghost use Rattle.pldm_base.specs.Message.{request_bytes};
 ghost use Rattle.windows.specs.Heard.{request_of};
 ghost use Rattle.lab_model.specs.Bytes.{pldm_heard_in};
@@ -10,6 +11,7 @@ use cfg_records::Asked;
 use mctp_net::Envelope;
 use pldm_base::{Header, PldmRequest, write_pldm};
 use std::marker::Model;
+use two_wire::size::MOST_PLDM_REQUEST_DATA;
 use two_wire::{Bytes, Data};
 
 /// The number of instances that PLDM has.
@@ -57,7 +59,7 @@ impl<'a> RequestInMessage<'a> {
     /// The request as the windows keep it, with the ignored bit 0.
     pub fn kept(&self) -> windows::Request<'_, { INSTANCES }>
         ensures is { request_of pldm_reading result ≡ pldm_heard_in self.now.envelope.source_eid self.now.request }
-        ensures room { length result.rest.now ≤ 256 }
+        ensures room { length result.rest.now ≤ most_message_bytes }
     {
         let header = self.request.header;
         let _data = self.request.body.as_slice();
@@ -88,7 +90,7 @@ pub struct SmbusPending {
     envelope: Envelope,
     header: Header,
     /// The command's data.
-    body: Bytes<252>,
+    body: Bytes<{ MOST_PLDM_REQUEST_DATA }>,
 }
 
 impl SmbusPending {

@@ -1,5 +1,6 @@
 //! What a port replies to requests, and what it keeps of them.
 ghost use Rattle.std.specs.Prelude.{◌≡◌, ◌<◌, ◌≤◌, ◌∷◌, length, List, None};
+ghost use Rattle.two_wire.specs.Sizes.{most_message_bytes};
 ghost use Rattle.two_wire.specs.declared.Bus.TheVariants.{Smbus};
 ghost use Rattle.pldm_base.specs.Message.{IsHeader, reply_start};
 ghost use Rattle.bus_model.specs.Circle.{instances};
@@ -23,21 +24,19 @@ use bmc_board::request::read_pldm;
 use cfg_records::{Answered, Store};
 use mctp_net::{Envelope, Message, SomeData, split_into};
 use pldm_base::{Header, begin_pldm_reply};
+use two_wire::size::MOST_MESSAGE_BYTES;
 use two_wire::{Bytes, code};
 use windows::{Found, Windows};
 
-/// The most bytes that a message has.
-const MESSAGE: usize = 256;
-
 /// The requests that a port carried out, with their replies.
-pub(super) type Kept = Windows<{ INSTANCES }, { MESSAGE }>;
+pub(super) type Kept = Windows<{ INSTANCES }, { MOST_MESSAGE_BYTES }>;
 
 /// A reply's bytes, its type first.
-pub(super) type Reply = Bytes<{ MESSAGE }>;
+pub(super) type Reply = Bytes<{ MOST_MESSAGE_BYTES }>;
 
 /// Sends a reply of these bytes from this place to the sender of the envelope's message. The caller has noted in `out` what was done.
 pub(super) fn send(at: &At, to: &Envelope, body: &[u8], out: &mut Out)
-    requires { length body.now ≤ MESSAGE }
+    requires { length body.now ≤ most_message_bytes }
     ensures sent { 0 < length body.now → out.new ≡ sends (frames_from at.now.wire at.now.eid to.now body.now) out.old.done }
     ensures read { 0 < length body.now → AreRead Smbus (parts_from at.now.wire at.now.eid to.now body.now) }
 {
@@ -104,7 +103,7 @@ pub(super) fn settle(windows: &Kept, at: &At, request: &RequestInMessage<'_>, ou
 /// Keeps a new request with its reply, and sends that.
 fn keep(windows: &mut Kept, at: &At, request: &RequestInMessage<'_>, reply: &[u8], out: &mut Out)
     requires some { 0 < length reply.now }
-    requires fits { length reply.now ≤ MESSAGE }
+    requires fits { length reply.now ≤ most_message_bytes }
     ensures kept { (log : List Entry) → AreOf windows.old log → outcome (is_above instances) (asking request.now) log ≡ IsNew
         → AreOf windows.new (Carried (record { request = asking request.now; reply = reply.now }) ∷ log) }
     ensures sent { out.new ≡ sends (frames_from at.now.wire at.now.eid request.now.envelope reply.now) done_as.Answered }

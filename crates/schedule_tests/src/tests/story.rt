@@ -7,12 +7,12 @@ use super::tally::{Tally, may_be_offered, one_more};
 use cfg_records::sample_board;
 use lab::{SentFrame, Way};
 use lab_play::{LabFault, Played, play};
-use plans::{Plan, Retries, Steps};
+use plans::{Plan, Steps};
 use schedules::{Call, Event};
 use std::alloc::Global;
 use std::process::Abort;
 use std::test::Fail;
-use two_wire::Bus;
+use two_wire::{Bus, Retries};
 use undo_core::{Phase, Why};
 
 /// How many events are offered in a schedule at most.
