@@ -31,7 +31,6 @@ use Rattle.cfg_records.specs.declared.device.Bcd.{Bcd}
 use Rattle.cfg_records.specs.declared.device.ManufacturerId.{ManufacturerId}
 use Rattle.cfg_records.specs.declared.thresholds.ThresholdMasks.{ThresholdMasks}
 use Rattle.cfg_records.specs.declared.sensor_thresholds.Thresholds.{Thresholds}
-use Rattle.cfg_records.specs.declared.hysteresis.Hysteresis.{Hysteresis}
 use Rattle.cfg_records.specs.declared.event_enable.EventEnable.{EventEnable}
 use Rattle.cfg_records.specs.declared.sensor.Sensor.{Sensor}
 use Rattle.cfg_records.specs.declared.state_effecter.StateField.{StateField}
@@ -70,7 +69,7 @@ use Rattle.board_file.specs.Holds.{HoldsDevice, HoldsEvents, HoldsSensor, operat
 use Rattle.file_fields.specs.Ranges.{settings}
 use Rattle.board_file.specs.Faults.{board_faults}
 use Rattle.file_fields.specs.Faults.{first}
-use Rattle.file_fields.proofs.Unique.{one_found, one_list, one_natural, one_number, one_numbers, one_word, same_flags}
+use Rattle.file_fields.proofs.Unique.{one_found, one_list, one_natural, one_number, one_numbers, one_pair, one_word, same_flags}
 
 -- ---- what a number is within
 
@@ -160,12 +159,6 @@ one_thresholds a b p q = λ i. record {
   valid = is_prop→PathP (λ j. IsThresholds (p j) (q j)) (λ j. IsThresholds-prop (p j) (q j)) a.valid b.valid i;
 }
 
-one_hysteresis : (a b : Hysteresis) → a.positive ∷ a.negative ∷ [] ≡ b.positive ∷ b.negative ∷ [] → a ≡ b
-one_hysteresis a b e =
-    let positive : a.positive ≡ b.positive = cc e in
-    let negative : a.negative ≡ b.negative = cc e in
-    λ i. record { positive = positive i; negative = negative i }
-
 messages_in : (messages scanning : Bool) → (flags_byte messages scanning / 128 == 1) ≡ messages
 messages_in true true = refl
 messages_in true false = refl
@@ -205,10 +198,16 @@ one_sensor tree a b p q =
     let settable = one_number field.Settable tree a.thresholds.masks.settable b.thresholds.masks.settable p.settable q.settable in
     let values = one_numbers field.Thresholds tree a.thresholds.values b.thresholds.values p.values q.values in
     let thresholds = one_thresholds a.thresholds b.thresholds (one_masks a.thresholds.masks b.thresholds.masks readable settable) values in
-    let hysteresis = one_hysteresis a.hysteresis b.hysteresis
-    (one_numbers field.Hysteresis tree (a.hysteresis.positive ∷ a.hysteresis.negative ∷ []) (b.hysteresis.positive ∷ b.hysteresis.negative ∷ []) p.hysteresis q.hysteresis) in
+    let hysteresis = one_pair field.Hysteresis tree p.hysteresis q.hysteresis in
     let events = one_events tree a.events b.events p.events q.events in
-    λ i. record { number = number i; sensor_type = sensor_type i; thresholds = thresholds i; hysteresis = hysteresis i; events = events i; numbered = under 255 number a.numbered b.numbered i }
+    λ i. record {
+      number = number i;
+      sensor_type = sensor_type i;
+      thresholds = thresholds i;
+      hysteresis = record { positive = hysteresis.0 i; negative = hysteresis.1 i };
+      events = events i;
+      numbered = under 255 number a.numbered b.numbered i;
+    }
 
 -- ---- state effecters
 
@@ -327,10 +326,10 @@ one_access a b p q = λ i. record {
 one_channel : (tree : Members) (a b : Channel) → HoldsChannel tree a → HoldsChannel tree b → a ≡ b
 one_channel tree a b p q =
     let number = same_channel a.number b.number (one_number field.Number tree a.number.number b.number.number p.numbered q.numbered) in
-    let access = one_numbers field.Access tree (a.non_volatile.access ∷ a.volatile.access ∷ []) (b.non_volatile.access ∷ b.volatile.access ∷ []) p.access q.access in
-    let limit = one_numbers field.Limit tree (a.non_volatile.limit ∷ a.volatile.limit ∷ []) (b.non_volatile.limit ∷ b.volatile.limit ∷ []) p.limit q.limit in
-    let non_volatile = one_access a.non_volatile b.non_volatile (cc access) (cc limit) in
-    let volatile = one_access a.volatile b.volatile (cc access) (cc limit) in
+    let access = one_pair field.Access tree p.access q.access in
+    let limit = one_pair field.Limit tree p.limit q.limit in
+    let non_volatile = one_access a.non_volatile b.non_volatile access.0 limit.0 in
+    let volatile = one_access a.volatile b.volatile access.1 limit.1 in
     λ i. record { number = number i; non_volatile = non_volatile i; volatile = volatile i }
 
 one_sessionless : (d : Data) (a b : ChannelNumber) → IsNumberIn d a → IsNumberIn d b → a ≡ b

@@ -20,12 +20,12 @@ use crate::users::users;
 use cfg_records::event_enable::{MESSAGES_PLACE, SCANNING_PLACE};
 use cfg_records::mask::has;
 use cfg_records::{
-    BoardFile, BootOptions, Device, Distinct, EventEnable, EventMasks, GlobalEnables, LogCapacity,
-    ManufacturerId, Numbered, PowerPolicy, SdrRecord, SdrRecords, Sensor, Sensors,
+    BoardFile, BootOptions, Device, Distinct, EventEnable, EventMasks, GlobalEnables, Hysteresis,
+    LogCapacity, ManufacturerId, Numbered, PowerPolicy, SdrRecord, SdrRecords, Sensor, Sensors,
 };
 use file_fields::Field;
-use file_fields::range::{boot_flags, digits, enables, hysteresis, record, thresholds, watchdog};
-use file_fields::tree::{byte_in, members_in, number_in, table_in, value_in, word_in};
+use file_fields::range::{boot_flags, digits, enables, record, thresholds, watchdog};
+use file_fields::tree::{byte_in, members_in, number_in, pair_in, table_in, value_in, word_in};
 use std::alloc::Global;
 use toml::{Table, Value};
 
@@ -68,12 +68,12 @@ fn sensor(table: &Table) -> Sensor
     ensures { HoldsSensor (table_view table.now) result }
 {
     let values = value_in(table, Field::Thresholds);
-    let pair = value_in(table, Field::Hysteresis);
+    let [positive, negative] = pair_in(table, Field::Hysteresis);
     Sensor {
         number: byte_in(table, Field::Number),
         sensor_type: byte_in(table, Field::Type),
         thresholds: thresholds(table, values).unwrap(),
-        hysteresis: hysteresis(pair).unwrap(),
+        hysteresis: Hysteresis { positive, negative },
         events: events(table),
     }
 }

@@ -11,7 +11,7 @@ use Rattle.file_fields.specs.declared.row.Shape.{Shape}
 use Rattle.file_fields.specs.declared.row.Shape.TheVariants as shape
 use Rattle.file_fields.specs.declared.row.Need.TheVariants as need
 use Rattle.file_fields.specs.declared.fault.FieldFault.TheVariants as fault
-use Rattle.file_fields.specs.Trees.{in_field, natural, number_in, HasBelow, flag_in}
+use Rattle.file_fields.specs.Trees.{in_field, natural, number_in, HasBelow, flag_in, pair_in}
 use Rattle.file_fields.specs.Ranges.{passes, has_type, is_between, is_in_range}
 use Rattle.file_fields.specs.Faults.{is_needed, is_missing, is_mistyped, is_beyond, field_faults}
 
@@ -113,3 +113,9 @@ pub flag_there : (tree : Members) (named : Field) → Sound tree (record { 0 = n
 flag_there tree named sound =
     let v = value_of tree (record { 0 = named; 1 = shape.Flag; 2 = need.Always }) (in_field named tree) refl refl sound in
     rw v.found v.typed
+
+-- two bytes that the item has
+pub pair_there : {tree : Members} {named : Field} → Sound tree (record { 0 = named; 1 = shape.Pair; 2 = need.Always }) → IsSome (pair_in named tree)
+pair_there {tree} {named} sound =
+    let v = value_of tree (record { 0 = named; 1 = shape.Pair; 2 = need.Always }) (in_field named tree) refl refl sound in
+    rw v.found v.within

@@ -68,6 +68,12 @@ one_numbers named tree ms ns p q =
     one_found (option_and_then (λ d. option_and_then naturals (members d)) (in_field named tree)) ms ns
     (numbers_of (in_field named tree) (length ms) ms p) (numbers_of (in_field named tree) (length ns) ns q)
 
+-- a field's two numbers are one pair
+pub one_pair : (named : Field) (tree : Members) {a b c d : ℕ} → HasNumbers named tree (a ∷ b ∷ []) → HasNumbers named tree (c ∷ d ∷ []) → (a ≡ c) × (b ≡ d)
+one_pair named tree {a} {b} {c} {d} p q =
+    let same = one_numbers named tree (a ∷ b ∷ []) (c ∷ d ∷ []) p q in
+    (cc same, cc same)
+
 -- a value is one number
 pub one_natural : (d : Data) (a b : ℕ) → IsNaturalIn d a → IsNaturalIn d b → a ≡ b
 one_natural d a b p q = one_found (natural d) a b p q

@@ -76,6 +76,10 @@ flag_in named tree = option_and_then as_bool (in_field named tree)
 abbrev pub numbers_in : ℕ → Field → Members → Option (List ℕ)
 numbers_in count field tree = option_and_then (naturals_in count) (in_field field tree)
 
+-- the bytes in the array of two that a table has in the field
+abbrev pub pair_in : Field → Members → Option (List ℕ)
+pair_in named tree = option_and_then (bytes_in 2) (in_field named tree)
+
 -- a table, and one without members where there is none
 abbrev pub or_empty : Option Members → Members
 or_empty (Some tree) = tree

@@ -23,7 +23,7 @@ use crate::users::{are_names, is_user_limit, name};
 use cfg_records::event_enable::are_within;
 use cfg_records::sdr_record::MOST_SDR_BYTES;
 use cfg_records::{
-    Bcd, BootChange, BootFlags, BootParameter, GlobalEnables, Hysteresis, MaskedBits, SdrRecord,
+    Bcd, BootChange, BootFlags, BootParameter, GlobalEnables, MaskedBits, SdrRecord,
     ThresholdMasks, Thresholds, Watchdog,
 };
 use toml::{Table, Value};
@@ -142,18 +142,6 @@ pub fn enables(value: &Value) -> Option<GlobalEnables>
         },
         None => None,
     }
-}
-
-/// The hysteresis that the value is.
-pub fn hysteresis(value: &Value) -> Option<Hysteresis>
-    ensures made { is_some result ≡ is_some (bytes_in 2 (view value.now)) }
-    ensures held { IfSome result (λ h. bytes_in 2 (view value.now) ≡ Some (h.positive ∷ h.negative ∷ [])) }
-{
-    let Some(bytes) = bytes::<2>(value) else {
-        return None;
-    };
-    let [positive, negative] = bytes;
-    Some(Hysteresis { positive, negative })
 }
 
 /// The boot flags that the value is.
@@ -466,7 +454,7 @@ impl Shape {
             Shape::Number(least, most) => is_between(value, *least, *most),
             Shape::Digits => digits(value).is_some(),
             Shape::Enables => enables(value).is_some(),
-            Shape::Pair => hysteresis(value).is_some(),
+            Shape::Pair => bytes::<2>(value).is_some(),
             Shape::BootFlags => boot_flags(value).is_some(),
             Shape::Thresholds => thresholds(item, value).is_some(),
             Shape::Flags => are_flags(value),

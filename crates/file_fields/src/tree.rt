@@ -1,7 +1,7 @@
 //! What the tables of a file have.
 ghost use Rattle.std.specs.Prelude.{◌≡◌, ◌<◌, ◌^◌, Some, IsSome, length, map, option_map, option_and_then};
 ghost use Rattle.toml.specs.View.{view, table_view};
-ghost use Rattle.file_fields.specs.Trees.{in_field, lacks, members, or_none, natural, naturals, naturals_in, all_bytes, bytes_in, flag_in, number_in, members_in, table_in, HasNumber, HasBelow};
+ghost use Rattle.file_fields.specs.Trees.{in_field, lacks, members, or_none, natural, naturals, naturals_in, all_bytes, bytes_in, flag_in, number_in, numbers_in, pair_in, members_in, table_in, HasNumber, HasBelow};
 ghost use Rattle.file_fields.specs.Ranges.{has_text};
 ghost use Rattle.toml.specs.Data.{as_table};
 
@@ -182,6 +182,17 @@ pub fn word_in(table: &Table, field: Field) -> u16
     ensures { HasNumber field (table_view table.now) result }
 {
     number(table, field).unwrap() as u16
+}
+
+/// The bytes in the array of two that the table has in the field.
+pub fn pair_in(table: &Table, field: Field) -> [u8; 2]
+    requires { IsSome (pair_in field (table_view table.now)) }
+    ensures { numbers_in 2 field (table_view table.now) ≡ Some result }
+{
+    match in_field(table, field) {
+        Some(value) => bytes::<2>(value).unwrap(),
+        None => unreachable!(),
+    }
 }
 
 /// The table that the table has in the field.

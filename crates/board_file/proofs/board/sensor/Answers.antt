@@ -1,12 +1,12 @@
-use Rattle.std.proofs.Common.{◌≡◌, ◌≤◌, true, is_some, refl, sym, ◌∙◌, ap, arith, lit<}
+use Rattle.std.proofs.Common.{◌≤◌, refl, sym, ◌∙◌, ap, arith, lit<}
 use Rattle.toml.specs.View.{view, table_view}
 use Rattle.file_fields.specs.declared.field.Field.TheVariants as field
 use Rattle.file_fields.specs.declared.row.Shape.TheVariants as shape
 use Rattle.file_fields.specs.declared.row.Need.TheVariants as need
 use Rattle.board_file.specs.declared.tables.TheConstants.{SENSOR}
-use Rattle.file_fields.specs.Trees.{in_field, bytes_in}
+use Rattle.file_fields.specs.Trees.{in_field}
 use Rattle.file_fields.specs.Ranges.{is_in_range}
-use Rattle.file_fields.proofs.Rows.{all_sound, number_of, value_of, below, within, same_value}
+use Rattle.file_fields.proofs.Rows.{all_sound, number_of, value_of, pair_there, below, within, same_value}
 use Rattle.board_file.proofs.board.sensor.Goals as goal
 
 pub value_in-values-requires : goal.value_in-values-requires
@@ -16,12 +16,8 @@ value_in-values-requires c =
     let values = value_of tree (record { 0 = field.Thresholds; 1 = shape.Thresholds; 2 = need.Always }) (in_field field.Thresholds tree) refl refl sound.1.1.1.1.0 in
     rw values.found refl
 
-pub value_in-pair-requires : goal.value_in-pair-requires
-value_in-pair-requires c =
-    let tree = table_view c.args.table.now in
-    let sound = all_sound SENSOR tree c.requires in
-    let pair = value_of tree (record { 0 = field.Hysteresis; 1 = shape.Pair; 2 = need.Always }) (in_field field.Hysteresis tree) refl refl sound.1.1.1.1.1.0 in
-    rw pair.found refl
+pub pair_in-requires : goal.pair_in-requires
+pair_in-requires c = pair_there (all_sound SENSOR (table_view c.args.table.now) c.requires).1.1.1.1.1.0
 
 pub byte_in-requires : goal.byte_in-requires
 byte_in-requires c = below 256 (number_of (table_view c.args.table.now) field.Number 0 254 (all_sound SENSOR (table_view c.args.table.now) c.requires).0) (lit< tt)
@@ -36,15 +32,6 @@ unwrap-requires c =
     let values = value_of tree (record { 0 = field.Thresholds; 1 = shape.Thresholds; 2 = need.Always }) (in_field field.Thresholds tree) refl refl sound.1.1.1.1.0 in
     let same = same_value values.value (view c.value_in-values.result.now) (in_field field.Thresholds tree) values.found c.value_in-values.ensures in
     c.thresholds.ensures.made ∙ ap (is_in_range tree shape.Thresholds) (sym same) ∙ values.within
-
-pub unwrap-requires-2 : goal.unwrap-requires-2
-unwrap-requires-2 c =
-    let tree = table_view c.args.table.now in
-    let sound = all_sound SENSOR tree c.requires in
-    let pair = value_of tree (record { 0 = field.Hysteresis; 1 = shape.Pair; 2 = need.Always }) (in_field field.Hysteresis tree) refl refl sound.1.1.1.1.1.0 in
-    let same = same_value pair.value (view c.value_in-pair.result.now) (in_field field.Hysteresis tree) pair.found c.value_in-pair.ensures in
-    let valid : is_some (bytes_in 2 pair.value) ≡ true = pair.within in
-    c.hysteresis.ensures.made ∙ ap (λ d. is_some (bytes_in 2 d)) (sym same) ∙ valid
 
 pub invariant_of-result : goal.invariant_of-result
 invariant_of-result c =
