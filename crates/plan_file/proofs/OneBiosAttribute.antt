@@ -11,9 +11,9 @@ use Rattle.cfg_records.specs.declared.bios_attribute.SetBiosAttribute.{SetBiosAt
 use Rattle.file_fields.specs.declared.field.Field.TheVariants as field
 use Rattle.file_fields.specs.Trees.{in_field, natural, number_in, members_in}
 use Rattle.file_fields.specs.Attributes.{text_of, text_in}
-use Rattle.plan_file.specs.BiosAttribute.{GivesValue, HoldsBiosAttribute}
+use Rattle.plan_file.specs.BiosAttribute.{GivesValue, HoldsBiosAttribute, kind}
 use Rattle.file_fields.proofs.Unique.{same_made, one_found, one_list, one_natural, one_number}
-use Rattle.plan_file.proofs.StepKind.{StepKind}
+use Rattle.plan_file.proofs.StepKind.{IsOne}
 
 -- a field that the table lacks has no text and no number
 no_text : (tree : Members) (text : List ℕ) → in_field field.Text tree ≡ None → text_in field.Text tree ≡ Some text → ⊥
@@ -36,7 +36,7 @@ one_value tree (attribute.Number a) (attribute.Number b) p q = ap attribute.Numb
 abbrev attribute_at : (s : ℕ × (ℕ × List ℕ)) → length s.1.1 ≤ most_sent → SetBiosAttribute
 attribute_at s fits = record { attribute = s.0; attribute_type = s.1.0; value = s.1.1; fits = fits }
 
-pub one : (tree : Members) (a b : SetBiosAttribute) → HoldsBiosAttribute tree a → HoldsBiosAttribute tree b → a ≡ b
+one : (tree : Members) (a b : SetBiosAttribute) → HoldsBiosAttribute tree a → HoldsBiosAttribute tree b → a ≡ b
 one tree a b p q =
     let handle = one_number field.Handle tree a.attribute b.attribute p.handle q.handle in
     let value = one_value tree p.value q.value p.given q.given in
@@ -44,6 +44,6 @@ one tree a b p q =
     let sent : a.value ≡ b.value = p.sent ∙ ap value_bytes value ∙ sym q.sent in
     same_made attribute_at (λ s. hlevel props) (a.attribute, (a.attribute_type, a.value)) (b.attribute, (b.attribute_type, b.value)) a.fits b.fits (λ i. (handle i, (code i, sent i)))
 
--- such a step, as one value
-abbrev pub kind : StepKind
-kind = record { Set = SetBiosAttribute; op_of = λ set. op.BiosAttribute set; Holds = HoldsBiosAttribute; one = one }
+-- the operation that such a step holds is one
+pub only : IsOne kind
+only tree = elim [ op.BiosAttribute a ↦ elim [ op.BiosAttribute b ↦ λ p q. ap op.BiosAttribute (one tree a b p q) | _ ↦ λ p q. absurd q ] | _ ↦ λ b p. absurd p ]

@@ -11,9 +11,9 @@ use Rattle.cfg_records.specs.declared.boot_param.BootChange.TheVariants as boot
 use Rattle.cfg_records.specs.declared.boot_param.SetBootParam.{SetBootParam}
 use Rattle.file_fields.specs.declared.field.Field.TheVariants as field
 use Rattle.file_fields.specs.Trees.{in_field, flag_in}
-use Rattle.plan_file.specs.BootParam.{IsGiven, HoldsBootChange, HoldsBootParam}
+use Rattle.plan_file.specs.BootParam.{IsGiven, HoldsBootChange, HoldsBootParam, kind}
 use Rattle.file_fields.proofs.Unique.{one_found, one_number, one_bytes, same_flags}
-use Rattle.plan_file.proofs.StepKind.{StepKind}
+use Rattle.plan_file.proofs.StepKind.{IsOne}
 
 one_given : (found : Option Data) (ms ns : List ℕ) → IsGiven found ms → IsGiven found ns → ms ≡ ns
 one_given None ms ns p q = p ∙ sym q
@@ -53,12 +53,12 @@ one_boot_change tree a b p q =
     let named = one_number field.Param tree (selector (parameter_of a)) (selector (parameter_of b)) p.named q.named in
     one_bytes_of a b (one_selected (parameter_of a) (parameter_of b) named) (one_given (in_field field.BootData tree) (change_bytes a) (change_bytes b) p.given q.given)
 
-pub one : (tree : Members) (a b : SetBootParam) → HoldsBootParam tree a → HoldsBootParam tree b → a ≡ b
+one : (tree : Members) (a b : SetBootParam) → HoldsBootParam tree a → HoldsBootParam tree b → a ≡ b
 one tree a b p q =
     let invalid = one_found (flag_in field.Invalid tree) a.invalid b.invalid p.invalid q.invalid in
     let change = one_boot_change tree a.change b.change p.change q.change in
     λ i. record { invalid = invalid i; change = change i }
 
--- such a step, as one value
-abbrev pub kind : StepKind
-kind = record { Set = SetBootParam; op_of = λ set. op.BootParam set; Holds = HoldsBootParam; one = one }
+-- the operation that such a step holds is one
+pub only : IsOne kind
+only tree = elim [ op.BootParam a ↦ elim [ op.BootParam b ↦ λ p q. ap op.BootParam (one tree a b p q) | _ ↦ λ p q. absurd q ] | _ ↦ λ b p. absurd p ]

@@ -11,9 +11,9 @@ use Rattle.file_fields.specs.declared.field.Field.{Field}
 use Rattle.file_fields.specs.declared.field.Field.TheVariants as field
 use Rattle.file_fields.specs.Trees.{in_field, natural, number_in}
 use Rattle.file_fields.specs.Channels.{store_of}
-use Rattle.plan_file.specs.ChannelAccess.{HoldsChannelChange, HoldsChannelAccess}
+use Rattle.plan_file.specs.ChannelAccess.{HoldsChannelChange, HoldsChannelAccess, kind}
 use Rattle.file_fields.proofs.Unique.{one_found, one_number}
-use Rattle.plan_file.proofs.StepKind.{StepKind}
+use Rattle.plan_file.proofs.StepKind.{IsOne}
 
 lacked : (named : Field) (tree : Members) (n : ℕ) → in_field named tree ≡ None → number_in named tree ≡ Some n → ⊥
 lacked named tree n lacks is = let none : number_in named tree ≡ None = ap (option_and_then natural) lacks in let both : None ≡ Some n = sym none ∙ is in cc both
@@ -35,13 +35,13 @@ one_channel_change tree (channel.Both a b) (channel.Both c d) p q =
     let limit = one_six field.Limit tree b d p.1 q.1 in
     λ i. channel.Both (access i) (limit i)
 
-pub one : (tree : Members) (a b : SetChannelAccess) → HoldsChannelAccess tree a → HoldsChannelAccess tree b → a ≡ b
+one : (tree : Members) (a b : SetChannelAccess) → HoldsChannelAccess tree a → HoldsChannelAccess tree b → a ≡ b
 one tree a b p q =
     let channel = same_channel a.channel b.channel (one_number field.Channel tree a.channel.number b.channel.number p.channel q.channel) in
     let store = one_found (option_and_then store_of (in_field field.Store tree)) a.store b.store p.store q.store in
     let change = one_channel_change tree a.change b.change p.change q.change in
     λ i. record { channel = channel i; store = store i; change = change i }
 
--- such a step, as one value
-abbrev pub kind : StepKind
-kind = record { Set = SetChannelAccess; op_of = λ set. op.ChannelAccess set; Holds = HoldsChannelAccess; one = one }
+-- the operation that such a step holds is one
+pub only : IsOne kind
+only tree = elim [ op.ChannelAccess a ↦ elim [ op.ChannelAccess b ↦ λ p q. ap op.ChannelAccess (one tree a b p q) | _ ↦ λ p q. absurd q ] | _ ↦ λ b p. absurd p ]

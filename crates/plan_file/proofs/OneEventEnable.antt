@@ -9,9 +9,9 @@ use Rattle.cfg_records.specs.declared.event_enable.EventMasks.{EventMasks}
 use Rattle.file_fields.specs.declared.field.Field.TheVariants as field
 use Rattle.file_fields.specs.Trees.{flag_in, members_in}
 use Rattle.file_fields.specs.Ranges.{has_text, is_listed}
-use Rattle.plan_file.specs.EventEnable.{HoldsEvents, HoldsChange, HoldsEventEnable}
+use Rattle.plan_file.specs.EventEnable.{HoldsEvents, HoldsChange, HoldsEventEnable, kind}
 use Rattle.file_fields.proofs.Unique.{one_found, one_number, one_mask, one_word}
-use Rattle.plan_file.proofs.StepKind.{StepKind}
+use Rattle.plan_file.proofs.StepKind.{IsOne}
 
 one_events : (tree : Members) (a b : EventMasks) → HoldsEvents tree a → HoldsEvents tree b → a ≡ b
 one_events tree a b p q =
@@ -37,7 +37,7 @@ one_change tree change.Leave change.Reserved p q = absurd q
 one_change tree (change.Enable a) change.Reserved p q = absurd q
 one_change tree (change.Disable a) change.Reserved p q = absurd q
 
-pub one : (tree : Members) (a b : SetEventEnable) → HoldsEventEnable tree a → HoldsEventEnable tree b → a ≡ b
+one : (tree : Members) (a b : SetEventEnable) → HoldsEventEnable tree a → HoldsEventEnable tree b → a ≡ b
 one tree a b p q =
     let sensor = one_number field.Sensor tree a.sensor b.sensor p.sensor q.sensor in
     let messages = one_found (flag_in field.Messages tree) a.messages b.messages p.messages q.messages in
@@ -45,6 +45,6 @@ one tree a b p q =
     let change = one_change tree a.change b.change p.change q.change in
     λ i. record { sensor = sensor i; messages = messages i; scanning = scanning i; change = change i }
 
--- such a step, as one value
-abbrev pub kind : StepKind
-kind = record { Set = SetEventEnable; op_of = λ set. op.EventEnable set; Holds = HoldsEventEnable; one = one }
+-- the operation that such a step holds is one
+pub only : IsOne kind
+only tree = elim [ op.EventEnable a ↦ elim [ op.EventEnable b ↦ λ p q. ap op.EventEnable (one tree a b p q) | _ ↦ λ p q. absurd q ] | _ ↦ λ b p. absurd p ]

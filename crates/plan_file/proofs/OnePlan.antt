@@ -1,9 +1,8 @@
 -- A tree holds one plan.
-use Rattle.std.proofs.Common.{◌≡◌, ◌∙◌, ℕ, List, Option, Some, None, MatchOption, Result, Ok, Err, refl, sym, ap, subst}
+use Rattle.std.proofs.Common.{◌≡◌, ◌∙◌, ℕ, List, Option, Some, None, MatchOption, Result, Ok, Err, sym, ap, subst}
 use Rattle.toml.specs.Data.{Members}
 use Rattle.toml.specs.Parse.{parse_document}
 use Rattle.cfg_records.specs.declared.op.Op.{Op}
-use Rattle.cfg_records.specs.declared.op.Op.TheVariants as op
 use Rattle.plans.specs.declared.plan.Plan.{Plan}
 use Rattle.file_fields.specs.declared.field.Field.TheVariants as field
 use Rattle.plan_file.specs.declared.kind.Kind.{Kind}
@@ -11,12 +10,12 @@ use Rattle.plan_file.specs.declared.kind.Kind.TheVariants as kind
 use Rattle.plan_file.specs.declared.plan_fault.PlanFault.{PlanFault}
 use Rattle.plan_file.specs.declared.plan_fault.PlanFault.TheVariants as plan
 use Rattle.file_fields.specs.Trees.{table_of, members_in}
-use Rattle.plan_file.specs.Kinds.{kind_in}
+use Rattle.plan_file.specs.Kinds.{of_kind, kind_in}
 use Rattle.file_fields.specs.Faults.{first}
 use Rattle.plan_file.specs.PlanFaults.{plan_faults}
 use Rattle.plan_file.specs.PlanHolds.{HoldsStep, HoldsPlan, AnswersPlan, ReadsPlan}
 use Rattle.file_fields.proofs.Unique.{one_found, one_list}
-use Rattle.plan_file.proofs.StepKind.{StepKind}
+use Rattle.plan_file.proofs.StepKind.{IsOne}
 use Rattle.plan_file.proofs.OneThresholds as thresholds
 use Rattle.plan_file.proofs.OneHysteresis as hysteresis
 use Rattle.plan_file.proofs.OneEventEnable as event_enable
@@ -33,54 +32,27 @@ use Rattle.plan_file.proofs.OneChannelAccess as channel_access
 
 -- ---- steps
 
-abbrev of_kind : Kind → StepKind
-of_kind kind.Thresholds = thresholds.kind
-of_kind kind.Hysteresis = hysteresis.kind
-of_kind kind.EventEnable = event_enable.kind
-of_kind kind.Watchdog = watchdog.kind
-of_kind kind.PowerPolicy = power_policy.kind
-of_kind kind.GlobalEnables = global_enables.kind
-of_kind kind.BootParam = boot_param.kind
-of_kind kind.BiosAttribute = bios_attribute.kind
-of_kind kind.StateEffecter = state_effecter.kind
-of_kind kind.NumericEffecter = numeric_effecter.kind
-of_kind kind.UserName = user_name.kind
-of_kind kind.UserAccess = user_access.kind
-of_kind kind.ChannelAccess = channel_access.kind
-
--- the step that a table holds, by its kind
-record Held (tree : Members) (o : Op) : Type 0 where
-  named : Kind
-  set : (of_kind named).Set
-  is_named : kind_in tree ≡ Some named
-  holds : (of_kind named).Holds tree set
-  is : (of_kind named).op_of set ≡ o
-
-held : (tree : Members) (o : Op) → HoldsStep tree o → Held tree o
-held tree (op.Thresholds set) h = record { named = kind.Thresholds; set = set; is_named = h.0; holds = h.1; is = refl }
-held tree (op.Hysteresis set) h = record { named = kind.Hysteresis; set = set; is_named = h.0; holds = h.1; is = refl }
-held tree (op.EventEnable set) h = record { named = kind.EventEnable; set = set; is_named = h.0; holds = h.1; is = refl }
-held tree (op.Watchdog set) h = record { named = kind.Watchdog; set = set; is_named = h.0; holds = h.1; is = refl }
-held tree (op.PowerPolicy set) h = record { named = kind.PowerPolicy; set = set; is_named = h.0; holds = h.1; is = refl }
-held tree (op.GlobalEnables set) h = record { named = kind.GlobalEnables; set = set; is_named = h.0; holds = h.1; is = refl }
-held tree (op.BootParam set) h = record { named = kind.BootParam; set = set; is_named = h.0; holds = h.1; is = refl }
-held tree (op.BiosAttribute set) h = record { named = kind.BiosAttribute; set = set; is_named = h.0; holds = h.1; is = refl }
-held tree (op.StateEffecter set) h = record { named = kind.StateEffecter; set = set; is_named = h.0; holds = h.1; is = refl }
-held tree (op.NumericEffecter set) h = record { named = kind.NumericEffecter; set = set; is_named = h.0; holds = h.1; is = refl }
-held tree (op.UserName set) h = record { named = kind.UserName; set = set; is_named = h.0; holds = h.1; is = refl }
-held tree (op.UserAccess set) h = record { named = kind.UserAccess; set = set; is_named = h.0; holds = h.1; is = refl }
-held tree (op.ChannelAccess set) h = record { named = kind.ChannelAccess; set = set; is_named = h.0; holds = h.1; is = refl }
-
-one_op : (tree : Members) (m n : Kind) (a : (of_kind m).Set) (b : (of_kind n).Set) → m ≡ n → (of_kind m).Holds tree a → (of_kind n).Holds tree b → (of_kind m).op_of a ≡ (of_kind n).op_of b
-one_op tree m n a b e p q =
-    subst (λ (k : Kind). (b : (of_kind k).Set) → (of_kind k).Holds tree b → (of_kind m).op_of a ≡ (of_kind k).op_of b) e (λ b q. ap (of_kind m).op_of ((of_kind m).one tree a b p q)) b q
+-- the operation that a step of the kind holds is one
+only : (named : Kind) → IsOne (of_kind named)
+only kind.Thresholds = thresholds.only
+only kind.Hysteresis = hysteresis.only
+only kind.EventEnable = event_enable.only
+only kind.Watchdog = watchdog.only
+only kind.PowerPolicy = power_policy.only
+only kind.GlobalEnables = global_enables.only
+only kind.BootParam = boot_param.only
+only kind.BiosAttribute = bios_attribute.only
+only kind.StateEffecter = state_effecter.only
+only kind.NumericEffecter = numeric_effecter.only
+only kind.UserName = user_name.only
+only kind.UserAccess = user_access.only
+only kind.ChannelAccess = channel_access.only
 
 -- a table holds one step
 one_step : (tree : Members) (a b : Op) → HoldsStep tree a → HoldsStep tree b → a ≡ b
-one_step tree a b p q =
-    let x = held tree a p in
-    let y = held tree b q in
-    sym x.is ∙ one_op tree x.named y.named x.set y.set (one_found (kind_in tree) x.named y.named x.is_named y.is_named) x.holds y.holds ∙ y.is
+one_step tree a b (named, (is, holds)) (other, (also, held)) =
+    let same = one_found (kind_in tree) other named also is in
+    only named tree a b holds (subst (λ (k : Kind). (of_kind k).Holds tree b) same held)
 
 -- ---- plans
 

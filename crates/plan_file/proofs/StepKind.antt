@@ -1,11 +1,9 @@
--- A kind of step, as one value.
+-- What the proof of one plan says of each kind of step.
 use Rattle.std.proofs.Common.{◌≡◌}
 use Rattle.toml.specs.Data.{Members}
 use Rattle.cfg_records.specs.declared.op.Op.{Op}
+use Rattle.plan_file.specs.StepKind.{StepKind}
 
--- what a step of the kind says, the operation that it is, when a table holds it, and that the table holds one at most
-pub record StepKind : Type 1 where
-  pub Set : Type 0
-  pub op_of : Set → Op
-  pub Holds : Members → Set → Type 0
-  pub one : (tree : Members) (a b : Set) → Holds tree a → Holds tree b → a ≡ b
+-- a step holds one operation of the kind at most
+abbrev pub IsOne : StepKind → Type 0
+IsOne kind = (tree : Members) (a b : Op) → kind.Holds tree a → kind.Holds tree b → a ≡ b

@@ -20,7 +20,7 @@ use Rattle.plan_file.specs.declared.plan_fault.PlanFault.TheVariants as plan
 use Rattle.plan_file.specs.declared.plan.TheConstants.{PLAN}
 use Rattle.plan_file.specs.declared.step.TheConstants.{OUTSIDE, NO_GETS}
 use Rattle.file_fields.specs.Trees.{table_of, members_in}
-use Rattle.plan_file.specs.Kinds.{kind_in, rows_of}
+use Rattle.plan_file.specs.Kinds.{of_kind, kind_in}
 use Rattle.file_fields.specs.Faults.{field_faults, first}
 use Rattle.plan_file.specs.PlanFaults.{is_outside, asks, kind_faults, step_faults, steps_faults, own_fault, plan_faults}
 use Rattle.plan_file.specs.PlanHolds.{IsStepIn}
@@ -53,14 +53,14 @@ module _ (tree : Members) where
   fault_of_kind o why is inside shown counts = ap first (kind_next inside shown) ∙ ap (λ k. first (kind_faults tree k)) is ∙ counts
 
   pub fault_of_field : (named : Kind) (why : FieldFault) → kind_in tree ≡ Some named → find (is_outside tree) OUTSIDE ≡ None → find (asks tree) NO_GETS ≡ None
-      → first (field_faults (rows_of named) tree) ≡ Some why → first (step_faults tree) ≡ Some (step.Field why)
+      → first (field_faults (of_kind named).rows tree) ≡ Some why → first (step_faults tree) ≡ Some (step.Field why)
   fault_of_field named why is inside shown counts =
-      fault_of_kind (Some named) (step.Field why) is inside shown (first-map (λ (f : FieldFault). step.Field f) (field_faults (rows_of named) tree) why counts)
+      fault_of_kind (Some named) (step.Field why) is inside shown (first-map (λ (f : FieldFault). step.Field f) (field_faults (of_kind named).rows tree) why counts)
 
   pub no_step_fault : (named : Kind) → kind_in tree ≡ Some named → find (is_outside tree) OUTSIDE ≡ None → find (asks tree) NO_GETS ≡ None
-      → first (field_faults (rows_of named) tree) ≡ None → step_faults tree ≡ []
+      → first (field_faults (of_kind named).rows tree) ≡ None → step_faults tree ≡ []
   no_step_fault named is inside shown none =
-      kind_next inside shown ∙ ap (kind_faults tree) is ∙ ap (map (λ (f : FieldFault). step.Field f)) (empty (field_faults (rows_of named) tree) none)
+      kind_next inside shown ∙ ap (kind_faults tree) is ∙ ap (map (λ (f : FieldFault). step.Field f)) (empty (field_faults (of_kind named).rows tree) none)
 
   -- where a step names no kind
   pub kind_is_faulty : (why : FieldFault) → first (field_faults KIND tree) ≡ Some why → first (kind_faults tree None) ≡ Some (step.Field why)

@@ -2,6 +2,8 @@
 use Rattle.std.specs.Prelude.{◌≡◌, ℕ, true, List, codes}
 use Rattle.toml.specs.Data.{Members}
 use Rattle.cfg_records.specs.Masks.{has}
+use Rattle.cfg_records.specs.declared.op.Op.{Op}
+use Rattle.cfg_records.specs.declared.op.Op.TheVariants as op
 use Rattle.cfg_records.specs.declared.event_enable.SetEventEnable.{SetEventEnable}
 use Rattle.cfg_records.specs.declared.event_enable.EventChange.{EventChange}
 use Rattle.cfg_records.specs.declared.event_enable.EventChange.TheVariants as change
@@ -10,6 +12,8 @@ use Rattle.file_fields.specs.declared.field.Field.{Field}
 use Rattle.file_fields.specs.declared.field.Field.TheVariants as field
 use Rattle.file_fields.specs.Trees.{members_in, HasNumber, HasFlag}
 use Rattle.file_fields.specs.Ranges.{has_text, is_listed}
+use Rattle.plan_file.specs.declared.event_enable.TheConstants.{FIELDS}
+use Rattle.plan_file.specs.StepKind.{StepKind}
 
 -- the mask has the events whose offsets the table lists in the field
 abbrev pub HasEvents : Field → Members → ℕ → Type 0
@@ -37,3 +41,12 @@ pub record HoldsEventEnable (tree : Members) (set : SetEventEnable) : Type 0 whe
   pub messages : HasFlag field.Messages tree set.messages
   pub scanning : HasFlag field.Scanning tree set.scanning
   pub change : HoldsChange tree set.change
+
+-- the operation is of this kind, and the step holds it
+abbrev pub HoldsOp : Members → Op → Type 0
+HoldsOp tree (op.EventEnable set) = HoldsEventEnable tree set
+HoldsOp tree other = ⊥
+
+-- such a step, as one value
+abbrev pub kind : StepKind
+kind = record { word = codes "event-enable"; rows = FIELDS; Holds = HoldsOp }

@@ -1,6 +1,5 @@
-pub mod Kinds
+pub mod StepKind
 pub mod PlanNames
-pub mod PlanFaults
 pub mod Thresholds
 pub mod Hysteresis
 pub mod EventEnable
@@ -14,4 +13,6 @@ pub mod NumericEffecter
 pub mod UserName
 pub mod UserAccess
 pub mod ChannelAccess
+pub mod Kinds
+pub mod PlanFaults
 pub mod PlanHolds

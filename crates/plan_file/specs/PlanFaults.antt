@@ -18,7 +18,7 @@ use Rattle.plan_file.specs.declared.plan.TheConstants.{PLAN}
 use Rattle.plan_file.specs.declared.step.TheConstants.{OUTSIDE, NO_GETS}
 use Rattle.file_fields.specs.Trees.{in_field, number_in, table_of, members_in}
 use Rattle.file_fields.specs.Ranges.{passes, has_text}
-use Rattle.plan_file.specs.Kinds.{kind_in, rows_of}
+use Rattle.plan_file.specs.Kinds.{of_kind, kind_in}
 use Rattle.file_fields.specs.Faults.{field_faults}
 
 -- what a step's `kind` calls it
@@ -40,7 +40,7 @@ asks tree no_get.SetInProgress = has_text field.Kind (codes "boot-param") tree &
 
 -- the faults of a step by its kind: its fields' faults, or, where it names no kind, those of its `kind`, and that it is none
 abbrev pub kind_faults : Members → Option Kind → List StepFault
-kind_faults tree (Some named) = map step.Field (field_faults (rows_of named) tree)
+kind_faults tree (Some named) = map step.Field (field_faults (of_kind named).rows tree)
 kind_faults tree None = map step.Field (field_faults KIND tree) ++ step.UnknownKind ∷ []
 
 -- the faults of a step

@@ -4,45 +4,19 @@ use Rattle.std.specs.List.{AllZip}
 use Rattle.toml.specs.Data.{Data, Members}
 use Rattle.toml.specs.Parse.{parse_document}
 use Rattle.cfg_records.specs.declared.op.Op.{Op}
-use Rattle.cfg_records.specs.declared.op.Op.TheVariants as op
 use Rattle.plans.specs.declared.plan.Plan.{Plan}
 use Rattle.file_fields.specs.declared.field.Field.TheVariants as field
-use Rattle.plan_file.specs.declared.kind.Kind.TheVariants as kind
+use Rattle.plan_file.specs.declared.kind.Kind.{Kind}
 use Rattle.plan_file.specs.declared.plan_fault.PlanFault.{PlanFault}
 use Rattle.plan_file.specs.declared.plan_fault.PlanFault.TheVariants as plan
 use Rattle.file_fields.specs.Trees.{number_in, table_of, members_in}
-use Rattle.plan_file.specs.Kinds.{kind_in}
+use Rattle.plan_file.specs.Kinds.{of_kind, kind_in}
 use Rattle.file_fields.specs.Faults.{first}
 use Rattle.plan_file.specs.PlanFaults.{plan_faults}
-use Rattle.plan_file.specs.Thresholds.{HoldsThresholds}
-use Rattle.plan_file.specs.Hysteresis.{HoldsHysteresis}
-use Rattle.plan_file.specs.EventEnable.{HoldsEventEnable}
-use Rattle.plan_file.specs.Watchdog.{HoldsWatchdog}
-use Rattle.plan_file.specs.PowerPolicy.{HoldsPowerPolicy}
-use Rattle.plan_file.specs.GlobalEnables.{HoldsGlobalEnables}
-use Rattle.plan_file.specs.BootParam.{HoldsBootParam}
-use Rattle.plan_file.specs.BiosAttribute.{HoldsBiosAttribute}
-use Rattle.plan_file.specs.StateEffecter.{HoldsStateEffecter}
-use Rattle.plan_file.specs.NumericEffecter.{HoldsNumericEffecter}
-use Rattle.plan_file.specs.UserName.{HoldsUserName}
-use Rattle.plan_file.specs.UserAccess.{HoldsUserAccess}
-use Rattle.plan_file.specs.ChannelAccess.{HoldsChannelAccess}
 
 -- the step holds a change of the kind that it names
 abbrev pub HoldsStep : Members → Op → Type 0
-HoldsStep tree (op.Thresholds set) = (kind_in tree ≡ Some kind.Thresholds) × HoldsThresholds tree set
-HoldsStep tree (op.Hysteresis set) = (kind_in tree ≡ Some kind.Hysteresis) × HoldsHysteresis tree set
-HoldsStep tree (op.EventEnable set) = (kind_in tree ≡ Some kind.EventEnable) × HoldsEventEnable tree set
-HoldsStep tree (op.Watchdog set) = (kind_in tree ≡ Some kind.Watchdog) × HoldsWatchdog tree set
-HoldsStep tree (op.PowerPolicy set) = (kind_in tree ≡ Some kind.PowerPolicy) × HoldsPowerPolicy tree set
-HoldsStep tree (op.GlobalEnables set) = (kind_in tree ≡ Some kind.GlobalEnables) × HoldsGlobalEnables tree set
-HoldsStep tree (op.BootParam set) = (kind_in tree ≡ Some kind.BootParam) × HoldsBootParam tree set
-HoldsStep tree (op.BiosAttribute set) = (kind_in tree ≡ Some kind.BiosAttribute) × HoldsBiosAttribute tree set
-HoldsStep tree (op.StateEffecter set) = (kind_in tree ≡ Some kind.StateEffecter) × HoldsStateEffecter tree set
-HoldsStep tree (op.NumericEffecter set) = (kind_in tree ≡ Some kind.NumericEffecter) × HoldsNumericEffecter tree set
-HoldsStep tree (op.UserName set) = (kind_in tree ≡ Some kind.UserName) × HoldsUserName tree set
-HoldsStep tree (op.UserAccess set) = (kind_in tree ≡ Some kind.UserAccess) × HoldsUserAccess tree set
-HoldsStep tree (op.ChannelAccess set) = (kind_in tree ≡ Some kind.ChannelAccess) × HoldsChannelAccess tree set
+HoldsStep tree op = (named : Kind) × ((kind_in tree ≡ Some named) × (of_kind named).Holds tree op)
 
 -- the member of an array holds a change
 abbrev pub IsStepIn : Data → Op → Type 0

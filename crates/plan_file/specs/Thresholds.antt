@@ -1,12 +1,15 @@
 -- What a step that sets thresholds holds.
-use Rattle.std.specs.Prelude.{◌≡◌, ℕ, Bool, map, slice_get, is_some}
+use Rattle.std.specs.Prelude.{◌≡◌, ℕ, Bool, map, slice_get, is_some, codes}
 use Rattle.toml.specs.Data.{Members}
 use Rattle.cfg_records.specs.Masks.{has}
+use Rattle.cfg_records.specs.declared.op.Op.{Op}
+use Rattle.cfg_records.specs.declared.op.Op.TheVariants as op
 use Rattle.cfg_records.specs.declared.sensor_thresholds.SetThresholds.{SetThresholds}
 use Rattle.file_fields.specs.declared.field.Field.TheVariants as field
-use Rattle.plan_file.specs.declared.thresholds.TheConstants.{LIMITS}
+use Rattle.plan_file.specs.declared.thresholds.TheConstants.{LIMITS, FIELDS}
 use Rattle.file_fields.specs.Trees.{in_field, number_in, HasNumber}
 use Rattle.file_fields.specs.Ranges.{passes, or_zero}
+use Rattle.plan_file.specs.StepKind.{StepKind}
 
 -- the step gives the threshold of this place
 abbrev pub is_given : Members → ℕ → Bool
@@ -17,3 +20,12 @@ pub record HoldsThresholds (tree : Members) (set : SetThresholds) : Type 0 where
   pub sensor : HasNumber field.Sensor tree set.sensor
   pub mask : (place : ℕ) → has set.mask place ≡ is_given tree place
   pub values : set.values ≡ map (λ limit. or_zero (number_in limit tree)) LIMITS
+
+-- the operation is of this kind, and the step holds it
+abbrev pub HoldsOp : Members → Op → Type 0
+HoldsOp tree (op.Thresholds set) = HoldsThresholds tree set
+HoldsOp tree other = ⊥
+
+-- such a step, as one value
+abbrev pub kind : StepKind
+kind = record { word = codes "thresholds"; rows = FIELDS; Holds = HoldsOp }

@@ -1,9 +1,13 @@
 -- What a step that sets what a user may do on a channel holds.
-use Rattle.std.specs.Prelude.{◌≡◌, ℕ, ◌+◌, ◌*◌, ◌/◌, ◌%◌, Bool, if◌then◌else◌, Option, Some, None, is_some}
+use Rattle.std.specs.Prelude.{◌≡◌, ℕ, ◌+◌, ◌*◌, ◌/◌, ◌%◌, Bool, if◌then◌else◌, Option, Some, None, is_some, codes}
 use Rattle.toml.specs.Data.{Members}
+use Rattle.cfg_records.specs.declared.op.Op.{Op}
+use Rattle.cfg_records.specs.declared.op.Op.TheVariants as op
 use Rattle.cfg_records.specs.declared.user.SetUserAccess.{SetUserAccess}
 use Rattle.file_fields.specs.declared.field.Field.TheVariants as field
 use Rattle.file_fields.specs.Trees.{in_field, flag_in, HasNumber}
+use Rattle.plan_file.specs.declared.user_access.TheConstants.{FIELDS}
+use Rattle.plan_file.specs.StepKind.{StepKind}
 
 -- 1 for what is true
 abbrev pub bit_of : Option Bool → ℕ
@@ -23,3 +27,12 @@ pub record HoldsUserAccess (tree : Members) (set : SetUserAccess) : Type 0 where
   pub user : HasNumber field.User tree set.user
   pub limit : HasNumber field.Limit tree set.limit
   pub session_limit : set.session_limit ≡ None
+
+-- the operation is of this kind, and the step holds it
+abbrev pub HoldsOp : Members → Op → Type 0
+HoldsOp tree (op.UserAccess set) = HoldsUserAccess tree set
+HoldsOp tree other = ⊥
+
+-- such a step, as one value
+abbrev pub kind : StepKind
+kind = record { word = codes "user-access"; rows = FIELDS; Holds = HoldsOp }

@@ -1,12 +1,11 @@
-//! The kinds of step: what names them, and the tables of their fields. `docs/PLAN_FILES.md` says what each means.
-ghost use Rattle.std.specs.Prelude.{◌≡◌};
+//! The kinds of step: what names them, the tables of their fields, and what a step of each asks for. `docs/PLAN_FILES.md` says
+//! what each means.
+ghost use Rattle.std.specs.Prelude.{◌≡◌, []};
 ghost use Rattle.toml.specs.View.{table_view};
-ghost use Rattle.plan_file.specs.Kinds.{kind_word, rows_of, kind_in};
+ghost use Rattle.file_fields.specs.Faults.{field_faults};
+ghost use Rattle.plan_file.specs.Kinds.{of_kind, kind_in};
 
-use crate::{
-    bios_attribute, boot_param, channel_access, event_enable, global_enables, hysteresis,
-    numeric_effecter, power_policy, state_effecter, thresholds, user_access, user_name, watchdog,
-};
+use cfg_records::Op;
 use file_fields::tree::has_text;
 use file_fields::{Field, Need, Row, Shape};
 use toml::Table;
@@ -29,22 +28,63 @@ pub enum Kind {
     ChannelAccess,
 }
 
+/// The kinds, a line for each: its name, its module, and what a step's `kind` calls it.
+macro_rules! of_each_kind {
+    ($does:ident $how:tt) => {
+        $does! { $how
+            Thresholds thresholds "thresholds"
+            Hysteresis hysteresis "hysteresis"
+            EventEnable event_enable "event-enable"
+            Watchdog watchdog "watchdog"
+            PowerPolicy power_policy "power-policy"
+            GlobalEnables global_enables "global-enables"
+            BootParam boot_param "boot-param"
+            BiosAttribute bios_attribute "bios-attribute"
+            StateEffecter state_effecter "state-effecter"
+            NumericEffecter numeric_effecter "numeric-effecter"
+            UserName user_name "user-name"
+            UserAccess user_access "user-access"
+            ChannelAccess channel_access "channel-access"
+        }
+    };
+}
+
+/// Each kind, in the order of their lines.
+macro_rules! kinds {
+    (() $($kind:ident $module:ident $word:literal)*) => {
+        [$(Kind::$kind),*]
+    };
+}
+
+/// The kind's word.
+macro_rules! word {
+    (($any:expr) $($kind:ident $module:ident $word:literal)*) => {
+        match $any {
+            $(Kind::$kind => $word,)*
+        }
+    };
+}
+
+/// The fields of the kind's steps.
+macro_rules! rows {
+    (($any:expr) $($kind:ident $module:ident $word:literal)*) => {
+        match $any {
+            $(Kind::$kind => &crate::$module::FIELDS,)*
+        }
+    };
+}
+
+/// The change that a step of the kind asks for.
+macro_rules! change {
+    (($any:expr, $step:expr) $($kind:ident $module:ident $word:literal)*) => {
+        match $any {
+            $(Kind::$kind => Op::$kind(crate::$module::read($step)),)*
+        }
+    };
+}
+
 /// All kinds of step.
-pub const KINDS: [Kind; 13] = [
-    Kind::Thresholds,
-    Kind::Hysteresis,
-    Kind::EventEnable,
-    Kind::Watchdog,
-    Kind::PowerPolicy,
-    Kind::GlobalEnables,
-    Kind::BootParam,
-    Kind::BiosAttribute,
-    Kind::StateEffecter,
-    Kind::NumericEffecter,
-    Kind::UserName,
-    Kind::UserAccess,
-    Kind::ChannelAccess,
-];
+pub const KINDS: [Kind; 13] = of_each_kind!(kinds());
 
 /// The field of a step that names its kind.
 pub const KIND: [Row; 1] = [Row(Field::Kind, Shape::Text, Need::Always)];
@@ -52,44 +92,24 @@ pub const KIND: [Row; 1] = [Row(Field::Kind, Shape::Text, Need::Always)];
 impl Kind {
     /// What a step's `kind` calls it.
     pub fn word(&self) -> &'static str
-        ensures { result.now ≡ kind_word self.now }
+        ensures { result.now ≡ (of_kind self.now).word }
     {
-        match self {
-            Kind::Thresholds => "thresholds",
-            Kind::Hysteresis => "hysteresis",
-            Kind::EventEnable => "event-enable",
-            Kind::Watchdog => "watchdog",
-            Kind::PowerPolicy => "power-policy",
-            Kind::GlobalEnables => "global-enables",
-            Kind::BootParam => "boot-param",
-            Kind::BiosAttribute => "bios-attribute",
-            Kind::StateEffecter => "state-effecter",
-            Kind::NumericEffecter => "numeric-effecter",
-            Kind::UserName => "user-name",
-            Kind::UserAccess => "user-access",
-            Kind::ChannelAccess => "channel-access",
-        }
+        of_each_kind!(word(self))
     }
 
     /// The fields of its steps.
     pub fn rows(&self) -> &'static [Row]
-        ensures { result.now ≡ rows_of self.now }
+        ensures { result.now ≡ (of_kind self.now).rows }
     {
-        match self {
-            Kind::Thresholds => &thresholds::FIELDS,
-            Kind::Hysteresis => &hysteresis::FIELDS,
-            Kind::EventEnable => &event_enable::FIELDS,
-            Kind::Watchdog => &watchdog::FIELDS,
-            Kind::PowerPolicy => &power_policy::FIELDS,
-            Kind::GlobalEnables => &global_enables::FIELDS,
-            Kind::BootParam => &boot_param::FIELDS,
-            Kind::BiosAttribute => &bios_attribute::FIELDS,
-            Kind::StateEffecter => &state_effecter::FIELDS,
-            Kind::NumericEffecter => &numeric_effecter::FIELDS,
-            Kind::UserName => &user_name::FIELDS,
-            Kind::UserAccess => &user_access::FIELDS,
-            Kind::ChannelAccess => &channel_access::FIELDS,
-        }
+        of_each_kind!(rows(self))
+    }
+
+    /// The change that a step of this kind asks for.
+    pub fn change(&self, step: &Table) -> Op
+        requires { field_faults (of_kind self.now).rows (table_view step.now) ≡ [] }
+        ensures { (of_kind self.now).Holds (table_view step.now) result }
+    {
+        of_each_kind!(change(self, step))
     }
 }
 

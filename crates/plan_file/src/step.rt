@@ -2,17 +2,12 @@
 ghost use Rattle.std.specs.Prelude.{◌≡◌, [], None, Some, IfOk, IfErr};
 ghost use Rattle.std.specs.List.{find};
 ghost use Rattle.toml.specs.View.{table_view};
-ghost use Rattle.plan_file.specs.Kinds.{kind_in, rows_of};
 ghost use Rattle.file_fields.specs.Faults.{field_faults, first};
 ghost use Rattle.plan_file.specs.PlanFaults.{outside_word, is_outside, asks, kind_faults, step_faults};
 ghost use Rattle.plan_file.specs.PlanHolds.{HoldsStep};
 
-use crate::kind::{KIND, Kind, kind_in};
+use crate::kind::{KIND, kind_in};
 use crate::plan_fault::{NoGet, OutsidePlan, StepFault};
-use crate::{
-    bios_attribute, boot_param, channel_access, event_enable, global_enables, hysteresis,
-    numeric_effecter, power_policy, state_effecter, thresholds, user_access, user_name, watchdog,
-};
 use cfg_records::Op;
 use file_fields::tree::{has_text, in_field, number};
 use file_fields::{Field, first_fault};
@@ -95,29 +90,6 @@ fn kind_fault(step: &Table) -> StepFault
     }
 }
 
-/// The change that a step of this kind asks for.
-fn change(kind: Kind, step: &Table) -> Op
-    requires named { kind_in (table_view step.now) ≡ Some kind }
-    requires sound { field_faults (rows_of kind) (table_view step.now) ≡ [] }
-    ensures { HoldsStep (table_view step.now) result }
-{
-    match kind {
-        Kind::Thresholds => Op::Thresholds(thresholds::read(step)),
-        Kind::Hysteresis => Op::Hysteresis(hysteresis::read(step)),
-        Kind::EventEnable => Op::EventEnable(event_enable::read(step)),
-        Kind::Watchdog => Op::Watchdog(watchdog::read(step)),
-        Kind::PowerPolicy => Op::PowerPolicy(power_policy::read(step)),
-        Kind::GlobalEnables => Op::GlobalEnables(global_enables::read(step)),
-        Kind::BootParam => Op::BootParam(boot_param::read(step)),
-        Kind::BiosAttribute => Op::BiosAttribute(bios_attribute::read(step)),
-        Kind::StateEffecter => Op::StateEffecter(state_effecter::read(step)),
-        Kind::NumericEffecter => Op::NumericEffecter(numeric_effecter::read(step)),
-        Kind::UserName => Op::UserName(user_name::read(step)),
-        Kind::UserAccess => Op::UserAccess(user_access::read(step)),
-        Kind::ChannelAccess => Op::ChannelAccess(channel_access::read(step)),
-    }
-}
-
 /// The change that the step asks for, or its first fault.
 pub fn read_step(step: &Table) -> Result<Op, StepFault>
     ensures sound { IfOk result (λ _. step_faults (table_view step.now) ≡ []) }
@@ -135,6 +107,6 @@ pub fn read_step(step: &Table) -> Result<Op, StepFault>
     };
     match first_fault(kind.rows(), step) {
         Some(fault) => Err(StepFault::Field(fault)),
-        None => Ok(change(kind, step)),
+        None => Ok(kind.change(step)),
     }
 }
