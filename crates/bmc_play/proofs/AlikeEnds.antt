@@ -40,14 +40,20 @@ named_is fault.StillOpen = refl
 named_is fault.Room = refl
 
 -- a fault is known by that of the model
-same_fault : (why other : Fault) (cause : LabFault) → fault_of why ≡ cause → fault_of other ≡ cause → why ≡ other
+pub same_fault : (why other : Fault) (cause : LabFault) → fault_of why ≡ cause → fault_of other ≡ cause → why ≡ other
 same_fault why other cause is other_is = sym (named_is why) ∙ ap named (is ∙ sym other_is) ∙ named_is other
 
 -- an event that wasn't taken is known by its place and its fault
-same_stop : (stopped other : Stopped) → stopped.place ≡ other.place → stopped.fault ≡ other.fault → stopped ≡ other
+pub same_stop : (stopped other : Stopped) → stopped.place ≡ other.place → stopped.fault ≡ other.fault → stopped ≡ other
 same_stop stopped other place why =
     subst (λ (p : ℕ). stopped ≡ record { place = p; fault = other.fault }) place
     (subst (λ (f : Fault). stopped ≡ record { place = stopped.place; fault = f }) why refl)
+
+-- accounts of one ending name the same event
+pub same_stopped : (account other : Account) (ending : Ending) → IsAccountOf account ending → IsAccountOf other ending → account.stopped ≡ other.stopped
+same_stopped account other (Whole told) is also = is.1 ∙ sym also.1
+same_stopped account other (Stops cause at told) (accounts, (stopped, is_stopped, why, place)) (also, (event, is_event, cause_is, at_is)) =
+    is_stopped ∙ ap Some (same_stop stopped event (place ∙ sym at_is) (same_fault stopped.fault event.fault cause why cause_is)) ∙ sym is_event
 
 -- the account and the chart of one ending name the same event
 one_stop : (events : List Event) (notes : ℕ) (account : Account) (stopped : Option Stopped) (ending : Ending) → IsAccountOf account ending → EndsAt events notes stopped ending

@@ -1,3 +1,6 @@
 pub mod AlikeEnds
+pub mod Counted
 pub mod Noted
+pub mod OneAccount
+pub mod OneChart
 pub mod Plays

@@ -1,0 +1,158 @@
+-- Inputs have one account, as far as its text goes.
+use Rattle.std.proofs.Common.{◌≡◌, ◌∙◌, ℕ, Bool, not, List, [], ◌∷◌, ◌++◌, length, map, reverse, codes, ap, refl, subst, sym, map-id}
+use Rattle.std.specs.List.{AllZip, flat_map}
+use Rattle.std.specs.Fmt.{decimal}
+use Rattle.std.proofs.lemmas.List.{length-map, length-reverse}
+use Rattle.std.proofs.lemmas.Simd.{map-map}
+use Rattle.line_text.specs.Cuts.{ended}
+use Rattle.cfg_records.specs.Records.{Pair}
+use Rattle.cfg_records.specs.declared.message.Asked.{Asked}
+use Rattle.cfg_records.specs.declared.message.Asked.TheVariants.{Ipmi, Pldm}
+use Rattle.undo_core.specs.declared.phase.Why.{Why}
+use Rattle.undo_core.specs.declared.phase.Why.TheVariants as why
+use Rattle.undo_core.specs.declared.phase.Phase.{Phase}
+use Rattle.undo_core.specs.declared.phase.Phase.TheVariants as phase
+use Rattle.undo_core.specs.PhaseNames.{phase_name}
+use Rattle.undo_core.specs.Phases.{why_of, phase_of}
+use Rattle.undo_core.specs.Shown.{own, backs}
+use Rattle.undo_text.specs.UndoText.{line_of}
+use Rattle.lab_model.specs.declared.marks.Mark.{Mark}
+use Rattle.lab_model.specs.Lab.{LabFrame}
+use Rattle.lab.specs.declared.frames.Way.{Way}
+use Rattle.lab.specs.declared.frames.Way.TheVariants as way
+use Rattle.lab.specs.declared.frames.SentFrame.{SentFrame}
+use Rattle.lab.specs.Meaning.{lab_names}
+use Rattle.lab.specs.Played.{Told, Ending, Whole, Stops}
+use Rattle.lab.specs.Shown.{way_of}
+use Rattle.lab_play.specs.Shown.{IsSentFrame, own_bench}
+use Rattle.lab_play.specs.Ends.{is_value}
+use Rattle.play_text.specs.declared.account.Account.{Account}
+use Rattle.play_text.specs.Account.{said, records_line, undo_lines, shown, ending, text_of}
+use Rattle.bmc_play.specs.Account.{AreChanged, Accounts, IsAccountOf, status_of}
+use Rattle.bmc_play.specs.Determined.{OneText}
+use Rattle.bmc_play.specs.Run.{Recounts}
+use Rattle.bmc_play.proofs.AlikeEnds.{OneEnding, same_stopped}
+use Rattle.bmc_play.proofs.Counted.{same_count}
+
+-- ---- the phase
+
+same_why : (reason other : Why) → why_of reason ≡ why_of other → reason ≡ other
+same_why why.Stop why.Stop h = refl
+same_why (why.Refused code) (why.Refused number) h = (let same : code ≡ number = cc h in ap why.Refused same)
+same_why why.NotRestorable why.NotRestorable h = refl
+same_why (why.GetRefused code) (why.GetRefused number) h = (let same : code ≡ number = cc h in ap why.GetRefused same)
+same_why _ _ h = cc h
+
+-- a phase is known by that of the machine
+pub same_phase : (now other : Phase) → phase_of now ≡ phase_of other → now ≡ other
+same_phase phase.Fresh phase.Fresh h = refl
+same_phase (phase.Getting k) (phase.Getting j) h = (let same : k ≡ j = cc h in ap phase.Getting same)
+same_phase (phase.Setting k) (phase.Setting j) h = (let same : k ≡ j = cc h in ap phase.Setting same)
+same_phase phase.Done phase.Done h = refl
+same_phase (phase.Halted k reason) (phase.Halted j other) h =
+    let step : k ≡ j = cc h in
+    let same : why_of reason ≡ why_of other = cc h in
+    λ i. phase.Halted (step i) (same_why reason other same i)
+same_phase (phase.Unsettled k) (phase.Unsettled j) h = (let same : k ≡ j = cc h in ap phase.Unsettled same)
+same_phase (phase.Undoing k) (phase.Undoing j) h = (let same : k ≡ j = cc h in ap phase.Undoing same)
+same_phase phase.Undone phase.Undone h = refl
+same_phase (phase.UndoRefused k code) (phase.UndoRefused j number) h =
+    let step : k ≡ j = cc h in
+    let same : code ≡ number = cc h in
+    λ i. phase.UndoRefused (step i) (same i)
+same_phase _ _ h = cc h
+
+-- ---- the frames
+
+-- lists are alike in what is made of their items, where that is known by the items of one list
+pub same_made : {A B C : Type 0} (make : A → C) (R : A → B → Type 0) → ((x y : A) (b : B) → R x b → R y b → make x ≡ make y)
+    → (xs ys : List A) (bs : List B) → AllZip R xs bs → AllZip R ys bs → map make xs ≡ map make ys
+same_made make R one [] [] [] all also = refl
+same_made make R one [] (y ∷ ys) [] all also = absurd also
+same_made make R one [] ys (b ∷ bs) all also = absurd all
+same_made make R one (x ∷ xs) ys [] all also = absurd all
+same_made make R one (x ∷ xs) [] (b ∷ bs) all also = absurd also
+same_made make R one (x ∷ xs) (y ∷ ys) (b ∷ bs) all also =
+    let first : make x ≡ make y = one x y b all.0 also.0 in
+    let rest : map make xs ≡ map make ys = same_made make R one xs ys bs all.1 also.1 in
+    λ i. first i ∷ rest i
+
+same_way : (goes other : Way) → way_of goes ≡ way_of other → goes ≡ other
+same_way way.ToPort way.ToPort h = refl
+same_way way.ToManager way.ToManager h = refl
+same_way way.ToOthers way.ToOthers h = refl
+same_way _ _ h = cc h
+
+same_mark : (mark other : Mark) → mark.on ≡ other.on → mark.request ≡ other.request → mark.idles ≡ other.idles → mark ≡ other
+same_mark mark other on request idles = λ i. record { on = on i; request = request i; idles = idles i }
+
+-- a frame of the lab's model was sent in one way
+same_frame : (sent other : SentFrame) (f : LabFrame) → IsSentFrame sent f → IsSentFrame other f → sent ≡ other
+same_frame sent other f is also =
+    let way : sent.way ≡ other.way = same_way sent.way other.way (sym is.is.way ∙ also.is.way) in
+    let mark : sent.mark ≡ other.mark =
+    same_mark sent.mark other.mark (sym is.is.mark.on ∙ also.is.mark.on) (sym is.is.mark.request ∙ also.is.mark.request) (sym is.is.mark.idles ∙ also.is.mark.idles) in
+    let bytes : sent.bytes ≡ other.bytes = is.is.bytes ∙ sym also.is.bytes in
+    λ i. record { way = way i; mark = mark i; bytes = bytes i }
+
+same_frames : (frames others : List SentFrame) (sent : List LabFrame) → AllZip IsSentFrame frames sent → AllZip IsSentFrame others sent → frames ≡ others
+same_frames frames others sent are also = sym (map-id frames) ∙ same_made (λ (f : SentFrame). f) IsSentFrame same_frame frames others sent are also ∙ map-id others
+
+-- ---- the requests that undo
+
+-- a line doesn't say from whom a request is
+line_own : (asked : Asked) → line_of (own lab_names asked) ≡ line_of asked
+line_own (Ipmi from net_fn lun command body) = refl
+line_own (Pldm from kind command body) = refl
+
+-- the lines of requests that go in this order
+abbrev lines_for : List Asked → List (List ℕ)
+lines_for requests = said (codes "undo") (decimal (length requests)) ∷ map line_of requests
+
+undo_said : (requests : List Asked) → undo_lines requests ≡ lines_for (backs lab_names requests)
+undo_said requests =
+    let number : length requests ≡ length (backs lab_names requests) = sym (length-map (reverse requests) (own lab_names) ∙ length-reverse requests) in
+    let each : map line_of (reverse requests) ≡ map line_of (backs lab_names requests) =
+    sym (map-map line_of (own lab_names) (reverse requests) ∙ ap (λ (line : Asked → List ℕ). map line (reverse requests)) (λ i asked. line_own asked i)) in
+    λ i. said (codes "undo") (decimal (number i)) ∷ each i
+
+-- ---- the records
+
+-- told of one lab, the changed records are so many
+same_changed : (number other : ℕ) (told : Told) → AreChanged number told → AreChanged other told → number ≡ other
+same_changed number other told is also =
+    is.counted
+    ∙ same_count (λ (pair : Pair). not (is_value pair.1 (told.records pair.0))) is.start also.start is.once also.once (sym is.began ∙ also.began)
+    ∙ sym also.counted
+
+-- ---- the text
+
+-- accounts of what is told of one lab have one text, where they stop alike
+same_lines : (frames : Bool) (account other : Account) (told : Told) → Accounts account told → Accounts other told → account.stopped ≡ other.stopped
+    → text_of frames account ≡ text_of frames other
+same_lines frames account other told is also stopped =
+    let now : account.phase ≡ other.phase = same_phase account.phase other.phase (is.phase ∙ sym also.phase) in
+    let sent : account.frames.now ≡ other.frames.now = same_frames account.frames.now other.frames.now told.frames is.frames also.frames in
+    let undo : undo_lines account.undo.now ≡ undo_lines other.undo.now =
+    undo_said account.undo.now ∙ ap lines_for (is.undo ∙ sym also.undo) ∙ sym (undo_said other.undo.now) in
+    let changed : account.changed ≡ other.changed = same_changed account.changed other.changed told is.changed also.changed in
+    λ i. flat_map ended (
+    said (codes "phase") (phase_name (now i))
+    ∷ said (codes "frames") (decimal (length (sent i)))
+    ∷ (undo i ++ records_line (changed i) ∷ (shown frames (sent i) ++ ending (stopped i)))
+    )
+
+-- what accounts of an ending say of what is told
+told_in : (account other : Account) (ending : Ending) → IsAccountOf account ending → IsAccountOf other ending → (told : Told) × Accounts account told × Accounts other told
+told_in account other (Whole told) is also = (told, is.0, also.0)
+told_in account other (Stops cause at told) is also = (told, is.0, also.0)
+
+pub one_account : OneEnding → (frames : Bool) → OneText (Recounts frames)
+one_account one frames inputs text other_text status other_status told more =
+    let same : more.ending ≡ told.ending =
+    one (own_bench inputs.file) inputs.file inputs.plan.steps inputs.plan.retries inputs.events more.ending told.ending more.played told.played in
+    let is : IsAccountOf more.account told.ending = subst (IsAccountOf more.account) same more.is in
+    let stopped : told.account.stopped ≡ more.account.stopped = same_stopped told.account more.account told.ending told.is is in
+    let tells = told_in told.account more.account told.ending told.is is in
+    let lines : text_of frames told.account ≡ text_of frames more.account = same_lines frames told.account more.account tells.0 tells.1 tells.2 stopped in
+    (told.said ∙ lines ∙ sym more.said, told.ended ∙ ap status_of stopped ∙ sym more.ended)
