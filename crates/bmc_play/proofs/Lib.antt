@@ -3,4 +3,5 @@ pub mod Counted
 pub mod Noted
 pub mod OneAccount
 pub mod OneChart
+pub mod OneRun
 pub mod Plays

@@ -1,7 +1,9 @@
 -- What is said of a play in one way.
 use Rattle.std.specs.Prelude.{◌≡◌, ℕ, List}
 use Rattle.play_text.specs.declared.inputs.Inputs.{Inputs}
+use Rattle.bmc_lab.specs.declared.console.Stream.{Stream}
 use Rattle.bmc_lab.specs.declared.status.Status.{Status}
+use Rattle.bmc_lab.specs.Ending.{Saying}
 use Rattle.bmc_play.specs.Run.{Telling}
 
 -- it says one text of inputs, and one status
@@ -9,3 +11,9 @@ abbrev pub OneText : Telling → Type 0
 OneText tells =
     (inputs : Inputs) (text other_text : List ℕ) (status other_status : Status) → tells inputs text status → tells inputs other_text other_status
     → (text ≡ other_text) × (status ≡ other_status)
+
+-- it says one thing: one text on one stream, and one status
+abbrev pub SaysOne : Saying → Type 0
+SaysOne says =
+    (stream other_stream : Stream) (text other_text : List ℕ) (status other_status : Status) → says stream text status → says other_stream other_text other_status
+    → (stream ≡ other_stream) × (text ≡ other_text) × (status ≡ other_status)

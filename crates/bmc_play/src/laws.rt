@@ -1,9 +1,10 @@
 //! What holds of plays that are shown in either way.
+ghost use Rattle.std.specs.Prelude.{ℕ, List};
 ghost use Rattle.play_text.specs.declared.inputs.Inputs.{Inputs};
 ghost use Rattle.bmc_play.specs.declared.run.Shown.{Shown};
 ghost use Rattle.bmc_play.specs.Alike.{EndAlike};
-ghost use Rattle.bmc_play.specs.Determined.{OneText};
-ghost use Rattle.bmc_play.specs.Run.{tells_of};
+ghost use Rattle.bmc_play.specs.Determined.{OneText, SaysOne};
+ghost use Rattle.bmc_play.specs.Run.{tells_of, Says};
 
 /// The lines of a play and its chart end alike: with the line of the same fault, or without one, and with one status.
 pub fn charts_end_as_lines()
@@ -17,4 +18,16 @@ pub fn one_text()
     ensures { (shown : Shown) → OneText (tells_of shown) }
 {
     lab::one_ending();
+}
+
+/// Three texts determine what a run says of them, on which stream and with which status: the text of their play, or the line of the
+/// first that is refused.
+pub fn one_run()
+    ensures { (shown : Shown) (board plan schedule : List ℕ) → SaysOne (Says (tells_of shown) board plan schedule) }
+{
+    one_text();
+    board_file::one_board();
+    plan_file::one_plan();
+    schedules::one_schedule();
+    schedules::refused_or_told();
 }
