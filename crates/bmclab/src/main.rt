@@ -1,13 +1,7 @@
 //! The program `bmclab`: words in, lines out.
 #![tactic(auto)]
 
-mod file;
-#[cfg(test)]
-mod tests;
-mod words;
-
-use crate::file::HostFiles;
-use crate::words::{FrameWords, PlayWords, Words};
+use bmc_host::{FrameWords, HostFiles, PlayWords, Words, asked};
 use bmc_lab::{Console, Ending, frame_of_file};
 use bmc_play::{PlayFiles, play_of_files};
 use std::io;
@@ -53,7 +47,7 @@ fn run<R: Env + Files + AllocGlobal, W: io::Write, E: io::Write>(
     rt: &R,
     console: &mut Console<W, E>,
 ) -> u8 {
-    match words::asked(rt) {
+    match asked(rt) {
         Ok(Words::Frame(words)) => send(rt, &words, console),
         Ok(Words::Play(words)) => play(rt, &words, console),
         Err(status) => u8::from(Ending::without_report(status).write(console)),

@@ -1,0 +1,64 @@
+-- What the words of the command line ask for.
+use Rattle.std.specs.Prelude.{◌≡◌, ◌⊎◌, Bool, true, false, List, [], Option, Some, Result, Ok, Err, codes, option_map, string_bytes}
+use Rattle.std.specs.Option.{option_map_or}
+use Rattle.std.specs.Str.{bytes_eq}
+use Rattle.clap.specs.Words.{Row, Text, fault_of, first_of, one_of, subcommand_of}
+use Rattle.clap.specs.declared.error.kind.ErrorKind.{ErrorKind}
+use Rattle.clap.specs.declared.error.kind.ErrorKind.TheVariants.{OutOfMemory}
+use Rattle.bmc_lab.specs.Asked.{Asks}
+use Rattle.bmc_lab.specs.declared.status.Status.{Status}
+use Rattle.bmc_lab.specs.declared.status.Status.TheVariants.{RefusedWords, Memory}
+use Rattle.bmc_play.specs.declared.run.Shown.{Shown}
+use Rattle.bmc_play.specs.declared.run.Shown.TheVariants.{Lines, Chart}
+use Rattle.bmc_host.specs.declared.words.Words.{Words}
+use Rattle.bmc_host.specs.declared.words.Words.TheVariants.{Frame, Play}
+use Rattle.bmc_host.specs.declared.words.FrameWords.{FrameWords}
+use Rattle.bmc_host.specs.declared.words.PlayWords.{PlayWords}
+use Rattle.bmc_host.specs.Line.{program}
+
+-- the status that words of a fault of this kind end with
+abbrev pub status_of : ErrorKind → Status
+status_of OutOfMemory = Memory
+status_of _ = RefusedWords
+
+-- how a play is shown where the flags `--frames` and `--chart` are given or not: a chart has no lines of frames
+abbrev pub shown_of : Bool → Bool → Result Shown Status
+shown_of true true = Err RefusedWords
+shown_of false true = Ok Chart
+shown_of frames false = Ok (Lines frames)
+
+-- the text says that a flag is given
+abbrev pub says_yes : Option Text → Bool
+says_yes text = option_map_or (λ t. bytes_eq t (codes "true")) text false
+
+-- the flag of this name is given
+abbrev pub is_given : Text → List Row → Bool
+is_given name rows = says_yes (one_of name rows)
+
+-- what was matched behind `frame` asks for this
+pub record AsksFrame (rows : List Row) (asked : FrameWords) : Type 0 where
+  pub board : option_map string_bytes asked.board ≡ first_of (codes "board") rows
+  pub digits : Text
+  pub given : first_of (codes "HEX") rows ≡ Some digits
+  pub frame : Asks (first_of (codes "bus") rows) digits asked.frame.bus asked.frame.bytes.items
+
+-- what was matched behind `play` asks for this
+pub record AsksPlay (rows : List Row) (asked : PlayWords) : Type 0 where
+  pub shown : shown_of (is_given (codes "frames") rows) (is_given (codes "chart") rows) ≡ Ok asked.shown
+  pub board : first_of (codes "BOARD") rows ≡ Some (string_bytes asked.board)
+  pub plan : first_of (codes "PLAN") rows ≡ Some (string_bytes asked.plan)
+  pub schedule : first_of (codes "SCHEDULE") rows ≡ Some (string_bytes asked.schedule)
+
+-- the subcommand, with what was matched behind it, asks for this
+abbrev pub AsksBy : Option (Text × List Row) → Words → Type 0
+AsksBy met (Frame asked) = (rows : List Row) × (met ≡ Some (codes "frame", rows)) × AsksFrame rows asked
+AsksBy met (Play asked) = (rows : List Row) × (met ≡ Some (codes "play", rows)) × AsksPlay rows asked
+
+-- the words, the program's own name first among them, are of its command line, and ask for this
+pub record AsksFor (words : List Text) (asked : Words) : Type 0 where
+  pub taken : fault_of program words ≡ []
+  pub asks : AsksBy (subcommand_of program words) asked
+
+-- the status of words that aren't read: memory was refused, or the words ask for nothing
+abbrev pub Refuses : {A : Type 0} → (A → Type 0) → Status → Type 0
+Refuses {A} Asked status = (status ≡ Memory) ⊎ ((status ≡ RefusedWords) × ((asked : A) → Asked asked → ⊥))

@@ -1,0 +1,44 @@
+-- The program's command line, as clap has it.
+use Rattle.std.specs.Prelude.{◌≡◌, true, false, [], ◌∷◌, Some, codes, fold}
+use Rattle.clap.specs.Words.{App, Rule, Text, app_of, new_app, new_rule, rule_of, with_rule, with_subcommand}
+use Rattle.clap.specs.declared.builder.ArgAction.TheVariants.{SetTrue}
+use Rattle.clap.specs.declared.builder.arg.Arg.{Arg}
+use Rattle.clap.specs.declared.builder.command.Command.{Command}
+use Rattle.clap.specs.declared.builder.command.Command.TheViews.{out-Command}
+
+-- an option of this name, which takes a value
+abbrev pub option_rule : Text → Rule
+option_rule name = record (new_rule name) { long = Some name }
+
+-- a flag of this name
+abbrev pub flag_rule : Text → Rule
+flag_rule name = record (new_rule name) { long = Some name; action = Some SetTrue }
+
+-- a word that must be there
+abbrev pub needed_rule : Text → Rule
+needed_rule name = record (new_rule name) { required = true }
+
+-- `frame [--bus ipmb|smbus] [--board FILE] HEX`
+abbrev pub frame_app : App
+frame_app = fold with_rule (new_app (codes "frame")) (option_rule (codes "bus") ∷ option_rule (codes "board") ∷ needed_rule (codes "HEX") ∷ [])
+
+-- `play [--frames | --chart] BOARD PLAN SCHEDULE`
+abbrev pub play_app : App
+play_app = fold with_rule (new_app (codes "play"))
+    (flag_rule (codes "frames") ∷ flag_rule (codes "chart") ∷ needed_rule (codes "BOARD") ∷ needed_rule (codes "PLAN") ∷ needed_rule (codes "SCHEDULE") ∷ [])
+
+-- one of the command's subcommands must be used
+abbrev pub needing_subcommand : App → App
+needing_subcommand app = record app { top = record app.top { subcommand_required = true } }
+
+-- `bmclab`, and what it can do
+abbrev pub program : App
+program = with_subcommand (with_subcommand (needing_subcommand (new_app (codes "bmclab"))) frame_app.top) play_app.top
+
+-- the argument is of this rule, and of one command alone
+abbrev pub IsArg : Rule → Arg → Type 0
+IsArg rule arg = (rule_of arg ≡ rule) × (arg.global ≡ false)
+
+-- the command is this one, and none of its arguments goes to others
+abbrev pub IsCommand : App → Command → Type 0
+IsCommand app command = (app_of command ≡ app) × ((out-Command command).has_globals ≡ false)
