@@ -1,5 +1,5 @@
 -- Notes of events, one after another.
-use Rattle.std.proofs.Common.{◌≡◌, ℕ, zero, suc, ◌+◌, ◌-◌, List, [], ◌∷◌, ◌++◌, length, take, Option, Some, None, Ok, Err, refl, sym, ◌∙◌, ap, subst, arith, option_map}
+use Rattle.std.proofs.Common.{◌≡◌, ℕ, zero, suc, ◌+◌, ◌-◌, List, [], ◌∷◌, ◌++◌, length, take, Option, Some, None, Result, Ok, Err, refl, sym, ◌∙◌, ap, subst, arith, option_map}
 use Rattle.std.specs.Prelude.{slice_get}
 use Rattle.std.proofs.lemmas.List.{length-append}
 use Rattle.std.proofs.Math.Seq.{take-length}
@@ -16,6 +16,8 @@ use Rattle.lab.specs.Meaning.{lab_names, Bench}
 use Rattle.lab.specs.Played.{plans, happens, after}
 use Rattle.chart_text.specs.declared.note.Note.{Note}
 use Rattle.lab_play.specs.declared.lab_state.Lab.{Lab}
+use Rattle.lab_play.specs.declared.played.Played.{Played}
+use Rattle.lab_play.specs.declared.run.Halt.{Halt}
 use Rattle.lab_play.specs.declared.step.Refused.{Refused}
 use Rattle.lab_play.specs.declared.step.Refused.TheVariants as refused
 use Rattle.lab_play.specs.Shown.{IsSentFrame, Shows, own_bench}
@@ -27,7 +29,8 @@ use Rattle.lab_model.specs.Lab.{ToPort}
 use Rattle.schedules.specs.declared.event.Event.TheVariants as event
 use Rattle.lab.specs.Played.{fault_at}
 use Rattle.lab_play.specs.Hearing.{Did}
-use Rattle.lab_play.specs.Noted.{IsNote, comes_at, done_at, done_in, noted_at, noted_from, AreNotes, NotesStep, Notes, NotesBefore}
+use Rattle.lab_play.specs.Noted.{IsNote, comes_at, done_at, done_in, noted_at, noted_from, AreNotes, NotesStep, Notes, NotesBefore, NotesRun, NotesPlay}
+use Rattle.lab_play.specs.Ends.{Begins, given, given_at}
 use Rattle.lab_play.specs.Runs.{Take}
 use Rattle.lab_play.proofs.Sent.{all_append, beside, none_beside}
 
@@ -129,17 +132,31 @@ noted_before events old mid e place refused.Memory before after noted long same 
 
 -- ---- plays
 
-module _ (file : BoardFile) (steps : List Op) (retries : ℕ) (events : List Event) (old : Lab) (shows : Shows file old (opening plans file lab_names steps retries)) (notes : List Note) where
+module _ (file : BoardFile) (steps : List Op) (retries : ℕ) (events : List Event) (notes : List Note) where
+  -- the lab as it begins
+  abbrev first : LabModel plans
+  first = opening plans file lab_names steps retries
+
   -- all events of a play were noted
-  pub all_noted : Notes events old notes → length notes ≡ length events → AreNotes (own_bench file) file steps retries events notes
-  all_noted noted long =
-      let first = opening plans file lab_names steps retries in
+  all_noted : (old : Lab) → Shows file old first → Notes events old notes → length notes ≡ length events → AreNotes (own_bench file) file steps retries events notes
+  all_noted old shows noted long =
       let whole : take (length notes) events ≡ events = ap (λ (n : ℕ). take n events) long ∙ take-length events in
       record { each = subst (λ (es : List Event). AllZip IsNote notes (noted_from (own_bench file) file es first)) (sym whole) (noted file first shows) }
 
   -- those before the one of this place were
-  pub some_noted : (place : ℕ) → Notes (take (place - 1) events) old notes → place ≡ length notes + 1 → AreNotes (own_bench file) file steps retries events notes
-  some_noted place noted at =
-      let first = opening plans file lab_names steps retries in
+  some_noted : (old : Lab) → Shows file old first → (place : ℕ) → Notes (take (place - 1) events) old notes → place ≡ length notes + 1
+      → AreNotes (own_bench file) file steps retries events notes
+  some_noted old shows place noted at =
       let count : place - 1 ≡ length notes = omega (arith, at) in
       record { each = subst (λ (n : ℕ). AllZip IsNote notes (noted_from (own_bench file) file (take n events) first)) count (noted file first shows) }
+
+  noted_at_halt : (played : Played) (old : Lab) (place : ℕ) (why : Refused) → Shows file old first → NotesBefore events old place why notes
+      → NotesPlay file steps retries events (given_at played place why) notes
+  noted_at_halt played old place (refused.Fault why) shows noted = (some_noted old shows place noted.0 noted.1, noted.1)
+  noted_at_halt played old place refused.Memory shows noted = tt
+
+  -- what is noted of a play, as its events ended
+  pub notes_given : (played : Played) (new : Lab) (ended : Result (Unit {0}) Halt) → Begins file steps retries played → NotesRun events played.lab ended notes
+      → NotesPlay file steps retries events (given (record played { lab = new }) ended) notes
+  notes_given played new (Ok done) begins noted = (all_noted played.lab begins.shows noted.0 noted.1, noted.1)
+  notes_given played new (Err halt) begins noted = noted_at_halt (record played { lab = new }) played.lab halt.place halt.why begins.shows noted

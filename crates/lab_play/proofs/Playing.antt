@@ -1,5 +1,5 @@
 -- What a play tells, of the lab after its events.
-use Rattle.std.proofs.Common.{◌≡◌, ℕ, List, Ok, Err, Some, refl, sym, ap, subst}
+use Rattle.std.proofs.Common.{◌≡◌, ℕ, List, Result, Ok, Err, Some, refl, sym, ap, subst}
 use Rattle.cfg_records.specs.declared.board_file.BoardFile.{BoardFile}
 use Rattle.cfg_records.specs.declared.op.Op.{Op}
 use Rattle.cfg_records.specs.Boards.{pairs_of}
@@ -18,8 +18,8 @@ use Rattle.lab_play.specs.declared.run.Halt.{Halt}
 use Rattle.lab_play.specs.declared.step.Refused.{Refused}
 use Rattle.lab_play.specs.declared.step.Refused.TheVariants as refused
 use Rattle.lab_play.specs.Shown.{Shows, own_bench}
-use Rattle.lab_play.specs.Runs.{Take, Halts}
-use Rattle.lab_play.specs.Ends.{Tells, Ends}
+use Rattle.lab_play.specs.Runs.{Take, Halts, Runs}
+use Rattle.lab_play.specs.Ends.{Tells, Begins, Ends, Plays, given, given_at}
 
 module _ (file : BoardFile) (steps : List Op) (retries : ℕ) where
   -- the lab as it begins
@@ -43,7 +43,7 @@ module _ (file : BoardFile) (steps : List Op) (retries : ℕ) where
   }
 
   -- all events were taken
-  pub ends_whole : (events : List Event) (played : Played) (old : Lab) → played.start.items ≡ pairs_of file → KeysDiffer (pairs_of file)
+  ends_whole : (events : List Event) (played : Played) (old : Lab) → played.start.items ≡ pairs_of file → KeysDiffer (pairs_of file)
       → Shows file old first → Take events old played.lab → Ends file steps retries events (Ok played)
   ends_whole events played old start once shows takes =
       let at = takes file first shows in
@@ -56,7 +56,7 @@ module _ (file : BoardFile) (steps : List Op) (retries : ℕ) where
       }
 
   -- the event of a place has a fault
-  pub ends_at : (events : List Event) (played : Played) (old : Lab) (why : Fault) (place : ℕ) → played.start.items ≡ pairs_of file → KeysDiffer (pairs_of file)
+  ends_at : (events : List Event) (played : Played) (old : Lab) (why : Fault) (place : ℕ) → played.start.items ≡ pairs_of file → KeysDiffer (pairs_of file)
       → Shows file old first → Halts events old played.lab (record { place = place; why = refused.Fault why }) → Ends file steps retries events (Err (fault.Event why place played))
   ends_at events played old why place start once shows halts =
       let at = halts.left file first shows in
@@ -69,3 +69,16 @@ module _ (file : BoardFile) (steps : List Op) (retries : ℕ) where
         played = is;
         stands = plays_stand (own_bench file) file steps retries events (Stops (fault_of why) place told) is;
       }
+
+  -- ---- what is given of a play, as its events ended
+
+  plays_at : (events : List Event) (played : Played) (old : Lab) (place : ℕ) (why : Refused) → played.start.items ≡ pairs_of file → KeysDiffer (pairs_of file)
+      → Shows file old first → Halts events old played.lab (record { place = place; why = why }) → Plays file steps retries events (given_at played place why)
+  plays_at events played old place (refused.Fault why) start once shows halts = ends_at events played old why place start once shows halts
+  plays_at events played old place refused.Memory start once shows halts = tt
+
+  pub plays_given : (events : List Event) (played : Played) (new : Lab) (ended : Result (Unit {0}) Halt) → Begins file steps retries played → Runs events played.lab ended new
+      → Plays file steps retries events (given (record played { lab = new }) ended)
+  plays_given events played new (Ok done) begins takes = ends_whole events (record played { lab = new }) played.lab begins.start begins.once begins.shows takes
+  plays_given events played new (Err halt) begins halts =
+      plays_at events (record played { lab = new }) played.lab halt.place halt.why begins.start begins.once begins.shows halts

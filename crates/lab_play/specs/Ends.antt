@@ -4,12 +4,17 @@ use Rattle.std.specs.Str.{bytes_eq}
 use Rattle.cfg_records.specs.declared.board_file.BoardFile.{BoardFile}
 use Rattle.cfg_records.specs.declared.op.Op.{Op}
 use Rattle.cfg_records.specs.Records.{Records, Pair, KeysDiffer, records_of}
-use Rattle.lab_model.specs.Lab.{Lab as LabModel}
+use Rattle.cfg_records.specs.Boards.{pairs_of}
+use Rattle.lab_model.specs.Lab.{Lab as LabModel, opening}
 use Rattle.schedules.specs.declared.event.Event.{Event}
+use Rattle.lab.specs.Meaning.{lab_names}
 use Rattle.lab.specs.Played.{plans, Told, Ending, Whole, Stops, told_of, IsPlayed}
 use Rattle.lab.specs.Shown.{fault_of}
 use Rattle.lab_stands.specs.Plays.{StandsIfOwn}
 use Rattle.lab_play.specs.Shown.{Shows, own_bench}
+use Rattle.lab_play.specs.declared.run.Halt.{Halt}
+use Rattle.lab_play.specs.declared.step.Refused.{Refused}
+use Rattle.lab_play.specs.declared.step.Refused.TheVariants as refused
 use Rattle.lab_play.specs.declared.played.Played.{Played}
 use Rattle.lab_play.specs.declared.played.LabFault.{LabFault}
 use Rattle.lab_play.specs.declared.played.LabFault.TheVariants as fault
@@ -23,6 +28,12 @@ pub record Tells (played : Played) (told : Told) : Type 0 where
   pub once : KeysDiffer played.start.items
   pub start : first.board.records ≡ records_of played.start.items
   pub is : told ≡ told_of (own_bench file) file first now
+
+-- a play of the plan that begins: its lab shows the one that the model begins with, and its records are the board's
+pub record Begins (file : BoardFile) (steps : List Op) (retries : ℕ) (played : Played) : Type 0 where
+  pub start : played.start.items ≡ pairs_of file
+  pub once : KeysDiffer (pairs_of file)
+  pub shows : Shows file played.lab (opening plans file lab_names steps retries)
 
 -- what was given is this ending
 abbrev pub IsEnding : Result Played LabFault → Ending → Type 0
@@ -50,3 +61,15 @@ changed_in records start = length (filter (λ pair. not (is_value pair.1 (record
 abbrev pub Plays : BoardFile → List Op → (retries : ℕ) → List Event → Result Played LabFault → Type 0
 Plays file steps retries events (Err fault.Memory) = Unit {0}
 Plays file steps retries events given = Ends file steps retries events given
+
+-- ---- what the calls give
+
+-- of a play whose event of this place isn't taken
+abbrev pub given_at : Played → (place : ℕ) → Refused → Result Played LabFault
+given_at played place (refused.Fault why) = Err (fault.Event why place played)
+given_at played place refused.Memory = Err fault.Memory
+
+-- of a play whose events ended so
+abbrev pub given : Played → Result (Unit {0}) Halt → Result Played LabFault
+given played (Ok done) = Ok played
+given played (Err halt) = given_at played halt.place halt.why

@@ -1,23 +1,25 @@
 //! A plan played by a schedule.
-ghost use Rattle.std.specs.Prelude.{◌≡◌, [], not};
+ghost use Rattle.std.specs.Prelude.{◌≡◌, [], not, IfOk};
 ghost use Rattle.std.specs.List.{AllZip};
+ghost use Rattle.two_wire.specs.declared.Bus.{Bus as AnyBus};
 ghost use Rattle.cfg_records.specs.Records.{records_of};
 ghost use Rattle.undo_core.specs.Phases.{phase_of};
 ghost use Rattle.undo_core.specs.Shown.{backs};
 ghost use Rattle.lab.specs.Meaning.{lab_names};
 ghost use Rattle.lab.specs.Played.{Told};
-ghost use Rattle.lab_play.specs.Shown.{IsSentFrame, plain_records};
+ghost use Rattle.lab_play.specs.Shown.{IsSentFrame, plain_records, idles_in};
 ghost use Rattle.lab_play.specs.Noted.{NotesPlay};
-ghost use Rattle.lab_play.specs.Ends.{Tells, Plays, changed_in, is_value};
+ghost use Rattle.lab_play.specs.Ends.{Tells, Plays, Begins, given, changed_in, is_value};
 
 use crate::lab_state::Lab;
+use crate::run::Halt;
 use crate::step::Refused;
 use cfg_records::{BoardFile, Key, PlainStore, Store, Value};
 use chart_text::Note;
 use lab::{Fault, SentFrame};
 use plans::{Plan, UndoList};
 use schedules::Event;
-use std::alloc::Global;
+use std::alloc::{AllocError, Global};
 use undo_core::Phase;
 
 /// What is told of a lab that was played.
@@ -95,6 +97,35 @@ pub enum LabFault {
     },
 }
 
+impl Played {
+    /// A play that begins: a lab as it begins, and the records of its board.
+    fn begin(alloc: Global, file: BoardFile, plan: Plan) -> Result<Played, AllocError>
+        ensures begins { IfOk result (λ played. Begins file plan.steps plan.retries played) }
+        ensures never { IfOk result (λ played. (on : AnyBus) → idles_in on played.lab.idles ≡ 0) }
+    {
+        let start = file.records(alloc)?;
+        let lab = Lab::open(alloc, file, plan)?;
+        Ok(Played { start, lab })
+    }
+
+    /// What is given of a play whose events ended so.
+    fn ending(self, ended: Result<(), Halt>) -> Result<Played, LabFault>
+        ensures { result ≡ given self ended }
+    {
+        match ended {
+            Ok(()) => Ok(self),
+            Err(halt) => match halt.why {
+                Refused::Memory => Err(LabFault::Memory),
+                Refused::Fault(fault) => Err(LabFault::Event {
+                    fault,
+                    place: halt.place,
+                    played: self,
+                }),
+            },
+        }
+    }
+}
+
 /// Plays a plan on a board by a schedule, up to the first event that has a fault.
 pub fn play(
     alloc: Global,
@@ -104,25 +135,11 @@ pub fn play(
 ) -> Result<Played, LabFault>
     ensures { Plays file plan.steps plan.retries events.now result }
 {
-    let Ok(start) = file.records(alloc) else {
+    let Ok(mut played) = Played::begin(alloc, file, plan) else {
         return Err(LabFault::Memory);
     };
-    let Ok(mut lab) = Lab::open(alloc, file, plan) else {
-        return Err(LabFault::Memory);
-    };
-    let ended = lab.run(events);
-    let played = Played { start, lab };
-    match ended {
-        Ok(()) => Ok(played),
-        Err(halt) => match halt.why {
-            Refused::Memory => Err(LabFault::Memory),
-            Refused::Fault(fault) => Err(LabFault::Event {
-                fault,
-                place: halt.place,
-                played,
-            }),
-        },
-    }
+    let ended = played.lab.run(events);
+    played.ending(ended)
 }
 
 /// Plays a plan as `play` does, and notes each event that happens.
@@ -137,23 +154,9 @@ pub fn play_noted<'a>(
     ensures plays { Plays file plan.steps plan.retries events.now result }
     ensures noted { NotesPlay file plan.steps plan.retries events.now result notes.new.items }
 {
-    let Ok(start) = file.records(alloc) else {
+    let Ok(mut played) = Played::begin(alloc, file, plan) else {
         return Err(LabFault::Memory);
     };
-    let Ok(mut lab) = Lab::open(alloc, file, plan) else {
-        return Err(LabFault::Memory);
-    };
-    let ended = lab.run_noted(events, notes);
-    let played = Played { start, lab };
-    match ended {
-        Ok(()) => Ok(played),
-        Err(halt) => match halt.why {
-            Refused::Memory => Err(LabFault::Memory),
-            Refused::Fault(fault) => Err(LabFault::Event {
-                fault,
-                place: halt.place,
-                played,
-            }),
-        },
-    }
+    let ended = played.lab.run_noted(events, notes);
+    played.ending(ended)
 }
