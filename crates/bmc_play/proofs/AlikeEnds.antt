@@ -10,7 +10,7 @@ use Rattle.lab.specs.declared.fault.Fault.TheVariants as fault
 use Rattle.lab.specs.Meaning.{Bench}
 use Rattle.lab.specs.Played.{Ending, Whole, Stops, IsPlayed}
 use Rattle.lab.specs.Shown.{fault_of}
-use Rattle.lab_play.specs.Shown.{own_bench}
+use Rattle.lab_events.specs.Shown.{own_bench}
 use Rattle.play_text.specs.declared.account.Account.{Account}
 use Rattle.play_text.specs.declared.account.Stopped.{Stopped}
 use Rattle.play_text.specs.declared.inputs.Inputs.{Inputs}

@@ -24,7 +24,7 @@ use Rattle.lab.specs.declared.frames.SentFrame.{SentFrame}
 use Rattle.lab.specs.Meaning.{lab_names}
 use Rattle.lab.specs.Played.{Told, Ending, Whole, Stops}
 use Rattle.lab.specs.Shown.{way_of}
-use Rattle.lab_play.specs.Shown.{IsSentFrame, own_bench}
+use Rattle.lab_events.specs.Shown.{IsSentFrame, own_bench}
 use Rattle.lab_play.specs.Ends.{is_value}
 use Rattle.play_text.specs.declared.account.Account.{Account}
 use Rattle.play_text.specs.Account.{said, records_line, undo_lines, shown, ending, text_of}

@@ -17,7 +17,7 @@ use Rattle.chart_text.specs.declared.note.Note.{Note}
 use Rattle.chart_text.specs.Columns.{at_most, in_column}
 use Rattle.chart_text.specs.Arrivals.{delivers, came_at, lost_from}
 use Rattle.chart_text.specs.Chart.{call_cell, comes_cell, count_of, sends_cell, done_cell, head_line, event_line, chart_of}
-use Rattle.lab_play.specs.Shown.{own_bench}
+use Rattle.lab_events.specs.Shown.{own_bench}
 use Rattle.lab_play.specs.Noted.{Noted, IsNote, noted_from, AreNotes}
 use Rattle.play_text.specs.declared.account.Stopped.{Stopped}
 use Rattle.play_text.specs.Account.{ending}

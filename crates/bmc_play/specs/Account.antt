@@ -7,7 +7,7 @@ use Rattle.undo_core.specs.Shown.{backs}
 use Rattle.lab.specs.Meaning.{lab_names}
 use Rattle.lab.specs.Played.{Told, Ending, Whole, Stops}
 use Rattle.lab.specs.Shown.{fault_of}
-use Rattle.lab_play.specs.Shown.{IsSentFrame}
+use Rattle.lab_events.specs.Shown.{IsSentFrame}
 use Rattle.lab_play.specs.Ends.{changed_in}
 use Rattle.play_text.specs.declared.account.Account.{Account}
 use Rattle.play_text.specs.declared.account.Stopped.{Stopped}

@@ -10,7 +10,7 @@ use Rattle.lab.specs.Shown.{fault_of}
 use Rattle.lab_stands.specs.Plays.{StandsIfOwn}
 use Rattle.chart_text.specs.declared.note.Note.{Note}
 use Rattle.chart_text.specs.Chart.{chart_of}
-use Rattle.lab_play.specs.Shown.{own_bench}
+use Rattle.lab_events.specs.Shown.{own_bench}
 use Rattle.lab_play.specs.Noted.{AreNotes}
 use Rattle.play_text.specs.declared.inputs.Inputs.{Inputs}
 use Rattle.play_text.specs.declared.account.Stopped.{Stopped}

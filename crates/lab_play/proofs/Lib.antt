@@ -1,10 +1,3 @@
-pub mod Frames
-pub mod Checks
-pub mod Idling
 pub mod Running
-pub mod Sent
-pub mod ManagerSide
-pub mod Deeds
-pub mod PortSide
 pub mod Playing
 pub mod Noting

@@ -1,38 +1,32 @@
 -- Notes of events, one after another.
-use Rattle.std.proofs.Common.{◌≡◌, ℕ, zero, suc, ◌+◌, ◌-◌, List, [], ◌∷◌, ◌++◌, length, take, Option, Some, None, Result, Ok, Err, refl, sym, ◌∙◌, ap, subst, arith, option_map}
+use Rattle.std.proofs.Common.{◌≡◌, ℕ, ◌+◌, ◌-◌, List, [], ◌∷◌, ◌++◌, length, take, Option, None, Result, Ok, Err, refl, sym, ◌∙◌, ap, subst, arith, option_map}
 use Rattle.std.specs.Prelude.{slice_get}
 use Rattle.std.proofs.lemmas.List.{length-append}
 use Rattle.std.proofs.Math.Seq.{take-length}
-use Rattle.std.proofs.lemmas.Slice.Zip.{AllZip-long}
-use Rattle.two_wire.specs.declared.Bus.{Bus}
 use Rattle.std.specs.List.{AllZip}
 use Rattle.cfg_records.specs.declared.board_file.BoardFile.{BoardFile}
 use Rattle.cfg_records.specs.declared.op.Op.{Op}
-use Rattle.lab_model.specs.Lab.{LabFrame, Lab as LabModel, port_on, opening}
-use Rattle.bmc_core.specs.declared.out.Done.{Done}
+use Rattle.lab_model.specs.Lab.{LabFrame, Lab as LabModel, opening}
 use Rattle.schedules.specs.declared.event.Event.{Event}
-use Rattle.lab.specs.declared.frames.SentFrame.{SentFrame}
 use Rattle.lab.specs.Meaning.{lab_names, Bench}
 use Rattle.lab.specs.Played.{plans, happens, after}
 use Rattle.chart_text.specs.declared.note.Note.{Note}
-use Rattle.lab_play.specs.declared.lab_state.Lab.{Lab}
+use Rattle.lab_events.specs.declared.lab_state.Lab.{Lab}
 use Rattle.lab_play.specs.declared.played.Played.{Played}
 use Rattle.lab_play.specs.declared.run.Halt.{Halt}
-use Rattle.lab_play.specs.declared.step.Refused.{Refused}
-use Rattle.lab_play.specs.declared.step.Refused.TheVariants as refused
-use Rattle.lab_play.specs.Shown.{IsSentFrame, Shows, own_bench}
-use Rattle.lab_play.specs.Hearing.{done_on}
+use Rattle.lab_events.specs.declared.step.Refused.{Refused}
+use Rattle.lab_events.specs.declared.step.Refused.TheVariants as refused
+use Rattle.lab_events.specs.Shown.{Shows, own_bench}
 use Rattle.undo_core.specs.Phases as phases
 use Rattle.undo_model.specs.Machine.{phase_of}
-use Rattle.lab_model.specs.Faults.{NoFrame, first_of, delivery}
-use Rattle.lab_model.specs.Lab.{ToPort}
-use Rattle.schedules.specs.declared.event.Event.TheVariants as event
 use Rattle.lab.specs.Played.{fault_at}
-use Rattle.lab_play.specs.Hearing.{Did}
-use Rattle.lab_play.specs.Noted.{IsNote, comes_at, done_at, done_in, noted_at, noted_from, AreNotes, NotesStep, Notes, NotesBefore, NotesRun, NotesPlay}
+use Rattle.lab_events.specs.Hearing.{Did}
+use Rattle.lab_events.specs.Coming.{comes_at, done_in}
+use Rattle.lab_play.specs.Noted.{IsNote, noted_at, noted_from, AreNotes, NotesStep, Notes, NotesBefore, NotesRun, NotesPlay}
 use Rattle.lab_play.specs.Ends.{Begins, given, given_at}
 use Rattle.lab_play.specs.Runs.{Take}
-use Rattle.lab_play.proofs.Sent.{all_append, beside, none_beside}
+use Rattle.lab_events.proofs.Sent.{all_append}
+use Rattle.lab_events.proofs.Coming.{done_is}
 
 module _ (bench : Bench) (file : BoardFile) where
   -- what there is to note of one event more
@@ -48,39 +42,6 @@ notes_one_more es e old mid notes note took noted one file x shows =
     subst (λ ns. AllZip IsNote (notes ++ note ∷ []) ns) (sym (noted_more (own_bench file) file es e x))
     (all_append IsNote notes (note ∷ []) (noted_from (own_bench file) file es x) (last ∷ []) (noted file x shows) (one file (after (own_bench file) file es x) (took file x shows).1, tt))
 
--- ---- one event
-
-module _ (file : BoardFile) (old new : Lab) (x : LabModel plans) (shows : Shows file old x) where
-  -- a frame that is delivered was sent
-  done_of_frame : (number : ℕ) (o : Option LabFrame) → slice_get x.frames number ≡ o → fault_at (own_bench file) file x (event.ToBmc number) ≡ None → Did (event.ToBmc number) old new
-      → Some new.out.done ≡ option_map (λ f. done_on f.on (port_on plans f.on x) f.value) o
-  done_of_frame number (Some f) is none did = ap (λ (d : Done). Some d) (did file x f shows is)
-  done_of_frame number None is none did =
-      let no : Some NoFrame ≡ None = sym (ap (λ (o : Option LabFrame). first_of (delivery plans ToPort x o)) is) ∙ none in cc no
-
-  pub done_is : (e : Event) → fault_at (own_bench file) file x e ≡ None → Did e old new → done_in e new ≡ done_at x e
-  done_is (event.Calls call) none did = refl
-  done_is (event.ToBmc number) none did =
-      done_of_frame number (slice_get x.frames number) refl none did
-  done_is (event.ToMgr number) none did = refl
-  done_is (event.OtherIpmb request) none did = refl
-  done_is (event.OtherSmbus message) none did = refl
-  done_is (event.Noise on bytes) none did = refl
-  done_is (event.Idle on requester) none did = refl
-  done_is (event.Scan sensor reading) none did = refl
-  done_is event.Tick none did = refl
-
--- ---- the bus of a frame that is sent
-
-module _ (file : BoardFile) (lab : Lab) (x : LabModel plans) (number : ℕ) (shows : Shows file lab x) where
-  pub bus_shown : (s : SentFrame) → slice_get lab.frames number ≡ Some s → Some s.mark.on ≡ option_map (λ f. f.on) (slice_get x.frames number)
-  bus_shown s there =
-      let at = beside IsSentFrame lab.frames x.frames number s shows.frames there in
-      ap (λ (b : Bus). Some b) (sym at.2.is.mark.on) ∙ ap (option_map (λ (f : LabFrame). f.on)) (sym at.1)
-
-  pub no_bus : slice_get lab.frames number ≡ None → None ≡ option_map (λ f. f.on) (slice_get x.frames number)
-  no_bus none = ap (option_map (λ (f : LabFrame). f.on)) (sym (none_beside IsSentFrame lab.frames x.frames number shows.frames none))
-
 -- ---- the note of an event that happened
 
 -- what is noted is what there is to note
@@ -88,20 +49,18 @@ pub is_noted : (e : Event) (old new : Lab) (note : Note) (file : BoardFile) (x :
     → (fault_at (own_bench file) file x e ≡ None) × Shows file new (happens (own_bench file) file e x) → Did e old new
     → note.event.now ≡ e → note.came ≡ comes_at x e → note.done ≡ done_in e new
     → ((y : LabModel plans) → Shows file new y → note.sends ≡ option_map (λ f. f.on) (slice_get y.frames note.before))
-    → note.before ≡ length old.frames → note.after ≡ length new.frames
+    → note.before ≡ length x.frames → ((y : LabModel plans) → Shows file new y → note.after ≡ length y.frames)
     → ((y : LabModel plans) → Shows file new y → phases.phase_of note.phase ≡ phase_of plans.words y.manager.machine)
     → IsNote note (noted_at (own_bench file) file x e)
 is_noted e old new note file x shows stepped did named came done sends before after phase =
     let y = happens (own_bench file) file e x in
-    let begun : note.before ≡ length x.frames = before ∙ sym (AllZip-long IsSentFrame old.frames x.frames shows.frames) in
-    let over : note.after ≡ length y.frames = after ∙ sym (AllZip-long IsSentFrame new.frames y.frames stepped.1.frames) in
     record {
       event = named;
       came = came;
       done = done ∙ done_is file old new x shows e stepped.0 did;
-      sends = sends y stepped.1 ∙ ap (λ (n : ℕ). option_map (λ (f : LabFrame). f.on) (slice_get y.frames n)) begun;
-      before = begun;
-      after = over;
+      sends = sends y stepped.1 ∙ ap (λ (n : ℕ). option_map (λ (f : LabFrame). f.on) (slice_get y.frames n)) before;
+      before = before;
+      after = after y stepped.1;
       phase = phase y stepped.1;
     }
 

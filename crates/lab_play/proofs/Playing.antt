@@ -11,13 +11,13 @@ use Rattle.lab.specs.Meaning.{lab_names}
 use Rattle.lab.specs.Played.{plans, Told, Ending, Whole, Stops, told_of, after, IsPlayed}
 use Rattle.lab.specs.Shown.{fault_of}
 use Rattle.lab_stands.proofs.Plays.{plays_stand}
-use Rattle.lab_play.specs.declared.lab_state.Lab.{Lab}
+use Rattle.lab_events.specs.declared.lab_state.Lab.{Lab}
 use Rattle.lab_play.specs.declared.played.Played.{Played}
 use Rattle.lab_play.specs.declared.played.LabFault.TheVariants as fault
 use Rattle.lab_play.specs.declared.run.Halt.{Halt}
-use Rattle.lab_play.specs.declared.step.Refused.{Refused}
-use Rattle.lab_play.specs.declared.step.Refused.TheVariants as refused
-use Rattle.lab_play.specs.Shown.{Shows, own_bench}
+use Rattle.lab_events.specs.declared.step.Refused.{Refused}
+use Rattle.lab_events.specs.declared.step.Refused.TheVariants as refused
+use Rattle.lab_events.specs.Shown.{Shows, own_bench}
 use Rattle.lab_play.specs.Runs.{Take, Halts, Runs}
 use Rattle.lab_play.specs.Ends.{Tells, Begins, Ends, Plays, given, given_at}
 

@@ -5,12 +5,12 @@ use Rattle.lab_model.specs.Lab.{Lab as LabModel}
 use Rattle.schedules.specs.declared.event.Event.{Event}
 use Rattle.lab.specs.Meaning.{Bench}
 use Rattle.lab.specs.Played.{plans, fault_at, happens, after, AreTaken}
-use Rattle.lab_play.specs.Shown.{Shows, Steps, own_bench}
+use Rattle.lab_events.specs.Shown.{Shows, Steps, own_bench}
 use Rattle.lab_play.specs.Runs.{Take, Halts}
 use Rattle.lab_play.specs.declared.run.Halt.{Halt}
-use Rattle.lab_play.specs.declared.step.Refused.{Refused}
-use Rattle.lab_play.specs.declared.step.Refused.TheVariants as refused
-use Rattle.lab_play.specs.declared.lab_state.Lab.{Lab}
+use Rattle.lab_events.specs.declared.step.Refused.{Refused}
+use Rattle.lab_events.specs.declared.step.Refused.TheVariants as refused
+use Rattle.lab_events.specs.declared.lab_state.Lab.{Lab}
 
 module _ (bench : Bench) (file : BoardFile) where
   -- one event more is taken

@@ -11,10 +11,10 @@ use Rattle.lab.specs.Meaning.{lab_names}
 use Rattle.lab.specs.Played.{plans, Told, Ending, Whole, Stops, told_of, IsPlayed}
 use Rattle.lab.specs.Shown.{fault_of}
 use Rattle.lab_stands.specs.Plays.{StandsIfOwn}
-use Rattle.lab_play.specs.Shown.{Shows, own_bench}
+use Rattle.lab_events.specs.Shown.{Shows, own_bench}
 use Rattle.lab_play.specs.declared.run.Halt.{Halt}
-use Rattle.lab_play.specs.declared.step.Refused.{Refused}
-use Rattle.lab_play.specs.declared.step.Refused.TheVariants as refused
+use Rattle.lab_events.specs.declared.step.Refused.{Refused}
+use Rattle.lab_events.specs.declared.step.Refused.TheVariants as refused
 use Rattle.lab_play.specs.declared.played.Played.{Played}
 use Rattle.lab_play.specs.declared.played.LabFault.{LabFault}
 use Rattle.lab_play.specs.declared.played.LabFault.TheVariants as fault

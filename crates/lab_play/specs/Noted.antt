@@ -1,49 +1,28 @@
 -- What is noted of each event of a play.
-use Rattle.std.specs.Prelude.{◌≡◌, ℕ, ◌+◌, ◌-◌, nat_lt, List, [], ◌∷◌, ◌++◌, length, take, Option, Some, None, Result, Ok, Err, option_map, slice_get}
+use Rattle.std.specs.Prelude.{◌≡◌, ℕ, ◌+◌, ◌-◌, List, [], ◌∷◌, ◌++◌, length, take, Option, Result, Ok, Err, option_map, slice_get}
 use Rattle.std.specs.List.{AllZip}
 use Rattle.two_wire.specs.declared.Bus.{Bus}
 use Rattle.cfg_records.specs.declared.board_file.BoardFile.{BoardFile}
 use Rattle.cfg_records.specs.declared.op.Op.{Op}
 use Rattle.undo_model.specs.Phase.{Phase}
 use Rattle.undo_model.specs.Machine.{phase_of}
-use Rattle.lab_model.specs.Lab.{LabFrame, Lab as LabModel, port_on, opening}
-use Rattle.lab_model.specs.Faults.{begun_on}
+use Rattle.lab_model.specs.Lab.{Lab as LabModel, opening}
 use Rattle.bmc_core.specs.declared.out.Done.{Done}
 use Rattle.undo_core.specs.Phases as phases
 use Rattle.schedules.specs.declared.event.Event.{Event}
-use Rattle.schedules.specs.declared.event.Event.TheVariants as event
 use Rattle.lab.specs.Meaning.{lab_names, Bench}
 use Rattle.lab.specs.Played.{plans, happens}
 use Rattle.chart_text.specs.declared.note.Came.{Came}
 use Rattle.chart_text.specs.declared.note.Note.{Note}
-use Rattle.lab_play.specs.declared.lab_state.Lab.{Lab}
+use Rattle.lab_events.specs.declared.lab_state.Lab.{Lab}
 use Rattle.lab_play.specs.declared.run.Halt.{Halt}
-use Rattle.lab_play.specs.declared.step.Refused.{Refused}
-use Rattle.lab_play.specs.declared.step.Refused.TheVariants as refused
+use Rattle.lab_events.specs.declared.step.Refused.{Refused}
+use Rattle.lab_events.specs.declared.step.Refused.TheVariants as refused
 use Rattle.lab_play.specs.declared.played.Played.{Played}
 use Rattle.lab_play.specs.declared.played.LabFault.{LabFault}
 use Rattle.lab_play.specs.declared.played.LabFault.TheVariants as fault
-use Rattle.lab_play.specs.Shown.{Shows, own_bench}
-use Rattle.lab_play.specs.Hearing.{done_on}
-
--- ---- what comes, and what the controller does with it
-
--- a frame that comes now: it is late where more requests were begun on its bus from its own on than that one
-abbrev pub comes : LabModel plans → LabFrame → Came
-comes x f = record { on = f.on; late = nat_lt 1 (begun_on plans.words f.on x.manager.machine - f.request) }
-
--- the frame that the event delivers, if there is such a frame
-abbrev pub comes_at : LabModel plans → Event → Option Came
-comes_at x (event.ToBmc number) = option_map (comes x) (slice_get x.frames number)
-comes_at x (event.ToMgr number) = option_map (comes x) (slice_get x.frames number)
-comes_at x _ = None
-
--- what the controller does with the frame that the event delivers
-abbrev pub done_at : LabModel plans → Event → Option Done
-done_at x (event.ToBmc number) = option_map (λ f. done_on f.on (port_on plans f.on x) f.value) (slice_get x.frames number)
-done_at x _ = None
-
--- ---- notes
+use Rattle.lab_events.specs.Shown.{Shows, own_bench}
+use Rattle.lab_events.specs.Coming.{comes_at, done_at}
 
 -- what there is to note of an event
 pub record Noted : Type 0 where
@@ -90,11 +69,6 @@ pub record AreNotes (bench : Bench) (file : BoardFile) (steps : List Op) (retrie
   pub each : AllZip IsNote notes (noted_from bench file (take (length notes) events) (opening plans file lab_names steps retries))
 
 -- ---- what calls note
-
--- what the controller's port did last, where the event delivered a frame to it
-abbrev pub done_in : Event → Lab → Option Done
-done_in (event.ToBmc number) lab = Some lab.out.done
-done_in _ lab = None
 
 -- an event is asked of a lab: a note is added where it happens, and none where it has a fault; where memory was refused, nothing is said
 abbrev pub NotesStep : Event → Lab → Result (Unit {0}) Refused → (before after : List Note) → Type 0

@@ -5,11 +5,11 @@ use Rattle.lab_model.specs.Lab.{Lab as LabModel}
 use Rattle.schedules.specs.declared.event.Event.{Event}
 use Rattle.lab.specs.Played.{plans, fault_at, after, AreTaken}
 use Rattle.lab.specs.Shown.{fault_of}
-use Rattle.lab_play.specs.Shown.{Shows, own_bench}
-use Rattle.lab_play.specs.declared.lab_state.Lab.{Lab}
+use Rattle.lab_events.specs.Shown.{Shows, own_bench}
+use Rattle.lab_events.specs.declared.lab_state.Lab.{Lab}
 use Rattle.lab_play.specs.declared.run.Halt.{Halt}
-use Rattle.lab_play.specs.declared.step.Refused.{Refused}
-use Rattle.lab_play.specs.declared.step.Refused.TheVariants as refused
+use Rattle.lab_events.specs.declared.step.Refused.{Refused}
+use Rattle.lab_events.specs.declared.step.Refused.TheVariants as refused
 
 -- whatever lab of the model it showed, on a board of whatever file, the events are taken, and it goes on to the one after them
 abbrev pub Take : List Event → Lab → Lab → Type 0

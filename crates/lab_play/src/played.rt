@@ -7,16 +7,16 @@ ghost use Rattle.undo_core.specs.Phases.{phase_of};
 ghost use Rattle.undo_core.specs.Shown.{backs};
 ghost use Rattle.lab.specs.Meaning.{lab_names};
 ghost use Rattle.lab.specs.Played.{Told};
-ghost use Rattle.lab_play.specs.Shown.{IsSentFrame, plain_records, idles_in};
+ghost use Rattle.lab_events.specs.Shown.{IsSentFrame, plain_records, idles_in};
 ghost use Rattle.lab_play.specs.Noted.{NotesPlay};
 ghost use Rattle.lab_play.specs.Ends.{Tells, Plays, Begins, given, changed_in, is_value};
 
-use crate::lab_state::Lab;
-use crate::run::Halt;
-use crate::step::Refused;
+use crate::noted::run_noted;
+use crate::run::{Halt, run};
 use cfg_records::{BoardFile, Key, PlainStore, Store, Value};
 use chart_text::Note;
 use lab::{Fault, SentFrame};
+use lab_events::{Lab, Refused};
 use plans::{Plan, UndoList};
 use schedules::Event;
 use std::alloc::{AllocError, Global};
@@ -34,28 +34,28 @@ impl Played {
     pub fn phase(&self) -> Phase
         ensures { (told : Told) → Tells self.now told → phase_of result ≡ told.phase }
     {
-        self.lab.manager.phase()
+        self.lab.phase()
     }
 
     /// The frames that were sent, in the order of their numbers.
     pub fn frames(&self) -> &[SentFrame]
         ensures { (told : Told) → Tells self.now told → AllZip IsSentFrame result.now told.frames }
     {
-        self.lab.frames.as_slice()
+        self.lab.frames()
     }
 
     /// The requests that undo what was done.
     pub fn undo(&self) -> &UndoList
         ensures { (told : Told) → Tells self.now told → backs lab_names result.now.requests ≡ told.undo }
     {
-        self.lab.manager.undo_list()
+        self.lab.undo_list()
     }
 
     /// The records.
     pub fn records(&self) -> &PlainStore
         ensures { (told : Told) → Tells self.now told → ⟦<PlainStore as Store>⟧.records result.now ≡ told.records }
     {
-        self.lab.board.store()
+        self.lab.store()
     }
 
     /// The records that the board began with.
@@ -138,7 +138,7 @@ pub fn play(
     let Ok(mut played) = Played::begin(alloc, file, plan) else {
         return Err(LabFault::Memory);
     };
-    let ended = played.lab.run(events);
+    let ended = run(&mut played.lab, events);
     played.ending(ended)
 }
 
@@ -157,6 +157,6 @@ pub fn play_noted<'a>(
     let Ok(mut played) = Played::begin(alloc, file, plan) else {
         return Err(LabFault::Memory);
     };
-    let ended = played.lab.run_noted(events, notes);
+    let ended = run_noted(&mut played.lab, events, notes);
     played.ending(ended)
 }

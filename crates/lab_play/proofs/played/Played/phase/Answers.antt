@@ -1,7 +1,6 @@
 use Rattle.std.proofs.Common.{sym, ◌∙◌, ap}
-use Rattle.lab.specs.Meaning.{lab_names}
 use Rattle.lab.specs.Played.{Told}
 use Rattle.lab_play.proofs.played.Played.phase.Goals as goal
 
 pub returns : goal.returns
-returns c told tells = c.phase.ensures lab_names tells.now.manager tells.shown.manager ∙ ap (λ (t : Told). t.phase) (sym tells.is)
+returns c told tells = c.phase.ensures tells.file tells.now tells.shown ∙ ap (λ (t : Told). t.phase) (sym tells.is)

@@ -1,0 +1,3 @@
+pub mod Shown
+pub mod Hearing
+pub mod Coming

@@ -1,8 +1,0 @@
-use Rattle.std.proofs.Common.{◌≤◌, take}
-use Rattle.two_wire.specs.declared.Bus.{Bus}
-use Rattle.lab_play.specs.Shown.{idles_in}
-use Rattle.lab_play.specs.Runs.{Take}
-use Rattle.lab_play.proofs.lab_state.Lab.run.Given as goal
-
-abbrev pub invariant-loop-place : goal.invariant-loop-place
-invariant-loop-place l = Take (take l.place l.events) l.initial.self l.self × ((on : Bus) → idles_in on l.self.idles ≤ l.place)

@@ -1,0 +1,6 @@
+use Rattle.std.proofs.Common.{sym, ◌∙◌, ap}
+use Rattle.lab.specs.Played.{Told}
+use Rattle.lab_play.proofs.played.Played.records.Goals as goal
+
+pub returns : goal.returns
+returns c told tells = c.store.ensures tells.file tells.now tells.shown ∙ ap (λ (t : Told). t.records) (sym tells.is)
