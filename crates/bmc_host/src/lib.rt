@@ -2,9 +2,11 @@
 #![tactic(auto)]
 
 pub mod file;
+pub mod run;
 #[cfg(test)]
 mod tests;
 pub mod words;
 
 pub use file::HostFiles;
-pub use words::{FrameWords, PlayWords, Words, asked};
+pub use run::run_line;
+pub use words::{FrameWords, PlayWords, Words, words_of_process};

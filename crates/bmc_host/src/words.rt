@@ -209,8 +209,8 @@ pub fn read(alloc: Global, words: &[String]) -> Result<Words, Status>
     }
 }
 
-/// What the program is asked for.
-pub fn asked<R: Env + AllocGlobal>(rt: &R) -> Result<Words, Status>
+/// The words that the process was given, the program's own name first among them.
+pub fn words_of_process<R: Env + AllocGlobal>(rt: &R) -> Result<Vec<String>, Status>
     ensures { IfErr result (λ status. (status ≡ Status.RefusedWords) ⊎ (status ≡ Status.Memory)) }
 {
     let args = match env::args(rt) {
@@ -220,7 +220,7 @@ pub fn asked<R: Env + AllocGlobal>(rt: &R) -> Result<Words, Status>
     };
     let words: Result<Vec<String>, AllocError> = args.collect(rt.alloc());
     match words {
-        Ok(words) => read(rt.alloc(), words.as_slice()),
+        Ok(words) => Ok(words),
         Err(_) => Err(Status::Memory),
     }
 }

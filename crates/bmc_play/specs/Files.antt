@@ -10,12 +10,12 @@ use Rattle.bmc_play.specs.Run.{Telling, Says}
 abbrev pub words_of : PlayFiles → List (List ℕ)
 words_of files = files.board.now ∷ files.plan.now ∷ files.schedule.now ∷ []
 
--- the three files are read, and have these texts
-abbrev pub AreTexts : Readings → PlayFiles → (board plan schedule : List ℕ) → Type 0
-AreTexts gives files board plan schedule = Give gives (words_of files) (board ∷ plan ∷ schedule ∷ [])
+-- the three files that the words name are read, and have these texts
+abbrev pub AreTexts : Readings → (words : List (List ℕ)) → (board plan schedule : List ℕ) → Type 0
+AreTexts gives words board plan schedule = Give gives words (board ∷ plan ∷ schedule ∷ [])
 
--- what a run says of the files: what it says of their texts, or that one isn't read, the first of them
-abbrev pub SaysOfFiles : Readings → Telling → PlayFiles → Saying
-SaysOfFiles gives tells files stream text status =
-    ((board : List ℕ) × (plan : List ℕ) × (schedule : List ℕ) × AreTexts gives files board plan schedule × Says tells board plan schedule stream text status)
-    ⊎ ((word : List ℕ) × (why : Unreadable) × FirstUnread gives (words_of files) word why × Refuses why word stream text status)
+-- what a run says of the files that the words name: what it says of their texts, or that one isn't read, the first of them
+abbrev pub SaysOfFiles : Readings → Telling → (words : List (List ℕ)) → Saying
+SaysOfFiles gives tells words stream text status =
+    ((board : List ℕ) × (plan : List ℕ) × (schedule : List ℕ) × AreTexts gives words board plan schedule × Says tells board plan schedule stream text status)
+    ⊎ ((word : List ℕ) × (why : Unreadable) × FirstUnread gives words word why × Refuses why word stream text status)
