@@ -1,0 +1,10 @@
+use Rattle.std.proofs.Common.{subst, sym}
+use Rattle.bmc_lab.specs.Ending.{RunEnds}
+use Rattle.bmc_host.specs.Run.{SaysOfWords}
+use Rattle.bmc_host.proofs.run.carry_out.Goals as goal
+
+pub returns-in-Play : goal.returns-in-Play
+returns-in-Play g c =
+    subst (λ words. RunEnds g.W.Write.contents g.E.Write.contents (SaysOfWords (g.F.TextFiles.gives c.args.files.now) words) c.args.console.now c.play.new.console c.play.result)
+    (sym c.in-Play.is)
+    c.play.ensures

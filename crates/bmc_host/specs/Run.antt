@@ -1,0 +1,24 @@
+-- What a run of a command line says.
+use Rattle.std.specs.Prelude.{◌≡◌, ◌⊎◌, List, [], ◌∷◌, option_map, string_bytes}
+use Rattle.clap.specs.Words.{Text}
+use Rattle.bmc_lab.specs.declared.console.Stream.TheVariants.{Error}
+use Rattle.bmc_lab.specs.declared.status.Status.TheVariants.{RefusedWords}
+use Rattle.bmc_lab.specs.Ending.{Saying}
+use Rattle.bmc_lab.specs.Files.{Readings, SaysOfFile}
+use Rattle.bmc_play.specs.Files.{SaysOfFiles}
+use Rattle.bmc_play.specs.Run.{tells_of}
+use Rattle.bmc_host.specs.declared.words.Words.{Words}
+use Rattle.bmc_host.specs.declared.words.Words.TheVariants.{Frame, Play}
+use Rattle.bmc_host.specs.Asked.{AsksFor}
+
+-- what a run says that does what words ask for: what it says of the frame, with the board file that is named, or of the three files of the play
+abbrev pub SaysOfWords : Readings → Words → Saying
+SaysOfWords gives (Frame asked) = SaysOfFile gives (option_map string_bytes asked.board) asked.frame.bus asked.frame.bytes.items
+SaysOfWords gives (Play asked) = SaysOfFiles gives (tells_of asked.shown) (string_bytes asked.board ∷ string_bytes asked.plan ∷ string_bytes asked.schedule ∷ [])
+
+-- What a run says of a command line's words: what it says of what they ask for; or, where they ask for nothing, nothing at all, with the
+-- status of refused words.
+abbrev pub SaysOfLine : Readings → (words : List Text) → Saying
+SaysOfLine gives words stream text status =
+    ((asked : Words) × AsksFor words asked × SaysOfWords gives asked stream text status)
+    ⊎ (((asked : Words) → AsksFor words asked → ⊥) × (stream ≡ Error) × (text ≡ []) × (status ≡ RefusedWords))

@@ -1,0 +1,89 @@
+//! What the program does: what its words ask for, with its files.
+ghost use Rattle.std.specs.Prelude.{◌≡◌, map, option_map, string_bytes};
+ghost use Rattle.std.specs.Option.{option_copied};
+ghost use Rattle.bmc_lab.specs.Ending.{RunEnds};
+ghost use Rattle.bmc_host.specs.Run.{SaysOfLine, SaysOfWords};
+
+use crate::words::{FrameWords, PlayWords, Words, read};
+use bmc_lab::{Console, Ending, TextFiles, frame_of_file};
+use bmc_play::{PlayFiles, play_of_files};
+use std::alloc::Global;
+use std::io;
+
+/// The word, where there is one.
+fn word_of(word: &Option<String>) -> Option<&str>
+    ensures { option_copied result ≡ option_map string_bytes word.now }
+{
+    match word {
+        Some(word) => Some(word.as_str()),
+        None => None,
+    }
+}
+
+/// Sends the frame that the words ask for.
+fn send<F: TextFiles, W: io::Write, E: io::Write>(
+    alloc: Global,
+    files: &F,
+    words: &FrameWords,
+    console: &mut Console<W, E>,
+) -> u8
+    ensures { RunEnds W.contents E.contents (SaysOfWords (F.gives files.now) (Words.Frame words.now)) console.old console.new result }
+{
+    let frame = &words.frame;
+    frame_of_file(
+        alloc,
+        files,
+        frame.bus,
+        word_of(&words.board),
+        frame.bytes.as_slice(),
+        console,
+    )
+}
+
+/// Plays what the words ask for.
+fn play<F: TextFiles, W: io::Write, E: io::Write>(
+    alloc: Global,
+    files: &F,
+    words: &PlayWords,
+    console: &mut Console<W, E>,
+) -> u8
+    ensures { RunEnds W.contents E.contents (SaysOfWords (F.gives files.now) (Words.Play words.now)) console.old console.new result }
+{
+    let named = PlayFiles {
+        board: words.board.as_str(),
+        plan: words.plan.as_str(),
+        schedule: words.schedule.as_str(),
+    };
+    play_of_files(alloc, files, words.shown, named, console)
+}
+
+/// Does what the words ask for.
+fn carry_out<F: TextFiles, W: io::Write, E: io::Write>(
+    alloc: Global,
+    files: &F,
+    words: &Words,
+    console: &mut Console<W, E>,
+) -> u8
+    ensures { RunEnds W.contents E.contents (SaysOfWords (F.gives files.now) words.now) console.old console.new result }
+{
+    match words {
+        Words::Frame(words) => send(alloc, files, words, console),
+        Words::Play(words) => play(alloc, files, words, console),
+    }
+}
+
+/// Does what the words of a command line ask for, the program's own name first among them, with these files: what `frame_of_file` or
+/// `play_of_files` does. Where they ask for nothing it reads no file and writes nothing, and the status is 2.
+pub fn run_line<F: TextFiles, W: io::Write, E: io::Write>(
+    alloc: Global,
+    files: &F,
+    words: &[String],
+    console: &mut Console<W, E>,
+) -> u8
+    ensures { RunEnds W.contents E.contents (SaysOfLine (F.gives files.now) (map string_bytes words.now)) console.old console.new result }
+{
+    match read(alloc, words) {
+        Ok(asked) => carry_out(alloc, files, &asked, console),
+        Err(status) => u8::from(Ending::without_report(status).write(console)),
+    }
+}
