@@ -1,4 +1,4 @@
-//! What the host gives the program: the words of its command line, and its files.
+//! The program but its `main`: the words of its command line, the files of the host, and what it does with both.
 #![tactic(auto)]
 
 pub mod file;

@@ -1,4 +1,6 @@
-//! The words of the command line, as the program gets them, and the files of the host.
+//! The words of the command line, as the program gets them, the files of the host, and what runs write.
+mod lines;
+
 use crate::file::HostFiles;
 use crate::words::{FrameWords, PlayWords, Words, read};
 use bmc_lab::{Status, TextFiles, Unreadable};
@@ -8,12 +10,18 @@ use std::fs;
 use std::test::Fail;
 use two_wire::Bus;
 
-/// What the words ask for that follow the program's name.
-fn named(alloc: Global, words: &[&str]) -> Result<Result<Words, Status>, AllocError> {
+/// The program's name, and these words.
+fn line_of(alloc: Global, words: &[&str]) -> Result<Vec<String>, AllocError> {
     let mut line = vec![in alloc; String::from_str(alloc, "bmclab")?]?;
     for word in words {
         line.push(String::from_str(alloc, *word)?)?;
     }
+    Ok(line)
+}
+
+/// What the words ask for that follow the program's name.
+fn named(alloc: Global, words: &[&str]) -> Result<Result<Words, Status>, AllocError> {
+    let line = line_of(alloc, words)?;
     Ok(read(alloc, line.as_slice()))
 }
 
