@@ -1,6 +1,5 @@
 //! What the program does: what its words ask for, with its files.
-ghost use Rattle.std.specs.Prelude.{◌≡◌, map, option_map, string_bytes};
-ghost use Rattle.std.specs.Option.{option_copied};
+ghost use Rattle.std.specs.Prelude.{map, string_bytes};
 ghost use Rattle.bmc_lab.specs.Ending.{RunEnds};
 ghost use Rattle.bmc_host.specs.Run.{SaysOfLine, SaysOfWords};
 
@@ -9,16 +8,6 @@ use bmc_lab::{Console, Ending, TextFiles, frame_of_file};
 use bmc_play::{PlayFiles, play_of_files};
 use std::alloc::Global;
 use std::io;
-
-/// The word, where there is one.
-fn word_of(word: &Option<String>) -> Option<&str>
-    ensures { option_copied result ≡ option_map string_bytes word.now }
-{
-    match word {
-        Some(word) => Some(word.as_str()),
-        None => None,
-    }
-}
 
 /// Sends the frame that the words ask for.
 fn send<F: TextFiles, W: io::Write, E: io::Write>(
@@ -34,7 +23,7 @@ fn send<F: TextFiles, W: io::Write, E: io::Write>(
         alloc,
         files,
         frame.bus,
-        word_of(&words.board),
+        words.board.as_deref(),
         frame.bytes.as_slice(),
         console,
     )
