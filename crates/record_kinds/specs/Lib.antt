@@ -1,3 +1,5 @@
+pub mod Own
+pub mod OwnLaws
 pub mod Limits
 pub mod LimitsLaws
 pub mod LimitsKind

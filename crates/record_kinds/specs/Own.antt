@@ -1,0 +1,22 @@
+-- An operation, and the limits of a record, each with the kind of which it is.
+use Rattle.cfg_records.specs.declared.key.Key.{Key}
+use Rattle.cfg_records.specs.declared.op.Op.{Op}
+use Rattle.cfg_records.specs.Kind.{RecordWords}
+use Rattle.cfg_records.specs.AllKinds.{OpWords}
+use Rattle.cfg_records.specs.Member.{Member, op_words_of, record_words_of}
+
+-- a kind, and an operation of it
+pub data OwnOp : Type 1 where
+  op_of : {K O L : Type 0} → Member K O L → O → OwnOp
+
+-- a kind, and the limits of a record of it
+pub data OwnLimits : Type 1 where
+  limits_of : {K O L : Type 0} → Member K O L → L → OwnLimits
+
+-- what its kind says of the operation
+abbrev pub words_of : OwnOp → OpWords
+words_of (op_of member own) = op_words_of member own
+
+-- what its kind says of a record with these limits, spoken of any key and any operation
+abbrev pub record_words_in : OwnLimits → RecordWords Key Op
+record_words_in (limits_of member own) = record_words_of member own
