@@ -20,6 +20,7 @@ use Rattle.cfg_records.specs.declared.attribute.Attribute.{Attribute}
 use Rattle.cfg_records.specs.Attribute.{attribute_value}
 use Rattle.cfg_records.specs.AttributeLaws.{begins_long}
 use Rattle.cfg_records.specs.Keys.{is_length}
+use Rattle.cfg_records.specs.Index.{slot}
 use Rattle.cfg_records.specs.KeyLaws.{exact_key}
 use Rattle.cfg_records.specs.Distinct.{NamesDiffer}
 use Rattle.cfg_records.specs.Records.{Pair, key_in, value_of, records_of, KeysDiffer, LengthsFit}
@@ -37,11 +38,13 @@ store_place NonVolatile = 7
 store_place Volatile = 8
 store_place Neither = 8
 
+-- the place of a sensor's record: its table's, since those come first, and in the order of the tables
+abbrev pub sensor_place : Option (ℕ × ℕ) → ℕ
+sensor_place (Some at) = at.0
+sensor_place None = 0
+
 -- the place of a kind among the pairs of a file
 abbrev pub place_of : Key → ℕ
-place_of (key.Thresholds sensor) = 0
-place_of (key.Hysteresis sensor) = 1
-place_of (key.EventEnable sensor) = 2
 place_of (key.NumericEffecter id) = 3
 place_of (key.StateEffecter id) = 4
 place_of (key.UserName user) = 5
@@ -54,6 +57,7 @@ place_of (key.BootParam ValidBitClearing) = 12
 place_of (key.BootParam InfoAcknowledge) = 13
 place_of (key.BootParam Flags) = 14
 place_of (key.BiosAttribute handle) = 15
+place_of sensors = sensor_place (slot sensors)
 
 -- the pairs of the kind at a place
 abbrev pub pairs_at : BoardFile → ℕ → List Pair

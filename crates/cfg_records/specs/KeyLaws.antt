@@ -1,5 +1,5 @@
 -- Keys that compare alike are one.
-use Rattle.std.proofs.Common.{◌≡◌, true, refl, ap, nat_cmp}
+use Rattle.std.proofs.Common.{◌≡◌, ℕ, true, refl, ap, nat_cmp, arith}
 use Rattle.std.specs.Ordering.{is_eq, ordering_then}
 use Rattle.std.proofs.lemmas.Map.Lookups.{exact_unsigned}
 use Rattle.std.specs.Cmp.{IsTotalOrder, eq_by_cmp_equiv}
@@ -66,24 +66,22 @@ stores_of c d s t p q i = stored (p i) (q i)
 exact_stored : (a b : StoredAccess) → is_eq (ordering_then (nat_cmp a.channel.number b.channel.number) (store_cmp a.store b.store)) ≡ true → a ≡ b
 exact_stored a b h = let parts = then_equal _ _ h in stores_of a.channel b.channel a.store b.store (exact_channel _ _ parts.0) (exact_store _ _ parts.1)
 
--- keys that compare alike are one
+-- numbers that compare alike are one
+exact_number : (a b : ℕ) → is_eq (nat_cmp a b) ≡ true → a ≡ b
+exact_number a b h = exact_unsigned a b (equal_from_is_eq _ h)
+
+-- keys that compare alike are one: a line for each kind whose records have no number, or more than a number, for a name
 pub exact_key : (a b : Key) → same_key a b ≡ true → a ≡ b
-exact_key (key.Thresholds a) (key.Thresholds b) h = ap key.Thresholds (exact_unsigned a b (equal_from_is_eq _ h))
-exact_key (key.Hysteresis a) (key.Hysteresis b) h = ap key.Hysteresis (exact_unsigned a b (equal_from_is_eq _ h))
-exact_key (key.EventEnable a) (key.EventEnable b) h = ap key.EventEnable (exact_unsigned a b (equal_from_is_eq _ h))
-exact_key key.PowerPolicy key.PowerPolicy h = refl
-exact_key key.Watchdog key.Watchdog h = refl
-exact_key key.GlobalEnables key.GlobalEnables h = refl
 exact_key (key.BootParam ValidBitClearing) (key.BootParam ValidBitClearing) h = refl
 exact_key (key.BootParam InfoAcknowledge) (key.BootParam InfoAcknowledge) h = refl
 exact_key (key.BootParam Flags) (key.BootParam Flags) h = refl
-exact_key (key.NumericEffecter a) (key.NumericEffecter b) h = ap key.NumericEffecter (exact_unsigned a b (equal_from_is_eq _ h))
-exact_key (key.StateEffecter a) (key.StateEffecter b) h = ap key.StateEffecter (exact_unsigned a b (equal_from_is_eq _ h))
 exact_key (key.UserName a) (key.UserName b) h = ap key.UserName (exact_user a b h)
 exact_key (key.UserAccess a) (key.UserAccess b) h = ap key.UserAccess (exact_user_on a b h)
 exact_key (key.ChannelAccess a) (key.ChannelAccess b) h = ap key.ChannelAccess (exact_stored a b h)
-exact_key (key.BiosAttribute a) (key.BiosAttribute b) h = ap key.BiosAttribute (exact_unsigned a b (equal_from_is_eq _ h))
-exact_key _ _ h = cc
+exact_key key.PowerPolicy key.PowerPolicy h = refl
+exact_key key.Watchdog key.Watchdog h = refl
+exact_key key.GlobalEnables key.GlobalEnables h = refl
+exact_key _ _ h = grind (arith, exact_number)
 
 -- a key compares alike with itself
 pub same_key_self : (k : Key) → same_key k k ≡ true
