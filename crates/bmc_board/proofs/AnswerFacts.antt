@@ -105,21 +105,15 @@ of_item None to limits key e of = cc
 of_alone : (own limits : Limits) (key : Key) → (let s : Option Limits = Some own in s) ≡ Some limits → is_of own key → is_of limits key
 of_alone own limits key e of = let same : own ≡ limits = cc in subst (λ (l : Limits). is_of l key) same of
 
+-- so of each kind, of which most have limits that say nothing of the key
 pub limits_are_of : (file : BoardFile) (key : Key) (limits : Limits) → limits_at file key ≡ Some limits → is_of limits key
-limits_are_of file (key.Thresholds number) limits e = of_item (sensor_at file.sensors.items number) (λ s. kinds.Thresholds (record { masks = s.thresholds.masks })) limits (key.Thresholds number) e (λ s. tt)
-limits_are_of file (key.Hysteresis number) limits e = of_item (sensor_at file.sensors.items number) (λ s. kinds.Hysteresis (record {})) limits (key.Hysteresis number) e (λ s. tt)
-limits_are_of file (key.EventEnable number) limits e = of_item (sensor_at file.sensors.items number) (λ s. kinds.EventEnable (record { supported = s.events.supported })) limits (key.EventEnable number) e (λ s. tt)
 limits_are_of file key.PowerPolicy limits e = of_alone (kinds.PowerPolicy (record {})) limits key.PowerPolicy e tt
 limits_are_of file key.Watchdog limits e = of_alone (kinds.Watchdog (record {})) limits key.Watchdog e tt
-limits_are_of file (key.BootParam parameter) limits e = of_alone (kinds.BootParam (record { parameter = parameter })) limits (key.BootParam parameter) e (same_self parameter)
 limits_are_of file key.GlobalEnables limits e = of_alone (kinds.GlobalEnables (record {})) limits key.GlobalEnables e tt
-limits_are_of file (key.UserName user) limits e = of_item (user_at file.users.items user.number) (λ u. kinds.UserName (record {})) limits (key.UserName user) e (λ u. tt)
-limits_are_of file (key.UserAccess on) limits e = of_item (access_at file.user_accesses.items on) (λ a. kinds.UserAccess (record { user = on.user; most = length file.users.items })) limits (key.UserAccess on) e (λ a. tt)
-limits_are_of file (key.ChannelAccess at) limits e = of_item (stored_at file at) (λ c. kinds.ChannelAccess (record {})) limits (key.ChannelAccess at) e (λ c. tt)
-limits_are_of file (key.NumericEffecter id) limits e = of_item (numeric_at file.numeric_effecters.items id) (λ x. kinds.NumericEffecter (record { enabled = x.enabled; range = x.range })) limits (key.NumericEffecter id) e (λ x. tt)
-limits_are_of file (key.StateEffecter id) limits e = of_item (state_at file.state_effecters.items id) kinds.StateEffecter limits (key.StateEffecter id) e (λ x. tt)
+limits_are_of file (key.BootParam parameter) limits e = of_alone (kinds.BootParam (record { parameter = parameter })) limits (key.BootParam parameter) e (same_self parameter)
 limits_are_of file (key.BiosAttribute handle) limits e =
     of_item (attribute_at file.attributes.items handle) (λ x. kinds.BiosAttribute (record { handle = handle; read_only = x.read_only; range = range_of x.kind })) limits (key.BiosAttribute handle) e (λ x. refl)
+limits_are_of file other limits e = of_item _ _ limits other e (λ x. tt)
 
 -- ---- its data fits the frame or message that carries it, and each record keeps a valid value
 
