@@ -7,36 +7,20 @@ use Rattle.cfg_records.specs.declared.key.Key.{Key}
 use Rattle.cfg_records.specs.declared.key.Key.TheVariants as key
 use Rattle.cfg_records.specs.declared.op.Op.{Op}
 use Rattle.cfg_records.specs.declared.op.Op.TheVariants as op
-use Rattle.cfg_records.specs.Requests.{byte_at}
-use Rattle.sensor_recs.specs.Thresholds.{thresholds_in}
-use Rattle.sensor_recs.specs.Hysteresis.{hysteresis_in}
-use Rattle.sensor_recs.specs.EventEnable.{event_enable_in}
-use Rattle.watch_boot.specs.PowerPolicy.{policy_in}
-use Rattle.watch_boot.specs.Watchdog.{watchdog_in}
-use Rattle.watch_boot.specs.GlobalEnables.{enables_in}
 use Rattle.watch_boot.specs.declared.boot_request.BootRequest.{BootRequest}
 use Rattle.watch_boot.specs.declared.boot_request.BootRequest.TheVariants.{Progress, Param}
 use Rattle.watch_boot.specs.declared.boot_request.BootShown.{BootShown}
 use Rattle.watch_boot.specs.declared.boot_request.BootShown.TheVariants as shown
 use Rattle.watch_boot.specs.BootRequests.{boot_request_in, boot_shown_in}
-use Rattle.effecter_recs.specs.Requests.{id_in}
-use Rattle.effecter_recs.specs.Numeric.{numeric_effecter_in}
-use Rattle.effecter_recs.specs.State.{state_effecter_in}
 use Rattle.cfg_records.specs.declared.channel.SetChannelAccess.{SetChannelAccess}
-use Rattle.cfg_records.specs.Numbers.{user_in, user_on}
-use Rattle.user_chan.specs.UserNames.{name_in}
-use Rattle.user_chan.specs.UserAccess.{access_in}
 use Rattle.user_chan.specs.declared.channel_request.ChannelRequest.{ChannelRequest}
 use Rattle.user_chan.specs.declared.channel_request.ChannelRequest.TheVariants.{Leave, One, Two}
 use Rattle.user_chan.specs.ChannelRequests.{stored_in, channel_request_in}
 use Rattle.cfg_records.specs.declared.bios_attribute.SetBiosAttribute.{SetBiosAttribute}
 use Rattle.bios_attr.specs.BiosAttribute.{attribute_in, attribute_shown_in}
+use Rattle.record_kinds.specs.Limits.{reader_of}
 use Rattle.bmc_board.specs.declared.command.Command.{Command}
 use Rattle.bmc_board.specs.declared.command.Command.TheVariants as command
-use Rattle.bmc_board.specs.declared.command.GetCommand.{GetCommand}
-use Rattle.bmc_board.specs.declared.command.GetCommand.TheVariants as get
-use Rattle.bmc_board.specs.declared.command.SetCommand.{SetCommand}
-use Rattle.bmc_board.specs.declared.command.SetCommand.TheVariants as set
 use Rattle.bmc_board.specs.declared.command.Line.{Line}
 use Rattle.bmc_board.specs.declared.live.LiveCommand.{LiveCommand}
 use Rattle.bmc_board.specs.declared.live.LiveCommand.TheVariants as live
@@ -50,33 +34,6 @@ pub data Request : Type 0 where
   Get : Key → Request
   Set : Op → Request
   SetStores : SetChannelAccess → SetChannelAccess → Request
-
--- the record that a command shows
-abbrev pub key_in : GetCommand → List ℕ → Key
-key_in get.GetSensorHysteresis body = key.Hysteresis (byte_at body 0)
-key_in get.GetSensorThresholds body = key.Thresholds (byte_at body 0)
-key_in get.GetSensorEventEnable body = key.EventEnable (byte_at body 0)
-key_in get.GetChassisStatus body = key.PowerPolicy
-key_in get.GetWatchdogTimer body = key.Watchdog
-key_in get.GetGlobalEnables body = key.GlobalEnables
-key_in get.GetNumericEffecterValue body = key.NumericEffecter (id_in body)
-key_in get.GetStateEffecterStates body = key.StateEffecter (id_in body)
-key_in get.GetUserName body = key.UserName (user_in (byte_at body 0))
-key_in get.GetUserAccess body = key.UserAccess (user_on (byte_at body 0) (byte_at body 1))
-key_in get.GetChannelAccess body = key.ChannelAccess (stored_in body)
-
--- the change that a command makes
-abbrev pub op_in : SetCommand → List ℕ → Op
-op_in set.SetSensorHysteresis body = op.Hysteresis (hysteresis_in body)
-op_in set.SetSensorThresholds body = op.Thresholds (thresholds_in body)
-op_in set.SetSensorEventEnable body = op.EventEnable (event_enable_in body)
-op_in set.SetPowerRestorePolicy body = op.PowerPolicy (policy_in body)
-op_in set.SetWatchdogTimer body = op.Watchdog (watchdog_in body)
-op_in set.SetGlobalEnables body = op.GlobalEnables (enables_in body)
-op_in set.SetNumericEffecterValue body = op.NumericEffecter (numeric_effecter_in body)
-op_in set.SetStateEffecterStates body = op.StateEffecter (state_effecter_in body)
-op_in set.SetUserName body = op.UserName (name_in body)
-op_in set.SetUserAccess body = op.UserAccess (access_in body)
 
 -- what the commands of the system boot options ask for: a live command on parameter 0 has its byte, and no further data
 abbrev pub boot_set : Result BootRequest ℕ → Result Request ℕ
@@ -107,11 +64,12 @@ attribute_get (Err code) = Err code
 -- what a command asks for with data of a length that it takes, or the code that refuses the data
 abbrev pub request_of : Command → List ℕ → Result Request ℕ
 request_of (command.Live command) body = Ok (Live command body)
-request_of (command.Get get) body = Ok (Get (key_in get body))
-request_of (command.Set set) body = Ok (Set (op_in set body))
+request_of (command.Get kind) body = Ok (Get ((reader_of kind).key_in body))
+request_of (command.Set kind) body = Ok (Set ((reader_of kind).op_in body))
 request_of command.SetBootOptions body = boot_set (boot_request_in body)
 request_of command.GetBootOptions body = boot_get (boot_shown_in body)
 request_of command.SetChannelAccess body = Ok (channel_asked (channel_request_in body))
+request_of command.GetChannelAccess body = Ok (Get (key.ChannelAccess (stored_in body)))
 request_of command.SetBiosAttribute body = attribute_set (attribute_in body)
 request_of command.GetBiosAttribute body = attribute_get (attribute_shown_in body)
 

@@ -5,8 +5,7 @@ use Rattle.cfg_records.specs.declared.message.Asked.TheVariants.{Ipmi, Pldm}
 use Rattle.cfg_records.specs.Requests.{byte_at}
 use Rattle.bmc_board.specs.declared.command.Command.{Command}
 use Rattle.bmc_board.specs.declared.command.Command.TheVariants as command
-use Rattle.bmc_board.specs.declared.command.GetCommand.TheVariants as get
-use Rattle.bmc_board.specs.declared.command.SetCommand.TheVariants as set
+use Rattle.record_kinds.specs.declared.kind.PlainKind.TheVariants as kind
 use Rattle.bmc_board.specs.declared.command.Lengths.{Lengths}
 use Rattle.bmc_board.specs.declared.command.Lengths.TheVariants.{Exactly, Between, AtLeast, OneOf, PairsCountedAt}
 use Rattle.bmc_board.specs.declared.command.Line.{Line}
@@ -21,33 +20,35 @@ pub record Listed : Type 0 where
 abbrev pub listed : ℕ → ℕ → Lengths → Bool → Command → Listed
 listed group number lengths changing command = record { group = group; number = number; line = record { command = command; lengths = lengths; changing = changing } }
 
+-- The commands on the power policy are Get Chassis Status and Set Power Restore Policy. Each other kind's have the kind's name in their own.
+
 -- IPMI: network function, number, lengths, whether it sets the configuration, command
 abbrev pub table : List Listed
 table =
-    listed 0x00 0x01 (Exactly 0) false (command.Get get.GetChassisStatus) ∷
-    listed 0x00 0x06 (Exactly 1) true (command.Set set.SetPowerRestorePolicy) ∷
+    listed 0x00 0x01 (Exactly 0) false (command.Get kind.PowerPolicy) ∷
+    listed 0x00 0x06 (Exactly 1) true (command.Set kind.PowerPolicy) ∷
     listed 0x00 0x08 (AtLeast 1) true command.SetBootOptions ∷
     listed 0x00 0x09 (Exactly 3) false command.GetBootOptions ∷
-    listed 0x04 0x24 (Exactly 4) true (command.Set set.SetSensorHysteresis) ∷
-    listed 0x04 0x25 (Exactly 2) false (command.Get get.GetSensorHysteresis) ∷
-    listed 0x04 0x26 (Exactly 8) true (command.Set set.SetSensorThresholds) ∷
-    listed 0x04 0x27 (Exactly 1) false (command.Get get.GetSensorThresholds) ∷
-    listed 0x04 0x28 (Between 2 6) true (command.Set set.SetSensorEventEnable) ∷
-    listed 0x04 0x29 (Exactly 1) false (command.Get get.GetSensorEventEnable) ∷
+    listed 0x04 0x24 (Exactly 4) true (command.Set kind.Hysteresis) ∷
+    listed 0x04 0x25 (Exactly 2) false (command.Get kind.Hysteresis) ∷
+    listed 0x04 0x26 (Exactly 8) true (command.Set kind.Thresholds) ∷
+    listed 0x04 0x27 (Exactly 1) false (command.Get kind.Thresholds) ∷
+    listed 0x04 0x28 (Between 2 6) true (command.Set kind.EventEnable) ∷
+    listed 0x04 0x29 (Exactly 1) false (command.Get kind.EventEnable) ∷
     listed 0x04 0x2D (Exactly 1) false (command.Live live.GetSensorReading) ∷
     listed 0x06 0x01 (Exactly 0) false (command.Live live.GetDeviceId) ∷
     listed 0x06 0x04 (Exactly 0) false (command.Live live.GetSelfTestResults) ∷
     listed 0x06 0x22 (Exactly 0) false (command.Live live.ResetWatchdog) ∷
-    listed 0x06 0x24 (Exactly 6) true (command.Set set.SetWatchdogTimer) ∷
-    listed 0x06 0x25 (Exactly 0) false (command.Get get.GetWatchdogTimer) ∷
-    listed 0x06 0x2E (Exactly 1) true (command.Set set.SetGlobalEnables) ∷
-    listed 0x06 0x2F (Exactly 0) false (command.Get get.GetGlobalEnables) ∷
+    listed 0x06 0x24 (Exactly 6) true (command.Set kind.Watchdog) ∷
+    listed 0x06 0x25 (Exactly 0) false (command.Get kind.Watchdog) ∷
+    listed 0x06 0x2E (Exactly 1) true (command.Set kind.GlobalEnables) ∷
+    listed 0x06 0x2F (Exactly 0) false (command.Get kind.GlobalEnables) ∷
     listed 0x06 0x40 (Exactly 3) true command.SetChannelAccess ∷
-    listed 0x06 0x41 (Exactly 2) false (command.Get get.GetChannelAccess) ∷
-    listed 0x06 0x43 (Between 3 4) true (command.Set set.SetUserAccess) ∷
-    listed 0x06 0x44 (Exactly 2) false (command.Get get.GetUserAccess) ∷
-    listed 0x06 0x45 (Exactly 17) true (command.Set set.SetUserName) ∷
-    listed 0x06 0x46 (Exactly 1) false (command.Get get.GetUserName) ∷
+    listed 0x06 0x41 (Exactly 2) false command.GetChannelAccess ∷
+    listed 0x06 0x43 (Between 3 4) true (command.Set kind.UserAccess) ∷
+    listed 0x06 0x44 (Exactly 2) false (command.Get kind.UserAccess) ∷
+    listed 0x06 0x45 (Exactly 17) true (command.Set kind.UserName) ∷
+    listed 0x06 0x46 (Exactly 1) false (command.Get kind.UserName) ∷
     listed 0x06 0x47 (OneOf 2 18 22) false (command.Live live.SetUserPassword) ∷
     listed 0x0A 0x20 (Exactly 0) false (command.Live live.GetSdrRepositoryInfo) ∷
     listed 0x0A 0x22 (Exactly 0) false (command.Live live.ReserveSdrRepository) ∷
@@ -66,10 +67,10 @@ abbrev pub pldm_table : List Listed
 pldm_table =
     listed 0x00 0x02 (Exactly 0) false (command.Live live.GetTid) ∷
     listed 0x00 0x04 (Exactly 0) false (command.Live live.GetPldmTypes) ∷
-    listed 0x02 0x31 (AtLeast 4) true (command.Set set.SetNumericEffecterValue) ∷
-    listed 0x02 0x32 (Exactly 2) false (command.Get get.GetNumericEffecterValue) ∷
-    listed 0x02 0x39 (PairsCountedAt 2) true (command.Set set.SetStateEffecterStates) ∷
-    listed 0x02 0x3A (Exactly 2) false (command.Get get.GetStateEffecterStates) ∷
+    listed 0x02 0x31 (AtLeast 4) true (command.Set kind.NumericEffecter) ∷
+    listed 0x02 0x32 (Exactly 2) false (command.Get kind.NumericEffecter) ∷
+    listed 0x02 0x39 (PairsCountedAt 2) true (command.Set kind.StateEffecter) ∷
+    listed 0x02 0x3A (Exactly 2) false (command.Get kind.StateEffecter) ∷
     listed 0x03 0x01 (Exactly 6) false (command.Live live.GetBiosTable) ∷
     listed 0x03 0x07 (AtLeast 8) true command.SetBiosAttribute ∷
     listed 0x03 0x08 (Exactly 7) false command.GetBiosAttribute ∷

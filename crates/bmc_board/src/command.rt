@@ -4,57 +4,29 @@ ghost use Rattle.bmc_board.specs.Table.{line_of, pldm_line_of, allow, is_changin
 
 use crate::live::LiveCommand;
 use cfg_records::{Asked, byte_at};
+use record_kinds::PlainKind;
 
 /// A command of the tables.
 #[derive(Clone, Copy, Debug, PartialEq, Eq)]
 pub enum Command {
     /// A command that asks for no record.
     Live(LiveCommand),
-    /// A command that shows a record.
-    Get(GetCommand),
-    /// A command that changes a record.
-    Set(SetCommand),
+    /// The command that shows a record of the kind.
+    Get(PlainKind),
+    /// The command that changes a record of the kind.
+    Set(PlainKind),
     /// Set System Boot Options: it sets parameter 0, or a record.
     SetBootOptions,
     /// Get System Boot Options: it shows parameter 0, or a record.
     GetBootOptions,
     /// Set Channel Access: it sets one record, two or none.
     SetChannelAccess,
+    /// Get Channel Access: it shows a record.
+    GetChannelAccess,
     /// SetBIOSAttributeCurrentValue: it sets a record, where its data are whole.
     SetBiosAttribute,
     /// GetBIOSAttributeCurrentValueByHandle: it shows a record, where its first part is asked for.
     GetBiosAttribute,
-}
-
-/// A command that shows a record.
-#[derive(Clone, Copy, Debug, PartialEq, Eq)]
-pub enum GetCommand {
-    GetSensorHysteresis,
-    GetSensorEventEnable,
-    GetSensorThresholds,
-    GetChassisStatus,
-    GetWatchdogTimer,
-    GetGlobalEnables,
-    GetNumericEffecterValue,
-    GetStateEffecterStates,
-    GetUserName,
-    GetUserAccess,
-    GetChannelAccess,
-}
-
-/// A command that changes a record.
-#[derive(Clone, Copy, Debug, PartialEq, Eq)]
-pub enum SetCommand {
-    SetSensorHysteresis,
-    SetSensorEventEnable,
-    SetSensorThresholds,
-    SetPowerRestorePolicy,
-    SetWatchdogTimer,
-    SetGlobalEnables,
-    SetNumericEffecterValue,
-    SetStateEffecterStates,
-    SetUserName,
-    SetUserAccess,
 }
 
 /// How many bytes of data a command takes.
@@ -113,35 +85,34 @@ pub fn line_of(net_fn: u8, number: u8) -> Option<Line>
     ensures { result ≡ line_of net_fn number }
 {
     use Command::*;
-    use GetCommand::*;
     use Lengths::*;
     use LiveCommand::*;
-    use SetCommand::*;
+    use PlainKind::*;
     Some(match (net_fn, number) {
-        (0x00, 0x01) => entry(Get(GetChassisStatus), Exactly(0), false),
-        (0x00, 0x06) => entry(Set(SetPowerRestorePolicy), Exactly(1), true),
+        (0x00, 0x01) => entry(Get(PowerPolicy), Exactly(0), false),
+        (0x00, 0x06) => entry(Set(PowerPolicy), Exactly(1), true),
         (0x00, 0x08) => entry(SetBootOptions, AtLeast(1), true),
         (0x00, 0x09) => entry(GetBootOptions, Exactly(3), false),
-        (0x04, 0x24) => entry(Set(SetSensorHysteresis), Exactly(4), true),
-        (0x04, 0x25) => entry(Get(GetSensorHysteresis), Exactly(2), false),
-        (0x04, 0x26) => entry(Set(SetSensorThresholds), Exactly(8), true),
-        (0x04, 0x27) => entry(Get(GetSensorThresholds), Exactly(1), false),
-        (0x04, 0x28) => entry(Set(SetSensorEventEnable), Between(2, 6), true),
-        (0x04, 0x29) => entry(Get(GetSensorEventEnable), Exactly(1), false),
+        (0x04, 0x24) => entry(Set(Hysteresis), Exactly(4), true),
+        (0x04, 0x25) => entry(Get(Hysteresis), Exactly(2), false),
+        (0x04, 0x26) => entry(Set(Thresholds), Exactly(8), true),
+        (0x04, 0x27) => entry(Get(Thresholds), Exactly(1), false),
+        (0x04, 0x28) => entry(Set(EventEnable), Between(2, 6), true),
+        (0x04, 0x29) => entry(Get(EventEnable), Exactly(1), false),
         (0x04, 0x2D) => entry(Live(GetSensorReading), Exactly(1), false),
         (0x06, 0x01) => entry(Live(GetDeviceId), Exactly(0), false),
         (0x06, 0x04) => entry(Live(GetSelfTestResults), Exactly(0), false),
         (0x06, 0x22) => entry(Live(ResetWatchdog), Exactly(0), false),
-        (0x06, 0x24) => entry(Set(SetWatchdogTimer), Exactly(6), true),
-        (0x06, 0x25) => entry(Get(GetWatchdogTimer), Exactly(0), false),
-        (0x06, 0x2E) => entry(Set(SetGlobalEnables), Exactly(1), true),
-        (0x06, 0x2F) => entry(Get(GetGlobalEnables), Exactly(0), false),
+        (0x06, 0x24) => entry(Set(Watchdog), Exactly(6), true),
+        (0x06, 0x25) => entry(Get(Watchdog), Exactly(0), false),
+        (0x06, 0x2E) => entry(Set(GlobalEnables), Exactly(1), true),
+        (0x06, 0x2F) => entry(Get(GlobalEnables), Exactly(0), false),
         (0x06, 0x40) => entry(SetChannelAccess, Exactly(3), true),
-        (0x06, 0x41) => entry(Get(GetChannelAccess), Exactly(2), false),
-        (0x06, 0x43) => entry(Set(SetUserAccess), Between(3, 4), true),
-        (0x06, 0x44) => entry(Get(GetUserAccess), Exactly(2), false),
-        (0x06, 0x45) => entry(Set(SetUserName), Exactly(17), true),
-        (0x06, 0x46) => entry(Get(GetUserName), Exactly(1), false),
+        (0x06, 0x41) => entry(GetChannelAccess, Exactly(2), false),
+        (0x06, 0x43) => entry(Set(UserAccess), Between(3, 4), true),
+        (0x06, 0x44) => entry(Get(UserAccess), Exactly(2), false),
+        (0x06, 0x45) => entry(Set(UserName), Exactly(17), true),
+        (0x06, 0x46) => entry(Get(UserName), Exactly(1), false),
         (0x06, 0x47) => entry(Live(SetUserPassword), OneOf(2, 18, 22), false),
         (0x0A, 0x20) => entry(Live(GetSdrRepositoryInfo), Exactly(0), false),
         (0x0A, 0x22) => entry(Live(ReserveSdrRepository), Exactly(0), false),
@@ -162,17 +133,16 @@ pub fn pldm_line_of(kind: u8, number: u8) -> Option<Line>
     ensures { result ≡ pldm_line_of kind number }
 {
     use Command::*;
-    use GetCommand::*;
     use Lengths::*;
     use LiveCommand::*;
-    use SetCommand::*;
+    use PlainKind::*;
     Some(match (kind, number) {
         (0x00, 0x02) => entry(Live(GetTid), Exactly(0), false),
         (0x00, 0x04) => entry(Live(GetPldmTypes), Exactly(0), false),
-        (0x02, 0x31) => entry(Set(SetNumericEffecterValue), AtLeast(4), true),
-        (0x02, 0x32) => entry(Get(GetNumericEffecterValue), Exactly(2), false),
-        (0x02, 0x39) => entry(Set(SetStateEffecterStates), PairsCountedAt(2), true),
-        (0x02, 0x3A) => entry(Get(GetStateEffecterStates), Exactly(2), false),
+        (0x02, 0x31) => entry(Set(NumericEffecter), AtLeast(4), true),
+        (0x02, 0x32) => entry(Get(NumericEffecter), Exactly(2), false),
+        (0x02, 0x39) => entry(Set(StateEffecter), PairsCountedAt(2), true),
+        (0x02, 0x3A) => entry(Get(StateEffecter), Exactly(2), false),
         (0x03, 0x01) => entry(Live(GetBiosTable), Exactly(6), false),
         (0x03, 0x07) => entry(SetBiosAttribute, AtLeast(8), true),
         (0x03, 0x08) => entry(GetBiosAttribute, Exactly(7), false),

@@ -31,6 +31,7 @@ pub mod Kind
 pub mod AllKinds
 pub mod AllKindsLaws
 pub mod Member
+pub mod Reader
 pub mod MemberLaws
 pub mod Records
 pub mod Places

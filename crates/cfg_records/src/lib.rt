@@ -10,6 +10,7 @@ pub mod bios_attribute;
 pub mod board_file;
 pub mod boot_param;
 pub mod channel;
+pub mod command_reader;
 pub mod device;
 pub mod distinct;
 pub mod event_enable;
@@ -35,7 +36,6 @@ pub mod sample;
 pub mod sdr_record;
 pub mod sensor;
 pub mod sensor_thresholds;
-pub mod set_reader;
 pub mod state_effecter;
 pub mod store;
 pub mod thresholds;
@@ -56,6 +56,7 @@ pub use channel::{
     AccessStore, Channel, ChannelAccess, ChannelChange, ChannelNumber, Channels,
     SessionlessChannels, SetChannelAccess, SixBits, StoredAccess,
 };
+pub use command_reader::CommandReader;
 pub use device::{Bcd, Device, ManufacturerId};
 pub use distinct::{Distinct, Numbered};
 pub use event_enable::{EventChange, EventEnable, EventMasks, SetEventEnable};
@@ -78,7 +79,6 @@ pub use sample::sample_board;
 pub use sdr_record::{SdrRecord, SdrRecords};
 pub use sensor::{Sensor, Sensors};
 pub use sensor_thresholds::{SetThresholds, Thresholds};
-pub use set_reader::SetReader;
 pub use state_effecter::{SetStateEffecter, StateEffecter, StateEffecters, StateField};
 pub use store::{NoKey, Store};
 pub use thresholds::ThresholdMasks;

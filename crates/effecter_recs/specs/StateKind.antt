@@ -4,7 +4,9 @@ use Rattle.cfg_records.specs.declared.state_effecter.StateEffecter.{StateEffecte
 use Rattle.cfg_records.specs.declared.state_effecter.SetStateEffecter.{SetStateEffecter}
 use Rattle.cfg_records.specs.Kind.{Kind}
 use Rattle.cfg_records.specs.Member.{Member}
-use Rattle.effecter_recs.specs.State.{words, record_words, place}
+use Rattle.cfg_records.specs.Reader.{Reader}
+use Rattle.effecter_recs.specs.Requests.{id_in}
+use Rattle.effecter_recs.specs.State.{state_effecter_in, words, record_words, place}
 use Rattle.effecter_recs.specs.StateLaws.{kind_laws, record_laws}
 
 -- what it says, and that it holds
@@ -14,3 +16,7 @@ kind = record { words = words; record_words = record_words; kind_laws = kind_law
 -- the kind, and where it stands among all
 abbrev pub member : Member ℕ SetStateEffecter StateEffecter
 member = record { kind = kind; place = place }
+
+-- what the data of its commands say
+abbrev pub reader : Reader
+reader = record { key_in = λ body. words.name (id_in body); op_in = λ body. place.op (state_effecter_in body) }

@@ -4,8 +4,8 @@ ghost use Rattle.effecter_recs.specs.Numeric.{value_bytes, value_of, numeric_bod
 
 use crate::request::{ENABLED, effecter_request, id_bytes, id_in, operational_state};
 use cfg_records::{
-    Asked, Key, Live, NumericBytes, NumericEffecter, NumericRange, Op, RecordData, RecordKind,
-    SetNumericEffecter, SetReader, Value, byte_at,
+    Asked, CommandReader, Key, Live, NumericBytes, NumericEffecter, NumericRange, Op, RecordData,
+    RecordKind, SetNumericEffecter, Value, byte_at,
 };
 use two_wire::code::{PLDM_INVALID_DATA, PLDM_INVALID_LENGTH};
 use two_wire::{Buffer, Bytes, Code};
@@ -141,10 +141,14 @@ impl NumericLimits {
     }
 }
 
-impl SetReader for NumericLimits {
-    ghost use Rattle.cfg_records.specs.declared.op.Op.TheVariants as op;
+impl CommandReader for NumericLimits {
+    ghost use Rattle.effecter_recs.specs.NumericKind as numeric;
 
-    ghost said = { λ body. op.NumericEffecter (numeric_effecter_in body) };
+    ghost reader = { numeric.reader };
+
+    fn key_in(body: &[u8]) -> Key {
+        Key::NumericEffecter(id_in(body))
+    }
 
     #[inline(always)]
     fn op_in(body: &[u8]) -> Op {

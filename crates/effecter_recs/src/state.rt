@@ -8,7 +8,7 @@ use crate::field_changes::{
 use crate::numeric::behind;
 use crate::request::{effecter_request, id_bytes, id_in, operational_state};
 use cfg_records::{
-    Asked, FieldChange, Key, Live, Op, RecordData, RecordKind, SetReader, SetStateEffecter,
+    Asked, CommandReader, FieldChange, Key, Live, Op, RecordData, RecordKind, SetStateEffecter,
     StateEffecter, Value, byte_at,
 };
 use std::marker::Model;
@@ -126,14 +126,20 @@ impl<'f> StateLimits<'f> {
     }
 }
 
-impl SetReader for StateLimits<'_> {
-    ghost use Rattle.cfg_records.specs.declared.op.Op.TheVariants as op;
+impl CommandReader for StateLimits<'_> {
+    ghost use Rattle.effecter_recs.specs.StateKind as state;
 
-    ghost said = { λ body. op.StateEffecter (state_effecter_in body) };
+    ghost reader = { state.reader };
+
+    fn key_in(body: &[u8]) -> Key
+        ensures { result ≡ state.reader.key_in body.now }
+    {
+        Key::StateEffecter(id_in(body))
+    }
 
     #[inline(always)]
     fn op_in(body: &[u8]) -> Op
-        ensures { result ≡ op.StateEffecter (state_effecter_in body.now) }
+        ensures { result ≡ state.reader.op_in body.now }
     {
         Op::StateEffecter(state_effecter_in(body))
     }

@@ -1,6 +1,7 @@
 //! The limits of a record, of whichever kind: a line for each.
 ghost use Rattle.std.specs.Prelude.{◌≡◌};
 
+use crate::of_each_plain_kind;
 use crate::setup::Setup;
 use bios_attr::AttributeLimits;
 use cfg_records::{Asked, Key, Live, Op, RecordData, RecordKind, Value};
@@ -28,46 +29,44 @@ pub enum Limits<'f> {
     BiosAttribute(AttributeLimits),
 }
 
+/// The plain kinds, and a line for each other kind.
+macro_rules! of_all_kinds {
+    ([$does:ident $how:tt] $($plain:tt)*) => {
+        $does! { $how
+            $($plain)*
+            BootParam watch_boot::BootParamLimits {Key::BootParam(parameter) => parameter}
+            ChannelAccess user_chan::ChannelAccessLimits {Key::ChannelAccess(at) => at}
+            BiosAttribute bios_attr::AttributeLimits {Key::BiosAttribute(handle) => handle}
+        }
+    };
+}
+
 /// The kinds, a line for each: its name, its limits, and where its keys are.
 macro_rules! of_each_kind {
     ($does:ident $how:tt) => {
-        $does! { $how
-            Thresholds ThresholdLimits {Key::Thresholds(sensor) => sensor}
-            Hysteresis HysteresisLimits {Key::Hysteresis(sensor) => sensor}
-            EventEnable EventEnableLimits {Key::EventEnable(sensor) => sensor}
-            PowerPolicy PowerPolicyLimits {Key::PowerPolicy => &()}
-            Watchdog WatchdogLimits {Key::Watchdog => &()}
-            GlobalEnables GlobalEnablesLimits {Key::GlobalEnables => &()}
-            BootParam BootParamLimits {Key::BootParam(parameter) => parameter}
-            NumericEffecter NumericLimits {Key::NumericEffecter(id) => id}
-            StateEffecter StateLimits {Key::StateEffecter(id) => id}
-            UserName UserNameLimits {Key::UserName(user) => user}
-            UserAccess UserAccessLimits {Key::UserAccess(on) => on}
-            ChannelAccess ChannelAccessLimits {Key::ChannelAccess(at) => at}
-            BiosAttribute AttributeLimits {Key::BiosAttribute(handle) => handle}
-        }
+        of_each_plain_kind!(of_all_kinds [$does $how])
     };
 }
 
 /// A call of a kind's function, with these arguments after the first.
 macro_rules! call {
-    ($limits:ident $function:ident $first:ident ($($more:expr),*)) => {
-        $limits::$function($first $(, $more)*)
+    ($function:ident $first:ident ($($more:expr),*) $limits:ty) => {
+        <$limits>::$function($first $(, $more)*)
     };
 }
 
 /// What the record's kind does, by its limits.
 macro_rules! by_limits {
-    ([$any:expr, $function:ident $more:tt] $($kind:ident $limits:ident $key:tt)*) => {
+    ([$any:expr, $function:ident $more:tt] $($kind:ident $limits:ty {$($key:tt)*})*) => {
         match $any {
-            $(Limits::$kind(limits) => call!($limits $function limits $more),)*
+            $(Limits::$kind(limits) => call!($function limits $more $limits),)*
         }
     };
 }
 
 /// What the record's kind does with its operation, by its limits.
 macro_rules! by_both {
-    ([$any:expr, $op:expr, $value:expr, $new:expr] $($kind:ident $limits:ident $key:tt)*) => {
+    ([$any:expr, $op:expr, $value:expr, $new:expr] $($kind:ident $limits:ty {$($key:tt)*})*) => {
         match $any {
             $(Limits::$kind(limits) => match $op {
                 Op::$kind(op) => limits.apply(op, $value, $new),
@@ -79,18 +78,18 @@ macro_rules! by_both {
 
 /// What the operation's kind does.
 macro_rules! by_op {
-    ([$op:expr, $function:ident $more:tt] $($kind:ident $limits:ident $key:tt)*) => {
+    ([$op:expr, $function:ident $more:tt] $($kind:ident $limits:ty {$($key:tt)*})*) => {
         match $op {
-            $(Op::$kind(op) => call!($limits $function op $more),)*
+            $(Op::$kind(op) => call!($function op $more $limits),)*
         }
     };
 }
 
 /// The operation of its kind that the operation's kind gives, if it gives one.
 macro_rules! op_by_op {
-    ([$op:expr, $function:ident $more:tt] $($kind:ident $limits:ident $key:tt)*) => {
+    ([$op:expr, $function:ident $more:tt] $($kind:ident $limits:ty {$($key:tt)*})*) => {
         match $op {
-            $(Op::$kind(op) => match call!($limits $function op $more) {
+            $(Op::$kind(op) => match call!($function op $more $limits) {
                 Some(made) => Some(Op::$kind(made)),
                 None => None,
             },)*
@@ -100,9 +99,9 @@ macro_rules! op_by_op {
 
 /// What the key's kind does.
 macro_rules! by_key {
-    ([$any:expr, $function:ident] $($kind:ident $limits:ident {$key:pat => $own:expr})*) => {
+    ([$any:expr, $function:ident] $($kind:ident $limits:ty {$key:pat => $own:expr})*) => {
         match $any {
-            $($key => $limits::$function($own),)*
+            $($key => <$limits>::$function($own),)*
         }
     };
 }

@@ -3,8 +3,10 @@ use Rattle.std.specs.Prelude.{ℕ}
 use Rattle.cfg_records.specs.declared.event_enable.SetEventEnable.{SetEventEnable}
 use Rattle.cfg_records.specs.Kind.{Kind}
 use Rattle.cfg_records.specs.Member.{Member}
+use Rattle.cfg_records.specs.Reader.{Reader}
+use Rattle.cfg_records.specs.Requests.{byte_at}
 use Rattle.sensor_recs.specs.declared.event_enable.EventEnableLimits.{EventEnableLimits}
-use Rattle.sensor_recs.specs.EventEnable.{words, record_words, place}
+use Rattle.sensor_recs.specs.EventEnable.{event_enable_in, words, record_words, place}
 use Rattle.sensor_recs.specs.EventEnableLaws.{kind_laws, record_laws}
 
 -- what it says, and that it holds
@@ -14,3 +16,7 @@ kind = record { words = words; record_words = λ limits. record_words limits.sup
 -- the kind, and where it stands among all
 abbrev pub member : Member ℕ SetEventEnable EventEnableLimits
 member = record { kind = kind; place = place }
+
+-- what the data of its commands say
+abbrev pub reader : Reader
+reader = record { key_in = λ body. words.name (byte_at body 0); op_in = λ body. place.op (event_enable_in body) }

@@ -3,8 +3,10 @@ use Rattle.std.specs.Prelude.{ℕ}
 use Rattle.cfg_records.specs.declared.hysteresis.SetHysteresis.{SetHysteresis}
 use Rattle.cfg_records.specs.Kind.{Kind}
 use Rattle.cfg_records.specs.Member.{Member}
+use Rattle.cfg_records.specs.Reader.{Reader}
+use Rattle.cfg_records.specs.Requests.{byte_at}
 use Rattle.sensor_recs.specs.declared.hysteresis.HysteresisLimits.{HysteresisLimits}
-use Rattle.sensor_recs.specs.Hysteresis.{words, record_words, place}
+use Rattle.sensor_recs.specs.Hysteresis.{hysteresis_in, words, record_words, place}
 use Rattle.sensor_recs.specs.HysteresisLaws.{kind_laws, record_laws}
 
 -- what it says, and that it holds
@@ -14,3 +16,7 @@ kind = record { words = words; record_words = λ limits. record_words; kind_laws
 -- the kind, and where it stands among all
 abbrev pub member : Member ℕ SetHysteresis HysteresisLimits
 member = record { kind = kind; place = place }
+
+-- what the data of its commands say
+abbrev pub reader : Reader
+reader = record { key_in = λ body. words.name (byte_at body 0); op_in = λ body. place.op (hysteresis_in body) }

@@ -3,8 +3,10 @@ use Rattle.std.specs.Prelude.{ℕ}
 use Rattle.cfg_records.specs.declared.sensor_thresholds.SetThresholds.{SetThresholds}
 use Rattle.cfg_records.specs.Kind.{Kind}
 use Rattle.cfg_records.specs.Member.{Member}
+use Rattle.cfg_records.specs.Reader.{Reader}
+use Rattle.cfg_records.specs.Requests.{byte_at}
 use Rattle.sensor_recs.specs.declared.thresholds.ThresholdLimits.{ThresholdLimits}
-use Rattle.sensor_recs.specs.Thresholds.{words, record_words, place}
+use Rattle.sensor_recs.specs.Thresholds.{thresholds_in, words, record_words, place}
 use Rattle.sensor_recs.specs.ThresholdsLaws.{kind_laws, record_laws}
 
 -- what it says, and that it holds
@@ -14,3 +16,7 @@ kind = record { words = words; record_words = λ limits. record_words limits.mas
 -- the kind, and where it stands among all
 abbrev pub member : Member ℕ SetThresholds ThresholdLimits
 member = record { kind = kind; place = place }
+
+-- what the data of its commands say
+abbrev pub reader : Reader
+reader = record { key_in = λ body. words.name (byte_at body 0); op_in = λ body. place.op (thresholds_in body) }

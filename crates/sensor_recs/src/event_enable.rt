@@ -10,8 +10,8 @@ use cfg_records::event_enable::{
 };
 use cfg_records::mask::has;
 use cfg_records::{
-    Asked, EventChange, EventMasks, Key, Live, Op, RecordData, RecordKind, Sensor, SetEventEnable,
-    SetReader, Value, byte_at,
+    Asked, CommandReader, EventChange, EventMasks, Key, Live, Op, RecordData, RecordKind, Sensor,
+    SetEventEnable, Value, byte_at,
 };
 use two_wire::code::INVALID_DATA_FIELD;
 use two_wire::{Buffer, Code};
@@ -208,10 +208,14 @@ impl EventEnableLimits {
     }
 }
 
-impl SetReader for EventEnableLimits {
-    ghost use Rattle.cfg_records.specs.declared.op.Op.TheVariants as op;
+impl CommandReader for EventEnableLimits {
+    ghost use Rattle.sensor_recs.specs.EventEnableKind as events;
 
-    ghost said = { λ body. op.EventEnable (event_enable_in body) };
+    ghost reader = { events.reader };
+
+    fn key_in(body: &[u8]) -> Key {
+        Key::EventEnable(byte_at(body, 0))
+    }
 
     #[inline(always)]
     fn op_in(body: &[u8]) -> Op {

@@ -4,7 +4,8 @@ ghost use Rattle.sensor_recs.specs.Hysteresis.{both_bytes, hysteresis_body, hyst
 
 use crate::request::sensor_request;
 use cfg_records::{
-    Asked, Key, Live, Op, RecordData, RecordKind, Sensor, SetHysteresis, SetReader, Value, byte_at,
+    Asked, CommandReader, Key, Live, Op, RecordData, RecordKind, Sensor, SetHysteresis, Value,
+    byte_at,
 };
 use two_wire::{Buffer, Code};
 
@@ -55,10 +56,14 @@ fn hysteresis_in(body: &[u8]) -> SetHysteresis
     }
 }
 
-impl SetReader for HysteresisLimits {
-    ghost use Rattle.cfg_records.specs.declared.op.Op.TheVariants as op;
+impl CommandReader for HysteresisLimits {
+    ghost use Rattle.sensor_recs.specs.HysteresisKind as hysteresis;
 
-    ghost said = { λ body. op.Hysteresis (hysteresis_in body) };
+    ghost reader = { hysteresis.reader };
+
+    fn key_in(body: &[u8]) -> Key {
+        Key::Hysteresis(byte_at(body, 0))
+    }
 
     #[inline(always)]
     fn op_in(body: &[u8]) -> Op {

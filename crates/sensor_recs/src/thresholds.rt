@@ -5,8 +5,8 @@ ghost use Rattle.sensor_recs.specs.Thresholds.{choose, thresholds_body, threshol
 use crate::request::sensor_request;
 use cfg_records::mask::{has, is_within};
 use cfg_records::{
-    Asked, Key, Live, Op, RecordData, RecordKind, Sensor, SetReader, SetThresholds, ThresholdMasks,
-    Value, byte_at,
+    Asked, CommandReader, Key, Live, Op, RecordData, RecordKind, Sensor, SetThresholds,
+    ThresholdMasks, Value, byte_at,
 };
 use two_wire::code::INVALID_DATA_FIELD;
 use two_wire::{Buffer, Code};
@@ -107,10 +107,14 @@ impl ThresholdLimits {
     }
 }
 
-impl SetReader for ThresholdLimits {
-    ghost use Rattle.cfg_records.specs.declared.op.Op.TheVariants as op;
+impl CommandReader for ThresholdLimits {
+    ghost use Rattle.sensor_recs.specs.ThresholdsKind as thresholds;
 
-    ghost said = { λ body. op.Thresholds (thresholds_in body) };
+    ghost reader = { thresholds.reader };
+
+    fn key_in(body: &[u8]) -> Key {
+        Key::Thresholds(byte_at(body, 0))
+    }
 
     #[inline(always)]
     fn op_in(body: &[u8]) -> Op {

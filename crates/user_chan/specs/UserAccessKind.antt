@@ -3,8 +3,11 @@ use Rattle.cfg_records.specs.declared.user.UserOnChannel.{UserOnChannel}
 use Rattle.cfg_records.specs.declared.user.SetUserAccess.{SetUserAccess}
 use Rattle.cfg_records.specs.Kind.{Kind}
 use Rattle.cfg_records.specs.Member.{Member}
+use Rattle.cfg_records.specs.Reader.{Reader}
+use Rattle.cfg_records.specs.Requests.{byte_at}
+use Rattle.cfg_records.specs.Numbers.{user_on}
 use Rattle.user_chan.specs.declared.user_access.UserAccessLimits.{UserAccessLimits}
-use Rattle.user_chan.specs.UserAccess.{words, record_words, place}
+use Rattle.user_chan.specs.UserAccess.{access_in, words, record_words, place}
 use Rattle.user_chan.specs.UserAccessLaws.{kind_laws, record_laws}
 
 -- what it says, and that it holds
@@ -14,3 +17,7 @@ kind = record { words = words; record_words = record_words; kind_laws = kind_law
 -- the kind, and where it stands among all
 abbrev pub member : Member UserOnChannel SetUserAccess UserAccessLimits
 member = record { kind = kind; place = place }
+
+-- what the data of its commands say
+abbrev pub reader : Reader
+reader = record { key_in = λ body. words.name (user_on (byte_at body 0) (byte_at body 1)); op_in = λ body. place.op (access_in body) }

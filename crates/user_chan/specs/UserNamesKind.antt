@@ -3,8 +3,11 @@ use Rattle.cfg_records.specs.declared.user.UserNumber.{UserNumber}
 use Rattle.cfg_records.specs.declared.user.SetUserName.{SetUserName}
 use Rattle.cfg_records.specs.Kind.{Kind}
 use Rattle.cfg_records.specs.Member.{Member}
+use Rattle.cfg_records.specs.Reader.{Reader}
+use Rattle.cfg_records.specs.Requests.{byte_at}
+use Rattle.cfg_records.specs.Numbers.{user_in}
 use Rattle.user_chan.specs.declared.user_name.UserNameLimits.{UserNameLimits}
-use Rattle.user_chan.specs.UserNames.{words, record_words, place}
+use Rattle.user_chan.specs.UserNames.{name_in, words, record_words, place}
 use Rattle.user_chan.specs.UserNamesLaws.{kind_laws, record_laws}
 
 -- what it says, and that it holds
@@ -14,3 +17,7 @@ kind = record { words = words; record_words = λ limits. record_words; kind_laws
 -- the kind, and where it stands among all
 abbrev pub member : Member UserNumber SetUserName UserNameLimits
 member = record { kind = kind; place = place }
+
+-- what the data of its commands say
+abbrev pub reader : Reader
+reader = record { key_in = λ body. words.name (user_in (byte_at body 0)); op_in = λ body. place.op (name_in body) }

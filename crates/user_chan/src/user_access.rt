@@ -7,7 +7,7 @@ use cfg_records::mask::has;
 use cfg_records::net_fn::APPLICATION;
 use cfg_records::user::is_limit;
 use cfg_records::{
-    Asked, Key, Live, Op, RecordData, RecordKind, SetReader, SetUserAccess, UserNumber,
+    Asked, CommandReader, Key, Live, Op, RecordData, RecordKind, SetUserAccess, UserNumber,
     UserOnChannel, Value, byte_at,
 };
 use two_wire::code::INVALID_DATA_FIELD;
@@ -119,10 +119,14 @@ fn first_byte(op: &SetUserAccess, bits: u8) -> u8
     }
 }
 
-impl SetReader for UserAccessLimits {
-    ghost use Rattle.cfg_records.specs.declared.op.Op.TheVariants as op;
+impl CommandReader for UserAccessLimits {
+    ghost use Rattle.user_chan.specs.UserAccessKind as user_access;
 
-    ghost said = { λ body. op.UserAccess (access_in body) };
+    ghost reader = { user_access.reader };
+
+    fn key_in(body: &[u8]) -> Key {
+        Key::UserAccess(UserOnChannel::of(byte_at(body, 0), byte_at(body, 1)))
+    }
 
     #[inline(always)]
     fn op_in(body: &[u8]) -> Op {

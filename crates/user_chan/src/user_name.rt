@@ -5,7 +5,7 @@ ghost use Rattle.user_chan.specs.UserNames.{name_outcome, shown_name, undo_name,
 
 use cfg_records::net_fn::APPLICATION;
 use cfg_records::{
-    Asked, Key, Live, Op, RecordData, RecordKind, SetReader, SetUserName, UserNumber, Value,
+    Asked, CommandReader, Key, Live, Op, RecordData, RecordKind, SetUserName, UserNumber, Value,
     byte_at,
 };
 use two_wire::code::INVALID_DATA_FIELD;
@@ -107,10 +107,14 @@ fn body(op: &SetUserName) -> RecordData
     body
 }
 
-impl SetReader for UserNameLimits {
-    ghost use Rattle.cfg_records.specs.declared.op.Op.TheVariants as op;
+impl CommandReader for UserNameLimits {
+    ghost use Rattle.user_chan.specs.UserNamesKind as names;
 
-    ghost said = { λ body. op.UserName (name_in body) };
+    ghost reader = { names.reader };
+
+    fn key_in(body: &[u8]) -> Key {
+        Key::UserName(UserNumber::of(byte_at(body, 0)))
+    }
 
     #[inline(always)]
     fn op_in(body: &[u8]) -> Op {

@@ -2,8 +2,9 @@
 use Rattle.cfg_records.specs.declared.global_enables.SetGlobalEnables.{SetGlobalEnables}
 use Rattle.cfg_records.specs.Kind.{Kind}
 use Rattle.cfg_records.specs.Member.{Member}
+use Rattle.cfg_records.specs.Reader.{Reader}
 use Rattle.watch_boot.specs.declared.global_enables.GlobalEnablesLimits.{GlobalEnablesLimits}
-use Rattle.watch_boot.specs.GlobalEnables.{words, record_words, place}
+use Rattle.watch_boot.specs.GlobalEnables.{enables_in, words, record_words, place}
 use Rattle.watch_boot.specs.GlobalEnablesLaws.{kind_laws, record_laws}
 
 -- what it says, and that it holds
@@ -13,3 +14,7 @@ kind = record { words = words; record_words = λ limits. record_words; kind_laws
 -- the kind, and where it stands among all
 abbrev pub member : Member (Unit {0}) SetGlobalEnables GlobalEnablesLimits
 member = record { kind = kind; place = place }
+
+-- what the data of its commands say
+abbrev pub reader : Reader
+reader = record { key_in = λ body. words.name tt; op_in = λ body. place.op (enables_in body) }

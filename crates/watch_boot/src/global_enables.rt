@@ -6,7 +6,7 @@ ghost use Rattle.watch_boot.specs.GlobalEnables.{enables_outcome, enables_in};
 use cfg_records::global_enables::are_enables;
 use cfg_records::net_fn::APPLICATION;
 use cfg_records::{
-    Asked, Key, Live, Op, RecordData, RecordKind, SetGlobalEnables, SetReader, Value, byte_at,
+    Asked, CommandReader, Key, Live, Op, RecordData, RecordKind, SetGlobalEnables, Value, byte_at,
 };
 use two_wire::code::INVALID_DATA_FIELD;
 use two_wire::{Buffer, Code, NetFn};
@@ -42,10 +42,14 @@ fn enables_in(body: &[u8]) -> SetGlobalEnables
     }
 }
 
-impl SetReader for GlobalEnablesLimits {
-    ghost use Rattle.cfg_records.specs.declared.op.Op.TheVariants as op;
+impl CommandReader for GlobalEnablesLimits {
+    ghost use Rattle.watch_boot.specs.GlobalEnablesKind as global_enables;
 
-    ghost said = { λ body. op.GlobalEnables (enables_in body) };
+    ghost reader = { global_enables.reader };
+
+    fn key_in(_body: &[u8]) -> Key {
+        Key::GlobalEnables
+    }
 
     #[inline(always)]
     fn op_in(body: &[u8]) -> Op {

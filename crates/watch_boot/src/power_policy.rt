@@ -5,7 +5,7 @@ ghost use Rattle.watch_boot.specs.PowerPolicy.{policy_outcome, policy_in};
 
 use cfg_records::net_fn::CHASSIS;
 use cfg_records::{
-    Asked, Key, Live, Op, RecordData, RecordKind, SetPowerPolicy, SetReader, Value, byte_at,
+    Asked, CommandReader, Key, Live, Op, RecordData, RecordKind, SetPowerPolicy, Value, byte_at,
 };
 use two_wire::code::INVALID_DATA_FIELD;
 use two_wire::{Buffer, Code, NetFn};
@@ -50,10 +50,14 @@ fn policy_in(body: &[u8]) -> SetPowerPolicy
     }
 }
 
-impl SetReader for PowerPolicyLimits {
-    ghost use Rattle.cfg_records.specs.declared.op.Op.TheVariants as op;
+impl CommandReader for PowerPolicyLimits {
+    ghost use Rattle.watch_boot.specs.PowerPolicyKind as power_policy;
 
-    ghost said = { λ body. op.PowerPolicy (policy_in body) };
+    ghost reader = { power_policy.reader };
+
+    fn key_in(_body: &[u8]) -> Key {
+        Key::PowerPolicy
+    }
 
     #[inline(always)]
     fn op_in(body: &[u8]) -> Op {

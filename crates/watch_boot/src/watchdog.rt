@@ -8,7 +8,7 @@ ghost use Rattle.watch_boot.specs.Watchdog.{kept_use, kept_actions, is_accepted,
 use cfg_records::mask::has;
 use cfg_records::net_fn::APPLICATION;
 use cfg_records::{
-    Asked, Key, Live, Op, RecordData, RecordKind, SetReader, SetWatchdog, Value, byte_at,
+    Asked, CommandReader, Key, Live, Op, RecordData, RecordKind, SetWatchdog, Value, byte_at,
 };
 use two_wire::code::INVALID_DATA_FIELD;
 use two_wire::{Buffer, Code, NetFn};
@@ -165,10 +165,14 @@ pub fn live_after_tick(value: &[u8], live: &mut Live)
     }
 }
 
-impl SetReader for WatchdogLimits {
-    ghost use Rattle.cfg_records.specs.declared.op.Op.TheVariants as op;
+impl CommandReader for WatchdogLimits {
+    ghost use Rattle.watch_boot.specs.WatchdogKind as watchdog;
 
-    ghost said = { λ body. op.Watchdog (watchdog_in body) };
+    ghost reader = { watchdog.reader };
+
+    fn key_in(_body: &[u8]) -> Key {
+        Key::Watchdog
+    }
 
     #[inline(always)]
     fn op_in(body: &[u8]) -> Op {

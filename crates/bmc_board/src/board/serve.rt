@@ -6,14 +6,13 @@ ghost use Rattle.cfg_records.specs.Boards.{pairs_of};
 ghost use Rattle.cfg_records.specs.Meaning.{room_for};
 ghost use Rattle.cfg_records.specs.declared.message.Answered.{Answered as Reply};
 ghost use Rattle.bmc_board.specs.Gives.{Gives};
-ghost use Rattle.bmc_board.specs.Request.{key_in};
 ghost use Rattle.bmc_board.specs.Replies.{done, unknown_code};
 ghost use Rattle.bmc_board.specs.Sensing.{value_at};
 
 use crate::activity::Activity;
 use crate::board::Board;
 use crate::board::bios::{Standing, show_part, table_asked};
-use crate::command::{Command, GetCommand, SetCommand};
+use crate::command::Command;
 use crate::live::{
     LiveCommand, NO_ERROR, PLDM_TYPES, already_in_progress, device_data, progress_data,
     sessionless_channel,
@@ -25,22 +24,18 @@ use crate::storage::{
 use bios_attr::Tables;
 use bios_attr::bios_attribute::{attribute_in, attribute_shown_in};
 use cfg_records::{
-    AccessStore, Answered, Asked, BoardFile, ChannelNumber, Key, Op, RecordKind, SetChannelAccess,
-    SetReader, Store, StoredAccess, UserNumber, UserOnChannel, Value, byte_at,
+    AccessStore, Answered, Asked, BoardFile, ChannelNumber, CommandReader, Key, Op, RecordKind,
+    SetChannelAccess, Store, StoredAccess, UserNumber, Value, byte_at,
 };
-use effecter_recs::request::id_in;
-use effecter_recs::{NumericLimits, StateLimits};
-use record_kinds::{Limits, Setup};
+use record_kinds::{Limits, PlainKind, Setup, of_each_plain_kind};
 use sensor_recs::taken::reading_data;
-use sensor_recs::{EventEnableLimits, HysteresisLimits, ThresholdLimits};
 use std::alloc::{AllocError, Global};
 use two_wire::size::MOST_PLDM_REPLY_DATA;
 use two_wire::{Buffer, Bytes, Code, code};
 use user_chan::channel_request::{ChannelRequest, channel_request_in, stored_in};
 use user_chan::password::{PasswordChange, change_of, set_enabled};
-use user_chan::{UserAccessLimits, UserNameLimits};
 use watch_boot::boot_request::{BootRequest, BootShown, boot_request_in, boot_shown_in};
-use watch_boot::{GlobalEnablesLimits, PowerPolicyLimits, WatchdogLimits, watchdog};
+use watch_boot::watchdog;
 
 /// The code for a record that isn't there.
 fn unknown_code(setup: &Setup, key: &Key) -> Code
@@ -68,24 +63,13 @@ fn unknown_code(setup: &Setup, key: &Key) -> Code
     }
 }
 
-/// The record that a command shows.
-fn key_in(command: GetCommand, body: &[u8]) -> Key
-    ensures { result ≡ key_in command body.now }
-{
-    use GetCommand::*;
-    match command {
-        GetSensorHysteresis => Key::Hysteresis(byte_at(body, 0)),
-        GetSensorThresholds => Key::Thresholds(byte_at(body, 0)),
-        GetSensorEventEnable => Key::EventEnable(byte_at(body, 0)),
-        GetChassisStatus => Key::PowerPolicy,
-        GetWatchdogTimer => Key::Watchdog,
-        GetGlobalEnables => Key::GlobalEnables,
-        GetNumericEffecterValue => Key::NumericEffecter(id_in(body)),
-        GetStateEffecterStates => Key::StateEffecter(id_in(body)),
-        GetUserName => Key::UserName(UserNumber::of(byte_at(body, 0))),
-        GetUserAccess => Key::UserAccess(UserOnChannel::of(byte_at(body, 0), byte_at(body, 1))),
-        GetChannelAccess => Key::ChannelAccess(stored_in(body)),
-    }
+/// The change of a record of the kind.
+macro_rules! changed {
+    ([$board:expr, $any:expr, $body:expr, $to:expr] $($kind:ident $limits:ty {$($key:tt)*})*) => {
+        match $any {
+            $(PlainKind::$kind => $board.carry_out::<$limits, B>($body, $to),)*
+        }
+    };
 }
 
 /// The value of the key's record; no bytes where there is none.
@@ -130,11 +114,11 @@ impl<S: Store> Board<S> {
     ghost use Rattle.bmc_board.specs.Room.{longest_reply};
     ghost use Rattle.bmc_board.specs.Row.{Row};
     ghost use Rattle.bmc_board.specs.Request as request;
-    ghost use Rattle.bmc_board.specs.Request.{op_in, request_of, asked_of, asked_by};
+    ghost use Rattle.bmc_board.specs.Request.{request_of, asked_of, asked_by};
     ghost use Rattle.bmc_board.specs.Answer.{set_outcome, serve as serve_of, reply as reply_of, answer_of};
     ghost use Rattle.std.specs.Prelude.{Some};
     ghost use Rattle.cfg_records.specs.Meaning.{told};
-    ghost use Rattle.record_kinds.specs.Limits.{key_of};
+    ghost use Rattle.record_kinds.specs.Limits.{key_of, reader_of};
     ghost use Rattle.record_kinds.specs.Boards.{limits_at};
 
     /// A board of this file over this store of its records.
@@ -341,39 +325,27 @@ impl<S: Store> Board<S> {
     /// Carries out the operation that the data say, which is made here and stays here. Each kind has a function of its own: an operation has
     /// room for that of the bulkiest kind, and a function fills all operations of its own with zeros.
     #[inline(never)]
-    fn carry_out<K: SetReader, B: Buffer>(&mut self, body: &[u8], to: &mut B) -> Result<(), Code>
-        requires room { length (B.bytes to.old) + longest_reply (request.Set (K.said body.now)) ≤ B.capacity }
-        ensures answer { Gives result (B.bytes to.old) (B.bytes to.new) (serve_of self.old.setup (state_of S.records self.old) (request.Set (K.said body.now))).0 }
-        ensures left { state_of S.records self.new ≡ (serve_of self.old.setup (state_of S.records self.old) (request.Set (K.said body.now))).1 }
+    fn carry_out<K: CommandReader, B: Buffer>(
+        &mut self,
+        body: &[u8],
+        to: &mut B,
+    ) -> Result<(), Code>
+        requires room { length (B.bytes to.old) + longest_reply (request.Set (K.reader.op_in body.now)) ≤ B.capacity }
+        ensures answer { Gives result (B.bytes to.old) (B.bytes to.new) (serve_of self.old.setup (state_of S.records self.old) (request.Set (K.reader.op_in body.now))).0 }
+        ensures left { state_of S.records self.new ≡ (serve_of self.old.setup (state_of S.records self.old) (request.Set (K.reader.op_in body.now))).1 }
         ensures setup { self.new.setup ≡ self.old.setup }
     {
         self.set(&K::op_in(body), to)
     }
 
-    /// Carries out a command that changes a record.
-    fn change<B: Buffer>(
-        &mut self,
-        command: SetCommand,
-        body: &[u8],
-        to: &mut B,
-    ) -> Result<(), Code>
-        requires room { length (B.bytes to.old) + longest_reply (request.Set (op_in command body.now)) ≤ B.capacity }
-        ensures answer { Gives result (B.bytes to.old) (B.bytes to.new) (serve_of self.old.setup (state_of S.records self.old) (request.Set (op_in command body.now))).0 }
-        ensures left { state_of S.records self.new ≡ (serve_of self.old.setup (state_of S.records self.old) (request.Set (op_in command body.now))).1 }
+    /// Carries out the command that changes a record of the kind.
+    fn change<B: Buffer>(&mut self, kind: PlainKind, body: &[u8], to: &mut B) -> Result<(), Code>
+        requires room { length (B.bytes to.old) + longest_reply (request.Set ((reader_of kind).op_in body.now)) ≤ B.capacity }
+        ensures answer { Gives result (B.bytes to.old) (B.bytes to.new) (serve_of self.old.setup (state_of S.records self.old) (request.Set ((reader_of kind).op_in body.now))).0 }
+        ensures left { state_of S.records self.new ≡ (serve_of self.old.setup (state_of S.records self.old) (request.Set ((reader_of kind).op_in body.now))).1 }
         ensures setup { self.new.setup ≡ self.old.setup }
     {
-        match command {
-            SetCommand::SetSensorHysteresis => self.carry_out::<HysteresisLimits, B>(body, to),
-            SetCommand::SetSensorThresholds => self.carry_out::<ThresholdLimits, B>(body, to),
-            SetCommand::SetSensorEventEnable => self.carry_out::<EventEnableLimits, B>(body, to),
-            SetCommand::SetPowerRestorePolicy => self.carry_out::<PowerPolicyLimits, B>(body, to),
-            SetCommand::SetWatchdogTimer => self.carry_out::<WatchdogLimits, B>(body, to),
-            SetCommand::SetGlobalEnables => self.carry_out::<GlobalEnablesLimits, B>(body, to),
-            SetCommand::SetNumericEffecterValue => self.carry_out::<NumericLimits, B>(body, to),
-            SetCommand::SetStateEffecterStates => self.carry_out::<StateLimits, B>(body, to),
-            SetCommand::SetUserName => self.carry_out::<UserNameLimits, B>(body, to),
-            SetCommand::SetUserAccess => self.carry_out::<UserAccessLimits, B>(body, to),
-        }
+        of_each_plain_kind!(changed [self, kind, body, to])
     }
 
     /// Carries out Set System Boot Options.
@@ -486,11 +458,12 @@ impl<S: Store> Board<S> {
     {
         match command {
             Command::Live(command) => self.live(command, body, to),
-            Command::Get(command) => self.get(&key_in(command, body), to),
-            Command::Set(command) => self.change(command, body, to),
+            Command::Get(kind) => self.get(&kind.key_in(body), to),
+            Command::Set(kind) => self.change(kind, body, to),
             Command::SetBootOptions => self.set_boot_options(body, to),
             Command::GetBootOptions => self.get_boot_options(body, to),
             Command::SetChannelAccess => self.set_channel_access(body, to),
+            Command::GetChannelAccess => self.get(&Key::ChannelAccess(stored_in(body)), to),
             Command::SetBiosAttribute => self.set_attribute(body, to),
             Command::GetBiosAttribute => self.get_attribute(body, to),
         }
