@@ -146,6 +146,7 @@ impl CommandReader for NumericLimits {
 
     ghost reader = { numeric.reader };
 
+    #[inline(always)]
     fn key_in(body: &[u8]) -> Key {
         Key::NumericEffecter(id_in(body))
     }

@@ -131,6 +131,7 @@ impl CommandReader for StateLimits<'_> {
 
     ghost reader = { state.reader };
 
+    #[inline(always)]
     fn key_in(body: &[u8]) -> Key
         ensures { result ≡ state.reader.key_in body.now }
     {

@@ -51,6 +51,7 @@ macro_rules! named {
 
 impl PlainKind {
     /// The record that the data of its Get name.
+    #[inline(always)]
     pub fn key_in(self, body: &[u8]) -> Key
         ensures { result ≡ (reader_of self).key_in body.now }
     {

@@ -213,6 +213,7 @@ impl CommandReader for EventEnableLimits {
 
     ghost reader = { events.reader };
 
+    #[inline(always)]
     fn key_in(body: &[u8]) -> Key {
         Key::EventEnable(byte_at(body, 0))
     }

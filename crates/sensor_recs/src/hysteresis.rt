@@ -61,6 +61,7 @@ impl CommandReader for HysteresisLimits {
 
     ghost reader = { hysteresis.reader };
 
+    #[inline(always)]
     fn key_in(body: &[u8]) -> Key {
         Key::Hysteresis(byte_at(body, 0))
     }

@@ -112,6 +112,7 @@ impl CommandReader for ThresholdLimits {
 
     ghost reader = { thresholds.reader };
 
+    #[inline(always)]
     fn key_in(body: &[u8]) -> Key {
         Key::Thresholds(byte_at(body, 0))
     }

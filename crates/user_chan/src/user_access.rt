@@ -124,6 +124,7 @@ impl CommandReader for UserAccessLimits {
 
     ghost reader = { user_access.reader };
 
+    #[inline(always)]
     fn key_in(body: &[u8]) -> Key {
         Key::UserAccess(UserOnChannel::of(byte_at(body, 0), byte_at(body, 1)))
     }

@@ -112,6 +112,7 @@ impl CommandReader for UserNameLimits {
 
     ghost reader = { names.reader };
 
+    #[inline(always)]
     fn key_in(body: &[u8]) -> Key {
         Key::UserName(UserNumber::of(byte_at(body, 0)))
     }

@@ -47,6 +47,7 @@ impl CommandReader for GlobalEnablesLimits {
 
     ghost reader = { global_enables.reader };
 
+    #[inline(always)]
     fn key_in(_body: &[u8]) -> Key {
         Key::GlobalEnables
     }

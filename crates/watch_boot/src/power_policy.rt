@@ -55,6 +55,7 @@ impl CommandReader for PowerPolicyLimits {
 
     ghost reader = { power_policy.reader };
 
+    #[inline(always)]
     fn key_in(_body: &[u8]) -> Key {
         Key::PowerPolicy
     }

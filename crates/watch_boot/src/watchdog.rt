@@ -170,6 +170,7 @@ impl CommandReader for WatchdogLimits {
 
     ghost reader = { watchdog.reader };
 
+    #[inline(always)]
     fn key_in(_body: &[u8]) -> Key {
         Key::Watchdog
     }
