@@ -15,7 +15,7 @@ use Rattle.record_kinds.specs.declared.limits.Limits.TheVariants as kinds
 use Rattle.record_kinds.specs.Limits.{is_of, sets, outcome, get_asked, set_asked}
 use Rattle.record_kinds.specs.LimitsLaws as laws
 use Rattle.std.specs.Option.{option_map}
-use Rattle.record_kinds.specs.Boards.{sensor_at, numeric_at, state_at, user_at, access_at, stored_at, attribute_at, limits_at}
+use Rattle.record_kinds.specs.Boards.{attribute_at, limits_at}
 use Rattle.cfg_records.specs.Attribute.{range_of}
 use Rattle.record_kinds.specs.Sound.{IsSound, IsSoundAt}
 use Rattle.record_kinds.specs.SoundLaws.{sound_set, sound_with}

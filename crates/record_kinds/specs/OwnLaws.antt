@@ -26,10 +26,10 @@ pub record IsSaid {K O L : Type 0} (member : Member K O L) (op_words : Op → Op
 abbrev pub AreSaid : OwnLimits → (Op → OpWords) → (Key → Asked) → Type 1
 AreSaid (limits_of member own) op_words asked = IsSaid member op_words asked
 
--- of the operation
+-- what holds of the operation
 pub op_laws_by : (at : OwnOp) (op_words : Op → OpWords) (any : Op) → IsOwnOp at op_words any → OpLaws op_words any
 op_laws_by (op_of member own) op_words any is = subst (λ (o : Op). OpLaws op_words o) is.0 (op_laws_of member op_words is.1 own)
 
--- of a record with the limits
+-- what holds of a record with the limits
 pub record_laws_by : (at : OwnLimits) (op_words : Op → OpWords) (asked : Key → Asked) → AreSaid at op_words asked → RecordLaws (any_words op_words asked) (record_words_in at)
 record_laws_by (limits_of member own) op_words asked are = record_laws_of member op_words asked are.says are.asks are.op_there own
