@@ -1,7 +1,7 @@
 -- What every answer has in common.
 use Rattle.std.proofs.Common.{◌≡◌, ◌≢◌, ℕ, ◌≤◌, List, [], length, Option, Some, None, Result, Ok, Err, Bool, refl, subst, arith}
 use Rattle.two_wire.specs.Codes.{success}
-use Rattle.record_kinds.specs.Limits.{key_of}
+use Rattle.record_kinds.specs.Limits.{key_of, limits_at}
 use Rattle.cfg_records.specs.Meaning.{Decides, room_for}
 use Rattle.cfg_records.specs.declared.key.Key.{Key}
 use Rattle.cfg_records.specs.declared.key.Key.TheVariants as key
@@ -15,7 +15,7 @@ use Rattle.record_kinds.specs.declared.limits.Limits.TheVariants as kinds
 use Rattle.record_kinds.specs.Limits.{is_of, sets, outcome, get_asked, set_asked}
 use Rattle.record_kinds.specs.LimitsLaws as laws
 use Rattle.std.specs.Option.{option_map}
-use Rattle.record_kinds.specs.Boards.{attribute_at, limits_at}
+use Rattle.record_kinds.specs.Boards.{attribute_at}
 use Rattle.cfg_records.specs.Attribute.{range_of}
 use Rattle.record_kinds.specs.Sound.{IsSound, IsSoundAt}
 use Rattle.record_kinds.specs.SoundLaws.{sound_set, sound_with}

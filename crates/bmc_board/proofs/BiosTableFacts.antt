@@ -10,7 +10,8 @@ use Rattle.cfg_records.specs.declared.attribute.Attribute.{Attribute}
 use Rattle.cfg_records.specs.declared.board_file.BoardFile.{BoardFile}
 use Rattle.record_kinds.specs.declared.limits.Limits.{Limits}
 use Rattle.record_kinds.specs.declared.limits.Limits.TheVariants as limits
-use Rattle.record_kinds.specs.Boards.{attribute_at, limits_at}
+use Rattle.record_kinds.specs.Boards.{attribute_at}
+use Rattle.record_kinds.specs.Limits.{limits_at}
 use Rattle.std.specs.Option.{option_map}
 use Rattle.record_kinds.specs.Sound.{IsSound, IsSoundAt}
 use Rattle.pldm_base.specs.Crc.{crc_of}

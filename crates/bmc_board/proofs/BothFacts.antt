@@ -6,9 +6,8 @@ use Rattle.cfg_records.specs.declared.key.Key.{Key}
 use Rattle.cfg_records.specs.declared.op.Op.{Op}
 use Rattle.cfg_records.specs.declared.board_file.BoardFile.{BoardFile}
 use Rattle.record_kinds.specs.declared.limits.Limits.{Limits}
-use Rattle.record_kinds.specs.Limits.{key_of, valid, sets, outcome}
+use Rattle.record_kinds.specs.Limits.{key_of, valid, sets, outcome, limits_at}
 use Rattle.record_kinds.specs.LimitsLaws as laws
-use Rattle.record_kinds.specs.Boards.{limits_at}
 use Rattle.record_kinds.specs.Sound.{IsSound}
 use Rattle.record_kinds.specs.SoundLaws.{valid_at}
 use Rattle.bmc_board.specs.Answer.{set_outcome}

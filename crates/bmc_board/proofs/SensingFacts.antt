@@ -1,6 +1,6 @@
 -- What a reading that is taken leaves, from what each of its steps makes.
 use Rattle.std.proofs.Common.{◌≡◌, ℕ, List, Bool, true, false, map, Option, if◌then◌else◌, refl, ap, sym, ◌∙◌}
-use Rattle.cfg_records.specs.EventEnable.{is_scanning}
+use Rattle.cfg_records.specs.Sensor.EventEnable.{is_scanning}
 use Rattle.cfg_records.specs.Requests.{byte_at}
 use Rattle.cfg_records.specs.Records.{Records}
 use Rattle.cfg_records.specs.declared.key.Key.TheVariants as key

@@ -4,9 +4,8 @@ use Rattle.cfg_records.specs.Records.{Records}
 use Rattle.cfg_records.specs.declared.live.Live.{Live as LivePart}
 use Rattle.cfg_records.specs.declared.message.Answered.{Answered}
 use Rattle.record_kinds.specs.declared.limits.Limits.{Limits}
-use Rattle.record_kinds.specs.Limits.{view, conf}
+use Rattle.record_kinds.specs.Limits.{view, conf, limits_at}
 use Rattle.record_kinds.specs.LimitsLaws as laws
-use Rattle.record_kinds.specs.Boards.{limits_at}
 use Rattle.bmc_board.specs.Replies.{done, unknown_code}
 use Rattle.bmc_board.specs.Answer.{Given, get_answer}
 use Rattle.bmc_board.specs.Undo.{IsSteady, IsShownAsBefore}

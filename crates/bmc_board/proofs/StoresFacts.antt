@@ -6,9 +6,8 @@ use Rattle.cfg_records.specs.declared.op.Op.{Op}
 use Rattle.cfg_records.specs.declared.op.Op.TheVariants as of_kind
 use Rattle.cfg_records.specs.declared.board_file.BoardFile.{BoardFile}
 use Rattle.record_kinds.specs.declared.limits.Limits.{Limits}
-use Rattle.record_kinds.specs.Limits.{key_of}
+use Rattle.record_kinds.specs.Limits.{key_of, limits_at}
 use Rattle.record_kinds.specs.LimitsLaws as laws
-use Rattle.record_kinds.specs.Boards.{limits_at}
 use Rattle.bmc_board.specs.State.{State}
 use Rattle.bmc_board.specs.Replies.{unknown_code}
 use Rattle.bmc_board.specs.Answer.{set_outcome, outcome_at, both_given}

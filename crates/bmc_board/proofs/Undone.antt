@@ -1,7 +1,7 @@
 -- A change and its undo, at any record.
 use Rattle.std.proofs.Common.{◌≡◌, ◌≢◌, ℕ, ◌<◌, List, Option, Some, None, Result, Ok, refl, ap, sym, ◌∙◌, subst, arith, inl, inr}
 use Rattle.two_wire.specs.Codes.{success}
-use Rattle.record_kinds.specs.Limits.{key_of}
+use Rattle.record_kinds.specs.Limits.{key_of, limits_at}
 use Rattle.cfg_records.specs.Records.{Records, with_record}
 use Rattle.cfg_records.specs.RecordLaws.{with_record_same, with_record_back}
 use Rattle.cfg_records.specs.declared.key.Key.{Key}
@@ -14,7 +14,6 @@ use Rattle.record_kinds.specs.declared.limits.Limits.{Limits}
 use Rattle.cfg_records.specs.Kind.{RecordLaws}
 use Rattle.record_kinds.specs.Limits.{words, record_words, valid, sets, view, get_asked, set_asked, is_reply, inverse}
 use Rattle.record_kinds.specs.LimitsLaws as laws
-use Rattle.record_kinds.specs.Boards.{limits_at}
 use Rattle.record_kinds.specs.SoundLaws.{valid_at}
 use Rattle.bmc_board.specs.Request.{Request}
 use Rattle.bmc_board.specs.Request.{Get, Set}

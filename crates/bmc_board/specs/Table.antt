@@ -5,7 +5,7 @@ use Rattle.cfg_records.specs.declared.message.Asked.TheVariants.{Ipmi, Pldm}
 use Rattle.cfg_records.specs.Requests.{byte_at}
 use Rattle.bmc_board.specs.declared.command.Command.{Command}
 use Rattle.bmc_board.specs.declared.command.Command.TheVariants as command
-use Rattle.record_kinds.specs.declared.kind.PlainKind.TheVariants as kind
+use Rattle.record_kinds.specs.declared.limits.PlainKind.TheVariants as kind
 use Rattle.bmc_board.specs.declared.command.Lengths.{Lengths}
 use Rattle.bmc_board.specs.declared.command.Lengths.TheVariants.{Exactly, Between, AtLeast, OneOf, PairsCountedAt}
 use Rattle.bmc_board.specs.declared.command.Line.{Line}

@@ -2,14 +2,13 @@
 -- each moment.
 use Rattle.std.specs.Prelude.{◌≡◌, ℕ, Some}
 use Rattle.two_wire.specs.Codes.{success}
-use Rattle.record_kinds.specs.Limits.{key_of}
+use Rattle.record_kinds.specs.Limits.{key_of, limits_at}
 use Rattle.cfg_records.specs.declared.key.Key.{Key}
 use Rattle.cfg_records.specs.declared.op.Op.{Op}
 use Rattle.cfg_records.specs.declared.message.Answered.{Answered}
 use Rattle.cfg_records.specs.declared.board_file.BoardFile.{BoardFile}
 use Rattle.record_kinds.specs.declared.limits.Limits.{Limits}
 use Rattle.record_kinds.specs.Limits.{conf, get_asked, set_asked, is_reply, inverse}
-use Rattle.record_kinds.specs.Boards.{limits_at}
 use Rattle.record_kinds.specs.Sound.{IsSound}
 use Rattle.bmc_board.specs.State.{State}
 use Rattle.bmc_board.specs.Row.{Row}

@@ -4,7 +4,7 @@ use Rattle.std.proofs.lemmas.Bool.{and_parts}
 use Rattle.std.proofs.lemmas.Bool.Decides.{nat_tests}
 use Rattle.std.proofs.lemmas.Option.{same_Some}
 use Rattle.cfg_records.specs.Masks.{has}
-use Rattle.cfg_records.specs.EventEnable.{AreWithin, are_within, flags_byte}
+use Rattle.cfg_records.specs.Sensor.EventEnable.{AreWithin, are_within, flags_byte}
 use Rattle.cfg_records.specs.EventLaws.{within_true}
 use Rattle.toml.specs.Data.{Data, Members}
 use Rattle.file_fields.specs.declared.field.Field.{Field}

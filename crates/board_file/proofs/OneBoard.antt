@@ -14,8 +14,8 @@ use Rattle.cfg_records.specs.AttributeSizes.{most_indexes, most_text, most_attri
 use Rattle.cfg_records.specs.AttributeRange.{AllowsIndexes, AllowsText, AllowsNumber}
 use Rattle.cfg_records.specs.AttributeRangeLaws.{AllowsIndexes-prop, AllowsText-prop, AllowsNumber-prop}
 use Rattle.cfg_records.specs.PartLaws.{IsThresholds-prop, IsEventEnable-prop, IsPowerPolicy-prop, IsWatchdog-prop, AreGlobalEnables-prop, IsNumeric-prop, IsUserAccess-prop, IsChannelAccess-prop}
-use Rattle.cfg_records.specs.Thresholds.{IsThresholds}
-use Rattle.cfg_records.specs.EventEnable.{IsEventEnable, flags_byte, event_value}
+use Rattle.cfg_records.specs.Sensor.Thresholds.{IsThresholds}
+use Rattle.cfg_records.specs.Sensor.EventEnable.{IsEventEnable, flags_byte, event_value}
 use Rattle.cfg_records.specs.PowerPolicy.{IsPowerPolicy}
 use Rattle.cfg_records.specs.Watchdog.{IsWatchdog, watchdog_value}
 use Rattle.cfg_records.specs.GlobalEnables.{AreGlobalEnables}

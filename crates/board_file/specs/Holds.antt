@@ -3,7 +3,7 @@ use Rattle.std.specs.Prelude.{◌≡◌, ◌+◌, ℕ, Bool, not, if◌then◌el
 use Rattle.std.specs.List.{AllZip}
 use Rattle.toml.specs.Data.{Data, Members}
 use Rattle.toml.specs.Parse.{parse_document}
-use Rattle.cfg_records.specs.EventEnable.{flags_byte}
+use Rattle.cfg_records.specs.Sensor.EventEnable.{flags_byte}
 use Rattle.cfg_records.specs.BootParam.{flag_bytes}
 use Rattle.cfg_records.specs.NumericSize.{code_of}
 use Rattle.cfg_records.specs.declared.numeric_size.NumericSize.{NumericSize}

@@ -19,8 +19,7 @@ use Rattle.cfg_records.specs.StateEffecter.{state_value}
 use Rattle.cfg_records.specs.declared.attribute.Attribute.{Attribute}
 use Rattle.cfg_records.specs.Attribute.{attribute_value}
 use Rattle.cfg_records.specs.AttributeLaws.{begins_long}
-use Rattle.cfg_records.specs.Keys.{is_length}
-use Rattle.cfg_records.specs.Index.{slot}
+use Rattle.cfg_records.specs.Keys.{is_length, slot}
 use Rattle.cfg_records.specs.KeyLaws.{exact_key}
 use Rattle.cfg_records.specs.Distinct.{NamesDiffer}
 use Rattle.cfg_records.specs.Records.{Pair, key_in, value_of, records_of, KeysDiffer, LengthsFit}

@@ -5,7 +5,7 @@ use Rattle.std.proofs.lemmas.Nat.{and_le_l}
 use Rattle.std.proofs.lemmas.Nat.Bits.{bit_at_and, bit_at_not, bit_at-zero, bit_at-lt, same_from_bits_below}
 use Rattle.std.proofs.lemmas.Bool.Decides.{nat_tests}
 use Rattle.cfg_records.specs.Masks.{IsWithin}
-use Rattle.cfg_records.specs.EventEnable.{AreWithin}
+use Rattle.cfg_records.specs.Sensor.EventEnable.{AreWithin}
 
 one_left : (a b : ℕ) → 0 ≡ min a (1 - b) → a ≡ 1 → b < 2 → b ≡ 1
 one_left a b h e l = omega arith

@@ -1,7 +1,6 @@
 -- The records that a board file begins with.
 use Rattle.std.specs.Prelude.{ℕ, List, [], ◌∷◌, ◌++◌, map}
 use Rattle.cfg_records.specs.declared.key.Key.TheVariants as key
-use Rattle.cfg_records.specs.declared.sensor.Sensor.{Sensor}
 use Rattle.cfg_records.specs.declared.power_policy.PowerPolicy.{PowerPolicy}
 use Rattle.cfg_records.specs.declared.watchdog.Watchdog.{Watchdog}
 use Rattle.cfg_records.specs.declared.global_enables.GlobalEnables.{GlobalEnables}
@@ -12,8 +11,6 @@ use Rattle.cfg_records.specs.declared.channel.StoredAccess.{StoredAccess}
 use Rattle.cfg_records.specs.declared.channel.ChannelNumber.{ChannelNumber}
 use Rattle.cfg_records.specs.declared.channel.AccessStore.{AccessStore}
 use Rattle.cfg_records.specs.declared.board_file.BoardFile.{BoardFile}
-use Rattle.cfg_records.specs.Hysteresis.{hysteresis_value}
-use Rattle.cfg_records.specs.EventEnable.{event_value}
 use Rattle.cfg_records.specs.Watchdog.{watchdog_value}
 use Rattle.cfg_records.specs.declared.boot_param.BootOptions.{BootOptions}
 use Rattle.cfg_records.specs.declared.boot_param.BootParameter.{BootParameter}
@@ -23,6 +20,7 @@ use Rattle.cfg_records.specs.NumericSize.{bytes_of}
 use Rattle.cfg_records.specs.StateEffecter.{state_value}
 use Rattle.cfg_records.specs.Attribute.{attribute_value}
 use Rattle.cfg_records.specs.Records.{Pair}
+use Rattle.cfg_records.specs.Sensor.{sensor_kinds}
 
 -- the values of what a board has once
 abbrev pub policy_value : PowerPolicy → List ℕ
@@ -56,15 +54,7 @@ abbrev pub joined : List Pair → List (List Pair) → List Pair
 joined before [] = before
 joined before (pairs ∷ more) = joined (before ++ pairs) more
 
--- the keys of each kind of record that a sensor has, with their values, in the sensors' order: a line for each kind
-abbrev pub sensor_kinds : List Sensor → List (List Pair)
-sensor_kinds sensors =
-    map (λ s. (key.Thresholds s.number, s.thresholds.values)) sensors
-    ∷ map (λ s. (key.Hysteresis s.number, hysteresis_value s.hysteresis)) sensors
-    ∷ map (λ s. (key.EventEnable s.number, event_value s.events.messages s.events.scanning s.events.enabled)) sensors
-    ∷ []
-
--- the same of the records that an effecter has
+-- the keys of each kind of record that an effecter has, with their values, in the effecters' order: a line for each kind
 abbrev pub effecter_kinds : BoardFile → List (List Pair)
 effecter_kinds file =
     map (λ e. (key.NumericEffecter e.id, number_value e)) file.numeric_effecters.items

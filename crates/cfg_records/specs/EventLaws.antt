@@ -6,7 +6,7 @@ use Rattle.std.proofs.lemmas.Nat.Bits.{bit_at_and, bit_at_ones, bit_at-lt}
 use Rattle.cfg_records.specs.Masks.{has}
 use Rattle.cfg_records.specs.MaskLaws.{all_below-at, at-all_below, implied, implies}
 use Rattle.cfg_records.specs.declared.event_enable.EventMasks.{EventMasks}
-use Rattle.cfg_records.specs.EventEnable.{AreWithin, are_within, flags_byte, makes_messages, is_scanning, event_value, IsEventValue, IsEventEnable}
+use Rattle.cfg_records.specs.Sensor.EventEnable.{AreWithin, are_within, flags_byte, makes_messages, is_scanning, event_value, IsEventValue, IsEventEnable}
 
 -- ---- sets of events
 

@@ -2,17 +2,9 @@
 use Rattle.std.specs.Prelude.{ℕ, Option, Some, None, [], slice_index_or}
 use Rattle.std.specs.BTreeMap as btree
 use Rattle.cfg_records.specs.declared.key.Key.{Key}
-use Rattle.cfg_records.specs.declared.key.Key.TheVariants as key
 use Rattle.cfg_records.specs.declared.index.Index.{Index}
 use Rattle.cfg_records.specs.declared.index.SensorPlaces.{SensorPlaces}
-use Rattle.cfg_records.specs.Keys.{key_cmp}
-
--- the table and the number under which a sensor's record is found: a line for each kind
-abbrev pub slot : Key → Option (ℕ × ℕ)
-slot (key.Thresholds sensor) = Some (0, sensor)
-slot (key.Hysteresis sensor) = Some (1, sensor)
-slot (key.EventEnable sensor) = Some (2, sensor)
-slot _ = None
+use Rattle.cfg_records.specs.Keys.{key_cmp, slot}
 
 -- the place that the tables have there
 abbrev pub place_at : SensorPlaces → (ℕ × ℕ) → Option ℕ

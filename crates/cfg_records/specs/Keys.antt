@@ -1,5 +1,5 @@
--- The names of records, and how long their values are.
-use Rattle.std.specs.Prelude.{ℕ, Bool, nat_le, ◌==◌, ◌&&◌, ◌||◌}
+-- The names of records: how long the values are, and where a sensor's are found.
+use Rattle.std.specs.Prelude.{ℕ, Bool, Option, Some, None, nat_le, ◌==◌, ◌&&◌, ◌||◌}
 use Rattle.std.specs.Ordering.{is_eq}
 use Rattle.std.specs.declared.cmp.Ordering.{Ordering}
 use Rattle.cfg_records.specs.declared.key.Key.{Key}
@@ -23,6 +23,13 @@ is_length (key.UserName user) n = n == 16
 is_length (key.UserAccess on) n = n == 1
 is_length (key.ChannelAccess stored) n = n == 2
 is_length (key.BiosAttribute handle) n = nat_le least_value n && nat_le n most_value
+
+-- the table and the number under which a sensor's record is found: a line for each kind
+abbrev pub slot : Key → Option (ℕ × ℕ)
+slot (key.Thresholds sensor) = Some (0, sensor)
+slot (key.Hysteresis sensor) = Some (1, sensor)
+slot (key.EventEnable sensor) = Some (2, sensor)
+slot _ = None
 
 -- the order of keys
 abbrev pub key_cmp : Key → Key → Ordering

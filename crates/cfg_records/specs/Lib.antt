@@ -3,10 +3,7 @@ pub mod Keys
 pub mod KeyLaws
 pub mod Masks
 pub mod MaskLaws
-pub mod Thresholds
 pub mod ThresholdLaws
-pub mod Hysteresis
-pub mod EventEnable
 pub mod EventLaws
 pub mod Sdr
 pub mod PowerPolicy
@@ -38,6 +35,7 @@ pub mod Places
 pub mod Index
 pub mod PlacesLaws
 pub mod RecordLaws
+pub mod Sensor
 pub mod Boards
 pub mod Distinct
 pub mod AttributeSizes

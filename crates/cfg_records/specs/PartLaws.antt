@@ -2,8 +2,8 @@
 use Rattle.std.specs.Prelude.{ℕ, List}
 use Rattle.std.proofs.Props.{props}
 use Rattle.cfg_records.specs.declared.thresholds.ThresholdMasks.{ThresholdMasks}
-use Rattle.cfg_records.specs.Thresholds.{IsThresholds}
-use Rattle.cfg_records.specs.EventEnable.{IsEventEnable}
+use Rattle.cfg_records.specs.Sensor.Thresholds.{IsThresholds}
+use Rattle.cfg_records.specs.Sensor.EventEnable.{IsEventEnable}
 use Rattle.cfg_records.specs.PowerPolicy.{IsPowerPolicy}
 use Rattle.cfg_records.specs.Watchdog.{IsWatchdog}
 use Rattle.cfg_records.specs.GlobalEnables.{AreGlobalEnables}

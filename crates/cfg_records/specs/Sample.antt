@@ -9,7 +9,8 @@ use Rattle.cfg_records.specs.BootParam.{flag_bytes}
 use Rattle.cfg_records.specs.declared.channel.Channel.{Channel}
 use Rattle.cfg_records.specs.declared.user.User.{User}
 use Rattle.cfg_records.specs.declared.user.UserAccess.{UserAccess}
-use Rattle.cfg_records.specs.Boards.{access_value, joined, sensor_kinds}
+use Rattle.cfg_records.specs.Boards.{access_value, joined}
+use Rattle.cfg_records.specs.Sensor.{sensor_kinds}
 use Rattle.cfg_records.specs.declared.attribute.Attribute.{Attribute}
 use Rattle.cfg_records.specs.declared.attribute.AttributeKind.{AttributeKind}
 use Rattle.cfg_records.specs.declared.attribute.AttributeKind.TheVariants.{Enumeration, Text, Integer}

@@ -3,7 +3,7 @@ use Rattle.std.proofs.Common.{◌≡◌, ℕ, ◌<◌, ◌≤◌, List, length, 
 use Rattle.std.proofs.lemmas.Bool.Decides.{nat_tests}
 use Rattle.cfg_records.specs.Masks.{all_below}
 use Rattle.cfg_records.specs.MaskLaws.{all_below-at, at-all_below, implied, implies}
-use Rattle.cfg_records.specs.Thresholds.{is_there, IsInOrder, are_in_order, is_in_order, is_clear, IsThresholds}
+use Rattle.cfg_records.specs.Sensor.Thresholds.{is_there, IsInOrder, are_in_order, is_in_order, is_clear, IsThresholds}
 use Rattle.cfg_records.specs.declared.thresholds.ThresholdMasks.{ThresholdMasks}
 
 le_from : (a b : ℕ) → nat_le a b ≡ true → a ≤ b

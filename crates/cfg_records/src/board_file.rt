@@ -46,7 +46,8 @@ pub struct BoardFile {
 impl BoardFile {
     ghost use Rattle.std.specs.Prelude.{◌≡◌, [], IfOk, OnOk};
     ghost use Rattle.cfg_records.specs.Records.{KeysDiffer, LengthsFit};
-    ghost use Rattle.cfg_records.specs.Boards.{joined, sensor_kinds, effecter_kinds, access_kinds, item_kinds, attribute_pairs, pairs_of};
+    ghost use Rattle.cfg_records.specs.Boards.{joined, effecter_kinds, access_kinds, item_kinds, attribute_pairs, pairs_of};
+    ghost use Rattle.cfg_records.specs.Sensor.{sensor_kinds};
 
     /// The records of its sensors: a line for each kind.
     fn sensor_records(&self, alloc: Global) -> Result<Vec<(Key, Value)>, AllocError>

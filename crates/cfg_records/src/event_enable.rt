@@ -1,6 +1,6 @@
 //! Which events of a sensor are enabled: in a board file, and as it is set.
 ghost use Rattle.std.specs.Prelude.{◌≡◌, ◌<◌, ◌≤◌, ◌↔◌, IsTrue};
-ghost use Rattle.cfg_records.specs.EventEnable.{IsEventEnable, AreWithin, are_within, event_value, flags_byte};
+ghost use Rattle.cfg_records.specs.Sensor.EventEnable.{IsEventEnable, AreWithin, are_within, event_value, flags_byte};
 ghost use Rattle.cfg_records.specs.PartLaws.{IsEventEnable-prop};
 
 use crate::key::Key;
@@ -96,7 +96,7 @@ pub fn event_value(messages: bool, scanning: bool, enabled: &EventMasks) -> [u8;
 
 impl EventEnable {
     ghost use Rattle.std.specs.Prelude.{◌≡◌, ◌<◌, ◌↔◌, IsSome, IfSome};
-    ghost use Rattle.cfg_records.specs.EventEnable.{AreWithin, event_value};
+    ghost use Rattle.cfg_records.specs.Sensor.EventEnable.{AreWithin, event_value};
 
     /// These events, or nothing where a supported one is none of a threshold, or an enabled one isn't supported.
     pub fn new(

@@ -1,15 +1,12 @@
 //! The place of each record, found by its key.
-ghost use Rattle.std.specs.Prelude.{◌≡◌, ◌<◌, ℕ, Some, None, IfOk, IfSome, slice_index_or, slice_set, if◌then◌else◌};
+ghost use Rattle.std.specs.Prelude.{◌≡◌, ℕ, Some, None, IfOk, slice_index_or, slice_set, if◌then◌else◌};
 ghost use Rattle.cfg_records.specs.declared.key.Key.{Key as AnyKey};
 ghost use Rattle.cfg_records.specs.Keys.{same_key};
-ghost use Rattle.cfg_records.specs.Index.{slot, place_at, place_of};
+ghost use Rattle.cfg_records.specs.Index.{place_at, place_of};
 
-use crate::key::Key;
+use crate::key::{Key, SENSOR_KINDS};
 use std::alloc::{AllocError, Global};
 use std::collections::BTreeMap;
-
-/// How many kinds of record a sensor has.
-const SENSOR_KINDS: usize = 3;
 
 /// For each kind of record that a sensor has, and each number of a sensor, the place of its record.
 #[derive(Drop)]
@@ -22,20 +19,6 @@ struct SensorPlaces {
 pub(crate) struct Index {
     sensors: SensorPlaces,
     others: BTreeMap<Key, usize>,
-}
-
-/// The table and the number under which a sensor's record is found.
-#[inline(always)]
-fn slot(key: &Key) -> Option<(usize, u8)>
-    ensures is { result ≡ slot key.now }
-    ensures table { IfSome result (λ at. at.0 < 3) }
-{
-    match key {
-        Key::Thresholds(sensor) => Some((0, *sensor)),
-        Key::Hysteresis(sensor) => Some((1, *sensor)),
-        Key::EventEnable(sensor) => Some((2, *sensor)),
-        _ => None,
-    }
 }
 
 impl SensorPlaces {
@@ -75,7 +58,7 @@ impl Index {
     pub fn place_of(&self, key: &Key) -> Option<usize>
         ensures { result ≡ place_of self.now key.now }
     {
-        match slot(key) {
+        match key.slot() {
             Some((table, sensor)) => self.sensors.tables[table][usize::from(sensor)],
             None => self.others.get(key).copied(),
         }
@@ -86,7 +69,7 @@ impl Index {
         ensures old { IfOk result (λ found. found ≡ place_of self.old key) }
         ensures updates { IfOk result (λ found. (k : AnyKey) → place_of self.new k ≡ (if same_key key k then Some place else place_of self.old k)) }
     {
-        if let Some((table, sensor)) = slot(&key) {
+        if let Some((table, sensor)) = key.slot() {
             return Ok(put(&mut self.sensors.tables[table], sensor, place));
         }
         match self.others.insert(key, place) {

@@ -1,11 +1,14 @@
 //! The names of records.
-ghost use Rattle.std.specs.Prelude.{◌≡◌};
-ghost use Rattle.cfg_records.specs.Keys.{is_length};
+ghost use Rattle.std.specs.Prelude.{◌≡◌, ◌<◌, IfSome};
+ghost use Rattle.cfg_records.specs.Keys.{is_length, slot};
 
 use crate::attribute_sizes::{LEAST_VALUE, MOST_VALUE};
 use crate::boot_param::BootParameter;
 use crate::channel::StoredAccess;
 use crate::user::{UserNumber, UserOnChannel};
+
+/// How many kinds of record a sensor has.
+pub(crate) const SENSOR_KINDS: usize = 3;
 
 /// The name of a record: its kind, and which one of that kind.
 #[derive(Clone, Copy, Debug, PartialEq, Eq, PartialOrd, Ord)]
@@ -57,6 +60,19 @@ impl Key {
             Key::UserAccess(_) => length == 1,
             Key::ChannelAccess(_) => length == 2,
             Key::BiosAttribute(_) => LEAST_VALUE <= length && length <= MOST_VALUE,
+        }
+    }
+    /// The table and the number under which a sensor's record is found.
+    #[inline(always)]
+    pub(crate) fn slot(&self) -> Option<(usize, u8)>
+        ensures is { result ≡ slot self.now }
+        ensures table { IfSome result (λ at. at.0 < SENSOR_KINDS) }
+    {
+        match self {
+            Key::Thresholds(sensor) => Some((0, *sensor)),
+            Key::Hysteresis(sensor) => Some((1, *sensor)),
+            Key::EventEnable(sensor) => Some((2, *sensor)),
+            _ => None,
         }
     }
 }

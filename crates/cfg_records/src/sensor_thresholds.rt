@@ -1,6 +1,6 @@
 //! The thresholds of a sensor: in a board file, and as they are set.
 ghost use Rattle.std.specs.Prelude.{◌≡◌, length};
-ghost use Rattle.cfg_records.specs.Thresholds.{IsThresholds};
+ghost use Rattle.cfg_records.specs.Sensor.Thresholds.{IsThresholds};
 ghost use Rattle.cfg_records.specs.PartLaws.{IsThresholds-prop};
 
 use crate::key::Key;
@@ -26,7 +26,7 @@ pub struct SetThresholds {
 
 impl Thresholds {
     ghost use Rattle.std.specs.Prelude.{◌≡◌, ◌↔◌, IsSome, IfSome};
-    ghost use Rattle.cfg_records.specs.Thresholds.{IsThresholds};
+    ghost use Rattle.cfg_records.specs.Sensor.Thresholds.{IsThresholds};
 
     /// These thresholds, or nothing where a sensor with these masks can't have them.
     pub fn new(masks: ThresholdMasks, values: [u8; 6]) -> Option<Thresholds>

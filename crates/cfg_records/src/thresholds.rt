@@ -18,7 +18,7 @@ const PLACES: [usize; 6] = [2, 1, 0, 3, 4, 5];
 
 impl ThresholdMasks {
     ghost use Rattle.std.specs.Prelude.{◌≡◌, ◌<◌, ◌↔◌, IsTrue, IsSome, IfSome, length};
-    ghost use Rattle.cfg_records.specs.Thresholds.{IsThresholds, is_there, is_in_order, is_clear};
+    ghost use Rattle.cfg_records.specs.Sensor.Thresholds.{IsThresholds, is_there, is_in_order, is_clear};
 
     /// Whether the sensor has the threshold at the place.
     pub fn is_there(&self, place: usize) -> bool

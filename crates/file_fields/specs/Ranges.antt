@@ -3,8 +3,8 @@ use Rattle.std.specs.Prelude.{◌==◌, ℕ, ◌/◌, ◌%◌, Bool, true, false
 use Rattle.std.specs.Str.{bytes_eq}
 use Rattle.std.specs.List.{list_all, list_any}
 use Rattle.cfg_records.specs.Masks.{has, all_below}
-use Rattle.cfg_records.specs.Thresholds.{place_of}
-use Rattle.cfg_records.specs.EventEnable.{are_within}
+use Rattle.cfg_records.specs.Sensor.Thresholds.{place_of}
+use Rattle.cfg_records.specs.Sensor.EventEnable.{are_within}
 use Rattle.cfg_records.specs.GlobalEnables.{are_enables}
 use Rattle.cfg_records.specs.UserAccess.{is_limit}
 use Rattle.cfg_records.specs.BootParam.{parameter_at}

@@ -21,9 +21,9 @@ use Rattle.cfg_records.specs.Numbers.{number_on}
 use Rattle.cfg_records.specs.declared.event_enable.EventMasks.{EventMasks}
 use Rattle.cfg_records.specs.Distinct.{NamesDiffer}
 use Rattle.cfg_records.specs.Sdr.{sdr_id}
-use Rattle.cfg_records.specs.EventEnable.{are_within, event_value, IsEventEnable}
+use Rattle.cfg_records.specs.Sensor.EventEnable.{are_within, event_value, IsEventEnable}
 use Rattle.cfg_records.specs.EventLaws.{tested_events}
-use Rattle.cfg_records.specs.Thresholds.{IsThresholds, is_clear, is_in_order}
+use Rattle.cfg_records.specs.Sensor.Thresholds.{IsThresholds, is_clear, is_in_order}
 use Rattle.cfg_records.specs.ThresholdLaws.{tests_pass}
 use Rattle.undo_model.specs.Phase.{Phase, Done, Undone, Unsettled}
 use Rattle.undo_model.specs.Machine.{phase_of}

@@ -16,7 +16,7 @@ use Rattle.file_fields.specs.declared.row.Need.TheVariants as need
 use Rattle.file_fields.specs.declared.row.Shape.TheVariants as shape
 use Rattle.file_fields.specs.Trees.{in_field, members, natural, number_in, members_in, or_none}
 use Rattle.file_fields.specs.Ranges.{passes, has_text, is_between, is_offset, is_array_of, is_selection}
-use Rattle.plan_file.specs.Thresholds.{is_given}
+use Rattle.plan_file.specs.Kinds.Thresholds.{is_given}
 use Rattle.file_fields.proofs.Rows.{Sound, value_of, not_false}
 
 -- ---- numbers

@@ -4,17 +4,4 @@ pub mod UserSteps
 pub mod Changes
 pub mod Steps
 pub mod StepKind
-pub mod OneThresholds
-pub mod OneHysteresis
-pub mod OneEventEnable
-pub mod OneWatchdog
-pub mod OnePowerPolicy
-pub mod OneGlobalEnables
-pub mod OneBootParam
-pub mod OneBiosAttribute
-pub mod OneStateEffecter
-pub mod OneNumericEffecter
-pub mod OneUserName
-pub mod OneUserAccess
-pub mod OneChannelAccess
 pub mod OnePlan

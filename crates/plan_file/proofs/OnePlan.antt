@@ -1,4 +1,17 @@
 -- A tree holds one plan.
+pub mod Thresholds
+pub mod Hysteresis
+pub mod EventEnable
+pub mod Watchdog
+pub mod PowerPolicy
+pub mod GlobalEnables
+pub mod BootParam
+pub mod BiosAttribute
+pub mod StateEffecter
+pub mod NumericEffecter
+pub mod UserName
+pub mod UserAccess
+pub mod ChannelAccess
 use Rattle.std.proofs.Common.{◌≡◌, ◌∙◌, ℕ, List, Option, Some, None, MatchOption, Result, Ok, Err, sym, ap, subst}
 use Rattle.toml.specs.Data.{Members}
 use Rattle.toml.specs.Parse.{parse_document}
@@ -16,37 +29,24 @@ use Rattle.plan_file.specs.PlanFaults.{plan_faults}
 use Rattle.plan_file.specs.PlanHolds.{HoldsStep, HoldsPlan, AnswersPlan, ReadsPlan}
 use Rattle.file_fields.proofs.Unique.{one_found, one_list}
 use Rattle.plan_file.proofs.StepKind.{IsOne}
-use Rattle.plan_file.proofs.OneThresholds as thresholds
-use Rattle.plan_file.proofs.OneHysteresis as hysteresis
-use Rattle.plan_file.proofs.OneEventEnable as event_enable
-use Rattle.plan_file.proofs.OneWatchdog as watchdog
-use Rattle.plan_file.proofs.OnePowerPolicy as power_policy
-use Rattle.plan_file.proofs.OneGlobalEnables as global_enables
-use Rattle.plan_file.proofs.OneBootParam as boot_param
-use Rattle.plan_file.proofs.OneBiosAttribute as bios_attribute
-use Rattle.plan_file.proofs.OneStateEffecter as state_effecter
-use Rattle.plan_file.proofs.OneNumericEffecter as numeric_effecter
-use Rattle.plan_file.proofs.OneUserName as user_name
-use Rattle.plan_file.proofs.OneUserAccess as user_access
-use Rattle.plan_file.proofs.OneChannelAccess as channel_access
 
 -- ---- steps
 
 -- the operation that a step of the kind holds is one
 only : (named : Kind) → IsOne (of_kind named)
-only kind.Thresholds = thresholds.only
-only kind.Hysteresis = hysteresis.only
-only kind.EventEnable = event_enable.only
-only kind.Watchdog = watchdog.only
-only kind.PowerPolicy = power_policy.only
-only kind.GlobalEnables = global_enables.only
-only kind.BootParam = boot_param.only
-only kind.BiosAttribute = bios_attribute.only
-only kind.StateEffecter = state_effecter.only
-only kind.NumericEffecter = numeric_effecter.only
-only kind.UserName = user_name.only
-only kind.UserAccess = user_access.only
-only kind.ChannelAccess = channel_access.only
+only kind.Thresholds = Thresholds.only
+only kind.Hysteresis = Hysteresis.only
+only kind.EventEnable = EventEnable.only
+only kind.Watchdog = Watchdog.only
+only kind.PowerPolicy = PowerPolicy.only
+only kind.GlobalEnables = GlobalEnables.only
+only kind.BootParam = BootParam.only
+only kind.BiosAttribute = BiosAttribute.only
+only kind.StateEffecter = StateEffecter.only
+only kind.NumericEffecter = NumericEffecter.only
+only kind.UserName = UserName.only
+only kind.UserAccess = UserAccess.only
+only kind.ChannelAccess = ChannelAccess.only
 
 -- a table holds one step
 one_step : (tree : Members) (a b : Op) → HoldsStep tree a → HoldsStep tree b → a ≡ b

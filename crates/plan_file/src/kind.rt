@@ -5,6 +5,20 @@ ghost use Rattle.toml.specs.View.{table_view};
 ghost use Rattle.file_fields.specs.Faults.{field_faults};
 ghost use Rattle.plan_file.specs.Kinds.{of_kind, kind_in};
 
+mod bios_attribute;
+mod boot_param;
+mod channel_access;
+mod event_enable;
+mod global_enables;
+mod hysteresis;
+mod numeric_effecter;
+mod power_policy;
+mod state_effecter;
+mod thresholds;
+mod user_access;
+mod user_name;
+mod watchdog;
+
 use cfg_records::Op;
 use file_fields::tree::has_text;
 use file_fields::{Field, Need, Row, Shape};
@@ -69,7 +83,7 @@ macro_rules! word {
 macro_rules! rows {
     (($any:expr) $($kind:ident $module:ident $word:literal)*) => {
         match $any {
-            $(Kind::$kind => &crate::$module::FIELDS,)*
+            $(Kind::$kind => &$module::FIELDS,)*
         }
     };
 }
@@ -78,7 +92,7 @@ macro_rules! rows {
 macro_rules! change {
     (($any:expr, $step:expr) $($kind:ident $module:ident $word:literal)*) => {
         match $any {
-            $(Kind::$kind => Op::$kind(crate::$module::read($step)),)*
+            $(Kind::$kind => Op::$kind($module::read($step)),)*
         }
     };
 }

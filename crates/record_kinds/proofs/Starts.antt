@@ -28,8 +28,8 @@ use Rattle.cfg_records.specs.Attribute.{range_of, attribute_value}
 use Rattle.cfg_records.specs.AttributeLaws.{begins_valid}
 use Rattle.record_kinds.specs.declared.limits.Limits.{Limits}
 use Rattle.record_kinds.specs.declared.limits.Limits.TheVariants as limits
-use Rattle.record_kinds.specs.Limits.{valid}
-use Rattle.record_kinds.specs.Boards.{of_sensor, is_on, limits_at}
+use Rattle.record_kinds.specs.Limits.{valid, of_sensor, limits_at}
+use Rattle.record_kinds.specs.Boards.{is_on}
 use Rattle.record_kinds.specs.Sound.{IsSoundAt, StartsSound}
 
 -- ---- pairs of one kind of item

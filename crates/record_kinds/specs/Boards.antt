@@ -1,9 +1,6 @@
--- The limits that a board file gives to its records.
-use Rattle.std.specs.Prelude.{ℕ, List, length, Bool, Option, Some, None, find, ◌==◌, ◌&&◌}
+-- What a board file has under a number, and what it has on a channel.
+use Rattle.std.specs.Prelude.{ℕ, List, Bool, Option, None, find, ◌==◌, ◌&&◌}
 use Rattle.std.specs.List.{list_any}
-use Rattle.std.specs.Option.{option_map}
-use Rattle.cfg_records.specs.declared.key.Key.{Key}
-use Rattle.cfg_records.specs.declared.key.Key.TheVariants as key
 use Rattle.cfg_records.specs.declared.sensor.Sensor.{Sensor}
 use Rattle.cfg_records.specs.declared.numeric_effecter.NumericEffecter.{NumericEffecter}
 use Rattle.cfg_records.specs.declared.state_effecter.StateEffecter.{StateEffecter}
@@ -15,18 +12,11 @@ use Rattle.cfg_records.specs.declared.channel.AccessStore.{AccessStore}
 use Rattle.cfg_records.specs.declared.channel.AccessStore.TheVariants.{NonVolatile, Volatile, Neither}
 use Rattle.cfg_records.specs.declared.channel.StoredAccess.{StoredAccess}
 use Rattle.cfg_records.specs.declared.attribute.Attribute.{Attribute}
-use Rattle.cfg_records.specs.Attribute.{range_of}
 use Rattle.cfg_records.specs.declared.board_file.BoardFile.{BoardFile}
-use Rattle.record_kinds.specs.declared.limits.Limits.{Limits}
-use Rattle.record_kinds.specs.declared.limits.Limits.TheVariants as limits
 
 -- the sensor of this number
 abbrev pub sensor_at : List Sensor → ℕ → Option Sensor
 sensor_at sensors number = find (λ s. s.number == number) sensors
-
--- the limits that the sensor of this number gives
-abbrev pub of_sensor : (Sensor → Limits) → BoardFile → ℕ → Option Limits
-of_sensor limits_of file number = option_map limits_of (sensor_at file.sensors.items number)
 
 -- the numeric effecter of this id
 abbrev pub numeric_at : List NumericEffecter → ℕ → Option NumericEffecter
@@ -67,20 +57,3 @@ stored_at file at = in_store_of at.store (channel_at file.channels.items at.chan
 -- the attribute of this handle
 abbrev pub attribute_at : List Attribute → ℕ → Option Attribute
 attribute_at attributes handle = find (λ a. a.handle == handle) attributes
-
--- the limits of the key's record: a line for each kind
-abbrev pub limits_at : BoardFile → Key → Option Limits
-limits_at file (key.Thresholds number) = of_sensor (λ s. limits.Thresholds (record { masks = s.thresholds.masks })) file number
-limits_at file (key.Hysteresis number) = of_sensor (λ s. limits.Hysteresis (record {})) file number
-limits_at file (key.EventEnable number) = of_sensor (λ s. limits.EventEnable (record { supported = s.events.supported })) file number
-limits_at file key.PowerPolicy = Some (limits.PowerPolicy (record {}))
-limits_at file key.Watchdog = Some (limits.Watchdog (record {}))
-limits_at file key.GlobalEnables = Some (limits.GlobalEnables (record {}))
-limits_at file (key.BootParam parameter) = Some (limits.BootParam (record { parameter = parameter }))
-limits_at file (key.NumericEffecter id) = option_map (λ e. limits.NumericEffecter (record { enabled = e.enabled; range = e.range })) (numeric_at file.numeric_effecters.items id)
-limits_at file (key.StateEffecter id) = option_map limits.StateEffecter (state_at file.state_effecters.items id)
-limits_at file (key.UserName user) = option_map (λ u. limits.UserName (record {})) (user_at file.users.items user.number)
-limits_at file (key.UserAccess on) = option_map (λ a. limits.UserAccess (record { user = on.user; most = length file.users.items })) (access_at file.user_accesses.items on)
-limits_at file (key.ChannelAccess at) = option_map (λ c. limits.ChannelAccess (record {})) (stored_at file at)
-limits_at file (key.BiosAttribute handle) =
-    option_map (λ a. limits.BiosAttribute (record { handle = handle; read_only = a.read_only; range = range_of a.kind })) (attribute_at file.attributes.items handle)

@@ -5,8 +5,7 @@ use Rattle.cfg_records.specs.declared.board_file.BoardFile.{BoardFile}
 use Rattle.cfg_records.specs.Records.{Records, records_of}
 use Rattle.cfg_records.specs.Boards.{pairs_of}
 use Rattle.record_kinds.specs.declared.limits.Limits.{Limits}
-use Rattle.record_kinds.specs.Limits.{valid}
-use Rattle.record_kinds.specs.Boards.{limits_at}
+use Rattle.record_kinds.specs.Limits.{valid, limits_at}
 
 -- limits and a value that they allow, or neither
 abbrev pub IsSoundAt : Option Limits → Option (List ℕ) → Type 0

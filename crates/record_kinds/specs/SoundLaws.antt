@@ -8,9 +8,8 @@ use Rattle.cfg_records.specs.Keys.{same_key}
 use Rattle.cfg_records.specs.KeyLaws.{exact_key}
 use Rattle.cfg_records.specs.Records.{Records, with_record}
 use Rattle.record_kinds.specs.declared.limits.Limits.{Limits}
-use Rattle.record_kinds.specs.Limits.{valid, sets}
+use Rattle.record_kinds.specs.Limits.{valid, sets, limits_at}
 use Rattle.record_kinds.specs.LimitsLaws.{record_laws}
-use Rattle.record_kinds.specs.Boards.{limits_at}
 use Rattle.record_kinds.specs.Sound.{IsSoundAt, IsSound}
 
 -- ---- there is one proof at most

@@ -1,12 +1,10 @@
 //! The kinds of record, as one, and the limits that a board file gives to its records.
 #![tactic(auto)]
 
-pub mod kind;
 pub mod laws;
 pub mod limits;
 pub mod setup;
 
-pub use kind::PlainKind;
 pub use laws::starts_sound;
-pub use limits::Limits;
+pub use limits::{Limits, PlainKind};
 pub use setup::Setup;

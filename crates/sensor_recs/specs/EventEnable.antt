@@ -13,7 +13,7 @@ use Rattle.cfg_records.specs.Kind.{KindWords, RecordWords}
 use Rattle.cfg_records.specs.AllKinds.{Place}
 use Rattle.cfg_records.specs.Masks.{has}
 use Rattle.cfg_records.specs.Requests.{byte_at}
-use Rattle.cfg_records.specs.EventEnable.{AreWithin, are_within, flags_byte, makes_messages, is_scanning, event_value, enabled_in, IsEventValue, IsEventEnable}
+use Rattle.cfg_records.specs.Sensor.EventEnable.{AreWithin, are_within, flags_byte, makes_messages, is_scanning, event_value, enabled_in, IsEventValue, IsEventEnable}
 use Rattle.sensor_recs.specs.Requests.{sensor_request}
 
 -- the commands that set it and get it

@@ -16,7 +16,7 @@ use Rattle.cfg_records.specs.Meaning.{Decides, IsRefusal}
 use Rattle.cfg_records.specs.InverseLaws.{some_where, made_where, tested_same, same_tested}
 use Rattle.cfg_records.specs.Kind.{KindLaws, RecordLaws}
 use Rattle.cfg_records.specs.RefusalLaws.{refused_field}
-use Rattle.cfg_records.specs.EventEnable.{AreWithin, are_within, flags_byte, makes_messages, is_scanning, event_value, enabled_in, IsEventValue, IsEventEnable}
+use Rattle.cfg_records.specs.Sensor.EventEnable.{AreWithin, are_within, flags_byte, makes_messages, is_scanning, event_value, enabled_in, IsEventValue, IsEventEnable}
 use Rattle.cfg_records.specs.PartLaws.{IsEventEnable-prop}
 use Rattle.cfg_records.specs.EventLaws.{within_true, true_within, has_in_two_bytes, messages_are, scanning_is, is_event_value}
 use Rattle.sensor_recs.specs.EventEnable.{IsSame, AreSupported, Changes, SetsEventEnable, difference, events_after, is_accepted, value_after, undo_change, undo_event_enable, words, record_words}

@@ -1,7 +1,7 @@
 //! Which events of a sensor are enabled, as a kind of record.
 ghost use Rattle.std.specs.Prelude.{◌≡◌, ◌≤◌, ◌/◌, ◌%◌, ◌&&◌, [], ◌∷◌, OnErr, length};
 ghost use Rattle.cfg_records.specs.Meaning.{told};
-ghost use Rattle.cfg_records.specs.EventEnable.{are_within, enabled_in};
+ghost use Rattle.cfg_records.specs.Sensor.EventEnable.{are_within, enabled_in};
 ghost use Rattle.sensor_recs.specs.EventEnable.{difference, both_masks, events_after, is_accepted, events_outcome, selection, mask_bytes, event_enable_body, event_masks_in, event_change_in, event_enable_in, undo_change};
 
 use crate::request::sensor_request;

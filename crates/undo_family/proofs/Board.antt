@@ -3,7 +3,7 @@ use Rattle.std.proofs.Common.{◌≡◌, ℕ, List, Option, Some, None, sym, sub
 use Rattle.two_wire.specs.declared.Bus.{Bus}
 use Rattle.cfg_records.specs.declared.board_file.BoardFile.{BoardFile}
 use Rattle.record_kinds.specs.declared.limits.Limits.{Limits}
-use Rattle.record_kinds.specs.Boards.{limits_at}
+use Rattle.record_kinds.specs.Limits.{limits_at}
 use Rattle.record_kinds.specs.Sound.{IsSoundAt}
 use Rattle.record_kinds.proofs.Starts.{starts_sound}
 use Rattle.bmc_board.proofs.OneAnswer.{has_answer}

@@ -17,9 +17,8 @@ use Rattle.cfg_records.specs.KeyLaws.{exact_key}
 use Rattle.cfg_records.specs.Records.{Records, with_record}
 use Rattle.cfg_records.specs.RecordLaws.{with_record_same, with_record_back}
 use Rattle.record_kinds.specs.declared.limits.Limits.{Limits}
-use Rattle.record_kinds.specs.Limits.{key_of, get_asked, set_asked, restorable, inverse, is_reply, is_of, sets, conf}
+use Rattle.record_kinds.specs.Limits.{key_of, get_asked, set_asked, restorable, inverse, is_reply, is_of, sets, conf, limits_at}
 use Rattle.record_kinds.specs.LimitsLaws as laws
-use Rattle.record_kinds.specs.Boards.{limits_at}
 use Rattle.bmc_board.specs.Request.{Request as BoardRequest}
 use Rattle.bmc_board.specs.Request.{Get, Set}
 use Rattle.bmc_board.specs.Request.{asked_by}

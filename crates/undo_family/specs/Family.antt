@@ -11,8 +11,7 @@ use Rattle.cfg_records.specs.declared.message.Answered.{Answered as BoardAnswer}
 use Rattle.cfg_records.specs.declared.board_file.BoardFile.{BoardFile}
 use Rattle.cfg_records.specs.Records.{Records, with_record}
 use Rattle.record_kinds.specs.declared.limits.Limits.{Limits}
-use Rattle.record_kinds.specs.Limits.{key_of, get_asked, set_asked, restorable, inverse, valid, sets, view, conf}
-use Rattle.record_kinds.specs.Boards.{limits_at}
+use Rattle.record_kinds.specs.Limits.{key_of, get_asked, set_asked, restorable, inverse, valid, sets, view, conf, limits_at}
 use Rattle.bmc_board.specs.Request.{Get, asked_by}
 use Rattle.bmc_board.specs.State.{State}
 use Rattle.bmc_board.specs.Answer.{answer_of}

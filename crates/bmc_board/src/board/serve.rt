@@ -118,8 +118,7 @@ impl<S: Store> Board<S> {
     ghost use Rattle.bmc_board.specs.Answer.{set_outcome, serve as serve_of, reply as reply_of, answer_of};
     ghost use Rattle.std.specs.Prelude.{Some};
     ghost use Rattle.cfg_records.specs.Meaning.{told};
-    ghost use Rattle.record_kinds.specs.Limits.{key_of, reader_of};
-    ghost use Rattle.record_kinds.specs.Boards.{limits_at};
+    ghost use Rattle.record_kinds.specs.Limits.{key_of, reader_of, limits_at};
 
     /// A board of this file over this store of its records.
     pub fn open(alloc: Global, file: BoardFile, store: S) -> Result<Self, AllocError>

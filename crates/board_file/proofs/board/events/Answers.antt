@@ -1,7 +1,7 @@
 use Rattle.std.proofs.Common.{◌≡◌, ◌<◌, ◌≤◌, Some, sym, ◌∙◌, ap, arith, lit<}
 use Rattle.toml.specs.View.{table_view}
 use Rattle.cfg_records.specs.Masks.{has}
-use Rattle.cfg_records.specs.EventEnable.{flags_byte}
+use Rattle.cfg_records.specs.Sensor.EventEnable.{flags_byte}
 use Rattle.cfg_records.specs.declared.event_enable.EventMasks.{EventMasks}
 use Rattle.file_fields.specs.declared.field.Field.TheVariants as field
 use Rattle.board_file.specs.declared.tables.TheConstants.{SENSOR}

@@ -1,7 +1,7 @@
 use Rattle.std.proofs.Common.{false, refl, lit<}
-use Rattle.cfg_records.specs.EventEnable.{are_within}
+use Rattle.cfg_records.specs.Sensor.EventEnable.{are_within}
 use Rattle.cfg_records.specs.EventLaws.{tested_events}
-use Rattle.cfg_records.specs.Thresholds.{is_clear, is_in_order}
+use Rattle.cfg_records.specs.Sensor.Thresholds.{is_clear, is_in_order}
 use Rattle.cfg_records.specs.ThresholdLaws.{tests_pass}
 use Rattle.cfg_records.proofs.sample.fan.Goals as goal
 

@@ -2,9 +2,8 @@ use Rattle.std.proofs.Common.{◌≡◌, ◌+◌, ◌≤◌, ℕ, List, Option, 
 use Rattle.std.specs.Option.{option_copied}
 use Rattle.cfg_records.specs.Meaning.{room_for}
 use Rattle.cfg_records.specs.declared.key.Key.{Key}
-use Rattle.record_kinds.specs.Limits.{is_of, valid, view, get_asked}
+use Rattle.record_kinds.specs.Limits.{is_of, valid, view, get_asked, limits_at}
 use Rattle.record_kinds.specs.LimitsLaws as laws
-use Rattle.record_kinds.specs.Boards.{limits_at}
 use Rattle.record_kinds.specs.SoundLaws.{valid_at}
 use Rattle.bmc_board.proofs.AnswerFacts.{limits_are_of}
 use Rattle.bmc_board.proofs.board.Board.get.Goals as goal

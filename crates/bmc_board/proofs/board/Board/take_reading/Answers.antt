@@ -1,5 +1,5 @@
 use Rattle.std.proofs.Common.{◌≡◌, ℕ, List, true, false, sym, ◌∙◌, ap}
-use Rattle.cfg_records.specs.EventEnable.{is_scanning}
+use Rattle.cfg_records.specs.Sensor.EventEnable.{is_scanning}
 use Rattle.cfg_records.specs.Requests.{byte_at}
 use Rattle.cfg_records.specs.declared.key.Key.TheVariants as key
 use Rattle.sensor_recs.specs.declared.compared.Taken.{Taken}

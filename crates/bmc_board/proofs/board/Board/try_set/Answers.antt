@@ -1,7 +1,6 @@
 use Rattle.std.proofs.Common.{◌≡◌, List, ℕ, Some, sym, ◌∙◌, subst}
 use Rattle.cfg_records.specs.declared.key.Key.{Key}
-use Rattle.record_kinds.specs.Limits.{key_of, is_of, valid}
-use Rattle.record_kinds.specs.Boards.{limits_at}
+use Rattle.record_kinds.specs.Limits.{key_of, is_of, valid, limits_at}
 use Rattle.record_kinds.specs.SoundLaws.{valid_at}
 use Rattle.bmc_board.proofs.AnswerFacts.{limits_are_of}
 use Rattle.bmc_board.proofs.board.Board.try_set.Goals as goal

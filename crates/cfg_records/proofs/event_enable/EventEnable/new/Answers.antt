@@ -1,5 +1,5 @@
 use Rattle.std.proofs.Common.{◌<◌}
-use Rattle.cfg_records.specs.EventEnable.{AreWithin}
+use Rattle.cfg_records.specs.Sensor.EventEnable.{AreWithin}
 use Rattle.cfg_records.specs.EventLaws.{is_event_enable}
 use Rattle.cfg_records.proofs.event_enable.EventEnable.new.Goals as goal
 

@@ -1,5 +1,5 @@
 use Rattle.std.proofs.Common.{sym, arith, IsFalse}
-use Rattle.cfg_records.specs.Thresholds.{is_there}
+use Rattle.cfg_records.specs.Sensor.Thresholds.{is_there}
 use Rattle.cfg_records.specs.MaskLaws.{is_false}
 use Rattle.cfg_records.specs.ThresholdLaws.{clear_true, true_clear}
 use Rattle.cfg_records.proofs.thresholds.ThresholdMasks.is_clear.Goals as goal

@@ -1,5 +1,5 @@
 use Rattle.std.proofs.Common.{◌≡◌, ℕ, ◌<◌, ◌==◌, ◌||◌, true, slice_index}
-use Rattle.cfg_records.specs.Thresholds.{is_there}
+use Rattle.cfg_records.specs.Sensor.Thresholds.{is_there}
 use Rattle.cfg_records.proofs.thresholds.ThresholdMasks.is_clear.Given as goal
 
 abbrev pub invariant-loop-place : goal.invariant-loop-place

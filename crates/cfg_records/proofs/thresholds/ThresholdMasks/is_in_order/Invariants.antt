@@ -1,5 +1,5 @@
 use Rattle.std.proofs.Common.{slice_index}
-use Rattle.cfg_records.specs.Thresholds.{is_there, place_of}
+use Rattle.cfg_records.specs.Sensor.Thresholds.{is_there, place_of}
 use Rattle.cfg_records.proofs.Orders.{IsOrderedTo}
 use Rattle.cfg_records.proofs.thresholds.ThresholdMasks.is_in_order.Given as goal
 

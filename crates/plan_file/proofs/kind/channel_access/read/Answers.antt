@@ -1,0 +1,27 @@
+use Rattle.std.proofs.Common.{◌≡◌, true, is_some, lit<, refl, sym, ◌∙◌, ap}
+use Rattle.toml.specs.View.{view, table_view}
+use Rattle.file_fields.specs.declared.field.Field.TheVariants as field
+use Rattle.file_fields.specs.declared.row.Shape.TheVariants as shape
+use Rattle.file_fields.specs.declared.row.Need.TheVariants as need
+use Rattle.plan_file.specs.declared.kind.channel_access.TheConstants.{FIELDS}
+use Rattle.file_fields.specs.Trees.{in_field}
+use Rattle.file_fields.specs.Channels.{store_of}
+use Rattle.file_fields.proofs.Rows.{all_sound, value_of, same_value, number_of, below}
+use Rattle.plan_file.proofs.kind.channel_access.read.Goals as goal
+
+pub channel_in-requires : goal.channel_in-requires
+channel_in-requires c = below 16 (number_of (table_view c.args.step.now) field.Channel 0 15 (all_sound FIELDS (table_view c.args.step.now) c.requires).0) (lit< tt)
+
+pub value_in-requires : goal.value_in-requires
+value_in-requires c =
+    let tree = table_view c.args.step.now in
+    let value = value_of tree (record { 0 = field.Store; 1 = shape.Store; 2 = need.Always }) (in_field field.Store tree) refl refl (all_sound FIELDS tree c.requires).1.0 in
+    rw value.found refl
+
+pub unwrap-requires : goal.unwrap-requires
+unwrap-requires c =
+    let tree = table_view c.args.step.now in
+    let value = value_of tree (record { 0 = field.Store; 1 = shape.Store; 2 = need.Always }) (in_field field.Store tree) refl refl (all_sound FIELDS tree c.requires).1.0 in
+    let same = same_value value.value (view c.value_in.result.now) (in_field field.Store tree) value.found c.value_in.ensures in
+    let valid : is_some (store_of value.value) ≡ true = value.within in
+    ap is_some c.store.ensures ∙ ap (λ d. is_some (store_of d)) (sym same) ∙ valid

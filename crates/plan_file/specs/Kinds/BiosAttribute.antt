@@ -1,0 +1,38 @@
+-- What a step that sets the value of a BIOS attribute holds.
+use Rattle.std.specs.Prelude.{◌≡◌, Some, codes}
+use Rattle.std.specs.List.{AllZip}
+use Rattle.toml.specs.Data.{Members}
+use Rattle.cfg_records.specs.declared.op.Op.{Op}
+use Rattle.cfg_records.specs.declared.op.Op.TheVariants as op
+use Rattle.cfg_records.specs.declared.attribute_value.AttributeValue.{AttributeValue}
+use Rattle.cfg_records.specs.declared.attribute_value.AttributeValue.TheVariants as attribute
+use Rattle.cfg_records.specs.AttributeValue.{type_of_value, value_bytes}
+use Rattle.cfg_records.specs.declared.bios_attribute.SetBiosAttribute.{SetBiosAttribute}
+use Rattle.file_fields.specs.declared.field.Field.TheVariants as field
+use Rattle.file_fields.specs.Trees.{IsNaturalIn, members_in, HasNumber, Lacks}
+use Rattle.file_fields.specs.Attributes.{text_in}
+use Rattle.plan_file.specs.declared.kind.bios_attribute.TheConstants.{FIELDS}
+use Rattle.plan_file.specs.StepKind.{StepKind}
+
+-- the step gives this value of an attribute, its indexes, its text or its number, and none besides
+abbrev pub GivesValue : Members → AttributeValue → Type 0
+GivesValue tree (attribute.Indexes indexes) = AllZip IsNaturalIn (members_in field.Indexes tree) indexes × (Lacks field.Text tree × Lacks field.Number tree)
+GivesValue tree (attribute.Text text) = (text_in field.Text tree ≡ Some text) × (Lacks field.Indexes tree × Lacks field.Number tree)
+GivesValue tree (attribute.Number n) = HasNumber field.Number tree n × (Lacks field.Indexes tree × Lacks field.Text tree)
+
+-- the step holds a change of an attribute's value, to the one that it gives: the value's type, and its bytes
+pub record HoldsBiosAttribute (tree : Members) (set : SetBiosAttribute) : Type 0 where
+  pub handle : HasNumber field.Handle tree set.attribute
+  pub value : AttributeValue
+  pub given : GivesValue tree value
+  pub of_type : set.attribute_type ≡ type_of_value value
+  pub sent : set.value ≡ value_bytes value
+
+-- the operation is of this kind, and the step holds it
+abbrev pub HoldsOp : Members → Op → Type 0
+HoldsOp tree (op.BiosAttribute set) = HoldsBiosAttribute tree set
+HoldsOp tree other = ⊥
+
+-- such a step, as one value
+abbrev pub kind : StepKind
+kind = record { word = codes "bios-attribute"; rows = FIELDS; Holds = HoldsOp }

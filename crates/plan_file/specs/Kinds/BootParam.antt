@@ -1,0 +1,36 @@
+-- What a step that sets a boot parameter holds.
+use Rattle.std.specs.Prelude.{◌≡◌, ℕ, List, [], length, Option, Some, None, codes}
+use Rattle.toml.specs.Data.{Data, Members}
+use Rattle.cfg_records.specs.declared.op.Op.{Op}
+use Rattle.cfg_records.specs.declared.op.Op.TheVariants as op
+use Rattle.cfg_records.specs.declared.boot_param.BootChange.{BootChange}
+use Rattle.cfg_records.specs.declared.boot_param.SetBootParam.{SetBootParam}
+use Rattle.cfg_records.specs.BootParam.{selector, parameter_of, change_bytes}
+use Rattle.file_fields.specs.declared.field.Field.TheVariants as field
+use Rattle.file_fields.specs.Trees.{in_field, bytes_in, HasNumber, HasFlag}
+use Rattle.plan_file.specs.declared.kind.boot_param.TheConstants.{FIELDS}
+use Rattle.plan_file.specs.StepKind.{StepKind}
+
+-- what a step gives are these bytes: none where it gives nothing
+abbrev pub IsGiven : Option Data → List ℕ → Type 0
+IsGiven None bytes = bytes ≡ []
+IsGiven (Some d) bytes = bytes_in (length bytes) d ≡ Some bytes
+
+-- the step says what becomes of a boot parameter's data
+pub record HoldsBootChange (tree : Members) (change : BootChange) : Type 0 where
+  pub named : HasNumber field.Param tree (selector (parameter_of change))
+  pub given : IsGiven (in_field field.BootData tree) (change_bytes change)
+
+-- the step holds a change of a boot parameter
+pub record HoldsBootParam (tree : Members) (set : SetBootParam) : Type 0 where
+  pub invalid : HasFlag field.Invalid tree set.invalid
+  pub change : HoldsBootChange tree set.change
+
+-- the operation is of this kind, and the step holds it
+abbrev pub HoldsOp : Members → Op → Type 0
+HoldsOp tree (op.BootParam set) = HoldsBootParam tree set
+HoldsOp tree other = ⊥
+
+-- such a step, as one value
+abbrev pub kind : StepKind
+kind = record { word = codes "boot-param"; rows = FIELDS; Holds = HoldsOp }

@@ -1,0 +1,34 @@
+-- What a step that sets the access of a channel in one of its stores holds.
+use Rattle.std.specs.Prelude.{◌≡◌, Some, option_and_then, codes}
+use Rattle.toml.specs.Data.{Members}
+use Rattle.cfg_records.specs.declared.op.Op.{Op}
+use Rattle.cfg_records.specs.declared.op.Op.TheVariants as op
+use Rattle.cfg_records.specs.declared.channel.ChannelChange.{ChannelChange}
+use Rattle.cfg_records.specs.declared.channel.ChannelChange.TheVariants as channel
+use Rattle.cfg_records.specs.declared.channel.SetChannelAccess.{SetChannelAccess}
+use Rattle.file_fields.specs.declared.field.Field.TheVariants as field
+use Rattle.file_fields.specs.Trees.{in_field, HasNumber, Lacks}
+use Rattle.file_fields.specs.Channels.{store_of}
+use Rattle.plan_file.specs.declared.kind.channel_access.TheConstants.{FIELDS}
+use Rattle.plan_file.specs.StepKind.{StepKind}
+
+-- the step says what of a channel's access and limit changes: those that it gives
+abbrev pub HoldsChannelChange : Members → ChannelChange → Type 0
+HoldsChannelChange tree (channel.Access access) = HasNumber field.Access tree access.number × Lacks field.Limit tree
+HoldsChannelChange tree (channel.Limit limit) = Lacks field.Access tree × HasNumber field.Limit tree limit.number
+HoldsChannelChange tree (channel.Both access limit) = HasNumber field.Access tree access.number × HasNumber field.Limit tree limit.number
+
+-- the step holds a change of a channel's access in one of its stores
+pub record HoldsChannelAccess (tree : Members) (set : SetChannelAccess) : Type 0 where
+  pub channel : HasNumber field.Channel tree set.channel.number
+  pub store : option_and_then store_of (in_field field.Store tree) ≡ Some set.store
+  pub change : HoldsChannelChange tree set.change
+
+-- the operation is of this kind, and the step holds it
+abbrev pub HoldsOp : Members → Op → Type 0
+HoldsOp tree (op.ChannelAccess set) = HoldsChannelAccess tree set
+HoldsOp tree other = ⊥
+
+-- such a step, as one value
+abbrev pub kind : StepKind
+kind = record { word = codes "channel-access"; rows = FIELDS; Holds = HoldsOp }

@@ -1,0 +1,23 @@
+-- What a step that sets the global enables holds.
+use Rattle.std.specs.Prelude.{codes}
+use Rattle.toml.specs.Data.{Members}
+use Rattle.cfg_records.specs.declared.op.Op.{Op}
+use Rattle.cfg_records.specs.declared.op.Op.TheVariants as op
+use Rattle.cfg_records.specs.declared.global_enables.SetGlobalEnables.{SetGlobalEnables}
+use Rattle.file_fields.specs.declared.field.Field.TheVariants as field
+use Rattle.file_fields.specs.Trees.{HasNumber}
+use Rattle.plan_file.specs.declared.kind.global_enables.TheConstants.{FIELDS}
+use Rattle.plan_file.specs.StepKind.{StepKind}
+
+-- the step holds a change of the global enables
+abbrev pub HoldsGlobalEnables : Members → SetGlobalEnables → Type 0
+HoldsGlobalEnables tree set = HasNumber field.Value tree set.byte
+
+-- the operation is of this kind, and the step holds it
+abbrev pub HoldsOp : Members → Op → Type 0
+HoldsOp tree (op.GlobalEnables set) = HoldsGlobalEnables tree set
+HoldsOp tree other = ⊥
+
+-- such a step, as one value
+abbrev pub kind : StepKind
+kind = record { word = codes "global-enables"; rows = FIELDS; Holds = HoldsOp }

@@ -1,0 +1,25 @@
+-- What a step that sets hysteresis holds.
+use Rattle.std.specs.Prelude.{codes}
+use Rattle.toml.specs.Data.{Members}
+use Rattle.cfg_records.specs.declared.op.Op.{Op}
+use Rattle.cfg_records.specs.declared.op.Op.TheVariants as op
+use Rattle.cfg_records.specs.declared.hysteresis.SetHysteresis.{SetHysteresis}
+use Rattle.file_fields.specs.declared.field.Field.TheVariants as field
+use Rattle.file_fields.specs.Trees.{HasNumber}
+use Rattle.plan_file.specs.declared.kind.hysteresis.TheConstants.{FIELDS}
+use Rattle.plan_file.specs.StepKind.{StepKind}
+
+-- the step holds a change of hysteresis
+pub record HoldsHysteresis (tree : Members) (set : SetHysteresis) : Type 0 where
+  pub sensor : HasNumber field.Sensor tree set.sensor
+  pub positive : HasNumber field.Positive tree set.positive
+  pub negative : HasNumber field.Negative tree set.negative
+
+-- the operation is of this kind, and the step holds it
+abbrev pub HoldsOp : Members → Op → Type 0
+HoldsOp tree (op.Hysteresis set) = HoldsHysteresis tree set
+HoldsOp tree other = ⊥
+
+-- such a step, as one value
+abbrev pub kind : StepKind
+kind = record { word = codes "hysteresis"; rows = FIELDS; Holds = HoldsOp }

@@ -1,0 +1,26 @@
+-- What a step that sets the value of a numeric effecter holds.
+use Rattle.std.specs.Prelude.{codes}
+use Rattle.toml.specs.Data.{Members}
+use Rattle.cfg_records.specs.declared.op.Op.{Op}
+use Rattle.cfg_records.specs.declared.op.Op.TheVariants as op
+use Rattle.cfg_records.specs.declared.numeric_effecter.SetNumericEffecter.{SetNumericEffecter}
+use Rattle.file_fields.specs.declared.field.Field.TheVariants as field
+use Rattle.file_fields.specs.Numeric.{sized_bytes, AreBytes}
+use Rattle.file_fields.specs.Trees.{HasNumber}
+use Rattle.plan_file.specs.declared.kind.numeric_effecter.TheConstants.{FIELDS}
+use Rattle.plan_file.specs.StepKind.{StepKind}
+
+-- the step holds a change of a numeric effecter's value: the bytes of its number, of its size
+pub record HoldsNumericEffecter (tree : Members) (set : SetNumericEffecter) : Type 0 where
+  pub effecter : HasNumber field.Effecter tree set.effecter
+  pub size : HasNumber field.Size tree set.size
+  pub value : AreBytes set.value (sized_bytes field.Value tree)
+
+-- the operation is of this kind, and the step holds it
+abbrev pub HoldsOp : Members → Op → Type 0
+HoldsOp tree (op.NumericEffecter set) = HoldsNumericEffecter tree set
+HoldsOp tree other = ⊥
+
+-- such a step, as one value
+abbrev pub kind : StepKind
+kind = record { word = codes "numeric-effecter"; rows = FIELDS; Holds = HoldsOp }

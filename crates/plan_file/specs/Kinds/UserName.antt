@@ -1,0 +1,25 @@
+-- What a step that sets the name of a user holds.
+use Rattle.std.specs.Prelude.{◌≡◌, Some, option_and_then, codes}
+use Rattle.toml.specs.Data.{Members}
+use Rattle.cfg_records.specs.declared.op.Op.{Op}
+use Rattle.cfg_records.specs.declared.op.Op.TheVariants as op
+use Rattle.cfg_records.specs.declared.user.SetUserName.{SetUserName}
+use Rattle.file_fields.specs.declared.field.Field.TheVariants as field
+use Rattle.file_fields.specs.Trees.{in_field, HasNumber}
+use Rattle.file_fields.specs.Users.{name_of}
+use Rattle.plan_file.specs.declared.kind.user_name.TheConstants.{FIELDS}
+use Rattle.plan_file.specs.StepKind.{StepKind}
+
+-- the step holds a change of a user's name
+pub record HoldsUserName (tree : Members) (set : SetUserName) : Type 0 where
+  pub user : HasNumber field.User tree set.user
+  pub name : option_and_then name_of (in_field field.NameText tree) ≡ Some set.name
+
+-- the operation is of this kind, and the step holds it
+abbrev pub HoldsOp : Members → Op → Type 0
+HoldsOp tree (op.UserName set) = HoldsUserName tree set
+HoldsOp tree other = ⊥
+
+-- such a step, as one value
+abbrev pub kind : StepKind
+kind = record { word = codes "user-name"; rows = FIELDS; Holds = HoldsOp }

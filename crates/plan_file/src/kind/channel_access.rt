@@ -1,0 +1,55 @@
+//! The step that sets the access of a channel in one of its stores.
+ghost use Rattle.std.specs.Prelude.{◌≡◌, []};
+ghost use Rattle.toml.specs.View.{table_view};
+ghost use Rattle.file_fields.specs.Faults.{field_faults};
+ghost use Rattle.file_fields.specs.Trees.{HasNumber, HasBelow};
+ghost use Rattle.plan_file.specs.Kinds.ChannelAccess.{HoldsChannelChange, HoldsChannelAccess};
+
+use cfg_records::{ChannelChange, SetChannelAccess, SixBits};
+use file_fields::channels::{channel_in, store};
+use file_fields::tree::{byte_in, in_field, value_in};
+use file_fields::{Field, Need, Row, Shape};
+use toml::Table;
+
+/// The fields of a step that sets the access of a channel in one of its stores.
+pub const FIELDS: [Row; 4] = [
+    Row(Field::Channel, Shape::Number(0, 15), Need::Always),
+    Row(Field::Store, Shape::Store, Need::Always),
+    Row(Field::Access, Shape::Access, Need::WithoutLimit),
+    Row(Field::Limit, Shape::Number(1, 5), Need::Never),
+];
+
+/// The bits that the step has in the field.
+fn six_bits(step: &Table, field: Field) -> SixBits
+    requires { HasBelow 64 field (table_view step.now) }
+    ensures { HasNumber field (table_view step.now) result.number }
+{
+    SixBits::of(byte_in(step, field))
+}
+
+/// Which of a channel's access and limit the step changes: those that it gives.
+fn channel_change(step: &Table) -> ChannelChange
+    requires { field_faults FIELDS (table_view step.now) ≡ [] }
+    ensures { HoldsChannelChange (table_view step.now) result }
+{
+    if in_field(step, Field::Limit).is_none() {
+        return ChannelChange::Access(six_bits(step, Field::Access));
+    }
+    let limit = six_bits(step, Field::Limit);
+    if in_field(step, Field::Access).is_none() {
+        return ChannelChange::Limit(limit);
+    }
+    ChannelChange::Both(six_bits(step, Field::Access), limit)
+}
+
+/// What the step makes of the access of a channel in one of its stores.
+pub fn read(step: &Table) -> SetChannelAccess
+    requires { field_faults FIELDS (table_view step.now) ≡ [] }
+    ensures { HoldsChannelAccess (table_view step.now) result }
+{
+    SetChannelAccess {
+        channel: channel_in(step, Field::Channel),
+        store: store(value_in(step, Field::Store)).unwrap(),
+        change: channel_change(step),
+    }
+}

@@ -1,0 +1,44 @@
+//! The step that sets states of a state effecter.
+ghost use Rattle.std.specs.Prelude.{◌≡◌, ◌≤◌, [], true, is_some, map, length};
+ghost use Rattle.toml.specs.View.{table_view, view};
+ghost use Rattle.std.specs.List.{list_all, AllZip};
+ghost use Rattle.file_fields.specs.States.{change_of};
+ghost use Rattle.file_fields.specs.Faults.{field_faults};
+ghost use Rattle.plan_file.specs.Kinds.StateEffecter.{IsChangeIn, HoldsStateEffecter};
+
+use cfg_records::{FieldChanges, SetStateEffecter};
+use file_fields::states::change_of;
+use file_fields::tree::{members_in, word_in};
+use file_fields::{Field, Need, Row, Shape};
+use toml::{Table, Value};
+
+/// The fields of a step that sets states of a state effecter.
+pub const FIELDS: [Row; 2] = [
+    Row(Field::Effecter, Shape::Number(0, 0xFFFF), Need::Always),
+    Row(Field::States, Shape::StateChanges, Need::Always),
+];
+
+/// What becomes of each field, as these values say.
+fn changes_of(values: &[Value]) -> FieldChanges
+    requires few { length values.now ≤ 8 }
+    requires changes { list_all (λ value. is_some (change_of (view value))) values.now ≡ true }
+    ensures held { AllZip IsChangeIn (map view values.now) result }
+    ensures few { length result ≤ 8 }
+{
+    let mut changes = FieldChanges::new();
+    for value in values {
+        changes.push(change_of(value).unwrap());
+    }
+    changes
+}
+
+/// What the step makes of the states of a state effecter.
+pub fn read(step: &Table) -> SetStateEffecter
+    requires { field_faults FIELDS (table_view step.now) ≡ [] }
+    ensures { HoldsStateEffecter (table_view step.now) result }
+{
+    SetStateEffecter {
+        effecter: word_in(step, Field::Effecter),
+        changes: changes_of(members_in(step, Field::States)),
+    }
+}

@@ -1,0 +1,94 @@
+//! The step that sets thresholds.
+ghost use Rattle.std.specs.Prelude.{◌≡◌, ◌≤◌, ◌<◌, ◌==◌, ◌&&◌, ◌||◌, ℕ, [], map, Some};
+ghost use Rattle.toml.specs.View.{table_view};
+ghost use Rattle.cfg_records.specs.Masks.{has};
+ghost use Rattle.file_fields.specs.Trees.{number_in};
+ghost use Rattle.file_fields.specs.Ranges.{or_zero};
+ghost use Rattle.file_fields.specs.Faults.{field_faults};
+ghost use Rattle.plan_file.specs.Kinds.Thresholds.{is_given, HoldsThresholds};
+
+use cfg_records::SetThresholds;
+use file_fields::tree::{byte_in, in_field, number};
+use file_fields::{BYTE, Field, Need, Row};
+use toml::Table;
+
+/// The fields of a step that sets thresholds.
+pub const FIELDS: [Row; 7] = [
+    Row(Field::Sensor, BYTE, Need::Always),
+    Row(Field::LowerNonCritical, BYTE, Need::Never),
+    Row(Field::LowerCritical, BYTE, Need::Never),
+    Row(Field::LowerNonRecoverable, BYTE, Need::Never),
+    Row(Field::UpperNonCritical, BYTE, Need::Never),
+    Row(Field::UpperCritical, BYTE, Need::Never),
+    Row(Field::UpperNonRecoverable, BYTE, Need::Never),
+];
+
+/// The fields of the thresholds, each at its place in a mask.
+pub const LIMITS: [Field; 6] = [
+    Field::LowerNonCritical,
+    Field::LowerCritical,
+    Field::LowerNonRecoverable,
+    Field::UpperNonCritical,
+    Field::UpperCritical,
+    Field::UpperNonRecoverable,
+];
+
+/// The mask, with the place besides where the step gives the threshold there.
+fn with_given(mask: u8, step: &Table, place: usize) -> u8
+    requires { place < 6 }
+    ensures { (other : ℕ) → has result other ≡ (has mask other || ((place == other) && is_given (table_view step.now) place)) }
+{
+    if in_field(step, LIMITS[place]).is_some() {
+        return mask | 1 << place;
+    }
+    mask
+}
+
+/// The mask of the thresholds that the step gives.
+fn given(step: &Table) -> u8
+    ensures { (place : ℕ) → has result place ≡ is_given (table_view step.now) place }
+{
+    let mut mask = 0;
+    for place in 0..6 {
+        mask = with_given(mask, step, place);
+    }
+    mask
+}
+
+/// The threshold that the step gives, 0 where it gives none.
+fn limit(step: &Table, field: Field) -> u8
+    requires { (n : ℕ) → number_in field (table_view step.now) ≡ Some n → n ≤ 255 }
+    ensures { result ≡ or_zero (number_in field (table_view step.now)) }
+{
+    match number(step, field) {
+        Some(number) => number as u8,
+        None => 0,
+    }
+}
+
+/// The thresholds that the step gives, each at its place.
+fn limits(step: &Table) -> [u8; 6]
+    requires { field_faults FIELDS (table_view step.now) ≡ [] }
+    ensures { result ≡ map (λ field. or_zero (number_in field (table_view step.now))) LIMITS }
+{
+    [
+        limit(step, Field::LowerNonCritical),
+        limit(step, Field::LowerCritical),
+        limit(step, Field::LowerNonRecoverable),
+        limit(step, Field::UpperNonCritical),
+        limit(step, Field::UpperCritical),
+        limit(step, Field::UpperNonRecoverable),
+    ]
+}
+
+/// What the step makes of thresholds.
+pub fn read(step: &Table) -> SetThresholds
+    requires { field_faults FIELDS (table_view step.now) ≡ [] }
+    ensures { HoldsThresholds (table_view step.now) result }
+{
+    SetThresholds {
+        sensor: byte_in(step, Field::Sensor),
+        mask: given(step),
+        values: limits(step),
+    }
+}
