@@ -20,8 +20,8 @@ use crate::users::users;
 use cfg_records::event_enable::{MESSAGES_PLACE, SCANNING_PLACE};
 use cfg_records::mask::has;
 use cfg_records::{
-    BoardFile, BootOptions, Device, Distinct, EventEnable, EventMasks, GlobalEnables, Hysteresis,
-    LogCapacity, ManufacturerId, Numbered, PowerPolicy, SdrRecord, SdrRecords, Sensor, Sensors,
+    BoardFile, BootOptions, Device, Distinct, EventEnable, EventMasks, GlobalEnables, LogCapacity,
+    ManufacturerId, Numbered, PowerPolicy, SdrRecord, SdrRecords, Sensor, Sensors,
 };
 use file_fields::Field;
 use file_fields::range::{boot_flags, digits, enables, record, thresholds, watchdog};
@@ -68,12 +68,11 @@ fn sensor(table: &Table) -> Sensor
     ensures { HoldsSensor (table_view table.now) result }
 {
     let values = value_in(table, Field::Thresholds);
-    let [positive, negative] = pair_in(table, Field::Hysteresis);
     Sensor {
         number: byte_in(table, Field::Number),
         sensor_type: byte_in(table, Field::Type),
         thresholds: thresholds(table, values).unwrap(),
-        hysteresis: Hysteresis { positive, negative },
+        hysteresis: pair_in(table, Field::Hysteresis).into(),
         events: events(table),
     }
 }

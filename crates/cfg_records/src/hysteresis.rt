@@ -1,6 +1,6 @@
 //! The hysteresis of a sensor: in a board file, and as it is set.
 ghost use Rattle.std.specs.Prelude.{◌≡◌};
-ghost use Rattle.cfg_records.specs.Hysteresis.{hysteresis_value};
+ghost use Rattle.cfg_records.specs.Sensor.Hysteresis.{hysteresis_value};
 
 use crate::key::Key;
 use crate::value::Value;
@@ -10,6 +10,14 @@ use crate::value::Value;
 pub struct Hysteresis {
     pub positive: u8,
     pub negative: u8,
+}
+
+impl From<[u8; 2]> for Hysteresis {
+    ghost from_gives = { λ bytes made. hysteresis_value made ≡ bytes };
+
+    fn from([positive, negative]: [u8; 2]) -> Hysteresis {
+        Hysteresis { positive, negative }
+    }
 }
 
 /// Sets both hysteresis values.
