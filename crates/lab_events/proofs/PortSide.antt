@@ -1,5 +1,5 @@
 -- What the ports do in a lab, those of the model do.
-use Rattle.std.proofs.Common.{◌≡◌, ℕ, Bool, cond, List, ◌++◌, map, Option, Some, None, Result, refl, sym, ◌∙◌, ap, subst, ◌&&◌, [], ◌∷◌, take, length}
+use Rattle.std.proofs.Common.{◌≡◌, ℕ, cond, List, ◌++◌, map, Option, Some, None, Result, refl, sym, ◌∙◌, ap, subst, ◌&&◌, [], ◌∷◌, take, length}
 use Rattle.std.specs.Prelude.{◌==◌, slice_get}
 use Rattle.std.specs.List.{All, AllZip}
 use Rattle.std.proofs.lemmas.Bool.{cond_both}
@@ -13,9 +13,7 @@ use Rattle.mctp_net.specs.declared.message.Message.{Message}
 use Rattle.mctp_net.specs.Assembly.{is_ours}
 use Rattle.cfg_records.specs.declared.board_file.BoardFile.{BoardFile}
 use Rattle.bmc_board.specs.State.{State, state_of}
-use Rattle.bus_model.specs.Request.{idles_of}
 use Rattle.ipmb_frame.specs.declared.message.Request.{Request}
-use Rattle.lab_model.specs.declared.marks.Mark.{Mark}
 use Rattle.lab_model.specs.Values.{Value, Asks, Tells, Part, written, IsFrameOn, parts_of}
 use Rattle.lab_model.specs.PortSteps.{PortState, Deed, hears, hears_all}
 use Rattle.lab_model.specs.ManagerSteps.{own_on}
@@ -36,9 +34,9 @@ use Rattle.lab.specs.Played.{plans}
 use Rattle.lab_events.specs.declared.lab_state.Idles.{Idles}
 use Rattle.lab_events.specs.declared.lab_state.Lab.{Lab}
 use Rattle.lab_events.specs.Shown.{Shows, IsSentFrame, plain_records, idles_in}
-use Rattle.lab_events.specs.Hearing.{HasFrames, HasHeard, done_on}
+use Rattle.lab_events.specs.Hearing.{HasHeard, done_on}
 use Rattle.lab_events.proofs.Sent.{beside, none_beside}
-use Rattle.lab_events.proofs.Deeds.{Keeps, hears_keeps, HeardAs, heard_as, two_deeds, no_deed, hears_each, one_more_heard, all_heard}
+use Rattle.lab_events.proofs.Deeds.{Keeps, hears_keeps, heard_as, two_deeds, no_deed, hears_each, one_more_heard, all_heard}
 
 -- values that are read as themselves are read from their frames
 pub all_read : (on : Bus) (values : List Value) (frames : List (List ℕ)) → frames ≡ map written values → AreRead on values → AllZip (IsFrameOn on) values frames

@@ -1,5 +1,5 @@
 -- The lab of the model that a lab shows.
-use Rattle.std.specs.Prelude.{◌≡◌, ℕ, Option, Some, None, Result, Ok, Err}
+use Rattle.std.specs.Prelude.{◌≡◌, ℕ, Some, None, Result, Ok, Err}
 use Rattle.std.specs.List.{AllZip}
 use Rattle.two_wire.specs.declared.Bus.{Bus}
 use Rattle.two_wire.specs.declared.Bus.TheVariants as bus

@@ -1,5 +1,5 @@
 -- What a play tells, of the lab after its events.
-use Rattle.std.proofs.Common.{◌≡◌, ℕ, List, Result, Ok, Err, Some, refl, sym, ap, subst}
+use Rattle.std.proofs.Common.{◌≡◌, ℕ, List, Result, Ok, Err, refl, sym, ap, subst}
 use Rattle.cfg_records.specs.declared.board_file.BoardFile.{BoardFile}
 use Rattle.cfg_records.specs.declared.op.Op.{Op}
 use Rattle.cfg_records.specs.Boards.{pairs_of}
@@ -8,7 +8,7 @@ use Rattle.lab_model.specs.Lab.{Lab as LabModel, opening}
 use Rattle.schedules.specs.declared.event.Event.{Event}
 use Rattle.lab.specs.declared.fault.Fault.{Fault}
 use Rattle.lab.specs.Meaning.{lab_names}
-use Rattle.lab.specs.Played.{plans, Told, Ending, Whole, Stops, told_of, after, IsPlayed}
+use Rattle.lab.specs.Played.{plans, Told, Whole, Stops, told_of, after, IsPlayed}
 use Rattle.lab.specs.Shown.{fault_of}
 use Rattle.lab_stands.proofs.Plays.{plays_stand}
 use Rattle.lab_events.specs.declared.lab_state.Lab.{Lab}

@@ -7,7 +7,6 @@ use Rattle.lab.specs.Meaning.{Bench}
 use Rattle.lab.specs.Played.{plans, fault_at, happens, after, AreTaken}
 use Rattle.lab_events.specs.Shown.{Shows, Steps, own_bench}
 use Rattle.lab_play.specs.Runs.{Take, Halts}
-use Rattle.lab_play.specs.declared.run.Halt.{Halt}
 use Rattle.lab_events.specs.declared.step.Refused.{Refused}
 use Rattle.lab_events.specs.declared.step.Refused.TheVariants as refused
 use Rattle.lab_events.specs.declared.lab_state.Lab.{Lab}

@@ -1,5 +1,5 @@
 -- What a schedule makes of a lab.
-use Rattle.std.specs.Prelude.{◌≡◌, ℕ, ◌+◌, List, ◌∷◌, ◌++◌, length, Some, Result, Ok, Err}
+use Rattle.std.specs.Prelude.{◌≡◌, ◌+◌, List, ◌∷◌, ◌++◌, length, Some, Result, Ok, Err}
 use Rattle.cfg_records.specs.declared.board_file.BoardFile.{BoardFile}
 use Rattle.lab_model.specs.Lab.{Lab as LabModel}
 use Rattle.schedules.specs.declared.event.Event.{Event}

@@ -1,4 +1,4 @@
-use Rattle.std.proofs.Common.{◌≡◌, ℕ, ◌-◌, nat_lt, Option, Some, sym, ◌∙◌, ap, option_map}
+use Rattle.std.proofs.Common.{ℕ, ◌-◌, nat_lt, Option, Some, sym, ◌∙◌, ap, option_map}
 use Rattle.two_wire.specs.declared.Bus.{Bus}
 use Rattle.lab_model.specs.Faults.{begun_on}
 use Rattle.lab.specs.Meaning.{lab_names}

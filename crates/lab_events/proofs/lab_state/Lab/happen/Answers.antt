@@ -1,11 +1,10 @@
 use Rattle.std.proofs.Common.{sym, subst}
 use Rattle.std.specs.Prelude.{OnOk}
-use Rattle.cfg_records.specs.declared.board_file.BoardFile.{BoardFile}
 use Rattle.lab_model.specs.Lab.{Lab as LabModel, step}
 use Rattle.schedules.specs.declared.event.Event.{Event}
-use Rattle.lab.specs.Played.{plans, happens}
+use Rattle.lab.specs.Played.{happens}
 use Rattle.lab_events.specs.declared.lab_state.Lab.{Lab}
-use Rattle.lab_events.specs.Shown.{Shows, Becomes, own_bench}
+use Rattle.lab_events.specs.Shown.{Becomes, own_bench}
 use Rattle.lab_events.specs.Hearing.{Did}
 use Rattle.lab_events.proofs.Sent.{on_any}
 use Rattle.lab_events.proofs.lab_state.Lab.happen.Goals as goal

@@ -2,7 +2,6 @@ use Rattle.std.proofs.Common.{◌≡◌, ℕ, suc, ◌+◌, List, ◌∷◌, [],
 use Rattle.std.specs.List.{AllZip}
 use Rattle.two_wire.specs.declared.Bus.TheVariants as bus
 use Rattle.plans.specs.declared.names.Names.{Names}
-use Rattle.mctp_net.specs.declared.packet.Packet.{Packet}
 use Rattle.lab_model.specs.Values.{Value, Part, parts_of, IsFrameOn}
 use Rattle.lab_model.specs.Lab.{ToOthers, port_does}
 use Rattle.lab.specs.Meaning.{lab_names, message_of}

@@ -1,4 +1,4 @@
-use Rattle.std.proofs.Common.{◌≡◌, sym, subst}
+use Rattle.std.proofs.Common.{sym, subst}
 use Rattle.plans.specs.declared.names.Names.{Names}
 use Rattle.ipmb_frame.specs.Grammar.{IsRequest}
 use Rattle.lab_model.specs.Values.{Asks}
