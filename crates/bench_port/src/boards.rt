@@ -1,23 +1,17 @@
 //! The boards that serve requests.
 ghost use Rattle.std.specs.Prelude.{◌<◌};
 
-use bmc_core::Board;
+use bmc_board::{Board, Records};
 use cfg_records::{
-    BoardFile, Distinct, EventEnable, EventMasks, Hysteresis, PlainStore, Sensor, ThresholdMasks,
-    Thresholds, sample_board,
+    BoardFile, Distinct, EventEnable, EventMasks, Hysteresis, Sensor, ThresholdMasks, Thresholds,
+    sample_board,
 };
 use std::alloc::{AllocError, Global};
 
-/// A board with this file's records.
-fn open(alloc: Global, file: BoardFile) -> Result<Board<PlainStore>, AllocError> {
-    let store = PlainStore::of_file(alloc, &file)?;
-    Board::open(alloc, file, store)
-}
-
 /// The sample board.
-pub(crate) fn sample(alloc: Global) -> Result<Board<PlainStore>, AllocError> {
+pub(crate) fn sample(alloc: Global) -> Result<Board<Records>, AllocError> {
     let file = sample_board(alloc)?;
-    open(alloc, file)
+    Board::of_file(alloc, file)
 }
 
 /// A sensor of this number, all of whose thresholds can be read and set, and which has no events.
@@ -51,14 +45,14 @@ fn sensor(number: u8) -> Sensor
 }
 
 /// The sample board, but with the sensors 0 to 31.
-pub(crate) fn board_of_32(alloc: Global) -> Result<Board<PlainStore>, AllocError> {
+pub(crate) fn board_of_32(alloc: Global) -> Result<Board<Records>, AllocError> {
     let mut sensors = Vec::with_capacity(alloc, 32)?;
     for number in 0..32_u8 {
         sensors.push(sensor(number))?;
     }
     let file = sample_board(alloc)?;
     match Distinct::new(sensors) {
-        Some(sensors) => open(alloc, BoardFile { sensors, ..file }),
-        None => open(alloc, file),
+        Some(sensors) => Board::of_file(alloc, BoardFile { sensors, ..file }),
+        None => Board::of_file(alloc, file),
     }
 }

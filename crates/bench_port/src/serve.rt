@@ -7,8 +7,9 @@ ghost use Rattle.bench_port.specs.Serve.{frame_of, first};
 
 use crate::boards::{board_of_32, sample};
 use crate::slot::Slot;
-use bmc_core::{At, Board, Out, Port};
-use cfg_records::{PlainStore, Store};
+use bmc_board::{Board, Records};
+use bmc_core::{At, Out, Port};
+use cfg_records::Store;
 use mctp_net::EndpointId;
 use std::alloc::{AllocError, Global};
 use two_wire::{Address, Bus};
@@ -41,7 +42,7 @@ impl Kind {
         }
     }
 
-    fn board(self, alloc: Global) -> Result<Board<PlainStore>, AllocError> {
+    fn board(self, alloc: Global) -> Result<Board<Records>, AllocError> {
         match self {
             Kind::Ipmb | Kind::Smbus => sample(alloc),
             Kind::Sensors => board_of_32(alloc),

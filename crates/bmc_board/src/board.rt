@@ -6,11 +6,13 @@ ghost use Rattle.bmc_board.specs.BiosTableLaws.{Tells-prop};
 
 mod bios;
 mod happen;
+mod opening;
 mod serve;
 
 use crate::activity::Activity;
 use bios_attr::Tables;
 use cfg_records::{Store, Value};
+pub use opening::Records;
 use record_kinds::Setup;
 
 /// A board over any store of its records: what never changes of it, what isn't configuration, and its records. Each record has

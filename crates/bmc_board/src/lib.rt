@@ -12,7 +12,7 @@ pub mod storage;
 
 pub use activity::Activity;
 pub use bench::{Bench, NoSensor};
-pub use board::Board;
+pub use board::{Board, Records};
 pub use command::{Command, Lengths, Line, is_changing};
 pub use live::LiveCommand;
 pub use request::read_request;

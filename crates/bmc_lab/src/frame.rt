@@ -10,7 +10,7 @@ use crate::ending::Ending;
 use crate::report::Report;
 use bmc_core::{At, Board, Out, Port};
 use board_file::{FileFault, read_board};
-use cfg_records::{BoardFile, PlainStore, sample_board};
+use cfg_records::{BoardFile, sample_board};
 use mctp_net::EndpointId;
 use std::alloc::{AllocError, Global};
 use std::io;
@@ -56,8 +56,7 @@ fn heard_report(
     ensures stream { IfOk result (λ report. report.stream ≡ Output) }
     ensures told { (board : Option (List ℕ)) → IsBoardOf board file → IfOk result (λ report. Tells board bus bytes.now (string_bytes report.text) report.status) }
 {
-    let store = PlainStore::of_file(alloc, &file)?;
-    let mut board = Board::open(alloc, file, store)?;
+    let mut board = Board::of_file(alloc, file)?;
     let mut port = Port::new(alloc, bus, controller_place())?;
     let mut out = Out::new();
     port.on_frame(&mut board, bytes, &mut out);

@@ -1,7 +1,6 @@
 //! A lab.
 ghost use Rattle.std.specs.Prelude.{◌≡◌, IfOk};
 ghost use Rattle.mctp_net.specs.Assembly.{nothing};
-ghost use Rattle.bmc_board.specs.State.{state_of, opened as opened_state};
 ghost use Rattle.undo_model.specs.Machine.{opened};
 ghost use Rattle.undo_core.specs.Shown as manager;
 ghost use Rattle.undo_core.specs.Shown.{words_of};
@@ -17,9 +16,9 @@ ghost use Rattle.lab.specs.Shown.{ShowsFrames};
 ghost use Rattle.lab_events.specs.Shown.{Shows, idles_in};
 
 use crate::names::lab_names;
-use bmc_board::Board;
+use bmc_board::{Board, Records};
 use bmc_core::{At, IpmbPort, Out, SmbusPort};
-use cfg_records::{BoardFile, PlainStore, Store};
+use cfg_records::BoardFile;
 use lab::{Frames, Marks};
 use lab_model::marks::Known;
 use mctp_net::EndpointId;
@@ -50,7 +49,7 @@ impl Idles {
 /// A controller's board with its two ports, a manager with a plan, and all frames that were sent.
 #[derive(Drop)]
 pub struct Lab {
-    pub(crate) board: Board<PlainStore>,
+    pub(crate) board: Board<Records>,
     pub(crate) ipmb: IpmbPort,
     pub(crate) smbus: SmbusPort,
     pub(crate) manager: Manager,
@@ -71,15 +70,6 @@ fn opened_manager(alloc: Global, plan: Plan, names: Names) -> Result<Manager, Al
         Err(OpenFault::Memory) => Err(AllocError),
         Err(OpenFault::Retries) => unreachable!(),
     }
-}
-
-/// A board of a file, over a store of its records.
-fn opened_board(alloc: Global, file: BoardFile) -> Result<Board<PlainStore>, AllocError>
-    ensures setup { IfOk result (λ board. board.setup ≡ file) }
-    ensures state { IfOk result (λ board. state_of ⟦<PlainStore as Store>⟧.records board ≡ opened_state file) }
-{
-    let store = PlainStore::of_file(alloc, &file)?;
-    Board::open(alloc, file, store)
 }
 
 /// The controller's port on IPMB.
@@ -106,7 +96,7 @@ impl Lab {
         ensures never { IfOk result (λ lab. (on : AnyBus) → idles_in on lab.idles ≡ 0) }
     {
         Ok(Lab {
-            board: opened_board(alloc, file)?,
+            board: Board::of_file(alloc, file)?,
             ipmb: opened_ipmb(alloc)?,
             smbus: opened_smbus(alloc)?,
             manager: opened_manager(alloc, plan, lab_names())?,
