@@ -3,8 +3,6 @@
 
 pub mod file;
 pub mod run;
-#[cfg(test)]
-mod tests;
 pub mod words;
 
 pub use file::HostFiles;

@@ -1,6 +1,0 @@
-//! Worked examples, a file for each crate.
-mod lines;
-mod log;
-mod numbers;
-mod schedule;
-mod window;

@@ -1,4 +1,0 @@
-//! Worked requests and tables.
-mod attribute;
-mod entries;
-mod tables;

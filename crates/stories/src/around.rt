@@ -1,0 +1,37 @@
+//! What is around a board: its two ports, and who asks.
+use crate::window_lines::{BothWindows, open_windows};
+use bmc_core::{At, Out, Port};
+use mctp_net::EndpointId;
+use std::alloc::{AllocError, Global};
+use two_wire::{Address, Bus};
+
+/// The two ports of a controller at address 20h and with the EID 0Ah, what they did last, who asks, and windows.
+#[derive(Drop)]
+pub struct Around {
+    pub ipmb: Port,
+    pub smbus: Port,
+    pub out: Out,
+    /// The address that requests to the board itself come from, over IPMI.
+    pub from: u8,
+    /// Windows that no port has.
+    pub windows: BothWindows,
+}
+
+/// A fresh port.
+fn open_port(alloc: Global, bus: Bus) -> Result<Port, AllocError> {
+    let (Some(wire), Some(eid)) = (Address::new(0x20), EndpointId::new(0x0A)) else {
+        return Err(AllocError);
+    };
+    Port::new(alloc, bus, At { wire, eid })
+}
+
+/// Fresh ports. Requests come from 2Ch.
+pub fn open_around(alloc: Global) -> Result<Around, AllocError> {
+    Ok(Around {
+        ipmb: open_port(alloc, Bus::Ipmb)?,
+        smbus: open_port(alloc, Bus::Smbus)?,
+        out: Out::new(),
+        from: 0x2C,
+        windows: open_windows(alloc)?,
+    })
+}

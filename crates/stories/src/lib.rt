@@ -1,0 +1,18 @@
+//! The player of stories: what comes to a board and its two ports, and what they do, told as lines of text. `docs/STORIES.md` has the
+//! language.
+#![tactic(auto)]
+
+mod around;
+mod board_lines;
+mod boards;
+mod bytes;
+mod change_lines;
+mod heard_lines;
+mod line;
+mod port_lines;
+mod request;
+mod story;
+mod window_lines;
+
+pub use boards::{SAMPLE_FIELDS, SAMPLE_TABLES};
+pub use story::{open_sample, play};

@@ -1,0 +1,9 @@
+//! Stories told as text: what comes to a scene, a line each, with what comes of it. One player plays them on scenes of any kind.
+#![tactic(auto)]
+
+mod player;
+mod scene;
+mod words;
+
+pub use player::report_of;
+pub use scene::{NoOutcome, NoScene, Scene};

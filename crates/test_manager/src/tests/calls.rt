@@ -1,0 +1,184 @@
+//! Each call in each phase, and what phases are called.
+use super::scene::{expect_told, names, plan};
+use std::test::Fail;
+use two_wire::{Bus, Code};
+use undo_core::{Manager, OpenFault, Phase, Why, WrongPhase};
+
+const CALLS: &str = "
+story calls of a fresh manager
+plan 0 -> Fresh
+quiet -> refused Fresh
+stop -> refused Fresh
+again -> refused Fresh
+undo -> refused Fresh
+start -> 2010D02C002705A8 Getting 0
+
+story calls in a Get
+plan 0 -> Fresh
+start -> 2010D02C002705A8 Getting 0
+start -> refused Getting 0
+again -> refused Getting 0
+undo -> refused Getting 0
+stop -> Getting 0
+
+story a Get is quiet
+plan 0 -> Fresh
+start -> 2010D02C002705A8 Getting 0
+quiet -> Unsettled 0
+
+story calls in a Set
+plan 0 -> Fresh
+start -> 2010D02C002705A8 Getting 0
+ipmb 2C14C0200027003F140A05505F6E3A -> 2010D02C042605180000004B5A00E8 Setting 0
+start -> refused Setting 0
+again -> refused Setting 0
+undo -> refused Setting 0
+stop -> Setting 0
+
+story a Set is quiet
+plan 0 -> Fresh
+start -> 2010D02C002705A8 Getting 0
+ipmb 2C14C0200027003F140A05505F6E3A -> 2010D02C042605180000004B5A00E8 Setting 0
+quiet -> Unsettled 0
+
+story calls of a manager that is done
+plan 0 -> Fresh
+start -> 2010D02C002705A8 Getting 0
+ipmb 2C14C0200027003F140A05505F6E3A -> 2010D02C042605180000004B5A00E8 Setting 0
+ipmb 2C14C020042600B6 -> 2010D02C082705A0 Getting 1
+ipmb 2C14C0200827003F140A054B5A6E3C -> 2010D02C0C260530000000005C64AD Setting 1
+ipmb 2C14C0200C2600AE -> Done
+start -> refused Done
+quiet -> refused Done
+stop -> refused Done
+again -> refused Done
+undo -> 2010D02C10260530000000005A6EA1 Undoing 1
+
+story calls in an undo
+plan 0 -> Fresh
+start -> 2010D02C002705A8 Getting 0
+ipmb 2C14C0200027003F140A05505F6E3A -> 2010D02C042605180000004B5A00E8 Setting 0
+ipmb 2C14C020042600B6 -> 2010D02C082705A0 Getting 1
+ipmb 2C14C0200827003F140A054B5A6E3C -> 2010D02C0C260530000000005C64AD Setting 1
+ipmb 2C14C0200C2600AE -> Done
+undo -> 2010D02C10260530000000005A6EA1 Undoing 1
+start -> refused Undoing 1
+stop -> refused Undoing 1
+again -> refused Undoing 1
+undo -> refused Undoing 1
+quiet -> Unsettled 1
+
+story calls of a manager that has undone all
+plan 0 -> Fresh
+start -> 2010D02C002705A8 Getting 0
+ipmb 2C14C0200027003F140A05505F6E3A -> 2010D02C042605180000004B5A00E8 Setting 0
+ipmb 2C14C020042600B6 -> 2010D02C082705A0 Getting 1
+ipmb 2C14C0200827003F140A054B5A6E3C -> 2010D02C0C260530000000005C64AD Setting 1
+ipmb 2C14C0200C2600AE -> Done
+undo -> 2010D02C10260530000000005A6EA1 Undoing 1
+ipmb 2C14C020102600AA -> 2010D02C14260518000000505F00CE Undoing 0
+ipmb 2C14C020142600A6 -> Undone
+start -> refused Undone
+quiet -> refused Undone
+stop -> refused Undone
+again -> refused Undone
+undo -> refused Undone
+
+story calls of a halted manager
+plan 0 -> Fresh
+start -> 2010D02C002705A8 Getting 0
+stop -> Getting 0
+ipmb 2C14C0200027003F140A05505F6E3A -> Halted 0 Stop
+start -> refused Halted 0 Stop
+quiet -> refused Halted 0 Stop
+stop -> refused Halted 0 Stop
+again -> refused Halted 0 Stop
+undo -> Undone
+
+story calls of an unsettled manager
+plan 0 -> Fresh
+start -> 2010D02C002705A8 Getting 0
+quiet -> Unsettled 0
+start -> refused Unsettled 0
+quiet -> refused Unsettled 0
+stop -> refused Unsettled 0
+undo -> refused Unsettled 0
+again -> 2010D02C002705A8 Getting 0
+
+story calls of a manager whose undo was refused
+plan 0 -> Fresh
+start -> 2010D02C002705A8 Getting 0
+ipmb 2C14C0200027003F140A05505F6E3A -> 2010D02C042605180000004B5A00E8 Setting 0
+ipmb 2C14C020042600B6 -> 2010D02C082705A0 Getting 1
+ipmb 2C14C0200827003F140A054B5A6E3C -> 2010D02C0C260530000000005C64AD Setting 1
+ipmb 2C14C0200C2600AE -> Done
+undo -> 2010D02C10260530000000005A6EA1 Undoing 1
+ipmb 2C14C0201026C1E9 -> UndoRefused 1 C1
+start -> refused UndoRefused 1 C1
+quiet -> refused UndoRefused 1 C1
+stop -> refused UndoRefused 1 C1
+again -> refused UndoRefused 1 C1
+undo -> refused UndoRefused 1 C1
+
+story sixteen retries are refused
+plan 0 -> Fresh
+plan 15 -> Fresh
+plan 16 -> Retries
+plan 255 -> Retries
+";
+
+#[test]
+fn calls_lead_from_phase_to_phase(rt: HostRuntime) {
+    expect_told(&rt, rt.alloc(), CALLS);
+}
+
+#[test]
+fn a_manager_is_opened_and_called(rt: HostRuntime) -> Result<(), Fail> {
+    let refused = Manager::open(rt.alloc(), plan(rt.alloc())?, names(), 16);
+    assert_eq!(rt; refused.err(), Some(OpenFault::Retries));
+    let mut manager = Manager::open(rt.alloc(), plan(rt.alloc())?, names(), 1)?;
+    assert_eq!(rt; manager.phase(), Phase::Fresh);
+    assert_eq!(rt; manager.undo().err(), Some(WrongPhase));
+    let sent = manager.start()?.ok_or("a Get")?;
+    assert_eq!(rt; (sent.bus, sent.request), (Bus::Ipmb, 0));
+    assert_eq!(rt; manager.phase(), Phase::Getting(0));
+    assert!(rt; manager.stop()?.is_none());
+    assert_eq!(rt;
+        (manager.open_bus(), manager.begun(Bus::Ipmb)),
+        (Some(Bus::Ipmb), 1)
+    );
+    assert!(rt; manager.quiet()?.is_some());
+    assert!(rt; manager.quiet()?.is_none());
+    assert!(rt; manager.again()?.is_some());
+    Ok(())
+}
+
+#[test]
+fn phases_are_named(rt: HostRuntime) {
+    let alloc = rt.alloc();
+    let code = Code::new(0xCC).unwrap();
+    let low = Code::new(0x05).unwrap();
+    for (phase, name) in [
+        (Phase::Fresh, "Fresh"),
+        (Phase::Getting(20), "Getting 20"),
+        (Phase::Setting(255), "Setting 255"),
+        (Phase::Done, "Done"),
+        (Phase::Halted(2, Why::Stop), "Halted 2 Stop"),
+        (Phase::Halted(1, Why::Refused(code)), "Halted 1 Refused CC"),
+        (
+            Phase::Halted(0, Why::NotRestorable),
+            "Halted 0 NotRestorable",
+        ),
+        (
+            Phase::Halted(3, Why::GetRefused(low)),
+            "Halted 3 GetRefused 05",
+        ),
+        (Phase::Unsettled(0), "Unsettled 0"),
+        (Phase::Undoing(10), "Undoing 10"),
+        (Phase::Undone, "Undone"),
+        (Phase::UndoRefused(7, code), "UndoRefused 7 CC"),
+    ] {
+        let text = format!(in alloc; "{phase}").expect(&rt, "memory");
+        assert_eq!(rt; text.as_str(), name);
+    }
+}

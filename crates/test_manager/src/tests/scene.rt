@@ -1,0 +1,204 @@
+//! A manager, and the lines of what comes to it.
+use cfg_records::{Asked, Op, SetThresholds};
+use plans::{Names, NextNumbers, Plan, Requests, Steps, UndoList};
+use std::alloc::{AllocError, Global};
+use std::process::Abort;
+use story_lines::{NoOutcome, NoScene, Scene, report_of};
+use two_wire::{Address, Below, Bus, Bytes, Retries};
+use undo_core::{Manager, OpenFault, Sent, WrongPhase};
+
+pub fn names() -> Names {
+    Names {
+        own_address: Address::new(0x2C).unwrap(),
+        peer_address: Address::new(0x20).unwrap(),
+        own_wire: Address::new(0x2C).unwrap(),
+        peer_wire: Address::new(0x20).unwrap(),
+        own_eid: 0x0B,
+        peer_eid: 0x0A,
+    }
+}
+
+/// A plan of two steps, each of which sets thresholds of sensor 5.
+pub fn plan(alloc: Global) -> Result<Plan, AllocError> {
+    let mut ops = Vec::new(alloc);
+    for (mask, values) in [
+        (0x18, [0, 0, 0, 0x4B, 0x5A, 0]),
+        (0x30, [0, 0, 0, 0, 0x5C, 0x64]),
+    ] {
+        ops.push(Op::Thresholds(SetThresholds {
+            sensor: 5,
+            mask,
+            values,
+        }))
+        .map_err(AllocError::from)?;
+    }
+    let steps = Steps::new(ops).ok_or(AllocError)?;
+    Ok(Plan {
+        steps,
+        retries: Retries::new(3),
+    })
+}
+
+/// The data of request 31: the bytes from 10h to 55h.
+fn content() -> [u8; 70] {
+    let mut bytes = [0x10; 70];
+    for (place, byte) in bytes.iter_mut().enumerate() {
+        *byte = 0x10 + place as u8;
+    }
+    bytes
+}
+
+/// A list of two requests over SMBus, of which the last, and so the next, is request 31.
+pub fn list(alloc: Global) -> Result<UndoList, AllocError> {
+    let mut requests = Requests::new(alloc)?;
+    requests.push(Asked::Pldm {
+        from: 0,
+        kind: Below::new(2),
+        command: 0x39,
+        body: Bytes::from_slice(&[5, 0, 1, 1, 2]),
+    });
+    requests.push(Asked::Pldm {
+        from: 0,
+        kind: Below::new(3),
+        command: 0x07,
+        body: Bytes::from_slice(&content()),
+    });
+    let next = NextNumbers {
+        ipmb: Below::new(4),
+        smbus: Below::new(31),
+    };
+    Ok(UndoList { requests, next })
+}
+
+/// Appends what the manager sends: its frames, each a word of hexadecimal digits.
+fn push_sent(alloc: Global, sent: Option<Sent>, text: &mut String) -> Result<(), AllocError> {
+    if let Some(sent) = sent {
+        for frame in sent.frames.as_slice() {
+            let digits = hex::encode_upper(alloc, frame.as_slice())?;
+            write!(text, " {}", digits.as_str())?;
+        }
+    }
+    Ok(())
+}
+
+/// The manager is called so.
+fn call(manager: &mut Manager, name: &str) -> Option<Result<Option<Sent>, WrongPhase>> {
+    match name {
+        "start" => Some(manager.start()),
+        "quiet" => Some(manager.quiet()),
+        "stop" => Some(manager.stop()),
+        "again" => Some(manager.again()),
+        "undo" => Some(manager.undo()),
+        _ => None,
+    }
+}
+
+/// The manager hears the frame of these digits on the bus, and sends this.
+fn hear(
+    alloc: Global,
+    manager: &mut Manager,
+    bus: Bus,
+    digits: &str,
+) -> Result<Option<Sent>, NoOutcome> {
+    match hex::decode(alloc, digits) {
+        Ok(bytes) => Ok(manager.on_frame(bus, bytes.as_slice())),
+        Err(_) => Err(NoOutcome::Unread),
+    }
+}
+
+/// Appends what the manager sends and its phase then, once it was called so or heard the frame of these digits.
+fn turn(
+    alloc: Global,
+    manager: &mut Manager,
+    (kind, digits): (&str, &str),
+    text: &mut String,
+) -> Result<(), NoOutcome> {
+    match kind {
+        "ipmb" => push_sent(alloc, hear(alloc, manager, Bus::Ipmb, digits)?, text)?,
+        "smbus" => push_sent(alloc, hear(alloc, manager, Bus::Smbus, digits)?, text)?,
+        _ => match call(manager, kind).ok_or(NoOutcome::Unread)? {
+            Ok(sent) => push_sent(alloc, sent, text)?,
+            Err(WrongPhase) => text.push_str(" refused")?,
+        },
+    }
+    let phase = manager.phase();
+    write!(text, " {phase}")?;
+    Ok(())
+}
+
+/// Appends the bus on which a request is open, the length of the undo list, and its numbers of the next requests on IPMB and SMBus.
+fn show(manager: &Manager, text: &mut String) -> Result<(), AllocError> {
+    match manager.open_bus() {
+        Some(bus) => write!(text, " open {bus:?}")?,
+        None => text.push_str(" open none")?,
+    }
+    let undo = manager.undo_list();
+    let length = undo.requests.len();
+    let (ipmb, smbus) = (undo.next.ipmb.number(), undo.next.smbus.number());
+    write!(text, " undo {length} next {ipmb} {smbus}")
+}
+
+/// Appends the phase of the manager that is there now, or why there is none.
+fn begin(
+    manager: &mut Option<Manager>,
+    opened: Result<Manager, OpenFault>,
+    text: &mut String,
+) -> Result<(), AllocError> {
+    match opened {
+        Ok(made) => {
+            let phase = made.phase();
+            *manager = Some(made);
+            write!(text, " {phase}")
+        }
+        Err(fault) => write!(text, " {fault:?}"),
+    }
+}
+
+/// A manager, once a line opened one.
+#[derive(Drop)]
+pub struct Managed {
+    manager: Option<Manager>,
+}
+
+impl Scene for Managed {
+    fn open(_alloc: Global, _lines: &str) -> Result<Managed, NoScene> {
+        Ok(Managed { manager: None })
+    }
+
+    /// Appends what comes of the words. They are those of one of these lines:
+    ///
+    /// - `plan 3 -> Fresh`: a manager of the plan of two steps with so many retries, and its phase, or the fault;
+    /// - `list 1 -> Halted 2 Stop`: one that goes on from the list of two requests;
+    /// - `start -> 2010D02C002705A8 Getting 0`, `quiet ..`, `stop ..`, `again ..`, `undo ..`: a call, the frames that the manager sends, and its
+    ///   phase then; before the phase stands `refused` where it refuses the call;
+    /// - `ipmb 2C14C0200027CBEE -> Halted 0 GetRefused CB`, `smbus ..`: the same of a frame that it hears on this bus;
+    /// - `shows -> open Ipmb undo 0 next 1 0`: the bus on which a request is open, the length of the undo list and the numbers of the next
+    ///   requests on IPMB and SMBus.
+    fn come(&mut self, alloc: Global, words: &str, text: &mut String) -> Result<(), NoOutcome> {
+        let (kind, word) = words.split_once(' ').unwrap_or((words, ""));
+        match (kind, self.manager.as_mut()) {
+            ("plan", _) => {
+                let opened = Manager::open(alloc, plan(alloc)?, names(), word.parse::<u8>()?);
+                begin(&mut self.manager, opened, text)?;
+            }
+            ("list", _) => {
+                let opened = Manager::resume(alloc, list(alloc)?, names(), word.parse::<u8>()?);
+                begin(&mut self.manager, opened, text)?;
+            }
+            ("shows", Some(manager)) => show(manager, text)?,
+            (_, Some(manager)) => turn(alloc, manager, (kind, word), text)?,
+            (_, None) => return Err(NoOutcome::Unread),
+        }
+        Ok(())
+    }
+
+    fn is_told(_alloc: Global, came: &str, told: &str) -> Result<bool, NoOutcome> {
+        Ok(came == told)
+    }
+}
+
+/// All comes as the stories of the text tell.
+pub fn expect_told(rt: &impl Abort, alloc: Global, text: &str) {
+    let report = report_of::<Managed>(alloc, text).expect(rt, "memory");
+    assert_eq!(rt; report.as_str(), "");
+}

@@ -1,0 +1,55 @@
+//! Lines that tell something else than what comes.
+use super::scene::Managed;
+use std::alloc::AllocError;
+use story_lines::report_of;
+
+/// Each kind of line, and each is wrong.
+const WRONG: &str = "
+story wrong
+start -> Getting 0
+plan 3 -> Done
+plan 16 -> Fresh
+plan x -> Fresh
+start -> 2010D02C002705A8 Getting 1
+stop -> refused Getting 0
+undo -> Undone
+quiet -> Getting 0
+shows -> open Smbus undo 0 next 0 0
+ipmb 2C14C0200027003F140A05505F6E3B -> Setting 0
+smbus 2C14C0200027003F140A05505F6E3A -> Setting 0
+ipmb 2C1 -> Getting 0
+wait -> Getting 0
+start
+list 1 -> Halted 1 Stop
+again -> Undoing 0
+";
+
+/// What is said of them.
+const REPORT: &str = "\
+wrong: start -> Getting 0 | unread
+wrong: plan 3 -> Done | came Fresh
+wrong: plan 16 -> Fresh | came Retries
+wrong: plan x -> Fresh | unread
+wrong: start -> 2010D02C002705A8 Getting 1 | came 2010D02C002705A8 Getting 0
+wrong: stop -> refused Getting 0 | came Getting 0
+wrong: undo -> Undone | came refused Getting 0
+wrong: quiet -> Getting 0 | came 2010D02C002705A8 Getting 0
+wrong: shows -> open Smbus undo 0 next 0 0 | came open Ipmb undo 0 next 0 0
+wrong: ipmb 2C14C0200027003F140A05505F6E3B -> Setting 0 | came Getting 0
+wrong: smbus 2C14C0200027003F140A05505F6E3A -> Setting 0 | came Getting 0
+wrong: ipmb 2C1 -> Getting 0 | unread
+wrong: wait -> Getting 0 | unread
+wrong: start | came refused Getting 0
+wrong: list 1 -> Halted 1 Stop | came Halted 2 Stop
+wrong: again -> Undoing 0 | came refused Halted 2 Stop
+";
+
+#[test]
+fn wrong_lines_are_noticed(rt: HostRuntime) -> Result<(), AllocError> {
+    assert_eq!(rt; report_of::<Managed>(rt.alloc(), WRONG)?.as_str(), REPORT);
+    assert_eq!(rt;
+        report_of::<Managed>(rt.alloc(), "# A remark.")?.as_str(),
+        "no story\n"
+    );
+    Ok(())
+}

@@ -1,0 +1,33 @@
+//! What runs write and how they end: stories by theme, and calls one by one.
+mod asked;
+mod calls;
+mod charts;
+mod faults;
+mod frames;
+mod lines;
+mod parts;
+mod parts_text;
+mod player;
+mod plays;
+mod ports;
+mod random;
+mod runs;
+mod scene;
+mod steps;
+mod text;
+mod told_wrong;
+mod trouble;
+mod two_steps;
+mod writers;
+
+use parts_text::SHARED;
+use player::otherwise;
+use std::alloc::Global;
+use std::process::Abort;
+use std::test::Fail;
+
+/// All of the stories comes as it is told.
+fn expect_told(rt: &impl Abort, alloc: Global, stories: &str) -> Result<(), Fail> {
+    assert_eq!(rt; otherwise(alloc, SHARED, stories)?.as_str(), "");
+    Ok(())
+}

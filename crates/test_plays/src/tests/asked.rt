@@ -1,0 +1,51 @@
+//! What the words of a command line ask for, as a line.
+use super::runs::words_of;
+use super::trouble::Trouble;
+use bmc_host::words::read;
+use bmc_host::{FrameWords, PlayWords, Words};
+use bmc_play::Shown;
+use std::alloc::Global;
+use two_wire::Bus;
+
+/// What a bus is called.
+fn bus_name(bus: Bus) -> &'static str {
+    match bus {
+        Bus::Ipmb => "ipmb",
+        Bus::Smbus => "smbus",
+    }
+}
+
+/// A frame: its bus, its bytes, and the board file's word where there is one.
+fn frame_text(alloc: Global, words: &FrameWords) -> Result<String, Trouble> {
+    let bus = bus_name(words.frame.bus);
+    let digits = hex::encode_upper(alloc, words.frame.bytes.as_slice())?;
+    Ok(match &words.board {
+        Some(board) => format!(in alloc; "{bus} {digits} {board}")?,
+        None => format!(in alloc; "{bus} {digits}")?,
+    })
+}
+
+/// How a play is shown.
+fn shown_name(shown: Shown) -> &'static str {
+    match shown {
+        Shown::Lines { frames: false } => "lines",
+        Shown::Lines { frames: true } => "frames",
+        Shown::Chart => "chart",
+    }
+}
+
+/// A play: how it is shown, and its files' words.
+fn play_text(alloc: Global, words: &PlayWords) -> Result<String, Trouble> {
+    let shown = shown_name(words.shown);
+    Ok(format!(in alloc; "{shown} {} {} {}", words.board, words.plan, words.schedule)?)
+}
+
+/// What the words ask for, or the status with which they are refused.
+pub fn asked_text(alloc: Global, line: &str) -> Result<String, Trouble> {
+    let words = words_of(alloc, line)?;
+    match read(alloc, words.as_slice()) {
+        Ok(Words::Frame(frame)) => frame_text(alloc, &frame),
+        Ok(Words::Play(play)) => play_text(alloc, &play),
+        Err(status) => Ok(format!(in alloc; "{status:?}")?),
+    }
+}

@@ -1,0 +1,135 @@
+//! Events that a lab does not take, what others do, and texts that are refused.
+use super::expect_told;
+use std::test::Fail;
+
+/// Events that a lab does not take.
+const FAULTS: &str = "story the event that has a fault is told last
+board sample
+plan events
+schedule: to-bmc 9
+lines -> 4 out: phase Fresh / frames 0 / undo 0 / records same / fault 1 NoFrame
+schedule: start / to-mgr 0
+lines -> 4 out: phase Getting 0 / frames 1 / undo 0 / records same / fault 2 WrongWay
+schedule: other ipmb 40 1000260510000000005A00
+lines -> 4 out: phase Fresh / frames 0 / undo 0 / records same / fault 1 Changing
+schedule: other ipmb 2C 180001
+lines -> 4 out: phase Fresh / frames 0 / undo 0 / records same / fault 1 Impersonates
+schedule: noise ipmb 2018C82C0001D3
+lines -> 4 out: phase Fresh / frames 0 / undo 0 / records same / fault 1 Forged
+schedule: start / idle ipmb 2C
+lines -> 4 out: phase Getting 0 / frames 1 / undo 0 / records same / fault 2 StillOpen
+# A request on one bus keeps the manager's window on the other.
+schedule: start / idle smbus 08
+lines -> 4 out: phase Getting 0 / frames 1 / undo 0 / records same / fault 2 StillOpen
+# Lines that are skipped are no events, and what comes behind the fault isn't played.
+schedule: # begin /  / start / to-mgr 0 / to-bmc 0
+lines -> 4 out: phase Getting 0 / frames 1 / undo 0 / records same / fault 2 WrongWay
+
+story a fault is told behind the frames
+board sample
+plan events
+schedule: start / to-bmc 0 / to-bmc 1
+frames -> 4 out
+  phase Getting 0
+  frames 2
+  undo 0
+  records same
+  frame 0 mgr ipmb 2010D02C002905A6
+  frame 1 bmc ipmb 2C14C020002900C000020000F5
+  fault 3 WrongWay
+
+story a window that was forgotten makes older frames too old
+board sample
+plan events
+schedule: start / to-bmc 0 / to-mgr 1 / to-bmc 2 / to-mgr 3 / idle ipmb 2C / to-bmc 2
+lines -> 4 out: phase Done / frames 4 / undo 1 / ipmb 102805E080000000 / records changed 1 / fault 7 Aged
+
+story a lab that sent 65,536 frames has no room
+board sample
+plan events
+schedule
+  65537 x other ipmb 40 280042
+lines -> 4 out: phase Fresh / frames 65536 / undo 0 / records same / fault 65537 Room
+";
+
+/// What others ask, what happens on the bench, and noise.
+const OTHERS: &str = "story a message of somebody else is answered
+board sample
+schedule: other smbus 0B 01800002
+frames -> 0 out
+  phase Fresh / frames 1 / undo 0 / records same
+  frame 0 bmc smbus 420F0B21010B0AC00100000200053B
+
+story a reading is taken, shown and logged
+board sample
+schedule: scan 05 60 / other ipmb 40 10002D05 / other ipmb 40 2804430000000000FF
+frames -> 0 out
+  phase Fresh / frames 2 / undo 0 / records same
+  frame 0 bmc ipmb 4014AC20002D0060C0D8BB
+  frame 1 bmc ipmb 402C9420044300FFFF0100020000000020000401050159605F55
+
+story ten ticks are a second
+board sample
+schedule
+  10 x tick
+  other ipmb 40 280048
+frames -> 0 out
+  phase Fresh / frames 1 / undo 0 / records same
+  frame 0 bmc ipmb 402C94200048000100000097
+
+story noise changes nothing
+board sample
+schedule: noise ipmb 2018C82C0001D4 / noise smbus FF
+lines -> 0 out: phase Fresh / frames 0 / undo 0 / records same
+";
+
+/// Texts that are refused.
+const REFUSED: &str = "story the first text that is refused is named
+board: tid =
+plan events
+schedule: start
+frames -> 3 err: board Text
+board: tid = 5
+plan: retries = 16
+schedule: begin
+frames -> 3 err: board Missing top clock
+board sample
+frames -> 3 err: plan Range retries
+schedule: start
+plan: [[step]] / kind = \"password\"
+frames -> 3 err: plan 0 OutsidePlan Password
+plan: [[step]] / kind = \"clock\"
+frames -> 3 err: plan 0 OutsidePlan Clock
+plan: [[step]] / kind = \"log\"
+frames -> 3 err: plan 0 OutsidePlan Log
+plan: [[step]] / kind = \"watchdog\" / flags_clear = 0
+frames -> 3 err: plan 0 NoGet FlagsClear
+plan events
+schedule: start / to-bmc x
+frames -> 3 err: schedule Line 2
+# A carriage return stands before the line's end.
+schedule: start\r
+frames -> 3 err: schedule Line 1
+
+story a plan of 257 steps has too many
+board sample
+plan
+  257 x [[step]] / kind = \"power-policy\" / policy = 2
+schedule: start
+lines -> 3 err: plan TooMany
+";
+
+#[test]
+fn the_event_that_has_a_fault_is_told_last(rt: HostRuntime) -> Result<(), Fail> {
+    expect_told(&rt, rt.alloc(), FAULTS)
+}
+
+#[test]
+fn others_are_answered_and_noise_changes_nothing(rt: HostRuntime) -> Result<(), Fail> {
+    expect_told(&rt, rt.alloc(), OTHERS)
+}
+
+#[test]
+fn the_first_text_that_is_refused_is_named(rt: HostRuntime) -> Result<(), Fail> {
+    expect_told(&rt, rt.alloc(), REFUSED)
+}

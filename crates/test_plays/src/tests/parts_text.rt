@@ -1,0 +1,110 @@
+//! Texts that stories of several themes use.
+
+/// They stand before each theme.
+pub const SHARED: &str = "# The sample board's file.
+part sample
+  tid = 5
+  clock = 0
+  log = 2
+  enables = 0x08
+  policy = 1
+  users = [\"\", \"admin\"]
+  watchdog = [0, 0, 0, 0]
+  sdr = [\"010051C00100\"]
+  boot3 = 0
+  boot4 = 0
+  boot5 = [0, 0, 0, 0, 0]
+  [device]
+  id = 0x20
+  revision = 1
+  major = 1
+  minor = 0x05
+  support = 0x07
+  manufacturer = 0xABCD
+  product = 0x1234
+  [[sensor]]
+  number = 5
+  type = 1
+  readable = 0x3F
+  settable = 0x3F
+  thresholds = [0x14, 0x0A, 0x05, 0x50, 0x5F, 0x6E]
+  hysteresis = [2, 2]
+  supported = 0xFFF
+  flags = 0xC0
+  assert = 0x200
+  deassert = 0
+  [[sensor]]
+  number = 7
+  type = 4
+  readable = 0x18
+  settable = 0x38
+  thresholds = [0, 0, 0, 0x90, 0xA0, 0xB0]
+  hysteresis = [0, 0]
+  supported = 0xFC0
+  flags = 0
+  assert = 0
+  deassert = 0
+  [[channel]]
+  number = 1
+  sessions = true
+  access = [2, 2]
+  limit = [4, 4]
+  users = [0x14, 0x14]
+  [[attribute]]
+  name = \"Quiet\"
+  kind = \"enumeration\"
+  values = [\"off\", \"on\"]
+  default = [0]
+  current = [0]
+  readonly = false
+  [[attribute]]
+  name = \"Asset\"
+  kind = \"string\"
+  string_type = 1
+  least = 0
+  most = 200
+  default = \"\"
+  current = \"rack-1\"
+  readonly = false
+  [[attribute]]
+  name = \"Delay\"
+  kind = \"integer\"
+  lower = 0
+  upper = 300
+  increment = 10
+  default = 30
+  current = 30
+  readonly = false
+
+# Effecter 4: u16 from 0 to 1000, and 500 at first.
+part effecter: [[numeric]] / id = 4 / size = 2 / operational = 1 / lower = 0 / upper = 1000 / current = 500
+
+# Effecter 6, which is disabled.
+part disabled: [[numeric]] / id = 6 / size = 0 / operational = 2 / lower = 0 / upper = 9 / current = 9
+
+# Effecters of u16 from 0 to 1000, of s8 from -2 to 1, of u32, which is disabled, and of s32 from -70,000 to -1.
+part effecters
+  [[numeric]] / id = 4 / size = 2 / operational = 1 / lower = 0 / upper = 1000 / current = 500
+  [[numeric]] / id = 5 / size = 1 / operational = 1 / lower = -2 / upper = 1 / current = 0
+  [[numeric]] / id = 6 / size = 4 / operational = 2 / lower = 0 / upper = 9 / current = 9
+  [[numeric]] / id = 261 / size = 5 / operational = 1 / lower = -70000 / upper = -1 / current = -1
+
+# Sensor 5 reports when its upper non-critical threshold (offset 7) and its upper critical one (offset 9) are going high. The sample
+# board has 9 enabled.
+part events
+  [[step]]
+  kind = \"event-enable\"
+  sensor = 5
+  messages = true
+  scanning = true
+  select = \"enable\"
+  assert = [7, 9]
+  deassert = []
+
+# The own fields of a board without users, and the sample board's device.
+part fields
+  tid = 5 / clock = 0 / log = 2 / enables = 0x08 / policy = 1 / users = [\"\"] / watchdog = [0, 0, 0, 0] / sdr = []
+  boot3 = 0 / boot4 = 0 / boot5 = [0, 0, 0, 0, 0]
+part device-20h
+  [device] / id = 0x20 / revision = 1 / major = 1 / minor = 0x05 / support = 0x07 / manufacturer = 0xABCD / product = 0x1234
+";

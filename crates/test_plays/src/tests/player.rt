@@ -1,0 +1,305 @@
+//! The player of stories of plays, frames and command lines.
+use super::asked::asked_text;
+use super::parts::Parts;
+use super::runs::{Paper, new_paper, run};
+use super::scene::Scene;
+use super::text::{push_lines, push_piece};
+use super::trouble::Trouble;
+use bmc_lab::Unreadable;
+use std::alloc::Global;
+
+/// What of a text was played, and what came otherwise than told.
+///
+/// A text has lines at the margin, each with the lines below it that two spaces set in. At the margin stands one of these:
+///
+/// - `# ..`: a remark;
+/// - `part NAME`: the lines have this name;
+/// - `story NAME`: a story begins, with no board, an empty plan and an empty schedule;
+/// - `board`, `plan`, `schedule`: the lines are this text of the story;
+/// - `then`: with these lines the schedule goes on;
+/// - `swap OLD => NEW`: in the board NEW stands in the place of the first OLD;
+/// - `unreadable plan`, `memory plan`: the file of the plan can't be read, or memory for it is refused;
+/// - `lines -> 0 out`: a play of the three texts ends with this status, and writes the lines to this stream (`out` or `err`) and nothing to
+///   the other, nor to both where none is named; `frames` is one with its frames, and `chart` one that is drawn;
+/// - `ipmb HEX -> 0 out`, `smbus ..`: so does a frame that is sent to the board, or to the sample board where the story has none;
+/// - `same ipmb HEX`: the frame is answered by the story's board as by the sample board;
+/// - `bmclab WORDS -> 0 out`: so does this command line, where the files `board.toml`, `plan.toml` and `schedule.txt` hold the texts; in a
+///   word `~` stands for a space, and `''` is an empty word;
+/// - `asks bmclab WORDS -> ..`: the command line asks for this.
+///
+/// `plan events fan` begins with the lines of these parts. Behind `: ` the first of the lines may stand. In a line ` / ` separates several; `3 x
+/// tick` is three lines; `{3*00}` is `000000`; in the copies that are made so, `{5+2}` is 5, then 7, and `{x5-1}` is `05`, then `04`. Of what is
+/// written, `..` stands for anything.
+#[derive(Drop)]
+pub struct Player {
+    alloc: Global,
+    parts: Parts,
+    scene: Scene,
+    /// The story's name, and whether any of it was played.
+    story: String,
+    is_played: bool,
+    /// The line at the margin, its number, and the lines below it.
+    head: String,
+    number: usize,
+    body: String,
+    /// What came otherwise.
+    told: String,
+}
+
+/// Whether this was written, where this was wanted: `..` stands for anything.
+fn agrees(written: &str, wanted: &str) -> bool {
+    match wanted.split_once("..") {
+        Some((front, back)) => {
+            let least = front.len().saturating_add(back.len());
+            written.len() >= least && written.starts_with(front) && written.ends_with(back)
+        }
+        None => written == wanted,
+    }
+}
+
+/// The status and the stream that a line tells.
+fn ending_of(want: &str) -> Result<(u8, &str), Trouble> {
+    let (status, stream) = want.split_once(' ').unwrap_or((want, ""));
+    match (status.parse::<u8>(), stream) {
+        (Ok(status), "" | "out" | "err") => Ok((status, stream)),
+        _ => Err(Trouble::Unread),
+    }
+}
+
+/// What was written to a stream.
+fn text_of(bytes: &[u8]) -> Result<&str, Trouble> {
+    match str::from_utf8(bytes) {
+        Ok(text) => Ok(text),
+        Err(_) => Err(Trouble::Unread),
+    }
+}
+
+/// Whether this was written to the stream of this name, where these lines were wanted on this stream.
+fn is_on(paper: &[u8], name: &str, stream: &str, body: &str) -> Result<bool, Trouble> {
+    let written = text_of(paper)?;
+    Ok(agrees(written, if name == stream { body } else { "" }))
+}
+
+/// Whether lines may stand below a line at the margin that begins with this word.
+fn takes_lines(word: &str) -> bool {
+    !matches!(
+        word,
+        "" | "#" | "story" | "swap" | "unreadable" | "memory" | "same" | "asks"
+    )
+}
+
+impl Player {
+    /// Nothing was played yet.
+    fn new(alloc: Global) -> Player {
+        Player {
+            alloc,
+            parts: Parts::new(alloc),
+            scene: Scene::new(alloc),
+            story: String::new(alloc),
+            is_played: false,
+            head: String::new(alloc),
+            number: 0,
+            body: String::new(alloc),
+            told: String::new(alloc),
+        }
+    }
+
+    /// Something came otherwise than told.
+    fn tell(&mut self, what: &str) -> Result<(), Trouble> {
+        writeln!(self.told, "{}, line {}: {what}", self.story, self.number)?;
+        Ok(())
+    }
+
+    /// A run wrote this and ended so.
+    fn tell_run(&mut self, paper: &Paper, status: u8) -> Result<(), Trouble> {
+        let out = text_of(paper.out.as_slice())?;
+        let err = text_of(paper.err.as_slice())?;
+        let what = format!(in self.alloc; "status {status}, out {out:?}, err {err:?}")?;
+        self.tell(what.as_str())
+    }
+
+    /// The run that the line asks for ends with the status, and writes the lines to the stream.
+    fn expect_run(&mut self, line: &str, want: &str) -> Result<(), Trouble> {
+        let (status, stream) = ending_of(want)?;
+        if stream == "" && !self.body.is_empty() {
+            return Err(Trouble::Unread);
+        }
+        let mut paper = new_paper(self.alloc);
+        let ended = run(self.alloc, &self.scene, line, &mut paper)?;
+        let body = self.body.as_str();
+        let is_told = ended == status
+            && is_on(paper.out.as_slice(), "out", stream, body)?
+            && is_on(paper.err.as_slice(), "err", stream, body)?;
+        if !is_told {
+            self.tell_run(&paper, ended)?;
+        }
+        Ok(())
+    }
+
+    /// The command line asks for this.
+    fn expect_asked(&mut self, line: &str, want: &str) -> Result<(), Trouble> {
+        let asked = asked_text(self.alloc, line)?;
+        if asked.as_str() != want {
+            self.tell(asked.as_str())?;
+        }
+        Ok(())
+    }
+
+    /// The frame is answered by the story's board as by the sample board.
+    fn expect_same(&mut self, line: &str) -> Result<(), Trouble> {
+        let mut given = new_paper(self.alloc);
+        let mut left_out = new_paper(self.alloc);
+        let status = run(self.alloc, &self.scene, line, &mut given)?;
+        let other = run(self.alloc, &Scene::new(self.alloc), line, &mut left_out)?;
+        let is_same = status == 0 && other == 0 && given.err.is_empty();
+        if !is_same || given.out.as_slice() != left_out.out.as_slice() {
+            self.tell_run(&given, status)?;
+        }
+        Ok(())
+    }
+
+    /// Something is expected of the story.
+    fn expect(&mut self, word: &str, rest: &str, head: &str) -> Result<(), Trouble> {
+        self.is_played = true;
+        if word == "same" {
+            return self.expect_same(rest);
+        }
+        let (what, want) = head.split_once(" -> ").ok_or(Trouble::Unread)?;
+        match what.strip_prefix("asks ") {
+            Some(line) => self.expect_asked(line, want),
+            None => self.expect_run(what, want),
+        }
+    }
+
+    /// A story begins. Of the one before, if there was one, something was played.
+    fn begin_story(&mut self, name: &str) -> Result<(), Trouble> {
+        if !self.is_played && !self.story.is_empty() {
+            self.tell("nothing was played")?;
+        }
+        self.is_played = false;
+        self.scene = Scene::new(self.alloc);
+        self.story = String::from_str(self.alloc, name)?;
+        Ok(())
+    }
+
+    /// The lines, of which nothing is left.
+    fn take_body(&mut self) -> String {
+        let body = String::new(self.alloc);
+        std::mem::replace(&mut self.body, body)
+    }
+
+    /// In the board the second of these words stands in the place of the first.
+    fn swap(&mut self, words: &str) -> Result<(), Trouble> {
+        let (old, new) = words.split_once(" => ").ok_or(Trouble::Unread)?;
+        self.scene.swap(old, new)
+    }
+
+    /// The line at the margin, with the lines below it, is played.
+    fn play(&mut self, head: &str) -> Result<(), Trouble> {
+        let (word, rest) = head.split_once(' ').unwrap_or((head, ""));
+        let (name, _) = rest.split_once(' ').unwrap_or((rest, ""));
+        if !takes_lines(word) && !self.body.is_empty() {
+            return Err(Trouble::Unread);
+        }
+        match word {
+            "" | "#" => Ok(()),
+            "story" => self.begin_story(rest),
+            "part" => {
+                let body = self.take_body();
+                self.parts.put(name, body)
+            }
+            "board" | "plan" | "schedule" => {
+                let body = self.take_body();
+                self.scene.put(word, Ok(body))
+            }
+            "then" => self.scene.go_on(self.body.as_str()),
+            "swap" => self.swap(rest),
+            "unreadable" => self.scene.put(name, Err(Unreadable::NoText)),
+            "memory" => self.scene.put(name, Err(Unreadable::Memory)),
+            _ => self.expect(word, rest, head),
+        }
+    }
+
+    /// The line at the margin is played, or what troubles it is told.
+    fn finish(&mut self) -> Result<(), Trouble> {
+        let empty = String::new(self.alloc);
+        let head = std::mem::replace(&mut self.head, empty);
+        match self.play(head.as_str()) {
+            Err(Trouble::Unread) => self.tell("can't be read"),
+            ended => ended,
+        }
+    }
+
+    /// Appends the lines of the parts that a line at the margin names behind its first word, but for a part's own name.
+    fn push_parts(&mut self, words: &str) -> Result<(), Trouble> {
+        for (place, word) in words.split(' ').enumerate() {
+            if place > 0 {
+                self.parts.push(&mut self.body, word)?;
+            }
+        }
+        Ok(())
+    }
+
+    /// A line at the margin: the lines of its parts, and what stands in it behind `: `, are the first of those below it.
+    fn begin(&mut self, number: usize, line: &str) -> Result<(), Trouble> {
+        self.number = number;
+        self.body.clear();
+        if line.starts_with("# ") || line.starts_with("story ") {
+            return push_piece(&mut self.head, line, 0);
+        }
+        let (head, lines) = match line.split_once(": ") {
+            Some((head, lines)) => (head, Some(lines)),
+            None => (line, None),
+        };
+        push_piece(&mut self.head, head, 0)?;
+        if let Some("board" | "plan" | "schedule" | "then") = head.split(' ').next() {
+            self.push_parts(head)?;
+        }
+        match lines {
+            Some(lines) => push_lines(&mut self.body, lines),
+            None => Ok(()),
+        }
+    }
+
+    /// The next line of the text.
+    fn read(&mut self, number: usize, line: &str) -> Result<(), Trouble> {
+        if let Some(line) = line.strip_prefix("  ") {
+            return push_lines(&mut self.body, line);
+        }
+        self.finish()?;
+        self.begin(number, line)
+    }
+
+    /// The next line of the text is read, or what troubles it is told.
+    fn take(&mut self, number: usize, line: &str) -> Result<(), Trouble> {
+        match self.read(number, line) {
+            Err(Trouble::Unread) => {
+                self.number = number;
+                self.head.clear();
+                self.body.clear();
+                self.tell("can't be read")
+            }
+            ended => ended,
+        }
+    }
+
+    /// The text's lines are played.
+    fn take_all(&mut self, text: &str) -> Result<(), Trouble> {
+        for (place, line) in text.split('\n').enumerate() {
+            self.take(place.saturating_add(1), line)?;
+        }
+        self.finish()
+    }
+}
+
+/// Plays the stories of the text, behind the parts of another. What came otherwise than told, each in a line: the story, the number of the
+/// line, and what came. A text in which nothing is played came otherwise too.
+pub fn otherwise(alloc: Global, parts: &str, text: &str) -> Result<String, Trouble> {
+    let mut player = Player::new(alloc);
+    player.take_all(parts)?;
+    player.take_all(text)?;
+    if !player.is_played {
+        player.tell("nothing was played")?;
+    }
+    Ok(player.told)
+}

@@ -1,0 +1,90 @@
+//! Stories that are told wrong: the player notices each kind of line.
+use super::parts_text::SHARED;
+use super::player::otherwise;
+use std::test::Fail;
+
+/// Each kind of line, told wrong.
+const WRONG: &str = "story every run is told wrong
+board sample
+lines -> 1 out: phase Fresh / frames 0 / undo 0 / records same
+lines -> 0 err: phase Fresh / frames 0 / undo 0 / records same
+lines -> 0: phase Fresh
+lines -> 0
+lines -> 0 out: phase Fresh / .. / records changed 1
+frames -> 0 out: phase Done / ..
+chart -> 0 out: event
+ipmb 2018C82C0001D3 -> 0 out: 2C1CB820000100200101050207CDAB003412F0
+smbus 2018C82C0001D3 -> 1 out: ignored NotMctp
+bmclab frame 201 -> 3
+asks bmclab frame 2018 -> smbus 2018
+swap id = 0x20 => id = 0x21
+same ipmb 2018C82C0001D3
+unreadable plan
+lines -> 0 out: phase Fresh / frames 0 / undo 0 / records same
+bmclab play board.toml plan.toml schedule.txt -> 0
+memory plan
+bmclab play board.toml plan.toml schedule.txt -> 0
+
+story a story's texts are told wrong
+board none
+plan: retries = {3
+schedule: start
+then: undo
+lines -> 0 out: phase Done
+part events
+swap nothing => something
+unreadable file
+line -> 0
+ipmb 201 -> 0
+ipmb 2018C82C0001D3
+# A remark has no lines.
+  start
+story nothing is played of this one
+board sample
+";
+
+/// What is said of each.
+const NOTICED: &str =
+    "every run is told wrong, line 3: status 0, out \"phase Fresh\\nframes 0\\nundo 0\\nrecords same\\n\", err \"\"
+every run is told wrong, line 4: status 0, out \"phase Fresh\\nframes 0\\nundo 0\\nrecords same\\n\", err \"\"
+every run is told wrong, line 5: can't be read
+every run is told wrong, line 6: status 0, out \"phase Fresh\\nframes 0\\nundo 0\\nrecords same\\n\", err \"\"
+every run is told wrong, line 7: status 0, out \"phase Fresh\\nframes 0\\nundo 0\\nrecords same\\n\", err \"\"
+every run is told wrong, line 8: status 0, out \"phase Fresh\\nframes 0\\nundo 0\\nrecords same\\n\", err \"\"
+every run is told wrong, line 9: status 0, out \"event mgr  |comes             sends            |bmc     phase\\n\", err \"\"
+every run is told wrong, line 10: status 0, out \"2C1CB820000100200101050207CDAB003412F1\\n\", err \"\"
+every run is told wrong, line 11: status 1, out \"ignored Short\\n\", err \"\"
+every run is told wrong, line 12: status 2, out \"\", err \"\"
+every run is told wrong, line 13: ipmb 2018
+every run is told wrong, line 15: status 0, out \"2C1CB820000100210101050207CDAB003412F0\\n\", err \"\"
+every run is told wrong, line 17: can't be read
+every run is told wrong, line 18: status 3, out \"\", err \"file plan.toml\\n\"
+every run is told wrong, line 20: status 5, out \"\", err \"memory\\n\"
+a story's texts are told wrong, line 23: can't be read
+a story's texts are told wrong, line 24: can't be read
+a story's texts are told wrong, line 27: can't be read
+a story's texts are told wrong, line 28: can't be read
+a story's texts are told wrong, line 29: can't be read
+a story's texts are told wrong, line 30: can't be read
+a story's texts are told wrong, line 31: can't be read
+a story's texts are told wrong, line 32: can't be read
+a story's texts are told wrong, line 33: can't be read
+a story's texts are told wrong, line 34: can't be read
+nothing is played of this one, line 38: nothing was played
+";
+
+#[test]
+fn stories_that_are_told_wrong_are_noticed(rt: HostRuntime) -> Result<(), Fail> {
+    let told = otherwise(rt.alloc(), SHARED, WRONG)?;
+    assert_eq!(rt; told.as_str(), NOTICED);
+    Ok(())
+}
+
+#[test]
+fn a_text_without_a_story_is_noticed(rt: HostRuntime) -> Result<(), Fail> {
+    assert_eq!(rt;
+        otherwise(rt.alloc(), SHARED, "")?.as_str(),
+        ", line 1: nothing was played\n"
+    );
+    Ok(())
+}

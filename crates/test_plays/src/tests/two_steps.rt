@@ -1,0 +1,219 @@
+//! A plan of two steps on the sample board, over IPMB.
+use bmc_core::{At, Board, Out, Port};
+use cfg_records::{PlainStore, Store, sample_board};
+use mctp_net::EndpointId;
+use plan_file::read_plan;
+use plans::{Names, Plan};
+use std::alloc::Global;
+use std::process::Abort;
+use two_wire::{Address, Bus};
+use undo_core::{Manager, OpenFault, Phase, Sent, Why};
+use undo_text::{read_undo, write_undo};
+
+/// The sample board.
+fn sample(rt: &impl Abort, alloc: Global) -> Board<PlainStore> {
+    let file = sample_board(alloc).expect(rt, "memory");
+    let store = PlainStore::of_file(alloc, &file).expect(rt, "memory");
+    Board::open(alloc, file, store).expect(rt, "memory")
+}
+
+/// The port on IPMB of a controller at address 20h and with the identifier 0Ah.
+fn open_port(rt: &impl Abort, alloc: Global) -> Port {
+    let wire = Address::new(0x20).expect(rt, "an address");
+    let eid = EndpointId::new(0x0A).expect(rt, "an identifier");
+    Port::new(alloc, Bus::Ipmb, At { wire, eid }).expect(rt, "memory")
+}
+
+/// The port hears the bytes.
+fn hear(board: &mut Board<PlainStore>, port: &mut Port, bytes: &[u8], out: &mut Out) {
+    port.on_frame(board, bytes, out);
+}
+
+fn names(rt: &impl Abort) -> Names {
+    let own = Address::new(0x2C).expect(rt, "an address");
+    let peer = Address::new(0x20).expect(rt, "an address");
+    Names {
+        own_address: own,
+        peer_address: peer,
+        own_wire: own,
+        peer_wire: peer,
+        own_eid: 0x0B,
+        peer_eid: 0x0A,
+    }
+}
+
+/// Upper non-critical 4Bh and upper critical 5Ah of sensor 5; then upper critical 5Ch and upper non-recoverable 64h.
+const PLAN: &str = "[[step]]
+kind = \"thresholds\"
+sensor = 5
+unc = 0x4B
+uc = 0x5A
+[[step]]
+kind = \"thresholds\"
+sensor = 5
+uc = 0x5C
+unr = 0x64
+";
+
+/// What undoes both steps, the second first.
+const UNDO: &str = "undo 1
+next ipmb 4 smbus 0
+ipmb 10260530000000005A6E
+ipmb 10260518000000505F00
+";
+
+fn plan(rt: &impl Abort, alloc: Global) -> Plan {
+    read_plan(alloc, PLAN).expect(rt, "a plan")
+}
+
+/// A manager of the plan.
+fn open_manager(rt: &impl Abort, alloc: Global) -> Manager {
+    Manager::open(alloc, plan(rt, alloc), names(rt), 3).expect(rt, "a manager")
+}
+
+/// A manager that undoes what the undo list's text says.
+fn resumed(rt: &impl Abort, alloc: Global, text: &str) -> Manager {
+    let list = read_undo(alloc, text).expect(rt, "an undo list");
+    Manager::resume(alloc, list, names(rt), 3).expect(rt, "a manager")
+}
+
+/// The one frame that is sent on IPMB.
+fn frame_of<'a>(rt: &impl Abort, sent: &'a Sent) -> &'a [u8] {
+    assert_eq!(rt; sent.bus, Bus::Ipmb);
+    assert_eq!(rt; sent.frames.as_slice().len(), 1);
+    sent.frames.as_slice()[0].as_slice()
+}
+
+/// The reply comes to the manager. What that sends then.
+fn take(manager: &mut Manager, reply: &[u8]) -> Option<Sent> {
+    manager.on_frame(Bus::Ipmb, reply)
+}
+
+/// The frames come to the port, and its reply comes to the manager. What that sends then.
+fn exchange(
+    rt: &impl Abort,
+    board: &mut Board<PlainStore>,
+    port: &mut Port,
+    manager: &mut Manager,
+    sent: &Sent,
+) -> Option<Sent> {
+    let mut out = Out::new();
+    hear(board, port, frame_of(rt, sent), &mut out);
+    let [reply] = out.frames.as_slice() else {
+        assert!(rt; false, "one frame is a response on IPMB");
+        return None;
+    };
+    take(manager, reply.as_slice())
+}
+
+/// More requests than any run here sends.
+const MOST_REQUESTS: usize = 16;
+
+/// A clean link: each frame that the manager sends comes to the port, and each that the port sends comes to the manager. How many
+/// requests were sent.
+fn drive(
+    rt: &impl Abort,
+    board: &mut Board<PlainStore>,
+    port: &mut Port,
+    manager: &mut Manager,
+    first: Option<Sent>,
+) -> usize {
+    let mut open = first;
+    for requests in 0..MOST_REQUESTS {
+        let Some(sent) = open else {
+            return requests;
+        };
+        open = exchange(rt, board, port, manager, &sent);
+    }
+    MOST_REQUESTS
+}
+
+/// The manager is in the phase, and its undo list is that of both steps.
+fn expect_list(rt: &impl Abort, alloc: Global, manager: &Manager, phase: Phase) {
+    assert_eq!(rt; manager.phase(), phase);
+    let text = write_undo(alloc, manager.undo_list()).expect(rt, "memory");
+    assert_eq!(rt; text.as_str(), UNDO);
+}
+
+/// Whether each record of the board is as in its file.
+fn is_as_in_its_file(rt: &impl Abort, alloc: Global, board: &Board<PlainStore>) -> bool {
+    let file = sample_board(alloc).expect(rt, "memory");
+    let records = file.records(alloc).expect(rt, "memory");
+    for (key, value) in records.as_slice() {
+        let now = board.store().get(key).expect(rt, "a record");
+        if now != value.as_slice() {
+            return false;
+        }
+    }
+    true
+}
+
+/// The manager carries the plan out on the board.
+fn carry_out(
+    rt: &impl Abort,
+    alloc: Global,
+    board: &mut Board<PlainStore>,
+    port: &mut Port,
+    manager: &mut Manager,
+) {
+    assert!(rt; is_as_in_its_file(rt, alloc, board));
+    let first = manager.start().expect(rt, "the phase of a start");
+    assert_eq!(rt; drive(rt, board, port, manager, first), 4);
+    assert!(rt; !is_as_in_its_file(rt, alloc, board));
+    expect_list(rt, alloc, manager, Phase::Done);
+}
+
+/// The first frames that the manager sends to undo the plan: this one.
+fn first_of_undo(rt: &impl Abort, alloc: Global, manager: &mut Manager) -> Option<Sent> {
+    let first = manager.undo().expect(rt, "the phase of an undo")?;
+    let digits = hex::encode_upper(alloc, frame_of(rt, &first)).expect(rt, "memory");
+    assert_eq!(rt; digits.as_str(), "2010D02C10260530000000005A6EA1");
+    Some(first)
+}
+
+/// The undo begins with its frame, and leaves every record as it was.
+fn undone(
+    rt: &impl Abort,
+    alloc: Global,
+    board: &mut Board<PlainStore>,
+    port: &mut Port,
+    manager: &mut Manager,
+) {
+    let first = first_of_undo(rt, alloc, manager);
+    assert!(rt; first.is_some());
+    assert_eq!(rt; drive(rt, board, port, manager, first), 2);
+    assert_eq!(rt; manager.phase(), Phase::Undone);
+    assert!(rt; is_as_in_its_file(rt, alloc, board));
+}
+
+/// Another manager takes the place of one that did the plan, by what its undo list says.
+fn another(rt: &impl Abort, alloc: Global) -> Manager {
+    let manager = resumed(rt, alloc, UNDO);
+    expect_list(rt, alloc, &manager, Phase::Halted(2, Why::Stop));
+    manager
+}
+
+/// The plan is carried out on a fresh board, and undone by its manager or by another.
+fn expect_undone(rt: &impl Abort, alloc: Global, by_another: bool) {
+    let mut board = sample(rt, alloc);
+    let mut port = open_port(rt, alloc);
+    let mut manager = open_manager(rt, alloc);
+    carry_out(rt, alloc, &mut board, &mut port, &mut manager);
+    if by_another {
+        manager = another(rt, alloc);
+    }
+    undone(rt, alloc, &mut board, &mut port, &mut manager);
+}
+
+#[test]
+fn a_plan_is_carried_out_and_undone_by_its_manager_or_by_another(rt: HostRuntime) {
+    for by_another in [false, true] {
+        expect_undone(&rt, rt.alloc(), by_another);
+    }
+}
+
+#[test]
+fn a_manager_has_at_most_15_retries(rt: HostRuntime) {
+    let opened = Manager::open(rt.alloc(), plan(&rt, rt.alloc()), names(&rt), 16);
+    assert_eq!(rt; opened.err(), Some(OpenFault::Retries));
+}

@@ -1,0 +1,167 @@
+//! Writers that fail.
+use bmc_lab::{Console, Ending, Report, Status, Stream, frame_run};
+use bmc_play::play_run;
+use std::alloc::{AllocError, Global};
+use std::io;
+use std::process::Abort;
+use two_wire::Bus;
+
+/// What a writer was given, and how many of its calls are left before the one that fails, if one is to fail.
+#[derive(Drop)]
+struct Paper {
+    text: Vec<u8>,
+    left: Option<usize>,
+}
+
+impl io::Write for Paper {
+    fn write(&mut self, buf: &[u8]) -> io::Result<usize> {
+        if self.left == Some(0) {
+            // The next call doesn't fail.
+            self.left = None;
+            return Err(io::Error::from(io::ErrorKind::BrokenPipe));
+        }
+        self.left = self.left.map(|left| left.saturating_sub(1));
+        // A writer may take less than it is given.
+        let taken = buf.len().min(7);
+        self.text.extend_from_slice(&buf[..taken])?;
+        Ok(taken)
+    }
+
+    fn flush(&mut self) -> io::Result<()> {
+        Ok(())
+    }
+}
+
+/// Papers of which each fails behind so many calls, if it does.
+fn new_papers(alloc: Global, left: (Option<usize>, Option<usize>)) -> Console<Paper, Paper> {
+    let out = Paper {
+        text: Vec::new(alloc),
+        left: left.0,
+    };
+    let err = Paper {
+        text: Vec::new(alloc),
+        left: left.1,
+    };
+    Console::new(out, err)
+}
+
+/// Set Sensor Thresholds: sensor 5, upper critical 5Ah.
+const SET: [u8; 15] = [
+    0x20, 0x10, 0xD0, 0x2C, 0x08, 0x26, 0x05, 0x10, 0x00, 0x00, 0x00, 0x00, 0x5A, 0x00, 0x37,
+];
+
+/// A run whose output fails behind so many calls writes so many bytes of its line, and ends so.
+fn expect_cut(rt: &impl Abort, alloc: Global, left: usize, written: usize, status: u8) {
+    let mut papers = new_papers(alloc, (Some(left), None));
+    let ended = frame_run(alloc, Bus::Ipmb, None, SET.as_slice(), &mut papers);
+    let line = b"2C14C020082600B2\n".get(..written).expect(rt, "a line");
+    assert_eq!(rt; ended, status, "with {left} calls");
+    assert_eq!(rt; papers.out.text.as_slice(), line, "with {left} calls");
+    assert!(rt; papers.err.text.is_empty(), "with {left} calls");
+}
+
+#[test]
+fn a_write_that_fails_ends_a_run_with_6_and_is_not_repeated(rt: HostRuntime) {
+    // The line of 17 bytes takes three calls of a writer that takes 7 at a time.
+    for (left, written, status) in [(0, 0, 6), (1, 7, 6), (2, 14, 6), (3, 17, 0)] {
+        expect_cut(&rt, rt.alloc(), left, written, status);
+    }
+}
+
+/// A board without users and sensors.
+const BOARD: &str = "tid = 5
+clock = 0
+log = 2
+enables = 0x08
+policy = 1
+users = [\"\"]
+watchdog = [0, 0, 0, 0]
+sdr = []
+boot3 = 0
+boot4 = 0
+boot5 = [0, 0, 0, 0, 0]
+[device]
+id = 0x20
+revision = 1
+major = 1
+minor = 0x05
+support = 0x07
+manufacturer = 0xABCD
+product = 0x1234
+";
+
+const PLAN: &str = "[[step]]\nkind = \"power-policy\"\npolicy = 2\n";
+
+/// Where the writers fail behind so many calls, if they do, a play of the schedule ends so.
+fn expect_status(
+    rt: &impl Abort,
+    alloc: Global,
+    left: (Option<usize>, Option<usize>),
+    schedule: &str,
+    status: u8,
+) {
+    let mut papers = new_papers(alloc, left);
+    let ended = play_run(alloc, false, BOARD, PLAN, schedule, &mut papers);
+    assert_eq!(rt; ended, status, "{schedule}");
+}
+
+#[test]
+fn a_write_that_fails_ends_a_play_with_6(rt: HostRuntime) {
+    for (out, err, schedule, status) in [
+        (Some(0), None, "start\n", 6),
+        (Some(0), None, "to-bmc 0\n", 6),
+        (None, Some(0), "begin\n", 6),
+        // Nothing is written to the stream that fails.
+        (None, Some(0), "start\n", 0),
+        (None, Some(0), "to-bmc 0\n", 4),
+        (Some(0), None, "begin\n", 3),
+    ] {
+        expect_status(&rt, rt.alloc(), (out, err), schedule, status);
+    }
+}
+
+/// The status of papers to which the ending was written.
+fn written(ending: &Ending, papers: &mut Console<Paper, Paper>) -> Status {
+    ending.write(papers)
+}
+
+/// The ending of the report is written to standard error, whose writer fails behind so many calls, if it does: this text, and this
+/// status.
+fn expect_ending(
+    rt: &impl Abort,
+    alloc: Global,
+    report: &Result<Report, AllocError>,
+    left: Option<usize>,
+    want: (&str, Status),
+) {
+    let (text, status) = want;
+    let ending = Ending::of(report);
+    assert_eq!(rt; ending.stream, Stream::Error);
+    let mut papers = new_papers(alloc, (Some(0), left));
+    assert_eq!(rt; written(&ending, &mut papers), status);
+    assert!(rt; papers.out.text.is_empty());
+    assert_eq!(rt; papers.err.text.as_slice(), text.as_bytes());
+}
+
+#[test]
+fn a_run_that_is_refused_memory_or_a_file_says_so(rt: HostRuntime) {
+    let named = Report::of_file(rt.alloc(), "no.toml");
+    let line = ("file no.toml\n", Status::RefusedFile);
+    expect_ending(&rt, rt.alloc(), &named, None, line);
+    let refused = Err(AllocError);
+    expect_ending(
+        &rt,
+        rt.alloc(),
+        &refused,
+        None,
+        ("memory\n", Status::Memory),
+    );
+    expect_ending(&rt, rt.alloc(), &refused, Some(0), ("", Status::Output));
+}
+
+#[test]
+fn a_run_whose_words_are_refused_writes_nothing_and_ends_with_2(rt: HostRuntime) {
+    let words = Ending::without_report(Status::RefusedWords);
+    assert!(rt; words.text.is_empty());
+    assert_eq!(rt; u8::from(words.status), 2);
+}

@@ -1,0 +1,130 @@
+//! Requests to a port on the System Management Bus, and what it keeps of them.
+use super::expect_told;
+use bmc_core::{At, Done, Out, SmbusPort, Step};
+use cfg_records::Answered;
+use mctp_net::EndpointId;
+use std::test::Fail;
+use stories::open_sample;
+use two_wire::{Address, Bytes};
+
+const SMBUS: &str = "\
+story instance 16 forgets instance 0
+# Each asks for the terminus identifier.
+smbus 200F093101000BC80180000296 -> Answered 300F0B21010B0AC001000002000597
+smbus 200F093101000BC801810002FD -> Answered 300F0B21010B0AC0010100020005F5
+smbus 200F093101000BC80182000240 -> Answered 300F0B21010B0AC001020002000553
+smbus 200F093101000BC8018300022B -> Answered 300F0B21010B0AC001030002000531
+smbus 200F093101000BC8018400023D -> Answered 300F0B21010B0AC001040002000518
+smbus 200F093101000BC80185000256 -> Answered 300F0B21010B0AC00105000200057A
+smbus 200F093101000BC801860002EB -> Answered 300F0B21010B0AC0010600020005DC
+smbus 200F093101000BC80187000280 -> Answered 300F0B21010B0AC0010700020005BE
+smbus 200F093101000BC801880002C7 -> Answered 300F0B21010B0AC00108000200058E
+smbus 200F093101000BC801890002AC -> Answered 300F0B21010B0AC0010900020005EC
+smbus 200F093101000BC8018A000211 -> Answered 300F0B21010B0AC0010A000200054A
+smbus 200F093101000BC8018B00027A -> Answered 300F0B21010B0AC0010B0002000528
+smbus 200F093101000BC8018C00026C -> Answered 300F0B21010B0AC0010C0002000501
+smbus 200F093101000BC8018D000207 -> Answered 300F0B21010B0AC0010D0002000563
+smbus 200F093101000BC8018E0002BA -> Answered 300F0B21010B0AC0010E00020005C5
+smbus 200F093101000BC8018F0002D1 -> Answered 300F0B21010B0AC0010F00020005A7
+smbus 200F093101000BC80180000296 -> Repeated 300F0B21010B0AC001000002000597
+smbus 200F093101000BC80190000234 -> Answered 300F0B21010B0AC0011000020005A5
+smbus 200F093101000BC80180000296 -> Answered 300F0B21010B0AC001000002000597
+
+story a ninth requester waits for an idle
+smbus 200F0931010008C801800002ED -> Answered 300F0B2101080AC00100000200051C
+smbus 200F0931010009C801800002C4 -> Answered 300F0B2101090AC001000002000565
+smbus 200F093101000BC80180000296 -> Answered 300F0B21010B0AC001000002000597
+smbus 200F093101000CC80180000249 -> Answered 300F0B21010C0AC0010000020005FF
+smbus 200F093101000DC80180000260 -> Answered 300F0B21010D0AC001000002000586
+smbus 200F093101000EC8018000021B -> Answered 300F0B21010E0AC00100000200050D
+smbus 200F093101000FC80180000232 -> Answered 300F0B21010F0AC001000002000574
+smbus 200F0931010010C8018000023C -> Answered 300F0B2101100AC001000002000558
+# The ninth is told that the controller isn't ready.
+smbus 200F0931010011C80180000215 -> Busy 300F0A2101110AC00100000204BE
+# A control message, Get Endpoint ID, has no window.
+smbus 200F0831010011C800800219 -> Control 300F0C2101110AC0000002000A0000F3
+idle smbus 08 -> yes
+idle smbus 08 -> no
+smbus 200F0931010011C80180000215 -> Answered 300F0B2101110AC001000002000521
+smbus 200F0931010008C801800002ED -> Busy 300F0A2101080AC0010000020402
+
+story bit 5 makes no other request
+smbus 200F0931010008C801800002ED -> Answered 300F0B2101080AC00100000200051C
+smbus 200F0931010008C801A00002AE -> Repeated 300F0B2101080AC00100000200051C
+
+story a kept reply goes where the repeat came from
+# The endpoint gets another identifier; then the same request comes under tag 3.
+smbus 200F0931010008C801800002ED -> Answered 300F0B2101080AC00100000200051C
+smbus 200F0A31010A08C8008101000918 -> Control ..
+smbus 200F0931010008CB018000024B -> Repeated 300F0B21010809C30100000200054F
+
+story a request that is not told is asked again
+dropped smbus 200F0931010008C801800002ED -> asked
+told smbus 200F0931010008C801800002ED -> Answered 300F0B2101080AC00100000200051C
+told smbus 200F0931010008C801800002ED -> Repeated 300F0B2101080AC00100000200051C
+dropped smbus 200F0931010008C801800002ED -> Repeated 300F0B2101080AC00100000200051C
+
+story what is heard and told is what comes of a frame
+smbus 200F0931010008C801800002ED -> Answered 300F0B2101080AC00100000200051C
+";
+
+#[test]
+fn requests_come_over_smbus(rt: HostRuntime) -> Result<(), Fail> {
+    expect_told(&rt, rt.alloc(), SMBUS)
+}
+
+/// GetTID, from 30h and EID 08h, and its reply.
+const GET_TID: &[u8] = &[
+    0x20, 0x0F, 0x09, 0x31, 0x01, 0x00, 0x08, 0xC8, 0x01, 0x80, 0x00, 0x02, 0xED,
+];
+
+const GOT_TID: &[u8] = &[
+    0x30, 0x0F, 0x0B, 0x21, 0x01, 0x08, 0x0A, 0xC0, 0x01, 0x00, 0x00, 0x02, 0x00, 0x05, 0x1C,
+];
+
+/// The frame that was sent.
+fn sent(out: &Out) -> &[u8] {
+    match out.frames.as_slice() {
+        [frame] => frame.as_slice(),
+        _ => &[],
+    }
+}
+
+/// At 20h, with the EID 0Ah.
+fn at() -> At {
+    At {
+        wire: Address::new(0x20).unwrap(),
+        eid: EndpointId::new(0x0A).unwrap(),
+    }
+}
+
+#[test]
+fn a_request_is_heard_and_told(rt: HostRuntime) -> Result<(), Fail> {
+    let mut port = SmbusPort::new(rt.alloc(), at())?;
+    let mut out = Out::new();
+    let Step::Ask(pending) = port.hear(GET_TID, &mut out) else {
+        return Err("nothing is asked".into());
+    };
+    let answered = Answered {
+        code: 0x00,
+        body: Bytes::from_slice(&[0x05]),
+    };
+    port.told(pending, &answered, &mut out);
+    assert_eq!(rt; out.done, Done::Answered);
+    assert_eq!(rt; sent(&out), GOT_TID);
+    assert!(rt; matches!(port.hear(GET_TID, &mut out), Step::Done));
+    assert_eq!(rt; out.done, Done::Repeated);
+    assert!(rt; port.idle(0x08));
+    Ok(())
+}
+
+#[test]
+fn a_packet_is_answered(rt: HostRuntime) -> Result<(), Fail> {
+    let mut board = open_sample(rt.alloc())?;
+    let mut port = SmbusPort::new(rt.alloc(), at())?;
+    let mut out = Out::new();
+    port.on_frame(&mut board, GET_TID, &mut out);
+    assert_eq!(rt; out.done, Done::Answered);
+    assert_eq!(rt; sent(&out), GOT_TID);
+    Ok(())
+}

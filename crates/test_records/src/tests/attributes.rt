@@ -1,0 +1,135 @@
+//! BIOS attributes, over PLDM.
+use super::expect_told;
+use std::test::Fail;
+
+/// Attributes: their values, their tables, and what refuses them. The check in the end of a table is its CRC-32.
+const ATTRIBUTES: &str = "story an attribute is set and shown
+pldm 03 07 00000000050200032800000000000000 -> 00 00000000
+pldm 03 08 00000000010200 -> 00 00000000050200032800000000000000
+
+story an attribute refuses in order
+# Under eight bytes, before the flag; then the flag, before the attribute is looked for.
+pldm 03 07 00000000010900 -> 03
+pldm 03 07 0000000001090003 -> 02
+pldm 03 07 00000000050300032300000000000000 -> 88
+# Another type, before the entry's length; then this, before the value.
+pldm 03 07 000000000502000105 -> 02
+pldm 03 07 000000000502008305 -> 02
+pldm 03 07 000000000502000305 -> 03
+pldm 03 07 00000000050000000209 -> 03
+pldm 03 07 0000000005010001020061 -> 03
+# 35 is no step of 10, 310 is above the upper bound, and there is no third possible value.
+pldm 03 07 00000000050200032300000000000000 -> 02
+pldm 03 07 00000000050200033601000000000000 -> 02
+pldm 03 07 00000000050000000102 -> 02
+pldm 03 07 000000000500000000 -> 02
+pldm 03 08 000000000102 -> 03
+pldm 03 08 0000000001020000 -> 03
+# The operation, before the attribute is looked for.
+pldm 03 08 00000000000300 -> 02
+pldm 03 08 00000000020000 -> 02
+pldm 03 08 00000000010300 -> 88
+pldm 03 08 00000000010001 -> 88
+pldm 03 02 -> 05
+# The values are those that the board began with.
+pldm 03 08 00000000010200 -> 00 00000000050200031E00000000000000
+pldm 03 08 00000000010000 -> 00 00000000050000000100
+
+story a text of 200 bytes fits, and one of 201 does not
+pldm 03 07 0000000005 010001 C800 61*200 -> 00 00000000
+pldm 03 07 0000000005 010001 C900 61*201 -> 02
+pldm 03 07 0000000005 010001 C800 61*199 -> 03
+
+story the tables of the sample board are given
+pldm 03 01 000000000100 -> 00 0000000005000005005175696574010003006F6666020002006F6E0300050041737365740400050044656C6179AAE025EC
+pldm 03 01 000000000101 -> 00 00000000050000000000020100020001000100010300010000C800000002000304 00*9 2C010000000000000A0000001E 00*10 EEDB3230
+pldm 03 01 000000000102 -> 00 0000000005000000010001000106007261636B2D310200031E 00*8 C02AB2D2
+pldm 03 01 000000000103 -> 83
+pldm 03 01 000000000104 -> 85
+
+story a table refuses in order and shows what stands now
+pldm 03 01 0000000001 -> 03
+pldm 03 01 000000000904 -> 85
+pldm 03 01 000000000903 -> 83
+pldm 03 01 000000000202 -> 02
+pldm 03 01 000000000002 -> 02
+pldm 03 01 C00000000002 -> 02
+pldm 03 07 00000000050100010000 -> 00 00000000
+pldm 03 01 000000000102 -> 00 0000000005000000010001000100000200031E 00*10 35FB2F06
+# The handle of a first part isn't looked at.
+pldm 03 01 123456780102 -> 00 0000000005000000010001000100000200031E 00*10 35FB2F06
+
+story a long table is given in parts
+pldm 03 07 0000000005 010001 C800 61*200 -> 00 00000000
+pldm 03 01 000000000102 -> 00 C000000001 0000000100 010001C800 61*182
+pldm 03 01 C00000000002 -> 00 0000000004 61*18 0200031E 00*7 00*3 A2936022
+
+story an attribute that can only be read is shown and not set
+board attribute = [{ name = \"Serial\", kind = \"integer\", lower = 0, upper = 9, increment = 0, default = 7, current = 7, readonly = true }]
+pldm 03 08 00000000010000 -> 00 00000000050000830700000000000000
+pldm 03 07 00000000050000030800000000000000 -> 02
+pldm 03 07 00000000050000830800000000000000 -> 02
+pldm 03 08 00000000010000 -> 00 00000000050000830700000000000000
+
+story a board without attributes has no table
+board attribute = []
+pldm 03 01 000000000100 -> 83
+pldm 03 01 000000000101 -> 83
+pldm 03 01 000000000102 -> 83
+pldm 03 01 000000000103 -> 83
+pldm 03 01 000000000104 -> 85
+pldm 03 08 00000000010000 -> 88
+
+story a text has one string
+board attribute = [
+board { name = \"on\", kind = \"enumeration\", values = [\"off\", \"on\"], default = [0], current = [0], readonly = false },
+board { name = \"off\", kind = \"string\", string_type = 1, least = 0, most = 200, default = \"\", current = \"rack-1\", readonly = false },
+board { name = \"on\", kind = \"integer\", lower = 0, upper = 300, increment = 10, default = 30, current = 30, readonly = false },
+board ]
+pldm 03 01 000000000100 -> 00 0000000005 0000 0200 6F6E 0100 0300 6F6666 000000 DF3A61C5
+pldm 03 01 000000000101 -> 00 0000000005 0000 00 0000 02 0100 0000 01 00 ..
+
+story a type tells what can only be read
+board attribute = [
+board { name = \"Quiet\", kind = \"enumeration\", values = [\"off\", \"on\"], default = [0], current = [0], readonly = false },
+board { name = \"Asset\", kind = \"string\", string_type = 1, least = 0, most = 200, default = \"\", current = \"rack-1\", readonly = false },
+board { name = \"Delay\", kind = \"integer\", lower = 0, upper = 300, increment = 10, default = 30, current = 30, readonly = true },
+board ]
+pldm 03 01 000000000101 -> 00 0000000005 0000000000020100020001000100010300010000C8000000020083040000000000000000002C010000000000000A0000001E00000000000000 000000 B710F3C6
+pldm 03 01 000000000102 -> 00 0000000005 000000010001000106007261636B2D310200831E0000000000000000 C123B734
+pldm 03 07 0000000005 0200 03 2800000000000000 -> 02
+pldm 03 07 0000000005 0200 83 2800000000000000 -> 02
+
+story a handle before an attribute is not looked at, and a part is no value
+pldm 03 07 0909090905 0200 03 2800000000000000 -> 00 00000000
+pldm 03 07 0000000001 0200 03 2800000000000000 -> 02
+pldm 03 07 0000000001 0200 -> 03
+pldm 03 07 0000000005 0200 03 28000000000000 -> 03
+pldm 03 07 0000000005 0200 01 2800000000000000 -> 02
+pldm 03 07 0000000005 0300 03 2800000000000000 -> 88
+
+story an enumeration has indexes of its values
+pldm 03 07 0000000005 0000 00 0101 -> 00 00000000
+pldm 03 07 0000000005 0000 00 020100 -> 00 00000000
+pldm 03 07 0000000005 0000 00 0102 -> 02
+pldm 03 07 0000000005 0000 00 03000100 -> 02
+pldm 03 07 0000000005 0000 00 00 -> 02
+pldm 03 07 0000000005 0000 00 0201 -> 03
+pldm 03 08 00000000010000 -> 00 00000000050000000201 00
+
+story a change of an attribute is undone
+change pldm 03 07 0000000005 0100 01 0200 6162 : 0000000005 010001 0600 7261636B2D31 -> 0000000005 010001 0200 6162 : 0000000005 010001 0600 7261636B2D31
+
+story other data than a reply undo nothing
+undo pldm 03 07 0000000005 0000 00 : 0000000005 010001 0600 7261636B2D31 -> 0000000005 010001 0600 7261636B2D31
+undo pldm 03 07 0000000005 0000 00 : 0000000001 0000 00 0101 -> none
+undo pldm 03 07 0000000005 0000 00 : 0000000005 0000 00 0201 -> none
+undo pldm 03 07 0000000005 0000 00 : 0000000005 0000 00 00 -> none
+undo pldm 03 07 0000000005 0000 00 : 0000000005 0000 02 0101 -> none
+undo pldm 03 07 0000000005 0000 00 : 0000000005 00 -> none
+";
+
+#[test]
+fn attributes_are_set_shown_and_refused_in_order(rt: HostRuntime) -> Result<(), Fail> {
+    expect_told(&rt, rt.alloc(), ATTRIBUTES)
+}

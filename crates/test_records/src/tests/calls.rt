@@ -1,0 +1,220 @@
+//! Calls of a board, of its tables of commands, and of the kinds of record.
+use bmc_board::{Bench, Board, Command, Lengths, NoSensor, is_changing, read_request};
+use cfg_records::{
+    AccessStore, Asked, BootChange, BootFlags, BootParameter, ChannelChange, ChannelNumber,
+    EventChange, EventMasks, FieldChange, FieldChanges, Key, MaskedBits, NumericBytes, Op,
+    RecordKind, SetBiosAttribute, SetBootParam, SetChannelAccess, SetEventEnable, SetGlobalEnables,
+    SetHysteresis, SetNumericEffecter, SetPowerPolicy, SetStateEffecter, SetThresholds,
+    SetUserAccess, SetUserName, SetWatchdog, SixBits, Store, sample_board,
+};
+use record_kinds::{Limits, PlainKind};
+use std::alloc::{AllocError, Global};
+use std::process::Abort;
+use std::test::Fail;
+use two_wire::{Bytes, Lun, NetFn};
+
+/// Upper critical of sensor 5 becomes 5Ah.
+const UPPER_CRITICAL: Op = Op::Thresholds(SetThresholds {
+    sensor: 5,
+    mask: 0x10,
+    values: [0, 0, 0, 0, 0x5A, 0],
+});
+
+#[test]
+fn a_board_answers_a_set_and_a_get_and_keeps_the_record(rt: HostRuntime) -> Result<(), Fail> {
+    let file = sample_board(rt.alloc())?;
+    let mut board = Board::of_file(rt.alloc(), file)?;
+    let reply = board.answer(&Limits::set_asked(&UPPER_CRITICAL));
+    assert_eq!(rt; (reply.code, reply.body.as_slice().len()), (0, 0));
+    let reply = board.answer(&Limits::get_asked(&Key::Thresholds(5)));
+    assert_eq!(rt; reply.code, 0);
+    assert_eq!(rt;
+        reply.body.as_slice(),
+        [0x3F, 0x14, 0x0A, 0x05, 0x50, 0x5A, 0x6E].as_slice()
+    );
+    let kept = board.store().get(&Key::Thresholds(5));
+    assert_eq!(rt; kept, Some([0x14, 0x0A, 0x05, 0x50, 0x5A, 0x6E].as_slice()));
+    assert_eq!(rt;
+        board.bench(Bench::Reading {
+            sensor: 9,
+            raw: 0x60
+        }),
+        Err(NoSensor)
+    );
+    assert_eq!(rt; board.bench(Bench::Tick), Ok(()));
+    Ok(())
+}
+
+#[test]
+fn a_change_is_asked_and_undone(rt: HostRuntime) -> Result<(), Fail> {
+    assert!(rt; Limits::key(&UPPER_CRITICAL) == Key::Thresholds(5));
+    let set = Limits::set_asked(&UPPER_CRITICAL);
+    let asked = Asked::Ipmi {
+        from: 0,
+        net_fn: NetFn::new(4),
+        lun: Lun::new(0),
+        command: 0x26,
+        body: Bytes::from_slice(&[5, 0x10, 0, 0, 0, 0, 0x5A, 0]),
+    };
+    assert!(rt; set.is(&asked));
+    assert!(rt; is_changing(&set));
+    let (command, body) = read_request(&set);
+    assert_eq!(rt; command, Ok(Command::Set(PlainKind::Thresholds)));
+    assert_eq!(rt; body, [5, 0x10, 0, 0, 0, 0, 0x5A, 0].as_slice());
+    let reply = [0x3F, 0x14, 0x0A, 0x05, 0x50, 0x5F, 0x6E];
+    let undo = Limits::inverse(&UPPER_CRITICAL, &reply).ok_or("an undo")?;
+    let data = Limits::set_data(&undo);
+    assert_eq!(rt; data.as_slice(), [5, 0x10, 0, 0, 0, 0, 0x5F, 0].as_slice());
+    Ok(())
+}
+
+/// Of the lengths from 0 on, those that the command takes: `+` for each, and `.` for each other.
+fn allowed(alloc: Global, lengths: Lengths) -> Result<String, AllocError> {
+    let body = [3; 24];
+    let mut text = String::new(alloc);
+    for length in 0..24 {
+        let allows = lengths.allow(&body[..length]);
+        text.push_str(if allows { "+" } else { "." })?;
+    }
+    Ok(text)
+}
+
+#[test]
+fn a_command_takes_the_lengths_of_its_line(rt: HostRuntime) -> Result<(), Fail> {
+    let exactly = allowed(rt.alloc(), Lengths::Exactly(4))?;
+    assert_eq!(rt; exactly.as_str(), "....+...................");
+    let between = allowed(rt.alloc(), Lengths::Between(2, 6))?;
+    assert_eq!(rt; between.as_str(), "..+++++.................");
+    let at_least = allowed(rt.alloc(), Lengths::AtLeast(1))?;
+    assert_eq!(rt; at_least.as_str(), ".+++++++++++++++++++++++");
+    // Set User Password.
+    let one_of = allowed(rt.alloc(), Lengths::OneOf(2, 18, 22))?;
+    assert_eq!(rt; one_of.as_str(), "..+...............+...+.");
+    // Set State Effecter States, with three fields.
+    let pairs = allowed(rt.alloc(), Lengths::PairsCountedAt(2))?;
+    assert_eq!(rt; pairs.as_str(), ".........+..............");
+    Ok(())
+}
+
+/// The request of the change has these data, in hexadecimal.
+fn expect_data(rt: &impl Abort, alloc: Global, op: &Op, want: &str) -> Result<(), Fail> {
+    let data = Limits::set_data(op);
+    let digits = hex::encode_upper(alloc, data.as_slice())?;
+    assert_eq!(rt; digits.as_str(), want);
+    Ok(())
+}
+
+#[test]
+fn changes_of_sensors_and_the_watchdog_have_their_data(rt: HostRuntime) -> Result<(), Fail> {
+    expect_data(&rt, rt.alloc(), &UPPER_CRITICAL, "0510000000005A00")?;
+    let op = Op::Hysteresis(SetHysteresis {
+        sensor: 5,
+        positive: 3,
+        negative: 1,
+    });
+    expect_data(&rt, rt.alloc(), &op, "05FF0301")?;
+    // The events of offsets 7 and 9, asserted, and of offset 0, deasserted.
+    let masks = EventMasks {
+        assertions: 0x280,
+        deassertions: 0x001,
+    };
+    let op = Op::EventEnable(SetEventEnable {
+        sensor: 5,
+        messages: false,
+        scanning: true,
+        change: EventChange::Enable(masks),
+    });
+    expect_data(&rt, rt.alloc(), &op, "055080020100")?;
+    let op = Op::Watchdog(SetWatchdog {
+        timer_use: 0xC4,
+        actions: 0x11,
+        pre_timeout: 5,
+        flags_to_clear: 0x10,
+        initial: 6000,
+    });
+    expect_data(&rt, rt.alloc(), &op, "C41105107017")
+}
+
+#[test]
+fn changes_of_a_board_have_their_data(rt: HostRuntime) -> Result<(), Fail> {
+    let op = Op::PowerPolicy(SetPowerPolicy { policy: 2 });
+    expect_data(&rt, rt.alloc(), &op, "02")?;
+    let op = Op::GlobalEnables(SetGlobalEnables { byte: 0xE7 });
+    expect_data(&rt, rt.alloc(), &op, "E7")?;
+    let masked = MaskedBits {
+        mask: 0x0F,
+        bits: 0x5A,
+    };
+    let op = Op::BootParam(SetBootParam {
+        invalid: true,
+        change: BootChange::InfoAcknowledge(masked),
+    });
+    expect_data(&rt, rt.alloc(), &op, "840F5A")?;
+    let flags = BootFlags {
+        validity: 0x80,
+        device: 0x04,
+        console: 1,
+        overrides: 2,
+        instance: 3,
+    };
+    let op = Op::BootParam(SetBootParam {
+        invalid: false,
+        change: BootChange::Flags(flags),
+    });
+    expect_data(&rt, rt.alloc(), &op, "058004010203")?;
+    let op = Op::BootParam(SetBootParam {
+        invalid: true,
+        change: BootChange::MarkAlone(BootParameter::Flags),
+    });
+    expect_data(&rt, rt.alloc(), &op, "85")
+}
+
+#[test]
+fn changes_of_users_and_a_channel_have_their_data(rt: HostRuntime) -> Result<(), Fail> {
+    let op = Op::UserAccess(SetUserAccess {
+        first: 0x52,
+        user: 2,
+        limit: 5,
+        session_limit: Some(7),
+    });
+    expect_data(&rt, rt.alloc(), &op, "52020507")?;
+    let op = Op::UserName(SetUserName {
+        user: 0xC2,
+        name: [
+            0x72, 0x6F, 0x6F, 0x74, 0, 0, 0, 0, 0, 0, 0, 0, 0, 0, 0, 0xFF,
+        ],
+    });
+    expect_data(&rt, rt.alloc(), &op, "C2726F6F740000000000000000000000FF")?;
+    let op = Op::ChannelAccess(SetChannelAccess {
+        channel: ChannelNumber::of(2),
+        store: AccessStore::Volatile,
+        change: ChannelChange::Both(SixBits::of(0x33), SixBits::of(1)),
+    });
+    expect_data(&rt, rt.alloc(), &op, "02B381")
+}
+
+#[test]
+fn changes_over_pldm_have_their_data(rt: HostRuntime) -> Result<(), Fail> {
+    let op = Op::BiosAttribute(SetBiosAttribute::of(1, 1, &[2, 0, 0x61, 0x62]));
+    expect_data(&rt, rt.alloc(), &op, "000000000501000102006162")?;
+    let op = Op::NumericEffecter(SetNumericEffecter {
+        effecter: 261,
+        size: 5,
+        value: NumericBytes::Four(0x00, 0x00, 0xFF, 0xFF),
+    });
+    expect_data(&rt, rt.alloc(), &op, "0501050000FFFF")?;
+    let mut changes = FieldChanges::new();
+    changes.push(FieldChange {
+        choice: 0,
+        state: 0,
+    });
+    changes.push(FieldChange {
+        choice: 1,
+        state: 3,
+    });
+    let op = Op::StateEffecter(SetStateEffecter {
+        effecter: 9,
+        changes,
+    });
+    expect_data(&rt, rt.alloc(), &op, "09000200000103")
+}

@@ -1,0 +1,217 @@
+//! Tables of attributes, by their bytes, and the calls that make and read them.
+use bios_attr::attribute_entry::{KindFields, attribute_at};
+use bios_attr::string_entry::string_at;
+use bios_attr::table_entry::entry_at;
+use bios_attr::{BiosTable, CurrentValues, Tables, count_table};
+use cfg_records::attribute_sizes::MOST_VALUE;
+use cfg_records::sample_board;
+use pldm_base::{GET_FIRST_PART, GET_NEXT_PART, TransferFlag, crc32};
+use std::alloc::{AllocError, Global};
+use std::process::Abort;
+use std::test::Fail;
+use two_wire::Bytes;
+
+/// What is read of bytes, a line each: `table values HEX` counts the entries of a table, whose bytes the table's CRC-32 ends, `whole` the
+/// same of bytes that have it, and `entry values HEX` tells how many bytes the first entry has.
+const READ: &str = "# The tables of the sample board, with their padding.
+table strings 000005005175696574010003006F6666020002006F6E0300050041737365740400050044656C6179 -> Ok(5)
+table attributes 00000000000201000200010001000103000100 00C8000000 02000304 000000000000000000 2C01000000000000 0A000000 1E00000000000000 000000 -> Ok(3)
+table values 00000001000100010600 7261636B2D31 0200031E00000000000000 00 -> Ok(3)
+table strings -> Ok(0)
+whole strings 00000000 -> Ok(0)
+# Other bytes are no table.
+table values 00000001000100010600 7261636B2D31 0200031E00000000000000 -> Err(WrongLength)
+table values 00000001000100010600 7261636B2D31 0200031E00000000000000 01 -> Err(WrongPadding)
+table values 00000001000100010600 7261636B2D31 0200031E00000000000000 0000000001 -> Err(WrongPadding)
+table strings 000005005175696574010003006F6666020002006F6E0300050041737365740400050044656C6179 09000100 -> Err(NotAnEntry)
+table attributes 000005005175696574010003006F6666020002006F6E0300050041737365740400050044656C6179 -> Err(NotAnEntry)
+table strings 00000001000100010600 7261636B2D31 0200031E00000000000000 00 -> Err(NotAnEntry)
+whole strings 01000000 -> Err(WrongCheck)
+# Entries have their lengths, whatever stands behind them.
+entry strings 0700 0200 6F6E -> Some(6)
+entry strings 0700 0000 09 -> Some(4)
+entry strings 0700 0300 6F6E -> None
+entry strings 0700 02 -> None
+entry attributes 0000 00 0000 01 0100 01 00 -> Some(10)
+entry attributes 0000 02 0000 01 0100 01 00 -> None
+entry attributes 0000 00 0000 02 0100 01 00 -> None
+entry attributes 0000 00 0000 01 0100 02 00 -> None
+entry attributes 0000 81 0000 01 0000 0900 0000 -> Some(12)
+entry values 0000 80 01 00 09 -> Some(5)
+entry values 0000 00 03 00 09 -> None
+entry values 0000 02 01 00 09 -> None";
+
+/// Lines that are told wrong: each comes otherwise.
+const WRONG: &str = "table strings -> Ok(1)
+whole strings 01000000 -> Ok(0)
+entry strings 0700 0200 6F6E -> Some(5)
+entry numbers 0700 -> None
+count strings 0700 -> None
+entry strings 070 -> None";
+
+/// What is said of them.
+const SAID: &str = "table strings -> Ok(1): Ok(0)
+whole strings 01000000 -> Ok(0): Err(WrongCheck)
+entry strings 0700 0200 6F6E -> Some(5): Some(6)
+entry numbers 0700 -> None: no line
+count strings 0700 -> None: no line
+entry strings 070 -> None: no line
+";
+
+/// The table of this name.
+fn table_of(name: &str) -> Option<BiosTable> {
+    match name {
+        "strings" => Some(BiosTable::Strings),
+        "attributes" => Some(BiosTable::Attributes),
+        "values" => Some(BiosTable::Values),
+        _ => None,
+    }
+}
+
+/// The bytes of the digits, between which blanks may stand.
+fn bytes_of(alloc: Global, digits: &str) -> Result<Option<Vec<u8>>, AllocError> {
+    let mut bytes = Vec::new(alloc);
+    for word in digits.split(' ') {
+        match line_text::bytes(alloc, word)? {
+            Some(part) => bytes.extend_from_slice(part.as_slice())?,
+            None => return Ok(None),
+        }
+    }
+    Ok(Some(bytes))
+}
+
+/// How many bytes the first entry has, if there is one.
+fn first_length(table: BiosTable, bytes: &[u8]) -> Option<usize> {
+    let (_, rest) = entry_at(table, bytes)?;
+    bytes.len().checked_sub(rest.as_slice().len())
+}
+
+/// What is read of the bytes.
+fn read(
+    alloc: Global,
+    word: &str,
+    table: BiosTable,
+    bytes: &mut Vec<u8>,
+) -> Result<String, AllocError> {
+    if word == "table" {
+        bytes.extend_from_slice(&crc32(bytes.as_slice()).to_le_bytes())?;
+    }
+    match word {
+        "table" | "whole" => format!(in alloc; "{:?}", count_table(table, bytes.as_slice())),
+        "entry" => format!(in alloc; "{:?}", first_length(table, bytes.as_slice())),
+        _ => String::from_str(alloc, "no line"),
+    }
+}
+
+/// What comes of the line's first part.
+fn found(alloc: Global, what: &str) -> Result<String, AllocError> {
+    let (word, rest) = what.split_once(' ').unwrap_or((what, ""));
+    let (name, digits) = rest.split_once(' ').unwrap_or((rest, ""));
+    match (table_of(name), bytes_of(alloc, digits)?) {
+        (Some(table), Some(mut bytes)) => read(alloc, word, table, &mut bytes),
+        _ => String::from_str(alloc, "no line"),
+    }
+}
+
+/// The lines that come otherwise than told, with what came.
+fn otherwise(alloc: Global, lines: &str) -> Result<String, AllocError> {
+    let mut report = String::new(alloc);
+    for line in lines.lines() {
+        let (what, want) = line.split_once(" -> ").unwrap_or((line, ""));
+        let came = found(alloc, what)?;
+        if came.as_str() != want && !line.starts_with("#") {
+            let row = format!(in alloc; "{line}: {}\n", came.as_str())?;
+            report.push_str(row.as_str())?;
+        }
+    }
+    Ok(report)
+}
+
+#[test]
+fn tables_and_entries_are_read_from_their_bytes(rt: HostRuntime) -> Result<(), Fail> {
+    assert_eq!(rt; otherwise(rt.alloc(), READ)?.as_str(), "");
+    assert_eq!(rt; otherwise(rt.alloc(), WRONG)?.as_str(), SAID);
+    Ok(())
+}
+
+/// The strings of an attribute and its possible values.
+const STRINGS: [u8; 18] = [
+    0, 0, 5, 0, 0x51, 0x75, 0x69, 0x65, 0x74, 1, 0, 3, 0, 0x6F, 0x66, 0x66, 2, 0,
+];
+
+/// The attribute: an enumeration of two values.
+const ATTRIBUTE: [u8; 13] = [0, 0, 0, 0, 0, 2, 1, 0, 2, 0, 1, 0, 1];
+
+#[test]
+fn entries_are_shown_where_they_lie(rt: HostRuntime) -> Result<(), Fail> {
+    let (entry, rest) = string_at(&STRINGS).ok_or("a string")?;
+    assert_eq!(rt; entry.handle, 0);
+    assert_eq!(rt; entry.text.as_slice(), b"Quiet".as_slice());
+    assert_eq!(rt; rest.as_slice(), &STRINGS[9..]);
+    let (entry, rest) = attribute_at(&ATTRIBUTE).ok_or("an attribute")?;
+    assert_eq!(rt;
+        (entry.attribute, entry.name, entry.read_only),
+        (0, 0, false)
+    );
+    assert_eq!(rt; rest.as_slice(), [1].as_slice());
+    let KindFields::Enumeration(fields) = &entry.kind else {
+        return Err("an enumeration".into());
+    };
+    assert_eq!(rt; fields.values.as_slice(), [1, 0, 2, 0].as_slice());
+    assert_eq!(rt; fields.default.as_slice(), [0].as_slice());
+    Ok(())
+}
+
+/// The values of three attributes.
+#[derive(Drop)]
+struct Three {
+    first: Bytes<{ MOST_VALUE }>,
+    second: Bytes<{ MOST_VALUE }>,
+    third: Bytes<{ MOST_VALUE }>,
+}
+
+impl CurrentValues for Three {
+    ghost use Rattle.std.specs.Prelude.{◌==◌, if◌then◌else◌};
+
+    ghost value_of = { λ s handle. if handle == 0 then s.first else (if handle == 1 then s.second else s.third) };
+
+    fn value(&self, attribute: u16) -> &[u8] {
+        match attribute {
+            0 => self.first.as_slice(),
+            1 => self.second.as_slice(),
+            _ => self.third.as_slice(),
+        }
+    }
+}
+
+/// The values of the sample board.
+fn sample_values() -> Three {
+    Three {
+        first: Bytes::from_slice(&[1, 0]),
+        second: Bytes::from_slice(&[6, 0, 0x72, 0x61, 0x63, 0x6B, 0x2D, 0x31]),
+        third: Bytes::from_slice(&[0x1E, 0, 0, 0, 0, 0, 0, 0]),
+    }
+}
+
+/// The table is given in one part, as long as this, and has so many entries.
+fn expect_whole(rt: &impl Abort, tables: &Tables, table: BiosTable, sizes: (usize, usize)) {
+    let (length, entries) = sizes;
+    let part = tables.part(table, GET_FIRST_PART, 9).expect(rt, "a part");
+    assert_eq!(rt; part.next, 0);
+    assert_eq!(rt; part.flag, TransferFlag::StartAndEnd);
+    assert_eq!(rt; part.bytes.len(), length);
+    assert_eq!(rt; part.bytes, tables.table(table));
+    assert!(rt; tables.part(table, GET_NEXT_PART, 192).is_err());
+    assert_eq!(rt; count_table(table, part.bytes), Ok(entries));
+}
+
+#[test]
+fn the_tables_of_the_sample_board_are_whole(rt: HostRuntime) -> Result<(), Fail> {
+    let file = sample_board(rt.alloc())?;
+    let mut tables = Tables::open(rt.alloc(), &file.attributes)?;
+    tables.show(&sample_values());
+    expect_whole(&rt, &tables, BiosTable::Strings, (44, 5));
+    expect_whole(&rt, &tables, BiosTable::Attributes, (64, 3));
+    expect_whole(&rt, &tables, BiosTable::Values, (32, 3));
+    Ok(())
+}

@@ -1,0 +1,92 @@
+//! Lines about bytes that are read or checked, whatever came before.
+use super::frames::{are_same_frames, read_ipmb};
+use super::packets::read_mctp;
+use super::player::bytes_of;
+use super::pldm::{are_same_messages, read_reply, read_request};
+use pldm_base::crc32;
+use std::alloc::Global;
+use story_lines::NoOutcome;
+use two_wire::{check_byte, pec};
+
+/// The check byte, the packet error code or the CRC-32 of the bytes.
+pub fn check(kind: &str, bytes: &[u8], text: &mut String) -> Result<(), NoOutcome> {
+    match kind {
+        "sum" => write!(text, " {:02X}", check_byte(bytes))?,
+        "pec" => write!(text, " {:02X}", pec(bytes))?,
+        _ => write!(text, " {:08X}", crc32(bytes))?,
+    }
+    Ok(())
+}
+
+/// What the bytes are read as.
+pub fn read(kind: &str, bytes: &[u8], text: &mut String) -> Result<(), NoOutcome> {
+    match kind {
+        "ipmb" => read_ipmb(bytes, text)?,
+        "packet" => read_mctp(bytes, text)?,
+        "pldm" => read_request(bytes, text)?,
+        "reply" => read_reply(bytes, text)?,
+        _ => return Err(NoOutcome::Unread),
+    }
+    Ok(())
+}
+
+/// What the first 0, 1, .. of the bytes are read as.
+pub fn cuts(alloc: Global, words: &str, text: &mut String) -> Result<(), NoOutcome> {
+    let (kind, words) = words.split_once(' ').unwrap_or((words, ""));
+    let bytes = bytes_of(alloc, words)?;
+    for end in 0..bytes.len() {
+        read(kind, bytes.as_slice().split_at(end).0, text)?;
+    }
+    Ok(())
+}
+
+/// Whether the bytes are read without a fault, which is one word.
+fn is_read(alloc: Global, kind: &str, bytes: &[u8]) -> Result<bool, NoOutcome> {
+    let mut text = String::new(alloc);
+    read(kind, bytes, &mut text)?;
+    Ok(text.as_str().trim_start().contains(' '))
+}
+
+/// With how many of the 255 other bytes at the place the bytes are read.
+fn read_at(alloc: Global, kind: &str, bytes: &mut [u8], place: usize) -> Result<u32, NoOutcome> {
+    let mut count = 0u32;
+    for step in 0..=255u8 {
+        if let Some(byte) = bytes.get_mut(place) {
+            *byte = byte.wrapping_add(1);
+        }
+        if step != 255 && is_read(alloc, kind, bytes)? {
+            count = count.wrapping_add(1);
+        }
+    }
+    Ok(count)
+}
+
+/// With how many other bytes at one place the bytes are read.
+pub fn changed(alloc: Global, words: &str, text: &mut String) -> Result<(), NoOutcome> {
+    let (kind, words) = words.split_once(' ').unwrap_or((words, ""));
+    let mut bytes = bytes_of(alloc, words)?;
+    let mut count = 0u32;
+    for place in 0..bytes.len() {
+        count = count.wrapping_add(read_at(alloc, kind, bytes.as_mut_slice(), place)?);
+    }
+    write!(text, " {count} read")?;
+    Ok(())
+}
+
+/// Whether both are requests and the same one.
+pub fn are_same(alloc: Global, words: &str, text: &mut String) -> Result<(), NoOutcome> {
+    let (kind, words) = words.split_once(' ').unwrap_or((words, ""));
+    let (one, other) = words.split_once(" /").unwrap_or((words, ""));
+    let (one, other) = (bytes_of(alloc, one)?, bytes_of(alloc, other)?);
+    let same = match kind {
+        "ipmb" => are_same_frames(one.as_slice(), other.as_slice()),
+        "pldm" => are_same_messages(one.as_slice(), other.as_slice()),
+        _ => return Err(NoOutcome::Unread),
+    };
+    text.push_str(match same {
+        Some(true) => " yes",
+        Some(false) => " no",
+        None => " no requests",
+    })?;
+    Ok(())
+}

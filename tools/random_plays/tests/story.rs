@@ -1,0 +1,512 @@
+//! One schedule after another, each made event by event: what comes next depends on the frames that were sent and on the phase.
+use super::course::{Course, are_after, changed_by, course_of};
+use super::dice::Dice;
+use super::others::{idle, noise_of, other_message, other_request, scan};
+use super::steps::{Step, any_step, board_with_effecters};
+use super::tally::{Tally, may_be_offered, one_more};
+use super::told::{push_events_of, push_step};
+use cfg_records::{BoardFile, Key, PlainStore, Value, sample_board};
+use lab::{SentFrame, Way};
+use lab_events::Lab;
+use lab_play::{LabFault, Played, play};
+use plans::{Plan, Steps};
+use schedules::{Call, Event};
+use std::alloc::Global;
+use std::process::Abort;
+use std::test::Fail;
+use two_wire::{Bus, Retries};
+use undo_core::{Phase, Why};
+
+/// How many events are offered in a schedule at most.
+const MOST_EVENTS: usize = 160;
+
+/// How many events are offered once the plan is undone.
+const MOST_LATER: u64 = 6;
+
+/// A plan on a board, and whether there are more others than ports have windows.
+#[derive(Drop)]
+struct Scene {
+    steps: Vec<Step>,
+    retries: Retries,
+    has_effecters: bool,
+    is_crowded: bool,
+}
+
+/// Any scene.
+fn any_scene(alloc: Global, dice: &mut Dice) -> Result<Scene, Fail> {
+    let mut steps = Vec::new(alloc);
+    for _ in 0..dice.below(6) {
+        steps.push(any_step(dice))?;
+    }
+    Ok(Scene {
+        steps,
+        retries: Retries::new(dice.byte() % 4),
+        has_effecters: dice.happens(90),
+        is_crowded: dice.happens(20),
+    })
+}
+
+/// The board of a scene.
+fn board_of(alloc: Global, scene: &Scene) -> Result<BoardFile, Fail> {
+    Ok(if scene.has_effecters {
+        board_with_effecters(alloc)?
+    } else {
+        sample_board(alloc)?
+    })
+}
+
+/// The plan of a scene.
+fn plan_of(alloc: Global, scene: &Scene) -> Result<Plan, Fail> {
+    let mut ops = Vec::new(alloc);
+    for step in scene.steps.iter() {
+        ops.push(step.op())?;
+    }
+    let steps = Steps::new(ops).ok_or("steps")?;
+    let retries = scene.retries;
+    Ok(Plan { steps, retries })
+}
+
+/// The play of these events in a scene.
+fn play_in(
+    alloc: Global,
+    scene: &Scene,
+    events: &[Event],
+) -> Result<Result<Played, LabFault>, Fail> {
+    Ok(play(
+        alloc,
+        board_of(alloc, scene)?,
+        plan_of(alloc, scene)?,
+        events,
+    ))
+}
+
+/// A frame comes to where it goes; one that goes to others comes nowhere, and a tenth of a second goes by.
+fn delivery(frames: &[SentFrame], number: usize) -> Event {
+    match (frames.get(number), u32::try_from(number)) {
+        (Some(frame), Ok(number)) if frame.way.is(Way::ToPort) => Event::ToBmc(number),
+        (Some(frame), Ok(number)) if frame.way.is(Way::ToManager) => Event::ToMgr(number),
+        _ => Event::Tick,
+    }
+}
+
+/// The number of the newest frame that goes to the port or to the manager.
+fn newest(frames: &[SentFrame]) -> usize {
+    let mut found = 0;
+    for (number, frame) in frames.iter().enumerate() {
+        if !frame.way.is(Way::ToOthers) {
+            found = number;
+        }
+    }
+    found
+}
+
+/// The frame that was sent so many frames before the last one comes to where it goes, once or again.
+fn late_copy(frames: &[SentFrame], before: u64) -> Event {
+    let place = frames.len().wrapping_sub(1).wrapping_sub(before as usize);
+    delivery(frames, place)
+}
+
+/// What brings the plan on in this phase.
+fn what_is_due(lab: &Lab) -> Event {
+    match lab.phase() {
+        Phase::Fresh => Event::Calls(Call::Start),
+        Phase::Done | Phase::Halted(..) => Event::Calls(Call::Undo),
+        Phase::Unsettled(_) => Event::Calls(Call::Again),
+        _ => delivery(lab.frames(), newest(lab.frames())),
+    }
+}
+
+/// Any call.
+fn any_call(dice: &mut Dice) -> Event {
+    Event::Calls(match dice.below(5) {
+        0 => Call::Start,
+        1 => Call::Quiet,
+        2 => Call::Stop,
+        3 => Call::Again,
+        _ => Call::Undo,
+    })
+}
+
+/// A frame that was sent is heard with a byte changed; before any was sent, a tenth of a second goes by.
+fn noise(alloc: Global, dice: &mut Dice, frames: &[SentFrame]) -> Result<Event, Fail> {
+    let place = dice.below(1 + frames.len() as u64 % 65_536) as usize;
+    match frames.get(place) {
+        Some(frame) => noise_of(alloc, dice, frame),
+        None => Ok(Event::Tick),
+    }
+}
+
+/// What may happen next.
+fn any_event(alloc: Global, dice: &mut Dice, scene: &Scene, lab: &Lab) -> Result<Event, Fail> {
+    let is_crowded = scene.is_crowded;
+    let frames = lab.frames();
+    Ok(match dice.below(100) {
+        0..=49 => what_is_due(lab),
+        50..=58 => late_copy(frames, dice.below(6)),
+        59..=62 => late_copy(frames, dice.below(70)),
+        63..=69 => Event::Calls(Call::Quiet),
+        70..=72 => any_call(dice),
+        73..=77 => other_request(dice, is_crowded)?,
+        78..=82 => other_message(alloc, dice, is_crowded)?,
+        83..=87 => noise(alloc, dice, frames)?,
+        88..=91 => idle(dice, is_crowded),
+        92..=96 => scan(dice),
+        _ => Event::Tick,
+    })
+}
+
+/// The number of the frame that an event delivers.
+fn delivered(event: &Event) -> Option<usize> {
+    match event {
+        Event::ToBmc(number) | Event::ToMgr(number) => Some(*number as usize),
+        _ => None,
+    }
+}
+
+/// Whether one of these events delivers the frame of this number.
+fn is_delivered(events: &[Event], number: usize) -> bool {
+    events.iter().any(|event| delivered(event) == Some(number))
+}
+
+/// Whether one of these events is a call of `stop`.
+fn is_told_to_stop(events: &[Event]) -> bool {
+    events
+        .iter()
+        .any(|event| matches!(event, Event::Calls(Call::Stop)))
+}
+
+/// How many of the frames to the port or the manager none of the events delivers.
+fn lost(frames: &[SentFrame], events: &[Event]) -> u64 {
+    let mut count = 0;
+    for (number, frame) in frames.iter().enumerate() {
+        if !frame.way.is(Way::ToOthers) && !is_delivered(events, number) {
+            one_more(&mut count);
+        }
+    }
+    count
+}
+
+/// Counts the last of the events, which the lab took in this phase.
+fn count(tally: &mut Tally, events: &[Event], from: &Phase, lab: &Lab) {
+    let [before @ .., event] = events else {
+        return;
+    };
+    tally.event(event);
+    let to = lab.phase();
+    if *from != to {
+        tally.phase(from, &to);
+    }
+    if let (Phase::Undone, Phase::Undone) = (from, &to) {
+        one_more(&mut tally.after_undone);
+    }
+    let Some(number) = delivered(event) else {
+        return;
+    };
+    if is_delivered(before, number) {
+        one_more(&mut tally.repeated);
+    }
+    if number.wrapping_add(4) < lab.frames().len() {
+        one_more(&mut tally.late);
+    }
+    if let Some(frame) = lab.frames().get(number) {
+        if frame.mark.on == Bus::Smbus {
+            one_more(&mut tally.on_smbus);
+        }
+    }
+}
+
+/// After how many steps the records may be those of the board, in this phase: the least number of steps and the most, or none where the phase
+/// may never come.
+fn steps_done(phase: &Phase, steps: usize) -> Option<(usize, usize)> {
+    match phase {
+        Phase::Fresh | Phase::Undone => Some((0, 0)),
+        Phase::Getting(step) | Phase::Halted(step, _) => Some((*step, *step)),
+        Phase::Setting(step) | Phase::Unsettled(step) | Phase::Undoing(step) => {
+            Some((*step, step.wrapping_add(1)))
+        }
+        Phase::Done => Some((steps, steps)),
+        Phase::UndoRefused(..) => None,
+    }
+}
+
+/// Whether the records are those after so many steps of the course.
+fn are_after_steps(
+    records: &PlainStore,
+    start: &[(Key, Value)],
+    course: &Course,
+    steps: usize,
+) -> bool {
+    match course.changes.as_slice().get(..steps) {
+        Some(changes) => are_after(records, start, changes),
+        None => false,
+    }
+}
+
+/// Whether a plan whose course this is may be in this phase, where it was told to stop or not: it ends where its course ends, and halts where
+/// and why that does, or where it was told to stop.
+fn is_caused(phase: &Phase, course: &Course, told_to_stop: bool) -> bool {
+    let reached = course.changes.len();
+    match phase {
+        Phase::Done => course.halts.is_none(),
+        Phase::Halted(_, Why::Stop) => told_to_stop,
+        Phase::Halted(step, why) => *step == reached && course.halts == Some(*why),
+        _ => true,
+    }
+}
+
+/// A schedule that is being made: the events that were taken, and the lab in which they happened.
+#[derive(Drop)]
+struct Made {
+    events: Vec<Event>,
+    /// The records that the board began with.
+    start: Vec<(Key, Value)>,
+    lab: Lab,
+    /// How many events were offered since the plan was undone.
+    later: u64,
+    /// How many events it took until the plan first was done or halted, and where it stood then.
+    rest: Option<(usize, Phase)>,
+    /// What went wrong, if anything did.
+    wrong: Option<&'static str>,
+}
+
+impl Made {
+    /// What doesn't stand on these records in this phase, if anything doesn't.
+    fn fallen(
+        &self,
+        scene: &Scene,
+        course: &Course,
+        phase: &Phase,
+        records: &PlainStore,
+    ) -> Option<&'static str> {
+        let Some((least, most)) = steps_done(phase, scene.steps.len()) else {
+            return Some("an undo was refused");
+        };
+        let start = self.start.as_slice();
+        if !are_after_steps(records, start, course, least)
+            && !are_after_steps(records, start, course, most)
+        {
+            return Some("the records are not those of the phase");
+        }
+        if !is_caused(phase, course, is_told_to_stop(self.events.as_slice())) {
+            return Some("the plan does not end so");
+        }
+        None
+    }
+
+    /// The lab took the last event that was offered, in this phase.
+    fn take(&mut self, from: &Phase, tally: &mut Tally) {
+        let phase = self.lab.phase();
+        count(tally, self.events.as_slice(), from, &self.lab);
+        if let (None, Phase::Done | Phase::Halted(..)) = (&self.rest, &phase) {
+            self.rest = Some((self.events.len(), phase));
+        }
+    }
+
+    /// Counts an event that was offered once the plan was undone. Undone is for good.
+    fn go_on(&mut self) {
+        if let Phase::Undone = self.lab.phase() {
+            self.later = self.later.wrapping_add(1);
+        } else if self.later != 0 {
+            self.wrong = Some("the plan is no longer undone");
+        }
+    }
+}
+
+/// A schedule as it begins.
+fn begun(alloc: Global, scene: &Scene) -> Result<Made, Fail> {
+    Ok(Made {
+        events: Vec::new(alloc),
+        start: board_of(alloc, scene)?.records(alloc)?,
+        lab: Lab::open(alloc, board_of(alloc, scene)?, plan_of(alloc, scene)?)?,
+        later: 0,
+        rest: None,
+        wrong: None,
+    })
+}
+
+/// The lab didn't take the last event that was offered: a play ends there too, with a fault that such an event may have.
+fn refuse(alloc: Global, scene: &Scene, made: &mut Made, tally: &mut Tally) -> Result<(), Fail> {
+    made.wrong = match play_in(alloc, scene, made.events.as_slice())? {
+        Ok(_) => Some("a play takes an event that the lab doesn't"),
+        Err(LabFault::Memory) => Some("memory was refused"),
+        Err(LabFault::Event { place, .. }) if place != made.events.len() => Some(
+            "a play ends at another event",
+        ),
+        Err(LabFault::Event { fault, .. }) if !may_be_offered(&fault) => Some(
+            "no event that is offered has this fault",
+        ),
+        Err(LabFault::Event { .. }) => None,
+    };
+    let _ = made.events.pop();
+    one_more(&mut tally.refused);
+    Ok(())
+}
+
+/// Offers an event: the lab takes it, or it has a fault and changes nothing.
+fn offer(
+    alloc: Global,
+    scene: &Scene,
+    made: &mut Made,
+    event: Event,
+    tally: &mut Tally,
+) -> Result<(), Fail> {
+    let from = made.lab.phase();
+    let taken = made.lab.step(&event);
+    made.events.push(event)?;
+    match taken {
+        Ok(()) => made.take(&from, tally),
+        Err(_) => refuse(alloc, scene, made, tally)?,
+    }
+    made.go_on();
+    Ok(())
+}
+
+/// Offers events until enough were offered, or something is wrong after one.
+fn offer_events(
+    alloc: Global,
+    dice: &mut Dice,
+    scene: &Scene,
+    course: &Course,
+    made: &mut Made,
+    tally: &mut Tally,
+) -> Result<(), Fail> {
+    for _ in 0..MOST_EVENTS {
+        if made.later <= MOST_LATER && made.wrong.is_none() {
+            let event = any_event(alloc, dice, scene, &made.lab)?;
+            offer(alloc, scene, made, event, tally)?;
+            if made.wrong.is_none() {
+                made.wrong = made.fallen(scene, course, &made.lab.phase(), made.lab.store());
+            }
+        }
+    }
+    Ok(())
+}
+
+/// What a play of all events tells otherwise than they happened, if it does.
+fn told_otherwise(
+    alloc: Global,
+    scene: &Scene,
+    course: &Course,
+    made: &Made,
+) -> Result<Option<&'static str>, Fail> {
+    let Ok(played) = play_in(alloc, scene, made.events.as_slice())? else {
+        return Ok(Some("a play doesn't take an event that the lab takes"));
+    };
+    let phase = played.phase();
+    if phase != made.lab.phase() || played.frames().len() != made.lab.frames().len() {
+        return Ok(Some("a play ends otherwise"));
+    }
+    if let (Phase::Undone | Phase::Fresh, 1..) = (&phase, played.changed()) {
+        return Ok(Some("a record is not what it was"));
+    }
+    Ok(made.fallen(scene, course, &phase, played.records()))
+}
+
+/// A schedule that was made, the scene in which it was, and its plan's course.
+#[derive(Drop)]
+struct Whole {
+    scene: Scene,
+    course: Course,
+    made: Made,
+}
+
+/// The schedule of this seed is made, up to where something is wrong.
+fn made_of(alloc: Global, seed: u64, tally: &mut Tally) -> Result<Whole, Fail> {
+    let mut dice = Dice::new(seed);
+    let scene = any_scene(alloc, &mut dice)?;
+    let mut made = begun(alloc, &scene)?;
+    let course = course_of(alloc, made.start.as_slice(), scene.steps.as_slice())?;
+    offer_events(alloc, &mut dice, &scene, &course, &mut made, tally)?;
+    if made.wrong.is_none() {
+        made.wrong = told_otherwise(alloc, &scene, &course, &made)?;
+    }
+    Ok(Whole {
+        scene,
+        course,
+        made,
+    })
+}
+
+/// The schedule of this seed is made, and the phase stands on the records after each of its events.
+pub(super) fn expect_schedule(
+    rt: &impl Abort,
+    alloc: Global,
+    seed: u64,
+    tally: &mut Tally,
+) -> Result<(), Fail> {
+    let whole = made_of(alloc, seed, tally)?;
+    if let Some(wrong) = whole.made.wrong {
+        let text = told(alloc, seed, &whole)?;
+        let event = whole.made.events.len();
+        assert!(rt; false, "seed {seed}, event {event}: {wrong}\n{text}");
+    }
+    one_more(&mut tally.schedules);
+    let lost = lost(whole.made.lab.frames(), whole.made.events.as_slice());
+    tally.lost = tally.lost.wrapping_add(lost);
+    Ok(())
+}
+
+/// What is written where the plan rests in this phase: the phase, and the records by the plan's course.
+fn push_end(text: &mut String, whole: &Whole, phase: &Phase) -> Result<(), Fail> {
+    let steps = match phase {
+        Phase::Fresh | Phase::Undone => 0,
+        Phase::Done => whole.scene.steps.len(),
+        Phase::Halted(step, _) => *step,
+        _ => {
+            writeln!(text, "lines -> 0 out: phase {phase} / ..")?;
+            return Ok(());
+        }
+    };
+    let changes = whole.course.changes.as_slice().get(..steps).ok_or("steps")?;
+    match changed_by(whole.made.start.as_slice(), changes) {
+        0 => writeln!(text, "lines -> 0 out: phase {phase} / .. / records same")?,
+        many => writeln!(
+            text,
+            "lines -> 0 out: phase {phase} / .. / records changed {many}"
+        )?,
+    }
+    Ok(())
+}
+
+/// The scene of a story: its board and its plan.
+fn push_scene(text: &mut String, seed: u64, scene: &Scene) -> Result<(), Fail> {
+    writeln!(text, "story schedule {seed}")?;
+    text.push_str(if scene.has_effecters {
+        "board sample effecters\n"
+    } else {
+        "board sample\n"
+    })?;
+    writeln!(text, "plan\n  retries = {}", scene.retries.number())?;
+    for step in scene.steps.iter() {
+        push_step(text, step)?;
+    }
+    Ok(())
+}
+
+/// The story of a schedule: up to where its plan first was done or halted, and to its end.
+fn told(alloc: Global, seed: u64, whole: &Whole) -> Result<String, Fail> {
+    let mut text = String::new(alloc);
+    push_scene(&mut text, seed, &whole.scene)?;
+    let events = whole.made.events.as_slice();
+    text.push_str("schedule\n")?;
+    let (first, phase) = whole
+        .made
+        .rest
+        .unwrap_or((events.len(), whole.made.lab.phase()));
+    let (before, behind) = events.split_at_checked(first).ok_or("events")?;
+    push_events_of(alloc, &mut text, before)?;
+    push_end(&mut text, whole, &phase)?;
+    if !behind.is_empty() {
+        text.push_str("then\n")?;
+        push_events_of(alloc, &mut text, behind)?;
+        push_end(&mut text, whole, &whole.made.lab.phase())?;
+    }
+    Ok(text)
+}
+
+/// The story of the schedule of this seed.
+pub(super) fn tell(alloc: Global, seed: u64) -> Result<String, Fail> {
+    let mut tally = Tally::NOTHING;
+    let whole = made_of(alloc, seed, &mut tally)?;
+    told(alloc, seed, &whole)
+}
