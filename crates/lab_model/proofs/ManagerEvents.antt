@@ -31,10 +31,10 @@ use Rattle.undo_model.specs.Machine.{Part as TaskPart, reply_of}
 use Rattle.undo_model.specs.Line.{brings_whole, brings_packets, brought_at}
 use Rattle.undo_family.specs.Spelled.{numbers_of}
 use Rattle.undo_family.specs.Wires.{answered_from}
-use Rattle.packet_model.specs.Seen.{seen, WaitsAlike, Agrees, model_after}
-use Rattle.packet_model.proofs.Steps.{first_of, takes-agrees}
-use Rattle.packet_model.proofs.Waiting.{waits-alike}
-use Rattle.packet_model.proofs.WholeBytes.{whole-bytes}
+use Rattle.lab_model.specs.Seen.{seen, WaitsAlike, Agrees, model_after}
+use Rattle.lab_model.proofs.PacketSteps.{first_of, takes-agrees}
+use Rattle.lab_model.proofs.Waiting.{waits-alike}
+use Rattle.lab_model.proofs.WholeBytes.{whole-bytes}
 use Rattle.lab_model.specs.Bytes.{response_bytes}
 use Rattle.lab_model.specs.ManagerSteps.{Plans, ManagerState, is_answer, is_part, rests, taken_or, heeded_on, open_count, open_bytes, tested, hears_reply, hears_response, ends_reply, joins, joins_for, hears_packet}
 use Rattle.lab_model.specs.PortEvents.{name_in}

@@ -20,8 +20,8 @@ use Rattle.mctp_net.proofs.Wholes.{whole-passes, whole-fits, whole-one}
 use Rattle.cfg_records.specs.declared.board_file.BoardFile.{BoardFile}
 use Rattle.bmc_board.specs.State.{State}
 use Rattle.bus_model.specs.Packet.{Packet as ModelPacket, packets_of}
-use Rattle.packet_model.specs.Seen.{seen}
-use Rattle.packet_model.proofs.Cutting.{packets-agree}
+use Rattle.lab_model.specs.Seen.{seen}
+use Rattle.lab_model.proofs.Cutting.{packets-agree}
 use Rattle.lab_model.specs.Values.{Value, parts_of}
 use Rattle.lab_model.specs.PortSteps.{PortState, Deed, stays, hears_message, hears_part, hears_parts, ends_message}
 use Rattle.lab_model.specs.Cuts.{PartsAreCuts, kept_after_parts, kept_with_parts, is_for, has_slot, PartsAreHeard}

@@ -25,10 +25,10 @@ use Rattle.bus_model.specs.Assembly.{Name, Sent, Step, Whole, takes, waiting, fi
 use Rattle.bus_model.specs.PacketBus.{PacketBus, rules_of, request_name, set_at, Ends, PacketEvent, OtherPacket, PacketReachesPort, whole_comes, other_request, hears_other, packet_comes, port_takes, packet_at_port, packet_happens}
 use Rattle.bus_model.specs.PacketEffect.{step_of, whole_request, completed_request, HasPacketEffect, FrameAtPort, PortEffect, HoldsRequest}
 use Rattle.bmc_board.specs.State.{State}
-use Rattle.packet_model.specs.Seen.{seen, WaitsAlike, Agrees, model_after}
-use Rattle.packet_model.proofs.Steps.{takes-agrees}
-use Rattle.packet_model.proofs.Waiting.{waits-alike}
-use Rattle.packet_model.proofs.WholeBytes.{whole-bytes}
+use Rattle.lab_model.specs.Seen.{seen, WaitsAlike, Agrees, model_after}
+use Rattle.lab_model.proofs.PacketSteps.{takes-agrees}
+use Rattle.lab_model.proofs.Waiting.{waits-alike}
+use Rattle.lab_model.proofs.WholeBytes.{whole-bytes}
 use Rattle.lab_model.specs.Bytes.{heard_in}
 use Rattle.lab_model.specs.PortSteps.{PortState, Deed, turn, stays, hears_request, hears_message, hears_part, ends_message}
 use Rattle.lab_model.specs.PortEvents.{answer_to, RequestsAreEvents, RequestsLeaveLog, part_answer_to, name_in, event_by, happens_if, IsPortOf, IsManagersPart, PartsAreEvents, PartsLeaveLog}

@@ -9,7 +9,7 @@ use Rattle.mctp_net.specs.Assembly.{Assemblies, name_of, open_beside, after as k
 use Rattle.cfg_records.specs.declared.board_file.BoardFile.{BoardFile}
 use Rattle.bmc_board.specs.State.{State}
 use Rattle.bus_model.specs.Packet.{packets_of}
-use Rattle.packet_model.specs.Seen.{seen}
+use Rattle.lab_model.specs.Seen.{seen}
 use Rattle.lab_model.specs.Values.{parts_of}
 use Rattle.lab_model.specs.PortSteps.{PortState, stays, hears_message, hears_parts}
 

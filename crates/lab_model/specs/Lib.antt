@@ -1,3 +1,4 @@
+pub mod Seen
 pub mod Values
 pub mod Bytes
 pub mod PortSteps

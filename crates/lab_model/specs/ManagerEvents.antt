@@ -19,7 +19,7 @@ use Rattle.bus_model.specs.PacketEffect.{HasPacketEffect}
 use Rattle.undo_model.specs.Machine.{Part as TaskPart, reply_of}
 use Rattle.undo_model.specs.Line.{brings_whole, brings_packets}
 use Rattle.undo_family.specs.Wires.{answered_from}
-use Rattle.packet_model.specs.Seen.{seen, WaitsAlike}
+use Rattle.lab_model.specs.Seen.{seen, WaitsAlike}
 use Rattle.plans.specs.declared.names.Names.{Names}
 use Rattle.lab_model.specs.Bytes.{response_bytes}
 use Rattle.lab_model.specs.ManagerSteps.{Plans, ManagerState, ManagerDeed, is_answer, rests, taken_or, heeded_on, open_count, open_bytes, hears_response, hears_packet}

@@ -20,7 +20,7 @@ use Rattle.bus_model.specs.PacketBus.{PacketBus, rules_of, request_name, Ends, P
 use Rattle.bus_model.specs.PacketEffect.{HasPacketEffect}
 use Rattle.bmc_board.specs.State.{State}
 use Rattle.bmc_board.specs.Answer.{answer_of}
-use Rattle.packet_model.specs.Seen.{seen, seen_name, WaitsAlike}
+use Rattle.lab_model.specs.Seen.{seen, seen_name, WaitsAlike}
 use Rattle.lab_model.specs.Bytes.{heard_in, pldm_heard_in}
 use Rattle.lab_model.specs.PortSteps.{PortState, spelled, asked_in, pldm_asked, hears_request, hears_part}
 

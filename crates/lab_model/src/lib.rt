@@ -6,3 +6,4 @@
 pub mod examples;
 pub mod laws;
 pub mod marks;
+pub mod packets;

@@ -38,7 +38,7 @@ use Rattle.undo_model.specs.Machine.{count_of}
 use Rattle.undo_model.specs.World.{States, OnBus, OnBench, update}
 use Rattle.undo_family.specs.Family.{family_answer}
 use Rattle.undo_family.specs.Spelled.{numbers_of}
-use Rattle.packet_model.specs.Seen.{seen, WaitsAlike}
+use Rattle.lab_model.specs.Seen.{seen, WaitsAlike}
 use Rattle.plans.specs.declared.names.Names.{Names}
 use Rattle.lab_model.specs.Values.{parts_of}
 use Rattle.lab_model.specs.Bytes.{pldm_heard_in}

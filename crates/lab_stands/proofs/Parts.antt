@@ -22,8 +22,8 @@ use Rattle.bus_model.specs.PacketEffect.{HasPacketEffect}
 use Rattle.bus_model.proofs.Cutting.{packets_cut}
 use Rattle.undo_model.specs.World.{States}
 use Rattle.undo_model.proofs.LineLaws.{effect}
-use Rattle.packet_model.specs.Seen.{seen, Agrees}
-use Rattle.packet_model.proofs.Steps.{takes-agrees}
+use Rattle.lab_model.specs.Seen.{seen, Agrees}
+use Rattle.lab_model.proofs.PacketSteps.{takes-agrees}
 use Rattle.plans.specs.declared.names.Names.{Names}
 use Rattle.lab_model.specs.Values.{Part}
 use Rattle.lab_model.specs.PortEvents.{name_in, part_answer_to, PartsAreEvents}

@@ -24,8 +24,8 @@ use Rattle.undo_model.specs.Line.{exchange, carried_at}
 use Rattle.undo_model.specs.World as world
 use Rattle.undo_model.specs.World.{States, World, OnBus, update}
 use Rattle.undo_family.specs.Spelled.{numbers_of}
-use Rattle.packet_model.specs.Seen.{WaitsAlike}
-use Rattle.packet_model.proofs.Steps.{first_of}
+use Rattle.lab_model.specs.Seen.{WaitsAlike}
+use Rattle.lab_model.proofs.PacketSteps.{first_of}
 use Rattle.plans.specs.declared.names.Names.{Names}
 use Rattle.lab_model.specs.Values.{Part}
 use Rattle.lab_model.specs.PortSteps.{Deed, PortState, hears_part, ends_message, stays}

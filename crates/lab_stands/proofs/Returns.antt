@@ -30,7 +30,7 @@ use Rattle.undo_model.proofs.LineLaws.{effect}
 use Rattle.undo_model.proofs.TwoBuses.{packet_lines}
 use Rattle.undo_family.specs.Wires.{answered_from, bytes_of}
 use Rattle.undo_family.specs.Spelled.{numbers_of}
-use Rattle.packet_model.specs.Seen.{WaitsAlike}
+use Rattle.lab_model.specs.Seen.{WaitsAlike}
 use Rattle.plans.specs.declared.names.Names.{Names}
 use Rattle.lab_model.specs.ManagerSteps.{ManagerState, ManagerDeed, rests, taken_or, heeded_on, open_count, open_bytes, is_answer, is_part, joins, joins_for, goes_on, hears_response, hears_packet, manager_hears}
 use Rattle.lab_model.specs.ManagerEvents.{takes_if, IsOpenOn, IsManagerOf, IsRepliesResponse, IsRepliesPart, BringsPart, name_awaited}

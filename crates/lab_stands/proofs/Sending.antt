@@ -37,7 +37,7 @@ use Rattle.undo_model.specs.Words.{Answered}
 use Rattle.undo_family.specs.Wires.{bytes_of, reply_to}
 use Rattle.undo_family.proofs.Spelled.{are_spelled}
 use Rattle.undo_family.specs.WireLaws.{managers, read_back, upper, lower}
-use Rattle.packet_model.specs.Seen.{seen, seen_name}
+use Rattle.lab_model.specs.Seen.{seen, seen_name}
 use Rattle.plans.specs.declared.names.Names.{Names}
 use Rattle.lab_model.specs.Values.{Value, Part, parts_of}
 use Rattle.lab_model.specs.ManagerSteps.{addresses, values_of}

@@ -10,7 +10,7 @@ use Rattle.bus_model.specs.BusState.{BusState, Frame, Ask}
 use Rattle.bus_model.specs.Repeat.{In}
 use Rattle.bus_model.specs.Assembly.{Sent}
 use Rattle.bus_model.specs.PacketBus.{Ends, request_name}
-use Rattle.packet_model.specs.Seen.{WaitsAlike}
+use Rattle.lab_model.specs.Seen.{WaitsAlike}
 use Rattle.bus_model.specs.Answering.{AreWritten}
 use Rattle.bus_model.specs.Bytes.{IsRequestOn}
 use Rattle.bus_model.proofs.Lists.{Grows, grows, at_end}

@@ -24,7 +24,7 @@ use Rattle.undo_model.proofs.World.{count_here, count_there}
 use Rattle.undo_model.proofs.Joined.{Joined, told}
 use Rattle.undo_family.specs.Wires.{answered_from}
 use Rattle.undo_family.proofs.IsFamily.{is_family}
-use Rattle.packet_model.specs.Seen.{WaitsAlike}
+use Rattle.lab_model.specs.Seen.{WaitsAlike}
 use Rattle.plans.specs.declared.names.Names.{Names}
 use Rattle.lab_model.specs.ManagerSteps.{goes_on, open_count, sent_of}
 use Rattle.lab_model.specs.ManagerEvents.{name_awaited}

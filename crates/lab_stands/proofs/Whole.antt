@@ -36,8 +36,8 @@ use Rattle.undo_model.specs.World.{States, World, OnBus, update}
 use Rattle.undo_family.specs.Family.{family_answer}
 use Rattle.undo_family.specs.Wires.{reply_to, asked_from}
 use Rattle.undo_family.proofs.IsFamily.{is_family}
-use Rattle.packet_model.specs.Seen.{seen_name, Agrees}
-use Rattle.packet_model.proofs.WholeBytes.{whole-bytes}
+use Rattle.lab_model.specs.Seen.{seen_name, Agrees}
+use Rattle.lab_model.proofs.WholeBytes.{whole-bytes}
 use Rattle.plans.specs.declared.names.Names.{Names}
 use Rattle.lab_model.specs.Values.{Value, Part, parts_of}
 use Rattle.lab_model.specs.Bytes.{pldm_heard_in, said, busy_on}

@@ -29,7 +29,7 @@ use Rattle.undo_family.specs.Family.{family}
 use Rattle.undo_family.specs.Spelled.{numbers_of}
 use Rattle.undo_family.specs.Wires.{asked_from, reply_to}
 use Rattle.undo_family.specs.ManagerWires.{wires}
-use Rattle.packet_model.specs.Seen.{WaitsAlike}
+use Rattle.lab_model.specs.Seen.{WaitsAlike}
 use Rattle.plans.specs.declared.names.Names.{Names}
 use Rattle.lab_model.specs.Values.{Asks, Tells, Part}
 use Rattle.lab_model.specs.Bytes.{heard_in, pldm_heard_in, response_bytes, response_to}

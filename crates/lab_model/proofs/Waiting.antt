@@ -13,9 +13,9 @@ use Rattle.mctp_net.specs.Assembly.{Assemblies, name_of, is_name, taken_under, j
 use Rattle.mctp_net.proofs.Names.{name-one, name-self}
 use Rattle.mctp_net.proofs.NamesAlone.{own-name, other-name}
 use Rattle.bus_model.specs.Assembly.{Name as ModelName, is_name as is_model_name, Sent, Step, takes, waiting}
-use Rattle.packet_model.specs.Seen.{seen, seen_name, AreSeen, WaitsAlike, Agrees, model_after}
+use Rattle.lab_model.specs.Seen.{seen, seen_name, AreSeen, WaitsAlike, Agrees, model_after}
 use Rattle.bus_model.specs.PacketBus.{set_at}
-use Rattle.packet_model.proofs.Steps.{first_of, joins-same, takes-agrees}
+use Rattle.lab_model.proofs.PacketSteps.{first_of, joins-same, takes-agrees}
 
 -- names are the same in both
 names-alike : (m n : Name) → is_model_name (seen_name m) (seen_name n) ≡ is_name m n

@@ -1,6 +1,4 @@
-//! The assembler of `mctp_net` and the packets of `bus_model` are of one assembly. There is no code here: each law is the
-//! contract of a function without a body.
-#![tactic(auto)]
+//! The assembler of `mctp_net` and the packets of `bus_model` are of one assembly: two laws, and no code.
 
 ghost use Rattle.std.specs.Prelude.{◌≡◌, ◌++◌, ◌∷◌, [], ℕ, true, List, map, None};
 ghost use Rattle.mctp_net.specs.declared.packet.Name.{Name};
@@ -11,7 +9,7 @@ ghost use Rattle.mctp_net.specs.Cut.{piece, IsCutOf};
 ghost use Rattle.mctp_net.specs.Assembly.{Assemblies, name_of, taken_under, drop_cause, after, message_of};
 ghost use Rattle.bus_model.specs.Packet.{packets_of, unit_size as model_unit_size};
 ghost use Rattle.bus_model.specs.Assembly.{Name as ModelName, Sent, takes, waiting, message_of as model_message_of};
-ghost use Rattle.packet_model.specs.Seen.{seen, seen_name, AreSeen, WaitsAlike, Agrees, model_after};
+ghost use Rattle.lab_model.specs.Seen.{seen, seen_name, AreSeen, WaitsAlike, Agrees, model_after};
 
 /// A packet's step under its name is the model's, and afterwards the same waits in both under every name. A message that the packet ends
 /// has the same bytes in both.

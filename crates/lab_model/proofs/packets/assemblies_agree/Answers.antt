@@ -1,7 +1,7 @@
-use Rattle.packet_model.proofs.Steps.{takes-agrees}
-use Rattle.packet_model.proofs.Waiting.{waits-alike}
-use Rattle.packet_model.proofs.WholeBytes.{whole-bytes}
-use Rattle.packet_model.proofs.assemblies_agree.Goals as goal
+use Rattle.lab_model.proofs.PacketSteps.{takes-agrees}
+use Rattle.lab_model.proofs.Waiting.{waits-alike}
+use Rattle.lab_model.proofs.WholeBytes.{whole-bytes}
+use Rattle.lab_model.proofs.packets.assemblies_agree.Goals as goal
 
 pub returns-clause-step : goal.returns-clause-step
 returns-clause-step c = takes-agrees

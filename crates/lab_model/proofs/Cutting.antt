@@ -9,7 +9,7 @@ use Rattle.mctp_net.specs.declared.packet.Packet.{Packet}
 use Rattle.mctp_net.specs.declared.message.Message.{Message}
 use Rattle.mctp_net.specs.Cut.{Piece, piece, IsPiece, EachFrom, carried, IsCutOf}
 use Rattle.bus_model.specs.Packet.{Packet as ModelPacket, packets_from, packets_of}
-use Rattle.packet_model.specs.Seen.{seen}
+use Rattle.lab_model.specs.Seen.{seen}
 
 -- pieces carry at most 64 bytes each
 carried-length : (count number : ℕ) (ps : List Piece) → EachFrom (IsPiece count) number ps → length (carried ps) ≤ 64 * length ps

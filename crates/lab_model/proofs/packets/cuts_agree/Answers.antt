@@ -1,6 +1,6 @@
 use Rattle.std.proofs.Common.{refl}
-use Rattle.packet_model.proofs.Cutting.{packets-agree}
-use Rattle.packet_model.proofs.cuts_agree.Goals as goal
+use Rattle.lab_model.proofs.Cutting.{packets-agree}
+use Rattle.lab_model.proofs.packets.cuts_agree.Goals as goal
 
 pub returns-clause-unit : goal.returns-clause-unit
 returns-clause-unit c = refl

@@ -8,8 +8,8 @@ use Rattle.mctp_net.specs.Assembly.{Assemblies, taken_under, joined_to, drop_cau
 use Rattle.mctp_net.proofs.Wholes.{ended-body}
 use Rattle.bus_model.specs.Packet.{Packet as ModelPacket}
 use Rattle.bus_model.specs.Assembly.{Sent, waiting, message_of as model_message_of}
-use Rattle.packet_model.specs.Seen.{seen, AreSeen}
-use Rattle.packet_model.proofs.Steps.{joins-same}
+use Rattle.lab_model.specs.Seen.{seen, AreSeen}
+use Rattle.lab_model.proofs.PacketSteps.{joins-same}
 
 -- packets that are seen carry the same bytes
 carried-is : (ss : List Sent) (ps : List Piece) → AreSeen ss ps → model_message_of ss ≡ carried ps

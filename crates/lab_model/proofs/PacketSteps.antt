@@ -9,7 +9,7 @@ use Rattle.mctp_net.specs.declared.taken.DropCause.TheVariants.{NotOurs, NoStart
 use Rattle.mctp_net.specs.Cut.{Piece, piece}
 use Rattle.mctp_net.specs.Assembly.{Assemblies, taken_under, joined_to, fails, drop_cause}
 use Rattle.bus_model.specs.Assembly.{Sent, Step, Waits, Whole, Drops, joined, takes, waiting}
-use Rattle.packet_model.specs.Seen.{seen, AreSeen, Agrees}
+use Rattle.lab_model.specs.Seen.{seen, AreSeen, Agrees}
 
 abbrev Result : Type 0
 Result = Step × List Sent

@@ -1,4 +1,0 @@
-pub mod Steps
-pub mod Waiting
-pub mod Cutting
-pub mod WholeBytes
