@@ -2,6 +2,7 @@ pub mod PacketSteps
 pub mod Waiting
 pub mod Cutting
 pub mod WholeBytes
+pub mod Spelled
 pub mod Spelling
 pub mod Breaches
 pub mod Example

@@ -29,8 +29,8 @@ use Rattle.bus_model.specs.Packet.{Packet as ModelPacket}
 use Rattle.bus_model.proofs.Answering.{busy_fails}
 use Rattle.undo_model.specs.Machine.{Part as TaskPart, reply_of}
 use Rattle.undo_model.specs.Line.{brings_whole, brings_packets, brought_at}
-use Rattle.undo_family.specs.Spelled.{numbers_of}
-use Rattle.undo_family.specs.Wires.{answered_from}
+use Rattle.lab_model.specs.Spelled.{numbers_of}
+use Rattle.lab_model.specs.Wires.{answered_from}
 use Rattle.lab_model.specs.Seen.{seen, WaitsAlike, Agrees, model_after}
 use Rattle.lab_model.proofs.PacketSteps.{first_of, takes-agrees}
 use Rattle.lab_model.proofs.Waiting.{waits-alike}

@@ -6,9 +6,9 @@ use Rattle.cfg_records.specs.declared.message.Asked.{Asked}
 use Rattle.cfg_records.specs.declared.message.Asked.TheVariants.{Ipmi, Pldm}
 use Rattle.bus_model.specs.Bytes.{ipmb_reply, pldm_reply, IsRequestOn, IsReplyOn, IsIpmbRequest, IsIpmbReply, IsPldmRequest, IsPldmReply}
 use Rattle.undo_model.specs.Words.{Answered as Told}
-use Rattle.undo_family.specs.Family.{bus_of}
-use Rattle.undo_family.specs.Spelled.{numbers_of}
-use Rattle.undo_family.specs.Wires.{bytes_of, reply_to}
+use Rattle.lab_model.specs.ManagerWords.{bus_of}
+use Rattle.lab_model.specs.Spelled.{numbers_of}
+use Rattle.lab_model.specs.Wires.{bytes_of, reply_to}
 use Rattle.lab_model.specs.Bytes.{Fits, IsNumber, AreTheModels}
 
 high : (n lun : ℕ) → lun < 4 → (4 * n + lun) / 4 ≡ n

@@ -1,5 +1,5 @@
 -- Requests and replies as bytes: all of a message but addresses and check bytes, the number included. On SMBus a message from its type
--- byte on, with PLDM's ignored bit 0. `undo_family` has those of the manager's requests and of replies.
+-- byte on, with PLDM's ignored bit 0. `Wires` has those of the manager's requests and of replies.
 use Rattle.std.specs.Prelude.{◌≡◌, ℕ, ◌+◌, ◌<◌, true, false, List, [], ◌∷◌, Option, Some, None}
 use Rattle.two_wire.specs.declared.Bus.{Bus}
 use Rattle.two_wire.specs.declared.Bus.TheVariants as bus
@@ -14,9 +14,9 @@ use Rattle.bus_model.specs.Request.{Request as Heard}
 use Rattle.bus_model.specs.Bytes.{busy_code, is_busy_code, answers, IsRequestOn, IsReplyOn}
 use Rattle.bmc_board.specs.Decode.{sent_by}
 use Rattle.undo_model.specs.Words.{Answered as Told}
-use Rattle.undo_family.specs.Family.{bus_of}
-use Rattle.undo_family.specs.Spelled.{numbers_of}
-use Rattle.undo_family.specs.Wires.{bytes_of, asked_from, reply_to, answered_from}
+use Rattle.lab_model.specs.ManagerWords.{bus_of}
+use Rattle.lab_model.specs.Spelled.{numbers_of}
+use Rattle.lab_model.specs.Wires.{bytes_of, asked_from, reply_to, answered_from}
 
 -- ---- requests
 

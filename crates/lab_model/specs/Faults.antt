@@ -10,7 +10,7 @@ use Rattle.pldm_base.specs.Message.{request_in as pldm_request_in}
 use Rattle.cfg_records.specs.declared.board_file.BoardFile.{BoardFile}
 use Rattle.bus_model.specs.Circle.{span_of}
 use Rattle.bmc_board.specs.Table.{is_changing}
-use Rattle.undo_family.specs.Spelled.{numbers_of}
+use Rattle.lab_model.specs.Spelled.{numbers_of}
 use Rattle.undo_model.specs.Words.{Words}
 use Rattle.undo_model.specs.Machine.{Machine, count_of, open_bus, same_bus}
 use Rattle.lab_model.specs.PortSteps.{asked_in, pldm_asked}

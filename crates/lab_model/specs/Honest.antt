@@ -10,7 +10,7 @@ use Rattle.pldm_base.specs.declared.message.PldmRequest.{PldmRequest}
 use Rattle.pldm_base.specs.Message.{IsRequest}
 use Rattle.bus_model.specs.Circle.{span_of}
 use Rattle.bmc_board.specs.Table.{is_changing}
-use Rattle.undo_family.specs.Spelled.{numbers_of}
+use Rattle.lab_model.specs.Spelled.{numbers_of}
 use Rattle.undo_model.specs.Machine.{open_bus}
 use Rattle.lab_model.specs.PortSteps.{asked_in, pldm_asked}
 use Rattle.plans.specs.declared.names.Names.{Names}

@@ -1,4 +1,9 @@
 pub mod Seen
+pub mod ManagerWords
+pub mod Wires
+pub mod WireLaws
+pub mod ManagerWires
+pub mod Spelled
 pub mod Values
 pub mod Bytes
 pub mod PortSteps

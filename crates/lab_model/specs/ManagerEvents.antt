@@ -18,7 +18,7 @@ use Rattle.bus_model.specs.PacketBus.{PacketBus, rules_of, reply_name, Ends, Pac
 use Rattle.bus_model.specs.PacketEffect.{HasPacketEffect}
 use Rattle.undo_model.specs.Machine.{Part as TaskPart, reply_of}
 use Rattle.undo_model.specs.Line.{brings_whole, brings_packets}
-use Rattle.undo_family.specs.Wires.{answered_from}
+use Rattle.lab_model.specs.Wires.{answered_from}
 use Rattle.lab_model.specs.Seen.{seen, WaitsAlike}
 use Rattle.plans.specs.declared.names.Names.{Names}
 use Rattle.lab_model.specs.Bytes.{response_bytes}

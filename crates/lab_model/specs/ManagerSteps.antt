@@ -15,9 +15,9 @@ use Rattle.undo_model.specs.Words.{Words}
 use Rattle.undo_model.specs.Machine.{count_of, Part as TaskPart, bus_at, Stage, Opened, Machine, Sending, Turn, start_of, quiet_of, stop_of, again_of, undo_of, reply_of, same_bus}
 use Rattle.undo_model.specs.Wires.{number_of}
 use Rattle.undo_model.specs.TwoBuses.{Addresses}
-use Rattle.undo_family.specs.Family.{bus_of, manager_words}
-use Rattle.undo_family.specs.Spelled.{numbers_of}
-use Rattle.undo_family.specs.Wires.{bytes_of, answered_from}
+use Rattle.lab_model.specs.ManagerWords.{bus_of, manager_words}
+use Rattle.lab_model.specs.Spelled.{numbers_of}
+use Rattle.lab_model.specs.Wires.{bytes_of, answered_from}
 use Rattle.lab_model.specs.Values.{Value, Asks, Tells, Part, parts_of}
 use Rattle.lab_model.specs.Bytes.{response_bytes}
 

@@ -9,7 +9,7 @@ use Rattle.cfg_records.specs.declared.message.Asked.TheVariants.{Pldm}
 use Rattle.undo_model.specs.Words.{Words}
 use Rattle.undo_model.specs.Phase.{Phase, Getting, Setting, Halted, Refused}
 use Rattle.undo_model.specs.Machine.{Sets, begun, phase_of}
-use Rattle.undo_family.specs.Family.{bus_of}
+use Rattle.lab_model.specs.ManagerWords.{bus_of}
 use Rattle.lab_model.specs.Values.{Value, Asks, Tells, Part, parts_of}
 use Rattle.lab_model.specs.ManagerSteps.{Plans, Start, Quiet}
 use Rattle.lab_model.specs.Lab.{ToManager, LabFrame, Event, Calls, ToBmc, ToMgr, Lab, run, opening}

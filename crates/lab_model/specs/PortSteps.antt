@@ -21,8 +21,8 @@ use Rattle.bus_model.specs.Carried.{Outcome, Repeats, IsBusy, IsNew, outcome, lo
 use Rattle.bmc_board.specs.State.{State}
 use Rattle.bmc_board.specs.Answer.{answer_of}
 use Rattle.lab_model.specs.Values.{Value, Asks, Tells, Part, parts_of}
-use Rattle.undo_family.specs.Family.{family_answer}
-use Rattle.undo_family.specs.Wires.{reply_to, answered_from}
+use Rattle.lab_model.specs.ManagerWords.{family_answer}
+use Rattle.lab_model.specs.Wires.{reply_to, answered_from}
 use Rattle.lab_model.specs.Bytes.{heard_in, pldm_heard_in, said, response_to}
 
 -- a port: its two-wire address, its endpoint's identifier, the packets that wait at it, and what it did, newest first

@@ -1,12 +1,15 @@
 //! Laws of the definitions.
 
 ghost use Rattle.std.specs.Prelude.{ℕ, Bool, List};
+ghost use Rattle.two_wire.specs.declared.Bus.{Bus};
 ghost use Rattle.cfg_records.specs.declared.message.Asked.{Asked};
 ghost use Rattle.cfg_records.specs.declared.message.Answered.{Answered};
 ghost use Rattle.cfg_records.specs.declared.board_file.BoardFile.{BoardFile};
 ghost use Rattle.bus_model.specs.Request.{Request as Heard, Entry};
 ghost use Rattle.bmc_board.specs.State.{State};
+ghost use Rattle.undo_model.specs.TwoBuses.{Addresses};
 ghost use Rattle.plans.specs.declared.names.Names.{Names};
+ghost use Rattle.lab_model.specs.Spelled.{AreSpelled};
 ghost use Rattle.lab_model.specs.ManagerSteps.{board_plans};
 ghost use Rattle.lab_model.specs.Bytes.{AreReadBack, AreTheModels, Accepts, IsNumbered};
 ghost use Rattle.lab_model.specs.Honest.{FaultsAreBreaches};
@@ -14,6 +17,12 @@ ghost use Rattle.lab_model.specs.Stepwise.{TurnsBy, RunsBy};
 ghost use Rattle.lab_model.specs.Cuts.{PartsAreCuts, PartsAreHeard};
 ghost use Rattle.lab_model.specs.PortEvents.{RequestsLeaveLog, PartsLeaveLog};
 ghost use Rattle.lab_model.specs.ManagerEvents.{RepliesAreBrought};
+
+/// The manager's requests are requests on their bus, IPMI on IPMB and PLDM on SMBus, each under its number; and a reply to one is a reply
+/// to it, with the answer's code.
+pub fn bytes_are_of_the_buses()
+    ensures { (at : Bus → Addresses) → AreSpelled at }
+{}
 
 /// A request's bytes are read as that request, and a reply's as its answer.
 pub fn bytes_are_read_back()

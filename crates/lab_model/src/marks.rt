@@ -3,7 +3,7 @@
 ghost use Rattle.std.specs.Prelude.{◌≡◌};
 ghost use Rattle.bus_model.specs.Circle.{span_of};
 ghost use Rattle.cfg_records.specs.declared.board_file.BoardFile.{BoardFile};
-ghost use Rattle.undo_family.specs.Spelled.{numbers_of};
+ghost use Rattle.lab_model.specs.Spelled.{numbers_of};
 ghost use Rattle.plans.specs.declared.names.Names.{Names as NamesValue};
 ghost use Rattle.lab_model.specs.ManagerSteps.{board_plans};
 ghost use Rattle.lab_model.specs.Marks.{TellsLive, MarksReplies, TellsOpen};

@@ -32,9 +32,9 @@ use Rattle.undo_model.specs.Words.{Answered}
 use Rattle.undo_model.specs.Machine.{count_of}
 use Rattle.undo_model.specs.World as world
 use Rattle.undo_model.specs.World.{States, World, OnBus, update}
-use Rattle.undo_family.specs.Family.{family_answer}
-use Rattle.undo_family.specs.Wires.{reply_to, answered_from, asked_from}
-use Rattle.undo_family.specs.Spelled.{numbers_of}
+use Rattle.lab_model.specs.ManagerWords.{family_answer}
+use Rattle.lab_model.specs.Wires.{reply_to, answered_from, asked_from}
+use Rattle.lab_model.specs.Spelled.{numbers_of}
 use Rattle.undo_family.proofs.IsFamily.{is_family}
 use Rattle.plans.specs.declared.names.Names.{Names}
 use Rattle.lab_model.specs.Values.{Asks}

@@ -17,10 +17,10 @@ use Rattle.undo_model.specs.Words.{Words}
 use Rattle.undo_model.specs.Wires.{number_of, IsMade}
 use Rattle.undo_model.specs.World as world
 use Rattle.undo_model.specs.World.{States, World}
-use Rattle.undo_family.specs.Family.{bus_of, manager_words}
-use Rattle.undo_family.specs.Spelled.{numbers_of}
-use Rattle.undo_family.specs.Wires.{bytes_of}
-use Rattle.undo_family.proofs.Spelled.{are_spelled}
+use Rattle.lab_model.specs.ManagerWords.{bus_of, manager_words}
+use Rattle.lab_model.specs.Spelled.{numbers_of}
+use Rattle.lab_model.specs.Wires.{bytes_of}
+use Rattle.lab_model.proofs.Spelled.{are_spelled}
 use Rattle.plans.specs.declared.names.Names.{Names}
 use Rattle.undo_model.specs.TwoBuses.{Addresses}
 use Rattle.lab_model.specs.ManagerSteps.{Sent as SentFrames, addresses, values_of, sent_of}

@@ -14,7 +14,7 @@ use Rattle.undo_model.specs.Machine.{count_of, Task, Gets, Sets, Undoes, Part, S
 use Rattle.undo_model.specs.Joined.{IsClosed, AreOpen}
 use Rattle.undo_model.specs.World as world
 use Rattle.undo_model.specs.World.{States, World, Happening, Start, Quiet, Stop, Again, Undo, OnBus, update}
-use Rattle.undo_family.specs.Family.{bus_of}
+use Rattle.lab_model.specs.ManagerWords.{bus_of}
 use Rattle.plans.specs.declared.names.Names.{Names}
 use Rattle.lab_model.specs.ManagerSteps.{Plans, ManagerState, addresses, goes_on, waits_after, Call, called, turn_of}
 use Rattle.lab_model.specs.ManagerSteps as manager
@@ -25,7 +25,7 @@ use Rattle.lab_stands.proofs.Made.{starts_made, undo_made}
 use Rattle.bus_model.specs.BusState.{BusState}
 use Rattle.bus_model.specs.Answering.{AreWritten}
 use Rattle.bus_model.proofs.Lists.{Grows}
-use Rattle.undo_family.specs.Spelled.{numbers_of}
+use Rattle.lab_model.specs.Spelled.{numbers_of}
 use Rattle.lab_stands.specs.Each.{Each}
 use Rattle.lab_stands.proofs.Frames.{all_held}
 use Rattle.lab_stands.specs.Follows.{Holds}

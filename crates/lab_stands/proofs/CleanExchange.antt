@@ -22,10 +22,10 @@ use Rattle.undo_model.specs.Wires.{number_of, IsMade}
 use Rattle.undo_model.specs.Machine.{Counts, Task, Part as TaskPart, Stage, Opened, Machine, Turn, enters, takes, reply_of}
 use Rattle.undo_model.specs.Clean.{Moment}
 use Rattle.undo_family.specs.Family.{answer}
-use Rattle.undo_family.specs.Wires.{bytes_of, reply_to}
-use Rattle.undo_family.specs.WireLaws.{managers, upper, lower}
-use Rattle.undo_family.specs.Spelled.{numbers_of}
-use Rattle.undo_family.proofs.Spelled.{are_spelled}
+use Rattle.lab_model.specs.Wires.{bytes_of, reply_to}
+use Rattle.lab_model.specs.WireLaws.{managers, upper, lower}
+use Rattle.lab_model.specs.Spelled.{numbers_of}
+use Rattle.lab_model.proofs.Spelled.{are_spelled}
 use Rattle.undo_family.proofs.IsFamily.{is_family}
 use Rattle.plans.specs.declared.names.Names.{Names}
 use Rattle.lab_model.specs.Values.{Asks, Tells}

@@ -24,7 +24,8 @@ use Rattle.undo_model.specs.Wires.{IsMade}
 use Rattle.undo_model.specs.Machine.{Counts, Task, Gets, Sets, Undoes, Part as TaskPart, Stage, AtStart, Opened, AtEnd, AtHalt, AtUndone, AtRefused, Machine, Turn, Sending, enters, sends_at, takes, series_of, bodies_with, finished, refused, set_stage, next_stage, undo_stage, first_stage, stage_after, undo_after, one_answered, bus_at, phase_of, open_bus, open_bus_at, undo_of, opened}
 use Rattle.undo_model.specs.Clean.{Moment, answered_in_all, told, one, clean, IsAtRest, RunsClean}
 use Rattle.undo_model.proofs.Clean.{always_runs_clean}
-use Rattle.undo_family.specs.Family.{manager_words, answer}
+use Rattle.lab_model.specs.ManagerWords.{manager_words}
+use Rattle.undo_family.specs.Family.{answer}
 use Rattle.undo_family.proofs.IsFamily.{is_family}
 use Rattle.undo_family.proofs.Board.{starts_valid}
 use Rattle.plans.specs.declared.names.Names.{Names}

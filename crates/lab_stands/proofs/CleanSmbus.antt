@@ -37,11 +37,12 @@ use Rattle.undo_model.specs.Words.{Answered, is_busy}
 use Rattle.undo_model.specs.Wires.{number_of, IsSeries, IsOf, IsMade}
 use Rattle.undo_model.specs.TwoBuses.{Addresses}
 use Rattle.undo_model.specs.Machine.{Task, Opened, Machine, enters, takes, reply_of}
-use Rattle.undo_family.specs.Family.{from_manager, manager_words, answer}
-use Rattle.undo_family.specs.Wires.{bytes_of, reply_to}
-use Rattle.undo_family.specs.WireLaws.{managers}
-use Rattle.undo_family.specs.Spelled.{numbers_of}
-use Rattle.undo_family.proofs.Spelled.{are_spelled}
+use Rattle.lab_model.specs.ManagerWords.{from_manager, manager_words}
+use Rattle.undo_family.specs.Family.{answer}
+use Rattle.lab_model.specs.Wires.{bytes_of, reply_to}
+use Rattle.lab_model.specs.WireLaws.{managers}
+use Rattle.lab_model.specs.Spelled.{numbers_of}
+use Rattle.lab_model.proofs.Spelled.{are_spelled}
 use Rattle.plans.specs.declared.names.Names.{Names}
 use Rattle.lab_model.specs.Values.{Part, parts_of}
 use Rattle.lab_model.specs.Bytes.{pldm_heard_in, said}

@@ -20,7 +20,7 @@ use Rattle.undo_model.specs.World.{States}
 use Rattle.undo_model.proofs.Buses.{cases_bus}
 use Rattle.undo_model.proofs.TwoBuses.{packet_lines}
 use Rattle.undo_model.proofs.LineLaws.{AllHold, whole_is_line, packets_are_line}
-use Rattle.undo_family.specs.Spelled.{numbers_of}
+use Rattle.lab_model.specs.Spelled.{numbers_of}
 use Rattle.plans.specs.declared.names.Names.{Names}
 use Rattle.lab_model.specs.Lab.{LabFrame, Lab, idles_on}
 use Rattle.lab_model.specs.Faults.{is_open_bus, begun_on}

@@ -9,7 +9,7 @@ use Rattle.cfg_records.specs.declared.message.Asked.{Asked}
 use Rattle.undo_model.specs.Words.{Answered, Words, is_busy}
 use Rattle.undo_model.specs.TwoBuses.{Addresses}
 use Rattle.undo_model.specs.Machine.{Task, Gets, Sets, Undoes, Part, Stage, AtStart, Opened, AtEnd, AtHalt, AtUndone, AtRefused, begun, Machine, Turn, sending, series_of, bodies_with, takes, replies, finished, refused, set_stage, next_stage, undo_stage, undo_after, first_stage, starts, undoes, quiets, agains, stops}
-use Rattle.undo_family.specs.Family.{manager_words}
+use Rattle.lab_model.specs.ManagerWords.{manager_words}
 use Rattle.lab_stands.specs.Made as made
 
 module _ (at : Bus → Addresses) where

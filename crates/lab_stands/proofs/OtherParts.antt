@@ -36,8 +36,8 @@ use Rattle.bus_model.specs.PacketBus.{PacketBus, Ends, PacketEvent, OtherPacket,
 use Rattle.bus_model.proofs.Lists.{Grows}
 use Rattle.undo_model.specs.Machine.{count_of}
 use Rattle.undo_model.specs.World.{States, OnBus, OnBench, update}
-use Rattle.undo_family.specs.Family.{family_answer}
-use Rattle.undo_family.specs.Spelled.{numbers_of}
+use Rattle.lab_model.specs.ManagerWords.{family_answer}
+use Rattle.lab_model.specs.Spelled.{numbers_of}
 use Rattle.lab_model.specs.Seen.{seen, WaitsAlike}
 use Rattle.plans.specs.declared.names.Names.{Names}
 use Rattle.lab_model.specs.Values.{parts_of}

@@ -17,7 +17,7 @@ use Rattle.bus_model.proofs.Lists.{Grows}
 use Rattle.undo_model.specs.Machine.{Stage, AtStart, Opened, AtEnd, AtHalt, AtUndone, AtRefused, open_bus_at, open_bus, count_of}
 use Rattle.undo_model.specs.Joined.{IsClosed, AreOpen}
 use Rattle.undo_model.specs.World.{States, OnBus, OnBench, update}
-use Rattle.undo_family.specs.Spelled.{numbers_of}
+use Rattle.lab_model.specs.Spelled.{numbers_of}
 use Rattle.plans.specs.declared.names.Names.{Names}
 use Rattle.lab_model.specs.PortSteps.{idles}
 use Rattle.lab_model.specs.ManagerSteps.{own_on}

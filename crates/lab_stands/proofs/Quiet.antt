@@ -23,7 +23,7 @@ use Rattle.undo_model.specs.Machine.{count_of}
 use Rattle.undo_model.specs.Line.{exchange, carried_at}
 use Rattle.undo_model.specs.World as world
 use Rattle.undo_model.specs.World.{States, World, OnBus, update}
-use Rattle.undo_family.specs.Spelled.{numbers_of}
+use Rattle.lab_model.specs.Spelled.{numbers_of}
 use Rattle.lab_model.specs.Seen.{WaitsAlike}
 use Rattle.lab_model.proofs.PacketSteps.{first_of}
 use Rattle.plans.specs.declared.names.Names.{Names}

@@ -28,8 +28,8 @@ use Rattle.undo_model.specs.World.{States, World, ToManager, update}
 use Rattle.undo_model.proofs.Buses.{cases_bus}
 use Rattle.undo_model.proofs.LineLaws.{effect}
 use Rattle.undo_model.proofs.TwoBuses.{packet_lines}
-use Rattle.undo_family.specs.Wires.{answered_from, bytes_of}
-use Rattle.undo_family.specs.Spelled.{numbers_of}
+use Rattle.lab_model.specs.Wires.{answered_from, bytes_of}
+use Rattle.lab_model.specs.Spelled.{numbers_of}
 use Rattle.lab_model.specs.Seen.{WaitsAlike}
 use Rattle.plans.specs.declared.names.Names.{Names}
 use Rattle.lab_model.specs.ManagerSteps.{ManagerState, ManagerDeed, rests, taken_or, heeded_on, open_count, open_bytes, is_answer, is_part, joins, joins_for, goes_on, hears_response, hears_packet, manager_hears}

@@ -32,11 +32,11 @@ use Rattle.bus_model.proofs.Cutting.{cuts_all}
 use Rattle.undo_model.specs.Wires.{number_of, IsSeries, IsOf, IsMade}
 use Rattle.undo_model.specs.TwoBuses.{Addresses}
 use Rattle.undo_model.specs.World.{States}
-use Rattle.undo_family.specs.Family.{bus_of, from_manager, manager_words}
+use Rattle.lab_model.specs.ManagerWords.{bus_of, from_manager, manager_words}
 use Rattle.undo_model.specs.Words.{Answered}
-use Rattle.undo_family.specs.Wires.{bytes_of, reply_to}
-use Rattle.undo_family.proofs.Spelled.{are_spelled}
-use Rattle.undo_family.specs.WireLaws.{managers, read_back, upper, lower}
+use Rattle.lab_model.specs.Wires.{bytes_of, reply_to}
+use Rattle.lab_model.proofs.Spelled.{are_spelled}
+use Rattle.lab_model.specs.WireLaws.{managers, read_back, upper, lower}
 use Rattle.lab_model.specs.Seen.{seen, seen_name}
 use Rattle.plans.specs.declared.names.Names.{Names}
 use Rattle.lab_model.specs.Values.{Value, Part, parts_of}

@@ -17,9 +17,9 @@ use Rattle.bus_model.proofs.Lists.{Grows, grows, at_end}
 use Rattle.undo_model.specs.Machine.{count_of}
 use Rattle.undo_model.specs.Wires.{number_of, IsMade}
 use Rattle.undo_model.specs.World.{States, update}
-use Rattle.undo_family.specs.Family.{bus_of, manager_words}
-use Rattle.undo_family.specs.Spelled.{numbers_of}
-use Rattle.undo_family.specs.Wires.{bytes_of}
+use Rattle.lab_model.specs.ManagerWords.{bus_of, manager_words}
+use Rattle.lab_model.specs.Spelled.{numbers_of}
+use Rattle.lab_model.specs.Wires.{bytes_of}
 use Rattle.plans.specs.declared.names.Names.{Names}
 use Rattle.lab_model.specs.PortEvents.{IsPortOf}
 use Rattle.lab_model.specs.ManagerSteps.{addresses, values_of, own_on}

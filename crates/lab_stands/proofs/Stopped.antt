@@ -14,8 +14,8 @@ use Rattle.bus_model.specs.Repeat.{In}
 use Rattle.bus_model.specs.Bytes.{answers}
 use Rattle.undo_model.specs.Words.{Answered, is_busy, Words}
 use Rattle.undo_model.specs.Machine.{Stage, AtStart, Opened, AtEnd, AtHalt, AtUndone, AtRefused, Machine, Part as TaskPart, Turn, sending, rests as machine_rests, starts, undoes, quiets, agains, replies, takes, reply_of}
-use Rattle.undo_family.specs.Spelled.{numbers_of}
-use Rattle.undo_family.specs.Wires.{answered_from}
+use Rattle.lab_model.specs.Spelled.{numbers_of}
+use Rattle.lab_model.specs.Wires.{answered_from}
 use Rattle.lab_model.specs.Values.{Value, Asks, Tells, Part}
 use Rattle.lab_model.specs.Bytes.{response_bytes}
 use Rattle.lab_model.specs.PortSteps.{PortState, Deed, hears, hears_all, idles}

@@ -22,7 +22,7 @@ use Rattle.undo_model.specs.World.{States, World}
 use Rattle.undo_model.proofs.Buses.{each_bus}
 use Rattle.undo_model.proofs.World.{count_here, count_there}
 use Rattle.undo_model.proofs.Joined.{Joined, told}
-use Rattle.undo_family.specs.Wires.{answered_from}
+use Rattle.lab_model.specs.Wires.{answered_from}
 use Rattle.undo_family.proofs.IsFamily.{is_family}
 use Rattle.lab_model.specs.Seen.{WaitsAlike}
 use Rattle.plans.specs.declared.names.Names.{Names}

@@ -23,7 +23,7 @@ use Rattle.undo_model.specs.Headline.{IsStart, ShowsSame}
 use Rattle.undo_model.proofs.World.{run_holds}
 use Rattle.undo_model.proofs.Headline.{opening_holds, stands_at, halts_at, undone_for_good}
 use Rattle.undo_model.proofs.TwoBuses.{packet_lines}
-use Rattle.undo_family.specs.Spelled.{numbers_of}
+use Rattle.lab_model.specs.Spelled.{numbers_of}
 use Rattle.undo_family.proofs.IsFamily.{is_family}
 use Rattle.undo_family.proofs.Board.{starts_valid}
 use Rattle.plans.specs.declared.names.Names.{Names}

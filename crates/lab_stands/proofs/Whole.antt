@@ -33,8 +33,8 @@ use Rattle.undo_model.specs.Words.{Answered}
 use Rattle.undo_model.specs.Line.{exchange}
 use Rattle.undo_model.specs.World as world
 use Rattle.undo_model.specs.World.{States, World, OnBus, update}
-use Rattle.undo_family.specs.Family.{family_answer}
-use Rattle.undo_family.specs.Wires.{reply_to, asked_from}
+use Rattle.lab_model.specs.ManagerWords.{family_answer}
+use Rattle.lab_model.specs.Wires.{reply_to, asked_from}
 use Rattle.undo_family.proofs.IsFamily.{is_family}
 use Rattle.lab_model.specs.Seen.{seen_name, Agrees}
 use Rattle.lab_model.proofs.WholeBytes.{whole-bytes}

@@ -6,7 +6,7 @@ use Rattle.undo_model.specs.Words.{Words}
 use Rattle.undo_model.specs.Wires.{IsSeries, IsMade}
 use Rattle.undo_model.specs.TwoBuses.{Addresses}
 use Rattle.undo_model.specs.Machine.{Task, Gets, Sets, Undoes, Stage, Opened, Machine}
-use Rattle.undo_family.specs.Family.{manager_words}
+use Rattle.lab_model.specs.ManagerWords.{manager_words}
 
 module _ (at : Bus → Addresses) where
   abbrev pub M : Words

@@ -26,9 +26,9 @@ use Rattle.undo_model.specs.Wires.{Wires}
 use Rattle.undo_model.specs.TwoBuses.{with_packets}
 use Rattle.undo_model.specs.World.{States, World, Happening, AllMay, run}
 use Rattle.undo_family.specs.Family.{family}
-use Rattle.undo_family.specs.Spelled.{numbers_of}
-use Rattle.undo_family.specs.Wires.{asked_from, reply_to}
-use Rattle.undo_family.specs.ManagerWires.{wires}
+use Rattle.lab_model.specs.Spelled.{numbers_of}
+use Rattle.lab_model.specs.Wires.{asked_from, reply_to}
+use Rattle.lab_model.specs.ManagerWires.{wires}
 use Rattle.lab_model.specs.Seen.{WaitsAlike}
 use Rattle.plans.specs.declared.names.Names.{Names}
 use Rattle.lab_model.specs.Values.{Asks, Tells, Part}

@@ -34,9 +34,9 @@ use Rattle.bus_model.specs.Bytes.{answers, is_busy_code}
 use Rattle.undo_model.specs.Words.{Answered}
 use Rattle.undo_model.specs.Machine as machine
 use Rattle.undo_model.specs.Wires.{number_of}
-use Rattle.undo_family.specs.Family.{bus_of}
-use Rattle.undo_family.specs.Spelled.{numbers_of}
-use Rattle.undo_family.specs.Wires.{bytes_of, reply_to, answered_from}
+use Rattle.lab_model.specs.ManagerWords.{bus_of}
+use Rattle.lab_model.specs.Spelled.{numbers_of}
+use Rattle.lab_model.specs.Wires.{bytes_of, reply_to, answered_from}
 use Rattle.lab_model.specs.Bytes.{response_bytes, response_to}
 use Rattle.lab_model.specs.Values.{Value, Asks, Tells, Part, written, parts_of, IsFrameOn}
 use Rattle.lab_model.specs.Cuts.{kept_after_parts, kept_with_parts, has_slot}

@@ -18,9 +18,9 @@ use Rattle.mctp_net.specs.declared.taken.Taken.TheVariants as taken
 use Rattle.mctp_net.specs.Assembly.{Assemblies, drop_cause, after as kept_after, message_of, IsTaken}
 use Rattle.plans.specs.declared.names.Names.{Names}
 use Rattle.bus_model.specs.Bytes.{answers, ipmb_answers, pldm_answers, is_busy_code}
-use Rattle.undo_family.specs.Family.{bus_of}
-use Rattle.undo_family.specs.Spelled.{numbers_of}
-use Rattle.undo_family.specs.Wires.{bytes_of, answered_from}
+use Rattle.lab_model.specs.ManagerWords.{bus_of}
+use Rattle.lab_model.specs.Spelled.{numbers_of}
+use Rattle.lab_model.specs.Wires.{bytes_of, answered_from}
 use Rattle.undo_model.specs.Words.{Answered, is_busy}
 use Rattle.undo_model.specs.Wires.{number_of}
 use Rattle.undo_model.specs.Machine as machine

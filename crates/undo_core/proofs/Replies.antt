@@ -11,7 +11,7 @@ use Rattle.cfg_records.specs.declared.message.Asked.{Asked}
 use Rattle.cfg_records.specs.declared.message.Asked.TheVariants.{Ipmi, Pldm}
 use Rattle.mctp_net.specs.Places.{seen}
 use Rattle.plans.specs.declared.names.Names.{Names}
-use Rattle.undo_family.specs.Family.{bus_of}
+use Rattle.lab_model.specs.ManagerWords.{bus_of}
 use Rattle.undo_model.specs.Words.{Answered, is_busy}
 use Rattle.undo_model.specs.Machine as machine
 use Rattle.lab_model.specs.ManagerSteps.{board_plans, ManagerState, sent_of, taken_or, goes_on}

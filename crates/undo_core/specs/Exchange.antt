@@ -19,9 +19,9 @@ use Rattle.bus_model.specs.Request.{Request as Heard}
 use Rattle.undo_model.specs.Words.{Answered}
 use Rattle.undo_model.specs.Machine.{Part as TaskPart, reply_of}
 use Rattle.undo_model.specs.Wires.{number_of}
-use Rattle.undo_family.specs.Family.{bus_of}
-use Rattle.undo_family.specs.Spelled.{numbers_of}
-use Rattle.undo_family.specs.Wires.{bytes_of, reply_to}
+use Rattle.lab_model.specs.ManagerWords.{bus_of}
+use Rattle.lab_model.specs.Spelled.{numbers_of}
+use Rattle.lab_model.specs.Wires.{bytes_of, reply_to}
 use Rattle.lab_model.specs.Bytes.{said}
 use Rattle.lab_model.specs.Values.{Value, Asks, Tells, Part, written, parts_of, IsFrameOn}
 use Rattle.lab_model.specs.PortSteps.{PortState, Turn, Deed, turn, spelled, stays, hears}

@@ -9,7 +9,7 @@ use Rattle.undo_model.specs.Words.{Answered, Words}
 use Rattle.undo_model.specs.Machine as machine
 use Rattle.undo_model.specs.Machine.{reply_of}
 use Rattle.undo_core.specs.declared.phase.WrongPhase.{WrongPhase}
-use Rattle.undo_family.specs.Family.{from_manager}
+use Rattle.lab_model.specs.ManagerWords.{from_manager}
 use Rattle.lab_model.specs.Values.{written, IsFrameOn}
 use Rattle.lab_model.specs.ManagerSteps.{addresses, board_plans, Sent as AllSent, Call, ManagerState, ManagerDeed, called, rests, taken_or}
 use Rattle.undo_core.specs.declared.stage.Task.{Task}

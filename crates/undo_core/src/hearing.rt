@@ -19,8 +19,8 @@ ghost use Rattle.ipmb_frame.specs.declared.message.Response.{Response as AnyResp
 ghost use Rattle.ipmb_frame.specs.Grammar.{IsResponse};
 ghost use Rattle.mctp_net.specs.declared.packet.Packet.{Packet as AnyPacket};
 ghost use Rattle.mctp_net.specs.Grammar.{IsPacket};
-ghost use Rattle.undo_family.specs.Family.{bus_of as bus_of_request};
-ghost use Rattle.undo_family.specs.Wires.{bytes_of, answered_from};
+ghost use Rattle.lab_model.specs.ManagerWords.{bus_of as bus_of_request};
+ghost use Rattle.lab_model.specs.Wires.{bytes_of, answered_from};
 ghost use Rattle.lab_model.specs.Bytes.{response_bytes};
 ghost use Rattle.lab_model.specs.ManagerSteps.{ManagerState, board_plans, hears_response, is_answer as is_answer_of, rests, hears_packet, hears_reply, is_part as is_part_of, joins as joins_packet};
 

@@ -12,8 +12,8 @@ use Rattle.undo_model.specs.TwoBuses.{Addresses}
 use Rattle.undo_model.specs.Line.{Exchange, Line}
 use Rattle.undo_model.specs.World.{BoardMay}
 use Rattle.undo_family.specs.Family.{Allows, family, answer}
-use Rattle.undo_family.specs.Wires.{asked_from}
-use Rattle.undo_family.specs.ManagerWires.{wires}
+use Rattle.lab_model.specs.Wires.{asked_from}
+use Rattle.lab_model.specs.ManagerWires.{wires}
 use Rattle.undo_family.specs.Board.{StartsValid, QuietMay, AnswersMay}
 
 -- ---- valid records

@@ -16,8 +16,8 @@ use Rattle.undo_model.specs.Family.{AllValid}
 use Rattle.undo_model.specs.World.{World, BoardMay, May}
 use Rattle.undo_model.specs.Example.{addresses, messages, quiet_messages}
 use Rattle.undo_family.specs.Family.{family, answer}
-use Rattle.undo_family.specs.Wires.{asked_from}
-use Rattle.undo_family.specs.ManagerWires.{wires}
+use Rattle.lab_model.specs.Wires.{asked_from}
+use Rattle.lab_model.specs.ManagerWires.{wires}
 use Rattle.undo_family.specs.Example.{with_others, board, with_policy, to_port, to_manager, after, EndsUndone}
 
 module _ (setup : BoardFile) (others : Records) where

@@ -35,7 +35,8 @@ use Rattle.undo_model.specs.Words.{Answered, is_busy}
 use Rattle.undo_model.specs.Family.{SetsTo}
 use Rattle.undo_model.specs.IsFamily.{Showed, IsFamily}
 use Rattle.undo_model.specs.TwoBuses.{Addresses}
-use Rattle.undo_family.specs.Family.{Allows, SetsWithin, ShowsWithin, conf_within, bus_of, from_manager, board_answer, family}
+use Rattle.lab_model.specs.ManagerWords.{bus_of, from_manager, board_answer}
+use Rattle.undo_family.specs.Family.{Allows, SetsWithin, ShowsWithin, conf_within, family}
 
 -- ---- the kinds: what holds within limits that may be none
 

@@ -1,4 +1,3 @@
 pub mod IsFamily
-pub mod Spelled
 pub mod Board
 pub mod Example

@@ -14,8 +14,8 @@ use Rattle.undo_model.specs.TwoBuses.{Addresses}
 use Rattle.undo_model.specs.Line.{Exchange, Line}
 use Rattle.undo_model.specs.World.{World, OnBus, IsHonestOn, May}
 use Rattle.undo_family.specs.Family.{family, answer}
-use Rattle.undo_family.specs.Wires.{asked_from, reply_to}
-use Rattle.undo_family.specs.ManagerWires.{wires}
+use Rattle.lab_model.specs.Wires.{asked_from, reply_to}
+use Rattle.lab_model.specs.ManagerWires.{wires}
 
 -- the records that a board's file gives are valid, and so are all that its limits allow
 pub record StartsValid (setup : BoardFile) (at : Bus → Addresses) : Type 0 where

@@ -14,8 +14,9 @@ use Rattle.undo_model.specs.Machine.{phase_of}
 use Rattle.undo_model.specs.World.{World, Happening, Start, Undo, ToManager, OnBus, AllMay, run, opening}
 use Rattle.undo_model.specs.Headline.{IsStart}
 use Rattle.undo_model.specs.Example.{addresses, messages, quiet_messages}
-use Rattle.undo_family.specs.Family.{manager_words, family}
-use Rattle.undo_family.specs.ManagerWires.{wires}
+use Rattle.lab_model.specs.ManagerWords.{manager_words}
+use Rattle.undo_family.specs.Family.{family}
+use Rattle.lab_model.specs.ManagerWires.{wires}
 
 -- the policy is 0, stay off, and the other records are these
 abbrev pub with_others : Records → Records

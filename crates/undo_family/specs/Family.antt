@@ -1,25 +1,21 @@
 -- The records of a board and its commands, as a family of kinds of record.
-use Rattle.std.specs.Prelude.{◌≡◌, ℕ, List, [], Option, Some, None, Ok, slice_get, unwrap_or}
+use Rattle.std.specs.Prelude.{◌≡◌, ℕ, List, [], Option, Some, None, Ok}
 use Rattle.two_wire.specs.declared.Bus.{Bus}
-use Rattle.two_wire.specs.declared.Bus.TheVariants.{Ipmb, Smbus}
-use Rattle.cfg_records.specs.declared.key.Key.{Key}
 use Rattle.cfg_records.specs.declared.op.Op.{Op}
 use Rattle.cfg_records.specs.declared.live.Live.{Live}
 use Rattle.cfg_records.specs.declared.message.Asked.{Asked}
-use Rattle.cfg_records.specs.declared.message.Asked.TheVariants.{Ipmi, Pldm}
-use Rattle.cfg_records.specs.declared.message.Answered.{Answered as BoardAnswer}
 use Rattle.cfg_records.specs.declared.board_file.BoardFile.{BoardFile}
 use Rattle.cfg_records.specs.Records.{Records, with_record}
 use Rattle.record_kinds.specs.declared.limits.Limits.{Limits}
-use Rattle.record_kinds.specs.Limits.{key_of, get_asked, set_asked, restorable, inverse, valid, sets, view, conf, limits_at}
+use Rattle.record_kinds.specs.Limits.{key_of, restorable, valid, sets, view, conf, limits_at}
 use Rattle.bmc_board.specs.Request.{Get, asked_by}
 use Rattle.bmc_board.specs.State.{State}
 use Rattle.bmc_board.specs.Answer.{answer_of}
 use Rattle.bmc_board.specs.Row.{Row}
-use Rattle.bmc_board.specs.Decode.{sent_by}
-use Rattle.undo_model.specs.Words.{Answered, Words}
+use Rattle.undo_model.specs.Words.{Answered}
 use Rattle.undo_model.specs.Family.{Family}
 use Rattle.undo_model.specs.TwoBuses.{Addresses}
+use Rattle.lab_model.specs.ManagerWords.{board_answer, family_answer, manager_words}
 
 -- the limits allow the value
 abbrev pub Allows : Option Limits → List ℕ → Type 0
@@ -40,41 +36,6 @@ ShowsWithin None value body = ⊥
 abbrev pub conf_within : Option Limits → List ℕ → List ℕ
 conf_within (Some limits) body = conf limits body
 conf_within None body = []
-
--- IPMI goes over IPMB, and PLDM over SMBus
-abbrev pub bus_of : Asked → Bus
-bus_of (Ipmi from net_fn lun command body) = Ipmb
-bus_of (Pldm from kind command body) = Smbus
-
--- the request from the manager, by its address on the bus of the request
-abbrev pub from_manager : (Bus → Addresses) → Asked → Asked
-from_manager at asked = sent_by (at (bus_of asked)).manager asked
-
--- an answer, in the words of the board
-abbrev pub board_answer : Answered → BoardAnswer
-board_answer a = record { code = a.code; body = a.body }
-
--- and in those of the family
-abbrev pub family_answer : BoardAnswer → Answered
-family_answer a = record { code = a.code; body = a.body }
-
--- The words of a manager with these addresses; it knows no board's file. A Get and a Set are one request each, which shows what its
--- reply shows.
-abbrev pub manager_words : (Bus → Addresses) → Words
-manager_words at = record {
-  Key = Key;
-  Op = Op;
-  key_of = key_of;
-  Asked = Asked;
-  bus_of = bus_of;
-  Series = Asked;
-  getting = λ key. from_manager at (get_asked key);
-  setting = λ op. from_manager at (set_asked op);
-  first = λ asked. asked;
-  next = λ asked bodies. None;
-  joined = λ asked bodies. unwrap_or (slice_get bodies 0) [];
-  inverse = inverse;
-}
 
 -- the family of a board with this file, for that manager
 abbrev pub family : BoardFile → (Bus → Addresses) → Family

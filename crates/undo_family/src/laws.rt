@@ -12,9 +12,9 @@ ghost use Rattle.undo_model.specs.RecordsRun.{RecordsStand};
 ghost use Rattle.undo_model.specs.Resume.{GoesOnAlike};
 ghost use Rattle.undo_model.specs.Clean.{AnswersByRow, AlwaysRunsClean};
 ghost use Rattle.undo_model.specs.CleanBuses.{AlwaysRunsOverBuses};
-ghost use Rattle.undo_family.specs.Family.{manager_words, family, answer};
-ghost use Rattle.undo_family.specs.ManagerWires.{wires};
-ghost use Rattle.undo_family.specs.Spelled.{AreSpelled};
+ghost use Rattle.lab_model.specs.ManagerWords.{manager_words};
+ghost use Rattle.undo_family.specs.Family.{family, answer};
+ghost use Rattle.lab_model.specs.ManagerWires.{wires};
 ghost use Rattle.undo_family.specs.Board.{StartsValid, QuietMay, AnswersMay};
 
 /// The kinds of record and the command relation meet the laws of a family, whatever the board's file is.
@@ -74,12 +74,6 @@ pub fn plans_run_clean()
 pub fn plans_run_clean_over_buses()
     ensures messages { (setup : BoardFile) (at : Bus → Addresses) → AlwaysRunsOverBuses (family setup at) (in_messages at) (messages_come at) (wires at) (answer setup) }
     ensures packets { (setup : BoardFile) (at : Bus → Addresses) (split : List ℕ → List Packet) → IsCutting split → AlwaysRunsOverBuses (family setup at) (with_packets at split) (packets_come at split) (wires at) (answer setup) }
-{}
-
-/// The manager's requests are requests on their bus, IPMI on IPMB and PLDM on SMBus, each under its number; and a reply to one is a reply
-/// to it, with the answer's code.
-pub fn bytes_are_of_the_buses()
-    ensures { (at : Bus → Addresses) → AreSpelled at }
 {}
 
 /// A board starts with valid records, as the other theorems ask, and its limits allow only such.

@@ -4,7 +4,7 @@ use Rattle.cfg_records.specs.declared.message.Asked.{Asked}
 use Rattle.lab_model.specs.Values.{written, IsFrameOn}
 use Rattle.lab_model.specs.ManagerSteps.{values_of}
 use Rattle.undo_model.specs.Machine.{count_of}
-use Rattle.undo_family.specs.Family.{bus_of as bus_of_request}
+use Rattle.lab_model.specs.ManagerWords.{bus_of as bus_of_request}
 use Rattle.undo_core.specs.Counted.{counts_of}
 use Rattle.undo_core.proofs.sending.frames_of.Goals as goal
 

@@ -4,7 +4,7 @@ use Rattle.undo_model.specs.TwoBuses.{in_messages, with_packets, messages_come, 
 use Rattle.undo_model.proofs.TwoBuses.{message_lines, packet_lines, message_lines_lose_nothing, packet_lines_lose_nothing}
 use Rattle.undo_model.proofs.CleanBuses.{always_runs_over_buses}
 use Rattle.undo_family.specs.Family.{family, answer}
-use Rattle.undo_family.specs.ManagerWires.{wires}
+use Rattle.lab_model.specs.ManagerWires.{wires}
 use Rattle.undo_family.proofs.IsFamily.{is_family}
 
 pub returns-clause-messages : goal.returns-clause-messages

@@ -3,7 +3,7 @@ use Rattle.undo_model.specs.TwoBuses.{in_messages, with_packets}
 use Rattle.undo_model.proofs.TwoBuses.{message_lines, packet_lines}
 use Rattle.undo_model.proofs.Headline.{stops_only_if_told}
 use Rattle.undo_family.specs.Family.{family}
-use Rattle.undo_family.specs.ManagerWires.{wires}
+use Rattle.lab_model.specs.ManagerWires.{wires}
 use Rattle.undo_family.proofs.IsFamily.{is_family}
 
 pub returns-clause-messages : goal.returns-clause-messages

@@ -3,7 +3,7 @@ use Rattle.std.specs.Prelude.{IsSome}
 use Rattle.std.proofs.lemmas.Bool.{true≢false}
 use Rattle.undo_model.specs.Words.{Answered, is_busy}
 use Rattle.bus_model.specs.Bytes.{ipmb_answers}
-use Rattle.undo_family.specs.Wires.{bytes_of}
+use Rattle.lab_model.specs.Wires.{bytes_of}
 use Rattle.lab_model.specs.Bytes.{response_bytes}
 use Rattle.lab_model.specs.ManagerSteps.{is_answer}
 use Rattle.undo_core.specs.Shown.{own, taken_if}

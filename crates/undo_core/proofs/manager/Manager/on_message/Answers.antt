@@ -3,7 +3,7 @@ use Rattle.std.specs.Prelude.{IsSome}
 use Rattle.std.proofs.lemmas.Bool.{true≢false}
 use Rattle.undo_model.specs.Words.{Answered, is_busy}
 use Rattle.bus_model.specs.Bytes.{pldm_answers}
-use Rattle.undo_family.specs.Wires.{bytes_of}
+use Rattle.lab_model.specs.Wires.{bytes_of}
 use Rattle.undo_core.specs.Shown.{own, Does}
 use Rattle.undo_core.proofs.Heard.{heard_message, no_message}
 use Rattle.undo_core.proofs.manager.Manager.on_message.Goals as goal

@@ -4,7 +4,7 @@ use Rattle.cfg_records.specs.declared.op.Op.{Op}
 use Rattle.cfg_records.specs.declared.message.Asked.{Asked}
 use Rattle.cfg_records.specs.declared.message.Asked.TheVariants.{Ipmi, Pldm}
 use Rattle.plans.specs.declared.names.Names.{Names}
-use Rattle.undo_family.specs.Family.{bus_of}
+use Rattle.lab_model.specs.ManagerWords.{bus_of}
 use Rattle.undo_model.specs.Machine as machine
 use Rattle.undo_model.specs.Machine.{Counts, count_of}
 use Rattle.lab_model.specs.ManagerSteps.{board_plans, values_of, Sent as AllSent, sent_of}

@@ -11,8 +11,8 @@ use Rattle.bmc_board.proofs.Decoded.{gets_are_read, sets_are_read}
 use Rattle.undo_model.specs.Words.{Answered}
 use Rattle.undo_model.specs.TwoBuses.{Addresses}
 use Rattle.undo_model.specs.Wires.{IsSeries, IsOf, IsMade}
-use Rattle.undo_family.specs.Family.{bus_of, from_manager, manager_words}
-use Rattle.undo_family.specs.Wires.{bytes_of, asked_from, reply_to, answered_from}
+use Rattle.lab_model.specs.ManagerWords.{bus_of, from_manager, manager_words}
+use Rattle.lab_model.specs.Wires.{bytes_of, asked_from, reply_to, answered_from}
 
 -- the request is the manager's, to logical unit 0
 abbrev pub IsManagers : (Bus → Addresses) → Asked → Type 0

@@ -7,10 +7,10 @@ use Rattle.bus_model.specs.Bytes.{ipmb_reply, pldm_reply, IsRequestOn, IsReplyOn
 use Rattle.undo_model.specs.Words.{Answered}
 use Rattle.undo_model.specs.TwoBuses.{Addresses}
 use Rattle.undo_model.specs.Wires.{number_of}
-use Rattle.undo_family.specs.Family.{bus_of}
-use Rattle.undo_family.specs.Wires.{bytes_of, reply_to}
-use Rattle.undo_family.specs.WireLaws.{IsManagers, managers, upper, lower}
-use Rattle.undo_family.specs.Spelled.{numbers_of, AreSpelled}
+use Rattle.lab_model.specs.ManagerWords.{bus_of}
+use Rattle.lab_model.specs.Wires.{bytes_of, reply_to}
+use Rattle.lab_model.specs.WireLaws.{IsManagers, managers, upper, lower}
+use Rattle.lab_model.specs.Spelled.{numbers_of, AreSpelled}
 
 below_4 : (lun : ℕ) → lun ≡ 0 → lun < 4
 below_4 lun is = subst (λ (n : ℕ). n < 4) (sym is) (lit< tt)

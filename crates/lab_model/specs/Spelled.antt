@@ -9,8 +9,8 @@ use Rattle.bus_model.specs.Bytes.{IsRequestOn, IsReplyOn}
 use Rattle.undo_model.specs.Words.{Answered}
 use Rattle.undo_model.specs.TwoBuses.{Addresses}
 use Rattle.undo_model.specs.Wires.{number_of, IsMade}
-use Rattle.undo_family.specs.Family.{bus_of, manager_words}
-use Rattle.undo_family.specs.Wires.{bytes_of, reply_to}
+use Rattle.lab_model.specs.ManagerWords.{bus_of, manager_words}
+use Rattle.lab_model.specs.Wires.{bytes_of, reply_to}
 
 -- sequence numbers on IPMB, instances of PLDM on SMBus
 abbrev pub numbers_of : Bus → Numbers

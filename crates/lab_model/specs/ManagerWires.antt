@@ -2,9 +2,9 @@
 use Rattle.two_wire.specs.declared.Bus.{Bus}
 use Rattle.undo_model.specs.TwoBuses.{Addresses}
 use Rattle.undo_model.specs.Wires.{Wires}
-use Rattle.undo_family.specs.Family.{manager_words}
-use Rattle.undo_family.specs.Wires.{bytes_of, asked_from, reply_to, answered_from}
-use Rattle.undo_family.specs.WireLaws.{managers, read_back, reply_read}
+use Rattle.lab_model.specs.ManagerWords.{manager_words}
+use Rattle.lab_model.specs.Wires.{bytes_of, asked_from, reply_to, answered_from}
+use Rattle.lab_model.specs.WireLaws.{managers, read_back, reply_read}
 
 -- how the manager's requests and the board's replies are bytes
 abbrev pub wires : (at : Bus → Addresses) → Wires (manager_words at)
