@@ -5,7 +5,7 @@ use Rattle.cfg_records.specs.declared.op.Op.{Op}
 use Rattle.schedules.specs.declared.event.Event.{Event}
 use Rattle.lab.specs.declared.fault.Fault.{Fault}
 use Rattle.lab.specs.Played.{Ending, Whole, Stops}
-use Rattle.chart_text.specs.declared.note.Note.{Note}
+use Rattle.lab_events.specs.declared.note.Note.{Note}
 use Rattle.lab_play.specs.Ends.{IsEnding, Plays}
 use Rattle.lab_play.specs.Noted.{NotesPlay}
 use Rattle.lab_play.specs.declared.played.Played.{Played}

@@ -12,8 +12,8 @@ use Rattle.schedules.specs.declared.event.Event.TheVariants as event
 use Rattle.lab_model.specs.Lab.{opening}
 use Rattle.lab.specs.Meaning.{Bench, lab_names}
 use Rattle.lab.specs.Played.{plans, Ending, Whole, Stops}
-use Rattle.chart_text.specs.declared.note.Came.{Came}
-use Rattle.chart_text.specs.declared.note.Note.{Note}
+use Rattle.lab_events.specs.declared.note.Came.{Came}
+use Rattle.lab_events.specs.declared.note.Note.{Note}
 use Rattle.chart_text.specs.Columns.{at_most, in_column}
 use Rattle.chart_text.specs.Arrivals.{delivers, came_at, lost_from}
 use Rattle.chart_text.specs.Chart.{call_cell, comes_cell, count_of, sends_cell, done_cell, head_line, event_line, chart_of}

@@ -8,7 +8,7 @@ use Rattle.schedules.specs.declared.event.Event.{Event}
 use Rattle.lab.specs.Played.{Ending, Whole, Stops, IsPlayed}
 use Rattle.lab.specs.Shown.{fault_of}
 use Rattle.lab_stands.specs.Plays.{StandsIfOwn}
-use Rattle.chart_text.specs.declared.note.Note.{Note}
+use Rattle.lab_events.specs.declared.note.Note.{Note}
 use Rattle.chart_text.specs.Chart.{chart_of}
 use Rattle.lab_events.specs.Shown.{own_bench}
 use Rattle.lab_play.specs.Noted.{AreNotes}

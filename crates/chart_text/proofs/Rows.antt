@@ -3,7 +3,7 @@ use Rattle.std.proofs.Common.{◌≡◌, ℕ, ◌+◌, ◌<◌, arith, List, [],
 use Rattle.std.proofs.lemmas.List.{take_more, map-append, flat_map_more, length-take-le}
 use Rattle.std.specs.List.{flat_map, enumerate_from}
 use Rattle.line_text.specs.Cuts.{ended}
-use Rattle.chart_text.specs.declared.note.Note.{Note}
+use Rattle.lab_events.specs.declared.note.Note.{Note}
 use Rattle.chart_text.specs.Chart.{event_line}
 
 -- one more element has the next number

@@ -6,7 +6,7 @@ use Rattle.std.proofs.lemmas.List.Elements.{All-cons}
 use Rattle.std.specs.List.{All, enumerate_from}
 use Rattle.std.specs.Fmt.{decimal}
 use Rattle.undo_core.specs.PhaseNames.{phase_name}
-use Rattle.chart_text.specs.declared.note.Note.{Note}
+use Rattle.lab_events.specs.declared.note.Note.{Note}
 use Rattle.chart_text.specs.Columns.{at_most, in_column}
 use Rattle.chart_text.specs.Chart.{head_line, event_line, chart_lines, call_cell, comes_cell, sends_cell, done_cell}
 

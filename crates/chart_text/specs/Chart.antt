@@ -14,8 +14,8 @@ use Rattle.bmc_core.specs.declared.out.Done.TheVariants as done
 use Rattle.undo_core.specs.PhaseNames.{phase_name}
 use Rattle.chart_text.specs.declared.cells.Side.{Side}
 use Rattle.chart_text.specs.declared.cells.Side.TheVariants.{Manager, Controller}
-use Rattle.chart_text.specs.declared.note.Came.{Came}
-use Rattle.chart_text.specs.declared.note.Note.{Note}
+use Rattle.lab_events.specs.declared.note.Came.{Came}
+use Rattle.lab_events.specs.declared.note.Note.{Note}
 use Rattle.chart_text.specs.Columns.{at_most, in_column}
 use Rattle.chart_text.specs.Arrivals.{came_at, lost_from}
 

@@ -1,9 +1,9 @@
 //! Which frames came to an end.
 ghost use Rattle.std.specs.Prelude.{◌≡◌, ◌-◌, ◌==◌, ◌||◌, [], ℕ, List, false, get_or, OnOk, IfOk, IfSome, IfNone};
-ghost use Rattle.chart_text.specs.declared.note.Note.{Note as AnyNote};
+ghost use Rattle.lab_events.specs.declared.note.Note.{Note as AnyNote};
 ghost use Rattle.chart_text.specs.Arrivals.{delivers, lost_from, Holds};
 
-use crate::note::Note;
+use lab_events::Note;
 use schedules::Event;
 use std::alloc::{AllocError, Global};
 

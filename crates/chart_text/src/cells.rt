@@ -1,12 +1,12 @@
 //! What the columns of an event hold.
 ghost use Rattle.std.specs.Prelude.{◌≡◌, ◌++◌, ◌-◌, List, OnOk, IfOk, string_bytes};
 ghost use Rattle.chart_text.specs.Chart.{call_word, call_cell, arrow, word_if, came_cell, comes_cell, more_text, lost_text, sent_cell, sends_cell, done_word, done_cell};
-ghost use Rattle.chart_text.specs.declared.note.Note.{Note as AnyNote};
+ghost use Rattle.lab_events.specs.declared.note.Note.{Note as AnyNote};
 ghost use Rattle.chart_text.specs.Arrivals.{Holds};
 
 use crate::arrivals::Arrivals;
-use crate::note::{Came, Note};
 use bmc_core::Done;
+use lab_events::{Came, Note};
 use schedules::{Call, Event};
 use std::alloc::{AllocError, Global};
 use two_wire::Bus;

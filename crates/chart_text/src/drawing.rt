@@ -1,14 +1,14 @@
 //! The chart of a play.
 ghost use Rattle.std.specs.Prelude.{◌≡◌, ◌++◌, ◌+◌, ℕ, List, take, OnOk, IfOk, string_bytes};
 ghost use Rattle.line_text.specs.Cuts.{ended};
-ghost use Rattle.chart_text.specs.declared.note.Note.{Note as AnyNote};
+ghost use Rattle.lab_events.specs.declared.note.Note.{Note as AnyNote};
 ghost use Rattle.chart_text.specs.Arrivals.{Holds};
 ghost use Rattle.chart_text.specs.Chart.{event_line, chart_of};
 
 use crate::arrivals::Arrivals;
 use crate::cells::{call_cell, comes_cell, done_cell, sends_cell};
 use crate::columns::{push_at_most, push_column};
-use crate::note::Note;
+use lab_events::Note;
 use std::alloc::{AllocError, Global};
 
 /// Adds the line of the event of this place, counted from 1, before which those came.

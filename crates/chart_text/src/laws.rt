@@ -1,7 +1,7 @@
 //! What holds of each chart.
 ghost use Rattle.std.specs.Prelude.{List, length, ◌≤◌};
 ghost use Rattle.std.specs.List.{All};
-ghost use Rattle.chart_text.specs.declared.note.Note.{Note as AnyNote};
+ghost use Rattle.lab_events.specs.declared.note.Note.{Note as AnyNote};
 ghost use Rattle.chart_text.specs.Chart.{chart_lines};
 
 /// No line is longer than eighty columns.

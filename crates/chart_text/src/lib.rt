@@ -1,4 +1,4 @@
-//! What is noted of each event of a play, and the chart that these notes are drawn as.
+//! The chart that the notes of a play are drawn as.
 #![tactic(auto)]
 
 mod arrivals;
@@ -6,7 +6,5 @@ mod cells;
 mod columns;
 mod drawing;
 pub mod laws;
-mod note;
 
 pub use drawing::chart;
-pub use note::{Came, Note};

@@ -4,6 +4,7 @@
 mod calls;
 mod lab_state;
 mod names;
+mod note;
 mod noted;
 mod port_side;
 mod step;
@@ -11,4 +12,5 @@ mod told;
 
 pub use lab_state::Lab;
 pub use names::lab_names;
+pub use note::{Came, Note};
 pub use step::Refused;

@@ -7,8 +7,8 @@ ghost use Rattle.lab_events.specs.Shown.{Shows};
 ghost use Rattle.lab_events.specs.Coming.{comes, comes_at, done_in};
 
 use crate::lab_state::Lab;
+use crate::note::Came;
 use bmc_core::Done;
-use chart_text::Came;
 use lab::SentFrame;
 use schedules::Event;
 use two_wire::Bus;

@@ -10,7 +10,7 @@ use Rattle.lab_model.specs.Lab.{LabFrame, Lab as LabModel, opening}
 use Rattle.schedules.specs.declared.event.Event.{Event}
 use Rattle.lab.specs.Meaning.{lab_names, Bench}
 use Rattle.lab.specs.Played.{plans, happens, after}
-use Rattle.chart_text.specs.declared.note.Note.{Note}
+use Rattle.lab_events.specs.declared.note.Note.{Note}
 use Rattle.lab_events.specs.declared.lab_state.Lab.{Lab}
 use Rattle.lab_play.specs.declared.played.Played.{Played}
 use Rattle.lab_play.specs.declared.run.Halt.{Halt}

@@ -12,8 +12,8 @@ use Rattle.undo_core.specs.Phases as phases
 use Rattle.schedules.specs.declared.event.Event.{Event}
 use Rattle.lab.specs.Meaning.{lab_names, Bench}
 use Rattle.lab.specs.Played.{plans, happens}
-use Rattle.chart_text.specs.declared.note.Came.{Came}
-use Rattle.chart_text.specs.declared.note.Note.{Note}
+use Rattle.lab_events.specs.declared.note.Came.{Came}
+use Rattle.lab_events.specs.declared.note.Note.{Note}
 use Rattle.lab_events.specs.declared.lab_state.Lab.{Lab}
 use Rattle.lab_play.specs.declared.run.Halt.{Halt}
 use Rattle.lab_events.specs.declared.step.Refused.{Refused}

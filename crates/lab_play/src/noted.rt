@@ -6,8 +6,7 @@ ghost use Rattle.lab_play.specs.Runs.{Runs};
 ghost use Rattle.lab_play.specs.Noted.{NotesStep, NotesRun};
 
 use crate::run::Halt;
-use chart_text::Note;
-use lab_events::{Lab, Refused};
+use lab_events::{Lab, Note, Refused};
 use schedules::Event;
 
 /// One event happens in a lab, and its note is added. On a fault nothing changes.

@@ -14,9 +14,8 @@ ghost use Rattle.lab_play.specs.Ends.{Tells, Plays, Begins, given, changed_in, i
 use crate::noted::run_noted;
 use crate::run::{Halt, run};
 use cfg_records::{BoardFile, Key, PlainStore, Store, Value};
-use chart_text::Note;
 use lab::{Fault, SentFrame};
-use lab_events::{Lab, Refused};
+use lab_events::{Lab, Note, Refused};
 use plans::{Plan, UndoList};
 use schedules::Event;
 use std::alloc::{AllocError, Global};

@@ -3,7 +3,7 @@ use Rattle.two_wire.specs.declared.Bus.{Bus}
 use Rattle.lab_model.specs.Faults.{begun_on}
 use Rattle.lab.specs.Meaning.{lab_names}
 use Rattle.lab.specs.Played.{plans}
-use Rattle.chart_text.specs.declared.note.Came.{Came}
+use Rattle.lab_events.specs.declared.note.Came.{Came}
 use Rattle.lab_events.specs.Shown.{IsSentFrame}
 use Rattle.lab_events.specs.Coming.{comes}
 use Rattle.lab_events.proofs.Sent.{beside, none_beside}
