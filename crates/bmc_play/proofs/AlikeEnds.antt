@@ -5,11 +5,11 @@ use Rattle.cfg_records.specs.declared.board_file.BoardFile.{BoardFile}
 use Rattle.cfg_records.specs.declared.op.Op.{Op}
 use Rattle.lab_model.specs.Faults.{Fault as LabFault}
 use Rattle.lab_model.specs.Faults as faults
-use Rattle.lab.specs.declared.fault.Fault.{Fault}
-use Rattle.lab.specs.declared.fault.Fault.TheVariants as fault
-use Rattle.lab.specs.Meaning.{Bench}
-use Rattle.lab.specs.Played.{Ending, Whole, Stops, IsPlayed}
-use Rattle.lab.specs.Shown.{fault_of}
+use Rattle.lab_events.specs.declared.fault.Fault.{Fault}
+use Rattle.lab_events.specs.declared.fault.Fault.TheVariants as fault
+use Rattle.lab_model.specs.Meaning.{Bench}
+use Rattle.lab_model.specs.Played.{Ending, Whole, Stops, IsPlayed}
+use Rattle.lab_events.specs.FramesShown.{fault_of}
 use Rattle.lab_events.specs.Shown.{own_bench}
 use Rattle.play_text.specs.declared.account.Account.{Account}
 use Rattle.play_text.specs.declared.account.Stopped.{Stopped}

@@ -3,8 +3,8 @@ use Rattle.std.proofs.Common.{◌≡◌, ℕ, ◌+◌, List, length, Option, Som
 use Rattle.cfg_records.specs.declared.board_file.BoardFile.{BoardFile}
 use Rattle.cfg_records.specs.declared.op.Op.{Op}
 use Rattle.schedules.specs.declared.event.Event.{Event}
-use Rattle.lab.specs.declared.fault.Fault.{Fault}
-use Rattle.lab.specs.Played.{Ending, Whole, Stops}
+use Rattle.lab_events.specs.declared.fault.Fault.{Fault}
+use Rattle.lab_model.specs.Played.{Ending, Whole, Stops}
 use Rattle.lab_events.specs.declared.note.Note.{Note}
 use Rattle.lab_play.specs.Ends.{IsEnding, Plays}
 use Rattle.lab_play.specs.Noted.{NotesPlay}

@@ -18,12 +18,12 @@ use Rattle.undo_core.specs.Shown.{own, backs}
 use Rattle.undo_text.specs.UndoText.{line_of}
 use Rattle.lab_model.specs.declared.marks.Mark.{Mark}
 use Rattle.lab_model.specs.Lab.{LabFrame}
-use Rattle.lab.specs.declared.frames.Way.{Way}
-use Rattle.lab.specs.declared.frames.Way.TheVariants as way
-use Rattle.lab.specs.declared.frames.SentFrame.{SentFrame}
-use Rattle.lab.specs.Meaning.{lab_names}
-use Rattle.lab.specs.Played.{Told, Ending, Whole, Stops}
-use Rattle.lab.specs.Shown.{way_of}
+use Rattle.lab_events.specs.declared.frames.Way.{Way}
+use Rattle.lab_events.specs.declared.frames.Way.TheVariants as way
+use Rattle.lab_events.specs.declared.frames.SentFrame.{SentFrame}
+use Rattle.lab_model.specs.Meaning.{lab_names}
+use Rattle.lab_model.specs.Played.{Told, Ending, Whole, Stops}
+use Rattle.lab_events.specs.FramesShown.{way_of}
 use Rattle.lab_events.specs.Shown.{IsSentFrame, own_bench}
 use Rattle.lab_play.specs.Ends.{is_value}
 use Rattle.play_text.specs.declared.account.Account.{Account}

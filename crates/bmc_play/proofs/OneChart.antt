@@ -10,8 +10,8 @@ use Rattle.undo_core.specs.PhaseNames.{phase_name}
 use Rattle.schedules.specs.declared.event.Event.{Event}
 use Rattle.schedules.specs.declared.event.Event.TheVariants as event
 use Rattle.lab_model.specs.Lab.{opening}
-use Rattle.lab.specs.Meaning.{Bench, lab_names}
-use Rattle.lab.specs.Played.{plans, Ending, Whole, Stops}
+use Rattle.lab_model.specs.Meaning.{Bench, lab_names}
+use Rattle.lab_model.specs.Played.{plans, Ending, Whole, Stops}
 use Rattle.lab_events.specs.declared.note.Came.{Came}
 use Rattle.lab_events.specs.declared.note.Note.{Note}
 use Rattle.chart_text.specs.Columns.{at_most, in_column}

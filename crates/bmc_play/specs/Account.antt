@@ -4,9 +4,9 @@ use Rattle.std.specs.List.{AllZip}
 use Rattle.cfg_records.specs.Records.{Pair, KeysDiffer, records_of}
 use Rattle.undo_core.specs.Phases.{phase_of}
 use Rattle.undo_core.specs.Shown.{backs}
-use Rattle.lab.specs.Meaning.{lab_names}
-use Rattle.lab.specs.Played.{Told, Ending, Whole, Stops}
-use Rattle.lab.specs.Shown.{fault_of}
+use Rattle.lab_model.specs.Meaning.{lab_names}
+use Rattle.lab_model.specs.Played.{Told, Ending, Whole, Stops}
+use Rattle.lab_events.specs.FramesShown.{fault_of}
 use Rattle.lab_events.specs.Shown.{IsSentFrame}
 use Rattle.lab_play.specs.Ends.{changed_in}
 use Rattle.play_text.specs.declared.account.Account.{Account}

@@ -5,8 +5,8 @@ use Rattle.line_text.specs.Cuts.{ended}
 use Rattle.cfg_records.specs.declared.board_file.BoardFile.{BoardFile}
 use Rattle.cfg_records.specs.declared.op.Op.{Op}
 use Rattle.schedules.specs.declared.event.Event.{Event}
-use Rattle.lab.specs.Played.{Ending, Whole, Stops, IsPlayed}
-use Rattle.lab.specs.Shown.{fault_of}
+use Rattle.lab_model.specs.Played.{Ending, Whole, Stops, IsPlayed}
+use Rattle.lab_events.specs.FramesShown.{fault_of}
 use Rattle.lab_stands.specs.Plays.{StandsIfOwn}
 use Rattle.lab_events.specs.declared.note.Note.{Note}
 use Rattle.chart_text.specs.Chart.{chart_of}

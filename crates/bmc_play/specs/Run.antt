@@ -9,7 +9,7 @@ use Rattle.play_text.specs.declared.inputs.InputFault.TheVariants as fault
 use Rattle.play_text.specs.declared.account.Account.{Account}
 use Rattle.play_text.specs.Inputs.{AreRead, input_fault_name}
 use Rattle.play_text.specs.Account.{text_of}
-use Rattle.lab.specs.Played.{Ending, IsPlayed}
+use Rattle.lab_model.specs.Played.{Ending, IsPlayed}
 use Rattle.lab_stands.specs.Plays.{StandsIfOwn}
 use Rattle.lab_events.specs.Shown.{own_bench}
 use Rattle.bmc_lab.specs.declared.console.Stream.TheVariants.{Output, Error}

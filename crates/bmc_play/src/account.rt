@@ -1,6 +1,6 @@
 //! What is said of a lab that was played.
 ghost use Rattle.std.specs.Prelude.{◌≡◌, IfOk, Option, None, Some, string_bytes};
-ghost use Rattle.lab.specs.Played.{Told};
+ghost use Rattle.lab_model.specs.Played.{Told};
 ghost use Rattle.lab_play.specs.Ends.{Tells};
 ghost use Rattle.bmc_lab.specs.declared.console.Stream.TheVariants.{Output};
 ghost use Rattle.play_text.specs.Account.{text_of};

@@ -10,14 +10,14 @@ ghost use Rattle.bmc_play.specs.Run.{tells_of, Says};
 pub fn charts_end_as_lines()
     ensures { (inputs : Inputs) → EndAlike inputs }
 {
-    lab::one_ending();
+    lab_model::laws::one_ending();
 }
 
 /// The inputs of a play determine its text and its status, in lines and drawn.
 pub fn one_text()
     ensures { (shown : Shown) → OneText (tells_of shown) }
 {
-    lab::one_ending();
+    lab_model::laws::one_ending();
 }
 
 /// Three texts determine what a run says of them, on which stream and with which status: the text of their play, or the line of the

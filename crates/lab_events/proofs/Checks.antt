@@ -4,7 +4,7 @@ use Rattle.two_wire.specs.declared.Bus.{Bus}
 use Rattle.plans.specs.declared.names.Names.{Names}
 use Rattle.lab_model.specs.Lab.{Lab}
 use Rattle.lab_model.specs.Faults.{Fault, Changing, Impersonates, Room, Check, check, first_of, is_own, is_full}
-use Rattle.lab.specs.Played.{plans}
+use Rattle.lab_model.specs.Played.{plans}
 
 -- the first of two is the first of three
 pub by_two : (f g h : Fault) (a b d : Bool) (k : Fault) → first_of (check f a ∷ check g b ∷ []) ≡ Some k → first_of (check f a ∷ check g b ∷ check h d ∷ []) ≡ Some k

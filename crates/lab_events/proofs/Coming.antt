@@ -8,8 +8,8 @@ use Rattle.lab_model.specs.Faults.{NoFrame, first_of, delivery}
 use Rattle.bmc_core.specs.declared.out.Done.{Done}
 use Rattle.schedules.specs.declared.event.Event.{Event}
 use Rattle.schedules.specs.declared.event.Event.TheVariants as event
-use Rattle.lab.specs.declared.frames.SentFrame.{SentFrame}
-use Rattle.lab.specs.Played.{plans, fault_at}
+use Rattle.lab_events.specs.declared.frames.SentFrame.{SentFrame}
+use Rattle.lab_model.specs.Played.{plans, fault_at}
 use Rattle.lab_events.specs.declared.lab_state.Lab.{Lab}
 use Rattle.lab_events.specs.Shown.{Shows, IsSentFrame, own_bench}
 use Rattle.lab_events.specs.Hearing.{Did, done_on}

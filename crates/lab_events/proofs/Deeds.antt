@@ -31,7 +31,7 @@ use Rattle.bmc_core.specs.declared.out.Reason.{Reason}
 use Rattle.bmc_core.specs.declared.out.Reason.TheVariants.{NotOurs, NotRequest}
 use Rattle.bmc_core.specs.IpmbHeard.{IsHeard}
 use Rattle.bmc_core.specs.IpmbShown.{deed_of}
-use Rattle.lab.specs.Played.{plans}
+use Rattle.lab_model.specs.Played.{plans}
 use Rattle.lab_events.specs.Hearing.{heard_at}
 
 -- no window was forgotten, and the port is where it was

@@ -2,8 +2,8 @@
 use Rattle.std.proofs.Common.{List, [], ◌∷◌}
 use Rattle.std.specs.List.{AllZip}
 use Rattle.lab_model.specs.Lab.{LabFrame}
-use Rattle.lab.specs.declared.frames.SentFrame.{SentFrame}
-use Rattle.lab.specs.Shown.{IsFrame}
+use Rattle.lab_events.specs.declared.frames.SentFrame.{SentFrame}
+use Rattle.lab_events.specs.FramesShown.{IsFrame}
 use Rattle.lab_events.specs.Shown.{IsSentFrame}
 
 -- each was sent so

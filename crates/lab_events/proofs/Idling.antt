@@ -11,7 +11,7 @@ use Rattle.bmc_core.specs.IpmbShown as ipmb
 use Rattle.bmc_core.specs.SmbusShown as smbus
 use Rattle.lab_model.specs.PortSteps.{idles}
 use Rattle.lab_model.specs.Lab.{Lab as LabModel, idles_on, with_port}
-use Rattle.lab.specs.Played.{plans}
+use Rattle.lab_model.specs.Played.{plans}
 use Rattle.lab_events.specs.declared.lab_state.Lab.{Lab}
 use Rattle.lab_events.specs.Shown.{Shows, idles_in}
 

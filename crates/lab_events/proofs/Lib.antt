@@ -1,3 +1,6 @@
+pub mod Deliveries
+pub mod FirstFaults
+pub mod Sending
 pub mod Frames
 pub mod Checks
 pub mod Idling

@@ -24,11 +24,11 @@ use Rattle.undo_core.specs.declared.sending.Sent.{Sent}
 use Rattle.undo_core.specs.declared.phase.WrongPhase.{WrongPhase}
 use Rattle.undo_core.specs.Shown as manager
 use Rattle.undo_core.specs.Shown.{IsSent, Does, IsCalled}
-use Rattle.lab.specs.declared.frames.Way.TheVariants as way
-use Rattle.lab.specs.declared.frames.SentFrame.{SentFrame}
-use Rattle.lab.specs.Shown.{sent_as}
-use Rattle.lab.specs.Meaning.{lab_names}
-use Rattle.lab.specs.Played.{plans}
+use Rattle.lab_events.specs.declared.frames.Way.TheVariants as way
+use Rattle.lab_events.specs.declared.frames.SentFrame.{SentFrame}
+use Rattle.lab_events.specs.FramesShown.{sent_as}
+use Rattle.lab_model.specs.Meaning.{lab_names}
+use Rattle.lab_model.specs.Played.{plans}
 use Rattle.lab_events.specs.declared.lab_state.Lab.{Lab}
 use Rattle.lab_events.specs.Shown.{Shows, IsSentFrame, idles_in}
 use Rattle.lab_events.proofs.Sent.{beside, none_beside, frames_shown}

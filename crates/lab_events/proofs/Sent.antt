@@ -9,9 +9,9 @@ use Rattle.lab_model.specs.declared.marks.Mark.{Mark}
 use Rattle.lab_model.specs.Values.{Value, written, IsFrameOn}
 use Rattle.lab_model.specs.Lab.{LabFrame, Lab as LabModel, frame_now, idles_on, with_frames}
 use Rattle.lab_model.specs.Marks.{HasMark}
-use Rattle.lab.specs.declared.frames.Way.{Way}
-use Rattle.lab.specs.Shown.{way_of, sent_as}
-use Rattle.lab.specs.Played.{plans}
+use Rattle.lab_events.specs.declared.frames.Way.{Way}
+use Rattle.lab_events.specs.FramesShown.{way_of, sent_as}
+use Rattle.lab_model.specs.Played.{plans}
 use Rattle.lab_events.specs.declared.lab_state.Lab.{Lab}
 use Rattle.lab_events.specs.Shown.{Shows, IsSentFrame, idles_in}
 

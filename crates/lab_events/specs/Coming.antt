@@ -5,7 +5,7 @@ use Rattle.lab_model.specs.Faults.{begun_on}
 use Rattle.bmc_core.specs.declared.out.Done.{Done}
 use Rattle.schedules.specs.declared.event.Event.{Event}
 use Rattle.schedules.specs.declared.event.Event.TheVariants as event
-use Rattle.lab.specs.Played.{plans}
+use Rattle.lab_model.specs.Played.{plans}
 use Rattle.lab_events.specs.declared.note.Came.{Came}
 use Rattle.lab_events.specs.declared.lab_state.Lab.{Lab}
 use Rattle.lab_events.specs.Hearing.{done_on}

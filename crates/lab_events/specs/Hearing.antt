@@ -18,7 +18,7 @@ use Rattle.bmc_core.specs.IpmbShown as ipmb
 use Rattle.bmc_core.specs.SmbusHeard as smbus
 use Rattle.schedules.specs.declared.event.Event.{Event}
 use Rattle.schedules.specs.declared.event.Event.TheVariants as event
-use Rattle.lab.specs.Played.{plans}
+use Rattle.lab_model.specs.Played.{plans}
 use Rattle.lab_events.specs.declared.lab_state.Lab.{Lab}
 use Rattle.lab_events.specs.Shown.{Shows}
 

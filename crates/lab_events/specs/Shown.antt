@@ -15,10 +15,10 @@ use Rattle.bmc_core.specs.IpmbShown as ipmb
 use Rattle.bmc_core.specs.SmbusShown as smbus
 use Rattle.lab_model.specs.Values.{IsFrameOn}
 use Rattle.undo_core.specs.Shown as manager
-use Rattle.lab.specs.declared.frames.SentFrame.{SentFrame}
-use Rattle.lab.specs.Meaning.{lab_names, Bench}
-use Rattle.lab.specs.Played.{plans, fault_at, happens}
-use Rattle.lab.specs.Shown.{IsFrame, fault_of}
+use Rattle.lab_events.specs.declared.frames.SentFrame.{SentFrame}
+use Rattle.lab_model.specs.Meaning.{lab_names, Bench}
+use Rattle.lab_model.specs.Played.{plans, fault_at, happens}
+use Rattle.lab_events.specs.FramesShown.{IsFrame, fault_of}
 use Rattle.schedules.specs.declared.event.Event.{Event}
 use Rattle.lab_events.specs.declared.lab_state.Idles.{Idles}
 use Rattle.lab_events.specs.declared.lab_state.Lab.{Lab}

@@ -4,12 +4,12 @@ ghost use Rattle.cfg_records.specs.declared.board_file.BoardFile.{BoardFile as A
 ghost use Rattle.undo_core.specs.Shown.{Calls, IsSent};
 ghost use Rattle.lab_model.specs.ManagerSteps.{Sent as AllSent, called};
 ghost use Rattle.lab_model.specs.Lab.{Lab as LabModel, sends, call_does, returned};
-ghost use Rattle.lab.specs.Meaning.{call_of};
-ghost use Rattle.lab.specs.Played.{plans};
+ghost use Rattle.lab_model.specs.Meaning.{call_of};
+ghost use Rattle.lab_model.specs.Played.{plans};
 ghost use Rattle.lab_events.specs.Shown.{Shows, Becomes};
 
+use crate::frames::Way;
 use crate::lab_state::Lab;
-use lab::Way;
 use lab_model::marks::Mark;
 use schedules::Call;
 use std::alloc::AllocError;

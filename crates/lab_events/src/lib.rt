@@ -1,16 +1,23 @@
-//! A lab, and each event that happens in it: a board, its two ports, a manager and the frames between them.
+//! A lab, and each event that happens in it: a board, its two ports, a manager and the frames between them; what is wrong with an
+//! event, and what is noted of it.
 #![tactic(auto)]
 
 mod calls;
+mod fault;
+mod frames;
 mod lab_state;
 mod names;
 mod note;
 mod noted;
+mod others;
 mod port_side;
 mod step;
 mod told;
 
+pub use fault::{Fault, Marks};
+pub use frames::{Frames, SentFrame, Way};
 pub use lab_state::Lab;
 pub use names::lab_names;
 pub use note::{Came, Note};
+pub use others::{idle_fault, message_fault, noise_fault, request_fault};
 pub use step::Refused;

@@ -1,6 +1,6 @@
 //! Who talks to whom in the lab.
 ghost use Rattle.std.specs.Prelude.{◌≡◌};
-ghost use Rattle.lab.specs.Meaning.{lab_names as the_names};
+ghost use Rattle.lab_model.specs.Meaning.{lab_names as the_names};
 
 use plans::Names;
 use two_wire::Address;

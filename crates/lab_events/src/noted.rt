@@ -2,14 +2,14 @@
 ghost use Rattle.std.specs.Prelude.{◌≡◌, Some, None, IfSome, IfNone, slice_get, option_map};
 ghost use Rattle.cfg_records.specs.declared.board_file.BoardFile.{BoardFile as AnyFile};
 ghost use Rattle.lab_model.specs.Lab.{Lab as LabModel};
-ghost use Rattle.lab.specs.Played.{plans};
+ghost use Rattle.lab_model.specs.Played.{plans};
 ghost use Rattle.lab_events.specs.Shown.{Shows};
 ghost use Rattle.lab_events.specs.Coming.{comes, comes_at, done_in};
 
+use crate::frames::SentFrame;
 use crate::lab_state::Lab;
 use crate::note::Came;
 use bmc_core::Done;
-use lab::SentFrame;
 use schedules::Event;
 use two_wire::Bus;
 

@@ -8,16 +8,16 @@ ghost use Rattle.cfg_records.specs.declared.board_file.BoardFile.{BoardFile as A
 ghost use Rattle.lab_model.specs.Values.{Value, Asks, Part, IsFrameOn, parts_of};
 ghost use Rattle.lab_model.specs.PortSteps.{hears, hears_all, idles};
 ghost use Rattle.lab_model.specs.Lab.{LabFrame, Lab as LabModel, ToOthers, delivered, port_does, port_on, with_port, with_frames};
-ghost use Rattle.lab.specs.Meaning.{lab_names as the_names, other_wire, request_of, message_of};
-ghost use Rattle.lab.specs.Played.{plans};
-ghost use Rattle.lab.specs.Shown.{way_of};
+ghost use Rattle.lab_model.specs.Meaning.{lab_names as the_names, other_wire, request_of, message_of};
+ghost use Rattle.lab_model.specs.Played.{plans};
+ghost use Rattle.lab_events.specs.FramesShown.{way_of};
 ghost use Rattle.lab_events.specs.Shown.{Shows, Becomes, idles_in};
 ghost use Rattle.lab_events.specs.Hearing.{HasFrames, HasHeard, done_on};
 
+use crate::frames::Way;
 use crate::lab_state::Lab;
 use arrayvec::ArrayVec;
 use ipmb_frame::{Header, Party, Request, write_request};
-use lab::Way;
 use lab_model::marks::Mark;
 use mctp_net::{Envelope, Message, SomeData, Tag, split};
 use plans::Names;

@@ -3,15 +3,17 @@ ghost use Rattle.std.specs.Prelude.{◌≡◌, ◌<◌, ◌≤◌, suc, option_m
 ghost use Rattle.two_wire.specs.declared.Bus.{Bus as AnyBus};
 ghost use Rattle.cfg_records.specs.declared.board_file.BoardFile.{BoardFile as AnyFile};
 ghost use Rattle.lab_model.specs.Lab.{Lab as LabModel};
-ghost use Rattle.lab.specs.Played.{plans, fault_at, happens};
-ghost use Rattle.lab.specs.Shown.{fault_of};
+ghost use Rattle.lab_model.specs.Played.{plans, fault_at, happens};
+ghost use Rattle.lab_events.specs.FramesShown.{fault_of};
 ghost use Rattle.lab_events.specs.Shown.{Shows, Becomes, Steps, own_bench, idles_in};
 ghost use Rattle.lab_events.specs.Hearing.{Did};
 ghost use Rattle.bmc_board.specs.Sensing.{bench_of};
 
+use crate::fault::Fault;
+use crate::frames::Way;
 use crate::lab_state::Lab;
+use crate::others::{idle_fault, message_fault, noise_fault, request_fault};
 use bmc_board::Bench;
-use lab::{Fault, Way, idle_fault, message_fault, noise_fault, request_fault};
 use schedules::Event;
 use std::alloc::AllocError;
 

@@ -6,13 +6,13 @@ ghost use Rattle.undo_model.specs.Machine.{phase_of};
 ghost use Rattle.undo_core.specs.Phases as phases;
 ghost use Rattle.undo_core.specs.Shown.{backs};
 ghost use Rattle.lab_model.specs.Lab.{Lab as LabModel};
-ghost use Rattle.lab.specs.Meaning.{lab_names as the_names};
-ghost use Rattle.lab.specs.Played.{plans};
+ghost use Rattle.lab_model.specs.Meaning.{lab_names as the_names};
+ghost use Rattle.lab_model.specs.Played.{plans};
 ghost use Rattle.lab_events.specs.Shown.{Shows, IsSentFrame};
 
+use crate::frames::SentFrame;
 use crate::lab_state::Lab;
 use cfg_records::{PlainStore, Store};
-use lab::SentFrame;
 use plans::UndoList;
 use undo_core::Phase;
 

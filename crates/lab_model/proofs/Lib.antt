@@ -15,3 +15,4 @@ pub mod ManagerEvents
 pub mod PacketExample
 pub mod FullExample
 pub mod FrameMarks
+pub mod Endings

@@ -22,3 +22,6 @@ pub mod ManagerEvents
 pub mod PacketExample
 pub mod FullExample
 pub mod Marks
+pub mod Meaning
+pub mod Played
+pub mod PlayExample

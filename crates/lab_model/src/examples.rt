@@ -4,6 +4,8 @@ ghost use Rattle.lab_model.specs.Example.{ShowsFaults, TwoStepsUndone, RepliesOn
 ghost use Rattle.lab_model.specs.LongExample.{CopiesAge, NinthIsBusy, AnswersPackets, JoinsPackets};
 ghost use Rattle.lab_model.specs.PacketExample.{SetsInPackets, TakesPackets};
 ghost use Rattle.lab_model.specs.FullExample.{FillsUp};
+ghost use Rattle.lab_model.specs.Meaning.{Bench};
+ghost use Rattle.lab_model.specs.PlayExample.{PlaysTwoSteps};
 
 /// Frames that weren't sent, that go another way or that are somebody else's, noise that is a frame, and an idle while a request is open.
 pub fn faults_are_shown()
@@ -58,4 +60,9 @@ pub fn reply_in_packets_is_taken()
 /// A lab sends 65,536 frames, and refuses the event after that.
 pub fn lab_fills_up()
     ensures { FillsUp }
+{}
+
+/// Two steps on thresholds are done and undone in twelve frames.
+pub fn two_steps_are_played()
+    ensures { (bench : Bench) → PlaysTwoSteps bench }
 {}

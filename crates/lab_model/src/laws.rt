@@ -1,14 +1,16 @@
 //! Laws of the definitions.
 
-ghost use Rattle.std.specs.Prelude.{ℕ, Bool, List};
+ghost use Rattle.std.specs.Prelude.{◌≡◌, ℕ, Bool, List};
 ghost use Rattle.two_wire.specs.declared.Bus.{Bus};
 ghost use Rattle.cfg_records.specs.declared.message.Asked.{Asked};
 ghost use Rattle.cfg_records.specs.declared.message.Answered.{Answered};
 ghost use Rattle.cfg_records.specs.declared.board_file.BoardFile.{BoardFile};
+ghost use Rattle.cfg_records.specs.declared.op.Op.{Op};
 ghost use Rattle.bus_model.specs.Request.{Request as Heard, Entry};
 ghost use Rattle.bmc_board.specs.State.{State};
 ghost use Rattle.undo_model.specs.TwoBuses.{Addresses};
 ghost use Rattle.plans.specs.declared.names.Names.{Names};
+ghost use Rattle.schedules.specs.declared.event.Event.{Event};
 ghost use Rattle.lab_model.specs.Spelled.{AreSpelled};
 ghost use Rattle.lab_model.specs.ManagerSteps.{board_plans};
 ghost use Rattle.lab_model.specs.Bytes.{AreReadBack, AreTheModels, Accepts, IsNumbered};
@@ -17,6 +19,8 @@ ghost use Rattle.lab_model.specs.Stepwise.{TurnsBy, RunsBy};
 ghost use Rattle.lab_model.specs.Cuts.{PartsAreCuts, PartsAreHeard};
 ghost use Rattle.lab_model.specs.PortEvents.{RequestsLeaveLog, PartsLeaveLog};
 ghost use Rattle.lab_model.specs.ManagerEvents.{RepliesAreBrought};
+ghost use Rattle.lab_model.specs.Meaning.{Bench};
+ghost use Rattle.lab_model.specs.Played.{Ending, IsPlayed};
 
 /// The manager's requests are requests on their bus, IPMI on IPMB and PLDM on SMBus, each under its number; and a reply to one is a reply
 /// to it, with the answer's code.
@@ -73,4 +77,10 @@ pub fn packets_leave_log()
 /// The manager takes of a live reply, whole or in packets, what the model's event brings it, and nothing while it heeds no request.
 pub fn replies_are_brought()
     ensures { (names : Names) → RepliesAreBrought (board_plans names) }
+{}
+
+/// A play ends in one way.
+pub fn one_ending()
+    ensures { (bench : Bench) (file : BoardFile) (steps : List Op) (retries : ℕ) (events : List Event) (ending other : Ending)
+        → IsPlayed bench file steps retries events ending → IsPlayed bench file steps retries events other → ending ≡ other }
 {}

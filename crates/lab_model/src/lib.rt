@@ -1,6 +1,6 @@
-//! The lab: a board with its two ports, a manager and the links between them. What each does with a frame, what a run is, what is
-//! wrong with an event, and what the links are trusted with. Each law is the contract of a function without a body. The only code is a
-//! plain program that tells how old frames are, so that definitions meet bodies which could be wrong.
+//! The lab: a board with its two ports, a manager and the links between them. What each does with a frame, how requests are bytes, what
+//! a run is, what is wrong with an event, what the links are trusted with, and what the play of a schedule gives. Each law is the
+//! contract of a function without a body. The only code tells how old frames are, so that definitions meet bodies which could be wrong.
 #![tactic(auto)]
 
 pub mod examples;

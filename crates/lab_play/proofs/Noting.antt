@@ -8,8 +8,8 @@ use Rattle.cfg_records.specs.declared.board_file.BoardFile.{BoardFile}
 use Rattle.cfg_records.specs.declared.op.Op.{Op}
 use Rattle.lab_model.specs.Lab.{LabFrame, Lab as LabModel, opening}
 use Rattle.schedules.specs.declared.event.Event.{Event}
-use Rattle.lab.specs.Meaning.{lab_names, Bench}
-use Rattle.lab.specs.Played.{plans, happens, after}
+use Rattle.lab_model.specs.Meaning.{lab_names, Bench}
+use Rattle.lab_model.specs.Played.{plans, happens, after}
 use Rattle.lab_events.specs.declared.note.Note.{Note}
 use Rattle.lab_events.specs.declared.lab_state.Lab.{Lab}
 use Rattle.lab_play.specs.declared.played.Played.{Played}
@@ -19,7 +19,7 @@ use Rattle.lab_events.specs.declared.step.Refused.TheVariants as refused
 use Rattle.lab_events.specs.Shown.{Shows, own_bench}
 use Rattle.undo_core.specs.Phases as phases
 use Rattle.undo_model.specs.Machine.{phase_of}
-use Rattle.lab.specs.Played.{fault_at}
+use Rattle.lab_model.specs.Played.{fault_at}
 use Rattle.lab_events.specs.Hearing.{Did}
 use Rattle.lab_events.specs.Coming.{comes_at, done_in}
 use Rattle.lab_play.specs.Noted.{IsNote, noted_at, noted_from, AreNotes, NotesStep, Notes, NotesBefore, NotesRun, NotesPlay}

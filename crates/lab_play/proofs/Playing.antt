@@ -6,10 +6,10 @@ use Rattle.cfg_records.specs.Boards.{pairs_of}
 use Rattle.cfg_records.specs.Records.{KeysDiffer, records_of}
 use Rattle.lab_model.specs.Lab.{Lab as LabModel, opening}
 use Rattle.schedules.specs.declared.event.Event.{Event}
-use Rattle.lab.specs.declared.fault.Fault.{Fault}
-use Rattle.lab.specs.Meaning.{lab_names}
-use Rattle.lab.specs.Played.{plans, Told, Whole, Stops, told_of, after, IsPlayed}
-use Rattle.lab.specs.Shown.{fault_of}
+use Rattle.lab_events.specs.declared.fault.Fault.{Fault}
+use Rattle.lab_model.specs.Meaning.{lab_names}
+use Rattle.lab_model.specs.Played.{plans, Told, Whole, Stops, told_of, after, IsPlayed}
+use Rattle.lab_events.specs.FramesShown.{fault_of}
 use Rattle.lab_stands.proofs.Plays.{plays_stand}
 use Rattle.lab_events.specs.declared.lab_state.Lab.{Lab}
 use Rattle.lab_play.specs.declared.played.Played.{Played}

@@ -3,8 +3,8 @@ use Rattle.std.proofs.Common.{◌≡◌, ◌+◌, ℕ, List, [], ◌∷◌, ◌+
 use Rattle.cfg_records.specs.declared.board_file.BoardFile.{BoardFile}
 use Rattle.lab_model.specs.Lab.{Lab as LabModel}
 use Rattle.schedules.specs.declared.event.Event.{Event}
-use Rattle.lab.specs.Meaning.{Bench}
-use Rattle.lab.specs.Played.{plans, fault_at, happens, after, AreTaken}
+use Rattle.lab_model.specs.Meaning.{Bench}
+use Rattle.lab_model.specs.Played.{plans, fault_at, happens, after, AreTaken}
 use Rattle.lab_events.specs.Shown.{Shows, Steps, own_bench}
 use Rattle.lab_play.specs.Runs.{Take, Halts}
 use Rattle.lab_events.specs.declared.step.Refused.{Refused}

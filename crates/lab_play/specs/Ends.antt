@@ -7,9 +7,9 @@ use Rattle.cfg_records.specs.Records.{Records, Pair, KeysDiffer, records_of}
 use Rattle.cfg_records.specs.Boards.{pairs_of}
 use Rattle.lab_model.specs.Lab.{Lab as LabModel, opening}
 use Rattle.schedules.specs.declared.event.Event.{Event}
-use Rattle.lab.specs.Meaning.{lab_names}
-use Rattle.lab.specs.Played.{plans, Told, Ending, Whole, Stops, told_of, IsPlayed}
-use Rattle.lab.specs.Shown.{fault_of}
+use Rattle.lab_model.specs.Meaning.{lab_names}
+use Rattle.lab_model.specs.Played.{plans, Told, Ending, Whole, Stops, told_of, IsPlayed}
+use Rattle.lab_events.specs.FramesShown.{fault_of}
 use Rattle.lab_stands.specs.Plays.{StandsIfOwn}
 use Rattle.lab_events.specs.Shown.{Shows, own_bench}
 use Rattle.lab_play.specs.declared.run.Halt.{Halt}

@@ -10,8 +10,8 @@ use Rattle.lab_model.specs.Lab.{Lab as LabModel, opening}
 use Rattle.bmc_core.specs.declared.out.Done.{Done}
 use Rattle.undo_core.specs.Phases as phases
 use Rattle.schedules.specs.declared.event.Event.{Event}
-use Rattle.lab.specs.Meaning.{lab_names, Bench}
-use Rattle.lab.specs.Played.{plans, happens}
+use Rattle.lab_model.specs.Meaning.{lab_names, Bench}
+use Rattle.lab_model.specs.Played.{plans, happens}
 use Rattle.lab_events.specs.declared.note.Came.{Came}
 use Rattle.lab_events.specs.declared.note.Note.{Note}
 use Rattle.lab_events.specs.declared.lab_state.Lab.{Lab}

@@ -3,8 +3,8 @@ use Rattle.std.specs.Prelude.{◌≡◌, ◌+◌, List, ◌∷◌, ◌++◌, len
 use Rattle.cfg_records.specs.declared.board_file.BoardFile.{BoardFile}
 use Rattle.lab_model.specs.Lab.{Lab as LabModel}
 use Rattle.schedules.specs.declared.event.Event.{Event}
-use Rattle.lab.specs.Played.{plans, fault_at, after, AreTaken}
-use Rattle.lab.specs.Shown.{fault_of}
+use Rattle.lab_model.specs.Played.{plans, fault_at, after, AreTaken}
+use Rattle.lab_events.specs.FramesShown.{fault_of}
 use Rattle.lab_events.specs.Shown.{Shows, own_bench}
 use Rattle.lab_events.specs.declared.lab_state.Lab.{Lab}
 use Rattle.lab_play.specs.declared.run.Halt.{Halt}

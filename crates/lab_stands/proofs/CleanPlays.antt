@@ -9,8 +9,8 @@ use Rattle.undo_model.specs.Machine.{phase_of}
 use Rattle.lab_model.specs.Lab.{Lab, run}
 use Rattle.lab_model.specs.Faults.{begun_on}
 use Rattle.schedules.specs.declared.event.Event.{Event}
-use Rattle.lab.specs.Meaning.{lab_names, Bench}
-use Rattle.lab.specs.Played.{plans, Told, happens, after}
+use Rattle.lab_model.specs.Meaning.{lab_names, Bench}
+use Rattle.lab_model.specs.Played.{plans, Told, happens, after}
 use Rattle.lab_stands.specs.Tied.{F}
 use Rattle.lab_stands.specs.CleanPlays.{events_from, first, PlaysRunClean}
 use Rattle.lab_stands.proofs.CleanLink.{runs_on_clean_link}

@@ -17,8 +17,8 @@ use Rattle.schedules.specs.declared.event.Call.{Call as Called}
 use Rattle.schedules.specs.declared.event.Call.TheVariants as called
 use Rattle.schedules.specs.declared.event.Event.{Event}
 use Rattle.schedules.specs.declared.event.Event.TheVariants as event
-use Rattle.lab.specs.Meaning.{lab_names, call_of, Bench, event_of}
-use Rattle.lab.specs.Played.{plans, Whole, Stops, happens, after, AreTaken, told_of}
+use Rattle.lab_model.specs.Meaning.{lab_names, call_of, Bench, event_of}
+use Rattle.lab_model.specs.Played.{plans, Whole, Stops, happens, after, AreTaken, told_of}
 use Rattle.lab_stands.specs.Tied.{F}
 use Rattle.lab_stands.specs.Theorem.{IsTakenAndOwn}
 use Rattle.lab_stands.specs.Plays.{AreOwn, ToldStands, PlaysStand}

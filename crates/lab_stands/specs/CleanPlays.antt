@@ -10,8 +10,8 @@ use Rattle.lab_model.specs.Lab.{Lab, opening}
 use Rattle.lab_model.specs.Faults.{begun_on}
 use Rattle.lab_model.specs.Clean.{IsCleanRun, IsCleanUndo}
 use Rattle.schedules.specs.declared.event.Event.{Event}
-use Rattle.lab.specs.Meaning.{lab_names, Bench, event_of}
-use Rattle.lab.specs.Played.{plans, Told, Whole, happens, after, IsPlayed}
+use Rattle.lab_model.specs.Meaning.{lab_names, Bench, event_of}
+use Rattle.lab_model.specs.Played.{plans, Told, Whole, happens, after, IsPlayed}
 use Rattle.lab_stands.specs.Tied.{F}
 use Rattle.lab_stands.specs.CleanLink.{RunsOnCleanLink}
 

@@ -10,8 +10,8 @@ use Rattle.lab_model.specs.Own.{IsOwn}
 use Rattle.schedules.specs.declared.event.Call.TheVariants.{Stop as StopCall}
 use Rattle.schedules.specs.declared.event.Event.{Event}
 use Rattle.schedules.specs.declared.event.Event.TheVariants.{Calls}
-use Rattle.lab.specs.Meaning.{lab_names, Bench, event_of}
-use Rattle.lab.specs.Played.{plans, Told, Ending, Whole, Stops, happens, IsPlayed}
+use Rattle.lab_model.specs.Meaning.{lab_names, Bench, event_of}
+use Rattle.lab_model.specs.Played.{plans, Told, Ending, Whole, Stops, happens, IsPlayed}
 use Rattle.lab_stands.specs.Tied.{F}
 
 -- the events that a play took: all, or those before the one that has a fault

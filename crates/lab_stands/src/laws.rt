@@ -6,7 +6,7 @@ ghost use Rattle.cfg_records.specs.declared.board_file.BoardFile.{BoardFile};
 ghost use Rattle.cfg_records.specs.Records.{Records};
 ghost use Rattle.plans.specs.declared.names.Names.{Names};
 ghost use Rattle.lab_stands.specs.Follows.{CallsAreFollowed, RepliesAreFollowed, RequestsAreFollowed, OthersAreFollowed};
-ghost use Rattle.lab.specs.Meaning.{Bench};
+ghost use Rattle.lab_model.specs.Meaning.{Bench};
 ghost use Rattle.lab_stands.specs.Theorem.{Headline};
 ghost use Rattle.lab_stands.specs.Plays.{PlaysStand};
 ghost use Rattle.lab_stands.specs.CleanLink.{RunsOnCleanLink};

@@ -3,7 +3,7 @@ use Rattle.std.proofs.Common.{◌≡◌, ℕ, ◌+◌, ◌<◌, arith, List, [],
 use Rattle.std.proofs.lemmas.List.{take_more, map-append, flat_map_more, length-take-le}
 use Rattle.std.specs.List.{flat_map, enumerate_from}
 use Rattle.line_text.specs.Cuts.{ended}
-use Rattle.lab.specs.declared.frames.SentFrame.{SentFrame}
+use Rattle.lab_events.specs.declared.frames.SentFrame.{SentFrame}
 use Rattle.play_text.specs.Account.{frame_line, frame_lines}
 
 -- one more element has the next number

@@ -9,10 +9,10 @@ use Rattle.two_wire.specs.declared.Bus.TheVariants.{Ipmb, Smbus}
 use Rattle.cfg_records.specs.declared.message.Asked.{Asked}
 use Rattle.undo_text.specs.UndoText.{line_of}
 use Rattle.undo_core.specs.PhaseNames.{phase_name}
-use Rattle.lab.specs.declared.frames.Way.{Way}
-use Rattle.lab.specs.declared.frames.Way.TheVariants.{ToPort, ToManager, ToOthers}
-use Rattle.lab.specs.declared.frames.SentFrame.{SentFrame}
-use Rattle.lab.specs.FaultNames.{fault_name}
+use Rattle.lab_events.specs.declared.frames.Way.{Way}
+use Rattle.lab_events.specs.declared.frames.Way.TheVariants.{ToPort, ToManager, ToOthers}
+use Rattle.lab_events.specs.declared.frames.SentFrame.{SentFrame}
+use Rattle.lab_events.specs.FaultNames.{fault_name}
 use Rattle.play_text.specs.declared.account.Account.{Account}
 use Rattle.play_text.specs.declared.account.Stopped.{Stopped}
 

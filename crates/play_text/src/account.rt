@@ -3,7 +3,7 @@ ghost use Rattle.std.specs.Prelude.{◌≡◌, IfOk, string_bytes};
 ghost use Rattle.play_text.specs.Account.{text_of};
 
 use crate::lines::{push_frames, push_records, push_stopped};
-use lab::{Fault, SentFrame};
+use lab_events::{Fault, SentFrame};
 use plans::Requests;
 use std::alloc::{AllocError, Global};
 use undo_core::Phase;

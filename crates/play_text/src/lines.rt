@@ -5,7 +5,7 @@ ghost use Rattle.line_text.specs.Cuts.{ended};
 ghost use Rattle.play_text.specs.Account.{end_name, bus_name, frame_line, frame_lines, records_line, stopped_line};
 
 use crate::account::Stopped;
-use lab::{SentFrame, Way};
+use lab_events::{SentFrame, Way};
 use std::alloc::{AllocError, Global};
 use two_wire::Bus;
 

@@ -3,7 +3,7 @@ ghost use Rattle.std.specs.Prelude.{◌<◌};
 
 use super::dice::Dice;
 use ipmb_frame::Party;
-use lab::SentFrame;
+use lab_events::SentFrame;
 use schedules::{Event, Octets, OtherMessage, OtherRequest};
 use std::alloc::Global;
 use std::test::Fail;

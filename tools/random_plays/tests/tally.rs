@@ -1,5 +1,5 @@
 //! How often what happened in the schedules that were played.
-use lab::Fault;
+use lab_events::Fault;
 use schedules::{Call, Event};
 use undo_core::{Phase, Why};
 

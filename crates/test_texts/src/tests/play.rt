@@ -4,7 +4,7 @@ ghost use Rattle.std.specs.Prelude.{◌≤◌, length};
 use super::board::BARE;
 use super::story::{Form, otherwise};
 use cfg_records::Asked;
-use lab::{Fault, SentFrame, Way};
+use lab_events::{Fault, SentFrame, Way};
 use lab_model::marks::Mark;
 use plans::Requests;
 use play_text::{Account, InputFault, Inputs, Stopped, read_inputs};

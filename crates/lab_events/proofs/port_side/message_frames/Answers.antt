@@ -4,7 +4,7 @@ use Rattle.two_wire.specs.declared.Bus.TheVariants as bus
 use Rattle.mctp_net.specs.declared.packet.Packet.{Packet}
 use Rattle.mctp_net.specs.declared.message.Message.{Message}
 use Rattle.lab_model.specs.Values.{Part, parts_of, IsFrameOn}
-use Rattle.lab.specs.Meaning.{message_of}
+use Rattle.lab_model.specs.Meaning.{message_of}
 use Rattle.undo_core.proofs.Written.{message_read}
 use Rattle.lab_events.proofs.port_side.message_frames.Goals as goal
 

@@ -3,8 +3,8 @@ use Rattle.undo_core.specs.declared.sending.Sent.{Sent}
 use Rattle.undo_core.specs.declared.phase.WrongPhase.{WrongPhase}
 use Rattle.undo_core.specs.Shown.{IsCalled}
 use Rattle.lab_model.specs.ManagerSteps.{called}
-use Rattle.lab.specs.Meaning.{lab_names, call_of}
-use Rattle.lab.specs.Played.{plans}
+use Rattle.lab_model.specs.Meaning.{lab_names, call_of}
+use Rattle.lab_model.specs.Played.{plans}
 use Rattle.lab_events.proofs.Sent.{on_ok}
 use Rattle.lab_events.proofs.ManagerSide.{called_shown, refused_shown}
 use Rattle.lab_events.proofs.lab_state.Lab.call.Goals as goal

@@ -1,8 +1,8 @@
 use Rattle.std.proofs.Common.{ℕ, ◌-◌, nat_lt, Option, Some, sym, ◌∙◌, ap, option_map}
 use Rattle.two_wire.specs.declared.Bus.{Bus}
 use Rattle.lab_model.specs.Faults.{begun_on}
-use Rattle.lab.specs.Meaning.{lab_names}
-use Rattle.lab.specs.Played.{plans}
+use Rattle.lab_model.specs.Meaning.{lab_names}
+use Rattle.lab_model.specs.Played.{plans}
 use Rattle.lab_events.specs.declared.note.Came.{Came}
 use Rattle.lab_events.specs.Shown.{IsSentFrame}
 use Rattle.lab_events.specs.Coming.{comes}

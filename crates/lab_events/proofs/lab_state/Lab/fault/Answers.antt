@@ -7,9 +7,9 @@ use Rattle.lab_model.specs.PortSteps.{asked_in}
 use Rattle.lab_model.specs.ManagerSteps.{board_plans}
 use Rattle.lab_model.specs.Lab.{Lab, Noise, Idles}
 use Rattle.lab_model.specs.Faults.{fault_of as fault_of_event, message_changes}
-use Rattle.lab.specs.Meaning.{lab_names, request_of}
-use Rattle.lab.specs.Played.{plans, fault_at}
-use Rattle.lab.specs.Shown.{fault_of}
+use Rattle.lab_model.specs.Meaning.{lab_names, request_of}
+use Rattle.lab_model.specs.Played.{plans, fault_at}
+use Rattle.lab_events.specs.FramesShown.{fault_of}
 use Rattle.lab_events.specs.Shown.{own_bench}
 use Rattle.lab_events.proofs.Checks.{other_faulty, other_room}
 use Rattle.lab_events.proofs.lab_state.Lab.fault.Goals as goal

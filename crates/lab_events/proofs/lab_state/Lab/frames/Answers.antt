@@ -1,6 +1,6 @@
 use Rattle.std.proofs.Common.{List, sym, subst}
 use Rattle.std.specs.List.{AllZip}
-use Rattle.lab.specs.declared.frames.SentFrame.{SentFrame}
+use Rattle.lab_events.specs.declared.frames.SentFrame.{SentFrame}
 use Rattle.lab_events.specs.Shown.{IsSentFrame}
 use Rattle.lab_events.proofs.lab_state.Lab.frames.Goals as goal
 

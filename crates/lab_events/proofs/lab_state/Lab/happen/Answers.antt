@@ -2,7 +2,7 @@ use Rattle.std.proofs.Common.{sym, subst}
 use Rattle.std.specs.Prelude.{OnOk}
 use Rattle.lab_model.specs.Lab.{Lab as LabModel, step}
 use Rattle.schedules.specs.declared.event.Event.{Event}
-use Rattle.lab.specs.Played.{happens}
+use Rattle.lab_model.specs.Played.{happens}
 use Rattle.lab_events.specs.declared.lab_state.Lab.{Lab}
 use Rattle.lab_events.specs.Shown.{Becomes, own_bench}
 use Rattle.lab_events.specs.Hearing.{Did}

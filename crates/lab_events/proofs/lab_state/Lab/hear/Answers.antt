@@ -4,7 +4,7 @@ use Rattle.two_wire.specs.declared.Bus.TheVariants as bus
 use Rattle.lab_model.specs.Values.{IsFrameOn}
 use Rattle.lab_model.specs.PortSteps.{hears}
 use Rattle.lab_model.specs.Lab.{port_on}
-use Rattle.lab.specs.Played.{plans}
+use Rattle.lab_model.specs.Played.{plans}
 use Rattle.lab_events.specs.declared.lab_state.Lab.{Lab}
 use Rattle.lab_events.specs.Hearing.{HasHeard, done_on}
 use Rattle.lab_events.proofs.PortSide.{Stays, ipmb_hears, ipmb_done, smbus_hears, smbus_done}

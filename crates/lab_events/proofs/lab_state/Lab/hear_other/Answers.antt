@@ -1,6 +1,6 @@
 use Rattle.lab_model.specs.PortSteps.{hears}
 use Rattle.lab_model.specs.Lab.{port_on, with_port}
-use Rattle.lab.specs.Played.{plans}
+use Rattle.lab_model.specs.Played.{plans}
 use Rattle.lab_events.proofs.Sent.{on_ok}
 use Rattle.lab_events.proofs.lab_state.Lab.hear_other.Goals as goal
 

@@ -4,7 +4,7 @@ use Rattle.two_wire.specs.declared.Bus.TheVariants.{Ipmb, Smbus}
 use Rattle.plans.specs.declared.names.Names.{Names}
 use Rattle.lab_model.specs.Lab.{with_port, port_on}
 use Rattle.lab_model.specs.PortSteps.{idles}
-use Rattle.lab.specs.Played.{plans}
+use Rattle.lab_model.specs.Played.{plans}
 use Rattle.lab_events.specs.Shown.{Shows}
 use Rattle.lab_events.proofs.Idling.{one_more, no_more, forgot_ipmb, forgot_smbus}
 use Rattle.lab_events.proofs.lab_state.Lab.idle.Goals as goal

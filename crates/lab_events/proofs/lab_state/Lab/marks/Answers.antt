@@ -2,9 +2,9 @@ use Rattle.std.proofs.Common.{sym}
 use Rattle.two_wire.specs.declared.Bus.{Bus}
 use Rattle.two_wire.specs.declared.Bus.TheVariants as bus
 use Rattle.lab_model.specs.Marks.{IsKnown}
-use Rattle.lab.specs.Meaning.{lab_names}
-use Rattle.lab.specs.Played.{plans}
-use Rattle.lab.specs.Shown.{marks_on}
+use Rattle.lab_model.specs.Meaning.{lab_names}
+use Rattle.lab_model.specs.Played.{plans}
+use Rattle.lab_events.specs.FramesShown.{marks_on}
 use Rattle.lab_events.proofs.Frames.{all_frames}
 use Rattle.lab_events.proofs.lab_state.Lab.marks.Goals as goal
 

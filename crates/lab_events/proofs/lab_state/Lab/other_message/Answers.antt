@@ -4,8 +4,8 @@ use Rattle.two_wire.specs.declared.Bus.TheVariants as bus
 use Rattle.plans.specs.declared.names.Names.{Names}
 use Rattle.lab_model.specs.Values.{Value, Part, parts_of, IsFrameOn}
 use Rattle.lab_model.specs.Lab.{ToOthers, port_does}
-use Rattle.lab.specs.Meaning.{lab_names, message_of}
-use Rattle.lab.specs.Played.{plans}
+use Rattle.lab_model.specs.Meaning.{lab_names, message_of}
+use Rattle.lab_model.specs.Played.{plans}
 use Rattle.schedules.specs.declared.event.OtherMessage.{OtherMessage}
 use Rattle.lab_events.proofs.Sent.{at_place}
 use Rattle.lab_events.proofs.Deeds.{hears_each}

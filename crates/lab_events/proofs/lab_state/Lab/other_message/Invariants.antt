@@ -3,8 +3,8 @@ use Rattle.two_wire.specs.declared.Bus.TheVariants as bus
 use Rattle.cfg_records.specs.declared.board_file.BoardFile.{BoardFile}
 use Rattle.lab_model.specs.Values.{Part, parts_of}
 use Rattle.lab_model.specs.Lab.{Lab as LabModel, ToOthers, port_does}
-use Rattle.lab.specs.Meaning.{lab_names, message_of}
-use Rattle.lab.specs.Played.{plans}
+use Rattle.lab_model.specs.Meaning.{lab_names, message_of}
+use Rattle.lab_model.specs.Played.{plans}
 use Rattle.lab_events.specs.Shown.{Shows}
 use Rattle.lab_events.proofs.Deeds.{hears_each}
 use Rattle.lab_events.proofs.lab_state.Lab.other_message.Given as goal

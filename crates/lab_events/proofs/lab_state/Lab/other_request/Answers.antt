@@ -2,7 +2,7 @@ use Rattle.std.proofs.Common.{sym, subst}
 use Rattle.plans.specs.declared.names.Names.{Names}
 use Rattle.ipmb_frame.specs.Grammar.{IsRequest}
 use Rattle.lab_model.specs.Values.{Asks}
-use Rattle.lab.specs.Meaning.{lab_names, request_of}
+use Rattle.lab_model.specs.Meaning.{lab_names, request_of}
 use Rattle.lab_events.proofs.Sent.{on_ok}
 use Rattle.lab_events.proofs.lab_state.Lab.other_request.Goals as goal
 

@@ -1,4 +1,4 @@
-use Rattle.lab.specs.Meaning.{lab_names}
+use Rattle.lab_model.specs.Meaning.{lab_names}
 use Rattle.lab_events.proofs.lab_state.Lab.phase.Goals as goal
 
 pub returns : goal.returns

@@ -3,10 +3,10 @@ use Rattle.undo_core.specs.declared.sending.Sent.{Sent}
 use Rattle.undo_core.specs.Shown.{IsSent}
 use Rattle.lab_model.specs.declared.marks.Mark.{Mark}
 use Rattle.lab_model.specs.Lab.{Lab as LabModel, sends}
-use Rattle.lab.specs.declared.frames.Way.TheVariants as way
-use Rattle.lab.specs.declared.frames.SentFrame.{SentFrame}
-use Rattle.lab.specs.Shown.{sent_as}
-use Rattle.lab.specs.Played.{plans}
+use Rattle.lab_events.specs.declared.frames.Way.TheVariants as way
+use Rattle.lab_events.specs.declared.frames.SentFrame.{SentFrame}
+use Rattle.lab_events.specs.FramesShown.{sent_as}
+use Rattle.lab_model.specs.Played.{plans}
 use Rattle.lab_events.specs.Shown.{Shows}
 use Rattle.lab_events.proofs.Sent.{on_ok}
 use Rattle.lab_events.proofs.ManagerSide.{sends_none, sends_some}

@@ -1,9 +1,9 @@
 use Rattle.std.proofs.Common.{◌≡◌, ◌++◌, List, ℕ, map, sym, ◌∙◌, ap, subst}
 use Rattle.bmc_core.specs.Outs.{sent}
 use Rattle.lab_model.specs.Lab.{with_frames}
-use Rattle.lab.specs.declared.frames.SentFrame.{SentFrame}
-use Rattle.lab.specs.Shown.{sent_as, way_of}
-use Rattle.lab.specs.Played.{plans}
+use Rattle.lab_events.specs.declared.frames.SentFrame.{SentFrame}
+use Rattle.lab_events.specs.FramesShown.{sent_as, way_of}
+use Rattle.lab_model.specs.Played.{plans}
 use Rattle.lab_events.specs.Shown.{Shows}
 use Rattle.lab_events.proofs.Sent.{on_ok, frames_shown}
 use Rattle.lab_events.proofs.lab_state.Lab.send_out.Goals as goal

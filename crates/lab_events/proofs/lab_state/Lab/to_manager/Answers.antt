@@ -1,7 +1,7 @@
 use Rattle.std.proofs.Common.{sym, subst}
 use Rattle.ipmb_frame.specs.Grammar.{IsResponse}
 use Rattle.mctp_net.specs.Grammar.{IsPacket}
-use Rattle.lab.specs.Meaning.{lab_names}
+use Rattle.lab_model.specs.Meaning.{lab_names}
 use Rattle.lab_events.proofs.Sent.{on_ok}
 use Rattle.lab_events.proofs.ManagerSide.{Hearing, returned_shown, no_return}
 use Rattle.lab_events.proofs.lab_state.Lab.to_manager.Goals as goal

@@ -4,7 +4,7 @@ use Rattle.lab_model.specs.Values.{IsFrameOn}
 use Rattle.lab_model.specs.PortSteps.{hears}
 use Rattle.lab_model.specs.Lab.{ToManager, port_on, with_port, with_frames}
 use Rattle.bmc_core.specs.declared.out.Out.{Out}
-use Rattle.lab.specs.Played.{plans}
+use Rattle.lab_model.specs.Played.{plans}
 use Rattle.lab_events.specs.Shown.{Shows}
 use Rattle.lab_events.specs.Hearing.{HasFrames, done_on}
 use Rattle.lab_events.proofs.Sent.{on_ok, on_any}

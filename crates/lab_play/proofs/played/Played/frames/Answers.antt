@@ -1,6 +1,6 @@
 use Rattle.std.proofs.Common.{sym, subst}
 use Rattle.std.specs.List.{AllZip}
-use Rattle.lab.specs.Played.{Told}
+use Rattle.lab_model.specs.Played.{Told}
 use Rattle.lab_events.specs.Shown.{IsSentFrame}
 use Rattle.lab_play.proofs.played.Played.frames.Goals as goal
 

@@ -9,8 +9,8 @@ ghost use Rattle.lab_model.specs.Lab.{Lab, Noise, Idles};
 ghost use Rattle.lab_model.specs.Faults.{fault_of as fault_of_event, first_of, check, Changing, Impersonates, is_own, message_changes};
 ghost use Rattle.two_wire.specs.declared.Bus.TheVariants.{Ipmb, Smbus};
 ghost use Rattle.bmc_board.specs.Table.{is_changing};
-ghost use Rattle.lab.specs.Shown.{fault_of};
-ghost use Rattle.lab.specs.Meaning.{request_of};
+ghost use Rattle.lab_events.specs.FramesShown.{fault_of};
+ghost use Rattle.lab_model.specs.Meaning.{request_of};
 
 use crate::fault::Fault;
 use bmc_board::is_changing;

@@ -1,7 +1,7 @@
 -- What faults are called.
 use Rattle.std.specs.Prelude.{ℕ, List, codes}
-use Rattle.lab.specs.declared.fault.Fault.{Fault}
-use Rattle.lab.specs.declared.fault.Fault.TheVariants as fault
+use Rattle.lab_events.specs.declared.fault.Fault.{Fault}
+use Rattle.lab_events.specs.declared.fault.Fault.TheVariants as fault
 
 -- each by its name
 abbrev pub fault_name : Fault → List ℕ

@@ -1,6 +1,6 @@
 use Rattle.std.proofs.Common.{sym, ◌∙◌}
-use Rattle.lab.proofs.Sent.{full_room, free_room}
-use Rattle.lab.proofs.frames.Frames.room_fault.Goals as goal
+use Rattle.lab_events.proofs.Deliveries.{full_room, free_room}
+use Rattle.lab_events.proofs.frames.Frames.room_fault.Goals as goal
 
 pub returns-then-is_full : goal.returns-then-is_full
 returns-then-is_full c names marks x shows = full_room names c.args.self.now marks x shows (sym c.is_full.ensures ∙ c.if-is_full.true)

@@ -1,10 +1,10 @@
 use Rattle.std.proofs.Common.{◌++◌, ◌∷◌, [], map, ℕ, ◌+◌, List, sym, ◌∙◌, ap, arith, take}
 use Rattle.std.proofs.lemmas.List.{take_more, append-nil}
 use Rattle.std.proofs.Math.Seq.{take-length}
-use Rattle.lab.specs.declared.frames.SentFrame.{SentFrame}
-use Rattle.lab.specs.Shown.{sent_as}
-use Rattle.lab.proofs.Sending.{one_more}
-use Rattle.lab.proofs.frames.Frames.send.Goals as goal
+use Rattle.lab_events.specs.declared.frames.SentFrame.{SentFrame}
+use Rattle.lab_events.specs.FramesShown.{sent_as}
+use Rattle.lab_events.proofs.Sending.{one_more}
+use Rattle.lab_events.proofs.frames.Frames.send.Goals as goal
 
 pub loop-frame-init : goal.loop-frame-init
 loop-frame-init c = sym (append-nil c.args.self.now)

@@ -2,10 +2,10 @@ use Rattle.std.proofs.Common.{refl}
 use Rattle.lab_model.specs.Lab.{run, opening}
 use Rattle.lab_model.specs.Example.{board_file, two_steps}
 use Rattle.lab_model.proofs.Example.{two_steps_undone}
-use Rattle.lab.specs.Meaning.{lab_names}
-use Rattle.lab.specs.Played.{plans, after, told_of}
-use Rattle.lab.specs.Example.{two_and_back}
-use Rattle.lab.proofs.laws.two_steps_are_played.Goals as goal
+use Rattle.lab_model.specs.Meaning.{lab_names}
+use Rattle.lab_model.specs.Played.{plans, after, told_of}
+use Rattle.lab_model.specs.PlayExample.{two_and_back}
+use Rattle.lab_model.proofs.examples.two_steps_are_played.Goals as goal
 
 pub returns : goal.returns
 unfolding run

@@ -1,6 +1,6 @@
 //! The frames that were sent.
 ghost use Rattle.std.specs.Prelude.{◌≡◌, ◌++◌, ◌∷◌, [], length, nat_le, slice_get, Some, None, IfSome, IfNone, is_ok, if◌then◌else◌, OnOk, map};
-ghost use Rattle.lab.specs.Shown.{sent_as};
+ghost use Rattle.lab_events.specs.FramesShown.{sent_as};
 
 use lab_model::marks::Mark;
 use std::alloc::{AllocError, Global};
@@ -20,7 +20,7 @@ pub enum Way {
 
 impl Way {
     ghost use Rattle.lab_model.specs.Faults.{same_way};
-    ghost use Rattle.lab.specs.Shown.{way_of};
+    ghost use Rattle.lab_events.specs.FramesShown.{way_of};
 
     /// Whether it's this one.
     pub fn is(self, other: Way) -> bool
@@ -52,7 +52,7 @@ pub struct Frames {
 
 impl Model for Frames {
     ghost use Rattle.std.specs.Prelude.{List};
-    ghost use Rattle.lab.specs.declared.frames.SentFrame.{SentFrame};
+    ghost use Rattle.lab_events.specs.declared.frames.SentFrame.{SentFrame};
 
     ghost Value = { List SentFrame };
 

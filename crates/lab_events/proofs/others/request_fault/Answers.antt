@@ -2,8 +2,8 @@ use Rattle.std.proofs.Common.{◌≡◌, sym, ◌∙◌, ap}
 use Rattle.bmc_board.specs.Table.{is_changing}
 use Rattle.two_wire.specs.declared.Bus.TheVariants.{Ipmb}
 use Rattle.lab_model.specs.Faults.{is_own}
-use Rattle.lab.proofs.Checks.{by_changing, by_own, by_none}
-use Rattle.lab.proofs.others.request_fault.Goals as goal
+use Rattle.lab_events.proofs.FirstFaults.{by_changing, by_own, by_none}
+use Rattle.lab_events.proofs.others.request_fault.Goals as goal
 
 pub returns-then-is_changing : goal.returns-then-is_changing
 returns-then-is_changing c = by_changing _ _ (ap is_changing (sym (c.asked.ensures c.args.names.now)) ∙ (sym c.is_changing.ensures ∙ c.if-is_changing.true))

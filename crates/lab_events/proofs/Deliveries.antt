@@ -7,10 +7,10 @@ use Rattle.lab_model.specs.ManagerSteps.{board_plans}
 use Rattle.lab_model.specs.Lab.{Way as LabWay, LabFrame, Lab}
 use Rattle.lab_model.specs.Faults.{NoFrame, WrongWay, Aged, Room, check, first_of, same_way, delivery, is_live, is_full}
 use Rattle.lab_model.specs.Faults as faults
-use Rattle.lab.specs.declared.frames.SentFrame.{SentFrame}
-use Rattle.lab.specs.declared.fault.Fault.{Fault}
-use Rattle.lab.specs.declared.fault.Marks.{Marks}
-use Rattle.lab.specs.Shown.{way_of, IsFrame, ShowsFrames}
+use Rattle.lab_events.specs.declared.frames.SentFrame.{SentFrame}
+use Rattle.lab_events.specs.declared.fault.Fault.{Fault}
+use Rattle.lab_events.specs.declared.fault.Marks.{Marks}
+use Rattle.lab_events.specs.FramesShown.{way_of, IsFrame, ShowsFrames}
 
 -- the frame of a number is the model's
 pub frame_at : (sent : List SentFrame) (frames : List LabFrame) (n : ℕ) (s : SentFrame) → AllZip IsFrame sent frames → slice_get sent n ≡ Some s

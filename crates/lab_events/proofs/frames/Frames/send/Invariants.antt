@@ -1,6 +1,6 @@
 use Rattle.std.proofs.Common.{◌≡◌, ◌++◌, map, take}
-use Rattle.lab.specs.Shown.{sent_as}
-use Rattle.lab.proofs.frames.Frames.send.Given as goal
+use Rattle.lab_events.specs.FramesShown.{sent_as}
+use Rattle.lab_events.proofs.frames.Frames.send.Given as goal
 
 abbrev pub invariant-loop-frame : goal.invariant-loop-frame
 invariant-loop-frame l = l.self ≡ l.initial.self ++ map (sent_as l.way l.mark) (take l.frame-index l.frames)

@@ -10,7 +10,7 @@ use Rattle.lab_model.specs.ManagerSteps.{Plans, board_plans}
 use Rattle.lab_model.specs.Lab.{LabFrame, Lab, step, opening}
 use Rattle.lab_model.specs.Faults.{Fault, fault_of}
 use Rattle.schedules.specs.declared.event.Event.{Event}
-use Rattle.lab.specs.Meaning.{lab_names, Bench, event_of}
+use Rattle.lab_model.specs.Meaning.{lab_names, Bench, event_of}
 
 -- the plans of the lab's manager
 abbrev pub plans : Plans

@@ -4,8 +4,8 @@ ghost use Rattle.plans.specs.declared.names.Names.{Names as AnyNames};
 ghost use Rattle.lab_model.specs.ManagerSteps.{board_plans};
 ghost use Rattle.lab_model.specs.Lab.{Lab};
 ghost use Rattle.lab_model.specs.Faults.{first_of, check, Room, is_full, delivery};
-ghost use Rattle.lab.specs.declared.fault.Marks.{Marks as AnyMarks};
-ghost use Rattle.lab.specs.Shown.{fault_of, way_of, marks_on, ShowsFrames};
+ghost use Rattle.lab_events.specs.declared.fault.Marks.{Marks as AnyMarks};
+ghost use Rattle.lab_events.specs.FramesShown.{fault_of, way_of, marks_on, ShowsFrames};
 
 use crate::frames::{Frames, Way};
 use lab_model::marks::Known;
@@ -85,7 +85,7 @@ impl Frames {
 
 impl fmt::Display for Fault {
     ghost use Rattle.std.specs.Prelude.{Some};
-    ghost use Rattle.lab.specs.FaultNames.{fault_name};
+    ghost use Rattle.lab_events.specs.FaultNames.{fault_name};
 
     ghost output = { λ fault. Some (fault_name fault) };
 

@@ -13,12 +13,12 @@ use Rattle.lab_model.specs.Lab as lab
 use Rattle.lab_model.specs.Faults.{Fault as LabFault}
 use Rattle.lab_model.specs.Faults as faults
 use Rattle.lab_model.specs.Marks.{HasMark, IsKnown}
-use Rattle.lab.specs.declared.frames.Way.{Way}
-use Rattle.lab.specs.declared.frames.Way.TheVariants as way
-use Rattle.lab.specs.declared.frames.SentFrame.{SentFrame}
-use Rattle.lab.specs.declared.fault.Fault.{Fault}
-use Rattle.lab.specs.declared.fault.Fault.TheVariants as fault
-use Rattle.lab.specs.declared.fault.Marks.{Marks}
+use Rattle.lab_events.specs.declared.frames.Way.{Way}
+use Rattle.lab_events.specs.declared.frames.Way.TheVariants as way
+use Rattle.lab_events.specs.declared.frames.SentFrame.{SentFrame}
+use Rattle.lab_events.specs.declared.fault.Fault.{Fault}
+use Rattle.lab_events.specs.declared.fault.Fault.TheVariants as fault
+use Rattle.lab_events.specs.declared.fault.Marks.{Marks}
 
 abbrev pub way_of : Way → LabWay
 way_of way.ToPort = lab.ToPort

@@ -3,9 +3,9 @@ use Rattle.plans.specs.declared.names.Names.{Names}
 use Rattle.lab_model.specs.ManagerSteps.{board_plans}
 use Rattle.lab_model.specs.Lab.{Lab, LabFrame}
 use Rattle.lab_model.specs.Marks.{IsKnown}
-use Rattle.lab.specs.Shown.{way_of, IsFrame, ShowsFrames}
-use Rattle.lab.proofs.Sent.{frame_at, no_frame, wrong_way, aged, left_room}
-use Rattle.lab.proofs.frames.Frames.delivery_fault.Goals as goal
+use Rattle.lab_events.specs.FramesShown.{way_of, IsFrame, ShowsFrames}
+use Rattle.lab_events.proofs.Deliveries.{frame_at, no_frame, wrong_way, aged, left_room}
+use Rattle.lab_events.proofs.frames.Frames.delivery_fault.Goals as goal
 
 pub returns-in_default : goal.returns-in_default
 returns-in_default c names x shows = no_frame names c.args.self.now c.args.marks x shows (way_of c.args.way) c.args.number c.in_default.ensures.none

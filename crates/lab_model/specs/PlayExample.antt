@@ -7,8 +7,8 @@ use Rattle.lab_model.specs.Example.{board_file, two_steps}
 use Rattle.schedules.specs.declared.event.Call.TheVariants.{Start, Undo}
 use Rattle.schedules.specs.declared.event.Event.{Event}
 use Rattle.schedules.specs.declared.event.Event.TheVariants.{Calls, ToBmc, ToMgr}
-use Rattle.lab.specs.Meaning.{Bench}
-use Rattle.lab.specs.Played.{Told, Whole, IsPlayed}
+use Rattle.lab_model.specs.Meaning.{Bench}
+use Rattle.lab_model.specs.Played.{Told, Whole, IsPlayed}
 
 -- a request's frame of this number comes to the port, and its reply to the manager
 abbrev pub both_ways : ℕ → List Event

@@ -1,4 +1,0 @@
-pub mod Sent
-pub mod Checks
-pub mod Endings
-pub mod Sending

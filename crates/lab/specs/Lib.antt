@@ -1,5 +1,0 @@
-pub mod Meaning
-pub mod Shown
-pub mod Played
-pub mod Example
-pub mod FaultNames
