@@ -11,9 +11,9 @@ use Rattle.lab_model.specs.Meaning.{Bench}
 use Rattle.lab_model.specs.Played.{Ending, Whole, Stops, IsPlayed}
 use Rattle.lab_events.specs.FramesShown.{fault_of}
 use Rattle.lab_events.specs.Shown.{own_bench}
-use Rattle.play_text.specs.declared.account.Account.{Account}
-use Rattle.play_text.specs.declared.account.Stopped.{Stopped}
-use Rattle.play_text.specs.declared.inputs.Inputs.{Inputs}
+use Rattle.bmc_play.specs.declared.account.Account.{Account}
+use Rattle.bmc_play.specs.declared.account.Stopped.{Stopped}
+use Rattle.bmc_play.specs.declared.inputs.Inputs.{Inputs}
 use Rattle.bmc_play.specs.Account.{IsAccountOf, status_of}
 use Rattle.bmc_play.specs.Alike.{EndAlike}
 use Rattle.bmc_play.specs.Drawn.{EndsAt}

@@ -1,7 +1,9 @@
 pub mod AlikeEnds
 pub mod Counted
+pub mod Frames
 pub mod Noted
 pub mod OneAccount
 pub mod OneChart
 pub mod OneRun
 pub mod Plays
+pub mod Readers

@@ -10,8 +10,8 @@ use Rattle.lab_play.specs.Ends.{IsEnding, Plays}
 use Rattle.lab_play.specs.Noted.{NotesPlay}
 use Rattle.lab_play.specs.declared.played.Played.{Played}
 use Rattle.lab_play.specs.declared.played.LabFault.TheVariants as fault
-use Rattle.play_text.specs.declared.account.Stopped.{Stopped}
-use Rattle.play_text.specs.declared.inputs.Inputs.{Inputs}
+use Rattle.bmc_play.specs.declared.account.Stopped.{Stopped}
+use Rattle.bmc_play.specs.declared.inputs.Inputs.{Inputs}
 use Rattle.bmc_lab.specs.declared.report.Report.{Report}
 use Rattle.bmc_play.specs.Account.{status_of}
 use Rattle.bmc_play.specs.Drawn.{EndsAt, NotesPlayOf, Draws, drawing}

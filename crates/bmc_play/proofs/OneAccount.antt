@@ -26,8 +26,8 @@ use Rattle.lab_model.specs.Played.{Told, Ending, Whole, Stops}
 use Rattle.lab_events.specs.FramesShown.{way_of}
 use Rattle.lab_events.specs.Shown.{IsSentFrame, own_bench}
 use Rattle.lab_play.specs.Ends.{is_value}
-use Rattle.play_text.specs.declared.account.Account.{Account}
-use Rattle.play_text.specs.Account.{said, records_line, undo_lines, shown, ending, text_of}
+use Rattle.bmc_play.specs.declared.account.Account.{Account}
+use Rattle.bmc_play.specs.Lines.{said, records_line, undo_lines, shown, ending, text_of}
 use Rattle.bmc_play.specs.Account.{AreChanged, Accounts, IsAccountOf, status_of}
 use Rattle.bmc_play.specs.Determined.{OneText}
 use Rattle.bmc_play.specs.Run.{Recounts}

@@ -19,8 +19,8 @@ use Rattle.chart_text.specs.Arrivals.{delivers, came_at, lost_from}
 use Rattle.chart_text.specs.Chart.{call_cell, comes_cell, count_of, sends_cell, done_cell, head_line, event_line, chart_of}
 use Rattle.lab_events.specs.Shown.{own_bench}
 use Rattle.lab_play.specs.Noted.{Noted, IsNote, noted_from, AreNotes}
-use Rattle.play_text.specs.declared.account.Stopped.{Stopped}
-use Rattle.play_text.specs.Account.{ending}
+use Rattle.bmc_play.specs.declared.account.Stopped.{Stopped}
+use Rattle.bmc_play.specs.Lines.{ending}
 use Rattle.bmc_play.specs.Account.{status_of}
 use Rattle.bmc_play.specs.Determined.{OneText}
 use Rattle.bmc_play.specs.Drawn.{EndsAt, Draws, drawing}

@@ -13,10 +13,10 @@ use Rattle.schedules.specs.declared.schedule.ScheduleFault.{ScheduleFault}
 use Rattle.schedules.specs.declared.schedule.ScheduleFault.TheVariants as line
 use Rattle.schedules.specs.Text.{lines_of}
 use Rattle.schedules.specs.Schedule.{Say, IsFirstBad, IsRead}
-use Rattle.play_text.specs.declared.inputs.Inputs.{Inputs}
-use Rattle.play_text.specs.declared.inputs.InputFault.{InputFault}
-use Rattle.play_text.specs.declared.inputs.InputFault.TheVariants as fault
-use Rattle.play_text.specs.Inputs.{IsBoard, IsPlan, AreRead}
+use Rattle.bmc_play.specs.declared.inputs.Inputs.{Inputs}
+use Rattle.bmc_play.specs.declared.inputs.InputFault.{InputFault}
+use Rattle.bmc_play.specs.declared.inputs.InputFault.TheVariants as fault
+use Rattle.bmc_play.specs.Inputs.{IsBoard, IsPlan, AreRead}
 use Rattle.bmc_lab.specs.declared.console.Stream.TheVariants.{Output, Error}
 use Rattle.bmc_play.specs.Determined.{OneText, SaysOne}
 use Rattle.bmc_play.specs.Run.{is_memory, refusal_line, Telling, Says}

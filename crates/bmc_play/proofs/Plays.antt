@@ -6,10 +6,10 @@ use Rattle.lab_play.specs.Ends.{Tells, IsEnding, Plays}
 use Rattle.lab_play.specs.declared.played.Played.{Played}
 use Rattle.lab_play.specs.declared.played.LabFault.{LabFault}
 use Rattle.lab_play.specs.declared.played.LabFault.TheVariants as fault
-use Rattle.play_text.specs.declared.inputs.Inputs.{Inputs}
-use Rattle.play_text.specs.declared.account.Account.{Account}
-use Rattle.play_text.specs.Inputs.{AreRead}
-use Rattle.play_text.specs.Account.{text_of}
+use Rattle.bmc_play.specs.declared.inputs.Inputs.{Inputs}
+use Rattle.bmc_play.specs.declared.account.Account.{Account}
+use Rattle.bmc_play.specs.Inputs.{AreRead}
+use Rattle.bmc_play.specs.Lines.{text_of}
 use Rattle.bmc_lab.specs.declared.console.Stream.{Stream}
 use Rattle.bmc_lab.specs.declared.console.Stream.TheVariants.{Output}
 use Rattle.bmc_lab.specs.declared.report.Report.{Report}

@@ -9,8 +9,8 @@ use Rattle.lab_model.specs.Played.{Told, Ending, Whole, Stops}
 use Rattle.lab_events.specs.FramesShown.{fault_of}
 use Rattle.lab_events.specs.Shown.{IsSentFrame}
 use Rattle.lab_play.specs.Ends.{changed_in}
-use Rattle.play_text.specs.declared.account.Account.{Account}
-use Rattle.play_text.specs.declared.account.Stopped.{Stopped}
+use Rattle.bmc_play.specs.declared.account.Account.{Account}
+use Rattle.bmc_play.specs.declared.account.Stopped.{Stopped}
 use Rattle.bmc_lab.specs.declared.status.Status.{Status}
 use Rattle.bmc_lab.specs.declared.status.Status.TheVariants as ended
 

@@ -1,6 +1,6 @@
 -- A play that is told in lines, and drawn.
 use Rattle.std.specs.Prelude.{◌≡◌, ℕ, Bool, List}
-use Rattle.play_text.specs.declared.inputs.Inputs.{Inputs}
+use Rattle.bmc_play.specs.declared.inputs.Inputs.{Inputs}
 use Rattle.bmc_lab.specs.declared.status.Status.{Status}
 use Rattle.bmc_play.specs.Drawn.{Draws}
 use Rattle.bmc_play.specs.Run.{Recounts}

@@ -12,9 +12,9 @@ use Rattle.lab_events.specs.declared.note.Note.{Note}
 use Rattle.chart_text.specs.Chart.{chart_of}
 use Rattle.lab_events.specs.Shown.{own_bench}
 use Rattle.lab_play.specs.Noted.{AreNotes}
-use Rattle.play_text.specs.declared.inputs.Inputs.{Inputs}
-use Rattle.play_text.specs.declared.account.Stopped.{Stopped}
-use Rattle.play_text.specs.Account.{ending}
+use Rattle.bmc_play.specs.declared.inputs.Inputs.{Inputs}
+use Rattle.bmc_play.specs.declared.account.Stopped.{Stopped}
+use Rattle.bmc_play.specs.Lines.{ending}
 use Rattle.bmc_lab.specs.declared.status.Status.{Status}
 use Rattle.bmc_play.specs.Account.{status_of}
 

@@ -3,12 +3,12 @@ use Rattle.std.specs.Prelude.{◌≡◌, ℕ, Bool, true, false, List, [], ◌�
 use Rattle.board_file.specs.declared.fault.FileFault.TheVariants as of_file
 use Rattle.plan_file.specs.declared.plan_fault.PlanFault.TheVariants as of_plan
 use Rattle.schedules.specs.declared.schedule.ScheduleFault.TheVariants as of_schedule
-use Rattle.play_text.specs.declared.inputs.Inputs.{Inputs}
-use Rattle.play_text.specs.declared.inputs.InputFault.{InputFault}
-use Rattle.play_text.specs.declared.inputs.InputFault.TheVariants as fault
-use Rattle.play_text.specs.declared.account.Account.{Account}
-use Rattle.play_text.specs.Inputs.{AreRead, input_fault_name}
-use Rattle.play_text.specs.Account.{text_of}
+use Rattle.bmc_play.specs.declared.inputs.Inputs.{Inputs}
+use Rattle.bmc_play.specs.declared.inputs.InputFault.{InputFault}
+use Rattle.bmc_play.specs.declared.inputs.InputFault.TheVariants as fault
+use Rattle.bmc_play.specs.declared.account.Account.{Account}
+use Rattle.bmc_play.specs.Inputs.{AreRead, input_fault_name}
+use Rattle.bmc_play.specs.Lines.{text_of}
 use Rattle.lab_model.specs.Played.{Ending, IsPlayed}
 use Rattle.lab_stands.specs.Plays.{StandsIfOwn}
 use Rattle.lab_events.specs.Shown.{own_bench}

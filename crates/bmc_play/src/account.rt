@@ -1,54 +1,58 @@
-//! What is said of a lab that was played.
-ghost use Rattle.std.specs.Prelude.{◌≡◌, IfOk, Option, None, Some, string_bytes};
-ghost use Rattle.lab_model.specs.Played.{Told};
-ghost use Rattle.lab_play.specs.Ends.{Tells};
-ghost use Rattle.bmc_lab.specs.declared.console.Stream.TheVariants.{Output};
-ghost use Rattle.play_text.specs.Account.{text_of};
-ghost use Rattle.bmc_play.specs.Account.{Accounts, status_of};
+//! What a play tells.
+ghost use Rattle.std.specs.Prelude.{◌≡◌, IfOk, string_bytes};
+ghost use Rattle.bmc_play.specs.Lines.{text_of};
 
-use bmc_lab::{Report, Status, Stream};
-use lab_play::Played;
-use play_text::{Account, Stopped};
+use crate::lines::{push_frames, push_records, push_stopped};
+use lab_events::{Fault, SentFrame};
+use plans::Requests;
 use std::alloc::{AllocError, Global};
+use undo_core::Phase;
+use undo_text::push_requests;
 
-/// The account of what was played, and of the event that the lab didn't take.
-pub(crate) fn account_of(played: &Played, stopped: Option<Stopped>) -> Account<'_>
-    ensures told { (told : Told) → Tells played.now told → Accounts result told }
-    ensures stopped { result.stopped ≡ stopped }
-{
-    Account {
-        phase: played.phase(),
-        frames: played.frames(),
-        undo: &played.undo().requests,
-        changed: played.changed(),
-        stopped,
-    }
+/// The event that the lab didn't take.
+#[derive(Clone, Copy, Debug, PartialEq, Eq)]
+pub struct Stopped {
+    /// Its place among the events, from 1.
+    pub place: usize,
+    pub fault: Fault,
 }
 
-/// How a run with this account ends.
-pub(crate) fn status(stopped: Option<Stopped>) -> Status
-    ensures { result ≡ status_of stopped }
-{
-    match stopped {
-        None => Status::Success,
-        Some(_) => Status::Stopped,
-    }
+/// What is told of a play, after its last event or before the one that the lab didn't take.
+#[derive(Clone, Copy, Debug)]
+pub struct Account<'a> {
+    /// The manager's phase.
+    pub phase: Phase,
+    /// The frames that were sent, each at its number.
+    pub frames: &'a [SentFrame],
+    /// The requests that undo the steps that were done, in the order of the steps.
+    pub undo: &'a Requests,
+    /// How many records are no longer what they were at the start.
+    pub changed: usize,
+    /// Why not all events were taken.
+    pub stopped: Option<Stopped>,
 }
 
-/// The lines of the account.
-pub(crate) fn account_report(
-    alloc: Global,
-    frames: bool,
-    account: &Account,
-) -> Result<Report, AllocError>
-    ensures stream { IfOk result (λ report. report.stream ≡ Output) }
-    ensures text { IfOk result (λ report. string_bytes report.text ≡ text_of frames account.now) }
-    ensures status { IfOk result (λ report. report.status ≡ status_of account.now.stopped) }
-{
-    let text = account.text(alloc, frames)?;
-    Ok(Report {
-        stream: Stream::Output,
-        text,
-        status: status(account.stopped),
-    })
+impl Account<'_> {
+    /// The lines of the account: the phase, how many frames there are, how many requests undo the plan and each of them, and whether
+    /// records are changed. Then, where they are asked for, come the frames, and at last the fault of an event.
+    pub fn text(&self, alloc: Global, frames: bool) -> Result<String, AllocError>
+        ensures { IfOk result (λ text. string_bytes text ≡ text_of frames self.now) }
+    {
+        let mut text = String::new(alloc);
+        let phase = self.phase;
+        let sent = self.frames.len();
+        let requests = self.undo.len();
+        writeln!(text, "phase {phase}")?;
+        writeln!(text, "frames {sent}")?;
+        writeln!(text, "undo {requests}")?;
+        push_requests(alloc, &mut text, self.undo)?;
+        push_records(&mut text, self.changed)?;
+        if frames {
+            push_frames(alloc, &mut text, self.frames)?;
+        }
+        if let Some(stopped) = self.stopped {
+            push_stopped(&mut text, stopped)?;
+        }
+        Ok(text)
+    }
 }

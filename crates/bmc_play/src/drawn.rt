@@ -4,14 +4,16 @@ ghost use Rattle.bmc_lab.specs.declared.console.Stream.TheVariants.{Output};
 ghost use Rattle.bmc_play.specs.Account.{status_of};
 ghost use Rattle.bmc_play.specs.Drawn.{NotesPlayOf, Draws, drawing};
 
-use crate::account::status;
+use crate::account::Stopped;
+use crate::inputs::Inputs;
+use crate::lines::push_stopped;
+use crate::report::status;
 use bmc_lab::{Report, Stream};
 use cfg_records::BoardFile;
 use chart_text::chart;
 use lab_events::Note;
 use lab_play::{LabFault, play_noted};
 use plans::Plan;
-use play_text::{Inputs, Stopped, push_stopped};
 use schedules::Event;
 use std::alloc::{AllocError, Global};
 

@@ -1,6 +1,6 @@
 //! What holds of plays that are shown in either way.
 ghost use Rattle.std.specs.Prelude.{ℕ, List};
-ghost use Rattle.play_text.specs.declared.inputs.Inputs.{Inputs};
+ghost use Rattle.bmc_play.specs.declared.inputs.Inputs.{Inputs};
 ghost use Rattle.bmc_play.specs.declared.run.Shown.{Shown};
 ghost use Rattle.bmc_play.specs.Alike.{EndAlike};
 ghost use Rattle.bmc_play.specs.Determined.{OneText, SaysOne};

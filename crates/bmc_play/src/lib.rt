@@ -1,11 +1,18 @@
-//! What `bmclab play` does, over files and writers of any kind: a plan run and undone by a schedule.
+//! What `bmclab play` does, over files and writers of any kind: a plan run and undone by a schedule. It reads the board file, the
+//! plan and the schedule that tell a play, and writes the lines that are said of it.
 #![tactic(auto)]
 
 mod account;
 mod drawn;
 pub mod files;
+mod inputs;
 pub mod laws;
+mod lines;
+mod report;
 pub mod run;
 
+pub use account::{Account, Stopped};
 pub use files::{PlayFiles, play_of_files};
+pub use inputs::{InputFault, Inputs, read_inputs};
+pub use lines::push_stopped;
 pub use run::{Shown, chart_run, play_run, show};

@@ -6,13 +6,14 @@ ghost use Rattle.bmc_lab.specs.Ending.{RunEnds};
 ghost use Rattle.bmc_play.specs.Drawn.{Draws};
 ghost use Rattle.bmc_play.specs.Run.{is_memory, refusal_line, tells_of, Recounts, Says};
 
-use crate::account::{account_of, account_report};
+use crate::account::Stopped;
 use crate::drawn::drawn_report;
+use crate::inputs::{InputFault, Inputs, read_inputs};
+use crate::report::{account_of, account_report};
 use bmc_lab::{Console, Ending, Report, Status, Stream};
 use board_file::FileFault;
 use lab_play::{LabFault, play};
 use plan_file::PlanFault;
-use play_text::{InputFault, Inputs, Stopped, read_inputs};
 use schedules::ScheduleFault;
 use std::alloc::{AllocError, Global};
 use std::io;

@@ -3,11 +3,11 @@ ghost use Rattle.std.specs.Prelude.{◌≤◌, length};
 
 use super::board::BARE;
 use super::story::{Form, otherwise};
+use bmc_play::{Account, InputFault, Inputs, Stopped, read_inputs};
 use cfg_records::Asked;
 use lab_events::{Fault, SentFrame, Way};
 use lab_model::marks::Mark;
 use plans::Requests;
-use play_text::{Account, InputFault, Inputs, Stopped, read_inputs};
 use schedules::ScheduleFault;
 use std::alloc::{AllocError, Global};
 use std::test::Fail;

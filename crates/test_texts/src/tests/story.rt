@@ -1,9 +1,9 @@
 //! Stories of texts: a file, and what comes of it with other lines.
+use bmc_play::read_inputs;
 use board_file::read_board;
 use cfg_records::{Op, RecordKind};
 use plan_file::read_plan;
 use plans::{Plan, Requests};
-use play_text::read_inputs;
 use record_kinds::Limits;
 use schedules::read_schedule;
 use std::alloc::{AllocError, Global};

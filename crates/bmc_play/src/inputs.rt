@@ -1,5 +1,5 @@
 //! The texts that a play is told in: a board file, a plan and a schedule.
-ghost use Rattle.play_text.specs.Inputs.{AreRead};
+ghost use Rattle.bmc_play.specs.Inputs.{AreRead};
 
 use board_file::{FileFault, read_board};
 use cfg_records::BoardFile;
@@ -53,7 +53,7 @@ pub fn read_inputs(
 
 impl fmt::Display for InputFault {
     ghost use Rattle.std.specs.Prelude.{Some};
-    ghost use Rattle.play_text.specs.Inputs.{input_fault_name};
+    ghost use Rattle.bmc_play.specs.Inputs.{input_fault_name};
 
     ghost output = { λ fault. Some (input_fault_name fault) };
 

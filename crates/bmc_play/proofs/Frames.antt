@@ -4,7 +4,7 @@ use Rattle.std.proofs.lemmas.List.{take_more, map-append, flat_map_more, length-
 use Rattle.std.specs.List.{flat_map, enumerate_from}
 use Rattle.line_text.specs.Cuts.{ended}
 use Rattle.lab_events.specs.declared.frames.SentFrame.{SentFrame}
-use Rattle.play_text.specs.Account.{frame_line, frame_lines}
+use Rattle.bmc_play.specs.Lines.{frame_line, frame_lines}
 
 -- one more element has the next number
 enumerated_more : {X : Type 0} (n : ℕ) (xs : List X) (x : X) → enumerate_from n (xs ++ x ∷ []) ≡ enumerate_from n xs ++ (n + length xs, x) ∷ []

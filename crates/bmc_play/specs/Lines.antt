@@ -13,8 +13,8 @@ use Rattle.lab_events.specs.declared.frames.Way.{Way}
 use Rattle.lab_events.specs.declared.frames.Way.TheVariants.{ToPort, ToManager, ToOthers}
 use Rattle.lab_events.specs.declared.frames.SentFrame.{SentFrame}
 use Rattle.lab_events.specs.FaultNames.{fault_name}
-use Rattle.play_text.specs.declared.account.Account.{Account}
-use Rattle.play_text.specs.declared.account.Stopped.{Stopped}
+use Rattle.bmc_play.specs.declared.account.Account.{Account}
+use Rattle.bmc_play.specs.declared.account.Stopped.{Stopped}
 
 -- a word, and what stands behind it after a space
 abbrev pub said : List ℕ → List ℕ → List ℕ

@@ -1,8 +1,8 @@
 use Rattle.plans.specs.declared.plan.Plan.{Plan}
 use Rattle.board_file.specs.declared.fault.FileFault.TheVariants as of_file
 use Rattle.plan_file.specs.declared.plan_fault.PlanFault.TheVariants as of_plan
-use Rattle.play_text.proofs.Readers.{was_read, was_refused}
-use Rattle.play_text.proofs.inputs.read_inputs.Goals as goal
+use Rattle.bmc_play.proofs.Readers.{was_read, was_refused}
+use Rattle.bmc_play.proofs.inputs.read_inputs.Goals as goal
 
 pub returns-in-Err-read_plan : goal.returns-in-Err-read_plan
 returns-in-Err-read_plan c =

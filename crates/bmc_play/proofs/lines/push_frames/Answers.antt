@@ -1,6 +1,6 @@
 use Rattle.std.proofs.Common.{string_bytes}
-use Rattle.play_text.proofs.Frames.{text_more}
-use Rattle.play_text.proofs.lines.push_frames.Goals as goal
+use Rattle.bmc_play.proofs.Frames.{text_more}
+use Rattle.bmc_play.proofs.lines.push_frames.Goals as goal
 
 pub loop-number-preserved : goal.loop-number-preserved
 loop-number-preserved c =

@@ -1,6 +1,6 @@
 use Rattle.std.proofs.Common.{◌∙◌, ap}
 use Rattle.lab_model.specs.Played.{Told}
-use Rattle.bmc_play.proofs.account.account_of.Goals as goal
+use Rattle.bmc_play.proofs.report.account_of.Goals as goal
 
 pub returns-clause-told : goal.returns-clause-told
 returns-clause-told c told tells = record {

@@ -2,7 +2,7 @@
 ghost use Rattle.std.specs.Prelude.{◌≡◌, ◌++◌, OnOk, string_bytes};
 ghost use Rattle.std.specs.List.{flat_map};
 ghost use Rattle.line_text.specs.Cuts.{ended};
-ghost use Rattle.play_text.specs.Account.{end_name, bus_name, frame_line, frame_lines, records_line, stopped_line};
+ghost use Rattle.bmc_play.specs.Lines.{end_name, bus_name, frame_line, frame_lines, records_line, stopped_line};
 
 use crate::account::Stopped;
 use lab_events::{SentFrame, Way};

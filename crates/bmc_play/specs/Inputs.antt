@@ -10,9 +10,9 @@ use Rattle.board_file.specs.Names.{fault_name}
 use Rattle.plan_file.specs.PlanNames.{plan_fault_name}
 use Rattle.schedules.specs.Schedule.{IsRead}
 use Rattle.schedules.specs.Names.{schedule_fault_name}
-use Rattle.play_text.specs.declared.inputs.Inputs.{Inputs}
-use Rattle.play_text.specs.declared.inputs.InputFault.{InputFault}
-use Rattle.play_text.specs.declared.inputs.InputFault.TheVariants as fault
+use Rattle.bmc_play.specs.declared.inputs.Inputs.{Inputs}
+use Rattle.bmc_play.specs.declared.inputs.InputFault.{InputFault}
+use Rattle.bmc_play.specs.declared.inputs.InputFault.TheVariants as fault
 
 -- the text is a board file
 abbrev pub IsBoard : List ℕ → Type 0

@@ -1,2 +1,0 @@
-pub mod Account
-pub mod Inputs
