@@ -8,12 +8,12 @@ use std::alloc::AllocError;
 use story_lines::NoOutcome;
 use two_wire::{Bytes, Code, Data};
 
-/// The bytes, of which a message can have 255 at most.
-fn message_of(bytes: &[u8]) -> PldmBytes<'_> {
+/// The bytes as those of a message, which has 255 at most.
+fn message_of(bytes: &[u8]) -> Result<PldmBytes<'_>, NoOutcome> {
     if bytes.len() > 255 {
-        return PldmBytes::new(&bytes[..255]);
+        return Err(NoOutcome::Unread);
     }
-    PldmBytes::new(bytes)
+    Ok(PldmBytes::new(bytes))
 }
 
 fn push_header(header: Header, text: &mut String) -> Result<(), AllocError> {
@@ -33,11 +33,12 @@ fn push_request(request: &PldmRequest, bytes: &[u8], text: &mut String) -> Resul
 }
 
 /// What the bytes are read as, as a request.
-pub fn read_request(bytes: &[u8], text: &mut String) -> Result<(), AllocError> {
-    match read_pldm(&message_of(bytes)) {
-        Ok(request) => push_request(&request, bytes, text),
-        Err(fault) => write!(text, " {fault}"),
+pub fn read_request(bytes: &[u8], text: &mut String) -> Result<(), NoOutcome> {
+    match read_pldm(&message_of(bytes)?) {
+        Ok(request) => push_request(&request, bytes, text)?,
+        Err(fault) => write!(text, " {fault}")?,
     }
+    Ok(())
 }
 
 fn push_reply(reply: &PldmReply, bytes: &[u8], text: &mut String) -> Result<(), AllocError> {
@@ -52,17 +53,18 @@ fn push_reply(reply: &PldmReply, bytes: &[u8], text: &mut String) -> Result<(), 
 }
 
 /// What the bytes are read as, as a reply.
-pub fn read_reply(bytes: &[u8], text: &mut String) -> Result<(), AllocError> {
-    match read_pldm_reply(&message_of(bytes)) {
-        Ok(reply) => push_reply(&reply, bytes, text),
-        Err(fault) => write!(text, " {fault:?}"),
+pub fn read_reply(bytes: &[u8], text: &mut String) -> Result<(), NoOutcome> {
+    match read_pldm_reply(&message_of(bytes)?) {
+        Ok(reply) => push_reply(&reply, bytes, text)?,
+        Err(fault) => write!(text, " {fault:?}")?,
     }
+    Ok(())
 }
 
 /// Whether both are the same request.
 pub fn are_same_messages(one: &[u8], other: &[u8]) -> Option<bool> {
-    let one = read_pldm(&message_of(one)).ok()?;
-    let other = read_pldm(&message_of(other)).ok()?;
+    let one = read_pldm(&message_of(one).ok()?).ok()?;
+    let other = read_pldm(&message_of(other).ok()?).ok()?;
     Some(same_request(&one, &other))
 }
 
