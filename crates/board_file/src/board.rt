@@ -3,8 +3,8 @@ ghost use Rattle.std.specs.Prelude.{◌≡◌, ◌⊎◌, ◌==◌, [], true, fa
 ghost use Rattle.std.specs.List.{list_all, list_any, AllZip};
 ghost use Rattle.cfg_records.specs.Distinct.{NamesDiffer};
 ghost use Rattle.toml.specs.View.{view, table_view};
-ghost use Rattle.file_fields.specs.Trees.{table_of, members_in, HasNumber};
-ghost use Rattle.file_fields.specs.Ranges.{is_table, record_in};
+ghost use Rattle.file_fields.specs.Trees.{table_of, members_in, HasNumber, HasNumbers};
+ghost use Rattle.file_fields.specs.Ranges.{is_table, record_in, settings};
 ghost use Rattle.file_fields.specs.Faults.{field_faults, first};
 ghost use Rattle.board_file.specs.Faults.{record_faults, sensor_faults};
 ghost use Rattle.board_file.specs.Holds.{HoldsBoot, HoldsDevice, HoldsEvents, HoldsSensor, IsRecordIn, IsSensorIn, IsNextFault, number_of, Answers, Reads};
@@ -21,7 +21,7 @@ use cfg_records::event_enable::{MESSAGES_PLACE, SCANNING_PLACE};
 use cfg_records::mask::has;
 use cfg_records::{
     BoardFile, BootOptions, Device, Distinct, EventEnable, EventMasks, GlobalEnables, LogCapacity,
-    ManufacturerId, Numbered, PowerPolicy, SdrRecord, SdrRecords, Sensor, Sensors,
+    ManufacturerId, Numbered, PowerPolicy, SdrRecord, SdrRecords, Sensor, Sensors, Watchdog,
 };
 use file_fields::Field;
 use file_fields::range::{boot_flags, digits, enables, record, thresholds, watchdog};
@@ -188,6 +188,30 @@ fn boot_options(tree: &Table) -> BootOptions
     BootOptions::new(clearing, acknowledge, flags).unwrap()
 }
 
+/// The power policy of the file.
+fn power_policy(tree: &Table) -> PowerPolicy
+    requires { field_faults TOP (table_view tree.now) ≡ [] }
+    ensures { HasNumber Field.Policy (table_view tree.now) result.number }
+{
+    PowerPolicy::new(byte_in(tree, Field::Policy)).unwrap()
+}
+
+/// The settings of the file's watchdog timer.
+fn timer(tree: &Table) -> Watchdog
+    requires { field_faults TOP (table_view tree.now) ≡ [] }
+    ensures { HasNumbers Field.Watchdog (table_view tree.now) (settings result) }
+{
+    watchdog(value_in(tree, Field::Watchdog)).unwrap()
+}
+
+/// How many records the log of the file has room for.
+fn log_capacity(tree: &Table) -> LogCapacity
+    requires { field_faults TOP (table_view tree.now) ≡ [] }
+    ensures { HasNumber Field.Log (table_view tree.now) result.records }
+{
+    LogCapacity::new(word_in(tree, Field::Log)).unwrap()
+}
+
 /// The board that the tree holds, or its first fault.
 fn board_of(alloc: Global, tree: &Table) -> Result<BoardFile, FileFault>
     ensures { (result ≡ Err FileFault.Memory) ⊎ Answers (table_view tree.now) result }
@@ -208,10 +232,10 @@ fn board_of(alloc: Global, tree: &Table) -> Result<BoardFile, FileFault>
         sensors,
         enables: global_enables(tree),
         boot: boot_options(tree),
-        policy: PowerPolicy::new(byte_in(tree, Field::Policy)).unwrap(),
-        watchdog: watchdog(value_in(tree, Field::Watchdog)).unwrap(),
+        policy: power_policy(tree),
+        watchdog: timer(tree),
         clock: number_in(tree, Field::Clock),
-        log: LogCapacity::new(word_in(tree, Field::Log)).unwrap(),
+        log: log_capacity(tree),
         sdr,
         numeric_effecters,
         state_effecters,

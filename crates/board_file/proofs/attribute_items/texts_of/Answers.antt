@@ -1,8 +1,12 @@
-use Rattle.std.proofs.Common.{◌≡◌, ◌++◌, ◌∷◌, [], sym, ◌∙◌}
+use Rattle.std.proofs.Common.{◌≡◌, ◌++◌, ◌∷◌, [], is_some, sym, ap, ◌∙◌}
 use Rattle.toml.specs.View.{view}
 use Rattle.board_file.specs.AttributeItems.{IsTextIn}
-use Rattle.file_fields.proofs.Members.{next_zip}
+use Rattle.file_fields.specs.Attributes.{text_of}
+use Rattle.file_fields.proofs.Members.{next_zip, each_passes}
 use Rattle.board_file.proofs.attribute_items.texts_of.Goals as goal
+
+pub unwrap-requires : goal.unwrap-requires
+unwrap-requires c = ap is_some c.text.ensures ∙ each_passes (λ value. is_some (text_of (view value))) c.args.values.now c.loop-value.value-index c.value-item.result c.requires c.loop-value-test.true c.value-item.is
 
 pub loop-value-preserved : goal.loop-value-preserved
 loop-value-preserved c =

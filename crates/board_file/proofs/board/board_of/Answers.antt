@@ -112,43 +112,17 @@ global_enables-requires c = c.in_ok-check.ensures.ok
 pub boot_options-requires : goal.boot_options-requires
 boot_options-requires c = c.in_ok-check.ensures.ok
 
-pub byte_in-requires-2 : goal.byte_in-requires-2
-byte_in-requires-2 c = below 256 (number_of (table_view c.args.tree.now) field.Policy 0 3 (top_sound (table_view c.args.tree.now) c.in_ok-check.ensures.ok).policy) (lit< tt)
+pub power_policy-requires : goal.power_policy-requires
+power_policy-requires c = c.in_ok-check.ensures.ok
 
-pub unwrap-requires : goal.unwrap-requires
-unwrap-requires c =
-    let number = number_of (table_view c.args.tree.now) field.Policy 0 3 (top_sound (table_view c.args.tree.now) c.in_ok-check.ensures.ok).policy in
-    let few : c.byte_in-2.result ≤ 3 = within c.byte_in-2.result number c.byte_in-2.ensures in
-    c.new.ensures.made.1 (record { one = refl; known = few })
-
-pub value_in-requires : goal.value_in-requires
-value_in-requires c =
-    let tree = table_view c.args.tree.now in
-    let sound = top_sound tree c.in_ok-check.ensures.ok in
-    let value = value_of tree (record { 0 = field.Watchdog; 1 = shape.Watchdog; 2 = need.Always }) (in_field field.Watchdog tree) refl refl sound.watchdog in
-    rw value.found refl
-
-pub unwrap-requires-2 : goal.unwrap-requires-2
-unwrap-requires-2 c =
-    let tree = table_view c.args.tree.now in
-    let sound = top_sound tree c.in_ok-check.ensures.ok in
-    let value = value_of tree (record { 0 = field.Watchdog; 1 = shape.Watchdog; 2 = need.Always }) (in_field field.Watchdog tree) refl refl sound.watchdog in
-    let same = same_value value.value (view c.value_in.result.now) (in_field field.Watchdog tree) value.found c.value_in.ensures in
-    let valid : passes are_settings (naturals_in 4 value.value) ≡ true = value.within in
-    c.watchdog.ensures.made ∙ ap (λ d. passes are_settings (naturals_in 4 d)) (sym same) ∙ valid
+pub timer-requires : goal.timer-requires
+timer-requires c = c.in_ok-check.ensures.ok
 
 pub number_in-requires : goal.number_in-requires
 number_in-requires c = below 4294967296 (number_of (table_view c.args.tree.now) field.Clock 0 0xFFFFFFFF (top_sound (table_view c.args.tree.now) c.in_ok-check.ensures.ok).clock) (lit< tt)
 
-pub word_in-requires : goal.word_in-requires
-word_in-requires c = below 65536 (number_of (table_view c.args.tree.now) field.Log 1 1024 (top_sound (table_view c.args.tree.now) c.in_ok-check.ensures.ok).log) (lit< tt)
-
-pub unwrap-requires-3 : goal.unwrap-requires-3
-unwrap-requires-3 c =
-    let number = number_of (table_view c.args.tree.now) field.Log 1 1024 (top_sound (table_view c.args.tree.now) c.in_ok-check.ensures.ok).log in
-    let least : 1 ≤ c.word_in.result = at_least c.word_in.result number c.word_in.ensures in
-    let most : c.word_in.result ≤ 1024 = within c.word_in.result number c.word_in.ensures in
-    c.new-2.ensures.made.1 (least, most)
+pub log_capacity-requires : goal.log_capacity-requires
+log_capacity-requires c = c.in_ok-check.ensures.ok
 
 pub returns : goal.returns
 returns c =
@@ -160,12 +134,12 @@ returns c =
       record {
         terminus = c.byte_in.ensures;
         clock = c.number_in.ensures;
-        log = search rules;
+        log = c.log_capacity.ensures;
         enables = c.global_enables.ensures;
         sdr = c.in_ok-sdr.ensures.held;
         boot = c.boot_options.ensures;
-        policy = search rules;
-        watchdog = search rules;
+        policy = c.power_policy.ensures;
+        watchdog = c.timer.ensures;
         device = holds;
         sensors = c.in_ok-sensors.ensures.held;
         states = c.in_ok-state_effecters.ensures.held;
