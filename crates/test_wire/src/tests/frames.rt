@@ -34,9 +34,9 @@ fn push_request(request: &Request, bytes: &[u8], text: &mut String) -> Result<()
     push_other(write_request(request).as_slice(), bytes, text)
 }
 
-/// The frame of the response, written in two steps into one that was used.
+/// The frame of the response, written in two steps into one that was used for a longer one.
 fn begun(response: &Response) -> Frame {
-    let mut frame = Frame::from_slice(&[1, 2, 3]);
+    let mut frame = Frame::from_slice(&[0xFF; 40]);
     begin_response(&mut frame, &response.header, response.code);
     frame.extend_from_slice(response.body.as_slice());
     end_response(&mut frame);
@@ -166,7 +166,7 @@ fn a_response_is_written_and_read(rt: HostRuntime) {
         body: Data::new(&[]),
     };
     assert!(rt; write_response(&response).is(&bytes));
-    let mut frame = Frame::from_slice(&[1, 2, 3]);
+    let mut frame = Frame::from_slice(&[0xFF; 40]);
     write_response_into(&mut frame, &header, 0xC0, &[]);
     assert!(rt; frame.is(&bytes));
     let Ok(Msg::Response(read)) = read_frame(&bytes) else {
