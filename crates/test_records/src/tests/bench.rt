@@ -152,6 +152,12 @@ ipmi 10 28 0540 -> 00
 reads 05 00
 reads 05 FF
 ipmi 28 40 -> 00 51000020 00*9 02
+# All events are enabled.
+ipmi 10 28 0550FF0FFF0F -> 00
+ipmi 10 29 05 -> 00 40FF0FFF0F
+reads 05 00
+ipmi 10 2D 05 -> 00 0040C7
+ipmi 28 40 -> 00 51000020 00*9 02
 
 story hysteresis does not wrap
 board sensor = [{ number = 5, type = 1, readable = 0x3F, settable = 0x3F, thresholds = [0xFE, 0, 0, 0xFF, 0xFF, 0xFF], hysteresis = [2, 2], supported = 0xFFF, flags = 0xC0, assert = 0x200, deassert = 0x200 }]

@@ -70,9 +70,9 @@ fn a_change_is_asked_and_undone(rt: HostRuntime) -> Result<(), Fail> {
 
 /// Of the lengths from 0 on, those that the command takes: `+` for each, and `.` for each other.
 fn allowed(alloc: Global, lengths: Lengths) -> Result<String, AllocError> {
-    let body = [3; 24];
+    let body = [3; 30];
     let mut text = String::new(alloc);
-    for length in 0..24 {
+    for length in 0..30 {
         let allows = lengths.allow(&body[..length]);
         text.push_str(if allows { "+" } else { "." })?;
     }
@@ -82,17 +82,17 @@ fn allowed(alloc: Global, lengths: Lengths) -> Result<String, AllocError> {
 #[test]
 fn a_command_takes_the_lengths_of_its_line(rt: HostRuntime) -> Result<(), Fail> {
     let exactly = allowed(rt.alloc(), Lengths::Exactly(4))?;
-    assert_eq!(rt; exactly.as_str(), "....+...................");
+    assert_eq!(rt; exactly.as_str(), "....+.........................");
     let between = allowed(rt.alloc(), Lengths::Between(2, 6))?;
-    assert_eq!(rt; between.as_str(), "..+++++.................");
+    assert_eq!(rt; between.as_str(), "..+++++.......................");
     let at_least = allowed(rt.alloc(), Lengths::AtLeast(1))?;
-    assert_eq!(rt; at_least.as_str(), ".+++++++++++++++++++++++");
+    assert_eq!(rt; at_least.as_str(), ".+++++++++++++++++++++++++++++");
     // Set User Password.
     let one_of = allowed(rt.alloc(), Lengths::OneOf(2, 18, 22))?;
-    assert_eq!(rt; one_of.as_str(), "..+...............+...+.");
+    assert_eq!(rt; one_of.as_str(), "..+...............+...+.......");
     // Set State Effecter States, with three fields.
     let pairs = allowed(rt.alloc(), Lengths::PairsCountedAt(2))?;
-    assert_eq!(rt; pairs.as_str(), ".........+..............");
+    assert_eq!(rt; pairs.as_str(), ".........+....................");
     Ok(())
 }
 
