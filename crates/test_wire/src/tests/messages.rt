@@ -1,8 +1,11 @@
 //! Messages through packets and back, and packets that are dropped.
 use super::player::{expect_told, push_bytes};
 use arrayvec::ArrayVec;
-use mctp_net::{Assembler, Envelope, Message, Packet, SomeData, Tag, Taken, read_packet, split};
+use mctp_net::{
+    Assembler, DropCause, Envelope, Message, Packet, SomeData, Tag, Taken, read_packet, split,
+};
 use std::alloc::AllocError;
+use std::test::Fail;
 use story_lines::NoOutcome;
 use two_wire::{Address, Frame, pec};
 
@@ -226,4 +229,23 @@ take 0A 08 1B 0B*64 -> NoStart
 #[test]
 fn messages_go_through_packets_and_back(rt: HostRuntime) {
     expect_told(&rt, rt.alloc(), MESSAGES);
+}
+
+#[test]
+fn nothing_is_open_after_clear(rt: HostRuntime) -> Result<(), Fail> {
+    let mut assembler = Assembler::new(rt.alloc())?;
+    // From endpoint 08h to endpoint 0Ah, under tag 3 of the source's own: a start, and then the packet behind it.
+    let mut bytes = [0; 67];
+    bytes[0] = 0x0A;
+    bytes[1] = 0x08;
+    bytes[2] = 0x8B;
+    let start = frame_of(&bytes).map_err(|_| "a frame")?;
+    let taken = assembler.take(0x0A, &read_packet(start.as_slice())?);
+    assert_eq!(rt; taken, Taken::Waiting);
+    assembler.clear();
+    bytes[2] = 0x1B;
+    let next = frame_of(&bytes).map_err(|_| "a frame")?;
+    let taken = assembler.take(0x0A, &read_packet(next.as_slice())?);
+    assert_eq!(rt; taken, Taken::Dropped(DropCause::NoStart));
+    Ok(())
 }
