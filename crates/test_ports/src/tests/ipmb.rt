@@ -1,10 +1,10 @@
 //! Requests that come again over IPMB.
 use super::expect_told;
 use bmc_core::{Done, IpmbPort, Out, Step};
-use cfg_records::Answered;
+use cfg_records::{Answered, Asked};
 use std::test::Fail;
 use stories::open_sample;
-use two_wire::{Address, Bytes};
+use two_wire::{Address, Bytes, Lun, NetFn};
 
 const IPMB: &str = "\
 story a ninth requester finds the port busy
@@ -302,6 +302,14 @@ fn a_reply_that_is_kept_goes_from_the_address_that_is_asked(rt: HostRuntime) -> 
     let Step::Ask(pending) = port.hear(GET, &mut out) else {
         return Err("nothing is asked".into());
     };
+    let asked = Asked::Ipmi {
+        from: 0x40,
+        net_fn: NetFn::new(0x04),
+        lun: Lun::new(0),
+        command: 0x27,
+        body: Bytes::from_slice(&[0x05]),
+    };
+    assert!(rt; pending.asked().is(&asked));
     let answered = Answered {
         code: 0x00,
         body: Bytes::from_slice(&[0x3F, 0x14, 0x0A, 0x05, 0x50, 0x5F, 0x6E]),

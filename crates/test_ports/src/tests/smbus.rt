@@ -1,11 +1,11 @@
 //! Requests to a port on the System Management Bus, and what it keeps of them.
 use super::expect_told;
 use bmc_core::{At, Done, Out, SmbusPort, Step};
-use cfg_records::Answered;
+use cfg_records::{Answered, Asked};
 use mctp_net::EndpointId;
 use std::test::Fail;
 use stories::open_sample;
-use two_wire::{Address, Bytes};
+use two_wire::{Address, Below, Bytes};
 
 const SMBUS: &str = "\
 story instance 16 forgets instance 0
@@ -105,6 +105,13 @@ fn a_request_is_heard_and_told(rt: HostRuntime) -> Result<(), Fail> {
     let Step::Ask(pending) = port.hear(GET_TID, &mut out) else {
         return Err("nothing is asked".into());
     };
+    let asked = Asked::Pldm {
+        from: 0x08,
+        kind: Below::new(0),
+        command: 0x02,
+        body: Bytes::new(),
+    };
+    assert!(rt; pending.asked().is(&asked));
     let answered = Answered {
         code: 0x00,
         body: Bytes::from_slice(&[0x05]),
