@@ -6,6 +6,7 @@ mod calls;
 mod commands;
 mod effecters;
 mod log;
+mod parts;
 mod records;
 mod sel;
 mod sensors;
