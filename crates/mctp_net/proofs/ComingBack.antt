@@ -1,5 +1,5 @@
 -- A message that is cut comes back whole.
-use Rattle.std.proofs.Common.{◌≡◌, ℕ, ◌+◌, ◌<◌, ◌≤◌, ◌==◌, Bool, true, false, cond, List, [], ◌∷◌, ◌++◌, length, map, refl, sym, ◌∙◌, ap, subst, arith, length-append, append_assoc, None}
+use Rattle.std.proofs.Common.{◌≡◌, ℕ, ◌+◌, ◌<◌, ◌≤◌, ◌==◌, true, false, cond, List, [], ◌∷◌, ◌++◌, length, map, refl, sym, ◌∙◌, ap, subst, arith, length-append, append_assoc}
 use Rattle.std.specs.List.{All}
 use Rattle.std.proofs.lemmas.Bool.Decides.{nat_tests}
 use Rattle.std.proofs.lemmas.List.Elements.{All-tail}
@@ -8,7 +8,7 @@ use Rattle.mctp_net.specs.declared.packet.Name.{Name}
 use Rattle.mctp_net.specs.declared.packet.Packet.{Packet}
 use Rattle.mctp_net.specs.declared.message.Message.{Message}
 use Rattle.mctp_net.specs.Cut.{Piece, piece, IsPiece, EachFrom, IsCut, IsCutOf}
-use Rattle.mctp_net.specs.Assembly.{Assemblies, name_of, is_name, joined_to, open_beside, is_ours, drop_cause, ended, kept_with, after_where, after, IsTaken, ComesBack}
+use Rattle.mctp_net.specs.Assembly.{Assemblies, name_of, is_name, joined_to, open_beside, is_ours, ended, kept_with, after_where, after, IsTaken, ComesBack}
 use Rattle.mctp_net.specs.Sound.{Fits}
 use Rattle.mctp_net.proofs.Names.{name-self}
 use Rattle.mctp_net.proofs.Causes.{passes_back, joined-start, joined-more}

@@ -1,5 +1,5 @@
 -- Names, and where they are looked for.
-use Rattle.std.proofs.Common.{◌≡◌, Bool, true, false, not, Option, Some, None, refl, sym, ◌∙◌, ap, subst, arith}
+use Rattle.std.proofs.Common.{◌≡◌, Bool, true, false, Option, Some, None, refl, sym, ◌∙◌, subst, arith}
 use Rattle.std.proofs.lemmas.Bool.Decides.{nat_tests}
 use Rattle.mctp_net.specs.declared.packet.Name.{Name}
 use Rattle.mctp_net.specs.Grammar.{bit}

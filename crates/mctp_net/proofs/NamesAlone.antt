@@ -1,12 +1,12 @@
 -- A packet changes what waits under its own name alone.
-use Rattle.std.proofs.Common.{◌≡◌, ℕ, Bool, true, false, cond, List, [], ◌∷◌, ◌++◌, Option, Some, None, refl, sym, ◌∙◌, ap}
+use Rattle.std.proofs.Common.{◌≡◌, ℕ, Bool, true, false, cond, List, [], ◌∷◌, ◌++◌, Option, Some, None, refl, ap}
 use Rattle.mctp_net.specs.declared.packet.Name.{Name}
 use Rattle.mctp_net.specs.declared.packet.Packet.{Packet}
 use Rattle.mctp_net.specs.declared.taken.DropCause.{DropCause}
 use Rattle.mctp_net.specs.declared.taken.DropCause.TheVariants.{NotOurs, NoStart, TooLong, OutOfSequence, UnitSize, NoSlot}
 use Rattle.mctp_net.specs.Cut.{Piece, piece}
-use Rattle.mctp_net.specs.Assembly.{Assemblies, name_of, is_name, taken_under, joined_to, with_under, ended, kept_with, drop_cause, after_where, after, named_where}
-use Rattle.mctp_net.proofs.Names.{name-one, name-self}
+use Rattle.mctp_net.specs.Assembly.{Assemblies, name_of, is_name, joined_to, with_under, ended, kept_with, drop_cause, after_where, after, named_where}
+use Rattle.mctp_net.proofs.Names.{name-self}
 
 -- under the name that is put, and under others
 under-put : (n : Name) (ps : List Piece) (a : Assemblies) → (with_under n ps a).under n ≡ ps

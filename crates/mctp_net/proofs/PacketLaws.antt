@@ -1,11 +1,9 @@
 -- What the grammar of packets rules out.
-use Rattle.std.proofs.Common.{◌≡◌, ℕ, ◌+◌, ◌-◌, ◌%◌, ◌==◌, ◌<◌, ◌≤◌, Bool, true, false, not, List, [], ◌∷◌, ◌++◌, length, take, get_or, refl, sym, ◌∙◌, ap, arith, length-append, find, None, Result, Ok, Err, IfOk}
-use Rattle.std.specs.Result.{result_err}
+use Rattle.std.proofs.Common.{◌≡◌, ℕ, ◌+◌, ◌-◌, ◌%◌, ◌==◌, ◌<◌, ◌≤◌, Bool, true, false, not, List, [], ◌∷◌, ◌++◌, length, take, get_or, refl, sym, ◌∙◌, ap, arith, length-append, find, None}
 use Rattle.std.proofs.lemmas.Bool.{eq-eqb}
 use Rattle.std.proofs.lemmas.Bool.Decides.{nat_tests}
 use Rattle.std.proofs.Math.Seq.{take-append_seam, get_or-append_seam}
 use Rattle.two_wire.specs.Pec.{pec}
-use Rattle.mctp_net.specs.declared.fault.PacketFault.{PacketFault}
 use Rattle.mctp_net.specs.declared.fault.PacketFault.TheVariants.{Short, NotMctp, Count, Pec, Version}
 use Rattle.mctp_net.specs.declared.packet.Packet.{Packet}
 use Rattle.mctp_net.specs.Grammar.{bit, flags_of, unchecked, with_pec, has_fault, faults, IsEnvelope, IsPacket}
@@ -84,9 +82,3 @@ packet-whole p bytes (i, low, h) = rw h.spelled (no_fault p i low h.envelope h.s
         let pec : has_fault bytes Pec ≡ false = pec-holds (unchecked p i) in
         let version : has_fault bytes Version ≡ false = grind (arith, nat_tests) in
         rw (short, mctp, count, pec, version) refl
-
--- what reads by the faults and the grammar reads every packet
-pub reads-whole : (r : Result Packet PacketFault) (bytes : List ℕ) → result_err r ≡ find (has_fault bytes) faults → IfOk r (λ p. IsPacket p bytes)
-    → (p : Packet) → IsPacket p bytes → r ≡ Ok p
-reads-whole (Ok q) bytes fault read p h = ap Ok (packet-one q p bytes read h)
-reads-whole (Err f) bytes fault read p h = let none : find (has_fault bytes) faults ≡ None = packet-whole p bytes h in cc

@@ -1,5 +1,5 @@
 -- Places of which one is used for a name.
-use Rattle.std.proofs.Common.{◌≡◌, ℕ, suc, ◌+◌, ◌-◌, ◌/◌, ◌%◌, ◌<◌, ◌≤◌, Bool, true, false, not, nat_lt, cond, List, [], ◌∷◌, ◌++◌, length, take, drop, get_or, set, Option, Some, None, ◌⊎◌, inl, inr, refl, sym, ◌∙◌, ap, subst, arith, length-append}
+use Rattle.std.proofs.Common.{◌≡◌, ℕ, suc, ◌+◌, ◌/◌, ◌%◌, ◌<◌, ◌≤◌, Bool, true, false, not, cond, List, [], ◌∷◌, ◌++◌, length, take, drop, get_or, set, Some, None, ◌⊎◌, inl, inr, refl, sym, ◌∙◌, ap, subst, arith}
 use Rattle.std.specs.List.{filter, All}
 use Rattle.std.proofs.lemmas.Grind.{flat_map-append}
 use Rattle.std.proofs.lemmas.List.{append-nil, take-append-drop, set_split, length-set}
@@ -9,11 +9,10 @@ use Rattle.std.proofs.lemmas.Bool.Decides.{nat_tests}
 use Rattle.mctp_net.specs.declared.packet.Name.{Name}
 use Rattle.mctp_net.specs.declared.place.Place.{Place}
 use Rattle.mctp_net.specs.Grammar.{bit}
-use Rattle.mctp_net.specs.Cut.{Piece}
-use Rattle.mctp_net.specs.Assembly.{Assemblies, is_name, is_open, open_beside, with_under}
+use Rattle.mctp_net.specs.Assembly.{is_name, is_open, open_beside, with_under}
 use Rattle.mctp_net.specs.Places.{is_at, runs, part, under_in, is_used, open_in, assemblies_in, IsFilled, AreSound}
 use Rattle.mctp_net.proofs.PacketLaws.{bit-lt}
-use Rattle.mctp_net.proofs.Names.{name-one, name-self, other-name_at, free_at, used_at}
+use Rattle.mctp_net.proofs.Names.{name-one, other-name_at, free_at, used_at}
 use Rattle.mctp_net.proofs.Runs.{length-runs}
 
 -- the place has the name

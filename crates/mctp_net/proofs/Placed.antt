@@ -1,14 +1,13 @@
 -- What the places keep after a packet.
-use Rattle.std.proofs.Common.{◌≡◌, ℕ, zero, suc, ◌+◌, ◌-◌, ◌/◌, ◌%◌, ◌<◌, ◌≤◌, ◌==◌, Bool, true, false, not, nat_lt, cond, List, [], ◌∷◌, ◌++◌, length, take, drop, get_or, set, Option, Some, None, is_some, ◌⊎◌, inl, inr, refl, sym, ◌∙◌, ap, subst, arith, length-append}
-use Rattle.std.specs.List.{filter, All, AllWithin}
+use Rattle.std.proofs.Common.{◌≡◌, ℕ, suc, ◌+◌, ◌/◌, ◌%◌, ◌<◌, ◌≤◌, ◌==◌, Bool, true, false, not, cond, List, [], ◌∷◌, ◌++◌, length, take, drop, get_or, set, Option, Some, None, is_some, inl, inr, refl, sym, ◌∙◌, ap, subst, arith, length-append}
+use Rattle.std.specs.List.{filter, All}
 use Rattle.std.specs.Option.{option_map_or}
 use Rattle.std.specs.Prelude.{slice_get}
 use Rattle.std.proofs.lemmas.Grind.{flat_map-append}
-use Rattle.std.proofs.lemmas.List.{append-nil, take_more, length-set, get_or-set_same, get_or-set_other}
+use Rattle.std.proofs.lemmas.List.{append-nil, length-set, get_or-set_same}
 use Rattle.std.proofs.lemmas.Option.{slice_get-get_or}
-use Rattle.std.proofs.lemmas.List.Elements.{filter-append, All-tail}
+use Rattle.std.proofs.lemmas.List.Elements.{All-tail}
 use Rattle.std.proofs.lemmas.List.Filters.{length-filter_both}
-use Rattle.std.proofs.lemmas.Bool.{cases_lt}
 use Rattle.std.proofs.lemmas.Bool.Decides.{nat_tests}
 use Rattle.mctp_net.specs.declared.packet.Name.{Name}
 use Rattle.mctp_net.specs.declared.packet.Packet.{Packet}
@@ -19,28 +18,9 @@ use Rattle.mctp_net.specs.Assembly.{Assemblies, nothing, name_of, is_name, is_op
 use Rattle.mctp_net.specs.Places.{free_place, is_at, runs, part, under_in, is_used, open_in, made_in, assemblies_in, IsFilled, AreSound, IsPlaceOf, IsRoomFor}
 use Rattle.mctp_net.specs.Sound.{IsWaitingAt, Fits}
 use Rattle.mctp_net.proofs.Names.{name-one, name-self, free_at, used_at}
-use Rattle.mctp_net.proofs.Causes.{joined-start, joined-more}
+use Rattle.mctp_net.proofs.Causes.{joined-more}
 use Rattle.mctp_net.proofs.Runs.{waits, length-runs, runs-waiting, carried-runs, runs-push}
 use Rattle.mctp_net.proofs.PlaceLists.{has, IsFor, count-around, part-none, part-all, none-under, replaced, alone-own, alone-none, under-place}
-
--- an element doesn't depend on what stands for a missing one
-pub same-get : (ps : List Place) (i : ℕ) (d e : Place) → i < length ps → get_or ps i d ≡ get_or ps i e
-same-get [] i d e low = absurd (omega arith)
-same-get (p ∷ ps) zero d e low = refl
-same-get (p ∷ ps) (suc i) d e low = same-get ps i d e (omega arith)
-
--- one more place that the test doesn't hold of
-pub none-more : (f : Place → Bool) (ps : List Place) (i : ℕ) (d : Place) → i < length ps → filter f (take i ps) ≡ [] → f (get_or ps i d) ≡ false → filter f (take (i + 1) ps) ≡ []
-none-more f ps i d low none fails =
-    let last : filter f (get_or ps i d ∷ []) ≡ [] = rw fails refl in
-    ap (filter f) (take_more ps i d low) ∙ filter-append f (take i ps) (get_or ps i d ∷ []) ∙ (λ j. none j ++ last j)
-
--- one more place is free
-pub closed-more : (ps : List Place) (i : ℕ) (t : Place) → i < length ps → t.name ≡ None → AllWithin (λ (s : Place). s.name ≡ None) ps 0 i → AllWithin (λ (s : Place). s.name ≡ None) (set ps i t) 0 (i + 1)
-closed-more ps i t low is all k d from to = elim (cases_lt k i) as (λ _. (get_or (set ps i t) k d).name ≡ None) [
-  | inl before ↦ ap (λ (s : Place). s.name) (get_or-set_other ps i k t d (λ same. omega (arith, same))) ∙ all k d (omega arith) before
-  | inr after ↦ (let here : k ≡ i = omega arith in subst (λ (n : ℕ). (get_or (set ps i t) n d).name ≡ None) (sym here) (ap (λ (s : Place). s.name) (get_or-set_same ps i t d low) ∙ is))
-]
 
 -- the place of a name is used
 pub placed-open : (n : Name) (ps : List Place) (i : ℕ) → AreSound ps → IsPlaceOf (Some n) ps (Some i) → (bit (is_open (under_in ps n)) ≡ 1) × (1 ≤ open_in ps)
@@ -185,12 +165,6 @@ module _ (p : Packet) (ps : List Place) (i : ℕ) (s : Place) (sound : AreSound 
       ∙ sym (flat_map-append (λ (q : Piece). q.payload) (taken_under p a) (piece p ∷ []) ∙ (λ j. front j ++ append-nil p.payload j)) in
       let shown : carried (taken_under p a ++ piece p ∷ []) ≡ cond p.start [] (carried (taken_under p a ++ piece p ∷ [])) = sym (ap (λ b. cond b [] (carried (taken_under p a ++ piece p ∷ []))) start) in
       ((λ j. record { under = (put.0 j).under; open_count = (put.0 j).open_count; made = (made ∙ shown) j }), put.1)
-
--- an end that is a start leaves its message in its packet
-pub ends-alone : (p : Packet) (ps qs : List Place) → p.start ≡ true → assemblies_in qs None ≡ closed p (assemblies_in ps None) → assemblies_in qs None ≡ ended p (assemblies_in ps None)
-ends-alone p ps qs start is =
-    let none : [] ≡ cond p.start [] (carried (taken_under p (assemblies_in ps None) ++ piece p ∷ [])) = sym (ap (λ b. cond b [] (carried (taken_under p (assemblies_in ps None) ++ piece p ∷ []))) start) in
-    λ j. record { under = (is j).under; open_count = (is j).open_count; made = none j }
 
 -- a packet that fits and isn't a start has a place
 pub has-place : (p : Packet) (ps : List Place) → Fits (assemblies_in ps None) p → p.start ≡ false → IsPlaceOf (Some (name_of p.envelope)) ps None → ⊥

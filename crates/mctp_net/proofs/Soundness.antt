@@ -1,5 +1,5 @@
 -- An assembler stays sound.
-use Rattle.std.proofs.Common.{◌≡◌, ℕ, suc, ◌+◌, ◌-◌, ◌<◌, ◌≤◌, Bool, true, false, nat_lt, ◌==◌, cond, List, [], ◌∷◌, ◌++◌, length, Option, Some, None, refl, sym, ◌∙◌, ap, subst, arith, length-append}
+use Rattle.std.proofs.Common.{◌≡◌, ℕ, suc, ◌+◌, ◌<◌, ◌≤◌, Bool, true, false, ◌==◌, cond, List, [], ◌∷◌, ◌++◌, length, Option, Some, None, refl, sym, ◌∙◌, ap, subst, arith, length-append}
 use Rattle.std.proofs.lemmas.Bool.Decides.{nat_tests}
 use Rattle.mctp_net.specs.declared.packet.Name.{Name}
 use Rattle.mctp_net.specs.declared.packet.Packet.{Packet}
@@ -7,10 +7,9 @@ use Rattle.mctp_net.specs.declared.taken.DropCause.{DropCause}
 use Rattle.mctp_net.specs.declared.taken.DropCause.TheVariants.{NotOurs, NoStart, TooLong, OutOfSequence, UnitSize, NoSlot}
 use Rattle.mctp_net.specs.Grammar.{bit}
 use Rattle.mctp_net.specs.Cut.{Piece, piece, EachFrom}
-use Rattle.mctp_net.specs.Assembly.{Assemblies, name_of, is_name, is_open, nothing, taken_under, joined_to, open_beside, drop_cause, with_under, closed, ended, kept_with, after_where, after}
+use Rattle.mctp_net.specs.Assembly.{Assemblies, name_of, is_name, is_open, taken_under, joined_to, open_beside, drop_cause, with_under, closed, ended, kept_with, after_where, after}
 use Rattle.mctp_net.specs.Sound.{IsWaitingAt, IsSound, Fits}
-use Rattle.mctp_net.proofs.PacketLaws.{bit-lt}
-use Rattle.mctp_net.proofs.Causes.{passes, joined-start, joined-more}
+use Rattle.mctp_net.proofs.Causes.{passes, joined-more}
 
 -- one more piece at the end
 pub each_push : (P : ℕ → Piece → Type 0) (from : ℕ) (ps : List Piece) (p : Piece) → EachFrom P from ps → P (from + length ps) p → EachFrom P from (ps ++ p ∷ [])
@@ -86,7 +85,3 @@ sound-after own a p h = by_cause (drop_cause own a p) refl
     by_cause (Some UnitSize) e = sound-closed p a h
     by_cause (Some NoSlot) e = sound-closed p a h
     by_cause None e = by_end p.end refl e
-
--- nothing is kept
-pub sound-none : IsSound nothing
-sound-none = record { fronts = λ n. tt; few = λ n. omega arith; slots = omega arith }

@@ -1,10 +1,10 @@
 -- What holds of what an assembler keeps.
-use Rattle.std.specs.Prelude.{◌≡◌, ℕ, ◌==◌, ◌<◌, ◌≤◌, true, false, List, length}
+use Rattle.std.specs.Prelude.{◌≡◌, ℕ, ◌==◌, ◌<◌, ◌≤◌, true, false, length}
 use Rattle.mctp_net.specs.Sizes.{unit_size, most_assemblies}
 use Rattle.mctp_net.specs.declared.packet.Name.{Name}
 use Rattle.mctp_net.specs.declared.packet.Packet.{Packet}
 use Rattle.mctp_net.specs.Cut.{Piece, EachFrom}
-use Rattle.mctp_net.specs.Assembly.{Assemblies, name_of, taken_under, joined_to, open_beside}
+use Rattle.mctp_net.specs.Assembly.{Assemblies, name_of, joined_to, open_beside}
 
 -- the piece waits at this place of its assembly
 pub record IsWaitingAt (number : ℕ) (p : Piece) : Type 0 where

@@ -1,5 +1,5 @@
 //! What holds of the definitions alone.
-ghost use Rattle.std.specs.Prelude.{◌≡◌, ◌<◌, ◌≤◌, ◌⊎◌, List, [], ℕ, All, length, true, false, find, None};
+ghost use Rattle.std.specs.Prelude.{◌≡◌, ◌<◌, ◌≤◌, ◌⊎◌, List, ℕ, All, length, true, false, find, None};
 ghost use Rattle.two_wire.specs.Sizes.{most_message_bytes};
 ghost use Rattle.mctp_net.specs.declared.packet.Packet.{Packet};
 ghost use Rattle.mctp_net.specs.declared.packet.Name.{Name};

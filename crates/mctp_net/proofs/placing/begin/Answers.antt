@@ -1,4 +1,4 @@
-use Rattle.std.proofs.Common.{◌≡◌, ◌∙◌, Some, sym, ap, subst}
+use Rattle.std.proofs.Common.{◌≡◌, ◌∙◌, Some, subst}
 use Rattle.mctp_net.specs.declared.place.Place.{Place}
 use Rattle.mctp_net.specs.Assembly.{name_of}
 use Rattle.mctp_net.specs.Places.{IsRoomFor}

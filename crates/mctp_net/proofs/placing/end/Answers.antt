@@ -1,7 +1,7 @@
-use Rattle.std.proofs.Common.{◌≡◌, ◌≤◌, Some, None, length, subst, sym, arith}
+use Rattle.std.proofs.Common.{◌≤◌, Some, length, subst, sym}
 use Rattle.mctp_net.specs.Assembly.{name_of}
 use Rattle.mctp_net.specs.Places.{IsPlaceOf}
-use Rattle.mctp_net.proofs.Placed.{some-of, has-place, place-room, ends, ends-alone}
+use Rattle.mctp_net.proofs.Placed.{some-of, has-place, place-room, ends}
 use Rattle.mctp_net.proofs.placing.end.Goals as goal
 
 pub unwrap-place-requires : goal.unwrap-place-requires

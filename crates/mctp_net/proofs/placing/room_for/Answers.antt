@@ -1,4 +1,4 @@
-use Rattle.std.proofs.Common.{◌≡◌, Some, None, inl, inr, subst, arith}
+use Rattle.std.proofs.Common.{Some, None, inl, inr, subst, arith}
 use Rattle.mctp_net.specs.Assembly.{name_of}
 use Rattle.mctp_net.specs.Places.{IsPlaceOf}
 use Rattle.mctp_net.proofs.Placed.{some-of, has-free, unplaced-shut}

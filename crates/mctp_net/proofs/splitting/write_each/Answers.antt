@@ -1,4 +1,4 @@
-use Rattle.std.proofs.Common.{◌≡◌, ◌<◌, ◌≤◌, ◌+◌, ◌∷◌, [], List, ℕ, length, take, arith, refl, subst}
+use Rattle.std.proofs.Common.{◌≡◌, ◌<◌, List, ℕ, length, take, arith, subst}
 use Rattle.std.proofs.lemmas.List.{take_more_set, take_all}
 use Rattle.mctp_net.specs.Cut.{AreWritten}
 use Rattle.mctp_net.specs.Pieces.{pieces_of, count_of}

@@ -1,4 +1,4 @@
-use Rattle.std.proofs.Common.{◌≡◌, ◌∙◌}
+use Rattle.std.proofs.Common.{◌∙◌}
 use Rattle.mctp_net.proofs.Placed.{all-free}
 use Rattle.mctp_net.proofs.assembler.Assembler.clear.Goals as goal
 

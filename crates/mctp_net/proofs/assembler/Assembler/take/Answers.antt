@@ -1,5 +1,4 @@
-use Rattle.std.proofs.Common.{◌≡◌, ◌∙◌, List, Some, None, sym, ap, subst}
-use Rattle.mctp_net.specs.declared.place.Place.{Place}
+use Rattle.std.proofs.Common.{◌≡◌, ◌∙◌, Some, None, sym, ap, subst}
 use Rattle.mctp_net.specs.Assembly.{name_of, drop_cause, ended}
 use Rattle.mctp_net.specs.Places.{assemblies_in, seen, AreSound, IsPlaceOf, under_in}
 use Rattle.mctp_net.specs.Cut.{EachFrom}
