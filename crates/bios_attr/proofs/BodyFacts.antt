@@ -45,16 +45,6 @@ pub record SoFar (t : BiosTable) (bytes rest : List ℕ) (count : ℕ) : Type 0 
   pub few : count + length rest ≤ length bytes
   pub left : (entries : List TableEntry) (pad : List ℕ) → AreOf t entries → length pad < 4 → all_written entries ++ pad ≡ bytes → Left t rest pad
 
-pub at_start : (t : BiosTable) (bytes : List ℕ) → SoFar t bytes bytes 0
-at_start t bytes = record {
-  before = [];
-  of_table = tt;
-  counted = refl;
-  spelled = refl;
-  few = omega arith;
-  left = λ entries pad of_table short spelled. record { entries = entries; of_table = of_table; spelled = spelled };
-}
-
 of_more : (t : BiosTable) (entries : List TableEntry) (entry : TableEntry) → AreOf t entries → table_of entry ≡ t → IsWhole entry → AreOf t (entries ++ entry ∷ [])
 of_more t [] entry of_table is whole = (is, whole, tt)
 of_more t (first ∷ entries) entry of_table is whole = (of_table.0, of_table.1, of_more t entries entry of_table.2 is whole)
@@ -194,9 +184,6 @@ no_padding t bytes rest count so_far short other entries body =
 
 -- ---- tables
 
-padded_even : (entries : List ℕ) → length (padded entries) % 4 ≡ 0
-padded_even entries = omega (arith, length-append entries (padding entries), padding_length entries)
-
 -- a table is its entries with their padding, and four bytes
 table_long : (entries bytes : List ℕ) → IsTable entries bytes → length bytes ≡ length (padded entries) + 4
 table_long entries bytes is = ap (λ (xs : List ℕ). length xs) is.spelled ∙ length-append (padded entries) (to_le_bytes w32 is.crc)
@@ -210,15 +197,6 @@ table_end : (entries bytes : List ℕ) (is : IsTable entries bytes) → drop (le
 table_end entries bytes is =
     let place : length bytes - 4 ≡ length (padded entries) = omega (arith, table_long entries bytes is) in
     ap (λ (n : ℕ). drop n bytes) place ∙ ap (drop (length (padded entries))) is.spelled ∙ drop-append_seam (padded entries) (to_le_bytes w32 is.crc)
-
-pub too_short : (t : BiosTable) (bytes : List ℕ) → length bytes < 4 → IsNoTable t bytes
-too_short t bytes short entries is = omega (arith, short, table_long (all_written entries) bytes is.spelled)
-
-pub uneven : (t : BiosTable) (bytes : List ℕ) → length bytes % 4 ≢ 0 → IsNoTable t bytes
-uneven t bytes odd entries is =
-    let long = table_long (all_written entries) bytes is.spelled in
-    let even = padded_even (all_written entries) in
-    odd (omega (arith, long, even))
 
 pub wrong_check : (t : BiosTable) (bytes : List ℕ) (crc : ℕ) → IsCrc32 (take (length bytes - 4) bytes) crc → drop (length bytes - 4) bytes ≢ to_le_bytes w32 crc → IsNoTable t bytes
 wrong_check t bytes crc checked wrong entries is =

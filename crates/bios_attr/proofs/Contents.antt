@@ -31,9 +31,6 @@ handles_long strings (text ∷ texts) =
     let cons = ap (λ (xs : List ℕ). length xs) (flat_map-cons (λ (text : List ℕ). two_bytes (handle_of strings text)) text texts) in
     omega (arith, cons, handles_long strings texts, length-append (two_bytes (handle_of strings text)) (handles_of strings texts))
 
-pub handles_whole : (strings texts : List (List ℕ)) → length (handles_of strings texts) ≡ 2 * (length (handles_of strings texts) / 2)
-handles_whole strings texts = omega (arith, handles_long strings texts)
-
 type_is : (strings : List (List ℕ)) (k : AttributeKind) → type_of_fields (fields_of strings k) ≡ type_of_kind k
 type_is strings (kind.Enumeration e) = refl
 type_is strings (kind.Text t) = refl

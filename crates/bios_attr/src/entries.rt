@@ -1,5 +1,5 @@
 //! The entries of the string table and of the attribute table.
-ghost use Rattle.std.specs.Prelude.{◌≡◌, ◌+◌, ◌≤◌, ◌<◌, ◌*◌, ◌++◌, OnOk, length};
+ghost use Rattle.std.specs.Prelude.{◌≡◌, ◌+◌, ◌≤◌, ◌*◌, ◌++◌, OnOk, length};
 ghost use Rattle.bios_attr.specs.declared.bios_table.BiosTable.TheVariants.{Attributes};
 ghost use Rattle.bios_attr.specs.Attributes.{handles_of, string_entry, string_entries, integer_fields, kind_fields, attribute_entry, attribute_entries};
 ghost use Rattle.bios_attr.specs.AttributeEntry.{AreSmall, HasItsBytes};

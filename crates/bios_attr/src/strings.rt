@@ -1,7 +1,7 @@
 //! The strings of a board's attributes.
-ghost use Rattle.std.specs.Prelude.{◌≡◌, ◌+◌, ◌≤◌, OnOk, IfOk, length};
+ghost use Rattle.std.specs.Prelude.{◌≡◌, ◌≤◌, OnOk, IfOk, length};
 ghost use Rattle.std.specs.List.{list_any, position};
-ghost use Rattle.bios_attr.specs.Attributes.{is_text, with_text, with_texts, texts_of, with_attributes, strings_of, handle_of};
+ghost use Rattle.bios_attr.specs.Attributes.{is_text, with_text, with_texts, texts_of, strings_of, handle_of};
 
 use cfg_records::{Attribute, AttributeKind, Text};
 use std::alloc::{AllocError, Global};

@@ -1,5 +1,5 @@
 //! What stands behind the entries of a table.
-ghost use Rattle.std.specs.Prelude.{◌≡◌, ◌+◌, ◌≤◌, OnOk, IsOk, vec_len, vec_capacity, length};
+ghost use Rattle.std.specs.Prelude.{◌≡◌, ◌+◌, ◌≤◌, OnOk, IsOk, vec_len, vec_capacity};
 ghost use Rattle.bios_attr.specs.Tables.{padded, IsTable};
 
 use pldm_base::crc32;

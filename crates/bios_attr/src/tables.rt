@@ -1,5 +1,5 @@
 //! The tables that tell of a board's attributes.
-ghost use Rattle.std.specs.Prelude.{◌≡◌, ◌≤◌, IfOk, ℕ, List, length};
+ghost use Rattle.std.specs.Prelude.{◌≡◌, ◌≤◌, IfOk, length};
 ghost use Rattle.bios_attr.specs.Attributes.{string_entries, attribute_entries};
 ghost use Rattle.bios_attr.specs.Tables.{IsTable};
 ghost use Rattle.bios_attr.specs.declared.bios_table.BiosTable.TheVariants as table_name;
@@ -73,7 +73,7 @@ fn attribute_table(
 }
 
 impl Tables {
-    ghost use Rattle.std.specs.Prelude.{◌≡◌, ◌^◌, Err, IfOk, MatchOption, IsOkAnd};
+    ghost use Rattle.std.specs.Prelude.{◌≡◌, Err, IfOk, MatchOption, IsOkAnd};
     ghost use Rattle.two_wire.specs.Codes.{pldm_invalid_data};
     ghost use Rattle.pldm_base.specs.Parts.{asked_offset, IsPart};
     ghost use Rattle.bios_attr.specs.Tables.{AreTables, ShowsValues, table_named};

@@ -1,7 +1,7 @@
 //! Value entries: an attribute's handle, its type, and its value.
 ghost use Rattle.std.specs.Prelude.{◌≡◌, ◌+◌, ◌≤◌, ◌++◌, length};
 ghost use Rattle.cfg_records.specs.AttributeSizes.{most_sent};
-ghost use Rattle.cfg_records.specs.AttributeValue.{two_bytes, number_of, type_of_value, value_bytes, indexes_in, text_in, number_in, value_in};
+ghost use Rattle.cfg_records.specs.AttributeValue.{value_in};
 ghost use Rattle.bios_attr.specs.ValueEntry.{shown_type, entry_bytes, entry_in};
 ghost use Rattle.bios_attr.specs.TableEntry.{value_size, value_at};
 

@@ -1,5 +1,5 @@
 -- A BIOS attribute begins with a value that it can have.
-use Rattle.std.proofs.Common.{◌≡◌, ℕ, List, length, Option, Some, refl, sym, subst, true, ◌&&◌, nat_le}
+use Rattle.std.proofs.Common.{◌≡◌, ℕ, length, Option, refl, sym, subst, true, ◌&&◌, nat_le}
 use Rattle.std.specs.Option.{IsSomeAnd}
 use Rattle.cfg_records.specs.declared.attribute.Attribute.{Attribute}
 use Rattle.cfg_records.specs.declared.attribute.AttributeKind.{AttributeKind}

@@ -1,5 +1,5 @@
 -- The laws of the values that a BIOS attribute can have.
-use Rattle.std.proofs.Common.{◌≡◌, ◌≢◌, ℕ, zero, suc, ◌+◌, ◌*◌, ◌-◌, ◌/◌, ◌%◌, ◌≤◌, List, [], ◌∷◌, length, Bool, true, false, ◌&&◌, ◌||◌, ◌==◌, nat_le, if◌then◌else◌, Option, Some, None, refl, sym, ap, subst, arith}
+use Rattle.std.proofs.Common.{◌≡◌, ◌≢◌, ℕ, zero, suc, ◌+◌, ◌*◌, ◌/◌, ◌%◌, ◌≤◌, List, [], ◌∷◌, length, Bool, true, false, ◌&&◌, ◌||◌, ◌==◌, nat_le, if◌then◌else◌, Some, None, refl, ap, subst, arith}
 use Rattle.std.specs.Option.{IsSomeAnd}
 use Rattle.std.proofs.Props.{props}
 use Rattle.std.proofs.lemmas.Bool.Decides.{nat_tests}
@@ -15,7 +15,7 @@ use Rattle.cfg_records.specs.declared.attribute_value.AttributeValue.{AttributeV
 use Rattle.cfg_records.specs.declared.attribute_value.AttributeValue.TheVariants.{Indexes, Text, Number}
 use Rattle.cfg_records.specs.AttributeSizes.{most_indexes, least_value, most_value}
 use Rattle.cfg_records.specs.AttributeValue.{number_of, type_of_value, value_bytes, value_in, HasEightBytes}
-use Rattle.cfg_records.specs.AttributeRange.{type_of, AllowsIndexes, AllowsText, AllowsNumber, Allows, allows, IsValue}
+use Rattle.cfg_records.specs.AttributeRange.{AllowsIndexes, AllowsText, AllowsNumber, Allows, allows, IsValue}
 
 -- ---- tests say what they are named for
 

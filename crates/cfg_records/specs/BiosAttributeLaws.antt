@@ -1,5 +1,5 @@
 -- A request has no more bytes of a value than the most.
-use Rattle.std.proofs.Common.{◌≡◌, ℕ, ◌≤◌, List, length, take, subst, sym, arith}
+use Rattle.std.proofs.Common.{◌≡◌, ℕ, ◌≤◌, List, length, take, subst, arith}
 use Rattle.std.proofs.Props.{props}
 use Rattle.std.proofs.lemmas.List.{length-take, take_all}
 use Rattle.cfg_records.specs.declared.bios_attribute.SetBiosAttribute.{SetBiosAttribute}

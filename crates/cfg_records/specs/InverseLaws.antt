@@ -1,6 +1,6 @@
 -- An inverse that is there where a test holds.
-use Rattle.std.specs.Prelude.{◌≡◌, ◌↔◌, ℕ, ◌==◌, Bool, true, false, Option, Some, None, SomeIff, if◌then◌else◌}
-use Rattle.std.proofs.Common.{refl, ap, arith}
+use Rattle.std.specs.Prelude.{◌≡◌, ◌↔◌, ℕ, ◌==◌, Bool, true, false, Some, None, if◌then◌else◌}
+use Rattle.std.proofs.Common.{refl, arith}
 use Rattle.std.proofs.lemmas.Bool.Decides.{nat_tests}
 use Rattle.std.specs.Option.{IsSome}
 
@@ -13,13 +13,6 @@ some_where false x P holds test = (λ is. cc, λ p. test p)
 pub made_where : {O : Type 0} (b : Bool) (x made : O) → (if b then Some x else None) ≡ Some made → (b ≡ true) × (x ≡ made)
 made_where true x made is = (refl, cc)
 made_where false x made is = cc
-
--- what is there exactly where the test says so is it
-pub inverse_is : {O : Type 0} (found : Option O) (b : Bool) (x : O) (P : Type 0) → (b ≡ true → P) → (P → b ≡ true) → SomeIff found P x → found ≡ (if b then Some x else None)
-inverse_is (Some y) true x P holds test found = ap Some found.1
-inverse_is (Some y) false x P holds test found = let b : false ≡ true = test found.0 in cc
-inverse_is None true x P holds test found = absurd (found (holds refl))
-inverse_is None false x P holds test found = refl
 
 -- two numbers that are tested to be one are
 pub tested_same : (a b : ℕ) → (a == b) ≡ true → a ≡ b

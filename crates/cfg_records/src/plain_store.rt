@@ -1,5 +1,5 @@
 //! Records in a list, found by their keys.
-ghost use Rattle.std.specs.Prelude.{◌≡◌, ◌↔◌, IfOk, OnOk, Err, IsTrue, All, length};
+ghost use Rattle.std.specs.Prelude.{◌≡◌, ◌↔◌, IfOk, OnOk, Err, IsTrue};
 ghost use Rattle.cfg_records.specs.Boards.{pairs_of};
 ghost use Rattle.cfg_records.specs.Index.{place_of};
 ghost use Rattle.cfg_records.specs.Places.{ArePlaced};
@@ -9,7 +9,7 @@ ghost use Rattle.cfg_records.specs.Records.{records_of, KeysDiffer, LengthsFit};
 use crate::board_file::BoardFile;
 use crate::index::Index;
 use crate::key::Key;
-use crate::store::{NoKey, Store};
+use crate::store::Store;
 use crate::value::Value;
 use std::alloc::{AllocError, Global};
 

@@ -1,12 +1,12 @@
 -- What changes of fields are like.
-use Rattle.std.proofs.Common.{◌≡◌, ℕ, zero, suc, ◌+◌, ◌*◌, ◌<◌, ◌≤◌, List, [], ◌∷◌, length, take, drop, slice_index, Bool, true, false, not, ◌==◌, ◌||◌, if◌then◌else◌, refl, ap, subst, ◌∙◌, arith}
+use Rattle.std.proofs.Common.{◌≡◌, ℕ, ◌*◌, ◌<◌, ◌≤◌, List, [], ◌∷◌, length, take, drop, slice_index, Bool, true, false, ◌||◌, if◌then◌else◌, refl, ap, subst, ◌∙◌, arith}
 use Rattle.std.proofs.Props.{props}
 use Rattle.std.specs.List.{list_any, list_all}
 use Rattle.std.proofs.lemmas.List.{length-take, take_all}
 use Rattle.cfg_records.specs.MaskLaws.{both}
 use Rattle.cfg_records.specs.declared.field_changes.FieldChange.{FieldChange}
 use Rattle.cfg_records.specs.declared.state_effecter.SetStateEffecter.{SetStateEffecter}
-use Rattle.effecter_recs.specs.FieldChanges.{set_to, leave, is_set, is_choice, is_plain_change, changed, changed_states, change_bytes, changes_of, shown_fields, shown_states, undo_change, undo_changes}
+use Rattle.effecter_recs.specs.FieldChanges.{set_to, leave, is_set, is_choice, is_plain_change, changed, changed_states, change_bytes, changes_of, shown_fields, shown_states, undo_changes}
 
 -- ---- how many there are
 
@@ -19,10 +19,6 @@ as_many_undone (c ∷ cs) shown = let rest : length (undo_changes cs (drop 3 sho
 
 pub few_undone : (changes : List FieldChange) (shown : List ℕ) → length changes ≤ 9 → length (undo_changes changes shown) ≤ 9
 few_undone changes shown few = let same : length (undo_changes changes shown) ≡ length changes = as_many_undone changes shown in omega arith
-
-pub as_many_changed : (changes : List FieldChange) (old : List ℕ) → length (changed_states changes old) ≡ length changes
-as_many_changed [] old = refl
-as_many_changed (c ∷ cs) old = let rest : length (changed_states cs (drop 1 old)) ≡ length cs = as_many_changed cs (drop 1 old) in omega arith
 
 pub two_each : (changes : List FieldChange) → length (change_bytes changes) ≡ 2 * length changes
 two_each [] = refl

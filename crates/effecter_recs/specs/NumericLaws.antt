@@ -1,23 +1,20 @@
 -- The laws of the kind NumericEffecter.
-use Rattle.std.proofs.Common.{◌≡◌, ℕ, zero, suc, ◌+◌, ◌*◌, ◌≤◌, List, [], ◌∷◌, ◌++◌, length, drop, slice_index, Bool, true, false, ◌&&◌, ◌||◌, ◌==◌, nat_le, if◌then◌else◌, Ok, Err, refl, sym, ◌∙◌, ap, subst, lit<, arith, length-append}
+use Rattle.std.proofs.Common.{◌≡◌, ℕ, ◌≤◌, List, [], ◌∷◌, ◌++◌, length, drop, Bool, true, false, ◌||◌, ◌==◌, nat_le, if◌then◌else◌, Ok, Err, refl, sym, ◌∙◌, ap, subst, lit<, arith, length-append}
 use Rattle.std.proofs.Math.Seq.{drop-append_seam}
 use Rattle.std.proofs.lemmas.Bool.Decides.{nat_tests}
 use Rattle.two_wire.specs.Codes.{pldm_invalid_data, pldm_invalid_length}
-use Rattle.cfg_records.specs.declared.key.Key.TheVariants as key
 use Rattle.cfg_records.specs.declared.numeric_size.NumericSize.{NumericSize}
 use Rattle.cfg_records.specs.declared.numeric_size.NumericSize.TheVariants.{U8, S8, U16, S16, U32, S32}
 use Rattle.cfg_records.specs.declared.numeric_range.NumericRange.{NumericRange}
 use Rattle.cfg_records.specs.declared.numeric_effecter.SetNumericEffecter.{SetNumericEffecter}
-use Rattle.cfg_records.specs.Keys.{is_length}
 use Rattle.cfg_records.specs.MaskLaws.{both_true, both}
 use Rattle.cfg_records.specs.Meaning.{Decides, IsRefusal}
 use Rattle.cfg_records.specs.InverseLaws.{some_where, made_where, tested_same, same_tested}
 use Rattle.cfg_records.specs.Kind.{KindLaws, RecordLaws}
-use Rattle.cfg_records.specs.NumericSize.{code_of, width_of, rank, number_in}
-use Rattle.cfg_records.specs.NumericEffecter.{IsNumeric, is_between, is_numeric}
+use Rattle.cfg_records.specs.NumericSize.{code_of, width_of}
+use Rattle.cfg_records.specs.NumericEffecter.{IsNumeric, is_numeric}
 use Rattle.cfg_records.specs.PartLaws.{IsNumeric-prop}
 use Rattle.effecter_recs.specs.declared.numeric.NumericLimits.{NumericLimits}
-use Rattle.effecter_recs.specs.Requests.{enabled_state, operational_state}
 use Rattle.effecter_recs.specs.Numeric.{value_bytes, value_of, SetsNumeric, is_accepted, numeric_view, said_width, IsNumericReply, present_in, is_enabled_reply, undo_numeric, words, record_words}
 
 -- ---- tests say what they are named for

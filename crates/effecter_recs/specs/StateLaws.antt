@@ -1,11 +1,8 @@
 -- The laws of the kind StateEffecter.
-use Rattle.std.proofs.Common.{◌≡◌, ℕ, ◌+◌, ◌*◌, ◌≤◌, List, [], ◌∷◌, ◌++◌, length, drop, slice_index, Bool, true, false, ◌&&◌, ◌||◌, not, ◌==◌, nat_le, IsTrue, if◌then◌else◌, Ok, Err, refl, sym, ◌∙◌, ap, subst, lit<, arith}
-use Rattle.std.specs.List.{list_any, list_all}
+use Rattle.std.proofs.Common.{◌≡◌, ℕ, ◌≤◌, List, length, drop, Bool, true, false, ◌||◌, not, nat_le, if◌then◌else◌, Ok, Err, refl, sym, ◌∙◌, ap, subst, lit<, arith}
 use Rattle.std.proofs.Props.{props}
 use Rattle.std.proofs.lemmas.Bool.Decides.{nat_tests}
 use Rattle.two_wire.specs.Codes.{pldm_invalid_data, pldm_invalid_state}
-use Rattle.cfg_records.specs.declared.field_changes.FieldChange.{FieldChange}
-use Rattle.cfg_records.specs.declared.state_effecter.StateField.{StateField}
 use Rattle.cfg_records.specs.declared.state_effecter.StateEffecter.{StateEffecter}
 use Rattle.cfg_records.specs.declared.state_effecter.SetStateEffecter.{SetStateEffecter}
 use Rattle.cfg_records.specs.MaskLaws.{both_true, both}
@@ -15,9 +12,9 @@ use Rattle.cfg_records.specs.Kind.{KindLaws, RecordLaws}
 use Rattle.cfg_records.specs.StateEffecter.{are_states}
 use Rattle.cfg_records.specs.StateLaws.{as_many}
 use Rattle.effecter_recs.specs.Requests.{operational_state}
-use Rattle.effecter_recs.specs.FieldChanges.{is_set, is_choice, changed_states, shown_fields, shown_states, are_enabled, undo_changes}
-use Rattle.effecter_recs.specs.ChangeLaws.{as_many_undone, as_many_changed, two_each, three_each, same_set, undo_chooses, undo_is_plain, states_back, states_told}
-use Rattle.effecter_recs.specs.State.{SetsStates, fits_effecter, state_outcome, state_body, state_view, IsStateReply, is_state_reply, is_undoable, undo_states, words, record_words}
+use Rattle.effecter_recs.specs.FieldChanges.{changed_states, shown_fields, undo_changes}
+use Rattle.effecter_recs.specs.ChangeLaws.{as_many_undone, three_each, same_set, undo_chooses, undo_is_plain, states_back, states_told}
+use Rattle.effecter_recs.specs.State.{SetsStates, fits_effecter, state_view, IsStateReply, is_state_reply, is_undoable, undo_states, words, record_words}
 
 -- ---- tests say what they are named for
 

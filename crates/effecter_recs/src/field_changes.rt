@@ -1,7 +1,7 @@
 //! What becomes of the fields of a state effecter, and what a Get reply shows of them.
 ghost use Rattle.std.specs.Prelude.{◌≡◌, ◌+◌, ◌*◌, ◌≤◌, ◌++◌, length, take};
 ghost use Rattle.std.specs.List.{list_any, list_all};
-ghost use Rattle.effecter_recs.specs.FieldChanges.{is_set, is_choice, changed, changed_states, changes_of, shown_fields, are_enabled, undo_change, undo_changes};
+ghost use Rattle.effecter_recs.specs.FieldChanges.{is_set, is_choice, changed_states, changes_of, shown_fields, are_enabled, undo_change, undo_changes};
 
 use crate::numeric::behind;
 use crate::request::ENABLED;

@@ -1,5 +1,5 @@
 //! Readings of a sensor, and the events that they make.
-ghost use Rattle.std.specs.Prelude.{◌≡◌, ◌+◌, ◌*◌, ◌<◌, ◌≤◌, ◌++◌, [], ◌∷◌, List, if◌then◌else◌, length};
+ghost use Rattle.std.specs.Prelude.{◌≡◌, ◌+◌, ◌*◌, ◌<◌, ◌≤◌, ◌++◌, [], ◌∷◌, if◌then◌else◌};
 ghost use Rattle.std.specs.List.{filter};
 ghost use Rattle.arrayvec.specs.ArrayVec.{array_vec_len};
 ghost use Rattle.sensor_recs.specs.Readings.{is_upper, is_beyond, reaches, comes_back, crosses, goes_high, offset_of, beyond_after, counts, is_made, events_at, events_of};

@@ -1,7 +1,6 @@
 //! Readings that were taken.
 ghost use Rattle.std.specs.Prelude.{◌≡◌, ◌<◌, IfOk, All};
-ghost use Rattle.cfg_records.specs.Sensor.EventEnable.{enabled_in};
-ghost use Rattle.sensor_recs.specs.Taken.{none_taken, last_of, with_reading, last_beyond, taken_after, compared_of, mask_of, raw_in, reading_data, log_record};
+ghost use Rattle.sensor_recs.specs.Taken.{none_taken, last_of, with_reading, last_beyond, taken_after, compared_of, mask_of, reading_data, log_record};
 ghost use Rattle.sensor_recs.specs.Readings.{events_of};
 
 use crate::compared::{Compared, Event, Taken};

@@ -1,9 +1,8 @@
 -- The laws of the kind ChannelAccess.
-use Rattle.std.proofs.Common.{◌≡◌, ℕ, ◌%◌, ◌<◌, ◌≤◌, List, [], ◌∷◌, length, slice_index, ◌==◌, nat_le, ◌&&◌, Bool, true, false, IsTrue, if◌then◌else◌, Result, Ok, Err, Some, refl, sym, ◌∙◌, ap, subst, arith}
+use Rattle.std.proofs.Common.{◌≡◌, ℕ, ◌%◌, ◌<◌, ◌≤◌, List, [], ◌∷◌, length, slice_index, ◌==◌, nat_le, Bool, true, false, IsTrue, if◌then◌else◌, Ok, Err, Some, refl, sym, ◌∙◌, ap, subst, arith}
 use Rattle.std.proofs.lemmas.Bool.Decides.{nat_tests}
 use Rattle.std.proofs.lemmas.Grind.{same_number_lists, common_steps}
 use Rattle.two_wire.specs.Codes.{invalid_data_field}
-use Rattle.cfg_records.specs.declared.channel.SixBits.{SixBits}
 use Rattle.cfg_records.specs.declared.channel.ChannelChange.{ChannelChange}
 use Rattle.cfg_records.specs.declared.channel.ChannelChange.TheVariants.{Access, Limit, Both}
 use Rattle.cfg_records.specs.declared.channel.SetChannelAccess.{SetChannelAccess}

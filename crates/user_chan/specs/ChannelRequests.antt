@@ -1,6 +1,6 @@
 -- What the commands of channel access ask for, by their data (IPMI 2.0, Set and Get Channel Access): the channel in bits 3:0 of the first byte,
 -- and a store in bits 7:6 of the others.
-use Rattle.std.specs.Prelude.{ℕ, ◌/◌, ◌==◌, List, Bool, true, false, Option, Some, None, if◌then◌else◌}
+use Rattle.std.specs.Prelude.{ℕ, ◌/◌, ◌==◌, List, Bool, Option, Some, None, if◌then◌else◌}
 use Rattle.cfg_records.specs.declared.channel.AccessStore.{AccessStore}
 use Rattle.cfg_records.specs.declared.channel.AccessStore.TheVariants.{NonVolatile, Volatile, Neither}
 use Rattle.cfg_records.specs.declared.channel.ChannelNumber.{ChannelNumber}

@@ -1,5 +1,5 @@
 -- What holds of passwords, and of who is enabled.
-use Rattle.std.proofs.Common.{◌≡◌, ◌≢◌, ℕ, ◌-◌, ◌^◌, ◌<◌, List, [], ◌∷◌, length, get_or, ◌==◌, ◌&&◌, bit_and, bit_or, min, Bool, true, false, if◌then◌else◌, Result, Ok, Err, refl, sym, ◌∙◌, ap, subst, arith}
+use Rattle.std.proofs.Common.{◌≡◌, ◌≢◌, ℕ, ◌-◌, ◌^◌, ◌<◌, List, [], ◌∷◌, get_or, ◌==◌, bit_or, Bool, true, false, if◌then◌else◌, Result, Ok, Err, refl, sym, ◌∙◌, ap, subst, arith}
 use Rattle.std.proofs.lemmas.Bool.Decides.{nat_tests}
 use Rattle.std.specs.Int.{bit_at, w64}
 use Rattle.std.proofs.lemmas.Nat.Bits.{bit_at_and, bit_at_or, bit_at_not, bit_at-lt, bit_at-pow_same, bit_at-pow_other}
@@ -10,7 +10,7 @@ use Rattle.cfg_records.specs.InverseLaws.{tested_same, same_tested}
 use Rattle.cfg_records.specs.MaskLaws.{both_true, both}
 use Rattle.user_chan.specs.declared.password.Password.{Password}
 use Rattle.user_chan.specs.declared.password.Password.TheVariants.{Sixteen, Twenty}
-use Rattle.user_chan.specs.Passwords.{wrong_text, wrong_size, same_bytes, same_password, same_size, test_answer, opening_password, enabled_after, TestsTell, AllTestsTell, SetsAreKept, AllSetsAreKept, ChangesOneStatus}
+use Rattle.user_chan.specs.Passwords.{wrong_text, wrong_size, same_bytes, same_password, same_size, test_answer, opening_password, enabled_after, TestsTell, AllTestsTell, AllSetsAreKept, ChangesOneStatus}
 
 -- ---- tests
 

@@ -1,12 +1,9 @@
 -- The laws of the kind UserName.
-use Rattle.std.proofs.Common.{◌≡◌, ◌≢◌, ℕ, ◌%◌, List, [], ◌∷◌, length, slice_index, ◌==◌, Bool, true, false, if◌then◌else◌, Result, Ok, Err, Some, refl, sym, ◌∙◌, ap, subst, arith}
+use Rattle.std.proofs.Common.{◌≡◌, ◌≢◌, ℕ, ◌%◌, List, [], ◌∷◌, length, ◌==◌, Bool, true, false, if◌then◌else◌, Ok, Err, Some, refl, sym, ◌∙◌, ap, subst, arith}
 use Rattle.std.proofs.Props.{props}
 use Rattle.std.proofs.lemmas.Bool.Decides.{nat_tests}
-use Rattle.std.proofs.lemmas.Grind.{same_number_lists, common_steps}
 use Rattle.two_wire.specs.Codes.{invalid_data_field}
-use Rattle.cfg_records.specs.declared.key.Key.TheVariants as key
 use Rattle.cfg_records.specs.declared.user.SetUserName.{SetUserName}
-use Rattle.cfg_records.specs.Keys.{is_length}
 use Rattle.cfg_records.specs.Meaning.{Decides, IsRefusal}
 use Rattle.cfg_records.specs.InverseLaws.{some_where, made_where, tested_same, same_tested}
 use Rattle.cfg_records.specs.Kind.{KindLaws, RecordLaws}

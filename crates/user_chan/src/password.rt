@@ -1,6 +1,6 @@
 //! Passwords, and what Set User Password does (IPMI 2.0). No call shows a password.
 ghost use Rattle.std.specs.Prelude.{◌≡◌, ◌↔◌, ◌<◌, drop, IsTrue};
-ghost use Rattle.user_chan.specs.Passwords.{password_in, change_in, change_of, same_password, same_size, test_answer, opening_password, with_enabled};
+ghost use Rattle.user_chan.specs.Passwords.{password_in, change_in, change_of, same_password, same_size, test_answer, with_enabled};
 
 use cfg_records::mask::has;
 use cfg_records::{Live, UserNumber, byte_at};

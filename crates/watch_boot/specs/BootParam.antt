@@ -1,11 +1,10 @@
 -- The boot parameters, as a kind of record (IPMI 2.0).
-use Rattle.std.specs.Prelude.{◌≡◌, ℕ, ◌+◌, ◌*◌, ◌%◌, ◌<◌, List, [], ◌∷◌, ◌++◌, length, slice_index, bit_and, bit_xor, ◌==◌, Bool, true, false, IsTrue, if◌then◌else◌, Result, Ok, Err, Option, Some, None, refl}
+use Rattle.std.specs.Prelude.{◌≡◌, ℕ, ◌+◌, ◌%◌, ◌<◌, List, [], ◌∷◌, ◌++◌, length, slice_index, bit_and, bit_xor, ◌==◌, Bool, true, false, IsTrue, if◌then◌else◌, Result, Ok, Err, Option, Some, None, refl}
 use Rattle.two_wire.specs.Codes.{invalid_data_field}
 use Rattle.cfg_records.specs.declared.key.Key.{Key}
 use Rattle.cfg_records.specs.declared.key.Key.TheVariants as key
 use Rattle.cfg_records.specs.declared.op.Op.{Op}
 use Rattle.cfg_records.specs.declared.op.Op.TheVariants as op
-use Rattle.cfg_records.specs.declared.live.Live.{Live}
 use Rattle.cfg_records.specs.declared.boot_param.BootParameter.{BootParameter}
 use Rattle.cfg_records.specs.declared.boot_param.BootParameter.TheVariants as parameter
 use Rattle.cfg_records.specs.declared.boot_param.BootFlags.{BootFlags}

@@ -1,5 +1,5 @@
 -- The laws of the kind BootParam.
-use Rattle.std.proofs.Common.{◌≡◌, ℕ, zero, suc, ◌+◌, ◌*◌, ◌-◌, ◌%◌, ◌^◌, ◌<◌, ◌≤◌, min, bit_and, bit_xor, List, [], ◌∷◌, drop, length, slice_index, ◌==◌, Bool, true, false, IsTrue, if◌then◌else◌, Result, Ok, Err, Some, refl, sym, ◌∙◌, ap, subst, arith, lit≤}
+use Rattle.std.proofs.Common.{◌≡◌, ℕ, zero, suc, ◌+◌, ◌-◌, ◌%◌, ◌^◌, ◌<◌, ◌≤◌, min, bit_and, bit_xor, List, [], ◌∷◌, drop, length, slice_index, ◌==◌, Bool, true, false, IsTrue, if◌then◌else◌, Ok, Err, Some, refl, sym, ◌∙◌, ap, subst, arith, lit≤}
 use Rattle.std.specs.Int.{bit_at}
 use Rattle.std.proofs.lemmas.Grind.{same_number_lists, common_steps}
 use Rattle.std.proofs.lemmas.Nat.{and_mask}
@@ -11,16 +11,15 @@ use Rattle.cfg_records.specs.declared.boot_param.BootParameter.TheVariants as pa
 use Rattle.cfg_records.specs.declared.boot_param.BootChange.{BootChange}
 use Rattle.cfg_records.specs.declared.boot_param.BootChange.TheVariants.{MarkAlone, ValidBitClearing, InfoAcknowledge, Flags}
 use Rattle.cfg_records.specs.declared.boot_param.SetBootParam.{SetBootParam}
-use Rattle.cfg_records.specs.declared.live.Live.{Live}
 use Rattle.cfg_records.specs.Keys.{is_length}
 use Rattle.cfg_records.specs.Masks.{has}
 use Rattle.cfg_records.specs.Meaning.{Decides, IsRefusal}
 use Rattle.cfg_records.specs.InverseLaws.{some_where, made_where, tested_same, same_tested}
 use Rattle.cfg_records.specs.Kind.{KindLaws, RecordLaws}
 use Rattle.cfg_records.specs.RefusalLaws.{refused_field}
-use Rattle.cfg_records.specs.BootParam.{selector, parameter_of, boot_length, flag_bytes, IsBootParam}
+use Rattle.cfg_records.specs.BootParam.{selector, parameter_of, boot_length, IsBootParam}
 use Rattle.cfg_records.specs.PartLaws.{IsBootParam-prop}
-use Rattle.watch_boot.specs.BootParam.{same_parameter, IsMasked, mark_of, body_of, Changes, SetsBootParam, masked_byte, body_after, boot_outcome, marked, boot_view, reply_length, undo_change, undo_boot, is_plain_change, words, record_words}
+use Rattle.watch_boot.specs.BootParam.{same_parameter, IsMasked, mark_of, body_of, Changes, SetsBootParam, masked_byte, body_after, marked, boot_view, reply_length, undo_change, undo_boot, is_plain_change, words, record_words}
 
 -- ---- parameters
 

@@ -1,5 +1,5 @@
 -- What the commands of the system boot options ask for, by their data (IPMI 2.0).
-use Rattle.std.specs.Prelude.{◌≡◌, ℕ, ◌%◌, List, [], ◌∷◌, drop, ◌==◌, Bool, if◌then◌else◌, Result, Ok, Err, Option, Some, None}
+use Rattle.std.specs.Prelude.{ℕ, ◌%◌, List, [], ◌∷◌, drop, ◌==◌, Bool, if◌then◌else◌, Result, Ok, Err, Option, Some, None}
 use Rattle.two_wire.specs.Codes.{invalid_length}
 use Rattle.cfg_records.specs.declared.boot_param.BootParameter.{BootParameter}
 use Rattle.cfg_records.specs.declared.boot_param.BootParameter.TheVariants as parameter

@@ -63,9 +63,6 @@ refused : (made : List ℕ) (code : ℕ) (b : Bool) → (if b then Ok made else 
 refused made code true is = cc
 refused made code false is = refused_field code (Err invalid_data_field) refl is
 
-five_of : (a b c n : ℕ) → length (watchdog_value a b c n) ≡ 5
-five_of a b c n = refl
-
 keeps_watchdog : (op : SetWatchdog) (new : List ℕ) → SetsWatchdog op new → IsWatchdog new
 keeps_watchdog op new s = rw s.settings (record {
   five = refl;

@@ -2,7 +2,7 @@
 ghost use Rattle.std.specs.Prelude.{◌≡◌, ◌+◌, ◌≤◌, ◌++◌, OnErr, IsTrue, length};
 ghost use Rattle.cfg_records.specs.Meaning.{told};
 ghost use Rattle.cfg_records.specs.BootParam.{selector, parameter_of, IsBootParam};
-ghost use Rattle.watch_boot.specs.BootParam.{same_parameter, mark_of, masked_byte, boot_outcome, marked, boot_body, boot_view, undo_change};
+ghost use Rattle.watch_boot.specs.BootParam.{same_parameter, masked_byte, boot_outcome, marked, boot_body, boot_view};
 
 use cfg_records::mask::has;
 use cfg_records::net_fn::CHASSIS;

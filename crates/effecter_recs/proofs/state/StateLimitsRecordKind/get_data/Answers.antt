@@ -1,4 +1,4 @@
-use Rattle.std.proofs.Common.{◌≡◌, ◌+◌, ◌*◌, ◌≤◌, ℕ, List, length, ap, length-append, arith}
+use Rattle.std.proofs.Common.{◌≤◌, ℕ, List, length, ap, length-append, arith}
 use Rattle.effecter_recs.specs.Requests.{operational_state}
 use Rattle.effecter_recs.specs.ChangeLaws.{three_each}
 use Rattle.effecter_recs.specs.StateLaws.{counted}

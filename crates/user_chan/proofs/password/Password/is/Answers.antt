@@ -1,4 +1,4 @@
-use Rattle.std.proofs.Common.{◌≡◌, List, ℕ, sym, ◌∙◌}
+use Rattle.std.proofs.Common.{List, ℕ, sym, ◌∙◌}
 use Rattle.cfg_records.specs.MaskLaws.{same_test}
 use Rattle.user_chan.specs.Passwords.{same_bytes, same_password}
 use Rattle.user_chan.specs.PasswordLaws.{bytes_true, true_bytes}
