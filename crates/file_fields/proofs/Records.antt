@@ -7,18 +7,8 @@ use Rattle.hex.specs.declared.error.FromHexError.{FromHexError}
 use Rattle.hex.proofs.HexLemmas.{decode_pairs-ok}
 use Rattle.cfg_records.specs.Sdr.{sdr_id, IsSdrRecord}
 use Rattle.file_fields.specs.Ranges.{is_record, record_of}
-use Rattle.file_fields.proofs.TestFacts.{both_true}
 
 -- ---- the test that bytes are a record
-
-passes_test : (bytes : List ℕ) → IsSdrRecord bytes → length bytes ≤ 64 → is_record bytes ≡ true
-passes_test bytes is few =
-    let least : nat_le 5 (length bytes) ≡ true = grind (arith, nat_tests, is.header) in
-    let most : nat_le (length bytes) 64 ≡ true = grind (arith, nat_tests) in
-    let whole : (length bytes == 5 + slice_index bytes 4) ≡ true = grind (arith, nat_tests, is.whole) in
-    let first : not (sdr_id bytes == 0x0000) ≡ true = grind (arith, nat_tests, is.not_first) in
-    let last : not (sdr_id bytes == 0xFFFF) ≡ true = grind (arith, nat_tests, is.not_last) in
-    both_true (nat_le 5 (length bytes) && nat_le (length bytes) 64) _ (both_true _ _ least most) (both_true (length bytes == 5 + slice_index bytes 4) _ whole (both_true _ _ first last))
 
 le_from : (m n : ℕ) → nat_le m n ≡ true → m ≤ n
 le_from m n h = grind (arith, nat_tests)

@@ -1,10 +1,10 @@
 -- What an item without a fault has in its fields.
-use Rattle.std.proofs.Common.{◌≡◌, ℕ, ◌<◌, ◌≤◌, List, [], ◌∷◌, ◌++◌, map, Bool, true, false, not, cond, Option, Some, None, refl, sym, ◌∙◌, arith, nat_le, IsSome, is_some}
+use Rattle.std.proofs.Common.{◌≡◌, ℕ, ◌<◌, ◌≤◌, List, [], ◌∷◌, ◌++◌, map, Bool, true, false, not, cond, Option, Some, None, refl, sym, ◌∙◌, arith, nat_le, IsSome}
 use Rattle.std.proofs.lemmas.Bool.{and_parts}
 use Rattle.std.proofs.lemmas.Bool.Decides.{nat_tests}
 use Rattle.std.proofs.lemmas.Option.{same_Some}
 use Rattle.std.specs.List.{filter, AllByRecursion}
-use Rattle.toml.specs.Data.{Data, Members, as_bool}
+use Rattle.toml.specs.Data.{Data, Members}
 use Rattle.file_fields.specs.declared.field.Field.{Field}
 use Rattle.file_fields.specs.declared.row.Row.{Row}
 use Rattle.file_fields.specs.declared.row.Shape.{Shape}
@@ -104,9 +104,6 @@ at_least n v is = let same : v.number ≡ n = same_Some _ _ (sym v.found ∙ is)
 -- that a value that is found is the item's
 pub same_value : {A : Type 0} (a b : A) (o : Option A) → o ≡ Some a → o ≡ Some b → a ≡ b
 same_value a b o is also = same_Some a b (sym is ∙ also)
-
-flag_cases : (d : Data) (o : Option Bool) → as_bool d ≡ o → is_some o ≡ true → IsSome (as_bool d)
-flag_cases d o is some = rw is some
 
 -- a boolean that the step has
 pub flag_there : (tree : Members) (named : Field) → Sound tree (record { 0 = named; 1 = shape.Flag; 2 = need.Always }) → IsSome (flag_in named tree)

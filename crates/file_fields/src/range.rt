@@ -1,13 +1,12 @@
 //! Which values a field can have: of which type, and in which range.
-ghost use Rattle.std.specs.Prelude.{◌≡◌, ◌∷◌, [], ℕ, ◌&&◌, if◌then◌else◌, None, Some, IfSome, map, is_some, option_map, nat_le, length};
+ghost use Rattle.std.specs.Prelude.{◌≡◌, ◌∷◌, [], ℕ, ◌&&◌, if◌then◌else◌, None, Some, IfSome, is_some, nat_le, length};
 ghost use Rattle.std.specs.List.{list_all};
 ghost use Rattle.hex.specs.Hex.{decode_of};
 ghost use Rattle.cfg_records.specs.BootParam.{flag_bytes, parameter_of, change_bytes};
-ghost use Rattle.cfg_records.specs.Watchdog.{watchdog_value};
 ghost use Rattle.toml.specs.Data.{as_str};
 ghost use Rattle.toml.specs.View.{view, table_view};
 ghost use Rattle.file_fields.specs.Trees.{members, or_none, natural, naturals_in, bytes_in, number_in};
-ghost use Rattle.file_fields.specs.Ranges.{passes, is_integer, is_table, is_array_of, has_type, is_between, are_digits, is_enables_byte, are_masks, are_thresholds, are_flags, is_text, is_record, record_of, record_in, are_settings, is_selection, is_offset, are_five_bits, are_boot_data, parameter_in, is_in_range, settings};
+ghost use Rattle.file_fields.specs.Ranges.{passes, is_integer, is_table, is_array_of, has_type, is_between, are_digits, is_enables_byte, are_masks, are_flags, is_text, is_record, record_of, record_in, are_settings, is_selection, is_offset, are_five_bits, are_boot_data, parameter_in, is_in_range, settings};
 
 use crate::attributes::{
     are_only_indexes, are_own_indexes, are_values, is_kind, is_most, is_only_text, is_sized_text,

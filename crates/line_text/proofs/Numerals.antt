@@ -50,10 +50,6 @@ short {E = E} word most (Err e) h sign fits few = λ q.
     let bound : digits_value 10 word < 10 ^ 9 = digits_value_short own word 9 q.0.1 (omega (arith, fits, few)) in
     p (q.0.1, q.0.0, omega (arith, bound))
 
--- a numeral has no sign
-pub unsigned : (word : List ℕ) → IsNumeral 10 word → get_or word 0 0 ≢ 43
-unsigned word h = not_in_digits own word 43 h.1 (λ r. omega (arith, r.0)) 0 h.0
-
 -- what a test of two numbers says
 pub differ : (a b : ℕ) (r : Bool) → r ≡ false → r ≡ (a == b) → a ≢ b
 differ a b r refused test same = grind arith

@@ -1,5 +1,5 @@
 -- What a step without a fault has in the fields of its kind.
-use Rattle.std.proofs.Common.{◌≡◌, ◌≢◌, ◌&&◌, nat_lt, ℕ, zero, suc, ◌+◌, ◌==◌, ◌≤◌, List, Bool, true, false, not, ◌||◌, Option, Some, None, IsSome, option_and_then, refl, sym, ap, ◌∙◌, arith, nat_le, codes}
+use Rattle.std.proofs.Common.{◌≡◌, ◌≢◌, ◌&&◌, nat_lt, ℕ, zero, suc, ◌+◌, ◌==◌, ◌≤◌, List, Bool, true, false, not, ◌||◌, Option, Some, None, option_and_then, refl, sym, ap, ◌∙◌, arith, nat_le, codes}
 use Rattle.std.proofs.lemmas.Bool.{and_parts, false≢true}
 use Rattle.std.proofs.lemmas.Nat.Bits.{bit_at-zero}
 use Rattle.std.specs.Int.{bit_at}
@@ -72,25 +72,6 @@ disables tree sound not_leave not_enable =
     rw v.found (text_cases (as_str v.value) v.within (rw v.found at not_leave) (rw v.found at not_enable))
 
 -- ---- the bytes of the watchdog timer
-
--- the use byte's bit 7 and its use
-pub flagged : (n : ℕ) → n ≤ 5 → has (128 + n) 7 ≡ true
-flagged zero lt = refl
-flagged (suc zero) lt = refl
-flagged (suc (suc zero)) lt = refl
-flagged (suc (suc (suc zero))) lt = refl
-flagged (suc (suc (suc (suc zero)))) lt = refl
-flagged (suc (suc (suc (suc (suc zero))))) lt = refl
-flagged (suc (suc (suc (suc (suc (suc n)))))) lt = absurd (omega arith)
-
-pub unflagged : (n : ℕ) → n ≤ 5 → has n 7 ≡ false
-unflagged zero lt = refl
-unflagged (suc zero) lt = refl
-unflagged (suc (suc zero)) lt = refl
-unflagged (suc (suc (suc zero))) lt = refl
-unflagged (suc (suc (suc (suc zero)))) lt = refl
-unflagged (suc (suc (suc (suc (suc zero))))) lt = refl
-unflagged (suc (suc (suc (suc (suc (suc n)))))) lt = absurd (omega arith)
 
 -- ---- masks
 
@@ -167,14 +148,6 @@ six_given tree (suc (suc (suc zero))) = refl
 six_given tree (suc (suc (suc (suc zero)))) = refl
 six_given tree (suc (suc (suc (suc (suc zero))))) = refl
 six_given tree (suc (suc (suc (suc (suc (suc place)))))) = and_none (nat_lt (suc (suc (suc (suc (suc (suc place)))))) 6)
-
-offset_cases : (o : Option ℕ) → passes (is_between 0 11) o ≡ true → IsSome o
-offset_cases (Some n) is = refl
-offset_cases None is = cc
-
--- an offset is a number
-pub offset_there : (d : Data) → is_offset d ≡ true → IsSome (natural d)
-offset_there d is = offset_cases (natural d) is
 
 pub offset_small : (d : Data) (n : ℕ) → is_offset d ≡ true → natural d ≡ Some n → n ≤ 11
 offset_small d n is has =

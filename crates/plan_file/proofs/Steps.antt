@@ -1,5 +1,5 @@
 -- The faults of a plan beside those of its steps.
-use Rattle.std.proofs.Common.{◌≡◌, ℕ, ◌+◌, ◌<◌, length, List, [], ◌∷◌, ◌++◌, map, take, drop, get_or, Option, Some, None, refl, ap, ◌∙◌}
+use Rattle.std.proofs.Common.{◌≡◌, ℕ, ◌+◌, ◌<◌, length, List, [], ◌∷◌, ◌++◌, map, take, drop, get_or, Option, Some, None, ap, ◌∙◌}
 use Rattle.std.proofs.lemmas.List.{take_more, drop_more, map-append}
 use Rattle.std.proofs.lemmas.Slice.Zip.{all_zipped_more}
 use Rattle.std.specs.List.{find, AllZip}
@@ -10,7 +10,6 @@ use Rattle.cfg_records.specs.declared.op.Op.{Op}
 use Rattle.file_fields.specs.declared.field.Field.TheVariants as field
 use Rattle.file_fields.specs.declared.fault.FieldFault.{FieldFault}
 use Rattle.plan_file.specs.declared.kind.Kind.{Kind}
-use Rattle.plan_file.specs.declared.kind.TheConstants.{KIND}
 use Rattle.plan_file.specs.declared.plan_fault.OutsidePlan.{OutsidePlan}
 use Rattle.plan_file.specs.declared.plan_fault.NoGet.{NoGet}
 use Rattle.plan_file.specs.declared.plan_fault.StepFault.{StepFault}
@@ -61,13 +60,6 @@ module _ (tree : Members) where
       → first (field_faults (of_kind named).rows tree) ≡ None → step_faults tree ≡ []
   no_step_fault named is inside shown none =
       kind_next inside shown ∙ ap (kind_faults tree) is ∙ ap (map (λ (f : FieldFault). step.Field f)) (empty (field_faults (of_kind named).rows tree) none)
-
-  -- where a step names no kind
-  pub kind_is_faulty : (why : FieldFault) → first (field_faults KIND tree) ≡ Some why → first (kind_faults tree None) ≡ Some (step.Field why)
-  kind_is_faulty why is = first-append _ _ (step.Field why) (first-map (λ (f : FieldFault). step.Field f) (field_faults KIND tree) why is)
-
-  pub kind_is_unknown : first (field_faults KIND tree) ≡ None → first (kind_faults tree None) ≡ Some step.UnknownKind
-  kind_is_unknown none = rw (empty (field_faults KIND tree) none) refl
 
 -- ---- of the steps that were read
 

@@ -1,7 +1,7 @@
 -- The lines of a text, and the events that they say.
-use Rattle.std.proofs.Common.{◌≡◌, ◌≢◌, ◌⊎◌, inl, inr, ◌∷◌, ◌++◌, [], List, ℕ, zero, suc, ◌+◌, ◌<◌, ◌≤◌, Bool, true, false, not, if◌then◌else◌, Option, Some, None, Result, Ok, Err, is_ok, is_err, option_map, map, take, length, get_or, slice_get, refl, sym, ◌∙◌, ap, subst, arith}
+use Rattle.std.proofs.Common.{◌≡◌, ◌⊎◌, inl, inr, ◌∷◌, ◌++◌, [], List, ℕ, zero, suc, ◌+◌, ◌<◌, Bool, true, false, not, if◌then◌else◌, Some, Result, Ok, Err, is_ok, is_err, option_map, map, take, length, get_or, slice_get, refl, ◌∙◌, ap, subst, arith}
 use Rattle.std.proofs.lemmas.Bool.{cases_lt}
-use Rattle.std.proofs.lemmas.List.{take_more, take-map, map-append, append-nil}
+use Rattle.std.proofs.lemmas.List.{take_more, take-map, map-append}
 use Rattle.std.proofs.lemmas.Option.{slice_get-map, slice_get-get_or}
 use Rattle.std.proofs.lemmas.List.Elements.{filter-append}
 use Rattle.std.proofs.lemmas.Slice.Zip.{all_zipped_more}
@@ -92,9 +92,6 @@ module _ (lines : List (Bor (List ℕ))) (place : ℕ) (d : Bor (List ℕ)) (wit
 
   spoken_more : spoken (said (take (place + 1) lines)) ≡ spoken (said (take place lines)) ++ spoken (line.now ∷ [])
   spoken_more = ap spoken more ∙ filter-append (λ l. not (is_skipped l)) (said (take place lines)) (line.now ∷ [])
-
-  pub next_skipped : (events : List Event) → Say (said (take place lines)) events → is_skipped line.now ≡ true → Say (said (take (place + 1) lines)) events
-  next_skipped events told skipped = rw (spoken_more, skipped, append-nil) told
 
   pub next_said : (events : List Event) (e : Event) → Say (said (take place lines)) events → is_skipped line.now ≡ false → Says line.now e
       → Say (said (take (place + 1) lines)) (events ++ e ∷ [])

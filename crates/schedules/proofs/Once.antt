@@ -1,18 +1,16 @@
 -- Words say at most one event: the one that they are read as.
-use Rattle.std.proofs.Common.{◌≡◌, ◌≢◌, ◌≤◌, map, get_or, ◌∷◌, [], List, ℕ, ◌+◌, ◌*◌, ◌/◌, ◌%◌, ◌<◌, ◌==◌, Result, Ok, Err, if◌then◌else◌, slice_index, drop, length, refl, sym, ◌∙◌, ap, arith, codes, Bool, true, false}
+use Rattle.std.proofs.Common.{◌≡◌, ◌≢◌, ◌≤◌, map, get_or, ◌∷◌, [], List, ℕ, ◌+◌, ◌*◌, ◌/◌, ◌%◌, ◌<◌, ◌==◌, Result, Ok, Err, if◌then◌else◌, slice_index, drop, length, refl, sym, ◌∙◌, ap, arith, codes}
 use Rattle.std.specs.Borrow.{Bor}
 use Rattle.std.specs.Str.Parse.{digits_value}
 use Rattle.hex.specs.Hex.{decode_of}
 use Rattle.hex.specs.declared.error.FromHexError.{FromHexError}
 use Rattle.two_wire.specs.declared.Bus.{Bus}
 use Rattle.two_wire.specs.declared.Bus.TheVariants.{Ipmb, Smbus}
-use Rattle.ipmb_frame.specs.Grammar.{packed}
 use Rattle.schedules.specs.declared.event.Call.{Call as Called}
 use Rattle.schedules.specs.declared.event.Call.TheVariants.{Start, Quiet, Stop, Again, Undo}
 use Rattle.schedules.specs.declared.event.OtherRequest.{OtherRequest}
 use Rattle.schedules.specs.declared.event.Event.{Event}
 use Rattle.schedules.specs.declared.event.Event.TheVariants.{Calls, ToBmc, ToMgr, OtherIpmb, OtherSmbus, Noise, Idle, Scan, Tick}
-use Rattle.schedules.specs.Text.{IsNumber}
 use Rattle.schedules.specs.Line.{Say, IsRequest, call_name, bus_name}
 
 -- ---- what words are read as
@@ -63,10 +61,6 @@ said (word ∷ bus ∷ from ∷ digits ∷ []) =
 said _ = Tick
 
 -- ---- what they say is that
-
-bus_is : (bus : Bus) → bus_said (bus_name bus) ≡ bus
-bus_is Ipmb = refl
-bus_is Smbus = refl
 
 call_is : (call : Called) → one_said (call_name call) ≡ Calls call
 call_is Start = refl

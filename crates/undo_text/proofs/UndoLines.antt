@@ -15,7 +15,7 @@ use Rattle.line_text.proofs.Cuts.{lacks_by_index, same_cut, not_lacking}
 use Rattle.cfg_records.specs.declared.message.Asked.{Asked}
 use Rattle.cfg_records.specs.declared.message.Asked.TheVariants.{Ipmi, Pldm}
 use Rattle.plans.specs.declared.undo_list.NextNumbers.{NextNumbers}
-use Rattle.undo_text.specs.UndoText.{version_line, numbers_line, IsNumbersLine, bus_of, bytes_of, line_of, IsPlain, Fits, IsOf, IsRequestLine, BeginsWith, IsGood}
+use Rattle.undo_text.specs.UndoText.{version_line, numbers_line, IsNumbersLine, bus_of, bytes_of, line_of, IsPlain, Fits, IsRequestLine, BeginsWith, IsGood}
 
 -- ---- what lacks a mark
 
@@ -91,10 +91,6 @@ pub numbers_cut : (numbers word rest : List ℕ) (next : NextNumbers) → next.i
 numbers_cut numbers word rest next low e cut =
     same_cut 32 word rest (decimal next.ipmb) _ (sym cut.parts ∙ e) cut.first (decimal_lacks 32 next.ipmb (omega (arith, low)) (omega arith))
 
-pub numbers_are : (line numbers word rest last : List ℕ) (next : NextNumbers) → line ≡ codes "next ipmb " ++ numbers → numbers ≡ word ++ (32 ∷ rest) → rest ≡ codes "smbus " ++ last
-    → word ≡ decimal next.ipmb → last ≡ decimal next.smbus → next.ipmb < 64 → next.smbus < 32 → IsNumbersLine line next
-numbers_are line numbers word rest last next a b c d e low small = record { spelt = rw (a, b, c, d, e) refl; ipmb = low; smbus = small }
-
 same_next : (a b : NextNumbers) → a.ipmb ≡ b.ipmb → a.smbus ≡ b.smbus → a ≡ b
 same_next a b p q =
     ap (λ (i : ℕ). let r : NextNumbers = record { ipmb = i; smbus = a.smbus } in r) p
@@ -113,17 +109,6 @@ one_numbers line a b p q =
     (decimal_injective a.smbus b.smbus (omega (arith, p.smbus)) (omega (arith, q.smbus)) last)
 
 -- ---- a request's line
-
--- the bytes of an IPMI request
-pub ipmb_bytes : (bytes : List ℕ) (asked : Asked) → IsOf (codes "ipmb ") bytes asked
-    → (first : ℕ) × (command : ℕ) × (body : List ℕ) × (bytes ≡ first ∷ command ∷ body) × (first % 8 ≡ 0) × (length body ≤ 25)
-ipmb_bytes bytes (Ipmi from net_fn lun command body) is = (net_fn * 4, command, body, sym is.spelt, omega (arith, is.fits.1), is.fits.2)
-ipmb_bytes bytes (Pldm from kind command body) is = absurd (let k : 115 ≡ 105 = ap (λ (l : List ℕ). get_or l 0 0) is.sent in omega (arith, k))
-
-pub smbus_bytes : (bytes : List ℕ) (asked : Asked) → IsOf (codes "smbus ") bytes asked
-    → (kind : ℕ) × (command : ℕ) × (body : List ℕ) × (bytes ≡ kind ∷ command ∷ body) × (kind < 64) × (length body ≤ 252)
-smbus_bytes bytes (Pldm from kind command body) is = (kind, command, body, sym is.spelt, is.fits.0, is.fits.1)
-smbus_bytes bytes (Ipmi from net_fn lun command body) is = absurd (let k : 105 ≡ 115 = ap (λ (l : List ℕ). get_or l 0 0) is.sent in omega (arith, k))
 
 -- a line is of one request
 pub one_request : (line : List ℕ) (a b : Asked) → IsRequestLine line a → IsRequestLine line b → a ≡ b

@@ -2,9 +2,8 @@
 use Rattle.std.proofs.Common.{◌≡◌, ◌≢◌, ◌<◌, ◌≤◌, ◌+◌, ◌⊎◌, inl, inr, ℕ, suc, zero, List, [], ◌∷◌, ◌++◌, length, map, reverse, arith, refl, sym, ◌∙◌, ap, subst, append_assoc, codes, drop, drop-cons, add-one, slice_index_or, Some, Bool, true, false, ◌==◌, Result, Ok, Err, IfOk}
 use Rattle.std.specs.List.{AllByRecursion, AllZip, All, flat_map, slice_get}
 use Rattle.std.proofs.lemmas.Option.{slice_get_within}
-use Rattle.std.proofs.Math.Seq.{drop-length}
 use Rattle.std.proofs.lemmas.Grind.{flat_map-append}
-use Rattle.std.proofs.lemmas.List.{reverse-reverse, length-reverse, reverse-append, map-append}
+use Rattle.std.proofs.lemmas.List.{reverse-reverse, reverse-append, map-append}
 use Rattle.std.proofs.lemmas.Slice.Zip.{AllZip-long}
 use Rattle.line_text.specs.Cuts.{Lacks, ended}
 use Rattle.line_text.proofs.Cuts.{same_cut}
@@ -13,7 +12,7 @@ use Rattle.plans.specs.declared.undo_list.NextNumbers.{NextNumbers}
 use Rattle.plans.specs.declared.undo_list.UndoList.{UndoList}
 use Rattle.undo_text.specs.declared.text.UndoFault.{UndoFault}
 use Rattle.undo_text.specs.declared.text.UndoFault.TheVariants as fault
-use Rattle.undo_text.specs.UndoText.{version_line, numbers_line, IsNumbersLine, IsRequestLine, IsPlain, BeginsWith, IsGood, AllGood, IsFirstBadFrom, AreLinesOf, Stands, line_of, text_of}
+use Rattle.undo_text.specs.UndoText.{version_line, numbers_line, IsNumbersLine, IsRequestLine, IsPlain, BeginsWith, IsGood, AllGood, IsFirstBadFrom, AreLinesOf, Stands, line_of}
 use Rattle.undo_text.proofs.UndoLines.{good_lacks, one_numbers, one_request}
 
 -- ---- lines and their line feeds
@@ -48,9 +47,6 @@ requests_good n [] told low high z = tt
 requests_good n (line ∷ lines) [] low high z = absurd z
 requests_good n (line ∷ lines) (asked ∷ told) low high z =
     (inr (inr (low, omega (arith, high), (asked, z.0))), requests_good (n + 1) lines told (omega (arith, low)) (omega (arith, high)) z.1)
-
-all_lines : (list : UndoList) → List (List ℕ) → List (List ℕ)
-all_lines list lines = version_line ∷ numbers_line list.next ∷ lines
 
 stands_good : (text : List ℕ) (list : UndoList) (s : Stands text list) → AllGood 1 (version_line ∷ numbers_line list.next ∷ s.lines)
 stands_good text list s = (inl (refl, refl), (inr (inl (refl, (list.next, s.next))), requests_good 3 s.lines (reverse list.requests) (omega arith) (omega (arith, s.few)) s.told))
@@ -131,9 +127,6 @@ pub record Begun (text : List ℕ) (told : List Asked) (rest : List ℕ) : Type 
   pub spelt : text ≡ flat_map ended lines ++ rest
   pub each : AllZip IsRequestLine lines told
 
-pub begun_none : (text : List ℕ) → Begun text [] text
-begun_none text = record { lines = []; spelt = refl; each = tt }
-
 zip_push : (lines : List (List ℕ)) (told : List Asked) (line : List ℕ) (asked : Asked) → AllZip IsRequestLine lines told → IsRequestLine line asked → AllZip IsRequestLine (lines ++ line ∷ []) (told ++ asked ∷ [])
 zip_push [] [] line asked z r = (r, tt)
 zip_push [] (t ∷ told) line asked z r = absurd z
@@ -155,9 +148,6 @@ begun_more text told rest more asked b next =
       spelt = b.spelt ∙ ap (λ (l : List ℕ). flat_map ended b.lines ++ l) next.1 ∙ sym front;
       each = zip_push b.lines told next.0 asked b.each next.2;
     }
-
-pub begun_all : (text : List ℕ) (told : List Asked) (rest : List ℕ) → rest ≡ [] → Begun text told rest → AreLinesOf text told
-begun_all text told rest none b = record { lines = b.lines; spelt = b.spelt ∙ ap (λ (l : List ℕ). flat_map ended b.lines ++ l) none ∙ nil_behind (flat_map ended b.lines); each = b.each }
 
 -- a rest that begins with no request is no good line from line 3 on
 pub no_request : (n : ℕ) (rest : List ℕ) → 3 ≤ n → ((more : List ℕ) (asked : Asked) → ¬ BeginsWith (λ line. IsRequestLine line asked) rest more) → (more : List ℕ) → ¬ BeginsWith (IsGood n) rest more
@@ -196,15 +186,6 @@ bad_behind k line text whole n e good b = record {
   wanted = b.wanted;
 }
 
--- a text that doesn't begin with the version has a bad line 1
-pub bad_version : (text : List ℕ) → ((rest : List ℕ) → text ≢ codes "undo 1\n" ++ rest) → IsFirstBadFrom 1 text 1
-bad_version text none = record { before = []; rest = text; spelt = refl; place = refl; good = tt; bad = no_version text none; wanted = inr (omega arith) }
-  where
-    no_version : (text : List ℕ) → ((rest : List ℕ) → text ≢ codes "undo 1\n" ++ rest) → (more : List ℕ) → ¬ BeginsWith (IsGood 1) text more
-    no_version text none more (line, e, inl g) = none more (e ∙ ap (λ (l : List ℕ). l ++ 10 ∷ more) g.1)
-    no_version text none more (line, e, inr (inl g)) = omega (arith, g.0)
-    no_version text none more (line, e, inr (inr g)) = omega (arith, g.0)
-
 -- one that goes on without numbers has a bad line 2
 pub bad_numbers : (text rest : List ℕ) → text ≡ codes "undo 1\n" ++ rest → ((more : List ℕ) (next : NextNumbers) → ¬ BeginsWith (λ line. IsNumbersLine line next) rest more) → IsFirstBadFrom 1 text 2
 bad_numbers text rest e none =
@@ -240,9 +221,6 @@ read_is text rest more next told list e second are few same turned =
 
 -- ---- turning the requests round
 
-pub turned_more : (done rest : List Asked) (x : Asked) → done ++ reverse (rest ++ x ∷ []) ≡ (done ++ x ∷ []) ++ reverse rest
-turned_more done rest x = ap (λ (l : List Asked). done ++ l) (reverse-append rest (x ∷ [])) ∙ sym (append_assoc done (x ∷ []) (reverse rest))
-
 -- ---- writing on
 
 get_is : (xs : List Asked) (p : ℕ) (x : Asked) → slice_get xs p ≡ Some x → slice_index_or xs p x ≡ x
@@ -260,15 +238,6 @@ pub record Pushed (requests : List Asked) (place : ℕ) (old new : List ℕ) : T
   pub text : new ≡ old ++ flat_map ended (map line_of (reverse (drop place requests)))
   pub told : All IsPlain requests → AllZip IsRequestLine (map line_of (reverse (drop place requests))) (reverse (drop place requests))
 
-nothing_left : (xs : List Asked) → drop (length xs) xs ≡ []
-nothing_left xs = drop-length xs
-
-pub pushed_none : (requests : List Asked) (old : List ℕ) → Pushed requests (length requests) old old
-pushed_none requests old = record {
-  text = sym (ap (λ (l : List Asked). old ++ flat_map ended (map line_of (reverse l))) (nothing_left requests) ∙ nil_behind old);
-  told = λ all. subst (λ (l : List Asked). AllZip IsRequestLine (map line_of (reverse l)) (reverse l)) (sym (nothing_left requests)) tt;
-}
-
 pub pushed_more : (requests : List Asked) (p place : ℕ) (asked : Asked) (old now new : List ℕ) → place ≡ p + 1 → slice_get requests p ≡ Some asked → Pushed requests place old now
     → new ≡ now ++ ended (line_of asked) → (IsPlain asked → IsRequestLine (line_of asked) asked) → Pushed requests p old new
 pushed_more requests p place asked old now new at got b text line =
@@ -285,20 +254,6 @@ pushed_more requests p place asked old now new at got b text line =
           let both = zip_push (map line_of rest) rest (line_of asked) asked (b.told all) (line plain) in
           subst (λ (l : List (List ℕ)). AllZip IsRequestLine l (reverse (drop p requests))) (sym lines)
           (subst (λ (l : List Asked). AllZip IsRequestLine (map line_of rest ++ line_of asked ∷ []) l) (sym turned) both);
-    }
-
--- the text that was written, and that it stands for the list
-pub written_stands : (list : UndoList) (text : List ℕ) → list.next.ipmb < 64 → list.next.smbus < 32 → length list.requests ≤ 256 → text ≡ text_of list
-    → AllZip IsRequestLine (map line_of (reverse list.requests)) (reverse list.requests) → Stands text list
-written_stands list text low small few e told =
-    let long : length (reverse list.requests) ≡ length (map line_of (reverse list.requests)) = AllZip-long IsRequestLine (map line_of (reverse list.requests)) (reverse list.requests) told in
-    let turned : length (reverse list.requests) ≡ length list.requests = length-reverse list.requests in
-    record {
-      lines = map line_of (reverse list.requests);
-      spelt = e;
-      next = record { spelt = refl; ipmb = low; smbus = small };
-      told = told;
-      few = omega (arith, few, long, turned);
     }
 
 -- ---- what is answered

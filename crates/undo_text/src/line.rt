@@ -3,7 +3,7 @@ ghost use Rattle.std.specs.Prelude.{◌≡◌, ◌≢◌, ◌++◌, ◌∷◌, �
 ghost use Rattle.std.specs.Fmt.{decimal};
 ghost use Rattle.two_wire.specs.Sizes.{most_pldm_request_data};
 ghost use Rattle.hex.specs.Hex.{IsBytes, decode_of, encode_upper};
-ghost use Rattle.line_text.specs.Cuts.{line_feed, ended};
+ghost use Rattle.line_text.specs.Cuts.{ended};
 ghost use Rattle.cfg_records.specs.declared.message.Asked.{Asked as AnyAsked};
 ghost use Rattle.plans.specs.declared.undo_list.NextNumbers.{NextNumbers as AnyNumbers};
 ghost use Rattle.undo_text.specs.UndoText.{IsPlain, IsNumbersLine, IsOf, IsRequestLine, BeginsWith, name_of, line_of};

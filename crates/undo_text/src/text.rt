@@ -1,10 +1,9 @@
 //! Undo texts: the list of requests that undo a plan, as a file keeps it.
-ghost use Rattle.std.specs.Prelude.{◌≡◌, ◌⊎◌, ◌≤◌, ◌++◌, ◌∷◌, ℕ, List, [], Ok, Err, IfOk, IfErr, OnOk, length, map, reverse, string_bytes};
+ghost use Rattle.std.specs.Prelude.{◌≡◌, ◌⊎◌, ◌≤◌, ◌++◌, ℕ, Ok, Err, IfOk, IfErr, OnOk, length, map, reverse, string_bytes};
 ghost use Rattle.std.specs.List.{All, AllZip, flat_map};
 ghost use Rattle.line_text.specs.Cuts.{ended};
 ghost use Rattle.std.specs.Vec.{vec_len};
 ghost use Rattle.plans.specs.Steps.{most_steps};
-ghost use Rattle.plans.specs.declared.undo_list.UndoList.{UndoList as AnyList};
 ghost use Rattle.undo_text.specs.UndoText.{IsPlain, IsRequestLine, AreLinesOf, Stands, IsFirstBad, IsFirstBadFrom, line_of, text_of};
 
 use crate::line::{first_numbers, first_request, push_request};

@@ -1,4 +1,4 @@
-use Rattle.std.proofs.Common.{◌≡◌, ◌+◌, ℕ, List, [], ◌∷◌, ◌++◌, false, get_or, sym, ◌∙◌, subst, map, take}
+use Rattle.std.proofs.Common.{◌+◌, ℕ, List, [], false, get_or, sym, ◌∙◌, subst, map, take}
 use Rattle.std.specs.Borrow.{Bor}
 use Rattle.schedules.specs.Line.{Says}
 use Rattle.schedules.specs.Schedule.{Say, is_skipped}
