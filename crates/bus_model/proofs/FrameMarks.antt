@@ -134,11 +134,6 @@ shows_again numbers begun old s (x ∷ more) is some h =
     let at : begun - 1 ≡ length more = omega arith in
     subst (λ (n : ℕ). ShowsBus numbers begun (old ++ new_frame numbers begun n Port ∷ []) (sends_newest (bus_of numbers) (x ∷ more) s)) (sym at) (shows_sent numbers begun old s (length more) (Ask []) h)
 
-pub shows_again_none : (numbers : Numbers) (begun : ℕ) (old : List SentFrame) (s : BusState) (bytes : List (List ℕ)) → length bytes ≡ begun → begun ≤ 0 → ShowsBus numbers begun old s
-    → ShowsBus numbers begun old (sends_newest (bus_of numbers) bytes s)
-shows_again_none numbers begun old s [] is none h = h
-shows_again_none numbers begun old s (x ∷ more) is none h = absurd (omega arith)
-
 -- the frame at a place, as it is marked
 marked_at : (b : Bus) (s : BusState) (old : List SentFrame) (which : ℕ) (o : Option SentFrame) → old ≡ map (sent_frame b s) s.frames → slice_get old which ≡ o → option_map (sent_frame b s) (slice_get s.frames which) ≡ o
 marked_at b s old which o is at = sym (slice_get-map (sent_frame b s) s.frames which) ∙ sym (ap (λ (l : List SentFrame). slice_get l which) is) ∙ at

@@ -5,7 +5,7 @@ use Rattle.std.proofs.lemmas.Bool.{cond_both, eq-eqb, ne_eqb}
 use Rattle.bus_model.specs.Request.{Kept, Entry, Carried, carried_by}
 use Rattle.bus_model.specs.Carried.{Outcome, Repeats, IsBusy, IsNew, outcome, log_after, carried_after}
 use Rattle.bus_model.specs.Numbering.{Bus}
-use Rattle.bus_model.specs.BusState.{request_of, Content, Ask, Reply, Frame, BusState, Event, Begins, SendsAgain, ReachesPort, ReachesManager, OtherAsks, IsIdle, Resumes, opening, is_open, begins, sends_again, comes, takes_if, taken_now, taken_from, OtherReplies, at_port, happens, run}
+use Rattle.bus_model.specs.BusState.{request_of, Content, Ask, Reply, Frame, BusState, Event, Begins, SendsAgain, ReachesPort, ReachesManager, OtherAsks, IsIdle, Resumes, is_open, begins, sends_again, comes, takes_if, taken_now, taken_from, OtherReplies, at_port, happens, run}
 use Rattle.bus_model.specs.Schedule.{IsHonest, AllHonest}
 use Rattle.bus_model.specs.Start.{NothingUnderWay}
 
@@ -33,9 +33,6 @@ module _ (b : Bus) (before : List Entry) where
   -- the log of a bus does
   abbrev pub LogShows : BusState → Type 0
   LogShows s = InLog b.manager before s.log s.carried
-
-  pub opening_shows : LogShows (opening before)
-  opening_shows = sym (append-nil (carried_by b.manager before))
 
   pub start_shows : (s : BusState) → NothingUnderWay s → s.log ≡ before → LogShows s
   start_shows s start is = ap (carried_by b.manager) is ∙ sym (append-nil (carried_by b.manager before)) ∙ ap (λ (ks : List Kept). carried_by b.manager before ++ ks) (sym start.carried)

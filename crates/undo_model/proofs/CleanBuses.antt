@@ -22,7 +22,7 @@ use Rattle.undo_model.specs.Line.{Exchange, Line}
 use Rattle.undo_model.specs.Joined.{IsClosed}
 use Rattle.undo_model.specs.Delivery.{Delivery}
 use Rattle.undo_model.specs.World as world
-use Rattle.undo_model.specs.World.{States, update, World, Happening, Start, Undo, ToManager, OnBus, BoardMay, bytes_sent, begins, moved, happens, run, AllMay, opening}
+use Rattle.undo_model.specs.World.{States, update, World, Happening, Start, Undo, ToManager, BoardMay, bytes_sent, begins, moved, happens, run, AllMay, opening}
 use Rattle.undo_model.specs.Clean.{Moment, answered_in_all, AnswersByRow, one, clean, IsAtRest}
 use Rattle.undo_model.specs.CleanBuses.{reach_port, asks, replies, exchange, exchanges, AllCanBeSent, HasEnded, AlwaysRunsOverBuses}
 use Rattle.undo_model.proofs.Undoable.{CanUndo}

@@ -13,7 +13,7 @@ use Rattle.undo_model.specs.Machine.{Stage, AtStart, Opened, AtEnd, AtHalt, AtUn
 use Rattle.undo_model.specs.Wires.{Wires}
 use Rattle.undo_model.specs.Line.{Exchange, Line}
 use Rattle.undo_model.specs.World as world
-use Rattle.undo_model.specs.World.{States, World, Happening, Start, Quiet, Stop as StopCall, Again, Undo, Resume, ToManager, OnBus, OnBench, BoardMay, happens, run, May, AllMay, opening}
+use Rattle.undo_model.specs.World.{World, Happening, Start, Quiet, Stop as StopCall, Again, Undo, Resume, ToManager, OnBus, OnBench, BoardMay, happens, run, May, AllMay, opening}
 use Rattle.undo_model.specs.Headline.{IsStart}
 use Rattle.undo_model.specs.Giving.{Giving, given_by, given_at, given_in, GaveGetIn, GaveSetIn, CausedIn, HaltsByAnswers}
 use Rattle.undo_model.proofs.LineLaws.{IsLine}
