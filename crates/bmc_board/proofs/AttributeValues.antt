@@ -1,25 +1,23 @@
 -- The records of a board have the values of its attributes.
-use Rattle.std.proofs.Common.{◌≡◌, ◌≢◌, ℕ, zero, suc, ◌<◌, List, [], ◌∷◌, length, get_or, Bool, true, false, cond, ◌==◌, Option, Some, None, refl, sym, ◌∙◌, ap, subst, arith}
+use Rattle.std.proofs.Common.{◌≡◌, ◌≢◌, ℕ, zero, suc, ◌<◌, List, [], ◌∷◌, length, get_or, Bool, false, cond, ◌==◌, Option, Some, None, refl, sym, ◌∙◌, ap, subst, arith}
 use Rattle.std.specs.List.{find}
 use Rattle.std.specs.Option.{option_map, unwrap_or, IsSomeAnd}
 use Rattle.std.proofs.lemmas.Bool.Decides.{nat_tests}
 use Rattle.cfg_records.specs.Distinct.{NamesDiffer}
 use Rattle.cfg_records.specs.InverseLaws.{same_tested}
-use Rattle.cfg_records.specs.Records.{Records}
 use Rattle.cfg_records.specs.declared.key.Key.TheVariants as key
 use Rattle.cfg_records.specs.declared.attribute.Attribute.{Attribute}
 use Rattle.cfg_records.specs.declared.attribute.AttributeKind.{AttributeKind}
 use Rattle.cfg_records.specs.declared.attribute.AttributeKind.TheVariants as kind
 use Rattle.cfg_records.specs.declared.attribute_value.AttributeValue.{AttributeValue}
 use Rattle.cfg_records.specs.declared.attribute_value.AttributeValue.TheVariants.{Number}
-use Rattle.cfg_records.specs.declared.board_file.BoardFile.{BoardFile}
 use Rattle.cfg_records.specs.Attribute.{type_of_kind, range_of}
 use Rattle.cfg_records.specs.AttributeRange.{type_of, Allows}
 use Rattle.cfg_records.specs.AttributeValue.{value_in}
 use Rattle.record_kinds.specs.declared.limits.Limits.{Limits}
 use Rattle.record_kinds.specs.declared.limits.Limits.TheVariants as limits
 use Rattle.record_kinds.specs.Boards.{attribute_at}
-use Rattle.record_kinds.specs.Sound.{IsSound, IsSoundAt}
+use Rattle.record_kinds.specs.Sound.{IsSoundAt}
 use Rattle.bmc_board.specs.Sensing.{bytes_of}
 use Rattle.bmc_board.specs.BiosTables.{values_in}
 use Rattle.bmc_board.specs.StandingValues.{AttributesHaveValues}

@@ -1,5 +1,5 @@
 -- What a reading that is taken leaves, from what each of its steps makes.
-use Rattle.std.proofs.Common.{◌≡◌, ℕ, List, Bool, true, false, map, Option, if◌then◌else◌, refl, ap, sym, ◌∙◌}
+use Rattle.std.proofs.Common.{◌≡◌, ℕ, List, Bool, true, false, map, Option, if◌then◌else◌, ap, sym, ◌∙◌}
 use Rattle.cfg_records.specs.Sensor.EventEnable.{is_scanning}
 use Rattle.cfg_records.specs.Requests.{byte_at}
 use Rattle.cfg_records.specs.Records.{Records}

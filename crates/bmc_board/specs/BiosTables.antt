@@ -1,5 +1,5 @@
 -- GetBIOSTable (DSP0247): the tables that tell of a board's attributes, in parts.
-use Rattle.std.specs.Prelude.{◌≡◌, ℕ, List, [], ◌∷◌, ◌++◌, length, map, Option, Some, None, Result, Ok, Err, ◌==◌, ◌||◌, nat_lt, if◌then◌else◌}
+use Rattle.std.specs.Prelude.{ℕ, List, [], ◌∷◌, ◌++◌, length, map, Option, Some, None, Result, Ok, Err, ◌==◌, ◌||◌, nat_lt, if◌then◌else◌}
 use Rattle.std.specs.Int.{w32, to_le_bytes, from_le_bytes}
 use Rattle.two_wire.specs.Codes.{pldm_invalid_data, pldm_no_table, pldm_invalid_table}
 use Rattle.pldm_base.specs.Parts.{asked_offset, part_bytes, is_last, next_handle, flag_of, flag_byte}

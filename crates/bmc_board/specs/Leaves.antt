@@ -1,5 +1,5 @@
 -- What a refused request leaves.
-use Rattle.std.specs.Prelude.{◌≡◌, ℕ, true, Result, Ok, Err}
+use Rattle.std.specs.Prelude.{◌≡◌, ℕ, true, Result, Ok}
 use Rattle.two_wire.specs.Codes.{out_of_space}
 use Rattle.sel_log.specs.Log.{is_full}
 use Rattle.bmc_board.specs.declared.live.LiveCommand.TheVariants as live

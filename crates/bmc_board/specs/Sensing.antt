@@ -1,5 +1,5 @@
 -- Readings of a board's sensors, and what happens on the board beside requests (IPMI 2.0, "Get Sensor Reading", "Watchdog Timer").
-use Rattle.std.specs.Prelude.{◌≡◌, ℕ, ◌∷◌, [], List, map, fold, Bool, Option, Some, None, Result, Ok, Err, if◌then◌else◌}
+use Rattle.std.specs.Prelude.{◌≡◌, ℕ, [], List, map, fold, Bool, Option, Some, None, Result, Ok, Err, if◌then◌else◌}
 use Rattle.cfg_records.specs.Masks.{has}
 use Rattle.cfg_records.specs.Sensor.EventEnable.{is_scanning}
 use Rattle.cfg_records.specs.Requests.{byte_at}

@@ -9,7 +9,7 @@ use Rattle.sel_log.specs.declared.info.Info.{Info}
 use Rattle.sel_log.specs.LogRecord.{id_of}
 use Rattle.sel_log.specs.Reservations.{is_present}
 use Rattle.sel_log.specs.Log as log
-use Rattle.sel_log.specs.Log.{Log, info_of, add_answer, after_add, after_clear}
+use Rattle.sel_log.specs.Log.{Log, add_answer, after_add, after_clear}
 use Rattle.sensor_recs.specs.Sdr as sdr
 use Rattle.sensor_recs.specs.Sdr.{Repository}
 use Rattle.bmc_board.specs.declared.storage.PartAsked.{PartAsked}

@@ -1,5 +1,5 @@
 //! The windows of a port, found by the requester's byte.
-ghost use Rattle.std.specs.Prelude.{◌≡◌, ℕ, ◌<◌, ◌≤◌, [], ◌∷◌, List, length, ◌==◌, IsTrue, IfOk, Some, None};
+ghost use Rattle.std.specs.Prelude.{◌≡◌, ◌≤◌, [], ◌∷◌, List, length, ◌==◌, IsTrue, IfOk, Some, None};
 ghost use Rattle.std.specs.List.{position, list_any};
 ghost use Rattle.std.specs.Option.{is_none};
 ghost use Rattle.bus_model.specs.Request.{Entry, Carried, Idled};

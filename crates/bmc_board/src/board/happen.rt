@@ -28,9 +28,8 @@ fn log_events(log: &mut Sel, sensor: &Sensor, compared: &Compared, reading: u8, 
 }
 
 impl<S: Store> Board<S> {
-    ghost use Rattle.std.specs.Prelude.{◌≡◌, ◌↔◌, OnErr, None, IsErr};
-    ghost use Rattle.record_kinds.specs.Boards.{sensor_at};
-    ghost use Rattle.bmc_board.specs.State.{state, state_of, IsUnchanged};
+    ghost use Rattle.std.specs.Prelude.{◌≡◌, ◌↔◌, OnErr, IsErr};
+    ghost use Rattle.bmc_board.specs.State.{state_of, IsUnchanged};
 
     /// What readings of the sensor are compared with.
     fn compared(&self, sensor: &Sensor) -> Compared

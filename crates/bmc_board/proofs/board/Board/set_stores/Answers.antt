@@ -1,6 +1,5 @@
 use Rattle.std.proofs.Common.{◌≡◌, List, ℕ, Some, refl, ap, sym, ◌∙◌, subst}
 use Rattle.cfg_records.specs.Records.{Records, with_record}
-use Rattle.cfg_records.specs.declared.key.Key.{Key}
 use Rattle.cfg_records.specs.declared.op.Op.{Op}
 use Rattle.cfg_records.specs.declared.op.Op.TheVariants as of_kind
 use Rattle.cfg_records.specs.declared.board_file.BoardFile.{BoardFile}

@@ -1,4 +1,4 @@
-use Rattle.std.proofs.Common.{◌≡◌, List, ℕ, Some, sym, ◌∙◌, subst}
+use Rattle.std.proofs.Common.{◌≡◌, Some, sym, ◌∙◌, subst}
 use Rattle.cfg_records.specs.declared.key.Key.{Key}
 use Rattle.record_kinds.specs.Limits.{key_of, is_of, valid, limits_at}
 use Rattle.record_kinds.specs.SoundLaws.{valid_at}
