@@ -23,7 +23,7 @@ use Rattle.lab_model.specs.ManagerWords.{bus_of}
 use Rattle.lab_model.specs.Spelled.{numbers_of}
 use Rattle.lab_model.specs.Wires.{bytes_of, reply_to}
 use Rattle.lab_model.specs.Bytes.{said}
-use Rattle.lab_model.specs.Values.{Value, Asks, Tells, Part, written, parts_of, IsFrameOn}
+use Rattle.lab_model.specs.Values.{Value, Tells, Part, written, parts_of, IsFrameOn}
 use Rattle.lab_model.specs.PortSteps.{PortState, Turn, Deed, turn, spelled, stays, hears}
 use Rattle.lab_model.specs.ManagerSteps.{own_on, board_plans, values_of, Sent, ManagerState, ManagerDeed, heeded_on, open_count, taken_or, manager_hears}
 use Rattle.lab_model.specs.ManagerEvents.{name_awaited}

@@ -1,6 +1,6 @@
 //! Where a manager is, and the stages that it enters.
-ghost use Rattle.std.specs.Prelude.{◌≡◌, ◌%◌, ◌+◌, ◌-◌, ◌*◌, ◌≤◌, ◌<◌, ◌↔◌, length, IfOk, SomeIff, Err, Some, ℕ};
-ghost use Rattle.std.specs.Prelude.{false, List, [], ◌∷◌, take, slice_get, option_map};
+ghost use Rattle.std.specs.Prelude.{◌≡◌, ◌%◌, ◌+◌, ◌-◌, ◌*◌, ◌≤◌, length, Some, ℕ};
+ghost use Rattle.std.specs.Prelude.{List, take, slice_get, option_map};
 ghost use Rattle.cfg_records.specs.declared.op.Op.{Op};
 ghost use Rattle.cfg_records.specs.declared.message.Asked.{Asked as AnyAsked};
 ghost use Rattle.plans.specs.declared.names.Names.{Names as AnyNames};

@@ -8,7 +8,7 @@ ghost use Rattle.cfg_records.specs.declared.message.Asked.{Asked as AnyAsked};
 ghost use Rattle.plans.specs.declared.names.Names.{Names};
 ghost use Rattle.undo_model.specs.Machine as machine;
 ghost use Rattle.undo_core.specs.Phases.{phase_of};
-ghost use Rattle.undo_core.specs.Shown.{words_of, own, IsTask, IsStage};
+ghost use Rattle.undo_core.specs.Shown.{words_of, IsTask, IsStage};
 ghost use Rattle.undo_core.specs.Bounds.{done_by};
 
 use crate::sending::bus_of;
