@@ -9,8 +9,8 @@ use Rattle.std.specs.Int.{w32, to_le_bytes}
 use Rattle.pldm_base.specs.Crc.{IsCrc32}
 use Rattle.pldm_base.proofs.Register.{one-crc32}
 use Rattle.std.proofs.lemmas.List.Concat.{flat_map-append, flat_map-cons}
-use Rattle.cfg_records.specs.MaskLaws.{both_true}
-use Rattle.cfg_records.specs.InverseLaws.{tested_same}
+use Rattle.record_base.specs.MaskLaws.{both_true}
+use Rattle.record_base.specs.InverseLaws.{tested_same}
 use Rattle.bios_attr.specs.declared.bios_table.BiosTable.{BiosTable}
 use Rattle.bios_attr.specs.declared.table_entry.TableEntry.{TableEntry}
 use Rattle.bios_attr.specs.declared.bios_table.BiosTable.TheVariants.{Strings}

@@ -3,12 +3,12 @@ use Rattle.std.proofs.Common.{◌≡◌, ℕ, suc, ◌*◌, ◌/◌, List, [], �
 use Rattle.std.specs.Prelude.{All}
 use Rattle.std.specs.List.{flat_map}
 use Rattle.std.proofs.lemmas.List.Concat.{flat_map-cons}
-use Rattle.cfg_records.specs.declared.attribute.Attribute.{Attribute}
-use Rattle.cfg_records.specs.declared.attribute.AttributeKind.{AttributeKind}
-use Rattle.cfg_records.specs.declared.attribute.AttributeKind.TheVariants as kind
-use Rattle.cfg_records.specs.Attribute.{type_of_kind}
-use Rattle.cfg_records.specs.AttributeValue.{two_bytes, value_bytes, value_in}
-use Rattle.cfg_records.specs.declared.attribute_value.AttributeValue.{AttributeValue}
+use Rattle.record_base.specs.declared.attribute.Attribute.{Attribute}
+use Rattle.record_base.specs.declared.attribute.AttributeKind.{AttributeKind}
+use Rattle.record_base.specs.declared.attribute.AttributeKind.TheVariants as kind
+use Rattle.record_base.specs.Attribute.{type_of_kind}
+use Rattle.record_base.specs.AttributeValue.{two_bytes, value_bytes, value_in}
+use Rattle.record_base.specs.declared.attribute_value.AttributeValue.{AttributeValue}
 use Rattle.bios_attr.specs.declared.table_entry.TableEntry.TheVariants as entry
 use Rattle.bios_attr.specs.declared.bios_table.BiosTable.TheVariants.{Attributes, Values}
 use Rattle.bios_attr.specs.Attributes.{handle_of, handles_of, kind_fields, attribute_entry, attribute_entries}

@@ -2,7 +2,7 @@
 use Rattle.std.specs.Prelude.{◌≡◌, ℕ, ◌^◌, ◌<◌, ◌*◌, ◌/◌, ◌%◌, nat_le, List, ◌∷◌, ◌++◌, ◌==◌, length, take, drop, if◌then◌else◌, Option, Some, None}
 use Rattle.std.specs.Option.{option_map}
 use Rattle.std.specs.Int.{w32, w64, to_le_bytes, from_le_bytes}
-use Rattle.cfg_records.specs.AttributeValue.{two_bytes, number_of, enumeration_type, string_type, integer_type}
+use Rattle.record_base.specs.AttributeValue.{two_bytes, number_of, enumeration_type, string_type, integer_type}
 use Rattle.bios_attr.specs.declared.attribute_entry.AttributeEntry.{AttributeEntry}
 use Rattle.bios_attr.specs.declared.attribute_entry.IntegerFields.{IntegerFields}
 use Rattle.bios_attr.specs.declared.attribute_entry.KindFields.{KindFields}

@@ -3,10 +3,10 @@ use Rattle.std.proofs.Common.{◌≡◌, ℕ, ◌+◌, ◌*◌, ◌≤◌, List,
 use Rattle.std.specs.List.{flat_map, list_any}
 use Rattle.std.proofs.lemmas.List.Concat.{flat_map-append, flat_map-cons}
 use Rattle.std.proofs.lemmas.List.{append-nil, append_assoc}
-use Rattle.cfg_records.specs.declared.attribute.Attribute.{Attribute}
-use Rattle.cfg_records.specs.declared.attribute.AttributeKind.{AttributeKind}
-use Rattle.cfg_records.specs.declared.attribute.AttributeKind.TheVariants.{Enumeration, Text, Integer}
-use Rattle.cfg_records.specs.AttributeSizes.{most_indexes, most_attributes}
+use Rattle.record_base.specs.declared.attribute.Attribute.{Attribute}
+use Rattle.record_base.specs.declared.attribute.AttributeKind.{AttributeKind}
+use Rattle.record_base.specs.declared.attribute.AttributeKind.TheVariants.{Enumeration, Text, Integer}
+use Rattle.record_base.specs.AttributeSizes.{most_indexes, most_attributes}
 use Rattle.bios_attr.specs.Attributes.{is_text, with_text, with_texts, with_attributes, strings_of, texts_of, values_of, string_entry, string_entries}
 
 -- texts and one more

@@ -4,12 +4,12 @@ use Rattle.std.specs.List.{flat_map, list_any, position}
 use Rattle.std.specs.Option.{unwrap_or}
 use Rattle.std.specs.Cmp.Lexicographic.{pointwise}
 use Rattle.std.specs.Int.{w32, w64, to_le_bytes}
-use Rattle.cfg_records.specs.declared.attribute.Attribute.{Attribute}
-use Rattle.cfg_records.specs.declared.attribute.IntegerAttribute.{IntegerAttribute}
-use Rattle.cfg_records.specs.declared.attribute.AttributeKind.{AttributeKind}
-use Rattle.cfg_records.specs.declared.attribute.AttributeKind.TheVariants.{Enumeration, Text, Integer}
-use Rattle.cfg_records.specs.AttributeValue.{two_bytes}
-use Rattle.cfg_records.specs.Attribute.{type_of_kind}
+use Rattle.record_base.specs.declared.attribute.Attribute.{Attribute}
+use Rattle.record_base.specs.declared.attribute.IntegerAttribute.{IntegerAttribute}
+use Rattle.record_base.specs.declared.attribute.AttributeKind.{AttributeKind}
+use Rattle.record_base.specs.declared.attribute.AttributeKind.TheVariants.{Enumeration, Text, Integer}
+use Rattle.record_base.specs.AttributeValue.{two_bytes}
+use Rattle.record_base.specs.Attribute.{type_of_kind}
 use Rattle.bios_attr.specs.ValueEntry.{shown_type}
 
 -- ---- strings

@@ -1,23 +1,23 @@
 -- The value of a BIOS attribute, as a kind of record (DSP0247). A value has the bytes that a value entry has behind the type.
 use Rattle.std.specs.Prelude.{◌≡◌, ℕ, ◌==◌, ◌&&◌, nat_le, not, List, [], ◌∷◌, ◌++◌, drop, length, slice_index, Bool, true, false, IsTrue, if◌then◌else◌, is_some, Option, Some, None, Result, Ok, Err, refl}
 use Rattle.two_wire.specs.Codes.{pldm_invalid_data, pldm_invalid_length, pldm_invalid_attribute}
-use Rattle.cfg_records.specs.declared.key.Key.{Key}
-use Rattle.cfg_records.specs.declared.key.Key.TheVariants as key
-use Rattle.cfg_records.specs.declared.op.Op.{Op}
-use Rattle.cfg_records.specs.declared.op.Op.TheVariants as op
-use Rattle.cfg_records.specs.Kind.{KindWords, RecordWords}
-use Rattle.cfg_records.specs.AllKinds.{Place}
-use Rattle.cfg_records.specs.Requests.{pldm_request, byte_at}
-use Rattle.cfg_records.specs.declared.attribute_value.AttributeValue.{AttributeValue}
-use Rattle.cfg_records.specs.declared.attribute_value.AttributeValue.TheVariants.{Indexes, Text, Number}
+use Rattle.record_base.specs.declared.key.Key.{Key}
+use Rattle.record_base.specs.declared.key.Key.TheVariants as key
+use Rattle.record_base.specs.declared.op.Op.{Op}
+use Rattle.record_base.specs.declared.op.Op.TheVariants as op
+use Rattle.record_base.specs.Kind.{KindWords, RecordWords}
+use Rattle.record_base.specs.AllKinds.{Place}
+use Rattle.record_base.specs.Requests.{pldm_request, byte_at}
+use Rattle.record_base.specs.declared.attribute_value.AttributeValue.{AttributeValue}
+use Rattle.record_base.specs.declared.attribute_value.AttributeValue.TheVariants.{Indexes, Text, Number}
 use Rattle.bios_attr.specs.declared.value_entry.ValueEntry.{ValueEntry}
 use Rattle.bios_attr.specs.declared.bios_attribute.AttributeLimits.{AttributeLimits}
-use Rattle.cfg_records.specs.declared.bios_attribute.SetBiosAttribute.{SetBiosAttribute}
-use Rattle.cfg_records.specs.AttributeSizes.{most_indexes, most_text}
-use Rattle.cfg_records.specs.AttributeValue.{two_bytes, number_of, value_in}
+use Rattle.record_base.specs.declared.bios_attribute.SetBiosAttribute.{SetBiosAttribute}
+use Rattle.record_base.specs.AttributeSizes.{most_indexes, most_text}
+use Rattle.record_base.specs.AttributeValue.{two_bytes, number_of, value_in}
 use Rattle.bios_attr.specs.ValueEntry.{shown_type, entry_in}
-use Rattle.cfg_records.specs.BiosAttribute.{setting}
-use Rattle.cfg_records.specs.AttributeRange.{type_of, IsValue, is_allowed}
+use Rattle.record_base.specs.BiosAttribute.{setting}
+use Rattle.record_base.specs.AttributeRange.{type_of, IsValue, is_allowed}
 
 -- the PLDM type of BIOS control and configuration, and the commands that set and get an attribute's value
 abbrev pub bios : ℕ

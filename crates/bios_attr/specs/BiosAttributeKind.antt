@@ -1,8 +1,8 @@
 -- BiosAttribute as one value, and where it stands among all kinds.
 use Rattle.std.specs.Prelude.{ℕ}
-use Rattle.cfg_records.specs.declared.bios_attribute.SetBiosAttribute.{SetBiosAttribute}
-use Rattle.cfg_records.specs.Kind.{Kind}
-use Rattle.cfg_records.specs.Member.{Member}
+use Rattle.record_base.specs.declared.bios_attribute.SetBiosAttribute.{SetBiosAttribute}
+use Rattle.record_base.specs.Kind.{Kind}
+use Rattle.record_base.specs.Member.{Member}
 use Rattle.bios_attr.specs.declared.bios_attribute.AttributeLimits.{AttributeLimits}
 use Rattle.bios_attr.specs.BiosAttribute.{words, record_words, place}
 use Rattle.bios_attr.specs.BiosAttributeLaws.{kind_laws, record_laws}

@@ -3,22 +3,22 @@ use Rattle.std.proofs.Common.{◌≡◌, ℕ, ◌+◌, ◌*◌, ◌/◌, ◌%◌
 use Rattle.std.specs.Option.{IsSomeAnd, option_map}
 use Rattle.std.proofs.Props.{props}
 use Rattle.two_wire.specs.Codes.{pldm_invalid_data, pldm_invalid_length, pldm_invalid_attribute}
-use Rattle.cfg_records.specs.MaskLaws.{both_true, both}
-use Rattle.cfg_records.specs.Meaning.{Decides, IsRefusal}
-use Rattle.cfg_records.specs.InverseLaws.{some_where, made_where, tested_same, same_tested}
-use Rattle.cfg_records.specs.Kind.{KindLaws, RecordLaws}
-use Rattle.cfg_records.specs.declared.attribute_range.AttributeRange.{AttributeRange}
-use Rattle.cfg_records.specs.declared.attribute_range.AttributeRange.TheVariants as range
-use Rattle.cfg_records.specs.declared.attribute_value.AttributeValue.{AttributeValue}
-use Rattle.cfg_records.specs.declared.attribute_value.AttributeValue.TheVariants.{Indexes, Text, Number}
-use Rattle.cfg_records.specs.BiosAttributeLaws.{sent_whole}
-use Rattle.cfg_records.specs.AttributeRangeLaws.{le_true, true_allows, allows_true, Allows-prop, value_length, length_tested}
+use Rattle.record_base.specs.MaskLaws.{both_true, both}
+use Rattle.record_base.specs.Meaning.{Decides, IsRefusal}
+use Rattle.record_base.specs.InverseLaws.{some_where, made_where, tested_same, same_tested}
+use Rattle.record_base.specs.Kind.{KindLaws, RecordLaws}
+use Rattle.record_base.specs.declared.attribute_range.AttributeRange.{AttributeRange}
+use Rattle.record_base.specs.declared.attribute_range.AttributeRange.TheVariants as range
+use Rattle.record_base.specs.declared.attribute_value.AttributeValue.{AttributeValue}
+use Rattle.record_base.specs.declared.attribute_value.AttributeValue.TheVariants.{Indexes, Text, Number}
+use Rattle.record_base.specs.BiosAttributeLaws.{sent_whole}
+use Rattle.record_base.specs.AttributeRangeLaws.{le_true, true_allows, allows_true, Allows-prop, value_length, length_tested}
 use Rattle.bios_attr.specs.declared.value_entry.ValueEntry.{ValueEntry}
 use Rattle.bios_attr.specs.declared.bios_attribute.AttributeLimits.{AttributeLimits}
-use Rattle.cfg_records.specs.declared.bios_attribute.SetBiosAttribute.{SetBiosAttribute}
-use Rattle.cfg_records.specs.AttributeValue.{value_in}
+use Rattle.record_base.specs.declared.bios_attribute.SetBiosAttribute.{SetBiosAttribute}
+use Rattle.record_base.specs.AttributeValue.{value_in}
 use Rattle.bios_attr.specs.ValueEntry.{shown_type}
-use Rattle.cfg_records.specs.AttributeRange.{type_of, Allows, IsValue, is_allowed}
+use Rattle.record_base.specs.AttributeRange.{type_of, Allows, IsValue, is_allowed}
 use Rattle.bios_attr.specs.BiosAttribute.{SetsAttribute, is_settable, value_given, attribute_view, is_within, is_entry_within, IsAttributeReply, is_attribute_reply, undo_attribute, words, record_words}
 
 allowed : (r : AttributeRange) (o : Option AttributeValue) → is_allowed r o ≡ true → IsSomeAnd o (Allows r)

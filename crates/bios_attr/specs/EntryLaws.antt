@@ -6,9 +6,9 @@ use Rattle.std.proofs.lemmas.List.{append_assoc, take-append-drop, length-append
 use Rattle.std.proofs.lemmas.Bool.Decides.{nat_tests}
 use Rattle.std.proofs.Math.Seq.{take-append_seam, drop-append_seam}
 use Rattle.std.proofs.lemmas.Nat.{from_le_bytes-to_le_bytes_4, from_le_bytes-to_le_bytes_8, le_bytes_4, le_bytes_8}
-use Rattle.cfg_records.specs.InverseLaws.{tested_same}
-use Rattle.cfg_records.specs.AttributeRangeLaws.{le_true, true_le}
-use Rattle.cfg_records.specs.AttributeValue.{two_bytes, number_of, enumeration_type, string_type, integer_type}
+use Rattle.record_base.specs.InverseLaws.{tested_same}
+use Rattle.record_base.specs.AttributeRangeLaws.{le_true, true_le}
+use Rattle.record_base.specs.AttributeValue.{two_bytes, number_of, enumeration_type, string_type, integer_type}
 use Rattle.bios_attr.specs.declared.string_entry.StringEntry.{StringEntry}
 use Rattle.bios_attr.specs.declared.attribute_entry.AttributeEntry.{AttributeEntry}
 use Rattle.bios_attr.specs.declared.attribute_entry.KindFields.{KindFields}

@@ -1,6 +1,6 @@
 -- String entries (DSP0247): a handle, a text's length, and the text.
 use Rattle.std.specs.Prelude.{ℕ, nat_le, List, ◌∷◌, length, take, drop, if◌then◌else◌, Option, Some, None}
-use Rattle.cfg_records.specs.AttributeValue.{number_of}
+use Rattle.record_base.specs.AttributeValue.{number_of}
 use Rattle.bios_attr.specs.declared.string_entry.StringEntry.{StringEntry}
 use Rattle.bios_attr.specs.Attributes.{string_entry}
 

@@ -1,7 +1,7 @@
 -- The strings of a board's string table (DSP0247): which texts they are, in which order, and which handle a text has.
 use Rattle.std.specs.Prelude.{◌≡◌, ◌≢◌, ℕ, ◌+◌, ◌<◌, List, [], ◌∷◌, length, slice_get, Some, All, AllPairs}
 use Rattle.std.specs.List.{flat_map, position_or_len}
-use Rattle.cfg_records.specs.declared.attribute.Attribute.{Attribute}
+use Rattle.record_base.specs.declared.attribute.Attribute.{Attribute}
 use Rattle.bios_attr.specs.declared.string_entry.StringEntry.{StringEntry}
 use Rattle.bios_attr.specs.Attributes.{is_text, texts_of, handle_of, string_entries}
 use Rattle.bios_attr.specs.StringEntry.{string_bytes}

@@ -1,12 +1,12 @@
 -- What the tables of a board say (DSP0247): the entries of its strings, of its attributes, and of the values that these have.
 use Rattle.std.specs.Prelude.{◌≡◌, ℕ, List, map, All, Some}
-use Rattle.cfg_records.specs.declared.attribute.Attribute.{Attribute}
-use Rattle.cfg_records.specs.declared.attribute.AttributeKind.{AttributeKind}
-use Rattle.cfg_records.specs.declared.attribute.AttributeKind.TheVariants as kind
-use Rattle.cfg_records.specs.declared.attribute.IntegerAttribute.{IntegerAttribute}
-use Rattle.cfg_records.specs.declared.attribute_value.AttributeValue.{AttributeValue}
-use Rattle.cfg_records.specs.Attribute.{type_of_kind}
-use Rattle.cfg_records.specs.AttributeValue.{value_in}
+use Rattle.record_base.specs.declared.attribute.Attribute.{Attribute}
+use Rattle.record_base.specs.declared.attribute.AttributeKind.{AttributeKind}
+use Rattle.record_base.specs.declared.attribute.AttributeKind.TheVariants as kind
+use Rattle.record_base.specs.declared.attribute.IntegerAttribute.{IntegerAttribute}
+use Rattle.record_base.specs.declared.attribute_value.AttributeValue.{AttributeValue}
+use Rattle.record_base.specs.Attribute.{type_of_kind}
+use Rattle.record_base.specs.AttributeValue.{value_in}
 use Rattle.bios_attr.specs.declared.attribute_entry.AttributeEntry.{AttributeEntry}
 use Rattle.bios_attr.specs.declared.attribute_entry.IntegerFields.{IntegerFields}
 use Rattle.bios_attr.specs.declared.attribute_entry.KindFields.{KindFields}

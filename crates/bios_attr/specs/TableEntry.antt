@@ -4,8 +4,8 @@ use Rattle.std.specs.List.{flat_map, list_all}
 use Rattle.std.specs.Int.{w32, to_le_bytes}
 use Rattle.pldm_base.specs.Crc.{IsCrc32}
 use Rattle.std.specs.Option.{option_map}
-use Rattle.cfg_records.specs.AttributeSizes.{most_sent}
-use Rattle.cfg_records.specs.AttributeValue.{number_of, enumeration_type, string_type, value_bytes, value_in, HasEightBytes}
+use Rattle.record_base.specs.AttributeSizes.{most_sent}
+use Rattle.record_base.specs.AttributeValue.{number_of, enumeration_type, string_type, value_bytes, value_in, HasEightBytes}
 use Rattle.bios_attr.specs.declared.bios_table.BiosTable.{BiosTable}
 use Rattle.bios_attr.specs.declared.bios_table.BiosTable.TheVariants as table
 use Rattle.bios_attr.specs.declared.value_entry.ValueEntry.{ValueEntry}

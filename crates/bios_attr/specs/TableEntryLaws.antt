@@ -3,11 +3,11 @@ use Rattle.std.proofs.Common.{◌≡◌, ℕ, suc, ◌/◌, ◌%◌, ◌≤◌, 
 use Rattle.std.specs.Option.{option_map}
 use Rattle.std.specs.Int.{w64, from_le_bytes}
 use Rattle.std.proofs.lemmas.List.{take-append-drop, length-take-le}
-use Rattle.cfg_records.specs.AttributeRangeLaws.{le_true, true_le, value_back}
-use Rattle.cfg_records.specs.AttributeSizes.{most_sent}
-use Rattle.cfg_records.specs.declared.attribute_value.AttributeValue.{AttributeValue}
-use Rattle.cfg_records.specs.declared.attribute_value.AttributeValue.TheVariants.{Indexes, Text, Number}
-use Rattle.cfg_records.specs.AttributeValue.{number_of, type_of_value, value_bytes, indexes_in, text_in, number_in, value_in, HasEightBytes}
+use Rattle.record_base.specs.AttributeRangeLaws.{le_true, true_le, value_back}
+use Rattle.record_base.specs.AttributeSizes.{most_sent}
+use Rattle.record_base.specs.declared.attribute_value.AttributeValue.{AttributeValue}
+use Rattle.record_base.specs.declared.attribute_value.AttributeValue.TheVariants.{Indexes, Text, Number}
+use Rattle.record_base.specs.AttributeValue.{number_of, type_of_value, value_bytes, indexes_in, text_in, number_in, value_in, HasEightBytes}
 use Rattle.bios_attr.specs.declared.bios_table.BiosTable.{BiosTable}
 use Rattle.bios_attr.specs.declared.bios_table.BiosTable.TheVariants as table
 use Rattle.bios_attr.specs.declared.value_entry.ValueEntry.{ValueEntry}

@@ -2,7 +2,7 @@
 use Rattle.std.specs.Prelude.{◌≡◌, ℕ, ◌-◌, ◌%◌, List, [], ◌∷◌, ◌++◌, take, length, map}
 use Rattle.std.specs.Int.{w32, to_le_bytes}
 use Rattle.pldm_base.specs.Crc.{IsCrc32}
-use Rattle.cfg_records.specs.declared.attribute.Attribute.{Attribute}
+use Rattle.record_base.specs.declared.attribute.Attribute.{Attribute}
 use Rattle.bios_attr.specs.declared.current_values.EntryHead.{EntryHead}
 use Rattle.bios_attr.specs.declared.bios_table.BiosTable.{BiosTable}
 use Rattle.bios_attr.specs.declared.bios_table.BiosTable.TheVariants.{Strings, Attributes, Values}

@@ -1,7 +1,7 @@
 -- Value entries (DSP0247): an attribute's handle, its type, and its value.
 use Rattle.std.specs.Prelude.{ℕ, ◌+◌, ◌%◌, ◌<◌, nat_le, List, ◌∷◌, ◌++◌, slice_index, Bool, if◌then◌else◌, Option, None}
 use Rattle.std.specs.Option.{option_map}
-use Rattle.cfg_records.specs.AttributeValue.{two_bytes, number_of, type_of_value, value_bytes, value_in}
+use Rattle.record_base.specs.AttributeValue.{two_bytes, number_of, type_of_value, value_bytes, value_in}
 use Rattle.bios_attr.specs.declared.value_entry.ValueEntry.{ValueEntry}
 
 -- what is added to the type of an attribute that can only be read

@@ -4,12 +4,12 @@ use Rattle.std.specs.Option.{option_map}
 use Rattle.std.specs.Int.{w64, from_le_bytes}
 use Rattle.std.proofs.lemmas.Nat.{le_bytes_8}
 use Rattle.std.proofs.lemmas.Bool.Decides.{nat_tests}
-use Rattle.cfg_records.specs.InverseLaws.{tested_same}
-use Rattle.cfg_records.specs.declared.attribute_value.AttributeValue.{AttributeValue}
-use Rattle.cfg_records.specs.declared.attribute_value.AttributeValue.TheVariants.{Indexes, Text, Number}
-use Rattle.cfg_records.specs.AttributeRangeLaws.{value_back}
+use Rattle.record_base.specs.InverseLaws.{tested_same}
+use Rattle.record_base.specs.declared.attribute_value.AttributeValue.{AttributeValue}
+use Rattle.record_base.specs.declared.attribute_value.AttributeValue.TheVariants.{Indexes, Text, Number}
+use Rattle.record_base.specs.AttributeRangeLaws.{value_back}
 use Rattle.bios_attr.specs.declared.value_entry.ValueEntry.{ValueEntry}
-use Rattle.cfg_records.specs.AttributeValue.{number_of, enumeration_type, string_type, integer_type, type_of_value, value_bytes, indexes_in, text_in, number_in, value_in, HasEightBytes}
+use Rattle.record_base.specs.AttributeValue.{number_of, enumeration_type, string_type, integer_type, type_of_value, value_bytes, indexes_in, text_in, number_in, value_in, HasEightBytes}
 use Rattle.bios_attr.specs.ValueEntry.{shown_type, entry_bytes, entry_in, AreBytes}
 
 told : (n : ℕ) → n % 256 + 256 * (n / 256) ≡ n

@@ -1,12 +1,12 @@
 -- The entries of the value table (DSP0247).
 use Rattle.std.specs.Prelude.{ℕ, ◌≤◌, List, ◌∷◌, ◌++◌, length}
 use Rattle.std.specs.List.{flat_map}
-use Rattle.cfg_records.specs.declared.attribute.Attribute.{Attribute}
+use Rattle.record_base.specs.declared.attribute.Attribute.{Attribute}
 use Rattle.bios_attr.specs.declared.current_values.EntryHead.{EntryHead}
-use Rattle.cfg_records.specs.AttributeValue.{two_bytes}
-use Rattle.cfg_records.specs.AttributeSizes.{most_value}
+use Rattle.record_base.specs.AttributeValue.{two_bytes}
+use Rattle.record_base.specs.AttributeSizes.{most_value}
 use Rattle.bios_attr.specs.ValueEntry.{shown_type, AreBytes}
-use Rattle.cfg_records.specs.Attribute.{type_of_kind}
+use Rattle.record_base.specs.Attribute.{type_of_kind}
 
 -- what an attribute's entry has before the value: its handle, and its type
 abbrev pub head_of : Attribute → EntryHead

@@ -7,7 +7,7 @@ ghost use Rattle.bios_attr.specs.AttributeEntry.{type_of_fields, fields_bytes, a
 use crate::rest::Rest;
 use crate::string_entry::LONGEST_TEXT;
 use crate::value_entry::{READ_ONLY_BIT, shown_type};
-use cfg_records::attribute_value::{ENUMERATION_TYPE, INTEGER_TYPE, STRING_TYPE};
+use record_base::attribute_value::{ENUMERATION_TYPE, INTEGER_TYPE, STRING_TYPE};
 use two_wire::{Buffer, Data};
 
 /// How many bytes an entry can count by one byte.

@@ -1,15 +1,15 @@
 //! The value of a BIOS attribute, as a kind of record.
 ghost use Rattle.std.specs.Prelude.{◌≡◌, ◌+◌, ◌≤◌, ◌++◌, ◌∷◌, OnErr, length};
-ghost use Rattle.cfg_records.specs.Meaning.{told};
-ghost use Rattle.cfg_records.specs.AttributeSizes.{most_data};
-ghost use Rattle.cfg_records.specs.AttributeValue.{two_bytes};
+ghost use Rattle.record_base.specs.Meaning.{told};
+ghost use Rattle.record_base.specs.AttributeSizes.{most_data};
+ghost use Rattle.record_base.specs.AttributeValue.{two_bytes};
 ghost use Rattle.bios_attr.specs.BiosAttribute.{no_handle, get_first_part, attribute_outcome, attribute_body, attribute_in, attribute_shown_in, attribute_view, is_within, is_attribute_reply};
 
 use crate::value_entry::{entry_in, shown_type};
-use cfg_records::attribute_sizes::{BEFORE_VALUE, MOST_INDEXES, MOST_TEXT};
-use cfg_records::attribute_value::{AttributeValue, value_in};
-use cfg_records::value::DATA_CAPACITY;
-use cfg_records::{
+use record_base::attribute_sizes::{BEFORE_VALUE, MOST_INDEXES, MOST_TEXT};
+use record_base::attribute_value::{AttributeValue, value_in};
+use record_base::value::DATA_CAPACITY;
+use record_base::{
     Asked, Attribute, AttributeRange, Key, Live, RecordData, RecordKind, SetBiosAttribute, Value,
     byte_at,
 };
@@ -128,7 +128,7 @@ fn get_body(handle: u16) -> [u8; 7]
 }
 
 impl AttributeLimits {
-    ghost use Rattle.cfg_records.specs.Attribute.{range_of};
+    ghost use Rattle.record_base.specs.Attribute.{range_of};
 
     /// The limits that an attribute gives to the record of this handle.
     pub fn of(handle: u16, attribute: &Attribute) -> Self

@@ -1,14 +1,14 @@
 //! The value table, which shows the values as they stand.
 ghost use Rattle.std.specs.Prelude.{◌≡◌, ◌+◌, ◌*◌, ◌≤◌, ◌++◌, ◌∷◌, map, All, IfOk, ℕ, List, length, vec_len, vec_capacity};
-ghost use Rattle.cfg_records.specs.AttributeSizes.{most_value};
-ghost use Rattle.cfg_records.specs.AttributeValue.{two_bytes};
+ghost use Rattle.record_base.specs.AttributeSizes.{most_value};
+ghost use Rattle.record_base.specs.AttributeValue.{two_bytes};
 ghost use Rattle.bios_attr.specs.ValueEntry.{AreBytes};
 ghost use Rattle.bios_attr.specs.Values.{head_of, value_entries, IsShown};
 ghost use Rattle.bios_attr.specs.Tables.{IsTable};
 
 use crate::table::finish;
 use crate::value_entry::shown_type;
-use cfg_records::Attribute;
+use record_base::Attribute;
 use std::alloc::{AllocError, Global};
 
 /// What an entry of the value table has before the value: the attribute, and its type.

@@ -8,8 +8,8 @@ ghost use Rattle.bios_attr.specs.TableContents.{numbers_of, fields_of, attribute
 
 use crate::strings::handle_of;
 use crate::value_entry::shown_type;
-use cfg_records::attribute_sizes::MOST_TEXT;
-use cfg_records::{Attribute, AttributeKind, IntegerAttribute, IntegerSteps, Text};
+use record_base::attribute_sizes::MOST_TEXT;
+use record_base::{Attribute, AttributeKind, IntegerAttribute, IntegerSteps, Text};
 use std::alloc::AllocError;
 use two_wire::Bytes;
 

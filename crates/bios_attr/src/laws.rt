@@ -1,11 +1,11 @@
 //! What holds of the definitions.
 ghost use Rattle.std.specs.Prelude.{◌≡◌, ◌↔◌, ◌≤◌, ◌++◌, ℕ, List, length, map, Some, IsTrue};
-ghost use Rattle.cfg_records.specs.declared.attribute_range.AttributeRange.{AttributeRange};
-ghost use Rattle.cfg_records.specs.declared.attribute_value.AttributeValue.{AttributeValue};
+ghost use Rattle.record_base.specs.declared.attribute_range.AttributeRange.{AttributeRange};
+ghost use Rattle.record_base.specs.declared.attribute_value.AttributeValue.{AttributeValue};
 ghost use Rattle.bios_attr.specs.declared.value_entry.ValueEntry.{ValueEntry};
 ghost use Rattle.bios_attr.specs.declared.string_entry.StringEntry.{StringEntry};
 ghost use Rattle.bios_attr.specs.declared.attribute_entry.AttributeEntry.{AttributeEntry};
-ghost use Rattle.cfg_records.specs.AttributeValue.{HasEightBytes};
+ghost use Rattle.record_base.specs.AttributeValue.{HasEightBytes};
 ghost use Rattle.bios_attr.specs.StringEntry.{string_bytes, string_at};
 ghost use Rattle.bios_attr.specs.AttributeEntry.{HasItsBytes, attribute_bytes, attribute_at};
 ghost use Rattle.bios_attr.specs.ValueEntry.{entry_bytes, entry_in, AreBytes};
@@ -17,7 +17,7 @@ ghost use Rattle.bios_attr.specs.declared.table_entry.TableEntry.TheVariants.{St
 ghost use Rattle.bios_attr.specs.Attributes.{string_entries};
 ghost use Rattle.bios_attr.specs.Tables.{IsTable};
 ghost use Rattle.bios_attr.specs.StringTable.{numbered};
-ghost use Rattle.cfg_records.specs.AttributeRange.{Allows, allows};
+ghost use Rattle.record_base.specs.AttributeRange.{Allows, allows};
 
 /// A value entry that is written is read as itself, so bytes are at most one; and one that is read is written as the same bytes.
 pub fn entries_are_read_as_written()

@@ -3,7 +3,7 @@ ghost use Rattle.std.specs.Prelude.{◌≡◌, ◌≤◌, OnOk, IfOk, length};
 ghost use Rattle.std.specs.List.{list_any, position};
 ghost use Rattle.bios_attr.specs.Attributes.{is_text, with_text, with_texts, texts_of, strings_of, handle_of};
 
-use cfg_records::{Attribute, AttributeKind, Text};
+use record_base::{Attribute, AttributeKind, Text};
 use std::alloc::{AllocError, Global};
 
 /// Whether the texts are one.

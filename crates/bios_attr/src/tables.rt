@@ -11,9 +11,9 @@ use crate::current_values::{CurrentValues, EntryHead, heads_of, show_values};
 use crate::entries::{push_attributes, push_strings};
 use crate::strings::strings_of;
 use crate::table::{MOST_BEHIND, finish};
-use cfg_records::attribute_sizes::MOST_VALUE;
-use cfg_records::{Attribute, Attributes, Text};
 use pldm_base::{Part, part};
+use record_base::attribute_sizes::MOST_VALUE;
+use record_base::{Attribute, Attributes, Text};
 use std::alloc::{AllocError, Global};
 use std::marker::Model;
 use two_wire::Code;
@@ -30,7 +30,7 @@ pub struct Tables {
 impl Model for Tables {
     ghost use Rattle.std.specs.Prelude.{◌+◌, ◌*◌, ◌≤◌, length};
     ghost use Rattle.std.specs.Vec.{vec_capacity};
-    ghost use Rattle.cfg_records.specs.AttributeSizes.{most_value};
+    ghost use Rattle.record_base.specs.AttributeSizes.{most_value};
     ghost use Rattle.bios_attr.specs.Tables.{Opened};
 
     ghost Value = { Opened };

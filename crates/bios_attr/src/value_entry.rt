@@ -1,14 +1,14 @@
 //! Value entries: an attribute's handle, its type, and its value.
 ghost use Rattle.std.specs.Prelude.{◌≡◌, ◌+◌, ◌≤◌, ◌++◌, length};
-ghost use Rattle.cfg_records.specs.AttributeSizes.{most_sent};
-ghost use Rattle.cfg_records.specs.AttributeValue.{value_in};
+ghost use Rattle.record_base.specs.AttributeSizes.{most_sent};
+ghost use Rattle.record_base.specs.AttributeValue.{value_in};
 ghost use Rattle.bios_attr.specs.ValueEntry.{shown_type, entry_bytes, entry_in};
 ghost use Rattle.bios_attr.specs.TableEntry.{value_size, value_at};
 
 use crate::rest::Rest;
-use cfg_records::attribute_sizes::MOST_SENT;
-use cfg_records::attribute_value::{AttributeValue, ENUMERATION_TYPE, STRING_TYPE, value_in};
-use cfg_records::byte_at;
+use record_base::attribute_sizes::MOST_SENT;
+use record_base::attribute_value::{AttributeValue, ENUMERATION_TYPE, STRING_TYPE, value_in};
+use record_base::byte_at;
 use two_wire::Buffer;
 
 /// What is added to the type of an attribute that can only be read.

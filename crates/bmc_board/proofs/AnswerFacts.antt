@@ -2,12 +2,12 @@
 use Rattle.std.proofs.Common.{◌≡◌, ◌≢◌, ℕ, ◌≤◌, List, [], length, Option, Some, None, Result, Ok, Err, Bool, refl, subst, arith}
 use Rattle.two_wire.specs.Codes.{success}
 use Rattle.record_kinds.specs.Limits.{key_of, limits_at}
-use Rattle.cfg_records.specs.Meaning.{Decides, room_for}
-use Rattle.cfg_records.specs.declared.key.Key.{Key}
-use Rattle.cfg_records.specs.declared.key.Key.TheVariants as key
-use Rattle.cfg_records.specs.declared.op.Op.{Op}
-use Rattle.cfg_records.specs.declared.live.Live.{Live as LivePart}
-use Rattle.cfg_records.specs.declared.message.Asked.{Asked}
+use Rattle.record_base.specs.Meaning.{Decides, room_for}
+use Rattle.record_base.specs.declared.key.Key.{Key}
+use Rattle.record_base.specs.declared.key.Key.TheVariants as key
+use Rattle.record_base.specs.declared.op.Op.{Op}
+use Rattle.record_base.specs.declared.live.Live.{Live as LivePart}
+use Rattle.record_base.specs.declared.message.Asked.{Asked}
 use Rattle.cfg_records.specs.declared.board_file.BoardFile.{BoardFile}
 use Rattle.watch_boot.specs.BootParamLaws.{same_self}
 use Rattle.record_kinds.specs.declared.limits.Limits.{Limits}
@@ -16,13 +16,13 @@ use Rattle.record_kinds.specs.Limits.{is_of, sets, outcome, get_asked, set_asked
 use Rattle.record_kinds.specs.LimitsLaws as laws
 use Rattle.std.specs.Option.{option_map}
 use Rattle.record_kinds.specs.Boards.{attribute_at}
-use Rattle.cfg_records.specs.Attribute.{range_of}
+use Rattle.record_base.specs.Attribute.{range_of}
 use Rattle.record_kinds.specs.Sound.{IsSound, IsSoundAt}
 use Rattle.record_kinds.specs.SoundLaws.{sound_set, sound_with}
 use Rattle.bmc_board.specs.Request.{Request}
 use Rattle.bmc_board.specs.Request.{Live, Get, Set, SetStores}
-use Rattle.cfg_records.specs.declared.channel.SetChannelAccess.{SetChannelAccess}
-use Rattle.cfg_records.specs.declared.op.Op.TheVariants as of_kind
+use Rattle.record_base.specs.declared.channel.SetChannelAccess.{SetChannelAccess}
+use Rattle.record_base.specs.declared.op.Op.TheVariants as of_kind
 use Rattle.cfg_records.specs.Records.{with_record}
 use Rattle.bmc_board.specs.Table.{is_changing}
 use Rattle.bmc_board.specs.Request.{asked_by}

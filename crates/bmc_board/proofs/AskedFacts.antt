@@ -3,22 +3,22 @@ use Rattle.std.proofs.Common.{◌≡◌, ◌≢◌, ℕ, ◌≤◌, nat_le, List
 use Rattle.std.specs.List.{list_all}
 use Rattle.std.proofs.lemmas.Bool.Decides.{nat_tests}
 use Rattle.two_wire.specs.Codes.{node_busy, pldm_not_ready, invalid_command, invalid_for_lun, invalid_length, pldm_unsupported_command, pldm_invalid_type, pldm_invalid_length, pldm_invalid_data}
-use Rattle.cfg_records.specs.Meaning.{room_for}
-use Rattle.cfg_records.specs.declared.message.Asked.{Asked}
-use Rattle.cfg_records.specs.declared.message.Asked.TheVariants.{Ipmi, Pldm}
-use Rattle.cfg_records.specs.declared.boot_param.BootParameter.{BootParameter}
-use Rattle.cfg_records.specs.declared.boot_param.BootParameter.TheVariants as parameter
-use Rattle.cfg_records.specs.Masks.{has}
-use Rattle.cfg_records.specs.Requests.{byte_at}
+use Rattle.record_base.specs.Meaning.{room_for}
+use Rattle.record_base.specs.declared.message.Asked.{Asked}
+use Rattle.record_base.specs.declared.message.Asked.TheVariants.{Ipmi, Pldm}
+use Rattle.record_base.specs.declared.boot_param.BootParameter.{BootParameter}
+use Rattle.record_base.specs.declared.boot_param.BootParameter.TheVariants as parameter
+use Rattle.record_base.specs.Masks.{has}
+use Rattle.record_base.specs.Requests.{byte_at}
 use Rattle.watch_boot.specs.declared.boot_request.BootShown.TheVariants as shown
-use Rattle.cfg_records.specs.BootParam.{parameter_at}
+use Rattle.record_base.specs.BootParam.{parameter_at}
 use Rattle.watch_boot.specs.BootRequests.{progress_in, change_in, with_mark, param_in, shown_in}
 use Rattle.user_chan.specs.declared.channel_request.ChannelRequest.{ChannelRequest}
 use Rattle.user_chan.specs.declared.channel_request.ChannelRequest.TheVariants.{Leave, One, Two}
 use Rattle.user_chan.specs.ChannelRequests.{channel_request_in}
-use Rattle.cfg_records.specs.declared.bios_attribute.SetBiosAttribute.{SetBiosAttribute}
-use Rattle.cfg_records.specs.AttributeValue.{number_of}
-use Rattle.cfg_records.specs.BiosAttribute.{setting}
+use Rattle.record_base.specs.declared.bios_attribute.SetBiosAttribute.{SetBiosAttribute}
+use Rattle.record_base.specs.AttributeValue.{number_of}
+use Rattle.record_base.specs.BiosAttribute.{setting}
 use Rattle.bios_attr.specs.BiosAttribute.{start_and_end, get_first_part}
 use Rattle.bmc_board.specs.declared.command.Command.TheVariants as command
 use Rattle.bmc_board.specs.declared.command.Line.{Line}

@@ -3,17 +3,17 @@ use Rattle.std.proofs.Common.{◌≡◌, ◌≢◌, ℕ, zero, suc, ◌<◌, Lis
 use Rattle.std.specs.List.{find}
 use Rattle.std.specs.Option.{option_map, unwrap_or, IsSomeAnd}
 use Rattle.std.proofs.lemmas.Bool.Decides.{nat_tests}
-use Rattle.cfg_records.specs.Distinct.{NamesDiffer}
-use Rattle.cfg_records.specs.InverseLaws.{same_tested}
-use Rattle.cfg_records.specs.declared.key.Key.TheVariants as key
-use Rattle.cfg_records.specs.declared.attribute.Attribute.{Attribute}
-use Rattle.cfg_records.specs.declared.attribute.AttributeKind.{AttributeKind}
-use Rattle.cfg_records.specs.declared.attribute.AttributeKind.TheVariants as kind
-use Rattle.cfg_records.specs.declared.attribute_value.AttributeValue.{AttributeValue}
-use Rattle.cfg_records.specs.declared.attribute_value.AttributeValue.TheVariants.{Number}
-use Rattle.cfg_records.specs.Attribute.{type_of_kind, range_of}
-use Rattle.cfg_records.specs.AttributeRange.{type_of, Allows}
-use Rattle.cfg_records.specs.AttributeValue.{value_in}
+use Rattle.record_base.specs.Distinct.{NamesDiffer}
+use Rattle.record_base.specs.InverseLaws.{same_tested}
+use Rattle.record_base.specs.declared.key.Key.TheVariants as key
+use Rattle.record_base.specs.declared.attribute.Attribute.{Attribute}
+use Rattle.record_base.specs.declared.attribute.AttributeKind.{AttributeKind}
+use Rattle.record_base.specs.declared.attribute.AttributeKind.TheVariants as kind
+use Rattle.record_base.specs.declared.attribute_value.AttributeValue.{AttributeValue}
+use Rattle.record_base.specs.declared.attribute_value.AttributeValue.TheVariants.{Number}
+use Rattle.record_base.specs.Attribute.{type_of_kind, range_of}
+use Rattle.record_base.specs.AttributeRange.{type_of, Allows}
+use Rattle.record_base.specs.AttributeValue.{value_in}
 use Rattle.record_kinds.specs.declared.limits.Limits.{Limits}
 use Rattle.record_kinds.specs.declared.limits.Limits.TheVariants as limits
 use Rattle.record_kinds.specs.Boards.{attribute_at}

@@ -1,7 +1,7 @@
 -- The tables of a board's attributes are those that its definitions name.
 use Rattle.std.proofs.Common.{◌≡◌, ℕ, List, ◌++◌, map, ◌∙◌, ap}
 use Rattle.std.specs.Int.{w32, to_le_bytes}
-use Rattle.cfg_records.specs.declared.attribute.Attribute.{Attribute}
+use Rattle.record_base.specs.declared.attribute.Attribute.{Attribute}
 use Rattle.pldm_base.specs.Crc.{crc_of}
 use Rattle.pldm_base.proofs.Register.{one-crc32, crc_is}
 use Rattle.bios_attr.specs.Values.{head_of, value_entries}

@@ -1,8 +1,8 @@
 -- What comes of an operation on a record that may not be there, and of two operations that are carried out both or neither.
 use Rattle.std.proofs.Common.{◌≡◌, ℕ, List, Option, Some, None, Result, Ok, Err, subst}
-use Rattle.cfg_records.specs.Meaning.{Decides}
+use Rattle.record_base.specs.Meaning.{Decides}
 use Rattle.cfg_records.specs.Records.{Records}
-use Rattle.cfg_records.specs.declared.op.Op.{Op}
+use Rattle.record_base.specs.declared.op.Op.{Op}
 use Rattle.cfg_records.specs.declared.board_file.BoardFile.{BoardFile}
 use Rattle.record_kinds.specs.declared.limits.Limits.{Limits}
 use Rattle.record_kinds.specs.Limits.{key_of, valid, sets, outcome, limits_at}

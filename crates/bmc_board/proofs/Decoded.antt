@@ -1,53 +1,53 @@
 -- Each request for a record, and each for an operation, is read as what it asks for: a line for each kind whose data don't show it by themselves.
 use Rattle.std.proofs.Common.{◌≡◌, ℕ, ◌+◌, ◌*◌, ◌/◌, ◌%◌, ◌<◌, ap, ◌∙◌, List, [], ◌∷◌, take, length, Bool, true, false, if◌then◌else◌, Option, Some, None, Result, Ok, Err, refl, arith, nat_le}
-use Rattle.cfg_records.specs.declared.key.Key.TheVariants as key
-use Rattle.cfg_records.specs.declared.message.Asked.TheVariants.{Ipmi, Pldm}
-use Rattle.cfg_records.specs.declared.op.Op.{Op}
-use Rattle.cfg_records.specs.declared.sensor_thresholds.SetThresholds.{SetThresholds}
-use Rattle.cfg_records.specs.declared.watchdog.SetWatchdog.{SetWatchdog}
-use Rattle.cfg_records.specs.declared.event_enable.EventMasks.{EventMasks}
-use Rattle.cfg_records.specs.declared.event_enable.EventChange.{EventChange}
-use Rattle.cfg_records.specs.declared.event_enable.EventChange.TheVariants.{Leave, Enable, Disable, Reserved}
-use Rattle.cfg_records.specs.declared.event_enable.SetEventEnable.{SetEventEnable}
-use Rattle.cfg_records.specs.declared.numeric_effecter.NumericBytes.{NumericBytes}
-use Rattle.cfg_records.specs.declared.numeric_effecter.NumericBytes.TheVariants.{One, Two, Four, Other}
-use Rattle.cfg_records.specs.declared.numeric_effecter.SetNumericEffecter.{SetNumericEffecter}
-use Rattle.cfg_records.specs.declared.state_effecter.SetStateEffecter.{SetStateEffecter}
-use Rattle.cfg_records.specs.declared.bios_attribute.SetBiosAttribute.{SetBiosAttribute}
-use Rattle.cfg_records.specs.AttributeSizes.{most_sent}
-use Rattle.cfg_records.specs.BiosAttribute.{setting}
-use Rattle.cfg_records.specs.AttributeRangeLaws.{le_true}
+use Rattle.record_base.specs.declared.key.Key.TheVariants as key
+use Rattle.record_base.specs.declared.message.Asked.TheVariants.{Ipmi, Pldm}
+use Rattle.record_base.specs.declared.op.Op.{Op}
+use Rattle.record_base.specs.declared.sensor_thresholds.SetThresholds.{SetThresholds}
+use Rattle.record_base.specs.declared.watchdog.SetWatchdog.{SetWatchdog}
+use Rattle.record_base.specs.declared.event_enable.EventMasks.{EventMasks}
+use Rattle.record_base.specs.declared.event_enable.EventChange.{EventChange}
+use Rattle.record_base.specs.declared.event_enable.EventChange.TheVariants.{Leave, Enable, Disable, Reserved}
+use Rattle.record_base.specs.declared.event_enable.SetEventEnable.{SetEventEnable}
+use Rattle.record_base.specs.declared.numeric_effecter.NumericBytes.{NumericBytes}
+use Rattle.record_base.specs.declared.numeric_effecter.NumericBytes.TheVariants.{One, Two, Four, Other}
+use Rattle.record_base.specs.declared.numeric_effecter.SetNumericEffecter.{SetNumericEffecter}
+use Rattle.record_base.specs.declared.state_effecter.SetStateEffecter.{SetStateEffecter}
+use Rattle.record_base.specs.declared.bios_attribute.SetBiosAttribute.{SetBiosAttribute}
+use Rattle.record_base.specs.AttributeSizes.{most_sent}
+use Rattle.record_base.specs.BiosAttribute.{setting}
+use Rattle.record_base.specs.AttributeRangeLaws.{le_true}
 use Rattle.two_wire.specs.Codes.{pldm_invalid_length}
-use Rattle.cfg_records.specs.BiosAttributeLaws.{few_sent, same_setting, sent_whole}
-use Rattle.cfg_records.specs.declared.op.Op.TheVariants as op
-use Rattle.cfg_records.specs.declared.boot_param.BootParameter.TheVariants as parameter
-use Rattle.cfg_records.specs.declared.boot_param.BootChange.{BootChange}
-use Rattle.cfg_records.specs.declared.boot_param.BootChange.TheVariants.{MarkAlone, ValidBitClearing, InfoAcknowledge, Flags}
-use Rattle.cfg_records.specs.declared.boot_param.SetBootParam.{SetBootParam}
-use Rattle.cfg_records.specs.declared.channel.AccessStore.{AccessStore}
-use Rattle.cfg_records.specs.declared.channel.AccessStore.TheVariants.{NonVolatile, Volatile, Neither}
-use Rattle.cfg_records.specs.declared.channel.ChannelNumber.{ChannelNumber}
-use Rattle.cfg_records.specs.declared.channel.SixBits.{SixBits}
-use Rattle.cfg_records.specs.declared.channel.ChannelChange.{ChannelChange}
-use Rattle.cfg_records.specs.declared.channel.ChannelChange.TheVariants.{Access, Limit, Both}
-use Rattle.cfg_records.specs.declared.channel.SetChannelAccess.{SetChannelAccess}
-use Rattle.cfg_records.specs.declared.user.UserNumber.{UserNumber}
-use Rattle.cfg_records.specs.declared.user.SetUserName.{SetUserName}
-use Rattle.cfg_records.specs.declared.user.SetUserAccess.{SetUserAccess}
+use Rattle.record_base.specs.BiosAttributeLaws.{few_sent, same_setting, sent_whole}
+use Rattle.record_base.specs.declared.op.Op.TheVariants as op
+use Rattle.record_base.specs.declared.boot_param.BootParameter.TheVariants as parameter
+use Rattle.record_base.specs.declared.boot_param.BootChange.{BootChange}
+use Rattle.record_base.specs.declared.boot_param.BootChange.TheVariants.{MarkAlone, ValidBitClearing, InfoAcknowledge, Flags}
+use Rattle.record_base.specs.declared.boot_param.SetBootParam.{SetBootParam}
+use Rattle.record_base.specs.declared.channel.AccessStore.{AccessStore}
+use Rattle.record_base.specs.declared.channel.AccessStore.TheVariants.{NonVolatile, Volatile, Neither}
+use Rattle.record_base.specs.declared.channel.ChannelNumber.{ChannelNumber}
+use Rattle.record_base.specs.declared.channel.SixBits.{SixBits}
+use Rattle.record_base.specs.declared.channel.ChannelChange.{ChannelChange}
+use Rattle.record_base.specs.declared.channel.ChannelChange.TheVariants.{Access, Limit, Both}
+use Rattle.record_base.specs.declared.channel.SetChannelAccess.{SetChannelAccess}
+use Rattle.record_base.specs.declared.user.UserNumber.{UserNumber}
+use Rattle.record_base.specs.declared.user.SetUserName.{SetUserName}
+use Rattle.record_base.specs.declared.user.SetUserAccess.{SetUserAccess}
 use Rattle.two_wire.specs.Codes.{pldm_invalid_length}
-use Rattle.cfg_records.specs.InverseLaws.{same_tested}
+use Rattle.record_base.specs.InverseLaws.{same_tested}
 use Rattle.effecter_recs.specs.ChangeLaws.{two_each, same_states, all_read}
 use Rattle.effecter_recs.specs.State.{state_body}
 use Rattle.bmc_board.specs.declared.command.Lengths.TheVariants.{PairsCountedAt}
 use Rattle.bmc_board.specs.Table.{allow}
-use Rattle.cfg_records.specs.Boards.{stored}
-use Rattle.cfg_records.specs.Numbers.{channel_in, user_in, six_bits_in}
-use Rattle.cfg_records.specs.NumberLaws.{same_channel, same_user, same_bits}
+use Rattle.record_base.specs.Values.{stored}
+use Rattle.record_base.specs.Numbers.{channel_in, user_in, six_bits_in}
+use Rattle.record_base.specs.NumberLaws.{same_channel, same_user, same_bits}
 use Rattle.user_chan.specs.ChannelAccess.{in_store}
 use Rattle.user_chan.specs.ChannelRequests.{store_at, named, change, asked_for}
 use Rattle.user_chan.specs.UserNamesLaws.{sixteen}
 use Rattle.std.proofs.Math.Nat.{ℕ_set}
-use Rattle.cfg_records.proofs.Operations.{set_thresholds, same_thresholds}
+use Rattle.record_base.proofs.Operations.{set_thresholds, same_thresholds}
 use Rattle.record_kinds.specs.Limits.{set_asked}
 use Rattle.bmc_board.specs.Request as request
 use Rattle.bmc_board.specs.Request.{Request, channel_asked, asked_by, attribute_set}

@@ -4,11 +4,11 @@ use Rattle.std.proofs.lemmas.Bool.Decides.{nat_tests}
 use Rattle.std.proofs.lemmas.List.{length-take}
 use Rattle.std.specs.Int.{w16, to_le_bytes}
 use Rattle.two_wire.specs.Codes.{success, uninitialized_watchdog, out_of_space, reservation_canceled, out_of_range, too_many_bytes, not_present, invalid_data_field, invalid_length, pldm_invalid_data, pldm_no_table, pldm_invalid_table}
-use Rattle.cfg_records.specs.Meaning.{IsRefusal}
+use Rattle.record_base.specs.Meaning.{IsRefusal}
 use Rattle.cfg_records.specs.Records.{Records}
-use Rattle.cfg_records.specs.Requests.{byte_at}
-use Rattle.cfg_records.specs.declared.key.Key.TheVariants as key
-use Rattle.cfg_records.specs.declared.sensor.Sensor.{Sensor}
+use Rattle.record_base.specs.Requests.{byte_at}
+use Rattle.record_base.specs.declared.key.Key.TheVariants as key
+use Rattle.record_base.specs.declared.sensor.Sensor.{Sensor}
 use Rattle.sel_log.specs.LogRecord.{kept}
 use Rattle.sel_log.specs.Reservations.{is_present}
 use Rattle.sel_log.specs.Log.{Log, after_clear, is_full, next_id}
@@ -24,14 +24,14 @@ use Rattle.bmc_board.specs.Leaves.{Leaves}
 use Rattle.bmc_board.specs.Storage.{most_shown, part_in, part_length, part_shown, record_in, id_reply, erased, says_clear, word_at}
 use Rattle.bmc_board.specs.Sensing.{reading_of}
 use Rattle.bmc_board.specs.Replies.{done, refused, sessionless_channel}
-use Rattle.cfg_records.specs.RefusalLaws.{invalid_field}
-use Rattle.cfg_records.specs.declared.channel.Channel.{Channel}
-use Rattle.cfg_records.specs.declared.channel.AccessStore.TheVariants.{Neither}
-use Rattle.cfg_records.specs.Boards.{stored}
+use Rattle.record_base.specs.RefusalLaws.{invalid_field}
+use Rattle.record_base.specs.declared.channel.Channel.{Channel}
+use Rattle.record_base.specs.declared.channel.AccessStore.TheVariants.{Neither}
+use Rattle.record_base.specs.Values.{stored}
 use Rattle.record_kinds.specs.Boards.{channel_at, user_at, is_sessionless}
-use Rattle.cfg_records.specs.declared.user.User.{User}
-use Rattle.cfg_records.specs.Numbers.{user_in}
-use Rattle.cfg_records.specs.Masks.{has}
+use Rattle.record_base.specs.declared.user.User.{User}
+use Rattle.record_base.specs.Numbers.{user_in}
+use Rattle.record_base.specs.Masks.{has}
 use Rattle.user_chan.specs.declared.password.Password.{Password}
 use Rattle.user_chan.specs.declared.password.Password.TheVariants.{Sixteen, Twenty}
 use Rattle.user_chan.specs.declared.password.PasswordChange.{PasswordChange}
@@ -40,7 +40,7 @@ use Rattle.user_chan.specs.Passwords.{wrong_text, wrong_size, password_in, with_
 use Rattle.bmc_board.specs.AnyAnswer.{IsCode, UnknownIsRefused}
 use Rattle.bmc_board.specs.Live.{reset_answer, already_in_progress, with_progress, begun, progress_answer, leave_where, tested, password_changed, password_answer, with_log, longest_live_reply, longest_live}
 use Rattle.bios_attr.specs.declared.bios_table.BiosTable.{BiosTable}
-use Rattle.cfg_records.specs.declared.attribute.Attribute.{Attribute}
+use Rattle.record_base.specs.declared.attribute.Attribute.{Attribute}
 use Rattle.pldm_base.specs.Parts.{asked_offset}
 use Rattle.bmc_board.specs.BiosTables.{values_in, table_bytes, table_numbered, table_asked, part_data, part_answer, handle_in, table_where, longest_part}
 use Rattle.bmc_board.specs.AnyLive.{IsLive, AreLive}

@@ -1,7 +1,7 @@
 -- A command that the table doesn't mark as setting asks for no Set.
 use Rattle.std.proofs.Common.{◌≡◌, ℕ, Bool, false, Result, Ok, Err, refl, ap, subst}
-use Rattle.cfg_records.specs.Meaning.{room_for}
-use Rattle.cfg_records.specs.declared.message.Answered.{Answered}
+use Rattle.record_base.specs.Meaning.{room_for}
+use Rattle.record_base.specs.declared.message.Answered.{Answered}
 use Rattle.cfg_records.specs.declared.board_file.BoardFile.{BoardFile}
 use Rattle.bmc_board.specs.Request.{Request}
 use Rattle.bmc_board.specs.Request.{Live, Get, Set, SetStores}

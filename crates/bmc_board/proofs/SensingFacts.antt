@@ -1,10 +1,10 @@
 -- What a reading that is taken leaves, from what each of its steps makes.
 use Rattle.std.proofs.Common.{◌≡◌, ℕ, List, Bool, true, false, map, Option, if◌then◌else◌, ap, sym, ◌∙◌}
-use Rattle.cfg_records.specs.Sensor.EventEnable.{is_scanning}
-use Rattle.cfg_records.specs.Requests.{byte_at}
+use Rattle.record_base.specs.Sensor.EventEnable.{is_scanning}
+use Rattle.record_base.specs.Requests.{byte_at}
 use Rattle.cfg_records.specs.Records.{Records}
-use Rattle.cfg_records.specs.declared.key.Key.TheVariants as key
-use Rattle.cfg_records.specs.declared.sensor.Sensor.{Sensor}
+use Rattle.record_base.specs.declared.key.Key.TheVariants as key
+use Rattle.record_base.specs.declared.sensor.Sensor.{Sensor}
 use Rattle.sel_log.specs.Log.{Log}
 use Rattle.sensor_recs.specs.declared.compared.Compared.{Compared}
 use Rattle.sensor_recs.specs.declared.compared.Event.{Event}

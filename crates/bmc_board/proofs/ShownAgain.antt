@@ -1,8 +1,8 @@
 -- Two Gets of a record that is the same at both.
 use Rattle.std.proofs.Common.{◌≡◌, ℕ, List, Option, Some, ap, sym, ◌∙◌, subst}
 use Rattle.cfg_records.specs.Records.{Records}
-use Rattle.cfg_records.specs.declared.live.Live.{Live as LivePart}
-use Rattle.cfg_records.specs.declared.message.Answered.{Answered}
+use Rattle.record_base.specs.declared.live.Live.{Live as LivePart}
+use Rattle.record_base.specs.declared.message.Answered.{Answered}
 use Rattle.record_kinds.specs.declared.limits.Limits.{Limits}
 use Rattle.record_kinds.specs.Limits.{view, conf, limits_at}
 use Rattle.record_kinds.specs.LimitsLaws as laws

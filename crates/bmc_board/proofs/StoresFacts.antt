@@ -1,9 +1,9 @@
 -- A request that changes two stores changes both or neither.
 use Rattle.std.proofs.Common.{◌≡◌, ◌≢◌, ℕ, List, Option, Some, None, Result, Ok, Err, ◌⊎◌, inl, inr, refl, subst, arith}
 use Rattle.two_wire.specs.Codes.{success}
-use Rattle.cfg_records.specs.Meaning.{IsRefusal}
-use Rattle.cfg_records.specs.declared.op.Op.{Op}
-use Rattle.cfg_records.specs.declared.op.Op.TheVariants as of_kind
+use Rattle.record_base.specs.Meaning.{IsRefusal}
+use Rattle.record_base.specs.declared.op.Op.{Op}
+use Rattle.record_base.specs.declared.op.Op.TheVariants as of_kind
 use Rattle.cfg_records.specs.declared.board_file.BoardFile.{BoardFile}
 use Rattle.record_kinds.specs.declared.limits.Limits.{Limits}
 use Rattle.record_kinds.specs.Limits.{key_of, limits_at}

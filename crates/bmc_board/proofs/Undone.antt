@@ -4,14 +4,14 @@ use Rattle.two_wire.specs.Codes.{success}
 use Rattle.record_kinds.specs.Limits.{key_of, limits_at}
 use Rattle.cfg_records.specs.Records.{Records, with_record}
 use Rattle.cfg_records.specs.RecordLaws.{with_record_same, with_record_back}
-use Rattle.cfg_records.specs.declared.key.Key.{Key}
-use Rattle.cfg_records.specs.declared.op.Op.{Op}
-use Rattle.cfg_records.specs.declared.live.Live.{Live as LivePart}
-use Rattle.cfg_records.specs.declared.message.Asked.{Asked}
-use Rattle.cfg_records.specs.declared.message.Answered.{Answered}
+use Rattle.record_base.specs.declared.key.Key.{Key}
+use Rattle.record_base.specs.declared.op.Op.{Op}
+use Rattle.record_base.specs.declared.live.Live.{Live as LivePart}
+use Rattle.record_base.specs.declared.message.Asked.{Asked}
+use Rattle.record_base.specs.declared.message.Answered.{Answered}
 use Rattle.cfg_records.specs.declared.board_file.BoardFile.{BoardFile}
 use Rattle.record_kinds.specs.declared.limits.Limits.{Limits}
-use Rattle.cfg_records.specs.Kind.{RecordLaws}
+use Rattle.record_base.specs.Kind.{RecordLaws}
 use Rattle.record_kinds.specs.Limits.{words, record_words, valid, sets, view, get_asked, set_asked, is_reply, inverse}
 use Rattle.record_kinds.specs.LimitsLaws as laws
 use Rattle.record_kinds.specs.SoundLaws.{valid_at}

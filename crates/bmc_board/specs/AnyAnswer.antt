@@ -1,10 +1,10 @@
 -- What holds of every answer.
 use Rattle.std.specs.Prelude.{◌≢◌, ◌≤◌, ℕ, length}
 use Rattle.two_wire.specs.Codes.{success, node_busy, pldm_not_ready}
-use Rattle.cfg_records.specs.Meaning.{IsRefusal, room_for}
-use Rattle.cfg_records.specs.declared.key.Key.{Key}
-use Rattle.cfg_records.specs.declared.message.Asked.{Asked}
-use Rattle.cfg_records.specs.declared.message.Answered.{Answered}
+use Rattle.record_base.specs.Meaning.{IsRefusal, room_for}
+use Rattle.record_base.specs.declared.key.Key.{Key}
+use Rattle.record_base.specs.declared.message.Asked.{Asked}
+use Rattle.record_base.specs.declared.message.Answered.{Answered}
 use Rattle.cfg_records.specs.declared.board_file.BoardFile.{BoardFile}
 use Rattle.record_kinds.specs.Sound.{IsSound}
 use Rattle.bmc_board.specs.Request.{asked_by}

@@ -4,11 +4,11 @@ use Rattle.std.specs.Int.{w32, to_le_bytes, from_le_bytes}
 use Rattle.two_wire.specs.Codes.{pldm_invalid_data, pldm_no_table, pldm_invalid_table}
 use Rattle.pldm_base.specs.Parts.{asked_offset, part_bytes, is_last, next_handle, flag_of, flag_byte}
 use Rattle.cfg_records.specs.Records.{Records}
-use Rattle.cfg_records.specs.Requests.{byte_at}
-use Rattle.cfg_records.specs.declared.key.Key.TheVariants as key
-use Rattle.cfg_records.specs.declared.attribute.Attribute.{Attribute}
+use Rattle.record_base.specs.Requests.{byte_at}
+use Rattle.record_base.specs.declared.key.Key.TheVariants as key
+use Rattle.record_base.specs.declared.attribute.Attribute.{Attribute}
 use Rattle.cfg_records.specs.declared.board_file.BoardFile.{BoardFile}
-use Rattle.cfg_records.specs.declared.message.Answered.{Answered}
+use Rattle.record_base.specs.declared.message.Answered.{Answered}
 use Rattle.bios_attr.specs.declared.bios_table.BiosTable.{BiosTable}
 use Rattle.bios_attr.specs.declared.bios_table.BiosTable.TheVariants.{Strings, Attributes, Values}
 use Rattle.bios_attr.specs.Attributes.{strings_of, string_entries, attribute_entries}

@@ -1,7 +1,7 @@
 -- What a call that appends a reply's data gives.
 use Rattle.std.specs.Prelude.{◌≡◌, ℕ, List, ◌++◌, Result, Ok, Err}
 use Rattle.two_wire.specs.Codes.{success}
-use Rattle.cfg_records.specs.declared.message.Answered.{Answered}
+use Rattle.record_base.specs.declared.message.Answered.{Answered}
 use Rattle.bmc_board.specs.Replies.{refused}
 
 -- the answer: its data stand behind the bytes that were there, or its code is given and nothing was appended

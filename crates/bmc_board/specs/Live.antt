@@ -4,18 +4,18 @@ use Rattle.two_wire.specs.Codes.{uninitialized_watchdog, invalid_data_field}
 use Rattle.std.specs.Int.{w16, w32, to_le_bytes}
 use Rattle.two_wire.specs.Sizes.{most_ipmi_reply_data}
 use Rattle.cfg_records.specs.Records.{Records}
-use Rattle.cfg_records.specs.Requests.{byte_at}
-use Rattle.cfg_records.specs.declared.key.Key.TheVariants as key
-use Rattle.cfg_records.specs.declared.message.Answered.{Answered}
-use Rattle.cfg_records.specs.declared.device.Device.{Device}
+use Rattle.record_base.specs.Requests.{byte_at}
+use Rattle.record_base.specs.declared.key.Key.TheVariants as key
+use Rattle.record_base.specs.declared.message.Answered.{Answered}
+use Rattle.record_base.specs.declared.device.Device.{Device}
 use Rattle.cfg_records.specs.declared.board_file.BoardFile.{BoardFile}
-use Rattle.cfg_records.specs.declared.channel.Channel.{Channel}
-use Rattle.cfg_records.specs.declared.channel.ChannelNumber.{ChannelNumber}
-use Rattle.cfg_records.specs.declared.channel.AccessStore.TheVariants.{Neither}
-use Rattle.cfg_records.specs.Boards.{stored}
+use Rattle.record_base.specs.declared.channel.Channel.{Channel}
+use Rattle.record_base.specs.declared.channel.ChannelNumber.{ChannelNumber}
+use Rattle.record_base.specs.declared.channel.AccessStore.TheVariants.{Neither}
+use Rattle.record_base.specs.Values.{stored}
 use Rattle.record_kinds.specs.Boards.{channel_at, user_at}
-use Rattle.cfg_records.specs.declared.user.User.{User}
-use Rattle.cfg_records.specs.Numbers.{user_in}
+use Rattle.record_base.specs.declared.user.User.{User}
+use Rattle.record_base.specs.Numbers.{user_in}
 use Rattle.user_chan.specs.declared.password.PasswordChange.{PasswordChange}
 use Rattle.user_chan.specs.declared.password.PasswordChange.TheVariants.{Disable, Enable, Set, Test}
 use Rattle.user_chan.specs.Passwords.{change_of, test_answer, password_of, after_set, with_enabled}

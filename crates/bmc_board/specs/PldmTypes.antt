@@ -1,6 +1,6 @@
 -- The types of PLDM that the controller speaks are those that GetPLDMTypes names (DSP0240).
 use Rattle.std.specs.Prelude.{◌≡◌, ℕ, ◌<◌, ◌/◌, ◌%◌, slice_index}
-use Rattle.cfg_records.specs.Masks.{has}
+use Rattle.record_base.specs.Masks.{has}
 use Rattle.bmc_board.specs.Table.{is_pldm_type}
 use Rattle.bmc_board.specs.Live.{pldm_types}
 

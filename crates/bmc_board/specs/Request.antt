@@ -1,22 +1,22 @@
 -- What a request asks for.
 use Rattle.std.specs.Prelude.{ℕ, List, [], Option, Some, None, Result, Ok, Err, ◌==◌, if◌then◌else◌}
 use Rattle.two_wire.specs.Codes.{invalid_for_lun, invalid_command, invalid_length, pldm_unsupported_command, pldm_invalid_type, pldm_invalid_length}
-use Rattle.cfg_records.specs.declared.message.Asked.{Asked}
-use Rattle.cfg_records.specs.declared.message.Asked.TheVariants.{Ipmi, Pldm}
-use Rattle.cfg_records.specs.declared.key.Key.{Key}
-use Rattle.cfg_records.specs.declared.key.Key.TheVariants as key
-use Rattle.cfg_records.specs.declared.op.Op.{Op}
-use Rattle.cfg_records.specs.declared.op.Op.TheVariants as op
+use Rattle.record_base.specs.declared.message.Asked.{Asked}
+use Rattle.record_base.specs.declared.message.Asked.TheVariants.{Ipmi, Pldm}
+use Rattle.record_base.specs.declared.key.Key.{Key}
+use Rattle.record_base.specs.declared.key.Key.TheVariants as key
+use Rattle.record_base.specs.declared.op.Op.{Op}
+use Rattle.record_base.specs.declared.op.Op.TheVariants as op
 use Rattle.watch_boot.specs.declared.boot_request.BootRequest.{BootRequest}
 use Rattle.watch_boot.specs.declared.boot_request.BootRequest.TheVariants.{Progress, Param}
 use Rattle.watch_boot.specs.declared.boot_request.BootShown.{BootShown}
 use Rattle.watch_boot.specs.declared.boot_request.BootShown.TheVariants as shown
 use Rattle.watch_boot.specs.BootRequests.{boot_request_in, boot_shown_in}
-use Rattle.cfg_records.specs.declared.channel.SetChannelAccess.{SetChannelAccess}
+use Rattle.record_base.specs.declared.channel.SetChannelAccess.{SetChannelAccess}
 use Rattle.user_chan.specs.declared.channel_request.ChannelRequest.{ChannelRequest}
 use Rattle.user_chan.specs.declared.channel_request.ChannelRequest.TheVariants.{Leave, One, Two}
 use Rattle.user_chan.specs.ChannelRequests.{stored_in, channel_request_in}
-use Rattle.cfg_records.specs.declared.bios_attribute.SetBiosAttribute.{SetBiosAttribute}
+use Rattle.record_base.specs.declared.bios_attribute.SetBiosAttribute.{SetBiosAttribute}
 use Rattle.bios_attr.specs.BiosAttribute.{attribute_in, attribute_shown_in}
 use Rattle.record_kinds.specs.Limits.{reader_of}
 use Rattle.bmc_board.specs.declared.command.Command.{Command}

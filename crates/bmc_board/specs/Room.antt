@@ -1,6 +1,6 @@
 -- How long replies are.
 use Rattle.std.specs.Prelude.{ℕ}
-use Rattle.cfg_records.specs.Meaning.{room_for}
+use Rattle.record_base.specs.Meaning.{room_for}
 use Rattle.record_kinds.specs.Limits.{get_asked, set_asked}
 use Rattle.bmc_board.specs.Request.{Request}
 use Rattle.bmc_board.specs.Request.{Live, Get, Set, SetStores}

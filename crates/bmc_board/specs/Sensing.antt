@@ -1,13 +1,13 @@
 -- Readings of a board's sensors, and what happens on the board beside requests (IPMI 2.0, "Get Sensor Reading", "Watchdog Timer").
 use Rattle.std.specs.Prelude.{◌≡◌, ℕ, [], List, map, fold, Bool, Option, Some, None, Result, Ok, Err, if◌then◌else◌}
-use Rattle.cfg_records.specs.Masks.{has}
-use Rattle.cfg_records.specs.Sensor.EventEnable.{is_scanning}
-use Rattle.cfg_records.specs.Requests.{byte_at}
+use Rattle.record_base.specs.Masks.{has}
+use Rattle.record_base.specs.Sensor.EventEnable.{is_scanning}
+use Rattle.record_base.specs.Requests.{byte_at}
 use Rattle.cfg_records.specs.Records.{Records}
-use Rattle.cfg_records.specs.declared.key.Key.{Key}
-use Rattle.cfg_records.specs.declared.key.Key.TheVariants as key
-use Rattle.cfg_records.specs.declared.sensor.Sensor.{Sensor}
-use Rattle.cfg_records.specs.declared.message.Answered.{Answered}
+use Rattle.record_base.specs.declared.key.Key.{Key}
+use Rattle.record_base.specs.declared.key.Key.TheVariants as key
+use Rattle.record_base.specs.declared.sensor.Sensor.{Sensor}
+use Rattle.record_base.specs.declared.message.Answered.{Answered}
 use Rattle.cfg_records.specs.declared.board_file.BoardFile.{BoardFile}
 use Rattle.sel_log.specs.Clock.{ticked}
 use Rattle.sel_log.specs.Log.{Log, after_add}

@@ -1,6 +1,6 @@
 -- The values of a board's attributes (DSP0247), as its records have them.
 use Rattle.std.specs.Prelude.{ℕ}
-use Rattle.cfg_records.specs.declared.attribute_value.AttributeValue.{AttributeValue}
+use Rattle.record_base.specs.declared.attribute_value.AttributeValue.{AttributeValue}
 use Rattle.cfg_records.specs.declared.board_file.BoardFile.{BoardFile}
 use Rattle.cfg_records.specs.Records.{Records}
 use Rattle.record_kinds.specs.Sound.{IsSound}

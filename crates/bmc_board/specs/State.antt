@@ -2,7 +2,7 @@
 use Rattle.std.specs.Prelude.{◌≡◌, false}
 use Rattle.cfg_records.specs.Records.{Records, records_of}
 use Rattle.cfg_records.specs.Boards.{pairs_of}
-use Rattle.cfg_records.specs.Opening.{opening as live_at_opening}
+use Rattle.record_base.specs.Opening.{opening as live_at_opening}
 use Rattle.sel_log.specs.Clock.{clock_at}
 use Rattle.sel_log.specs.Log.{new_log}
 use Rattle.sensor_recs.specs.Sdr.{repository_of}

@@ -3,8 +3,8 @@
 use Rattle.std.specs.Prelude.{ℕ, ◌+◌, ◌-◌, ◌*◌, ◌==◌, ◌&&◌, not, nat_lt, min, List, [], ◌∷◌, ◌++◌, length, take, drop, Bool, Option, Some, None, Result, Ok, Err, if◌then◌else◌}
 use Rattle.std.specs.Int.{w16, w32, to_le_bytes, from_le_bytes}
 use Rattle.two_wire.specs.Codes.{not_present, reservation_canceled, out_of_range, too_many_bytes, invalid_data_field}
-use Rattle.cfg_records.specs.Requests.{byte_at}
-use Rattle.cfg_records.specs.declared.message.Answered.{Answered}
+use Rattle.record_base.specs.Requests.{byte_at}
+use Rattle.record_base.specs.declared.message.Answered.{Answered}
 use Rattle.sel_log.specs.declared.info.Info.{Info}
 use Rattle.sel_log.specs.LogRecord.{id_of}
 use Rattle.sel_log.specs.Reservations.{is_present}

@@ -2,9 +2,9 @@
 use Rattle.std.specs.Prelude.{◌≡◌, ◌≢◌, ℕ, List, [], Ok, ◌⊎◌}
 use Rattle.two_wire.specs.Codes.{success}
 use Rattle.cfg_records.specs.Records.{with_record}
-use Rattle.cfg_records.specs.declared.channel.SetChannelAccess.{SetChannelAccess}
-use Rattle.cfg_records.specs.declared.op.Op.{Op}
-use Rattle.cfg_records.specs.declared.op.Op.TheVariants as of_kind
+use Rattle.record_base.specs.declared.channel.SetChannelAccess.{SetChannelAccess}
+use Rattle.record_base.specs.declared.op.Op.{Op}
+use Rattle.record_base.specs.declared.op.Op.TheVariants as of_kind
 use Rattle.cfg_records.specs.declared.board_file.BoardFile.{BoardFile}
 use Rattle.record_kinds.specs.Limits.{key_of}
 use Rattle.bmc_board.specs.Request.{SetStores}

@@ -1,8 +1,8 @@
 -- The tables of commands (IPMI 2.0; DSP0240, "GetTID" and "GetPLDMTypes"; DSP0248, commands of effecters; DSP0247, "GetBIOSTable" and commands of BIOS attributes): one line each.
 use Rattle.std.specs.Prelude.{ℕ, ◌+◌, ◌*◌, List, [], ◌∷◌, length, Option, Some, None, Bool, true, false, find, nat_le, ◌==◌, ◌&&◌, ◌||◌}
-use Rattle.cfg_records.specs.declared.message.Asked.{Asked}
-use Rattle.cfg_records.specs.declared.message.Asked.TheVariants.{Ipmi, Pldm}
-use Rattle.cfg_records.specs.Requests.{byte_at}
+use Rattle.record_base.specs.declared.message.Asked.{Asked}
+use Rattle.record_base.specs.declared.message.Asked.TheVariants.{Ipmi, Pldm}
+use Rattle.record_base.specs.Requests.{byte_at}
 use Rattle.bmc_board.specs.declared.command.Command.{Command}
 use Rattle.bmc_board.specs.declared.command.Command.TheVariants as command
 use Rattle.record_kinds.specs.declared.limits.PlainKind.TheVariants as kind

@@ -2,7 +2,7 @@
 use Rattle.std.specs.Prelude.{◌≡◌, ℕ, List, ◌++◌, map}
 use Rattle.std.specs.Int.{w32, to_le_bytes}
 use Rattle.pldm_base.specs.Crc.{crc_of}
-use Rattle.cfg_records.specs.declared.attribute.Attribute.{Attribute}
+use Rattle.record_base.specs.declared.attribute.Attribute.{Attribute}
 use Rattle.bios_attr.specs.Attributes.{strings_of, string_entries, attribute_entries}
 use Rattle.bios_attr.specs.Values.{head_of, value_entries}
 use Rattle.bios_attr.specs.Tables.{padded, Opened}

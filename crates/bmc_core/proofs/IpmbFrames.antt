@@ -8,7 +8,7 @@ use Rattle.ipmb_frame.specs.declared.message.Header.{Header}
 use Rattle.ipmb_frame.specs.declared.message.Request.{Request}
 use Rattle.ipmb_frame.specs.declared.message.Response.{Response}
 use Rattle.ipmb_frame.specs.Grammar.{packed, request_bytes, request_head, request_tail, response_connection, response_lead, response_head, response_tail, frame, IsRequest, IsResponse}
-use Rattle.cfg_records.specs.declared.message.Answered.{Answered}
+use Rattle.record_base.specs.declared.message.Answered.{Answered}
 use Rattle.lab_model.specs.Bytes.{heard_in}
 use Rattle.bus_model.specs.Request.{Request as Asking, Kept, Entry, Carried}
 use Rattle.bus_model.specs.Numbering.{is_above}

@@ -15,7 +15,7 @@ use Rattle.mctp_net.specs.Grammar.{IsPacket, has_fault, faults}
 use Rattle.pldm_base.specs.declared.fault.PldmFault.{PldmFault}
 use Rattle.pldm_base.specs.declared.message.PldmRequest.{PldmRequest}
 use Rattle.pldm_base.specs.Message.{request_in as pldm_request_in, has_fault as has_pldm_fault, faults as pldm_faults}
-use Rattle.cfg_records.specs.declared.message.Answered.{Answered}
+use Rattle.record_base.specs.declared.message.Answered.{Answered}
 use Rattle.cfg_records.specs.declared.board_file.BoardFile.{BoardFile}
 use Rattle.bus_model.specs.Carried.{Outcome, Repeats, IsBusy, IsNew}
 use Rattle.bus_model.specs.Request.{Kept, Carried}

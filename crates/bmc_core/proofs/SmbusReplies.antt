@@ -6,7 +6,7 @@ use Rattle.mctp_net.specs.declared.message.Message.{Message}
 use Rattle.mctp_net.specs.Cut.{IsCutOf, AreWritten}
 use Rattle.mctp_net.proofs.OneCut.{cut-one}
 use Rattle.pldm_base.specs.Message.{reply_start}
-use Rattle.cfg_records.specs.declared.message.Answered.{Answered}
+use Rattle.record_base.specs.declared.message.Answered.{Answered}
 use Rattle.bus_model.specs.Request.{Request as Asking, Kept, Entry, Carried, Idled, carried_since}
 use Rattle.bus_model.specs.Carried.{Outcome, Repeats, IsBusy, IsNew, kept_for, outcome_of, outcome, is_busy}
 use Rattle.lab_model.specs.Values.{Part, written, parts_of}

@@ -10,8 +10,8 @@ use Rattle.mctp_net.specs.Control.{Request as ControlRequest, request_of as cont
 use Rattle.pldm_base.specs.declared.fault.PldmFault.{PldmFault}
 use Rattle.pldm_base.specs.declared.message.PldmRequest.{PldmRequest}
 use Rattle.pldm_base.specs.Message.{request_in as pldm_request_in, has_fault as has_pldm_fault, faults as pldm_faults}
-use Rattle.cfg_records.specs.declared.message.Asked.{Asked}
-use Rattle.cfg_records.specs.declared.message.Answered.{Answered}
+use Rattle.record_base.specs.declared.message.Asked.{Asked}
+use Rattle.record_base.specs.declared.message.Answered.{Answered}
 use Rattle.bus_model.specs.Circle.{instances}
 use Rattle.bus_model.specs.Request.{Request as Asking, Kept}
 use Rattle.bus_model.specs.Numbering.{is_above}

@@ -7,7 +7,7 @@ use Rattle.mctp_net.specs.Assembly.{Assemblies, message_of}
 use Rattle.mctp_net.specs.Control.{reply_to as control_reply_to, eid_after}
 use Rattle.mctp_net.specs.Grammar.{IsPacket, has_fault, faults}
 use Rattle.mctp_net.specs.Places.{seen}
-use Rattle.cfg_records.specs.declared.message.Answered.{Answered}
+use Rattle.record_base.specs.declared.message.Answered.{Answered}
 use Rattle.cfg_records.specs.declared.board_file.BoardFile.{BoardFile}
 use Rattle.bus_model.specs.Circle.{instances}
 use Rattle.bus_model.specs.Request.{Entry, Carried, Idled}

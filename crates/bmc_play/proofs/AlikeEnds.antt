@@ -2,7 +2,7 @@
 use Rattle.std.proofs.Common.{◌≡◌, ◌∙◌, ℕ, List, length, Option, Some, None, ap, refl, subst, sym}
 use Rattle.schedules.specs.declared.event.Event.{Event}
 use Rattle.cfg_records.specs.declared.board_file.BoardFile.{BoardFile}
-use Rattle.cfg_records.specs.declared.op.Op.{Op}
+use Rattle.record_base.specs.declared.op.Op.{Op}
 use Rattle.lab_model.specs.Faults.{Fault as LabFault}
 use Rattle.lab_model.specs.Faults as faults
 use Rattle.lab_events.specs.declared.fault.Fault.{Fault}

@@ -7,9 +7,9 @@ use Rattle.std.specs.Set.{is_member}
 use Rattle.std.proofs.lemmas.List.{length-map, get_or-map}
 use Rattle.std.proofs.lemmas.Map.Keys.{IsDistinct-head, IsDistinct-tail}
 use Rattle.std.proofs.lemmas.Map.Made.{length-from_same_keys, IsDistinct-from_AllPairs, IsDistinct-keys_filter}
-use Rattle.cfg_records.specs.declared.key.Key.{Key}
-use Rattle.cfg_records.specs.Keys.{same_key}
-use Rattle.cfg_records.specs.KeyLaws.{key_total, exact_key, same_key_self}
+use Rattle.record_base.specs.declared.key.Key.{Key}
+use Rattle.record_base.specs.Keys.{same_key}
+use Rattle.record_base.specs.KeyLaws.{key_total, exact_key, same_key_self}
 use Rattle.cfg_records.specs.Records.{Records, Pair, value_of, records_of, KeysDiffer}
 
 -- keys are compared by an equivalence

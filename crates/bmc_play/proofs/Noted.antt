@@ -1,7 +1,7 @@
 -- What is drawn of a play, once it is known how it ended and what was noted.
 use Rattle.std.proofs.Common.{◌≡◌, ℕ, ◌+◌, List, length, Option, Some, None, Result, Ok, Err, IfOk, string_bytes, sym}
 use Rattle.cfg_records.specs.declared.board_file.BoardFile.{BoardFile}
-use Rattle.cfg_records.specs.declared.op.Op.{Op}
+use Rattle.record_base.specs.declared.op.Op.{Op}
 use Rattle.schedules.specs.declared.event.Event.{Event}
 use Rattle.lab_events.specs.declared.fault.Fault.{Fault}
 use Rattle.lab_model.specs.Played.{Ending, Whole, Stops}

@@ -6,8 +6,8 @@ use Rattle.std.proofs.lemmas.List.{length-map, length-reverse}
 use Rattle.std.proofs.lemmas.Simd.{map-map}
 use Rattle.line_text.specs.Cuts.{ended}
 use Rattle.cfg_records.specs.Records.{Pair}
-use Rattle.cfg_records.specs.declared.message.Asked.{Asked}
-use Rattle.cfg_records.specs.declared.message.Asked.TheVariants.{Ipmi, Pldm}
+use Rattle.record_base.specs.declared.message.Asked.{Asked}
+use Rattle.record_base.specs.declared.message.Asked.TheVariants.{Ipmi, Pldm}
 use Rattle.undo_core.specs.declared.phase.Why.{Why}
 use Rattle.undo_core.specs.declared.phase.Why.TheVariants as why
 use Rattle.undo_core.specs.declared.phase.Phase.{Phase}

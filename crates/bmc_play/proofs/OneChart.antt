@@ -5,7 +5,7 @@ use Rattle.std.specs.Fmt.{decimal}
 use Rattle.std.proofs.lemmas.List.{take-map}
 use Rattle.line_text.specs.Cuts.{ended}
 use Rattle.cfg_records.specs.declared.board_file.BoardFile.{BoardFile}
-use Rattle.cfg_records.specs.declared.op.Op.{Op}
+use Rattle.record_base.specs.declared.op.Op.{Op}
 use Rattle.undo_core.specs.PhaseNames.{phase_name}
 use Rattle.schedules.specs.declared.event.Event.{Event}
 use Rattle.schedules.specs.declared.event.Event.TheVariants as event

@@ -3,7 +3,7 @@ use Rattle.std.specs.Prelude.{◌≡◌, ℕ, ◌+◌, List, ◌++◌, length, O
 use Rattle.std.specs.List.{flat_map}
 use Rattle.line_text.specs.Cuts.{ended}
 use Rattle.cfg_records.specs.declared.board_file.BoardFile.{BoardFile}
-use Rattle.cfg_records.specs.declared.op.Op.{Op}
+use Rattle.record_base.specs.declared.op.Op.{Op}
 use Rattle.schedules.specs.declared.event.Event.{Event}
 use Rattle.lab_model.specs.Played.{Ending, Whole, Stops, IsPlayed}
 use Rattle.lab_events.specs.FramesShown.{fault_of}

@@ -6,7 +6,7 @@ use Rattle.hex.specs.Hex.{encode_upper}
 use Rattle.line_text.specs.Cuts.{ended}
 use Rattle.two_wire.specs.declared.Bus.{Bus}
 use Rattle.two_wire.specs.declared.Bus.TheVariants.{Ipmb, Smbus}
-use Rattle.cfg_records.specs.declared.message.Asked.{Asked}
+use Rattle.record_base.specs.declared.message.Asked.{Asked}
 use Rattle.undo_text.specs.UndoText.{line_of}
 use Rattle.undo_core.specs.PhaseNames.{phase_name}
 use Rattle.lab_events.specs.declared.frames.Way.{Way}

@@ -9,14 +9,14 @@ use Rattle.std.specs.Str.{bytes_eq}
 use Rattle.toml.specs.Data.{Data, Members, as_str}
 use Rattle.toml.specs.View.{view}
 use Rattle.toml.specs.declared.value.Value.{Value}
-use Rattle.cfg_records.specs.AttributeRange.{AllowsIndexes, AllowsText, AllowsNumber}
-use Rattle.cfg_records.specs.AttributeRangeLaws.{true_le, true_allows}
-use Rattle.cfg_records.specs.declared.attribute.Attribute.{Attribute}
-use Rattle.cfg_records.specs.declared.attribute_range.AttributeRange.TheVariants as range
-use Rattle.cfg_records.specs.declared.attribute_range.IntegerSteps.{IntegerSteps}
-use Rattle.cfg_records.specs.declared.attribute_range.TextLengths.{TextLengths}
-use Rattle.cfg_records.specs.declared.attribute_value.AttributeValue.TheVariants as value
-use Rattle.cfg_records.specs.Distinct.{NamesDiffer}
+use Rattle.record_base.specs.AttributeRange.{AllowsIndexes, AllowsText, AllowsNumber}
+use Rattle.record_base.specs.AttributeRangeLaws.{true_le, true_allows}
+use Rattle.record_base.specs.declared.attribute.Attribute.{Attribute}
+use Rattle.record_base.specs.declared.attribute_range.AttributeRange.TheVariants as range
+use Rattle.record_base.specs.declared.attribute_range.IntegerSteps.{IntegerSteps}
+use Rattle.record_base.specs.declared.attribute_range.TextLengths.{TextLengths}
+use Rattle.record_base.specs.declared.attribute_value.AttributeValue.TheVariants as value
+use Rattle.record_base.specs.Distinct.{NamesDiffer}
 use Rattle.file_fields.specs.declared.field.Field.{Field}
 use Rattle.file_fields.specs.declared.field.Field.TheVariants as field
 use Rattle.board_file.specs.declared.fault.FileFault.{FileFault}

@@ -5,9 +5,9 @@ use Rattle.std.proofs.lemmas.List.Kept.{AllPairs-cons}
 use Rattle.std.proofs.lemmas.Slice.Zip.{AllZip-long}
 use Rattle.std.specs.List.{AllZip, AllByRecursion}
 use Rattle.toml.specs.Data.{Data}
-use Rattle.cfg_records.specs.declared.user.UserAccess.{UserAccess}
-use Rattle.cfg_records.specs.Distinct.{NamesDiffer}
-use Rattle.cfg_records.specs.Numbers.{number_on}
+use Rattle.record_base.specs.declared.user.UserAccess.{UserAccess}
+use Rattle.record_base.specs.Distinct.{NamesDiffer}
+use Rattle.record_base.specs.Numbers.{number_on}
 use Rattle.file_fields.specs.declared.field.Field.TheVariants as field
 use Rattle.file_fields.specs.Trees.{natural, number_in, table_of, members_in}
 use Rattle.file_fields.specs.Ranges.{or_zero}

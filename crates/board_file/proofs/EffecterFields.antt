@@ -3,10 +3,10 @@ use Rattle.std.proofs.Common.{◌≡◌, ◌&&◌, true, Some, option_and_then, 
 use Rattle.std.proofs.lemmas.Bool.{and_parts}
 use Rattle.std.proofs.lemmas.Option.{same_Some}
 use Rattle.toml.specs.Data.{Data, Members}
-use Rattle.cfg_records.specs.declared.numeric_size.NumericSize.{NumericSize}
-use Rattle.cfg_records.specs.declared.numeric_size.NumericSize.TheVariants.{U8, S8, U16, S16, U32, S32}
-use Rattle.cfg_records.specs.declared.numeric_effecter.NumericEffecter.{NumericEffecter}
-use Rattle.cfg_records.specs.NumericSize.{code_of}
+use Rattle.record_base.specs.declared.numeric_size.NumericSize.{NumericSize}
+use Rattle.record_base.specs.declared.numeric_size.NumericSize.TheVariants.{U8, S8, U16, S16, U32, S32}
+use Rattle.record_base.specs.declared.numeric_effecter.NumericEffecter.{NumericEffecter}
+use Rattle.record_base.specs.NumericSize.{code_of}
 use Rattle.file_fields.specs.declared.field.Field.TheVariants as field
 use Rattle.file_fields.specs.declared.row.Shape.TheVariants as shape
 use Rattle.file_fields.specs.declared.row.Need.TheVariants as need

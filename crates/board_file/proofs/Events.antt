@@ -3,9 +3,9 @@ use Rattle.std.proofs.Common.{◌≡◌, ℕ, zero, suc, ◌*◌, ◌/◌, ◌%�
 use Rattle.std.proofs.lemmas.Bool.{and_parts}
 use Rattle.std.proofs.lemmas.Bool.Decides.{nat_tests}
 use Rattle.std.proofs.lemmas.Option.{same_Some}
-use Rattle.cfg_records.specs.Masks.{has}
-use Rattle.cfg_records.specs.Sensor.EventEnable.{AreWithin, are_within, flags_byte}
-use Rattle.cfg_records.specs.EventLaws.{within_true}
+use Rattle.record_base.specs.Masks.{has}
+use Rattle.record_base.specs.Sensor.EventEnable.{AreWithin, are_within, flags_byte}
+use Rattle.record_base.specs.EventLaws.{within_true}
 use Rattle.toml.specs.Data.{Data, Members}
 use Rattle.file_fields.specs.declared.field.Field.{Field}
 use Rattle.file_fields.specs.declared.field.Field.TheVariants as field

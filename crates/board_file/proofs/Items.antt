@@ -9,7 +9,7 @@ use Rattle.std.specs.List.{list_any, AllZip}
 use Rattle.toml.specs.Data.{Data, Members}
 use Rattle.toml.specs.View.{view}
 use Rattle.toml.specs.declared.value.Value.{Value}
-use Rattle.cfg_records.specs.Distinct.{NamesDiffer}
+use Rattle.record_base.specs.Distinct.{NamesDiffer}
 use Rattle.file_fields.specs.declared.field.Field.{Field}
 use Rattle.board_file.specs.declared.fault.FileFault.{FileFault}
 use Rattle.board_file.specs.declared.fault.FileFault.TheVariants as file

@@ -6,55 +6,55 @@ use Rattle.std.proofs.Math.Path.{PathP}
 use mathlib.Core.HLevel.{is_prop→PathP}
 use Rattle.toml.specs.Data.{Data, Members}
 use Rattle.toml.specs.Parse.{parse_document}
-use Rattle.cfg_records.specs.Distinct.{NamesDiffer}
-use Rattle.cfg_records.specs.NumberLaws.{same_channel, same_user}
-use Rattle.cfg_records.specs.Numbers.{number_on}
-use Rattle.cfg_records.specs.Sdr.{sdr_id}
-use Rattle.cfg_records.specs.AttributeSizes.{most_indexes, most_text, most_attributes}
-use Rattle.cfg_records.specs.AttributeRange.{AllowsIndexes, AllowsText, AllowsNumber}
-use Rattle.cfg_records.specs.AttributeRangeLaws.{AllowsIndexes-prop, AllowsText-prop, AllowsNumber-prop}
-use Rattle.cfg_records.specs.PartLaws.{IsThresholds-prop, IsEventEnable-prop, IsPowerPolicy-prop, IsWatchdog-prop, AreGlobalEnables-prop, IsNumeric-prop, IsUserAccess-prop, IsChannelAccess-prop}
-use Rattle.cfg_records.specs.Sensor.Thresholds.{IsThresholds}
-use Rattle.cfg_records.specs.Sensor.EventEnable.{IsEventEnable, flags_byte, event_value}
-use Rattle.cfg_records.specs.PowerPolicy.{IsPowerPolicy}
-use Rattle.cfg_records.specs.Watchdog.{IsWatchdog, watchdog_value}
-use Rattle.cfg_records.specs.GlobalEnables.{AreGlobalEnables}
-use Rattle.cfg_records.specs.NumericEffecter.{IsNumeric}
-use Rattle.cfg_records.specs.NumericSize.{code_of, numbers_of, bytes_of}
-use Rattle.cfg_records.specs.UserAccess.{IsUserAccess}
-use Rattle.cfg_records.specs.ChannelAccess.{IsChannelAccess}
-use Rattle.cfg_records.specs.StateField.{allows}
-use Rattle.cfg_records.specs.BootParam.{flag_bytes}
+use Rattle.record_base.specs.Distinct.{NamesDiffer}
+use Rattle.record_base.specs.NumberLaws.{same_channel, same_user}
+use Rattle.record_base.specs.Numbers.{number_on}
+use Rattle.record_base.specs.Sdr.{sdr_id}
+use Rattle.record_base.specs.AttributeSizes.{most_indexes, most_text, most_attributes}
+use Rattle.record_base.specs.AttributeRange.{AllowsIndexes, AllowsText, AllowsNumber}
+use Rattle.record_base.specs.AttributeRangeLaws.{AllowsIndexes-prop, AllowsText-prop, AllowsNumber-prop}
+use Rattle.record_base.specs.PartLaws.{IsThresholds-prop, IsEventEnable-prop, IsPowerPolicy-prop, IsWatchdog-prop, AreGlobalEnables-prop, IsNumeric-prop, IsUserAccess-prop, IsChannelAccess-prop}
+use Rattle.record_base.specs.Sensor.Thresholds.{IsThresholds}
+use Rattle.record_base.specs.Sensor.EventEnable.{IsEventEnable, flags_byte, event_value}
+use Rattle.record_base.specs.PowerPolicy.{IsPowerPolicy}
+use Rattle.record_base.specs.Watchdog.{IsWatchdog, watchdog_value}
+use Rattle.record_base.specs.GlobalEnables.{AreGlobalEnables}
+use Rattle.record_base.specs.NumericEffecter.{IsNumeric}
+use Rattle.record_base.specs.NumericSize.{code_of, numbers_of, bytes_of}
+use Rattle.record_base.specs.UserAccess.{IsUserAccess}
+use Rattle.record_base.specs.ChannelAccess.{IsChannelAccess}
+use Rattle.record_base.specs.StateField.{allows}
+use Rattle.record_base.specs.BootParam.{flag_bytes}
 use Rattle.cfg_records.specs.declared.board_file.BoardFile.{BoardFile}
-use Rattle.cfg_records.specs.declared.device.Device.{Device}
-use Rattle.cfg_records.specs.declared.device.Bcd.{Bcd}
-use Rattle.cfg_records.specs.declared.device.ManufacturerId.{ManufacturerId}
-use Rattle.cfg_records.specs.declared.thresholds.ThresholdMasks.{ThresholdMasks}
-use Rattle.cfg_records.specs.declared.sensor_thresholds.Thresholds.{Thresholds}
-use Rattle.cfg_records.specs.declared.event_enable.EventEnable.{EventEnable}
-use Rattle.cfg_records.specs.declared.sensor.Sensor.{Sensor}
-use Rattle.cfg_records.specs.declared.state_effecter.StateField.{StateField}
-use Rattle.cfg_records.specs.declared.state_effecter.StateEffecter.{StateEffecter}
-use Rattle.cfg_records.specs.declared.numeric_size.NumericSize.{NumericSize}
-use Rattle.cfg_records.specs.declared.numeric_size.NumericSize.TheVariants.{U8, S8, U16, S16, U32, S32}
-use Rattle.cfg_records.specs.declared.numeric_range.NumericRange.{NumericRange}
-use Rattle.cfg_records.specs.declared.numeric_effecter.NumericEffecter.{NumericEffecter}
-use Rattle.cfg_records.specs.declared.user.User.{User}
-use Rattle.cfg_records.specs.declared.user.UserAccess.{UserAccess}
-use Rattle.cfg_records.specs.declared.channel.Channel.{Channel}
-use Rattle.cfg_records.specs.declared.channel.ChannelAccess.{ChannelAccess}
-use Rattle.cfg_records.specs.declared.channel.ChannelNumber.{ChannelNumber}
-use Rattle.cfg_records.specs.declared.boot_param.BootOptions.{BootOptions}
-use Rattle.cfg_records.specs.declared.watchdog.Watchdog.{Watchdog}
-use Rattle.cfg_records.specs.declared.power_policy.PowerPolicy.{PowerPolicy}
-use Rattle.cfg_records.specs.declared.global_enables.GlobalEnables.{GlobalEnables}
-use Rattle.cfg_records.specs.declared.log_capacity.LogCapacity.{LogCapacity}
-use Rattle.cfg_records.specs.declared.attribute.Attribute.{Attribute}
-use Rattle.cfg_records.specs.declared.attribute.AttributeKind.{AttributeKind}
-use Rattle.cfg_records.specs.declared.attribute.AttributeKind.TheVariants as kind
-use Rattle.cfg_records.specs.declared.attribute.EnumerationAttribute.{EnumerationAttribute}
-use Rattle.cfg_records.specs.declared.attribute.StringAttribute.{StringAttribute}
-use Rattle.cfg_records.specs.declared.attribute.IntegerAttribute.{IntegerAttribute}
+use Rattle.record_base.specs.declared.device.Device.{Device}
+use Rattle.record_base.specs.declared.device.Bcd.{Bcd}
+use Rattle.record_base.specs.declared.device.ManufacturerId.{ManufacturerId}
+use Rattle.record_base.specs.declared.thresholds.ThresholdMasks.{ThresholdMasks}
+use Rattle.record_base.specs.declared.sensor_thresholds.Thresholds.{Thresholds}
+use Rattle.record_base.specs.declared.event_enable.EventEnable.{EventEnable}
+use Rattle.record_base.specs.declared.sensor.Sensor.{Sensor}
+use Rattle.record_base.specs.declared.state_effecter.StateField.{StateField}
+use Rattle.record_base.specs.declared.state_effecter.StateEffecter.{StateEffecter}
+use Rattle.record_base.specs.declared.numeric_size.NumericSize.{NumericSize}
+use Rattle.record_base.specs.declared.numeric_size.NumericSize.TheVariants.{U8, S8, U16, S16, U32, S32}
+use Rattle.record_base.specs.declared.numeric_range.NumericRange.{NumericRange}
+use Rattle.record_base.specs.declared.numeric_effecter.NumericEffecter.{NumericEffecter}
+use Rattle.record_base.specs.declared.user.User.{User}
+use Rattle.record_base.specs.declared.user.UserAccess.{UserAccess}
+use Rattle.record_base.specs.declared.channel.Channel.{Channel}
+use Rattle.record_base.specs.declared.channel.ChannelAccess.{ChannelAccess}
+use Rattle.record_base.specs.declared.channel.ChannelNumber.{ChannelNumber}
+use Rattle.record_base.specs.declared.boot_param.BootOptions.{BootOptions}
+use Rattle.record_base.specs.declared.watchdog.Watchdog.{Watchdog}
+use Rattle.record_base.specs.declared.power_policy.PowerPolicy.{PowerPolicy}
+use Rattle.record_base.specs.declared.global_enables.GlobalEnables.{GlobalEnables}
+use Rattle.record_base.specs.declared.log_capacity.LogCapacity.{LogCapacity}
+use Rattle.record_base.specs.declared.attribute.Attribute.{Attribute}
+use Rattle.record_base.specs.declared.attribute.AttributeKind.{AttributeKind}
+use Rattle.record_base.specs.declared.attribute.AttributeKind.TheVariants as kind
+use Rattle.record_base.specs.declared.attribute.EnumerationAttribute.{EnumerationAttribute}
+use Rattle.record_base.specs.declared.attribute.StringAttribute.{StringAttribute}
+use Rattle.record_base.specs.declared.attribute.IntegerAttribute.{IntegerAttribute}
 use Rattle.file_fields.specs.declared.field.Field.{Field}
 use Rattle.file_fields.specs.declared.field.Field.TheVariants as field
 use Rattle.board_file.specs.declared.fault.FileFault.{FileFault}

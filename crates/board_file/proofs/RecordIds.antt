@@ -4,8 +4,8 @@ use Rattle.std.proofs.lemmas.Bool.{false≢true}
 use Rattle.std.proofs.lemmas.Bool.Decides.{nat_tests}
 use Rattle.std.specs.List.{list_any, AllZip}
 use Rattle.toml.specs.Data.{Data}
-use Rattle.cfg_records.specs.Sdr.{sdr_id}
-use Rattle.cfg_records.specs.Distinct.{NamesDiffer}
+use Rattle.record_base.specs.Sdr.{sdr_id}
+use Rattle.record_base.specs.Distinct.{NamesDiffer}
 use Rattle.file_fields.specs.declared.field.Field.TheVariants as field
 use Rattle.board_file.specs.declared.fault.FileFault.TheVariants as file
 use Rattle.board_file.specs.declared.fault.Item.TheVariants as item

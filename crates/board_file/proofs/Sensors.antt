@@ -10,7 +10,7 @@ use Rattle.file_fields.specs.Ranges.{record_in}
 use Rattle.file_fields.proofs.Rows.{Sound, value_of}
 use Rattle.file_fields.proofs.First.{first-append}
 use Rattle.std.specs.List.{list_all}
-use Rattle.cfg_records.specs.declared.sensor.Sensor.{Sensor}
+use Rattle.record_base.specs.declared.sensor.Sensor.{Sensor}
 use Rattle.file_fields.specs.declared.field.Field.TheVariants as field
 use Rattle.board_file.specs.declared.tables.TheConstants.{TOP, DEVICE}
 use Rattle.board_file.specs.declared.fault.FileFault.{FileFault}

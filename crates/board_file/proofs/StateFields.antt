@@ -6,8 +6,8 @@ use Rattle.std.specs.List.{list_all, AllZip}
 use Rattle.toml.specs.Data.{Data, Members}
 use Rattle.toml.specs.View.{view}
 use Rattle.toml.specs.declared.value.Value.{Value}
-use Rattle.cfg_records.specs.StateField.{allows}
-use Rattle.cfg_records.specs.declared.state_effecter.StateEffecter.{StateEffecter}
+use Rattle.record_base.specs.StateField.{allows}
+use Rattle.record_base.specs.declared.state_effecter.StateEffecter.{StateEffecter}
 use Rattle.file_fields.specs.declared.field.Field.TheVariants as field
 use Rattle.file_fields.specs.declared.row.Shape.TheVariants as shape
 use Rattle.file_fields.specs.declared.row.Need.TheVariants as need

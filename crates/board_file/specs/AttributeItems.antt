@@ -2,12 +2,12 @@
 use Rattle.std.specs.Prelude.{◌≡◌, ℕ, ◌+◌, true, List, [], ◌∷◌, Some, codes}
 use Rattle.std.specs.List.{AllZip}
 use Rattle.toml.specs.Data.{Data, Members}
-use Rattle.cfg_records.specs.declared.attribute.Attribute.{Attribute}
-use Rattle.cfg_records.specs.declared.attribute.AttributeKind.{AttributeKind}
-use Rattle.cfg_records.specs.declared.attribute.AttributeKind.TheVariants as kind
-use Rattle.cfg_records.specs.declared.attribute.EnumerationAttribute.{EnumerationAttribute}
-use Rattle.cfg_records.specs.declared.attribute.StringAttribute.{StringAttribute}
-use Rattle.cfg_records.specs.declared.attribute.IntegerAttribute.{IntegerAttribute}
+use Rattle.record_base.specs.declared.attribute.Attribute.{Attribute}
+use Rattle.record_base.specs.declared.attribute.AttributeKind.{AttributeKind}
+use Rattle.record_base.specs.declared.attribute.AttributeKind.TheVariants as kind
+use Rattle.record_base.specs.declared.attribute.EnumerationAttribute.{EnumerationAttribute}
+use Rattle.record_base.specs.declared.attribute.StringAttribute.{StringAttribute}
+use Rattle.record_base.specs.declared.attribute.IntegerAttribute.{IntegerAttribute}
 use Rattle.file_fields.specs.declared.field.Field.TheVariants as field
 use Rattle.file_fields.specs.Trees.{IsNaturalIn, flag_in, number_in, members_in, table_of}
 use Rattle.file_fields.specs.Attributes.{text_of, text_in}

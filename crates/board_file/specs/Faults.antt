@@ -15,7 +15,7 @@ use Rattle.board_file.specs.declared.fault.FileFault.TheVariants as file
 use Rattle.board_file.specs.declared.fault.Item.{Item}
 use Rattle.board_file.specs.declared.fault.Item.TheVariants as item
 use Rattle.file_fields.specs.Trees.{in_field, number_in, table_of, table_in, members_in}
-use Rattle.cfg_records.specs.Sdr.{sdr_id}
+use Rattle.record_base.specs.Sdr.{sdr_id}
 use Rattle.file_fields.specs.Ranges.{passes, has_text, record_in}
 use Rattle.file_fields.specs.Faults.{field_faults}
 

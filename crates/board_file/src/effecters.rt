@@ -1,7 +1,7 @@
 //! The numeric effecters of a board file.
 ghost use Rattle.std.specs.Prelude.{◌≡◌, ◌⊎◌, ◌==◌, [], true, false, Some, IfOk, IfErr, map};
 ghost use Rattle.std.specs.List.{list_all, list_any, AllZip};
-ghost use Rattle.cfg_records.specs.Distinct.{NamesDiffer};
+ghost use Rattle.record_base.specs.Distinct.{NamesDiffer};
 ghost use Rattle.toml.specs.View.{view, table_view};
 ghost use Rattle.file_fields.specs.Trees.{table_of, members_in};
 ghost use Rattle.file_fields.specs.Ranges.{is_table};

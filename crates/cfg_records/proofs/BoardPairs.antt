@@ -6,28 +6,29 @@ use Rattle.std.specs.Option.{option_map, option_or}
 use Rattle.std.proofs.lemmas.List.{length-map}
 use Rattle.std.proofs.lemmas.List.Elements.{All-append, All-map}
 use Rattle.std.proofs.lemmas.List.Folds.{find-append}
-use Rattle.cfg_records.specs.declared.key.Key.{Key}
-use Rattle.cfg_records.specs.declared.key.Key.TheVariants as key
-use Rattle.cfg_records.specs.declared.sensor.Sensor.{Sensor}
+use Rattle.record_base.specs.declared.key.Key.{Key}
+use Rattle.record_base.specs.declared.key.Key.TheVariants as key
+use Rattle.record_base.specs.declared.sensor.Sensor.{Sensor}
 use Rattle.cfg_records.specs.declared.board_file.BoardFile.{BoardFile}
-use Rattle.cfg_records.specs.declared.boot_param.BootParameter.TheVariants.{ValidBitClearing, InfoAcknowledge, Flags}
-use Rattle.cfg_records.specs.declared.numeric_size.NumericSize.{NumericSize}
-use Rattle.cfg_records.specs.declared.numeric_size.NumericSize.TheVariants.{U8, S8, U16, S16, U32, S32}
-use Rattle.cfg_records.specs.NumericSize.{bytes_of}
-use Rattle.cfg_records.specs.declared.state_effecter.StateField.{StateField}
-use Rattle.cfg_records.specs.StateEffecter.{state_value}
-use Rattle.cfg_records.specs.declared.attribute.Attribute.{Attribute}
-use Rattle.cfg_records.specs.Attribute.{attribute_value}
-use Rattle.cfg_records.specs.AttributeLaws.{begins_long}
-use Rattle.cfg_records.specs.Keys.{is_length, slot}
-use Rattle.cfg_records.specs.KeyLaws.{exact_key}
-use Rattle.cfg_records.specs.Distinct.{NamesDiffer}
+use Rattle.record_base.specs.declared.boot_param.BootParameter.TheVariants.{ValidBitClearing, InfoAcknowledge, Flags}
+use Rattle.record_base.specs.declared.numeric_size.NumericSize.{NumericSize}
+use Rattle.record_base.specs.declared.numeric_size.NumericSize.TheVariants.{U8, S8, U16, S16, U32, S32}
+use Rattle.record_base.specs.NumericSize.{bytes_of}
+use Rattle.record_base.specs.declared.state_effecter.StateField.{StateField}
+use Rattle.record_base.specs.StateEffecter.{state_value}
+use Rattle.record_base.specs.declared.attribute.Attribute.{Attribute}
+use Rattle.record_base.specs.Attribute.{attribute_value}
+use Rattle.record_base.specs.AttributeLaws.{begins_long}
+use Rattle.record_base.specs.Keys.{is_length, slot}
+use Rattle.record_base.specs.KeyLaws.{exact_key}
+use Rattle.record_base.specs.Distinct.{NamesDiffer}
 use Rattle.cfg_records.specs.Records.{Pair, key_in, value_of, records_of, KeysDiffer, LengthsFit}
-use Rattle.cfg_records.specs.declared.channel.AccessStore.{AccessStore}
-use Rattle.cfg_records.specs.declared.channel.AccessStore.TheVariants.{NonVolatile, Volatile, Neither}
-use Rattle.cfg_records.specs.Numbers.{number_on}
-use Rattle.cfg_records.specs.Boards.{policy_value, settings_value, enables_value, boot_value, number_value, stored, access_value, kinds_of, pairs_of}
-use Rattle.cfg_records.proofs.Names.{NamesDiffer-map, NamesDiffer-append}
+use Rattle.record_base.specs.declared.channel.AccessStore.{AccessStore}
+use Rattle.record_base.specs.declared.channel.AccessStore.TheVariants.{NonVolatile, Volatile, Neither}
+use Rattle.record_base.specs.Numbers.{number_on}
+use Rattle.record_base.specs.Values.{policy_value, settings_value, enables_value, boot_value, number_value, stored, access_value}
+use Rattle.cfg_records.specs.Boards.{kinds_of, pairs_of}
+use Rattle.record_base.proofs.Names.{NamesDiffer-map, NamesDiffer-append}
 use Rattle.cfg_records.proofs.Searches.{find_some}
 use Rattle.cfg_records.proofs.Pairs.{has_key}
 

@@ -1,10 +1,5 @@
-pub mod MaskBits
-pub mod Orders
 pub mod Searches
-pub mod Names
 pub mod Nowhere
-pub mod Numbers
 pub mod Pairs
 pub mod BoardPairs
-pub mod Operations
 pub mod Placed

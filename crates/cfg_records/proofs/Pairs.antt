@@ -4,11 +4,11 @@ use Rattle.std.proofs.lemmas.List.{length-take}
 use Rattle.std.specs.List.{find}
 use Rattle.std.specs.Option.{option_map, option_or}
 use Rattle.std.proofs.lemmas.List.Folds.{find-append}
-use Rattle.cfg_records.specs.declared.key.Key.{Key}
-use Rattle.cfg_records.specs.Keys.{same_key}
-use Rattle.cfg_records.specs.KeyLaws.{exact_key, same_key_self}
+use Rattle.record_base.specs.declared.key.Key.{Key}
+use Rattle.record_base.specs.Keys.{same_key}
+use Rattle.record_base.specs.KeyLaws.{exact_key, same_key_self}
 use Rattle.cfg_records.specs.Records.{with_record, Pair, value_of, key_in, records_of, KeysDiffer}
-use Rattle.cfg_records.proofs.Names.{NamesDiffer-push}
+use Rattle.record_base.proofs.Names.{NamesDiffer-push}
 use Rattle.cfg_records.proofs.Searches.{find_none, find_some}
 
 -- the pair has the key

@@ -3,9 +3,9 @@ use Rattle.std.proofs.Common.{◌≡◌, ◌≢◌, ◌↔◌, ◌<◌, IsNone, 
 use Rattle.std.specs.Option.{option_map}
 use Rattle.std.proofs.lemmas.Option.{slice_get_within}
 use Rattle.std.proofs.lemmas.Bool.Decides.{nat_tests}
-use Rattle.cfg_records.specs.declared.key.Key.{Key}
-use Rattle.cfg_records.specs.Keys.{same_key}
-use Rattle.cfg_records.specs.KeyLaws.{exact_key, same_key_self}
+use Rattle.record_base.specs.declared.key.Key.{Key}
+use Rattle.record_base.specs.Keys.{same_key}
+use Rattle.record_base.specs.KeyLaws.{exact_key, same_key_self}
 use Rattle.cfg_records.specs.Records.{Pair, value_of, with_record}
 use Rattle.cfg_records.specs.Places.{value_at, has_key, ArePlaced}
 

@@ -1,58 +1,29 @@
 -- The records that a board file begins with.
-use Rattle.std.specs.Prelude.{ℕ, List, [], ◌∷◌, ◌++◌, map}
-use Rattle.cfg_records.specs.declared.key.Key.TheVariants as key
-use Rattle.cfg_records.specs.declared.power_policy.PowerPolicy.{PowerPolicy}
-use Rattle.cfg_records.specs.declared.watchdog.Watchdog.{Watchdog}
-use Rattle.cfg_records.specs.declared.global_enables.GlobalEnables.{GlobalEnables}
-use Rattle.cfg_records.specs.declared.numeric_effecter.NumericEffecter.{NumericEffecter}
-use Rattle.cfg_records.specs.declared.channel.AccessStore.TheVariants.{NonVolatile, Volatile}
-use Rattle.cfg_records.specs.declared.channel.ChannelAccess.{ChannelAccess}
-use Rattle.cfg_records.specs.declared.channel.StoredAccess.{StoredAccess}
-use Rattle.cfg_records.specs.declared.channel.ChannelNumber.{ChannelNumber}
-use Rattle.cfg_records.specs.declared.channel.AccessStore.{AccessStore}
+use Rattle.std.specs.Prelude.{List, [], ◌∷◌, ◌++◌, map}
+use Rattle.record_base.specs.declared.key.Key.TheVariants as key
+use Rattle.record_base.specs.declared.channel.AccessStore.TheVariants.{NonVolatile, Volatile}
 use Rattle.cfg_records.specs.declared.board_file.BoardFile.{BoardFile}
-use Rattle.cfg_records.specs.Watchdog.{watchdog_value}
-use Rattle.cfg_records.specs.declared.boot_param.BootOptions.{BootOptions}
-use Rattle.cfg_records.specs.declared.boot_param.BootParameter.{BootParameter}
-use Rattle.cfg_records.specs.declared.boot_param.BootParameter.TheVariants.{ValidBitClearing, InfoAcknowledge, Flags}
-use Rattle.cfg_records.specs.BootParam.{flag_bytes}
-use Rattle.cfg_records.specs.NumericSize.{bytes_of}
-use Rattle.cfg_records.specs.StateEffecter.{state_value}
-use Rattle.cfg_records.specs.Attribute.{attribute_value}
+use Rattle.record_base.specs.declared.boot_param.BootParameter.TheVariants.{ValidBitClearing, InfoAcknowledge, Flags}
+use Rattle.record_base.specs.StateEffecter.{state_value}
+use Rattle.record_base.specs.Attribute.{attribute_value}
 use Rattle.cfg_records.specs.Records.{Pair}
-use Rattle.cfg_records.specs.Sensor.{sensor_kinds}
-
--- the values of what a board has once
-abbrev pub policy_value : PowerPolicy → List ℕ
-policy_value policy = policy.number ∷ []
-
-abbrev pub settings_value : Watchdog → List ℕ
-settings_value watchdog = watchdog_value watchdog.timer_use watchdog.actions watchdog.pre_timeout watchdog.initial
-
-abbrev pub enables_value : GlobalEnables → List ℕ
-enables_value enables = enables.byte ∷ []
-
--- the value of a numeric effecter
-abbrev pub number_value : NumericEffecter → List ℕ
-number_value effecter = bytes_of effecter.range.size effecter.current
-
--- the access of a channel in one of its stores, and its value
-abbrev pub stored : ChannelNumber → AccessStore → StoredAccess
-stored channel store = record { channel = channel; store = store }
-
-abbrev pub access_value : ChannelAccess → List ℕ
-access_value a = a.access ∷ a.limit ∷ []
-
--- the value that each boot parameter begins with: no mark is set
-abbrev pub boot_value : BootOptions → BootParameter → List ℕ
-boot_value boot ValidBitClearing = 0 ∷ boot.valid_bit_clearing ∷ []
-boot_value boot InfoAcknowledge = 0 ∷ boot.info_acknowledge ∷ []
-boot_value boot Flags = 0 ∷ flag_bytes boot.flags
+use Rattle.record_base.specs.declared.sensor.Sensor.{Sensor}
+use Rattle.record_base.specs.Sensor.Hysteresis.{hysteresis_value}
+use Rattle.record_base.specs.Sensor.EventEnable.{event_value}
+use Rattle.record_base.specs.Values.{policy_value, settings_value, enables_value, number_value, stored, access_value, boot_value}
 
 -- lists of pairs as one, each behind those before it
 abbrev pub joined : List Pair → List (List Pair) → List Pair
 joined before [] = before
 joined before (pairs ∷ more) = joined (before ++ pairs) more
+
+-- the keys of each kind of record that a sensor has, with their values, in the sensors' order: a line for each kind
+abbrev pub sensor_kinds : List Sensor → List (List Pair)
+sensor_kinds sensors =
+    map (λ s. (key.Thresholds s.number, s.thresholds.values)) sensors
+    ∷ map (λ s. (key.Hysteresis s.number, hysteresis_value s.hysteresis)) sensors
+    ∷ map (λ s. (key.EventEnable s.number, event_value s.events.messages s.events.scanning s.events.enabled)) sensors
+    ∷ []
 
 -- the keys of each kind of record that an effecter has, with their values, in the effecters' order: a line for each kind
 abbrev pub effecter_kinds : BoardFile → List (List Pair)

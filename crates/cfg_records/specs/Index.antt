@@ -1,10 +1,10 @@
 -- Where the record of each key lies.
 use Rattle.std.specs.Prelude.{ℕ, Option, Some, None, [], slice_index_or}
 use Rattle.std.specs.BTreeMap as btree
-use Rattle.cfg_records.specs.declared.key.Key.{Key}
+use Rattle.record_base.specs.declared.key.Key.{Key}
 use Rattle.cfg_records.specs.declared.index.Index.{Index}
 use Rattle.cfg_records.specs.declared.index.SensorPlaces.{SensorPlaces}
-use Rattle.cfg_records.specs.Keys.{key_cmp, slot}
+use Rattle.record_base.specs.Keys.{key_cmp, slot}
 
 -- the place that the tables have there
 abbrev pub place_at : SensorPlaces → (ℕ × ℕ) → Option ℕ

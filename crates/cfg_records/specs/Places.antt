@@ -1,8 +1,8 @@
 -- Where records lie in a store.
 use Rattle.std.specs.Prelude.{◌≡◌, ℕ, List, Option, Some, None, Bool, false, slice_get, IsTrue}
 use Rattle.std.specs.Option.{option_map}
-use Rattle.cfg_records.specs.declared.key.Key.{Key}
-use Rattle.cfg_records.specs.Keys.{same_key}
+use Rattle.record_base.specs.declared.key.Key.{Key}
+use Rattle.record_base.specs.Keys.{same_key}
 use Rattle.cfg_records.specs.Records.{Pair, value_of}
 
 -- the place is a key's

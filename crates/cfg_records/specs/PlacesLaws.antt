@@ -1,7 +1,7 @@
 -- A list has at most one proof that its places are those of its keys.
 use Rattle.std.proofs.Props.{props}
 use Rattle.std.specs.Prelude.{ℕ, List, Option}
-use Rattle.cfg_records.specs.declared.key.Key.{Key}
+use Rattle.record_base.specs.declared.key.Key.{Key}
 use Rattle.cfg_records.specs.Records.{Pair}
 use Rattle.cfg_records.specs.Places.{ArePlaced}
 

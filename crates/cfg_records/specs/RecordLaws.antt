@@ -1,8 +1,8 @@
 -- Records that are written.
 use Rattle.std.proofs.Common.{◌≡◌, List, ℕ, Some, Bool, true, false, if◌then◌else◌, refl, ap, sym, ◌∙◌}
-use Rattle.cfg_records.specs.declared.key.Key.{Key}
-use Rattle.cfg_records.specs.Keys.{same_key}
-use Rattle.cfg_records.specs.KeyLaws.{exact_key, same_key_self}
+use Rattle.record_base.specs.declared.key.Key.{Key}
+use Rattle.record_base.specs.Keys.{same_key}
+use Rattle.record_base.specs.KeyLaws.{exact_key, same_key_self}
 use Rattle.cfg_records.specs.Records.{Records, with_record}
 
 -- a value that is written is there

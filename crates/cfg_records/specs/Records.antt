@@ -1,9 +1,9 @@
 -- Records, as a map from keys to values.
 use Rattle.std.specs.Prelude.{ℕ, List, Option, Some, if◌then◌else◌, find, All, length, IsTrue}
 use Rattle.std.specs.Option.{option_map}
-use Rattle.cfg_records.specs.declared.key.Key.{Key}
-use Rattle.cfg_records.specs.Keys.{same_key, is_length}
-use Rattle.cfg_records.specs.Distinct.{NamesDiffer}
+use Rattle.record_base.specs.declared.key.Key.{Key}
+use Rattle.record_base.specs.Keys.{same_key, is_length}
+use Rattle.record_base.specs.Distinct.{NamesDiffer}
 
 -- what each key has
 abbrev pub Records : Type 0

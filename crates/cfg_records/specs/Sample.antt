@@ -1,22 +1,22 @@
 -- The sample board.
 use Rattle.std.specs.Prelude.{◌≡◌, ℕ, List, [], ◌∷◌, map, replicate, false}
-use Rattle.cfg_records.specs.declared.sensor.Sensor.{Sensor}
-use Rattle.cfg_records.specs.declared.watchdog.Watchdog.{Watchdog}
-use Rattle.cfg_records.specs.declared.device.Device.{Device}
+use Rattle.record_base.specs.declared.sensor.Sensor.{Sensor}
+use Rattle.record_base.specs.declared.watchdog.Watchdog.{Watchdog}
+use Rattle.record_base.specs.declared.device.Device.{Device}
 use Rattle.cfg_records.specs.declared.board_file.BoardFile.{BoardFile}
-use Rattle.cfg_records.specs.declared.boot_param.BootOptions.{BootOptions}
-use Rattle.cfg_records.specs.BootParam.{flag_bytes}
-use Rattle.cfg_records.specs.declared.channel.Channel.{Channel}
-use Rattle.cfg_records.specs.declared.user.User.{User}
-use Rattle.cfg_records.specs.declared.user.UserAccess.{UserAccess}
-use Rattle.cfg_records.specs.Boards.{access_value, joined}
-use Rattle.cfg_records.specs.Sensor.{sensor_kinds}
-use Rattle.cfg_records.specs.declared.attribute.Attribute.{Attribute}
-use Rattle.cfg_records.specs.declared.attribute.AttributeKind.{AttributeKind}
-use Rattle.cfg_records.specs.declared.attribute.AttributeKind.TheVariants.{Enumeration, Text, Integer}
-use Rattle.cfg_records.specs.declared.attribute.EnumerationAttribute.{EnumerationAttribute}
-use Rattle.cfg_records.specs.declared.attribute.StringAttribute.{StringAttribute}
-use Rattle.cfg_records.specs.declared.attribute.IntegerAttribute.{IntegerAttribute}
+use Rattle.record_base.specs.declared.boot_param.BootOptions.{BootOptions}
+use Rattle.record_base.specs.BootParam.{flag_bytes}
+use Rattle.record_base.specs.declared.channel.Channel.{Channel}
+use Rattle.record_base.specs.declared.user.User.{User}
+use Rattle.record_base.specs.declared.user.UserAccess.{UserAccess}
+use Rattle.record_base.specs.Values.{access_value}
+use Rattle.cfg_records.specs.Boards.{joined, sensor_kinds}
+use Rattle.record_base.specs.declared.attribute.Attribute.{Attribute}
+use Rattle.record_base.specs.declared.attribute.AttributeKind.{AttributeKind}
+use Rattle.record_base.specs.declared.attribute.AttributeKind.TheVariants.{Enumeration, Text, Integer}
+use Rattle.record_base.specs.declared.attribute.EnumerationAttribute.{EnumerationAttribute}
+use Rattle.record_base.specs.declared.attribute.StringAttribute.{StringAttribute}
+use Rattle.record_base.specs.declared.attribute.IntegerAttribute.{IntegerAttribute}
 
 -- what Get Device ID says of the sample board
 pub record IsSampleDevice (device : Device) : Type 0 where

@@ -1,19 +1,9 @@
 //! What a board begins with.
-use crate::attribute::Attributes;
-use crate::boot_param::{BootOptions, BootParameter};
-use crate::channel::{Channels, SessionlessChannels};
-use crate::device::Device;
-use crate::global_enables::GlobalEnables;
-use crate::key::Key;
-use crate::log_capacity::LogCapacity;
-use crate::numeric_effecter::NumericEffecters;
-use crate::power_policy::PowerPolicy;
-use crate::sdr_record::SdrRecords;
-use crate::sensor::Sensors;
-use crate::state_effecter::StateEffecters;
-use crate::user::{UserAccesses, Users};
-use crate::value::Value;
-use crate::watchdog::Watchdog;
+use record_base::{
+    Attributes, BootOptions, BootParameter, Channels, Device, GlobalEnables, Key, LogCapacity,
+    NumericEffecters, PowerPolicy, SdrRecords, Sensors, SessionlessChannels, StateEffecters,
+    UserAccesses, Users, Value, Watchdog,
+};
 use std::alloc::{AllocError, Global};
 
 /// What a board begins with: what never changes of it, and the values of its records. The type of each part says what it can be.
@@ -46,8 +36,7 @@ pub struct BoardFile {
 impl BoardFile {
     ghost use Rattle.std.specs.Prelude.{◌≡◌, [], IfOk, OnOk};
     ghost use Rattle.cfg_records.specs.Records.{KeysDiffer, LengthsFit};
-    ghost use Rattle.cfg_records.specs.Boards.{joined, effecter_kinds, access_kinds, item_kinds, attribute_pairs, pairs_of};
-    ghost use Rattle.cfg_records.specs.Sensor.{sensor_kinds};
+    ghost use Rattle.cfg_records.specs.Boards.{joined, effecter_kinds, access_kinds, item_kinds, attribute_pairs, pairs_of, sensor_kinds};
 
     /// The records of its sensors: a line for each kind.
     fn sensor_records(&self, alloc: Global) -> Result<Vec<(Key, Value)>, AllocError>

@@ -1,10 +1,11 @@
 //! The place of each record, found by its key.
 ghost use Rattle.std.specs.Prelude.{◌≡◌, ℕ, Some, None, IfOk, slice_index_or, slice_set, if◌then◌else◌};
-ghost use Rattle.cfg_records.specs.declared.key.Key.{Key as AnyKey};
-ghost use Rattle.cfg_records.specs.Keys.{same_key};
+ghost use Rattle.record_base.specs.declared.key.Key.{Key as AnyKey};
+ghost use Rattle.record_base.specs.Keys.{same_key};
 ghost use Rattle.cfg_records.specs.Index.{place_at, place_of};
 
-use crate::key::{Key, SENSOR_KINDS};
+use record_base::Key;
+use record_base::key::SENSOR_KINDS;
 use std::alloc::{AllocError, Global};
 use std::collections::BTreeMap;
 

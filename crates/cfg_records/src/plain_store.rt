@@ -8,9 +8,8 @@ ghost use Rattle.cfg_records.specs.Records.{records_of, KeysDiffer, LengthsFit};
 
 use crate::board_file::BoardFile;
 use crate::index::Index;
-use crate::key::Key;
 use crate::store::Store;
-use crate::value::Value;
+use record_base::{Key, Value};
 use std::alloc::{AllocError, Global};
 
 /// Why no store is made: the first that holds.

@@ -2,27 +2,15 @@
 ghost use Rattle.std.specs.Prelude.{◌≡◌, [], ◌∷◌, IfOk, false};
 ghost use Rattle.cfg_records.specs.Sample.{IsSampleDevice, IsTemperature, IsFan, IsUnset, sample_record, IsSampleBoot, AreSampleUsers, AreSampleChannels, AreSampleAccesses, IsQuiet, IsAsset, IsDelay, AreSampleAttributes, IsSampleBoard};
 
-use crate::attribute::{
-    Attribute, AttributeKind, Attributes, EnumerationAttribute, Indexes, IntegerAttribute,
-    StringAttribute, Text,
-};
-use crate::attribute_range::{IntegerSteps, TextLengths};
 use crate::board_file::BoardFile;
-use crate::boot_param::{BootFlags, BootOptions};
-use crate::channel::{Channel, ChannelAccess, ChannelNumber, Channels};
-use crate::device::{Bcd, Device, ManufacturerId};
-use crate::distinct::Distinct;
-use crate::event_enable::{EventEnable, EventMasks};
-use crate::global_enables::GlobalEnables;
-use crate::hysteresis::Hysteresis;
-use crate::log_capacity::LogCapacity;
-use crate::power_policy::PowerPolicy;
-use crate::sdr_record::{SdrRecord, SdrRecords};
-use crate::sensor::Sensor;
-use crate::sensor_thresholds::Thresholds;
-use crate::thresholds::ThresholdMasks;
-use crate::user::{User, UserAccess, UserAccesses, UserNumber, UserOnChannel, Users};
-use crate::watchdog::Watchdog;
+use record_base::{
+    Attribute, AttributeKind, Attributes, Bcd, BootFlags, BootOptions, Channel, ChannelAccess,
+    ChannelNumber, Channels, Device, Distinct, EnumerationAttribute, EventEnable, EventMasks,
+    GlobalEnables, Hysteresis, Indexes, IntegerAttribute, IntegerSteps, LogCapacity,
+    ManufacturerId, PowerPolicy, SdrRecord, SdrRecords, Sensor, StringAttribute, Text, TextLengths,
+    ThresholdMasks, Thresholds, User, UserAccess, UserAccesses, UserNumber, UserOnChannel, Users,
+    Watchdog,
+};
 use std::alloc::{AllocError, Global};
 
 /// A temperature sensor, all of whose thresholds can be read and set.

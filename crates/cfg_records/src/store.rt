@@ -1,11 +1,11 @@
 //! Where records are kept.
 ghost use Rattle.std.specs.Prelude.{◌≡◌, ◌↔◌, Some, Option, IsNone, IsErr, OnOk, OnErr, IsTrue, length};
 ghost use Rattle.std.specs.Option.{option_copied};
-ghost use Rattle.cfg_records.specs.Keys.{is_length};
+ghost use Rattle.record_base.specs.Keys.{is_length};
 ghost use Rattle.cfg_records.specs.Places.{IsPlace};
 ghost use Rattle.cfg_records.specs.Records.{Records, with_record};
 
-use crate::key::Key;
+use record_base::Key;
 
 /// No record has the key.
 #[derive(Clone, Copy, Debug, PartialEq, Eq)]
@@ -13,7 +13,7 @@ pub struct NoKey;
 
 /// Records by their keys. The keys never change, nor does the place of a key's record.
 pub trait Store: Drop {
-    ghost use Rattle.cfg_records.specs.declared.key.Key.{Key};
+    ghost use Rattle.record_base.specs.declared.key.Key.{Key};
 
     /// Where a record lies.
     type Place: Copy;

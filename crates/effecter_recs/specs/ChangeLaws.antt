@@ -3,9 +3,9 @@ use Rattle.std.proofs.Common.{◌≡◌, ℕ, ◌*◌, ◌<◌, ◌≤◌, List,
 use Rattle.std.proofs.Props.{props}
 use Rattle.std.specs.List.{list_any, list_all}
 use Rattle.std.proofs.lemmas.List.{length-take, take_all}
-use Rattle.cfg_records.specs.MaskLaws.{both}
-use Rattle.cfg_records.specs.declared.field_changes.FieldChange.{FieldChange}
-use Rattle.cfg_records.specs.declared.state_effecter.SetStateEffecter.{SetStateEffecter}
+use Rattle.record_base.specs.MaskLaws.{both}
+use Rattle.record_base.specs.declared.field_changes.FieldChange.{FieldChange}
+use Rattle.record_base.specs.declared.state_effecter.SetStateEffecter.{SetStateEffecter}
 use Rattle.effecter_recs.specs.FieldChanges.{set_to, leave, is_set, is_choice, is_plain_change, changed, changed_states, change_bytes, changes_of, shown_fields, shown_states, undo_changes}
 
 -- ---- how many there are

@@ -1,6 +1,6 @@
 -- Changes of the fields of a state effecter, and what a Get reply shows of its fields (DSP0248).
 use Rattle.std.specs.Prelude.{ℕ, List, [], ◌∷◌, drop, slice_index, Bool, true, nat_le, not, ◌==◌, ◌&&◌, ◌||◌, if◌then◌else◌}
-use Rattle.cfg_records.specs.declared.field_changes.FieldChange.{FieldChange}
+use Rattle.record_base.specs.declared.field_changes.FieldChange.{FieldChange}
 use Rattle.effecter_recs.specs.Requests.{enabled_state}
 
 -- the change that sets a field to a state, and the one that leaves it: its state is ignored, so it is 0

@@ -1,9 +1,9 @@
 -- NumericEffecter as one value, and where it stands among all kinds.
 use Rattle.std.specs.Prelude.{ℕ}
-use Rattle.cfg_records.specs.declared.numeric_effecter.SetNumericEffecter.{SetNumericEffecter}
-use Rattle.cfg_records.specs.Kind.{Kind}
-use Rattle.cfg_records.specs.Member.{Member}
-use Rattle.cfg_records.specs.Reader.{Reader}
+use Rattle.record_base.specs.declared.numeric_effecter.SetNumericEffecter.{SetNumericEffecter}
+use Rattle.record_base.specs.Kind.{Kind}
+use Rattle.record_base.specs.Member.{Member}
+use Rattle.record_base.specs.Reader.{Reader}
 use Rattle.effecter_recs.specs.Requests.{id_in}
 use Rattle.effecter_recs.specs.declared.numeric.NumericLimits.{NumericLimits}
 use Rattle.effecter_recs.specs.Numeric.{numeric_effecter_in, words, record_words, place}

@@ -3,17 +3,17 @@ use Rattle.std.proofs.Common.{◌≡◌, ℕ, ◌≤◌, List, [], ◌∷◌, �
 use Rattle.std.proofs.Math.Seq.{drop-append_seam}
 use Rattle.std.proofs.lemmas.Bool.Decides.{nat_tests}
 use Rattle.two_wire.specs.Codes.{pldm_invalid_data, pldm_invalid_length}
-use Rattle.cfg_records.specs.declared.numeric_size.NumericSize.{NumericSize}
-use Rattle.cfg_records.specs.declared.numeric_size.NumericSize.TheVariants.{U8, S8, U16, S16, U32, S32}
-use Rattle.cfg_records.specs.declared.numeric_range.NumericRange.{NumericRange}
-use Rattle.cfg_records.specs.declared.numeric_effecter.SetNumericEffecter.{SetNumericEffecter}
-use Rattle.cfg_records.specs.MaskLaws.{both_true, both}
-use Rattle.cfg_records.specs.Meaning.{Decides, IsRefusal}
-use Rattle.cfg_records.specs.InverseLaws.{some_where, made_where, tested_same, same_tested}
-use Rattle.cfg_records.specs.Kind.{KindLaws, RecordLaws}
-use Rattle.cfg_records.specs.NumericSize.{code_of, width_of}
-use Rattle.cfg_records.specs.NumericEffecter.{IsNumeric, is_numeric}
-use Rattle.cfg_records.specs.PartLaws.{IsNumeric-prop}
+use Rattle.record_base.specs.declared.numeric_size.NumericSize.{NumericSize}
+use Rattle.record_base.specs.declared.numeric_size.NumericSize.TheVariants.{U8, S8, U16, S16, U32, S32}
+use Rattle.record_base.specs.declared.numeric_range.NumericRange.{NumericRange}
+use Rattle.record_base.specs.declared.numeric_effecter.SetNumericEffecter.{SetNumericEffecter}
+use Rattle.record_base.specs.MaskLaws.{both_true, both}
+use Rattle.record_base.specs.Meaning.{Decides, IsRefusal}
+use Rattle.record_base.specs.InverseLaws.{some_where, made_where, tested_same, same_tested}
+use Rattle.record_base.specs.Kind.{KindLaws, RecordLaws}
+use Rattle.record_base.specs.NumericSize.{code_of, width_of}
+use Rattle.record_base.specs.NumericEffecter.{IsNumeric, is_numeric}
+use Rattle.record_base.specs.PartLaws.{IsNumeric-prop}
 use Rattle.effecter_recs.specs.declared.numeric.NumericLimits.{NumericLimits}
 use Rattle.effecter_recs.specs.Numeric.{value_bytes, value_of, SetsNumeric, is_accepted, numeric_view, said_width, IsNumericReply, present_in, is_enabled_reply, undo_numeric, words, record_words}
 

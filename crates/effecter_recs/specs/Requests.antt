@@ -1,7 +1,7 @@
 -- Requests to effecters (DSP0248).
 use Rattle.std.specs.Prelude.{ℕ, ◌+◌, ◌*◌, ◌/◌, ◌%◌, List, [], ◌∷◌, Bool, if◌then◌else◌}
-use Rattle.cfg_records.specs.declared.message.Asked.{Asked}
-use Rattle.cfg_records.specs.Requests.{platform, pldm_request, byte_at}
+use Rattle.record_base.specs.declared.message.Asked.{Asked}
+use Rattle.record_base.specs.Requests.{platform, pldm_request, byte_at}
 
 -- the request of platform monitoring and control with this command and data: from nobody
 abbrev pub effecter_request : ℕ → List ℕ → Asked

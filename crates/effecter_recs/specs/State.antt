@@ -2,16 +2,16 @@
 use Rattle.std.specs.Prelude.{◌≡◌, ℕ, ◌+◌, ◌*◌, ◌≤◌, List, [], ◌∷◌, ◌++◌, drop, take, length, slice_index, Bool, nat_le, not, ◌&&◌, ◌||◌, ◌==◌, IsTrue, if◌then◌else◌, Result, Ok, Err, Option, Some, None, refl}
 use Rattle.std.specs.List.{list_any, list_all}
 use Rattle.two_wire.specs.Codes.{pldm_invalid_data, pldm_invalid_state}
-use Rattle.cfg_records.specs.declared.key.Key.{Key}
-use Rattle.cfg_records.specs.declared.key.Key.TheVariants as key
-use Rattle.cfg_records.specs.declared.op.Op.{Op}
-use Rattle.cfg_records.specs.declared.op.Op.TheVariants as op
-use Rattle.cfg_records.specs.declared.field_changes.FieldChange.{FieldChange}
-use Rattle.cfg_records.specs.declared.state_effecter.StateEffecter.{StateEffecter}
-use Rattle.cfg_records.specs.declared.state_effecter.SetStateEffecter.{SetStateEffecter}
-use Rattle.cfg_records.specs.StateEffecter.{are_states}
-use Rattle.cfg_records.specs.Kind.{KindWords, RecordWords}
-use Rattle.cfg_records.specs.AllKinds.{Place}
+use Rattle.record_base.specs.declared.key.Key.{Key}
+use Rattle.record_base.specs.declared.key.Key.TheVariants as key
+use Rattle.record_base.specs.declared.op.Op.{Op}
+use Rattle.record_base.specs.declared.op.Op.TheVariants as op
+use Rattle.record_base.specs.declared.field_changes.FieldChange.{FieldChange}
+use Rattle.record_base.specs.declared.state_effecter.StateEffecter.{StateEffecter}
+use Rattle.record_base.specs.declared.state_effecter.SetStateEffecter.{SetStateEffecter}
+use Rattle.record_base.specs.StateEffecter.{are_states}
+use Rattle.record_base.specs.Kind.{KindWords, RecordWords}
+use Rattle.record_base.specs.AllKinds.{Place}
 use Rattle.effecter_recs.specs.Requests.{effecter_request, id_bytes, id_in, operational_state}
 use Rattle.effecter_recs.specs.FieldChanges.{is_set, is_choice, is_plain_change, changed_states, change_bytes, changes_of, shown_fields, shown_states, are_enabled, undo_changes}
 use Rattle.effecter_recs.specs.ChangeLaws.{nine_taken, few_undone}

@@ -1,10 +1,10 @@
 -- StateEffecter as one value, and where it stands among all kinds. The limits of a record are its effecter, where the board file has it.
 use Rattle.std.specs.Prelude.{ℕ}
-use Rattle.cfg_records.specs.declared.state_effecter.StateEffecter.{StateEffecter}
-use Rattle.cfg_records.specs.declared.state_effecter.SetStateEffecter.{SetStateEffecter}
-use Rattle.cfg_records.specs.Kind.{Kind}
-use Rattle.cfg_records.specs.Member.{Member}
-use Rattle.cfg_records.specs.Reader.{Reader}
+use Rattle.record_base.specs.declared.state_effecter.StateEffecter.{StateEffecter}
+use Rattle.record_base.specs.declared.state_effecter.SetStateEffecter.{SetStateEffecter}
+use Rattle.record_base.specs.Kind.{Kind}
+use Rattle.record_base.specs.Member.{Member}
+use Rattle.record_base.specs.Reader.{Reader}
 use Rattle.effecter_recs.specs.Requests.{id_in}
 use Rattle.effecter_recs.specs.State.{state_effecter_in, words, record_words, place}
 use Rattle.effecter_recs.specs.StateLaws.{kind_laws, record_laws}

@@ -3,14 +3,14 @@ use Rattle.std.proofs.Common.{◌≡◌, ℕ, ◌≤◌, List, length, drop, Boo
 use Rattle.std.proofs.Props.{props}
 use Rattle.std.proofs.lemmas.Bool.Decides.{nat_tests}
 use Rattle.two_wire.specs.Codes.{pldm_invalid_data, pldm_invalid_state}
-use Rattle.cfg_records.specs.declared.state_effecter.StateEffecter.{StateEffecter}
-use Rattle.cfg_records.specs.declared.state_effecter.SetStateEffecter.{SetStateEffecter}
-use Rattle.cfg_records.specs.MaskLaws.{both_true, both}
-use Rattle.cfg_records.specs.Meaning.{Decides, IsRefusal}
-use Rattle.cfg_records.specs.InverseLaws.{some_where, made_where, tested_same, same_tested}
-use Rattle.cfg_records.specs.Kind.{KindLaws, RecordLaws}
-use Rattle.cfg_records.specs.StateEffecter.{are_states}
-use Rattle.cfg_records.specs.StateLaws.{as_many}
+use Rattle.record_base.specs.declared.state_effecter.StateEffecter.{StateEffecter}
+use Rattle.record_base.specs.declared.state_effecter.SetStateEffecter.{SetStateEffecter}
+use Rattle.record_base.specs.MaskLaws.{both_true, both}
+use Rattle.record_base.specs.Meaning.{Decides, IsRefusal}
+use Rattle.record_base.specs.InverseLaws.{some_where, made_where, tested_same, same_tested}
+use Rattle.record_base.specs.Kind.{KindLaws, RecordLaws}
+use Rattle.record_base.specs.StateEffecter.{are_states}
+use Rattle.record_base.specs.StateLaws.{as_many}
 use Rattle.effecter_recs.specs.Requests.{operational_state}
 use Rattle.effecter_recs.specs.FieldChanges.{changed_states, shown_fields, undo_changes}
 use Rattle.effecter_recs.specs.ChangeLaws.{as_many_undone, three_each, same_set, undo_chooses, undo_is_plain, states_back, states_told}

@@ -5,7 +5,7 @@ ghost use Rattle.effecter_recs.specs.FieldChanges.{is_set, is_choice, changed_st
 
 use crate::numeric::behind;
 use crate::request::ENABLED;
-use cfg_records::{FieldChange, FieldChanges, byte_at};
+use record_base::{FieldChange, FieldChanges, byte_at};
 use two_wire::{Buffer, Bytes};
 
 /// The first byte of a change that leaves its field, and of one that sets it.

@@ -3,7 +3,7 @@ ghost use Rattle.std.specs.Prelude.{◌≡◌, ◌+◌, ◌≤◌, drop, length}
 ghost use Rattle.effecter_recs.specs.Numeric.{value_bytes, value_of, numeric_body, numeric_effecter_in, said_width, present_in, is_enabled_reply};
 
 use crate::request::{ENABLED, effecter_request, id_bytes, id_in, operational_state};
-use cfg_records::{
+use record_base::{
     Asked, CommandReader, Key, Live, NumericBytes, NumericEffecter, NumericRange, Op, RecordData,
     RecordKind, SetNumericEffecter, Value, byte_at,
 };
@@ -108,7 +108,7 @@ fn is_enabled_reply(reply: &[u8]) -> bool
 
 impl NumericLimits {
     ghost use Rattle.std.specs.Prelude.{OnErr};
-    ghost use Rattle.cfg_records.specs.Meaning.{told};
+    ghost use Rattle.record_base.specs.Meaning.{told};
     ghost use Rattle.effecter_recs.specs.Numeric.{numeric_outcome};
 
     /// The limits that an effecter gives.

@@ -3,7 +3,7 @@ ghost use Rattle.std.specs.Prelude.{◌≡◌, ◌≤◌, length};
 ghost use Rattle.two_wire.specs.Sizes.{most_pldm_request_data};
 ghost use Rattle.effecter_recs.specs.Requests.{effecter_request, id_bytes, id_in, operational_state};
 
-use cfg_records::{Asked, byte_at};
+use record_base::{Asked, byte_at};
 use two_wire::Below;
 
 /// The PLDM type of platform monitoring and control.

@@ -7,7 +7,7 @@ use crate::field_changes::{
 };
 use crate::numeric::behind;
 use crate::request::{effecter_request, id_bytes, id_in, operational_state};
-use cfg_records::{
+use record_base::{
     Asked, CommandReader, FieldChange, Key, Live, Op, RecordData, RecordKind, SetStateEffecter,
     StateEffecter, Value, byte_at,
 };
@@ -28,7 +28,7 @@ pub struct StateLimits<'f> {
 }
 
 impl<'f> Model for StateLimits<'f> {
-    ghost use Rattle.cfg_records.specs.declared.state_effecter.StateEffecter.{StateEffecter};
+    ghost use Rattle.record_base.specs.declared.state_effecter.StateEffecter.{StateEffecter};
 
     ghost Value = { StateEffecter };
 
@@ -89,7 +89,7 @@ fn undo_states(op: &SetStateEffecter, reply: &[u8]) -> SetStateEffecter
 
 impl<'f> StateLimits<'f> {
     ghost use Rattle.std.specs.Prelude.{OnErr};
-    ghost use Rattle.cfg_records.specs.Meaning.{told};
+    ghost use Rattle.record_base.specs.Meaning.{told};
     ghost use Rattle.effecter_recs.specs.State.{fits_effecter, state_outcome};
 
     /// The limits that an effecter gives.

@@ -14,7 +14,7 @@ use Rattle.file_fields.specs.Ranges.{passes, is_number, can_be, are_present, is_
 use Rattle.file_fields.proofs.Rows.{Sound, not_false}
 use Rattle.file_fields.specs.declared.field.Field.{Field}
 use Rattle.std.proofs.lemmas.Slice.Zip.{AllZip-long, all_zipped_more}
-use Rattle.cfg_records.specs.AttributeRangeLaws.{true_le}
+use Rattle.record_base.specs.AttributeRangeLaws.{true_le}
 use Rattle.file_fields.specs.Attributes.{is_below, are_indexes}
 
 -- there are as many states as fields

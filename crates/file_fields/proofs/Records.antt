@@ -5,7 +5,7 @@ use Rattle.std.proofs.lemmas.Bool.Decides.{nat_tests}
 use Rattle.hex.specs.Hex.{decode_of, decode_pairs}
 use Rattle.hex.specs.declared.error.FromHexError.{FromHexError}
 use Rattle.hex.proofs.HexLemmas.{decode_pairs-ok}
-use Rattle.cfg_records.specs.Sdr.{sdr_id, IsSdrRecord}
+use Rattle.record_base.specs.Sdr.{sdr_id, IsSdrRecord}
 use Rattle.file_fields.specs.Ranges.{is_record, record_of}
 
 -- ---- the test that bytes are a record

@@ -3,9 +3,9 @@ use Rattle.std.proofs.Common.{◌≡◌, ℕ, zero, suc, ◌≤◌, nat_le, true
 use Rattle.std.proofs.lemmas.Bool.{and_parts}
 use Rattle.std.proofs.lemmas.Bool.Decides.{nat_tests}
 use Rattle.toml.specs.Data.{Data, Members}
-use Rattle.cfg_records.specs.declared.numeric_size.NumericSize.{NumericSize}
-use Rattle.cfg_records.specs.declared.numeric_size.NumericSize.TheVariants.{U8, S8, U16, S16, U32, S32}
-use Rattle.cfg_records.specs.NumericSize.{code_of}
+use Rattle.record_base.specs.declared.numeric_size.NumericSize.{NumericSize}
+use Rattle.record_base.specs.declared.numeric_size.NumericSize.TheVariants.{U8, S8, U16, S16, U32, S32}
+use Rattle.record_base.specs.NumericSize.{code_of}
 use Rattle.file_fields.specs.declared.field.Field.{Field}
 use Rattle.file_fields.specs.declared.field.Field.TheVariants as field
 use Rattle.file_fields.specs.declared.row.Shape.TheVariants as shape

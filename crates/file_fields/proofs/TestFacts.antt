@@ -1,9 +1,9 @@
 -- Tests beside the facts that they stand for.
 use Rattle.std.proofs.Common.{◌≡◌, ℕ, List, length, Bool, true, false, ◌&&◌, ◌↔◌, Option, is_some, IsSome, refl, sym}
 use Rattle.std.proofs.lemmas.Bool.{and_parts}
-use Rattle.cfg_records.specs.declared.thresholds.ThresholdMasks.{ThresholdMasks}
-use Rattle.cfg_records.specs.Sensor.Thresholds.{IsThresholds, is_clear, is_in_order}
-use Rattle.cfg_records.specs.ThresholdLaws.{tests_pass, value_is_clear, true_in_order}
+use Rattle.record_base.specs.declared.thresholds.ThresholdMasks.{ThresholdMasks}
+use Rattle.record_base.specs.Sensor.Thresholds.{IsThresholds, is_clear, is_in_order}
+use Rattle.record_base.specs.ThresholdLaws.{tests_pass, value_is_clear, true_in_order}
 use Rattle.file_fields.specs.Ranges.{are_thresholds}
 
 -- two tests that hold together

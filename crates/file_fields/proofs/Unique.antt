@@ -7,9 +7,9 @@ use Rattle.std.specs.Int.{bit_at}
 use Rattle.std.specs.List.{AllZip, list_all}
 use Rattle.std.specs.Str.{bytes_eq}
 use mathlib.Core.HLevel.{is_prop→PathP}
-use Rattle.cfg_records.specs.Masks.{has}
-use Rattle.cfg_records.specs.BootParam.{flag_bytes}
-use Rattle.cfg_records.specs.declared.boot_param.BootFlags.{BootFlags}
+use Rattle.record_base.specs.Masks.{has}
+use Rattle.record_base.specs.BootParam.{flag_bytes}
+use Rattle.record_base.specs.declared.boot_param.BootFlags.{BootFlags}
 use Rattle.toml.specs.Data.{Data, Members, as_str}
 use Rattle.file_fields.specs.declared.field.Field.{Field}
 use Rattle.file_fields.specs.Trees.{all_bytes, of_length, bytes_in, naturals, naturals_in, members, in_field, natural, IsNaturalIn, number_in, HasNumbers}

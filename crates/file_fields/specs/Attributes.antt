@@ -2,7 +2,7 @@
 use Rattle.std.specs.Prelude.{ℕ, ◌==◌, ◌-◌, ◌%◌, nat_lt, nat_le, Bool, false, ◌&&◌, ◌||◌, List, length, if◌then◌else◌, Option, Some, None, is_some, option_and_then, codes}
 use Rattle.std.specs.List.{list_all}
 use Rattle.std.specs.Str.{bytes_eq}
-use Rattle.cfg_records.specs.AttributeSizes.{most_text, most_indexes}
+use Rattle.record_base.specs.AttributeSizes.{most_text, most_indexes}
 use Rattle.toml.specs.Data.{Data, Members, as_str}
 use Rattle.file_fields.specs.declared.field.Field.{Field}
 use Rattle.file_fields.specs.Trees.{in_field, natural}

@@ -1,9 +1,9 @@
 -- Channels in files.
 use Rattle.std.specs.Prelude.{ℕ, ◌==◌, ◌%◌, Bool, ◌&&◌, ◌||◌, nat_lt, nat_le, List, if◌then◌else◌, Option, Some, None, option_and_then, codes}
 use Rattle.std.specs.Str.{bytes_eq}
-use Rattle.cfg_records.specs.declared.channel.AccessStore.{AccessStore}
-use Rattle.cfg_records.specs.declared.channel.AccessStore.TheVariants.{NonVolatile, Volatile}
-use Rattle.cfg_records.specs.UserAccess.{is_limit}
+use Rattle.record_base.specs.declared.channel.AccessStore.{AccessStore}
+use Rattle.record_base.specs.declared.channel.AccessStore.TheVariants.{NonVolatile, Volatile}
+use Rattle.record_base.specs.UserAccess.{is_limit}
 use Rattle.toml.specs.Data.{Data, as_str}
 
 -- who gets in over a channel: bits 5:0, of which 2:0, the mode, are at most 3

@@ -2,14 +2,14 @@
 use Rattle.std.specs.Prelude.{ℕ, ◌-◌, ◌==◌, ℤ, pos, negsuc, suc, nat_le, nat_lt, if◌then◌else◌, Bool, false, List, Option, Some, None, option_and_then, option_map, ◌≡◌, [], ◌∷◌}
 use Rattle.std.specs.List.{find}
 use Rattle.toml.specs.Data.{Data, Members, as_integer}
-use Rattle.cfg_records.specs.declared.numeric_size.NumericSize.{NumericSize}
-use Rattle.cfg_records.specs.NumericSize.{code_of, numbers_of, negatives_of, rank, bytes_of}
+use Rattle.record_base.specs.declared.numeric_size.NumericSize.{NumericSize}
+use Rattle.record_base.specs.NumericSize.{code_of, numbers_of, negatives_of, rank, bytes_of}
 use Rattle.file_fields.specs.declared.field.Field.{Field}
 use Rattle.file_fields.specs.declared.field.Field.TheVariants as field
 use Rattle.file_fields.specs.declared.numeric.TheConstants.{SIZES}
 use Rattle.file_fields.specs.Trees.{in_field, number_in}
-use Rattle.cfg_records.specs.declared.numeric_effecter.NumericBytes.{NumericBytes}
-use Rattle.cfg_records.specs.declared.numeric_effecter.NumericBytes.TheVariants as bytes
+use Rattle.record_base.specs.declared.numeric_effecter.NumericBytes.{NumericBytes}
+use Rattle.record_base.specs.declared.numeric_effecter.NumericBytes.TheVariants as bytes
 
 -- the size for which this number stands
 unfoldable pub size_at : ℕ → Option NumericSize

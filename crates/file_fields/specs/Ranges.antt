@@ -2,16 +2,16 @@
 use Rattle.std.specs.Prelude.{◌==◌, ℕ, ◌/◌, ◌%◌, Bool, true, false, ◌&&◌, ◌||◌, not, nat_le, nat_lt, List, [], ◌∷◌, length, slice_index, Option, Some, None, is_some, option_and_then, Result, Ok, Err, ◌+◌, if◌then◌else◌, codes}
 use Rattle.std.specs.Str.{bytes_eq}
 use Rattle.std.specs.List.{list_all, list_any}
-use Rattle.cfg_records.specs.Masks.{has, all_below}
-use Rattle.cfg_records.specs.Sensor.Thresholds.{place_of}
-use Rattle.cfg_records.specs.Sensor.EventEnable.{are_within}
-use Rattle.cfg_records.specs.GlobalEnables.{are_enables}
-use Rattle.cfg_records.specs.UserAccess.{is_limit}
-use Rattle.cfg_records.specs.BootParam.{parameter_at}
-use Rattle.cfg_records.specs.declared.boot_param.BootParameter.{BootParameter}
-use Rattle.cfg_records.specs.declared.boot_param.BootParameter.TheVariants as parameter
-use Rattle.cfg_records.specs.Sdr.{sdr_id}
-use Rattle.cfg_records.specs.AttributeSizes.{most_indexes, most_text}
+use Rattle.record_base.specs.Masks.{has, all_below}
+use Rattle.record_base.specs.Sensor.Thresholds.{place_of}
+use Rattle.record_base.specs.Sensor.EventEnable.{are_within}
+use Rattle.record_base.specs.GlobalEnables.{are_enables}
+use Rattle.record_base.specs.UserAccess.{is_limit}
+use Rattle.record_base.specs.BootParam.{parameter_at}
+use Rattle.record_base.specs.declared.boot_param.BootParameter.{BootParameter}
+use Rattle.record_base.specs.declared.boot_param.BootParameter.TheVariants as parameter
+use Rattle.record_base.specs.Sdr.{sdr_id}
+use Rattle.record_base.specs.AttributeSizes.{most_indexes, most_text}
 use Rattle.hex.specs.Hex.{decode_of}
 use Rattle.hex.specs.declared.error.FromHexError.{FromHexError}
 use Rattle.toml.specs.Data.{Data, Members, as_str, as_integer, as_bool, as_table}
@@ -25,7 +25,7 @@ use Rattle.file_fields.specs.States.{change_of}
 use Rattle.file_fields.specs.Users.{name_of, are_names}
 use Rattle.file_fields.specs.Channels.{is_access, is_channel, is_user_byte, store_of}
 use Rattle.file_fields.specs.Attributes.{text_of, is_kind, are_values, are_indexes, is_as_long, is_stepped}
-use Rattle.cfg_records.specs.declared.watchdog.Watchdog.{Watchdog}
+use Rattle.record_base.specs.declared.watchdog.Watchdog.{Watchdog}
 
 -- the value is an integer
 abbrev pub is_integer : Data → Bool

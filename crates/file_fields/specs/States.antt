@@ -1,7 +1,7 @@
 -- State effecters in plans.
 use Rattle.std.specs.Prelude.{◌==◌, ℤ, pos, negsuc, nat_lt, if◌then◌else◌, Option, Some, None, option_and_then}
 use Rattle.toml.specs.Data.{Data, as_integer}
-use Rattle.cfg_records.specs.declared.field_changes.FieldChange.{FieldChange}
+use Rattle.record_base.specs.declared.field_changes.FieldChange.{FieldChange}
 
 -- what an integer says of a field: the state that it is set to (01h and the state, in a request of DSP0248), or -1 where it is left (00h)
 abbrev pub change_at : ℤ → Option FieldChange

@@ -1,7 +1,7 @@
 //! BIOS attributes in files: their texts, lists and numbers.
 ghost use Rattle.std.specs.Prelude.{◌≡◌, ◌≤◌, true, map, is_some, Some, IsSome, length};
 ghost use Rattle.std.specs.List.{list_all, AllZip};
-ghost use Rattle.cfg_records.specs.AttributeSizes.{most_indexes};
+ghost use Rattle.record_base.specs.AttributeSizes.{most_indexes};
 ghost use Rattle.toml.specs.Data.{as_str};
 ghost use Rattle.toml.specs.View.{view, table_view};
 ghost use Rattle.file_fields.specs.Trees.{natural, IsNaturalIn, members, or_none, members_in};
@@ -11,8 +11,8 @@ ghost use Rattle.file_fields.specs.Ranges.{passes, is_most, is_sized_text, is_up
 use crate::field::Field;
 use crate::row::Shape;
 use crate::tree::{in_field, lacks, members_in, members_of, natural, number};
-use cfg_records::attribute_sizes::{MOST_INDEXES, MOST_TEXT};
-use cfg_records::{Indexes, Text};
+use record_base::attribute_sizes::{MOST_INDEXES, MOST_TEXT};
+use record_base::{Indexes, Text};
 use toml::{Table, Value};
 
 /// The text, where it has at most 200 bytes.

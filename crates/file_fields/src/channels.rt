@@ -8,8 +8,8 @@ ghost use Rattle.file_fields.specs.Channels.{is_access, is_channel, store_named,
 
 use crate::field::Field;
 use crate::tree::{byte_in, bytes, members, natural};
-use cfg_records::user::is_limit;
-use cfg_records::{AccessStore, ChannelNumber};
+use record_base::user::is_limit;
+use record_base::{AccessStore, ChannelNumber};
 use toml::{Table, Value};
 
 /// Whether the value says who gets in over a channel.

@@ -1,12 +1,12 @@
 //! Numbers of numeric effecters: integers of the size that an item names.
 ghost use Rattle.std.specs.Prelude.{◌≡◌, ◌<◌, ◌≤◌, ◌-◌, Some, pos, negsuc};
-ghost use Rattle.cfg_records.specs.NumericSize.{bytes_of, negatives_of, numbers_of};
+ghost use Rattle.record_base.specs.NumericSize.{bytes_of, negatives_of, numbers_of};
 ghost use Rattle.toml.specs.View.{view, table_view};
 ghost use Rattle.file_fields.specs.Numeric.{size_at, size_in, bits_of, sized, sized_in, in_order, AreBytes};
 
 use crate::field::Field;
 use crate::tree::{in_field, number};
-use cfg_records::{NumericBytes, NumericSize};
+use record_base::{NumericBytes, NumericSize};
 use toml::{Table, Value};
 
 /// All sizes of numbers.

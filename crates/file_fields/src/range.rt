@@ -2,7 +2,7 @@
 ghost use Rattle.std.specs.Prelude.{◌≡◌, ◌∷◌, [], ℕ, ◌&&◌, if◌then◌else◌, None, Some, IfSome, is_some, nat_le, length};
 ghost use Rattle.std.specs.List.{list_all};
 ghost use Rattle.hex.specs.Hex.{decode_of};
-ghost use Rattle.cfg_records.specs.BootParam.{flag_bytes, parameter_of, change_bytes};
+ghost use Rattle.record_base.specs.BootParam.{flag_bytes, parameter_of, change_bytes};
 ghost use Rattle.toml.specs.Data.{as_str};
 ghost use Rattle.toml.specs.View.{view, table_view};
 ghost use Rattle.file_fields.specs.Trees.{members, or_none, natural, naturals_in, bytes_in, number_in};
@@ -19,9 +19,9 @@ use crate::row::Shape;
 use crate::states::{are_changes, are_present, are_state_lists};
 use crate::tree::{bytes, members, natural, naturals, number};
 use crate::users::{are_names, is_user_limit, name};
-use cfg_records::event_enable::are_within;
-use cfg_records::sdr_record::MOST_SDR_BYTES;
-use cfg_records::{
+use record_base::event_enable::are_within;
+use record_base::sdr_record::MOST_SDR_BYTES;
+use record_base::{
     Bcd, BootChange, BootFlags, BootParameter, GlobalEnables, MaskedBits, SdrRecord,
     ThresholdMasks, Thresholds, Watchdog,
 };

@@ -9,7 +9,7 @@ ghost use Rattle.file_fields.specs.States.{change_at, change_of};
 use crate::field::Field;
 use crate::range::is_between;
 use crate::tree::{members_in, members_of, natural};
-use cfg_records::FieldChange;
+use record_base::FieldChange;
 use toml::{Table, Value};
 
 /// The first byte of a change that leaves its field, and of one that sets it.

@@ -1,14 +1,14 @@
 //! Users in files: their names and the limits of their privileges.
 ghost use Rattle.std.specs.Prelude.{◌≡◌, ◌&&◌, map, is_some};
 ghost use Rattle.std.specs.List.{list_all};
-ghost use Rattle.cfg_records.specs.UserAccess.{is_limit};
+ghost use Rattle.record_base.specs.UserAccess.{is_limit};
 ghost use Rattle.toml.specs.View.{view};
 ghost use Rattle.file_fields.specs.Trees.{natural, members, or_none};
 ghost use Rattle.file_fields.specs.Ranges.{passes};
 ghost use Rattle.file_fields.specs.Users.{padded, name_of, begins_unnamed, are_names};
 
 use crate::tree::{members, natural};
-use cfg_records::user::is_limit;
+use record_base::user::is_limit;
 use toml::Value;
 
 /// The name whose text it is, with 00h behind it.

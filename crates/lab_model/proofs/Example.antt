@@ -1,7 +1,7 @@
 -- The runs compute.
 use Rattle.std.proofs.Common.{refl, ◌++◌, inr}
-use Rattle.cfg_records.specs.Masks.{is_within}
-use Rattle.cfg_records.specs.Sensor.Thresholds.{is_in_order, is_clear}
+use Rattle.record_base.specs.Masks.{is_within}
+use Rattle.record_base.specs.Sensor.Thresholds.{is_in_order, is_clear}
 use Rattle.lab_model.specs.PortSteps.{turn, hears_request, hears_message, hears_part, hears_parts}
 use Rattle.lab_model.specs.ManagerSteps.{called, hears_response, hears_packet}
 use Rattle.lab_model.specs.Lab.{step, run}

@@ -1,8 +1,8 @@
 -- The bytes are those of IPMB and of PLDM.
 use Rattle.std.proofs.Common.{◌≡◌, ℕ, ◌+◌, ◌%◌, ◌<◌, refl, sym, subst, lit<, arith}
 use Rattle.two_wire.specs.declared.Bus.{Bus}
-use Rattle.cfg_records.specs.declared.message.Asked.{Asked}
-use Rattle.cfg_records.specs.declared.message.Asked.TheVariants.{Ipmi, Pldm}
+use Rattle.record_base.specs.declared.message.Asked.{Asked}
+use Rattle.record_base.specs.declared.message.Asked.TheVariants.{Ipmi, Pldm}
 use Rattle.bus_model.specs.Bytes.{ipmb_reply, pldm_reply, IsRequestOn, IsReplyOn}
 use Rattle.undo_model.specs.Words.{Answered}
 use Rattle.undo_model.specs.TwoBuses.{Addresses}

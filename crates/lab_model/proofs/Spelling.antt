@@ -2,8 +2,8 @@
 use Rattle.std.proofs.Common.{◌≡◌, ℕ, ◌+◌, ◌*◌, ◌/◌, ◌%◌, ◌<◌, List, refl, ◌∙◌, ap, lit<, arith}
 use Rattle.two_wire.specs.declared.Bus.{Bus}
 use Rattle.two_wire.specs.declared.Bus.TheVariants.{Ipmb, Smbus}
-use Rattle.cfg_records.specs.declared.message.Asked.{Asked}
-use Rattle.cfg_records.specs.declared.message.Asked.TheVariants.{Ipmi, Pldm}
+use Rattle.record_base.specs.declared.message.Asked.{Asked}
+use Rattle.record_base.specs.declared.message.Asked.TheVariants.{Ipmi, Pldm}
 use Rattle.bus_model.specs.Bytes.{ipmb_reply, pldm_reply, IsRequestOn, IsReplyOn, IsIpmbRequest, IsIpmbReply, IsPldmRequest, IsPldmReply}
 use Rattle.undo_model.specs.Words.{Answered as Told}
 use Rattle.lab_model.specs.ManagerWords.{bus_of}

@@ -3,8 +3,8 @@
 use Rattle.std.specs.Prelude.{◌≡◌, ℕ, ◌+◌, ◌<◌, true, false, List, [], ◌∷◌, Option, Some, None}
 use Rattle.two_wire.specs.declared.Bus.{Bus}
 use Rattle.two_wire.specs.declared.Bus.TheVariants as bus
-use Rattle.cfg_records.specs.declared.message.Asked.{Asked}
-use Rattle.cfg_records.specs.declared.message.Asked.TheVariants.{Ipmi, Pldm}
+use Rattle.record_base.specs.declared.message.Asked.{Asked}
+use Rattle.record_base.specs.declared.message.Asked.TheVariants.{Ipmi, Pldm}
 use Rattle.ipmb_frame.specs.declared.message.Request.{Request}
 use Rattle.ipmb_frame.specs.declared.message.Response.{Response}
 use Rattle.ipmb_frame.specs.Grammar.{packed, request_bytes}

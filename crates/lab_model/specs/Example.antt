@@ -4,27 +4,27 @@ use Rattle.std.specs.Option.{option_map}
 use Rattle.std.proofs.Common.{lit<, lit≤, arith}
 use Rattle.two_wire.specs.declared.Bus.TheVariants as bus
 use Rattle.ipmb_frame.specs.declared.message.Request.{Request}
-use Rattle.cfg_records.specs.declared.key.Key.TheVariants as key
-use Rattle.cfg_records.specs.declared.op.Op.{Op}
-use Rattle.cfg_records.specs.declared.op.Op.TheVariants as op
-use Rattle.cfg_records.specs.declared.thresholds.ThresholdMasks.{ThresholdMasks}
+use Rattle.record_base.specs.declared.key.Key.TheVariants as key
+use Rattle.record_base.specs.declared.op.Op.{Op}
+use Rattle.record_base.specs.declared.op.Op.TheVariants as op
+use Rattle.record_base.specs.declared.thresholds.ThresholdMasks.{ThresholdMasks}
 use Rattle.cfg_records.specs.declared.board_file.BoardFile.{BoardFile}
-use Rattle.cfg_records.specs.declared.sensor.Sensor.{Sensor}
-use Rattle.cfg_records.specs.declared.numeric_effecter.NumericEffecter.{NumericEffecter}
-use Rattle.cfg_records.specs.declared.state_effecter.StateEffecter.{StateEffecter}
-use Rattle.cfg_records.specs.declared.attribute.Attribute.{Attribute}
-use Rattle.cfg_records.specs.declared.user.User.{User}
-use Rattle.cfg_records.specs.declared.user.UserAccess.{UserAccess}
-use Rattle.cfg_records.specs.declared.channel.Channel.{Channel}
-use Rattle.cfg_records.specs.declared.channel.ChannelNumber.{ChannelNumber}
-use Rattle.cfg_records.specs.Numbers.{number_on}
-use Rattle.cfg_records.specs.declared.event_enable.EventMasks.{EventMasks}
-use Rattle.cfg_records.specs.Distinct.{NamesDiffer}
-use Rattle.cfg_records.specs.Sdr.{sdr_id}
-use Rattle.cfg_records.specs.Sensor.EventEnable.{are_within, event_value, IsEventEnable}
-use Rattle.cfg_records.specs.EventLaws.{tested_events}
-use Rattle.cfg_records.specs.Sensor.Thresholds.{IsThresholds, is_clear, is_in_order}
-use Rattle.cfg_records.specs.ThresholdLaws.{tests_pass}
+use Rattle.record_base.specs.declared.sensor.Sensor.{Sensor}
+use Rattle.record_base.specs.declared.numeric_effecter.NumericEffecter.{NumericEffecter}
+use Rattle.record_base.specs.declared.state_effecter.StateEffecter.{StateEffecter}
+use Rattle.record_base.specs.declared.attribute.Attribute.{Attribute}
+use Rattle.record_base.specs.declared.user.User.{User}
+use Rattle.record_base.specs.declared.user.UserAccess.{UserAccess}
+use Rattle.record_base.specs.declared.channel.Channel.{Channel}
+use Rattle.record_base.specs.declared.channel.ChannelNumber.{ChannelNumber}
+use Rattle.record_base.specs.Numbers.{number_on}
+use Rattle.record_base.specs.declared.event_enable.EventMasks.{EventMasks}
+use Rattle.record_base.specs.Distinct.{NamesDiffer}
+use Rattle.record_base.specs.Sdr.{sdr_id}
+use Rattle.record_base.specs.Sensor.EventEnable.{are_within, event_value, IsEventEnable}
+use Rattle.record_base.specs.EventLaws.{tested_events}
+use Rattle.record_base.specs.Sensor.Thresholds.{IsThresholds, is_clear, is_in_order}
+use Rattle.record_base.specs.ThresholdLaws.{tests_pass}
 use Rattle.undo_model.specs.Phase.{Phase, Done, Undone, Unsettled}
 use Rattle.undo_model.specs.Machine.{phase_of}
 use Rattle.lab_model.specs.Values.{written}

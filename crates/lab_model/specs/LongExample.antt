@@ -5,9 +5,9 @@ use Rattle.two_wire.specs.declared.Bus.TheVariants as bus
 use Rattle.mctp_net.specs.declared.packet.Packet.{Packet}
 use Rattle.mctp_net.specs.declared.message.Message.{Message}
 use Rattle.mctp_net.specs.Grammar.{unchecked}
-use Rattle.cfg_records.specs.declared.key.Key.TheVariants as key
-use Rattle.cfg_records.specs.declared.op.Op.{Op}
-use Rattle.cfg_records.specs.declared.op.Op.TheVariants as op
+use Rattle.record_base.specs.declared.key.Key.TheVariants as key
+use Rattle.record_base.specs.declared.op.Op.{Op}
+use Rattle.record_base.specs.declared.op.Op.TheVariants as op
 use Rattle.bmc_board.specs.State.{opened}
 use Rattle.undo_model.specs.Phase.{Getting}
 use Rattle.lab_model.specs.Values.{Value, Asks, Tells, Part, written, parts_of}

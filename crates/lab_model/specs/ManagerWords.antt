@@ -2,11 +2,11 @@
 use Rattle.std.specs.Prelude.{[], None, slice_get, unwrap_or}
 use Rattle.two_wire.specs.declared.Bus.{Bus}
 use Rattle.two_wire.specs.declared.Bus.TheVariants.{Ipmb, Smbus}
-use Rattle.cfg_records.specs.declared.key.Key.{Key}
-use Rattle.cfg_records.specs.declared.op.Op.{Op}
-use Rattle.cfg_records.specs.declared.message.Asked.{Asked}
-use Rattle.cfg_records.specs.declared.message.Asked.TheVariants.{Ipmi, Pldm}
-use Rattle.cfg_records.specs.declared.message.Answered.{Answered as BoardAnswer}
+use Rattle.record_base.specs.declared.key.Key.{Key}
+use Rattle.record_base.specs.declared.op.Op.{Op}
+use Rattle.record_base.specs.declared.message.Asked.{Asked}
+use Rattle.record_base.specs.declared.message.Asked.TheVariants.{Ipmi, Pldm}
+use Rattle.record_base.specs.declared.message.Answered.{Answered as BoardAnswer}
 use Rattle.record_kinds.specs.Limits.{key_of, get_asked, set_asked, inverse}
 use Rattle.bmc_board.specs.Decode.{sent_by}
 use Rattle.undo_model.specs.Words.{Answered, Words}

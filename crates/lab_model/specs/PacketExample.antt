@@ -4,8 +4,8 @@ use Rattle.std.specs.Prelude.{◌≡◌, refl, ℕ, false, List, [], ◌∷◌, 
 use Rattle.two_wire.specs.declared.Bus.TheVariants as bus
 use Rattle.mctp_net.specs.declared.packet.Packet.{Packet}
 use Rattle.mctp_net.specs.declared.message.Message.{Message}
-use Rattle.cfg_records.specs.declared.message.Asked.{Asked}
-use Rattle.cfg_records.specs.declared.message.Asked.TheVariants.{Pldm}
+use Rattle.record_base.specs.declared.message.Asked.{Asked}
+use Rattle.record_base.specs.declared.message.Asked.TheVariants.{Pldm}
 use Rattle.undo_model.specs.Words.{Words}
 use Rattle.undo_model.specs.Phase.{Phase, Getting, Setting, Halted, Refused}
 use Rattle.undo_model.specs.Machine.{Sets, begun, phase_of}

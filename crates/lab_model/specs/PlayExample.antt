@@ -1,7 +1,7 @@
 -- A play that computes.
 use Rattle.std.specs.Prelude.{◌≡◌, List, [], ◌∷◌, ◌++◌, length}
 use Rattle.std.specs.Prelude.{ℕ, ◌+◌}
-use Rattle.cfg_records.specs.declared.key.Key.TheVariants as key
+use Rattle.record_base.specs.declared.key.Key.TheVariants as key
 use Rattle.undo_model.specs.Phase.{Undone}
 use Rattle.lab_model.specs.Example.{board_file, two_steps}
 use Rattle.schedules.specs.declared.event.Call.TheVariants.{Start, Undo}

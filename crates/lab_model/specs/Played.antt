@@ -1,9 +1,9 @@
 -- What the play of a schedule gives: the lab's run, up to the first event that has a fault.
 use Rattle.std.specs.Prelude.{◌≡◌, ℕ, ◌+◌, List, [], ◌∷◌, ◌++◌, length, Option, Some, None}
 use Rattle.cfg_records.specs.declared.board_file.BoardFile.{BoardFile}
-use Rattle.cfg_records.specs.declared.key.Key.{Key}
-use Rattle.cfg_records.specs.declared.op.Op.{Op}
-use Rattle.cfg_records.specs.declared.message.Asked.{Asked}
+use Rattle.record_base.specs.declared.key.Key.{Key}
+use Rattle.record_base.specs.declared.op.Op.{Op}
+use Rattle.record_base.specs.declared.message.Asked.{Asked}
 use Rattle.undo_model.specs.Phase.{Phase}
 use Rattle.undo_model.specs.Machine.{phase_of}
 use Rattle.lab_model.specs.ManagerSteps.{Plans, board_plans}

@@ -1,7 +1,7 @@
 -- What a turn and a run are, step by step: what is needed of definitions that don't unfold by themselves.
 use Rattle.std.specs.Prelude.{◌≡◌, ℕ, Bool, List, [], ◌∷◌, ◌++◌, Some, None}
-use Rattle.cfg_records.specs.declared.message.Asked.{Asked}
-use Rattle.cfg_records.specs.declared.message.Answered.{Answered}
+use Rattle.record_base.specs.declared.message.Asked.{Asked}
+use Rattle.record_base.specs.declared.message.Answered.{Answered}
 use Rattle.cfg_records.specs.declared.board_file.BoardFile.{BoardFile}
 use Rattle.bus_model.specs.Request.{Request as Heard, Entry, Carried}
 use Rattle.bus_model.specs.Carried.{Repeats, IsBusy, IsNew, outcome}

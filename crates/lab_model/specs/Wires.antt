@@ -2,8 +2,8 @@
 use Rattle.std.specs.Prelude.{ℕ, ◌/◌, ◌%◌, List, drop, slice_index}
 use Rattle.two_wire.specs.declared.Bus.{Bus}
 use Rattle.two_wire.specs.declared.Bus.TheVariants.{Ipmb, Smbus}
-use Rattle.cfg_records.specs.declared.message.Asked.{Asked}
-use Rattle.cfg_records.specs.declared.message.Asked.TheVariants.{Ipmi, Pldm}
+use Rattle.record_base.specs.declared.message.Asked.{Asked}
+use Rattle.record_base.specs.declared.message.Asked.TheVariants.{Ipmi, Pldm}
 use Rattle.bus_model.specs.Bytes.{IpmbHeader, ipmb_request, ipmb_reply, PldmHeader, pldm_request, pldm_reply}
 use Rattle.undo_model.specs.Words.{Answered}
 use Rattle.undo_model.specs.TwoBuses.{Addresses}

@@ -2,10 +2,10 @@
 
 ghost use Rattle.std.specs.Prelude.{◌≡◌, ℕ, Bool, List};
 ghost use Rattle.two_wire.specs.declared.Bus.{Bus};
-ghost use Rattle.cfg_records.specs.declared.message.Asked.{Asked};
-ghost use Rattle.cfg_records.specs.declared.message.Answered.{Answered};
+ghost use Rattle.record_base.specs.declared.message.Asked.{Asked};
+ghost use Rattle.record_base.specs.declared.message.Answered.{Answered};
 ghost use Rattle.cfg_records.specs.declared.board_file.BoardFile.{BoardFile};
-ghost use Rattle.cfg_records.specs.declared.op.Op.{Op};
+ghost use Rattle.record_base.specs.declared.op.Op.{Op};
 ghost use Rattle.bus_model.specs.Request.{Request as Heard, Entry};
 ghost use Rattle.bmc_board.specs.State.{State};
 ghost use Rattle.undo_model.specs.TwoBuses.{Addresses};

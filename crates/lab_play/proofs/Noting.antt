@@ -5,7 +5,7 @@ use Rattle.std.proofs.lemmas.List.{length-append}
 use Rattle.std.proofs.Math.Seq.{take-length}
 use Rattle.std.specs.List.{AllZip}
 use Rattle.cfg_records.specs.declared.board_file.BoardFile.{BoardFile}
-use Rattle.cfg_records.specs.declared.op.Op.{Op}
+use Rattle.record_base.specs.declared.op.Op.{Op}
 use Rattle.lab_model.specs.Lab.{LabFrame, Lab as LabModel, opening}
 use Rattle.schedules.specs.declared.event.Event.{Event}
 use Rattle.lab_model.specs.Meaning.{lab_names, Bench}

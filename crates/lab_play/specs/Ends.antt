@@ -2,7 +2,7 @@
 use Rattle.std.specs.Prelude.{◌≡◌, ℕ, Bool, false, not, List, length, filter, Option, Some, None, Result, Ok, Err}
 use Rattle.std.specs.Str.{bytes_eq}
 use Rattle.cfg_records.specs.declared.board_file.BoardFile.{BoardFile}
-use Rattle.cfg_records.specs.declared.op.Op.{Op}
+use Rattle.record_base.specs.declared.op.Op.{Op}
 use Rattle.cfg_records.specs.Records.{Records, Pair, KeysDiffer, records_of}
 use Rattle.cfg_records.specs.Boards.{pairs_of}
 use Rattle.lab_model.specs.Lab.{Lab as LabModel, opening}

@@ -12,17 +12,17 @@ use Rattle.mctp_net.specs.Assembly.{Assemblies, name_of, ComesBack}
 use Rattle.pldm_base.specs.declared.message.PldmRequest.{PldmRequest}
 use Rattle.pldm_base.specs.Message.{IsRequest}
 use Rattle.pldm_base.proofs.InBytes.{request-in_back}
-use Rattle.cfg_records.specs.declared.key.Key.{Key}
-use Rattle.cfg_records.specs.declared.key.Key.TheVariants as key
-use Rattle.cfg_records.specs.declared.op.Op.{Op}
-use Rattle.cfg_records.specs.declared.op.Op.TheVariants as op
-use Rattle.cfg_records.specs.declared.message.Asked.{Asked}
-use Rattle.cfg_records.specs.declared.message.Asked.TheVariants.{Ipmi, Pldm}
+use Rattle.record_base.specs.declared.key.Key.{Key}
+use Rattle.record_base.specs.declared.key.Key.TheVariants as key
+use Rattle.record_base.specs.declared.op.Op.{Op}
+use Rattle.record_base.specs.declared.op.Op.TheVariants as op
+use Rattle.record_base.specs.declared.message.Asked.{Asked}
+use Rattle.record_base.specs.declared.message.Asked.TheVariants.{Ipmi, Pldm}
 use Rattle.cfg_records.specs.declared.board_file.BoardFile.{BoardFile}
 use Rattle.record_kinds.specs.Limits.{get_asked, set_asked}
 use Rattle.record_kinds.specs.Sound.{IsSound}
-use Rattle.cfg_records.specs.declared.numeric_effecter.NumericBytes.{NumericBytes}
-use Rattle.cfg_records.specs.declared.numeric_effecter.NumericBytes.TheVariants.{One, Two, Four, Other}
+use Rattle.record_base.specs.declared.numeric_effecter.NumericBytes.{NumericBytes}
+use Rattle.record_base.specs.declared.numeric_effecter.NumericBytes.TheVariants.{One, Two, Four, Other}
 use Rattle.effecter_recs.specs.ChangeLaws.{two_each}
 use Rattle.bmc_board.specs.State.{State}
 use Rattle.bmc_board.proofs.AnswerFacts.{answers_fit}

@@ -3,7 +3,7 @@ use Rattle.std.proofs.Common.{◌≡◌, ℕ, List, Option, Some, refl, sym, sub
 use Rattle.std.specs.Prelude.{slice_get, IfSome}
 use Rattle.two_wire.specs.declared.Bus.{Bus}
 use Rattle.two_wire.specs.declared.Bus.TheVariants.{Ipmb, Smbus}
-use Rattle.cfg_records.specs.declared.op.Op.{Op}
+use Rattle.record_base.specs.declared.op.Op.{Op}
 use Rattle.cfg_records.specs.declared.board_file.BoardFile.{BoardFile}
 use Rattle.cfg_records.specs.Records.{Records}
 use Rattle.undo_model.specs.World.{States}

@@ -4,8 +4,8 @@ use Rattle.std.specs.Prelude.{◌==◌, slice_get, nat_lt, IfSome}
 use Rattle.std.proofs.lemmas.Bool.{cond_both}
 use Rattle.two_wire.specs.Codes.{success}
 use Rattle.two_wire.specs.declared.Bus.{Bus}
-use Rattle.cfg_records.specs.declared.op.Op.{Op}
-use Rattle.cfg_records.specs.declared.message.Asked.{Asked}
+use Rattle.record_base.specs.declared.op.Op.{Op}
+use Rattle.record_base.specs.declared.message.Asked.{Asked}
 use Rattle.undo_model.specs.Words.{Answered, Words, is_busy}
 use Rattle.undo_model.specs.TwoBuses.{Addresses}
 use Rattle.undo_model.specs.Machine.{Task, Gets, Sets, Undoes, Part, Stage, AtStart, Opened, AtEnd, AtHalt, AtUndone, AtRefused, begun, Machine, Turn, sending, series_of, bodies_with, takes, replies, finished, refused, set_stage, next_stage, undo_stage, undo_after, first_stage, starts, undoes, quiets, agains, stops}

@@ -16,7 +16,7 @@ use Rattle.mctp_net.specs.Control.{Request as ControlRequest, request_of as cont
 use Rattle.pldm_base.specs.declared.message.PldmRequest.{PldmRequest}
 use Rattle.pldm_base.specs.Message.{request_in as pldm_request_in}
 use Rattle.pldm_base.proofs.InBytes.{request-in}
-use Rattle.cfg_records.specs.declared.message.Answered.{Answered as BoardAnswer}
+use Rattle.record_base.specs.declared.message.Answered.{Answered as BoardAnswer}
 use Rattle.cfg_records.specs.declared.board_file.BoardFile.{BoardFile}
 use Rattle.bmc_board.specs.State.{State}
 use Rattle.bmc_board.specs.Table.{is_changing}

@@ -14,8 +14,8 @@ use Rattle.mctp_net.specs.Assembly.{name_of}
 use Rattle.pldm_base.specs.declared.message.PldmRequest.{PldmRequest}
 use Rattle.pldm_base.specs.Message.{IsRequest}
 use Rattle.pldm_base.proofs.InBytes.{request-in_back}
-use Rattle.cfg_records.specs.declared.message.Asked.{Asked}
-use Rattle.cfg_records.specs.declared.message.Asked.TheVariants.{Ipmi, Pldm}
+use Rattle.record_base.specs.declared.message.Asked.{Asked}
+use Rattle.record_base.specs.declared.message.Asked.TheVariants.{Ipmi, Pldm}
 use Rattle.cfg_records.specs.declared.board_file.BoardFile.{BoardFile}
 use Rattle.record_kinds.specs.Limits.{get_asked, set_asked}
 use Rattle.bmc_board.specs.Table.{is_pldm_type, pldm_line_of}

@@ -1,7 +1,7 @@
 -- What a play tells of a clean schedule.
 use Rattle.std.specs.Prelude.{◌≡◌, ℕ, ◌+◌, List, [], ◌∷◌, length}
 use Rattle.two_wire.specs.declared.Bus.TheVariants.{Ipmb, Smbus}
-use Rattle.cfg_records.specs.declared.op.Op.{Op}
+use Rattle.record_base.specs.declared.op.Op.{Op}
 use Rattle.cfg_records.specs.declared.board_file.BoardFile.{BoardFile}
 use Rattle.undo_model.specs.Phase.{Undone}
 use Rattle.undo_model.specs.Plan.{IsAfter}

@@ -4,7 +4,7 @@ use Rattle.two_wire.specs.declared.Bus.{Bus}
 use Rattle.ipmb_frame.specs.declared.message.Request.{Request}
 use Rattle.mctp_net.specs.declared.message.Message.{Message}
 use Rattle.bmc_board.specs.declared.activity.Activity.{Activity}
-use Rattle.cfg_records.specs.declared.op.Op.{Op}
+use Rattle.record_base.specs.declared.op.Op.{Op}
 use Rattle.cfg_records.specs.declared.board_file.BoardFile.{BoardFile}
 use Rattle.cfg_records.specs.Records.{Records}
 use Rattle.bus_model.specs.Packet.{packets_of}

@@ -1,7 +1,7 @@
 -- The requests of a machine are those that a manager makes.
 use Rattle.std.specs.Prelude.{List, [], ◌∷◌}
 use Rattle.two_wire.specs.declared.Bus.{Bus}
-use Rattle.cfg_records.specs.declared.message.Asked.{Asked}
+use Rattle.record_base.specs.declared.message.Asked.{Asked}
 use Rattle.undo_model.specs.Words.{Words}
 use Rattle.undo_model.specs.Wires.{IsSeries, IsMade}
 use Rattle.undo_model.specs.TwoBuses.{Addresses}

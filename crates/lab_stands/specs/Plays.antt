@@ -1,6 +1,6 @@
 -- What a play tells, where no packet that it delivers joins another request's assembly.
 use Rattle.std.specs.Prelude.{◌≡◌, ℕ, ◌-◌, Bool, List, [], ◌∷◌, take}
-use Rattle.cfg_records.specs.declared.op.Op.{Op}
+use Rattle.record_base.specs.declared.op.Op.{Op}
 use Rattle.cfg_records.specs.declared.board_file.BoardFile.{BoardFile}
 use Rattle.bus_model.specs.Repeat.{In}
 use Rattle.undo_model.specs.Phase.{Stop, Halted, Undone}

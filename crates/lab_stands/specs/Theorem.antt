@@ -1,6 +1,6 @@
 -- What a lab's phase says at every moment of a schedule that the lab takes.
 use Rattle.std.specs.Prelude.{◌≡◌, ℕ, List, ◌++◌}
-use Rattle.cfg_records.specs.declared.op.Op.{Op}
+use Rattle.record_base.specs.declared.op.Op.{Op}
 use Rattle.cfg_records.specs.declared.board_file.BoardFile.{BoardFile}
 use Rattle.bus_model.specs.Repeat.{In}
 use Rattle.undo_model.specs.Phase.{Stop, Phase, Halted, Undone}

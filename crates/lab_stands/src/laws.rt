@@ -1,7 +1,7 @@
 //! The model's world does what a lab does at an event.
 
 ghost use Rattle.std.specs.Prelude.{ℕ, List};
-ghost use Rattle.cfg_records.specs.declared.op.Op.{Op};
+ghost use Rattle.record_base.specs.declared.op.Op.{Op};
 ghost use Rattle.cfg_records.specs.declared.board_file.BoardFile.{BoardFile};
 ghost use Rattle.cfg_records.specs.Records.{Records};
 ghost use Rattle.plans.specs.declared.names.Names.{Names};

@@ -15,7 +15,7 @@ pub mod ChannelAccess
 use Rattle.std.proofs.Common.{◌≡◌, ◌∙◌, ℕ, List, Option, Some, None, MatchOption, Result, Ok, Err, sym, ap, subst}
 use Rattle.toml.specs.Data.{Members}
 use Rattle.toml.specs.Parse.{parse_document}
-use Rattle.cfg_records.specs.declared.op.Op.{Op}
+use Rattle.record_base.specs.declared.op.Op.{Op}
 use Rattle.plans.specs.declared.plan.Plan.{Plan}
 use Rattle.file_fields.specs.declared.field.Field.TheVariants as field
 use Rattle.plan_file.specs.declared.kind.Kind.{Kind}

@@ -1,7 +1,7 @@
 -- What the proof of one plan says of each kind of step.
 use Rattle.std.proofs.Common.{◌≡◌}
 use Rattle.toml.specs.Data.{Members}
-use Rattle.cfg_records.specs.declared.op.Op.{Op}
+use Rattle.record_base.specs.declared.op.Op.{Op}
 use Rattle.plan_file.specs.StepKind.{StepKind}
 
 -- a step holds one operation of the kind at most

@@ -6,7 +6,7 @@ use Rattle.std.specs.List.{find, AllZip}
 use Rattle.toml.specs.Data.{Members}
 use Rattle.toml.specs.View.{view}
 use Rattle.toml.specs.declared.value.Value.{Value}
-use Rattle.cfg_records.specs.declared.op.Op.{Op}
+use Rattle.record_base.specs.declared.op.Op.{Op}
 use Rattle.file_fields.specs.declared.field.Field.TheVariants as field
 use Rattle.file_fields.specs.declared.fault.FieldFault.{FieldFault}
 use Rattle.plan_file.specs.declared.kind.Kind.{Kind}

@@ -1,7 +1,7 @@
 -- A kind of step, as one value.
 use Rattle.std.specs.Prelude.{ℕ, List}
 use Rattle.toml.specs.Data.{Members}
-use Rattle.cfg_records.specs.declared.op.Op.{Op}
+use Rattle.record_base.specs.declared.op.Op.{Op}
 use Rattle.file_fields.specs.declared.row.Row.{Row}
 
 -- what a step's `kind` calls it, the fields of its steps, and when a step holds an operation of the kind

@@ -19,9 +19,9 @@ mod user_access;
 mod user_name;
 mod watchdog;
 
-use cfg_records::Op;
 use file_fields::tree::has_text;
 use file_fields::{Field, Need, Row, Shape};
+use record_base::Op;
 use toml::Table;
 
 /// A kind of step, by the kind of record that it changes.

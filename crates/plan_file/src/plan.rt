@@ -11,10 +11,10 @@ ghost use Rattle.plan_file.specs.PlanHolds.{IsStepIn, or_three, AnswersPlan, Rea
 
 use crate::plan_fault::PlanFault;
 use crate::step::read_step;
-use cfg_records::Op;
 use file_fields::tree::{members_in, number};
 use file_fields::{Field, FieldFault, Need, Row, Shape, first_fault};
 use plans::{MOST_STEPS, Plan, Steps};
+use record_base::Op;
 use std::alloc::Global;
 use toml::{Table, Value};
 use two_wire::{MOST_RETRIES, Retries};

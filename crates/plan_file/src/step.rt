@@ -8,9 +8,9 @@ ghost use Rattle.plan_file.specs.PlanHolds.{HoldsStep};
 
 use crate::kind::{KIND, kind_in};
 use crate::plan_fault::{NoGet, OutsidePlan, StepFault};
-use cfg_records::Op;
 use file_fields::tree::{has_text, in_field, number};
 use file_fields::{Field, first_fault};
+use record_base::Op;
 use toml::Table;
 
 /// All that no plan changes.

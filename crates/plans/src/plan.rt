@@ -2,7 +2,7 @@
 ghost use Rattle.std.specs.Prelude.{◌≡◌, ◌≤◌, ◌↔◌, [], IsSome, IfSome, length};
 ghost use Rattle.plans.specs.Steps.{most_steps};
 
-use cfg_records::Op;
+use record_base::Op;
 use std::alloc::Global;
 use std::marker::Model;
 use two_wire::Retries;
@@ -18,7 +18,7 @@ pub struct Steps {
 
 impl Model for Steps {
     ghost use Rattle.std.specs.Prelude.{List, length, ◌≤◌};
-    ghost use Rattle.cfg_records.specs.declared.op.Op.{Op};
+    ghost use Rattle.record_base.specs.declared.op.Op.{Op};
     ghost use Rattle.plans.specs.Steps.{most_steps};
 
     ghost Value = { List Op };

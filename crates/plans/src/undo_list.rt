@@ -3,7 +3,7 @@ ghost use Rattle.std.specs.Prelude.{◌≡◌, ◌<◌, ◌≤◌, [], ◌∷◌
 ghost use Rattle.plans.specs.Steps.{most_steps};
 
 use crate::plan::MOST_STEPS;
-use cfg_records::Asked;
+use record_base::Asked;
 use std::alloc::{AllocError, Global};
 use std::marker::Model;
 use two_wire::Below;
@@ -17,7 +17,7 @@ pub struct Requests {
 impl Model for Requests {
     ghost use Rattle.std.specs.Prelude.{List, length, ◌≤◌};
     ghost use Rattle.std.specs.Vec.{vec_capacity};
-    ghost use Rattle.cfg_records.specs.declared.message.Asked.{Asked};
+    ghost use Rattle.record_base.specs.declared.message.Asked.{Asked};
     ghost use Rattle.plans.specs.Steps.{most_steps};
 
     ghost Value = { List Asked };

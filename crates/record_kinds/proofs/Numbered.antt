@@ -8,8 +8,8 @@ use Rattle.std.proofs.lemmas.Grind.{get_or-set_at}
 use Rattle.std.proofs.lemmas.Option.{slice_get_read, slice_get_past}
 use Rattle.std.proofs.Math.ListN.{set}
 use Rattle.std.proofs.lemmas.List.Folds.{find-append}
-use Rattle.cfg_records.specs.declared.sensor.Sensor.{Sensor}
-use Rattle.cfg_records.specs.Distinct.{NamesDiffer}
+use Rattle.record_base.specs.declared.sensor.Sensor.{Sensor}
+use Rattle.record_base.specs.Distinct.{NamesDiffer}
 use Rattle.cfg_records.proofs.Searches.{find_some}
 use Rattle.record_kinds.specs.Boards.{sensor_at}
 

@@ -3,29 +3,29 @@ use Rattle.std.proofs.Common.{◌≡◌, ℕ, List, [], ◌∷◌, map, length, 
 use Rattle.std.specs.List.{find}
 use Rattle.std.specs.Option.{option_map}
 use Rattle.std.proofs.lemmas.Bool.Decides.{nat_tests}
-use Rattle.cfg_records.specs.declared.key.Key.{Key}
-use Rattle.cfg_records.specs.declared.key.Key.TheVariants as key
-use Rattle.cfg_records.specs.declared.boot_param.BootParameter.TheVariants.{ValidBitClearing, InfoAcknowledge, Flags}
-use Rattle.cfg_records.specs.declared.sensor.Sensor.{Sensor}
+use Rattle.record_base.specs.declared.key.Key.{Key}
+use Rattle.record_base.specs.declared.key.Key.TheVariants as key
+use Rattle.record_base.specs.declared.boot_param.BootParameter.TheVariants.{ValidBitClearing, InfoAcknowledge, Flags}
+use Rattle.record_base.specs.declared.sensor.Sensor.{Sensor}
 use Rattle.cfg_records.specs.declared.board_file.BoardFile.{BoardFile}
-use Rattle.cfg_records.specs.Keys.{same_key}
-use Rattle.cfg_records.specs.KeyLaws.{exact_key, same_key_self}
-use Rattle.cfg_records.specs.MaskLaws.{same_test, both, both_true}
-use Rattle.cfg_records.specs.NumberLaws.{same_channel, same_user}
-use Rattle.cfg_records.specs.declared.user.UserNumber.{UserNumber}
-use Rattle.cfg_records.specs.declared.user.UserOnChannel.{UserOnChannel}
-use Rattle.cfg_records.specs.declared.channel.Channel.{Channel}
-use Rattle.cfg_records.specs.declared.channel.ChannelNumber.{ChannelNumber}
-use Rattle.cfg_records.specs.declared.channel.AccessStore.{AccessStore}
-use Rattle.cfg_records.specs.declared.channel.AccessStore.TheVariants.{NonVolatile, Volatile, Neither}
+use Rattle.record_base.specs.Keys.{same_key}
+use Rattle.record_base.specs.KeyLaws.{exact_key, same_key_self}
+use Rattle.record_base.specs.MaskLaws.{same_test, both, both_true}
+use Rattle.record_base.specs.NumberLaws.{same_channel, same_user}
+use Rattle.record_base.specs.declared.user.UserNumber.{UserNumber}
+use Rattle.record_base.specs.declared.user.UserOnChannel.{UserOnChannel}
+use Rattle.record_base.specs.declared.channel.Channel.{Channel}
+use Rattle.record_base.specs.declared.channel.ChannelNumber.{ChannelNumber}
+use Rattle.record_base.specs.declared.channel.AccessStore.{AccessStore}
+use Rattle.record_base.specs.declared.channel.AccessStore.TheVariants.{NonVolatile, Volatile, Neither}
 use Rattle.cfg_records.specs.Records.{Pair, value_of, records_of}
 use Rattle.cfg_records.proofs.Pairs.{has_key}
 use Rattle.cfg_records.proofs.BoardPairs.{user_number, channel_number, place_of, pairs_at, record_of_kind}
-use Rattle.cfg_records.specs.Boards.{number_value, stored, access_value}
-use Rattle.cfg_records.specs.declared.state_effecter.StateField.{StateField}
-use Rattle.cfg_records.specs.StateEffecter.{are_states, state_value}
-use Rattle.cfg_records.specs.Attribute.{range_of, attribute_value}
-use Rattle.cfg_records.specs.AttributeLaws.{begins_valid}
+use Rattle.record_base.specs.Values.{number_value, stored, access_value}
+use Rattle.record_base.specs.declared.state_effecter.StateField.{StateField}
+use Rattle.record_base.specs.StateEffecter.{are_states, state_value}
+use Rattle.record_base.specs.Attribute.{range_of, attribute_value}
+use Rattle.record_base.specs.AttributeLaws.{begins_valid}
 use Rattle.record_kinds.specs.declared.limits.Limits.{Limits}
 use Rattle.record_kinds.specs.declared.limits.Limits.TheVariants as limits
 use Rattle.record_kinds.specs.Limits.{valid, of_sensor, limits_at}

@@ -1,17 +1,17 @@
 -- What a board file has under a number, and what it has on a channel.
 use Rattle.std.specs.Prelude.{ℕ, List, Bool, Option, None, find, ◌==◌, ◌&&◌}
 use Rattle.std.specs.List.{list_any}
-use Rattle.cfg_records.specs.declared.sensor.Sensor.{Sensor}
-use Rattle.cfg_records.specs.declared.numeric_effecter.NumericEffecter.{NumericEffecter}
-use Rattle.cfg_records.specs.declared.state_effecter.StateEffecter.{StateEffecter}
-use Rattle.cfg_records.specs.declared.user.User.{User}
-use Rattle.cfg_records.specs.declared.user.UserAccess.{UserAccess}
-use Rattle.cfg_records.specs.declared.user.UserOnChannel.{UserOnChannel}
-use Rattle.cfg_records.specs.declared.channel.Channel.{Channel}
-use Rattle.cfg_records.specs.declared.channel.AccessStore.{AccessStore}
-use Rattle.cfg_records.specs.declared.channel.AccessStore.TheVariants.{NonVolatile, Volatile, Neither}
-use Rattle.cfg_records.specs.declared.channel.StoredAccess.{StoredAccess}
-use Rattle.cfg_records.specs.declared.attribute.Attribute.{Attribute}
+use Rattle.record_base.specs.declared.sensor.Sensor.{Sensor}
+use Rattle.record_base.specs.declared.numeric_effecter.NumericEffecter.{NumericEffecter}
+use Rattle.record_base.specs.declared.state_effecter.StateEffecter.{StateEffecter}
+use Rattle.record_base.specs.declared.user.User.{User}
+use Rattle.record_base.specs.declared.user.UserAccess.{UserAccess}
+use Rattle.record_base.specs.declared.user.UserOnChannel.{UserOnChannel}
+use Rattle.record_base.specs.declared.channel.Channel.{Channel}
+use Rattle.record_base.specs.declared.channel.AccessStore.{AccessStore}
+use Rattle.record_base.specs.declared.channel.AccessStore.TheVariants.{NonVolatile, Volatile, Neither}
+use Rattle.record_base.specs.declared.channel.StoredAccess.{StoredAccess}
+use Rattle.record_base.specs.declared.attribute.Attribute.{Attribute}
 use Rattle.cfg_records.specs.declared.board_file.BoardFile.{BoardFile}
 
 -- the sensor of this number

@@ -1,7 +1,7 @@
 -- The kind of which every record is, as one value.
-use Rattle.cfg_records.specs.declared.key.Key.{Key}
-use Rattle.cfg_records.specs.declared.op.Op.{Op}
-use Rattle.cfg_records.specs.Kind.{Kind}
+use Rattle.record_base.specs.declared.key.Key.{Key}
+use Rattle.record_base.specs.declared.op.Op.{Op}
+use Rattle.record_base.specs.Kind.{Kind}
 use Rattle.record_kinds.specs.declared.limits.Limits.{Limits}
 use Rattle.record_kinds.specs.Limits.{words, record_words}
 use Rattle.record_kinds.specs.LimitsLaws.{kind_laws, record_laws}

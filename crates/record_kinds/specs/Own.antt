@@ -1,9 +1,9 @@
 -- An operation, and the limits of a record, each with the kind of which it is.
-use Rattle.cfg_records.specs.declared.key.Key.{Key}
-use Rattle.cfg_records.specs.declared.op.Op.{Op}
-use Rattle.cfg_records.specs.Kind.{RecordWords}
-use Rattle.cfg_records.specs.AllKinds.{OpWords}
-use Rattle.cfg_records.specs.Member.{Member, op_words_of, record_words_of}
+use Rattle.record_base.specs.declared.key.Key.{Key}
+use Rattle.record_base.specs.declared.op.Op.{Op}
+use Rattle.record_base.specs.Kind.{RecordWords}
+use Rattle.record_base.specs.AllKinds.{OpWords}
+use Rattle.record_base.specs.Member.{Member, op_words_of, record_words_of}
 
 -- a kind, and an operation of it
 pub data OwnOp : Type 1 where

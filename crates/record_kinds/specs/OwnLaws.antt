@@ -1,13 +1,13 @@
 -- What holds of an operation, and of the limits of a record, by the laws of its kind.
 use Rattle.std.proofs.Common.{◌≡◌, subst}
 use Rattle.std.specs.Option.{IsSome}
-use Rattle.cfg_records.specs.declared.key.Key.{Key}
-use Rattle.cfg_records.specs.declared.op.Op.{Op}
-use Rattle.cfg_records.specs.declared.message.Asked.{Asked}
-use Rattle.cfg_records.specs.Kind.{RecordLaws}
-use Rattle.cfg_records.specs.AllKinds.{OpWords, any_words, OpLaws}
-use Rattle.cfg_records.specs.Member.{Member, op_words_of}
-use Rattle.cfg_records.specs.MemberLaws.{op_laws_of, record_laws_of}
+use Rattle.record_base.specs.declared.key.Key.{Key}
+use Rattle.record_base.specs.declared.op.Op.{Op}
+use Rattle.record_base.specs.declared.message.Asked.{Asked}
+use Rattle.record_base.specs.Kind.{RecordLaws}
+use Rattle.record_base.specs.AllKinds.{OpWords, any_words, OpLaws}
+use Rattle.record_base.specs.Member.{Member, op_words_of}
+use Rattle.record_base.specs.MemberLaws.{op_laws_of, record_laws_of}
 use Rattle.record_kinds.specs.Own.{OwnOp, OwnLimits, record_words_in}
 use Rattle.record_kinds.specs.Own.{op_of, limits_of}
 

@@ -1,6 +1,6 @@
 -- Each record has limits, and a value that they allow.
 use Rattle.std.specs.Prelude.{List, ℕ, Option, Some, None}
-use Rattle.cfg_records.specs.declared.key.Key.{Key}
+use Rattle.record_base.specs.declared.key.Key.{Key}
 use Rattle.cfg_records.specs.declared.board_file.BoardFile.{BoardFile}
 use Rattle.cfg_records.specs.Records.{Records, records_of}
 use Rattle.cfg_records.specs.Boards.{pairs_of}

@@ -1,11 +1,11 @@
 -- Records that are sound stay so where a valid value is written.
 use Rattle.std.proofs.Common.{◌≡◌, ℕ, List, Option, Some, None, Bool, true, false, if◌then◌else◌, subst, sym, refl}
 use Rattle.std.proofs.Props.{props}
-use Rattle.cfg_records.specs.declared.key.Key.{Key}
-use Rattle.cfg_records.specs.declared.op.Op.{Op}
+use Rattle.record_base.specs.declared.key.Key.{Key}
+use Rattle.record_base.specs.declared.op.Op.{Op}
 use Rattle.cfg_records.specs.declared.board_file.BoardFile.{BoardFile}
-use Rattle.cfg_records.specs.Keys.{same_key}
-use Rattle.cfg_records.specs.KeyLaws.{exact_key}
+use Rattle.record_base.specs.Keys.{same_key}
+use Rattle.record_base.specs.KeyLaws.{exact_key}
 use Rattle.cfg_records.specs.Records.{Records, with_record}
 use Rattle.record_kinds.specs.declared.limits.Limits.{Limits}
 use Rattle.record_kinds.specs.Limits.{valid, sets, limits_at}

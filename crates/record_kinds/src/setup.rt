@@ -1,7 +1,7 @@
 //! What never changes of a board.
 ghost use Rattle.std.specs.Prelude.{◌≡◌, ◌≤◌, length};
 ghost use Rattle.std.specs.Option.{option_copied};
-ghost use Rattle.cfg_records.specs.Distinct.{NamesDiffer};
+ghost use Rattle.record_base.specs.Distinct.{NamesDiffer};
 ghost use Rattle.record_kinds.specs.Places.{ArePlaces};
 
 use cfg_records::{

@@ -1,19 +1,19 @@
 -- Which events of a sensor are enabled, as a kind of record (IPMI 2.0).
 use Rattle.std.specs.Prelude.{◌≡◌, ℕ, ◌+◌, ◌/◌, ◌%◌, ◌<◌, List, [], ◌∷◌, length, slice_index, bit_and, bit_or, bit_xor, ◌||◌, ◌&&◌, ◌==◌, not, Bool, true, false, if◌then◌else◌, Result, Ok, Err, Option, Some, None, refl, ◌*◌}
 use Rattle.two_wire.specs.Codes.{invalid_data_field}
-use Rattle.cfg_records.specs.declared.key.Key.{Key}
-use Rattle.cfg_records.specs.declared.key.Key.TheVariants as key
-use Rattle.cfg_records.specs.declared.op.Op.{Op}
-use Rattle.cfg_records.specs.declared.op.Op.TheVariants as op
-use Rattle.cfg_records.specs.declared.event_enable.EventMasks.{EventMasks}
-use Rattle.cfg_records.specs.declared.event_enable.EventChange.{EventChange}
-use Rattle.cfg_records.specs.declared.event_enable.EventChange.TheVariants.{Leave, Enable, Disable, Reserved}
-use Rattle.cfg_records.specs.declared.event_enable.SetEventEnable.{SetEventEnable}
-use Rattle.cfg_records.specs.Kind.{KindWords, RecordWords}
-use Rattle.cfg_records.specs.AllKinds.{Place}
-use Rattle.cfg_records.specs.Masks.{has}
-use Rattle.cfg_records.specs.Requests.{byte_at}
-use Rattle.cfg_records.specs.Sensor.EventEnable.{AreWithin, are_within, flags_byte, makes_messages, is_scanning, event_value, enabled_in, IsEventValue, IsEventEnable}
+use Rattle.record_base.specs.declared.key.Key.{Key}
+use Rattle.record_base.specs.declared.key.Key.TheVariants as key
+use Rattle.record_base.specs.declared.op.Op.{Op}
+use Rattle.record_base.specs.declared.op.Op.TheVariants as op
+use Rattle.record_base.specs.declared.event_enable.EventMasks.{EventMasks}
+use Rattle.record_base.specs.declared.event_enable.EventChange.{EventChange}
+use Rattle.record_base.specs.declared.event_enable.EventChange.TheVariants.{Leave, Enable, Disable, Reserved}
+use Rattle.record_base.specs.declared.event_enable.SetEventEnable.{SetEventEnable}
+use Rattle.record_base.specs.Kind.{KindWords, RecordWords}
+use Rattle.record_base.specs.AllKinds.{Place}
+use Rattle.record_base.specs.Masks.{has}
+use Rattle.record_base.specs.Requests.{byte_at}
+use Rattle.record_base.specs.Sensor.EventEnable.{AreWithin, are_within, flags_byte, makes_messages, is_scanning, event_value, enabled_in, IsEventValue, IsEventEnable}
 use Rattle.sensor_recs.specs.Requests.{sensor_request}
 
 -- the commands that set it and get it

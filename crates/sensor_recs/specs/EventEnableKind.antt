@@ -1,10 +1,10 @@
 -- EventEnable as one value, and where it stands among all kinds.
 use Rattle.std.specs.Prelude.{ℕ}
-use Rattle.cfg_records.specs.declared.event_enable.SetEventEnable.{SetEventEnable}
-use Rattle.cfg_records.specs.Kind.{Kind}
-use Rattle.cfg_records.specs.Member.{Member}
-use Rattle.cfg_records.specs.Reader.{Reader}
-use Rattle.cfg_records.specs.Requests.{byte_at}
+use Rattle.record_base.specs.declared.event_enable.SetEventEnable.{SetEventEnable}
+use Rattle.record_base.specs.Kind.{Kind}
+use Rattle.record_base.specs.Member.{Member}
+use Rattle.record_base.specs.Reader.{Reader}
+use Rattle.record_base.specs.Requests.{byte_at}
 use Rattle.sensor_recs.specs.declared.event_enable.EventEnableLimits.{EventEnableLimits}
 use Rattle.sensor_recs.specs.EventEnable.{event_enable_in, words, record_words, place}
 use Rattle.sensor_recs.specs.EventEnableLaws.{kind_laws, record_laws}

@@ -4,21 +4,21 @@ use Rattle.std.specs.Int.{bit_at}
 use Rattle.std.proofs.lemmas.Grind.{same_number_lists, common_steps}
 use Rattle.std.proofs.lemmas.Nat.Bits.{bit_at_and, bit_at_or, bit_at_xor, bit_at-lt, same_from_bits_below}
 use Rattle.two_wire.specs.Codes.{invalid_data_field}
-use Rattle.cfg_records.specs.declared.key.Key.TheVariants as key
-use Rattle.cfg_records.specs.declared.event_enable.EventMasks.{EventMasks}
-use Rattle.cfg_records.specs.declared.event_enable.EventChange.{EventChange}
-use Rattle.cfg_records.specs.declared.event_enable.EventChange.TheVariants.{Leave, Enable, Disable, Reserved}
-use Rattle.cfg_records.specs.declared.event_enable.SetEventEnable.{SetEventEnable}
-use Rattle.cfg_records.specs.Keys.{is_length}
-use Rattle.cfg_records.specs.Masks.{has}
-use Rattle.cfg_records.specs.MaskLaws.{both_true, both}
-use Rattle.cfg_records.specs.Meaning.{Decides, IsRefusal}
-use Rattle.cfg_records.specs.InverseLaws.{some_where, made_where, tested_same, same_tested}
-use Rattle.cfg_records.specs.Kind.{KindLaws, RecordLaws}
-use Rattle.cfg_records.specs.RefusalLaws.{refused_field}
-use Rattle.cfg_records.specs.Sensor.EventEnable.{AreWithin, are_within, flags_byte, makes_messages, is_scanning, event_value, enabled_in, IsEventValue, IsEventEnable}
-use Rattle.cfg_records.specs.PartLaws.{IsEventEnable-prop}
-use Rattle.cfg_records.specs.EventLaws.{within_true, true_within, has_in_two_bytes, messages_are, scanning_is, is_event_value}
+use Rattle.record_base.specs.declared.key.Key.TheVariants as key
+use Rattle.record_base.specs.declared.event_enable.EventMasks.{EventMasks}
+use Rattle.record_base.specs.declared.event_enable.EventChange.{EventChange}
+use Rattle.record_base.specs.declared.event_enable.EventChange.TheVariants.{Leave, Enable, Disable, Reserved}
+use Rattle.record_base.specs.declared.event_enable.SetEventEnable.{SetEventEnable}
+use Rattle.record_base.specs.Keys.{is_length}
+use Rattle.record_base.specs.Masks.{has}
+use Rattle.record_base.specs.MaskLaws.{both_true, both}
+use Rattle.record_base.specs.Meaning.{Decides, IsRefusal}
+use Rattle.record_base.specs.InverseLaws.{some_where, made_where, tested_same, same_tested}
+use Rattle.record_base.specs.Kind.{KindLaws, RecordLaws}
+use Rattle.record_base.specs.RefusalLaws.{refused_field}
+use Rattle.record_base.specs.Sensor.EventEnable.{AreWithin, are_within, flags_byte, makes_messages, is_scanning, event_value, enabled_in, IsEventValue, IsEventEnable}
+use Rattle.record_base.specs.PartLaws.{IsEventEnable-prop}
+use Rattle.record_base.specs.EventLaws.{within_true, true_within, has_in_two_bytes, messages_are, scanning_is, is_event_value}
 use Rattle.sensor_recs.specs.EventEnable.{IsSame, AreSupported, Changes, SetsEventEnable, difference, events_after, is_accepted, value_after, undo_change, undo_event_enable, words, record_words}
 
 -- ---- sets of events, bit by bit

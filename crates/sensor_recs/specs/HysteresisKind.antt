@@ -1,10 +1,10 @@
 -- Hysteresis as one value, and where it stands among all kinds.
 use Rattle.std.specs.Prelude.{ℕ}
-use Rattle.cfg_records.specs.declared.hysteresis.SetHysteresis.{SetHysteresis}
-use Rattle.cfg_records.specs.Kind.{Kind}
-use Rattle.cfg_records.specs.Member.{Member}
-use Rattle.cfg_records.specs.Reader.{Reader}
-use Rattle.cfg_records.specs.Requests.{byte_at}
+use Rattle.record_base.specs.declared.hysteresis.SetHysteresis.{SetHysteresis}
+use Rattle.record_base.specs.Kind.{Kind}
+use Rattle.record_base.specs.Member.{Member}
+use Rattle.record_base.specs.Reader.{Reader}
+use Rattle.record_base.specs.Requests.{byte_at}
 use Rattle.sensor_recs.specs.declared.hysteresis.HysteresisLimits.{HysteresisLimits}
 use Rattle.sensor_recs.specs.Hysteresis.{hysteresis_in, words, record_words, place}
 use Rattle.sensor_recs.specs.HysteresisLaws.{kind_laws, record_laws}

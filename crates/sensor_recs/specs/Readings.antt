@@ -3,9 +3,9 @@
 -- upper non-recoverable. Of each it is known whether the last reading was beyond it.
 use Rattle.std.specs.Prelude.{ℕ, zero, suc, ◌+◌, ◌*◌, List, [], ◌∷◌, ◌++◌, get_or, slice_index, Bool, true, false, not, ◌&&◌, nat_le, nat_lt, if◌then◌else◌}
 use Rattle.std.specs.List.{filter}
-use Rattle.cfg_records.specs.Masks.{has}
-use Rattle.cfg_records.specs.Sensor.Thresholds.{is_there}
-use Rattle.cfg_records.specs.declared.hysteresis.Hysteresis.{Hysteresis}
+use Rattle.record_base.specs.Masks.{has}
+use Rattle.record_base.specs.Sensor.Thresholds.{is_there}
+use Rattle.record_base.specs.declared.hysteresis.Hysteresis.{Hysteresis}
 use Rattle.sensor_recs.specs.declared.compared.Compared.{Compared}
 use Rattle.sensor_recs.specs.declared.compared.Event.{Event}
 

@@ -1,7 +1,7 @@
 -- Requests to sensors (IPMI 2.0).
 use Rattle.std.specs.Prelude.{ℕ, List}
-use Rattle.cfg_records.specs.declared.message.Asked.{Asked}
-use Rattle.cfg_records.specs.Requests.{sensor_event, ipmi_request}
+use Rattle.record_base.specs.declared.message.Asked.{Asked}
+use Rattle.record_base.specs.Requests.{sensor_event, ipmi_request}
 
 -- the sensor request with this command and data: from nobody, to logical unit 0
 abbrev pub sensor_request : ℕ → List ℕ → Asked

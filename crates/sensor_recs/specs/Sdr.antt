@@ -3,7 +3,7 @@ use Rattle.std.specs.Prelude.{ℕ, ◌+◌, ◌-◌, ◌==◌, List, length, Opt
 use Rattle.std.specs.List.{slice_get, position_or_len}
 use Rattle.sel_log.specs.declared.reservations.Reservations.{Reservations}
 use Rattle.sel_log.specs.Reservations.{no_reservation}
-use Rattle.cfg_records.specs.Sdr.{sdr_id}
+use Rattle.record_base.specs.Sdr.{sdr_id}
 
 pub record Repository : Type 0 where
   pub records : List (List ℕ)

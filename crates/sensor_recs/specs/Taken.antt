@@ -1,7 +1,7 @@
 -- Readings that were taken (IPMI 2.0, Get Sensor Reading): of each sensor the last one, and of which thresholds it was beyond.
 use Rattle.std.specs.Prelude.{ℕ, ◌+◌, ◌*◌, List, [], ◌∷◌, get_or, set, replicate, slice_index, Bool, false, Option, Some, None, is_none, if◌then◌else◌, refl}
-use Rattle.cfg_records.specs.Sensor.EventEnable.{flags_byte, makes_messages, is_scanning, enabled_in}
-use Rattle.cfg_records.specs.declared.thresholds.ThresholdMasks.{ThresholdMasks}
+use Rattle.record_base.specs.Sensor.EventEnable.{flags_byte, makes_messages, is_scanning, enabled_in}
+use Rattle.record_base.specs.declared.thresholds.ThresholdMasks.{ThresholdMasks}
 use Rattle.sensor_recs.specs.declared.compared.Compared.{Compared}
 use Rattle.sensor_recs.specs.declared.compared.Event.{Event}
 use Rattle.sensor_recs.specs.declared.compared.Taken.{Taken}

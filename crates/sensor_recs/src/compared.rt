@@ -1,7 +1,7 @@
 //! What readings of a sensor are compared with, and events.
 ghost use Rattle.std.specs.Prelude.{◌≡◌, length};
 
-use cfg_records::{EventMasks, Hysteresis, ThresholdMasks};
+use record_base::{EventMasks, Hysteresis, ThresholdMasks};
 
 /// What a sensor's readings are compared with, and which of its events count.
 #[derive(Clone, Copy, Debug)]

@@ -1,15 +1,15 @@
 //! Which events of a sensor are enabled, as a kind of record.
 ghost use Rattle.std.specs.Prelude.{◌≡◌, ◌≤◌, ◌/◌, ◌%◌, ◌&&◌, [], ◌∷◌, OnErr, length};
-ghost use Rattle.cfg_records.specs.Meaning.{told};
-ghost use Rattle.cfg_records.specs.Sensor.EventEnable.{are_within, enabled_in};
+ghost use Rattle.record_base.specs.Meaning.{told};
+ghost use Rattle.record_base.specs.Sensor.EventEnable.{are_within, enabled_in};
 ghost use Rattle.sensor_recs.specs.EventEnable.{difference, both_masks, events_after, is_accepted, events_outcome, selection, mask_bytes, event_enable_body, event_masks_in, event_change_in, event_enable_in, undo_change};
 
 use crate::request::sensor_request;
-use cfg_records::event_enable::{
+use record_base::event_enable::{
     MESSAGES_PLACE, SCANNING_PLACE, are_within, event_value, flags_byte,
 };
-use cfg_records::mask::has;
-use cfg_records::{
+use record_base::mask::has;
+use record_base::{
     Asked, CommandReader, EventChange, EventMasks, Key, Live, Op, RecordData, RecordKind, Sensor,
     SetEventEnable, Value, byte_at,
 };

@@ -3,7 +3,7 @@ ghost use Rattle.std.specs.Prelude.{◌≡◌};
 ghost use Rattle.sensor_recs.specs.Hysteresis.{both_bytes, hysteresis_body, hysteresis_in};
 
 use crate::request::sensor_request;
-use cfg_records::{
+use record_base::{
     Asked, CommandReader, Key, Live, Op, RecordData, RecordKind, Sensor, SetHysteresis, Value,
     byte_at,
 };

@@ -6,7 +6,7 @@ ghost use Rattle.sensor_recs.specs.Readings.{is_upper, is_beyond, reaches, comes
 
 use crate::compared::{Compared, Event};
 use arrayvec::ArrayVec;
-use cfg_records::Hysteresis;
+use record_base::Hysteresis;
 
 /// The events of a reading, in order: threshold by threshold, the assertion first.
 pub type Events = ArrayVec<Event, 12>;

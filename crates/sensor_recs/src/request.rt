@@ -3,8 +3,8 @@ ghost use Rattle.std.specs.Prelude.{◌≡◌, ◌≤◌, length};
 ghost use Rattle.two_wire.specs.Sizes.{most_ipmi_request_data};
 ghost use Rattle.sensor_recs.specs.Requests.{sensor_request};
 
-use cfg_records::Asked;
-use cfg_records::net_fn::SENSOR_EVENT;
+use record_base::Asked;
+use record_base::net_fn::SENSOR_EVENT;
 use two_wire::NetFn;
 
 /// The sensor request with this command and data: from nobody, to logical unit 0.

@@ -2,10 +2,10 @@
 ghost use Rattle.std.specs.Prelude.{◌≡◌, ◌==◌, length, slice_get, IfOk, IfSome, IfNone};
 ghost use Rattle.std.specs.List.{position_or_len};
 ghost use Rattle.sel_log.specs.Reservations.{next_number, is_present};
-ghost use Rattle.cfg_records.specs.Sdr.{sdr_id};
+ghost use Rattle.record_base.specs.Sdr.{sdr_id};
 ghost use Rattle.sensor_recs.specs.Sdr.{repository_of, place_for, asked_for, id_or_none, id_behind};
 
-use cfg_records::{Numbered, SdrRecord, SdrRecords};
+use record_base::{Numbered, SdrRecord, SdrRecords};
 use sel_log::{FIRST_RECORD, LAST_RECORD, Reservations};
 use std::alloc::{AllocError, Global};
 use std::marker::Model;

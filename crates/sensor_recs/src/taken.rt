@@ -5,9 +5,9 @@ ghost use Rattle.sensor_recs.specs.Readings.{events_of};
 
 use crate::compared::{Compared, Event, Taken};
 use crate::readings::Events;
-use cfg_records::event_enable::{MESSAGES_PLACE, SCANNING_PLACE, flags_byte};
-use cfg_records::mask::has;
-use cfg_records::{EventMasks, Hysteresis, ThresholdMasks, byte_at};
+use record_base::event_enable::{MESSAGES_PLACE, SCANNING_PLACE, flags_byte};
+use record_base::mask::has;
+use record_base::{EventMasks, Hysteresis, ThresholdMasks, byte_at};
 use sel_log::LogRecord;
 use std::alloc::{AllocError, Global};
 use std::marker::Model;

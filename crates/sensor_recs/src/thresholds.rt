@@ -3,8 +3,8 @@ ghost use Rattle.std.specs.Prelude.{◌≡◌, length};
 ghost use Rattle.sensor_recs.specs.Thresholds.{choose, thresholds_body, thresholds_in, shows_all};
 
 use crate::request::sensor_request;
-use cfg_records::mask::{has, is_within};
-use cfg_records::{
+use record_base::mask::{has, is_within};
+use record_base::{
     Asked, CommandReader, Key, Live, Op, RecordData, RecordKind, Sensor, SetThresholds,
     ThresholdMasks, Value, byte_at,
 };
@@ -80,7 +80,7 @@ fn shows_all(mask: u8, reply: &[u8]) -> bool
 
 impl ThresholdLimits {
     ghost use Rattle.std.specs.Prelude.{OnErr};
-    ghost use Rattle.cfg_records.specs.Meaning.{told};
+    ghost use Rattle.record_base.specs.Meaning.{told};
     ghost use Rattle.sensor_recs.specs.Thresholds.{thresholds_outcome};
 
     /// The limits that a sensor gives.

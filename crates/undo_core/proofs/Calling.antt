@@ -2,8 +2,8 @@
 use Rattle.std.proofs.Common.{◌≡◌, ℕ, ◌+◌, Bool, true, false, nat_lt, List, Option, Some, None, Ok, Err, if◌then◌else◌, ◌⊎◌, inl, inr, refl, sym, ◌∙◌, ap, subst}
 use Rattle.std.specs.Option.{option_map}
 use Rattle.std.specs.Prelude.{slice_get}
-use Rattle.cfg_records.specs.declared.op.Op.{Op}
-use Rattle.cfg_records.specs.declared.message.Asked.{Asked}
+use Rattle.record_base.specs.declared.op.Op.{Op}
+use Rattle.record_base.specs.declared.message.Asked.{Asked}
 use Rattle.plans.specs.declared.names.Names.{Names}
 use Rattle.undo_model.specs.Machine as machine
 use Rattle.lab_model.specs.ManagerSteps.{board_plans, ManagerState, Call, waits_after, turn_of, called, goes_on, sent_of}

@@ -8,9 +8,9 @@ use Rattle.ipmb_frame.specs.declared.message.Msg.{Msg}
 use Rattle.ipmb_frame.specs.declared.message.Msg.TheVariants as msg
 use Rattle.ipmb_frame.specs.declared.fault.FrameFault.{FrameFault}
 use Rattle.mctp_net.specs.declared.fault.PacketFault.{PacketFault}
-use Rattle.cfg_records.specs.declared.op.Op.{Op}
-use Rattle.cfg_records.specs.declared.message.Asked.{Asked}
-use Rattle.cfg_records.specs.declared.message.Asked.TheVariants.{Ipmi}
+use Rattle.record_base.specs.declared.op.Op.{Op}
+use Rattle.record_base.specs.declared.message.Asked.{Asked}
+use Rattle.record_base.specs.declared.message.Asked.TheVariants.{Ipmi}
 use Rattle.mctp_net.specs.declared.packet.Packet.{Packet}
 use Rattle.mctp_net.specs.declared.taken.DropCause.{DropCause}
 use Rattle.mctp_net.specs.declared.taken.Taken.{Taken}

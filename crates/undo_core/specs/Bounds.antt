@@ -1,7 +1,7 @@
 -- How far a manager's numbers go.
 use Rattle.std.specs.Prelude.{ℕ, suc, ◌+◌, ◌-◌, ◌*◌, ◌==◌, List, [], ◌∷◌, ◌++◌, Option, Some, None, if◌then◌else◌}
 use Rattle.two_wire.specs.Codes.{success}
-use Rattle.cfg_records.specs.declared.message.Asked.{Asked}
+use Rattle.record_base.specs.declared.message.Asked.{Asked}
 use Rattle.plans.specs.Steps.{most_steps}
 use Rattle.undo_core.specs.declared.stage.Task.{Task}
 use Rattle.undo_core.specs.declared.stage.Task.TheVariants.{Gets, Sets, Undoes}

@@ -1,8 +1,8 @@
 -- The machine that a manager shows, and the packets that wait at it.
 use Rattle.std.specs.Prelude.{◌≡◌, Result, Ok, Err, suc, ◌%◌, ◌<◌, Bool, List, ◌∷◌, length, map, take, reverse, Option, Some, None, slice_get, if◌then◌else◌}
 use Rattle.std.specs.List.{AllZip}
-use Rattle.cfg_records.specs.declared.op.Op.{Op}
-use Rattle.cfg_records.specs.declared.message.Asked.{Asked}
+use Rattle.record_base.specs.declared.op.Op.{Op}
+use Rattle.record_base.specs.declared.message.Asked.{Asked}
 use Rattle.plans.specs.declared.names.Names.{Names}
 use Rattle.mctp_net.specs.Places.{seen}
 use Rattle.undo_model.specs.Words.{Answered, Words}

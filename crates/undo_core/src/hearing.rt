@@ -2,8 +2,8 @@
 ghost use Rattle.std.specs.Prelude.{◌≡◌, ◌&&◌, not, ◌+◌, ◌-◌, ◌*◌, ◌≤◌, ◌<◌, ◌==◌, ℕ, suc, length, take, slice_get, List, Some, None, IfSome, false, if◌then◌else◌};
 ghost use Rattle.two_wire.specs.Sizes.{most_message_bytes};
 ghost use Rattle.two_wire.specs.Codes.{success};
-ghost use Rattle.cfg_records.specs.declared.op.Op.{Op};
-ghost use Rattle.cfg_records.specs.declared.message.Asked.{Asked as AnyAsked};
+ghost use Rattle.record_base.specs.declared.op.Op.{Op};
+ghost use Rattle.record_base.specs.declared.message.Asked.{Asked as AnyAsked};
 ghost use Rattle.record_kinds.specs.Limits.{inverse};
 ghost use Rattle.plans.specs.declared.names.Names.{Names};
 ghost use Rattle.plans.specs.Steps.{most_steps};

@@ -4,7 +4,7 @@ ghost use Rattle.lab_model.specs.Values.{written, IsFrameOn};
 ghost use Rattle.lab_model.specs.ManagerSteps.{values_of};
 ghost use Rattle.undo_model.specs.Machine.{count_of, one_answered};
 ghost use Rattle.lab_model.specs.ManagerWords.{bus_of as bus_of_request};
-ghost use Rattle.cfg_records.specs.declared.message.Asked.TheVariants as asked_as;
+ghost use Rattle.record_base.specs.declared.message.Asked.TheVariants as asked_as;
 ghost use Rattle.std.specs.List.{AllZip};
 ghost use Rattle.two_wire.specs.declared.Bus.TheVariants.{Ipmb as IsIpmb, Smbus as IsSmbus};
 ghost use Rattle.undo_core.specs.Counted.{counts_of};

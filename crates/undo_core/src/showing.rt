@@ -1,8 +1,8 @@
 //! Where a manager is, and the stages that it enters.
 ghost use Rattle.std.specs.Prelude.{◌≡◌, ◌%◌, ◌+◌, ◌-◌, ◌*◌, ◌≤◌, length, Some, ℕ};
 ghost use Rattle.std.specs.Prelude.{List, take, slice_get, option_map};
-ghost use Rattle.cfg_records.specs.declared.op.Op.{Op};
-ghost use Rattle.cfg_records.specs.declared.message.Asked.{Asked as AnyAsked};
+ghost use Rattle.record_base.specs.declared.op.Op.{Op};
+ghost use Rattle.record_base.specs.declared.message.Asked.{Asked as AnyAsked};
 ghost use Rattle.plans.specs.declared.names.Names.{Names as AnyNames};
 ghost use Rattle.plans.specs.Steps.{most_steps};
 ghost use Rattle.undo_model.specs.Machine as machine;

@@ -3,8 +3,8 @@ ghost use Rattle.std.specs.Prelude.{◌≡◌, ◌⊎◌, ℕ, Bool, true, false
 ghost use Rattle.lab_model.specs.ManagerWords.{bus_of as bus_of_request};
 ghost use Rattle.undo_core.specs.declared.stage.Stage.TheVariants.{Opened as IsOpened, AtEnd as IsAtEnd, AtHalt as IsAtHalt};
 ghost use Rattle.undo_core.specs.declared.phase.Why.{Why as AnyWhy};
-ghost use Rattle.cfg_records.specs.declared.op.Op.{Op};
-ghost use Rattle.cfg_records.specs.declared.message.Asked.{Asked as AnyAsked};
+ghost use Rattle.record_base.specs.declared.op.Op.{Op};
+ghost use Rattle.record_base.specs.declared.message.Asked.{Asked as AnyAsked};
 ghost use Rattle.plans.specs.declared.names.Names.{Names};
 ghost use Rattle.undo_model.specs.Machine as machine;
 ghost use Rattle.undo_core.specs.Phases.{phase_of};

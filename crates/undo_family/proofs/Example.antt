@@ -3,9 +3,9 @@ use Rattle.std.proofs.Common.{◌≡◌, ℕ, true, List, [], ◌∷◌, Some, r
 use Rattle.std.proofs.lemmas.Option.{same_Some}
 use Rattle.two_wire.specs.declared.Bus.{Bus}
 use Rattle.two_wire.specs.declared.Bus.TheVariants.{Ipmb, Smbus}
-use Rattle.cfg_records.specs.declared.key.Key.TheVariants as key
+use Rattle.record_base.specs.declared.key.Key.TheVariants as key
 use Rattle.cfg_records.specs.declared.board_file.BoardFile.{BoardFile}
-use Rattle.cfg_records.specs.PowerPolicy.{IsPowerPolicy}
+use Rattle.record_base.specs.PowerPolicy.{IsPowerPolicy}
 use Rattle.cfg_records.specs.Records.{Records}
 use Rattle.bmc_board.specs.State.{State}
 use Rattle.bmc_board.proofs.OneAnswer.{has_answer}

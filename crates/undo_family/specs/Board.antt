@@ -2,8 +2,8 @@
 use Rattle.std.specs.Prelude.{◌≡◌, false, Some, None}
 use Rattle.two_wire.specs.declared.Bus.{Bus}
 use Rattle.cfg_records.specs.Records.{Records}
-use Rattle.cfg_records.specs.declared.message.Asked.{Asked}
-use Rattle.cfg_records.specs.declared.message.Answered.{Answered as BoardAnswer}
+use Rattle.record_base.specs.declared.message.Asked.{Asked}
+use Rattle.record_base.specs.declared.message.Answered.{Answered as BoardAnswer}
 use Rattle.cfg_records.specs.declared.board_file.BoardFile.{BoardFile}
 use Rattle.record_kinds.specs.Sound.{IsSound}
 use Rattle.bmc_board.specs.State.{State, opened}

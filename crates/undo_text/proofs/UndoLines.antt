@@ -12,8 +12,8 @@ use Rattle.hex.specs.Hex.{IsBytes, decode_of, encode_upper, is_hex_digit}
 use Rattle.hex.proofs.HexLemmas.{decode_of-ok, decode_of-encode_upper}
 use Rattle.line_text.specs.Cuts.{Lacks, CutsAt}
 use Rattle.line_text.proofs.Cuts.{lacks_by_index, same_cut, not_lacking}
-use Rattle.cfg_records.specs.declared.message.Asked.{Asked}
-use Rattle.cfg_records.specs.declared.message.Asked.TheVariants.{Ipmi, Pldm}
+use Rattle.record_base.specs.declared.message.Asked.{Asked}
+use Rattle.record_base.specs.declared.message.Asked.TheVariants.{Ipmi, Pldm}
 use Rattle.plans.specs.declared.undo_list.NextNumbers.{NextNumbers}
 use Rattle.undo_text.specs.UndoText.{version_line, numbers_line, IsNumbersLine, bus_of, bytes_of, line_of, IsPlain, Fits, IsRequestLine, BeginsWith, IsGood}
 

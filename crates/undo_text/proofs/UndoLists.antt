@@ -7,7 +7,7 @@ use Rattle.std.proofs.lemmas.List.{reverse-reverse, reverse-append, map-append}
 use Rattle.std.proofs.lemmas.Slice.Zip.{AllZip-long}
 use Rattle.line_text.specs.Cuts.{Lacks, ended}
 use Rattle.line_text.proofs.Cuts.{same_cut}
-use Rattle.cfg_records.specs.declared.message.Asked.{Asked}
+use Rattle.record_base.specs.declared.message.Asked.{Asked}
 use Rattle.plans.specs.declared.undo_list.NextNumbers.{NextNumbers}
 use Rattle.plans.specs.declared.undo_list.UndoList.{UndoList}
 use Rattle.undo_text.specs.declared.text.UndoFault.{UndoFault}

@@ -4,13 +4,13 @@ ghost use Rattle.std.specs.Fmt.{decimal};
 ghost use Rattle.two_wire.specs.Sizes.{most_pldm_request_data};
 ghost use Rattle.hex.specs.Hex.{IsBytes, decode_of, encode_upper};
 ghost use Rattle.line_text.specs.Cuts.{ended};
-ghost use Rattle.cfg_records.specs.declared.message.Asked.{Asked as AnyAsked};
+ghost use Rattle.record_base.specs.declared.message.Asked.{Asked as AnyAsked};
 ghost use Rattle.plans.specs.declared.undo_list.NextNumbers.{NextNumbers as AnyNumbers};
 ghost use Rattle.undo_text.specs.UndoText.{IsPlain, IsNumbersLine, IsOf, IsRequestLine, BeginsWith, name_of, line_of};
 
-use cfg_records::Asked;
 use line_text::{behind, bytes, first_line, first_word, plain_number};
 use plans::NextNumbers;
+use record_base::Asked;
 use std::alloc::{AllocError, Global};
 use two_wire::size::{MOST_IPMI_REQUEST_DATA, MOST_PLDM_REQUEST_DATA};
 use two_wire::{Below, Bus, Bytes, Lun, NetFn};

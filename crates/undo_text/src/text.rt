@@ -7,9 +7,9 @@ ghost use Rattle.plans.specs.Steps.{most_steps};
 ghost use Rattle.undo_text.specs.UndoText.{IsPlain, IsRequestLine, AreLinesOf, Stands, IsFirstBad, IsFirstBadFrom, line_of, text_of};
 
 use crate::line::{first_numbers, first_request, push_request};
-use cfg_records::Asked;
 use line_text::behind;
 use plans::{MOST_STEPS, NextNumbers, Requests, UndoList};
+use record_base::Asked;
 use std::alloc::{AllocError, Global};
 use std::fmt;
 

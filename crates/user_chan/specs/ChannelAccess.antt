@@ -2,22 +2,22 @@
 -- access in bits 5:0, of which 2:0 are the mode, and the limit of privileges.
 use Rattle.std.specs.Prelude.{◌≡◌, ℕ, ◌+◌, ◌*◌, ◌%◌, ◌<◌, List, [], ◌∷◌, length, slice_index, Bool, nat_le, ◌&&◌, ◌==◌, IsTrue, if◌then◌else◌, Result, Ok, Err, Option, Some, None, refl}
 use Rattle.two_wire.specs.Codes.{invalid_data_field}
-use Rattle.cfg_records.specs.declared.key.Key.{Key}
-use Rattle.cfg_records.specs.declared.key.Key.TheVariants as key
-use Rattle.cfg_records.specs.declared.op.Op.{Op}
-use Rattle.cfg_records.specs.declared.op.Op.TheVariants as op
-use Rattle.cfg_records.specs.declared.channel.AccessStore.{AccessStore}
-use Rattle.cfg_records.specs.declared.channel.AccessStore.TheVariants.{NonVolatile, Volatile, Neither}
-use Rattle.cfg_records.specs.declared.channel.StoredAccess.{StoredAccess}
-use Rattle.cfg_records.specs.declared.channel.ChannelChange.{ChannelChange}
-use Rattle.cfg_records.specs.declared.channel.ChannelChange.TheVariants.{Access, Limit, Both}
-use Rattle.cfg_records.specs.declared.channel.SetChannelAccess.{SetChannelAccess}
-use Rattle.cfg_records.specs.Kind.{KindWords, RecordWords}
-use Rattle.cfg_records.specs.AllKinds.{Place}
-use Rattle.cfg_records.specs.Boards.{stored}
-use Rattle.cfg_records.specs.ChannelAccess.{IsChannelAccess}
-use Rattle.cfg_records.specs.Numbers.{six_bits_in}
-use Rattle.cfg_records.specs.Requests.{application, ipmi_request}
+use Rattle.record_base.specs.declared.key.Key.{Key}
+use Rattle.record_base.specs.declared.key.Key.TheVariants as key
+use Rattle.record_base.specs.declared.op.Op.{Op}
+use Rattle.record_base.specs.declared.op.Op.TheVariants as op
+use Rattle.record_base.specs.declared.channel.AccessStore.{AccessStore}
+use Rattle.record_base.specs.declared.channel.AccessStore.TheVariants.{NonVolatile, Volatile, Neither}
+use Rattle.record_base.specs.declared.channel.StoredAccess.{StoredAccess}
+use Rattle.record_base.specs.declared.channel.ChannelChange.{ChannelChange}
+use Rattle.record_base.specs.declared.channel.ChannelChange.TheVariants.{Access, Limit, Both}
+use Rattle.record_base.specs.declared.channel.SetChannelAccess.{SetChannelAccess}
+use Rattle.record_base.specs.Kind.{KindWords, RecordWords}
+use Rattle.record_base.specs.AllKinds.{Place}
+use Rattle.record_base.specs.Values.{stored}
+use Rattle.record_base.specs.ChannelAccess.{IsChannelAccess}
+use Rattle.record_base.specs.Numbers.{six_bits_in}
+use Rattle.record_base.specs.Requests.{application, ipmi_request}
 
 -- the commands that set it and get it
 abbrev pub set_channel_access : ℕ

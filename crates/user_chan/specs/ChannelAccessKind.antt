@@ -1,8 +1,8 @@
 -- ChannelAccess as one value, and where it stands among all kinds.
-use Rattle.cfg_records.specs.declared.channel.StoredAccess.{StoredAccess}
-use Rattle.cfg_records.specs.declared.channel.SetChannelAccess.{SetChannelAccess}
-use Rattle.cfg_records.specs.Kind.{Kind}
-use Rattle.cfg_records.specs.Member.{Member}
+use Rattle.record_base.specs.declared.channel.StoredAccess.{StoredAccess}
+use Rattle.record_base.specs.declared.channel.SetChannelAccess.{SetChannelAccess}
+use Rattle.record_base.specs.Kind.{Kind}
+use Rattle.record_base.specs.Member.{Member}
 use Rattle.user_chan.specs.declared.channel_access.ChannelAccessLimits.{ChannelAccessLimits}
 use Rattle.user_chan.specs.ChannelAccess.{words, record_words, place}
 use Rattle.user_chan.specs.ChannelAccessLaws.{kind_laws, record_laws}

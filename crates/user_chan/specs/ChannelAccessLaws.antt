@@ -3,17 +3,17 @@ use Rattle.std.proofs.Common.{◌≡◌, ℕ, ◌%◌, ◌<◌, ◌≤◌, List,
 use Rattle.std.proofs.lemmas.Bool.Decides.{nat_tests}
 use Rattle.std.proofs.lemmas.Grind.{same_number_lists, common_steps}
 use Rattle.two_wire.specs.Codes.{invalid_data_field}
-use Rattle.cfg_records.specs.declared.channel.ChannelChange.{ChannelChange}
-use Rattle.cfg_records.specs.declared.channel.ChannelChange.TheVariants.{Access, Limit, Both}
-use Rattle.cfg_records.specs.declared.channel.SetChannelAccess.{SetChannelAccess}
-use Rattle.cfg_records.specs.MaskLaws.{both_true, both}
-use Rattle.cfg_records.specs.Meaning.{Decides, IsRefusal}
-use Rattle.cfg_records.specs.InverseLaws.{some_where, made_where, tested_same, same_tested}
-use Rattle.cfg_records.specs.Kind.{KindLaws, RecordLaws}
-use Rattle.cfg_records.specs.RefusalLaws.{refused_field}
-use Rattle.cfg_records.specs.Boards.{stored}
-use Rattle.cfg_records.specs.ChannelAccess.{IsChannelAccess}
-use Rattle.cfg_records.specs.PartLaws.{IsChannelAccess-prop}
+use Rattle.record_base.specs.declared.channel.ChannelChange.{ChannelChange}
+use Rattle.record_base.specs.declared.channel.ChannelChange.TheVariants.{Access, Limit, Both}
+use Rattle.record_base.specs.declared.channel.SetChannelAccess.{SetChannelAccess}
+use Rattle.record_base.specs.MaskLaws.{both_true, both}
+use Rattle.record_base.specs.Meaning.{Decides, IsRefusal}
+use Rattle.record_base.specs.InverseLaws.{some_where, made_where, tested_same, same_tested}
+use Rattle.record_base.specs.Kind.{KindLaws, RecordLaws}
+use Rattle.record_base.specs.RefusalLaws.{refused_field}
+use Rattle.record_base.specs.Values.{stored}
+use Rattle.record_base.specs.ChannelAccess.{IsChannelAccess}
+use Rattle.record_base.specs.PartLaws.{IsChannelAccess-prop}
 use Rattle.user_chan.specs.ChannelAccess.{is_access, is_limit, is_change, changed, SetsChannelAccess, undo_change, undo_channel, is_plain_change, words, record_words}
 
 -- a list of two is its two members

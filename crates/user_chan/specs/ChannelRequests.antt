@@ -1,17 +1,17 @@
 -- What the commands of channel access ask for, by their data (IPMI 2.0, Set and Get Channel Access): the channel in bits 3:0 of the first byte,
 -- and a store in bits 7:6 of the others.
 use Rattle.std.specs.Prelude.{ℕ, ◌/◌, ◌==◌, List, Bool, Option, Some, None, if◌then◌else◌}
-use Rattle.cfg_records.specs.declared.channel.AccessStore.{AccessStore}
-use Rattle.cfg_records.specs.declared.channel.AccessStore.TheVariants.{NonVolatile, Volatile, Neither}
-use Rattle.cfg_records.specs.declared.channel.ChannelNumber.{ChannelNumber}
-use Rattle.cfg_records.specs.declared.channel.StoredAccess.{StoredAccess}
-use Rattle.cfg_records.specs.declared.channel.SixBits.{SixBits}
-use Rattle.cfg_records.specs.declared.channel.ChannelChange.{ChannelChange}
-use Rattle.cfg_records.specs.declared.channel.ChannelChange.TheVariants.{Access, Limit, Both}
-use Rattle.cfg_records.specs.declared.channel.SetChannelAccess.{SetChannelAccess}
-use Rattle.cfg_records.specs.Boards.{stored}
-use Rattle.cfg_records.specs.Numbers.{channel_in, six_bits_in}
-use Rattle.cfg_records.specs.Requests.{byte_at}
+use Rattle.record_base.specs.declared.channel.AccessStore.{AccessStore}
+use Rattle.record_base.specs.declared.channel.AccessStore.TheVariants.{NonVolatile, Volatile, Neither}
+use Rattle.record_base.specs.declared.channel.ChannelNumber.{ChannelNumber}
+use Rattle.record_base.specs.declared.channel.StoredAccess.{StoredAccess}
+use Rattle.record_base.specs.declared.channel.SixBits.{SixBits}
+use Rattle.record_base.specs.declared.channel.ChannelChange.{ChannelChange}
+use Rattle.record_base.specs.declared.channel.ChannelChange.TheVariants.{Access, Limit, Both}
+use Rattle.record_base.specs.declared.channel.SetChannelAccess.{SetChannelAccess}
+use Rattle.record_base.specs.Values.{stored}
+use Rattle.record_base.specs.Numbers.{channel_in, six_bits_in}
+use Rattle.record_base.specs.Requests.{byte_at}
 use Rattle.user_chan.specs.ChannelAccess.{store_bits}
 use Rattle.user_chan.specs.declared.channel_request.ChannelRequest.{ChannelRequest}
 use Rattle.user_chan.specs.declared.channel_request.ChannelRequest.TheVariants.{Leave, One, Two}

@@ -6,8 +6,8 @@ use Rattle.std.proofs.lemmas.Nat.Bits.{bit_at_and, bit_at_or, bit_at_not, bit_at
 use Rattle.std.proofs.lemmas.Nat.{pow_below}
 use Rattle.std.proofs.lemmas.List.{get_or-set_other}
 use Rattle.std.proofs.lemmas.Grind.{get_or-set_at}
-use Rattle.cfg_records.specs.InverseLaws.{tested_same, same_tested}
-use Rattle.cfg_records.specs.MaskLaws.{both_true, both}
+use Rattle.record_base.specs.InverseLaws.{tested_same, same_tested}
+use Rattle.record_base.specs.MaskLaws.{both_true, both}
 use Rattle.user_chan.specs.declared.password.Password.{Password}
 use Rattle.user_chan.specs.declared.password.Password.TheVariants.{Sixteen, Twenty}
 use Rattle.user_chan.specs.Passwords.{wrong_text, wrong_size, same_bytes, same_password, same_size, test_answer, opening_password, enabled_after, TestsTell, AllTestsTell, AllSetsAreKept, ChangesOneStatus}

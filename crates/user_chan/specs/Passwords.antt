@@ -3,9 +3,9 @@
 use Rattle.std.specs.Prelude.{◌≡◌, ℕ, ◌-◌, ◌^◌, ◌<◌, ◌%◌, List, [], ◌∷◌, length, get_or, drop, replicate, bit_and, bit_or, ◌==◌, ◌&&◌, Bool, true, false, if◌then◌else◌, Result, Ok, Err}
 use Rattle.std.proofs.Math.ListN.{set}
 use Rattle.two_wire.specs.Codes.{invalid_length}
-use Rattle.cfg_records.specs.Masks.{has}
-use Rattle.cfg_records.specs.Requests.{byte_at}
-use Rattle.cfg_records.specs.declared.live.Live.{Live}
+use Rattle.record_base.specs.Masks.{has}
+use Rattle.record_base.specs.Requests.{byte_at}
+use Rattle.record_base.specs.declared.live.Live.{Live}
 use Rattle.user_chan.specs.declared.password.Password.{Password}
 use Rattle.user_chan.specs.declared.password.Password.TheVariants.{Sixteen, Twenty}
 use Rattle.user_chan.specs.declared.password.PasswordChange.{PasswordChange}

@@ -2,19 +2,19 @@
 -- and messages, and the limit of privileges in bits 3:0.
 use Rattle.std.specs.Prelude.{◌≡◌, ℕ, ◌+◌, ◌*◌, ◌/◌, ◌%◌, ◌<◌, List, [], ◌∷◌, length, slice_index, count_ones, Bool, false, IsTrue, ◌==◌, if◌then◌else◌, Result, Ok, Err, Option, Some, None, refl}
 use Rattle.two_wire.specs.Codes.{invalid_data_field}
-use Rattle.cfg_records.specs.declared.key.Key.{Key}
-use Rattle.cfg_records.specs.declared.key.Key.TheVariants as key
-use Rattle.cfg_records.specs.declared.op.Op.{Op}
-use Rattle.cfg_records.specs.declared.op.Op.TheVariants as op
-use Rattle.cfg_records.specs.declared.live.Live.{Live}
-use Rattle.cfg_records.specs.declared.user.UserOnChannel.{UserOnChannel}
-use Rattle.cfg_records.specs.declared.user.SetUserAccess.{SetUserAccess}
-use Rattle.cfg_records.specs.Kind.{KindWords, RecordWords}
-use Rattle.cfg_records.specs.AllKinds.{Place}
-use Rattle.cfg_records.specs.Masks.{has}
-use Rattle.cfg_records.specs.Numbers.{user_on}
-use Rattle.cfg_records.specs.UserAccess.{is_limit, IsUserAccess}
-use Rattle.cfg_records.specs.Requests.{application, ipmi_request, byte_at}
+use Rattle.record_base.specs.declared.key.Key.{Key}
+use Rattle.record_base.specs.declared.key.Key.TheVariants as key
+use Rattle.record_base.specs.declared.op.Op.{Op}
+use Rattle.record_base.specs.declared.op.Op.TheVariants as op
+use Rattle.record_base.specs.declared.live.Live.{Live}
+use Rattle.record_base.specs.declared.user.UserOnChannel.{UserOnChannel}
+use Rattle.record_base.specs.declared.user.SetUserAccess.{SetUserAccess}
+use Rattle.record_base.specs.Kind.{KindWords, RecordWords}
+use Rattle.record_base.specs.AllKinds.{Place}
+use Rattle.record_base.specs.Masks.{has}
+use Rattle.record_base.specs.Numbers.{user_on}
+use Rattle.record_base.specs.UserAccess.{is_limit, IsUserAccess}
+use Rattle.record_base.specs.Requests.{application, ipmi_request, byte_at}
 use Rattle.user_chan.specs.declared.user_access.UserAccessLimits.{UserAccessLimits}
 
 -- the commands that set it and get it

@@ -1,11 +1,11 @@
 -- UserAccess as one value, and where it stands among all kinds.
-use Rattle.cfg_records.specs.declared.user.UserOnChannel.{UserOnChannel}
-use Rattle.cfg_records.specs.declared.user.SetUserAccess.{SetUserAccess}
-use Rattle.cfg_records.specs.Kind.{Kind}
-use Rattle.cfg_records.specs.Member.{Member}
-use Rattle.cfg_records.specs.Reader.{Reader}
-use Rattle.cfg_records.specs.Requests.{byte_at}
-use Rattle.cfg_records.specs.Numbers.{user_on}
+use Rattle.record_base.specs.declared.user.UserOnChannel.{UserOnChannel}
+use Rattle.record_base.specs.declared.user.SetUserAccess.{SetUserAccess}
+use Rattle.record_base.specs.Kind.{Kind}
+use Rattle.record_base.specs.Member.{Member}
+use Rattle.record_base.specs.Reader.{Reader}
+use Rattle.record_base.specs.Requests.{byte_at}
+use Rattle.record_base.specs.Numbers.{user_on}
 use Rattle.user_chan.specs.declared.user_access.UserAccessLimits.{UserAccessLimits}
 use Rattle.user_chan.specs.UserAccess.{access_in, words, record_words, place}
 use Rattle.user_chan.specs.UserAccessLaws.{kind_laws, record_laws}

@@ -3,17 +3,17 @@ use Rattle.std.proofs.Common.{◌≡◌, ℕ, ◌+◌, ◌*◌, ◌/◌, ◌%◌
 use Rattle.std.proofs.lemmas.Bool.Decides.{nat_tests}
 use Rattle.std.proofs.lemmas.Grind.{same_number_lists, common_steps}
 use Rattle.two_wire.specs.Codes.{invalid_data_field}
-use Rattle.cfg_records.specs.declared.live.Live.{Live}
-use Rattle.cfg_records.specs.declared.user.SetUserAccess.{SetUserAccess}
-use Rattle.cfg_records.specs.Masks.{has}
-use Rattle.cfg_records.specs.Meaning.{Decides, IsRefusal}
-use Rattle.cfg_records.specs.InverseLaws.{some_where, made_where, tested_same, same_tested}
-use Rattle.cfg_records.specs.Kind.{KindLaws, RecordLaws}
-use Rattle.cfg_records.specs.RefusalLaws.{refused_field}
-use Rattle.cfg_records.specs.Numbers.{channel_in, user_in, user_on}
-use Rattle.cfg_records.specs.NumberLaws.{below_64, same_channel, same_user}
-use Rattle.cfg_records.specs.UserAccess.{is_limit, IsUserAccess}
-use Rattle.cfg_records.specs.PartLaws.{IsUserAccess-prop}
+use Rattle.record_base.specs.declared.live.Live.{Live}
+use Rattle.record_base.specs.declared.user.SetUserAccess.{SetUserAccess}
+use Rattle.record_base.specs.Masks.{has}
+use Rattle.record_base.specs.Meaning.{Decides, IsRefusal}
+use Rattle.record_base.specs.InverseLaws.{some_where, made_where, tested_same, same_tested}
+use Rattle.record_base.specs.Kind.{KindLaws, RecordLaws}
+use Rattle.record_base.specs.RefusalLaws.{refused_field}
+use Rattle.record_base.specs.Numbers.{channel_in, user_in, user_on}
+use Rattle.record_base.specs.NumberLaws.{below_64, same_channel, same_user}
+use Rattle.record_base.specs.UserAccess.{is_limit, IsUserAccess}
+use Rattle.record_base.specs.PartLaws.{IsUserAccess-prop}
 use Rattle.user_chan.specs.declared.user_access.UserAccessLimits.{UserAccessLimits}
 use Rattle.user_chan.specs.UserAccess.{bits_of, low_of, changes_bits, SetsUserAccess, next_bits, byte_of, access_view, first_byte, undo_access, IsPlainAccess, words, record_words}
 

@@ -1,16 +1,16 @@
 -- The names of users, as a kind of record (IPMI 2.0, Set and Get User Name). A value has the sixteen bytes of a name.
 use Rattle.std.specs.Prelude.{◌≡◌, ◌≢◌, ℕ, ◌%◌, ◌<◌, List, [], ◌∷◌, length, slice_index, ◌==◌, if◌then◌else◌, Result, Ok, Err, Option, Some, None, refl}
 use Rattle.two_wire.specs.Codes.{invalid_data_field}
-use Rattle.cfg_records.specs.declared.key.Key.{Key}
-use Rattle.cfg_records.specs.declared.key.Key.TheVariants as key
-use Rattle.cfg_records.specs.declared.op.Op.{Op}
-use Rattle.cfg_records.specs.declared.op.Op.TheVariants as op
-use Rattle.cfg_records.specs.declared.user.UserNumber.{UserNumber}
-use Rattle.cfg_records.specs.declared.user.SetUserName.{SetUserName}
-use Rattle.cfg_records.specs.Kind.{KindWords, RecordWords}
-use Rattle.cfg_records.specs.AllKinds.{Place}
-use Rattle.cfg_records.specs.Numbers.{user_in}
-use Rattle.cfg_records.specs.Requests.{application, ipmi_request, byte_at}
+use Rattle.record_base.specs.declared.key.Key.{Key}
+use Rattle.record_base.specs.declared.key.Key.TheVariants as key
+use Rattle.record_base.specs.declared.op.Op.{Op}
+use Rattle.record_base.specs.declared.op.Op.TheVariants as op
+use Rattle.record_base.specs.declared.user.UserNumber.{UserNumber}
+use Rattle.record_base.specs.declared.user.SetUserName.{SetUserName}
+use Rattle.record_base.specs.Kind.{KindWords, RecordWords}
+use Rattle.record_base.specs.AllKinds.{Place}
+use Rattle.record_base.specs.Numbers.{user_in}
+use Rattle.record_base.specs.Requests.{application, ipmi_request, byte_at}
 
 -- the commands that set it and get it
 abbrev pub set_user_name : ℕ

@@ -3,13 +3,13 @@ use Rattle.std.proofs.Common.{◌≡◌, ◌≢◌, ℕ, ◌%◌, List, [], ◌�
 use Rattle.std.proofs.Props.{props}
 use Rattle.std.proofs.lemmas.Bool.Decides.{nat_tests}
 use Rattle.two_wire.specs.Codes.{invalid_data_field}
-use Rattle.cfg_records.specs.declared.user.SetUserName.{SetUserName}
-use Rattle.cfg_records.specs.Meaning.{Decides, IsRefusal}
-use Rattle.cfg_records.specs.InverseLaws.{some_where, made_where, tested_same, same_tested}
-use Rattle.cfg_records.specs.Kind.{KindLaws, RecordLaws}
-use Rattle.cfg_records.specs.RefusalLaws.{refused_field}
-use Rattle.cfg_records.specs.Numbers.{user_in}
-use Rattle.cfg_records.specs.NumberLaws.{below_64, same_user}
+use Rattle.record_base.specs.declared.user.SetUserName.{SetUserName}
+use Rattle.record_base.specs.Meaning.{Decides, IsRefusal}
+use Rattle.record_base.specs.InverseLaws.{some_where, made_where, tested_same, same_tested}
+use Rattle.record_base.specs.Kind.{KindLaws, RecordLaws}
+use Rattle.record_base.specs.RefusalLaws.{refused_field}
+use Rattle.record_base.specs.Numbers.{user_in}
+use Rattle.record_base.specs.NumberLaws.{below_64, same_user}
 use Rattle.user_chan.specs.UserNames.{nameless, user_of, SetsUserName, shown_name, undo_name, words, record_words}
 
 -- what holds of all lists of sixteen holds of a list of that length

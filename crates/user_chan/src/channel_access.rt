@@ -1,11 +1,11 @@
 //! The access of a channel, in one of its stores, as a kind of record.
 ghost use Rattle.std.specs.Prelude.{◌≡◌, ◌≤◌, OnErr, length};
-ghost use Rattle.cfg_records.specs.Meaning.{told};
-ghost use Rattle.cfg_records.specs.ChannelAccess.{IsChannelAccess};
+ghost use Rattle.record_base.specs.Meaning.{told};
+ghost use Rattle.record_base.specs.ChannelAccess.{IsChannelAccess};
 ghost use Rattle.user_chan.specs.ChannelAccess.{is_access, is_limit, is_change, channel_outcome, store_bits, in_store, channel_body};
 
-use cfg_records::net_fn::APPLICATION;
-use cfg_records::{
+use record_base::net_fn::APPLICATION;
+use record_base::{
     AccessStore, Asked, ChannelChange, Key, Live, RecordData, RecordKind, SetChannelAccess,
     SixBits, StoredAccess, Value,
 };

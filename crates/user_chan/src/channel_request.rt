@@ -2,7 +2,7 @@
 ghost use Rattle.std.specs.Prelude.{◌≡◌};
 ghost use Rattle.user_chan.specs.ChannelRequests.{store_at, stored_in, named, same_store, asked_for, channel_request_in};
 
-use cfg_records::{
+use record_base::{
     AccessStore, ChannelChange, ChannelNumber, SetChannelAccess, SixBits, StoredAccess, byte_at,
 };
 

@@ -2,8 +2,8 @@
 ghost use Rattle.std.specs.Prelude.{◌≡◌, ◌↔◌, ◌<◌, drop, IsTrue};
 ghost use Rattle.user_chan.specs.Passwords.{password_in, change_in, change_of, same_password, same_size, test_answer, with_enabled};
 
-use cfg_records::mask::has;
-use cfg_records::{Live, UserNumber, byte_at};
+use record_base::mask::has;
+use record_base::{Live, UserNumber, byte_at};
 use std::alloc::{AllocError, Global};
 use std::marker::Model;
 use two_wire::Code;

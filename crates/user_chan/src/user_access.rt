@@ -1,12 +1,12 @@
 //! What a user may do on a channel, as a kind of record.
 ghost use Rattle.std.specs.Prelude.{◌≡◌, ◌≤◌, ◌<◌, [], ◌∷◌, OnErr, length};
-ghost use Rattle.cfg_records.specs.Meaning.{told};
+ghost use Rattle.record_base.specs.Meaning.{told};
 ghost use Rattle.user_chan.specs.UserAccess.{bits_of, changes_bits, access_outcome, access_body, session_limit_in, access_in, is_enabled, status_of, first_byte};
 
-use cfg_records::mask::has;
-use cfg_records::net_fn::APPLICATION;
-use cfg_records::user::is_limit;
-use cfg_records::{
+use record_base::mask::has;
+use record_base::net_fn::APPLICATION;
+use record_base::user::is_limit;
+use record_base::{
     Asked, CommandReader, Key, Live, Op, RecordData, RecordKind, SetUserAccess, UserNumber,
     UserOnChannel, Value, byte_at,
 };

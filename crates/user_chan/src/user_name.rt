@@ -1,10 +1,10 @@
 //! The names of users, as a kind of record.
 ghost use Rattle.std.specs.Prelude.{◌≡◌, OnErr, length};
-ghost use Rattle.cfg_records.specs.Meaning.{told};
+ghost use Rattle.record_base.specs.Meaning.{told};
 ghost use Rattle.user_chan.specs.UserNames.{name_outcome, shown_name, undo_name, name_body, name_in};
 
-use cfg_records::net_fn::APPLICATION;
-use cfg_records::{
+use record_base::net_fn::APPLICATION;
+use record_base::{
     Asked, CommandReader, Key, Live, Op, RecordData, RecordKind, SetUserName, UserNumber, Value,
     byte_at,
 };

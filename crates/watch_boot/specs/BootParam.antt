@@ -1,21 +1,21 @@
 -- The boot parameters, as a kind of record (IPMI 2.0).
 use Rattle.std.specs.Prelude.{◌≡◌, ℕ, ◌+◌, ◌%◌, ◌<◌, List, [], ◌∷◌, ◌++◌, length, slice_index, bit_and, bit_xor, ◌==◌, Bool, true, false, IsTrue, if◌then◌else◌, Result, Ok, Err, Option, Some, None, refl}
 use Rattle.two_wire.specs.Codes.{invalid_data_field}
-use Rattle.cfg_records.specs.declared.key.Key.{Key}
-use Rattle.cfg_records.specs.declared.key.Key.TheVariants as key
-use Rattle.cfg_records.specs.declared.op.Op.{Op}
-use Rattle.cfg_records.specs.declared.op.Op.TheVariants as op
-use Rattle.cfg_records.specs.declared.boot_param.BootParameter.{BootParameter}
-use Rattle.cfg_records.specs.declared.boot_param.BootParameter.TheVariants as parameter
-use Rattle.cfg_records.specs.declared.boot_param.BootFlags.{BootFlags}
-use Rattle.cfg_records.specs.declared.boot_param.BootChange.{BootChange}
-use Rattle.cfg_records.specs.declared.boot_param.BootChange.TheVariants.{MarkAlone, ValidBitClearing, InfoAcknowledge, Flags}
-use Rattle.cfg_records.specs.declared.boot_param.SetBootParam.{SetBootParam}
-use Rattle.cfg_records.specs.Kind.{KindWords, RecordWords}
-use Rattle.cfg_records.specs.AllKinds.{Place}
-use Rattle.cfg_records.specs.Masks.{has}
-use Rattle.cfg_records.specs.BootParam.{selector, parameter_of, change_bytes, flag_bytes, IsBootParam}
-use Rattle.cfg_records.specs.Requests.{chassis, ipmi_request}
+use Rattle.record_base.specs.declared.key.Key.{Key}
+use Rattle.record_base.specs.declared.key.Key.TheVariants as key
+use Rattle.record_base.specs.declared.op.Op.{Op}
+use Rattle.record_base.specs.declared.op.Op.TheVariants as op
+use Rattle.record_base.specs.declared.boot_param.BootParameter.{BootParameter}
+use Rattle.record_base.specs.declared.boot_param.BootParameter.TheVariants as parameter
+use Rattle.record_base.specs.declared.boot_param.BootFlags.{BootFlags}
+use Rattle.record_base.specs.declared.boot_param.BootChange.{BootChange}
+use Rattle.record_base.specs.declared.boot_param.BootChange.TheVariants.{MarkAlone, ValidBitClearing, InfoAcknowledge, Flags}
+use Rattle.record_base.specs.declared.boot_param.SetBootParam.{SetBootParam}
+use Rattle.record_base.specs.Kind.{KindWords, RecordWords}
+use Rattle.record_base.specs.AllKinds.{Place}
+use Rattle.record_base.specs.Masks.{has}
+use Rattle.record_base.specs.BootParam.{selector, parameter_of, change_bytes, flag_bytes, IsBootParam}
+use Rattle.record_base.specs.Requests.{chassis, ipmi_request}
 
 -- the commands that set them and get them
 abbrev pub set_boot_options : ℕ

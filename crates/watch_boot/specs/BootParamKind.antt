@@ -1,8 +1,8 @@
 -- BootParam as one value, and where it stands among all kinds.
-use Rattle.cfg_records.specs.declared.boot_param.BootParameter.{BootParameter}
-use Rattle.cfg_records.specs.declared.boot_param.SetBootParam.{SetBootParam}
-use Rattle.cfg_records.specs.Kind.{Kind}
-use Rattle.cfg_records.specs.Member.{Member}
+use Rattle.record_base.specs.declared.boot_param.BootParameter.{BootParameter}
+use Rattle.record_base.specs.declared.boot_param.SetBootParam.{SetBootParam}
+use Rattle.record_base.specs.Kind.{Kind}
+use Rattle.record_base.specs.Member.{Member}
 use Rattle.watch_boot.specs.declared.boot_param.BootParamLimits.{BootParamLimits}
 use Rattle.watch_boot.specs.BootParam.{words, record_words, place}
 use Rattle.watch_boot.specs.BootParamLaws.{kind_laws, record_laws}

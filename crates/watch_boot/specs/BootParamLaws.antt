@@ -5,20 +5,20 @@ use Rattle.std.proofs.lemmas.Grind.{same_number_lists, common_steps}
 use Rattle.std.proofs.lemmas.Nat.{and_mask}
 use Rattle.std.proofs.lemmas.Nat.Bits.{bit_at_and, bit_at_xor, bit_at_ones, bit_at-lt, same_from_bits_below}
 use Rattle.two_wire.specs.Codes.{invalid_data_field}
-use Rattle.cfg_records.specs.declared.key.Key.TheVariants as key
-use Rattle.cfg_records.specs.declared.boot_param.BootParameter.{BootParameter}
-use Rattle.cfg_records.specs.declared.boot_param.BootParameter.TheVariants as parameter
-use Rattle.cfg_records.specs.declared.boot_param.BootChange.{BootChange}
-use Rattle.cfg_records.specs.declared.boot_param.BootChange.TheVariants.{MarkAlone, ValidBitClearing, InfoAcknowledge, Flags}
-use Rattle.cfg_records.specs.declared.boot_param.SetBootParam.{SetBootParam}
-use Rattle.cfg_records.specs.Keys.{is_length}
-use Rattle.cfg_records.specs.Masks.{has}
-use Rattle.cfg_records.specs.Meaning.{Decides, IsRefusal}
-use Rattle.cfg_records.specs.InverseLaws.{some_where, made_where, tested_same, same_tested}
-use Rattle.cfg_records.specs.Kind.{KindLaws, RecordLaws}
-use Rattle.cfg_records.specs.RefusalLaws.{refused_field}
-use Rattle.cfg_records.specs.BootParam.{selector, parameter_of, boot_length, IsBootParam}
-use Rattle.cfg_records.specs.PartLaws.{IsBootParam-prop}
+use Rattle.record_base.specs.declared.key.Key.TheVariants as key
+use Rattle.record_base.specs.declared.boot_param.BootParameter.{BootParameter}
+use Rattle.record_base.specs.declared.boot_param.BootParameter.TheVariants as parameter
+use Rattle.record_base.specs.declared.boot_param.BootChange.{BootChange}
+use Rattle.record_base.specs.declared.boot_param.BootChange.TheVariants.{MarkAlone, ValidBitClearing, InfoAcknowledge, Flags}
+use Rattle.record_base.specs.declared.boot_param.SetBootParam.{SetBootParam}
+use Rattle.record_base.specs.Keys.{is_length}
+use Rattle.record_base.specs.Masks.{has}
+use Rattle.record_base.specs.Meaning.{Decides, IsRefusal}
+use Rattle.record_base.specs.InverseLaws.{some_where, made_where, tested_same, same_tested}
+use Rattle.record_base.specs.Kind.{KindLaws, RecordLaws}
+use Rattle.record_base.specs.RefusalLaws.{refused_field}
+use Rattle.record_base.specs.BootParam.{selector, parameter_of, boot_length, IsBootParam}
+use Rattle.record_base.specs.PartLaws.{IsBootParam-prop}
 use Rattle.watch_boot.specs.BootParam.{same_parameter, IsMasked, mark_of, body_of, Changes, SetsBootParam, masked_byte, body_after, marked, boot_view, reply_length, undo_change, undo_boot, is_plain_change, words, record_words}
 
 -- ---- parameters

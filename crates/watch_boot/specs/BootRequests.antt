@@ -1,13 +1,13 @@
 -- What the commands of the system boot options ask for, by their data (IPMI 2.0).
 use Rattle.std.specs.Prelude.{ℕ, ◌%◌, List, [], ◌∷◌, drop, ◌==◌, Bool, if◌then◌else◌, Result, Ok, Err, Option, Some, None}
 use Rattle.two_wire.specs.Codes.{invalid_length}
-use Rattle.cfg_records.specs.declared.boot_param.BootParameter.{BootParameter}
-use Rattle.cfg_records.specs.declared.boot_param.BootParameter.TheVariants as parameter
-use Rattle.cfg_records.specs.declared.boot_param.BootChange.{BootChange}
-use Rattle.cfg_records.specs.declared.boot_param.BootChange.TheVariants.{MarkAlone, ValidBitClearing, InfoAcknowledge, Flags}
-use Rattle.cfg_records.specs.BootParam.{parameter_at}
-use Rattle.cfg_records.specs.Masks.{has}
-use Rattle.cfg_records.specs.Requests.{byte_at}
+use Rattle.record_base.specs.declared.boot_param.BootParameter.{BootParameter}
+use Rattle.record_base.specs.declared.boot_param.BootParameter.TheVariants as parameter
+use Rattle.record_base.specs.declared.boot_param.BootChange.{BootChange}
+use Rattle.record_base.specs.declared.boot_param.BootChange.TheVariants.{MarkAlone, ValidBitClearing, InfoAcknowledge, Flags}
+use Rattle.record_base.specs.BootParam.{parameter_at}
+use Rattle.record_base.specs.Masks.{has}
+use Rattle.record_base.specs.Requests.{byte_at}
 use Rattle.watch_boot.specs.declared.boot_request.BootRequest.{BootRequest}
 use Rattle.watch_boot.specs.declared.boot_request.BootRequest.TheVariants.{Progress, Param}
 use Rattle.watch_boot.specs.declared.boot_request.BootShown.{BootShown}

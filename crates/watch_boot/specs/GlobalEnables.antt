@@ -1,15 +1,15 @@
 -- The global enables, as a kind of record (IPMI 2.0).
 use Rattle.std.specs.Prelude.{◌≡◌, ℕ, List, [], ◌∷◌, length, slice_index, ◌==◌, IsTrue, if◌then◌else◌, Result, Ok, Err, Option, Some, None, refl}
 use Rattle.two_wire.specs.Codes.{invalid_data_field}
-use Rattle.cfg_records.specs.declared.key.Key.{Key}
-use Rattle.cfg_records.specs.declared.key.Key.TheVariants as key
-use Rattle.cfg_records.specs.declared.op.Op.{Op}
-use Rattle.cfg_records.specs.declared.op.Op.TheVariants as op
-use Rattle.cfg_records.specs.declared.global_enables.SetGlobalEnables.{SetGlobalEnables}
-use Rattle.cfg_records.specs.Kind.{KindWords, RecordWords}
-use Rattle.cfg_records.specs.AllKinds.{Place}
-use Rattle.cfg_records.specs.GlobalEnables.{are_enables, AreGlobalEnables}
-use Rattle.cfg_records.specs.Requests.{application, ipmi_request, byte_at}
+use Rattle.record_base.specs.declared.key.Key.{Key}
+use Rattle.record_base.specs.declared.key.Key.TheVariants as key
+use Rattle.record_base.specs.declared.op.Op.{Op}
+use Rattle.record_base.specs.declared.op.Op.TheVariants as op
+use Rattle.record_base.specs.declared.global_enables.SetGlobalEnables.{SetGlobalEnables}
+use Rattle.record_base.specs.Kind.{KindWords, RecordWords}
+use Rattle.record_base.specs.AllKinds.{Place}
+use Rattle.record_base.specs.GlobalEnables.{are_enables, AreGlobalEnables}
+use Rattle.record_base.specs.Requests.{application, ipmi_request, byte_at}
 
 -- the commands that set them and get them
 abbrev pub set_global_enables : ℕ

@@ -1,8 +1,8 @@
 -- GlobalEnables as one value, and where it stands among all kinds.
-use Rattle.cfg_records.specs.declared.global_enables.SetGlobalEnables.{SetGlobalEnables}
-use Rattle.cfg_records.specs.Kind.{Kind}
-use Rattle.cfg_records.specs.Member.{Member}
-use Rattle.cfg_records.specs.Reader.{Reader}
+use Rattle.record_base.specs.declared.global_enables.SetGlobalEnables.{SetGlobalEnables}
+use Rattle.record_base.specs.Kind.{Kind}
+use Rattle.record_base.specs.Member.{Member}
+use Rattle.record_base.specs.Reader.{Reader}
 use Rattle.watch_boot.specs.declared.global_enables.GlobalEnablesLimits.{GlobalEnablesLimits}
 use Rattle.watch_boot.specs.GlobalEnables.{enables_in, words, record_words, place}
 use Rattle.watch_boot.specs.GlobalEnablesLaws.{kind_laws, record_laws}

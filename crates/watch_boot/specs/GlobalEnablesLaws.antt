@@ -2,15 +2,15 @@
 use Rattle.std.proofs.Common.{◌≡◌, ℕ, List, [], ◌∷◌, length, slice_index, ◌==◌, Bool, true, false, if◌then◌else◌, Ok, Err, refl, sym, ◌∙◌, ap, subst, arith}
 use Rattle.std.proofs.lemmas.Grind.{same_number_lists, common_steps}
 use Rattle.two_wire.specs.Codes.{invalid_data_field}
-use Rattle.cfg_records.specs.declared.key.Key.TheVariants as key
-use Rattle.cfg_records.specs.declared.global_enables.SetGlobalEnables.{SetGlobalEnables}
-use Rattle.cfg_records.specs.Keys.{is_length}
-use Rattle.cfg_records.specs.Meaning.{Decides, IsRefusal}
-use Rattle.cfg_records.specs.InverseLaws.{some_where, made_where, tested_same, same_tested}
-use Rattle.cfg_records.specs.Kind.{KindLaws, RecordLaws}
-use Rattle.cfg_records.specs.RefusalLaws.{refused_field}
-use Rattle.cfg_records.specs.GlobalEnables.{are_enables, AreGlobalEnables}
-use Rattle.cfg_records.specs.PartLaws.{AreGlobalEnables-prop}
+use Rattle.record_base.specs.declared.key.Key.TheVariants as key
+use Rattle.record_base.specs.declared.global_enables.SetGlobalEnables.{SetGlobalEnables}
+use Rattle.record_base.specs.Keys.{is_length}
+use Rattle.record_base.specs.Meaning.{Decides, IsRefusal}
+use Rattle.record_base.specs.InverseLaws.{some_where, made_where, tested_same, same_tested}
+use Rattle.record_base.specs.Kind.{KindLaws, RecordLaws}
+use Rattle.record_base.specs.RefusalLaws.{refused_field}
+use Rattle.record_base.specs.GlobalEnables.{are_enables, AreGlobalEnables}
+use Rattle.record_base.specs.PartLaws.{AreGlobalEnables-prop}
 use Rattle.watch_boot.specs.GlobalEnables.{SetsEnables, undo_enables, words, record_words}
 
 -- a list of one is its member

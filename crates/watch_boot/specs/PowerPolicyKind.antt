@@ -1,8 +1,8 @@
 -- PowerPolicy as one value, and where it stands among all kinds.
-use Rattle.cfg_records.specs.declared.power_policy.SetPowerPolicy.{SetPowerPolicy}
-use Rattle.cfg_records.specs.Kind.{Kind}
-use Rattle.cfg_records.specs.Member.{Member}
-use Rattle.cfg_records.specs.Reader.{Reader}
+use Rattle.record_base.specs.declared.power_policy.SetPowerPolicy.{SetPowerPolicy}
+use Rattle.record_base.specs.Kind.{Kind}
+use Rattle.record_base.specs.Member.{Member}
+use Rattle.record_base.specs.Reader.{Reader}
 use Rattle.watch_boot.specs.declared.power_policy.PowerPolicyLimits.{PowerPolicyLimits}
 use Rattle.watch_boot.specs.PowerPolicy.{policy_in, words, record_words, place}
 use Rattle.watch_boot.specs.PowerPolicyLaws.{kind_laws, record_laws}

@@ -2,17 +2,17 @@
 use Rattle.std.specs.Prelude.{◌≡◌, ℕ, ◌+◌, ◌-◌, ◌*◌, ◌/◌, ◌%◌, ◌^◌, ◌<◌, ◌≤◌, List, [], ◌∷◌, length, slice_index, bit_and, bit_or, nat_le, ◌&&◌, ◌==◌, not, Bool, true, false, IsFalse, if◌then◌else◌, Result, Ok, Err, Option, Some, None, refl}
 use Rattle.std.specs.Int.{w16, to_le_bytes, from_le_bytes}
 use Rattle.two_wire.specs.Codes.{invalid_data_field}
-use Rattle.cfg_records.specs.declared.key.Key.{Key}
-use Rattle.cfg_records.specs.declared.key.Key.TheVariants as key
-use Rattle.cfg_records.specs.declared.op.Op.{Op}
-use Rattle.cfg_records.specs.declared.op.Op.TheVariants as op
-use Rattle.cfg_records.specs.declared.watchdog.SetWatchdog.{SetWatchdog}
-use Rattle.cfg_records.specs.declared.live.Live.{Live}
-use Rattle.cfg_records.specs.Kind.{KindWords, RecordWords}
-use Rattle.cfg_records.specs.AllKinds.{Place}
-use Rattle.cfg_records.specs.Masks.{has}
-use Rattle.cfg_records.specs.Watchdog.{IsWatchdog, watchdog_value}
-use Rattle.cfg_records.specs.Requests.{application, ipmi_request, byte_at}
+use Rattle.record_base.specs.declared.key.Key.{Key}
+use Rattle.record_base.specs.declared.key.Key.TheVariants as key
+use Rattle.record_base.specs.declared.op.Op.{Op}
+use Rattle.record_base.specs.declared.op.Op.TheVariants as op
+use Rattle.record_base.specs.declared.watchdog.SetWatchdog.{SetWatchdog}
+use Rattle.record_base.specs.declared.live.Live.{Live}
+use Rattle.record_base.specs.Kind.{KindWords, RecordWords}
+use Rattle.record_base.specs.AllKinds.{Place}
+use Rattle.record_base.specs.Masks.{has}
+use Rattle.record_base.specs.Watchdog.{IsWatchdog, watchdog_value}
+use Rattle.record_base.specs.Requests.{application, ipmi_request, byte_at}
 
 -- the commands that set it and get it
 abbrev pub set_watchdog_timer : ℕ

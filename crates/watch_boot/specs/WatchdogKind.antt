@@ -1,8 +1,8 @@
 -- Watchdog as one value, and where it stands among all kinds.
-use Rattle.cfg_records.specs.declared.watchdog.SetWatchdog.{SetWatchdog}
-use Rattle.cfg_records.specs.Kind.{Kind}
-use Rattle.cfg_records.specs.Member.{Member}
-use Rattle.cfg_records.specs.Reader.{Reader}
+use Rattle.record_base.specs.declared.watchdog.SetWatchdog.{SetWatchdog}
+use Rattle.record_base.specs.Kind.{Kind}
+use Rattle.record_base.specs.Member.{Member}
+use Rattle.record_base.specs.Reader.{Reader}
 use Rattle.watch_boot.specs.declared.watchdog.WatchdogLimits.{WatchdogLimits}
 use Rattle.watch_boot.specs.Watchdog.{watchdog_in, words, record_words, place}
 use Rattle.watch_boot.specs.WatchdogLaws.{kind_laws, record_laws}

@@ -6,18 +6,18 @@ use Rattle.std.proofs.lemmas.Nat.{le_bytes_2}
 use Rattle.std.proofs.lemmas.Nat.Bits.{bit_at_and, bit_at_not, bit_at-lt}
 use Rattle.std.specs.Int.{bit_at, w8, w16, to_le_bytes, from_le_bytes}
 use Rattle.two_wire.specs.Codes.{invalid_data_field}
-use Rattle.cfg_records.specs.Masks.{has}
-use Rattle.cfg_records.specs.declared.key.Key.TheVariants as key
-use Rattle.cfg_records.specs.declared.watchdog.SetWatchdog.{SetWatchdog}
-use Rattle.cfg_records.specs.declared.live.Live.{Live}
-use Rattle.cfg_records.specs.Keys.{is_length}
-use Rattle.cfg_records.specs.MaskLaws.{both}
-use Rattle.cfg_records.specs.Meaning.{Decides, IsRefusal}
-use Rattle.cfg_records.specs.InverseLaws.{some_where, made_where, tested_same, same_tested}
-use Rattle.cfg_records.specs.Kind.{KindLaws, RecordLaws}
-use Rattle.cfg_records.specs.RefusalLaws.{refused_field}
-use Rattle.cfg_records.specs.Watchdog.{IsWatchdog, watchdog_value}
-use Rattle.cfg_records.specs.PartLaws.{IsWatchdog-prop}
+use Rattle.record_base.specs.Masks.{has}
+use Rattle.record_base.specs.declared.key.Key.TheVariants as key
+use Rattle.record_base.specs.declared.watchdog.SetWatchdog.{SetWatchdog}
+use Rattle.record_base.specs.declared.live.Live.{Live}
+use Rattle.record_base.specs.Keys.{is_length}
+use Rattle.record_base.specs.MaskLaws.{both}
+use Rattle.record_base.specs.Meaning.{Decides, IsRefusal}
+use Rattle.record_base.specs.InverseLaws.{some_where, made_where, tested_same, same_tested}
+use Rattle.record_base.specs.Kind.{KindLaws, RecordLaws}
+use Rattle.record_base.specs.RefusalLaws.{refused_field}
+use Rattle.record_base.specs.Watchdog.{IsWatchdog, watchdog_value}
+use Rattle.record_base.specs.PartLaws.{IsWatchdog-prop}
 use Rattle.watch_boot.specs.Watchdog.{use_in, kept_use, without_bit_6, interrupt_in, action_in, kept_actions, SetsWatchdog, settings_of, is_accepted, shown_use, watchdog_view, ClearsNamed, configuration, IsStopped, is_stopped, undo_watchdog, words, record_words}
 
 -- ---- what a Set makes

@@ -1,12 +1,12 @@
 //! The boot parameters, as a kind of record.
 ghost use Rattle.std.specs.Prelude.{◌≡◌, ◌+◌, ◌≤◌, ◌++◌, OnErr, IsTrue, length};
-ghost use Rattle.cfg_records.specs.Meaning.{told};
-ghost use Rattle.cfg_records.specs.BootParam.{selector, parameter_of, IsBootParam};
+ghost use Rattle.record_base.specs.Meaning.{told};
+ghost use Rattle.record_base.specs.BootParam.{selector, parameter_of, IsBootParam};
 ghost use Rattle.watch_boot.specs.BootParam.{same_parameter, masked_byte, boot_outcome, marked, boot_body, boot_view};
 
-use cfg_records::mask::has;
-use cfg_records::net_fn::CHASSIS;
-use cfg_records::{
+use record_base::mask::has;
+use record_base::net_fn::CHASSIS;
+use record_base::{
     Asked, BootChange, BootFlags, BootParameter, Key, Live, MaskedBits, RecordData, RecordKind,
     SetBootParam, Value,
 };

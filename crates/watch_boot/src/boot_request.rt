@@ -2,8 +2,8 @@
 ghost use Rattle.std.specs.Prelude.{◌≡◌, drop};
 ghost use Rattle.watch_boot.specs.BootRequests as requests;
 
-use cfg_records::mask::has;
-use cfg_records::{BootChange, BootFlags, BootParameter, MaskedBits, SetBootParam, byte_at};
+use record_base::mask::has;
+use record_base::{BootChange, BootFlags, BootParameter, MaskedBits, SetBootParam, byte_at};
 use two_wire::Code;
 use two_wire::code::INVALID_LENGTH;
 

@@ -1,11 +1,11 @@
 //! The global enables, as a kind of record.
 ghost use Rattle.std.specs.Prelude.{◌≡◌, OnErr};
-ghost use Rattle.cfg_records.specs.Meaning.{told};
+ghost use Rattle.record_base.specs.Meaning.{told};
 ghost use Rattle.watch_boot.specs.GlobalEnables.{enables_outcome, enables_in};
 
-use cfg_records::global_enables::are_enables;
-use cfg_records::net_fn::APPLICATION;
-use cfg_records::{
+use record_base::global_enables::are_enables;
+use record_base::net_fn::APPLICATION;
+use record_base::{
     Asked, CommandReader, Key, Live, Op, RecordData, RecordKind, SetGlobalEnables, Value, byte_at,
 };
 use two_wire::code::INVALID_DATA_FIELD;

@@ -1,10 +1,10 @@
 //! The power restore policy, as a kind of record.
 ghost use Rattle.std.specs.Prelude.{◌≡◌, OnErr, length};
-ghost use Rattle.cfg_records.specs.Meaning.{told};
+ghost use Rattle.record_base.specs.Meaning.{told};
 ghost use Rattle.watch_boot.specs.PowerPolicy.{policy_outcome, policy_in};
 
-use cfg_records::net_fn::CHASSIS;
-use cfg_records::{
+use record_base::net_fn::CHASSIS;
+use record_base::{
     Asked, CommandReader, Key, Live, Op, RecordData, RecordKind, SetPowerPolicy, Value, byte_at,
 };
 use two_wire::code::INVALID_DATA_FIELD;

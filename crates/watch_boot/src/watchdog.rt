@@ -1,13 +1,13 @@
 //! The watchdog timer, as a kind of record.
 ghost use Rattle.std.specs.Prelude.{◌≡◌, ◌+◌, ◌%◌, ◌≤◌, ◌++◌, OnErr, length};
 ghost use Rattle.std.specs.Option.{SomeIff};
-ghost use Rattle.cfg_records.specs.Meaning.{told};
-ghost use Rattle.cfg_records.specs.Watchdog.{IsWatchdog};
+ghost use Rattle.record_base.specs.Meaning.{told};
+ghost use Rattle.record_base.specs.Watchdog.{IsWatchdog};
 ghost use Rattle.watch_boot.specs.Watchdog.{kept_use, kept_actions, is_accepted, watchdog_outcome, live_after_set, watchdog_body, watchdog_in, shown_use, watchdog_view, WasSet, live_after_reset, live_after_tick};
 
-use cfg_records::mask::has;
-use cfg_records::net_fn::APPLICATION;
-use cfg_records::{
+use record_base::mask::has;
+use record_base::net_fn::APPLICATION;
+use record_base::{
     Asked, CommandReader, Key, Live, Op, RecordData, RecordKind, SetWatchdog, Value, byte_at,
 };
 use two_wire::code::INVALID_DATA_FIELD;

@@ -1,6 +1,6 @@
 //! The tables of a board's attributes.
 ghost use Rattle.std.specs.Prelude.{◌≡◌, ◌+◌, ◌≤◌, ℕ, length};
-ghost use Rattle.cfg_records.specs.AttributeSizes.{most_value};
+ghost use Rattle.record_base.specs.AttributeSizes.{most_value};
 ghost use Rattle.bmc_board.specs.Gives.{Gives};
 ghost use Rattle.bmc_board.specs.BiosTables.{values_in, table_asked, handle_in, asked_part, longest_part};
 

@@ -3,8 +3,8 @@ ghost use Rattle.std.specs.Prelude.{◌≡◌, ◌≢◌, ◌+◌, ◌≤◌, �
 ghost use Rattle.two_wire.specs.Codes.{success, node_busy, pldm_not_ready};
 ghost use Rattle.cfg_records.specs.Records.{records_of};
 ghost use Rattle.cfg_records.specs.Boards.{pairs_of};
-ghost use Rattle.cfg_records.specs.Meaning.{room_for};
-ghost use Rattle.cfg_records.specs.declared.message.Answered.{Answered as Reply};
+ghost use Rattle.record_base.specs.Meaning.{room_for};
+ghost use Rattle.record_base.specs.declared.message.Answered.{Answered as Reply};
 ghost use Rattle.bmc_board.specs.Gives.{Gives};
 ghost use Rattle.bmc_board.specs.Replies.{done, unknown_code};
 ghost use Rattle.bmc_board.specs.Sensing.{value_at};
@@ -107,8 +107,8 @@ impl<S: Store> Board<S> {
     ghost use Rattle.bmc_board.specs.Sensing.{reading_answer};
     ghost use Rattle.bmc_board.specs.Live.{reset_answer, progress_answer, leave_answer, password_answer, longest_live_reply, longest_live};
     ghost use Rattle.bmc_board.specs.BiosTables.{table_answer, longest_part};
-    ghost use Rattle.cfg_records.specs.Numbers.{user_in};
-    ghost use Rattle.cfg_records.specs.Requests.{byte_at};
+    ghost use Rattle.record_base.specs.Numbers.{user_in};
+    ghost use Rattle.record_base.specs.Requests.{byte_at};
     ghost use Rattle.record_kinds.specs.Boards.{user_at};
     ghost use Rattle.user_chan.specs.Passwords.{change_of};
     ghost use Rattle.bmc_board.specs.Room.{longest_reply};
@@ -117,7 +117,7 @@ impl<S: Store> Board<S> {
     ghost use Rattle.bmc_board.specs.Request.{request_of, asked_of, asked_by};
     ghost use Rattle.bmc_board.specs.Answer.{set_outcome, serve as serve_of, reply as reply_of, answer_of};
     ghost use Rattle.std.specs.Prelude.{Some};
-    ghost use Rattle.cfg_records.specs.Meaning.{told};
+    ghost use Rattle.record_base.specs.Meaning.{told};
     ghost use Rattle.record_kinds.specs.Limits.{key_of, reader_of, limits_at};
 
     /// A board of this file over this store of its records.

@@ -2,13 +2,13 @@
 use Rattle.std.proofs.Common.{◌≡◌, ◌∙◌, ℕ, List, Option, Some, None, refl, sym, ap}
 use Rattle.std.proofs.lemmas.Option.{same_Some}
 use Rattle.toml.specs.Data.{Data, Members}
-use Rattle.cfg_records.specs.BootParam.{selector, parameter_at, parameter_of, change_bytes}
-use Rattle.cfg_records.specs.declared.op.Op.TheVariants as op
-use Rattle.cfg_records.specs.declared.boot_param.BootParameter.{BootParameter}
-use Rattle.cfg_records.specs.declared.boot_param.BootParameter.TheVariants as parameter
-use Rattle.cfg_records.specs.declared.boot_param.BootChange.{BootChange}
-use Rattle.cfg_records.specs.declared.boot_param.BootChange.TheVariants as boot
-use Rattle.cfg_records.specs.declared.boot_param.SetBootParam.{SetBootParam}
+use Rattle.record_base.specs.BootParam.{selector, parameter_at, parameter_of, change_bytes}
+use Rattle.record_base.specs.declared.op.Op.TheVariants as op
+use Rattle.record_base.specs.declared.boot_param.BootParameter.{BootParameter}
+use Rattle.record_base.specs.declared.boot_param.BootParameter.TheVariants as parameter
+use Rattle.record_base.specs.declared.boot_param.BootChange.{BootChange}
+use Rattle.record_base.specs.declared.boot_param.BootChange.TheVariants as boot
+use Rattle.record_base.specs.declared.boot_param.SetBootParam.{SetBootParam}
 use Rattle.file_fields.specs.declared.field.Field.TheVariants as field
 use Rattle.file_fields.specs.Trees.{in_field, flag_in}
 use Rattle.plan_file.specs.Kinds.BootParam.{IsGiven, HoldsBootChange, HoldsBootParam, kind}

@@ -1,12 +1,12 @@
 -- A table holds one step that sets the access to a channel, at most.
 use Rattle.std.proofs.Common.{◌≡◌, ◌∙◌, ℕ, Some, None, option_and_then, sym, ap}
 use Rattle.toml.specs.Data.{Members}
-use Rattle.cfg_records.specs.NumberLaws.{same_channel, same_bits}
-use Rattle.cfg_records.specs.declared.op.Op.TheVariants as op
-use Rattle.cfg_records.specs.declared.channel.SixBits.{SixBits}
-use Rattle.cfg_records.specs.declared.channel.ChannelChange.{ChannelChange}
-use Rattle.cfg_records.specs.declared.channel.ChannelChange.TheVariants as channel
-use Rattle.cfg_records.specs.declared.channel.SetChannelAccess.{SetChannelAccess}
+use Rattle.record_base.specs.NumberLaws.{same_channel, same_bits}
+use Rattle.record_base.specs.declared.op.Op.TheVariants as op
+use Rattle.record_base.specs.declared.channel.SixBits.{SixBits}
+use Rattle.record_base.specs.declared.channel.ChannelChange.{ChannelChange}
+use Rattle.record_base.specs.declared.channel.ChannelChange.TheVariants as channel
+use Rattle.record_base.specs.declared.channel.SetChannelAccess.{SetChannelAccess}
 use Rattle.file_fields.specs.declared.field.Field.{Field}
 use Rattle.file_fields.specs.declared.field.Field.TheVariants as field
 use Rattle.file_fields.specs.Trees.{in_field, natural, number_in}

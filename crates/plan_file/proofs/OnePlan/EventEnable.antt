@@ -1,11 +1,11 @@
 -- A table holds one step that enables or disables events, at most.
 use Rattle.std.proofs.Common.{◌≡◌, ℕ, List, true, refl, ap, codes}
 use Rattle.toml.specs.Data.{Members}
-use Rattle.cfg_records.specs.declared.op.Op.TheVariants as op
-use Rattle.cfg_records.specs.declared.event_enable.SetEventEnable.{SetEventEnable}
-use Rattle.cfg_records.specs.declared.event_enable.EventChange.{EventChange}
-use Rattle.cfg_records.specs.declared.event_enable.EventChange.TheVariants as change
-use Rattle.cfg_records.specs.declared.event_enable.EventMasks.{EventMasks}
+use Rattle.record_base.specs.declared.op.Op.TheVariants as op
+use Rattle.record_base.specs.declared.event_enable.SetEventEnable.{SetEventEnable}
+use Rattle.record_base.specs.declared.event_enable.EventChange.{EventChange}
+use Rattle.record_base.specs.declared.event_enable.EventChange.TheVariants as change
+use Rattle.record_base.specs.declared.event_enable.EventMasks.{EventMasks}
 use Rattle.file_fields.specs.declared.field.Field.TheVariants as field
 use Rattle.file_fields.specs.Trees.{flag_in, members_in}
 use Rattle.file_fields.specs.Ranges.{has_text, is_listed}

@@ -1,8 +1,8 @@
 -- A table holds one step that sets hysteresis, at most.
 use Rattle.std.proofs.Common.{◌≡◌, ap}
 use Rattle.toml.specs.Data.{Members}
-use Rattle.cfg_records.specs.declared.op.Op.TheVariants as op
-use Rattle.cfg_records.specs.declared.hysteresis.SetHysteresis.{SetHysteresis}
+use Rattle.record_base.specs.declared.op.Op.TheVariants as op
+use Rattle.record_base.specs.declared.hysteresis.SetHysteresis.{SetHysteresis}
 use Rattle.file_fields.specs.declared.field.Field.TheVariants as field
 use Rattle.plan_file.specs.Kinds.Hysteresis.{HoldsHysteresis, kind}
 use Rattle.file_fields.proofs.Unique.{one_number}

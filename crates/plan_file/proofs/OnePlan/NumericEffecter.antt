@@ -1,10 +1,10 @@
 -- A table holds one step that sets a numeric effecter, at most.
 use Rattle.std.proofs.Common.{◌≡◌, ℕ, List, Option, ap}
 use Rattle.toml.specs.Data.{Members}
-use Rattle.cfg_records.specs.declared.op.Op.TheVariants as op
-use Rattle.cfg_records.specs.declared.numeric_effecter.NumericBytes.{NumericBytes}
-use Rattle.cfg_records.specs.declared.numeric_effecter.NumericBytes.TheVariants as bytes
-use Rattle.cfg_records.specs.declared.numeric_effecter.SetNumericEffecter.{SetNumericEffecter}
+use Rattle.record_base.specs.declared.op.Op.TheVariants as op
+use Rattle.record_base.specs.declared.numeric_effecter.NumericBytes.{NumericBytes}
+use Rattle.record_base.specs.declared.numeric_effecter.NumericBytes.TheVariants as bytes
+use Rattle.record_base.specs.declared.numeric_effecter.SetNumericEffecter.{SetNumericEffecter}
 use Rattle.file_fields.specs.declared.field.Field.TheVariants as field
 use Rattle.file_fields.specs.Numeric.{sized_bytes, AreBytes}
 use Rattle.plan_file.specs.Kinds.NumericEffecter.{HoldsNumericEffecter, kind}

@@ -1,8 +1,8 @@
 -- A table holds one step that sets the power restore policy, at most.
 use Rattle.std.proofs.Common.{◌≡◌, ap}
 use Rattle.toml.specs.Data.{Members}
-use Rattle.cfg_records.specs.declared.op.Op.TheVariants as op
-use Rattle.cfg_records.specs.declared.power_policy.SetPowerPolicy.{SetPowerPolicy}
+use Rattle.record_base.specs.declared.op.Op.TheVariants as op
+use Rattle.record_base.specs.declared.power_policy.SetPowerPolicy.{SetPowerPolicy}
 use Rattle.file_fields.specs.declared.field.Field.TheVariants as field
 use Rattle.plan_file.specs.Kinds.PowerPolicy.{HoldsPowerPolicy, kind}
 use Rattle.file_fields.proofs.Unique.{one_number}

@@ -2,9 +2,9 @@
 use Rattle.std.proofs.Common.{◌≡◌, ◌≤◌, ℕ, List, length, ap}
 use Rattle.std.proofs.Props.{props}
 use Rattle.toml.specs.Data.{Members}
-use Rattle.cfg_records.specs.declared.op.Op.TheVariants as op
-use Rattle.cfg_records.specs.declared.field_changes.FieldChange.{FieldChange}
-use Rattle.cfg_records.specs.declared.state_effecter.SetStateEffecter.{SetStateEffecter}
+use Rattle.record_base.specs.declared.op.Op.TheVariants as op
+use Rattle.record_base.specs.declared.field_changes.FieldChange.{FieldChange}
+use Rattle.record_base.specs.declared.state_effecter.SetStateEffecter.{SetStateEffecter}
 use Rattle.file_fields.specs.declared.field.Field.TheVariants as field
 use Rattle.file_fields.specs.Trees.{members_in}
 use Rattle.file_fields.specs.States.{change_of}

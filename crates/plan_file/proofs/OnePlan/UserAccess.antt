@@ -1,8 +1,8 @@
 -- A table holds one step that sets what a user may do, at most.
 use Rattle.std.proofs.Common.{◌≡◌, ◌%◌, ◌∙◌, sym, arith, ap}
 use Rattle.toml.specs.Data.{Members}
-use Rattle.cfg_records.specs.declared.op.Op.TheVariants as op
-use Rattle.cfg_records.specs.declared.user.SetUserAccess.{SetUserAccess}
+use Rattle.record_base.specs.declared.op.Op.TheVariants as op
+use Rattle.record_base.specs.declared.user.SetUserAccess.{SetUserAccess}
 use Rattle.file_fields.specs.declared.field.Field.TheVariants as field
 use Rattle.plan_file.specs.Kinds.UserAccess.{HoldsUserAccess, kind}
 use Rattle.file_fields.proofs.Unique.{one_number}

@@ -3,9 +3,9 @@ use Rattle.std.proofs.Common.{◌≡◌, ◌<◌, ◌/◌, ◌%◌, ◌∙◌, �
 use Rattle.std.proofs.lemmas.Nat.Bits.{bit_at-lt}
 use Rattle.std.specs.Int.{bit_at}
 use Rattle.toml.specs.Data.{Members}
-use Rattle.cfg_records.specs.Masks.{has}
-use Rattle.cfg_records.specs.declared.op.Op.TheVariants as op
-use Rattle.cfg_records.specs.declared.watchdog.SetWatchdog.{SetWatchdog}
+use Rattle.record_base.specs.Masks.{has}
+use Rattle.record_base.specs.declared.op.Op.TheVariants as op
+use Rattle.record_base.specs.declared.watchdog.SetWatchdog.{SetWatchdog}
 use Rattle.file_fields.specs.declared.field.Field.TheVariants as field
 use Rattle.file_fields.specs.Trees.{flag_in}
 use Rattle.plan_file.specs.Kinds.Watchdog.{HoldsWatchdog, kind}

@@ -2,12 +2,12 @@
 use Rattle.std.specs.Prelude.{◌≡◌, Some, codes}
 use Rattle.std.specs.List.{AllZip}
 use Rattle.toml.specs.Data.{Members}
-use Rattle.cfg_records.specs.declared.op.Op.{Op}
-use Rattle.cfg_records.specs.declared.op.Op.TheVariants as op
-use Rattle.cfg_records.specs.declared.attribute_value.AttributeValue.{AttributeValue}
-use Rattle.cfg_records.specs.declared.attribute_value.AttributeValue.TheVariants as attribute
-use Rattle.cfg_records.specs.AttributeValue.{type_of_value, value_bytes}
-use Rattle.cfg_records.specs.declared.bios_attribute.SetBiosAttribute.{SetBiosAttribute}
+use Rattle.record_base.specs.declared.op.Op.{Op}
+use Rattle.record_base.specs.declared.op.Op.TheVariants as op
+use Rattle.record_base.specs.declared.attribute_value.AttributeValue.{AttributeValue}
+use Rattle.record_base.specs.declared.attribute_value.AttributeValue.TheVariants as attribute
+use Rattle.record_base.specs.AttributeValue.{type_of_value, value_bytes}
+use Rattle.record_base.specs.declared.bios_attribute.SetBiosAttribute.{SetBiosAttribute}
 use Rattle.file_fields.specs.declared.field.Field.TheVariants as field
 use Rattle.file_fields.specs.Trees.{IsNaturalIn, members_in, HasNumber, Lacks}
 use Rattle.file_fields.specs.Attributes.{text_in}

@@ -1,11 +1,11 @@
 -- What a step that sets a boot parameter holds.
 use Rattle.std.specs.Prelude.{◌≡◌, ℕ, List, [], length, Option, Some, None, codes}
 use Rattle.toml.specs.Data.{Data, Members}
-use Rattle.cfg_records.specs.declared.op.Op.{Op}
-use Rattle.cfg_records.specs.declared.op.Op.TheVariants as op
-use Rattle.cfg_records.specs.declared.boot_param.BootChange.{BootChange}
-use Rattle.cfg_records.specs.declared.boot_param.SetBootParam.{SetBootParam}
-use Rattle.cfg_records.specs.BootParam.{selector, parameter_of, change_bytes}
+use Rattle.record_base.specs.declared.op.Op.{Op}
+use Rattle.record_base.specs.declared.op.Op.TheVariants as op
+use Rattle.record_base.specs.declared.boot_param.BootChange.{BootChange}
+use Rattle.record_base.specs.declared.boot_param.SetBootParam.{SetBootParam}
+use Rattle.record_base.specs.BootParam.{selector, parameter_of, change_bytes}
 use Rattle.file_fields.specs.declared.field.Field.TheVariants as field
 use Rattle.file_fields.specs.Trees.{in_field, bytes_in, HasNumber, HasFlag}
 use Rattle.plan_file.specs.declared.kind.boot_param.TheConstants.{FIELDS}

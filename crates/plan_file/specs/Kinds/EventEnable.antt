@@ -1,13 +1,13 @@
 -- What a step that sets which events are enabled holds.
 use Rattle.std.specs.Prelude.{◌≡◌, ℕ, true, List, codes}
 use Rattle.toml.specs.Data.{Members}
-use Rattle.cfg_records.specs.Masks.{has}
-use Rattle.cfg_records.specs.declared.op.Op.{Op}
-use Rattle.cfg_records.specs.declared.op.Op.TheVariants as op
-use Rattle.cfg_records.specs.declared.event_enable.SetEventEnable.{SetEventEnable}
-use Rattle.cfg_records.specs.declared.event_enable.EventChange.{EventChange}
-use Rattle.cfg_records.specs.declared.event_enable.EventChange.TheVariants as change
-use Rattle.cfg_records.specs.declared.event_enable.EventMasks.{EventMasks}
+use Rattle.record_base.specs.Masks.{has}
+use Rattle.record_base.specs.declared.op.Op.{Op}
+use Rattle.record_base.specs.declared.op.Op.TheVariants as op
+use Rattle.record_base.specs.declared.event_enable.SetEventEnable.{SetEventEnable}
+use Rattle.record_base.specs.declared.event_enable.EventChange.{EventChange}
+use Rattle.record_base.specs.declared.event_enable.EventChange.TheVariants as change
+use Rattle.record_base.specs.declared.event_enable.EventMasks.{EventMasks}
 use Rattle.file_fields.specs.declared.field.Field.{Field}
 use Rattle.file_fields.specs.declared.field.Field.TheVariants as field
 use Rattle.file_fields.specs.Trees.{members_in, HasNumber, HasFlag}

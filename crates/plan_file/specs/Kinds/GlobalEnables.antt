@@ -1,9 +1,9 @@
 -- What a step that sets the global enables holds.
 use Rattle.std.specs.Prelude.{codes}
 use Rattle.toml.specs.Data.{Members}
-use Rattle.cfg_records.specs.declared.op.Op.{Op}
-use Rattle.cfg_records.specs.declared.op.Op.TheVariants as op
-use Rattle.cfg_records.specs.declared.global_enables.SetGlobalEnables.{SetGlobalEnables}
+use Rattle.record_base.specs.declared.op.Op.{Op}
+use Rattle.record_base.specs.declared.op.Op.TheVariants as op
+use Rattle.record_base.specs.declared.global_enables.SetGlobalEnables.{SetGlobalEnables}
 use Rattle.file_fields.specs.declared.field.Field.TheVariants as field
 use Rattle.file_fields.specs.Trees.{HasNumber}
 use Rattle.plan_file.specs.declared.kind.global_enables.TheConstants.{FIELDS}

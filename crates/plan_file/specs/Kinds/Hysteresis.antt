@@ -1,9 +1,9 @@
 -- What a step that sets hysteresis holds.
 use Rattle.std.specs.Prelude.{codes}
 use Rattle.toml.specs.Data.{Members}
-use Rattle.cfg_records.specs.declared.op.Op.{Op}
-use Rattle.cfg_records.specs.declared.op.Op.TheVariants as op
-use Rattle.cfg_records.specs.declared.hysteresis.SetHysteresis.{SetHysteresis}
+use Rattle.record_base.specs.declared.op.Op.{Op}
+use Rattle.record_base.specs.declared.op.Op.TheVariants as op
+use Rattle.record_base.specs.declared.hysteresis.SetHysteresis.{SetHysteresis}
 use Rattle.file_fields.specs.declared.field.Field.TheVariants as field
 use Rattle.file_fields.specs.Trees.{HasNumber}
 use Rattle.plan_file.specs.declared.kind.hysteresis.TheConstants.{FIELDS}

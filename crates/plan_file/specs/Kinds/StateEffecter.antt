@@ -2,10 +2,10 @@
 use Rattle.std.specs.Prelude.{◌≡◌, Some, codes}
 use Rattle.std.specs.List.{AllZip}
 use Rattle.toml.specs.Data.{Data, Members}
-use Rattle.cfg_records.specs.declared.op.Op.{Op}
-use Rattle.cfg_records.specs.declared.op.Op.TheVariants as op
-use Rattle.cfg_records.specs.declared.field_changes.FieldChange.{FieldChange}
-use Rattle.cfg_records.specs.declared.state_effecter.SetStateEffecter.{SetStateEffecter}
+use Rattle.record_base.specs.declared.op.Op.{Op}
+use Rattle.record_base.specs.declared.op.Op.TheVariants as op
+use Rattle.record_base.specs.declared.field_changes.FieldChange.{FieldChange}
+use Rattle.record_base.specs.declared.state_effecter.SetStateEffecter.{SetStateEffecter}
 use Rattle.file_fields.specs.declared.field.Field.TheVariants as field
 use Rattle.file_fields.specs.Trees.{members_in, HasNumber}
 use Rattle.file_fields.specs.States.{change_of}

@@ -1,10 +1,10 @@
 -- What a step that sets thresholds holds.
 use Rattle.std.specs.Prelude.{◌≡◌, ℕ, Bool, map, slice_get, is_some, codes}
 use Rattle.toml.specs.Data.{Members}
-use Rattle.cfg_records.specs.Masks.{has}
-use Rattle.cfg_records.specs.declared.op.Op.{Op}
-use Rattle.cfg_records.specs.declared.op.Op.TheVariants as op
-use Rattle.cfg_records.specs.declared.sensor_thresholds.SetThresholds.{SetThresholds}
+use Rattle.record_base.specs.Masks.{has}
+use Rattle.record_base.specs.declared.op.Op.{Op}
+use Rattle.record_base.specs.declared.op.Op.TheVariants as op
+use Rattle.record_base.specs.declared.sensor_thresholds.SetThresholds.{SetThresholds}
 use Rattle.file_fields.specs.declared.field.Field.TheVariants as field
 use Rattle.plan_file.specs.declared.kind.thresholds.TheConstants.{LIMITS, FIELDS}
 use Rattle.file_fields.specs.Trees.{in_field, number_in, HasNumber}

@@ -1,9 +1,9 @@
 -- What a step that sets the name of a user holds.
 use Rattle.std.specs.Prelude.{◌≡◌, Some, option_and_then, codes}
 use Rattle.toml.specs.Data.{Members}
-use Rattle.cfg_records.specs.declared.op.Op.{Op}
-use Rattle.cfg_records.specs.declared.op.Op.TheVariants as op
-use Rattle.cfg_records.specs.declared.user.SetUserName.{SetUserName}
+use Rattle.record_base.specs.declared.op.Op.{Op}
+use Rattle.record_base.specs.declared.op.Op.TheVariants as op
+use Rattle.record_base.specs.declared.user.SetUserName.{SetUserName}
 use Rattle.file_fields.specs.declared.field.Field.TheVariants as field
 use Rattle.file_fields.specs.Trees.{in_field, HasNumber}
 use Rattle.file_fields.specs.Users.{name_of}

@@ -1,10 +1,10 @@
 -- What a step that sets the watchdog timer holds.
 use Rattle.std.specs.Prelude.{◌≡◌, ◌<◌, ◌/◌, ◌%◌, codes}
 use Rattle.toml.specs.Data.{Members}
-use Rattle.cfg_records.specs.Masks.{has}
-use Rattle.cfg_records.specs.declared.op.Op.{Op}
-use Rattle.cfg_records.specs.declared.op.Op.TheVariants as op
-use Rattle.cfg_records.specs.declared.watchdog.SetWatchdog.{SetWatchdog}
+use Rattle.record_base.specs.Masks.{has}
+use Rattle.record_base.specs.declared.op.Op.{Op}
+use Rattle.record_base.specs.declared.op.Op.TheVariants as op
+use Rattle.record_base.specs.declared.watchdog.SetWatchdog.{SetWatchdog}
 use Rattle.file_fields.specs.declared.field.Field.TheVariants as field
 use Rattle.file_fields.specs.Trees.{HasNumber, HasFlag}
 use Rattle.plan_file.specs.declared.kind.watchdog.TheConstants.{FIELDS}

@@ -1,17 +1,17 @@
 //! The step that sets the value of a BIOS attribute.
 ghost use Rattle.std.specs.Prelude.{◌≡◌, ◌≤◌, [], true, length, None, is_some};
 ghost use Rattle.toml.specs.View.{table_view};
-ghost use Rattle.cfg_records.specs.AttributeSizes.{most_sent};
-ghost use Rattle.cfg_records.specs.AttributeValue.{value_bytes};
+ghost use Rattle.record_base.specs.AttributeSizes.{most_sent};
+ghost use Rattle.record_base.specs.AttributeValue.{value_bytes};
 ghost use Rattle.file_fields.specs.Trees.{in_field};
 ghost use Rattle.file_fields.specs.Faults.{field_faults};
 ghost use Rattle.plan_file.specs.Kinds.BiosAttribute.{GivesValue, HoldsBiosAttribute};
 
-use cfg_records::attribute_sizes::MOST_SENT;
-use cfg_records::{AttributeValue, SetBiosAttribute};
 use file_fields::attributes::{indexes_of, text, text_in};
 use file_fields::tree::{in_field, members_in, number, word_in};
 use file_fields::{Field, Need, Row, Shape};
+use record_base::attribute_sizes::MOST_SENT;
+use record_base::{AttributeValue, SetBiosAttribute};
 use toml::Table;
 use two_wire::{Bytes, Data};
 

@@ -4,10 +4,10 @@ ghost use Rattle.toml.specs.View.{table_view};
 ghost use Rattle.file_fields.specs.Faults.{field_faults};
 ghost use Rattle.plan_file.specs.Kinds.BootParam.{HoldsBootChange, HoldsBootParam};
 
-use cfg_records::{BootChange, SetBootParam};
 use file_fields::range::{boot_change, parameter_in};
 use file_fields::tree::{flag, in_field};
 use file_fields::{Field, Need, Row, Shape};
+use record_base::{BootChange, SetBootParam};
 use toml::Table;
 
 /// The fields of a step that sets a boot parameter.

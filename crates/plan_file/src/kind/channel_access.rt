@@ -5,10 +5,10 @@ ghost use Rattle.file_fields.specs.Faults.{field_faults};
 ghost use Rattle.file_fields.specs.Trees.{HasNumber, HasBelow};
 ghost use Rattle.plan_file.specs.Kinds.ChannelAccess.{HoldsChannelChange, HoldsChannelAccess};
 
-use cfg_records::{ChannelChange, SetChannelAccess, SixBits};
 use file_fields::channels::{channel_in, store};
 use file_fields::tree::{byte_in, in_field, value_in};
 use file_fields::{Field, Need, Row, Shape};
+use record_base::{ChannelChange, SetChannelAccess, SixBits};
 use toml::Table;
 
 /// The fields of a step that sets the access of a channel in one of its stores.

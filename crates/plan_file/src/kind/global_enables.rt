@@ -4,10 +4,10 @@ ghost use Rattle.toml.specs.View.{table_view};
 ghost use Rattle.file_fields.specs.Faults.{field_faults};
 ghost use Rattle.plan_file.specs.Kinds.GlobalEnables.{HoldsGlobalEnables};
 
-use cfg_records::SetGlobalEnables;
 use file_fields::range::enables;
 use file_fields::tree::value_in;
 use file_fields::{Field, Need, Row, Shape};
+use record_base::SetGlobalEnables;
 use toml::Table;
 
 /// The fields of a step that sets the global enables.

@@ -4,9 +4,9 @@ ghost use Rattle.toml.specs.View.{table_view};
 ghost use Rattle.file_fields.specs.Faults.{field_faults};
 ghost use Rattle.plan_file.specs.Kinds.Hysteresis.{HoldsHysteresis};
 
-use cfg_records::SetHysteresis;
 use file_fields::tree::byte_in;
 use file_fields::{BYTE, Field, Need, Row};
+use record_base::SetHysteresis;
 use toml::Table;
 
 /// The fields of a step that sets hysteresis.

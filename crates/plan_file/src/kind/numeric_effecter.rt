@@ -5,10 +5,10 @@ ghost use Rattle.file_fields.specs.Numeric.{sized_bytes, AreBytes};
 ghost use Rattle.file_fields.specs.Faults.{field_faults};
 ghost use Rattle.plan_file.specs.Kinds.NumericEffecter.{HoldsNumericEffecter};
 
-use cfg_records::{NumericBytes, SetNumericEffecter};
 use file_fields::numeric::{numeric_bytes, size_in, sized_in};
 use file_fields::tree::{byte_in, number, word_in};
 use file_fields::{Field, Need, Row, Shape};
+use record_base::{NumericBytes, SetNumericEffecter};
 use toml::Table;
 
 /// The fields of a step that sets the value of a numeric effecter.

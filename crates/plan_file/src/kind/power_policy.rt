@@ -4,9 +4,9 @@ ghost use Rattle.toml.specs.View.{table_view};
 ghost use Rattle.file_fields.specs.Faults.{field_faults};
 ghost use Rattle.plan_file.specs.Kinds.PowerPolicy.{HoldsPowerPolicy};
 
-use cfg_records::SetPowerPolicy;
 use file_fields::tree::byte_in;
 use file_fields::{Field, Need, Row, Shape};
+use record_base::SetPowerPolicy;
 use toml::Table;
 
 /// The fields of a step that sets the power restore policy.

@@ -6,10 +6,10 @@ ghost use Rattle.file_fields.specs.States.{change_of};
 ghost use Rattle.file_fields.specs.Faults.{field_faults};
 ghost use Rattle.plan_file.specs.Kinds.StateEffecter.{IsChangeIn, HoldsStateEffecter};
 
-use cfg_records::{FieldChanges, SetStateEffecter};
 use file_fields::states::change_of;
 use file_fields::tree::{members_in, word_in};
 use file_fields::{Field, Need, Row, Shape};
+use record_base::{FieldChanges, SetStateEffecter};
 use toml::{Table, Value};
 
 /// The fields of a step that sets states of a state effecter.

@@ -1,15 +1,15 @@
 //! The step that sets thresholds.
 ghost use Rattle.std.specs.Prelude.{◌≡◌, ◌≤◌, ◌<◌, ◌==◌, ◌&&◌, ◌||◌, ℕ, [], map, Some};
 ghost use Rattle.toml.specs.View.{table_view};
-ghost use Rattle.cfg_records.specs.Masks.{has};
+ghost use Rattle.record_base.specs.Masks.{has};
 ghost use Rattle.file_fields.specs.Trees.{number_in};
 ghost use Rattle.file_fields.specs.Ranges.{or_zero};
 ghost use Rattle.file_fields.specs.Faults.{field_faults};
 ghost use Rattle.plan_file.specs.Kinds.Thresholds.{is_given, HoldsThresholds};
 
-use cfg_records::SetThresholds;
 use file_fields::tree::{byte_in, in_field, number};
 use file_fields::{BYTE, Field, Need, Row};
+use record_base::SetThresholds;
 use toml::Table;
 
 /// The fields of a step that sets thresholds.

@@ -5,9 +5,9 @@ ghost use Rattle.file_fields.specs.Trees.{flag_in, HasNumber, HasBelow};
 ghost use Rattle.file_fields.specs.Faults.{field_faults};
 ghost use Rattle.plan_file.specs.Kinds.UserAccess.{bit_of, access_bits, HoldsUserAccess};
 
-use cfg_records::SetUserAccess;
 use file_fields::tree::{byte_in, in_field};
 use file_fields::{Field, Need, Row, Shape};
+use record_base::SetUserAccess;
 use toml::Table;
 
 /// The fields of a step that sets what a user may do on a channel.

@@ -4,10 +4,10 @@ ghost use Rattle.toml.specs.View.{table_view};
 ghost use Rattle.file_fields.specs.Faults.{field_faults};
 ghost use Rattle.plan_file.specs.Kinds.UserName.{HoldsUserName};
 
-use cfg_records::SetUserName;
 use file_fields::tree::{byte_in, value_in};
 use file_fields::users::name;
 use file_fields::{Field, Need, Row, Shape};
+use record_base::SetUserName;
 use toml::Table;
 
 /// The fields of a step that sets the name of a user.

@@ -1,13 +1,13 @@
 //! The step that sets the watchdog timer.
 ghost use Rattle.std.specs.Prelude.{◌≡◌, ◌≤◌, ◌/◌, ◌%◌, []};
 ghost use Rattle.toml.specs.View.{table_view};
-ghost use Rattle.cfg_records.specs.Masks.{has};
+ghost use Rattle.record_base.specs.Masks.{has};
 ghost use Rattle.file_fields.specs.Faults.{field_faults};
 ghost use Rattle.plan_file.specs.Kinds.Watchdog.{HoldsWatchdog};
 
-use cfg_records::SetWatchdog;
 use file_fields::tree::{byte_in, flag, word_in};
 use file_fields::{BYTE, Field, Need, Row, Shape};
+use record_base::SetWatchdog;
 use toml::Table;
 
 /// The fields of a step that sets the watchdog timer.

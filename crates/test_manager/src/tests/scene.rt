@@ -1,6 +1,6 @@
 //! A manager, and the lines of what comes to it.
-use cfg_records::{Asked, Op, SetThresholds};
 use plans::{Names, NextNumbers, Plan, Requests, Steps, UndoList};
+use record_base::{Asked, Op, SetThresholds};
 use std::alloc::{AllocError, Global};
 use std::process::Abort;
 use story_lines::{NoOutcome, NoScene, Scene, report_of};

@@ -1,7 +1,7 @@
 //! Requests that come again over IPMB.
 use super::expect_told;
 use bmc_core::{Done, IpmbPort, Out, Step};
-use cfg_records::{Answered, Asked};
+use record_base::{Answered, Asked};
 use std::test::Fail;
 use stories::open_sample;
 use two_wire::{Address, Bytes, Lun, NetFn};

@@ -1,8 +1,8 @@
 //! Requests to a port on the System Management Bus, and what it keeps of them.
 use super::expect_told;
 use bmc_core::{At, Done, Out, SmbusPort, Step};
-use cfg_records::{Answered, Asked};
 use mctp_net::EndpointId;
+use record_base::{Answered, Asked};
 use std::test::Fail;
 use stories::open_sample;
 use two_wire::{Address, Below, Bytes};

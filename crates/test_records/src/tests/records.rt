@@ -1,6 +1,6 @@
 //! Records, stores and the sample board.
 ghost use Rattle.std.specs.Prelude.{◌<◌, IsTrue, length};
-ghost use Rattle.cfg_records.specs.Keys.{is_length};
+ghost use Rattle.record_base.specs.Keys.{is_length};
 
 use cfg_records::{
     Answered, Asked, BootFlags, BootOptions, BootParameter, EventEnable, EventMasks, Hysteresis,

@@ -1,6 +1,6 @@
 use Rattle.std.proofs.Common.{◌≡◌, ◌-◌, ℕ, List, length, take, drop, true, arith, length-drop, nat_le, Some, sym, ◌∙◌}
 use Rattle.std.proofs.lemmas.List.{take_all}
-use Rattle.cfg_records.specs.AttributeRangeLaws.{le_true}
+use Rattle.record_base.specs.AttributeRangeLaws.{le_true}
 use Rattle.bios_attr.specs.declared.attribute_entry.KindFields.TheVariants.{Integer}
 use Rattle.bios_attr.specs.AttributeEntry.{numbers_in}
 use Rattle.bios_attr.specs.EntryLaws.{fits}

@@ -1,7 +1,7 @@
 use Rattle.std.proofs.Common.{◌≡◌, ◌+◌, ◌++◌, ◌∷◌, [], ℕ, List, take, get_or, sym, ◌∙◌, ap, subst, arith}
 use Rattle.std.proofs.lemmas.List.{take_more}
 use Rattle.std.proofs.lemmas.List.Elements.{All-push}
-use Rattle.cfg_records.specs.AttributeValue.{two_bytes}
+use Rattle.record_base.specs.AttributeValue.{two_bytes}
 use Rattle.bios_attr.specs.declared.current_values.EntryHead.{EntryHead}
 use Rattle.bios_attr.specs.AttributeLaws.{pieces_more}
 use Rattle.bios_attr.specs.Values.{value_entries, IsShown}

@@ -1,6 +1,6 @@
 use Rattle.std.proofs.Common.{◌≡◌, ◌+◌, ◌++◌, ◌∷◌, [], ℕ, List, take, sym, ◌∙◌, ap, subst, arith}
 use Rattle.std.proofs.lemmas.List.{take_more, append_assoc}
-use Rattle.cfg_records.specs.declared.attribute.Attribute.{Attribute}
+use Rattle.record_base.specs.declared.attribute.Attribute.{Attribute}
 use Rattle.bios_attr.specs.declared.bios_table.BiosTable.TheVariants.{Attributes}
 use Rattle.bios_attr.specs.Attributes.{attribute_entry, attribute_entries}
 use Rattle.bios_attr.specs.AttributeLaws.{pieces_more}

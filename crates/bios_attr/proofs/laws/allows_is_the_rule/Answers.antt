@@ -1,4 +1,4 @@
-use Rattle.cfg_records.specs.AttributeRangeLaws.{true_allows, allows_true}
+use Rattle.record_base.specs.AttributeRangeLaws.{true_allows, allows_true}
 use Rattle.bios_attr.proofs.laws.allows_is_the_rule.Goals as goal
 
 pub returns : goal.returns

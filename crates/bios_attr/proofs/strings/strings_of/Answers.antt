@@ -1,6 +1,6 @@
 use Rattle.std.proofs.Common.{◌≡◌, ◌+◌, ◌++◌, ◌∷◌, [], ℕ, List, take, sym, ◌∙◌, ap, arith}
 use Rattle.std.proofs.lemmas.List.{take_more}
-use Rattle.cfg_records.specs.declared.attribute.Attribute.{Attribute}
+use Rattle.record_base.specs.declared.attribute.Attribute.{Attribute}
 use Rattle.bios_attr.specs.Attributes.{with_texts, with_attributes, texts_of}
 use Rattle.bios_attr.specs.AttributeLaws.{attributes_more}
 use Rattle.bios_attr.proofs.strings.strings_of.Goals as goal

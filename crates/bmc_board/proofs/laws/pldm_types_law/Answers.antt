@@ -1,6 +1,6 @@
 use Rattle.std.proofs.Common.{◌≡◌, ◌/◌, ◌%◌, slice_index, Bool, true, false, not, refl}
-use Rattle.cfg_records.specs.Masks.{has}
-use Rattle.cfg_records.specs.MaskLaws.{all_below-at}
+use Rattle.record_base.specs.Masks.{has}
+use Rattle.record_base.specs.MaskLaws.{all_below-at}
 use Rattle.bmc_board.specs.Table.{is_pldm_type}
 use Rattle.bmc_board.specs.Live.{pldm_types}
 use Rattle.bmc_board.proofs.laws.pldm_types_law.Goals as goal

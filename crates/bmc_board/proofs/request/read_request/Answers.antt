@@ -1,6 +1,6 @@
 use Rattle.std.proofs.Common.{sym, ap, ◌∙◌}
 use Rattle.bmc_board.specs.Request.{asked_by}
-use Rattle.cfg_records.specs.declared.message.Asked.TheVariants.{Ipmi, Pldm}
+use Rattle.record_base.specs.declared.message.Asked.TheVariants.{Ipmi, Pldm}
 use Rattle.bmc_board.proofs.request.read_request.Goals as goal
 
 pub returns-in-Ipmi : goal.returns-in-Ipmi

@@ -1,5 +1,5 @@
 use Rattle.std.proofs.Common.{◌≡◌, ℕ, List, subst}
-use Rattle.cfg_records.specs.declared.message.Asked.TheVariants.{Ipmi}
+use Rattle.record_base.specs.declared.message.Asked.TheVariants.{Ipmi}
 use Rattle.bmc_board.specs.Request.{asked_by, asked_of}
 use Rattle.bmc_core.proofs.ipmb_port.command_in.Goals as goal
 

@@ -3,7 +3,7 @@ use Rattle.std.specs.Prelude.{Bool, IfOk}
 use Rattle.std.proofs.lemmas.List.{append-nil, length-append}
 use Rattle.ipmb_frame.specs.declared.message.Header.{Header}
 use Rattle.ipmb_frame.specs.Grammar.{response_start}
-use Rattle.cfg_records.specs.declared.message.Answered.{Answered as Reply}
+use Rattle.record_base.specs.declared.message.Answered.{Answered as Reply}
 use Rattle.bmc_board.specs.Request.{Request as BoardRequest, asked_of, asked_by}
 use Rattle.bmc_board.specs.Room.{longest_reply}
 use Rattle.bmc_board.specs.Table.{is_changing}

@@ -4,7 +4,7 @@ use Rattle.std.proofs.lemmas.Slice.Zip.{AllZip-long}
 use Rattle.std.specs.List.{list_all}
 use Rattle.toml.specs.Data.{Data}
 use Rattle.toml.specs.View.{view, table_view}
-use Rattle.cfg_records.specs.AttributeRange.{AllowsIndexes}
+use Rattle.record_base.specs.AttributeRange.{AllowsIndexes}
 use Rattle.file_fields.specs.declared.field.Field.TheVariants as field
 use Rattle.board_file.specs.declared.tables.TheConstants.{ENUMERATION}
 use Rattle.file_fields.specs.Trees.{members_in}

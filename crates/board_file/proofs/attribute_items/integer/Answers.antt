@@ -1,6 +1,6 @@
 use Rattle.std.proofs.Common.{lit<}
 use Rattle.toml.specs.View.{table_view}
-use Rattle.cfg_records.specs.declared.attribute_range.IntegerSteps.{IntegerSteps}
+use Rattle.record_base.specs.declared.attribute_range.IntegerSteps.{IntegerSteps}
 use Rattle.file_fields.specs.declared.field.Field.TheVariants as field
 use Rattle.board_file.specs.declared.tables.TheConstants.{INTEGER}
 use Rattle.file_fields.proofs.Rows.{all_sound, number_of, below}

@@ -1,8 +1,8 @@
 use Rattle.std.proofs.Common.{◌≡◌, ◌<◌, ◌≤◌, Some, sym, ◌∙◌, ap, arith, lit<}
 use Rattle.toml.specs.View.{table_view}
-use Rattle.cfg_records.specs.Masks.{has}
-use Rattle.cfg_records.specs.Sensor.EventEnable.{flags_byte}
-use Rattle.cfg_records.specs.declared.event_enable.EventMasks.{EventMasks}
+use Rattle.record_base.specs.Masks.{has}
+use Rattle.record_base.specs.Sensor.EventEnable.{flags_byte}
+use Rattle.record_base.specs.declared.event_enable.EventMasks.{EventMasks}
 use Rattle.file_fields.specs.declared.field.Field.TheVariants as field
 use Rattle.board_file.specs.declared.tables.TheConstants.{SENSOR}
 use Rattle.file_fields.proofs.Rows.{all_sound, number_of, below, within, same_value}

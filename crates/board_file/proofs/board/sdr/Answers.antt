@@ -5,8 +5,8 @@ use Rattle.std.proofs.lemmas.Slice.Zip.{AllZip-long}
 use Rattle.std.specs.List.{list_all, AllZip}
 use Rattle.toml.specs.Data.{Data}
 use Rattle.toml.specs.View.{view, table_view}
-use Rattle.cfg_records.specs.Sdr.{sdr_id}
-use Rattle.cfg_records.specs.Distinct.{NamesDiffer}
+use Rattle.record_base.specs.Sdr.{sdr_id}
+use Rattle.record_base.specs.Distinct.{NamesDiffer}
 use Rattle.file_fields.specs.declared.field.Field.TheVariants as field
 use Rattle.file_fields.specs.Trees.{members_in}
 use Rattle.file_fields.specs.Ranges.{record_in}

@@ -1,7 +1,7 @@
 use Rattle.std.proofs.Common.{◌≡◌, map, take, drop}
 use Rattle.std.specs.List.{AllZip}
 use Rattle.toml.specs.View.{view}
-use Rattle.cfg_records.specs.Distinct.{NamesDiffer}
+use Rattle.record_base.specs.Distinct.{NamesDiffer}
 use Rattle.file_fields.specs.declared.field.Field.TheVariants as field
 use Rattle.board_file.specs.declared.fault.Item.TheVariants as item
 use Rattle.board_file.specs.declared.tables.TheConstants.{SENSOR}

@@ -1,6 +1,6 @@
 use Rattle.std.proofs.Common.{map, ap}
 use Rattle.toml.specs.View.{view}
-use Rattle.cfg_records.specs.declared.channel.ChannelNumber.{ChannelNumber}
+use Rattle.record_base.specs.declared.channel.ChannelNumber.{ChannelNumber}
 use Rattle.file_fields.specs.Ranges.{or_zero}
 use Rattle.board_file.specs.Holds.{IsNumberIn}
 use Rattle.board_file.proofs.ChannelLists.{differ_back, channel_of}

@@ -1,7 +1,7 @@
 use Rattle.std.proofs.Common.{◌≡◌, length, map, sym, ◌∙◌, ap, rules}
 use Rattle.std.proofs.lemmas.Result.{err_from_is_err_and}
 use Rattle.toml.specs.View.{view, table_view}
-use Rattle.cfg_records.specs.declared.channel.ChannelNumber.{ChannelNumber}
+use Rattle.record_base.specs.declared.channel.ChannelNumber.{ChannelNumber}
 use Rattle.file_fields.specs.declared.field.Field.TheVariants as field
 use Rattle.board_file.specs.declared.fault.Item.TheVariants as item
 use Rattle.file_fields.specs.Trees.{number_in, table_of}

@@ -4,8 +4,8 @@ use Rattle.std.proofs.lemmas.List.Kept.{AllPairs-filter}
 use Rattle.std.proofs.lemmas.Slice.Zip.{AllZip-long}
 use Rattle.toml.specs.Data.{Data}
 use Rattle.toml.specs.View.{view}
-use Rattle.cfg_records.specs.declared.channel.Channel.{Channel}
-use Rattle.cfg_records.specs.declared.channel.ChannelNumber.{ChannelNumber}
+use Rattle.record_base.specs.declared.channel.Channel.{Channel}
+use Rattle.record_base.specs.declared.channel.ChannelNumber.{ChannelNumber}
 use Rattle.file_fields.specs.Ranges.{or_zero}
 use Rattle.board_file.specs.Holds.{IsChannelIn, IsNumberIn, serves, with_sessions, without_sessions}
 use Rattle.board_file.proofs.ChannelLists.{differ_zip, filter_few, channel_of, accesses_differ, accesses_few}

@@ -1,7 +1,7 @@
 use Rattle.std.proofs.Common.{◌≡◌, ◌∙◌, ◌≤◌, ◌<◌, Some, is_some, ap, sym, lit<}
 use Rattle.toml.specs.View.{table_view}
-use Rattle.cfg_records.specs.NumericSize.{numbers_of, rank, bytes_of, number_in}
-use Rattle.cfg_records.specs.NumericEffecter.{IsNumeric}
+use Rattle.record_base.specs.NumericSize.{numbers_of, rank, bytes_of, number_in}
+use Rattle.record_base.specs.NumericEffecter.{IsNumeric}
 use Rattle.file_fields.specs.declared.field.Field.TheVariants as field
 use Rattle.board_file.specs.declared.tables.TheConstants.{NUMERIC}
 use Rattle.file_fields.specs.Numeric.{size_in, sized_in}

@@ -1,6 +1,6 @@
 use Rattle.std.proofs.Common.{◌≡◌, ◌∙◌, ap, sym, false, ◌++◌, ◌∷◌, [], ◌==◌}
 use Rattle.std.specs.List.{list_any}
-use Rattle.cfg_records.specs.declared.state_effecter.StateEffecter.{StateEffecter}
+use Rattle.record_base.specs.declared.state_effecter.StateEffecter.{StateEffecter}
 use Rattle.file_fields.specs.declared.field.Field.TheVariants as field
 use Rattle.board_file.specs.declared.fault.Item.TheVariants as item
 use Rattle.board_file.specs.declared.tables.TheConstants.{STATE}

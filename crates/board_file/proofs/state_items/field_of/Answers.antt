@@ -3,7 +3,7 @@ use Rattle.std.proofs.lemmas.Bool.{and_parts}
 use Rattle.std.proofs.lemmas.List.Folds.{list_all-map}
 use Rattle.std.specs.List.{list_all, AllZip}
 use Rattle.toml.specs.View.{view}
-use Rattle.cfg_records.specs.StateField.{allows}
+use Rattle.record_base.specs.StateField.{allows}
 use Rattle.file_fields.specs.Trees.{IsNaturalIn, members, or_none}
 use Rattle.file_fields.specs.Ranges.{is_state}
 use Rattle.board_file.proofs.StateFields.{present_small, present_allowed}

@@ -1,8 +1,8 @@
 use Rattle.std.proofs.Common.{false, refl, lit<}
-use Rattle.cfg_records.specs.Sensor.EventEnable.{are_within}
-use Rattle.cfg_records.specs.EventLaws.{tested_events}
-use Rattle.cfg_records.specs.Sensor.Thresholds.{is_clear, is_in_order}
-use Rattle.cfg_records.specs.ThresholdLaws.{tests_pass}
+use Rattle.record_base.specs.Sensor.EventEnable.{are_within}
+use Rattle.record_base.specs.EventLaws.{tested_events}
+use Rattle.record_base.specs.Sensor.Thresholds.{is_clear, is_in_order}
+use Rattle.record_base.specs.ThresholdLaws.{tests_pass}
 use Rattle.cfg_records.proofs.sample.fan.Goals as goal
 
 pub invariant_of-result-2 : goal.invariant_of-result-2

@@ -1,5 +1,5 @@
 use Rattle.std.proofs.Common.{◌≡◌, ℕ, zero, suc, ◌-◌, ◌≤◌, List, [], ◌∷◌, ◌++◌, length, take, drop, slice_index, refl, ap, sym, ◌∙◌, append_assoc, append-nil, length-append, arith}
-use Rattle.cfg_records.specs.declared.field_changes.FieldChange.{FieldChange}
+use Rattle.record_base.specs.declared.field_changes.FieldChange.{FieldChange}
 use Rattle.effecter_recs.specs.FieldChanges.{changes_of}
 use Rattle.effecter_recs.specs.ChangeLaws.{none_in, first_in}
 use Rattle.effecter_recs.proofs.field_changes.changes_in.Goals as goal

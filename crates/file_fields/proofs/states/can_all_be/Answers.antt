@@ -1,4 +1,4 @@
-use Rattle.cfg_records.specs.MaskLaws.{is_false}
+use Rattle.record_base.specs.MaskLaws.{is_false}
 use Rattle.file_fields.proofs.Members.{same_lengths}
 use Rattle.file_fields.proofs.states.can_all_be.Goals as goal
 

@@ -1,7 +1,7 @@
 use Rattle.std.proofs.Common.{◌≡◌, List, length, take, ap, ◌∙◌, refl, arith}
 use Rattle.std.proofs.lemmas.List.{length-set}
 use Rattle.std.proofs.Math.Seq.{take-length}
-use Rattle.cfg_records.specs.declared.sensor.Sensor.{Sensor}
+use Rattle.record_base.specs.declared.sensor.Sensor.{Sensor}
 use Rattle.record_kinds.specs.Boards.{sensor_at}
 use Rattle.record_kinds.proofs.Numbered.{none_placed, more_placed}
 use Rattle.record_kinds.proofs.setup.places_of.Goals as goal

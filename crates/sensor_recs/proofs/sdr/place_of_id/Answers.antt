@@ -2,7 +2,7 @@ use Rattle.std.proofs.Common.{◌≡◌, ◌==◌, List, ℕ, length, get_or, []
 use Rattle.std.proofs.lemmas.Bool.Decides.{nat_tests}
 use Rattle.std.proofs.lemmas.List.{get_or_default}
 use Rattle.std.proofs.lemmas.List.Sums.{position_or_len_is}
-use Rattle.cfg_records.specs.Sdr.{sdr_id}
+use Rattle.record_base.specs.Sdr.{sdr_id}
 use Rattle.sensor_recs.proofs.sdr.place_of_id.Goals as goal
 
 equal_test : (a b : ℕ) → a ≡ b → (a == b) ≡ true

@@ -1,5 +1,5 @@
 use Rattle.std.proofs.Common.{◌≡◌, ℕ, ◌<◌, ◌==◌, false, get_or, []}
-use Rattle.cfg_records.specs.Sdr.{sdr_id}
+use Rattle.record_base.specs.Sdr.{sdr_id}
 use Rattle.sensor_recs.proofs.sdr.place_of_id.Given as goal
 
 abbrev pub invariant-loop-place : goal.invariant-loop-place

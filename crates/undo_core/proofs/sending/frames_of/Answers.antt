@@ -1,6 +1,6 @@
 use Rattle.std.proofs.Common.{◌≡◌, [], ◌∷◌, ◌++◌, ℕ, List, map, sym, ◌∙◌, ap, subst}
 use Rattle.std.specs.List.{AllZip}
-use Rattle.cfg_records.specs.declared.message.Asked.{Asked}
+use Rattle.record_base.specs.declared.message.Asked.{Asked}
 use Rattle.lab_model.specs.Values.{written, IsFrameOn}
 use Rattle.lab_model.specs.ManagerSteps.{values_of}
 use Rattle.undo_model.specs.Machine.{count_of}

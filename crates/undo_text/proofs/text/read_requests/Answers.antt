@@ -1,5 +1,5 @@
 use Rattle.std.proofs.Common.{◌≡◌, ◌+◌, ◌++◌, ◌∷◌, [], inr, Bool, true, cond, not, List, refl, sym, ◌∙◌, ap, subst, arith, rules, is_ok, vec_len}
-use Rattle.cfg_records.specs.declared.message.Asked.{Asked}
+use Rattle.record_base.specs.declared.message.Asked.{Asked}
 use Rattle.undo_text.proofs.UndoLists.{Begun, begun_more, begun_bad, no_request, past, not_empty}
 use Rattle.undo_text.proofs.text.read_requests.Goals as goal
 

@@ -1,6 +1,6 @@
 use Rattle.std.proofs.Common.{ℕ, List, sym, subst}
 use Rattle.std.specs.Prelude.{Result}
-use Rattle.cfg_records.specs.Meaning.{Decides}
+use Rattle.record_base.specs.Meaning.{Decides}
 use Rattle.bios_attr.specs.BiosAttribute.{record_words}
 use Rattle.bios_attr.specs.BiosAttributeLaws.{record_laws}
 use Rattle.bios_attr.proofs.bios_attribute.AttributeLimitsRecordKind.apply.Goals as goal

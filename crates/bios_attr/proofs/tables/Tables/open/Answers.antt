@@ -1,5 +1,5 @@
 use Rattle.std.proofs.Common.{map, ◌≤◌, ℕ, List, length, ◌∙◌, ap, sym, subst}
-use Rattle.cfg_records.specs.declared.attribute.Attribute.{Attribute}
+use Rattle.record_base.specs.declared.attribute.Attribute.{Attribute}
 use Rattle.bios_attr.specs.declared.bios_table.BiosTable.TheVariants as table_name
 use Rattle.bios_attr.specs.Attributes.{strings_of, string_entries, attribute_entries}
 use Rattle.bios_attr.specs.Tables.{IsTable}

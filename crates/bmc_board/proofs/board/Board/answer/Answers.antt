@@ -1,6 +1,6 @@
 use Rattle.std.proofs.Common.{◌≡◌, ◌≢◌, ◌≤◌, List, ℕ, Result, [], length, sym, ◌∙◌, ap, subst}
 use Rattle.two_wire.specs.Codes.{success}
-use Rattle.cfg_records.specs.Meaning.{room_for}
+use Rattle.record_base.specs.Meaning.{room_for}
 use Rattle.bmc_board.specs.Request.{Request, asked_of, asked_by}
 use Rattle.bmc_board.specs.State.{State, state_of}
 use Rattle.bmc_board.specs.Leaves.{Leaves}

@@ -1,7 +1,7 @@
 use Rattle.std.proofs.Common.{◌≡◌, ◌+◌, ◌≤◌, ℕ, List, Some, length, sym, ◌∙◌, ap, arith}
 use Rattle.std.specs.Option.{option_copied}
-use Rattle.cfg_records.specs.Meaning.{room_for}
-use Rattle.cfg_records.specs.declared.key.Key.{Key}
+use Rattle.record_base.specs.Meaning.{room_for}
+use Rattle.record_base.specs.declared.key.Key.{Key}
 use Rattle.record_kinds.specs.Limits.{is_of, valid, view, get_asked, limits_at}
 use Rattle.record_kinds.specs.LimitsLaws as laws
 use Rattle.record_kinds.specs.SoundLaws.{valid_at}

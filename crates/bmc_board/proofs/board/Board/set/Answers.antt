@@ -1,9 +1,9 @@
 use Rattle.std.proofs.Common.{rules, ◌≡◌, List, ℕ, length, Some, sym, ◌∙◌, subst}
 use Rattle.std.specs.Bool.{IsTrue}
-use Rattle.cfg_records.specs.Keys.{is_length}
+use Rattle.record_base.specs.Keys.{is_length}
 use Rattle.record_kinds.specs.LimitsLaws as laws
 use Rattle.cfg_records.specs.Records.{Records, with_record}
-use Rattle.cfg_records.specs.declared.key.Key.{Key}
+use Rattle.record_base.specs.declared.key.Key.{Key}
 use Rattle.record_kinds.specs.Limits.{key_of, is_of, valid, sets, limits_at}
 use Rattle.record_kinds.specs.Sound.{IsSound}
 use Rattle.record_kinds.specs.SoundLaws.{valid_at, sound_set}

@@ -1,5 +1,5 @@
 use Rattle.std.proofs.Common.{◌≡◌, ℕ, List, Result, Ok, sym, ◌∙◌, subst}
-use Rattle.cfg_records.specs.Requests.{byte_at}
+use Rattle.record_base.specs.Requests.{byte_at}
 use Rattle.bios_attr.specs.declared.bios_table.BiosTable.{BiosTable}
 use Rattle.bmc_board.specs.Gives.{Gives}
 use Rattle.bmc_board.specs.BiosTables.{values_in, table_bytes, table_asked, asked_part, table_where}

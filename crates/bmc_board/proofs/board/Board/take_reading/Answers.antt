@@ -1,7 +1,7 @@
 use Rattle.std.proofs.Common.{◌≡◌, ℕ, List, true, false, sym, ◌∙◌, ap}
-use Rattle.cfg_records.specs.Sensor.EventEnable.{is_scanning}
-use Rattle.cfg_records.specs.Requests.{byte_at}
-use Rattle.cfg_records.specs.declared.key.Key.TheVariants as key
+use Rattle.record_base.specs.Sensor.EventEnable.{is_scanning}
+use Rattle.record_base.specs.Requests.{byte_at}
+use Rattle.record_base.specs.declared.key.Key.TheVariants as key
 use Rattle.sensor_recs.specs.declared.compared.Taken.{Taken}
 use Rattle.sensor_recs.specs.Taken.{with_reading}
 use Rattle.bmc_board.specs.Sensing.{value_at, logs}

@@ -1,8 +1,8 @@
 use Rattle.std.proofs.Common.{◌≡◌, ◌<◌, ℕ, List, ◌∷◌, ◌++◌, Result, Ok, Err, sym, ◌∙◌, ap, subst}
 use Rattle.pldm_base.specs.declared.message.Header.{Header}
 use Rattle.pldm_base.specs.Message.{reply_start}
-use Rattle.cfg_records.specs.declared.message.Asked.TheVariants.{Pldm}
-use Rattle.cfg_records.specs.declared.message.Answered.{Answered as Reply}
+use Rattle.record_base.specs.declared.message.Asked.TheVariants.{Pldm}
+use Rattle.record_base.specs.declared.message.Answered.{Answered as Reply}
 use Rattle.bmc_board.specs.Request.{Request as BoardRequest, asked_by, asked_of as asked_with}
 use Rattle.bmc_board.specs.State.{State, state_of}
 use Rattle.bmc_board.specs.Gives.{Gives}

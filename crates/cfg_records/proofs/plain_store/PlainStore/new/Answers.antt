@@ -2,8 +2,8 @@ use Rattle.std.proofs.Common.{◌≡◌, ℕ, ◌∷◌, [], ◌++◌, ◌+◌, 
 use Rattle.std.proofs.lemmas.List.{take_more, length-take}
 use Rattle.std.proofs.Math.Seq.{take-length}
 use Rattle.cfg_records.specs.Index.{place_of}
-use Rattle.cfg_records.specs.declared.key.Key.{Key}
-use Rattle.cfg_records.specs.Keys.{same_key}
+use Rattle.record_base.specs.declared.key.Key.{Key}
+use Rattle.record_base.specs.Keys.{same_key}
 use Rattle.cfg_records.specs.Records.{Records, Pair, with_record, records_of, KeysDiffer}
 use Rattle.cfg_records.specs.Places.{value_at, ArePlaced}
 use Rattle.cfg_records.proofs.Pairs.{records_of-push, KeysDiffer-push, KeysDiffer-twice}

@@ -1,6 +1,6 @@
 use Rattle.std.proofs.Common.{◌≡◌, take}
 use Rattle.cfg_records.specs.Index.{place_of}
-use Rattle.cfg_records.specs.declared.key.Key.{Key}
+use Rattle.record_base.specs.declared.key.Key.{Key}
 use Rattle.cfg_records.specs.Records.{records_of, KeysDiffer}
 use Rattle.cfg_records.specs.Places.{value_at, ArePlaced}
 use Rattle.cfg_records.proofs.plain_store.PlainStore.new.Given as goal

@@ -1,6 +1,6 @@
 use Rattle.std.proofs.Common.{rules, ◌≡◌, ◌↔◌, IsNone, ℕ, List, Option, refl, sym, subst}
 use Rattle.cfg_records.specs.Index.{place_of}
-use Rattle.cfg_records.specs.declared.key.Key.{Key}
+use Rattle.record_base.specs.declared.key.Key.{Key}
 use Rattle.cfg_records.specs.Records.{Pair}
 use Rattle.cfg_records.specs.Places.{value_at}
 use Rattle.cfg_records.proofs.Placed.{absent_together}

@@ -2,7 +2,7 @@ use Rattle.std.proofs.Common.{◌≡◌, ℕ, List, Option, Some, slice_get, sym
 use Rattle.cfg_records.specs.Index.{place_of}
 use Rattle.std.specs.Option.{option_map}
 use Rattle.std.proofs.lemmas.Option.{get_or_from_slice_get}
-use Rattle.cfg_records.specs.declared.key.Key.{Key}
+use Rattle.record_base.specs.declared.key.Key.{Key}
 use Rattle.cfg_records.specs.Records.{Pair, value_of}
 use Rattle.cfg_records.specs.Places.{value_at}
 use Rattle.cfg_records.proofs.Placed.{Stands, stands, inside}

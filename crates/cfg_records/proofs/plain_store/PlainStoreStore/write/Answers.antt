@@ -1,7 +1,7 @@
 use Rattle.std.proofs.Common.{◌≡◌, ℕ, List, Option, slice_get, ap, ◌∙◌, arith}
 use Rattle.cfg_records.specs.Index.{place_of}
 use Rattle.std.proofs.lemmas.Option.{get_or_from_slice_get}
-use Rattle.cfg_records.specs.declared.key.Key.{Key}
+use Rattle.record_base.specs.declared.key.Key.{Key}
 use Rattle.cfg_records.specs.Records.{Records, Pair, with_record}
 use Rattle.cfg_records.specs.Places.{value_at}
 use Rattle.cfg_records.proofs.Placed.{Stands, stands, inside, written, still_placed}

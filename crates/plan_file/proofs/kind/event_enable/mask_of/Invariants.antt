@@ -1,6 +1,6 @@
 use Rattle.std.proofs.Common.{◌≡◌, ℕ, take}
 use Rattle.std.specs.List.{list_any}
-use Rattle.cfg_records.specs.Masks.{has}
+use Rattle.record_base.specs.Masks.{has}
 use Rattle.toml.specs.View.{view}
 use Rattle.file_fields.specs.Ranges.{is_number}
 use Rattle.plan_file.proofs.kind.event_enable.mask_of.Given as goal

@@ -1,6 +1,6 @@
 use Rattle.std.proofs.Common.{◌≡◌, ◌<◌, ◌≤◌, ◌||◌, ◌==◌, Some, Option, ℕ, ap, sym, ◌∙◌, arith, w16, bit_or, ◌^◌, ◌*◌, ◌%◌}
 use Rattle.std.proofs.lemmas.Nat.Bits.{bit_at_set_same, bit_at_set_other}
-use Rattle.cfg_records.specs.Masks.{has}
+use Rattle.record_base.specs.Masks.{has}
 use Rattle.toml.specs.View.{view}
 use Rattle.file_fields.specs.Trees.{natural}
 use Rattle.file_fields.specs.Ranges.{passes}

@@ -1,6 +1,6 @@
 use Rattle.std.proofs.Common.{◌≡◌, ◌∙◌, Some, is_some, ap, sym, refl}
 use Rattle.toml.specs.View.{table_view}
-use Rattle.cfg_records.specs.NumericSize.{bytes_of}
+use Rattle.record_base.specs.NumericSize.{bytes_of}
 use Rattle.file_fields.specs.declared.field.Field.TheVariants as field
 use Rattle.plan_file.specs.declared.kind.numeric_effecter.TheConstants.{FIELDS}
 use Rattle.file_fields.specs.Numeric.{size_in, sized_in, sized_bytes}

@@ -1,5 +1,5 @@
 use Rattle.std.proofs.Common.{◌≡◌, ℕ, ◌&&◌, nat_lt}
-use Rattle.cfg_records.specs.Masks.{has}
+use Rattle.record_base.specs.Masks.{has}
 use Rattle.toml.specs.View.{table_view}
 use Rattle.plan_file.specs.Kinds.Thresholds.{is_given}
 use Rattle.plan_file.proofs.kind.thresholds.given.Given as goal

@@ -1,6 +1,6 @@
 use Rattle.std.proofs.Common.{◌≡◌, ◌<◌, ◌||◌, ◌&&◌, ◌==◌, true, ap, sym, ◌∙◌, rules, arith, w8, bit_or, ◌^◌, ◌*◌, ◌%◌}
 use Rattle.std.proofs.lemmas.Nat.Bits.{bit_at_set_same, bit_at_set_other}
-use Rattle.cfg_records.specs.Masks.{has}
+use Rattle.record_base.specs.Masks.{has}
 use Rattle.toml.specs.View.{table_view}
 use Rattle.plan_file.specs.Kinds.Thresholds.{is_given}
 use Rattle.plan_file.proofs.Changes.{one_more, and_true}

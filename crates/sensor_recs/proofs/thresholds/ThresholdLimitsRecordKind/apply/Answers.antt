@@ -1,5 +1,5 @@
 use Rattle.std.proofs.Common.{List, ℕ, Result, sym, subst}
-use Rattle.cfg_records.specs.Meaning.{Decides}
+use Rattle.record_base.specs.Meaning.{Decides}
 use Rattle.sensor_recs.specs.Thresholds.{record_words}
 use Rattle.sensor_recs.specs.ThresholdsLaws.{record_laws}
 use Rattle.sensor_recs.proofs.thresholds.ThresholdLimitsRecordKind.apply.Goals as goal

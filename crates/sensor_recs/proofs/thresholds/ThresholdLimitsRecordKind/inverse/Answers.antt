@@ -1,6 +1,6 @@
 use Rattle.std.proofs.Common.{◌≡◌, ◌-◌, List, ℕ, length, drop, take, Some, None, true, if◌then◌else◌, refl, ap, sym, ◌∙◌, length-drop}
 use Rattle.std.proofs.Math.Seq.{take-length}
-use Rattle.cfg_records.proofs.Operations.{same_thresholds}
+use Rattle.record_base.proofs.Operations.{same_thresholds}
 use Rattle.sensor_recs.specs.Thresholds.{choose, zeros, shows_all, undo_thresholds}
 use Rattle.sensor_recs.proofs.thresholds.ThresholdLimitsRecordKind.inverse.Goals as goal
 

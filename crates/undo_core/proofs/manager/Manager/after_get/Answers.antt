@@ -1,6 +1,6 @@
 use Rattle.std.proofs.Common.{rules, ◌≡◌, ◌==◌, Some, if◌then◌else◌, false, sym, ◌∙◌, ap, subst}
 use Rattle.two_wire.specs.Codes.{success}
-use Rattle.cfg_records.specs.declared.op.Op.{Op}
+use Rattle.record_base.specs.declared.op.Op.{Op}
 use Rattle.record_kinds.specs.Limits.{inverse}
 use Rattle.undo_model.specs.Phase.{GetRefused}
 use Rattle.undo_model.specs.Machine as machine

@@ -1,5 +1,5 @@
 use Rattle.std.proofs.Common.{rules, ◌≡◌, Bool, true, false, refl, ◌∙◌, ap, subst}
-use Rattle.cfg_records.specs.declared.message.Asked.{Asked}
+use Rattle.record_base.specs.declared.message.Asked.{Asked}
 use Rattle.lab_model.specs.ManagerSteps.{Again}
 use Rattle.undo_model.specs.Machine as machine
 use Rattle.undo_core.specs.Shown.{IsStage}

@@ -1,6 +1,6 @@
 use Rattle.std.proofs.Common.{rules, ◌≡◌, ◌≤◌, length, Bool, true, false, Option, refl, sym, ◌∙◌, ap, subst, arith}
 use Rattle.two_wire.specs.declared.Bus.{Bus}
-use Rattle.cfg_records.specs.declared.message.Asked.{Asked}
+use Rattle.record_base.specs.declared.message.Asked.{Asked}
 use Rattle.lab_model.specs.ManagerWords.{bus_of}
 use Rattle.undo_model.specs.Words.{Answered, is_busy}
 use Rattle.undo_model.specs.Machine.{one_answered}

@@ -3,7 +3,7 @@ use Rattle.std.specs.Prelude.{slice_get}
 use Rattle.lab_model.specs.ManagerSteps.{Start}
 use Rattle.undo_model.specs.Machine as machine
 use Rattle.undo_core.specs.Shown.{words_of, IsStage}
-use Rattle.cfg_records.specs.declared.op.Op.{Op}
+use Rattle.record_base.specs.declared.op.Op.{Op}
 use Rattle.undo_core.specs.declared.stage.Stage.{Stage}
 use Rattle.undo_core.proofs.Calling.{refused, made, no_start, shows_start, start_turn, first_is_next, enters_does}
 use Rattle.undo_core.proofs.manager.Manager.start.Goals as goal

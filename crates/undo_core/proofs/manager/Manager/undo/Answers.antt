@@ -1,6 +1,6 @@
 use Rattle.std.proofs.Common.{rules, ◌≡◌, ℕ, List, take, refl, sym, ◌∙◌, ap, subst}
 use Rattle.std.proofs.Math.Seq.{take-length}
-use Rattle.cfg_records.specs.declared.message.Asked.{Asked}
+use Rattle.record_base.specs.declared.message.Asked.{Asked}
 use Rattle.mctp_net.specs.Assembly.{nothing}
 use Rattle.lab_model.specs.ManagerSteps.{Undo}
 use Rattle.undo_model.specs.Machine as machine

@@ -1,5 +1,5 @@
 use Rattle.std.proofs.Common.{List, ℕ, sym, ◌∙◌}
-use Rattle.cfg_records.specs.MaskLaws.{same_test}
+use Rattle.record_base.specs.MaskLaws.{same_test}
 use Rattle.user_chan.specs.Passwords.{same_bytes, same_password}
 use Rattle.user_chan.specs.PasswordLaws.{bytes_true, true_bytes}
 use Rattle.user_chan.proofs.password.Password.is.Goals as goal

@@ -1,5 +1,5 @@
 use Rattle.std.proofs.Common.{◌≡◌, List, ℕ, length, Some, None, if◌then◌else◌, ap, sym, ◌∙◌}
-use Rattle.cfg_records.specs.InverseLaws.{same_tested}
+use Rattle.record_base.specs.InverseLaws.{same_tested}
 use Rattle.user_chan.specs.UserNames.{undo_name}
 use Rattle.user_chan.proofs.user_name.UserNameLimitsRecordKind.inverse.Goals as goal
 

@@ -1,5 +1,5 @@
 use Rattle.std.proofs.Common.{List, ℕ, Result, sym, subst}
-use Rattle.cfg_records.specs.Meaning.{Decides}
+use Rattle.record_base.specs.Meaning.{Decides}
 use Rattle.watch_boot.specs.BootParam.{SetsBootParam}
 use Rattle.watch_boot.specs.BootParamLaws.{record_laws}
 use Rattle.watch_boot.proofs.boot_param.BootParamLimitsRecordKind.apply.Goals as goal

@@ -1,0 +1,5 @@
+pub mod MaskBits
+pub mod Orders
+pub mod Names
+pub mod Numbers
+pub mod Operations

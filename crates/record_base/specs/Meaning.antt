@@ -1,0 +1,28 @@
+-- What a kind of record says of an operation.
+use Rattle.std.specs.Prelude.{◌≢◌, ℕ, ◌<◌, List, Result, Ok, Err}
+use Rattle.two_wire.specs.Codes.{node_busy, pldm_not_ready}
+use Rattle.two_wire.specs.Sizes.{most_ipmi_reply_data, most_pldm_reply_data}
+use Rattle.record_base.specs.declared.message.Asked.{Asked}
+use Rattle.record_base.specs.declared.message.Asked.TheVariants.{Ipmi, Pldm}
+
+-- the outcome decides the relation: the new value is related, or none is
+abbrev pub Decides : Result (List ℕ) ℕ → (List ℕ → Type 0) → Type 0
+Decides (Ok new) P = P new
+Decides (Err code) P = (new : List ℕ) → ¬ P new
+
+-- what comes of a call that writes the new value where it succeeds
+abbrev pub told : {A : Type 0} → Result A ℕ → List ℕ → Result (List ℕ) ℕ
+told (Ok _) new = Ok new
+told (Err code) new = Err code
+
+-- a code that a command table answers: a byte that is neither success nor one of the two codes of a busy controller
+pub record IsRefusal (code : ℕ) : Type 0 where
+  pub is_fault : 0 < code
+  pub is_byte : code < 256
+  pub not_busy : code ≢ node_busy
+  pub is_ready : code ≢ pldm_not_ready
+
+-- how many bytes of data the reply to the request may have: 24 over IPMB, 251 over PLDM
+abbrev pub room_for : Asked → ℕ
+room_for (Ipmi from net_fn lun command body) = most_ipmi_reply_data
+room_for (Pldm from kind command body) = most_pldm_reply_data

@@ -1,0 +1,4 @@
+-- The records of sensors.
+pub mod Thresholds
+pub mod Hysteresis
+pub mod EventEnable

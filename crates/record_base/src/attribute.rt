@@ -1,0 +1,217 @@
+//! The BIOS attributes of a board.
+ghost use Rattle.std.specs.Prelude.{◌≤◌, ◌<◌, ◌^◌, length};
+ghost use Rattle.record_base.specs.AttributeSizes.{most_indexes};
+ghost use Rattle.record_base.specs.AttributeRange.{AllowsIndexes, AllowsText, AllowsNumber};
+ghost use Rattle.record_base.specs.AttributeRangeLaws.{AllowsIndexes-prop, AllowsText-prop, AllowsNumber-prop};
+
+use crate::attribute_range::{AttributeRange, IntegerSteps, PossibleValues, TextLengths};
+use crate::attribute_sizes::{MOST_ATTRIBUTES, MOST_INDEXES, MOST_TEXT};
+use crate::attribute_value::{ENUMERATION_TYPE, INTEGER_TYPE, STRING_TYPE};
+use crate::distinct::{Distinct, Numbered};
+use crate::items::Items;
+use crate::key::Key;
+use crate::value::Value;
+use two_wire::Bytes;
+
+/// A text: a name, a possible value, or the value of a string.
+pub type Text = Bytes<{ MOST_TEXT }>;
+
+/// The indexes of possible values.
+pub type Indexes = Bytes<{ MOST_INDEXES }>;
+
+/// An attribute that is one of its possible values, or several.
+#[derive(Debug, Drop)]
+pub struct EnumerationAttribute {
+    pub values: Items<Text>,
+    pub default: Indexes,
+    pub current: Indexes,
+    ghost few: { length values ≤ most_indexes },
+    ghost default_valid: { AllowsIndexes (length values) default } by { AllowsIndexes-prop (length values) default },
+    ghost current_valid: { AllowsIndexes (length values) current } by { AllowsIndexes-prop (length values) current },
+}
+
+/// An attribute that is a text.
+#[derive(Debug, Drop)]
+pub struct StringAttribute {
+    /// How its bytes are characters.
+    pub string_type: u8,
+    pub lengths: TextLengths,
+    pub default: Text,
+    pub current: Text,
+    ghost default_valid: { AllowsText lengths default } by { AllowsText-prop lengths default },
+    ghost current_valid: { AllowsText lengths current } by { AllowsText-prop lengths current },
+}
+
+/// An attribute that is a number.
+#[derive(Debug, Drop)]
+pub struct IntegerAttribute {
+    pub steps: IntegerSteps,
+    pub default: u64,
+    pub current: u64,
+    ghost current_fits: { current < 2 ^ 64 },
+    ghost default_valid: { AllowsNumber steps default } by { AllowsNumber-prop steps default },
+    ghost current_valid: { AllowsNumber steps current } by { AllowsNumber-prop steps current },
+}
+
+/// What an attribute is.
+#[derive(Debug, Drop)]
+pub enum AttributeKind {
+    Enumeration(EnumerationAttribute),
+    Text(StringAttribute),
+    Integer(IntegerAttribute),
+}
+
+/// An attribute of a board. Its handle is its place in the board's list, from 0.
+#[derive(Debug, Drop)]
+pub struct Attribute {
+    pub handle: u16,
+    pub name: Text,
+    pub read_only: bool,
+    pub kind: AttributeKind,
+}
+
+/// The attributes of a board.
+pub type Attributes = Distinct<Attribute, { MOST_ATTRIBUTES }>;
+
+impl Numbered for Attribute {
+    ghost number_of = { λ attribute. attribute.handle };
+
+    fn number(&self) -> u16 {
+        self.handle
+    }
+}
+
+impl EnumerationAttribute {
+    ghost use Rattle.std.specs.Prelude.{◌≡◌, ◌≤◌, ◌↔◌, IsSome, IfSome, length};
+    ghost use Rattle.record_base.specs.AttributeSizes.{most_indexes};
+    ghost use Rattle.record_base.specs.AttributeRange.{AllowsIndexes};
+
+    /// An enumeration with these possible values, or nothing where these are too many, or where it can't have a value.
+    pub fn new(values: Vec<Text>, default: Indexes, current: Indexes) -> Option<Self>
+        ensures made { IsSome result ↔ ((length values.items ≤ most_indexes) × AllowsIndexes (length values.items) default × AllowsIndexes (length values.items) current) }
+        ensures parts { IfSome result (λ made. (made.values ≡ values.items) × (made.default ≡ default) × (made.current ≡ current)) }
+    {
+        if values.len() > MOST_INDEXES {
+            return None;
+        }
+        let possible = PossibleValues {
+            count: values.len() as u8,
+        };
+        if !possible.allows(default.as_slice()) || !possible.allows(current.as_slice()) {
+            return None;
+        }
+        Some(EnumerationAttribute {
+            values: Items::new(values),
+            default,
+            current,
+        })
+    }
+}
+
+impl StringAttribute {
+    ghost use Rattle.std.specs.Prelude.{◌≡◌, ◌↔◌, IsSome, IfSome};
+    ghost use Rattle.record_base.specs.AttributeRange.{AllowsText};
+
+    /// A string with these lengths, or nothing where it can't have a value.
+    pub fn new(string_type: u8, lengths: TextLengths, default: Text, current: Text) -> Option<Self>
+        ensures made { IsSome result ↔ (AllowsText lengths default × AllowsText lengths current) }
+        ensures texts { IfSome result (λ made. (made.default ≡ default) × (made.current ≡ current)) }
+        ensures parts { IfSome result (λ made. (made.string_type ≡ string_type) × (made.lengths ≡ lengths)) }
+    {
+        if !lengths.allows(default.as_slice()) || !lengths.allows(current.as_slice()) {
+            return None;
+        }
+        Some(StringAttribute {
+            string_type,
+            lengths,
+            default,
+            current,
+        })
+    }
+}
+
+impl IntegerAttribute {
+    ghost use Rattle.std.specs.Prelude.{◌≡◌, ◌↔◌, IsSome, IfSome};
+    ghost use Rattle.record_base.specs.AttributeRange.{AllowsNumber};
+
+    /// An integer with these steps, or nothing where it can't have a value.
+    pub fn new(steps: IntegerSteps, default: u64, current: u64) -> Option<Self>
+        ensures made { IsSome result ↔ (AllowsNumber steps default × AllowsNumber steps current) }
+        ensures parts { IfSome result (λ made. (made.steps ≡ steps) × (made.default ≡ default) × (made.current ≡ current)) }
+    {
+        if !steps.allows(default) || !steps.allows(current) {
+            return None;
+        }
+        Some(IntegerAttribute {
+            steps,
+            default,
+            current,
+        })
+    }
+}
+
+impl AttributeKind {
+    ghost use Rattle.std.specs.Prelude.{◌≡◌, ◌≤◌};
+    ghost use Rattle.record_base.specs.AttributeValue.{value_bytes};
+    ghost use Rattle.record_base.specs.Attribute.{type_of_kind, range_of, current_of};
+
+    /// The type of such an attribute.
+    pub fn type_code(&self) -> u8
+        ensures value { result ≡ type_of_kind self.now }
+        ensures small { result ≤ 127 }
+    {
+        match self {
+            AttributeKind::Enumeration(_) => ENUMERATION_TYPE,
+            AttributeKind::Text(_) => STRING_TYPE,
+            AttributeKind::Integer(_) => INTEGER_TYPE,
+        }
+    }
+
+    /// Which values it can have.
+    pub fn range(&self) -> AttributeRange
+        ensures { result ≡ range_of self.now }
+    {
+        match self {
+            AttributeKind::Enumeration(enumeration) => {
+                let _ = &enumeration.values;
+                let count = enumeration.values.as_slice().len() as u8;
+                AttributeRange::Enumeration(PossibleValues { count })
+            }
+            AttributeKind::Text(string) => AttributeRange::Text(string.lengths),
+            AttributeKind::Integer(integer) => AttributeRange::Integer(integer.steps),
+        }
+    }
+
+    /// The bytes of the value that it begins with.
+    pub fn value(&self) -> Value
+        ensures { result ≡ value_bytes (current_of self.now) }
+    {
+        let mut value = Value::new();
+        match self {
+            AttributeKind::Enumeration(enumeration) => {
+                value.push(enumeration.current.len() as u8);
+                value.extend_from_slice(enumeration.current.as_slice());
+            }
+            AttributeKind::Text(string) => {
+                value.extend_from_slice(&(string.current.len() as u16).to_le_bytes());
+                value.extend_from_slice(string.current.as_slice());
+            }
+            AttributeKind::Integer(integer) => {
+                value.extend_from_slice(&integer.current.to_le_bytes());
+            }
+        }
+        value
+    }
+}
+
+impl Attribute {
+    ghost use Rattle.std.specs.Prelude.{◌≡◌};
+    ghost use Rattle.record_base.specs.Attribute.{attribute_value};
+
+    /// The record of the attribute.
+    pub fn pair(&self) -> (Key, Value)
+        ensures { result ≡ (Key.BiosAttribute self.now.handle, attribute_value self.now) }
+    {
+        (Key::BiosAttribute(self.handle), self.kind.value())
+    }
+}

@@ -1,0 +1,43 @@
+//! The value of a BIOS attribute, as it is set.
+ghost use Rattle.std.specs.Prelude.{◌≡◌, ◌≤◌, take, length};
+ghost use Rattle.record_base.specs.AttributeSizes.{most_sent};
+
+use crate::attribute_sizes::MOST_SENT;
+use two_wire::Bytes;
+
+/// Sets the value of an attribute, by the bytes of the request's entry: the attribute, its type, and the value. The operation keeps
+/// these bytes itself.
+#[derive(Debug, Drop)]
+pub struct SetBiosAttribute {
+    pub attribute: u16,
+    pub attribute_type: u8,
+    pub value: Bytes<{ MOST_SENT }>,
+    pub ghost fits: { length value ≤ most_sent },
+}
+
+/// The first bytes, at most so many.
+fn first(bytes: &[u8], most: usize) -> &[u8]
+    ensures value { result.now ≡ take most bytes.now }
+    ensures few { length result.now ≤ most }
+{
+    if bytes.len() > most {
+        return &bytes[..most];
+    }
+    bytes
+}
+
+impl SetBiosAttribute {
+    ghost use Rattle.std.specs.Prelude.{◌≡◌};
+    ghost use Rattle.record_base.specs.BiosAttribute.{setting};
+
+    /// Sets the value of an attribute to these bytes, of which a request has no more than the most.
+    pub fn of(attribute: u16, attribute_type: u8, bytes: &[u8]) -> Self
+        ensures { result ≡ setting attribute attribute_type bytes.now }
+    {
+        SetBiosAttribute {
+            attribute,
+            attribute_type,
+            value: Bytes::from_slice(first(bytes, MOST_SENT)),
+        }
+    }
+}

@@ -1,0 +1,170 @@
+//! Channels: in a board file, and as their access is set.
+ghost use Rattle.std.specs.Prelude.{◌<◌, [], ◌∷◌};
+ghost use Rattle.record_base.specs.ChannelAccess.{IsChannelAccess};
+ghost use Rattle.record_base.specs.PartLaws.{IsChannelAccess-prop};
+
+use crate::distinct::{Distinct, Numbered};
+use crate::key::Key;
+use crate::value::Value;
+
+/// The number of a channel (IPMI 2.0): 4 bits of a request.
+#[derive(Clone, Copy, Debug, PartialEq, Eq, PartialOrd, Ord)]
+pub struct ChannelNumber {
+    pub number: u8,
+    pub ghost four_bits: { number < 16 },
+}
+
+/// Where the access of a channel is kept (IPMI 2.0, Set and Get Channel Access).
+#[derive(Clone, Copy, Debug, PartialEq, Eq, PartialOrd, Ord)]
+pub enum AccessStore {
+    /// What holds after the controller starts.
+    NonVolatile,
+    /// What holds now.
+    Volatile,
+    /// No store: a request that names one by other bits asks for no record.
+    Neither,
+}
+
+/// The access of a channel in one of its stores.
+#[derive(Clone, Copy, Debug, PartialEq, Eq, PartialOrd, Ord)]
+pub struct StoredAccess {
+    pub channel: ChannelNumber,
+    pub store: AccessStore,
+}
+
+/// Who gets in over a channel, by the bytes of Get Channel Access (IPMI 2.0): the access in bits 5:0, of which 2:0 are the mode, at
+/// most 3, and the limit of privileges, 1 to 5.
+#[derive(Clone, Copy, Debug)]
+pub struct ChannelAccess {
+    pub access: u8,
+    pub limit: u8,
+    ghost valid: { IsChannelAccess (access ∷ limit ∷ []) } by { IsChannelAccess-prop (access ∷ limit ∷ []) },
+}
+
+/// A channel with sessions, and its access in both stores.
+#[derive(Clone, Copy, Debug)]
+pub struct Channel {
+    pub number: ChannelNumber,
+    pub non_volatile: ChannelAccess,
+    pub volatile: ChannelAccess,
+}
+
+/// The channels of a board that have sessions.
+pub type Channels = Distinct<Channel, 8>;
+
+/// The channels of a board that have none.
+pub type SessionlessChannels = Distinct<ChannelNumber, 8>;
+
+/// Six bits of a byte of a request, beside the two that name a store.
+#[derive(Clone, Copy, Debug, PartialEq, Eq)]
+pub struct SixBits {
+    pub number: u8,
+    pub ghost six_bits: { number < 64 },
+}
+
+/// Which of a channel's access and limit become what a request says. Of a limit only bits 3:0 count.
+#[derive(Clone, Copy, Debug, PartialEq, Eq)]
+pub enum ChannelChange {
+    Access(SixBits),
+    Limit(SixBits),
+    Both(SixBits, SixBits),
+}
+
+/// Sets the access of a channel in one store.
+#[derive(Clone, Copy, Debug, PartialEq, Eq)]
+pub struct SetChannelAccess {
+    pub channel: ChannelNumber,
+    pub store: AccessStore,
+    pub change: ChannelChange,
+}
+
+impl Numbered for Channel {
+    ghost number_of = { λ channel. channel.number.number };
+
+    fn number(&self) -> u16 {
+        u16::from(self.number.number)
+    }
+}
+
+impl Numbered for ChannelNumber {
+    ghost number_of = { λ channel. channel.number };
+
+    fn number(&self) -> u16 {
+        u16::from(self.number)
+    }
+}
+
+impl ChannelNumber {
+    ghost use Rattle.std.specs.Prelude.{◌≡◌};
+    ghost use Rattle.record_base.specs.Numbers.{channel_in};
+
+    /// The channel in bits 3:0 of a byte.
+    pub fn of(byte: u8) -> Self
+        ensures { result ≡ channel_in byte }
+    {
+        ChannelNumber { number: byte % 16 }
+    }
+}
+
+impl SixBits {
+    ghost use Rattle.std.specs.Prelude.{◌≡◌};
+    ghost use Rattle.record_base.specs.Numbers.{six_bits_in};
+
+    /// Bits 5:0 of a byte.
+    pub fn of(byte: u8) -> Self
+        ensures { result ≡ six_bits_in byte }
+    {
+        SixBits { number: byte % 64 }
+    }
+}
+
+impl ChannelAccess {
+    ghost use Rattle.std.specs.Prelude.{◌≡◌, ◌↔◌, [], ◌∷◌, IsSome, IfSome};
+    ghost use Rattle.record_base.specs.ChannelAccess.{IsChannelAccess};
+
+    /// The access of these bytes, or nothing where no channel can have them.
+    pub fn new(access: u8, limit: u8) -> Option<ChannelAccess>
+        ensures made { IsSome result ↔ IsChannelAccess (access ∷ limit ∷ []) }
+        ensures bytes { IfSome result (λ made. (made.access ≡ access) × (made.limit ≡ limit)) }
+    {
+        if access >= 64 || access % 8 > 3 || limit < 1 || limit > 5 {
+            return None;
+        }
+        Some(ChannelAccess { access, limit })
+    }
+}
+
+impl Channel {
+    ghost use Rattle.std.specs.Prelude.{◌≡◌};
+    ghost use Rattle.record_base.specs.Values.{access_value};
+
+    /// The record of its non-volatile store.
+    pub fn non_volatile_pair(&self) -> (Key, Value)
+        ensures { result ≡ (Key.ChannelAccess (record { channel = self.now.number; store = AccessStore.NonVolatile }), access_value self.now.non_volatile) }
+    {
+        let stored = StoredAccess {
+            channel: self.number,
+            store: AccessStore::NonVolatile,
+        };
+        let ChannelAccess { access, limit } = self.non_volatile;
+        (
+            Key::ChannelAccess(stored),
+            Value::from_slice(&[access, limit]),
+        )
+    }
+
+    /// The record of its volatile store.
+    pub fn volatile_pair(&self) -> (Key, Value)
+        ensures { result ≡ (Key.ChannelAccess (record { channel = self.now.number; store = AccessStore.Volatile }), access_value self.now.volatile) }
+    {
+        let stored = StoredAccess {
+            channel: self.number,
+            store: AccessStore::Volatile,
+        };
+        let ChannelAccess { access, limit } = self.volatile;
+        (
+            Key::ChannelAccess(stored),
+            Value::from_slice(&[access, limit]),
+        )
+    }
+}

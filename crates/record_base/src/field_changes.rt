@@ -1,0 +1,59 @@
+//! What a request says of the fields of a state effecter.
+ghost use Rattle.std.specs.Prelude.{◌≡◌, ◌<◌, ◌≤◌, [], ◌∷◌, ◌++◌, length};
+
+use arrayvec::ArrayVec;
+use std::marker::Model;
+
+/// How many there are at most.
+const MOST_CHANGES: usize = 9;
+
+/// What a request says of a field: a byte that is 00h where it is left and 01h where it is set, and the state that it is set to.
+#[derive(Clone, Copy, Debug, Default, PartialEq, Eq)]
+pub struct FieldChange {
+    pub choice: u8,
+    pub state: u8,
+}
+
+/// At most 9 changes of fields, in the fields' order, which lie in the value itself.
+#[derive(Debug, PartialEq, Eq, Drop)]
+pub struct FieldChanges {
+    items: ArrayVec<FieldChange, { MOST_CHANGES }>,
+}
+
+impl Model for FieldChanges {
+    ghost use Rattle.std.specs.Prelude.{List};
+    ghost use Rattle.record_base.specs.declared.field_changes.FieldChange.{FieldChange};
+
+    ghost Value = { List FieldChange };
+
+    ghost view = { λ c. c.items.items };
+
+    ghost inverse = { λ xs. record { items = record { items = xs } } };
+}
+
+impl FieldChanges {
+    /// No changes.
+    pub fn new() -> Self
+        ensures { result ≡ [] }
+    {
+        FieldChanges {
+            items: ArrayVec::new(),
+        }
+    }
+
+    /// The changes.
+    pub fn as_slice(&self) -> &[FieldChange]
+        ensures value { result.now ≡ self.now }
+        ensures fits { length result.now ≤ 9 }
+    {
+        self.items.as_slice()
+    }
+
+    /// Appends a change.
+    pub fn push(&mut self, change: FieldChange)
+        requires { length self.old < 9 }
+        ensures { self.new ≡ self.old ++ change ∷ [] }
+    {
+        self.items.push(change);
+    }
+}

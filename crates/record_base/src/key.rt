@@ -1,0 +1,78 @@
+//! The names of records.
+ghost use Rattle.std.specs.Prelude.{◌≡◌, ◌<◌, IfSome};
+ghost use Rattle.record_base.specs.Keys.{is_length, slot};
+
+use crate::attribute_sizes::{LEAST_VALUE, MOST_VALUE};
+use crate::boot_param::BootParameter;
+use crate::channel::StoredAccess;
+use crate::user::{UserNumber, UserOnChannel};
+
+/// How many kinds of record a sensor has.
+pub const SENSOR_KINDS: usize = 3;
+
+/// The name of a record: its kind, and which one of that kind.
+#[derive(Clone, Copy, Debug, PartialEq, Eq, PartialOrd, Ord)]
+pub enum Key {
+    /// The thresholds of the sensor of this number.
+    Thresholds(u8),
+    /// The hysteresis of the sensor of this number.
+    Hysteresis(u8),
+    /// Which events of the sensor of this number are enabled.
+    EventEnable(u8),
+    /// What the board does when power comes back.
+    PowerPolicy,
+    /// The settings of the watchdog timer.
+    Watchdog,
+    /// What the controller enables as a whole.
+    GlobalEnables,
+    /// A parameter of the system boot options.
+    BootParam(BootParameter),
+    /// The present value of the numeric effecter of this id.
+    NumericEffecter(u16),
+    /// The present states of the state effecter of this id.
+    StateEffecter(u16),
+    /// The name of a user.
+    UserName(UserNumber),
+    /// What a user may do on a channel.
+    UserAccess(UserOnChannel),
+    /// The access of a channel, in one of its stores.
+    ChannelAccess(StoredAccess),
+    /// The value of the BIOS attribute of this handle.
+    BiosAttribute(u16),
+}
+
+impl Key {
+    /// Whether a value of the key's kind may have this length, in bytes.
+    pub fn is_length(&self, length: usize) -> bool
+        ensures { result ≡ is_length self.now length }
+    {
+        match self {
+            Key::Thresholds(_) => length == 6,
+            Key::Hysteresis(_) => length == 2,
+            Key::EventEnable(_) => length == 5,
+            Key::PowerPolicy => length == 1,
+            Key::Watchdog => length == 5,
+            Key::GlobalEnables => length == 1,
+            Key::BootParam(parameter) => length == parameter.length(),
+            Key::NumericEffecter(_) => length == 1 || length == 2 || length == 4,
+            Key::StateEffecter(_) => 1 <= length && length <= 8,
+            Key::UserName(_) => length == 16,
+            Key::UserAccess(_) => length == 1,
+            Key::ChannelAccess(_) => length == 2,
+            Key::BiosAttribute(_) => LEAST_VALUE <= length && length <= MOST_VALUE,
+        }
+    }
+    /// The table and the number under which a sensor's record is found.
+    #[inline(always)]
+    pub fn slot(&self) -> Option<(usize, u8)>
+        ensures is { result ≡ slot self.now }
+        ensures table { IfSome result (λ at. at.0 < SENSOR_KINDS) }
+    {
+        match self {
+            Key::Thresholds(sensor) => Some((0, *sensor)),
+            Key::Hysteresis(sensor) => Some((1, *sensor)),
+            Key::EventEnable(sensor) => Some((2, *sensor)),
+            _ => None,
+        }
+    }
+}

@@ -1,0 +1,80 @@
+//! What the kinds of configuration record stand on: the keys and values of records, a board's parts, the operations on them, requests and
+//! replies without their frames, and what a kind of record is.
+#![tactic(auto)]
+
+pub mod attribute;
+pub mod attribute_range;
+pub mod attribute_sizes;
+pub mod attribute_value;
+pub mod bios_attribute;
+pub mod boot_param;
+pub mod channel;
+pub mod command_reader;
+pub mod device;
+pub mod distinct;
+pub mod event_enable;
+pub mod field_changes;
+pub mod global_enables;
+pub mod hysteresis;
+pub mod items;
+pub mod key;
+pub mod kind;
+pub mod live;
+pub mod log_capacity;
+pub mod mask;
+pub mod message;
+pub mod net_fn;
+pub mod numeric_effecter;
+pub mod numeric_range;
+pub mod numeric_size;
+pub mod op;
+pub mod power_policy;
+pub mod sdr_record;
+pub mod sensor;
+pub mod sensor_thresholds;
+pub mod state_effecter;
+pub mod thresholds;
+pub mod user;
+pub mod value;
+pub mod watchdog;
+
+pub use attribute::{
+    Attribute, AttributeKind, Attributes, EnumerationAttribute, Indexes, IntegerAttribute,
+    StringAttribute, Text,
+};
+pub use attribute_range::{AttributeRange, IntegerSteps, PossibleValues, TextLengths};
+pub use attribute_value::AttributeValue;
+pub use bios_attribute::SetBiosAttribute;
+pub use boot_param::{BootChange, BootFlags, BootOptions, BootParameter, MaskedBits, SetBootParam};
+pub use channel::{
+    AccessStore, Channel, ChannelAccess, ChannelChange, ChannelNumber, Channels,
+    SessionlessChannels, SetChannelAccess, SixBits, StoredAccess,
+};
+pub use command_reader::CommandReader;
+pub use device::{Bcd, Device, ManufacturerId};
+pub use distinct::{Distinct, Numbered};
+pub use event_enable::{EventChange, EventEnable, EventMasks, SetEventEnable};
+pub use field_changes::{FieldChange, FieldChanges};
+pub use global_enables::{GlobalEnables, SetGlobalEnables};
+pub use hysteresis::{Hysteresis, SetHysteresis};
+pub use items::Items;
+pub use key::Key;
+pub use kind::{RecordKind, there_and_back};
+pub use live::Live;
+pub use log_capacity::LogCapacity;
+pub use message::{Answered, Asked, byte_at};
+pub use numeric_effecter::{NumericBytes, NumericEffecter, NumericEffecters, SetNumericEffecter};
+pub use numeric_range::NumericRange;
+pub use numeric_size::NumericSize;
+pub use op::Op;
+pub use power_policy::{PowerPolicy, SetPowerPolicy};
+pub use sdr_record::{SdrRecord, SdrRecords};
+pub use sensor::{Sensor, Sensors};
+pub use sensor_thresholds::{SetThresholds, Thresholds};
+pub use state_effecter::{SetStateEffecter, StateEffecter, StateEffecters, StateField};
+pub use thresholds::ThresholdMasks;
+pub use user::{
+    SetUserAccess, SetUserName, User, UserAccess, UserAccesses, UserNumber, UserOnChannel, Users,
+};
+pub use value::{RecordData, Value};
+pub use watchdog::{SetWatchdog, Watchdog};

@@ -1,0 +1,84 @@
+//! A numeric effecter: in a board file, and as it is set.
+ghost use Rattle.std.specs.Prelude.{◌<◌};
+ghost use Rattle.record_base.specs.NumericSize.{numbers_of, bytes_of};
+ghost use Rattle.record_base.specs.NumericEffecter.{IsNumeric};
+ghost use Rattle.record_base.specs.PartLaws.{IsNumeric-prop};
+
+use crate::distinct::{Distinct, Numbered};
+use crate::key::Key;
+use crate::numeric_range::NumericRange;
+use crate::value::Value;
+
+/// A numeric effecter: its id, whether it is enabled, which numbers it can be set to, and the present one, by its bits.
+#[derive(Clone, Copy, Debug)]
+pub struct NumericEffecter {
+    pub id: u16,
+    pub enabled: bool,
+    pub range: NumericRange,
+    pub current: u32,
+    ghost current_fits: { current < numbers_of range.size },
+    ghost valid: { IsNumeric range (bytes_of range.size current) } by { IsNumeric-prop range (bytes_of range.size current) },
+}
+
+/// The numeric effecters of a board.
+pub type NumericEffecters = Distinct<NumericEffecter, 32>;
+
+/// The bytes of a value in a request, the low one first: as many as a size has, or another number of bytes.
+#[derive(Clone, Copy, Debug, PartialEq, Eq)]
+pub enum NumericBytes {
+    One(u8),
+    Two(u8, u8),
+    Four(u8, u8, u8, u8),
+    /// No size has so many bytes, so every effecter refuses them.
+    Other,
+}
+
+/// Sets a numeric effecter, by the bytes of the request: the number that stands for the value's size, and the value.
+#[derive(Clone, Copy, Debug, PartialEq, Eq)]
+pub struct SetNumericEffecter {
+    pub effecter: u16,
+    pub size: u8,
+    pub value: NumericBytes,
+}
+
+impl Numbered for NumericEffecter {
+    ghost number_of = { λ effecter. effecter.id };
+
+    fn number(&self) -> u16 {
+        self.id
+    }
+}
+
+impl NumericEffecter {
+    ghost use Rattle.std.specs.Prelude.{◌≡◌, ◌<◌, ◌↔◌, IsSome, IfSome};
+    ghost use Rattle.record_base.specs.NumericSize.{numbers_of, bytes_of};
+    ghost use Rattle.record_base.specs.NumericEffecter.{IsNumeric};
+
+    /// This effecter, or nothing where it can't have the number.
+    pub fn new(id: u16, enabled: bool, range: NumericRange, current: u32) -> Option<NumericEffecter>
+        ensures made { IsSome result ↔ ((current < numbers_of range.size) × IsNumeric range (bytes_of range.size current)) }
+        ensures names { IfSome result (λ made. (made.id ≡ id) × (made.enabled ≡ enabled)) }
+        ensures numbers { IfSome result (λ made. (made.range ≡ range) × (made.current ≡ current)) }
+    {
+        let bytes = range.size.bytes_of(current);
+        if current as u64 >= range.size.numbers() || !range.is_numeric(bytes.as_slice()) {
+            return None;
+        }
+        Some(NumericEffecter {
+            id,
+            enabled,
+            range,
+            current,
+        })
+    }
+
+    /// The record of the effecter.
+    pub fn pair(&self) -> (Key, Value)
+        ensures { result ≡ (Key.NumericEffecter self.now.id, bytes_of self.now.range.size self.now.current) }
+    {
+        (
+            Key::NumericEffecter(self.id),
+            self.range.size.bytes_of(self.current),
+        )
+    }
+}

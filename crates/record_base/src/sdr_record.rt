@@ -1,0 +1,89 @@
+//! The sensor data records of a board file.
+ghost use Rattle.std.specs.Prelude.{◌≡◌, ◌≤◌, length};
+ghost use Rattle.record_base.specs.Sdr.{sdr_id};
+
+use crate::distinct::{Distinct, Numbered};
+use std::marker::Model;
+use two_wire::Bytes;
+
+/// How many bytes a record has before those that it counts.
+const HEADER_SIZE: usize = 5;
+
+/// The most bytes that a record has.
+pub const MOST_SDR_BYTES: usize = 64;
+
+/// The bytes of a sensor data record (IPMI 2.0), at most 64: its id in two bytes, the low one first, the version, the type, how many
+/// bytes follow, and these.
+#[derive(Debug, Drop)]
+pub struct SdrRecord {
+    bytes: Bytes<64>,
+}
+
+impl Model for SdrRecord {
+    ghost use Rattle.std.specs.Prelude.{List, ℕ};
+    ghost use Rattle.record_base.specs.Sdr.{IsSdrRecord};
+
+    ghost Value = { List ℕ };
+
+    ghost view = { λ r. r.bytes };
+
+    ghost invariant = { λ r. IsSdrRecord r.bytes };
+}
+
+/// The records of a board's repository, each under an id of its own.
+pub type SdrRecords = Distinct<SdrRecord, 64>;
+
+/// The id in the first two bytes.
+fn id_in(bytes: &[u8]) -> u16
+    requires { 2 ≤ length bytes.now }
+    ensures { result ≡ sdr_id bytes.now }
+{
+    u16::from_le_bytes([bytes[0], bytes[1]])
+}
+
+impl SdrRecord {
+    ghost use Rattle.std.specs.Prelude.{◌≡◌, ◌≤◌, ◌↔◌, IsSome, IfSome, length};
+    ghost use Rattle.record_base.specs.Sdr.{IsSdrRecord};
+
+    /// The record that has these bytes, or nothing where they are none.
+    pub fn new(bytes: &[u8]) -> Option<SdrRecord>
+        ensures made { IsSome result ↔ (IsSdrRecord bytes.now × (length bytes.now ≤ 64)) }
+        ensures bytes { IfSome result (λ made. made ≡ bytes.now) }
+    {
+        if bytes.len() < HEADER_SIZE || bytes.len() > MOST_SDR_BYTES {
+            return None;
+        }
+        if bytes.len() != HEADER_SIZE + bytes[4] as usize || matches!(id_in(bytes), 0 | 0xFFFF) {
+            return None;
+        }
+        Some(SdrRecord {
+            bytes: Bytes::from_slice(bytes),
+        })
+    }
+
+    /// Its bytes.
+    pub fn as_slice(&self) -> &[u8]
+        ensures value { result.now ≡ self.now }
+        ensures sound { IsSdrRecord result.now }
+        ensures few { length result.now ≤ 64 }
+    {
+        self.bytes.as_slice()
+    }
+
+    /// The same record once more.
+    pub fn copy(&self) -> Self
+        ensures { result ≡ self.now }
+    {
+        SdrRecord {
+            bytes: self.bytes.copy(),
+        }
+    }
+}
+
+impl Numbered for SdrRecord {
+    ghost number_of = { λ bytes. sdr_id bytes };
+
+    fn number(&self) -> u16 {
+        id_in(self.as_slice())
+    }
+}

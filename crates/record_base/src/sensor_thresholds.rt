@@ -1,0 +1,48 @@
+//! The thresholds of a sensor: in a board file, and as they are set.
+ghost use Rattle.std.specs.Prelude.{◌≡◌, length};
+ghost use Rattle.record_base.specs.Sensor.Thresholds.{IsThresholds};
+ghost use Rattle.record_base.specs.PartLaws.{IsThresholds-prop};
+
+use crate::key::Key;
+use crate::thresholds::ThresholdMasks;
+use crate::value::Value;
+
+/// Which thresholds a sensor has, and their values, one at each place: 0 where it has none, and in order where it has some.
+#[derive(Clone, Copy, Debug)]
+pub struct Thresholds {
+    pub masks: ThresholdMasks,
+    pub values: [u8; 6],
+    ghost valid: { IsThresholds masks values } by { IsThresholds-prop masks values },
+}
+
+/// Sets the thresholds that the mask has (bit i for the byte at place i) to the bytes at their places.
+#[derive(Clone, Copy, Debug, PartialEq, Eq)]
+pub struct SetThresholds {
+    pub sensor: u8,
+    pub mask: u8,
+    pub values: [u8; 6],
+    pub ghost six: { length values ≡ 6 },
+}
+
+impl Thresholds {
+    ghost use Rattle.std.specs.Prelude.{◌≡◌, ◌↔◌, IsSome, IfSome};
+    ghost use Rattle.record_base.specs.Sensor.Thresholds.{IsThresholds};
+
+    /// These thresholds, or nothing where a sensor with these masks can't have them.
+    pub fn new(masks: ThresholdMasks, values: [u8; 6]) -> Option<Thresholds>
+        ensures made { IsSome result ↔ IsThresholds masks values }
+        ensures parts { IfSome result (λ made. (made.masks ≡ masks) × (made.values ≡ values)) }
+    {
+        if !masks.is_value(&values) {
+            return None;
+        }
+        Some(Thresholds { masks, values })
+    }
+
+    /// The record of the sensor of this number.
+    pub fn pair(&self, sensor: u8) -> (Key, Value)
+        ensures { result ≡ (Key.Thresholds sensor, self.now.values) }
+    {
+        (Key::Thresholds(sensor), Value::from_slice(&self.values))
+    }
+}

@@ -1,0 +1,126 @@
+//! A state effecter: in a board file, and as it is set.
+ghost use Rattle.std.specs.Prelude.{◌≡◌, ◌≤◌, IsTrue, length};
+ghost use Rattle.record_base.specs.StateField.{allows};
+
+use crate::distinct::{Distinct, Numbered};
+use crate::field_changes::FieldChanges;
+use crate::items::Items;
+use crate::key::Key;
+use crate::value::Value;
+
+/// A field of a state effecter: the states that it can be in, and the present one.
+#[derive(Debug, Drop)]
+pub struct StateField {
+    pub allowed: Items<u8>,
+    pub current: u8,
+    ghost valid: { IsTrue (allows allowed current) },
+}
+
+/// A state effecter: its id, whether it is enabled, and its fields, 1 to 8.
+#[derive(Debug, Drop)]
+pub struct StateEffecter {
+    pub id: u16,
+    pub enabled: bool,
+    pub fields: Items<StateField>,
+    ghost some: { 1 ≤ length fields },
+    ghost few: { length fields ≤ 8 },
+}
+
+/// The state effecters of a board.
+pub type StateEffecters = Distinct<StateEffecter, 32>;
+
+/// Sets fields of a state effecter, by the bytes of the request. No effecter has more than 8 fields, so 9 changes stand for those of
+/// any longer request: every effecter refuses them.
+#[derive(Debug, PartialEq, Eq, Drop)]
+pub struct SetStateEffecter {
+    pub effecter: u16,
+    pub changes: FieldChanges,
+    pub ghost few: { length changes ≤ 9 },
+}
+
+impl Numbered for StateEffecter {
+    ghost number_of = { λ effecter. effecter.id };
+
+    fn number(&self) -> u16 {
+        self.id
+    }
+}
+
+impl StateField {
+    ghost use Rattle.std.specs.Prelude.{◌≡◌, ◌↔◌, IsTrue, IsSome, IfSome};
+    ghost use Rattle.record_base.specs.StateField.{allows};
+
+    /// This field, or nothing where the present state is none that it can be in.
+    pub fn new(allowed: Items<u8>, current: u8) -> Option<StateField>
+        ensures made { IsSome result ↔ IsTrue (allows allowed current) }
+        ensures parts { IfSome result (λ made. (made.allowed ≡ allowed) × (made.current ≡ current)) }
+    {
+        if !allows(allowed.as_slice(), current) {
+            return None;
+        }
+        Some(StateField { allowed, current })
+    }
+
+    /// Whether it can be in this state.
+    pub fn allows(&self, state: u8) -> bool
+        ensures { result ≡ allows self.now.allowed state }
+    {
+        allows(self.allowed.as_slice(), state)
+    }
+}
+
+/// Whether it is one of the states.
+fn allows(states: &[u8], state: u8) -> bool
+    ensures { result ≡ allows states.now state }
+{
+    states.iter().any(|s| *s == state)
+}
+
+impl StateEffecter {
+    ghost use Rattle.std.specs.Prelude.{◌≡◌, ◌≤◌, ◌↔◌, IsTrue, IsSome, IfSome, length};
+    ghost use Rattle.record_base.specs.StateEffecter.{are_states, state_value};
+
+    /// This effecter, or nothing where it has no fields or too many.
+    pub fn new(id: u16, enabled: bool, fields: Vec<StateField>) -> Option<StateEffecter>
+        ensures made { IsSome result ↔ ((1 ≤ length fields.items) × (length fields.items ≤ 8)) }
+        ensures names { IfSome result (λ made. (made.id ≡ id) × (made.enabled ≡ enabled)) }
+        ensures fields { IfSome result (λ made. made.fields ≡ fields.items) }
+    {
+        if fields.is_empty() || fields.len() > 8 {
+            return None;
+        }
+        Some(StateEffecter {
+            id,
+            enabled,
+            fields: Items::new(fields),
+        })
+    }
+
+    /// The record of the effecter.
+    pub fn pair(&self) -> (Key, Value)
+        ensures { result ≡ (Key.StateEffecter self.now.id, state_value self.now.fields) }
+    {
+        let _ = &self.fields;
+        let mut value = Value::new();
+        for field in self.fields.as_slice() {
+            value.push(field.current);
+        }
+        (Key::StateEffecter(self.id), value)
+    }
+
+    /// Whether the effecter can have the value.
+    pub fn are_states(&self, value: &[u8]) -> bool
+        ensures { result ≡ are_states self.now.fields value.now }
+    {
+        let fields = self.fields.as_slice();
+        if value.len() != fields.len() {
+            return false;
+        }
+        for (place, field) in fields.iter().enumerate() {
+            if !field.allows(value[place]) {
+                return false;
+            }
+        }
+        true
+    }
+}
