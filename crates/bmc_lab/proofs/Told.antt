@@ -1,5 +1,5 @@
 -- What is said of a run, once it is known what the port did.
-use Rattle.std.proofs.Common.{Option, ◌≡◌, ℕ, List, Result, Ok, Err, IfOk, string_bytes, subst, ◌∙◌, ap}
+use Rattle.std.proofs.Common.{Option, ◌≡◌, ℕ, List, Result, Ok, Err, IfOk, string_bytes, subst}
 use Rattle.two_wire.specs.declared.Bus.{Bus}
 use Rattle.cfg_records.specs.declared.board_file.BoardFile.{BoardFile}
 use Rattle.bmc_core.specs.declared.out.Out.{Out}

@@ -1,5 +1,5 @@
 -- How a run ends, where what it says may be said of something else.
-use Rattle.std.proofs.Common.{◌⊎◌, inl, inr, ℕ, List, Option}
+use Rattle.std.proofs.Common.{inl, inr, ℕ, List, Option}
 use Rattle.bmc_lab.specs.declared.console.Console.{Console}
 use Rattle.bmc_lab.specs.declared.console.Stream.{Stream}
 use Rattle.bmc_lab.specs.declared.status.Status.{Status}

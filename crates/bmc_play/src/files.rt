@@ -1,5 +1,5 @@
 //! A plan run and undone by a schedule: what is said of three files.
-ghost use Rattle.std.specs.Prelude.{◌≡◌, IfOk, IfErr, string_bytes};
+ghost use Rattle.std.specs.Prelude.{IfOk, IfErr, string_bytes};
 ghost use Rattle.bmc_lab.specs.Ending.{RunEnds};
 ghost use Rattle.bmc_lab.specs.Files.{FirstUnread};
 ghost use Rattle.bmc_play.specs.Files.{words_of, AreTexts, SaysOfFiles};

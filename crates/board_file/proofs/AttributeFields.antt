@@ -184,13 +184,6 @@ step_allowed tree named steps n lower upper increment is sound =
 
 -- ---- kinds
 
-pub enumeration_rows : (tree : Members) → has_text field.Kind (codes "enumeration") tree ≡ true → field_faults (attribute_rows tree) tree ≡ [] → field_faults ENUMERATION tree ≡ []
-enumeration_rows tree is none = rw is at none
-
-pub string_rows : (tree : Members) → has_text field.Kind (codes "enumeration") tree ≡ false → has_text field.Kind (codes "string") tree ≡ true → field_faults (attribute_rows tree) tree ≡ []
-    → field_faults STRING tree ≡ []
-string_rows tree other is none = rw (other, is) at none
-
 third : (a b c : Bool) → (a || (b || c)) ≡ true → a ≡ false → b ≡ false → c ≡ true
 third true b c some none also = cc
 third false true c some none also = cc

@@ -18,7 +18,6 @@ use Rattle.file_fields.specs.declared.row.Row.{Row}
 use Rattle.file_fields.specs.Trees.{number_in, table_of}
 use Rattle.file_fields.specs.Faults.{field_faults, first}
 use Rattle.board_file.specs.Faults.{fault_at, is_taken, same_number, item_faults}
-use Rattle.board_file.specs.Holds.{IsNextAmong}
 use Rattle.file_fields.proofs.First.{first-append}
 use Rattle.file_fields.proofs.Members.{left_over, taken_more}
 
@@ -67,13 +66,6 @@ module _ (vs : List Value) (i : ℕ) (v : Value) (within : i < length vs) (is : 
       ap (item_faults item_at rows named (map view (take i vs))) (left_over vs i v within is)
       ∙ sound_next Holds item_at rows named number_of numbered (map view (take i vs)) (map view (drop (i + 1) vs)) (view v) before (number_of a) zip sound (numbered (view v) a holds) none
       ∙ ap (λ seen. item_faults item_at rows named seen (map view (drop (i + 1) vs))) (sym (taken_more vs i v within is))
-
-  -- the fault of the next counts
-  pub next_fault : (before : List A) (why : FileFault) → AllZip Holds (map view (take i vs)) before → IsNextAmong Holds item_at rows named before (view v) why
-      → first (item_faults item_at rows named (map view (take i vs)) (map view (drop i vs))) ≡ Some why
-  next_fault before why zip fault =
-      ap (λ ds. first (item_faults item_at rows named (map view (take i vs)) ds)) (left_over vs i v within is)
-      ∙ fault (map view (take i vs)) (map view (drop (i + 1) vs)) zip
 
 -- one more number, which none had
 pub next_differs : {A : Type 0} (number_of : A → ℕ) (before : List A) (a : A) → NamesDiffer number_of before → list_any (λ (other : A). number_of other == number_of a) before ≡ false

@@ -14,10 +14,6 @@ use Rattle.file_fields.specs.Users.{name_of, begins_unnamed}
 use Rattle.board_file.specs.Holds.{AreNumbered}
 use Rattle.file_fields.proofs.Rows.{Sound, value_of}
 
--- a user's number
-pub user_number : User → ℕ
-user_number user = user.number.number
-
 -- one more user at the end
 pub numbered_more : (n : ℕ) (users : List User) (user : User) → AreNumbered n users → user.number.number ≡ n + length users → AreNumbered n (users ++ user ∷ [])
 numbered_more n [] user all is = (omega (arith, is), tt)

@@ -1,14 +1,12 @@
 -- The frames that were sent, in the code and in the lab's model.
-use Rattle.std.proofs.Common.{◌≡◌, Bool, true, false, not, ◌&&◌, [], ◌∷◌, List, ℕ, zero, suc, Option, Some, None, slice_get, length, nat_le, refl, sym, ◌∙◌, ap, option_map}
+use Rattle.std.proofs.Common.{◌≡◌, true, false, [], ◌∷◌, List, ℕ, zero, suc, Some, None, slice_get, length, nat_le, refl, ◌∙◌, ap}
 use Rattle.std.specs.List.{AllZip}
 use Rattle.std.proofs.lemmas.Slice.Zip.{AllZip-long}
 use Rattle.plans.specs.declared.names.Names.{Names}
 use Rattle.lab_model.specs.ManagerSteps.{board_plans}
 use Rattle.lab_model.specs.Lab.{Way as LabWay, LabFrame, Lab}
 use Rattle.lab_model.specs.Faults.{NoFrame, WrongWay, Aged, Room, check, first_of, same_way, delivery, is_live, is_full}
-use Rattle.lab_model.specs.Faults as faults
 use Rattle.lab_events.specs.declared.frames.SentFrame.{SentFrame}
-use Rattle.lab_events.specs.declared.fault.Fault.{Fault}
 use Rattle.lab_events.specs.declared.fault.Marks.{Marks}
 use Rattle.lab_events.specs.FramesShown.{way_of, IsFrame, ShowsFrames}
 

@@ -1,5 +1,5 @@
 //! What the manager is called to do, and what it hears.
-ghost use Rattle.std.specs.Prelude.{◌≡◌, OnOk, None, Option, slice_get};
+ghost use Rattle.std.specs.Prelude.{◌≡◌, OnOk, Option, slice_get};
 ghost use Rattle.cfg_records.specs.declared.board_file.BoardFile.{BoardFile as AnyFile};
 ghost use Rattle.undo_core.specs.Shown.{Calls, IsSent};
 ghost use Rattle.lab_model.specs.ManagerSteps.{Sent as AllSent, called};

@@ -1,5 +1,5 @@
 //! What is wrong with what others do.
-ghost use Rattle.std.specs.Prelude.{◌≡◌, ◌≤◌, length, List, ℕ, [], ◌∷◌, Some, None, option_map, if◌then◌else◌};
+ghost use Rattle.std.specs.Prelude.{◌≡◌, ◌≤◌, length, [], ◌∷◌, Some, None, option_map};
 ghost use Rattle.two_wire.specs.Sizes.{most_message_bytes};
 ghost use Rattle.plans.specs.declared.names.Names.{Names as AnyNames};
 ghost use Rattle.undo_model.specs.Machine.{open_bus};

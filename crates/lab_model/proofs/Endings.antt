@@ -1,11 +1,11 @@
 -- A play ends in one way.
-use Rattle.std.proofs.Common.{◌≡◌, ℕ, ◌+◌, List, [], ◌∷◌, ◌++◌, length, Some, None, refl, sym, ◌∙◌, ap, subst}
+use Rattle.std.proofs.Common.{◌≡◌, ◌+◌, List, [], ◌∷◌, ◌++◌, length, Some, None, refl, sym, ◌∙◌, ap, subst}
 use Rattle.cfg_records.specs.declared.board_file.BoardFile.{BoardFile}
 use Rattle.lab_model.specs.Lab.{Lab}
 use Rattle.lab_model.specs.Faults.{Fault}
 use Rattle.schedules.specs.declared.event.Event.{Event}
 use Rattle.lab_model.specs.Meaning.{Bench}
-use Rattle.lab_model.specs.Played.{plans, Told, Ending, Whole, Stops, fault_at, happens, after, AreTaken, told_of, PlaysFrom}
+use Rattle.lab_model.specs.Played.{plans, Ending, Whole, Stops, fault_at, happens, after, AreTaken, told_of, PlaysFrom}
 
 module _ (bench : Bench) (file : BoardFile) where
   -- an event that is taken has no fault

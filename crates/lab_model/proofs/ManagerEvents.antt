@@ -224,9 +224,6 @@ module _ (P : Plans) (m : ManagerState P) (open_part : TaskPart P.words) (b : Pa
     none_left = subst (λ (q : Option (List ℕ)). IfSome q (λ reply. joined.open_count ≡ 0)) (sym brings) none_left;
   }
 
-  abbrev no_reply : Option (List ℕ)
-  no_reply = None
-
   abbrev no_content : Option Content
   no_content = None
 

@@ -1,6 +1,5 @@
 -- What each event of a schedule is in the lab's model.
-use Rattle.std.specs.Prelude.{ℕ, true, List}
-use Rattle.two_wire.specs.declared.Bus.{Bus}
+use Rattle.std.specs.Prelude.{ℕ, true}
 use Rattle.ipmb_frame.specs.declared.message.Request.{Request}
 use Rattle.mctp_net.specs.declared.message.Message.{Message}
 use Rattle.bmc_board.specs.State.{State}

@@ -1,7 +1,6 @@
 //! The assembler of `mctp_net` and the packets of `bus_model` are of one assembly: two laws, and no code.
 
 ghost use Rattle.std.specs.Prelude.{◌≡◌, ◌++◌, ◌∷◌, [], ℕ, true, List, map, None};
-ghost use Rattle.mctp_net.specs.declared.packet.Name.{Name};
 ghost use Rattle.mctp_net.specs.declared.packet.Packet.{Packet};
 ghost use Rattle.mctp_net.specs.declared.message.Message.{Message};
 ghost use Rattle.mctp_net.specs.Sizes.{unit_size};

@@ -64,11 +64,6 @@ is_noted e old new note file x shows stepped did named came done sends before af
       phase = phase y stepped.1;
     }
 
--- an event that isn't taken isn't noted
-pub unnoted : (e : Event) (old : Lab) (why : Refused) (notes : List Note) → NotesStep e old (Err why) notes notes
-unnoted e old (refused.Fault fault) notes = refl
-unnoted e old refused.Memory notes = tt
-
 -- ---- events, one after another
 
 pub noted_step : (es : List Event) (e : Event) (old mid : Lab) (before after : List Note) → Take es old mid → Notes es old before → NotesStep e mid (Ok tt) before after

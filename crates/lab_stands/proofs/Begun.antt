@@ -16,7 +16,7 @@ use Rattle.undo_model.specs.Machine.{count_of, Part, Stage, AtStart, Opened, AtE
 use Rattle.undo_model.specs.Words.{Words}
 use Rattle.undo_model.specs.Wires.{number_of, IsMade}
 use Rattle.undo_model.specs.World as world
-use Rattle.undo_model.specs.World.{States, World}
+use Rattle.undo_model.specs.World.{States}
 use Rattle.lab_model.specs.ManagerWords.{bus_of, manager_words}
 use Rattle.lab_model.specs.Spelled.{numbers_of}
 use Rattle.lab_model.specs.Wires.{bytes_of}

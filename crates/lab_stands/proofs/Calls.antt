@@ -16,7 +16,7 @@ use Rattle.undo_model.specs.World as world
 use Rattle.undo_model.specs.World.{States, World, Happening, Start, Quiet, Stop, Again, Undo, OnBus, update}
 use Rattle.lab_model.specs.ManagerWords.{bus_of}
 use Rattle.plans.specs.declared.names.Names.{Names}
-use Rattle.lab_model.specs.ManagerSteps.{Plans, ManagerState, addresses, goes_on, waits_after, Call, called, turn_of}
+use Rattle.lab_model.specs.ManagerSteps.{goes_on, Call, called}
 use Rattle.lab_model.specs.ManagerSteps as manager
 use Rattle.lab_model.specs.ManagerEvents.{name_awaited}
 use Rattle.lab_model.specs.Lab.{Lab, call_does, sends}

@@ -129,9 +129,6 @@ module _ (setup : BoardFile) (names : Names) where
     unfolding hears_request
     port_answers = ap (λ (t : Bool). cond t (hears_request setup (ipmb_port log) b r) (stays (ipmb_port log) b)) (eq-eqb names.peer_address names.peer_address refl) ∙ ap deed_of turn_is
 
-    reply_is : (a : Answered) → response_bytes (response_to r a) ≡ reply_to Ipmb bytes a
-    reply_is a = responded net_fn lun (number_of Ipmb count) command body (managers (addresses names) asked made).1 a
-
     pub log_grows : IsLogOf (rules_on setup names Ipmb) (suc count) (entry ∷ log)
     log_grows = (record { request = heard_in r; reply = reply_to Ipmb bytes (answer setup b asked).0 }, log, refl, heard_is, is_log)
 

@@ -1,14 +1,14 @@
 -- Each request that a manager sends is one that it makes.
-use Rattle.std.proofs.Common.{ℕ, ◌+◌, suc, Bool, true, false, List, [], ◌∷◌, Option, Some, None, refl, inl, inr}
-use Rattle.std.specs.Prelude.{◌==◌, slice_get, nat_lt, IfSome}
+use Rattle.std.proofs.Common.{ℕ, suc, Bool, true, false, List, [], ◌∷◌, Option, Some, None, refl, inl, inr}
+use Rattle.std.specs.Prelude.{◌==◌, slice_get, IfSome}
 use Rattle.std.proofs.lemmas.Bool.{cond_both}
 use Rattle.two_wire.specs.Codes.{success}
 use Rattle.two_wire.specs.declared.Bus.{Bus}
 use Rattle.record_base.specs.declared.op.Op.{Op}
 use Rattle.record_base.specs.declared.message.Asked.{Asked}
-use Rattle.undo_model.specs.Words.{Answered, Words, is_busy}
+use Rattle.undo_model.specs.Words.{Answered, Words}
 use Rattle.undo_model.specs.TwoBuses.{Addresses}
-use Rattle.undo_model.specs.Machine.{Task, Gets, Sets, Undoes, Part, Stage, AtStart, Opened, AtEnd, AtHalt, AtUndone, AtRefused, begun, Machine, Turn, sending, series_of, bodies_with, takes, replies, finished, refused, set_stage, next_stage, undo_stage, undo_after, first_stage, starts, undoes, quiets, agains, stops}
+use Rattle.undo_model.specs.Machine.{Task, Gets, Sets, Undoes, Part, Stage, AtStart, Opened, AtEnd, AtHalt, AtUndone, AtRefused, begun, Machine, Turn, series_of, bodies_with, takes, finished, refused, set_stage, next_stage, undo_stage, undo_after, first_stage, starts}
 use Rattle.lab_model.specs.ManagerWords.{manager_words}
 use Rattle.lab_stands.specs.Made as made
 
@@ -86,52 +86,3 @@ module _ (at : Bus → Addresses) where
   starts_made (AtHalt k why) m all = tt
   starts_made AtUndone m all = tt
   starts_made (AtRefused k code) m all = tt
-
-  pub undoes_made : (stage : Stage M) (m : Machine M) → AllSeries m.undo → IfMade (undoes M stage m)
-  undoes_made AtEnd m all = record { stage = undo_made m.undo all; undo = all }
-  undoes_made (AtHalt k why) m all = record { stage = undo_made m.undo all; undo = all }
-  undoes_made AtStart m all = tt
-  undoes_made (Opened heeded task part) m all = tt
-  undoes_made AtUndone m all = tt
-  undoes_made (AtRefused k code) m all = tt
-
-  pub quiets_made : (stage : Stage M) (m : Machine M) → StageMade stage → MachineMade m → IfMade (quiets M stage m)
-  quiets_made (Opened true task part) m made is =
-      cond_both (nat_lt m.resent m.retries) (Some (record { machine = record m { resent = m.resent + 1 }; sends = Some (sending M part m.counts) }))
-      (Some (record { machine = record m { stage = Opened false task part }; sends = None })) IfMade
-      (λ _. record { stage = is.stage; undo = is.undo }) (λ _. record { stage = made; undo = is.undo })
-  quiets_made (Opened false task part) m made is = tt
-  quiets_made AtStart m made is = tt
-  quiets_made AtEnd m made is = tt
-  quiets_made (AtHalt k why) m made is = tt
-  quiets_made AtUndone m made is = tt
-  quiets_made (AtRefused k code) m made is = tt
-
-  pub agains_made : (stage : Stage M) (m : Machine M) → StageMade stage → AllSeries m.undo → IfMade (agains M stage m)
-  agains_made (Opened false task part) m made all = record { stage = made; undo = all }
-  agains_made (Opened true task part) m made all = tt
-  agains_made AtStart m made all = tt
-  agains_made AtEnd m made all = tt
-  agains_made (AtHalt k why) m made all = tt
-  agains_made AtUndone m made all = tt
-  agains_made (AtRefused k code) m made all = tt
-
-  pub stops_made : (stage : Stage M) (m : Machine M) → MachineMade m → IfMade (stops M stage m)
-  stops_made (Opened true (Gets k op) part) m is = record { stage = is.stage; undo = is.undo }
-  stops_made (Opened true (Sets k op back) part) m is = record { stage = is.stage; undo = is.undo }
-  stops_made (Opened true (Undoes first rest) part) m is = tt
-  stops_made (Opened false task part) m is = tt
-  stops_made AtStart m is = tt
-  stops_made AtEnd m is = tt
-  stops_made (AtHalt k why) m is = tt
-  stops_made AtUndone m is = tt
-  stops_made (AtRefused k code) m is = tt
-
-  pub replies_made : (a : Answered) (stage : Stage M) (m : Machine M) → StageMade stage → AllSeries m.undo → IfMade (replies M a stage m)
-  replies_made a (Opened true task part) m made all = cond_both (is_busy a.code) None (Some (takes M a task part m)) IfMade (λ _. tt) (λ _. takes_made a task part m made.1 all)
-  replies_made a (Opened false task part) m made all = tt
-  replies_made a AtStart m made all = tt
-  replies_made a AtEnd m made all = tt
-  replies_made a (AtHalt k why) m made all = tt
-  replies_made a AtUndone m made all = tt
-  replies_made a (AtRefused k code) m made all = tt

@@ -18,7 +18,7 @@ use Rattle.undo_model.specs.Words.{Answered, is_busy}
 use Rattle.undo_model.specs.Machine.{Task, Part, Opened, Turn, bus_at, count_of, one_answered, replies, takes, reply_of}
 use Rattle.undo_model.specs.Joined.{IsClosed, OthersStill}
 use Rattle.undo_model.specs.World as world
-use Rattle.undo_model.specs.World.{States, World}
+use Rattle.undo_model.specs.World.{States}
 use Rattle.undo_model.proofs.Buses.{each_bus}
 use Rattle.undo_model.proofs.World.{count_here, count_there}
 use Rattle.undo_model.proofs.Joined.{Joined, told}

@@ -18,7 +18,7 @@ use Rattle.undo_model.specs.Phase.{Stop, Phase, Halted, Undone}
 use Rattle.undo_model.specs.Plan.{Halts}
 use Rattle.undo_model.specs.Machine.{count_of, phase_of}
 use Rattle.undo_model.specs.World as world
-use Rattle.undo_model.specs.World.{States, World, AllMay}
+use Rattle.undo_model.specs.World.{States, World}
 use Rattle.undo_model.specs.Headline.{IsStart, ShowsSame}
 use Rattle.undo_model.proofs.World.{run_holds}
 use Rattle.undo_model.proofs.Headline.{opening_holds, stands_at, halts_at, undone_for_good}

@@ -32,7 +32,7 @@ use Rattle.bus_model.proofs.Lists.{grows, at_end, one_more}
 use Rattle.undo_model.specs.Words.{Answered}
 use Rattle.undo_model.specs.Line.{exchange}
 use Rattle.undo_model.specs.World as world
-use Rattle.undo_model.specs.World.{States, World, OnBus, update}
+use Rattle.undo_model.specs.World.{States, World, OnBus}
 use Rattle.lab_model.specs.ManagerWords.{family_answer}
 use Rattle.lab_model.specs.Wires.{reply_to, asked_from}
 use Rattle.undo_family.proofs.IsFamily.{is_family}

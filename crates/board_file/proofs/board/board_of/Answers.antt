@@ -1,17 +1,14 @@
-use Rattle.std.proofs.Common.{◌≡◌, ◌≤◌, [], true, Err, map, inl, inr, refl, sym, ◌∙◌, ap, lit<, rules}
+use Rattle.std.proofs.Common.{◌≡◌, [], Err, map, inl, inr, sym, ◌∙◌, ap, lit<}
 use Rattle.std.proofs.lemmas.Result.{err_from_is_err_and}
-use Rattle.toml.specs.View.{view, table_view}
+use Rattle.toml.specs.View.{table_view}
 use Rattle.file_fields.specs.declared.field.Field.TheVariants as field
 use Rattle.board_file.specs.declared.fault.Item.TheVariants as item
-use Rattle.file_fields.specs.declared.row.Shape.TheVariants as shape
-use Rattle.file_fields.specs.declared.row.Need.TheVariants as need
 use Rattle.board_file.specs.declared.tables.TheConstants.{DEVICE}
-use Rattle.file_fields.specs.Trees.{in_field, table_in, naturals_in}
-use Rattle.file_fields.specs.Ranges.{passes, are_settings}
+use Rattle.file_fields.specs.Trees.{table_in}
 use Rattle.file_fields.specs.Faults.{field_faults, first}
 use Rattle.board_file.specs.Faults.{fault_at}
 use Rattle.board_file.specs.Holds.{HoldsDevice}
-use Rattle.file_fields.proofs.Rows.{number_of, value_of, below, at_least, within, same_value}
+use Rattle.file_fields.proofs.Rows.{number_of, below}
 use Rattle.board_file.proofs.TopRows.{top_sound}
 use Rattle.board_file.proofs.Sensors.{table_there, top_first, records_first, device_first, sensors_first, channels_first, attributes_first, states_first, effecters_first, no_faults}
 use Rattle.board_file.proofs.board.board_of.Goals as goal

@@ -1,4 +1,4 @@
-use Rattle.std.proofs.Common.{◌≡◌, sym, ◌∙◌, ap}
+use Rattle.std.proofs.Common.{sym, ◌∙◌, ap}
 use Rattle.bmc_board.specs.Table.{is_changing}
 use Rattle.two_wire.specs.declared.Bus.TheVariants.{Ipmb}
 use Rattle.lab_model.specs.Faults.{is_own}

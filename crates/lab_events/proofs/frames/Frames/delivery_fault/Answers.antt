@@ -1,9 +1,7 @@
-use Rattle.std.proofs.Common.{◌≡◌, sym, ◌∙◌, subst, true, false}
-use Rattle.plans.specs.declared.names.Names.{Names}
+use Rattle.std.proofs.Common.{sym, ◌∙◌, subst, true, false}
 use Rattle.lab_model.specs.ManagerSteps.{board_plans}
-use Rattle.lab_model.specs.Lab.{Lab, LabFrame}
 use Rattle.lab_model.specs.Marks.{IsKnown}
-use Rattle.lab_events.specs.FramesShown.{way_of, IsFrame, ShowsFrames}
+use Rattle.lab_events.specs.FramesShown.{way_of}
 use Rattle.lab_events.proofs.Deliveries.{frame_at, no_frame, wrong_way, aged, left_room}
 use Rattle.lab_events.proofs.frames.Frames.delivery_fault.Goals as goal
 

@@ -1,6 +1,6 @@
 use Rattle.std.proofs.Common.{sym, subst}
 use Rattle.std.specs.Prelude.{OnOk}
-use Rattle.lab_model.specs.Lab.{Lab as LabModel, step}
+use Rattle.lab_model.specs.Lab.{step}
 use Rattle.schedules.specs.declared.event.Event.{Event}
 use Rattle.lab_model.specs.Played.{happens}
 use Rattle.lab_events.specs.declared.lab_state.Lab.{Lab}

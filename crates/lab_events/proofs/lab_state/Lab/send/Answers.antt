@@ -2,7 +2,7 @@ use Rattle.std.proofs.Common.{rules, ◌≡◌, ◌++◌, List, ℕ, map, Option
 use Rattle.undo_core.specs.declared.sending.Sent.{Sent}
 use Rattle.undo_core.specs.Shown.{IsSent}
 use Rattle.lab_model.specs.declared.marks.Mark.{Mark}
-use Rattle.lab_model.specs.Lab.{Lab as LabModel, sends}
+use Rattle.lab_model.specs.Lab.{sends}
 use Rattle.lab_events.specs.declared.frames.Way.TheVariants as way
 use Rattle.lab_events.specs.declared.frames.SentFrame.{SentFrame}
 use Rattle.lab_events.specs.FramesShown.{sent_as}
