@@ -5,14 +5,14 @@ use Rattle.ipmb_frame.specs.declared.message.Request.{Request}
 use Rattle.record_base.specs.declared.message.Answered.{Answered}
 use Rattle.cfg_records.specs.declared.board_file.BoardFile.{BoardFile}
 use Rattle.two_wire.specs.declared.Bus.TheVariants.{Ipmb}
-use Rattle.bus_model.specs.Numbering.{is_above}
-use Rattle.bus_model.specs.Carried.{Outcome, Repeats, IsBusy, IsNew, log_after, reply_after}
+use Rattle.model_bus.specs.Numbering.{is_above}
+use Rattle.model_bus.specs.Carried.{Outcome, Repeats, IsBusy, IsNew, log_after, reply_after}
 use Rattle.bmc_board.specs.State.{State}
 use Rattle.bmc_board.specs.Answer.{answer_of}
-use Rattle.lab_model.specs.Bytes.{heard_in}
-use Rattle.lab_model.specs.PortSteps.{PortState, Deed, Turn, spelled, asked_in, response_after, hears_request}
-use Rattle.lab_model.specs.Values.{Value, written}
-use Rattle.lab_model.proofs.Stepping.{turns_by}
+use Rattle.model_lab.specs.Bytes.{heard_in}
+use Rattle.model_lab.specs.PortSteps.{PortState, Deed, Turn, spelled, asked_in, response_after, hears_request}
+use Rattle.model_lab.specs.Values.{Value, written}
+use Rattle.model_lab.proofs.Stepping.{turns_by}
 use Rattle.bmc_core.specs.declared.out.Out.{Out}
 use Rattle.bmc_core.specs.declared.ipmb_port.IpmbPort.{IpmbPort}
 use Rattle.bmc_core.specs.Outs.{sends, done_by, AreRead}

@@ -2,13 +2,13 @@
 use Rattle.std.proofs.Common.{◌≡◌, ℕ, ◌≢◌, List, [], ◌∷◌, ◌++◌, map, Some, None, Ok, Err, refl, ◌∙◌, ap}
 use Rattle.ipmb_frame.specs.declared.message.Request.{Request}
 use Rattle.cfg_records.specs.declared.board_file.BoardFile.{BoardFile}
-use Rattle.bus_model.specs.Request.{Kept}
-use Rattle.bus_model.specs.Numbering.{is_above}
-use Rattle.bus_model.specs.Carried.{Outcome, Repeats, IsBusy, IsNew, log_after, reply_after, outcomes}
+use Rattle.model_bus.specs.Request.{Kept}
+use Rattle.model_bus.specs.Numbering.{is_above}
+use Rattle.model_bus.specs.Carried.{Outcome, Repeats, IsBusy, IsNew, log_after, reply_after, outcomes}
 use Rattle.bmc_board.specs.State.{State}
 use Rattle.bmc_board.specs.Answer.{answer_of}
-use Rattle.lab_model.specs.Values.{written}
-use Rattle.lab_model.specs.PortSteps.{PortState, Deed, left_by, asked_in, response_after, hears_request, turn}
+use Rattle.model_lab.specs.Values.{written}
+use Rattle.model_lab.specs.PortSteps.{PortState, Deed, left_by, asked_in, response_after, hears_request, turn}
 use Rattle.bmc_core.specs.Rule.{logs_with, replies}
 use Rattle.bmc_core.specs.IpmbShown.{outcome_at, kept_of}
 use Rattle.bmc_core.specs.IpmbRuns.{IsHeardThenTold, Coming, Comes, IsTold, IsIdle, port_after, ports_after, brought, done_with_told, Replied, response_of, settled_then, replied, sent_when_heard, all_sent, KeepsTheRule, Happening, Hears, Idles, Others, Ends, ends_after, all_after, heard_in_all, done_in_all, requests_in, responses, sent_in_all, CarriesTheRule}

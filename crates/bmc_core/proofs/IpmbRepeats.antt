@@ -5,14 +5,14 @@ use Rattle.ipmb_frame.specs.declared.message.Request.{Request}
 use Rattle.ipmb_frame.specs.declared.message.Response.{Response}
 use Rattle.ipmb_frame.specs.Grammar.{request_bytes, IsResponse}
 use Rattle.ipmb_frame.proofs.Uniqueness.{bytes-one, header-one}
-use Rattle.bus_model.specs.Request.{Request as Asking, Kept, Entry, Carried, Idled}
-use Rattle.bus_model.specs.Numbering.{is_above}
-use Rattle.bus_model.specs.Carried.{Repeats, outcome}
-use Rattle.bus_model.proofs.Sentence.{sentence_64}
+use Rattle.model_bus.specs.Request.{Request as Asking, Kept, Entry, Carried, Idled}
+use Rattle.model_bus.specs.Numbering.{is_above}
+use Rattle.model_bus.specs.Carried.{Repeats, outcome}
+use Rattle.model_bus.proofs.Sentence.{sentence_64}
 use Rattle.two_wire.specs.declared.Bus.TheVariants.{Ipmb}
-use Rattle.lab_model.specs.Bytes.{heard_in}
-use Rattle.lab_model.specs.Values.{written}
-use Rattle.lab_model.specs.PortSteps.{response_after}
+use Rattle.model_lab.specs.Bytes.{heard_in}
+use Rattle.model_lab.specs.Values.{written}
+use Rattle.model_lab.specs.PortSteps.{response_after}
 use Rattle.bmc_core.specs.Outs.{AreRead}
 use Rattle.bmc_core.proofs.OwnBytes.{response_read}
 use Rattle.bmc_core.specs.IpmbShown.{reading, HasUnits, IsAnswered, AllAnswered, response}

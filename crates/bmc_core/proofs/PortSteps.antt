@@ -3,10 +3,10 @@ use Rattle.std.proofs.Common.{◌≡◌, ℕ, Bool, true, false, List, [], ◌�
 use Rattle.two_wire.specs.declared.Bus.TheVariants as on
 use Rattle.ipmb_frame.specs.declared.message.Request.{Request}
 use Rattle.cfg_records.specs.declared.board_file.BoardFile.{BoardFile}
-use Rattle.bus_model.specs.Carried.{Outcome, Repeats, IsBusy, IsNew}
+use Rattle.model_bus.specs.Carried.{Outcome, Repeats, IsBusy, IsNew}
 use Rattle.bmc_board.specs.State.{State}
 use Rattle.bmc_board.specs.Answer.{answer_of}
-use Rattle.lab_model.specs.PortSteps.{PortState, Deed, left_by, asked_in, hears_request}
+use Rattle.model_lab.specs.PortSteps.{PortState, Deed, left_by, asked_in, hears_request}
 use Rattle.bmc_core.specs.declared.out.Out.{Out}
 use Rattle.bmc_core.specs.declared.out.Reason.{Reason}
 use Rattle.bmc_core.specs.declared.out.Reason.TheVariants as reason

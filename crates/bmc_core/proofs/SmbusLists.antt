@@ -5,13 +5,13 @@ use Rattle.mctp_net.specs.declared.message.Message.{Message}
 use Rattle.mctp_net.specs.Control.{reply_to as control_reply_to, eid_after}
 use Rattle.record_base.specs.declared.message.Answered.{Answered}
 use Rattle.cfg_records.specs.declared.board_file.BoardFile.{BoardFile}
-use Rattle.bus_model.specs.Request.{Kept, Entry}
-use Rattle.bus_model.specs.Numbering.{is_above}
-use Rattle.bus_model.specs.Carried.{Outcome, Repeats, IsBusy, IsNew, Heard as Brought, log_after, reply_after, outcomes}
+use Rattle.model_bus.specs.Request.{Kept, Entry}
+use Rattle.model_bus.specs.Numbering.{is_above}
+use Rattle.model_bus.specs.Carried.{Outcome, Repeats, IsBusy, IsNew, Heard as Brought, log_after, reply_after, outcomes}
 use Rattle.bmc_board.specs.State.{State}
 use Rattle.bmc_board.specs.Answer.{answer_of}
-use Rattle.lab_model.specs.Values.{written, Part, parts_of}
-use Rattle.lab_model.specs.PortSteps.{PortState, Deed, left_by}
+use Rattle.model_lab.specs.Values.{written, Part, parts_of}
+use Rattle.model_lab.specs.PortSteps.{PortState, Deed, left_by}
 use Rattle.bmc_core.specs.SmbusHeard.{InMessage, Heard, Ignored, Waiting, Control, Asks, taken, heard_in, asked_of, asks_of, found, asks, kept_with, asks_effect, effect}
 use Rattle.bmc_core.specs.Rule.{logs_with}
 use Rattle.bmc_core.specs.SmbusRuns.{with_board, IsHeardThenTold, Coming, Comes, IsTold, IsIdle, once_heard, port_after, ports_after, brought, done_with_told, reply_of, reply_saying, all_frames, settled_then, replied_then, replied, sent_once_heard, all_sent, KeepsTheRule, Happening, Hears, Idles, Others, Ends, ends_after, all_after, heard_then, heard_in_all, done_then, done_in_all, answered_then, answered_in_all, sent_in_all, CarriesTheRule}

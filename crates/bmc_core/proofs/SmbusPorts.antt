@@ -17,13 +17,13 @@ use Rattle.pldm_base.specs.declared.message.PldmRequest.{PldmRequest}
 use Rattle.pldm_base.specs.Message.{request_in as pldm_request_in, has_fault as has_pldm_fault, faults as pldm_faults}
 use Rattle.record_base.specs.declared.message.Answered.{Answered}
 use Rattle.cfg_records.specs.declared.board_file.BoardFile.{BoardFile}
-use Rattle.bus_model.specs.Carried.{Outcome, Repeats, IsBusy, IsNew}
-use Rattle.bus_model.specs.Request.{Kept, Carried}
+use Rattle.model_bus.specs.Carried.{Outcome, Repeats, IsBusy, IsNew}
+use Rattle.model_bus.specs.Request.{Kept, Carried}
 use Rattle.bmc_board.specs.State.{State}
 use Rattle.bmc_board.specs.Answer.{answer_of}
-use Rattle.lab_model.specs.Bytes.{said}
-use Rattle.lab_model.specs.Values.{Value, Part}
-use Rattle.lab_model.specs.PortSteps.{PortState, Deed, stays, left_by, turn, hears_control, hears_pldm, hears_typed, hears_message, hears_part, ends_message, hears}
+use Rattle.model_lab.specs.Bytes.{said}
+use Rattle.model_lab.specs.Values.{Value, Part}
+use Rattle.model_lab.specs.PortSteps.{PortState, Deed, stays, left_by, turn, hears_control, hears_pldm, hears_typed, hears_message, hears_part, ends_message, hears}
 use Rattle.bmc_core.specs.declared.out.Out.{Out}
 use Rattle.bmc_core.specs.declared.out.Done.TheVariants as done
 use Rattle.bmc_core.specs.declared.out.Reason.TheVariants as reason

@@ -7,11 +7,11 @@ use Rattle.mctp_net.specs.Cut.{IsCutOf, AreWritten}
 use Rattle.mctp_net.proofs.OneCut.{cut-one}
 use Rattle.pldm_base.specs.Message.{reply_start}
 use Rattle.record_base.specs.declared.message.Answered.{Answered}
-use Rattle.bus_model.specs.Request.{Request as Asking, Kept, Entry, Carried, Idled, carried_since}
-use Rattle.bus_model.specs.Carried.{Outcome, Repeats, IsBusy, IsNew, kept_for, outcome_of, outcome, is_busy}
-use Rattle.lab_model.specs.Values.{Part, written, parts_of}
-use Rattle.lab_model.specs.PortSteps.{spelled}
-use Rattle.lab_model.proofs.Parts.{parts_are_cuts}
+use Rattle.model_bus.specs.Request.{Request as Asking, Kept, Entry, Carried, Idled, carried_since}
+use Rattle.model_bus.specs.Carried.{Outcome, Repeats, IsBusy, IsNew, kept_for, outcome_of, outcome, is_busy}
+use Rattle.model_lab.specs.Values.{Part, written, parts_of}
+use Rattle.model_lab.specs.PortSteps.{spelled}
+use Rattle.model_lab.proofs.Parts.{parts_are_cuts}
 use Rattle.bmc_core.specs.SmbusHeard.{InMessage, asking}
 use Rattle.bmc_core.specs.SmbusShown.{AreReplies}
 

@@ -3,15 +3,15 @@ use Rattle.std.specs.Prelude.{◌≡◌, ◌≢◌, ℕ, List, [], ◌∷◌, �
 use Rattle.ipmb_frame.specs.declared.message.Request.{Request}
 use Rattle.record_base.specs.declared.message.Answered.{Answered}
 use Rattle.cfg_records.specs.declared.board_file.BoardFile.{BoardFile}
-use Rattle.bus_model.specs.Request.{Entry, Idled}
-use Rattle.bus_model.specs.Circle.{sequence_numbers}
-use Rattle.bus_model.specs.Numbering.{is_above}
-use Rattle.bus_model.specs.Carried.{Outcome, Repeats, IsBusy, IsNew, Heard as Brought, HeardRequest, HeardIdle, outcome, log_with, reply_after, outcomes}
+use Rattle.model_bus.specs.Request.{Entry, Idled}
+use Rattle.model_bus.specs.Circle.{sequence_numbers}
+use Rattle.model_bus.specs.Numbering.{is_above}
+use Rattle.model_bus.specs.Carried.{Outcome, Repeats, IsBusy, IsNew, Heard as Brought, HeardRequest, HeardIdle, outcome, log_with, reply_after, outcomes}
 use Rattle.bmc_board.specs.State.{State}
 use Rattle.bmc_board.specs.Answer.{answer_of}
-use Rattle.lab_model.specs.Bytes.{heard_in}
-use Rattle.lab_model.specs.Values.{written}
-use Rattle.lab_model.specs.PortSteps.{PortState, Deed, asked_in, response_after, hears_request, idles}
+use Rattle.model_lab.specs.Bytes.{heard_in}
+use Rattle.model_lab.specs.Values.{written}
+use Rattle.model_lab.specs.PortSteps.{PortState, Deed, asked_in, response_after, hears_request, idles}
 use Rattle.bmc_core.specs.declared.out.Reason.{Reason}
 use Rattle.bmc_core.specs.Outs.{sent}
 use Rattle.bmc_core.specs.Rule.{logs_with, replies}

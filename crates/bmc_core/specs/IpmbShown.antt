@@ -6,18 +6,18 @@ use Rattle.ipmb_frame.specs.declared.message.Response.{Response}
 use Rattle.ipmb_frame.specs.Grammar.{IsResponse}
 use Rattle.record_base.specs.declared.message.Answered.{Answered}
 use Rattle.cfg_records.specs.declared.board_file.BoardFile.{BoardFile}
-use Rattle.bus_model.specs.Request.{Kept, Entry, Carried, Idled}
-use Rattle.bus_model.specs.Circle.{sequence_numbers}
-use Rattle.bus_model.specs.Numbering.{is_above}
-use Rattle.bus_model.specs.Carried.{Outcome, Repeats, IsBusy, IsNew, outcome, log_after, reply_after}
+use Rattle.model_bus.specs.Request.{Kept, Entry, Carried, Idled}
+use Rattle.model_bus.specs.Circle.{sequence_numbers}
+use Rattle.model_bus.specs.Numbering.{is_above}
+use Rattle.model_bus.specs.Carried.{Outcome, Repeats, IsBusy, IsNew, outcome, log_after, reply_after}
 use Rattle.two_wire.specs.declared.Bus.TheVariants.{Ipmb}
 use Rattle.bmc_board.specs.State.{State}
-use Rattle.windows.specs.Keeps.{Reading, Held, Keeps}
-use Rattle.windows.specs.declared.request.Request.{Request as Heard}
-use Rattle.windows.specs.Heard.{request_of}
-use Rattle.lab_model.specs.Bytes.{heard_in}
-use Rattle.lab_model.specs.Values.{Value, Tells, written}
-use Rattle.lab_model.specs.PortSteps.{PortState, Deed, stays, spelled, response_after, hears_request}
+use Rattle.bmc_windows.specs.Keeps.{Reading, Held, Keeps}
+use Rattle.bmc_windows.specs.declared.request.Request.{Request as Heard}
+use Rattle.bmc_windows.specs.Heard.{request_of}
+use Rattle.model_lab.specs.Bytes.{heard_in}
+use Rattle.model_lab.specs.Values.{Value, Tells, written}
+use Rattle.model_lab.specs.PortSteps.{PortState, Deed, stays, spelled, response_after, hears_request}
 use Rattle.bmc_core.specs.declared.out.Out.{Out}
 use Rattle.bmc_core.specs.declared.out.Reason.{Reason}
 use Rattle.bmc_core.specs.declared.out.Done.{Done}

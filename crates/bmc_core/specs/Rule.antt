@@ -1,7 +1,7 @@
 -- The rule for repeated requests, over lists of what is brought to a port.
 use Rattle.std.specs.Prelude.{ℕ, Bool, List, [], ◌∷◌, Option}
-use Rattle.bus_model.specs.Request.{Entry, Idled}
-use Rattle.bus_model.specs.Carried.{Heard as Brought, HeardRequest, HeardIdle, outcome, log_with, reply_after}
+use Rattle.model_bus.specs.Request.{Entry, Idled}
+use Rattle.model_bus.specs.Carried.{Heard as Brought, HeardRequest, HeardIdle, outcome, log_with, reply_after}
 
 -- the log after a list that was brought
 abbrev pub logs_with : (ℕ → ℕ → Bool) → List Brought → List Entry → List Entry

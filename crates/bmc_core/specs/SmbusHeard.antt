@@ -12,13 +12,13 @@ use Rattle.pldm_base.specs.declared.message.PldmRequest.{PldmRequest}
 use Rattle.pldm_base.specs.Message.{request_in as pldm_request_in, has_fault as has_pldm_fault, faults as pldm_faults}
 use Rattle.record_base.specs.declared.message.Asked.{Asked}
 use Rattle.record_base.specs.declared.message.Answered.{Answered}
-use Rattle.bus_model.specs.Circle.{instances}
-use Rattle.bus_model.specs.Request.{Request as Asking, Kept}
-use Rattle.bus_model.specs.Numbering.{is_above}
-use Rattle.bus_model.specs.Carried.{Outcome, Repeats, IsBusy, IsNew, outcome, log_after, reply_after}
-use Rattle.lab_model.specs.Bytes.{pldm_heard_in, said}
-use Rattle.lab_model.specs.Values.{Value, Part, parts_of}
-use Rattle.lab_model.specs.PortSteps.{PortState, reply_envelope, spelled, pldm_asked}
+use Rattle.model_bus.specs.Circle.{instances}
+use Rattle.model_bus.specs.Request.{Request as Asking, Kept}
+use Rattle.model_bus.specs.Numbering.{is_above}
+use Rattle.model_bus.specs.Carried.{Outcome, Repeats, IsBusy, IsNew, outcome, log_after, reply_after}
+use Rattle.model_lab.specs.Bytes.{pldm_heard_in, said}
+use Rattle.model_lab.specs.Values.{Value, Part, parts_of}
+use Rattle.model_lab.specs.PortSteps.{PortState, reply_envelope, spelled, pldm_asked}
 use Rattle.bmc_core.specs.declared.out.Done.{Done}
 use Rattle.bmc_core.specs.declared.out.Done.TheVariants as done
 use Rattle.bmc_core.specs.declared.out.Reason.{Reason}

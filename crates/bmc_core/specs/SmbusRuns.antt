@@ -7,14 +7,14 @@ use Rattle.mctp_net.specs.Control.{reply_to as control_reply_to, eid_after}
 use Rattle.mctp_net.specs.declared.packet.Packet.{Packet}
 use Rattle.record_base.specs.declared.message.Answered.{Answered}
 use Rattle.cfg_records.specs.declared.board_file.BoardFile.{BoardFile}
-use Rattle.bus_model.specs.Circle.{instances}
-use Rattle.bus_model.specs.Numbering.{is_above}
-use Rattle.bus_model.specs.Carried.{Outcome, Repeats, IsBusy, IsNew, Heard as Brought, HeardRequest, HeardIdle, reply_after, outcomes}
+use Rattle.model_bus.specs.Circle.{instances}
+use Rattle.model_bus.specs.Numbering.{is_above}
+use Rattle.model_bus.specs.Carried.{Outcome, Repeats, IsBusy, IsNew, Heard as Brought, HeardRequest, HeardIdle, reply_after, outcomes}
 use Rattle.bmc_board.specs.State.{State}
 use Rattle.bmc_board.specs.Answer.{answer_of}
-use Rattle.lab_model.specs.Bytes.{said}
-use Rattle.lab_model.specs.Values.{Part, written, parts_of}
-use Rattle.lab_model.specs.PortSteps.{PortState, Deed, reply_envelope, hears, idles}
+use Rattle.model_lab.specs.Bytes.{said}
+use Rattle.model_lab.specs.Values.{Part, written, parts_of}
+use Rattle.model_lab.specs.PortSteps.{PortState, Deed, reply_envelope, hears, idles}
 use Rattle.bmc_core.specs.Rule.{logs_with}
 use Rattle.bmc_core.specs.SmbusHeard.{InMessage, Heard, Ignored, Waiting, Control, Asks, taken, heard_in, asking, asked_of, found, asks, kept_with, Effect, effect}
 

@@ -9,13 +9,13 @@ use Rattle.mctp_net.specs.Grammar.{IsPacket, has_fault, faults}
 use Rattle.mctp_net.specs.Places.{seen}
 use Rattle.record_base.specs.declared.message.Answered.{Answered}
 use Rattle.cfg_records.specs.declared.board_file.BoardFile.{BoardFile}
-use Rattle.bus_model.specs.Circle.{instances}
-use Rattle.bus_model.specs.Request.{Entry, Carried, Idled}
-use Rattle.bus_model.specs.Carried.{Outcome, Repeats, IsBusy, IsNew}
-use Rattle.windows.specs.Keeps.{Reading, Held, Keeps}
+use Rattle.model_bus.specs.Circle.{instances}
+use Rattle.model_bus.specs.Request.{Entry, Carried, Idled}
+use Rattle.model_bus.specs.Carried.{Outcome, Repeats, IsBusy, IsNew}
+use Rattle.bmc_windows.specs.Keeps.{Reading, Held, Keeps}
 use Rattle.bmc_board.specs.State.{State}
-use Rattle.lab_model.specs.Values.{Value, Part, written}
-use Rattle.lab_model.specs.PortSteps.{PortState, Deed, stays, hears, quiet_port}
+use Rattle.model_lab.specs.Values.{Value, Part, written}
+use Rattle.model_lab.specs.PortSteps.{PortState, Deed, stays, hears, quiet_port}
 use Rattle.bmc_core.specs.declared.out.Out.{Out}
 use Rattle.bmc_core.specs.declared.out.Done.{Done}
 use Rattle.bmc_core.specs.declared.out.Done.TheVariants as done

@@ -5,17 +5,17 @@ ghost use Rattle.two_wire.specs.Sizes.{most_ipmi_reply_data};
 ghost use Rattle.ipmb_frame.specs.declared.message.Request.{Request as AnyRequest};
 ghost use Rattle.ipmb_frame.specs.Grammar.{request_bytes, IsRequest, IsResponse};
 ghost use Rattle.two_wire.specs.declared.Bus.TheVariants.{Ipmb};
-ghost use Rattle.bus_model.specs.Request.{Entry, Carried};
-ghost use Rattle.bus_model.specs.Circle.{sequence_numbers};
-ghost use Rattle.bus_model.specs.Numbering.{is_above};
-ghost use Rattle.bus_model.specs.Carried.{IsBusy, IsNew, outcome, requesters};
+ghost use Rattle.model_bus.specs.Request.{Entry, Carried};
+ghost use Rattle.model_bus.specs.Circle.{sequence_numbers};
+ghost use Rattle.model_bus.specs.Numbering.{is_above};
+ghost use Rattle.model_bus.specs.Carried.{IsBusy, IsNew, outcome, requesters};
 ghost use Rattle.bmc_board.specs.Request.{asked_by, asked_of};
 ghost use Rattle.bmc_board.specs.Answer.{answer_of};
 ghost use Rattle.bmc_board.specs.State.{state_of};
-ghost use Rattle.windows.specs.Keeps.{Reading, Keeps};
-ghost use Rattle.windows.specs.Heard.{request_of, kept_of as kept_as};
-ghost use Rattle.lab_model.specs.Bytes.{heard_in};
-ghost use Rattle.lab_model.specs.PortSteps.{PortState, quiet_port, asked_in, idles, response_after};
+ghost use Rattle.bmc_windows.specs.Keeps.{Reading, Keeps};
+ghost use Rattle.bmc_windows.specs.Heard.{request_of, kept_of as kept_as};
+ghost use Rattle.model_lab.specs.Bytes.{heard_in};
+ghost use Rattle.model_lab.specs.PortSteps.{PortState, quiet_port, asked_in, idles, response_after};
 ghost use Rattle.bmc_core.specs.declared.out.Reason.{Reason as AnyReason};
 ghost use Rattle.bmc_core.specs.Outs.{sends, AreRead};
 ghost use Rattle.bmc_core.specs.IpmbHeard.{IsHeard};
@@ -27,6 +27,7 @@ use crate::out::{Done, Out, Reason};
 use crate::step::Step;
 use bmc_board::request::read_ipmi;
 use bmc_board::{Board, Command};
+use bmc_windows::{Found, Request as Heard, Windows};
 use cfg_records::{Answered, Asked, Store, byte_at};
 use ipmb_frame::{
     Header, Msg, Request, begin_response, end_response, read_frame, write_response_into,
@@ -35,7 +36,6 @@ use std::alloc::{AllocError, Global};
 use std::marker::Model;
 use two_wire::size::MOST_IPMI_REQUEST_DATA;
 use two_wire::{Address, Bytes, Code, Frame, code};
-use windows::{Found, Request as Heard, Windows};
 
 /// How many sequence numbers IPMB has.
 const SEQUENCE_NUMBERS: u8 = 64;

@@ -1,10 +1,10 @@
 //! The port of either bus.
 ghost use Rattle.std.specs.Prelude.{◌≡◌, ◌==◌, ◌≤◌, IfOk, length};
 ghost use Rattle.std.specs.List.{list_any};
-ghost use Rattle.bus_model.specs.Carried.{requesters};
+ghost use Rattle.model_bus.specs.Carried.{requesters};
 ghost use Rattle.record_base.specs.Meaning.{room_for};
 ghost use Rattle.bmc_board.specs.State.{state_of};
-ghost use Rattle.lab_model.specs.PortSteps.{PortState, quiet_port, idles};
+ghost use Rattle.model_lab.specs.PortSteps.{PortState, quiet_port, idles};
 ghost use Rattle.bmc_core.specs.Port.{bus_of, bus_asked, asked_of, Shows, Hears, IsStep, IsOn, IsTold};
 
 pub mod laws;

@@ -1,9 +1,9 @@
 //! A port on the System Management Bus, which carries each distinct request out once.
 ghost use Rattle.std.specs.Prelude.{◌≡◌, ◌==◌, IfOk};
 ghost use Rattle.std.specs.List.{list_any};
-ghost use Rattle.bus_model.specs.Carried.{requesters};
+ghost use Rattle.model_bus.specs.Carried.{requesters};
 ghost use Rattle.bmc_board.specs.State.{state_of};
-ghost use Rattle.lab_model.specs.PortSteps.{PortState, quiet_port, idles};
+ghost use Rattle.model_lab.specs.PortSteps.{PortState, quiet_port, idles};
 ghost use Rattle.bmc_core.specs.SmbusShown.{Shows, Hearing, IsStep, Ends, HearsBytes, request_in};
 ghost use Rattle.bmc_core.specs.SmbusHeard.{Asks};
 

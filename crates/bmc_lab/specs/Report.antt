@@ -7,8 +7,8 @@ use Rattle.bmc_core.specs.declared.out.Done.{Done}
 use Rattle.bmc_core.specs.declared.out.Done.TheVariants.{Ignored, Waiting, Answered, Repeated, Busy, Control}
 use Rattle.bmc_core.specs.Names.{reason_name}
 use Rattle.bmc_core.specs.Outs.{sent}
-use Rattle.board_file.specs.declared.fault.FileFault.{FileFault}
-use Rattle.board_file.specs.Names.{fault_name}
+use Rattle.text_board.specs.declared.fault.FileFault.{FileFault}
+use Rattle.text_board.specs.Names.{fault_name}
 use Rattle.bmc_lab.specs.declared.status.Status.{Status}
 use Rattle.bmc_lab.specs.declared.status.Status.TheVariants.{Success, NotSent, RefusedWords, RefusedFile, Stopped, Memory, Output}
 

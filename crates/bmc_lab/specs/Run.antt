@@ -8,10 +8,10 @@ use Rattle.bmc_core.specs.declared.port.At.{At}
 use Rattle.bmc_core.specs.declared.port.Port.{Port}
 use Rattle.bmc_board.specs.State.{State, opened}
 use Rattle.bmc_core.specs.Outs.{sent}
-use Rattle.lab_model.specs.PortSteps.{quiet_port}
+use Rattle.model_lab.specs.PortSteps.{quiet_port}
 use Rattle.bmc_core.specs.Port.{bus_of, Shows, Hears}
-use Rattle.board_file.specs.declared.fault.FileFault.{FileFault}
-use Rattle.board_file.specs.Holds.{Reads}
+use Rattle.text_board.specs.declared.fault.FileFault.{FileFault}
+use Rattle.text_board.specs.Holds.{Reads}
 use Rattle.bmc_lab.specs.declared.console.Stream.{Stream}
 use Rattle.bmc_lab.specs.declared.console.Stream.TheVariants.{Output, Error}
 use Rattle.bmc_lab.specs.declared.status.Status.{Status}

@@ -9,11 +9,11 @@ use crate::console::Console;
 use crate::ending::Ending;
 use crate::report::Report;
 use bmc_core::{At, Board, Out, Port};
-use board_file::{FileFault, read_board};
 use cfg_records::{BoardFile, sample_board};
 use mctp_net::EndpointId;
 use std::alloc::{AllocError, Global};
 use std::io;
+use text_board::{FileFault, read_board};
 use two_wire::{Address, Bus};
 
 /// The controller's two-wire address, on both buses.

@@ -6,8 +6,8 @@ ghost use Rattle.bmc_lab.specs.Report.{status_of, frame_line, text_of, file_line
 use crate::console::Stream;
 use crate::status::Status;
 use bmc_core::{Done, Out};
-use board_file::FileFault;
 use std::alloc::{AllocError, Global};
+use text_board::FileFault;
 use two_wire::Frame;
 
 /// The lines that a run writes, where it writes them, and how it ends.

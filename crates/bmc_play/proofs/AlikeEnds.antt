@@ -1,16 +1,16 @@
 -- The lines of a play and its chart end alike.
 use Rattle.std.proofs.Common.{◌≡◌, ◌∙◌, ℕ, List, length, Option, Some, None, ap, refl, subst, sym}
-use Rattle.schedules.specs.declared.event.Event.{Event}
+use Rattle.text_schedule.specs.declared.event.Event.{Event}
 use Rattle.cfg_records.specs.declared.board_file.BoardFile.{BoardFile}
 use Rattle.record_base.specs.declared.op.Op.{Op}
-use Rattle.lab_model.specs.Faults.{Fault as LabFault}
-use Rattle.lab_model.specs.Faults as faults
-use Rattle.lab_events.specs.declared.fault.Fault.{Fault}
-use Rattle.lab_events.specs.declared.fault.Fault.TheVariants as fault
-use Rattle.lab_model.specs.Meaning.{Bench}
-use Rattle.lab_model.specs.Played.{Ending, Whole, Stops, IsPlayed}
-use Rattle.lab_events.specs.FramesShown.{fault_of}
-use Rattle.lab_events.specs.Shown.{own_bench}
+use Rattle.model_lab.specs.Faults.{Fault as LabFault}
+use Rattle.model_lab.specs.Faults as faults
+use Rattle.lab_run.specs.declared.fault.Fault.{Fault}
+use Rattle.lab_run.specs.declared.fault.Fault.TheVariants as fault
+use Rattle.model_lab.specs.Meaning.{Bench}
+use Rattle.model_lab.specs.Played.{Ending, Whole, Stops, IsPlayed}
+use Rattle.lab_run.specs.FramesShown.{fault_of}
+use Rattle.lab_run.specs.Shown.{own_bench}
 use Rattle.bmc_play.specs.declared.account.Account.{Account}
 use Rattle.bmc_play.specs.declared.account.Stopped.{Stopped}
 use Rattle.bmc_play.specs.declared.inputs.Inputs.{Inputs}

@@ -2,8 +2,8 @@
 use Rattle.std.proofs.Common.{◌≡◌, ℕ, ◌+◌, ◌<◌, arith, List, [], ◌∷◌, ◌++◌, length, map, take, get_or, sym, ap, ◌∙◌}
 use Rattle.std.proofs.lemmas.List.{take_more, map-append, flat_map_more, length-take-le}
 use Rattle.std.specs.List.{flat_map, enumerate_from}
-use Rattle.line_text.specs.Cuts.{ended}
-use Rattle.lab_events.specs.declared.frames.SentFrame.{SentFrame}
+use Rattle.text_lines.specs.Cuts.{ended}
+use Rattle.lab_run.specs.declared.frames.SentFrame.{SentFrame}
 use Rattle.bmc_play.specs.Lines.{frame_line, frame_lines}
 
 -- one more element has the next number

@@ -2,10 +2,10 @@
 use Rattle.std.proofs.Common.{◌≡◌, ℕ, ◌+◌, List, length, Option, Some, None, Result, Ok, Err, IfOk, string_bytes, sym}
 use Rattle.cfg_records.specs.declared.board_file.BoardFile.{BoardFile}
 use Rattle.record_base.specs.declared.op.Op.{Op}
-use Rattle.schedules.specs.declared.event.Event.{Event}
-use Rattle.lab_events.specs.declared.fault.Fault.{Fault}
-use Rattle.lab_model.specs.Played.{Ending, Whole, Stops}
-use Rattle.lab_events.specs.declared.note.Note.{Note}
+use Rattle.text_schedule.specs.declared.event.Event.{Event}
+use Rattle.lab_run.specs.declared.fault.Fault.{Fault}
+use Rattle.model_lab.specs.Played.{Ending, Whole, Stops}
+use Rattle.lab_run.specs.declared.note.Note.{Note}
 use Rattle.lab_play.specs.Ends.{IsEnding, Plays}
 use Rattle.lab_play.specs.Noted.{NotesPlay}
 use Rattle.lab_play.specs.declared.played.Played.{Played}

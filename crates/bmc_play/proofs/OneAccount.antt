@@ -4,7 +4,7 @@ use Rattle.std.specs.List.{AllZip, flat_map}
 use Rattle.std.specs.Fmt.{decimal}
 use Rattle.std.proofs.lemmas.List.{length-map, length-reverse}
 use Rattle.std.proofs.lemmas.Simd.{map-map}
-use Rattle.line_text.specs.Cuts.{ended}
+use Rattle.text_lines.specs.Cuts.{ended}
 use Rattle.cfg_records.specs.Records.{Pair}
 use Rattle.record_base.specs.declared.message.Asked.{Asked}
 use Rattle.record_base.specs.declared.message.Asked.TheVariants.{Ipmi, Pldm}
@@ -15,16 +15,16 @@ use Rattle.undo_core.specs.declared.phase.Phase.TheVariants as phase
 use Rattle.undo_core.specs.PhaseNames.{phase_name}
 use Rattle.undo_core.specs.Phases.{why_of, phase_of}
 use Rattle.undo_core.specs.Shown.{own, backs}
-use Rattle.undo_text.specs.UndoText.{line_of}
-use Rattle.lab_model.specs.declared.marks.Mark.{Mark}
-use Rattle.lab_model.specs.Lab.{LabFrame}
-use Rattle.lab_events.specs.declared.frames.Way.{Way}
-use Rattle.lab_events.specs.declared.frames.Way.TheVariants as way
-use Rattle.lab_events.specs.declared.frames.SentFrame.{SentFrame}
-use Rattle.lab_model.specs.Meaning.{lab_names}
-use Rattle.lab_model.specs.Played.{Told, Ending, Whole, Stops}
-use Rattle.lab_events.specs.FramesShown.{way_of}
-use Rattle.lab_events.specs.Shown.{IsSentFrame, own_bench}
+use Rattle.text_undo.specs.UndoText.{line_of}
+use Rattle.model_lab.specs.declared.marks.Mark.{Mark}
+use Rattle.model_lab.specs.Lab.{LabFrame}
+use Rattle.lab_run.specs.declared.frames.Way.{Way}
+use Rattle.lab_run.specs.declared.frames.Way.TheVariants as way
+use Rattle.lab_run.specs.declared.frames.SentFrame.{SentFrame}
+use Rattle.model_lab.specs.Meaning.{lab_names}
+use Rattle.model_lab.specs.Played.{Told, Ending, Whole, Stops}
+use Rattle.lab_run.specs.FramesShown.{way_of}
+use Rattle.lab_run.specs.Shown.{IsSentFrame, own_bench}
 use Rattle.lab_play.specs.Ends.{is_value}
 use Rattle.bmc_play.specs.declared.account.Account.{Account}
 use Rattle.bmc_play.specs.Lines.{said, records_line, undo_lines, shown, ending, text_of}

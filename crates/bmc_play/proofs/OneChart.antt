@@ -3,21 +3,21 @@ use Rattle.std.proofs.Common.{◌≡◌, ◌∙◌, ℕ, ◌+◌, Bool, not, ◌
 use Rattle.std.specs.List.{AllZip, flat_map, enumerate_from, range_with_len}
 use Rattle.std.specs.Fmt.{decimal}
 use Rattle.std.proofs.lemmas.List.{take-map}
-use Rattle.line_text.specs.Cuts.{ended}
+use Rattle.text_lines.specs.Cuts.{ended}
 use Rattle.cfg_records.specs.declared.board_file.BoardFile.{BoardFile}
 use Rattle.record_base.specs.declared.op.Op.{Op}
 use Rattle.undo_core.specs.PhaseNames.{phase_name}
-use Rattle.schedules.specs.declared.event.Event.{Event}
-use Rattle.schedules.specs.declared.event.Event.TheVariants as event
-use Rattle.lab_model.specs.Lab.{opening}
-use Rattle.lab_model.specs.Meaning.{Bench, lab_names}
-use Rattle.lab_model.specs.Played.{plans, Ending, Whole, Stops}
-use Rattle.lab_events.specs.declared.note.Came.{Came}
-use Rattle.lab_events.specs.declared.note.Note.{Note}
-use Rattle.chart_text.specs.Columns.{at_most, in_column}
-use Rattle.chart_text.specs.Arrivals.{delivers, came_at, lost_from}
-use Rattle.chart_text.specs.Chart.{call_cell, comes_cell, count_of, sends_cell, done_cell, head_line, event_line, chart_of}
-use Rattle.lab_events.specs.Shown.{own_bench}
+use Rattle.text_schedule.specs.declared.event.Event.{Event}
+use Rattle.text_schedule.specs.declared.event.Event.TheVariants as event
+use Rattle.model_lab.specs.Lab.{opening}
+use Rattle.model_lab.specs.Meaning.{Bench, lab_names}
+use Rattle.model_lab.specs.Played.{plans, Ending, Whole, Stops}
+use Rattle.lab_run.specs.declared.note.Came.{Came}
+use Rattle.lab_run.specs.declared.note.Note.{Note}
+use Rattle.text_chart.specs.Columns.{at_most, in_column}
+use Rattle.text_chart.specs.Arrivals.{delivers, came_at, lost_from}
+use Rattle.text_chart.specs.Chart.{call_cell, comes_cell, count_of, sends_cell, done_cell, head_line, event_line, chart_of}
+use Rattle.lab_run.specs.Shown.{own_bench}
 use Rattle.lab_play.specs.Noted.{Noted, IsNote, noted_from, AreNotes}
 use Rattle.bmc_play.specs.declared.account.Stopped.{Stopped}
 use Rattle.bmc_play.specs.Lines.{ending}

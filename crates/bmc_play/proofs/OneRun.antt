@@ -1,18 +1,18 @@
 -- Three texts have one run.
 use Rattle.std.proofs.Common.{◌≡◌, ◌∙◌, ◌⊎◌, inl, inr, ℕ, false, true≢false, List, Result, Ok, Err, ap, refl, subst, sym}
 use Rattle.cfg_records.specs.declared.board_file.BoardFile.{BoardFile}
-use Rattle.plans.specs.declared.plan.Plan.{Plan}
-use Rattle.board_file.specs.declared.fault.FileFault.{FileFault}
-use Rattle.board_file.specs.declared.fault.FileFault.TheVariants as file
-use Rattle.board_file.specs.Holds.{Reads}
+use Rattle.undo_plans.specs.declared.plan.Plan.{Plan}
+use Rattle.text_board.specs.declared.fault.FileFault.{FileFault}
+use Rattle.text_board.specs.declared.fault.FileFault.TheVariants as file
+use Rattle.text_board.specs.Holds.{Reads}
 use Rattle.plan_file.specs.declared.plan_fault.PlanFault.{PlanFault}
 use Rattle.plan_file.specs.declared.plan_fault.PlanFault.TheVariants as plan
 use Rattle.plan_file.specs.PlanHolds.{ReadsPlan}
-use Rattle.schedules.specs.declared.event.Event.{Event}
-use Rattle.schedules.specs.declared.schedule.ScheduleFault.{ScheduleFault}
-use Rattle.schedules.specs.declared.schedule.ScheduleFault.TheVariants as line
-use Rattle.schedules.specs.Text.{lines_of}
-use Rattle.schedules.specs.Schedule.{Say, IsFirstBad, IsRead}
+use Rattle.text_schedule.specs.declared.event.Event.{Event}
+use Rattle.text_schedule.specs.declared.schedule.ScheduleFault.{ScheduleFault}
+use Rattle.text_schedule.specs.declared.schedule.ScheduleFault.TheVariants as line
+use Rattle.text_schedule.specs.Text.{lines_of}
+use Rattle.text_schedule.specs.Schedule.{Say, IsFirstBad, IsRead}
 use Rattle.bmc_play.specs.declared.inputs.Inputs.{Inputs}
 use Rattle.bmc_play.specs.declared.inputs.InputFault.{InputFault}
 use Rattle.bmc_play.specs.declared.inputs.InputFault.TheVariants as fault

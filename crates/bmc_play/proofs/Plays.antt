@@ -1,7 +1,7 @@
 -- What is said of a play, once it is known how it ended and what its account is.
 use Rattle.std.proofs.Common.{◌≡◌, ℕ, Bool, List, Result, Ok, Err, Some, None, IfOk, string_bytes, sym, subst}
-use Rattle.lab_events.specs.declared.fault.Fault.{Fault}
-use Rattle.lab_model.specs.Played.{Told, Ending, Whole, Stops}
+use Rattle.lab_run.specs.declared.fault.Fault.{Fault}
+use Rattle.model_lab.specs.Played.{Told, Ending, Whole, Stops}
 use Rattle.lab_play.specs.Ends.{Tells, IsEnding, Plays}
 use Rattle.lab_play.specs.declared.played.Played.{Played}
 use Rattle.lab_play.specs.declared.played.LabFault.{LabFault}

@@ -4,10 +4,10 @@ use Rattle.std.specs.List.{AllZip}
 use Rattle.cfg_records.specs.Records.{Pair, KeysDiffer, records_of}
 use Rattle.undo_core.specs.Phases.{phase_of}
 use Rattle.undo_core.specs.Shown.{backs}
-use Rattle.lab_model.specs.Meaning.{lab_names}
-use Rattle.lab_model.specs.Played.{Told, Ending, Whole, Stops}
-use Rattle.lab_events.specs.FramesShown.{fault_of}
-use Rattle.lab_events.specs.Shown.{IsSentFrame}
+use Rattle.model_lab.specs.Meaning.{lab_names}
+use Rattle.model_lab.specs.Played.{Told, Ending, Whole, Stops}
+use Rattle.lab_run.specs.FramesShown.{fault_of}
+use Rattle.lab_run.specs.Shown.{IsSentFrame}
 use Rattle.lab_play.specs.Ends.{changed_in}
 use Rattle.bmc_play.specs.declared.account.Account.{Account}
 use Rattle.bmc_play.specs.declared.account.Stopped.{Stopped}

@@ -1,16 +1,16 @@
 -- A play that is drawn.
 use Rattle.std.specs.Prelude.{◌≡◌, ℕ, ◌+◌, List, ◌++◌, length, Option, Some, None}
 use Rattle.std.specs.List.{flat_map}
-use Rattle.line_text.specs.Cuts.{ended}
+use Rattle.text_lines.specs.Cuts.{ended}
 use Rattle.cfg_records.specs.declared.board_file.BoardFile.{BoardFile}
 use Rattle.record_base.specs.declared.op.Op.{Op}
-use Rattle.schedules.specs.declared.event.Event.{Event}
-use Rattle.lab_model.specs.Played.{Ending, Whole, Stops, IsPlayed}
-use Rattle.lab_events.specs.FramesShown.{fault_of}
-use Rattle.lab_stands.specs.Plays.{StandsIfOwn}
-use Rattle.lab_events.specs.declared.note.Note.{Note}
-use Rattle.chart_text.specs.Chart.{chart_of}
-use Rattle.lab_events.specs.Shown.{own_bench}
+use Rattle.text_schedule.specs.declared.event.Event.{Event}
+use Rattle.model_lab.specs.Played.{Ending, Whole, Stops, IsPlayed}
+use Rattle.lab_run.specs.FramesShown.{fault_of}
+use Rattle.model_headline.specs.Plays.{StandsIfOwn}
+use Rattle.lab_run.specs.declared.note.Note.{Note}
+use Rattle.text_chart.specs.Chart.{chart_of}
+use Rattle.lab_run.specs.Shown.{own_bench}
 use Rattle.lab_play.specs.Noted.{AreNotes}
 use Rattle.bmc_play.specs.declared.inputs.Inputs.{Inputs}
 use Rattle.bmc_play.specs.declared.account.Stopped.{Stopped}

@@ -1,15 +1,15 @@
 -- What three texts tell: a board, a plan, and events; or which of them is refused, and why.
 use Rattle.std.specs.Prelude.{◌≡◌, ◌⊎◌, ℕ, List, ◌++◌, Result, Ok, Err, codes}
 use Rattle.cfg_records.specs.declared.board_file.BoardFile.{BoardFile}
-use Rattle.plans.specs.declared.plan.Plan.{Plan}
-use Rattle.board_file.specs.declared.fault.FileFault.TheVariants as of_file
+use Rattle.undo_plans.specs.declared.plan.Plan.{Plan}
+use Rattle.text_board.specs.declared.fault.FileFault.TheVariants as of_file
 use Rattle.plan_file.specs.declared.plan_fault.PlanFault.TheVariants as of_plan
-use Rattle.board_file.specs.Holds.{Reads}
+use Rattle.text_board.specs.Holds.{Reads}
 use Rattle.plan_file.specs.PlanHolds.{ReadsPlan}
-use Rattle.board_file.specs.Names.{fault_name}
+use Rattle.text_board.specs.Names.{fault_name}
 use Rattle.plan_file.specs.PlanNames.{plan_fault_name}
-use Rattle.schedules.specs.Schedule.{IsRead}
-use Rattle.schedules.specs.Names.{schedule_fault_name}
+use Rattle.text_schedule.specs.Schedule.{IsRead}
+use Rattle.text_schedule.specs.Names.{schedule_fault_name}
 use Rattle.bmc_play.specs.declared.inputs.Inputs.{Inputs}
 use Rattle.bmc_play.specs.declared.inputs.InputFault.{InputFault}
 use Rattle.bmc_play.specs.declared.inputs.InputFault.TheVariants as fault

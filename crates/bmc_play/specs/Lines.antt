@@ -3,16 +3,16 @@ use Rattle.std.specs.Prelude.{ℕ, zero, suc, Bool, true, false, List, [], ◌�
 use Rattle.std.specs.List.{flat_map, enumerate_from}
 use Rattle.std.specs.Fmt.{decimal}
 use Rattle.hex.specs.Hex.{encode_upper}
-use Rattle.line_text.specs.Cuts.{ended}
+use Rattle.text_lines.specs.Cuts.{ended}
 use Rattle.two_wire.specs.declared.Bus.{Bus}
 use Rattle.two_wire.specs.declared.Bus.TheVariants.{Ipmb, Smbus}
 use Rattle.record_base.specs.declared.message.Asked.{Asked}
-use Rattle.undo_text.specs.UndoText.{line_of}
+use Rattle.text_undo.specs.UndoText.{line_of}
 use Rattle.undo_core.specs.PhaseNames.{phase_name}
-use Rattle.lab_events.specs.declared.frames.Way.{Way}
-use Rattle.lab_events.specs.declared.frames.Way.TheVariants.{ToPort, ToManager, ToOthers}
-use Rattle.lab_events.specs.declared.frames.SentFrame.{SentFrame}
-use Rattle.lab_events.specs.FaultNames.{fault_name}
+use Rattle.lab_run.specs.declared.frames.Way.{Way}
+use Rattle.lab_run.specs.declared.frames.Way.TheVariants.{ToPort, ToManager, ToOthers}
+use Rattle.lab_run.specs.declared.frames.SentFrame.{SentFrame}
+use Rattle.lab_run.specs.FaultNames.{fault_name}
 use Rattle.bmc_play.specs.declared.account.Account.{Account}
 use Rattle.bmc_play.specs.declared.account.Stopped.{Stopped}
 

@@ -1,17 +1,17 @@
 -- What a run says of three texts.
 use Rattle.std.specs.Prelude.{◌≡◌, ℕ, Bool, true, false, List, [], ◌∷◌, ◌++◌, Ok, Err}
-use Rattle.board_file.specs.declared.fault.FileFault.TheVariants as of_file
+use Rattle.text_board.specs.declared.fault.FileFault.TheVariants as of_file
 use Rattle.plan_file.specs.declared.plan_fault.PlanFault.TheVariants as of_plan
-use Rattle.schedules.specs.declared.schedule.ScheduleFault.TheVariants as of_schedule
+use Rattle.text_schedule.specs.declared.schedule.ScheduleFault.TheVariants as of_schedule
 use Rattle.bmc_play.specs.declared.inputs.Inputs.{Inputs}
 use Rattle.bmc_play.specs.declared.inputs.InputFault.{InputFault}
 use Rattle.bmc_play.specs.declared.inputs.InputFault.TheVariants as fault
 use Rattle.bmc_play.specs.declared.account.Account.{Account}
 use Rattle.bmc_play.specs.Inputs.{AreRead, input_fault_name}
 use Rattle.bmc_play.specs.Lines.{text_of}
-use Rattle.lab_model.specs.Played.{Ending, IsPlayed}
-use Rattle.lab_stands.specs.Plays.{StandsIfOwn}
-use Rattle.lab_events.specs.Shown.{own_bench}
+use Rattle.model_lab.specs.Played.{Ending, IsPlayed}
+use Rattle.model_headline.specs.Plays.{StandsIfOwn}
+use Rattle.lab_run.specs.Shown.{own_bench}
 use Rattle.bmc_lab.specs.declared.console.Stream.TheVariants.{Output, Error}
 use Rattle.bmc_lab.specs.declared.status.Status.{Status}
 use Rattle.bmc_lab.specs.declared.status.Status.TheVariants.{RefusedFile}

@@ -3,11 +3,11 @@ ghost use Rattle.std.specs.Prelude.{◌≡◌, IfOk, string_bytes};
 ghost use Rattle.bmc_play.specs.Lines.{text_of};
 
 use crate::lines::{push_frames, push_records, push_stopped};
-use lab_events::{Fault, SentFrame};
-use plans::Requests;
+use lab_run::{Fault, SentFrame};
 use std::alloc::{AllocError, Global};
+use text_undo::push_requests;
 use undo_core::Phase;
-use undo_text::push_requests;
+use undo_plans::Requests;
 
 /// The event that the lab didn't take.
 #[derive(Clone, Copy, Debug, PartialEq, Eq)]

@@ -10,12 +10,12 @@ use crate::lines::push_stopped;
 use crate::report::status;
 use bmc_lab::{Report, Stream};
 use cfg_records::BoardFile;
-use chart_text::chart;
-use lab_events::Note;
 use lab_play::{LabFault, play_noted};
-use plans::Plan;
-use schedules::Event;
+use lab_run::Note;
 use std::alloc::{AllocError, Global};
+use text_chart::chart;
+use text_schedule::Event;
+use undo_plans::Plan;
 
 /// Plays a plan on a board by a schedule, notes each event that happens, and gives the event that the lab didn't take.
 fn noted<'a>(

@@ -1,13 +1,13 @@
 //! The texts that a play is told in: a board file, a plan and a schedule.
 ghost use Rattle.bmc_play.specs.Inputs.{AreRead};
 
-use board_file::{FileFault, read_board};
 use cfg_records::BoardFile;
 use plan_file::{PlanFault, read_plan};
-use plans::Plan;
-use schedules::{Schedule, ScheduleFault, read_schedule};
 use std::alloc::Global;
 use std::fmt;
+use text_board::{FileFault, read_board};
+use text_schedule::{Schedule, ScheduleFault, read_schedule};
+use undo_plans::Plan;
 
 /// What a play begins with, and what happens in it.
 #[derive(Debug, Drop)]

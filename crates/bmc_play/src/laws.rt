@@ -10,14 +10,14 @@ ghost use Rattle.bmc_play.specs.Run.{tells_of, Says};
 pub fn charts_end_as_lines()
     ensures { (inputs : Inputs) → EndAlike inputs }
 {
-    lab_model::laws::one_ending();
+    model_lab::laws::one_ending();
 }
 
 /// The inputs of a play determine its text and its status, in lines and drawn.
 pub fn one_text()
     ensures { (shown : Shown) → OneText (tells_of shown) }
 {
-    lab_model::laws::one_ending();
+    model_lab::laws::one_ending();
 }
 
 /// Three texts determine what a run says of them, on which stream and with which status: the text of their play, or the line of the
@@ -26,8 +26,8 @@ pub fn one_run()
     ensures { (shown : Shown) (board plan schedule : List ℕ) → SaysOne (Says (tells_of shown) board plan schedule) }
 {
     one_text();
-    board_file::one_board();
+    text_board::one_board();
     plan_file::one_plan();
-    schedules::one_schedule();
-    schedules::refused_or_told();
+    text_schedule::one_schedule();
+    text_schedule::refused_or_told();
 }

@@ -1,11 +1,11 @@
 //! The lines of an account.
 ghost use Rattle.std.specs.Prelude.{◌≡◌, ◌++◌, OnOk, string_bytes};
 ghost use Rattle.std.specs.List.{flat_map};
-ghost use Rattle.line_text.specs.Cuts.{ended};
+ghost use Rattle.text_lines.specs.Cuts.{ended};
 ghost use Rattle.bmc_play.specs.Lines.{end_name, bus_name, frame_line, frame_lines, records_line, stopped_line};
 
 use crate::account::Stopped;
-use lab_events::{SentFrame, Way};
+use lab_run::{SentFrame, Way};
 use std::alloc::{AllocError, Global};
 use two_wire::Bus;
 

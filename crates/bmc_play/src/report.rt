@@ -1,6 +1,6 @@
 //! What is said of a lab that was played.
 ghost use Rattle.std.specs.Prelude.{◌≡◌, IfOk, Option, None, Some, string_bytes};
-ghost use Rattle.lab_model.specs.Played.{Told};
+ghost use Rattle.model_lab.specs.Played.{Told};
 ghost use Rattle.lab_play.specs.Ends.{Tells};
 ghost use Rattle.bmc_lab.specs.declared.console.Stream.TheVariants.{Output};
 ghost use Rattle.bmc_play.specs.Lines.{text_of};

@@ -11,12 +11,12 @@ use crate::drawn::drawn_report;
 use crate::inputs::{InputFault, Inputs, read_inputs};
 use crate::report::{account_of, account_report};
 use bmc_lab::{Console, Ending, Report, Status, Stream};
-use board_file::FileFault;
 use lab_play::{LabFault, play};
 use plan_file::PlanFault;
-use schedules::ScheduleFault;
 use std::alloc::{AllocError, Global};
 use std::io;
+use text_board::FileFault;
+use text_schedule::ScheduleFault;
 
 /// How what was played is shown.
 #[derive(Clone, Copy, Debug, PartialEq, Eq)]

@@ -6,27 +6,27 @@ use Rattle.std.proofs.Math.Seq.{take-length}
 use Rattle.std.specs.List.{AllZip}
 use Rattle.cfg_records.specs.declared.board_file.BoardFile.{BoardFile}
 use Rattle.record_base.specs.declared.op.Op.{Op}
-use Rattle.lab_model.specs.Lab.{LabFrame, Lab as LabModel, opening}
-use Rattle.schedules.specs.declared.event.Event.{Event}
-use Rattle.lab_model.specs.Meaning.{lab_names, Bench}
-use Rattle.lab_model.specs.Played.{plans, happens, after}
-use Rattle.lab_events.specs.declared.note.Note.{Note}
-use Rattle.lab_events.specs.declared.lab_state.Lab.{Lab}
+use Rattle.model_lab.specs.Lab.{LabFrame, Lab as LabModel, opening}
+use Rattle.text_schedule.specs.declared.event.Event.{Event}
+use Rattle.model_lab.specs.Meaning.{lab_names, Bench}
+use Rattle.model_lab.specs.Played.{plans, happens, after}
+use Rattle.lab_run.specs.declared.note.Note.{Note}
+use Rattle.lab_run.specs.declared.lab_state.Lab.{Lab}
 use Rattle.lab_play.specs.declared.played.Played.{Played}
 use Rattle.lab_play.specs.declared.run.Halt.{Halt}
-use Rattle.lab_events.specs.declared.step.Refused.{Refused}
-use Rattle.lab_events.specs.declared.step.Refused.TheVariants as refused
-use Rattle.lab_events.specs.Shown.{Shows, own_bench}
+use Rattle.lab_run.specs.declared.step.Refused.{Refused}
+use Rattle.lab_run.specs.declared.step.Refused.TheVariants as refused
+use Rattle.lab_run.specs.Shown.{Shows, own_bench}
 use Rattle.undo_core.specs.Phases as phases
-use Rattle.undo_model.specs.Machine.{phase_of}
-use Rattle.lab_model.specs.Played.{fault_at}
-use Rattle.lab_events.specs.Hearing.{Did}
-use Rattle.lab_events.specs.Coming.{comes_at, done_in}
+use Rattle.model_undo.specs.Machine.{phase_of}
+use Rattle.model_lab.specs.Played.{fault_at}
+use Rattle.lab_run.specs.Hearing.{Did}
+use Rattle.lab_run.specs.Coming.{comes_at, done_in}
 use Rattle.lab_play.specs.Noted.{IsNote, noted_at, noted_from, AreNotes, NotesStep, Notes, NotesBefore, NotesRun, NotesPlay}
 use Rattle.lab_play.specs.Ends.{Begins, given, given_at}
 use Rattle.lab_play.specs.Runs.{Take}
-use Rattle.lab_events.proofs.Sent.{all_append}
-use Rattle.lab_events.proofs.Coming.{done_is}
+use Rattle.lab_run.proofs.Sent.{all_append}
+use Rattle.lab_run.proofs.Coming.{done_is}
 
 module _ (bench : Bench) (file : BoardFile) where
   -- what there is to note of one event more

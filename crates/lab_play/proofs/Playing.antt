@@ -4,20 +4,20 @@ use Rattle.cfg_records.specs.declared.board_file.BoardFile.{BoardFile}
 use Rattle.record_base.specs.declared.op.Op.{Op}
 use Rattle.cfg_records.specs.Boards.{pairs_of}
 use Rattle.cfg_records.specs.Records.{KeysDiffer, records_of}
-use Rattle.lab_model.specs.Lab.{Lab as LabModel, opening}
-use Rattle.schedules.specs.declared.event.Event.{Event}
-use Rattle.lab_events.specs.declared.fault.Fault.{Fault}
-use Rattle.lab_model.specs.Meaning.{lab_names}
-use Rattle.lab_model.specs.Played.{plans, Told, Whole, Stops, told_of, after, IsPlayed}
-use Rattle.lab_events.specs.FramesShown.{fault_of}
-use Rattle.lab_stands.proofs.Plays.{plays_stand}
-use Rattle.lab_events.specs.declared.lab_state.Lab.{Lab}
+use Rattle.model_lab.specs.Lab.{Lab as LabModel, opening}
+use Rattle.text_schedule.specs.declared.event.Event.{Event}
+use Rattle.lab_run.specs.declared.fault.Fault.{Fault}
+use Rattle.model_lab.specs.Meaning.{lab_names}
+use Rattle.model_lab.specs.Played.{plans, Told, Whole, Stops, told_of, after, IsPlayed}
+use Rattle.lab_run.specs.FramesShown.{fault_of}
+use Rattle.model_headline.proofs.Plays.{plays_stand}
+use Rattle.lab_run.specs.declared.lab_state.Lab.{Lab}
 use Rattle.lab_play.specs.declared.played.Played.{Played}
 use Rattle.lab_play.specs.declared.played.LabFault.TheVariants as fault
 use Rattle.lab_play.specs.declared.run.Halt.{Halt}
-use Rattle.lab_events.specs.declared.step.Refused.{Refused}
-use Rattle.lab_events.specs.declared.step.Refused.TheVariants as refused
-use Rattle.lab_events.specs.Shown.{Shows, own_bench}
+use Rattle.lab_run.specs.declared.step.Refused.{Refused}
+use Rattle.lab_run.specs.declared.step.Refused.TheVariants as refused
+use Rattle.lab_run.specs.Shown.{Shows, own_bench}
 use Rattle.lab_play.specs.Runs.{Take, Halts, Runs}
 use Rattle.lab_play.specs.Ends.{Tells, Begins, Ends, Plays, given, given_at}
 

@@ -1,15 +1,15 @@
 -- Schedules, event by event.
 use Rattle.std.proofs.Common.{◌≡◌, ◌+◌, ℕ, List, [], ◌∷◌, ◌++◌, length, take, drop, None, Ok, Err, refl, sym, ap, subst}
 use Rattle.cfg_records.specs.declared.board_file.BoardFile.{BoardFile}
-use Rattle.lab_model.specs.Lab.{Lab as LabModel}
-use Rattle.schedules.specs.declared.event.Event.{Event}
-use Rattle.lab_model.specs.Meaning.{Bench}
-use Rattle.lab_model.specs.Played.{plans, fault_at, happens, after, AreTaken}
-use Rattle.lab_events.specs.Shown.{Shows, Steps, own_bench}
+use Rattle.model_lab.specs.Lab.{Lab as LabModel}
+use Rattle.text_schedule.specs.declared.event.Event.{Event}
+use Rattle.model_lab.specs.Meaning.{Bench}
+use Rattle.model_lab.specs.Played.{plans, fault_at, happens, after, AreTaken}
+use Rattle.lab_run.specs.Shown.{Shows, Steps, own_bench}
 use Rattle.lab_play.specs.Runs.{Take, Halts}
-use Rattle.lab_events.specs.declared.step.Refused.{Refused}
-use Rattle.lab_events.specs.declared.step.Refused.TheVariants as refused
-use Rattle.lab_events.specs.declared.lab_state.Lab.{Lab}
+use Rattle.lab_run.specs.declared.step.Refused.{Refused}
+use Rattle.lab_run.specs.declared.step.Refused.TheVariants as refused
+use Rattle.lab_run.specs.declared.lab_state.Lab.{Lab}
 
 module _ (bench : Bench) (file : BoardFile) where
   -- one event more is taken

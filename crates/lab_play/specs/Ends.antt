@@ -5,16 +5,16 @@ use Rattle.cfg_records.specs.declared.board_file.BoardFile.{BoardFile}
 use Rattle.record_base.specs.declared.op.Op.{Op}
 use Rattle.cfg_records.specs.Records.{Records, Pair, KeysDiffer, records_of}
 use Rattle.cfg_records.specs.Boards.{pairs_of}
-use Rattle.lab_model.specs.Lab.{Lab as LabModel, opening}
-use Rattle.schedules.specs.declared.event.Event.{Event}
-use Rattle.lab_model.specs.Meaning.{lab_names}
-use Rattle.lab_model.specs.Played.{plans, Told, Ending, Whole, Stops, told_of, IsPlayed}
-use Rattle.lab_events.specs.FramesShown.{fault_of}
-use Rattle.lab_stands.specs.Plays.{StandsIfOwn}
-use Rattle.lab_events.specs.Shown.{Shows, own_bench}
+use Rattle.model_lab.specs.Lab.{Lab as LabModel, opening}
+use Rattle.text_schedule.specs.declared.event.Event.{Event}
+use Rattle.model_lab.specs.Meaning.{lab_names}
+use Rattle.model_lab.specs.Played.{plans, Told, Ending, Whole, Stops, told_of, IsPlayed}
+use Rattle.lab_run.specs.FramesShown.{fault_of}
+use Rattle.model_headline.specs.Plays.{StandsIfOwn}
+use Rattle.lab_run.specs.Shown.{Shows, own_bench}
 use Rattle.lab_play.specs.declared.run.Halt.{Halt}
-use Rattle.lab_events.specs.declared.step.Refused.{Refused}
-use Rattle.lab_events.specs.declared.step.Refused.TheVariants as refused
+use Rattle.lab_run.specs.declared.step.Refused.{Refused}
+use Rattle.lab_run.specs.declared.step.Refused.TheVariants as refused
 use Rattle.lab_play.specs.declared.played.Played.{Played}
 use Rattle.lab_play.specs.declared.played.LabFault.{LabFault}
 use Rattle.lab_play.specs.declared.played.LabFault.TheVariants as fault

@@ -4,25 +4,25 @@ use Rattle.std.specs.List.{AllZip}
 use Rattle.two_wire.specs.declared.Bus.{Bus}
 use Rattle.cfg_records.specs.declared.board_file.BoardFile.{BoardFile}
 use Rattle.record_base.specs.declared.op.Op.{Op}
-use Rattle.undo_model.specs.Phase.{Phase}
-use Rattle.undo_model.specs.Machine.{phase_of}
-use Rattle.lab_model.specs.Lab.{Lab as LabModel, opening}
+use Rattle.model_undo.specs.Phase.{Phase}
+use Rattle.model_undo.specs.Machine.{phase_of}
+use Rattle.model_lab.specs.Lab.{Lab as LabModel, opening}
 use Rattle.bmc_core.specs.declared.out.Done.{Done}
 use Rattle.undo_core.specs.Phases as phases
-use Rattle.schedules.specs.declared.event.Event.{Event}
-use Rattle.lab_model.specs.Meaning.{lab_names, Bench}
-use Rattle.lab_model.specs.Played.{plans, happens}
-use Rattle.lab_events.specs.declared.note.Came.{Came}
-use Rattle.lab_events.specs.declared.note.Note.{Note}
-use Rattle.lab_events.specs.declared.lab_state.Lab.{Lab}
+use Rattle.text_schedule.specs.declared.event.Event.{Event}
+use Rattle.model_lab.specs.Meaning.{lab_names, Bench}
+use Rattle.model_lab.specs.Played.{plans, happens}
+use Rattle.lab_run.specs.declared.note.Came.{Came}
+use Rattle.lab_run.specs.declared.note.Note.{Note}
+use Rattle.lab_run.specs.declared.lab_state.Lab.{Lab}
 use Rattle.lab_play.specs.declared.run.Halt.{Halt}
-use Rattle.lab_events.specs.declared.step.Refused.{Refused}
-use Rattle.lab_events.specs.declared.step.Refused.TheVariants as refused
+use Rattle.lab_run.specs.declared.step.Refused.{Refused}
+use Rattle.lab_run.specs.declared.step.Refused.TheVariants as refused
 use Rattle.lab_play.specs.declared.played.Played.{Played}
 use Rattle.lab_play.specs.declared.played.LabFault.{LabFault}
 use Rattle.lab_play.specs.declared.played.LabFault.TheVariants as fault
-use Rattle.lab_events.specs.Shown.{Shows, own_bench}
-use Rattle.lab_events.specs.Coming.{comes_at, done_at}
+use Rattle.lab_run.specs.Shown.{Shows, own_bench}
+use Rattle.lab_run.specs.Coming.{comes_at, done_at}
 
 -- what there is to note of an event
 pub record Noted : Type 0 where

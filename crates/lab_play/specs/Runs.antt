@@ -1,15 +1,15 @@
 -- What a schedule makes of a lab.
 use Rattle.std.specs.Prelude.{◌≡◌, ◌+◌, List, ◌∷◌, ◌++◌, length, Some, Result, Ok, Err}
 use Rattle.cfg_records.specs.declared.board_file.BoardFile.{BoardFile}
-use Rattle.lab_model.specs.Lab.{Lab as LabModel}
-use Rattle.schedules.specs.declared.event.Event.{Event}
-use Rattle.lab_model.specs.Played.{plans, fault_at, after, AreTaken}
-use Rattle.lab_events.specs.FramesShown.{fault_of}
-use Rattle.lab_events.specs.Shown.{Shows, own_bench}
-use Rattle.lab_events.specs.declared.lab_state.Lab.{Lab}
+use Rattle.model_lab.specs.Lab.{Lab as LabModel}
+use Rattle.text_schedule.specs.declared.event.Event.{Event}
+use Rattle.model_lab.specs.Played.{plans, fault_at, after, AreTaken}
+use Rattle.lab_run.specs.FramesShown.{fault_of}
+use Rattle.lab_run.specs.Shown.{Shows, own_bench}
+use Rattle.lab_run.specs.declared.lab_state.Lab.{Lab}
 use Rattle.lab_play.specs.declared.run.Halt.{Halt}
-use Rattle.lab_events.specs.declared.step.Refused.{Refused}
-use Rattle.lab_events.specs.declared.step.Refused.TheVariants as refused
+use Rattle.lab_run.specs.declared.step.Refused.{Refused}
+use Rattle.lab_run.specs.declared.step.Refused.TheVariants as refused
 
 -- whatever lab of the model it showed, on a board of whatever file, the events are taken, and it goes on to the one after them
 abbrev pub Take : List Event → Lab → Lab → Type 0

@@ -1,13 +1,13 @@
 //! Schedules, with a note of each event.
 ghost use Rattle.std.specs.Prelude.{◌≡◌, ◌<◌, ◌≤◌, suc, []};
 ghost use Rattle.two_wire.specs.declared.Bus.{Bus as AnyBus};
-ghost use Rattle.lab_events.specs.Shown.{Steps, idles_in};
+ghost use Rattle.lab_run.specs.Shown.{Steps, idles_in};
 ghost use Rattle.lab_play.specs.Runs.{Runs};
 ghost use Rattle.lab_play.specs.Noted.{NotesStep, NotesRun};
 
 use crate::run::Halt;
-use lab_events::{Lab, Note, Refused};
-use schedules::Event;
+use lab_run::{Lab, Note, Refused};
+use text_schedule::Event;
 
 /// One event happens in a lab, and its note is added. On a fault nothing changes.
 fn step_noted<'a>(lab: &mut Lab, event: &'a Event, notes: &mut Vec<Note<'a>>) -> Result<(), Refused>

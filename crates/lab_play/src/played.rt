@@ -5,20 +5,20 @@ ghost use Rattle.two_wire.specs.declared.Bus.{Bus as AnyBus};
 ghost use Rattle.cfg_records.specs.Records.{records_of};
 ghost use Rattle.undo_core.specs.Phases.{phase_of};
 ghost use Rattle.undo_core.specs.Shown.{backs};
-ghost use Rattle.lab_model.specs.Meaning.{lab_names};
-ghost use Rattle.lab_model.specs.Played.{Told};
-ghost use Rattle.lab_events.specs.Shown.{IsSentFrame, plain_records, idles_in};
+ghost use Rattle.model_lab.specs.Meaning.{lab_names};
+ghost use Rattle.model_lab.specs.Played.{Told};
+ghost use Rattle.lab_run.specs.Shown.{IsSentFrame, plain_records, idles_in};
 ghost use Rattle.lab_play.specs.Noted.{NotesPlay};
 ghost use Rattle.lab_play.specs.Ends.{Tells, Plays, Begins, given, changed_in, is_value};
 
 use crate::noted::run_noted;
 use crate::run::{Halt, run};
 use cfg_records::{BoardFile, Key, PlainStore, Store, Value};
-use lab_events::{Fault, Lab, Note, Refused, SentFrame};
-use plans::{Plan, UndoList};
-use schedules::Event;
+use lab_run::{Fault, Lab, Note, Refused, SentFrame};
 use std::alloc::{AllocError, Global};
+use text_schedule::Event;
 use undo_core::Phase;
+use undo_plans::{Plan, UndoList};
 
 /// What is told of a lab that was played.
 #[derive(Drop)]

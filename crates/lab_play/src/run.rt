@@ -1,11 +1,11 @@
 //! Schedules.
 ghost use Rattle.std.specs.Prelude.{◌≡◌};
 ghost use Rattle.two_wire.specs.declared.Bus.{Bus as AnyBus};
-ghost use Rattle.lab_events.specs.Shown.{idles_in};
+ghost use Rattle.lab_run.specs.Shown.{idles_in};
 ghost use Rattle.lab_play.specs.Runs.{Runs};
 
-use lab_events::{Lab, Refused};
-use schedules::Event;
+use lab_run::{Lab, Refused};
+use text_schedule::Event;
 
 /// Where a schedule ends before its last event, and why.
 #[derive(Clone, Copy, Debug, PartialEq, Eq)]

@@ -5,15 +5,15 @@ use Rattle.std.proofs.lemmas.Bool.Decides.{nat_tests}
 use Rattle.std.proofs.lemmas.Option.{same_Some}
 use Rattle.std.specs.List.{list_all}
 use Rattle.toml.specs.Data.{Data, Members, as_str}
-use Rattle.file_fields.specs.declared.field.Field.TheVariants as field
-use Rattle.file_fields.specs.declared.row.Row.{Row}
-use Rattle.file_fields.specs.declared.row.Shape.TheVariants as shape
-use Rattle.file_fields.specs.declared.row.Need.TheVariants as need
-use Rattle.file_fields.specs.Trees.{in_field, lacks, natural, members, members_in, number_in, or_none}
-use Rattle.file_fields.specs.Ranges.{has_type, is_in_range}
-use Rattle.file_fields.specs.Attributes.{short_text, text_of, text_in, is_below, are_indexes}
-use Rattle.file_fields.proofs.Rows.{Sound, Value, not_false}
-use Rattle.file_fields.proofs.Members.{listed}
+use Rattle.text_fields.specs.declared.field.Field.TheVariants as field
+use Rattle.text_fields.specs.declared.row.Row.{Row}
+use Rattle.text_fields.specs.declared.row.Shape.TheVariants as shape
+use Rattle.text_fields.specs.declared.row.Need.TheVariants as need
+use Rattle.text_fields.specs.Trees.{in_field, lacks, natural, members, members_in, number_in, or_none}
+use Rattle.text_fields.specs.Ranges.{has_type, is_in_range}
+use Rattle.text_fields.specs.Attributes.{short_text, text_of, text_in, is_below, are_indexes}
+use Rattle.text_fields.proofs.Rows.{Sound, Value, not_false}
+use Rattle.text_fields.proofs.Members.{listed}
 
 -- a value that the item has, whether it needs it or not
 value_given : (tree : Members) (row : Row) (o : Option Data) → in_field row.0 tree ≡ o → is_some o ≡ true → Sound tree row → Value tree row.0 row.1

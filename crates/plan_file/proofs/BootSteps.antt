@@ -6,12 +6,12 @@ use Rattle.record_base.specs.declared.boot_param.BootParameter.{BootParameter}
 use Rattle.record_base.specs.declared.boot_param.BootParameter.TheVariants.{ValidBitClearing, InfoAcknowledge, Flags}
 use Rattle.record_base.specs.BootParam.{selector, parameter_at}
 use Rattle.toml.specs.Data.{Data, Members}
-use Rattle.file_fields.specs.declared.field.Field.TheVariants as field
-use Rattle.file_fields.specs.declared.row.Shape.TheVariants as shape
-use Rattle.file_fields.specs.declared.row.Need.TheVariants as need
-use Rattle.file_fields.specs.Trees.{in_field, natural, number_in}
-use Rattle.file_fields.specs.Ranges.{passes, is_between, are_boot_data, parameter_in, is_in_range}
-use Rattle.file_fields.proofs.Rows.{Sound, value_of, not_false}
+use Rattle.text_fields.specs.declared.field.Field.TheVariants as field
+use Rattle.text_fields.specs.declared.row.Shape.TheVariants as shape
+use Rattle.text_fields.specs.declared.row.Need.TheVariants as need
+use Rattle.text_fields.specs.Trees.{in_field, natural, number_in}
+use Rattle.text_fields.specs.Ranges.{passes, is_between, are_boot_data, parameter_in, is_in_range}
+use Rattle.text_fields.proofs.Rows.{Sound, value_of, not_false}
 
 -- the boot parameter that a step names
 pub record Named (tree : Members) : Type 0 where

@@ -9,15 +9,15 @@ use Rattle.std.specs.List.{list_all}
 use Rattle.std.specs.Str.{bytes_eq}
 use Rattle.record_base.specs.Masks.{has}
 use Rattle.toml.specs.Data.{Data, Members, as_str}
-use Rattle.file_fields.specs.declared.field.Field.{Field}
-use Rattle.file_fields.specs.declared.field.Field.TheVariants as field
-use Rattle.file_fields.specs.declared.row.Need.{Need}
-use Rattle.file_fields.specs.declared.row.Need.TheVariants as need
-use Rattle.file_fields.specs.declared.row.Shape.TheVariants as shape
-use Rattle.file_fields.specs.Trees.{in_field, members, natural, number_in, members_in, or_none}
-use Rattle.file_fields.specs.Ranges.{passes, has_text, is_between, is_offset, is_array_of, is_selection}
+use Rattle.text_fields.specs.declared.field.Field.{Field}
+use Rattle.text_fields.specs.declared.field.Field.TheVariants as field
+use Rattle.text_fields.specs.declared.row.Need.{Need}
+use Rattle.text_fields.specs.declared.row.Need.TheVariants as need
+use Rattle.text_fields.specs.declared.row.Shape.TheVariants as shape
+use Rattle.text_fields.specs.Trees.{in_field, members, natural, number_in, members_in, or_none}
+use Rattle.text_fields.specs.Ranges.{passes, has_text, is_between, is_offset, is_array_of, is_selection}
 use Rattle.plan_file.specs.Kinds.Thresholds.{is_given}
-use Rattle.file_fields.proofs.Rows.{Sound, value_of, not_false}
+use Rattle.text_fields.proofs.Rows.{Sound, value_of, not_false}
 
 -- ---- numbers
 

@@ -16,18 +16,18 @@ use Rattle.std.proofs.Common.{◌≡◌, ◌∙◌, ℕ, List, Option, Some, Non
 use Rattle.toml.specs.Data.{Members}
 use Rattle.toml.specs.Parse.{parse_document}
 use Rattle.record_base.specs.declared.op.Op.{Op}
-use Rattle.plans.specs.declared.plan.Plan.{Plan}
-use Rattle.file_fields.specs.declared.field.Field.TheVariants as field
+use Rattle.undo_plans.specs.declared.plan.Plan.{Plan}
+use Rattle.text_fields.specs.declared.field.Field.TheVariants as field
 use Rattle.plan_file.specs.declared.kind.Kind.{Kind}
 use Rattle.plan_file.specs.declared.kind.Kind.TheVariants as kind
 use Rattle.plan_file.specs.declared.plan_fault.PlanFault.{PlanFault}
 use Rattle.plan_file.specs.declared.plan_fault.PlanFault.TheVariants as plan
-use Rattle.file_fields.specs.Trees.{table_of, members_in}
+use Rattle.text_fields.specs.Trees.{table_of, members_in}
 use Rattle.plan_file.specs.Kinds.{of_kind, kind_in}
-use Rattle.file_fields.specs.Faults.{first}
+use Rattle.text_fields.specs.Faults.{first}
 use Rattle.plan_file.specs.PlanFaults.{plan_faults}
 use Rattle.plan_file.specs.PlanHolds.{HoldsStep, HoldsPlan, AnswersPlan, ReadsPlan}
-use Rattle.file_fields.proofs.Unique.{one_found, one_list}
+use Rattle.text_fields.proofs.Unique.{one_found, one_list}
 use Rattle.plan_file.proofs.StepKind.{IsOne}
 
 -- ---- steps

@@ -7,8 +7,8 @@ use Rattle.toml.specs.Data.{Members}
 use Rattle.toml.specs.View.{view}
 use Rattle.toml.specs.declared.value.Value.{Value}
 use Rattle.record_base.specs.declared.op.Op.{Op}
-use Rattle.file_fields.specs.declared.field.Field.TheVariants as field
-use Rattle.file_fields.specs.declared.fault.FieldFault.{FieldFault}
+use Rattle.text_fields.specs.declared.field.Field.TheVariants as field
+use Rattle.text_fields.specs.declared.fault.FieldFault.{FieldFault}
 use Rattle.plan_file.specs.declared.kind.Kind.{Kind}
 use Rattle.plan_file.specs.declared.plan_fault.OutsidePlan.{OutsidePlan}
 use Rattle.plan_file.specs.declared.plan_fault.NoGet.{NoGet}
@@ -18,12 +18,12 @@ use Rattle.plan_file.specs.declared.plan_fault.PlanFault.{PlanFault}
 use Rattle.plan_file.specs.declared.plan_fault.PlanFault.TheVariants as plan
 use Rattle.plan_file.specs.declared.plan.TheConstants.{PLAN}
 use Rattle.plan_file.specs.declared.step.TheConstants.{OUTSIDE, NO_GETS}
-use Rattle.file_fields.specs.Trees.{table_of, members_in}
+use Rattle.text_fields.specs.Trees.{table_of, members_in}
 use Rattle.plan_file.specs.Kinds.{of_kind, kind_in}
-use Rattle.file_fields.specs.Faults.{field_faults, first}
+use Rattle.text_fields.specs.Faults.{field_faults, first}
 use Rattle.plan_file.specs.PlanFaults.{is_outside, asks, kind_faults, step_faults, steps_faults, own_fault, plan_faults}
 use Rattle.plan_file.specs.PlanHolds.{IsStepIn}
-use Rattle.file_fields.proofs.First.{found, none_found, first-map, empty, first-append}
+use Rattle.text_fields.proofs.First.{found, none_found, first-map, empty, first-append}
 
 -- ---- of a step
 

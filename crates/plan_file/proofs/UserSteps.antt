@@ -4,14 +4,14 @@ use Rattle.std.proofs.lemmas.Bool.{and_parts}
 use Rattle.std.proofs.lemmas.Bool.Decides.{nat_tests}
 use Rattle.record_base.specs.UserAccess.{is_limit}
 use Rattle.toml.specs.Data.{Data, Members}
-use Rattle.file_fields.specs.declared.field.Field.TheVariants as field
-use Rattle.file_fields.specs.declared.row.Shape.TheVariants as shape
-use Rattle.file_fields.specs.declared.row.Need.TheVariants as need
-use Rattle.file_fields.specs.Trees.{in_field, natural, HasBelow}
-use Rattle.file_fields.specs.Channels.{is_access}
-use Rattle.file_fields.specs.Ranges.{passes, is_between}
-use Rattle.file_fields.specs.Faults.{is_needed}
-use Rattle.file_fields.proofs.Rows.{Sound, value_of, not_false}
+use Rattle.text_fields.specs.declared.field.Field.TheVariants as field
+use Rattle.text_fields.specs.declared.row.Shape.TheVariants as shape
+use Rattle.text_fields.specs.declared.row.Need.TheVariants as need
+use Rattle.text_fields.specs.Trees.{in_field, natural, HasBelow}
+use Rattle.text_fields.specs.Channels.{is_access}
+use Rattle.text_fields.specs.Ranges.{passes, is_between}
+use Rattle.text_fields.specs.Faults.{is_needed}
+use Rattle.text_fields.proofs.Rows.{Sound, value_of, not_false}
 
 -- ---- limits of users
 

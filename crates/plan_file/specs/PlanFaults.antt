@@ -1,9 +1,9 @@
 -- The faults of a plan, in the order in which they count.
 use Rattle.std.specs.Prelude.{ℕ, ◌+◌, ◌==◌, Bool, ◌&&◌, List, [], ◌∷◌, ◌++◌, map, filter, Option, Some, None, is_some, codes}
 use Rattle.toml.specs.Data.{Data, Members}
-use Rattle.file_fields.specs.declared.field.Field.TheVariants as field
-use Rattle.file_fields.specs.declared.fault.FieldFault.{FieldFault}
-use Rattle.file_fields.specs.declared.fault.FieldFault.TheVariants as fault
+use Rattle.text_fields.specs.declared.field.Field.TheVariants as field
+use Rattle.text_fields.specs.declared.fault.FieldFault.{FieldFault}
+use Rattle.text_fields.specs.declared.fault.FieldFault.TheVariants as fault
 use Rattle.plan_file.specs.declared.kind.Kind.{Kind}
 use Rattle.plan_file.specs.declared.kind.TheConstants.{KIND}
 use Rattle.plan_file.specs.declared.plan_fault.OutsidePlan.{OutsidePlan}
@@ -16,10 +16,10 @@ use Rattle.plan_file.specs.declared.plan_fault.PlanFault.{PlanFault}
 use Rattle.plan_file.specs.declared.plan_fault.PlanFault.TheVariants as plan
 use Rattle.plan_file.specs.declared.plan.TheConstants.{PLAN}
 use Rattle.plan_file.specs.declared.step.TheConstants.{OUTSIDE, NO_GETS}
-use Rattle.file_fields.specs.Trees.{in_field, number_in, table_of, members_in}
-use Rattle.file_fields.specs.Ranges.{passes, has_text}
+use Rattle.text_fields.specs.Trees.{in_field, number_in, table_of, members_in}
+use Rattle.text_fields.specs.Ranges.{passes, has_text}
 use Rattle.plan_file.specs.Kinds.{of_kind, kind_in}
-use Rattle.file_fields.specs.Faults.{field_faults}
+use Rattle.text_fields.specs.Faults.{field_faults}
 
 -- what a step's `kind` calls it
 abbrev pub outside_word : OutsidePlan → List ℕ

@@ -4,14 +4,14 @@ use Rattle.std.specs.List.{AllZip}
 use Rattle.toml.specs.Data.{Data, Members}
 use Rattle.toml.specs.Parse.{parse_document}
 use Rattle.record_base.specs.declared.op.Op.{Op}
-use Rattle.plans.specs.declared.plan.Plan.{Plan}
-use Rattle.file_fields.specs.declared.field.Field.TheVariants as field
+use Rattle.undo_plans.specs.declared.plan.Plan.{Plan}
+use Rattle.text_fields.specs.declared.field.Field.TheVariants as field
 use Rattle.plan_file.specs.declared.kind.Kind.{Kind}
 use Rattle.plan_file.specs.declared.plan_fault.PlanFault.{PlanFault}
 use Rattle.plan_file.specs.declared.plan_fault.PlanFault.TheVariants as plan
-use Rattle.file_fields.specs.Trees.{number_in, table_of, members_in}
+use Rattle.text_fields.specs.Trees.{number_in, table_of, members_in}
 use Rattle.plan_file.specs.Kinds.{of_kind, kind_in}
-use Rattle.file_fields.specs.Faults.{first}
+use Rattle.text_fields.specs.Faults.{first}
 use Rattle.plan_file.specs.PlanFaults.{plan_faults}
 
 -- the step holds a change of the kind that it names

@@ -9,7 +9,7 @@ use Rattle.plan_file.specs.declared.plan_fault.StepFault.{StepFault}
 use Rattle.plan_file.specs.declared.plan_fault.StepFault.TheVariants as step
 use Rattle.plan_file.specs.declared.plan_fault.PlanFault.{PlanFault}
 use Rattle.plan_file.specs.declared.plan_fault.PlanFault.TheVariants as fault
-use Rattle.file_fields.specs.FaultNames.{field_fault_name}
+use Rattle.text_fields.specs.FaultNames.{field_fault_name}
 
 -- what no plan changes
 abbrev pub outside_name : OutsidePlan → List ℕ

@@ -2,7 +2,7 @@
 use Rattle.std.specs.Prelude.{ℕ, List}
 use Rattle.toml.specs.Data.{Members}
 use Rattle.record_base.specs.declared.op.Op.{Op}
-use Rattle.file_fields.specs.declared.row.Row.{Row}
+use Rattle.text_fields.specs.declared.row.Row.{Row}
 
 -- what a step's `kind` calls it, the fields of its steps, and when a step holds an operation of the kind
 pub record StepKind : Type 1 where

@@ -2,7 +2,7 @@
 //! what each means.
 ghost use Rattle.std.specs.Prelude.{◌≡◌, []};
 ghost use Rattle.toml.specs.View.{table_view};
-ghost use Rattle.file_fields.specs.Faults.{field_faults};
+ghost use Rattle.text_fields.specs.Faults.{field_faults};
 ghost use Rattle.plan_file.specs.Kinds.{of_kind, kind_in};
 
 mod bios_attribute;
@@ -19,9 +19,9 @@ mod user_access;
 mod user_name;
 mod watchdog;
 
-use file_fields::tree::has_text;
-use file_fields::{Field, Need, Row, Shape};
 use record_base::Op;
+use text_fields::tree::has_text;
+use text_fields::{Field, Need, Row, Shape};
 use toml::Table;
 
 /// A kind of step, by the kind of record that it changes.

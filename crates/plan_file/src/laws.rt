@@ -1,6 +1,6 @@
 //! Laws of the texts of plans.
 ghost use Rattle.std.specs.Prelude.{◌≡◌, ℕ, List, Result};
-ghost use Rattle.plans.specs.declared.plan.Plan.{Plan as AnyPlan};
+ghost use Rattle.undo_plans.specs.declared.plan.Plan.{Plan as AnyPlan};
 ghost use Rattle.plan_file.specs.declared.plan_fault.PlanFault.{PlanFault as AnyFault};
 ghost use Rattle.plan_file.specs.PlanHolds.{ReadsPlan};
 

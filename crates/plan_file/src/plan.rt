@@ -3,21 +3,21 @@ ghost use Rattle.std.specs.Prelude.{◌≡◌, ◌⊎◌, ◌≤◌, [], true, E
 ghost use Rattle.toml.specs.View.{table_view, view};
 ghost use Rattle.std.specs.List.{list_all, AllZip};
 ghost use Rattle.two_wire.specs.Retries.{most_retries};
-ghost use Rattle.file_fields.specs.Trees.{number_in, table_of};
-ghost use Rattle.file_fields.specs.Ranges.{is_table};
-ghost use Rattle.file_fields.specs.Faults.{field_faults, first};
+ghost use Rattle.text_fields.specs.Trees.{number_in, table_of};
+ghost use Rattle.text_fields.specs.Ranges.{is_table};
+ghost use Rattle.text_fields.specs.Faults.{field_faults, first};
 ghost use Rattle.plan_file.specs.PlanFaults.{own_fault, step_faults, steps_faults};
 ghost use Rattle.plan_file.specs.PlanHolds.{IsStepIn, or_three, AnswersPlan, ReadsPlan};
 
 use crate::plan_fault::PlanFault;
 use crate::step::read_step;
-use file_fields::tree::{members_in, number};
-use file_fields::{Field, FieldFault, Need, Row, Shape, first_fault};
-use plans::{MOST_STEPS, Plan, Steps};
 use record_base::Op;
 use std::alloc::Global;
+use text_fields::tree::{members_in, number};
+use text_fields::{Field, FieldFault, Need, Row, Shape, first_fault};
 use toml::{Table, Value};
 use two_wire::{MOST_RETRIES, Retries};
+use undo_plans::{MOST_STEPS, Plan, Steps};
 
 /// A plan's own fields.
 pub const PLAN: [Row; 2] = [

@@ -1,6 +1,6 @@
 //! Why a text is no plan.
-use file_fields::FieldFault;
 use std::fmt;
+use text_fields::FieldFault;
 
 /// What no plan changes, since nothing can undo it.
 #[derive(Clone, Copy, Debug, PartialEq, Eq)]

@@ -2,15 +2,15 @@
 ghost use Rattle.std.specs.Prelude.{◌≡◌, [], None, Some, IfOk, IfErr};
 ghost use Rattle.std.specs.List.{find};
 ghost use Rattle.toml.specs.View.{table_view};
-ghost use Rattle.file_fields.specs.Faults.{first};
+ghost use Rattle.text_fields.specs.Faults.{first};
 ghost use Rattle.plan_file.specs.PlanFaults.{outside_word, is_outside, asks, kind_faults, step_faults};
 ghost use Rattle.plan_file.specs.PlanHolds.{HoldsStep};
 
 use crate::kind::{KIND, kind_in};
 use crate::plan_fault::{NoGet, OutsidePlan, StepFault};
-use file_fields::tree::{has_text, in_field, number};
-use file_fields::{Field, first_fault};
 use record_base::Op;
+use text_fields::tree::{has_text, in_field, number};
+use text_fields::{Field, first_fault};
 use toml::Table;
 
 /// All that no plan changes.

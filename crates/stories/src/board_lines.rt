@@ -69,7 +69,7 @@ pub fn marked(alloc: Global, rest: &str) -> Result<String, AllocError> {
 
 /// `from 40`: who asks from now on.
 pub fn comes_from(alloc: Global, around: &mut Around, rest: &str) -> Result<String, AllocError> {
-    match line_text::byte(rest) {
+    match text_lines::byte(rest) {
         Some(from) => {
             around.from = from;
             Ok(String::new(alloc))
@@ -145,7 +145,7 @@ fn tenths_of(rest: &str) -> Option<u32> {
     if rest == "" {
         return Some(1);
     }
-    line_text::number(rest, 4)
+    text_lines::number(rest, 4)
 }
 
 /// `tick`, or `tick 9`: tenths of a second go by.

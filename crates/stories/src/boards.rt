@@ -1,7 +1,7 @@
 //! The boards that stories are told of.
-use board_file::{FileFault, TOP, read_board};
 use cfg_records::{BoardFile, sample_board};
 use std::alloc::{AllocError, Global};
+use text_board::{FileFault, TOP, read_board};
 
 /// The sample board's own fields.
 pub const SAMPLE_FIELDS: &str = "tid = 5

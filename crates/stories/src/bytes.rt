@@ -3,7 +3,7 @@ use std::alloc::{AllocError, Global};
 
 /// Appends the bytes of a word. Gives whether it stands for bytes.
 fn push_word(alloc: Global, bytes: &mut Vec<u8>, word: &str) -> Result<bool, AllocError> {
-    match line_text::bytes(alloc, word)? {
+    match text_lines::bytes(alloc, word)? {
         Some(part) => {
             bytes.extend_from_slice(part.as_slice())?;
             Ok(true)

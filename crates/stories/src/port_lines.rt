@@ -58,7 +58,7 @@ pub fn named_bus(word: &str) -> Option<Bus> {
 
 /// Whether the port had a window for the requester, which it forgets.
 fn forget(around: &mut Around, bus: &str, requester: &str) -> Option<bool> {
-    let requester = line_text::byte(requester)?;
+    let requester = text_lines::byte(requester)?;
     let (port, _) = port_of(around, named_bus(bus)?);
     Some(port.idle(requester))
 }

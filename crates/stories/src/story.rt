@@ -9,10 +9,10 @@ use crate::line::Word;
 use crate::port_lines::{hears, idle};
 use crate::window_lines::window;
 use bmc_board::{Board, Records};
-use board_file::FileFault;
 use cfg_records::{BoardFile, sample_board};
 use std::alloc::{AllocError, Global};
 use story_lines::{NoOutcome, NoScene, Scene, report_of};
+use text_board::FileFault;
 use two_wire::Bus;
 
 /// A board, and what is around it.

@@ -1,8 +1,8 @@
 //! Lines of the windows in which ports keep requests with their replies, apart from any port.
 use crate::bytes::{bytes_of, push_digits};
+use bmc_windows::{Found, Request, Windows};
 use std::alloc::{AllocError, Global};
 use two_wire::Below;
-use windows::{Found, Request, Windows};
 
 /// The windows of a port on IPMB, and those of PLDM.
 #[derive(Drop)]

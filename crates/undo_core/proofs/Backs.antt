@@ -5,10 +5,10 @@ use Rattle.std.proofs.Math.Seq.{take-suc}
 use Rattle.std.proofs.lemmas.List.{reverse-append}
 use Rattle.std.proofs.lemmas.Option.{slice_get_within, slice_get-get_or, slice_get_read}
 use Rattle.record_base.specs.declared.message.Asked.{Asked}
-use Rattle.plans.specs.declared.names.Names.{Names}
+use Rattle.undo_plans.specs.declared.names.Names.{Names}
 use Rattle.std.proofs.lemmas.Option.{same_Some}
 use Rattle.record_base.specs.declared.op.Op.{Op}
-use Rattle.undo_model.specs.Machine as machine
+use Rattle.model_undo.specs.Machine as machine
 use Rattle.undo_core.specs.declared.stage.Stage.TheVariants.{Opened}
 use Rattle.undo_core.specs.declared.stage.Task.TheVariants.{Undoes}
 use Rattle.undo_core.specs.Shown.{words_of, own, backs, IsStage}

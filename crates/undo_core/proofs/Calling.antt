@@ -4,9 +4,9 @@ use Rattle.std.specs.Option.{option_map}
 use Rattle.std.specs.Prelude.{slice_get}
 use Rattle.record_base.specs.declared.op.Op.{Op}
 use Rattle.record_base.specs.declared.message.Asked.{Asked}
-use Rattle.plans.specs.declared.names.Names.{Names}
-use Rattle.undo_model.specs.Machine as machine
-use Rattle.lab_model.specs.ManagerSteps.{board_plans, ManagerState, Call, waits_after, turn_of, called, goes_on, sent_of}
+use Rattle.undo_plans.specs.declared.names.Names.{Names}
+use Rattle.model_undo.specs.Machine as machine
+use Rattle.model_lab.specs.ManagerSteps.{board_plans, ManagerState, Call, waits_after, turn_of, called, goes_on, sent_of}
 use Rattle.undo_core.specs.declared.stage.Task.{Task}
 use Rattle.undo_core.specs.declared.stage.Stage.{Stage}
 use Rattle.undo_core.specs.declared.stage.Stage.TheVariants as stage
@@ -19,7 +19,7 @@ use Rattle.undo_core.specs.Phases.{phase_of}
 use Rattle.undo_core.specs.declared.phase.Why.{Why}
 use Rattle.undo_core.specs.declared.phase.Phase.{Phase}
 use Rattle.undo_core.specs.declared.phase.Phase.TheVariants as phase
-use Rattle.undo_model.specs.Phase as model
+use Rattle.model_undo.specs.Phase as model
 
 module _ (names : Names) (plan : List Op) (requests : List Asked) where
   -- which stage of a manager shows a stage of the machine

@@ -2,7 +2,7 @@
 use Rattle.std.specs.Prelude.{ℕ, suc, ◌+◌, ◌-◌, ◌*◌, ◌==◌, List, [], ◌∷◌, ◌++◌, Option, Some, None, if◌then◌else◌}
 use Rattle.two_wire.specs.Codes.{success}
 use Rattle.record_base.specs.declared.message.Asked.{Asked}
-use Rattle.plans.specs.Steps.{most_steps}
+use Rattle.undo_plans.specs.Steps.{most_steps}
 use Rattle.undo_core.specs.declared.stage.Task.{Task}
 use Rattle.undo_core.specs.declared.stage.Task.TheVariants.{Gets, Sets, Undoes}
 use Rattle.undo_core.specs.declared.stage.Stage.{Stage}

@@ -1,5 +1,5 @@
 -- Phases, and the reasons of a halt, as the machine has them.
-use Rattle.undo_model.specs.Phase as model
+use Rattle.model_undo.specs.Phase as model
 use Rattle.undo_core.specs.declared.phase.Why.{Why}
 use Rattle.undo_core.specs.declared.phase.Why.TheVariants as why
 use Rattle.undo_core.specs.declared.phase.Phase.{Phase}

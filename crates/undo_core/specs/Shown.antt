@@ -3,15 +3,15 @@ use Rattle.std.specs.Prelude.{◌≡◌, Result, Ok, Err, suc, ◌%◌, ◌<◌,
 use Rattle.std.specs.List.{AllZip}
 use Rattle.record_base.specs.declared.op.Op.{Op}
 use Rattle.record_base.specs.declared.message.Asked.{Asked}
-use Rattle.plans.specs.declared.names.Names.{Names}
+use Rattle.undo_plans.specs.declared.names.Names.{Names}
 use Rattle.mctp_net.specs.Places.{seen}
-use Rattle.undo_model.specs.Words.{Answered, Words}
-use Rattle.undo_model.specs.Machine as machine
-use Rattle.undo_model.specs.Machine.{reply_of}
+use Rattle.model_undo.specs.Words.{Answered, Words}
+use Rattle.model_undo.specs.Machine as machine
+use Rattle.model_undo.specs.Machine.{reply_of}
 use Rattle.undo_core.specs.declared.phase.WrongPhase.{WrongPhase}
-use Rattle.lab_model.specs.ManagerWords.{from_manager}
-use Rattle.lab_model.specs.Values.{written, IsFrameOn}
-use Rattle.lab_model.specs.ManagerSteps.{addresses, board_plans, Sent as AllSent, Call, ManagerState, ManagerDeed, called, rests, taken_or}
+use Rattle.model_lab.specs.ManagerWords.{from_manager}
+use Rattle.model_lab.specs.Values.{written, IsFrameOn}
+use Rattle.model_lab.specs.ManagerSteps.{addresses, board_plans, Sent as AllSent, Call, ManagerState, ManagerDeed, called, rests, taken_or}
 use Rattle.undo_core.specs.declared.stage.Task.{Task}
 use Rattle.undo_core.specs.declared.stage.Task.TheVariants as task
 use Rattle.undo_core.specs.declared.stage.Stage.{Stage}

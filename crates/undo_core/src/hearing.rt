@@ -5,24 +5,24 @@ ghost use Rattle.two_wire.specs.Codes.{success};
 ghost use Rattle.record_base.specs.declared.op.Op.{Op};
 ghost use Rattle.record_base.specs.declared.message.Asked.{Asked as AnyAsked};
 ghost use Rattle.record_kinds.specs.Limits.{inverse};
-ghost use Rattle.plans.specs.declared.names.Names.{Names};
-ghost use Rattle.plans.specs.Steps.{most_steps};
-ghost use Rattle.undo_model.specs.Phase.{Refused, GetRefused};
-ghost use Rattle.undo_model.specs.Machine as machine;
+ghost use Rattle.undo_plans.specs.declared.names.Names.{Names};
+ghost use Rattle.undo_plans.specs.Steps.{most_steps};
+ghost use Rattle.model_undo.specs.Phase.{Refused, GetRefused};
+ghost use Rattle.model_undo.specs.Machine as machine;
 ghost use Rattle.undo_core.specs.Shown.{words_of, own, backs, IsTask, IsStage};
 ghost use Rattle.undo_core.specs.Bounds.{task_steps, steps_needed, task_undone, undone_needed, task_backs, most_backs, task_left, replies_left, done_by, with_done};
-ghost use Rattle.undo_model.specs.Words.{is_busy as is_busy_code};
+ghost use Rattle.model_undo.specs.Words.{is_busy as is_busy_code};
 ghost use Rattle.undo_core.specs.Shown.{Shows, Does, Takes, taken_if};
 ghost use Rattle.two_wire.specs.declared.Bus.TheVariants.{Ipmb as IsIpmb, Smbus as IsSmbus};
-ghost use Rattle.bus_model.specs.Bytes.{ipmb_answers, pldm_answers};
+ghost use Rattle.model_bus.specs.Bytes.{ipmb_answers, pldm_answers};
 ghost use Rattle.ipmb_frame.specs.declared.message.Response.{Response as AnyResponse};
 ghost use Rattle.ipmb_frame.specs.Grammar.{IsResponse};
 ghost use Rattle.mctp_net.specs.declared.packet.Packet.{Packet as AnyPacket};
 ghost use Rattle.mctp_net.specs.Grammar.{IsPacket};
-ghost use Rattle.lab_model.specs.ManagerWords.{bus_of as bus_of_request};
-ghost use Rattle.lab_model.specs.Wires.{bytes_of, answered_from};
-ghost use Rattle.lab_model.specs.Bytes.{response_bytes};
-ghost use Rattle.lab_model.specs.ManagerSteps.{ManagerState, board_plans, hears_response, is_answer as is_answer_of, rests, hears_packet, hears_reply, is_part as is_part_of, joins as joins_packet};
+ghost use Rattle.model_lab.specs.ManagerWords.{bus_of as bus_of_request};
+ghost use Rattle.model_lab.specs.Wires.{bytes_of, answered_from};
+ghost use Rattle.model_lab.specs.Bytes.{response_bytes};
+ghost use Rattle.model_lab.specs.ManagerSteps.{ManagerState, board_plans, hears_response, is_answer as is_answer_of, rests, hears_packet, hears_reply, is_part as is_part_of, joins as joins_packet};
 
 use crate::Why;
 use crate::manager::Manager;
@@ -31,11 +31,11 @@ use crate::stage::{Stage, Task};
 use cfg_records::{Asked, RecordKind};
 use ipmb_frame::{Msg, Response, Sequence, read_frame};
 use mctp_net::{Packet, Taken, read_packet};
-use plans::NextNumbers;
 use pldm_base::{Instance, PldmBytes, read_pldm_reply};
 use record_kinds::Limits;
 use two_wire::size::MOST_MESSAGE_BYTES;
 use two_wire::{Bus, Bytes, Code, code};
+use undo_plans::NextNumbers;
 
 /// A reply that passed the test against the open request.
 #[derive(Clone, Copy)]

@@ -5,8 +5,8 @@ ghost use Rattle.undo_core.specs.Bounds.{steps_needed, undone_needed, most_backs
 use crate::sending::Counts;
 use crate::stage::Stage;
 use mctp_net::Assembler;
-use plans::{Names, Steps, UndoList};
 use two_wire::Retries;
+use undo_plans::{Names, Steps, UndoList};
 
 /// Why no manager is made.
 #[derive(Clone, Copy, Debug, PartialEq, Eq)]

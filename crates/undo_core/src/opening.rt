@@ -2,8 +2,8 @@
 ghost use Rattle.std.specs.Prelude.{◌≡◌, ◌<◌, ◌≤◌, ◌↔◌, IfOk, SomeIff, Err};
 ghost use Rattle.two_wire.specs.Retries.{most_retries};
 ghost use Rattle.mctp_net.specs.Assembly.{nothing};
-ghost use Rattle.undo_model.specs.Machine as machine;
-ghost use Rattle.undo_model.specs.Resume.{resumed};
+ghost use Rattle.model_undo.specs.Machine as machine;
+ghost use Rattle.model_undo.specs.Resume.{resumed};
 ghost use Rattle.undo_core.specs.Shown.{words_of, backs, Shows};
 
 use crate::Why;
@@ -11,9 +11,9 @@ use crate::manager::{Manager, OpenFault};
 use crate::sending::Counts;
 use crate::stage::Stage;
 use mctp_net::Assembler;
-use plans::{Names, NextNumbers, Plan, Requests, Steps, UndoList};
 use std::alloc::Global;
 use two_wire::{Below, MOST_RETRIES, Retries};
+use undo_plans::{Names, NextNumbers, Plan, Requests, Steps, UndoList};
 
 impl Manager {
     /// A manager of a plan, which it hasn't begun.

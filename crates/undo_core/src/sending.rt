@@ -1,9 +1,9 @@
 //! Requests as the frames that are sent.
 ghost use Rattle.std.specs.Prelude.{◌≡◌, ◌+◌, ◌%◌, ◌<◌, suc, true, [], ◌∷◌, ℕ, map};
-ghost use Rattle.lab_model.specs.Values.{written, IsFrameOn};
-ghost use Rattle.lab_model.specs.ManagerSteps.{values_of};
-ghost use Rattle.undo_model.specs.Machine.{count_of, one_answered};
-ghost use Rattle.lab_model.specs.ManagerWords.{bus_of as bus_of_request};
+ghost use Rattle.model_lab.specs.Values.{written, IsFrameOn};
+ghost use Rattle.model_lab.specs.ManagerSteps.{values_of};
+ghost use Rattle.model_undo.specs.Machine.{count_of, one_answered};
+ghost use Rattle.model_lab.specs.ManagerWords.{bus_of as bus_of_request};
 ghost use Rattle.record_base.specs.declared.message.Asked.TheVariants as asked_as;
 ghost use Rattle.std.specs.List.{AllZip};
 ghost use Rattle.two_wire.specs.declared.Bus.TheVariants.{Ipmb as IsIpmb, Smbus as IsSmbus};
@@ -13,10 +13,10 @@ use arrayvec::ArrayVec;
 use cfg_records::Asked;
 use ipmb_frame::{Party, Request, Sequence, write_request};
 use mctp_net::{Envelope, Message, SomeData, Tag, split};
-use plans::Names;
 use pldm_base::{Instance, PldmRequest, PldmType, write_pldm};
 use two_wire::size::{MOST_IPMI_REQUEST_DATA, MOST_MESSAGE_BYTES, MOST_PLDM_REQUEST_DATA};
 use two_wire::{Bus, Bytes, Data, Frame, Lun, NetFn};
+use undo_plans::Names;
 
 /// The message type of PLDM (DSP0239).
 pub const PLDM_TYPE: u8 = 0x01;

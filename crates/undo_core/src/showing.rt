@@ -3,11 +3,11 @@ ghost use Rattle.std.specs.Prelude.{◌≡◌, ◌%◌, ◌+◌, ◌-◌, ◌*�
 ghost use Rattle.std.specs.Prelude.{List, take, slice_get, option_map};
 ghost use Rattle.record_base.specs.declared.op.Op.{Op};
 ghost use Rattle.record_base.specs.declared.message.Asked.{Asked as AnyAsked};
-ghost use Rattle.plans.specs.declared.names.Names.{Names as AnyNames};
-ghost use Rattle.plans.specs.Steps.{most_steps};
-ghost use Rattle.undo_model.specs.Machine as machine;
-ghost use Rattle.lab_model.specs.ManagerSteps.{ManagerState, board_plans, sent_of};
-ghost use Rattle.lab_model.specs.Faults.{begun_on};
+ghost use Rattle.undo_plans.specs.declared.names.Names.{Names as AnyNames};
+ghost use Rattle.undo_plans.specs.Steps.{most_steps};
+ghost use Rattle.model_undo.specs.Machine as machine;
+ghost use Rattle.model_lab.specs.ManagerSteps.{ManagerState, board_plans, sent_of};
+ghost use Rattle.model_lab.specs.Faults.{begun_on};
 ghost use Rattle.undo_core.specs.Counted.{counts_of};
 ghost use Rattle.undo_core.specs.Phases.{phase_of};
 ghost use Rattle.undo_core.specs.Shown.{words_of, backs, IsStage, Shows, IsSent};
@@ -18,9 +18,9 @@ use crate::sending::{Sent, bus_of, frames_of};
 use crate::stage::{Stage, Task};
 use crate::{Phase, Why};
 use cfg_records::RecordKind;
-use plans::UndoList;
 use record_kinds::Limits;
 use two_wire::Bus;
+use undo_plans::UndoList;
 
 impl Manager {
     /// The phase.

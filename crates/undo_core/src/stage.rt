@@ -1,12 +1,12 @@
 //! How far a manager is.
 ghost use Rattle.std.specs.Prelude.{◌≡◌, ◌⊎◌, ℕ, Bool, true, false, List, Option, IfSome, IsSome};
-ghost use Rattle.lab_model.specs.ManagerWords.{bus_of as bus_of_request};
+ghost use Rattle.model_lab.specs.ManagerWords.{bus_of as bus_of_request};
 ghost use Rattle.undo_core.specs.declared.stage.Stage.TheVariants.{Opened as IsOpened, AtEnd as IsAtEnd, AtHalt as IsAtHalt};
 ghost use Rattle.undo_core.specs.declared.phase.Why.{Why as AnyWhy};
 ghost use Rattle.record_base.specs.declared.op.Op.{Op};
 ghost use Rattle.record_base.specs.declared.message.Asked.{Asked as AnyAsked};
-ghost use Rattle.plans.specs.declared.names.Names.{Names};
-ghost use Rattle.undo_model.specs.Machine as machine;
+ghost use Rattle.undo_plans.specs.declared.names.Names.{Names};
+ghost use Rattle.model_undo.specs.Machine as machine;
 ghost use Rattle.undo_core.specs.Phases.{phase_of};
 ghost use Rattle.undo_core.specs.Shown.{words_of, IsTask, IsStage};
 ghost use Rattle.undo_core.specs.Bounds.{done_by};

@@ -3,8 +3,8 @@ ghost use Rattle.std.specs.Prelude.{◌<◌};
 
 use super::dice::Dice;
 use ipmb_frame::Party;
-use lab_events::SentFrame;
-use schedules::{Event, Octets, OtherMessage, OtherRequest};
+use lab_run::SentFrame;
+use text_schedule::{Event, Octets, OtherMessage, OtherRequest};
 use std::alloc::Global;
 use std::test::Fail;
 use two_wire::{Address, Below, Bus, Bytes, Lun, NetFn};

@@ -1,6 +1,6 @@
 //! How often what happened in the schedules that were played.
-use lab_events::Fault;
-use schedules::{Call, Event};
+use lab_run::Fault;
+use text_schedule::{Call, Event};
 use undo_core::{Phase, Why};
 
 /// Counts of events that were taken, of phases that were entered, and of what became of frames.

@@ -4,7 +4,7 @@ use cfg_records::{
     EventChange, EventMasks, NumericBytes, SetEventEnable, SetNumericEffecter, SetThresholds,
     byte_at,
 };
-use schedules::{Call, Event, OtherRequest};
+use text_schedule::{Call, Event, OtherRequest};
 use std::alloc::Global;
 use std::test::Fail;
 use two_wire::Bus;

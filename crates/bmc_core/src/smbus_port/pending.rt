@@ -2,9 +2,9 @@
 ghost use Rattle.std.specs.Prelude.{◌≡◌, ◌≤◌, length};
 ghost use Rattle.two_wire.specs.Sizes.{most_message_bytes};
 ghost use Rattle.pldm_base.specs.Message.{request_bytes};
-ghost use Rattle.windows.specs.Heard.{request_of};
-ghost use Rattle.lab_model.specs.Bytes.{pldm_heard_in};
-ghost use Rattle.lab_model.specs.PortSteps.{pldm_asked};
+ghost use Rattle.bmc_windows.specs.Heard.{request_of};
+ghost use Rattle.model_lab.specs.Bytes.{pldm_heard_in};
+ghost use Rattle.model_lab.specs.PortSteps.{pldm_asked};
 ghost use Rattle.bmc_core.specs.SmbusShown.{pldm_reading};
 
 use cfg_records::Asked;
@@ -57,13 +57,13 @@ impl<'a> RequestInMessage<'a> {
     }
 
     /// The request as the windows keep it, with the ignored bit 0.
-    pub fn kept(&self) -> windows::Request<'_, { INSTANCES }>
+    pub fn kept(&self) -> bmc_windows::Request<'_, { INSTANCES }>
         ensures is { request_of pldm_reading result ≡ pldm_heard_in self.now.envelope.source_eid self.now.request }
         ensures room { length result.rest.now ≤ most_message_bytes }
     {
         let header = self.request.header;
         let _data = self.request.body.as_slice();
-        windows::Request {
+        bmc_windows::Request {
             requester: self.envelope.source_eid,
             number: header.instance,
             first: REQUEST + header.instance.number(),

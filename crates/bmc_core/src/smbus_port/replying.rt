@@ -3,13 +3,13 @@ ghost use Rattle.std.specs.Prelude.{◌≡◌, ◌<◌, ◌≤◌, ◌∷◌, le
 ghost use Rattle.two_wire.specs.Sizes.{most_message_bytes};
 ghost use Rattle.two_wire.specs.declared.Bus.TheVariants.{Smbus};
 ghost use Rattle.pldm_base.specs.Message.{IsHeader, reply_start};
-ghost use Rattle.bus_model.specs.Circle.{instances};
-ghost use Rattle.bus_model.specs.Request.{Entry, Carried};
-ghost use Rattle.bus_model.specs.Numbering.{is_above};
-ghost use Rattle.bus_model.specs.Carried.{outcome, IsNew};
+ghost use Rattle.model_bus.specs.Circle.{instances};
+ghost use Rattle.model_bus.specs.Request.{Entry, Carried};
+ghost use Rattle.model_bus.specs.Numbering.{is_above};
+ghost use Rattle.model_bus.specs.Carried.{outcome, IsNew};
 ghost use Rattle.bmc_board.specs.State.{state_of};
 ghost use Rattle.bmc_board.specs.Answer.{answer_of};
-ghost use Rattle.lab_model.specs.Bytes.{said};
+ghost use Rattle.model_lab.specs.Bytes.{said};
 ghost use Rattle.bmc_core.specs.declared.out.Done.TheVariants as done_as;
 ghost use Rattle.bmc_core.specs.Outs.{sends, AreRead};
 ghost use Rattle.bmc_core.specs.SmbusHeard.{asking, asked_of, kept_with};
@@ -21,12 +21,12 @@ use crate::out::{Done, Out};
 use crate::port::At;
 use bmc_board::Board;
 use bmc_board::request::read_pldm;
+use bmc_windows::{Found, Windows};
 use cfg_records::{Answered, Store};
 use mctp_net::{Envelope, Message, SomeData, split_into};
 use pldm_base::{Header, begin_pldm_reply};
 use two_wire::size::MOST_MESSAGE_BYTES;
 use two_wire::{Bytes, code};
-use windows::{Found, Windows};
 
 /// The requests that a port carried out, with their replies.
 pub(super) type Kept = Windows<{ INSTANCES }, { MOST_MESSAGE_BYTES }>;

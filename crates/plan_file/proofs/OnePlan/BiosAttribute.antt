@@ -8,11 +8,11 @@ use Rattle.record_base.specs.declared.op.Op.TheVariants as op
 use Rattle.record_base.specs.declared.attribute_value.AttributeValue.{AttributeValue}
 use Rattle.record_base.specs.declared.attribute_value.AttributeValue.TheVariants as attribute
 use Rattle.record_base.specs.declared.bios_attribute.SetBiosAttribute.{SetBiosAttribute}
-use Rattle.file_fields.specs.declared.field.Field.TheVariants as field
-use Rattle.file_fields.specs.Trees.{in_field, natural, number_in, members_in}
-use Rattle.file_fields.specs.Attributes.{text_of, text_in}
+use Rattle.text_fields.specs.declared.field.Field.TheVariants as field
+use Rattle.text_fields.specs.Trees.{in_field, natural, number_in, members_in}
+use Rattle.text_fields.specs.Attributes.{text_of, text_in}
 use Rattle.plan_file.specs.Kinds.BiosAttribute.{GivesValue, HoldsBiosAttribute, kind}
-use Rattle.file_fields.proofs.Unique.{same_made, one_found, one_list, one_natural, one_number}
+use Rattle.text_fields.proofs.Unique.{same_made, one_found, one_list, one_natural, one_number}
 use Rattle.plan_file.proofs.StepKind.{IsOne}
 
 -- a field that the table lacks has no text and no number

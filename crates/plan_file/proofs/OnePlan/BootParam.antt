@@ -9,10 +9,10 @@ use Rattle.record_base.specs.declared.boot_param.BootParameter.TheVariants as pa
 use Rattle.record_base.specs.declared.boot_param.BootChange.{BootChange}
 use Rattle.record_base.specs.declared.boot_param.BootChange.TheVariants as boot
 use Rattle.record_base.specs.declared.boot_param.SetBootParam.{SetBootParam}
-use Rattle.file_fields.specs.declared.field.Field.TheVariants as field
-use Rattle.file_fields.specs.Trees.{in_field, flag_in}
+use Rattle.text_fields.specs.declared.field.Field.TheVariants as field
+use Rattle.text_fields.specs.Trees.{in_field, flag_in}
 use Rattle.plan_file.specs.Kinds.BootParam.{IsGiven, HoldsBootChange, HoldsBootParam, kind}
-use Rattle.file_fields.proofs.Unique.{one_found, one_number, one_bytes, same_flags}
+use Rattle.text_fields.proofs.Unique.{one_found, one_number, one_bytes, same_flags}
 use Rattle.plan_file.proofs.StepKind.{IsOne}
 
 one_given : (found : Option Data) (ms ns : List ℕ) → IsGiven found ms → IsGiven found ns → ms ≡ ns

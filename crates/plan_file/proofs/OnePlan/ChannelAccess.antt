@@ -7,12 +7,12 @@ use Rattle.record_base.specs.declared.channel.SixBits.{SixBits}
 use Rattle.record_base.specs.declared.channel.ChannelChange.{ChannelChange}
 use Rattle.record_base.specs.declared.channel.ChannelChange.TheVariants as channel
 use Rattle.record_base.specs.declared.channel.SetChannelAccess.{SetChannelAccess}
-use Rattle.file_fields.specs.declared.field.Field.{Field}
-use Rattle.file_fields.specs.declared.field.Field.TheVariants as field
-use Rattle.file_fields.specs.Trees.{in_field, natural, number_in}
-use Rattle.file_fields.specs.Channels.{store_of}
+use Rattle.text_fields.specs.declared.field.Field.{Field}
+use Rattle.text_fields.specs.declared.field.Field.TheVariants as field
+use Rattle.text_fields.specs.Trees.{in_field, natural, number_in}
+use Rattle.text_fields.specs.Channels.{store_of}
 use Rattle.plan_file.specs.Kinds.ChannelAccess.{HoldsChannelChange, HoldsChannelAccess, kind}
-use Rattle.file_fields.proofs.Unique.{one_found, one_number}
+use Rattle.text_fields.proofs.Unique.{one_found, one_number}
 use Rattle.plan_file.proofs.StepKind.{IsOne}
 
 lacked : (named : Field) (tree : Members) (n : ℕ) → in_field named tree ≡ None → number_in named tree ≡ Some n → ⊥

@@ -6,11 +6,11 @@ use Rattle.record_base.specs.declared.event_enable.SetEventEnable.{SetEventEnabl
 use Rattle.record_base.specs.declared.event_enable.EventChange.{EventChange}
 use Rattle.record_base.specs.declared.event_enable.EventChange.TheVariants as change
 use Rattle.record_base.specs.declared.event_enable.EventMasks.{EventMasks}
-use Rattle.file_fields.specs.declared.field.Field.TheVariants as field
-use Rattle.file_fields.specs.Trees.{flag_in, members_in}
-use Rattle.file_fields.specs.Ranges.{has_text, is_listed}
+use Rattle.text_fields.specs.declared.field.Field.TheVariants as field
+use Rattle.text_fields.specs.Trees.{flag_in, members_in}
+use Rattle.text_fields.specs.Ranges.{has_text, is_listed}
 use Rattle.plan_file.specs.Kinds.EventEnable.{HoldsEvents, HoldsChange, HoldsEventEnable, kind}
-use Rattle.file_fields.proofs.Unique.{one_found, one_number, one_mask, one_word}
+use Rattle.text_fields.proofs.Unique.{one_found, one_number, one_mask, one_word}
 use Rattle.plan_file.proofs.StepKind.{IsOne}
 
 one_events : (tree : Members) (a b : EventMasks) → HoldsEvents tree a → HoldsEvents tree b → a ≡ b

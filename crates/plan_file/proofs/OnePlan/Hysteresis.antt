@@ -3,9 +3,9 @@ use Rattle.std.proofs.Common.{◌≡◌, ap}
 use Rattle.toml.specs.Data.{Members}
 use Rattle.record_base.specs.declared.op.Op.TheVariants as op
 use Rattle.record_base.specs.declared.hysteresis.SetHysteresis.{SetHysteresis}
-use Rattle.file_fields.specs.declared.field.Field.TheVariants as field
+use Rattle.text_fields.specs.declared.field.Field.TheVariants as field
 use Rattle.plan_file.specs.Kinds.Hysteresis.{HoldsHysteresis, kind}
-use Rattle.file_fields.proofs.Unique.{one_number}
+use Rattle.text_fields.proofs.Unique.{one_number}
 use Rattle.plan_file.proofs.StepKind.{IsOne}
 
 one : (tree : Members) (a b : SetHysteresis) → HoldsHysteresis tree a → HoldsHysteresis tree b → a ≡ b

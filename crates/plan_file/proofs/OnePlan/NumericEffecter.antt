@@ -5,10 +5,10 @@ use Rattle.record_base.specs.declared.op.Op.TheVariants as op
 use Rattle.record_base.specs.declared.numeric_effecter.NumericBytes.{NumericBytes}
 use Rattle.record_base.specs.declared.numeric_effecter.NumericBytes.TheVariants as bytes
 use Rattle.record_base.specs.declared.numeric_effecter.SetNumericEffecter.{SetNumericEffecter}
-use Rattle.file_fields.specs.declared.field.Field.TheVariants as field
-use Rattle.file_fields.specs.Numeric.{sized_bytes, AreBytes}
+use Rattle.text_fields.specs.declared.field.Field.TheVariants as field
+use Rattle.text_fields.specs.Numeric.{sized_bytes, AreBytes}
 use Rattle.plan_file.specs.Kinds.NumericEffecter.{HoldsNumericEffecter, kind}
-use Rattle.file_fields.proofs.Unique.{one_found, one_number}
+use Rattle.text_fields.proofs.Unique.{one_found, one_number}
 use Rattle.plan_file.proofs.StepKind.{IsOne}
 
 one_told : (a b : NumericBytes) (told : Option (List ℕ)) → AreBytes a told → AreBytes b told → a ≡ b

@@ -5,11 +5,11 @@ use Rattle.toml.specs.Data.{Members}
 use Rattle.record_base.specs.declared.op.Op.TheVariants as op
 use Rattle.record_base.specs.declared.field_changes.FieldChange.{FieldChange}
 use Rattle.record_base.specs.declared.state_effecter.SetStateEffecter.{SetStateEffecter}
-use Rattle.file_fields.specs.declared.field.Field.TheVariants as field
-use Rattle.file_fields.specs.Trees.{members_in}
-use Rattle.file_fields.specs.States.{change_of}
+use Rattle.text_fields.specs.declared.field.Field.TheVariants as field
+use Rattle.text_fields.specs.Trees.{members_in}
+use Rattle.text_fields.specs.States.{change_of}
 use Rattle.plan_file.specs.Kinds.StateEffecter.{HoldsStateEffecter, kind}
-use Rattle.file_fields.proofs.Unique.{same_made, one_found, one_list, one_number}
+use Rattle.text_fields.proofs.Unique.{same_made, one_found, one_list, one_number}
 use Rattle.plan_file.proofs.StepKind.{IsOne}
 
 abbrev states_at : (s : ℕ × List FieldChange) → length s.1 ≤ 9 → SetStateEffecter

@@ -4,9 +4,9 @@ use Rattle.std.proofs.Props.{props}
 use Rattle.toml.specs.Data.{Members}
 use Rattle.record_base.specs.declared.op.Op.TheVariants as op
 use Rattle.record_base.specs.declared.sensor_thresholds.SetThresholds.{SetThresholds}
-use Rattle.file_fields.specs.declared.field.Field.TheVariants as field
+use Rattle.text_fields.specs.declared.field.Field.TheVariants as field
 use Rattle.plan_file.specs.Kinds.Thresholds.{HoldsThresholds, is_given, kind}
-use Rattle.file_fields.proofs.Unique.{same_made, one_number, one_mask}
+use Rattle.text_fields.proofs.Unique.{same_made, one_number, one_mask}
 use Rattle.plan_file.proofs.StepKind.{IsOne}
 
 abbrev thresholds_at : (s : ℕ × (ℕ × List ℕ)) → length s.1.1 ≡ 6 → SetThresholds

@@ -4,11 +4,11 @@ use Rattle.std.proofs.Props.{props}
 use Rattle.toml.specs.Data.{Members}
 use Rattle.record_base.specs.declared.op.Op.TheVariants as op
 use Rattle.record_base.specs.declared.user.SetUserName.{SetUserName}
-use Rattle.file_fields.specs.declared.field.Field.TheVariants as field
-use Rattle.file_fields.specs.Trees.{in_field}
-use Rattle.file_fields.specs.Users.{name_of}
+use Rattle.text_fields.specs.declared.field.Field.TheVariants as field
+use Rattle.text_fields.specs.Trees.{in_field}
+use Rattle.text_fields.specs.Users.{name_of}
 use Rattle.plan_file.specs.Kinds.UserName.{HoldsUserName, kind}
-use Rattle.file_fields.proofs.Unique.{same_made, one_found, one_number}
+use Rattle.text_fields.proofs.Unique.{same_made, one_found, one_number}
 use Rattle.plan_file.proofs.StepKind.{IsOne}
 
 abbrev name_at : (s : ℕ × List ℕ) → length s.1 ≡ 16 → SetUserName

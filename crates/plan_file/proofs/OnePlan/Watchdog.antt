@@ -6,10 +6,10 @@ use Rattle.toml.specs.Data.{Members}
 use Rattle.record_base.specs.Masks.{has}
 use Rattle.record_base.specs.declared.op.Op.TheVariants as op
 use Rattle.record_base.specs.declared.watchdog.SetWatchdog.{SetWatchdog}
-use Rattle.file_fields.specs.declared.field.Field.TheVariants as field
-use Rattle.file_fields.specs.Trees.{flag_in}
+use Rattle.text_fields.specs.declared.field.Field.TheVariants as field
+use Rattle.text_fields.specs.Trees.{flag_in}
 use Rattle.plan_file.specs.Kinds.Watchdog.{HoldsWatchdog, kind}
-use Rattle.file_fields.proofs.Unique.{one_found, one_number, same_bit}
+use Rattle.text_fields.proofs.Unique.{one_found, one_number, same_bit}
 use Rattle.plan_file.proofs.StepKind.{IsOne}
 
 -- a byte is bits 6:0 and bit 7

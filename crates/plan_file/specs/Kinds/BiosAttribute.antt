@@ -8,9 +8,9 @@ use Rattle.record_base.specs.declared.attribute_value.AttributeValue.{AttributeV
 use Rattle.record_base.specs.declared.attribute_value.AttributeValue.TheVariants as attribute
 use Rattle.record_base.specs.AttributeValue.{type_of_value, value_bytes}
 use Rattle.record_base.specs.declared.bios_attribute.SetBiosAttribute.{SetBiosAttribute}
-use Rattle.file_fields.specs.declared.field.Field.TheVariants as field
-use Rattle.file_fields.specs.Trees.{IsNaturalIn, members_in, HasNumber, Lacks}
-use Rattle.file_fields.specs.Attributes.{text_in}
+use Rattle.text_fields.specs.declared.field.Field.TheVariants as field
+use Rattle.text_fields.specs.Trees.{IsNaturalIn, members_in, HasNumber, Lacks}
+use Rattle.text_fields.specs.Attributes.{text_in}
 use Rattle.plan_file.specs.declared.kind.bios_attribute.TheConstants.{FIELDS}
 use Rattle.plan_file.specs.StepKind.{StepKind}
 

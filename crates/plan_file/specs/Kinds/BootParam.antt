@@ -6,8 +6,8 @@ use Rattle.record_base.specs.declared.op.Op.TheVariants as op
 use Rattle.record_base.specs.declared.boot_param.BootChange.{BootChange}
 use Rattle.record_base.specs.declared.boot_param.SetBootParam.{SetBootParam}
 use Rattle.record_base.specs.BootParam.{selector, parameter_of, change_bytes}
-use Rattle.file_fields.specs.declared.field.Field.TheVariants as field
-use Rattle.file_fields.specs.Trees.{in_field, bytes_in, HasNumber, HasFlag}
+use Rattle.text_fields.specs.declared.field.Field.TheVariants as field
+use Rattle.text_fields.specs.Trees.{in_field, bytes_in, HasNumber, HasFlag}
 use Rattle.plan_file.specs.declared.kind.boot_param.TheConstants.{FIELDS}
 use Rattle.plan_file.specs.StepKind.{StepKind}
 

@@ -6,9 +6,9 @@ use Rattle.record_base.specs.declared.op.Op.TheVariants as op
 use Rattle.record_base.specs.declared.channel.ChannelChange.{ChannelChange}
 use Rattle.record_base.specs.declared.channel.ChannelChange.TheVariants as channel
 use Rattle.record_base.specs.declared.channel.SetChannelAccess.{SetChannelAccess}
-use Rattle.file_fields.specs.declared.field.Field.TheVariants as field
-use Rattle.file_fields.specs.Trees.{in_field, HasNumber, Lacks}
-use Rattle.file_fields.specs.Channels.{store_of}
+use Rattle.text_fields.specs.declared.field.Field.TheVariants as field
+use Rattle.text_fields.specs.Trees.{in_field, HasNumber, Lacks}
+use Rattle.text_fields.specs.Channels.{store_of}
 use Rattle.plan_file.specs.declared.kind.channel_access.TheConstants.{FIELDS}
 use Rattle.plan_file.specs.StepKind.{StepKind}
 

@@ -8,10 +8,10 @@ use Rattle.record_base.specs.declared.event_enable.SetEventEnable.{SetEventEnabl
 use Rattle.record_base.specs.declared.event_enable.EventChange.{EventChange}
 use Rattle.record_base.specs.declared.event_enable.EventChange.TheVariants as change
 use Rattle.record_base.specs.declared.event_enable.EventMasks.{EventMasks}
-use Rattle.file_fields.specs.declared.field.Field.{Field}
-use Rattle.file_fields.specs.declared.field.Field.TheVariants as field
-use Rattle.file_fields.specs.Trees.{members_in, HasNumber, HasFlag}
-use Rattle.file_fields.specs.Ranges.{has_text, is_listed}
+use Rattle.text_fields.specs.declared.field.Field.{Field}
+use Rattle.text_fields.specs.declared.field.Field.TheVariants as field
+use Rattle.text_fields.specs.Trees.{members_in, HasNumber, HasFlag}
+use Rattle.text_fields.specs.Ranges.{has_text, is_listed}
 use Rattle.plan_file.specs.declared.kind.event_enable.TheConstants.{FIELDS}
 use Rattle.plan_file.specs.StepKind.{StepKind}
 

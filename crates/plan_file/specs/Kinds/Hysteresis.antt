@@ -4,8 +4,8 @@ use Rattle.toml.specs.Data.{Members}
 use Rattle.record_base.specs.declared.op.Op.{Op}
 use Rattle.record_base.specs.declared.op.Op.TheVariants as op
 use Rattle.record_base.specs.declared.hysteresis.SetHysteresis.{SetHysteresis}
-use Rattle.file_fields.specs.declared.field.Field.TheVariants as field
-use Rattle.file_fields.specs.Trees.{HasNumber}
+use Rattle.text_fields.specs.declared.field.Field.TheVariants as field
+use Rattle.text_fields.specs.Trees.{HasNumber}
 use Rattle.plan_file.specs.declared.kind.hysteresis.TheConstants.{FIELDS}
 use Rattle.plan_file.specs.StepKind.{StepKind}
 

@@ -4,9 +4,9 @@ use Rattle.toml.specs.Data.{Members}
 use Rattle.record_base.specs.declared.op.Op.{Op}
 use Rattle.record_base.specs.declared.op.Op.TheVariants as op
 use Rattle.record_base.specs.declared.numeric_effecter.SetNumericEffecter.{SetNumericEffecter}
-use Rattle.file_fields.specs.declared.field.Field.TheVariants as field
-use Rattle.file_fields.specs.Numeric.{sized_bytes, AreBytes}
-use Rattle.file_fields.specs.Trees.{HasNumber}
+use Rattle.text_fields.specs.declared.field.Field.TheVariants as field
+use Rattle.text_fields.specs.Numeric.{sized_bytes, AreBytes}
+use Rattle.text_fields.specs.Trees.{HasNumber}
 use Rattle.plan_file.specs.declared.kind.numeric_effecter.TheConstants.{FIELDS}
 use Rattle.plan_file.specs.StepKind.{StepKind}
 

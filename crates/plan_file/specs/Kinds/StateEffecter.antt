@@ -6,9 +6,9 @@ use Rattle.record_base.specs.declared.op.Op.{Op}
 use Rattle.record_base.specs.declared.op.Op.TheVariants as op
 use Rattle.record_base.specs.declared.field_changes.FieldChange.{FieldChange}
 use Rattle.record_base.specs.declared.state_effecter.SetStateEffecter.{SetStateEffecter}
-use Rattle.file_fields.specs.declared.field.Field.TheVariants as field
-use Rattle.file_fields.specs.Trees.{members_in, HasNumber}
-use Rattle.file_fields.specs.States.{change_of}
+use Rattle.text_fields.specs.declared.field.Field.TheVariants as field
+use Rattle.text_fields.specs.Trees.{members_in, HasNumber}
+use Rattle.text_fields.specs.States.{change_of}
 use Rattle.plan_file.specs.declared.kind.state_effecter.TheConstants.{FIELDS}
 use Rattle.plan_file.specs.StepKind.{StepKind}
 

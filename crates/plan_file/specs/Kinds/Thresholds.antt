@@ -5,10 +5,10 @@ use Rattle.record_base.specs.Masks.{has}
 use Rattle.record_base.specs.declared.op.Op.{Op}
 use Rattle.record_base.specs.declared.op.Op.TheVariants as op
 use Rattle.record_base.specs.declared.sensor_thresholds.SetThresholds.{SetThresholds}
-use Rattle.file_fields.specs.declared.field.Field.TheVariants as field
+use Rattle.text_fields.specs.declared.field.Field.TheVariants as field
 use Rattle.plan_file.specs.declared.kind.thresholds.TheConstants.{LIMITS, FIELDS}
-use Rattle.file_fields.specs.Trees.{in_field, number_in, HasNumber}
-use Rattle.file_fields.specs.Ranges.{passes, or_zero}
+use Rattle.text_fields.specs.Trees.{in_field, number_in, HasNumber}
+use Rattle.text_fields.specs.Ranges.{passes, or_zero}
 use Rattle.plan_file.specs.StepKind.{StepKind}
 
 -- the step gives the threshold of this place

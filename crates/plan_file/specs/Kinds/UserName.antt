@@ -4,9 +4,9 @@ use Rattle.toml.specs.Data.{Members}
 use Rattle.record_base.specs.declared.op.Op.{Op}
 use Rattle.record_base.specs.declared.op.Op.TheVariants as op
 use Rattle.record_base.specs.declared.user.SetUserName.{SetUserName}
-use Rattle.file_fields.specs.declared.field.Field.TheVariants as field
-use Rattle.file_fields.specs.Trees.{in_field, HasNumber}
-use Rattle.file_fields.specs.Users.{name_of}
+use Rattle.text_fields.specs.declared.field.Field.TheVariants as field
+use Rattle.text_fields.specs.Trees.{in_field, HasNumber}
+use Rattle.text_fields.specs.Users.{name_of}
 use Rattle.plan_file.specs.declared.kind.user_name.TheConstants.{FIELDS}
 use Rattle.plan_file.specs.StepKind.{StepKind}
 

@@ -5,8 +5,8 @@ use Rattle.record_base.specs.Masks.{has}
 use Rattle.record_base.specs.declared.op.Op.{Op}
 use Rattle.record_base.specs.declared.op.Op.TheVariants as op
 use Rattle.record_base.specs.declared.watchdog.SetWatchdog.{SetWatchdog}
-use Rattle.file_fields.specs.declared.field.Field.TheVariants as field
-use Rattle.file_fields.specs.Trees.{HasNumber, HasFlag}
+use Rattle.text_fields.specs.declared.field.Field.TheVariants as field
+use Rattle.text_fields.specs.Trees.{HasNumber, HasFlag}
 use Rattle.plan_file.specs.declared.kind.watchdog.TheConstants.{FIELDS}
 use Rattle.plan_file.specs.StepKind.{StepKind}
 

@@ -3,15 +3,15 @@ ghost use Rattle.std.specs.Prelude.{◌≡◌, ◌≤◌, [], true, length, None
 ghost use Rattle.toml.specs.View.{table_view};
 ghost use Rattle.record_base.specs.AttributeSizes.{most_sent};
 ghost use Rattle.record_base.specs.AttributeValue.{value_bytes};
-ghost use Rattle.file_fields.specs.Trees.{in_field};
-ghost use Rattle.file_fields.specs.Faults.{field_faults};
+ghost use Rattle.text_fields.specs.Trees.{in_field};
+ghost use Rattle.text_fields.specs.Faults.{field_faults};
 ghost use Rattle.plan_file.specs.Kinds.BiosAttribute.{GivesValue, HoldsBiosAttribute};
 
-use file_fields::attributes::{indexes_of, text, text_in};
-use file_fields::tree::{in_field, members_in, number, word_in};
-use file_fields::{Field, Need, Row, Shape};
 use record_base::attribute_sizes::MOST_SENT;
 use record_base::{AttributeValue, SetBiosAttribute};
+use text_fields::attributes::{indexes_of, text, text_in};
+use text_fields::tree::{in_field, members_in, number, word_in};
+use text_fields::{Field, Need, Row, Shape};
 use toml::Table;
 use two_wire::{Bytes, Data};
 

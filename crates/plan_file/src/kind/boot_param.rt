@@ -1,13 +1,13 @@
 //! The step that sets a boot parameter.
 ghost use Rattle.std.specs.Prelude.{◌≡◌, []};
 ghost use Rattle.toml.specs.View.{table_view};
-ghost use Rattle.file_fields.specs.Faults.{field_faults};
+ghost use Rattle.text_fields.specs.Faults.{field_faults};
 ghost use Rattle.plan_file.specs.Kinds.BootParam.{HoldsBootChange, HoldsBootParam};
 
-use file_fields::range::{boot_change, parameter_in};
-use file_fields::tree::{flag, in_field};
-use file_fields::{Field, Need, Row, Shape};
 use record_base::{BootChange, SetBootParam};
+use text_fields::range::{boot_change, parameter_in};
+use text_fields::tree::{flag, in_field};
+use text_fields::{Field, Need, Row, Shape};
 use toml::Table;
 
 /// The fields of a step that sets a boot parameter.

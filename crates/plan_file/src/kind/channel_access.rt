@@ -1,14 +1,14 @@
 //! The step that sets the access of a channel in one of its stores.
 ghost use Rattle.std.specs.Prelude.{◌≡◌, []};
 ghost use Rattle.toml.specs.View.{table_view};
-ghost use Rattle.file_fields.specs.Faults.{field_faults};
-ghost use Rattle.file_fields.specs.Trees.{HasNumber, HasBelow};
+ghost use Rattle.text_fields.specs.Faults.{field_faults};
+ghost use Rattle.text_fields.specs.Trees.{HasNumber, HasBelow};
 ghost use Rattle.plan_file.specs.Kinds.ChannelAccess.{HoldsChannelChange, HoldsChannelAccess};
 
-use file_fields::channels::{channel_in, store};
-use file_fields::tree::{byte_in, in_field, value_in};
-use file_fields::{Field, Need, Row, Shape};
 use record_base::{ChannelChange, SetChannelAccess, SixBits};
+use text_fields::channels::{channel_in, store};
+use text_fields::tree::{byte_in, in_field, value_in};
+use text_fields::{Field, Need, Row, Shape};
 use toml::Table;
 
 /// The fields of a step that sets the access of a channel in one of its stores.

@@ -3,13 +3,13 @@ ghost use Rattle.std.specs.Prelude.{◌≡◌, ◌||◌, ℕ, [], true};
 ghost use Rattle.toml.specs.View.{table_view, view};
 ghost use Rattle.std.specs.List.{list_all, list_any};
 ghost use Rattle.record_base.specs.Masks.{has};
-ghost use Rattle.file_fields.specs.Ranges.{is_offset, is_number};
-ghost use Rattle.file_fields.specs.Faults.{field_faults};
+ghost use Rattle.text_fields.specs.Ranges.{is_offset, is_number};
+ghost use Rattle.text_fields.specs.Faults.{field_faults};
 ghost use Rattle.plan_file.specs.Kinds.EventEnable.{HoldsEvents, HoldsChange, HoldsEventEnable};
 
-use file_fields::tree::{byte_in, flag, has_text, members_in, natural};
-use file_fields::{BYTE, Field, Need, Row, Shape};
 use record_base::{EventChange, EventMasks, SetEventEnable};
+use text_fields::tree::{byte_in, flag, has_text, members_in, natural};
+use text_fields::{BYTE, Field, Need, Row, Shape};
 use toml::{Table, Value};
 
 /// The fields of a step that sets which events are enabled.

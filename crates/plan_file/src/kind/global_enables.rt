@@ -1,13 +1,13 @@
 //! The step that sets the global enables.
 ghost use Rattle.std.specs.Prelude.{◌≡◌, []};
 ghost use Rattle.toml.specs.View.{table_view};
-ghost use Rattle.file_fields.specs.Faults.{field_faults};
+ghost use Rattle.text_fields.specs.Faults.{field_faults};
 ghost use Rattle.plan_file.specs.Kinds.GlobalEnables.{HoldsGlobalEnables};
 
-use file_fields::range::enables;
-use file_fields::tree::value_in;
-use file_fields::{Field, Need, Row, Shape};
 use record_base::SetGlobalEnables;
+use text_fields::range::enables;
+use text_fields::tree::value_in;
+use text_fields::{Field, Need, Row, Shape};
 use toml::Table;
 
 /// The fields of a step that sets the global enables.

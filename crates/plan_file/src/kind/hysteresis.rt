@@ -1,12 +1,12 @@
 //! The step that sets hysteresis.
 ghost use Rattle.std.specs.Prelude.{◌≡◌, []};
 ghost use Rattle.toml.specs.View.{table_view};
-ghost use Rattle.file_fields.specs.Faults.{field_faults};
+ghost use Rattle.text_fields.specs.Faults.{field_faults};
 ghost use Rattle.plan_file.specs.Kinds.Hysteresis.{HoldsHysteresis};
 
-use file_fields::tree::byte_in;
-use file_fields::{BYTE, Field, Need, Row};
 use record_base::SetHysteresis;
+use text_fields::tree::byte_in;
+use text_fields::{BYTE, Field, Need, Row};
 use toml::Table;
 
 /// The fields of a step that sets hysteresis.

@@ -1,14 +1,14 @@
 //! The step that sets the value of a numeric effecter.
 ghost use Rattle.std.specs.Prelude.{◌≡◌, []};
 ghost use Rattle.toml.specs.View.{table_view};
-ghost use Rattle.file_fields.specs.Numeric.{sized_bytes, AreBytes};
-ghost use Rattle.file_fields.specs.Faults.{field_faults};
+ghost use Rattle.text_fields.specs.Numeric.{sized_bytes, AreBytes};
+ghost use Rattle.text_fields.specs.Faults.{field_faults};
 ghost use Rattle.plan_file.specs.Kinds.NumericEffecter.{HoldsNumericEffecter};
 
-use file_fields::numeric::{numeric_bytes, size_in, sized_in};
-use file_fields::tree::{byte_in, number, word_in};
-use file_fields::{Field, Need, Row, Shape};
 use record_base::{NumericBytes, SetNumericEffecter};
+use text_fields::numeric::{numeric_bytes, size_in, sized_in};
+use text_fields::tree::{byte_in, number, word_in};
+use text_fields::{Field, Need, Row, Shape};
 use toml::Table;
 
 /// The fields of a step that sets the value of a numeric effecter.

@@ -1,12 +1,12 @@
 //! The step that sets the power restore policy.
 ghost use Rattle.std.specs.Prelude.{◌≡◌, []};
 ghost use Rattle.toml.specs.View.{table_view};
-ghost use Rattle.file_fields.specs.Faults.{field_faults};
+ghost use Rattle.text_fields.specs.Faults.{field_faults};
 ghost use Rattle.plan_file.specs.Kinds.PowerPolicy.{HoldsPowerPolicy};
 
-use file_fields::tree::byte_in;
-use file_fields::{Field, Need, Row, Shape};
 use record_base::SetPowerPolicy;
+use text_fields::tree::byte_in;
+use text_fields::{Field, Need, Row, Shape};
 use toml::Table;
 
 /// The fields of a step that sets the power restore policy.

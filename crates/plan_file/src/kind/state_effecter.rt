@@ -2,14 +2,14 @@
 ghost use Rattle.std.specs.Prelude.{◌≡◌, ◌≤◌, [], true, is_some, map, length};
 ghost use Rattle.toml.specs.View.{table_view, view};
 ghost use Rattle.std.specs.List.{list_all, AllZip};
-ghost use Rattle.file_fields.specs.States.{change_of};
-ghost use Rattle.file_fields.specs.Faults.{field_faults};
+ghost use Rattle.text_fields.specs.States.{change_of};
+ghost use Rattle.text_fields.specs.Faults.{field_faults};
 ghost use Rattle.plan_file.specs.Kinds.StateEffecter.{IsChangeIn, HoldsStateEffecter};
 
-use file_fields::states::change_of;
-use file_fields::tree::{members_in, word_in};
-use file_fields::{Field, Need, Row, Shape};
 use record_base::{FieldChanges, SetStateEffecter};
+use text_fields::states::change_of;
+use text_fields::tree::{members_in, word_in};
+use text_fields::{Field, Need, Row, Shape};
 use toml::{Table, Value};
 
 /// The fields of a step that sets states of a state effecter.

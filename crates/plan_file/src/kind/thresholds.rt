@@ -2,14 +2,14 @@
 ghost use Rattle.std.specs.Prelude.{◌≡◌, ◌≤◌, ◌<◌, ◌==◌, ◌&&◌, ◌||◌, ℕ, [], map, Some};
 ghost use Rattle.toml.specs.View.{table_view};
 ghost use Rattle.record_base.specs.Masks.{has};
-ghost use Rattle.file_fields.specs.Trees.{number_in};
-ghost use Rattle.file_fields.specs.Ranges.{or_zero};
-ghost use Rattle.file_fields.specs.Faults.{field_faults};
+ghost use Rattle.text_fields.specs.Trees.{number_in};
+ghost use Rattle.text_fields.specs.Ranges.{or_zero};
+ghost use Rattle.text_fields.specs.Faults.{field_faults};
 ghost use Rattle.plan_file.specs.Kinds.Thresholds.{is_given, HoldsThresholds};
 
-use file_fields::tree::{byte_in, in_field, number};
-use file_fields::{BYTE, Field, Need, Row};
 use record_base::SetThresholds;
+use text_fields::tree::{byte_in, in_field, number};
+use text_fields::{BYTE, Field, Need, Row};
 use toml::Table;
 
 /// The fields of a step that sets thresholds.

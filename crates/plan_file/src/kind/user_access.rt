@@ -1,13 +1,13 @@
 //! The step that sets what a user may do on a channel.
 ghost use Rattle.std.specs.Prelude.{◌≡◌, ◌<◌, ◌/◌, ◌%◌, []};
 ghost use Rattle.toml.specs.View.{table_view};
-ghost use Rattle.file_fields.specs.Trees.{flag_in, HasNumber, HasBelow};
-ghost use Rattle.file_fields.specs.Faults.{field_faults};
+ghost use Rattle.text_fields.specs.Trees.{flag_in, HasNumber, HasBelow};
+ghost use Rattle.text_fields.specs.Faults.{field_faults};
 ghost use Rattle.plan_file.specs.Kinds.UserAccess.{bit_of, access_bits, HoldsUserAccess};
 
-use file_fields::tree::{byte_in, in_field};
-use file_fields::{Field, Need, Row, Shape};
 use record_base::SetUserAccess;
+use text_fields::tree::{byte_in, in_field};
+use text_fields::{Field, Need, Row, Shape};
 use toml::Table;
 
 /// The fields of a step that sets what a user may do on a channel.

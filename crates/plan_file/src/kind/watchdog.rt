@@ -2,12 +2,12 @@
 ghost use Rattle.std.specs.Prelude.{◌≡◌, ◌≤◌, ◌/◌, ◌%◌, []};
 ghost use Rattle.toml.specs.View.{table_view};
 ghost use Rattle.record_base.specs.Masks.{has};
-ghost use Rattle.file_fields.specs.Faults.{field_faults};
+ghost use Rattle.text_fields.specs.Faults.{field_faults};
 ghost use Rattle.plan_file.specs.Kinds.Watchdog.{HoldsWatchdog};
 
-use file_fields::tree::{byte_in, flag, word_in};
-use file_fields::{BYTE, Field, Need, Row, Shape};
 use record_base::SetWatchdog;
+use text_fields::tree::{byte_in, flag, word_in};
+use text_fields::{BYTE, Field, Need, Row, Shape};
 use toml::Table;
 
 /// The fields of a step that sets the watchdog timer.

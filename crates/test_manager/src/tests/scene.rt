@@ -1,11 +1,11 @@
 //! A manager, and the lines of what comes to it.
-use plans::{Names, NextNumbers, Plan, Requests, Steps, UndoList};
 use record_base::{Asked, Op, SetThresholds};
 use std::alloc::{AllocError, Global};
 use std::process::Abort;
 use story_lines::{NoOutcome, NoScene, Scene, report_of};
 use two_wire::{Address, Below, Bus, Bytes, Retries};
 use undo_core::{Manager, OpenFault, Sent, WrongPhase};
+use undo_plans::{Names, NextNumbers, Plan, Requests, Steps, UndoList};
 
 pub fn names() -> Names {
     Names {

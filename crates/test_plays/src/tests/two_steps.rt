@@ -3,12 +3,12 @@ use bmc_core::{At, Board, Out, Port};
 use cfg_records::{PlainStore, Store, sample_board};
 use mctp_net::EndpointId;
 use plan_file::read_plan;
-use plans::{Names, Plan};
 use std::alloc::Global;
 use std::process::Abort;
+use text_undo::{read_undo, write_undo};
 use two_wire::{Address, Bus};
 use undo_core::{Manager, OpenFault, Phase, Sent, Why};
-use undo_text::{read_undo, write_undo};
+use undo_plans::{Names, Plan};
 
 /// The sample board.
 fn sample(rt: &impl Abort, alloc: Global) -> Board<PlainStore> {

@@ -1,6 +1,6 @@
 //! Small schedules, worked by hand from the rule. Each call is made where it succeeds.
 
-use bus_model::{End, Numbers, Step, sent_frames};
+use model_bus::{End, Numbers, Step, sent_frames};
 use std::test::Fail;
 
 #[test]

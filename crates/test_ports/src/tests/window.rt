@@ -1,8 +1,8 @@
 //! What a port finds in its windows, over lists of requests.
 use super::expect_told;
+use bmc_windows::{Found, Request, Windows};
 use std::test::Fail;
 use two_wire::Below;
-use windows::{Found, Request, Windows};
 
 const WINDOWS: &str = "\
 story a ninth requester is busy

@@ -72,7 +72,7 @@ fn table_of(name: &str) -> Option<BiosTable> {
 fn bytes_of(alloc: Global, digits: &str) -> Result<Option<Vec<u8>>, AllocError> {
     let mut bytes = Vec::new(alloc);
     for word in digits.split(' ') {
-        match line_text::bytes(alloc, word)? {
+        match text_lines::bytes(alloc, word)? {
             Some(part) => bytes.extend_from_slice(part.as_slice())?,
             None => return Ok(None),
         }

@@ -1,13 +1,13 @@
 //! BIOS attributes: of board files, and of the steps of plans.
 use super::board::BARE;
 use super::story::{Form, are_alike, otherwise};
-use board_file::read_board;
 use cfg_records::{
     Attribute, AttributeKind, EnumerationAttribute, Indexes, IntegerAttribute, IntegerSteps,
     StringAttribute, Text, TextLengths,
 };
 use std::alloc::Global;
 use std::test::Fail;
+use text_board::read_board;
 
 /// An attribute of each kind. No line stands in them twice but `[[attribute]]`, nor in the board above.
 const THREE: &str = r#"[[attribute]]

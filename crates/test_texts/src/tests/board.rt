@@ -1,9 +1,9 @@
 //! Board files: the sample board, its own fields, its device and its sensors.
 use super::story::{Form, are_alike, ends_read, otherwise};
-use board_file::{FileFault, Item, Place, read_board};
 use cfg_records::sample_board;
-use file_fields::Field;
 use std::test::Fail;
+use text_board::{FileFault, Item, Place, read_board};
+use text_fields::Field;
 
 /// The sample board.
 const SAMPLE: &str = r#"tid = 5

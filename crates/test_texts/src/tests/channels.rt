@@ -1,9 +1,9 @@
 //! Users and channels of board files.
 use super::board::BARE;
 use super::story::{Form, are_alike, otherwise};
-use board_file::read_board;
 use cfg_records::{Channel, ChannelAccess, ChannelNumber, UserAccess, UserOnChannel};
 use std::test::Fail;
+use text_board::read_board;
 
 /// A board of two users, without sensors, channels and effecters.
 const HEAD: &str = r#"tid = 5

@@ -1,6 +1,6 @@
 //! Lines, words, numbers and bytes, as texts have them.
-use line_text::{behind, byte, bytes, first_line, first_word, number, plain_number};
 use std::test::Fail;
+use text_lines::{behind, byte, bytes, first_line, first_word, number, plain_number};
 
 #[test]
 fn lines_end_with_line_feeds_and_words_with_spaces(rt: HostRuntime) {

@@ -1,9 +1,9 @@
 //! Numeric effecters: of board files, and of the steps of plans.
 use super::board::BARE;
 use super::story::{Form, are_alike, otherwise};
-use board_file::read_board;
 use cfg_records::{NumericEffecter, NumericRange, NumericSize};
 use std::test::Fail;
+use text_board::read_board;
 
 /// Two numeric effecters. No line stands in them twice but `[[numeric]]`, nor in the board above.
 const TWO: &str = r#"[[numeric]]

@@ -9,9 +9,9 @@ use cfg_records::{
     SetStateEffecter, SetThresholds, SetUserAccess, SetUserName, SetWatchdog, SixBits,
 };
 use plan_file::{NoGet, OutsidePlan, PlanFault, StepFault, read_plan};
-use plans::Plan;
 use std::alloc::Global;
 use std::test::Fail;
+use undo_plans::Plan;
 
 /// A step of each kind, but for users, channels, BIOS attributes and state effecters. No line stands in it twice but `[[step]]`.
 const PLAN: &str = r#"[[step]]

@@ -5,14 +5,14 @@ use super::board::BARE;
 use super::story::{Form, otherwise};
 use bmc_play::{Account, InputFault, Inputs, Stopped, read_inputs};
 use cfg_records::Asked;
-use lab_events::{Fault, SentFrame, Way};
-use lab_model::marks::Mark;
-use plans::Requests;
-use schedules::ScheduleFault;
+use lab_run::{Fault, SentFrame, Way};
+use model_lab::marks::Mark;
 use std::alloc::{AllocError, Global};
 use std::test::Fail;
+use text_schedule::ScheduleFault;
 use two_wire::{Bus, Code, Frame, NetFn};
 use undo_core::{Phase, Why};
+use undo_plans::Requests;
 
 /// What is told of a manager that was not called.
 fn fresh(undo: &Requests) -> Account<'_> {

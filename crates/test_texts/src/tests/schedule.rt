@@ -1,7 +1,7 @@
 //! The lines of schedules, good and bad.
 use super::story::{Form, otherwise};
-use schedules::{Call, Event, OtherMessage, OtherRequest, ScheduleFault, read_schedule};
 use std::test::Fail;
+use text_schedule::{Call, Event, OtherMessage, OtherRequest, ScheduleFault, read_schedule};
 use two_wire::Bus;
 
 /// An event of each form.

@@ -1,10 +1,10 @@
 //! State effecters: of board files, and of the steps of plans.
 use super::board::BARE;
 use super::story::{Form, are_alike, otherwise};
-use board_file::read_board;
 use cfg_records::{Items, StateEffecter, StateField};
 use std::alloc::Global;
 use std::test::Fail;
+use text_board::read_board;
 
 /// Two state effecters. No line stands in them twice but `[[state]]`, nor in the board above.
 const TWO: &str = r#"[[state]]

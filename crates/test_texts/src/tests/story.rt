@@ -1,14 +1,14 @@
 //! Stories of texts: a file, and what comes of it with other lines.
 use bmc_play::read_inputs;
-use board_file::read_board;
 use cfg_records::{Op, RecordKind};
 use plan_file::read_plan;
-use plans::{Plan, Requests};
 use record_kinds::Limits;
-use schedules::read_schedule;
 use std::alloc::{AllocError, Global};
 use std::fmt::Debug;
-use undo_text::{push_requests, read_undo, write_undo};
+use text_board::read_board;
+use text_schedule::read_schedule;
+use text_undo::{push_requests, read_undo, write_undo};
+use undo_plans::{Plan, Requests};
 
 /// What a text is of.
 #[derive(Clone, Copy, PartialEq, Eq)]

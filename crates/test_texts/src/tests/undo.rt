@@ -1,11 +1,11 @@
 //! Undo texts: the list of a plan of two steps on thresholds, and bad lines.
 use super::story::{Form, are_alike, ends_read, otherwise};
 use cfg_records::Asked;
-use plans::{NextNumbers, Requests, UndoList};
 use std::alloc::{AllocError, Global};
 use std::test::Fail;
+use text_undo::{UndoFault, read_undo, write_undo};
 use two_wire::{Below, NetFn};
-use undo_text::{UndoFault, read_undo, write_undo};
+use undo_plans::{NextNumbers, Requests, UndoList};
 
 /// The text of a plan that sets upper thresholds of sensor 5 twice.
 const TEXT: &str = r#"undo 1

@@ -12,7 +12,7 @@ use Rattle.bmc_board.specs.Gives.{Gives}
 use Rattle.bmc_board.specs.Answer.{Given, reply, answer_of}
 use Rattle.bmc_board.proofs.AskedFacts.{IsRight, asked_right}
 use Rattle.bmc_board.proofs.AnswerFacts.{answers_fit}
-use Rattle.lab_model.specs.PortSteps.{asked_in}
+use Rattle.model_lab.specs.PortSteps.{asked_in}
 use Rattle.bmc_core.proofs.ipmb_port.respond.Goals.{in-Ok, in-Err}
 use Rattle.bmc_core.proofs.ipmb_port.respond.Goals as goal
 

@@ -1,6 +1,6 @@
 use Rattle.std.proofs.Common.{List, subst, sym}
-use Rattle.schedules.specs.declared.event.Event.{Event}
-use Rattle.lab_events.specs.declared.note.Note.{Note}
+use Rattle.text_schedule.specs.declared.event.Event.{Event}
+use Rattle.lab_run.specs.declared.note.Note.{Note}
 use Rattle.bmc_play.specs.Drawn.{NotesPlayOf}
 use Rattle.bmc_play.proofs.Noted.{draws}
 use Rattle.bmc_play.proofs.drawn.drawn_report.Goals as goal

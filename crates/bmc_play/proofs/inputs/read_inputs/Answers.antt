@@ -1,5 +1,5 @@
-use Rattle.plans.specs.declared.plan.Plan.{Plan}
-use Rattle.board_file.specs.declared.fault.FileFault.TheVariants as of_file
+use Rattle.undo_plans.specs.declared.plan.Plan.{Plan}
+use Rattle.text_board.specs.declared.fault.FileFault.TheVariants as of_file
 use Rattle.plan_file.specs.declared.plan_fault.PlanFault.TheVariants as of_plan
 use Rattle.bmc_play.proofs.Readers.{was_read, was_refused}
 use Rattle.bmc_play.proofs.inputs.read_inputs.Goals as goal

@@ -1,6 +1,6 @@
 use Rattle.std.proofs.Common.{◌≡◌, ◌++◌, take, string_bytes}
 use Rattle.std.specs.List.{flat_map}
-use Rattle.line_text.specs.Cuts.{ended}
+use Rattle.text_lines.specs.Cuts.{ended}
 use Rattle.bmc_play.specs.Lines.{frame_lines}
 use Rattle.bmc_play.proofs.lines.push_frames.Given as goal
 

@@ -1,5 +1,5 @@
 use Rattle.std.proofs.Common.{◌∙◌, ap}
-use Rattle.lab_model.specs.Played.{Told}
+use Rattle.model_lab.specs.Played.{Told}
 use Rattle.bmc_play.proofs.report.account_of.Goals as goal
 
 pub returns-clause-told : goal.returns-clause-told

@@ -1,5 +1,5 @@
 use Rattle.std.proofs.Common.{List, Ok, Err, subst}
-use Rattle.schedules.specs.declared.event.Event.{Event}
+use Rattle.text_schedule.specs.declared.event.Event.{Event}
 use Rattle.lab_play.specs.Ends.{Plays}
 use Rattle.lab_play.specs.declared.played.LabFault.{LabFault}
 use Rattle.bmc_play.proofs.Plays.{PlaysOf, recounts_whole, recounts_stopped}

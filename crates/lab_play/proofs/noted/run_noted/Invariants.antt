@@ -1,6 +1,6 @@
 use Rattle.std.proofs.Common.{◌≡◌, ◌≤◌, length, take}
 use Rattle.two_wire.specs.declared.Bus.{Bus}
-use Rattle.lab_events.specs.Shown.{idles_in}
+use Rattle.lab_run.specs.Shown.{idles_in}
 use Rattle.lab_play.specs.Runs.{Take}
 use Rattle.lab_play.specs.Noted.{Notes}
 use Rattle.lab_play.proofs.noted.run_noted.Given as goal

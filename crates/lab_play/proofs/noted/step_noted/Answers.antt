@@ -1,7 +1,7 @@
 use Rattle.std.proofs.Common.{length, refl, sym}
 use Rattle.std.proofs.lemmas.Slice.Zip.{AllZip-long}
-use Rattle.lab_events.specs.declared.note.Note.{Note}
-use Rattle.lab_events.specs.Shown.{IsSentFrame}
+use Rattle.lab_run.specs.declared.note.Note.{Note}
+use Rattle.lab_run.specs.Shown.{IsSentFrame}
 use Rattle.lab_play.proofs.Noting.{is_noted}
 use Rattle.lab_play.proofs.noted.step_noted.Goals as goal
 

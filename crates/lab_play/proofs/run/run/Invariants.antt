@@ -1,6 +1,6 @@
 use Rattle.std.proofs.Common.{◌≤◌, take}
 use Rattle.two_wire.specs.declared.Bus.{Bus}
-use Rattle.lab_events.specs.Shown.{idles_in}
+use Rattle.lab_run.specs.Shown.{idles_in}
 use Rattle.lab_play.specs.Runs.{Take}
 use Rattle.lab_play.proofs.run.run.Given as goal
 

@@ -4,16 +4,16 @@ use Rattle.std.proofs.lemmas.Result.{err_from_is_err_and}
 use Rattle.std.proofs.lemmas.Slice.Zip.{AllZip-long}
 use Rattle.std.specs.List.{list_all, AllZip}
 use Rattle.toml.specs.View.{view, table_view}
-use Rattle.file_fields.specs.declared.field.Field.TheVariants as field
+use Rattle.text_fields.specs.declared.field.Field.TheVariants as field
 use Rattle.plan_file.specs.declared.plan.TheConstants.{PLAN}
-use Rattle.file_fields.specs.Trees.{members_in}
-use Rattle.file_fields.specs.Ranges.{is_table}
-use Rattle.file_fields.specs.Faults.{field_faults, first}
+use Rattle.text_fields.specs.Trees.{members_in}
+use Rattle.text_fields.specs.Ranges.{is_table}
+use Rattle.text_fields.specs.Faults.{field_faults, first}
 use Rattle.plan_file.specs.PlanFaults.{steps_faults}
 use Rattle.plan_file.specs.PlanHolds.{IsStepIn}
-use Rattle.file_fields.proofs.First.{empty}
-use Rattle.file_fields.proofs.Rows.{all_sound}
-use Rattle.file_fields.proofs.Members.{tables_of}
+use Rattle.text_fields.proofs.First.{empty}
+use Rattle.text_fields.proofs.Rows.{all_sound}
+use Rattle.text_fields.proofs.Members.{tables_of}
 use Rattle.plan_file.proofs.Steps.{own_first, steps_first, no_plan_faults}
 use Rattle.plan_file.proofs.plan.plan_of.Goals as goal
 

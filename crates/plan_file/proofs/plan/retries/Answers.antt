@@ -1,10 +1,10 @@
 use Rattle.std.proofs.Common.{sym, ◌∙◌}
 use Rattle.toml.specs.View.{table_view}
 use Rattle.two_wire.specs.Retries.{most_retries}
-use Rattle.file_fields.specs.declared.field.Field.TheVariants as field
-use Rattle.file_fields.specs.declared.row.Need.TheVariants as need
+use Rattle.text_fields.specs.declared.field.Field.TheVariants as field
+use Rattle.text_fields.specs.declared.row.Need.TheVariants as need
 use Rattle.plan_file.specs.declared.plan.TheConstants.{PLAN}
-use Rattle.file_fields.proofs.Rows.{all_sound}
+use Rattle.text_fields.proofs.Rows.{all_sound}
 use Rattle.plan_file.proofs.Changes.{at_most}
 use Rattle.plan_file.proofs.plan.retries.Goals as goal
 

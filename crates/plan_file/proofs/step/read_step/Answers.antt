@@ -1,6 +1,6 @@
 use Rattle.std.proofs.Common.{None, sym, ◌∙◌, ap}
 use Rattle.toml.specs.View.{table_view}
-use Rattle.file_fields.specs.Faults.{first, field_faults}
+use Rattle.text_fields.specs.Faults.{first, field_faults}
 use Rattle.plan_file.proofs.Steps.{outside_first, no_get_first, fault_of_kind, fault_of_field, no_step_fault}
 use Rattle.plan_file.proofs.step.read_step.Goals as goal
 

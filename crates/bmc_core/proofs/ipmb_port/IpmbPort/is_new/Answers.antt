@@ -1,12 +1,12 @@
 use Rattle.std.proofs.Common.{◌≡◌, Some, List, ℕ, [], ◌∷◌, refl, sym, ◌∙◌, ap, subst, true, false}
-use Rattle.bus_model.specs.Request.{Request as Asking}
-use Rattle.bus_model.specs.Numbering.{is_above}
-use Rattle.bus_model.specs.Carried.{Outcome, Repeats, outcome}
-use Rattle.windows.specs.Heard.{outcome_of_found}
+use Rattle.model_bus.specs.Request.{Request as Asking}
+use Rattle.model_bus.specs.Numbering.{is_above}
+use Rattle.model_bus.specs.Carried.{Outcome, Repeats, outcome}
+use Rattle.bmc_windows.specs.Heard.{outcome_of_found}
 use Rattle.bmc_core.specs.declared.out.Done.TheVariants as done
 use Rattle.bmc_core.specs.Outs.{sends}
-use Rattle.lab_model.specs.Bytes.{heard_in}
-use Rattle.lab_model.specs.PortSteps.{response_after}
+use Rattle.model_lab.specs.Bytes.{heard_in}
+use Rattle.model_lab.specs.PortSteps.{response_after}
 use Rattle.bmc_core.specs.IpmbShown.{reading, whole, IsAnswered, IsSent, response, response_frame, Settles}
 use Rattle.bmc_core.proofs.OwnBytes.{response_read}
 use Rattle.bmc_core.proofs.IpmbRepeats.{found_answers}

@@ -1,5 +1,5 @@
 use Rattle.std.proofs.Common.{ap}
-use Rattle.windows.specs.Keeps.{Held}
+use Rattle.bmc_windows.specs.Keeps.{Held}
 use Rattle.bmc_core.specs.declared.ipmb_port.IpmbPort.{IpmbPort}
 use Rattle.bmc_core.proofs.ipmb_port.IpmbPort.keep.Goals as goal
 

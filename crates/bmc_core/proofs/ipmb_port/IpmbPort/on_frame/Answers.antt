@@ -1,7 +1,7 @@
 use Rattle.std.proofs.Common.{◌≡◌, ℕ, Bool, Result, refl, sym, ◌∙◌, subst}
 use Rattle.ipmb_frame.specs.declared.message.Request.{Request}
 use Rattle.two_wire.specs.declared.Bus.TheVariants.{Ipmb}
-use Rattle.bus_model.specs.Carried.{IsNew}
+use Rattle.model_bus.specs.Carried.{IsNew}
 use Rattle.bmc_board.specs.State.{State, state_of}
 use Rattle.bmc_core.specs.declared.out.Reason.{Reason}
 use Rattle.bmc_core.specs.IpmbHeard.{IsHeard}

@@ -1,7 +1,7 @@
 use Rattle.std.proofs.Common.{rules, ◌≡◌, ℕ, Bool, true, false, List, refl, sym, subst}
 use Rattle.ipmb_frame.specs.declared.message.Header.{Header}
 use Rattle.ipmb_frame.specs.Grammar.{IsResponse}
-use Rattle.bus_model.specs.Carried.{IsNew}
+use Rattle.model_bus.specs.Carried.{IsNew}
 use Rattle.bmc_core.specs.IpmbShown.{response, response_giving, outcome_at, Settles}
 use Rattle.bmc_core.proofs.OwnBytes.{response_read}
 use Rattle.bmc_core.proofs.IpmbFrames.{carried_shows}

@@ -1,7 +1,7 @@
 use Rattle.std.proofs.Common.{rules, ◌≡◌, Bool, true, false, Option, Some, None, refl, sym, ◌∙◌, ap, subst}
 use Rattle.mctp_net.specs.Places.{seen}
 use Rattle.record_base.specs.declared.message.Answered.{Answered}
-use Rattle.bus_model.specs.Carried.{IsNew}
+use Rattle.model_bus.specs.Carried.{IsNew}
 use Rattle.bmc_core.specs.declared.out.Reason.TheVariants as reason
 use Rattle.bmc_core.specs.declared.step.Step.TheVariants as step
 use Rattle.bmc_core.specs.declared.smbus_port.SmbusPort.{SmbusPort}

@@ -1,5 +1,5 @@
 use Rattle.std.proofs.Common.{◌≡◌, true, false, sym, ◌∙◌, subst}
-use Rattle.bus_model.specs.Carried.{IsNew}
+use Rattle.model_bus.specs.Carried.{IsNew}
 use Rattle.bmc_core.specs.declared.out.Done.TheVariants as done
 use Rattle.bmc_core.specs.declared.smbus_port.SmbusPort.{SmbusPort}
 use Rattle.bmc_core.specs.Outs.{sends}

@@ -1,10 +1,10 @@
 use Rattle.std.proofs.Common.{◌≡◌, ◌∷◌, ◌∙◌, ap, subst}
 use Rattle.two_wire.specs.declared.Bus.TheVariants.{Smbus}
 use Rattle.mctp_net.specs.declared.packet.Envelope.{Envelope}
-use Rattle.bus_model.specs.Request.{Request as Asking, Carried}
-use Rattle.bus_model.specs.Numbering.{is_above}
-use Rattle.bus_model.specs.Carried.{outcome}
-use Rattle.windows.specs.Keeps.{Keeps}
+use Rattle.model_bus.specs.Request.{Request as Asking, Carried}
+use Rattle.model_bus.specs.Numbering.{is_above}
+use Rattle.model_bus.specs.Carried.{outcome}
+use Rattle.bmc_windows.specs.Keeps.{Keeps}
 use Rattle.bmc_core.specs.Outs.{AreRead}
 use Rattle.bmc_core.specs.SmbusHeard.{InMessage}
 use Rattle.bmc_core.specs.SmbusShown.{pldm_reading, parts_from}

@@ -1,10 +1,10 @@
 use Rattle.std.proofs.Common.{◌≡◌, ◌<◌, ℕ, List, length, None, true, false, refl, sym, ◌∙◌, ap, subst}
 use Rattle.two_wire.specs.declared.Bus.TheVariants.{Smbus}
-use Rattle.bus_model.specs.Request.{Request as Asking}
-use Rattle.bus_model.specs.Numbering.{is_above}
-use Rattle.bus_model.specs.Carried.{Outcome, Repeats, IsBusy, IsNew, outcome}
-use Rattle.lab_model.specs.Values.{Value}
-use Rattle.lab_model.specs.Bytes.{said}
+use Rattle.model_bus.specs.Request.{Request as Asking}
+use Rattle.model_bus.specs.Numbering.{is_above}
+use Rattle.model_bus.specs.Carried.{Outcome, Repeats, IsBusy, IsNew, outcome}
+use Rattle.model_lab.specs.Values.{Value}
+use Rattle.model_lab.specs.Bytes.{said}
 use Rattle.bmc_core.specs.declared.out.Done.TheVariants as done
 use Rattle.bmc_core.specs.Outs.{sends, AreRead}
 use Rattle.bmc_core.specs.SmbusHeard.{InMessage, asking}

@@ -2,7 +2,7 @@ use Rattle.std.proofs.Common.{not, ap, ◌∙◌, rules, tests}
 use Rattle.std.proofs.lemmas.Iterator.{YieldsList-from_slice}
 use Rattle.std.proofs.lemmas.Iterator.Consumers.{YieldsList-from_filter, count_from_yields_List}
 use Rattle.cfg_records.specs.Records.{Records, Pair}
-use Rattle.lab_events.specs.Shown.{plain_records}
+use Rattle.lab_run.specs.Shown.{plain_records}
 use Rattle.lab_play.specs.Ends.{changed_in, is_value}
 use Rattle.lab_play.proofs.played.Played.changed.Goals as goal
 

@@ -1,7 +1,7 @@
 use Rattle.std.proofs.Common.{sym, subst}
 use Rattle.std.specs.List.{AllZip}
-use Rattle.lab_model.specs.Played.{Told}
-use Rattle.lab_events.specs.Shown.{IsSentFrame}
+use Rattle.model_lab.specs.Played.{Told}
+use Rattle.lab_run.specs.Shown.{IsSentFrame}
 use Rattle.lab_play.proofs.played.Played.frames.Goals as goal
 
 pub returns : goal.returns

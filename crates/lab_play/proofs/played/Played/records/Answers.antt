@@ -1,5 +1,5 @@
 use Rattle.std.proofs.Common.{sym, ◌∙◌, ap}
-use Rattle.lab_model.specs.Played.{Told}
+use Rattle.model_lab.specs.Played.{Told}
 use Rattle.lab_play.proofs.played.Played.records.Goals as goal
 
 pub returns : goal.returns

@@ -4,11 +4,11 @@ use Rattle.std.proofs.lemmas.List.Folds.{list_all-map}
 use Rattle.std.specs.List.{list_all, AllZip}
 use Rattle.toml.specs.Data.{Data}
 use Rattle.toml.specs.View.{view, table_view}
-use Rattle.file_fields.specs.declared.field.Field.TheVariants as field
+use Rattle.text_fields.specs.declared.field.Field.TheVariants as field
 use Rattle.plan_file.specs.declared.kind.bios_attribute.TheConstants.{FIELDS}
-use Rattle.file_fields.specs.Trees.{natural, IsNaturalIn, members_in}
-use Rattle.file_fields.specs.Attributes.{is_below}
-use Rattle.file_fields.proofs.Rows.{all_sound}
+use Rattle.text_fields.specs.Trees.{natural, IsNaturalIn, members_in}
+use Rattle.text_fields.specs.Attributes.{is_below}
+use Rattle.text_fields.proofs.Rows.{all_sound}
 use Rattle.plan_file.proofs.AttributeSteps.{indexes_there}
 use Rattle.plan_file.proofs.kind.bios_attribute.set_indexes.Goals as goal
 

@@ -1,7 +1,7 @@
 use Rattle.std.proofs.Common.{is_some, ◌∙◌, ap}
 use Rattle.toml.specs.View.{table_view}
 use Rattle.plan_file.specs.declared.kind.bios_attribute.TheConstants.{FIELDS}
-use Rattle.file_fields.proofs.Rows.{all_sound}
+use Rattle.text_fields.proofs.Rows.{all_sound}
 use Rattle.plan_file.proofs.AttributeSteps.{number_there}
 use Rattle.plan_file.proofs.kind.bios_attribute.set_number.Goals as goal
 

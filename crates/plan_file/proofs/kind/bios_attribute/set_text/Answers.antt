@@ -2,7 +2,7 @@ use Rattle.std.proofs.Common.{◌≡◌, ◌≤◌, suc, ℕ, length, List, is_s
 use Rattle.std.proofs.lemmas.Option.{same_Some}
 use Rattle.toml.specs.View.{table_view}
 use Rattle.plan_file.specs.declared.kind.bios_attribute.TheConstants.{FIELDS}
-use Rattle.file_fields.proofs.Rows.{all_sound}
+use Rattle.text_fields.proofs.Rows.{all_sound}
 use Rattle.plan_file.proofs.AttributeSteps.{text_there}
 use Rattle.plan_file.proofs.kind.bios_attribute.set_text.Goals as goal
 

@@ -1,7 +1,7 @@
 use Rattle.std.proofs.Common.{◌∙◌, is_some, option_map, ap, sym}
 use Rattle.toml.specs.View.{view, table_view}
 use Rattle.plan_file.specs.declared.kind.boot_param.TheConstants.{FIELDS}
-use Rattle.file_fields.proofs.Rows.{all_sound}
+use Rattle.text_fields.proofs.Rows.{all_sound}
 use Rattle.plan_file.proofs.BootSteps.{named_in, data_there}
 use Rattle.plan_file.proofs.kind.boot_param.boot_data.Goals as goal
 

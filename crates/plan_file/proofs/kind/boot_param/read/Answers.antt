@@ -1,7 +1,7 @@
 use Rattle.toml.specs.View.{table_view}
-use Rattle.file_fields.specs.declared.field.Field.TheVariants as field
+use Rattle.text_fields.specs.declared.field.Field.TheVariants as field
 use Rattle.plan_file.specs.declared.kind.boot_param.TheConstants.{FIELDS}
-use Rattle.file_fields.proofs.Rows.{all_sound, flag_there}
+use Rattle.text_fields.proofs.Rows.{all_sound, flag_there}
 use Rattle.plan_file.proofs.kind.boot_param.read.Goals as goal
 
 pub flag-requires : goal.flag-requires

@@ -1,9 +1,9 @@
 use Rattle.std.proofs.Common.{◌≡◌, true, None, is_some, refl, rules}
 use Rattle.toml.specs.View.{table_view}
-use Rattle.file_fields.specs.declared.field.Field.TheVariants as field
+use Rattle.text_fields.specs.declared.field.Field.TheVariants as field
 use Rattle.plan_file.specs.declared.kind.channel_access.TheConstants.{FIELDS}
-use Rattle.file_fields.specs.Trees.{in_field}
-use Rattle.file_fields.proofs.Rows.{all_sound}
+use Rattle.text_fields.specs.Trees.{in_field}
+use Rattle.text_fields.proofs.Rows.{all_sound}
 use Rattle.plan_file.proofs.UserSteps.{access_given, access_needed, limit_given}
 use Rattle.plan_file.proofs.kind.channel_access.channel_change.Goals as goal
 

@@ -1,12 +1,12 @@
 use Rattle.std.proofs.Common.{◌≡◌, true, is_some, lit<, refl, sym, ◌∙◌, ap}
 use Rattle.toml.specs.View.{view, table_view}
-use Rattle.file_fields.specs.declared.field.Field.TheVariants as field
-use Rattle.file_fields.specs.declared.row.Shape.TheVariants as shape
-use Rattle.file_fields.specs.declared.row.Need.TheVariants as need
+use Rattle.text_fields.specs.declared.field.Field.TheVariants as field
+use Rattle.text_fields.specs.declared.row.Shape.TheVariants as shape
+use Rattle.text_fields.specs.declared.row.Need.TheVariants as need
 use Rattle.plan_file.specs.declared.kind.channel_access.TheConstants.{FIELDS}
-use Rattle.file_fields.specs.Trees.{in_field}
-use Rattle.file_fields.specs.Channels.{store_of}
-use Rattle.file_fields.proofs.Rows.{all_sound, value_of, same_value, number_of, below}
+use Rattle.text_fields.specs.Trees.{in_field}
+use Rattle.text_fields.specs.Channels.{store_of}
+use Rattle.text_fields.proofs.Rows.{all_sound, value_of, same_value, number_of, below}
 use Rattle.plan_file.proofs.kind.channel_access.read.Goals as goal
 
 pub channel_in-requires : goal.channel_in-requires

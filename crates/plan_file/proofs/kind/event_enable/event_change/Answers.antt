@@ -1,7 +1,7 @@
 use Rattle.std.proofs.Common.{sym, ◌∙◌}
 use Rattle.toml.specs.View.{table_view}
 use Rattle.plan_file.specs.declared.kind.event_enable.TheConstants.{FIELDS}
-use Rattle.file_fields.proofs.Rows.{all_sound}
+use Rattle.text_fields.proofs.Rows.{all_sound}
 use Rattle.plan_file.proofs.Changes.{disables}
 use Rattle.plan_file.proofs.kind.event_enable.event_change.Goals as goal
 

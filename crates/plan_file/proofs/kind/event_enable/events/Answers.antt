@@ -2,13 +2,13 @@ use Rattle.std.proofs.Common.{sym, ◌∙◌, ap}
 use Rattle.std.proofs.lemmas.List.Folds.{list_all-map}
 use Rattle.std.specs.List.{list_all, list_any}
 use Rattle.toml.specs.View.{view, table_view}
-use Rattle.file_fields.specs.declared.field.Field.TheVariants as field
-use Rattle.file_fields.specs.declared.row.Need.TheVariants as need
+use Rattle.text_fields.specs.declared.field.Field.TheVariants as field
+use Rattle.text_fields.specs.declared.row.Need.TheVariants as need
 use Rattle.plan_file.specs.declared.kind.event_enable.TheConstants.{FIELDS}
-use Rattle.file_fields.specs.Ranges.{is_offset, is_number}
-use Rattle.file_fields.proofs.Rows.{all_sound}
+use Rattle.text_fields.specs.Ranges.{is_offset, is_number}
+use Rattle.text_fields.proofs.Rows.{all_sound}
 use Rattle.plan_file.proofs.Changes.{offsets_there}
-use Rattle.file_fields.proofs.Members.{listed_view}
+use Rattle.text_fields.proofs.Members.{listed_view}
 use Rattle.plan_file.proofs.kind.event_enable.events.Goals as goal
 
 pub mask_of-requires : goal.mask_of-requires

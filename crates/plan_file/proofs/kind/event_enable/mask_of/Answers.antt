@@ -4,9 +4,9 @@ use Rattle.std.proofs.lemmas.List.Folds.{list_any_more}
 use Rattle.std.specs.List.{list_any}
 use Rattle.toml.specs.View.{view}
 use Rattle.toml.specs.declared.value.Value.{Value}
-use Rattle.file_fields.specs.Ranges.{is_offset, is_number}
+use Rattle.text_fields.specs.Ranges.{is_offset, is_number}
 use Rattle.plan_file.proofs.Changes.{has_none}
-use Rattle.file_fields.proofs.Members.{each_passes}
+use Rattle.text_fields.proofs.Members.{each_passes}
 use Rattle.plan_file.proofs.kind.event_enable.mask_of.Goals as goal
 
 pub loop-offset-init : goal.loop-offset-init

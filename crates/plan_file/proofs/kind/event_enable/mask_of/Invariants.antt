@@ -2,7 +2,7 @@ use Rattle.std.proofs.Common.{◌≡◌, ℕ, take}
 use Rattle.std.specs.List.{list_any}
 use Rattle.record_base.specs.Masks.{has}
 use Rattle.toml.specs.View.{view}
-use Rattle.file_fields.specs.Ranges.{is_number}
+use Rattle.text_fields.specs.Ranges.{is_number}
 use Rattle.plan_file.proofs.kind.event_enable.mask_of.Given as goal
 
 abbrev pub invariant-loop-offset : goal.invariant-loop-offset

@@ -2,8 +2,8 @@ use Rattle.std.proofs.Common.{◌≡◌, ◌<◌, ◌≤◌, ◌||◌, ◌==◌,
 use Rattle.std.proofs.lemmas.Nat.Bits.{bit_at_set_same, bit_at_set_other}
 use Rattle.record_base.specs.Masks.{has}
 use Rattle.toml.specs.View.{view}
-use Rattle.file_fields.specs.Trees.{natural}
-use Rattle.file_fields.specs.Ranges.{passes}
+use Rattle.text_fields.specs.Trees.{natural}
+use Rattle.text_fields.specs.Ranges.{passes}
 use Rattle.plan_file.proofs.Changes.{one_more, offset_small}
 use Rattle.plan_file.proofs.kind.event_enable.with_event.Goals as goal
 

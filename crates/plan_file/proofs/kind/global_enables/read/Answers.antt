@@ -1,12 +1,12 @@
 use Rattle.std.proofs.Common.{◌≡◌, true, refl, sym, ◌∙◌, ap}
 use Rattle.toml.specs.View.{view, table_view}
-use Rattle.file_fields.specs.declared.field.Field.TheVariants as field
-use Rattle.file_fields.specs.declared.row.Shape.TheVariants as shape
+use Rattle.text_fields.specs.declared.field.Field.TheVariants as field
+use Rattle.text_fields.specs.declared.row.Shape.TheVariants as shape
 use Rattle.plan_file.specs.declared.kind.global_enables.TheConstants.{FIELDS}
-use Rattle.file_fields.specs.declared.row.Need.TheVariants as need
-use Rattle.file_fields.specs.Trees.{in_field, natural}
-use Rattle.file_fields.specs.Ranges.{passes, is_enables_byte}
-use Rattle.file_fields.proofs.Rows.{all_sound, value_of, same_value}
+use Rattle.text_fields.specs.declared.row.Need.TheVariants as need
+use Rattle.text_fields.specs.Trees.{in_field, natural}
+use Rattle.text_fields.specs.Ranges.{passes, is_enables_byte}
+use Rattle.text_fields.proofs.Rows.{all_sound, value_of, same_value}
 use Rattle.plan_file.proofs.kind.global_enables.read.Goals as goal
 
 pub value_in-requires : goal.value_in-requires

@@ -1,11 +1,11 @@
 use Rattle.std.proofs.Common.{◌≡◌, ◌∙◌, Some, is_some, ap, sym, refl}
 use Rattle.toml.specs.View.{table_view}
 use Rattle.record_base.specs.NumericSize.{bytes_of}
-use Rattle.file_fields.specs.declared.field.Field.TheVariants as field
+use Rattle.text_fields.specs.declared.field.Field.TheVariants as field
 use Rattle.plan_file.specs.declared.kind.numeric_effecter.TheConstants.{FIELDS}
-use Rattle.file_fields.specs.Numeric.{size_in, sized_in, sized_bytes}
-use Rattle.file_fields.proofs.Rows.{all_sound}
-use Rattle.file_fields.proofs.SizedFields.{named_in, told_in}
+use Rattle.text_fields.specs.Numeric.{size_in, sized_in, sized_bytes}
+use Rattle.text_fields.proofs.Rows.{all_sound}
+use Rattle.text_fields.proofs.SizedFields.{named_in, told_in}
 use Rattle.plan_file.proofs.kind.numeric_effecter.numeric_value.Goals as goal
 
 pub unwrap-size-requires : goal.unwrap-size-requires

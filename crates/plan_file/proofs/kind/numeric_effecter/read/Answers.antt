@@ -1,8 +1,8 @@
 use Rattle.std.proofs.Common.{lit<}
 use Rattle.toml.specs.View.{table_view}
-use Rattle.file_fields.specs.declared.field.Field.TheVariants as field
+use Rattle.text_fields.specs.declared.field.Field.TheVariants as field
 use Rattle.plan_file.specs.declared.kind.numeric_effecter.TheConstants.{FIELDS}
-use Rattle.file_fields.proofs.Rows.{all_sound, number_of, below}
+use Rattle.text_fields.proofs.Rows.{all_sound, number_of, below}
 use Rattle.plan_file.proofs.kind.numeric_effecter.read.Goals as goal
 
 pub word_in-requires : goal.word_in-requires

@@ -1,8 +1,8 @@
 use Rattle.std.proofs.Common.{lit<}
 use Rattle.toml.specs.View.{table_view}
-use Rattle.file_fields.specs.declared.field.Field.TheVariants as field
+use Rattle.text_fields.specs.declared.field.Field.TheVariants as field
 use Rattle.plan_file.specs.declared.kind.power_policy.TheConstants.{FIELDS}
-use Rattle.file_fields.proofs.Rows.{all_sound, number_of, below}
+use Rattle.text_fields.proofs.Rows.{all_sound, number_of, below}
 use Rattle.plan_file.proofs.kind.power_policy.read.Goals as goal
 
 pub byte_in-requires : goal.byte_in-requires

@@ -1,9 +1,9 @@
 use Rattle.std.proofs.Common.{◌≡◌, ◌<◌, ◌≤◌, length, is_some, sym, ap, ◌∙◌, arith}
 use Rattle.toml.specs.View.{view}
 use Rattle.toml.specs.declared.value.Value.{Value}
-use Rattle.file_fields.specs.States.{change_of}
+use Rattle.text_fields.specs.States.{change_of}
 use Rattle.plan_file.specs.Kinds.StateEffecter.{IsChangeIn}
-use Rattle.file_fields.proofs.Members.{next_zip, each_passes, read_so_far}
+use Rattle.text_fields.proofs.Members.{next_zip, each_passes, read_so_far}
 use Rattle.plan_file.proofs.kind.state_effecter.changes_of.Goals as goal
 
 pub unwrap-requires : goal.unwrap-requires

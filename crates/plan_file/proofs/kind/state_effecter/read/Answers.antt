@@ -4,11 +4,11 @@ use Rattle.std.proofs.lemmas.List.Folds.{list_all-map}
 use Rattle.std.specs.List.{list_all}
 use Rattle.toml.specs.Data.{Data}
 use Rattle.toml.specs.View.{view, table_view}
-use Rattle.file_fields.specs.declared.field.Field.TheVariants as field
+use Rattle.text_fields.specs.declared.field.Field.TheVariants as field
 use Rattle.plan_file.specs.declared.kind.state_effecter.TheConstants.{FIELDS}
-use Rattle.file_fields.specs.States.{change_of}
-use Rattle.file_fields.proofs.Rows.{all_sound, number_of, below}
-use Rattle.file_fields.proofs.StateChanges.{changes_there}
+use Rattle.text_fields.specs.States.{change_of}
+use Rattle.text_fields.proofs.Rows.{all_sound, number_of, below}
+use Rattle.text_fields.proofs.StateChanges.{changes_there}
 use Rattle.plan_file.proofs.kind.state_effecter.read.Goals as goal
 
 pub word_in-requires : goal.word_in-requires

@@ -1,8 +1,8 @@
 use Rattle.toml.specs.View.{table_view}
-use Rattle.file_fields.specs.declared.field.Field.TheVariants as field
-use Rattle.file_fields.specs.declared.row.Need.TheVariants as need
+use Rattle.text_fields.specs.declared.field.Field.TheVariants as field
+use Rattle.text_fields.specs.declared.row.Need.TheVariants as need
 use Rattle.plan_file.specs.declared.kind.thresholds.TheConstants.{FIELDS}
-use Rattle.file_fields.proofs.Rows.{all_sound}
+use Rattle.text_fields.proofs.Rows.{all_sound}
 use Rattle.plan_file.proofs.Changes.{at_most}
 use Rattle.plan_file.proofs.kind.thresholds.limits.Goals as goal
 

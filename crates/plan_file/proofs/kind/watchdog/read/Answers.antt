@@ -1,8 +1,8 @@
 use Rattle.std.proofs.Common.{lit<}
 use Rattle.toml.specs.View.{table_view}
-use Rattle.file_fields.specs.declared.field.Field.TheVariants as field
+use Rattle.text_fields.specs.declared.field.Field.TheVariants as field
 use Rattle.plan_file.specs.declared.kind.watchdog.TheConstants.{FIELDS}
-use Rattle.file_fields.proofs.Rows.{all_sound, number_of, below, within, flag_there}
+use Rattle.text_fields.proofs.Rows.{all_sound, number_of, below, within, flag_there}
 use Rattle.plan_file.proofs.kind.watchdog.read.Goals as goal
 
 pub flag-requires : goal.flag-requires

@@ -1,7 +1,7 @@
 use Rattle.std.proofs.Common.{rules, ◌≡◌, Bool, true, false, refl, ◌∙◌, ap, subst}
 use Rattle.record_base.specs.declared.message.Asked.{Asked}
-use Rattle.lab_model.specs.ManagerSteps.{Again}
-use Rattle.undo_model.specs.Machine as machine
+use Rattle.model_lab.specs.ManagerSteps.{Again}
+use Rattle.model_undo.specs.Machine as machine
 use Rattle.undo_core.specs.Shown.{IsStage}
 use Rattle.undo_core.specs.declared.stage.Task.{Task}
 use Rattle.undo_core.specs.declared.stage.Stage.{Stage}

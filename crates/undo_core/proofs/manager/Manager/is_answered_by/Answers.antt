@@ -1,11 +1,11 @@
 use Rattle.std.proofs.Common.{◌≡◌, ◌&&◌, ◌%◌, not, Bool, true, sym, ◌∙◌, ap, subst}
 use Rattle.std.specs.Prelude.{IsSome}
 use Rattle.std.proofs.lemmas.Bool.{true≢false}
-use Rattle.undo_model.specs.Words.{Answered, is_busy}
-use Rattle.bus_model.specs.Bytes.{ipmb_answers}
-use Rattle.lab_model.specs.Wires.{bytes_of}
-use Rattle.lab_model.specs.Bytes.{response_bytes}
-use Rattle.lab_model.specs.ManagerSteps.{is_answer}
+use Rattle.model_undo.specs.Words.{Answered, is_busy}
+use Rattle.model_bus.specs.Bytes.{ipmb_answers}
+use Rattle.model_lab.specs.Wires.{bytes_of}
+use Rattle.model_lab.specs.Bytes.{response_bytes}
+use Rattle.model_lab.specs.ManagerSteps.{is_answer}
 use Rattle.undo_core.specs.Shown.{own, taken_if}
 use Rattle.undo_core.proofs.Heard.{heard_response, no_response, other_response}
 use Rattle.undo_core.proofs.manager.Manager.is_answered_by.Goals as goal

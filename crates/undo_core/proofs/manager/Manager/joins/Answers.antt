@@ -1,7 +1,7 @@
 use Rattle.std.proofs.Common.{Bool, if◌then◌else◌, sym, ◌∙◌, ap, subst}
 use Rattle.std.specs.Prelude.{IsSome}
 use Rattle.std.proofs.lemmas.Bool.{true≢false}
-use Rattle.lab_model.specs.ManagerSteps.{board_plans, rests, joins}
+use Rattle.model_lab.specs.ManagerSteps.{board_plans, rests, joins}
 use Rattle.undo_core.proofs.Heard.{heard_packet, no_packet}
 use Rattle.undo_core.proofs.manager.Manager.joins.Goals as goal
 

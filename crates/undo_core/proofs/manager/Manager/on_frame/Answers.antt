@@ -3,7 +3,7 @@ use Rattle.std.proofs.lemmas.Bool.{true≢false}
 use Rattle.ipmb_frame.specs.declared.message.Response.{Response}
 use Rattle.ipmb_frame.specs.declared.message.Msg.TheVariants as msg
 use Rattle.mctp_net.specs.declared.packet.Packet.{Packet}
-use Rattle.lab_model.specs.ManagerSteps.{board_plans, hears_response, hears_packet}
+use Rattle.model_lab.specs.ManagerSteps.{board_plans, hears_response, hears_packet}
 use Rattle.undo_core.specs.Shown.{Does}
 use Rattle.undo_core.proofs.Heard.{response_read, packet_read, is_packet_read}
 use Rattle.undo_core.proofs.manager.Manager.on_frame.Goals as goal

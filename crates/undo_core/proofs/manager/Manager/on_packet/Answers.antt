@@ -4,8 +4,8 @@ use Rattle.mctp_net.specs.declared.taken.Taken.{Taken}
 use Rattle.mctp_net.specs.declared.taken.Taken.TheVariants.{Waiting}
 use Rattle.mctp_net.specs.Assembly.{Assemblies, drop_cause, dropped_for, after as kept_after, message_of, IsTaken}
 use Rattle.mctp_net.specs.Places.{seen}
-use Rattle.plans.specs.declared.names.Names.{Names}
-use Rattle.lab_model.specs.ManagerSteps.{board_plans, rests, joins, hears_packet, hears_reply}
+use Rattle.undo_plans.specs.declared.names.Names.{Names}
+use Rattle.model_lab.specs.ManagerSteps.{board_plans, rests, joins, hears_packet, hears_reply}
 use Rattle.undo_core.specs.Shown.{Does}
 use Rattle.undo_core.proofs.Heard.{joined_with, whole_joins, whole_ends}
 use Rattle.undo_core.proofs.manager.Manager.on_packet.Goals as goal

@@ -3,11 +3,11 @@ use Rattle.std.specs.Option.{option_map}
 use Rattle.record_base.specs.declared.op.Op.{Op}
 use Rattle.record_base.specs.declared.message.Asked.{Asked}
 use Rattle.record_base.specs.declared.message.Asked.TheVariants.{Ipmi, Pldm}
-use Rattle.plans.specs.declared.names.Names.{Names}
-use Rattle.lab_model.specs.ManagerWords.{bus_of}
-use Rattle.undo_model.specs.Machine as machine
-use Rattle.undo_model.specs.Machine.{Counts, count_of}
-use Rattle.lab_model.specs.ManagerSteps.{board_plans, values_of, Sent as AllSent, sent_of}
+use Rattle.undo_plans.specs.declared.names.Names.{Names}
+use Rattle.model_lab.specs.ManagerWords.{bus_of}
+use Rattle.model_undo.specs.Machine as machine
+use Rattle.model_undo.specs.Machine.{Counts, count_of}
+use Rattle.model_lab.specs.ManagerSteps.{board_plans, values_of, Sent as AllSent, sent_of}
 use Rattle.undo_core.specs.declared.stage.Task.{Task}
 use Rattle.undo_core.specs.declared.stage.Stage.{Stage}
 use Rattle.undo_core.specs.declared.stage.Stage.TheVariants as stage

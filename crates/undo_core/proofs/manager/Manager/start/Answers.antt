@@ -1,7 +1,7 @@
 use Rattle.std.proofs.Common.{List, refl, sym, ◌∙◌, ap, subst}
 use Rattle.std.specs.Prelude.{slice_get}
-use Rattle.lab_model.specs.ManagerSteps.{Start}
-use Rattle.undo_model.specs.Machine as machine
+use Rattle.model_lab.specs.ManagerSteps.{Start}
+use Rattle.model_undo.specs.Machine as machine
 use Rattle.undo_core.specs.Shown.{words_of, IsStage}
 use Rattle.record_base.specs.declared.op.Op.{Op}
 use Rattle.undo_core.specs.declared.stage.Stage.{Stage}

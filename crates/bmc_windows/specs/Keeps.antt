@@ -1,0 +1,67 @@
+-- The windows of a port, and the lists of what it did that leave them so.
+use Rattle.std.specs.Prelude.{◌≡◌, ℕ, ◌<◌, ◌≤◌, ◌↔◌, true, length, List, [], ◌∷◌, Option, Some, None, slice_index_or, slice_get}
+use Rattle.std.specs.Option.{option_map, option_and_then}
+use Rattle.std.specs.Str.{bytes_eq}
+use Rattle.model_bus.specs.Request.{Kept, Entry}
+use Rattle.model_bus.specs.Carried.{most_windows}
+use Rattle.model_bus.specs.Window.{windows_of, AllOnCircle}
+use Rattle.model_bus.specs.Slots.{AreSlots}
+use Rattle.bmc_windows.specs.Circle.{is_circle}
+use Rattle.bmc_windows.specs.Window.{Pair, Room, pair_at}
+
+-- `most_windows` windows: which one each requester has, which requester has each one, and what it holds
+pub record Held : Type 0 where
+  pub slots : List (Option ℕ)
+  pub owners : List (Option ℕ)
+  pub rooms : List Room
+
+-- any byte may have one of the windows; numbers go round one of the two circles, and a place's capacity fits
+pub record AreSound (numbers capacity : ℕ) (held : Held) : Type 0 where
+  pub bytes : length held.slots ≡ 256
+  pub owners : length held.owners ≡ most_windows
+  pub rooms : length held.rooms ≡ most_windows
+  pub circle : is_circle numbers ≡ true
+  pub fits : capacity ≤ 65535
+
+-- how a port reads the bytes that it keeps, of a request and of a reply; it reads no two requests as the same
+pub record Reading : Type 0 where
+  pub request : List ℕ → List ℕ
+  pub reply : List ℕ → List ℕ
+  pub same : (a b : List ℕ) → bytes_eq (request a) (request b) ≡ bytes_eq a b
+
+-- the window that a requester has
+abbrev pub slot_of : Held → ℕ → Option ℕ
+slot_of held requester = slice_index_or held.slots requester None
+
+-- the requester that has a window
+abbrev pub owner_of : Held → ℕ → Option ℕ
+owner_of held slot = slice_index_or held.owners slot None
+
+-- what a window has under a number
+abbrev pub pair_in : Held → Option ℕ → ℕ → Option Pair
+pair_in held None n = None
+pair_in held (Some slot) n = option_and_then (λ room. pair_at room n) (slice_get held.rooms slot)
+
+-- the request and the reply that a pair says
+abbrev pub kept_from : Reading → ℕ → ℕ → Pair → Kept
+kept_from reading requester number p =
+    record { request = record { requester = requester; number = number; bytes = reading.request p.request }; reply = reading.reply p.reply }
+
+-- a requester's row under a number
+abbrev pub row : Reading → Held → ℕ → ℕ → Option Kept
+row reading held requester number = option_map (kept_from reading requester number) (pair_in held (slot_of held requester) number)
+
+-- those that are there
+abbrev pub somes : List (Option ℕ) → List ℕ
+somes [] = []
+somes (None ∷ os) = somes os
+somes (Some q ∷ os) = q ∷ somes os
+
+-- the windows are those that a log of what was carried out, and of idle requesters, leaves
+pub record Keeps (numbers : ℕ) (reading : Reading) (held : Held) (log : List Entry) : Type 0 where
+  pub rows : (requester number : ℕ) → number < numbers → row reading held requester number ≡ windows_of numbers log requester number
+  -- exactly the log's requesters have a window
+  pub requesters : AreSlots (somes held.owners) log
+  -- a requester has a window exactly where the window has that requester
+  pub own : (requester slot : ℕ) → (slot_of held requester ≡ Some slot) ↔ (owner_of held slot ≡ Some requester)
+  pub on_circle : AllOnCircle numbers log

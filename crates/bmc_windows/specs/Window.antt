@@ -1,0 +1,33 @@
+-- One requester's window: under each number a request that was carried out, and its reply.
+use Rattle.std.specs.Prelude.{◌≡◌, ℕ, ◌<◌, ◌==◌, List, Option, Some, None, slice_get, if◌then◌else◌}
+use Rattle.std.specs.Int.{bit_at}
+use Rattle.std.specs.Str.{bytes_eq}
+use Rattle.model_bus.specs.Numbering.{is_next}
+
+-- a request that was carried out and its reply, as the bytes that are kept
+pub record Pair : Type 0 where
+  pub request : List ℕ
+  pub reply : List ℕ
+
+-- the places of a window, one for each number, and which of them are in use: bit n is of number n
+pub record Room : Type 0 where
+  pub used : ℕ
+  pub places : List Pair
+
+-- what the window has under a number
+abbrev pub pair_at : Room → ℕ → Option Pair
+pair_at room n = if bit_at room.used n == 1 then slice_get room.places n else None
+
+-- the reply, if the request is of these bytes
+abbrev pub reply_to : List ℕ → Option Pair → Option (List ℕ)
+reply_to bytes None = None
+reply_to bytes (Some p) = if bytes_eq bytes p.request then Some p.reply else None
+
+-- a request that is carried out is kept at its number, in place of what was there, and the next half of the circle is forgotten
+abbrev pub IsKept : (numbers number : ℕ) → Pair → Room → Room → Type 0
+IsKept numbers number p old new =
+    (n : ℕ) → n < numbers → pair_at new n ≡ (if n == number then Some p else if is_next numbers number n then None else pair_at old n)
+
+-- nothing is kept
+abbrev pub IsEmpty : ℕ → Room → Type 0
+IsEmpty numbers room = (n : ℕ) → n < numbers → pair_at room n ≡ None

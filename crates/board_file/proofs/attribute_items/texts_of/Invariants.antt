@@ -1,8 +1,0 @@
-use Rattle.std.proofs.Common.{map, take}
-use Rattle.std.specs.List.{AllZip}
-use Rattle.toml.specs.View.{view}
-use Rattle.board_file.specs.AttributeItems.{IsTextIn}
-use Rattle.board_file.proofs.attribute_items.texts_of.Given as goal
-
-abbrev pub invariant-loop-value : goal.invariant-loop-value
-invariant-loop-value l = AllZip IsTextIn (map view (take l.value-index l.values)) l.texts.items

@@ -1,8 +1,0 @@
-use Rattle.std.proofs.Common.{map, take}
-use Rattle.std.specs.List.{AllZip}
-use Rattle.toml.specs.View.{view}
-use Rattle.file_fields.specs.Trees.{IsNaturalIn}
-use Rattle.board_file.proofs.state_items.states_of.Given as goal
-
-abbrev pub invariant-loop-value : goal.invariant-loop-value
-invariant-loop-value l = AllZip IsNaturalIn (map view (take l.value-index l.values)) l.states.items

@@ -1,8 +1,0 @@
-use Rattle.bus_model.proofs.examples.ipmb_schedule_ends_answered.Goals as goal
-use Rattle.bus_model.proofs.Schedules.{ipmb_ends, ipmb_shows}
-
-pub returns-clause-ends : goal.returns-clause-ends
-returns-clause-ends c = ipmb_ends
-
-pub returns-clause-shows : goal.returns-clause-shows
-returns-clause-shows c = ipmb_shows

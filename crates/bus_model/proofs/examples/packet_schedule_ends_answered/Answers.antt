@@ -1,8 +1,0 @@
-use Rattle.bus_model.proofs.examples.packet_schedule_ends_answered.Goals as goal
-use Rattle.bus_model.proofs.Schedules.{packets_end, packets_show}
-
-pub returns-clause-ends : goal.returns-clause-ends
-returns-clause-ends c = packets_end
-
-pub returns-clause-shows : goal.returns-clause-shows
-returns-clause-shows c = packets_show

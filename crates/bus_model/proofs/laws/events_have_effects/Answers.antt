@@ -1,8 +1,0 @@
-use Rattle.bus_model.proofs.laws.events_have_effects.Goals as goal
-use Rattle.bus_model.proofs.WholeMessages.{ipmb_effects, smbus_effects}
-
-pub returns-clause-ipmb : goal.returns-clause-ipmb
-returns-clause-ipmb c = ipmb_effects
-
-pub returns-clause-smbus : goal.returns-clause-smbus
-returns-clause-smbus c = smbus_effects

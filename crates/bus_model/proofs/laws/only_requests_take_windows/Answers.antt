@@ -1,8 +1,0 @@
-use Rattle.bus_model.proofs.laws.only_requests_take_windows.Goals as goal
-use Rattle.bus_model.proofs.Strangers.{reads_requests, others_ask}
-
-pub returns-clause-read : goal.returns-clause-read
-returns-clause-read c = reads_requests
-
-pub returns-clause-packets : goal.returns-clause-packets
-returns-clause-packets c = others_ask

@@ -1,8 +1,0 @@
-use Rattle.bus_model.proofs.laws.requests_are_carried_at_most_once.Goals as goal
-use Rattle.bus_model.proofs.WholeMessages.{ipmb_always, smbus_always}
-
-pub returns-clause-ipmb : goal.returns-clause-ipmb
-returns-clause-ipmb c = ipmb_always
-
-pub returns-clause-smbus : goal.returns-clause-smbus
-returns-clause-smbus c = smbus_always

@@ -1,5 +1,0 @@
-use Rattle.bus_model.proofs.StepsSoFar.{StepsSoFar}
-use Rattle.bus_model.proofs.live_frames.sent_frames.Given as goal
-
-abbrev pub invariant-loop-step : goal.invariant-loop-step
-invariant-loop-step l = StepsSoFar l.fn.numbers l.steps l.aging l.step-index

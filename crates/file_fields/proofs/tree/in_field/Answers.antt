@@ -1,5 +1,0 @@
-use Rattle.toml.proofs.Views.{table_get}
-use Rattle.file_fields.proofs.tree.in_field.Goals as goal
-
-pub returns : goal.returns
-returns c = rw (← c.word.ensures) (table_get c.get.result c.word.result.now c.args.table.now.entries c.get.ensures.value)

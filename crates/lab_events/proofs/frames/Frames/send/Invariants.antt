@@ -1,6 +1,0 @@
-use Rattle.std.proofs.Common.{◌≡◌, ◌++◌, map, take}
-use Rattle.lab_events.specs.FramesShown.{sent_as}
-use Rattle.lab_events.proofs.frames.Frames.send.Given as goal
-
-abbrev pub invariant-loop-frame : goal.invariant-loop-frame
-invariant-loop-frame l = l.self ≡ l.initial.self ++ map (sent_as l.way l.mark) (take l.frame-index l.frames)

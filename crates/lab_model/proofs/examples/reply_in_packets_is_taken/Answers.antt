@@ -1,5 +1,0 @@
-use Rattle.lab_model.proofs.PacketExample.{takes_packets}
-use Rattle.lab_model.proofs.examples.reply_in_packets_is_taken.Goals as goal
-
-pub returns : goal.returns
-returns c = takes_packets

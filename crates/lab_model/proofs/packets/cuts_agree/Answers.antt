@@ -1,9 +1,0 @@
-use Rattle.std.proofs.Common.{refl}
-use Rattle.lab_model.proofs.Cutting.{packets-agree}
-use Rattle.lab_model.proofs.packets.cuts_agree.Goals as goal
-
-pub returns-clause-unit : goal.returns-clause-unit
-returns-clause-unit c = refl
-
-pub returns-clause-cut : goal.returns-clause-cut
-returns-clause-cut c = packets-agree

@@ -1,0 +1,82 @@
+use Rattle.std.proofs.Common.{sym, subst}
+use Rattle.std.specs.Prelude.{OnOk}
+use Rattle.model_lab.specs.Lab.{step}
+use Rattle.text_schedule.specs.declared.event.Event.{Event}
+use Rattle.model_lab.specs.Played.{happens}
+use Rattle.lab_run.specs.declared.lab_state.Lab.{Lab}
+use Rattle.lab_run.specs.Shown.{Becomes, own_bench}
+use Rattle.lab_run.specs.Hearing.{Did}
+use Rattle.lab_run.proofs.Sent.{on_any}
+use Rattle.lab_run.proofs.lab_state.Lab.happen.Goals as goal
+
+-- the lab becomes what it is after an event
+abbrev After : Lab → Lab → Event → Type 0
+After old new e = Becomes old new (λ file. happens (own_bench file) file e)
+
+pub returns-in-Calls-clause-becomes : goal.returns-in-Calls-clause-becomes
+unfolding step
+returns-in-Calls-clause-becomes c = subst (λ (e : Event). OnOk c.call.result (After c.args.self.now c.call.new.self e)) (sym c.in-Calls.is) c.call.ensures.becomes
+
+pub returns-in-ToBmc-clause-becomes : goal.returns-in-ToBmc-clause-becomes
+unfolding step
+returns-in-ToBmc-clause-becomes c = subst (λ (e : Event). OnOk c.to_port.result (After c.args.self.now c.to_port.new.self e)) (sym c.in-ToBmc.is) c.to_port.ensures.becomes
+
+pub returns-in-ToMgr-clause-becomes : goal.returns-in-ToMgr-clause-becomes
+unfolding step
+returns-in-ToMgr-clause-becomes c =
+    subst (λ (e : Event). OnOk c.to_manager.result (After c.args.self.now c.to_manager.new.self e)) (sym c.in-ToMgr.is) c.to_manager.ensures.becomes
+
+pub returns-in-OtherIpmb-clause-becomes : goal.returns-in-OtherIpmb-clause-becomes
+unfolding step
+returns-in-OtherIpmb-clause-becomes c =
+    subst (λ (e : Event). OnOk c.other_request.result (After c.args.self.now c.other_request.new.self e)) (sym c.in-OtherIpmb.is) c.other_request.ensures.becomes
+
+pub returns-in-OtherSmbus-clause-becomes : goal.returns-in-OtherSmbus-clause-becomes
+unfolding step
+returns-in-OtherSmbus-clause-becomes c =
+    subst (λ (e : Event). OnOk c.other_message.result (After c.args.self.now c.other_message.new.self e)) (sym c.in-OtherSmbus.is) c.other_message.ensures.becomes
+
+pub returns-in-Noise-clause-becomes : goal.returns-in-Noise-clause-becomes
+unfolding step
+returns-in-Noise-clause-becomes c = subst (After c.args.self.now c.args.self.now) (sym c.in-Noise.is) (λ file x shows. shows)
+
+pub returns-in-Idle-clause-becomes : goal.returns-in-Idle-clause-becomes
+unfolding step
+returns-in-Idle-clause-becomes c = subst (After c.args.self.now c.idle.new.self) (sym c.in-Idle.is) c.idle.ensures.becomes
+
+pub returns-in-Scan-clause-becomes : goal.returns-in-Scan-clause-becomes
+unfolding step
+returns-in-Scan-clause-becomes c = subst (After c.args.self.now c.bench.new.self) (sym c.in-Scan.is) c.bench.ensures.becomes
+
+pub returns-in-Tick-clause-becomes : goal.returns-in-Tick-clause-becomes
+unfolding step
+returns-in-Tick-clause-becomes c = subst (After c.args.self.now c.bench-in-Tick.new.self) (sym c.in-Tick.is) c.bench-in-Tick.ensures.becomes
+
+-- ---- what the controller did
+
+pub returns-in-ToBmc-clause-done : goal.returns-in-ToBmc-clause-done
+returns-in-ToBmc-clause-done c = subst (λ (e : Event). OnOk c.to_port.result (Did e c.args.self.now c.to_port.new.self)) (sym c.in-ToBmc.is) c.to_port.ensures.done
+
+pub returns-in-Calls-clause-done : goal.returns-in-Calls-clause-done
+returns-in-Calls-clause-done c = subst (λ (e : Event). OnOk c.call.result (Did e c.args.self.now c.call.new.self)) (sym c.in-Calls.is) (on_any c.call.result tt)
+
+pub returns-in-ToMgr-clause-done : goal.returns-in-ToMgr-clause-done
+returns-in-ToMgr-clause-done c = subst (λ (e : Event). OnOk c.to_manager.result (Did e c.args.self.now c.to_manager.new.self)) (sym c.in-ToMgr.is) (on_any c.to_manager.result tt)
+
+pub returns-in-OtherIpmb-clause-done : goal.returns-in-OtherIpmb-clause-done
+returns-in-OtherIpmb-clause-done c = subst (λ (e : Event). OnOk c.other_request.result (Did e c.args.self.now c.other_request.new.self)) (sym c.in-OtherIpmb.is) (on_any c.other_request.result tt)
+
+pub returns-in-OtherSmbus-clause-done : goal.returns-in-OtherSmbus-clause-done
+returns-in-OtherSmbus-clause-done c = subst (λ (e : Event). OnOk c.other_message.result (Did e c.args.self.now c.other_message.new.self)) (sym c.in-OtherSmbus.is) (on_any c.other_message.result tt)
+
+pub returns-in-Noise-clause-done : goal.returns-in-Noise-clause-done
+returns-in-Noise-clause-done c = subst (λ (e : Event). Did e c.args.self.now c.args.self.now) (sym c.in-Noise.is) tt
+
+pub returns-in-Idle-clause-done : goal.returns-in-Idle-clause-done
+returns-in-Idle-clause-done c = subst (λ (e : Event). Did e c.args.self.now c.idle.new.self) (sym c.in-Idle.is) tt
+
+pub returns-in-Scan-clause-done : goal.returns-in-Scan-clause-done
+returns-in-Scan-clause-done c = subst (λ (e : Event). Did e c.args.self.now c.bench.new.self) (sym c.in-Scan.is) tt
+
+pub returns-in-Tick-clause-done : goal.returns-in-Tick-clause-done
+returns-in-Tick-clause-done c = subst (λ (e : Event). Did e c.args.self.now c.bench-in-Tick.new.self) (sym c.in-Tick.is) tt

@@ -1,0 +1,31 @@
+-- The frame that an event delivers, and what the controller does with it.
+use Rattle.std.specs.Prelude.{◌-◌, nat_lt, Option, Some, None, option_map, slice_get}
+use Rattle.model_lab.specs.Lab.{LabFrame, Lab as LabModel, port_on}
+use Rattle.model_lab.specs.Faults.{begun_on}
+use Rattle.bmc_core.specs.declared.out.Done.{Done}
+use Rattle.text_schedule.specs.declared.event.Event.{Event}
+use Rattle.text_schedule.specs.declared.event.Event.TheVariants as event
+use Rattle.model_lab.specs.Played.{plans}
+use Rattle.lab_run.specs.declared.note.Came.{Came}
+use Rattle.lab_run.specs.declared.lab_state.Lab.{Lab}
+use Rattle.lab_run.specs.Hearing.{done_on}
+
+-- a frame that comes now: it is late where more requests were begun on its bus from its own on than that one
+abbrev pub comes : LabModel plans → LabFrame → Came
+comes x f = record { on = f.on; late = nat_lt 1 (begun_on plans.words f.on x.manager.machine - f.request) }
+
+-- the frame that the event delivers, if there is such a frame
+abbrev pub comes_at : LabModel plans → Event → Option Came
+comes_at x (event.ToBmc number) = option_map (comes x) (slice_get x.frames number)
+comes_at x (event.ToMgr number) = option_map (comes x) (slice_get x.frames number)
+comes_at x _ = None
+
+-- what the controller does with the frame that the event delivers
+abbrev pub done_at : LabModel plans → Event → Option Done
+done_at x (event.ToBmc number) = option_map (λ f. done_on f.on (port_on plans f.on x) f.value) (slice_get x.frames number)
+done_at x _ = None
+
+-- what the controller's port did last, where the event delivered a frame to it
+abbrev pub done_in : Event → Lab → Option Done
+done_in (event.ToBmc number) lab = Some lab.out.done
+done_in _ lab = None

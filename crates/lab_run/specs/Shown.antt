@@ -1,0 +1,69 @@
+-- The lab of the model that a lab shows.
+use Rattle.std.specs.Prelude.{◌≡◌, ℕ, Some, None, Result, Ok, Err}
+use Rattle.std.specs.List.{AllZip}
+use Rattle.two_wire.specs.declared.Bus.{Bus}
+use Rattle.two_wire.specs.declared.Bus.TheVariants as bus
+use Rattle.cfg_records.specs.declared.board_file.BoardFile.{BoardFile}
+use Rattle.cfg_records.specs.Records.{Records}
+use Rattle.cfg_records.specs.Index.{place_of}
+use Rattle.cfg_records.specs.Places.{value_at}
+use Rattle.cfg_records.specs.declared.plain_store.PlainStore.{PlainStore}
+use Rattle.bmc_board.specs.State.{state_of}
+use Rattle.bmc_board.specs.Sensing.{scan, tick}
+use Rattle.model_lab.specs.Lab.{LabFrame, Lab as LabModel, idles_on}
+use Rattle.bmc_core.specs.IpmbShown as ipmb
+use Rattle.bmc_core.specs.SmbusShown as smbus
+use Rattle.model_lab.specs.Values.{IsFrameOn}
+use Rattle.undo_core.specs.Shown as manager
+use Rattle.lab_run.specs.declared.frames.SentFrame.{SentFrame}
+use Rattle.model_lab.specs.Meaning.{lab_names, Bench}
+use Rattle.model_lab.specs.Played.{plans, fault_at, happens}
+use Rattle.lab_run.specs.FramesShown.{IsFrame, fault_of}
+use Rattle.text_schedule.specs.declared.event.Event.{Event}
+use Rattle.lab_run.specs.declared.lab_state.Idles.{Idles}
+use Rattle.lab_run.specs.declared.lab_state.Lab.{Lab}
+use Rattle.lab_run.specs.declared.step.Refused.{Refused}
+use Rattle.lab_run.specs.declared.step.Refused.TheVariants as refused
+
+-- what isn't configuration, on a board of this file: as the board's own bench has it
+abbrev pub own_bench : BoardFile → Bench
+own_bench file = record { scan = scan file; tick = tick }
+
+-- how often the manager's window was forgotten on a bus
+abbrev pub idles_in : Bus → Idles → ℕ
+idles_in bus.Ipmb idles = idles.ipmb
+idles_in bus.Smbus idles = idles.smbus
+
+-- the frame was sent so, and its bytes are its value on its bus
+pub record IsSentFrame (sent : SentFrame) (f : LabFrame) : Type 0 where
+  pub is : IsFrame sent f
+  pub read : IsFrameOn f.on f.value sent.bytes
+
+-- the records of a store
+abbrev pub plain_records : PlainStore → Records
+plain_records store = λ key. value_at store.records.items (place_of store.places key)
+
+-- the lab is this one of the model, on a board of this file
+pub record Shows (file : BoardFile) (lab : Lab) (x : LabModel plans) : Type 0 where
+  pub setup : lab.board.setup ≡ file
+  pub board : x.board ≡ state_of plain_records lab.board
+  pub ipmb : ipmb.Shows lab.ipmb x.ipmb
+  pub smbus : smbus.Shows lab.smbus x.smbus
+  pub manager : manager.Shows lab_names lab.manager x.manager
+  pub named : lab.names ≡ lab_names
+  pub frames : AllZip IsSentFrame lab.frames x.frames
+  pub idles : (on : Bus) → idles_on plans on x ≡ idles_in on lab.idles
+
+-- ---- what the calls make of a lab
+
+-- whatever lab of the model it showed, on a board of whatever file, it goes on to this one
+abbrev pub Becomes : Lab → Lab → (BoardFile → LabModel plans → LabModel plans) → Type 0
+Becomes old new makes = (file : BoardFile) (x : LabModel plans) → Shows file old x → Shows file new (makes file x)
+
+-- An event is asked of a lab. It happens where it has no fault, and else nothing changes. Where memory is refused, nothing is said.
+abbrev pub Steps : Event → Lab → Result (Unit {0}) Refused → Lab → Type 0
+Steps e old (Ok done) new =
+    (file : BoardFile) (x : LabModel plans) → Shows file old x → (fault_at (own_bench file) file x e ≡ None) × Shows file new (happens (own_bench file) file e x)
+Steps e old (Err (refused.Fault fault)) new =
+    (new ≡ old) × ((file : BoardFile) (x : LabModel plans) → Shows file old x → fault_at (own_bench file) file x e ≡ Some (fault_of fault))
+Steps e old (Err refused.Memory) new = Unit {0}

@@ -1,0 +1,70 @@
+//! What the manager is called to do, and what it hears.
+ghost use Rattle.std.specs.Prelude.{◌≡◌, OnOk, Option, slice_get};
+ghost use Rattle.cfg_records.specs.declared.board_file.BoardFile.{BoardFile as AnyFile};
+ghost use Rattle.undo_core.specs.Shown.{Calls, IsSent};
+ghost use Rattle.model_lab.specs.ManagerSteps.{Sent as AllSent, called};
+ghost use Rattle.model_lab.specs.Lab.{Lab as LabModel, sends, call_does, returned};
+ghost use Rattle.model_lab.specs.Meaning.{call_of};
+ghost use Rattle.model_lab.specs.Played.{plans};
+ghost use Rattle.lab_run.specs.Shown.{Shows, Becomes};
+
+use crate::frames::Way;
+use crate::lab_state::Lab;
+use model_lab::marks::Mark;
+use std::alloc::AllocError;
+use text_schedule::Call;
+use undo_core::{Manager, Sent, WrongPhase};
+
+/// Calls the manager.
+fn made(manager: &mut Manager, call: Call) -> Result<Option<Sent>, WrongPhase>
+    ensures { Calls (call_of call) manager.old manager.new result }
+{
+    match call {
+        Call::Start => manager.start(),
+        Call::Quiet => manager.quiet(),
+        Call::Stop => manager.stop(),
+        Call::Again => manager.again(),
+        Call::Undo => manager.undo(),
+    }
+}
+
+impl Lab {
+    /// The manager is called. In a wrong phase nothing changes.
+    pub(crate) fn call(&mut self, call: Call) -> Result<(), AllocError>
+        ensures becomes { OnOk result (Becomes self.old self.new (λ file x. call_does plans (called plans (call_of call) x.manager) x)) }
+        ensures idles { self.new.idles ≡ self.old.idles }
+    {
+        match made(&mut self.manager, call) {
+            Ok(sent) => self.send(sent),
+            Err(_) => Ok(()),
+        }
+    }
+
+    /// The bytes of the frame of this number come to the manager, if there is such a frame.
+    pub(crate) fn to_manager(&mut self, number: u32) -> Result<(), AllocError>
+        ensures becomes { OnOk result (Becomes self.old self.new (λ file x. returned plans file (slice_get x.frames number) x)) }
+        ensures idles { self.new.idles ≡ self.old.idles }
+    {
+        let Some(frame) = self.frames.get(number) else {
+            return Ok(());
+        };
+        let sent = self.manager.on_frame(frame.mark.on, frame.bytes.as_slice());
+        self.send(sent)
+    }
+
+    /// The manager's frames are sent, if it sends some.
+    fn send(&mut self, sent: Option<Sent>) -> Result<(), AllocError>
+        ensures becomes { OnOk result ((file : AnyFile) (x : LabModel plans) (s : Option AllSent) → Shows file self.old x → IsSent sent s → Shows file self.new (sends plans s x)) }
+        ensures idles { self.new.idles ≡ self.old.idles }
+    {
+        let Some(sent) = sent else {
+            return Ok(());
+        };
+        let mark = Mark {
+            on: sent.bus,
+            request: usize::from(sent.request),
+            idles: self.idles.on(sent.bus),
+        };
+        self.frames.send(Way::ToPort, mark, sent.frames.as_slice())
+    }
+}

@@ -1,0 +1,126 @@
+//! A lab.
+ghost use Rattle.std.specs.Prelude.{◌≡◌, IfOk};
+ghost use Rattle.mctp_net.specs.Assembly.{nothing};
+ghost use Rattle.model_undo.specs.Machine.{opened};
+ghost use Rattle.undo_core.specs.Shown as manager;
+ghost use Rattle.undo_core.specs.Shown.{words_of};
+ghost use Rattle.cfg_records.specs.declared.board_file.BoardFile.{BoardFile as AnyFile};
+ghost use Rattle.two_wire.specs.declared.Bus.{Bus as AnyBus};
+ghost use Rattle.model_lab.specs.Lab.{Lab as LabModel, opening};
+ghost use Rattle.model_lab.specs.PortSteps.{quiet_port};
+ghost use Rattle.bmc_core.specs.IpmbShown as ipmb;
+ghost use Rattle.bmc_core.specs.SmbusShown as smbus;
+ghost use Rattle.model_lab.specs.Meaning.{lab_names as the_names};
+ghost use Rattle.model_lab.specs.Played.{plans};
+ghost use Rattle.lab_run.specs.FramesShown.{ShowsFrames};
+ghost use Rattle.lab_run.specs.Shown.{Shows, idles_in};
+
+use crate::fault::Marks;
+use crate::frames::Frames;
+use crate::names::lab_names;
+use bmc_board::{Board, Records};
+use bmc_core::{At, IpmbPort, Out, SmbusPort};
+use cfg_records::BoardFile;
+use mctp_net::EndpointId;
+use model_lab::marks::Known;
+use std::alloc::{AllocError, Global};
+use two_wire::Bus;
+use undo_core::{Manager, OpenFault};
+use undo_plans::{Names, Plan};
+
+/// How often the manager's window was forgotten, on each bus.
+#[derive(Clone, Copy, Debug, PartialEq, Eq)]
+pub(crate) struct Idles {
+    pub ipmb: usize,
+    pub smbus: usize,
+}
+
+impl Idles {
+    /// That on one bus.
+    pub fn on(self, bus: Bus) -> usize
+        ensures { result ≡ idles_in bus self }
+    {
+        match bus {
+            Bus::Ipmb => self.ipmb,
+            Bus::Smbus => self.smbus,
+        }
+    }
+}
+
+/// A controller's board with its two ports, a manager with a plan, and all frames that were sent.
+#[derive(Drop)]
+pub struct Lab {
+    pub(crate) board: Board<Records>,
+    pub(crate) ipmb: IpmbPort,
+    pub(crate) smbus: SmbusPort,
+    pub(crate) manager: Manager,
+    pub(crate) names: Names,
+    pub(crate) frames: Frames,
+    pub(crate) idles: Idles,
+    /// What a port sent last.
+    pub(crate) out: Out,
+}
+
+/// A manager of a plan, with the plan's retries.
+fn opened_manager(alloc: Global, plan: Plan, names: Names) -> Result<Manager, AllocError>
+    ensures { IfOk result (λ m. manager.Shows names m (record { machine = opened (words_of names) plan.steps plan.retries; names = names; joined = nothing })) }
+{
+    let Plan { steps, retries } = plan;
+    match Manager::open(alloc, Plan { steps, retries }, names, retries.number()) {
+        Ok(manager) => Ok(manager),
+        Err(OpenFault::Memory) => Err(AllocError),
+        Err(OpenFault::Retries) => unreachable!(),
+    }
+}
+
+/// The controller's port on IPMB.
+fn opened_ipmb(alloc: Global) -> Result<IpmbPort, AllocError>
+    ensures { IfOk result (λ port. ipmb.Shows port (quiet_port the_names.peer_address the_names.peer_eid)) }
+{
+    IpmbPort::new(alloc, lab_names().peer_address)
+}
+
+/// The controller's port on the System Management Bus.
+fn opened_smbus(alloc: Global) -> Result<SmbusPort, AllocError>
+    ensures { IfOk result (λ port. smbus.Shows port (quiet_port the_names.peer_wire the_names.peer_eid)) }
+{
+    let names = lab_names();
+    let wire = names.peer_wire;
+    let eid = EndpointId::new(names.peer_eid).unwrap();
+    SmbusPort::new(alloc, At { wire, eid })
+}
+
+impl Lab {
+    /// A lab as it begins.
+    pub fn open(alloc: Global, file: BoardFile, plan: Plan) -> Result<Lab, AllocError>
+        ensures shows { IfOk result (λ lab. Shows file lab (opening plans file the_names plan.steps plan.retries)) }
+        ensures never { IfOk result (λ lab. (on : AnyBus) → idles_in on lab.idles ≡ 0) }
+    {
+        Ok(Lab {
+            board: Board::of_file(alloc, file)?,
+            ipmb: opened_ipmb(alloc)?,
+            smbus: opened_smbus(alloc)?,
+            manager: opened_manager(alloc, plan, lab_names())?,
+            names: lab_names(),
+            frames: Frames::new(alloc),
+            idles: Idles { ipmb: 0, smbus: 0 },
+            out: Out::new(),
+        })
+    }
+
+    /// What tells which frames are too old.
+    pub(crate) fn marks(&self) -> Marks
+        ensures { (file : AnyFile) (x : LabModel plans) → Shows file self.now x → ShowsFrames the_names self.now.frames result x }
+    {
+        Marks {
+            ipmb: Known {
+                begun: self.manager.begun(Bus::Ipmb),
+                idles: self.idles.ipmb,
+            },
+            smbus: Known {
+                begun: self.manager.begun(Bus::Smbus),
+                idles: self.idles.smbus,
+            },
+        }
+    }
+}

@@ -1,0 +1,32 @@
+//! Notes.
+use bmc_core::Done;
+use text_schedule::Event;
+use two_wire::Bus;
+use undo_core::Phase;
+
+/// A frame that came to an end.
+#[derive(Clone, Copy, Debug, PartialEq, Eq)]
+pub struct Came {
+    /// The bus that it came over.
+    pub on: Bus,
+    /// Whether the manager had begun a newer request on the bus.
+    pub late: bool,
+}
+
+/// What is noted of an event that happened.
+#[derive(Clone, Copy, Debug)]
+pub struct Note<'a> {
+    pub event: &'a Event,
+    /// The frame that it delivered.
+    pub came: Option<Came>,
+    /// What the controller did with it.
+    pub done: Option<Done>,
+    /// The bus of the first frame that was sent at it.
+    pub sends: Option<Bus>,
+    /// How many frames had been sent before it.
+    pub before: usize,
+    /// How many had been sent after it.
+    pub after: usize,
+    /// The manager's phase after it.
+    pub phase: Phase,
+}

@@ -1,0 +1,69 @@
+//! What is noted of an event.
+ghost use Rattle.std.specs.Prelude.{◌≡◌, Some, None, IfSome, IfNone, slice_get, option_map};
+ghost use Rattle.cfg_records.specs.declared.board_file.BoardFile.{BoardFile as AnyFile};
+ghost use Rattle.model_lab.specs.Lab.{Lab as LabModel};
+ghost use Rattle.model_lab.specs.Played.{plans};
+ghost use Rattle.lab_run.specs.Shown.{Shows};
+ghost use Rattle.lab_run.specs.Coming.{comes, comes_at, done_in};
+
+use crate::frames::SentFrame;
+use crate::lab_state::Lab;
+use crate::note::Came;
+use bmc_core::Done;
+use text_schedule::Event;
+use two_wire::Bus;
+
+impl Lab {
+    /// The frame of this number, which comes, if there is such a frame.
+    fn coming(&self, number: u32) -> Option<Came>
+        ensures { (file : AnyFile) (x : LabModel plans) → Shows file self.now x → result ≡ option_map (comes x) (slice_get x.frames number) }
+    {
+        let Some(frame) = self.frames.get(number) else {
+            return None;
+        };
+        let mark = frame.mark;
+        let begun = self.manager.begun(mark.on);
+        Some(Came {
+            on: mark.on,
+            late: begun.saturating_sub(mark.request) > 1,
+        })
+    }
+
+    /// The frame that the event delivers, if there is such a frame.
+    pub fn came(&self, event: &Event) -> Option<Came>
+        ensures { (file : AnyFile) (x : LabModel plans) → Shows file self.now x → result ≡ comes_at x event.now }
+    {
+        match event {
+            Event::ToBmc(number) | Event::ToMgr(number) => self.coming(*number),
+            _ => None,
+        }
+    }
+
+    /// The frame of this number, if there is such a frame.
+    fn frame_at(&self, number: usize) -> Option<&SentFrame>
+        ensures some { IfSome result (λ frame. slice_get self.now.frames number ≡ Some frame.now) }
+        ensures none { IfNone result (slice_get self.now.frames number ≡ None) }
+    {
+        self.frames.as_slice().get(number)
+    }
+
+    /// The bus of the frame of this number, if there is such a frame.
+    pub fn bus_of(&self, number: usize) -> Option<Bus>
+        ensures { (file : AnyFile) (x : LabModel plans) → Shows file self.now x → result ≡ option_map (λ f. f.on) (slice_get x.frames number) }
+    {
+        let Some(frame) = self.frame_at(number) else {
+            return None;
+        };
+        Some(frame.mark.on)
+    }
+
+    /// What the controller did with the frame that the event delivered, after the event.
+    pub fn done(&self, event: &Event) -> Option<Done>
+        ensures { result ≡ done_in event.now self.now }
+    {
+        match event {
+            Event::ToBmc(_) => Some(self.out.done),
+            _ => None,
+        }
+    }
+}

@@ -1,0 +1,172 @@
+//! What the controller's ports hear, and what they forget.
+ghost use Rattle.std.specs.Prelude.{◌≡◌, ◌<◌, ◌≤◌, List, Some, map, OnOk, suc, slice_get};
+ghost use Rattle.std.specs.List.{AllZip};
+ghost use Rattle.two_wire.specs.declared.Bus.{Bus as AnyBus};
+ghost use Rattle.two_wire.specs.declared.Bus.TheVariants.{Ipmb, Smbus};
+ghost use Rattle.ipmb_frame.specs.Grammar.{IsRequest};
+ghost use Rattle.cfg_records.specs.declared.board_file.BoardFile.{BoardFile as AnyFile};
+ghost use Rattle.model_lab.specs.Values.{Value, Asks, Part, IsFrameOn, parts_of};
+ghost use Rattle.model_lab.specs.PortSteps.{hears, hears_all, idles};
+ghost use Rattle.model_lab.specs.Lab.{LabFrame, Lab as LabModel, ToOthers, delivered, port_does, port_on, with_port, with_frames};
+ghost use Rattle.model_lab.specs.Meaning.{lab_names as the_names, other_wire, request_of, message_of};
+ghost use Rattle.model_lab.specs.Played.{plans};
+ghost use Rattle.lab_run.specs.FramesShown.{way_of};
+ghost use Rattle.lab_run.specs.Shown.{Shows, Becomes, idles_in};
+ghost use Rattle.lab_run.specs.Hearing.{HasFrames, HasHeard, done_on};
+
+use crate::frames::Way;
+use crate::lab_state::Lab;
+use arrayvec::ArrayVec;
+use ipmb_frame::{Header, Party, Request, write_request};
+use mctp_net::{Envelope, Message, SomeData, Tag, split};
+use model_lab::marks::Mark;
+use std::alloc::AllocError;
+use text_schedule::{OtherMessage, OtherRequest};
+use two_wire::{Address, Bus, Data, Frame};
+use undo_plans::Names;
+
+/// The two-wire address of all others on the System Management Bus.
+const OTHER_WIRE: u8 = 0x42;
+
+/// The address of all others.
+fn others() -> Address
+    ensures { result ≡ other_wire }
+{
+    Address::new(OTHER_WIRE).unwrap()
+}
+
+/// The frame of somebody else's request to the controller.
+fn request_frame(names: &Names, request: &OtherRequest) -> Frame
+    ensures { IsRequest (request_of names.now request.now) result }
+{
+    let header = Header {
+        responder: Party {
+            address: names.peer_address,
+            lun: request.responder,
+        },
+        requester: request.requester,
+        net_fn: request.net_fn,
+        sequence: request.sequence,
+        command: request.command,
+    };
+    let body = Data::new(request.body.as_slice());
+    write_request(&Request { header, body })
+}
+
+/// The frames of somebody else's message to the controller.
+fn message_frames(names: &Names, message: &OtherMessage) -> ArrayVec<Frame, 4>
+    ensures { AllZip (IsFrameOn Smbus) (map (λ p. Part p) (parts_of (message_of names.now message.now))) result.items }
+{
+    let envelope = Envelope {
+        destination: names.peer_wire,
+        source: others(),
+        destination_eid: names.peer_eid,
+        source_eid: message.from,
+        tag_owner: true,
+        tag: Tag::new(0),
+    };
+    let body = SomeData::new(message.body.as_slice());
+    split(&Message { envelope, body })
+}
+
+impl Lab {
+    /// The frame of this number comes to the controller's port on its bus, if there is such a frame.
+    pub(crate) fn to_port(&mut self, number: u32) -> Result<(), AllocError>
+        ensures becomes { OnOk result (Becomes self.old self.new (λ file x. delivered plans file (slice_get x.frames number) x)) }
+        ensures done { OnOk result ((file : AnyFile) (x : LabModel plans) (f : LabFrame) → Shows file self.old x → slice_get x.frames number ≡ Some f
+            → self.new.out.done ≡ done_on f.on (port_on plans f.on x) f.value) }
+        ensures idles { self.new.idles ≡ self.old.idles }
+    {
+        let Some(frame) = self.frames.get(number) else {
+            return Ok(());
+        };
+        let mark = frame.mark;
+        let bytes = frame.bytes.copy();
+        self.hear(mark.on, bytes.as_slice());
+        let reply = mark.reply(self.idles.on(mark.on));
+        self.send_out(Way::ToManager, reply)
+    }
+
+    /// Somebody else's request comes to the port on IPMB.
+    pub(crate) fn other_request(&mut self, request: &OtherRequest) -> Result<(), AllocError>
+        ensures becomes { OnOk result (Becomes self.old self.new (λ file x. port_does plans Ipmb ToOthers 0 (hears file x.ipmb x.board (Asks (request_of the_names request.now))) x)) }
+        ensures idles { self.new.idles ≡ self.old.idles }
+    {
+        let frame = request_frame(&self.names, request);
+        self.hear_other(Bus::Ipmb, frame.as_slice())
+    }
+
+    /// All packets of somebody else's message come to the port on the System Management Bus.
+    pub(crate) fn other_message(&mut self, message: &OtherMessage) -> Result<(), AllocError>
+        ensures becomes { OnOk result (Becomes self.old self.new (λ file x. port_does plans Smbus ToOthers 0 (hears_all file x.smbus x.board (message_of the_names message.now)) x)) }
+        ensures idles { self.new.idles ≡ self.old.idles }
+    {
+        let frames = message_frames(&self.names, message);
+        for frame in frames.as_slice() {
+            self.hear_other(Bus::Smbus, frame.as_slice())?;
+        }
+        Ok(())
+    }
+
+    /// Somebody else's frame comes to the port on its bus, and what the port sends goes to others.
+    fn hear_other(&mut self, on: Bus, bytes: &[u8]) -> Result<(), AllocError>
+        ensures becomes { OnOk result ((file : AnyFile) (x : LabModel plans) (v : Value) → Shows file self.old x → IsFrameOn on v bytes.now
+            → Shows file self.new (port_does plans on ToOthers 0 (hears file (port_on plans on x) x.board v) x)) }
+        ensures idles { self.new.idles ≡ self.old.idles }
+    {
+        self.hear(on, bytes);
+        let mark = Mark {
+            on,
+            request: 0,
+            idles: self.idles.on(on),
+        };
+        self.send_out(Way::ToOthers, mark)
+    }
+
+    /// A frame comes to the port on its bus, which fills in what it sends.
+    fn hear(&mut self, on: Bus, bytes: &[u8])
+        ensures heard { (file : AnyFile) (x : LabModel plans) (v : Value) → Shows file self.old x → IsFrameOn on v bytes.now
+            → HasHeard file on x (hears file (port_on plans on x) x.board v) self.new }
+        ensures done { (file : AnyFile) (x : LabModel plans) (v : Value) → Shows file self.old x → IsFrameOn on v bytes.now
+            → self.new.out.done ≡ done_on on (port_on plans on x) v }
+        ensures idles { self.new.idles ≡ self.old.idles }
+    {
+        match on {
+            Bus::Ipmb => self.ipmb.on_frame(&mut self.board, bytes, &mut self.out),
+            Bus::Smbus => self.smbus.on_frame(&mut self.board, bytes, &mut self.out),
+        }
+    }
+
+    /// The lab sends what a port filled in last, this way and with this mark.
+    fn send_out(&mut self, way: Way, mark: Mark) -> Result<(), AllocError>
+        requires { mark.idles ≡ idles_in mark.on self.old.idles }
+        ensures sent { OnOk result ((file : AnyFile) (x : LabModel plans) (values : List Value) → Shows file self.old x → HasFrames mark.on values self.old.out
+            → Shows file self.new (with_frames plans mark.on (way_of way) mark.request values x)) }
+        ensures out { self.new.out ≡ self.old.out }
+        ensures idles { self.new.idles ≡ self.old.idles }
+    {
+        self.frames.send(way, mark, self.out.frames.as_slice())
+    }
+
+    /// The port on a bus forgets a requester's window.
+    pub(crate) fn idle(&mut self, on: Bus, requester: u8)
+        requires { (bus : AnyBus) → idles_in bus self.now.idles < 9223372036854775807 }
+        ensures becomes { Becomes self.old self.new (λ file x. with_port plans on (idles requester (port_on plans on x)) x) }
+        ensures few { (bus : AnyBus) → idles_in bus self.new.idles ≤ suc (idles_in bus self.old.idles) }
+    {
+        match on {
+            Bus::Ipmb => {
+                self.ipmb.idle(requester);
+                if requester == self.names.own_address.byte() {
+                    self.idles.ipmb += 1;
+                }
+            }
+            Bus::Smbus => {
+                self.smbus.idle(requester);
+                if requester == self.names.own_eid {
+                    self.idles.smbus += 1;
+                }
+            }
+        }
+    }
+}

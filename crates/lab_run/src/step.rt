@@ -1,0 +1,102 @@
+//! Events.
+ghost use Rattle.std.specs.Prelude.{◌≡◌, ◌<◌, ◌≤◌, suc, option_map, OnOk};
+ghost use Rattle.two_wire.specs.declared.Bus.{Bus as AnyBus};
+ghost use Rattle.cfg_records.specs.declared.board_file.BoardFile.{BoardFile as AnyFile};
+ghost use Rattle.model_lab.specs.Lab.{Lab as LabModel};
+ghost use Rattle.model_lab.specs.Played.{plans, fault_at, happens};
+ghost use Rattle.lab_run.specs.FramesShown.{fault_of};
+ghost use Rattle.lab_run.specs.Shown.{Shows, Becomes, Steps, own_bench, idles_in};
+ghost use Rattle.lab_run.specs.Hearing.{Did};
+ghost use Rattle.bmc_board.specs.Sensing.{bench_of};
+
+use crate::fault::Fault;
+use crate::frames::Way;
+use crate::lab_state::Lab;
+use crate::others::{idle_fault, message_fault, noise_fault, request_fault};
+use bmc_board::Bench;
+use std::alloc::AllocError;
+use text_schedule::Event;
+
+/// Why a lab doesn't take an event.
+#[derive(Clone, Copy, Debug, PartialEq, Eq)]
+pub enum Refused {
+    /// Memory was refused.
+    Memory,
+    /// The event has this fault.
+    Fault(Fault),
+}
+
+impl Lab {
+    /// The first thing that is wrong with an event.
+    fn fault(&self, event: &Event) -> Option<Fault>
+        ensures { (file : AnyFile) (x : LabModel plans) → Shows file self.now x → option_map fault_of result ≡ fault_at (own_bench file) file x event.now }
+    {
+        let marks = self.marks();
+        match event {
+            Event::Calls(_) => self.frames.room_fault(),
+            Event::ToBmc(number) => self.frames.delivery_fault(Way::ToPort, *number, marks),
+            Event::ToMgr(number) => { self.frames.delivery_fault(Way::ToManager, *number, marks) }
+            Event::OtherIpmb(request) => match request_fault(&self.names, request) {
+                Some(fault) => Some(fault),
+                None => self.frames.room_fault(),
+            },
+            Event::OtherSmbus(message) => match message_fault(&self.names, message) {
+                Some(fault) => Some(fault),
+                None => self.frames.room_fault(),
+            },
+            Event::Noise(on, bytes) => noise_fault(*on, bytes.as_slice()),
+            Event::Idle(on, requester) => {
+                idle_fault(&self.names, *on, *requester, self.manager.open_bus())
+            }
+            Event::Scan { .. } | Event::Tick => None,
+        }
+    }
+
+    /// The activity of the board changes beside requests. A reading of a sensor that the board doesn't have changes nothing.
+    fn bench(&mut self, event: Bench)
+        ensures becomes { Becomes self.old self.new (λ file x. record x { board = (bench_of file x.board event).1 }) }
+        ensures idles { self.new.idles ≡ self.old.idles }
+    {
+        let _ = self.board.bench(event);
+    }
+
+    /// An event without a fault happens.
+    fn happen(&mut self, event: &Event) -> Result<(), AllocError>
+        requires { (on : AnyBus) → idles_in on self.now.idles < 9223372036854775807 }
+        ensures becomes { OnOk result (Becomes self.old self.new (λ file. happens (own_bench file) file event.now)) }
+        ensures done { OnOk result (Did event.now self.old self.new) }
+        ensures few { (on : AnyBus) → idles_in on self.new.idles ≤ suc (idles_in on self.old.idles) }
+    {
+        match event {
+            Event::Calls(call) => return self.call(*call),
+            Event::ToBmc(number) => return self.to_port(*number),
+            Event::ToMgr(number) => return self.to_manager(*number),
+            Event::OtherIpmb(request) => return self.other_request(request),
+            Event::OtherSmbus(message) => return self.other_message(message),
+            Event::Noise(..) => {}
+            Event::Idle(on, requester) => self.idle(*on, *requester),
+            Event::Scan { sensor, reading } => self.bench(Bench::Reading {
+                sensor: *sensor,
+                raw: *reading,
+            }),
+            Event::Tick => self.bench(Bench::Tick),
+        }
+        Ok(())
+    }
+
+    /// One event happens. On a fault nothing changes.
+    pub fn step(&mut self, event: &Event) -> Result<(), Refused>
+        requires { (on : AnyBus) → idles_in on self.now.idles < 9223372036854775807 }
+        ensures steps { Steps event.now self.old result self.new }
+        ensures done { OnOk result (Did event.now self.old self.new) }
+        ensures few { (on : AnyBus) → idles_in on self.new.idles ≤ suc (idles_in on self.old.idles) }
+    {
+        if let Some(fault) = self.fault(event) {
+            return Err(Refused::Fault(fault));
+        }
+        match self.happen(event) {
+            Ok(()) => Ok(()),
+            Err(_) => Err(Refused::Memory),
+        }
+    }
+}

@@ -1,0 +1,47 @@
+//! What a lab tells of itself.
+ghost use Rattle.std.specs.Prelude.{◌≡◌};
+ghost use Rattle.std.specs.List.{AllZip};
+ghost use Rattle.cfg_records.specs.declared.board_file.BoardFile.{BoardFile as AnyFile};
+ghost use Rattle.model_undo.specs.Machine.{phase_of};
+ghost use Rattle.undo_core.specs.Phases as phases;
+ghost use Rattle.undo_core.specs.Shown.{backs};
+ghost use Rattle.model_lab.specs.Lab.{Lab as LabModel};
+ghost use Rattle.model_lab.specs.Meaning.{lab_names as the_names};
+ghost use Rattle.model_lab.specs.Played.{plans};
+ghost use Rattle.lab_run.specs.Shown.{Shows, IsSentFrame};
+
+use crate::frames::SentFrame;
+use crate::lab_state::Lab;
+use cfg_records::{PlainStore, Store};
+use undo_core::Phase;
+use undo_plans::UndoList;
+
+impl Lab {
+    /// Where the manager is.
+    pub fn phase(&self) -> Phase
+        ensures { (file : AnyFile) (x : LabModel plans) → Shows file self.now x → phases.phase_of result ≡ phase_of plans.words x.manager.machine }
+    {
+        self.manager.phase()
+    }
+
+    /// The frames that were sent, in the order of their numbers.
+    pub fn frames(&self) -> &[SentFrame]
+        ensures { (file : AnyFile) (x : LabModel plans) → Shows file self.now x → AllZip IsSentFrame result.now x.frames }
+    {
+        self.frames.as_slice()
+    }
+
+    /// The requests that undo what was done.
+    pub fn undo_list(&self) -> &UndoList
+        ensures { (file : AnyFile) (x : LabModel plans) → Shows file self.now x → backs the_names result.now.requests ≡ x.manager.machine.undo }
+    {
+        self.manager.undo_list()
+    }
+
+    /// The records.
+    pub fn store(&self) -> &PlainStore
+        ensures { (file : AnyFile) (x : LabModel plans) → Shows file self.now x → ⟦<PlainStore as Store>⟧.records result.now ≡ x.board.records }
+    {
+        self.board.store()
+    }
+}

@@ -1,5 +1,0 @@
-use Rattle.lab_stands.proofs.laws.clean_links_run_plans.Goals as goal
-use Rattle.lab_stands.proofs.CleanLink.{runs_on_clean_link}
-
-pub returns : goal.returns
-returns c = runs_on_clean_link

@@ -1,5 +1,0 @@
-use Rattle.std.proofs.lemmas.Fmt.{decimal_injective}
-use Rattle.line_text.proofs.laws.one_plain_number.Goals as goal
-
-pub returns : goal.returns
-returns c = decimal_injective

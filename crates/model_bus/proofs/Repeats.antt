@@ -1,0 +1,88 @@
+-- A live request that was carried is a repeat, and the newest is not.
+use Rattle.std.proofs.Common.{◌≡◌, ℕ, suc, ◌+◌, ◌<◌, ◌≤◌, Bool, true, false, ◌&&◌, List, [], ◌∷◌, Some, None, refl, sym, ◌∙◌, ap, subst, arith, ◌⊎◌, inl, inr}
+use Rattle.std.specs.Prelude.{slice_get}
+use Rattle.std.specs.List.{list_all}
+use Rattle.std.proofs.lemmas.Bool.{and_from, and_left, and_right, and_parts, eqb-true, eq-eqb, cond-true, cond-false, cases_eq, cases_Bool, false_from_ne_true}
+use Rattle.std.proofs.lemmas.Slice.Eq.{bytes_eq-Decides}
+use Rattle.std.proofs.lemmas.Option.{same_Some}
+use Rattle.model_bus.specs.Request.{Request, Kept, is_same}
+use Rattle.model_bus.specs.Carried.{kept_for}
+use Rattle.model_bus.specs.Numbering.{Bus}
+use Rattle.model_bus.specs.BusState.{request_of}
+use Rattle.model_bus.proofs.NumberLaws.{IsNumbering}
+
+pub is_same-same : (r : Request) → is_same r r ≡ true
+is_same-same r = and_from _ _ (and_from _ _ (eq-eqb r.requester r.requester refl) (eq-eqb r.number r.number refl)) ((bytes_eq-Decides r.bytes r.bytes).1 refl)
+
+pub is_same-number : (r s : Request) → is_same r s ≡ true → r.number ≡ s.number
+is_same-number r s h = eqb-true _ _ (and_parts _ _ (and_parts _ _ h).0).1
+
+-- carried has request n at n
+abbrev pub Asked : Bus → List (List ℕ) → List Kept → Type 0
+Asked b begun carried = (n : ℕ) (k : Kept) → slice_get carried n ≡ Some k → (slice_get begun n ≡ Some k.request.bytes) × (k.request ≡ request_of b n k.request.bytes)
+
+-- a part of what was carried, newest first, from a number up to another
+abbrev pub IsRun : List Kept → ℕ → List Kept → ℕ → Type 0
+IsRun carried low [] high = high ≡ low
+IsRun carried low (k ∷ ks) high = (n : ℕ) × (high ≡ suc n) × (slice_get carried n ≡ Some k) × IsRun carried low ks n
+
+-- the list has the number
+abbrev pub Has : List ℕ → ℕ → Type 0
+Has [] x = ⊥
+Has (y ∷ ys) x = (y ≡ x) ⊎ Has ys x
+
+pub list_all-has : (p : ℕ → Bool) (ys : List ℕ) (x : ℕ) → Has ys x → p x ≡ false → list_all p ys ≡ false
+list_all-has p [] x h fails = absurd h
+list_all-has p (y ∷ ys) x (inl e) fails = and_left _ _ (ap p e ∙ fails)
+list_all-has p (y ∷ ys) x (inr h) fails = and_right _ _ (list_all-has p ys x h fails)
+
+module _ (b : Bus) (numbers : IsNumbering b) (begun : List (List ℕ)) (carried : List Kept) (asked : Asked b begun carried) where
+  -- the number of a carried request
+  pub number_at : (n : ℕ) (k : Kept) → slice_get carried n ≡ Some k → k.request.number ≡ b.number_of n
+  number_at n k at = ap (λ (r : Request). r.number) (asked n k at).1
+
+  pub request_at : (n : ℕ) (k : Kept) (bytes : List ℕ) → slice_get carried n ≡ Some k → slice_get begun n ≡ Some bytes → k.request ≡ request_of b n bytes
+  request_at n k bytes at begun_at =
+      let a = asked n k at in
+      a.1 ∙ ap (request_of b n) (same_Some _ _ (sym a.0 ∙ begun_at))
+
+  pub repeats : (ks : List Kept) (newer : List ℕ) (low high m : ℕ) (bytes : List ℕ)
+      → IsRun carried low ks high → low ≤ m → m < high → high ≤ m + b.span → slice_get begun m ≡ Some bytes
+      → list_all (b.is_above (b.number_of m)) newer ≡ true
+      → (k : Kept) × (slice_get carried m ≡ Some k) × (kept_for b.is_above (request_of b m bytes) newer ks ≡ Some k.reply)
+  repeats [] newer low high m bytes r above below live begun_at all = absurd (omega arith)
+  repeats (k ∷ ks) newer low high m bytes (n, e, at, rest) above below live begun_at all =
+      elim (cases_eq n m) [
+        | inl same ↦
+            let at_m : slice_get carried m ≡ Some k = subst (λ (x : ℕ). slice_get carried x ≡ Some k) same at in
+            let is = request_at m k bytes at_m begun_at in
+            let test : is_same (request_of b m bytes) k.request ≡ true = subst (λ (r : Request). is_same (request_of b m bytes) r ≡ true) (sym is) (is_same-same (request_of b m bytes)) in
+            let above_all : list_all (b.is_above k.request.number) newer ≡ true = subst (λ (x : ℕ). list_all (b.is_above x) newer ≡ true) (sym (number_at m k at_m)) all in
+            (k, at_m, cond-true _ _ _ (and_from _ _ test above_all))
+        | inr other ↦
+            let less : m < n = omega arith in
+            let within : n < m + b.span = omega arith in
+            let at_n = number_at n k at in
+            let differs : is_same (request_of b m bytes) k.request ≡ false = false_from_ne_true _ (λ t. other (sym (numbers.one m n (omega arith) within (is_same-number (request_of b m bytes) k.request t ∙ at_n)))) in
+            let above_all : list_all (b.is_above (b.number_of m)) (k.request.number ∷ newer) ≡ true = and_from _ _ (ap (b.is_above (b.number_of m)) at_n ∙ numbers.near m n less within) all in
+            let next = repeats ks (k.request.number ∷ newer) low n m bytes rest above less (omega arith) begun_at above_all in
+            (next.0, next.1, cond-false _ _ _ (and_left _ _ differs) ∙ next.2)
+      ]
+
+  pub is_new : (ks : List Kept) (newer : List ℕ) (low high top : ℕ) (bytes : List ℕ)
+      → IsRun carried low ks high → high ≤ top → ((d : ℕ) → high ≤ d → d < top → Has newer (b.number_of d))
+      → kept_for b.is_above (request_of b top bytes) newer ks ≡ None
+  is_new [] newer low high top bytes r below all = refl
+  is_new (k ∷ ks) newer low high top bytes (n, e, at, rest) below all =
+      let at_n = number_at n k at in
+      let all' : (d : ℕ) → n ≤ d → d < top → Has (k.request.number ∷ newer) (b.number_of d) =
+      (λ d from to. elim (cases_eq n d) [ inl same ↦ inl (at_n ∙ ap b.number_of same) | inr other ↦ inr (all d (omega arith) to) ]) in
+      let next = is_new ks (k.request.number ∷ newer) low n top bytes rest (omega arith) all' in
+      let test : (is_same (request_of b top bytes) k.request && list_all (b.is_above k.request.number) newer) ≡ false =
+      elim (cases_Bool (is_same (request_of b top bytes) k.request)) [
+        | inl t ↦
+            let f : (d : ℕ) × (n < d) × (d < top) × (b.is_above (b.number_of n) (b.number_of d) ≡ false) = numbers.far n top (omega arith) (sym (is_same-number (request_of b top bytes) k.request t ∙ at_n)) in
+            and_right _ _ (list_all-has _ newer (b.number_of f.0) (all f.0 (omega (arith, f.1)) f.2) (ap (λ (x : ℕ). b.is_above x (b.number_of f.0)) at_n ∙ f.3))
+        | inr f ↦ and_left _ _ f
+      ] in
+      cond-false _ _ _ test ∙ next

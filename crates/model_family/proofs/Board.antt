@@ -1,0 +1,44 @@
+-- Each answer of the board may happen on a bus.
+use Rattle.std.proofs.Common.{◌≡◌, ℕ, List, Option, Some, None, sym, subst}
+use Rattle.two_wire.specs.declared.Bus.{Bus}
+use Rattle.cfg_records.specs.declared.board_file.BoardFile.{BoardFile}
+use Rattle.record_kinds.specs.declared.limits.Limits.{Limits}
+use Rattle.record_kinds.specs.Limits.{limits_at}
+use Rattle.record_kinds.specs.Sound.{IsSoundAt}
+use Rattle.record_kinds.proofs.Starts.{starts_sound}
+use Rattle.bmc_board.proofs.OneAnswer.{has_answer}
+use Rattle.bmc_board.proofs.Quiet.{keeps_records}
+use Rattle.model_undo.specs.TwoBuses.{Addresses}
+use Rattle.model_undo.specs.Line.{Exchange, Line}
+use Rattle.model_undo.specs.World.{BoardMay}
+use Rattle.model_family.specs.Family.{Allows, family, answer}
+use Rattle.model_lab.specs.Wires.{asked_from}
+use Rattle.model_lab.specs.ManagerWires.{wires}
+use Rattle.model_family.specs.Board.{StartsValid, QuietMay, AnswersMay}
+
+-- ---- valid records
+
+sound_value : (limits : Option Limits) (value : List ℕ) → IsSoundAt limits (Some value) → Allows limits value
+sound_value (Some l) value sound = sound
+sound_value None value sound = sound
+
+allows_sound : (limits : Option Limits) (had : Option (List ℕ)) (value : List ℕ) → had ≡ Some value → IsSoundAt limits had → Allows limits value
+allows_sound limits had value at sound = sound_value limits value (subst (IsSoundAt limits) at sound)
+
+pub starts_valid : (setup : BoardFile) (at : Bus → Addresses) → StartsValid setup at
+starts_valid setup at = record {
+  opened_valid = λ key value found. allows_sound (limits_at setup key) _ value found (starts_sound setup key);
+  sound_valid = λ records sound. λ key value found. allows_sound (limits_at setup key) (records key) value found (sound key);
+}
+
+-- ---- what may happen
+
+pub quiet_may : (setup : BoardFile) (at : Bus → Addresses) (L : Bus → Line) → QuietMay setup at L
+quiet_may setup at L bus e w asked a after is quiet row =
+    (is.0, is.1, subst (λ (o : Option Exchange). BoardMay (family setup at) L (wires at) bus o w.board after) (sym is.2) (keeps_records setup w.board asked a after quiet row))
+
+pub answers_may : (setup : BoardFile) (at : Bus → Addresses) (L : Bus → Line) → AnswersMay setup at L
+answers_may setup at L bus e w x is replies =
+    let asked = asked_from at bus x.bytes in
+    let given = answer setup w.board asked in
+    (is.0, is.1, subst (λ (o : Option Exchange). BoardMay (family setup at) L (wires at) bus o w.board given.1) (sym is.2) (given.0, replies, has_answer setup w.board asked))

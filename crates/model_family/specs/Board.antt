@@ -1,0 +1,42 @@
+-- Each answer of the board may happen on a bus.
+use Rattle.std.specs.Prelude.{◌≡◌, false, Some, None}
+use Rattle.two_wire.specs.declared.Bus.{Bus}
+use Rattle.cfg_records.specs.Records.{Records}
+use Rattle.record_base.specs.declared.message.Asked.{Asked}
+use Rattle.record_base.specs.declared.message.Answered.{Answered as BoardAnswer}
+use Rattle.cfg_records.specs.declared.board_file.BoardFile.{BoardFile}
+use Rattle.record_kinds.specs.Sound.{IsSound}
+use Rattle.bmc_board.specs.State.{State, opened}
+use Rattle.bmc_board.specs.Table.{is_changing}
+use Rattle.bmc_board.specs.Row.{Row}
+use Rattle.model_undo.specs.Family.{AllValid}
+use Rattle.model_undo.specs.TwoBuses.{Addresses}
+use Rattle.model_undo.specs.Line.{Exchange, Line}
+use Rattle.model_undo.specs.World.{World, OnBus, IsHonestOn, May}
+use Rattle.model_family.specs.Family.{family, answer}
+use Rattle.model_lab.specs.Wires.{asked_from, reply_to}
+use Rattle.model_lab.specs.ManagerWires.{wires}
+
+-- the records that a board's file gives are valid, and so are all that its limits allow
+pub record StartsValid (setup : BoardFile) (at : Bus → Addresses) : Type 0 where
+  pub opened_valid : AllValid (family setup at) (opened setup).records
+  pub sound_valid : (records : Records) → IsSound setup records → AllValid (family setup at) records
+
+-- what happens on a bus has another's request carried out, or none
+abbrev pub IsOthers : (setup : BoardFile) (at : Bus → Addresses) (L : Bus → Line) (bus : Bus) → (L bus).Event → World (family setup at) L → Type 0
+IsOthers setup at L bus e w = IsHonestOn (family setup at) L (wires at) bus e w × ((L bus).is_to_manager e ≡ false) × ((L bus).carries (w.on bus) e ≡ None)
+
+-- another's request may be answered by the board at any moment, where its command sets no configuration
+abbrev pub QuietMay : BoardFile → (Bus → Addresses) → (Bus → Line) → Type 0
+QuietMay setup at L = (bus : Bus) (e : (L bus).Event) (w : World (family setup at) L) (asked : Asked) (a : BoardAnswer) (after : State)
+    → IsOthers setup at L bus e w → is_changing asked ≡ false → Row setup w.board asked a after → May (family setup at) L (wires at) w (OnBus bus e after)
+
+-- what happens on a bus has the manager's request carried out, with this reply
+abbrev pub IsManagers : (setup : BoardFile) (at : Bus → Addresses) (L : Bus → Line) (bus : Bus) → (L bus).Event → World (family setup at) L → Exchange → Type 0
+IsManagers setup at L bus e w x = IsHonestOn (family setup at) L (wires at) bus e w × ((L bus).is_to_manager e ≡ false) × ((L bus).carries (w.on bus) e ≡ Some x)
+
+-- the manager's request may be answered as the board answers it
+abbrev pub AnswersMay : BoardFile → (Bus → Addresses) → (Bus → Line) → Type 0
+AnswersMay setup at L = (bus : Bus) (e : (L bus).Event) (w : World (family setup at) L) (x : Exchange) → IsManagers setup at L bus e w x
+    → let given = answer setup w.board (asked_from at bus x.bytes) in
+    x.reply ≡ reply_to bus x.bytes given.0 → May (family setup at) L (wires at) w (OnBus bus e given.1)

@@ -1,0 +1,61 @@
+-- The records of a board and its commands, as a family of kinds of record.
+use Rattle.std.specs.Prelude.{◌≡◌, ℕ, List, [], Option, Some, None, Ok}
+use Rattle.two_wire.specs.declared.Bus.{Bus}
+use Rattle.record_base.specs.declared.op.Op.{Op}
+use Rattle.record_base.specs.declared.live.Live.{Live}
+use Rattle.record_base.specs.declared.message.Asked.{Asked}
+use Rattle.cfg_records.specs.declared.board_file.BoardFile.{BoardFile}
+use Rattle.cfg_records.specs.Records.{Records, with_record}
+use Rattle.record_kinds.specs.declared.limits.Limits.{Limits}
+use Rattle.record_kinds.specs.Limits.{key_of, restorable, valid, sets, view, conf, limits_at}
+use Rattle.bmc_board.specs.Request.{Get, asked_by}
+use Rattle.bmc_board.specs.State.{State}
+use Rattle.bmc_board.specs.Answer.{answer_of}
+use Rattle.bmc_board.specs.Row.{Row}
+use Rattle.model_undo.specs.Words.{Answered}
+use Rattle.model_undo.specs.Family.{Family}
+use Rattle.model_undo.specs.TwoBuses.{Addresses}
+use Rattle.model_lab.specs.ManagerWords.{board_answer, family_answer, manager_words}
+
+-- the limits allow the value
+abbrev pub Allows : Option Limits → List ℕ → Type 0
+Allows (Some limits) value = valid limits value
+Allows None value = ⊥
+
+-- within the limits the operation is accepted at the first value, and makes it the second
+abbrev pub SetsWithin : Option Limits → Op → List ℕ → List ℕ → Type 0
+SetsWithin (Some limits) op old new = sets limits op old new
+SetsWithin None op old new = ⊥
+
+-- a Get within the limits replies these data at this value, for some state of what isn't configuration
+abbrev pub ShowsWithin : Option Limits → List ℕ → List ℕ → Type 0
+ShowsWithin (Some limits) value body = (live : Live) × (body ≡ view limits value live)
+ShowsWithin None value body = ⊥
+
+-- what of the data is configuration
+abbrev pub conf_within : Option Limits → List ℕ → List ℕ
+conf_within (Some limits) body = conf limits body
+conf_within None body = []
+
+-- the family of a board with this file, for that manager
+abbrev pub family : BoardFile → (Bus → Addresses) → Family
+family setup at = record {
+  words = manager_words at;
+  Value = List ℕ;
+  Records = Records;
+  get = λ records key. records key;
+  put = with_record;
+  Valid = λ key value. Allows (limits_at setup key) value;
+  Sets = λ op old new. SetsWithin (limits_at setup (key_of op)) op old new;
+  Shows = λ key value body. ShowsWithin (limits_at setup key) value body;
+  conf = λ key body. conf_within (limits_at setup key) body;
+  Restorable = restorable;
+  Board = State;
+  records = λ board. board.records;
+  IsGet = λ asked key. asked_by asked ≡ Ok (Get key);
+  Row = λ board asked a after. Row setup board asked (board_answer a) after;
+}
+
+-- what the board answers to a request, and the state that it leaves
+abbrev pub answer : BoardFile → State → Asked → Answered × State
+answer setup board asked = (family_answer (answer_of setup board asked).0, (answer_of setup board asked).1)

@@ -1,0 +1,11 @@
+//! A schedule that computes, so that no theorem is about nothing: it is the contract of a function without a body.
+
+ghost use Rattle.cfg_records.specs.declared.board_file.BoardFile.{BoardFile};
+ghost use Rattle.cfg_records.specs.Records.{Records};
+ghost use Rattle.model_family.specs.Example.{EndsUndone};
+
+/// A plan of one step and its undo over IPMB, in nine events with their bytes: the power restore policy is set, a late copy of the Set
+/// changes nothing, and the run ends undone. It may happen on every board that begins with policy 0.
+pub fn policy_ends_undone()
+    ensures { (setup : BoardFile) (others : Records) → EndsUndone setup others }
+{}

@@ -1,0 +1,381 @@
+-- Over a link that loses nothing a plan is done after two requests a step, or halts, and is undone.
+use Rattle.std.proofs.Common.{◌≡◌, ℕ, zero, suc, ◌+◌, Bool, true, false, cond, List, [], ◌∷◌, length, Option, Some, None, refl, sym, ◌∙◌, ap, subst, arith}
+use Rattle.std.specs.Prelude.{slice_get, IfSome, ◌==◌}
+use Rattle.std.specs.Option.{option_map}
+use Rattle.std.proofs.lemmas.Bool.{cond_both}
+use Rattle.std.proofs.lemmas.Option.{none-some}
+use Rattle.two_wire.specs.Codes.{success}
+use Rattle.two_wire.specs.declared.Bus.{Bus}
+use Rattle.two_wire.specs.declared.Bus.TheVariants.{Ipmb, Smbus}
+use Rattle.mctp_net.specs.Assembly.{nothing}
+use Rattle.record_base.specs.declared.op.Op.{Op}
+use Rattle.record_base.specs.declared.message.Asked.{Asked}
+use Rattle.record_base.specs.declared.message.Asked.TheVariants.{Ipmi, Pldm}
+use Rattle.cfg_records.specs.declared.board_file.BoardFile.{BoardFile}
+use Rattle.record_kinds.specs.Sound.{IsSound}
+use Rattle.record_kinds.proofs.Starts.{starts_sound}
+use Rattle.bmc_board.specs.State.{State}
+use Rattle.bmc_board.proofs.AnswerFacts.{stays_sound}
+use Rattle.bmc_board.proofs.OneAnswer.{has_answer}
+use Rattle.model_undo.specs.Words.{Answered, Words}
+use Rattle.model_undo.specs.Phase.{Phase, Undone}
+use Rattle.model_undo.specs.Plan.{IsAfter}
+use Rattle.model_undo.specs.Wires.{IsMade}
+use Rattle.model_undo.specs.Machine.{Counts, Task, Gets, Sets, Undoes, Part as TaskPart, Stage, AtStart, Opened, AtEnd, AtHalt, AtUndone, AtRefused, Machine, Turn, Sending, enters, sends_at, takes, series_of, bodies_with, finished, refused, set_stage, next_stage, undo_stage, first_stage, stage_after, undo_after, one_answered, bus_at, phase_of, open_bus, open_bus_at, undo_of, opened}
+use Rattle.model_undo.specs.Clean.{Moment, answered_in_all, told, one, clean, IsAtRest, RunsClean}
+use Rattle.model_undo.proofs.Clean.{always_runs_clean}
+use Rattle.model_lab.specs.ManagerWords.{manager_words}
+use Rattle.model_family.specs.Family.{answer}
+use Rattle.model_family.proofs.IsFamily.{is_family}
+use Rattle.model_family.proofs.Board.{starts_valid}
+use Rattle.undo_plans.specs.declared.names.Names.{Names}
+use Rattle.model_lab.specs.ManagerSteps.{addresses, ManagerState, Sent, sent_of, Start as StartCall, Undo as UndoCall, called, goes_on}
+use Rattle.model_lab.specs.Lab.{Event, Calls, Lab, call_does, manager_does, step, run}
+use Rattle.model_lab.specs.Faults.{begun_on, is_open_bus}
+use Rattle.model_lab.specs.Clean.{DeliversFrom, IsCleanRun, IsCleanUndo}
+use Rattle.model_lab.proofs.Stepping.{runs_by}
+use Rattle.model_headline.specs.Made.{AllSeries, StageMade}
+use Rattle.model_headline.specs.Tied.{P, F}
+use Rattle.model_headline.specs.Theorem.{first, after}
+use Rattle.model_headline.specs.CleanLink.{HasEnded, RunsOnCleanLink}
+use Rattle.model_headline.proofs.Made.{takes_made, undo_made, starts_made}
+use Rattle.model_headline.proofs.CleanQueue.{Link, link_of, dues_of, settles, settles_more, Shows, settled, called_goes, all_sent}
+use Rattle.model_headline.proofs.CleanExchange.{Rest, link_at, IsClear, not_busy, part_of, Exchanged, ipmb_exchange}
+use Rattle.model_headline.proofs.CleanSmbus.{smbus_exchange}
+
+module _ (setup : BoardFile) (names : Names) where
+  abbrev M : Words
+  M = manager_words (addresses names)
+
+  abbrev moment : Stage M → Machine M → State → Moment (F setup names)
+  moment stage m b = record { turn = enters M stage m; board = b }
+
+  -- a stage in which no open request is unsettled
+  abbrev IsHeeded : Stage M → Type 0
+  IsHeeded (Opened false task part) = ⊥
+  IsHeeded _ = Unit {0}
+
+  set_heeded : (stopped : Bool) (k : ℕ) (op : Op) (o : Option Op) → IsHeeded (set_stage M stopped k op o)
+  set_heeded stopped k op None = tt
+  set_heeded true k op (Some back) = tt
+  set_heeded false k op (Some back) = tt
+
+  next_heeded : (stopped : Bool) (k : ℕ) (o : Option Op) → IsHeeded (next_stage M stopped k o)
+  next_heeded stopped k None = tt
+  next_heeded true k (Some op) = tt
+  next_heeded false k (Some op) = tt
+
+  undo_heeded : (list : List Asked) → IsHeeded (undo_stage M list)
+  undo_heeded [] = tt
+  undo_heeded (u ∷ us) = tt
+
+  first_heeded : (o : Option Op) → IsHeeded (first_stage M o)
+  first_heeded None = tt
+  first_heeded (Some op) = tt
+
+  finished_heeded : (stopped : Bool) (plan : List Op) (shown : List ℕ) (task : Task M) → IsHeeded (finished M stopped plan shown task)
+  finished_heeded stopped plan shown (Gets k op) = set_heeded stopped k op (M.inverse op shown)
+  finished_heeded stopped plan shown (Sets k op back) = next_heeded stopped (suc k) (slice_get plan (suc k))
+  finished_heeded stopped plan shown (Undoes u us) = undo_heeded us
+
+  refused_heeded : (code : ℕ) (task : Task M) → IsHeeded (refused M code task)
+  refused_heeded code (Gets k op) = tt
+  refused_heeded code (Sets k op back) = tt
+  refused_heeded code (Undoes u us) = tt
+
+  after_heeded : (stopped : Bool) (plan : List Op) (a : Answered) (task : Task M) (part : TaskPart M) → IsHeeded (stage_after M stopped plan a task part)
+  after_heeded stopped plan a task part =
+      cond_both (a.code == success) (finished M stopped plan (M.joined (series_of M task) (bodies_with M a part)) task) (refused M a.code task) IsHeeded
+      (λ _. finished_heeded stopped plan (M.joined (series_of M task) (bodies_with M a part)) task) (λ _. refused_heeded a.code task)
+
+  -- what holds where a request was just sent, or nothing
+  record Going (stage : Stage M) (m : Machine M) (b : State) (r : Rest setup names) : Type 0 where
+    heeded : IsHeeded stage
+    made : StageMade (addresses names) stage
+    undo : AllSeries (addresses names) m.undo
+    clear : IsClear setup names m.counts r
+    sound : IsSound setup b.records
+
+  -- the link goes to one that shows what comes of the board's answers
+  record Follows (y : Moment (F setup names)) (l : Link (P setup names)) : Type 0 where
+    stage : Stage M
+    machine : Machine M
+    board : State
+    rest : Rest setup names
+    count : ℕ
+    same : y ≡ moment stage machine board
+    is : settles (P setup names) setup count l ≡ link_at setup names (enters M stage machine) board rest
+    going : Going stage machine board rest
+
+  stays : (stage : Stage M) (m : Machine M) (b : State) (r : Rest setup names) → Going stage m b r → Follows (moment stage m b) (link_at setup names (enters M stage m) b r)
+  stays stage m b r g = record { stage = stage; machine = m; board = b; rest = r; count = 0; same = refl; is = refl; going = g }
+
+  answered_one : (task : Task M) (asked : Asked) (before : List (List ℕ)) (m : Machine M) (b : State) (r : Rest setup names) → Going (Opened true task (part_of setup names asked before)) m b r
+      → Exchanged setup names task (part_of setup names asked before) m b r
+      → Follows (one (F setup names) (answer setup) (moment (Opened true task (part_of setup names asked before)) m b)) (link_at setup names (enters M (Opened true task (part_of setup names asked before)) m) b r)
+  answered_one task asked before m b r g e =
+      let part = part_of setup names asked before in
+      let opened_machine : Machine M = record m { stage = Opened true task part; resent = 0 } in
+      let a = (answer setup b asked).0 in
+      let next : Machine M = record opened_machine { undo = undo_after M a task part m.undo; counts = one_answered (bus_at M part) m.counts } in
+      let kept = takes_made (addresses names) a task part opened_machine g.made.1 g.undo in
+      record {
+        stage = stage_after M m.stopped m.plan a task part;
+        machine = next;
+        board = (answer setup b asked).1;
+        rest = e.rest;
+        count = e.count;
+        same = ap (λ (t : Bool). told (F setup names) (answer setup) (cond t None (Some (takes M a task part opened_machine))) (answer setup b asked).1 (moment (Opened true task part) m b)) (not_busy setup names b asked);
+        is = e.is;
+        going = record { heeded = after_heeded m.stopped m.plan a task part; made = kept.stage; undo = kept.undo; clear = e.clear; sound = stays_sound setup b asked g.sound };
+      }
+
+  exchanged : (task : Task M) (asked : Asked) (before : List (List ℕ)) (m : Machine M) (b : State) (r : Rest setup names) → IsMade M asked → IsClear setup names m.counts r → IsSound setup b.records
+      → Exchanged setup names task (part_of setup names asked before) m b r
+  exchanged task (Ipmi from net_fn lun command body) before m b r made clear sound = ipmb_exchange setup names task from net_fn lun command body before m b r made clear
+  exchanged task (Pldm from kind command body) before m b r made clear sound = smbus_exchange setup names task from kind command body before m b r made clear sound
+
+  -- with the open request, if one is open
+  exchange : (stage : Stage M) (m : Machine M) (b : State) (r : Rest setup names) → Going stage m b r → Follows (one (F setup names) (answer setup) (moment stage m b)) (link_at setup names (enters M stage m) b r)
+  exchange (Opened true task part) m b r g = answered_one task part.asked part.before m b r g (exchanged task part.asked part.before m b r g.made.0 g.clear g.sound)
+  exchange (Opened false task part) m b r g = absurd g.heeded
+  exchange AtStart m b r g = stays AtStart m b r g
+  exchange AtEnd m b r g = stays AtEnd m b r g
+  exchange (AtHalt k why) m b r g = stays (AtHalt k why) m b r g
+  exchange AtUndone m b r g = stays AtUndone m b r g
+  exchange (AtRefused k code) m b r g = stays (AtRefused k code) m b r g
+
+  -- with as many requests as this
+  exchanges : (n : ℕ) (stage : Stage M) (m : Machine M) (b : State) (r : Rest setup names) → Going stage m b r → Follows (clean (F setup names) (answer setup) n (moment stage m b)) (link_at setup names (enters M stage m) b r)
+  exchanges zero stage m b r g = stays stage m b r g
+  exchanges (suc n) stage m b r g =
+      let e = exchange stage m b r g in
+      let more = exchanges n e.stage e.machine e.board e.rest e.going in
+      record {
+        stage = more.stage;
+        machine = more.machine;
+        board = more.board;
+        rest = more.rest;
+        count = e.count + more.count;
+        same = ap (clean (F setup names) (answer setup) n) e.same ∙ more.same;
+        is = settles_more (P setup names) setup e.count more.count (link_at setup names (enters M stage m) b r) ∙ ap (settles (P setup names) setup more.count) e.is ∙ more.is;
+        going = more.going;
+      }
+
+  -- ---- how it ends
+
+  -- nothing is sent any more, so no request is open
+  closed_at : (stage : Stage M) (c : Counts) → sends_at M stage c ≡ None → open_bus_at M stage ≡ None
+  closed_at (Opened heeded task part) c none = absurd (none-some _ (sym none))
+  closed_at AtStart c none = refl
+  closed_at AtEnd c none = refl
+  closed_at (AtHalt k why) c none = refl
+  closed_at AtUndone c none = refl
+  closed_at (AtRefused k code) c none = refl
+
+  none_begun : (c : Counts) (n : ℕ) → answered_in_all c ≡ n → (c.ipmb + 0) + (c.smbus + 0) ≡ n
+  none_begun c n e = omega arith
+
+  -- the lab at the end of a clean schedule shows what comes of the answers
+  record Ended (z : Lab (P setup names)) (x : Moment (F setup names)) (phase : Phase) (n : ℕ) : Type 0 where
+    stage : Stage M
+    machine : Machine M
+    board : State
+    rest : Rest setup names
+    same : x ≡ moment stage machine board
+    is : link_of (P setup names) z [] ≡ link_at setup names (enters M stage machine) board rest
+    going : Going stage machine board rest
+    number : ℕ
+    shows : Shows (P setup names) setup z number []
+    closed : open_bus_at M stage ≡ None
+    phase_is : phase_of M (enters M stage machine).machine ≡ phase
+    count : answered_in_all machine.counts ≡ n
+
+  -- where that is at rest, a clean schedule leads the lab there
+  ends : (k : ℕ) (stage : Stage M) (m : Machine M) (b : State) (r : Rest setup names) (phase : Phase) (n : ℕ) → Going stage m b r
+      → let x = clean (F setup names) (answer setup) k (moment stage m b) in
+      IsAtRest (F setup names) (answer setup) x phase n
+      → (es : List Event) (y : Lab (P setup names)) (number : ℕ) → let l = link_at setup names (enters M stage m) b r in
+      link_of (P setup names) y l.queue ≡ l → Shows (P setup names) setup y number l.queue → DeliversFrom (P setup names) setup number es y
+      → Ended (run (P setup names) setup es y) x phase n
+  ends k stage m b r phase n g rest es y number from shows d =
+      let l = link_at setup names (enters M stage m) b r in
+      let f = exchanges k stage m b r g in
+      let at : IsAtRest (F setup names) (answer setup) (moment f.stage f.machine f.board) phase n = subst (λ (x : Moment (F setup names)). IsAtRest (F setup names) (answer setup) x phase n) f.same rest in
+      let none : sends_at M f.stage f.machine.counts ≡ None = at.rests in
+      let empty_there : (link_at setup names (enters M f.stage f.machine) f.board f.rest).queue ≡ [] = ap (λ (o : Option (Sending M)). dues_of (P setup names) (option_map (sent_of (P setup names) names) o)) none in
+      let to : settles (P setup names) setup f.count (link_of (P setup names) y l.queue) ≡ link_at setup names (enters M f.stage f.machine) f.board f.rest = ap (settles (P setup names) setup f.count) from ∙ f.is in
+      let s = settled (P setup names) setup f.count es y number l.queue shows d (ap (λ (x : Link (P setup names)). x.queue) to ∙ empty_there) in
+      record {
+        stage = f.stage;
+        machine = f.machine;
+        board = f.board;
+        rest = f.rest;
+        same = f.same;
+        is = s.is ∙ to;
+        going = f.going;
+        number = s.number;
+        shows = s.shows;
+        closed = closed_at f.stage f.machine.counts none;
+        phase_is = at.phase_is;
+        count = at.count;
+      }
+
+  -- ---- the undo
+
+  undoing_so : (stage : Stage M) (m : Machine M) (b : State) (r : Rest setup names) (z : Lab (P setup names)) (number : ℕ) → Going stage m b r → link_of (P setup names) z [] ≡ link_at setup names (enters M stage m) b r
+      → Shows (P setup names) setup z number [] → let from = (enters M stage m).machine in
+      undo_of M from ≡ Some (enters M (undo_stage M m.undo) from) → (k n : ℕ) → let x = clean (F setup names) (answer setup) k (moment (undo_stage M m.undo) from b) in
+      IsAtRest (F setup names) (answer setup) x Undone n
+      → (es : List Event) → DeliversFrom (P setup names) setup (length z.frames) es (step (P setup names) setup z (Calls UndoCall)) → Ended (run (P setup names) setup es (step (P setup names) setup z (Calls UndoCall))) x Undone n
+  unfolding step called
+  undoing_so stage m b r z number g is shows taken k n rest es d =
+      let from = (enters M stage m).machine in
+      let t = enters M (undo_stage M m.undo) from in
+      let manager : ManagerState (P setup names) = record { machine = t.machine; names = names; joined = nothing } in
+      let before : ManagerState (P setup names) = record { machine = from; names = names; joined = r.joined } in
+      let o = option_map (sent_of (P setup names) names) t.sends in
+      let y = manager_does (P setup names) (record { manager = manager; sent = o }) z in
+      let manager_is : z.manager ≡ before = ap (λ (l : Link (P setup names)). l.manager) is in
+      let becomes : step (P setup names) setup z (Calls UndoCall) ≡ y =
+      ap (λ (x : ManagerState (P setup names)). call_does (P setup names) (called (P setup names) UndoCall x) z) manager_is
+      ∙ ap (λ (u : Option (Turn M)). call_does (P setup names) (option_map (goes_on (P setup names) (record before { joined = nothing })) u) z) taken in
+      let c = called_goes (P setup names) setup z number shows manager o in
+      let next : Rest setup names = record r { joined = nothing } in
+      let going : Going (undo_stage M m.undo) from b next = record {
+        heeded = undo_heeded m.undo;
+        made = undo_made (addresses names) m.undo g.undo;
+        undo = g.undo;
+        clear = record { ipmb = g.clear.ipmb; smbus = g.clear.smbus; kept = g.clear.kept; joined = refl };
+        sound = g.sound;
+      } in
+      let there : link_of (P setup names) y (dues_of (P setup names) o) ≡ link_at setup names t b next = c.1 ∙ ap (λ (l : Link (P setup names)). record l { manager = manager; queue = dues_of (P setup names) o }) is in
+      let delivers : DeliversFrom (P setup names) setup number es y =
+      subst (λ (x : Lab (P setup names)). DeliversFrom (P setup names) setup number es x) becomes
+      (subst (λ (i : ℕ). DeliversFrom (P setup names) setup i es (step (P setup names) setup z (Calls UndoCall))) (sym (all_sent (P setup names) setup z number shows)) d) in
+      subst (λ (x : Lab (P setup names)). Ended (run (P setup names) setup es x) (clean (F setup names) (answer setup) k (moment (undo_stage M m.undo) from b)) Undone n) (sym becomes)
+      (ends k (undo_stage M m.undo) from b next Undone n going rest es y number there c.0 delivers)
+
+  -- a schedule that undoes, and what the lab is after it
+  abbrev TakesBack : Turn M → State → ℕ → ℕ → State → Type 0
+  TakesBack t b k n start = let y = clean (F setup names) (answer setup) k (record { turn = t; board = b }) in IsAtRest (F setup names) (answer setup) y Undone n × (y.board.records ≡ start.records)
+
+  record IsBack (z : Lab (P setup names)) (n : ℕ) (start : State) : Type 0 where
+    moment_then : Moment (F setup names)
+    ended : Ended z moment_then Undone n
+    back : moment_then.board.records ≡ start.records
+
+  undoing : (stage : Stage M) (m : Machine M) (b : State) (r : Rest setup names) (z : Lab (P setup names)) (number : ℕ) → Going stage m b r → link_of (P setup names) z [] ≡ link_at setup names (enters M stage m) b r
+      → Shows (P setup names) setup z number [] → (k n : ℕ) (start : State) → IfSome (undo_of M (enters M stage m).machine) (λ t. TakesBack t b k n start) → (undo_of M (enters M stage m).machine ≡ None → ⊥)
+      → (es : List Event) → DeliversFrom (P setup names) setup (length z.frames) es (step (P setup names) setup z (Calls UndoCall)) → IsBack (run (P setup names) setup es (step (P setup names) setup z (Calls UndoCall))) n start
+  undoing AtEnd m b r z number g is shows k n start back taken es d =
+      record { moment_then = clean (F setup names) (answer setup) k (moment (undo_stage M m.undo) (enters M AtEnd m).machine b); ended = undoing_so AtEnd m b r z number g is shows refl k n back.0 es d; back = back.1 }
+  undoing (AtHalt j why) m b r z number g is shows k n start back taken es d =
+      record { moment_then = clean (F setup names) (answer setup) k (moment (undo_stage M m.undo) (enters M (AtHalt j why) m).machine b); ended = undoing_so (AtHalt j why) m b r z number g is shows refl k n back.0 es d; back = back.1 }
+  undoing AtStart m b r z number g is shows k n start back taken es d = absurd (taken refl)
+  undoing (Opened heeded task part) m b r z number g is shows k n start back taken es d = absurd (taken refl)
+  undoing AtUndone m b r z number g is shows k n start back taken es d = absurd (taken refl)
+  undoing (AtRefused j code) m b r z number g is shows k n start back taken es d = absurd (taken refl)
+
+  -- ---- the schedule
+
+  module _ (plan : List Op) (retries : ℕ) where
+    abbrev x0 : Lab (P setup names)
+    x0 = first setup names plan retries
+
+    abbrev m0 : Machine M
+    m0 = opened M plan retries
+
+    abbrev r0 : Rest setup names
+    r0 = record { ipmb_log = []; smbus_log = []; kept = nothing; joined = nothing }
+
+    abbrev stage0 : Stage M
+    stage0 = first_stage M (slice_get plan 0)
+
+    going0 : Going stage0 m0 x0.board r0
+    going0 = record {
+      heeded = first_heeded (slice_get plan 0);
+      made = (starts_made (addresses names) AtStart m0 tt).stage;
+      undo = tt;
+      clear = record { ipmb = refl; smbus = refl; kept = refl; joined = refl };
+      sound = starts_sound setup;
+    }
+
+    shows0 : Shows (P setup names) setup x0 0 []
+    shows0 = record { done = []; waiting = []; frames = refl; count = refl; are = refl }
+
+    abbrev manager0 : ManagerState (P setup names)
+    manager0 = record { machine = (enters M stage0 m0).machine; names = names; joined = nothing }
+
+    abbrev sent0 : Option Sent
+    sent0 = option_map (sent_of (P setup names) names) (sends_at M stage0 m0.counts)
+
+    started : step (P setup names) setup x0 (Calls StartCall) ≡ manager_does (P setup names) (record { manager = manager0; sent = sent0 }) x0
+    unfolding step called
+    started = refl
+
+    ran_to : (es : List Event) (k : ℕ) (phase : Phase) (n : ℕ) → let x = clean (F setup names) (answer setup) k (moment stage0 m0 x0.board) in
+        IsAtRest (F setup names) (answer setup) x phase n → IsCleanRun (P setup names) setup es x0 → Ended (run (P setup names) setup es x0) x phase n
+    ran_to es k phase n rest c =
+        let x = clean (F setup names) (answer setup) k (moment stage0 m0 x0.board) in
+        let y = manager_does (P setup names) (record { manager = manager0; sent = sent0 }) x0 in
+        let g = called_goes (P setup names) setup x0 0 shows0 manager0 sent0 in
+        let d : DeliversFrom (P setup names) setup 0 c.deliveries y = subst (λ (z : Lab (P setup names)). DeliversFrom (P setup names) setup 0 c.deliveries z) started c.delivered in
+        let e : Ended (run (P setup names) setup c.deliveries y) x phase n = ends k stage0 m0 x0.board r0 phase n going0 rest c.deliveries y 0 g.1 g.0 d in
+        let same : run (P setup names) setup c.deliveries y ≡ run (P setup names) setup es x0 =
+        ap (run (P setup names) setup c.deliveries) (sym started) ∙ sym ((runs_by (P setup names) setup).one (Calls StartCall) c.deliveries x0) ∙ ap (λ (l : List Event). run (P setup names) setup l x0) (sym c.all) in
+        subst (λ (z : Lab (P setup names)). Ended z x phase n) same e
+
+    undone_to : (es : List Event) (k j n q : ℕ) (phase : Phase) → let x = clean (F setup names) (answer setup) k (moment stage0 m0 x0.board) in
+        IsAtRest (F setup names) (answer setup) x phase n → IfSome (undo_of M x.turn.machine) (λ t. TakesBack t x.board j q x0.board) → (undo_of M x.turn.machine ≡ None → ⊥)
+        → IsCleanUndo (P setup names) setup es x0 → IsBack (run (P setup names) setup es x0) q x0.board
+    undone_to es k j n q phase rest back taken c =
+        let e = ran_to c.before k phase n rest c.ran in
+        let z = run (P setup names) setup c.before x0 in
+        let back_there = subst (λ (y : Moment (F setup names)). IfSome (undo_of M y.turn.machine) (λ t. TakesBack t y.board j q x0.board)) e.same back in
+        let taken_there = subst (λ (y : Moment (F setup names)). undo_of M y.turn.machine ≡ None → ⊥) e.same taken in
+        let u = undoing e.stage e.machine e.board e.rest z e.number e.going e.is e.shows j q x0.board back_there taken_there c.deliveries c.delivered in
+        let same : run (P setup names) setup c.deliveries (step (P setup names) setup z (Calls UndoCall)) ≡ run (P setup names) setup es x0 =
+        sym ((runs_by (P setup names) setup).one (Calls UndoCall) c.deliveries z) ∙ sym ((runs_by (P setup names) setup).more c.before (Calls UndoCall ∷ c.deliveries) x0) ∙ ap (λ (l : List Event). run (P setup names) setup l x0) (sym c.all) in
+        subst (λ (y : Lab (P setup names)). IsBack y q x0.board) same u
+
+    has_ended : (es : List Event) (x : Moment (F setup names)) (phase : Phase) (n : ℕ) → Ended (run (P setup names) setup es x0) x phase n
+        → HasEnded setup names plan retries es phase n × ((after setup names plan retries es).board ≡ x.board)
+    has_ended es x phase n e =
+        let z = run (P setup names) setup es x0 in
+        let machine_is : z.manager.machine ≡ (enters M e.stage e.machine).machine = ap (λ (l : Link (P setup names)). l.manager.machine) e.is in
+        let c = e.machine.counts in (
+          record {
+            phase_is = ap (phase_of M) machine_is ∙ e.phase_is;
+            begun = ap (λ (m : Machine M). begun_on M Ipmb m + begun_on M Smbus m) machine_is
+                ∙ ap (λ (o : Option Bus). (c.ipmb + cond (is_open_bus Ipmb o) 1 0) + (c.smbus + cond (is_open_bus Smbus o) 1 0)) e.closed
+                ∙ none_begun c n e.count;
+            closed = ap (open_bus M) machine_is ∙ e.closed;
+          },
+          ap (λ (l : Link (P setup names)). l.board) e.is ∙ sym (ap (λ (y : Moment (F setup names)). y.board) e.same),
+        )
+
+    pub runs_on_clean_link : RunsOnCleanLink setup names plan retries
+    runs_on_clean_link =
+        let r : RunsClean (F setup names) (answer setup) plan x0.board (moment stage0 m0 x0.board) =
+        always_runs_clean (F setup names) (is_family setup (addresses names)) (answer setup) (λ b asked. has_answer setup b asked) plan retries x0.board (starts_valid setup (addresses names)).opened_valid in
+        let k = length r.steps in
+        let n = k + k + r.more in
+        let x = clean (F setup names) (answer setup) n (moment stage0 m0 x0.board) in
+        record {
+          steps = r.steps;
+          rest = r.rest;
+          whole = r.whole;
+          at = r.at;
+          go = r.go;
+          phase = r.phase;
+          more = r.more;
+          ends = r.ends;
+          ran = λ es c.
+              let h = has_ended es x r.phase n (ran_to es n r.phase n r.run.0 c) in
+              (h.0, subst (λ (b : State). IsAfter (F setup names) plan x0.board.records k b.records) (sym h.1) r.run.1);
+          undone = λ es c.
+              let u = undone_to es n k n (n + k) r.phase r.run.0 r.undo r.undo_is_taken c in
+              let h = has_ended es u.moment_then Undone (n + k) u.ended in
+              (h.0, ap (λ (b : State). b.records) h.1 ∙ u.back);
+        }

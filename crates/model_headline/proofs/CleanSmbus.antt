@@ -1,0 +1,239 @@
+-- On a clean link the open request on SMBus is carried out, packet by packet, and its reply is taken.
+use Rattle.std.proofs.Common.{lit<, ◌≡◌, ℕ, ◌+◌, ◌%◌, ◌<◌, ◌≤◌, Bool, true, false, cond, not, ◌&&◌, List, [], ◌∷◌, length, map, Some, None, refl, sym, ◌∙◌, ap, subst, arith, inl, inr}
+use Rattle.std.specs.Prelude.{◌==◌}
+use Rattle.std.proofs.lemmas.Bool.{and_from, eq-eqb}
+use Rattle.std.proofs.lemmas.Option.{none-some}
+use Rattle.two_wire.specs.declared.Bus.{Bus}
+use Rattle.two_wire.specs.declared.Bus.TheVariants.{Smbus}
+use Rattle.mctp_net.specs.declared.packet.Packet.{Packet}
+use Rattle.mctp_net.specs.declared.packet.Envelope.{Envelope}
+use Rattle.mctp_net.specs.declared.message.Message.{Message}
+use Rattle.mctp_net.specs.Assembly.{Assemblies, name_of, ComesBack}
+use Rattle.pldm_base.specs.declared.message.PldmRequest.{PldmRequest}
+use Rattle.pldm_base.specs.Message.{IsRequest}
+use Rattle.pldm_base.proofs.InBytes.{request-in_back}
+use Rattle.record_base.specs.declared.key.Key.{Key}
+use Rattle.record_base.specs.declared.key.Key.TheVariants as key
+use Rattle.record_base.specs.declared.op.Op.{Op}
+use Rattle.record_base.specs.declared.op.Op.TheVariants as op
+use Rattle.record_base.specs.declared.message.Asked.{Asked}
+use Rattle.record_base.specs.declared.message.Asked.TheVariants.{Ipmi, Pldm}
+use Rattle.cfg_records.specs.declared.board_file.BoardFile.{BoardFile}
+use Rattle.record_kinds.specs.Limits.{get_asked, set_asked}
+use Rattle.record_kinds.specs.Sound.{IsSound}
+use Rattle.record_base.specs.declared.numeric_effecter.NumericBytes.{NumericBytes}
+use Rattle.record_base.specs.declared.numeric_effecter.NumericBytes.TheVariants.{One, Two, Four, Other}
+use Rattle.effecter_recs.specs.ChangeLaws.{two_each}
+use Rattle.bmc_board.specs.State.{State}
+use Rattle.bmc_board.proofs.AnswerFacts.{answers_fit}
+use Rattle.model_bus.specs.Request.{Request as Heard, Entry, Carried}
+use Rattle.model_bus.specs.Carried.{IsNew, outcome}
+use Rattle.model_bus.specs.Numbering.{is_above}
+use Rattle.model_bus.specs.BusState.{request_of}
+use Rattle.model_bus.specs.PacketBus.{rules_of}
+use Rattle.model_bus.specs.Bytes.{answers}
+use Rattle.model_bus.proofs.NumberLaws.{smbus_numbers}
+use Rattle.model_undo.specs.Words.{Answered, is_busy}
+use Rattle.model_undo.specs.Wires.{number_of, IsSeries, IsOf, IsMade}
+use Rattle.model_undo.specs.TwoBuses.{Addresses}
+use Rattle.model_undo.specs.Machine.{Task, Opened, Machine, enters, takes, reply_of}
+use Rattle.model_lab.specs.ManagerWords.{from_manager, manager_words}
+use Rattle.model_family.specs.Family.{answer}
+use Rattle.model_lab.specs.Wires.{bytes_of, reply_to}
+use Rattle.model_lab.specs.WireLaws.{managers}
+use Rattle.model_lab.specs.Spelled.{numbers_of}
+use Rattle.model_lab.proofs.Spelled.{are_spelled}
+use Rattle.undo_plans.specs.declared.names.Names.{Names}
+use Rattle.model_lab.specs.Values.{Part, parts_of}
+use Rattle.model_lab.specs.Bytes.{pldm_heard_in, said}
+use Rattle.model_lab.specs.Cuts.{kept_after_parts}
+use Rattle.model_lab.specs.PortSteps.{Deed, Turn as PortTurn, hears_message, hears_pldm, pldm_turn, pldm_asked, replies, spelled}
+use Rattle.model_lab.specs.ManagerSteps.{addresses, ManagerState, ManagerDeed, goes_on, rests, taken_or, hears_reply, is_part}
+use Rattle.model_lab.proofs.Stepping.{turns_by}
+use Rattle.model_lab.proofs.Parts.{parts_are_cuts}
+use Rattle.model_headline.specs.Tied.{P, F, rules_on, smbus_bus}
+use Rattle.model_headline.proofs.Sending.{made_type, from_zero}
+use Rattle.model_headline.proofs.CleanQueue.{Link, port_goes, manager_goes, settles, settles_more}
+use Rattle.model_headline.proofs.CleanTest.{accepts}
+use Rattle.model_headline.proofs.CleanLog.{IsLogOf, next_is_new}
+use Rattle.model_headline.proofs.CleanPackets.{AreIn, closes, come_back, none_beside, dues_back, port_hears, manager_joins}
+use Rattle.model_headline.proofs.CleanExchange.{Rest, smbus_port, manager_with, link_at, IsClear, not_busy, part_of, Exchanged}
+
+-- ---- the manager's requests on SMBus are short
+
+abbrev IsShort : Asked → Type 0
+IsShort (Ipmi from net_fn lun command body) = Unit {0}
+IsShort (Pldm from kind command body) = length body ≤ 252
+
+short_value : (id size : ℕ) (v : NumericBytes) → IsShort (set_asked (op.NumericEffecter (record { effecter = id; size = size; value = v })))
+short_value id size (One a) = omega arith
+short_value id size (Two a b) = omega arith
+short_value id size (Four a b c d) = omega arith
+short_value id size Other = omega arith
+
+get_short : (k : Key) → IsShort (get_asked k)
+get_short (key.NumericEffecter id) = omega arith
+get_short (key.StateEffecter id) = omega arith
+get_short (key.BiosAttribute handle) = omega arith
+get_short _ = tt
+
+set_short : (o : Op) → IsShort (set_asked o)
+set_short (op.NumericEffecter o) = short_value o.effecter o.size o.value
+set_short (op.StateEffecter o) = omega (arith, two_each o.changes, o.few)
+set_short (op.BiosAttribute o) = omega (arith, o.fits)
+set_short _ = tt
+
+from_short : (at : Bus → Addresses) (asked : Asked) → IsShort asked → IsShort (from_manager at asked)
+from_short at (Ipmi from net_fn lun command body) h = tt
+from_short at (Pldm from kind command body) h = h
+
+series_short : (at : Bus → Addresses) (series : Asked) → IsSeries (manager_words at) series → IsShort series
+series_short at series (inl is) = subst IsShort (sym is.1) (from_short at (get_asked is.0) (get_short is.0))
+series_short at series (inr is) = subst IsShort (sym is.1) (from_short at (set_asked is.0) (set_short is.0))
+
+made_short : (at : Bus → Addresses) (asked : Asked) → IsMade (manager_words at) asked → IsShort asked
+made_short at asked made = by made.2
+  where
+    by : IsOf (manager_words at) made.0 asked → IsShort asked
+    by (inl same) = subst IsShort (sym same) (series_short at made.0 made.1)
+    by (inr another) = absurd (none-some asked another.1)
+
+module _ (setup : BoardFile) (names : Names) where
+  abbrev asking : ℕ → Envelope
+  asking count = record { destination = names.peer_wire; source = names.own_wire; destination_eid = names.peer_eid; source_eid = names.own_eid; tag_owner = true; tag = count % 8 }
+
+  abbrev telling : ℕ → Envelope
+  telling count = record { destination = names.own_wire; source = names.peer_wire; destination_eid = names.own_eid; source_eid = names.peer_eid; tag_owner = false; tag = count % 8 }
+
+  below_32 : (n : ℕ) → n % 32 < 32
+  below_32 n = omega arith
+
+  module _ (count from kind command : ℕ) (body : List ℕ) (made : IsMade (F setup names).words (Pldm from kind command body)) (b : State) where
+    abbrev asked : Asked
+    asked = Pldm from kind command body
+
+    abbrev bytes : List ℕ
+    bytes = bytes_of (number_of Smbus count) asked
+
+    abbrev message : Message
+    message = record { envelope = asking count; body = bytes }
+
+    abbrev q : PldmRequest
+    q = record { header = record { instance = count % 32; pldm_type = kind; command = command }; body = body }
+
+    abbrev entry : Entry
+    entry = Carried (record { request = pldm_heard_in names.own_eid q; reply = reply_to Smbus bytes (answer setup b asked).0 })
+
+    abbrev answering : Message
+    answering = record { envelope = telling count; body = reply_to Smbus bytes (answer setup b asked).0 }
+
+    some : 0 < length bytes
+    some = omega arith
+
+    fits : length bytes ≤ 256
+    fits = omega (arith, made_short (addresses names) asked made)
+
+    reply_some : 0 < length answering.body
+    reply_some = omega arith
+
+    reply_fits : IsSound setup b.records → length answering.body ≤ 256
+    reply_fits sound = omega (arith, answers_fit setup b asked sound)
+
+    heard_is : pldm_heard_in names.own_eid q ≡ request_of (rules_of (smbus_bus setup names)) count bytes
+    heard_is = ap (λ (n : ℕ). let h : Heard = record { requester = names.own_eid; number = n % 32; bytes = bytes } in h) (from_zero count)
+
+    asked_is : pldm_asked names.own_eid q ≡ asked
+    asked_is = ap (λ (n : ℕ). Pldm n kind command body) (sym (managers (addresses names) asked made))
+
+    spells : IsRequest q ((128 + count % 32) ∷ kind ∷ command ∷ body)
+    spells = (0, record { bit = lit< tt; header = record { instance = below_32 count; pldm_type = made_type (addresses names) asked made }; fits = made_short (addresses names) asked made; spelled = refl })
+
+    module _ (kept : Assemblies) (log : List Entry) (is_log : IsLogOf (rules_on setup names Smbus) count log) where
+      turn_is : pldm_turn setup (smbus_port setup names kept log) b names.own_eid q ≡ record { outcome = IsNew; log = entry ∷ log; left = (answer setup b asked).1; replied = Some (reply_to Smbus bytes (answer setup b asked).0) }
+      turn_is =
+          let new : outcome (is_above 32) (pldm_heard_in names.own_eid q) log ≡ IsNew = ap (λ (h : Heard). outcome (is_above 32) h log) heard_is ∙ next_is_new (rules_of (smbus_bus setup names)) (smbus_numbers names.own_eid names.peer_eid 0) count log bytes is_log in
+          (turns_by (is_above 32) (pldm_heard_in names.own_eid q) (spelled Smbus (pldm_heard_in names.own_eid q)) setup (pldm_asked names.own_eid q) log b).new new
+          ∙ ap (λ (a : Asked). let t : PortTurn = record { outcome = IsNew; log = Carried (record { request = pldm_heard_in names.own_eid q; reply = reply_to Smbus bytes (answer setup b a).0 }) ∷ log; left = (answer setup b a).1; replied = Some (reply_to Smbus bytes (answer setup b a).0) } in t) asked_is
+
+      abbrev deed_of : PortTurn → Deed
+      deed_of t = record { port = smbus_port setup names kept t.log; board = t.left; sent = replies (smbus_port setup names kept log) message (said Smbus (pldm_heard_in names.own_eid q) t.replied) }
+
+      port_answers : hears_message setup (smbus_port setup names kept log) b message ≡ record { port = smbus_port setup names kept (entry ∷ log); board = (answer setup b asked).1; sent = map Part (parts_of answering) }
+      unfolding hears_message
+      port_answers = ap (hears_pldm setup (smbus_port setup names kept log) b message) (request-in_back q ((128 + count % 32) ∷ kind ∷ command ∷ body) spells) ∙ ap deed_of turn_is
+
+  -- the manager takes the reply
+  module _ (joined : Assemblies) (task : Task (F setup names).words) (before : List (List ℕ)) (m : Machine (F setup names).words) (from kind command : ℕ) (body : List ℕ) (made : IsMade (F setup names).words (Pldm from kind command body)) (b : State) where
+    abbrev wanted : Asked
+    wanted = Pldm from kind command body
+
+    abbrev open_machine : Machine (F setup names).words
+    open_machine = record m { stage = Opened true task (part_of setup names wanted before); resent = 0 }
+
+    abbrev given : Answered
+    given = (answer setup b wanted).0
+
+    abbrev wanted_bytes : List ℕ
+    wanted_bytes = bytes_of (number_of Smbus m.counts.smbus) wanted
+
+    abbrev manager : ManagerState (P setup names)
+    manager = manager_with setup names joined open_machine
+
+    passes : answers (numbers_of Smbus) wanted_bytes (reply_to Smbus wanted_bytes given) ≡ true
+    passes = accepts (numbers_of Smbus) given.code wanted_bytes (reply_to Smbus wanted_bytes given) (not_busy setup names b wanted) ((are_spelled (addresses names)).replies m.counts.smbus wanted given made)
+
+    taken_is : (code : ℕ) (data_of : List ℕ) → is_busy code ≡ false
+        → reply_of (F setup names).words (record { code = code; body = data_of }) open_machine ≡ Some (takes (F setup names).words (record { code = code; body = data_of }) task (part_of setup names wanted before) open_machine)
+    taken_is code data_of free = ap (λ (t : Bool). cond t None (Some (takes (F setup names).words (record { code = code; body = data_of }) task (part_of setup names wanted before) open_machine))) free
+
+    manager_takes : hears_reply (P setup names) Smbus (reply_to Smbus wanted_bytes given) manager ≡ goes_on (P setup names) manager (takes (F setup names).words given task (part_of setup names wanted before) open_machine)
+    manager_takes =
+        ap (λ (t : Bool). cond t (taken_or (P setup names) manager (reply_of (F setup names).words given open_machine)) (rests (P setup names) manager)) passes
+        ∙ ap (taken_or (P setup names) manager) (taken_is given.code given.body (not_busy setup names b wanted))
+
+  -- a packet of the reply goes to the manager, under the request's tag
+  is_mine : (count : ℕ) (p : Packet) → p.envelope ≡ telling count → is_part names count p ≡ true
+  is_mine count p is =
+      ap (λ (e : Envelope). (e.destination == names.own_wire && e.source == names.peer_wire) && (e.source_eid == names.peer_eid && (not e.tag_owner && e.tag == count % 8))) is
+      ∙ and_from _ _ (and_from _ _ (eq-eqb names.own_wire names.own_wire refl) (eq-eqb names.peer_wire names.peer_wire refl)) (and_from _ _ (eq-eqb names.peer_eid names.peer_eid refl) (and_from _ _ refl (eq-eqb (count % 8) (count % 8) refl)))
+
+  pub smbus_exchange : (task : Task (F setup names).words) (from kind command : ℕ) (body : List ℕ) (before : List (List ℕ)) (m : Machine (F setup names).words) (b : State) (r : Rest setup names)
+      → IsMade (F setup names).words (Pldm from kind command body) → IsClear setup names m.counts r → IsSound setup b.records → Exchanged setup names task (part_of setup names (Pldm from kind command body) before) m b r
+  smbus_exchange task from kind command body before m b r made clear sound =
+      let n = m.counts.smbus in
+      let wanted : Asked = Pldm from kind command body in
+      let part = part_of setup names wanted before in
+      let l = link_at setup names (enters (F setup names).words (Opened true task part) m) b r in
+      let ask = message n from kind command body made b in
+      let tell = answering n from kind command body made b in
+      let ps = parts_of ask in
+      let qs = parts_of tell in
+      let e = entry n from kind command body made b in
+      let some_asked = some n from kind command body made b in
+      let fits_asked = fits n from kind command body made b in
+      let some_told = reply_some n from kind command body made b in
+      let fits_told = reply_fits n from kind command body made b sound in
+      let asked_in : AreIn (asking n) ps = (parts_are_cuts.cut ask some_asked fits_asked).enveloped in
+      let told_in : AreIn (telling n) qs = (parts_are_cuts.cut tell some_told fits_told).enveloped in
+      let comes : ComesBack names.peer_eid r.kept ps ask = come_back names.peer_eid r.kept ask some_asked fits_asked refl clear.kept in
+      let goes : ComesBack names.own_eid r.joined qs tell = come_back names.own_eid r.joined tell some_told fits_told refl clear.joined in
+      let kept = kept_after_parts names.peer_eid r.kept ps in
+      let joined = kept_after_parts names.own_eid r.joined qs in
+      let mid : Link (P setup names) = record l { board = (answer setup b wanted).1; smbus = smbus_port setup names kept (e ∷ r.smbus_log); queue = dues_back qs } in
+      let port : settles (P setup names) setup (length ps) l ≡ mid =
+      port_hears (P setup names) setup ps l ask comes asked_in refl
+      ∙ ap (λ (d : Deed). port_goes (P setup names) Smbus d [] l) (port_answers n from kind command body made b kept r.smbus_log clear.smbus) in
+      record {
+        count = length ps + length qs;
+        rest = record r { smbus_log = e ∷ r.smbus_log; kept = kept; joined = joined };
+        clear = record {
+          ipmb = clear.ipmb;
+          smbus = (record { request = pldm_heard_in names.own_eid (q n from kind command body made b); reply = reply_to Smbus (bytes n from kind command body made b) (answer setup b wanted).0 }, r.smbus_log, refl, heard_is n from kind command body made b, clear.smbus);
+          kept = closes names.peer_eid ps r.kept ask comes asked_in (none_beside r.kept (name_of (asking n)) clear.kept);
+          joined = closes names.own_eid qs r.joined tell goes told_in (none_beside r.joined (name_of (telling n)) clear.joined);
+        };
+        is = settles_more (P setup names) setup (length ps) (length qs) l
+            ∙ ap (settles (P setup names) setup (length qs)) port
+            ∙ manager_joins (P setup names) setup qs mid tell part refl goes told_in (is_mine n)
+            ∙ ap (λ (d : ManagerDeed (P setup names)). manager_goes (P setup names) d [] mid) (manager_takes joined task before m from kind command body made b);
+      }

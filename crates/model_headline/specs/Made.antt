@@ -1,0 +1,34 @@
+-- The requests of a machine are those that a manager makes.
+use Rattle.std.specs.Prelude.{List, [], ◌∷◌}
+use Rattle.two_wire.specs.declared.Bus.{Bus}
+use Rattle.record_base.specs.declared.message.Asked.{Asked}
+use Rattle.model_undo.specs.Words.{Words}
+use Rattle.model_undo.specs.Wires.{IsSeries, IsMade}
+use Rattle.model_undo.specs.TwoBuses.{Addresses}
+use Rattle.model_undo.specs.Machine.{Task, Gets, Sets, Undoes, Stage, Opened, Machine}
+use Rattle.model_lab.specs.ManagerWords.{manager_words}
+
+module _ (at : Bus → Addresses) where
+  abbrev pub M : Words
+  M = manager_words at
+
+  -- each of these series is one that a manager makes
+  abbrev pub AllSeries : List Asked → Type 0
+  AllSeries [] = Unit {0}
+  AllSeries (s ∷ ss) = IsSeries M s × AllSeries ss
+
+  -- so are those that a task goes over later
+  abbrev pub TaskMade : Task M → Type 0
+  TaskMade (Gets k op) = Unit {0}
+  TaskMade (Sets k op back) = Unit {0}
+  TaskMade (Undoes first rest) = AllSeries rest
+
+  -- and so is the request that is open
+  abbrev pub StageMade : Stage M → Type 0
+  StageMade (Opened heeded task part) = IsMade M part.asked × TaskMade task
+  StageMade _ = Unit {0}
+
+  -- the open request is one that a manager makes, and so are those that undo
+  pub record MachineMade (m : Machine M) : Type 0 where
+    pub stage : StageMade m.stage
+    pub undo : AllSeries m.undo

@@ -1,0 +1,202 @@
+-- A lab and the two buses of the model that it shows.
+use Rattle.std.specs.Prelude.{◌≡◌, ℕ, ◌%◌, ◌≤◌, true, false, ◌==◌, ◌⊎◌, List, ◌∷◌, length, Some, slice_get}
+use Rattle.two_wire.specs.declared.Bus.{Bus}
+use Rattle.two_wire.specs.declared.Bus.TheVariants.{Ipmb, Smbus}
+use Rattle.ipmb_frame.specs.declared.message.Request.{Request}
+use Rattle.ipmb_frame.specs.declared.message.Response.{Response}
+use Rattle.mctp_net.specs.declared.packet.Packet.{Packet}
+use Rattle.mctp_net.specs.Sizes.{unit_size}
+use Rattle.mctp_net.specs.Assembly.{open_beside, is_ours}
+use Rattle.cfg_records.specs.declared.board_file.BoardFile.{BoardFile}
+use Rattle.model_bus.specs.declared.numbers.Numbers.TheVariants as numbers
+use Rattle.model_bus.specs.Numbering.{Bus as Rules, ipmb}
+use Rattle.model_bus.specs.Repeat.{In}
+use Rattle.model_bus.specs.Packet.{packets_of}
+use Rattle.model_bus.specs.Assembly.{Sent}
+use Rattle.model_bus.specs.BusState.{BusState, Frame, Ask, request_of}
+use Rattle.model_bus.specs.PacketBus.{PacketBus, rules_of, request_name, reply_name, Ends}
+use Rattle.model_bus.specs.Answering.{AreWritten}
+use Rattle.model_bus.specs.Request.{Kept, Entry, Carried, Idled}
+use Rattle.model_bus.specs.Bytes.{IsRequestOn}
+use Rattle.model_undo.specs.Words.{Answered}
+use Rattle.model_undo.specs.Family.{Family}
+use Rattle.model_undo.specs.Machine.{count_of}
+use Rattle.model_undo.specs.Line.{Line}
+use Rattle.model_undo.specs.Wires.{Wires}
+use Rattle.model_undo.specs.TwoBuses.{with_packets}
+use Rattle.model_undo.specs.World.{States, World, Happening, AllMay, run}
+use Rattle.model_family.specs.Family.{family}
+use Rattle.model_lab.specs.Spelled.{numbers_of}
+use Rattle.model_lab.specs.Wires.{asked_from, reply_to}
+use Rattle.model_lab.specs.ManagerWires.{wires}
+use Rattle.model_lab.specs.Seen.{WaitsAlike}
+use Rattle.undo_plans.specs.declared.names.Names.{Names}
+use Rattle.model_lab.specs.Values.{Asks, Tells, Part}
+use Rattle.model_lab.specs.Bytes.{heard_in, pldm_heard_in, response_bytes, response_to}
+use Rattle.pldm_base.specs.declared.message.PldmRequest.{PldmRequest}
+use Rattle.pldm_base.specs.Message.{request_in as pldm_request_in}
+use Rattle.model_lab.specs.PortSteps.{asked_in, pldm_asked}
+use Rattle.model_lab.specs.ManagerSteps.{Plans, addresses, board_plans, is_answer, open_count}
+use Rattle.model_lab.specs.PortEvents.{name_in, IsPortOf, IsManagersPart}
+use Rattle.model_lab.specs.ManagerEvents.{HoldsReply, HoldsPart, name_awaited}
+use Rattle.model_headline.specs.Each.{Each}
+use Rattle.model_headline.specs.Made.{MachineMade}
+use Rattle.model_lab.specs.Lab.{Way, ToPort, ToManager, ToOthers, LabFrame, Lab}
+
+module _ (setup : BoardFile) (names : Names) where
+  abbrev pub P : Plans
+  P = board_plans names
+
+  abbrev pub F : Family
+  F = family setup (addresses names)
+
+  abbrev pub L : Bus → Line
+  L = with_packets (addresses names) packets_of
+
+  abbrev pub W : Wires F.words
+  W = wires (addresses names)
+
+  -- IPMB, and SMBus in packets
+  abbrev pub ipmb_bus : Rules
+  ipmb_bus = ipmb names.own_address names.peer_address 0
+
+  abbrev pub smbus_bus : PacketBus
+  smbus_bus = record { manager = names.own_eid; controller = names.peer_eid; first = 0; split = packets_of }
+
+  -- the rules of each for whole messages
+  abbrev pub rules_on : Bus → Rules
+  rules_on Ipmb = ipmb_bus
+  rules_on Smbus = rules_of smbus_bus
+
+  -- the manager's requests on a bus
+  abbrev pub requests : States L → Bus → BusState
+  requests on bus = (L bus).requests (on bus)
+
+  -- ---- frames
+
+  -- the model's frame `which` is of the same request, and was sent as many idles after the start
+  pub record IsOf (frames : List Frame) (f : LabFrame) (which : ℕ) (g : Frame) : Type 0 where
+    pub sent : slice_get frames which ≡ Some g
+    pub request : g.request ≡ f.request
+    pub idles : g.idles ≡ f.idles
+
+  -- the value is a request of the manager on IPMB, which the model's frame holds
+  pub record HoldsAsked (frames : List Frame) (f : LabFrame) : Type 0 where
+    pub which : ℕ
+    pub frame : Frame
+    pub is_of : IsOf frames f which frame
+    pub asked : Request
+    pub value : f.value ≡ Asks asked
+    pub bytes : List ℕ
+    pub asks : frame.content ≡ Ask bytes
+    pub heard : heard_in asked ≡ request_of ipmb_bus frame.request bytes
+    pub to_port : asked.header.responder.address ≡ names.peer_address
+    pub read : asked_from (addresses names) Ipmb bytes ≡ asked_in asked
+    -- what a response to it says
+    pub number : ℕ
+    pub spelled : IsRequestOn numbers.Ipmb number bytes
+    pub responds : (a : Answered) → response_bytes (response_to asked a) ≡ reply_to Ipmb bytes a
+    pub from_manager : asked.header.requester.address ≡ names.own_address
+
+  -- the value is a response to the manager on IPMB, which the model's frame holds
+  pub record HoldsTold (frames : List Frame) (f : LabFrame) : Type 0 where
+    pub which : ℕ
+    pub frame : Frame
+    pub is_of : IsOf frames f which frame
+    pub told : Response
+    pub value : f.value ≡ Tells told
+    pub held : HoldsReply numbers.Ipmb (response_bytes told) frame.content
+    pub answers : is_answer names told ≡ true
+
+  -- the value is a packet of a request of the manager on SMBus, which the model's frame holds
+  pub record HoldsAskedPart (x : Ends) (f : LabFrame) : Type 0 where
+    pub which : ℕ
+    pub place : ℕ
+    pub packet : Packet
+    pub value : f.value ≡ Part packet
+    pub part : IsManagersPart smbus_bus x which place packet
+    pub request : part.frame.request ≡ f.request
+    pub idles : part.frame.idles ≡ f.idles
+    pub small : length packet.payload ≤ unit_size
+    pub to_port : packet.envelope.destination ≡ names.peer_wire
+    pub from_manager : packet.envelope.source ≡ names.own_wire
+    -- what the message asks, and what a reply to it says
+    pub asked : PldmRequest
+    pub rest : List ℕ
+    pub typed : part.bytes ≡ 1 ∷ rest
+    pub says : pldm_request_in rest ≡ Some asked
+    pub heard : pldm_heard_in names.own_eid asked ≡ request_of (rules_of smbus_bus) part.frame.request part.bytes
+    pub reads : asked_from (addresses names) Smbus part.bytes ≡ pldm_asked names.own_eid asked
+    pub number : ℕ
+    pub spelled : IsRequestOn numbers.Pldm number part.bytes
+
+  -- the value is a packet of a reply to the manager on SMBus, which the model's frame holds
+  pub record HoldsToldPart (frames : List Frame) (f : LabFrame) : Type 0 where
+    pub which : ℕ
+    pub place : ℕ
+    pub frame : Frame
+    pub is_of : IsOf frames f which frame
+    pub packet : Packet
+    pub value : f.value ≡ Part packet
+    pub held : HoldsPart smbus_bus place packet frame.content
+    pub named : name_in packet ≡ reply_name smbus_bus frame.request
+    pub destination : packet.envelope.destination ≡ names.own_wire
+    pub source : packet.envelope.source ≡ names.peer_wire
+    pub ours : is_ours names.own_eid packet ≡ true
+
+  -- or it comes from another endpoint than the controller's, as it does once somebody set that one's identifier
+  pub record ComesFromAnother (f : LabFrame) : Type 0 where
+    pub packet : Packet
+    pub value : f.value ≡ Part packet
+    pub source : (packet.envelope.source_eid == names.peer_eid) ≡ false
+
+  -- the frame is one of the model's, by the end to which it goes
+  abbrev pub IsHeldBy : Way → Bus → States L → LabFrame → Type 0
+  IsHeldBy ToPort Ipmb on f = HoldsAsked (on Ipmb).frames f
+  IsHeldBy ToPort Smbus on f = HoldsAskedPart (on Smbus) f
+  IsHeldBy ToManager Ipmb on f = HoldsTold (on Ipmb).frames f
+  IsHeldBy ToManager Smbus on f = HoldsToldPart (on Smbus).bus.frames f ⊎ ComesFromAnother f
+  IsHeldBy ToOthers bus on f = Unit {0}
+
+  abbrev pub IsHeld : States L → LabFrame → Type 0
+  IsHeld on f = IsHeldBy f.way f.on on f
+
+  -- ---- what the ports did
+
+  -- the reply that is kept answers the request
+  abbrev pub IsAnswer : Bus → Kept → Type 0
+  IsAnswer bus k = (a : Answered) × (k.reply ≡ reply_to bus k.request.bytes a)
+
+  abbrev pub EntryAnswers : Bus → Entry → Type 0
+  EntryAnswers bus (Carried k) = IsAnswer bus k
+  EntryAnswers bus (Idled requester) = Unit {0}
+
+  -- ---- the tie
+
+  pub record IsTied (x : Lab P) (on : States L) : Type 0 where
+    pub named : x.manager.names ≡ names
+    pub ipmb_wire : x.ipmb.wire ≡ names.peer_address
+    pub smbus_wire : x.smbus.wire ≡ names.peer_wire
+    pub ipmb_log : (on Ipmb).log ≡ x.ipmb.log
+    pub smbus_port : IsPortOf (on Smbus) x.smbus
+    pub waits : WaitsAlike (on Smbus).manager x.manager.joined
+    pub alone : open_beside (name_awaited names (open_count P Smbus x.manager)) x.manager.joined ≡ 0
+    pub counted : (bus : Bus) → count_of bus x.manager.machine.counts ≡ length (requests on bus).taken
+    pub written : (bus : Bus) → AreWritten (numbers_of bus) (rules_on bus) (requests on bus)
+    pub answered : (bus : Bus) → Each (EntryAnswers bus) (requests on bus).log
+    pub made : MachineMade (addresses names) x.manager.machine
+    pub frames : Each (IsHeld on) x.frames
+    -- what waits of the manager's at the port is of the request whose start came last under its tag
+    pub opened : (n : ℕ) (t : Sent) → In t ((on Smbus).port (request_name smbus_bus n)) → t.request ≡ x.opened (n % 8)
+
+  -- the model's world of a lab
+  abbrev pub world_of : Lab P → States L → World F L
+  world_of x on = record { machine = x.manager.machine; on = on; board = x.board }
+
+  -- what the lab does, the model's world does in so many steps
+  pub record Goes (x : Lab P) (on : States L) (y : Lab P) : Type 0 where
+    pub happenings : List (Happening F L)
+    pub left : States L
+    pub may : AllMay F L W happenings (world_of x on)
+    pub reaches : run F L W happenings (world_of x on) ≡ world_of y left
+    pub tied : IsTied y left

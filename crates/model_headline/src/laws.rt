@@ -1,0 +1,58 @@
+//! The model's world does what a lab does at an event.
+
+ghost use Rattle.std.specs.Prelude.{ℕ, List};
+ghost use Rattle.record_base.specs.declared.op.Op.{Op};
+ghost use Rattle.cfg_records.specs.declared.board_file.BoardFile.{BoardFile};
+ghost use Rattle.cfg_records.specs.Records.{Records};
+ghost use Rattle.undo_plans.specs.declared.names.Names.{Names};
+ghost use Rattle.model_headline.specs.Follows.{CallsAreFollowed, RepliesAreFollowed, RequestsAreFollowed, OthersAreFollowed};
+ghost use Rattle.model_lab.specs.Meaning.{Bench};
+ghost use Rattle.model_headline.specs.Theorem.{Headline};
+ghost use Rattle.model_headline.specs.Plays.{PlaysStand};
+ghost use Rattle.model_headline.specs.CleanLink.{RunsOnCleanLink};
+ghost use Rattle.model_headline.specs.CleanPlays.{PlaysRunClean};
+
+/// Where the manager is called, the model's world goes on to one that the lab shows then. So it is in each phase, also where the call is refused.
+pub fn calls_are_followed()
+    ensures { (setup : BoardFile) (names : Names) (plan : List Op) (start : Records) → CallsAreFollowed setup names plan start }
+{}
+
+/// Where a live frame comes to the manager, whole on IPMB or a packet on SMBus, the model's world goes on to one that the lab shows then.
+pub fn replies_are_followed()
+    ensures { (setup : BoardFile) (names : Names) (plan : List Op) (start : Records) → RepliesAreFollowed setup names plan start }
+{}
+
+/// Where a live frame of the manager comes to the port, whole on IPMB or a packet on SMBus that joins no other request's assembly, the
+/// model's world goes on to one that the lab shows then.
+pub fn requests_are_followed()
+    ensures { (setup : BoardFile) (names : Names) (plan : List Op) (start : Records) → RequestsAreFollowed setup names plan start }
+{}
+
+/// So it does at an honest request of another on IPMB, at all packets of an honest message of another on SMBus, at noise, where a requester is
+/// idle, and where what isn't configuration changes.
+pub fn others_are_followed()
+    ensures { (setup : BoardFile) (names : Names) (plan : List Op) (start : Records) → OthersAreFollowed setup names plan start }
+{}
+
+/// The headline, over a lab. After every schedule that a lab takes and in which no packet joins another request's assembly, so at each of
+/// its events, the manager's phase says what the records are, and a plan that halted has its cause. Once the plan is undone, and after all
+/// that comes then, every record is what it was at the start, and each Get shows the same configuration.
+pub fn undo_takes_everything_back()
+    ensures { (setup : BoardFile) (names : Names) (plan : List Op) (retries : ℕ) → Headline setup names plan retries }
+{}
+
+/// What every play tells: its phase says what the records are, and a plan that halted has its cause.
+pub fn plays_stand()
+    ensures { (bench : Bench) (file : BoardFile) (plan : List Op) (retries : ℕ) → PlaysStand bench file plan retries }
+{}
+
+/// Over a link that loses, repeats and delays nothing, and on which nobody else asks, a plan is done after two requests for each step, or
+/// halts at the first step that isn't accepted or can't be restored. Its undo takes one request for each step that was done.
+pub fn clean_links_run_plans()
+    ensures { (setup : BoardFile) (names : Names) (plan : List Op) (retries : ℕ) → RunsOnCleanLink setup names plan retries }
+{}
+
+/// What every play of a clean schedule tells: so the plan ran, and so it was undone.
+pub fn clean_plays_run_plans()
+    ensures { (bench : Bench) (file : BoardFile) (plan : List Op) (retries : ℕ) → PlaysRunClean bench file plan retries }
+{}

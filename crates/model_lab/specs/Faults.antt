@@ -1,0 +1,124 @@
+-- What is wrong with an event, which a lab doesn't take then.
+use Rattle.std.specs.Prelude.{◌≡◌, ℕ, ◌+◌, Bool, true, false, not, ◌==◌, nat_le, ◌&&◌, ◌||◌, List, [], ◌∷◌, length, find, Option, Some, None, if◌then◌else◌, slice_get}
+use Rattle.std.specs.Option.{is_none}
+use Rattle.two_wire.specs.declared.Bus.{Bus}
+use Rattle.two_wire.specs.declared.Bus.TheVariants.{Ipmb, Smbus}
+use Rattle.ipmb_frame.specs.Fault.{has_fault as has_frame_fault, faults as frame_faults}
+use Rattle.mctp_net.specs.Grammar.{has_fault as has_packet_fault, faults as packet_faults}
+use Rattle.pldm_base.specs.declared.message.PldmRequest.{PldmRequest}
+use Rattle.pldm_base.specs.Message.{request_in as pldm_request_in}
+use Rattle.cfg_records.specs.declared.board_file.BoardFile.{BoardFile}
+use Rattle.model_bus.specs.Circle.{span_of}
+use Rattle.bmc_board.specs.Table.{is_changing}
+use Rattle.model_lab.specs.Spelled.{numbers_of}
+use Rattle.model_undo.specs.Words.{Words}
+use Rattle.model_undo.specs.Machine.{Machine, count_of, open_bus, same_bus}
+use Rattle.model_lab.specs.PortSteps.{asked_in, pldm_asked}
+use Rattle.undo_plans.specs.declared.names.Names.{Names}
+use Rattle.model_lab.specs.ManagerSteps.{own_on, peer_on, Plans}
+use Rattle.model_lab.specs.Lab.{Way, ToPort, ToManager, ToOthers, LabFrame, Event, Calls, ToBmc, ToMgr, OtherIpmb, OtherSmbus, Noise, Idles, OnBench, Lab, idles_on, step}
+
+pub data Fault : Type 0 where
+  -- there is no such frame
+  NoFrame : Fault
+  -- the frame doesn't go to that end
+  WrongWay : Fault
+  -- too many newer requests were begun, or the manager's window was forgotten since
+  Aged : Fault
+  -- another requester's command sets the configuration
+  Changing : Fault
+  -- it comes from the manager's or the controller's address
+  Impersonates : Fault
+  -- the noise reads as a frame
+  Forged : Fault
+  -- a request of the manager is open, on either bus
+  StillOpen : Fault
+  -- 65,536 frames were sent
+  Room : Fault
+
+-- a fault, and whether an event has it
+pub record Check : Type 0 where
+  pub fault : Fault
+  pub holds : Bool
+
+abbrev pub check : Fault → Bool → Check
+check fault holds = record { fault = fault; holds = holds }
+
+-- the first of the faults that an event has
+abbrev pub first_of : List Check → Option Fault
+first_of [] = None
+first_of (c ∷ cs) = if c.holds then Some c.fault else first_of cs
+
+-- both are the same way
+abbrev pub same_way : Way → Way → Bool
+same_way ToPort ToPort = true
+same_way ToManager ToManager = true
+same_way ToOthers ToOthers = true
+same_way _ _ = false
+
+-- the bus of the open request is this
+abbrev pub is_open_bus : Bus → Option Bus → Bool
+is_open_bus on None = false
+is_open_bus on (Some other) = same_bus on other
+
+-- how many requests a machine began on a bus: those that were answered, and the open one
+abbrev pub begun_on : (M : Words) → Bus → Machine M → ℕ
+begun_on M on m = count_of on m.counts + (if is_open_bus on (open_bus M m) then 1 else 0)
+
+-- a request of the manager is open, on either bus
+abbrev pub has_open : (M : Words) → Machine M → Bool
+has_open M m = not (is_none (open_bus M m))
+
+-- the address or endpoint is the manager's or the controller's
+abbrev pub is_own : Bus → Names → ℕ → Bool
+is_own on names from = from == own_on on names || from == peer_on on names
+
+-- the PLDM request, if there is one, has a command that sets the configuration
+abbrev pub pldm_changes : ℕ → Option PldmRequest → Bool
+pldm_changes from None = false
+pldm_changes from (Some r) = is_changing (pldm_asked from r)
+
+-- a message from this endpoint is such a request
+abbrev pub message_changes : ℕ → List ℕ → Bool
+message_changes from [] = false
+message_changes from (kind ∷ rest) = kind == 1 && pldm_changes from (pldm_request_in rest)
+
+-- the bytes read as a frame of the bus
+abbrev pub is_frame : Bus → List ℕ → Bool
+is_frame Ipmb bytes = is_none (find (has_frame_fault bytes) frame_faults)
+is_frame Smbus bytes = is_none (find (has_packet_fault bytes) packet_faults)
+
+module _ (P : Plans) where
+  -- fewer newer requests than the span were begun on its bus, and the manager's window there wasn't forgotten since it was sent
+  abbrev pub is_live : Lab P → LabFrame → Bool
+  is_live x f = nat_le (begun_on P.words f.on x.manager.machine) (f.request + span_of (numbers_of f.on)) && f.idles == idles_on P f.on x
+
+  -- 65,536 frames were sent
+  abbrev pub is_full : Lab P → Bool
+  is_full x = nat_le 65536 (length x.frames)
+
+  -- the faults of a delivery to an end, of the frame, if there is one
+  abbrev pub delivery : Way → Lab P → Option LabFrame → List Check
+  delivery way x None = check NoFrame true ∷ []
+  delivery way x (Some f) = check WrongWay (not (same_way f.way way)) ∷ check Aged (not (is_live x f)) ∷ check Room (is_full x) ∷ []
+
+  -- the faults of each event, in their order
+  abbrev pub checks : Lab P → Event → List Check
+  checks x (Calls call) = check Room (is_full x) ∷ []
+  checks x (ToBmc number) = delivery ToPort x (slice_get x.frames number)
+  checks x (ToMgr number) = delivery ToManager x (slice_get x.frames number)
+  checks x (OtherIpmb r) = check Changing (is_changing (asked_in r)) ∷ check Impersonates (is_own Ipmb x.manager.names r.header.requester.address) ∷ check Room (is_full x) ∷ []
+  checks x (OtherSmbus m) =
+      check Changing (message_changes m.envelope.source_eid m.body) ∷ check Impersonates (is_own Smbus x.manager.names m.envelope.source_eid) ∷ check Room (is_full x) ∷ []
+  checks x (Noise on bytes) = check Forged (is_frame on bytes) ∷ []
+  checks x (Idles on requester) = check StillOpen (requester == own_on on x.manager.names && has_open P.words x.manager.machine) ∷ []
+  checks x (OnBench activity) = []
+
+  -- the first fault of an event
+  abbrev pub fault_of : Lab P → Event → Option Fault
+  fault_of x e = first_of (checks x e)
+
+  -- the lab takes every event of a schedule, where it happens
+  abbrev pub AllTaken : BoardFile → List Event → Lab P → Type 0
+  AllTaken setup [] x = Unit {0}
+  AllTaken setup (e ∷ es) x = (fault_of x e ≡ None) × AllTaken setup es (step P setup x e)

@@ -1,0 +1,199 @@
+-- What each call and each frame makes of the manager, and what it sends.
+use Rattle.std.specs.Prelude.{◌≡◌, refl, ℕ, ◌%◌, Bool, true, not, ◌==◌, ◌&&◌, List, [], ◌∷◌, map, Option, Some, None, if◌then◌else◌}
+use Rattle.std.specs.Option.{option_map}
+use Rattle.two_wire.specs.declared.Bus.{Bus}
+use Rattle.two_wire.specs.declared.Bus.TheVariants.{Ipmb, Smbus}
+use Rattle.ipmb_frame.specs.declared.message.Response.{Response}
+use Rattle.mctp_net.specs.declared.packet.Packet.{Packet}
+use Rattle.mctp_net.specs.declared.taken.DropCause.{DropCause}
+use Rattle.mctp_net.specs.Assembly.{Assemblies, nothing, drop_cause, after as kept_after, message_of}
+use Rattle.undo_plans.specs.declared.names.Names.{Names}
+use Rattle.record_base.specs.declared.message.Asked.{Asked}
+use Rattle.record_base.specs.declared.message.Asked.TheVariants.{Ipmi, Pldm}
+use Rattle.model_bus.specs.Bytes.{answers}
+use Rattle.model_undo.specs.Words.{Words}
+use Rattle.model_undo.specs.Machine.{count_of, Part as TaskPart, bus_at, Stage, Opened, Machine, Sending, Turn, start_of, quiet_of, stop_of, again_of, undo_of, reply_of, same_bus}
+use Rattle.model_undo.specs.Wires.{number_of}
+use Rattle.model_undo.specs.TwoBuses.{Addresses}
+use Rattle.model_lab.specs.ManagerWords.{bus_of, manager_words}
+use Rattle.model_lab.specs.Spelled.{numbers_of}
+use Rattle.model_lab.specs.Wires.{bytes_of, answered_from}
+use Rattle.model_lab.specs.Values.{Value, Asks, Tells, Part, parts_of}
+use Rattle.model_lab.specs.Bytes.{response_bytes}
+
+-- by which the manager is known as a requester on a bus
+abbrev pub own_on : Bus → Names → ℕ
+own_on Ipmb names = names.own_address
+own_on Smbus names = names.own_eid
+
+-- and the controller
+abbrev pub peer_on : Bus → Names → ℕ
+peer_on Ipmb names = names.peer_address
+peer_on Smbus names = names.peer_eid
+
+-- a manager's words, and its requests as requests of a board
+pub record Plans : Type 1 where
+  pub words : Words
+  pub asked : words.Asked → Asked
+  pub on_its_bus : (a : words.Asked) → words.bus_of a ≡ bus_of (asked a)
+
+-- both ends' addresses on a bus
+abbrev pub addresses : Names → Bus → Addresses
+addresses names on = record { manager = own_on on names; controller = peer_on on names }
+
+-- plans on the records of a board, whatever its file is
+abbrev pub board_plans : Names → Plans
+board_plans names = record { words = manager_words (addresses names); asked = λ a. a; on_its_bus = λ a. refl }
+
+-- ---- what a request is on the wires
+
+-- the frames of the manager's request of this count: one on IPMB, and on SMBus the packets of a message under the count's tag
+abbrev pub values_of : Names → ℕ → Asked → List Value
+values_of names count (Ipmi from net_fn lun command body) = Asks (record {
+  header = record {
+    responder = record { address = names.peer_address; lun = lun };
+    requester = record { address = names.own_address; lun = 0 };
+    net_fn = net_fn;
+    sequence = number_of Ipmb count;
+    command = command;
+  };
+  body = body;
+}) ∷ []
+values_of names count (Pldm from kind command body) = map Part (parts_of (record {
+  envelope = record {
+    destination = names.peer_wire;
+    source = names.own_wire;
+    destination_eid = names.peer_eid;
+    source_eid = names.own_eid;
+    tag_owner = true;
+    tag = count % 8;
+  };
+  body = bytes_of (number_of Smbus count) (Pldm from kind command body);
+}))
+
+-- frames that the manager sends: on which bus, of which of its requests there, and what they are
+pub record Sent : Type 0 where
+  pub on : Bus
+  pub request : ℕ
+  pub values : List Value
+
+-- the calls of a manager
+pub data Call : Type 0 where
+  Start : Call
+  Quiet : Call
+  Stop : Call
+  Again : Call
+  Undo : Call
+
+-- the response goes from the controller to the manager
+abbrev pub is_answer : Names → Response → Bool
+is_answer names r = r.header.requester.address == names.own_address && r.header.responder.address == names.peer_address
+
+-- the packet goes from the controller to the manager, under the tag of the request of this count
+abbrev pub is_part : Names → ℕ → Packet → Bool
+is_part names count p =
+    (p.envelope.destination == names.own_wire && p.envelope.source == names.peer_wire)
+    && (p.envelope.source_eid == names.peer_eid && (not p.envelope.tag_owner && p.envelope.tag == count % 8))
+
+module _ (P : Plans) where
+  -- a manager: its machine, the names, and the packets that wait at it
+  pub record ManagerState : Type 0 where
+    pub machine : Machine P.words
+    pub names : Names
+    pub joined : Assemblies
+
+  -- the manager after a call or a frame, and what it sends then
+  pub record ManagerDeed : Type 0 where
+    pub manager : ManagerState
+    pub sent : Option Sent
+
+  -- nothing is sent
+  abbrev pub rests : ManagerState → ManagerDeed
+  rests m = record { manager = m; sent = None }
+
+  -- the frames of a request
+  abbrev pub sent_of : Names → Sending P.words → Sent
+  sent_of names s = record { on = s.bus; request = s.count; values = values_of names s.count (P.asked s.asked) }
+
+  -- the machine goes on
+  abbrev pub goes_on : ManagerState → Turn P.words → ManagerDeed
+  goes_on m t = record { manager = record m { machine = t.machine }; sent = option_map (sent_of m.names) t.sends }
+
+  -- ---- calls
+
+  -- what a call makes of the machine: none where the phase isn't one for the call
+  abbrev pub turn_of : Call → Machine P.words → Option (Turn P.words)
+  turn_of Start machine = start_of P.words machine
+  turn_of Quiet machine = quiet_of P.words machine
+  turn_of Stop machine = stop_of P.words machine
+  turn_of Again machine = again_of P.words machine
+  turn_of Undo machine = undo_of P.words machine
+
+  -- as the undo begins, the packets that wait are dropped
+  abbrev pub waits_after : Call → Assemblies → Assemblies
+  waits_after Undo joined = nothing
+  waits_after _ joined = joined
+
+  -- the manager is called: none where the phase isn't one for the call, and then nothing changes
+  unfoldable pub called : Call → ManagerState → Option ManagerDeed
+  called call m = option_map (goes_on (record m { joined = waits_after call m.joined })) (turn_of call m.machine)
+
+  -- ---- frames
+
+  -- the open request, where it is heeded and on this bus
+  abbrev pub heeded_on : Bus → Stage P.words → Option (TaskPart P.words)
+  heeded_on on (Opened true task part) = if same_bus on (bus_at P.words part) then Some part else None
+  heeded_on on _ = None
+
+  -- the number of requests that were answered on a bus, which is the open one's count
+  abbrev pub open_count : Bus → ManagerState → ℕ
+  open_count on m = count_of on m.machine.counts
+
+  -- the bytes of the open request
+  abbrev pub open_bytes : Bus → ManagerState → TaskPart P.words → List ℕ
+  open_bytes on m part = bytes_of (number_of on (open_count on m)) (P.asked part.asked)
+
+  -- a reply is taken by the machine, or ignored
+  abbrev pub taken_or : ManagerState → Option (Turn P.words) → ManagerDeed
+  taken_or m None = rests m
+  taken_or m (Some t) = goes_on m t
+
+  -- the bytes of a reply come while the request is open, if one is: they are taken where they pass the test
+  abbrev pub tested : Bus → List ℕ → ManagerState → Option (TaskPart P.words) → ManagerDeed
+  tested on reply m None = rests m
+  tested on reply m (Some part) =
+      if answers (numbers_of on) (open_bytes on m part) reply
+      then taken_or m (reply_of P.words (answered_from on reply) m.machine)
+      else rests m
+
+  -- the bytes of a reply from the controller come
+  abbrev pub hears_reply : Bus → List ℕ → ManagerState → ManagerDeed
+  hears_reply on reply m = tested on reply m (heeded_on on m.machine.stage)
+
+  -- a response comes
+  unfoldable pub hears_response : Response → ManagerState → ManagerDeed
+  hears_response r m = if is_answer m.names r then hears_reply Ipmb (response_bytes r) m else rests m
+
+  -- a packet was dropped for the cause, or it ended a message, or others are to come
+  abbrev pub ends_reply : Packet → Option DropCause → ManagerState → ManagerDeed
+  ends_reply p (Some cause) m = rests m
+  ends_reply p None m = if p.end then hears_reply Smbus (message_of m.joined p).body m else rests m
+
+  -- a packet is joined to those that wait, and ends a reply or not
+  abbrev pub joins : Packet → ManagerState → ManagerDeed
+  joins p m = ends_reply p (drop_cause m.names.own_eid m.joined p) (record m { joined = kept_after m.names.own_eid m.joined p })
+
+  -- a packet comes while the request is open, if one is
+  abbrev pub joins_for : Packet → ManagerState → Option (TaskPart P.words) → ManagerDeed
+  joins_for p m None = rests m
+  joins_for p m (Some part) = if is_part m.names (open_count Smbus m) p then joins p m else rests m
+
+  -- a packet comes
+  unfoldable pub hears_packet : Packet → ManagerState → ManagerDeed
+  hears_packet p m = joins_for p m (heeded_on Smbus m.machine.stage)
+
+  -- a frame comes; a request is nothing to the manager
+  abbrev pub manager_hears : Value → ManagerState → ManagerDeed
+  manager_hears (Asks r) m = rests m
+  manager_hears (Tells r) m = hears_response r m
+  manager_hears (Part p) m = hears_packet p m

@@ -1,0 +1,39 @@
+-- What is on the wires: requests, responses and packets, and the frames that are their images.
+use Rattle.std.specs.Prelude.{ℕ, List, map}
+use Rattle.two_wire.specs.declared.Bus.{Bus}
+use Rattle.two_wire.specs.declared.Bus.TheVariants.{Ipmb, Smbus}
+use Rattle.ipmb_frame.specs.declared.message.Request.{Request}
+use Rattle.ipmb_frame.specs.declared.message.Response.{Response}
+use Rattle.ipmb_frame.specs.Grammar.{frame, request_head, request_tail, response_head, response_tail, IsRequest, IsResponse}
+use Rattle.mctp_net.specs.declared.packet.Packet.{Packet}
+use Rattle.mctp_net.specs.declared.message.Message.{Message}
+use Rattle.mctp_net.specs.Grammar.{with_pec, unchecked, IsPacket}
+use Rattle.model_bus.specs.Packet.{packets_of}
+
+-- what one frame is
+pub data Value : Type 0 where
+  -- a request on IPMB
+  Asks : Request → Value
+  -- a response on IPMB
+  Tells : Response → Value
+  -- a packet on SMBus
+  Part : Packet → Value
+
+-- a value's frame
+abbrev pub written : Value → List ℕ
+written (Asks r) = frame (request_head r) (request_tail r)
+written (Tells r) = frame (response_head r) (response_tail r)
+written (Part p) = with_pec (unchecked p 0)
+
+-- the bytes are the value's frame on the bus
+abbrev pub IsFrameOn : Bus → Value → List ℕ → Type 0
+IsFrameOn Ipmb (Asks r) bytes = IsRequest r bytes
+IsFrameOn Ipmb (Tells r) bytes = IsResponse r bytes
+IsFrameOn Ipmb (Part p) bytes = ⊥
+IsFrameOn Smbus (Part p) bytes = IsPacket p bytes
+IsFrameOn Smbus (Asks r) bytes = ⊥
+IsFrameOn Smbus (Tells r) bytes = ⊥
+
+-- the packets of a message: the runs of its bytes, each in its envelope
+abbrev pub parts_of : Message → List Packet
+parts_of m = map (λ q. record { envelope = m.envelope; start = q.first; end = q.last; sequence = q.sequence; payload = q.payload }) (packets_of m.body)

@@ -1,0 +1,51 @@
+-- The manager's requests are read back from their bytes, and answers from those of a reply.
+use Rattle.std.proofs.Common.{◌≡◌, ℕ, ◌+◌, ◌*◌, ◌/◌, ◌%◌, List, refl, sym, subst, arith, inl, inr}
+use Rattle.std.proofs.lemmas.Option.{none-some}
+use Rattle.two_wire.specs.declared.Bus.{Bus}
+use Rattle.two_wire.specs.declared.Bus.TheVariants.{Ipmb, Smbus}
+use Rattle.record_base.specs.declared.message.Asked.{Asked}
+use Rattle.record_base.specs.declared.message.Asked.TheVariants.{Ipmi, Pldm}
+use Rattle.record_kinds.specs.Limits.{get_asked, set_asked}
+use Rattle.bmc_board.specs.Decode.{IsFromNobody}
+use Rattle.bmc_board.proofs.Decoded.{gets_are_read, sets_are_read}
+use Rattle.model_undo.specs.Words.{Answered}
+use Rattle.model_undo.specs.TwoBuses.{Addresses}
+use Rattle.model_undo.specs.Wires.{IsSeries, IsOf, IsMade}
+use Rattle.model_lab.specs.ManagerWords.{bus_of, from_manager, manager_words}
+use Rattle.model_lab.specs.Wires.{bytes_of, asked_from, reply_to, answered_from}
+
+-- the request is the manager's, to logical unit 0
+abbrev pub IsManagers : (Bus → Addresses) → Asked → Type 0
+IsManagers at (Ipmi from net_fn lun command body) = (from ≡ (at Ipmb).manager) × (lun ≡ 0)
+IsManagers at (Pldm from kind command body) = from ≡ (at Smbus).manager
+
+of_nobody : (at : Bus → Addresses) (asked : Asked) → IsFromNobody asked → IsManagers at (from_manager at asked)
+of_nobody at (Ipmi from net_fn lun command body) is = (refl, is.1)
+of_nobody at (Pldm from kind command body) is = refl
+
+-- so is each Get and Set that it makes
+made_so : (at : Bus → Addresses) (series : Asked) → IsSeries (manager_words at) series → IsManagers at series
+made_so at series (inl is) = subst (IsManagers at) (sym is.1) (of_nobody at (get_asked is.0) (gets_are_read is.0).from_nobody)
+made_so at series (inr is) = subst (IsManagers at) (sym is.1) (of_nobody at (set_asked is.0) (sets_are_read is.0).from_nobody)
+
+one_of : (at : Bus → Addresses) (series asked : Asked) → IsManagers at series → IsOf (manager_words at) series asked → IsManagers at asked
+one_of at series asked is (inl same) = subst (IsManagers at) (sym same) is
+one_of at series asked is (inr another) = absurd (none-some asked another.1)
+
+-- and so is each request
+pub managers : (at : Bus → Addresses) (asked : Asked) → IsMade (manager_words at) asked → IsManagers at asked
+managers at asked made = one_of at made.0 asked (made_so at made.0 made.1) made.2
+
+pub upper : (n lun : ℕ) → lun ≡ 0 → (4 * n + lun) / 4 ≡ n
+upper n lun zero = omega (arith, zero)
+
+pub lower : (n lun : ℕ) → lun ≡ 0 → (4 * n + lun) % 4 ≡ lun
+lower n lun zero = omega (arith, zero)
+
+pub read_back : (at : Bus → Addresses) (number : ℕ) (asked : Asked) → IsManagers at asked → asked_from at (bus_of asked) (bytes_of number asked) ≡ asked
+read_back at number (Ipmi from net_fn lun command body) is = λ i. Ipmi (sym is.0 i) (upper net_fn lun is.1 i) (lower net_fn lun is.1 i) command body
+read_back at number (Pldm from kind command body) is = λ i. Pldm (sym is i) kind command body
+
+pub reply_read : (bus : Bus) (bytes : List ℕ) (a : Answered) → answered_from bus (reply_to bus bytes a) ≡ a
+reply_read Ipmb bytes a = refl
+reply_read Smbus bytes a = refl

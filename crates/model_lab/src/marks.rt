@@ -1,0 +1,74 @@
+//! How old the frames of a lab are, and which window may be forgotten: a plain program over what tells it.
+
+ghost use Rattle.std.specs.Prelude.{◌≡◌};
+ghost use Rattle.model_bus.specs.Circle.{span_of};
+ghost use Rattle.cfg_records.specs.declared.board_file.BoardFile.{BoardFile};
+ghost use Rattle.model_lab.specs.Spelled.{numbers_of};
+ghost use Rattle.undo_plans.specs.declared.names.Names.{Names as NamesValue};
+ghost use Rattle.model_lab.specs.ManagerSteps.{board_plans};
+ghost use Rattle.model_lab.specs.Marks.{TellsLive, MarksReplies, TellsOpen};
+
+use two_wire::Bus;
+use undo_plans::Names;
+
+/// All of a frame that tells how old it is.
+#[derive(Clone, Copy, Debug, PartialEq, Eq)]
+pub struct Mark {
+    pub on: Bus,
+    /// The manager's request that it carries, or whose frame's delivery brought it, counted from 0 on its bus.
+    pub request: usize,
+    /// How often the manager's window had been forgotten on the bus when it was sent.
+    pub idles: usize,
+}
+
+/// What tells on a bus which frames are too old.
+#[derive(Clone, Copy, Debug, PartialEq, Eq)]
+pub struct Known {
+    /// How many requests the manager began there.
+    pub begun: usize,
+    /// How often its window was forgotten there.
+    pub idles: usize,
+}
+
+/// How many newer requests, once begun, make a frame too old.
+fn span(on: Bus) -> usize
+    ensures { result ≡ span_of (numbers_of on) }
+{
+    match on {
+        Bus::Ipmb => 32,
+        Bus::Smbus => 8,
+    }
+}
+
+impl Mark {
+    /// Whether the frame may still be delivered.
+    pub fn is_live(self, known: Known) -> bool
+        ensures { (names : NamesValue) → TellsLive (board_plans names) self known result }
+    {
+        known.begun.saturating_sub(self.request) <= span(self.on) && self.idles == known.idles
+    }
+
+    /// The mark of each frame that the port sends when this one comes.
+    pub fn reply(self, idles: usize) -> Mark
+        ensures value { result ≡ record { on = self.on; request = self.request; idles = idles } }
+        ensures marks { (names : NamesValue) (setup : BoardFile) → MarksReplies (board_plans names) setup self idles result }
+    {
+        Mark {
+            on: self.on,
+            request: self.request,
+            idles,
+        }
+    }
+}
+
+/// Whether a requester's window on a bus must be kept, where a request of the manager is open on that bus or on none: the manager's is,
+/// on both buses.
+pub fn is_still_open(names: &Names, on: Bus, requester: u8, opened_on: Option<Bus>) -> bool
+    ensures { TellsOpen (board_plans names.now) names.now on requester opened_on result }
+{
+    let own = match on {
+        Bus::Ipmb => names.own_address.byte(),
+        Bus::Smbus => names.own_eid,
+    };
+    requester == own && opened_on.is_some()
+}

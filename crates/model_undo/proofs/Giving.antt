@@ -1,0 +1,224 @@
+-- A halt has its cause among the answers that the board gave in its own schedule. The run is also one of a board that gives these answers
+-- alone, and that board's family meets the laws too; so the cause, which is an answer of that board, is among them.
+use Rattle.std.proofs.Common.{◌≡◌, ℕ, zero, suc, lit<, Bool, true, false, List, [], ◌∷◌, Option, Some, None, refl, sym, ◌∙◌, ap, subst, append-nil}
+use Rattle.std.specs.Prelude.{Contains}
+use Rattle.std.proofs.lemmas.List.Elements.{Contains-append_left, Contains-append_right}
+use Rattle.two_wire.specs.declared.Bus.{Bus}
+use Rattle.model_undo.specs.Words.{Answered}
+use Rattle.model_undo.specs.Phase.{Stop, Refused, NotRestorable, GetRefused, Phase, Fresh, Getting, Setting, Done, Halted, Unsettled, Undoing, Undone, UndoRefused}
+use Rattle.model_undo.specs.Family.{Family, SetsTo}
+use Rattle.model_undo.specs.IsFamily.{Showed, IsFamily}
+use Rattle.model_undo.specs.Plan.{IsAfter, Stands, GaveGet, GaveSet, Halts}
+use Rattle.model_undo.specs.Machine.{Stage, AtStart, Opened, AtEnd, AtHalt, AtUndone, AtRefused, Turn, bus_at, same_bus, start_of, quiet_of, stop_of, again_of, undo_of, reply_of, phase_of}
+use Rattle.model_undo.specs.Wires.{Wires}
+use Rattle.model_undo.specs.Line.{Exchange, Line}
+use Rattle.model_undo.specs.World as world
+use Rattle.model_undo.specs.World.{World, Happening, Start, Quiet, Stop as StopCall, Again, Undo, Resume, ToManager, OnBus, OnBench, BoardMay, happens, run, May, AllMay, opening}
+use Rattle.model_undo.specs.Headline.{IsStart}
+use Rattle.model_undo.specs.Giving.{Giving, given_by, given_at, given_in, GaveGetIn, GaveSetIn, CausedIn, HaltsByAnswers}
+use Rattle.model_undo.proofs.LineLaws.{IsLine}
+use Rattle.model_undo.proofs.Headline.{always_stands, may_prefix, stops_only_if_told}
+
+-- the family whose board answers by the command relation, and gives no answer but these
+abbrev pub giving : (F : Family) → List (Giving F) → Family
+giving F given = record F { Row = λ b asked a after. F.Row b asked a after × Contains given (record { before = b; asked = asked; answered = a; after = after }) }
+
+module _ (F : Family) (laws : IsFamily F) (given : List (Giving F)) where
+  -- ---- it meets the laws
+
+  showed : (key : F.words.Key) (body : List ℕ) (r : F.Records) → Showed F key body r → Showed (giving F given) key body r
+  showed key body r s = record { value = s.value; found = s.found; shows = s.shows }
+
+  does : (op : F.words.Op) (old new : F.Records) → SetsTo F op old new → SetsTo (giving F given) op old new
+  does op old new s = record { before = s.before; after = s.after; found = s.found; sets = s.sets; changed = s.changed }
+
+  did : (op : F.words.Op) (old new : F.Records) → SetsTo (giving F given) op old new → SetsTo F op old new
+  did op old new s = record { before = s.before; after = s.after; found = s.found; sets = s.sets; changed = s.changed }
+
+  giving_is_family : IsFamily (giving F given)
+  giving_is_family = record {
+    single = laws.single;
+    put_back = laws.put_back;
+    get_put = laws.get_put;
+    put_valid = laws.put_valid;
+    sets_valid = laws.sets_valid;
+    sets_one = laws.sets_one;
+    same_key = laws.same_key;
+    undoes = laws.undoes;
+    restores = laws.restores;
+    refuses = laws.refuses;
+    steady = laws.steady;
+    gets_are = laws.gets_are;
+    gets_keep = λ b after asked key a is row. laws.gets_keep b after asked key a is row.0;
+    gets_show = λ b after asked key a is row carried. showed key a.body (F.records b) (laws.gets_show b after asked key a is row.0 carried);
+    sets_do = λ b after op a row carried. does op (F.records b) (F.records after) (laws.sets_do b after op a row.0 carried);
+    refusals_keep = λ b after op a row. laws.refusals_keep b after op a row.0;
+    refusals_say = λ b after op a row ne r s. laws.refusals_say b after op a row.0 ne r (did op (F.records b) r s);
+    never_busy = λ b after asked a row. laws.never_busy b after asked a row.0;
+  }
+
+  -- ---- the same run
+
+  module _ (L : Bus → Line) (W : Wires F.words) where
+    abbrev as_given : World F L → World (giving F given) L
+    as_given w = record { machine = w.machine; on = w.on; board = w.board }
+
+    abbrev event_given : Happening F L → Happening (giving F given) L
+    event_given Start = Start
+    event_given Quiet = Quiet
+    event_given StopCall = StopCall
+    event_given Again = Again
+    event_given Undo = Undo
+    event_given (Resume retries) = Resume retries
+    event_given (ToManager bus e) = ToManager bus e
+    event_given (OnBus bus e after) = OnBus bus e after
+    event_given (OnBench after) = OnBench after
+
+    abbrev all_given : List (Happening F L) → List (Happening (giving F given) L)
+    all_given [] = []
+    all_given (e ∷ es) = event_given e ∷ all_given es
+
+    opens_same : (o : Option (Turn F.words)) (w : World F L) → as_given (world.opens F L W o w) ≡ world.opens (giving F given) L W o (as_given w)
+    opens_same None w = refl
+    opens_same (Some t) w = refl
+
+    repeats_same : (o : Option (Turn F.words)) (w : World F L) → as_given (world.repeats F L W o w) ≡ world.repeats (giving F given) L W o (as_given w)
+    repeats_same None w = refl
+    repeats_same (Some t) w = refl
+
+    resumes_same : (retries : ℕ) (stage : Stage F.words) (w : World F L) → as_given (world.resumes F L W retries stage w) ≡ world.resumes (giving F given) L W retries stage (as_given w)
+    resumes_same retries AtEnd w = refl
+    resumes_same retries (AtHalt k why) w = refl
+    resumes_same retries AtStart w = refl
+    resumes_same retries (Opened heeded task part) w = refl
+    resumes_same retries AtUndone w = refl
+    resumes_same retries (AtRefused k code) w = refl
+
+    answered_same : (bus : Bus) (e : (L bus).Event) (o : Option (Turn F.words)) (w : World F L) → as_given (world.answered F L W bus e o w) ≡ world.answered (giving F given) L W bus e o (as_given w)
+    answered_same bus e None w = refl
+    answered_same bus e (Some t) w = refl
+
+    brought_same : (bus : Bus) (e : (L bus).Event) (o : Option (List ℕ)) (w : World F L) → as_given (world.brought F L W bus e o w) ≡ world.brought (giving F given) L W bus e o (as_given w)
+    brought_same bus e None w = refl
+    brought_same bus e (Some reply) w = answered_same bus e (reply_of F.words (W.answered_from bus reply) w.machine) w
+
+    looks_same : (bus : Bus) (e : (L bus).Event) (b : Bool) (w : World F L) → as_given (world.looks F L W bus e b w) ≡ world.looks (giving F given) L W bus e b (as_given w)
+    looks_same bus e false w = refl
+    looks_same bus e true w = brought_same bus e ((L bus).brings (w.on bus) e) w
+
+    returns_same : (bus : Bus) (e : (L bus).Event) (stage : Stage F.words) (w : World F L) → as_given (world.returns F L W bus e stage w) ≡ world.returns (giving F given) L W bus e stage (as_given w)
+    returns_same bus e (Opened true task part) w = looks_same bus e (same_bus bus (bus_at F.words part)) w
+    returns_same bus e (Opened false task part) w = refl
+    returns_same bus e AtStart w = refl
+    returns_same bus e AtEnd w = refl
+    returns_same bus e (AtHalt k why) w = refl
+    returns_same bus e AtUndone w = refl
+    returns_same bus e (AtRefused k code) w = refl
+
+    happens_same : (w : World F L) (e : Happening F L) → as_given (happens F L W w e) ≡ happens (giving F given) L W (as_given w) (event_given e)
+    happens_same w Start = opens_same (start_of F.words w.machine) w
+    happens_same w Quiet = repeats_same (quiet_of F.words w.machine) w
+    happens_same w StopCall = opens_same (stop_of F.words w.machine) w
+    happens_same w Again = repeats_same (again_of F.words w.machine) w
+    happens_same w Undo = opens_same (undo_of F.words w.machine) w
+    happens_same w (Resume retries) = resumes_same retries w.machine.stage w
+    happens_same w (ToManager bus e) = returns_same bus e w.machine.stage w
+    happens_same w (OnBus bus e after) = refl
+    happens_same w (OnBench after) = refl
+
+    run_same : (events : List (Happening F L)) (w : World F L) → as_given (run F L W events w) ≡ run (giving F given) L W (all_given events) (as_given w)
+    run_same [] w = refl
+    run_same (e ∷ es) w = run_same es (happens F L W w e) ∙ ap (run (giving F given) L W (all_given es)) (happens_same w e)
+
+    -- ---- it may happen there too, where its answers are among those that are given
+
+    board_may : (bus : Bus) (o : Option Exchange) (board after : F.Board) → ((g : Giving F) → Contains (given_by F L W bus o board after) g → Contains given g) → BoardMay F L W bus o board after → BoardMay (giving F given) L W bus o board after
+    board_may bus None board after all may = may
+    board_may bus (Some x) board after all may =
+        let a = may.0 in
+        let asked = W.asked_from bus x.bytes in
+        let told : W.answered_from bus x.reply ≡ a = ap (W.answered_from bus) may.1 ∙ W.same_reply bus x.bytes a in
+        let g : Giving F = record { before = board; asked = asked; answered = W.answered_from bus x.reply; after = after } in
+        let is_one : Contains given g = all g (0, lit< tt, refl) in
+        (a, may.1, (may.2, subst (λ (y : Answered). Contains given (record { before = board; asked = asked; answered = y; after = after })) told is_one))
+
+    may_given : (w : World F L) (e : Happening F L) → ((g : Giving F) → Contains (given_at F L W w e) g → Contains given g) → May F L W w e → May (giving F given) L W (as_given w) (event_given e)
+    may_given w Start all may = tt
+    may_given w Quiet all may = tt
+    may_given w StopCall all may = tt
+    may_given w Again all may = tt
+    may_given w Undo all may = tt
+    may_given w (Resume retries) all may = tt
+    may_given w (ToManager bus e) all may = may
+    may_given w (OnBus bus e after) all may = (may.0, may.1, board_may bus ((L bus).carries (w.on bus) e) w.board after all may.2)
+    may_given w (OnBench after) all may = may
+
+    all_may_given : (events : List (Happening F L)) (w : World F L) → ((g : Giving F) → Contains (given_in F L W events w) g → Contains given g) → AllMay F L W events w → AllMay (giving F given) L W (all_given events) (as_given w)
+    all_may_given [] w all may = tt
+    all_may_given (e ∷ es) w all may = (
+      may_given w e (λ g one. all g (Contains-append_left (given_at F L W w e) (given_in F L W es (happens F L W w e)) g one)) may.0,
+      subst (AllMay (giving F given) L W (all_given es)) (happens_same w e)
+          (all_may_given es (happens F L W w e) (λ g one. all g (Contains-append_right (given_at F L W w e) (given_in F L W es (happens F L W w e)) g one)) may.1),
+    )
+
+    -- ---- what holds of that run holds of this one
+
+    after_same : (plan : List F.words.Op) (start : F.Records) (k : ℕ) (r : F.Records) → IsAfter (giving F given) plan start k r → IsAfter F plan start k r
+    after_same plan start zero r h = h
+    after_same plan start (suc k) r h = (h.0, h.1, after_same plan start k h.0 h.2, h.3, did h.1 h.0 r h.4)
+
+    abbrev gave_get : (plan : List F.words.Op) (start : F.Records) (k : ℕ) (a : Answered) (r : F.Records) → IsAfter F plan start k r → GaveGet (giving F given) plan k a r → GaveGetIn F L W given plan start k a
+    gave_get plan start k a r at g = record {
+      op = g.op;
+      step = g.step;
+      gave = record { before = g.gave.0; after = g.gave.1; is_one = g.gave.3.1; row = g.gave.3.0; at = subst (IsAfter F plan start k) (sym g.gave.2) at };
+    }
+
+    gave_set : (plan : List F.words.Op) (start : F.Records) (k : ℕ) (a : Answered) (r : F.Records) → IsAfter F plan start k r → GaveSet (giving F given) plan k a r → GaveSetIn F L W given plan start k a
+    gave_set plan start k a r at g = record {
+      op = g.op;
+      step = g.step;
+      gave = record { before = g.gave.0; after = g.gave.1; is_one = g.gave.3.1; row = g.gave.3.0; at = subst (IsAfter F plan start k) (sym g.gave.2) at };
+    }
+
+module _ (F : Family) (laws : IsFamily F) (L : Bus → Line) (lines : (bus : Bus) → IsLine (L bus)) (W : Wires F.words) where
+  -- a halt, by what holds of the run in which the board gives these answers alone
+  caused : (events : List (Happening F L)) (w : World F L) (plan : List F.words.Op) (start : F.Records) (stopped : Bool) (phase : Phase) (r : F.Records)
+      → ((k : ℕ) → phase ≡ Halted k Stop → CausedIn F L W events w plan start (Halted k Stop))
+      → Stands (giving F (given_in F L W events w)) plan start phase r → Halts (giving F (given_in F L W events w)) stopped plan phase r
+      → CausedIn F L W events w plan start phase
+  caused events w plan start stopped (Halted k Stop) r told at h = told k refl
+  caused events w plan start stopped (Halted k (Refused code)) r told at h =
+      let given = given_in F L W events w in
+      (h.0, h.1, gave_set F laws given L W plan start k (record { code = code; body = h.1 }) r (after_same F laws given L W plan start k r at) h.2)
+  caused events w plan start stopped (Halted k (GetRefused code)) r told at h =
+      let given = given_in F L W events w in
+      (h.0, h.1, gave_get F laws given L W plan start k (record { code = code; body = h.1 }) r (after_same F laws given L W plan start k r at) h.2)
+  caused events w plan start stopped (Halted k NotRestorable) r told at h =
+      let given = given_in F L W events w in
+      (h.0, gave_get F laws given L W plan start k (record { code = 0; body = h.0 }) r (after_same F laws given L W plan start k r at) h.1, h.2)
+  caused events w plan start stopped Fresh r told at h = tt
+  caused events w plan start stopped (Getting k) r told at h = tt
+  caused events w plan start stopped (Setting k) r told at h = tt
+  caused events w plan start stopped Done r told at h = tt
+  caused events w plan start stopped (Unsettled k) r told at h = tt
+  caused events w plan start stopped (Undoing k) r told at h = tt
+  caused events w plan start stopped Undone r told at h = tt
+  caused events w plan start stopped (UndoRefused k code) r told at h = tt
+
+  pub halts_by_answers : HaltsByAnswers F L W
+  halts_by_answers plan retries on board start events later all =
+      let w0 = opening F L plan retries on board in
+      let may = may_prefix F L W events later w0 all in
+      let given = given_in F L W events w0 in
+      let G = giving F given in
+      let there : IsStart G L W on board = record { on_bus = start.on_bus; valid = start.valid } in
+      let may_there : AllMay G L W (all_given F laws given L W events) (opening G L plan retries on board) = all_may_given F laws given L W events w0 (λ g one. one) may in
+      let ends = append-nil (all_given F laws given L W events) in
+      let stands = always_stands G (giving_is_family F laws given) L lines W plan retries on board there (all_given F laws given L W events) []
+      (subst (λ (es : List (Happening G L)). AllMay G L W es (opening G L plan retries on board)) (sym ends) may_there) in
+      let same = run_same F laws given L W events w0 in
+      let here = subst (λ (w : World G L). Stands G plan (F.records board) (phase_of F.words w.machine) (F.records w.board) × Halts G w.machine.stopped plan (phase_of F.words w.machine) (F.records w.board)) (sym same) stands in
+      let w = run F L W events w0 in
+      caused events w0 plan (F.records board) w.machine.stopped (phase_of F.words w.machine) (F.records w.board)
+      (λ k halted. stops_only_if_told F laws L lines W plan retries k on board start events may halted) here.0 here.1

@@ -1,0 +1,29 @@
+-- The two buses are lines.
+use Rattle.std.proofs.Common.{ℕ, List, lit≤}
+use Rattle.two_wire.specs.declared.Bus.{Bus}
+use Rattle.two_wire.specs.declared.Bus.TheVariants.{Ipmb, Smbus}
+use Rattle.model_bus.specs.Numbering.{ipmb, smbus}
+use Rattle.model_bus.specs.Packet.{Packet, IsCutting}
+use Rattle.model_bus.proofs.NumberLaws.{ipmb_numbers, smbus_numbers}
+use Rattle.model_undo.specs.TwoBuses.{Addresses, in_messages, with_packets, messages_come, packets_come}
+use Rattle.model_undo.proofs.LineLaws.{IsLine, whole_is_line, packets_are_line}
+use Rattle.model_undo.proofs.Delivery.{LosesNothing, messages_lose_nothing}
+use Rattle.model_undo.proofs.PacketDelivery.{packets_lose_nothing}
+
+unfoldable pub message_lines : (at : Bus → Addresses) (bus : Bus) → IsLine (in_messages at bus)
+message_lines at Ipmb = whole_is_line (ipmb (at Ipmb).manager (at Ipmb).controller 0) (ipmb_numbers (at Ipmb).manager (at Ipmb).controller 0)
+message_lines at Smbus = whole_is_line (smbus (at Smbus).manager (at Smbus).controller 0) (smbus_numbers (at Smbus).manager (at Smbus).controller 0)
+
+unfoldable pub packet_lines : (at : Bus → Addresses) (split : List ℕ → List Packet) → IsCutting split → (bus : Bus) → IsLine (with_packets at split bus)
+packet_lines at split cutting Ipmb = whole_is_line (ipmb (at Ipmb).manager (at Ipmb).controller 0) (ipmb_numbers (at Ipmb).manager (at Ipmb).controller 0)
+packet_lines at split cutting Smbus = packets_are_line (record { manager = (at Smbus).manager; controller = (at Smbus).controller; first = 0; split = split }) cutting
+
+pub message_lines_lose_nothing : (at : Bus → Addresses) (bus : Bus) → LosesNothing (in_messages at bus) (messages_come at bus) (message_lines at bus)
+unfolding message_lines
+message_lines_lose_nothing at Ipmb = messages_lose_nothing (ipmb (at Ipmb).manager (at Ipmb).controller 0) (ipmb_numbers (at Ipmb).manager (at Ipmb).controller 0) (lit≤ tt)
+message_lines_lose_nothing at Smbus = messages_lose_nothing (smbus (at Smbus).manager (at Smbus).controller 0) (smbus_numbers (at Smbus).manager (at Smbus).controller 0) (lit≤ tt)
+
+pub packet_lines_lose_nothing : (at : Bus → Addresses) (split : List ℕ → List Packet) (cutting : IsCutting split) (bus : Bus) → LosesNothing (with_packets at split bus) (packets_come at split bus) (packet_lines at split cutting bus)
+unfolding packet_lines
+packet_lines_lose_nothing at split cutting Ipmb = messages_lose_nothing (ipmb (at Ipmb).manager (at Ipmb).controller 0) (ipmb_numbers (at Ipmb).manager (at Ipmb).controller 0) (lit≤ tt)
+packet_lines_lose_nothing at split cutting Smbus = packets_lose_nothing (record { manager = (at Smbus).manager; controller = (at Smbus).controller; first = 0; split = split }) cutting

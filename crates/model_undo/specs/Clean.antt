@@ -1,0 +1,101 @@
+-- A link without loss, and no bus: the board answers each request at once, and the manager takes the reply.
+use Rattle.std.specs.Prelude.{◌≡◌, ◌≢◌, ℕ, zero, suc, ◌+◌, List, [], ◌∷◌, ◌++◌, length, Option, Some, None, IfSome}
+use Rattle.two_wire.specs.Codes.{success}
+use Rattle.model_undo.specs.Words.{Answered, get_asked, set_asked}
+use Rattle.model_undo.specs.Family.{Family, AllValid}
+use Rattle.model_undo.specs.Phase.{Why, Stop, Refused, NotRestorable, GetRefused, Phase, Done, Halted, Undone}
+use Rattle.model_undo.specs.Plan.{IsAfter}
+use Rattle.model_undo.specs.Machine.{Counts, Sending, Turn, phase_of, start_of, undo_of, reply_of, opened}
+
+-- a manager with the request that it has just sent, and the board
+pub record Moment (F : Family) : Type 0 where
+  pub turn : Turn F.words
+  pub board : F.Board
+
+-- how many requests were answered, on both buses
+abbrev pub answered_in_all : Counts → ℕ
+answered_in_all c = c.ipmb + c.smbus
+
+module _ (F : Family) (answer : F.Board → F.words.Asked → Answered × F.Board) where
+  -- the board answers each request by the command relation
+  abbrev pub AnswersByRow : Type 0
+  AnswersByRow = (b : F.Board) (asked : F.words.Asked) → F.Row b asked (answer b asked).0 (answer b asked).1
+
+  abbrev pub told : Option (Turn F.words) → F.Board → Moment F → Moment F
+  told None b x = record x { board = b }
+  told (Some t) b x = record { turn = t; board = b }
+
+  abbrev pub exchanged : Option (Sending F.words) → Moment F → Moment F
+  exchanged None x = x
+  exchanged (Some s) x = told (reply_of F.words (answer x.board s.asked).0 x.turn.machine) (answer x.board s.asked).1 x
+
+  -- the request is answered, and the reply taken, if one was sent
+  abbrev pub one : Moment F → Moment F
+  one x = exchanged x.turn.sends x
+
+  -- so many requests are
+  abbrev pub clean : ℕ → Moment F → Moment F
+  clean zero x = x
+  clean (suc n) x = clean n (one x)
+
+  -- the board's answer to the Get of an operation's record, and to its Set after that
+  abbrev pub got : F.Board → F.words.Op → Answered × F.Board
+  got b op = answer b (get_asked F.words (F.words.key_of op))
+
+  abbrev pub did : F.Board → F.words.Op → Answered × F.Board
+  did b op = answer (got b op).1 (set_asked F.words op)
+
+  -- a step is carried out, and can be undone
+  pub record Goes (b : F.Board) (op : F.words.Op) (after : F.Board) : Type 0 where
+    pub read : (got b op).0.code ≡ success
+    pub can_undo : F.Restorable op (got b op).0.body
+    pub done : (did b op).0.code ≡ success
+    pub left : after ≡ (did b op).1
+
+  -- all steps are, in order, from the first board to the second
+  abbrev pub GoAll : List F.words.Op → F.Board → F.Board → Type 0
+  GoAll [] b c = c ≡ b
+  GoAll (op ∷ ops) b c = (mid : F.Board) × Goes b op mid × GoAll ops mid c
+
+  -- why a step isn't, and how many requests of it were sent
+  abbrev pub Sticks : F.Board → F.words.Op → Why → ℕ → Type 0
+  Sticks b op Stop n = ⊥
+  Sticks b op (GetRefused code) n = ((got b op).0.code ≡ code) × (code ≢ success) × (n ≡ 1)
+  Sticks b op NotRestorable n = ((got b op).0.code ≡ success) × (¬ F.Restorable op (got b op).0.body) × (n ≡ 1)
+  Sticks b op (Refused code) n =
+      ((got b op).0.code ≡ success) × F.Restorable op (got b op).0.body × ((did b op).0.code ≡ code) × (code ≢ success) × (n ≡ 2)
+
+  -- the phase after k steps, where these are left: done, or halted at the first of them
+  abbrev pub EndsIn : ℕ → List F.words.Op → F.Board → Phase → ℕ → Type 0
+  EndsIn k [] b phase n = (phase ≡ Done) × (n ≡ 0)
+  EndsIn k (op ∷ ops) b phase n = (why : Why) × Sticks b op why n × (phase ≡ Halted k why)
+
+  -- nothing is to be sent any more, and so many requests were answered
+  pub record IsAtRest (x : Moment F) (phase : Phase) (requests : ℕ) : Type 0 where
+    pub rests : x.turn.sends ≡ None
+    pub phase_is : phase_of F.words x.turn.machine ≡ phase
+    pub count : answered_in_all x.turn.machine.counts ≡ requests
+
+  -- A plan that is begun takes two requests for each step that goes, and ends after the last or halts at the first that doesn't. Its
+  -- undo takes one for each step that went, and ends with the records of the start.
+  pub record RunsClean (plan : List F.words.Op) (board : F.Board) (begun : Moment F) : Type 0 where
+    pub steps : List F.words.Op
+    pub rest : List F.words.Op
+    pub whole : plan ≡ steps ++ rest
+    pub at : F.Board
+    pub go : GoAll steps board at
+    pub phase : Phase
+    pub more : ℕ
+    pub ends : EndsIn (length steps) rest at phase more
+    pub run : let x = clean (length steps + length steps + more) begun in
+        IsAtRest x phase (length steps + length steps + more) × IsAfter F plan (F.records board) (length steps) (F.records x.board)
+    pub undo : let x = clean (length steps + length steps + more) begun in
+        IfSome (undo_of F.words x.turn.machine) (λ t.
+        let y = clean (length steps) (record { turn = t; board = x.board }) in
+        IsAtRest y Undone (length steps + length steps + more + length steps) × (F.records y.board ≡ F.records board))
+    pub undo_is_taken : let x = clean (length steps + length steps + more) begun in undo_of F.words x.turn.machine ≢ None
+
+  -- so does every plan, at every board of valid records
+  abbrev pub AlwaysRunsClean : Type 0
+  AlwaysRunsClean = (plan : List F.words.Op) (retries : ℕ) (board : F.Board) → AllValid F (F.records board)
+      → IfSome (start_of F.words (opened F.words plan retries)) (λ t. RunsClean plan board (record { turn = t; board = board }))

@@ -1,0 +1,81 @@
+-- A plan over two buses that lose nothing, and on which nobody else asks: each request is delivered once, and so is each reply.
+use Rattle.std.specs.Prelude.{◌≡◌, ℕ, zero, suc, ◌+◌, true, List, [], ◌∷◌, ◌++◌, length, map}
+use Rattle.two_wire.specs.declared.Bus.{Bus}
+use Rattle.two_wire.specs.declared.Bus.TheVariants.{Ipmb, Smbus}
+use Rattle.model_undo.specs.Words.{Answered}
+use Rattle.model_undo.specs.Phase.{Phase, Undone}
+use Rattle.model_undo.specs.Family.{Family, AllValid}
+use Rattle.model_undo.specs.Plan.{IsAfter}
+use Rattle.model_undo.specs.Machine.{Part, Stage, Opened, bus_at, sending, phase_of}
+use Rattle.model_undo.specs.Wires.{IsMade, Wires}
+use Rattle.model_undo.specs.Line.{Line}
+use Rattle.model_undo.specs.Joined.{IsClosed}
+use Rattle.model_undo.specs.Delivery.{Delivery}
+use Rattle.model_undo.specs.World.{States, World, Happening, Start, Undo, ToManager, OnBus, bytes_sent, happens, run, AllMay, opening}
+use Rattle.model_undo.specs.Headline.{IsStart}
+use Rattle.model_undo.specs.Clean.{GoAll, EndsIn}
+
+module _ (F : Family) (L : Bus → Line) (D : (bus : Bus) → Delivery (L bus)) (W : Wires F.words) (answer : F.Board → F.words.Asked → Answered × F.Board) where
+  -- these reach the port one after another, and with the last of them the board becomes the other
+  abbrev pub reach_port : (bus : Bus) → List (L bus).Event → F.Board → F.Board → List (Happening F L)
+  reach_port bus [] board after = []
+  reach_port bus (e ∷ []) board after = OnBus bus e after ∷ []
+  reach_port bus (e ∷ f ∷ es) board after = OnBus bus e board ∷ reach_port bus (f ∷ es) board after
+
+  -- the open request reaches the port, and the board answers it
+  abbrev pub asks : Part F.words → World F L → List (Happening F L)
+  asks part w =
+      let bus = bus_at F.words part in
+      let a = answer w.board part.asked in
+      reach_port bus ((D bus).to_port (w.on bus) (W.reply_to bus (bytes_sent F L W (sending F.words part w.machine.counts)) a.0)) w.board a.1
+
+  -- what was sent back reaches the manager
+  abbrev pub replies : Bus → World F L → List (Happening F L)
+  replies bus w = map (λ (e : (L bus).Event). ToManager bus e) ((D bus).to_manager (w.on bus))
+
+  -- so it goes with the open request, if one is open
+  abbrev pub exchange : Stage F.words → World F L → List (Happening F L)
+  exchange (Opened true task part) w = asks part w ++ replies (bus_at F.words part) (run F L W (asks part w) w)
+  exchange _ w = []
+
+  -- and so with as many requests as this
+  abbrev pub exchanges : ℕ → World F L → List (Happening F L)
+  exchanges zero w = []
+  exchanges (suc n) w = exchange w.machine.stage w ++ exchanges n (run F L W (exchange w.machine.stage w) w)
+
+  -- each request that the manager makes, and each answer to one of a board with valid records, can be sent on its bus
+  pub record AllCanBeSent : Type 0 where
+    pub requests : (number : ℕ) (asked : F.words.Asked) → IsMade F.words asked → (D (F.words.bus_of asked)).CanSend (W.bytes_of number asked)
+    pub answers : (number : ℕ) (asked : F.words.Asked) (b : F.Board) → AllValid F (F.records b) → IsMade F.words asked
+        → (D (F.words.bus_of asked)).CanSend (W.reply_to (F.words.bus_of asked) (W.bytes_of number asked) (answer b asked).0)
+
+  -- the manager is in the phase, so many requests of it were begun on both buses, and each was answered
+  pub record HasEnded (w : World F L) (phase : Phase) (requests : ℕ) : Type 0 where
+    pub phase_is : phase_of F.words w.machine ≡ phase
+    pub closed : (bus : Bus) → IsClosed ((L bus).requests (w.on bus))
+    pub count : length ((L Ipmb).requests (w.on Ipmb)).begun + length ((L Smbus).requests (w.on Smbus)).begun ≡ requests
+
+  -- A plan that is begun takes two requests for each step that goes, and ends after the last or halts at the first that doesn't. Its undo
+  -- takes one for each step that went, and ends with the records of the start. Both schedules are honest.
+  pub record RunsOverBuses (plan : List F.words.Op) (opened : World F L) : Type 0 where
+    pub steps : List F.words.Op
+    pub rest : List F.words.Op
+    pub whole : plan ≡ steps ++ rest
+    pub at : F.Board
+    pub go : GoAll F answer steps opened.board at
+    pub phase : Phase
+    pub more : ℕ
+    pub ends : EndsIn F answer (length steps) rest at phase more
+    pub may_run : AllMay F L W (Start ∷ exchanges (length steps + length steps + more) (happens F L W opened Start)) opened
+    pub ran : let w = run F L W (Start ∷ exchanges (length steps + length steps + more) (happens F L W opened Start)) opened in
+        HasEnded w phase (length steps + length steps + more) × IsAfter F plan (F.records opened.board) (length steps) (F.records w.board)
+    pub may_undo : let w = run F L W (Start ∷ exchanges (length steps + length steps + more) (happens F L W opened Start)) opened in
+        AllMay F L W (Undo ∷ exchanges (length steps) (happens F L W w Undo)) w
+    pub undone : let w = run F L W (Start ∷ exchanges (length steps + length steps + more) (happens F L W opened Start)) opened in
+        let u = run F L W (Undo ∷ exchanges (length steps) (happens F L W w Undo)) w in
+        HasEnded u Undone (length steps + length steps + more + length steps) × (F.records u.board ≡ F.records opened.board)
+
+  -- so does every plan, from a start on both buses where each port has a place for the manager
+  abbrev pub AlwaysRunsOverBuses : Type 0
+  AlwaysRunsOverBuses = AllCanBeSent → (plan : List F.words.Op) (retries : ℕ) (on : States L) (board : F.Board) → IsStart F L W on board → ((bus : Bus) → (D bus).HasPlace (on bus))
+      → RunsOverBuses plan (opening F L plan retries on board)

@@ -1,0 +1,43 @@
+-- A family of kinds of record, and the board that keeps the records: all that an undo needs to know of them.
+use Rattle.std.specs.Prelude.{◌≡◌, ℕ, List, Option, Some}
+use Rattle.model_undo.specs.Words.{Answered, Words}
+
+-- what a family says
+pub record Family : Type 1 where
+  -- what a manager says of it
+  pub words : Words
+  -- the values that records have
+  pub Value : Type 0
+  -- the records of a board, as a map
+  pub Records : Type 0
+  pub get : Records → words.Key → Option Value
+  pub put : Records → words.Key → Value → Records
+  -- the record can have the value
+  pub Valid : words.Key → Value → Type 0
+  -- the operation is accepted at the first value, and makes it the second
+  pub Sets : words.Op → Value → Value → Type 0
+  -- a Get of the record replies these data at this value, for some state of what isn't configuration
+  pub Shows : words.Key → Value → List ℕ → Type 0
+  -- what of the data of the record's Get is configuration
+  pub conf : words.Key → List ℕ → List ℕ
+  -- the operation can be undone from these data of its record's Get
+  pub Restorable : words.Op → List ℕ → Type 0
+  -- a board, and its records
+  pub Board : Type 0
+  pub records : Board → Records
+  -- the request, whoever asks it, is a Get of the record
+  pub IsGet : words.Asked → words.Key → Type 0
+  -- a board answers the request so, and becomes the other
+  pub Row : Board → words.Asked → Answered → Board → Type 0
+
+-- every record has a value that it can have
+abbrev pub AllValid : (F : Family) → F.Records → Type 0
+AllValid F r = (key : F.words.Key) (v : F.Value) → F.get r key ≡ Some v → F.Valid key v
+
+-- the operation is accepted at these records, and leaves those: its own record is changed, and no other
+pub record SetsTo (F : Family) (op : F.words.Op) (old new : F.Records) : Type 0 where
+  pub before : F.Value
+  pub after : F.Value
+  pub found : F.get old (F.words.key_of op) ≡ Some before
+  pub sets : F.Sets op before after
+  pub changed : new ≡ F.put old (F.words.key_of op) after

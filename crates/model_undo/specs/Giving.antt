@@ -1,0 +1,70 @@
+-- The answers that the board gave to the manager in a schedule, and a halt that one of them caused.
+use Rattle.std.specs.Prelude.{◌≡◌, ◌≢◌, ℕ, List, [], ◌∷◌, ◌++◌, Option, Some, None, Contains, slice_get}
+use Rattle.two_wire.specs.Codes.{success}
+use Rattle.two_wire.specs.declared.Bus.{Bus}
+use Rattle.model_undo.specs.Words.{Answered, get_asked, set_asked}
+use Rattle.model_undo.specs.Phase.{Stop, Refused, NotRestorable, GetRefused, Phase, Halted}
+use Rattle.model_undo.specs.Family.{Family}
+use Rattle.model_undo.specs.Plan.{IsAfter}
+use Rattle.model_undo.specs.Machine.{phase_of}
+use Rattle.model_undo.specs.Wires.{Wires}
+use Rattle.model_undo.specs.Line.{Exchange, Line}
+use Rattle.model_undo.specs.World.{States, World, Happening, OnBus, happens, run, AllMay, opening}
+use Rattle.model_undo.specs.Headline.{AnyMakesStop, IsStart}
+
+-- a board answered a request, and became another
+pub record Giving (F : Family) : Type 0 where
+  pub before : F.Board
+  pub asked : F.words.Asked
+  pub answered : Answered
+  pub after : F.Board
+
+module _ (F : Family) (L : Bus → Line) (W : Wires F.words) where
+  -- the answer by which a board became another, if a request of the manager was carried out then
+  abbrev pub given_by : Bus → Option Exchange → F.Board → F.Board → List (Giving F)
+  given_by bus None before after = []
+  given_by bus (Some x) before after = record { before = before; asked = W.asked_from bus x.bytes; answered = W.answered_from bus x.reply; after = after } ∷ []
+
+  -- the answer that the board gives as this happens, if it gives one
+  abbrev pub given_at : World F L → Happening F L → List (Giving F)
+  given_at w (OnBus bus e after) = given_by bus ((L bus).carries (w.on bus) e) w.board after
+  given_at w _ = []
+
+  -- all answers that the board gave to the manager in a schedule, in order
+  abbrev pub given_in : List (Happening F L) → World F L → List (Giving F)
+  given_in [] w = []
+  given_in (e ∷ es) w = given_at w e ++ given_in es (happens F L W w e)
+
+  -- one of them is this answer to this request, which the board gave by the command relation at the records after k steps
+  pub record GaveIn (given : List (Giving F)) (plan : List F.words.Op) (start : F.Records) (k : ℕ) (asked : F.words.Asked) (a : Answered) : Type 0 where
+    pub before : F.Board
+    pub after : F.Board
+    pub is_one : Contains given (record { before = before; asked = asked; answered = a; after = after })
+    pub row : F.Row before asked a after
+    pub at : IsAfter F plan start k (F.records before)
+
+  -- the answer that the board gave to the Get of the plan's step k, and to its Set, each at the records after k steps
+  pub record GaveGetIn (given : List (Giving F)) (plan : List F.words.Op) (start : F.Records) (k : ℕ) (a : Answered) : Type 0 where
+    pub op : F.words.Op
+    pub step : slice_get plan k ≡ Some op
+    pub gave : GaveIn given plan start k (get_asked F.words (F.words.key_of op)) a
+
+  pub record GaveSetIn (given : List (Giving F)) (plan : List F.words.Op) (start : F.Records) (k : ℕ) (a : Answered) : Type 0 where
+    pub op : F.words.Op
+    pub step : slice_get plan k ≡ Some op
+    pub gave : GaveIn given plan start k (set_asked F.words op) a
+
+  -- what made a plan halt in a schedule from a world: an answer that the board gave in it, or a stop
+  abbrev pub CausedIn : List (Happening F L) → World F L → List F.words.Op → F.Records → Phase → Type 0
+  CausedIn events w plan start (Halted k Stop) = AnyMakesStop F L events
+  CausedIn events w plan start (Halted k (Refused code)) = (code ≢ success) × (body : List ℕ) × GaveSetIn (given_in events w) plan start k (record { code = code; body = body })
+  CausedIn events w plan start (Halted k (GetRefused code)) = (code ≢ success) × (body : List ℕ) × GaveGetIn (given_in events w) plan start k (record { code = code; body = body })
+  CausedIn events w plan start (Halted k NotRestorable) =
+      (body : List ℕ) × (got : GaveGetIn (given_in events w) plan start k (record { code = success; body = body })) × (¬ F.Restorable got.op body)
+  CausedIn events w plan start _ = Unit {0}
+
+  -- a halt has its cause among the answers of its own schedule
+  abbrev pub HaltsByAnswers : Type 0
+  HaltsByAnswers = (plan : List F.words.Op) (retries : ℕ) (on : States L) (board : F.Board) → IsStart F L W on board
+      → (events later : List (Happening F L)) → AllMay F L W (events ++ later) (opening F L plan retries on board)
+      → CausedIn events (opening F L plan retries on board) plan (F.records board) (phase_of F.words (run F L W events (opening F L plan retries on board)).machine)

@@ -1,0 +1,56 @@
+-- What holds of a plan and its undo at every moment, whatever happens on both buses.
+use Rattle.std.specs.Prelude.{◌≡◌, ℕ, List, [], ◌∷◌, ◌++◌, ◌⊎◌}
+use Rattle.two_wire.specs.Codes.{success}
+use Rattle.two_wire.specs.declared.Bus.{Bus}
+use Rattle.model_undo.specs.Words.{Answered}
+use Rattle.model_undo.specs.Family.{Family, AllValid}
+use Rattle.model_undo.specs.Phase.{Stop, Halted, Undone}
+use Rattle.model_undo.specs.Plan.{Stands, Halts}
+use Rattle.model_undo.specs.Machine.{phase_of}
+use Rattle.model_undo.specs.Wires.{Wires}
+use Rattle.model_undo.specs.Line.{Line}
+use Rattle.model_undo.specs.World.{States, Happening, Stop as StopCall, Resume, run, AllMay, opening}
+
+-- the schedule has a call of `stop`, or another manager goes on
+abbrev pub MakesStop : (F : Family) (L : Bus → Line) → Happening F L → Type 0
+MakesStop F L StopCall = Unit {0}
+MakesStop F L (Resume retries) = Unit {0}
+MakesStop F L _ = ⊥
+
+abbrev pub AnyMakesStop : (F : Family) (L : Bus → Line) → List (Happening F L) → Type 0
+AnyMakesStop F L [] = ⊥
+AnyMakesStop F L (e ∷ es) = MakesStop F L e ⊎ AnyMakesStop F L es
+
+-- any two Gets of a record, whoever asks them, show the same configuration: one at the first board, one at the second
+abbrev pub ShowsSame : (F : Family) → F.Board → F.Board → Type 0
+ShowsSame F b c = (key : F.words.Key) (one other : F.words.Asked) → F.IsGet one key → F.IsGet other key → (shown again : Answered) (b' c' : F.Board)
+    → F.Row b one shown b' → shown.code ≡ success → F.Row c other again c' → again.code ≡ success
+    → F.conf key again.body ≡ F.conf key shown.body
+
+-- from a board whose records are valid, and a start on both buses, so long as each thing may happen where it does
+module _ (F : Family) (L : Bus → Line) (W : Wires F.words) where
+  pub record IsStart (on : States L) (board : F.Board) : Type 0 where
+    pub on_bus : (bus : Bus) → (L bus).IsStart (on bus)
+    pub valid : AllValid F (F.records board)
+
+  -- at every moment the phase stands on the records, and a halt has its cause
+  abbrev pub AlwaysStands : Type 0
+  AlwaysStands = (plan : List F.words.Op) (retries : ℕ) (on : States L) (board : F.Board) → IsStart on board
+      → (events later : List (Happening F L)) → AllMay F L W (events ++ later) (opening F L plan retries on board)
+      → let w = run F L W events (opening F L plan retries on board) in
+      Stands F plan (F.records board) (phase_of F.words w.machine) (F.records w.board) × Halts F w.machine.stopped plan (phase_of F.words w.machine) (F.records w.board)
+
+  -- once a plan is undone, and at every moment from then on, all records are what they were at the start, and each Get, whoever
+  -- asks it, shows the same configuration as at the start
+  abbrev pub UndoneForGood : Type 0
+  UndoneForGood = (plan : List F.words.Op) (retries : ℕ) (on : States L) (board : F.Board) → IsStart on board
+      → (events later : List (Happening F L)) → AllMay F L W (events ++ later) (opening F L plan retries on board)
+      → phase_of F.words (run F L W events (opening F L plan retries on board)).machine ≡ Undone
+      → let w = run F L W (events ++ later) (opening F L plan retries on board) in
+      (F.records w.board ≡ F.records board) × ShowsSame F board w.board
+
+  -- a plan halts with the reason `Stop` only where it was made to
+  abbrev pub StopsOnlyIfTold : Type 0
+  StopsOnlyIfTold = (plan : List F.words.Op) (retries k : ℕ) (on : States L) (board : F.Board) → IsStart on board
+      → (events : List (Happening F L)) → AllMay F L W events (opening F L plan retries on board)
+      → phase_of F.words (run F L W events (opening F L plan retries on board)).machine ≡ Halted k Stop → AnyMakesStop F L events

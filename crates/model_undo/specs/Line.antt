@@ -1,0 +1,131 @@
+-- A bus as a manager sees it: what can happen on it, and what that does to the manager's requests.
+use Rattle.std.specs.Prelude.{ℕ, Bool, true, false, List, Option, Some, None, slice_get}
+use Rattle.model_bus.specs.Numbering.{Bus as Rules}
+use Rattle.model_bus.specs.BusState.{BusState, Frame, Event, Begins, SendsAgain, ReachesPort, ReachesManager, OtherReplies, Resumes, carried_now, taken_now, happens}
+use Rattle.model_bus.specs.Schedule.{IsHonest}
+use Rattle.model_bus.specs.Start.{NothingUnderWay, EmptyWindow, NothingWaits}
+use Rattle.model_bus.specs.PacketBus.{PacketBus, rules_of, Ends, PacketEvent, Plain, PacketReachesPort, PacketReachesManager, OtherReplyPacket, PacketResumes, packet_happens}
+use Rattle.model_bus.specs.PacketEffect.{completed_request, completed_reply, carried_of, taken_of}
+use Rattle.model_bus.specs.PacketSchedule.{RecentWhereWhole, IsPacketHonest}
+
+-- a request that is carried out, and the reply that is kept for it
+pub record Exchange : Type 0 where
+  pub bytes : List ℕ
+  pub reply : List ℕ
+
+pub record Line : Type 1 where
+  pub State : Type 0
+  pub Event : Type 0
+  -- the manager's requests
+  pub requests : State → BusState
+  -- nothing is under way at this moment
+  pub IsStart : State → Type 0
+  -- what the event makes of the bus, and that it is honest there
+  pub happens : State → Event → State
+  pub IsHonest : State → Event → Type 0
+  -- what the manager does: it begins a request, sends the open one again, or gives its place to another
+  pub begins : List ℕ → Event
+  pub sends_again : Event
+  pub resumes : Event
+  -- the event is none of these
+  pub IsOutside : Event → Type 0
+  -- something comes to the manager's end
+  pub is_to_manager : Event → Bool
+  -- the manager's request that the event has carried out, if it has one
+  pub carries : State → Event → Option Exchange
+  -- the reply that the event brings the manager, if it brings one whole
+  pub brings : State → Event → Option (List ℕ)
+
+-- with this answer
+abbrev pub exchange : Option (List ℕ) → List ℕ → Option Exchange
+exchange None reply = None
+exchange (Some bytes) reply = Some (record { bytes = bytes; reply = reply })
+
+-- ---- whole messages
+
+abbrev pub IsOutsideWhole : Event → Type 0
+IsOutsideWhole (Begins bytes) = ⊥
+IsOutsideWhole SendsAgain = ⊥
+IsOutsideWhole Resumes = ⊥
+IsOutsideWhole _ = Unit {0}
+
+abbrev pub is_to_manager_whole : Event → Bool
+is_to_manager_whole (ReachesManager which) = true
+is_to_manager_whole (OtherReplies source number reply) = true
+is_to_manager_whole _ = false
+
+abbrev pub carries_whole : Rules → BusState → Event → Option Exchange
+carries_whole b s (ReachesPort which answer) = exchange (carried_now b (slice_get s.frames which) s) answer
+carries_whole b s _ = None
+
+abbrev pub brings_whole : Rules → BusState → Event → Option (List ℕ)
+brings_whole b s (ReachesManager which) = taken_now b (slice_get s.frames which) s
+brings_whole b s _ = None
+
+-- a bus in whole messages
+abbrev pub whole : Rules → Line
+whole b = record {
+  State = BusState;
+  Event = Event;
+  requests = λ s. s;
+  IsStart = λ s. NothingUnderWay s × EmptyWindow b s.log;
+  happens = happens b;
+  IsHonest = IsHonest b;
+  begins = Begins;
+  sends_again = SendsAgain;
+  resumes = Resumes;
+  IsOutside = IsOutsideWhole;
+  is_to_manager = is_to_manager_whole;
+  carries = carries_whole b;
+  brings = brings_whole b;
+}
+
+-- ---- packets
+
+abbrev pub IsOutsidePackets : PacketEvent → Type 0
+IsOutsidePackets (Plain e) = IsOutsideWhole e
+IsOutsidePackets PacketResumes = ⊥
+IsOutsidePackets _ = Unit {0}
+
+abbrev pub is_to_manager_packets : PacketEvent → Bool
+is_to_manager_packets (Plain e) = is_to_manager_whole e
+is_to_manager_packets (PacketReachesManager which place) = true
+is_to_manager_packets (OtherReplyPacket name packet number) = true
+is_to_manager_packets _ = false
+
+-- what a packet of the frame has carried out, if there is such a frame
+abbrev pub carried_at : PacketBus → Ends → ℕ → Option Frame → Option (List ℕ)
+carried_at b x place None = None
+carried_at b x place (Some f) = carried_of (rules_of b) (completed_request b x place f.request f.idles f.content) x.bus
+
+abbrev pub carries_packets : PacketBus → Ends → PacketEvent → Option Exchange
+carries_packets b x (PacketReachesPort which place answer) = exchange (carried_at b x place (slice_get x.bus.frames which)) answer
+carries_packets b x _ = None
+
+-- the reply that a packet of the frame completes, if there is such a frame
+abbrev pub brought_at : PacketBus → Ends → ℕ → Option Frame → Option (List ℕ)
+brought_at b x place None = None
+brought_at b x place (Some f) = taken_of (rules_of b) (completed_reply b x place f.request f.idles f.content) x.bus
+
+abbrev pub brings_packets : PacketBus → Ends → PacketEvent → Option (List ℕ)
+brings_packets b x (PacketReachesManager which place) = brought_at b x place (slice_get x.bus.frames which)
+brings_packets b x _ = None
+
+-- a bus in packets. A message that becomes whole at the port is to have packets of recent requests alone, the least
+-- that can be asked of packets that wait.
+abbrev pub packets : PacketBus → Line
+packets b = record {
+  State = Ends;
+  Event = PacketEvent;
+  requests = λ x. x.bus;
+  IsStart = λ x. NothingUnderWay x.bus × NothingWaits b x × EmptyWindow (rules_of b) x.bus.log;
+  happens = packet_happens b;
+  IsHonest = IsPacketHonest RecentWhereWhole b;
+  begins = λ bytes. Plain (Begins bytes);
+  sends_again = Plain SendsAgain;
+  resumes = PacketResumes;
+  IsOutside = IsOutsidePackets;
+  is_to_manager = is_to_manager_packets;
+  carries = carries_packets b;
+  brings = brings_packets b;
+}

@@ -1,0 +1,93 @@
+-- A manager and a board, without buses: the open request is carried out at most once, its reply is taken, and nothing else changes a
+-- record.
+use Rattle.std.specs.Prelude.{◌≡◌, ℕ, List, [], ◌∷◌, Option, Some, None}
+use Rattle.model_undo.specs.Words.{Answered}
+use Rattle.model_undo.specs.Family.{Family, AllValid}
+use Rattle.model_undo.specs.Plan.{Stands, Halts}
+use Rattle.model_undo.specs.Machine.{Stage, Opened, AtEnd, AtHalt, Machine, Turn, phase_of, start_of, quiet_of, stop_of, again_of, undo_of, reply_of, opened}
+use Rattle.model_undo.specs.Resume.{list_of, resumed}
+
+-- `reply` is the answer to the open request, if that was carried out and the answer isn't taken yet
+pub record Desk (F : Family) : Type 0 where
+  pub machine : Machine F.words
+  pub reply : Option Answered
+  pub board : F.Board
+
+pub data DeskEvent (F : Family) : Type 0 where
+  -- the manager's calls
+  Starts : DeskEvent F
+  Quiets : DeskEvent F
+  Stops : DeskEvent F
+  GoesAgain : DeskEvent F
+  Undoes : DeskEvent F
+  -- another manager goes on from the list, where the plan ended or halted
+  Resumes : (retries : ℕ) → DeskEvent F
+  -- the open request is carried out, unless it was before
+  Carries : (answered : Answered) (after : F.Board) → DeskEvent F
+  -- the manager takes the reply, if there is one
+  Takes : DeskEvent F
+  -- the board becomes another in another way
+  Elsewhere : (after : F.Board) → DeskEvent F
+
+module _ (F : Family) where
+  -- a call that may open a request, which has no reply yet
+  abbrev pub opens : Option (Turn F.words) → Desk F → Desk F
+  opens None w = w
+  opens (Some t) w = record w { machine = t.machine; reply = None }
+
+  -- a call that opens none
+  abbrev pub stays : Option (Turn F.words) → Desk F → Desk F
+  stays None w = w
+  stays (Some t) w = record w { machine = t.machine }
+
+  abbrev pub resumes : ℕ → Stage F.words → Desk F → Desk F
+  resumes retries AtEnd w = record w { machine = resumed F.words retries (list_of F.words w.machine) }
+  resumes retries (AtHalt k why) w = record w { machine = resumed F.words retries (list_of F.words w.machine) }
+  resumes retries _ w = w
+
+  abbrev pub carries : Stage F.words → Option Answered → Answered → F.Board → Desk F → Desk F
+  carries (Opened heeded task part) None a after w = record w { reply = Some a; board = after }
+  carries _ _ a after w = w
+
+  abbrev pub takes : Option Answered → Desk F → Desk F
+  takes None w = w
+  takes (Some a) w = opens (reply_of F.words a w.machine) w
+
+  abbrev pub happens : Desk F → DeskEvent F → Desk F
+  happens w Starts = opens (start_of F.words w.machine) w
+  happens w Quiets = stays (quiet_of F.words w.machine) w
+  happens w Stops = stays (stop_of F.words w.machine) w
+  happens w GoesAgain = stays (again_of F.words w.machine) w
+  happens w Undoes = opens (undo_of F.words w.machine) w
+  happens w (Resumes retries) = resumes retries w.machine.stage w
+  happens w (Carries a after) = carries w.machine.stage w.reply a after w
+  happens w Takes = takes w.reply w
+  happens w (Elsewhere after) = record w { board = after }
+
+  -- the board answers the open request by the command relation
+  abbrev pub Answers : Stage F.words → F.Board → Answered → F.Board → Type 0
+  Answers (Opened heeded task part) b a after = F.Row b part.asked a after
+  Answers _ b a after = Unit {0}
+
+  -- and nothing else changes a record
+  abbrev pub May : Desk F → DeskEvent F → Type 0
+  May w (Carries a after) = Answers w.machine.stage w.board a after
+  May w (Elsewhere after) = F.records after ≡ F.records w.board
+  May w _ = Unit {0}
+
+  abbrev pub run : List (DeskEvent F) → Desk F → Desk F
+  run [] w = w
+  run (e ∷ es) w = run es (happens w e)
+
+  abbrev pub AllMay : List (DeskEvent F) → Desk F → Type 0
+  AllMay [] w = Unit {0}
+  AllMay (e ∷ es) w = May w e × AllMay es (happens w e)
+
+  abbrev pub at_desk : List F.words.Op → ℕ → F.Board → Desk F
+  at_desk plan retries board = record { machine = opened F.words plan retries; reply = None; board = board }
+
+  -- at every moment the phase stands on the records, and a halt has its cause
+  abbrev pub RecordsStand : Type 0
+  RecordsStand = (plan : List F.words.Op) (retries : ℕ) (board : F.Board) → AllValid F (F.records board) → (events : List (DeskEvent F)) → AllMay events (at_desk plan retries board)
+      → let w = run events (at_desk plan retries board) in
+      Stands F plan (F.records board) (phase_of F.words w.machine) (F.records w.board) × Halts F w.machine.stopped plan (phase_of F.words w.machine) (F.records w.board)

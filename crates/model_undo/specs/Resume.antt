@@ -1,0 +1,87 @@
+-- A manager that goes on from a list of what undoes.
+use Rattle.std.specs.Prelude.{◌≡◌, ℕ, ◌%◌, true, List, [], ◌∷◌, length, Option, Some, None}
+use Rattle.std.specs.Option.{option_map}
+use Rattle.two_wire.specs.declared.Bus.{Bus}
+use Rattle.model_undo.specs.Words.{Answered, Words}
+use Rattle.model_undo.specs.Phase.{Stop, Phase, Done, Halted}
+use Rattle.model_undo.specs.Machine.{Counts, Machine, AtHalt, Sending, Turn, open_bus, phase_of, start_of, quiet_of, stop_of, again_of, undo_of, reply_of}
+use Rattle.model_undo.specs.Wires.{number_of}
+
+-- what is kept of a manager: what undoes each step, the last step's first, and the next sequence number and instance
+pub record UndoList (M : Words) : Type 0 where
+  pub series : List M.Series
+  pub next : Counts
+
+-- the list of a manager; sequence numbers count modulo 64 and instances modulo 32
+abbrev pub list_of : (M : Words) → Machine M → UndoList M
+list_of M m = record { series = m.undo; next = record { ipmb = m.counts.ipmb % 64; smbus = m.counts.smbus % 32 } }
+
+-- the manager that goes on from it: halted after as many steps as the list undoes, as if it was to stop
+abbrev pub resumed : (M : Words) → ℕ → UndoList M → Machine M
+resumed M retries list = record {
+  plan = [];
+  retries = retries;
+  stage = AtHalt (length list.series) Stop;
+  stopped = true;
+  resent = 0;
+  undo = list.series;
+  counts = list.next;
+}
+
+-- ---- what is seen of a manager
+
+-- a call, or a reply to the open request
+pub data Call : Type 0 where
+  CallStart : Call
+  CallQuiet : Call
+  CallStop : Call
+  CallAgain : Call
+  CallUndo : Call
+  Replies : (answered : Answered) → Call
+
+-- a request as it goes out: under its number
+pub record NumberedRequest (M : Words) : Type 0 where
+  pub bus : Bus
+  pub number : ℕ
+  pub asked : M.Asked
+
+module _ (M : Words) where
+  abbrev pub turn_of : Call → Machine M → Option (Turn M)
+  turn_of CallStart m = start_of M m
+  turn_of CallQuiet m = quiet_of M m
+  turn_of CallStop m = stop_of M m
+  turn_of CallAgain m = again_of M m
+  turn_of CallUndo m = undo_of M m
+  turn_of (Replies a) m = reply_of M a m
+
+  -- the machine after it
+  abbrev pub after : Option (Turn M) → Machine M → Machine M
+  after None m = m
+  after (Some t) m = t.machine
+
+  abbrev pub request_of : Sending M → NumberedRequest M
+  request_of s = record { bus = s.bus; number = number_of s.bus s.count; asked = s.asked }
+
+  -- the request that goes out then
+  abbrev pub goes_out : Option (Turn M) → Option (NumberedRequest M)
+  goes_out None = None
+  goes_out (Some t) = option_map request_of t.sends
+
+  -- the phase after each call, and the request that goes out
+  abbrev pub trace : List Call → Machine M → List (Phase × Option (NumberedRequest M))
+  trace [] m = []
+  trace (c ∷ cs) m = (phase_of M (after (turn_of c m) m), goes_out (turn_of c m)) ∷ trace cs (after (turn_of c m) m)
+
+  -- the plan ended or halted
+  abbrev pub IsOver : Phase → Type 0
+  IsOver Done = Unit {0}
+  IsOver (Halted k why) = Unit {0}
+  IsOver _ = ⊥
+
+  -- a manager that goes on from a list is halted after as many steps as the list undoes, with no request open, and gives that list
+  -- itself; from `undo` on it goes through the same phases, and sends the same requests under the same numbers, for the same calls
+  pub record GoesOnAlike : Type 0 where
+    pub halted : (retries : ℕ) (list : UndoList M) → phase_of M (resumed M retries list) ≡ Halted (length list.series) Stop
+    pub none_open : (retries : ℕ) (list : UndoList M) → open_bus M (resumed M retries list) ≡ None
+    pub same_list : (retries : ℕ) (m : Machine M) → list_of M (resumed M retries (list_of M m)) ≡ list_of M m
+    pub alike : (m : Machine M) → IsOver (phase_of M m) → (calls : List Call) → trace (CallUndo ∷ calls) (resumed M m.retries (list_of M m)) ≡ trace (CallUndo ∷ calls) m

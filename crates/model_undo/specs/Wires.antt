@@ -1,0 +1,36 @@
+-- How requests and replies are bytes on the two buses. The bytes hold all but addresses and check bytes, the number too.
+use Rattle.std.specs.Prelude.{◌≡◌, ℕ, ◌%◌, List, Some, ◌⊎◌}
+use Rattle.two_wire.specs.declared.Bus.{Bus}
+use Rattle.two_wire.specs.declared.Bus.TheVariants.{Ipmb, Smbus}
+use Rattle.model_undo.specs.Words.{Answered, Words}
+
+-- the number of a count: a sequence number on IPMB, an instance on SMBus
+abbrev pub number_of : Bus → ℕ → ℕ
+number_of Ipmb n = n % 64
+number_of Smbus n = n % 32
+
+-- a manager makes the series: it gets a record, or carries an operation out
+abbrev pub IsSeries : (M : Words) → M.Series → Type 0
+IsSeries M series = ((key : M.Key) × (series ≡ M.getting key)) ⊎ ((op : M.Op) × (series ≡ M.setting op))
+
+-- the request is one of the series
+abbrev pub IsOf : (M : Words) → M.Series → M.Asked → Type 0
+IsOf M series asked = (asked ≡ M.first series) ⊎ ((bodies : List (List ℕ)) × (M.next series bodies ≡ Some asked))
+
+-- a manager makes the request
+abbrev pub IsMade : (M : Words) → M.Asked → Type 0
+IsMade M asked = (series : M.Series) × IsSeries M series × IsOf M series asked
+
+-- how requests and replies are written, and what is read of them
+pub record Wires (M : Words) : Type 0 where
+  -- the bytes of a request under a number
+  pub bytes_of : ℕ → M.Asked → List ℕ
+  -- what bytes ask on a bus
+  pub asked_from : Bus → List ℕ → M.Asked
+  -- the bytes of the reply that gives this answer to a request of these bytes
+  pub reply_to : Bus → List ℕ → Answered → List ℕ
+  -- the answer that the bytes of a reply give
+  pub answered_from : Bus → List ℕ → Answered
+  -- what was written is read, of the requests that a manager makes
+  pub same : (number : ℕ) (asked : M.Asked) → IsMade M asked → asked_from (M.bus_of asked) (bytes_of number asked) ≡ asked
+  pub same_reply : (bus : Bus) (bytes : List ℕ) (a : Answered) → answered_from bus (reply_to bus bytes a) ≡ a

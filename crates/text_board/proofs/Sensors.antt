@@ -1,0 +1,87 @@
+-- The sensors of a file beside those that were read.
+use Rattle.std.proofs.Common.{◌≡◌, ℕ, ◌≤◌, [], map, length, true, Some, refl, arith, nat_le, option_and_then, is_some, IsSome}
+use Rattle.std.proofs.lemmas.Bool.{and_parts}
+use Rattle.std.proofs.lemmas.Bool.Decides.{nat_tests}
+use Rattle.toml.specs.Data.{as_table, Data, Members}
+use Rattle.text_fields.specs.declared.field.Field.{Field}
+use Rattle.text_fields.specs.declared.row.Shape.TheVariants as shape
+use Rattle.text_fields.specs.declared.row.Need.TheVariants as need
+use Rattle.text_fields.specs.Ranges.{record_in}
+use Rattle.text_fields.proofs.Rows.{Sound, value_of}
+use Rattle.text_fields.proofs.First.{first-append}
+use Rattle.std.specs.List.{list_all}
+use Rattle.record_base.specs.declared.sensor.Sensor.{Sensor}
+use Rattle.text_fields.specs.declared.field.Field.TheVariants as field
+use Rattle.text_board.specs.declared.tables.TheConstants.{TOP, DEVICE}
+use Rattle.text_board.specs.declared.fault.FileFault.{FileFault}
+use Rattle.text_board.specs.declared.fault.Item.TheVariants as item
+use Rattle.text_fields.specs.Trees.{in_field, members, number_in, table_of, table_in, members_in, or_none}
+use Rattle.text_fields.specs.Faults.{field_faults, first}
+use Rattle.text_board.specs.Faults.{fault_at, record_faults, sensor_faults, channel_faults, users_in, attribute_faults, state_faults, numeric_faults, board_faults}
+use Rattle.text_board.specs.Holds.{IsSensorIn, number_of}
+
+-- a sensor that a member of an array holds has its number
+pub sensor_numbered : (d : Data) (s : Sensor) → IsSensorIn d s → number_in field.Number (table_of d) ≡ Some (number_of s)
+sensor_numbered d s holds = holds.numbered
+
+le_from : (m n : ℕ) → nat_le m n ≡ true → m ≤ n
+le_from m n h = grind (arith, nat_tests)
+
+-- the members of an array of sensor data records without a fault are so many records at most
+pub records_there : (tree : Members) (field : Field) (most : ℕ) → Sound tree (record { 0 = field; 1 = shape.Records most; 2 = need.Always })
+    → (list_all (λ d. is_some (record_in d)) (members_in field tree) ≡ true) × (length (members_in field tree) ≤ most)
+records_there tree field most sound =
+    let v = value_of tree (record { 0 = field; 1 = shape.Records most; 2 = need.Always }) (in_field field tree) refl refl sound in
+    let (few, all) = and_parts (nat_le (length (or_none (members v.value))) most) (list_all (λ d. is_some (record_in d)) (or_none (members v.value))) v.within in
+    rw v.found (all, le_from _ _ few)
+
+-- a table that an item without a fault has
+pub table_there : (tree : Members) (field : Field) → Sound tree (record { 0 = field; 1 = shape.Table; 2 = need.Always }) → IsSome (option_and_then as_table (in_field field tree))
+table_there tree field sound =
+    let v = value_of tree (record { 0 = field; 1 = shape.Table; 2 = need.Always }) (in_field field tree) refl refl sound in
+    rw v.found v.typed
+
+-- ---- the faults of a board file
+
+module _ (tree : Members) (why : FileFault) where
+  pub top_first : first (map (fault_at item.Top) (field_faults TOP tree)) ≡ Some why → first (board_faults tree) ≡ Some why
+  unfolding board_faults
+  top_first is = first-append _ _ why is
+
+  pub records_first : field_faults TOP tree ≡ [] → first (record_faults (members_in field.Sdr tree)) ≡ Some why → first (board_faults tree) ≡ Some why
+  unfolding board_faults
+  records_first top is = rw top (first-append _ _ why is)
+
+  pub device_first : field_faults TOP tree ≡ [] → record_faults (members_in field.Sdr tree) ≡ [] → first (map (fault_at item.Device) (field_faults DEVICE (table_in field.Device tree))) ≡ Some why → first (board_faults tree) ≡ Some why
+  unfolding board_faults
+  device_first top records is = rw (top, records) (first-append _ _ why is)
+
+  pub sensors_first : field_faults TOP tree ≡ [] → record_faults (members_in field.Sdr tree) ≡ [] → field_faults DEVICE (table_in field.Device tree) ≡ [] → first (sensor_faults (members_in field.Sensor tree)) ≡ Some why
+      → first (board_faults tree) ≡ Some why
+  unfolding board_faults
+  sensors_first top records device is = rw (top, records, device) (first-append _ _ why is)
+
+  pub channels_first : field_faults TOP tree ≡ [] → record_faults (members_in field.Sdr tree) ≡ [] → field_faults DEVICE (table_in field.Device tree) ≡ [] → sensor_faults (members_in field.Sensor tree) ≡ []
+      → first (channel_faults (users_in tree) (members_in field.Channel tree)) ≡ Some why → first (board_faults tree) ≡ Some why
+  unfolding board_faults
+  channels_first top records device sensors is = rw (top, records, device, sensors) (first-append _ _ why is)
+
+  pub attributes_first : field_faults TOP tree ≡ [] → record_faults (members_in field.Sdr tree) ≡ [] → field_faults DEVICE (table_in field.Device tree) ≡ [] → sensor_faults (members_in field.Sensor tree) ≡ []
+      → channel_faults (users_in tree) (members_in field.Channel tree) ≡ [] → first (attribute_faults (members_in field.Attribute tree)) ≡ Some why → first (board_faults tree) ≡ Some why
+  unfolding board_faults
+  attributes_first top records device sensors channels is = rw (top, records, device, sensors, channels) (first-append _ _ why is)
+
+  pub states_first : field_faults TOP tree ≡ [] → record_faults (members_in field.Sdr tree) ≡ [] → field_faults DEVICE (table_in field.Device tree) ≡ [] → sensor_faults (members_in field.Sensor tree) ≡ []
+      → channel_faults (users_in tree) (members_in field.Channel tree) ≡ [] → attribute_faults (members_in field.Attribute tree) ≡ [] → first (state_faults (members_in field.State tree)) ≡ Some why → first (board_faults tree) ≡ Some why
+  unfolding board_faults
+  states_first top records device sensors channels attributes is = rw (top, records, device, sensors, channels, attributes) (first-append _ _ why is)
+
+  pub effecters_first : field_faults TOP tree ≡ [] → record_faults (members_in field.Sdr tree) ≡ [] → field_faults DEVICE (table_in field.Device tree) ≡ [] → sensor_faults (members_in field.Sensor tree) ≡ []
+      → channel_faults (users_in tree) (members_in field.Channel tree) ≡ [] → attribute_faults (members_in field.Attribute tree) ≡ [] → state_faults (members_in field.State tree) ≡ [] → first (numeric_faults (members_in field.Numeric tree)) ≡ Some why → first (board_faults tree) ≡ Some why
+  unfolding board_faults
+  effecters_first top records device sensors channels attributes states is = rw (top, records, device, sensors, channels, attributes, states) is
+
+pub no_faults : (tree : Members) → field_faults TOP tree ≡ [] → record_faults (members_in field.Sdr tree) ≡ [] → field_faults DEVICE (table_in field.Device tree) ≡ [] → sensor_faults (members_in field.Sensor tree) ≡ []
+    → channel_faults (users_in tree) (members_in field.Channel tree) ≡ [] → attribute_faults (members_in field.Attribute tree) ≡ [] → state_faults (members_in field.State tree) ≡ [] → numeric_faults (members_in field.Numeric tree) ≡ [] → board_faults tree ≡ []
+unfolding board_faults
+no_faults tree top records device sensors channels attributes states effecters = rw (top, records, device, sensors, channels, attributes, states) effecters

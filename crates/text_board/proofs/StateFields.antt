@@ -1,0 +1,102 @@
+-- The state effecters of a file, and what an item with states has in its fields.
+use Rattle.std.proofs.Common.{◌≡◌, ℕ, ◌==◌, zero, suc, ◌<◌, ◌≤◌, nat_le, length, get_or, map, List, [], ◌∷◌, Bool, true, false, ◌||◌, Option, Some, None, refl, sym, ap, ◌∙◌, arith}
+use Rattle.std.proofs.lemmas.Bool.{and_parts}
+use Rattle.std.proofs.lemmas.Bool.Decides.{nat_tests}
+use Rattle.std.specs.List.{list_all, AllZip}
+use Rattle.toml.specs.Data.{Data, Members}
+use Rattle.toml.specs.View.{view}
+use Rattle.toml.specs.declared.value.Value.{Value}
+use Rattle.record_base.specs.StateField.{allows}
+use Rattle.record_base.specs.declared.state_effecter.StateEffecter.{StateEffecter}
+use Rattle.text_fields.specs.declared.field.Field.TheVariants as field
+use Rattle.text_fields.specs.declared.row.Shape.TheVariants as shape
+use Rattle.text_fields.specs.declared.row.Need.TheVariants as need
+use Rattle.text_fields.specs.Trees.{IsNaturalIn, in_field, natural, members, members_in, number_in, table_of, or_none}
+use Rattle.text_fields.specs.Ranges.{passes, is_between, is_number, is_listed, is_state, is_state_list, can_be, are_present}
+use Rattle.text_board.specs.Holds.{IsStateIn, state_id, operational}
+use Rattle.text_fields.proofs.Rows.{Sound, value_of}
+
+-- a state effecter that a member of an array holds has its id
+pub state_numbered : (d : Data) (e : StateEffecter) → IsStateIn d e → number_in field.Id (table_of d) ≡ Some (state_id e)
+state_numbered d e holds = holds.numbered
+
+-- ---- states
+
+either_true : (a b c : Bool) → (a ≡ true → c ≡ true) → (b ≡ true → c ≡ true) → (a || b) ≡ true → c ≡ true
+either_true true b c f g h = f refl
+either_true false b c f g h = g h
+
+same_number : (m n : ℕ) → (m == n) ≡ true → m ≡ n
+same_number m n is = grind (arith, nat_tests)
+
+number_small : (o : Option ℕ) (n : ℕ) → passes (is_between 0 255) o ≡ true → passes (λ m. m == n) o ≡ true → is_between 0 255 n ≡ true
+number_small (Some m) n small same = rw (← same_number m n same) small
+number_small None n small same = cc
+
+-- a number that is listed among states is a state
+listed_small : (ds : List Data) (n : ℕ) → list_all is_state ds ≡ true → is_listed ds n ≡ true → is_between 0 255 n ≡ true
+listed_small [] n all some = cc
+listed_small (d ∷ ds) n all some =
+    let (here, more) = and_parts (is_state d) (list_all is_state ds) all in
+    either_true (is_number n d) (is_listed ds n) (is_between 0 255 n) (λ same. number_small (natural d) n here same) (λ behind. listed_small ds n more behind) some
+
+present_cases : (states d : Data) (o : Option ℕ) → natural d ≡ o → is_state_list states ≡ true → passes (is_listed (or_none (members states))) o ≡ true → is_state d ≡ true
+present_cases states d (Some n) is list some =
+    let (few, all) = and_parts (nat_le (length (or_none (members states))) 256) (list_all is_state (or_none (members states))) list in
+    rw is (listed_small (or_none (members states)) n all some)
+present_cases states d None is list some = cc
+
+-- what a field can be in is a state
+pub present_small : (states d : Data) → is_state_list states ≡ true → can_be states d ≡ true → is_state d ≡ true
+present_small states d list can = present_cases states d (natural d) refl list can
+
+listed_as : (ds : List Data) (states : List ℕ) (n : ℕ) → AllZip IsNaturalIn ds states → is_listed ds n ≡ allows states n
+listed_as [] [] n zip = refl
+listed_as [] (s ∷ states) n zip = absurd zip
+listed_as (d ∷ ds) [] n zip = absurd zip
+listed_as (d ∷ ds) (s ∷ states) n zip = rw zip.0 (ap (λ b. (s == n) || b) (listed_as ds states n zip.1))
+
+-- a field can be in the state
+pub present_allowed : (states d : Data) (allowed : List ℕ) (n : ℕ) → can_be states d ≡ true → natural d ≡ Some n → AllZip IsNaturalIn (or_none (members states)) allowed → allows allowed n ≡ true
+present_allowed states d allowed n can is zip =
+    let listed : is_listed (or_none (members states)) n ≡ true = rw is at can in
+    sym (listed_as (or_none (members states)) allowed n zip) ∙ listed
+
+-- the field at a place can be in the state there
+pub present_at : (lists states : List Value) (i : ℕ) (list state : Value) → are_present (map view lists) (map view states) ≡ true → i < length lists → i < length states → list ≡ get_or lists i list → state ≡ get_or states i state
+    → can_be (view list) (view state) ≡ true
+present_at [] states i list state all within inside is also = absurd (omega arith)
+present_at (l ∷ lists) [] i list state all within inside is also = absurd (omega arith)
+present_at (l ∷ lists) (s ∷ states) zero list state all within inside is also =
+    let here : can_be (view l) (view s) ≡ true = (and_parts (can_be (view l) (view s)) (are_present (map view lists) (map view states)) all).0 in
+    let same : list ≡ l = is in
+    let other : state ≡ s = also in
+    rw (same, other) here
+present_at (l ∷ lists) (s ∷ states) (suc i) list state all within inside is also =
+    present_at lists states i list state (and_parts (can_be (view l) (view s)) (are_present (map view lists) (map view states)) all).1 (omega arith) (omega arith) is also
+
+le_from : (m n : ℕ) → nat_le m n ≡ true → m ≤ n
+le_from m n h = grind (arith, nat_tests)
+
+-- the lists of states that an item without a fault has
+pub lists_there : (tree : Members) → Sound tree (record { 0 = field.States; 1 = shape.StateLists; 2 = need.Always })
+    → (1 ≤ length (members_in field.States tree)) × ((length (members_in field.States tree) ≤ 8) × (list_all is_state_list (members_in field.States tree) ≡ true))
+lists_there tree sound =
+    let v = value_of tree (record { 0 = field.States; 1 = shape.StateLists; 2 = need.Always }) (in_field field.States tree) refl refl sound in
+    let ds = or_none (members v.value) in
+    let (some, all) = and_parts (is_between 1 8 (length ds)) (list_all is_state_list ds) v.within in
+    let (low, high) = and_parts (nat_le 1 (length ds)) (nat_le (length ds) 8) some in
+    rw v.found (le_from 1 _ low, (le_from _ 8 high, all))
+
+-- the states that its fields are in
+pub present_there : (tree : Members) → Sound tree (record { 0 = field.Current; 1 = shape.States; 2 = need.Always }) → are_present (members_in field.States tree) (members_in field.Current tree) ≡ true
+present_there tree sound =
+    let v = value_of tree (record { 0 = field.Current; 1 = shape.States; 2 = need.Always }) (in_field field.Current tree) refl refl sound in
+    rw v.found v.within
+
+-- a state from 1 to 2 is the one that it says
+pub state_told : (n : ℕ) → 1 ≤ n → n ≤ 2 → operational (n == 1) ≡ n
+state_told zero least most = absurd (omega arith)
+state_told (suc zero) least most = refl
+state_told (suc (suc zero)) least most = refl
+state_told (suc (suc (suc n))) least most = absurd (omega arith)

@@ -1,0 +1,31 @@
+use Rattle.std.proofs.Common.{◌≡◌, ◌<◌, ◌++◌, ◌∷◌, [], length, inl, inr, ap, ◌∙◌, arith}
+use Rattle.std.proofs.lemmas.Result.{err_from_is_err_and}
+use Rattle.text_board.specs.AttributeItems.{IsAttributeIn}
+use Rattle.text_fields.specs.Faults.{first}
+use Rattle.text_fields.proofs.Members.{next_zip, read_so_far}
+use Rattle.text_board.proofs.AttributeFields.{handles_more, attributes_left, attribute_first}
+use Rattle.text_board.proofs.attribute_items.attributes_of.Goals as goal
+
+pub returns-in_err-attribute-clause-err : goal.returns-in_err-attribute-clause-err
+returns-in_err-attribute-clause-err c =
+    let p = err_from_is_err_and c.from_residual.result c.from_residual.ensures.1 in
+    rw (p.1, p.2) (elim c.in_err-attribute.ensures.err [
+      | inl memory ↦ inl memory
+      | inr counts ↦ inr (ap first c.loop-place.invariant.left ∙ attribute_first c.args.values.now c.loop-place.place c.index-values-place.result c.loop-place-test.true c.index-values-place.is c.in_err-attribute.field-0.0 counts)
+    ])
+
+pub loop-place-preserved : goal.loop-place-preserved
+loop-place-preserved c =
+    let values = c.args.values.now in
+    let i = c.loop-place.place in
+    let v = c.index-values-place.result in
+    let before = c.loop-place.attributes.items in
+    let attribute = c.in_ok-attribute.attribute in
+    let within : i < length values = c.loop-place-test.true in
+    let so_far : length before ≡ i = read_so_far IsAttributeIn values i before (omega (arith, within)) c.loop-place.invariant.zip in
+    let pushed : c.push.new.self.items ≡ before ++ attribute ∷ [] = c.in-Ok.ensures.items in
+    rw pushed (record {
+      zip = next_zip values i v within c.index-values-place.is IsAttributeIn before attribute c.loop-place.invariant.zip c.in_ok-attribute.ensures.held;
+      handles = handles_more 0 before attribute c.loop-place.invariant.handles (omega (arith, c.in_ok-attribute.ensures.handle, so_far));
+      left = c.loop-place.invariant.left ∙ attributes_left values i v within c.index-values-place.is c.in_ok-attribute.ensures.sound;
+    })

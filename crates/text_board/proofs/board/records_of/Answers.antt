@@ -1,0 +1,18 @@
+use Rattle.std.proofs.Common.{◌≡◌, ◌++◌, ◌∷◌, [], is_some, sym, ap, ◌∙◌}
+use Rattle.toml.specs.View.{view}
+use Rattle.text_board.specs.Holds.{IsRecordIn}
+use Rattle.text_fields.specs.Ranges.{record_in}
+use Rattle.text_fields.proofs.Members.{next_zip, each_passes}
+use Rattle.text_board.proofs.board.records_of.Goals as goal
+
+pub unwrap-requires : goal.unwrap-requires
+unwrap-requires c = ap is_some c.record.ensures ∙ each_passes (λ value. is_some (record_in (view value))) c.args.values.now c.loop-value.value-index c.value-item.result c.requires c.loop-value-test.true c.value-item.is
+
+pub loop-value-preserved : goal.loop-value-preserved
+loop-value-preserved c =
+    let i = c.loop-value.value-index in
+    let before = c.loop-value.records.items in
+    let bytes = c.unwrap.result in
+    let pushed : c.push.new.self.items ≡ before ++ bytes ∷ [] = c.in-Ok.ensures.items in
+    let holds : IsRecordIn (view c.value-item.result) bytes = sym c.record.ensures ∙ c.unwrap.ensures in
+    rw pushed (next_zip c.args.values.now i c.value-item.result c.loop-value-test.true c.value-item.is IsRecordIn before bytes c.loop-value.invariant holds)

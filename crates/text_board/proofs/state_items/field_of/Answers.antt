@@ -1,0 +1,27 @@
+use Rattle.std.proofs.Common.{◌≡◌, true, nat_le, length, sym, ◌∙◌, ap}
+use Rattle.std.proofs.lemmas.Bool.{and_parts}
+use Rattle.std.proofs.lemmas.List.Folds.{list_all-map}
+use Rattle.std.specs.List.{list_all, AllZip}
+use Rattle.toml.specs.View.{view}
+use Rattle.record_base.specs.StateField.{allows}
+use Rattle.text_fields.specs.Trees.{IsNaturalIn, members, or_none}
+use Rattle.text_fields.specs.Ranges.{is_state}
+use Rattle.text_board.proofs.StateFields.{present_small, present_allowed}
+use Rattle.text_board.proofs.state_items.field_of.Goals as goal
+
+pub states_of-requires : goal.states_of-requires
+states_of-requires c =
+    let ds = or_none (members (view c.args.states.now)) in
+    let (few, all) = and_parts (nat_le (length ds) 256) (list_all is_state ds) c.requires.states in
+    sym (list_all-map is_state view c.members_of.result.now) ∙ ap (list_all is_state) c.members_of.ensures ∙ all
+
+pub state-requires : goal.state-requires
+state-requires c = present_small (view c.args.states.now) (view c.args.current.now) c.requires.states c.requires.current
+
+pub unwrap-requires : goal.unwrap-requires
+unwrap-requires c =
+    let states = view c.args.states.now in
+    let allowed = c.in_ok-allowed.allowed.items in
+    let zip : AllZip IsNaturalIn (or_none (members states)) allowed = rw (← c.members_of.ensures) c.in_ok-allowed.ensures.held in
+    let can : allows allowed c.state.result ≡ true = present_allowed states (view c.args.current.now) allowed c.state.result c.requires.current c.state.ensures zip in
+    c.new-2.ensures.made.1 (rw c.new.ensures can)

@@ -1,0 +1,37 @@
+use Rattle.std.proofs.Common.{◌≡◌, ◌<◌, ◌+◌, ◌++◌, ◌∷◌, [], length, is_some, ◌∙◌, ap, arith}
+use Rattle.toml.specs.View.{view}
+use Rattle.toml.specs.declared.value.Value.{Value}
+use Rattle.text_fields.specs.Users.{name_of}
+use Rattle.text_board.specs.Holds.{IsNameIn}
+use Rattle.text_fields.proofs.Members.{next_zip, each_passes, read_so_far}
+use Rattle.text_board.proofs.UserNames.{numbered_more}
+use Rattle.text_board.proofs.users.users_of.Goals as goal
+
+pub next_user-user-requires-clause-few : goal.next_user-user-requires-clause-few
+next_user-user-requires-clause-few c =
+    let values = c.args.values.now in
+    let i = c.loop-value.value-index in
+    let before = c.loop-value.users.items in
+    let same : c.as_slice.result.now ≡ before = c.as_slice.ensures.value in
+    let within : i < length values = c.loop-value-test.true in
+    let so_far : length before ≡ i = read_so_far IsNameIn values i before (omega (arith, within)) c.loop-value.invariant.names in
+    rw same (omega (arith, so_far, within, c.requires.few))
+
+pub next_user-user-requires-clause-named : goal.next_user-user-requires-clause-named
+next_user-user-requires-clause-named c =
+    each_passes (λ (value : Value). is_some (name_of (view value))) c.args.values.now c.loop-value.value-index c.value-item.result c.requires.named c.loop-value-test.true c.value-item.is
+
+pub loop-value-preserved : goal.loop-value-preserved
+loop-value-preserved c =
+    let values = c.args.values.now in
+    let i = c.loop-value.value-index in
+    let v = c.value-item.result in
+    let before = c.loop-value.users.items in
+    let user = c.next_user-user.result in
+    let pushed : c.push.new.self.items ≡ before ++ user ∷ [] = c.in-Ok.ensures.items in
+    let same : c.as_slice.result.now ≡ before = c.as_slice.ensures.value in
+    let numbered : user.number.number ≡ 1 + length before = c.next_user-user.ensures.numbered ∙ ap (λ users. 1 + length users) same in
+    rw pushed (record {
+      names = next_zip values i v c.loop-value-test.true c.value-item.is IsNameIn before user c.loop-value.invariant.names c.next_user-user.ensures.named;
+      numbers = numbered_more 1 before user c.loop-value.invariant.numbers numbered;
+    })

@@ -1,0 +1,260 @@
+//! The text of a board file.
+ghost use Rattle.std.specs.Prelude.{◌≡◌, ◌⊎◌, ◌==◌, [], true, false, is_some, Some, Err, IfOk, IfErr, map};
+ghost use Rattle.std.specs.List.{list_all, list_any, AllZip};
+ghost use Rattle.record_base.specs.Distinct.{NamesDiffer};
+ghost use Rattle.toml.specs.View.{view, table_view};
+ghost use Rattle.text_fields.specs.Trees.{table_of, members_in, HasNumber, HasNumbers};
+ghost use Rattle.text_fields.specs.Ranges.{is_table, record_in, settings};
+ghost use Rattle.text_fields.specs.Faults.{field_faults, first};
+ghost use Rattle.text_board.specs.Faults.{record_faults, sensor_faults};
+ghost use Rattle.text_board.specs.Holds.{HoldsBoot, HoldsDevice, HoldsEvents, HoldsSensor, IsRecordIn, IsSensorIn, IsNextFault, number_of, Answers, Reads};
+
+use crate::attribute_items::attributes;
+use crate::channel_items::file_channels;
+use crate::check::check;
+use crate::effecters::numeric_effecters;
+use crate::fault::{FileFault, Item, Place};
+use crate::state_items::state_effecters;
+use crate::tables::{DEVICE, SENSOR, TOP};
+use crate::users::users;
+use cfg_records::event_enable::{MESSAGES_PLACE, SCANNING_PLACE};
+use cfg_records::mask::has;
+use cfg_records::{
+    BoardFile, BootOptions, Device, Distinct, EventEnable, EventMasks, GlobalEnables, LogCapacity,
+    ManufacturerId, Numbered, PowerPolicy, SdrRecord, SdrRecords, Sensor, Sensors, Watchdog,
+};
+use std::alloc::Global;
+use text_fields::Field;
+use text_fields::range::{boot_flags, digits, enables, record, thresholds, watchdog};
+use text_fields::tree::{byte_in, members_in, number_in, pair_in, table_in, value_in, word_in};
+use toml::{Table, Value};
+
+/// What the table says of its board.
+fn device(table: &Table) -> Device
+    requires { field_faults DEVICE (table_view table.now) ≡ [] }
+    ensures { HoldsDevice (table_view table.now) result }
+{
+    let minor = value_in(table, Field::Minor);
+    Device {
+        id: byte_in(table, Field::Id),
+        revision: byte_in(table, Field::Revision),
+        major: byte_in(table, Field::Major),
+        minor: digits(minor).unwrap(),
+        support: byte_in(table, Field::Support),
+        manufacturer: ManufacturerId::new(number_in(table, Field::Manufacturer)).unwrap(),
+        product: word_in(table, Field::Product),
+    }
+}
+
+/// The events of the sensor that the table is.
+fn events(table: &Table) -> EventEnable
+    requires { field_faults SENSOR (table_view table.now) ≡ [] }
+    ensures { HoldsEvents (table_view table.now) result }
+{
+    let supported = word_in(table, Field::Supported);
+    let flags = byte_in(table, Field::Flags);
+    let enabled = EventMasks {
+        assertions: word_in(table, Field::Assert),
+        deassertions: word_in(table, Field::Deassert),
+    };
+    let messages = has(flags, MESSAGES_PLACE);
+    let scanning = has(flags, SCANNING_PLACE);
+    EventEnable::new(supported, messages, scanning, enabled).unwrap()
+}
+
+/// The sensor that the table is.
+fn sensor(table: &Table) -> Sensor
+    requires { field_faults SENSOR (table_view table.now) ≡ [] }
+    ensures { HoldsSensor (table_view table.now) result }
+{
+    let values = value_in(table, Field::Thresholds);
+    Sensor {
+        number: byte_in(table, Field::Number),
+        sensor_type: byte_in(table, Field::Type),
+        thresholds: thresholds(table, values).unwrap(),
+        hysteresis: pair_in(table, Field::Hysteresis).into(),
+        events: events(table),
+    }
+}
+
+/// Whether one of the sensors has the number.
+fn is_taken(sensors: &[Sensor], number: u8) -> bool
+    ensures { result ≡ list_any (λ sensor. sensor.number == number) sensors.now }
+{
+    sensors.iter().any(|sensor| sensor.number == number)
+}
+
+/// The sensor that the value is, behind those before it.
+fn next_sensor(before: &[Sensor], value: &Value) -> Result<Sensor, FileFault>
+    requires { is_table (view value.now) ≡ true }
+    ensures sound { IfOk result (λ _. field_faults SENSOR (table_of (view value.now)) ≡ []) }
+    ensures held { IfOk result (IsSensorIn (view value.now)) }
+    ensures fresh { IfOk result (λ s. list_any (λ other. other.number == s.number) before.now ≡ false) }
+    ensures err { IfErr result (IsNextFault before.now (view value.now)) }
+{
+    let item = Item::Sensor(before.len());
+    let table = value.as_table().unwrap();
+    check(item, &SENSOR, table)?;
+    let sensor = sensor(table);
+    if is_taken(before, sensor.number) {
+        return Err(FileFault::Twice(Place {
+            item,
+            field: Field::Number,
+        }));
+    }
+    Ok(sensor)
+}
+
+/// The sensors that these tables are, up to the first fault.
+fn sensors_of(alloc: Global, values: &[Value]) -> Result<Vec<Sensor>, FileFault>
+    requires { list_all (λ value. is_table (view value)) values.now ≡ true }
+    ensures sound { IfOk result (λ _. sensor_faults (map view values.now) ≡ []) }
+    ensures held { IfOk result (λ sensors. AllZip IsSensorIn (map view values.now) sensors.items) }
+    ensures differ { IfOk result (λ sensors. NamesDiffer number_of sensors.items) }
+    ensures err { IfErr result (λ why. (why ≡ FileFault.Memory) ⊎ (first (sensor_faults (map view values.now)) ≡ Some why)) }
+{
+    let mut sensors = Vec::new(alloc);
+    for value in values {
+        let sensor = next_sensor(sensors.as_slice(), value)?;
+        match sensors.push(sensor) {
+            Ok(()) => {}
+            Err(_) => return Err(FileFault::Memory),
+        }
+    }
+    Ok(sensors)
+}
+
+/// The sensors of the file.
+fn sensors(alloc: Global, tree: &Table) -> Result<Sensors, FileFault>
+    requires { field_faults TOP (table_view tree.now) ≡ [] }
+    ensures sound { IfOk result (λ _. sensor_faults (members_in Field.Sensor (table_view tree.now)) ≡ []) }
+    ensures held { IfOk result (λ sensors. AllZip IsSensorIn (members_in Field.Sensor (table_view tree.now)) sensors.items) }
+    ensures err { IfErr result (λ why. (why ≡ FileFault.Memory) ⊎ (first (sensor_faults (members_in Field.Sensor (table_view tree.now))) ≡ Some why)) }
+{
+    let sensors = sensors_of(alloc, members_in(tree, Field::Sensor))?;
+    Ok(Distinct::new(sensors).unwrap())
+}
+
+/// The global enables of the file.
+fn global_enables(tree: &Table) -> GlobalEnables
+    requires { field_faults TOP (table_view tree.now) ≡ [] }
+    ensures { HasNumber Field.Enables (table_view tree.now) result.byte }
+{
+    enables(value_in(tree, Field::Enables)).unwrap()
+}
+
+/// The sensor data records that these values are.
+fn records_of(alloc: Global, values: &[Value]) -> Result<Vec<SdrRecord>, FileFault>
+    requires { list_all (λ value. is_some (record_in (view value))) values.now ≡ true }
+    ensures held { IfOk result (λ records. AllZip IsRecordIn (map view values.now) records.items) }
+    ensures err { IfErr result (λ why. why ≡ FileFault.Memory) }
+{
+    let mut records = Vec::new(alloc);
+    for value in values {
+        match records.push(record(value).unwrap()) {
+            Ok(()) => {}
+            Err(_) => return Err(FileFault::Memory),
+        }
+    }
+    Ok(records)
+}
+
+/// The sensor data records of the file.
+fn sdr(alloc: Global, tree: &Table) -> Result<SdrRecords, FileFault>
+    requires { field_faults TOP (table_view tree.now) ≡ [] }
+    ensures sound { IfOk result (λ _. record_faults (members_in Field.Sdr (table_view tree.now)) ≡ []) }
+    ensures held { IfOk result (λ sdr. AllZip IsRecordIn (members_in Field.Sdr (table_view tree.now)) sdr.items) }
+    ensures err { IfErr result (λ why. (why ≡ FileFault.Memory) ⊎ (first (record_faults (members_in Field.Sdr (table_view tree.now))) ≡ Some why)) }
+{
+    let records = records_of(alloc, members_in(tree, Field::Sdr))?;
+    match Distinct::new(records) {
+        Some(records) => Ok(records),
+        None => Err(FileFault::Twice(Place {
+            item: Item::Top,
+            field: Field::Sdr,
+        })),
+    }
+}
+
+/// The boot options of the file.
+fn boot_options(tree: &Table) -> BootOptions
+    requires { field_faults TOP (table_view tree.now) ≡ [] }
+    ensures { HoldsBoot (table_view tree.now) result }
+{
+    let clearing = byte_in(tree, Field::Boot3);
+    let acknowledge = byte_in(tree, Field::Boot4);
+    let five = value_in(tree, Field::Boot5);
+    let flags = boot_flags(five).unwrap();
+    BootOptions::new(clearing, acknowledge, flags).unwrap()
+}
+
+/// The power policy of the file.
+fn power_policy(tree: &Table) -> PowerPolicy
+    requires { field_faults TOP (table_view tree.now) ≡ [] }
+    ensures { HasNumber Field.Policy (table_view tree.now) result.number }
+{
+    PowerPolicy::new(byte_in(tree, Field::Policy)).unwrap()
+}
+
+/// The settings of the file's watchdog timer.
+fn timer(tree: &Table) -> Watchdog
+    requires { field_faults TOP (table_view tree.now) ≡ [] }
+    ensures { HasNumbers Field.Watchdog (table_view tree.now) (settings result) }
+{
+    watchdog(value_in(tree, Field::Watchdog)).unwrap()
+}
+
+/// How many records the log of the file has room for.
+fn log_capacity(tree: &Table) -> LogCapacity
+    requires { field_faults TOP (table_view tree.now) ≡ [] }
+    ensures { HasNumber Field.Log (table_view tree.now) result.records }
+{
+    LogCapacity::new(word_in(tree, Field::Log)).unwrap()
+}
+
+/// The board that the tree holds, or its first fault.
+fn board_of(alloc: Global, tree: &Table) -> Result<BoardFile, FileFault>
+    ensures { (result ≡ Err FileFault.Memory) ⊎ Answers (table_view tree.now) result }
+{
+    check(Item::Top, &TOP, tree)?;
+    let sdr = sdr(alloc, tree)?;
+    let board = table_in(tree, Field::Device);
+    check(Item::Device, &DEVICE, board)?;
+    let sensors = sensors(alloc, tree)?;
+    let file_channels = file_channels(alloc, tree)?;
+    let attributes = attributes(alloc, tree)?;
+    let state_effecters = state_effecters(alloc, tree)?;
+    let numeric_effecters = numeric_effecters(alloc, tree)?;
+    let users = users(alloc, tree)?;
+    Ok(BoardFile {
+        tid: byte_in(tree, Field::Tid),
+        device: device(board),
+        sensors,
+        enables: global_enables(tree),
+        boot: boot_options(tree),
+        policy: power_policy(tree),
+        watchdog: timer(tree),
+        clock: number_in(tree, Field::Clock),
+        log: log_capacity(tree),
+        sdr,
+        numeric_effecters,
+        state_effecters,
+        users,
+        channels: file_channels.channels,
+        sessionless: file_channels.sessionless,
+        user_accesses: file_channels.accesses,
+        attributes,
+    })
+}
+
+/// The board that the text holds, or why it is no board file: its first fault, in the order in which `TOP`, `DEVICE`, `SENSOR`,
+/// `SESSIONS`, `ENUMERATION`, `STRING`, `INTEGER`, `STATE` and `NUMERIC` list fields. Keys that name no field are ignored.
+pub fn read_board(alloc: Global, text: &str) -> Result<BoardFile, FileFault>
+    ensures { (result ≡ Err FileFault.Memory) ⊎ Reads text.now result }
+{
+    match toml::table_from_str(alloc, text) {
+        Ok(tree) => board_of(alloc, &tree),
+        Err(error) if error.is_memory() => Err(FileFault::Memory),
+        Err(_) => Err(FileFault::Text),
+    }
+}

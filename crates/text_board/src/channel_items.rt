@@ -1,0 +1,283 @@
+//! The channels of a board file.
+ghost use Rattle.std.specs.Prelude.{◌≡◌, ◌⊎◌, ◌==◌, ◌<◌, ◌≤◌, [], true, false, Some, IfOk, IfErr, OnOk, map, length};
+ghost use Rattle.std.specs.List.{list_all, list_any, AllZip};
+ghost use Rattle.record_base.specs.Distinct.{NamesDiffer};
+ghost use Rattle.toml.specs.View.{view, table_view};
+ghost use Rattle.text_fields.specs.Trees.{natural, number_in, table_of, members_in};
+ghost use Rattle.text_fields.specs.Ranges.{is_table, may_do, or_zero};
+ghost use Rattle.text_fields.specs.Faults.{field_faults, first};
+ghost use Rattle.text_board.specs.Faults.{fault_at, has_sessions, session_rows, channel_rows, channel_faults, users_in};
+ghost use Rattle.text_board.specs.Holds.{IsNumberIn, HoldsChannel, IsChannelIn, with_sessions, without_sessions, accesses_in, parts_of, on_channel, IsNextChannelFault};
+
+use crate::check::check;
+use crate::fault::{FileFault, Item, Place};
+use crate::tables::{CHANNEL, TOP, session_rows};
+use cfg_records::{
+    Channel, ChannelAccess, ChannelNumber, Channels, Distinct, SessionlessChannels, UserAccess,
+    UserAccesses, UserNumber, UserOnChannel,
+};
+use std::alloc::Global;
+use text_fields::Field;
+use text_fields::channels::{accesses, channel_in, limits};
+use text_fields::tree::{in_field, members_in, natural, value_in};
+use toml::{Table, Value};
+
+/// Whether the channel that the table is has sessions.
+fn has_sessions(table: &Table) -> bool
+    ensures { result ≡ has_sessions (table_view table.now) }
+{
+    match in_field(table, Field::Sessions) {
+        Some(value) => match value.as_bool() {
+            Some(sessions) => sessions,
+            None => false,
+        },
+        None => false,
+    }
+}
+
+/// That the fields of a channel in a file of so many users have no fault, or else the first.
+fn check_channel(item: Item, users: usize, table: &Table) -> Result<(), FileFault>
+    ensures ok { OnOk result (field_faults (channel_rows users (table_view table.now)) (table_view table.now) ≡ []) }
+    ensures err { IfErr result (λ why. first (map (fault_at item) (field_faults (channel_rows users (table_view table.now)) (table_view table.now))) ≡ Some why) }
+{
+    if has_sessions(table) {
+        return check(item, &session_rows(users), table);
+    }
+    check(item, &CHANNEL, table)
+}
+
+/// Whether one of the channels has the number.
+fn is_taken(channels: &[ChannelNumber], number: u8) -> bool
+    ensures { result ≡ list_any (λ channel. channel.number == number) channels.now }
+{
+    channels.iter().any(|channel| channel.number == number)
+}
+
+/// The number of the channel that the value is, behind those before it, in a file of so many users.
+fn next_channel(
+    users: usize,
+    before: &[ChannelNumber],
+    value: &Value,
+) -> Result<ChannelNumber, FileFault>
+    requires { is_table (view value.now) ≡ true }
+    ensures sound { IfOk result (λ _. field_faults (channel_rows users (table_of (view value.now))) (table_of (view value.now)) ≡ []) }
+    ensures held { IfOk result (IsNumberIn (view value.now)) }
+    ensures fresh { IfOk result (λ c. list_any (λ other. other.number == c.number) before.now ≡ false) }
+    ensures err { IfErr result (IsNextChannelFault users before.now (view value.now)) }
+{
+    let item = Item::Channel(before.len());
+    let table = value.as_table().unwrap();
+    check_channel(item, users, table)?;
+    let channel = channel_in(table, Field::Number);
+    if is_taken(before, channel.number) {
+        return Err(FileFault::Twice(Place {
+            item,
+            field: Field::Number,
+        }));
+    }
+    Ok(channel)
+}
+
+/// The numbers of the channels that these tables are, up to the first fault.
+fn numbers_of(
+    alloc: Global,
+    users: usize,
+    values: &[Value],
+) -> Result<Vec<ChannelNumber>, FileFault>
+    requires { list_all (λ value. is_table (view value)) values.now ≡ true }
+    ensures sound { IfOk result (λ _. channel_faults users (map view values.now) ≡ []) }
+    ensures held { IfOk result (λ channels. AllZip IsNumberIn (map view values.now) channels.items) }
+    ensures differ { IfOk result (λ channels. NamesDiffer (λ channel. channel.number) channels.items) }
+    ensures err { IfErr result (λ why. (why ≡ FileFault.Memory) ⊎ (first (channel_faults users (map view values.now)) ≡ Some why)) }
+{
+    let mut channels = Vec::new(alloc);
+    for value in values {
+        let channel = next_channel(users, channels.as_slice(), value)?;
+        match channels.push(channel) {
+            Ok(()) => {}
+            Err(_) => return Err(FileFault::Memory),
+        }
+    }
+    Ok(channels)
+}
+
+/// The channel with sessions that the table is.
+fn channel(users: usize, table: &Table) -> Channel
+    requires { field_faults (session_rows users) (table_view table.now) ≡ [] }
+    ensures { HoldsChannel (table_view table.now) result }
+{
+    let [first, second] = accesses(value_in(table, Field::Access)).unwrap();
+    let [one, other] = limits(value_in(table, Field::Limit)).unwrap();
+    Channel {
+        number: channel_in(table, Field::Number),
+        non_volatile: ChannelAccess::new(first, one).unwrap(),
+        volatile: ChannelAccess::new(second, other).unwrap(),
+    }
+}
+
+/// The table that the value is.
+fn table_at(value: &Value) -> &Table
+    requires { is_table (view value.now) ≡ true }
+    ensures { table_view result.now ≡ table_of (view value.now) }
+{
+    value.as_table().unwrap()
+}
+
+/// Those of the channels that have sessions.
+fn channels_of(alloc: Global, users: usize, values: &[Value]) -> Result<Vec<Channel>, FileFault>
+    requires tables { list_all (λ value. is_table (view value)) values.now ≡ true }
+    requires sound { channel_faults users (map view values.now) ≡ [] }
+    ensures held { IfOk result (λ channels. AllZip IsChannelIn (with_sessions (map view values.now)) channels.items) }
+    ensures err { IfErr result (λ why. why ≡ FileFault.Memory) }
+{
+    let mut channels = Vec::new(alloc);
+    for value in values {
+        let table = table_at(value);
+        if has_sessions(table) {
+            match channels.push(channel(users, table)) {
+                Ok(()) => {}
+                Err(_) => return Err(FileFault::Memory),
+            }
+        }
+    }
+    Ok(channels)
+}
+
+/// The numbers of those that have none.
+fn sessionless_of(
+    alloc: Global,
+    users: usize,
+    values: &[Value],
+) -> Result<Vec<ChannelNumber>, FileFault>
+    requires tables { list_all (λ value. is_table (view value)) values.now ≡ true }
+    requires sound { channel_faults users (map view values.now) ≡ [] }
+    ensures held { IfOk result (λ channels. AllZip IsNumberIn (without_sessions (map view values.now)) channels.items) }
+    ensures err { IfErr result (λ why. why ≡ FileFault.Memory) }
+{
+    let mut channels = Vec::new(alloc);
+    for value in values {
+        let table = table_at(value);
+        if !has_sessions(table) {
+            match channels.push(channel_in(table, Field::Number)) {
+                Ok(()) => {}
+                Err(_) => return Err(FileFault::Memory),
+            }
+        }
+    }
+    Ok(channels)
+}
+
+/// What the user of this number may do on the channel, as the value says.
+fn access(channel: ChannelNumber, user: u8, value: &Value) -> UserAccess
+    requires user { user < 64 }
+    requires byte { may_do (view value.now) ≡ true }
+    ensures { parts_of result ≡ (channel.number, (user, or_zero (natural (view value.now)))) }
+{
+    let on = UserOnChannel {
+        channel,
+        user: UserNumber { number: user },
+    };
+    UserAccess::new(on, natural(value).unwrap() as u8).unwrap()
+}
+
+/// What users may do on the channel, as each of these values says.
+fn accesses_on(
+    alloc: Global,
+    channel: ChannelNumber,
+    values: &[Value],
+) -> Result<Vec<UserAccess>, FileFault>
+    requires few { length values.now ≤ 16 }
+    requires bytes { list_all (λ value. may_do (view value)) values.now ≡ true }
+    ensures held { IfOk result (λ accesses. map parts_of accesses.items ≡ on_channel channel.number 1 (map view values.now)) }
+    ensures err { IfErr result (λ why. why ≡ FileFault.Memory) }
+{
+    let mut accesses = Vec::new(alloc);
+    for (place, value) in values.iter().enumerate() {
+        match accesses.push(access(channel, place as u8 + 1, value)) {
+            Ok(()) => {}
+            Err(_) => return Err(FileFault::Memory),
+        }
+    }
+    Ok(accesses)
+}
+
+/// What users may do on the channels with sessions.
+fn accesses_of(alloc: Global, users: usize, values: &[Value]) -> Result<Vec<UserAccess>, FileFault>
+    requires tables { list_all (λ value. is_table (view value)) values.now ≡ true }
+    requires sound { channel_faults users (map view values.now) ≡ [] }
+    requires few { users ≤ 16 }
+    ensures held { IfOk result (λ accesses. map parts_of accesses.items ≡ accesses_in (with_sessions (map view values.now))) }
+    ensures err { IfErr result (λ why. why ≡ FileFault.Memory) }
+{
+    let mut accesses = Vec::new(alloc);
+    for value in values {
+        let table = table_at(value);
+        if has_sessions(table) {
+            let channel = channel_in(table, Field::Number);
+            let on = accesses_on(alloc, channel, members_in(table, Field::Users))?;
+            match accesses.extend_from_slice(on.as_slice()) {
+                Ok(()) => {}
+                Err(_) => return Err(FileFault::Memory),
+            }
+        }
+    }
+    Ok(accesses)
+}
+
+/// What a file says of channels: those with sessions, those without, and what users may do.
+#[derive(Drop)]
+pub struct FileChannels {
+    pub channels: Channels,
+    pub sessionless: SessionlessChannels,
+    pub accesses: UserAccesses,
+}
+
+/// The channels that these tables are.
+fn split(alloc: Global, users: usize, values: &[Value]) -> Result<FileChannels, FileFault>
+    requires tables { list_all (λ value. is_table (view value)) values.now ≡ true }
+    requires sound { channel_faults users (map view values.now) ≡ [] }
+    requires few { users ≤ 16 }
+    requires most { length values.now ≤ 8 }
+    requires differ { NamesDiffer (λ d. or_zero (number_in Field.Number (table_of d))) (map view values.now) }
+    ensures channels { IfOk result (λ file. AllZip IsChannelIn (with_sessions (map view values.now)) file.channels.items) }
+    ensures sessionless { IfOk result (λ file. AllZip IsNumberIn (without_sessions (map view values.now)) file.sessionless.items) }
+    ensures accesses { IfOk result (λ file. map parts_of file.accesses.items ≡ accesses_in (with_sessions (map view values.now))) }
+    ensures err { IfErr result (λ why. why ≡ FileFault.Memory) }
+{
+    let channels = channels_of(alloc, users, values)?;
+    let sessionless = sessionless_of(alloc, users, values)?;
+    let accesses = accesses_of(alloc, users, values)?;
+    Ok(FileChannels {
+        channels: Distinct::new(channels).unwrap(),
+        sessionless: Distinct::new(sessionless).unwrap(),
+        accesses: Distinct::new(accesses).unwrap(),
+    })
+}
+
+/// The channels that these tables are, or their first fault.
+fn channels_in(alloc: Global, users: usize, values: &[Value]) -> Result<FileChannels, FileFault>
+    requires tables { list_all (λ value. is_table (view value)) values.now ≡ true }
+    requires few { users ≤ 16 }
+    requires most { length values.now ≤ 8 }
+    ensures sound { IfOk result (λ _. channel_faults users (map view values.now) ≡ []) }
+    ensures channels { IfOk result (λ file. AllZip IsChannelIn (with_sessions (map view values.now)) file.channels.items) }
+    ensures sessionless { IfOk result (λ file. AllZip IsNumberIn (without_sessions (map view values.now)) file.sessionless.items) }
+    ensures accesses { IfOk result (λ file. map parts_of file.accesses.items ≡ accesses_in (with_sessions (map view values.now))) }
+    ensures err { IfErr result (λ why. (why ≡ FileFault.Memory) ⊎ (first (channel_faults users (map view values.now)) ≡ Some why)) }
+{
+    let _numbers = numbers_of(alloc, users, values)?;
+    split(alloc, users, values)
+}
+
+/// The channels of the file.
+pub fn file_channels(alloc: Global, tree: &Table) -> Result<FileChannels, FileFault>
+    requires { field_faults TOP (table_view tree.now) ≡ [] }
+    ensures sound { IfOk result (λ _. channel_faults (users_in (table_view tree.now)) (members_in Field.Channel (table_view tree.now)) ≡ []) }
+    ensures channels { IfOk result (λ file. AllZip IsChannelIn (with_sessions (members_in Field.Channel (table_view tree.now))) file.channels.items) }
+    ensures sessionless { IfOk result (λ file. AllZip IsNumberIn (without_sessions (members_in Field.Channel (table_view tree.now))) file.sessionless.items) }
+    ensures accesses { IfOk result (λ file. map parts_of file.accesses.items ≡ accesses_in (with_sessions (members_in Field.Channel (table_view tree.now)))) }
+    ensures err { IfErr result (λ why. (why ≡ FileFault.Memory) ⊎ (first (channel_faults (users_in (table_view tree.now)) (members_in Field.Channel (table_view tree.now))) ≡ Some why)) }
+{
+    let users = members_in(tree, Field::Users).len();
+    channels_in(alloc, users, members_in(tree, Field::Channel))
+}

@@ -1,0 +1,31 @@
+//! The first fault of the fields of an item of a board file.
+ghost use Rattle.std.specs.Prelude.{◌≡◌, [], Some, IfErr, OnOk, map};
+ghost use Rattle.toml.specs.View.{table_view};
+ghost use Rattle.text_fields.specs.Faults.{field_faults, first};
+ghost use Rattle.text_board.specs.Faults.{fault_at};
+
+use crate::fault::{FileFault, Item, Place};
+use text_fields::{FieldFault, Row, first_fault};
+use toml::Table;
+
+/// The fault, in an item of a board file.
+fn of_item(fault: FieldFault, item: Item) -> FileFault
+    ensures { result ≡ fault_at item fault }
+{
+    match fault {
+        FieldFault::Missing(field) => FileFault::Missing(Place { item, field }),
+        FieldFault::WrongType(field) => FileFault::WrongType(Place { item, field }),
+        FieldFault::Range(field) => FileFault::Range(Place { item, field }),
+    }
+}
+
+/// That the fields of an item of a board file have no fault, or else the first.
+pub fn check(item: Item, rows: &[Row], table: &Table) -> Result<(), FileFault>
+    ensures ok { OnOk result (field_faults rows.now (table_view table.now) ≡ []) }
+    ensures err { IfErr result (λ why. first (map (fault_at item) (field_faults rows.now (table_view table.now))) ≡ Some why) }
+{
+    match first_fault(rows, table) {
+        Some(fault) => Err(of_item(fault, item)),
+        None => Ok(()),
+    }
+}

@@ -1,0 +1,58 @@
+//! The words of a line, and what their names mean.
+ghost use Rattle.std.specs.Prelude.{◌≡◌, IfOk, map};
+ghost use Rattle.text_schedule.specs.Text.{lines_of, words_of, IsNumber};
+ghost use Rattle.text_schedule.specs.Line.{bus_name, call_name};
+ghost use Rattle.text_schedule.specs.Reads.{Finds};
+
+use crate::event::Call;
+use std::alloc::{AllocError, Global};
+use two_wire::Bus;
+
+/// The most digits of a frame's number.
+const MOST_DIGITS: usize = 9;
+
+/// The lines of a text.
+pub fn lines(alloc: Global, text: &str) -> Result<Vec<&str>, AllocError>
+    ensures { IfOk result (λ lines. map (λ x. x.now) lines.items ≡ lines_of text.now) }
+{
+    text.split('\n').collect(alloc)
+}
+
+/// The words of a line.
+pub fn words(alloc: Global, line: &str) -> Result<Vec<&str>, AllocError>
+    ensures { IfOk result (λ words. map (λ x. x.now) words.items ≡ words_of line.now) }
+{
+    line.split(' ').collect(alloc)
+}
+
+/// The call of this name.
+pub fn find_call(name: &str) -> Option<Call>
+    ensures { Finds (λ call. name.now ≡ call_name call) result }
+{
+    match name {
+        "start" => Some(Call::Start),
+        "quiet" => Some(Call::Quiet),
+        "stop" => Some(Call::Stop),
+        "again" => Some(Call::Again),
+        "undo" => Some(Call::Undo),
+        _ => None,
+    }
+}
+
+/// The bus of this name.
+pub fn find_bus(name: &str) -> Option<Bus>
+    ensures { Finds (λ bus. name.now ≡ bus_name bus) result }
+{
+    match name {
+        "ipmb" => Some(Bus::Ipmb),
+        "smbus" => Some(Bus::Smbus),
+        _ => None,
+    }
+}
+
+/// The frame's number in 1 to 9 decimal digits.
+pub fn frame_number(digits: &str) -> Option<u32>
+    ensures { Finds (IsNumber 9 digits.now) result }
+{
+    text_lines::number(digits, MOST_DIGITS)
+}

@@ -1,0 +1,147 @@
+//! Undo texts: the list of requests that undo a plan, as a file keeps it.
+ghost use Rattle.std.specs.Prelude.{◌≡◌, ◌⊎◌, ◌≤◌, ◌++◌, ℕ, Ok, Err, IfOk, IfErr, OnOk, length, map, reverse, string_bytes};
+ghost use Rattle.std.specs.List.{All, AllZip, flat_map};
+ghost use Rattle.text_lines.specs.Cuts.{ended};
+ghost use Rattle.std.specs.Vec.{vec_len};
+ghost use Rattle.undo_plans.specs.Steps.{most_steps};
+ghost use Rattle.text_undo.specs.UndoText.{IsPlain, IsRequestLine, AreLinesOf, Stands, IsFirstBad, IsFirstBadFrom, line_of, text_of};
+
+use crate::line::{first_numbers, first_request, push_request};
+use record_base::Asked;
+use std::alloc::{AllocError, Global};
+use std::fmt;
+use text_lines::behind;
+use undo_plans::{MOST_STEPS, NextNumbers, Requests, UndoList};
+
+/// Why a text is no undo text.
+#[derive(Clone, Copy, Debug, PartialEq, Eq)]
+pub enum UndoFault {
+    /// Memory ran out.
+    Memory,
+    /// The first bad line, counted from 1.
+    Line(usize),
+}
+
+/// The first line, and the line feed that ends it.
+const VERSION: &str = "undo 1\n";
+
+/// The most requests of a text.
+const MOST_REQUESTS: usize = MOST_STEPS;
+
+/// The number of the line of the first request.
+const FIRST_REQUEST: usize = 3;
+
+/// The text of the list, in upper case: what `read_undo` reads as that list, where each request is from nobody and to logical unit 0.
+pub fn write_undo(alloc: Global, list: &UndoList) -> Result<String, AllocError>
+    ensures text { IfOk result (λ text. string_bytes text ≡ text_of list.now) }
+    ensures stands { All IsPlain list.now.requests → IfOk result (λ text. Stands (string_bytes text) list.now) }
+{
+    let mut text = String::from_str(alloc, VERSION)?;
+    let ipmb = list.next.ipmb.number();
+    let smbus = list.next.smbus.number();
+    writeln!(text, "next ipmb {ipmb} smbus {smbus}")?;
+    push_requests(alloc, &mut text, &list.requests)?;
+    Ok(text)
+}
+
+/// Adds the lines of the requests, that of the last first.
+pub fn push_requests(
+    alloc: Global,
+    text: &mut String,
+    requests: &Requests,
+) -> Result<(), AllocError>
+    ensures text { OnOk result (string_bytes text.new ≡ string_bytes text.old ++ flat_map ended (map line_of (reverse requests.now))) }
+    ensures told { OnOk result (All IsPlain requests.now → AllZip IsRequestLine (map line_of (reverse requests.now)) (reverse requests.now)) }
+    ensures few { length requests.now ≤ most_steps }
+{
+    let mut place = requests.len();
+    while place > 0 {
+        place -= 1;
+        let asked = requests.get(place).unwrap();
+        push_request(alloc, text, asked)?;
+    }
+    Ok(())
+}
+
+/// The requests of these lines, in their order, or the number of the first bad line.
+fn read_requests(alloc: Global, text: &str) -> Result<Vec<Asked>, UndoFault>
+    ensures told { IfOk result (λ told. (vec_len told ≤ most_steps) × AreLinesOf text.now told.items) }
+    ensures fault { IfErr result (λ why. (why ≡ UndoFault.Memory) ⊎ ((n : ℕ) × (why ≡ UndoFault.Line n) × IsFirstBadFrom 3 text.now n)) }
+{
+    let mut told = Vec::new(alloc);
+    let mut rest = text;
+    while !rest.is_empty() {
+        let line = UndoFault::Line(FIRST_REQUEST + told.len());
+        if told.len() == MOST_REQUESTS {
+            return Err(line);
+        }
+        let Ok(found) = first_request(alloc, rest) else {
+            return Err(UndoFault::Memory);
+        };
+        let Some(parts) = found else {
+            return Err(line);
+        };
+        let (asked, behind) = parts;
+        if told.push(asked).is_err() {
+            return Err(UndoFault::Memory);
+        }
+        rest = behind;
+    }
+    Ok(told)
+}
+
+/// The requests in the order of the steps, which is not the order of their lines.
+fn in_order(alloc: Global, mut told: Vec<Asked>) -> Result<Requests, AllocError>
+    requires { vec_len told ≤ most_steps }
+    ensures { IfOk result (λ requests. requests ≡ reverse told.items) }
+{
+    let mut requests = Requests::new(alloc)?;
+    while let Some(asked) = told.pop() {
+        requests.push(asked);
+    }
+    Ok(requests)
+}
+
+/// The list of these next numbers and of the requests that were told.
+fn listed(alloc: Global, next: NextNumbers, told: Vec<Asked>) -> Result<UndoList, UndoFault>
+    requires { vec_len told ≤ most_steps }
+    ensures list { IfOk result (λ list. (list.next ≡ next) × (list.requests ≡ reverse told.items)) }
+    ensures fault { IfErr result (λ why. why ≡ UndoFault.Memory) }
+{
+    match in_order(alloc, told) {
+        Ok(requests) => Ok(UndoList { requests, next }),
+        Err(_) => Err(UndoFault::Memory),
+    }
+}
+
+/// The list that the text stands for, or its first bad line. A last line without a line feed is bad, and so is a line 1 or 2 that
+/// isn't there.
+pub fn read_undo(alloc: Global, text: &str) -> Result<UndoList, UndoFault>
+    ensures list { IfOk result (λ list. Stands text.now list) }
+    ensures fault { IfErr result (λ why. (why ≡ UndoFault.Memory) ⊎ ((n : ℕ) × (why ≡ UndoFault.Line n) × IsFirstBad text.now n)) }
+{
+    let Some(rest) = behind(VERSION, text) else {
+        return Err(UndoFault::Line(1));
+    };
+    let Some(found) = first_numbers(rest) else {
+        return Err(UndoFault::Line(2));
+    };
+    match read_requests(alloc, found.1) {
+        Ok(told) => listed(alloc, found.0, told),
+        Err(why) => Err(why),
+    }
+}
+
+impl fmt::Display for UndoFault {
+    ghost use Rattle.std.specs.Prelude.{Some};
+    ghost use Rattle.text_undo.specs.UndoNames.{undo_fault_name};
+
+    ghost output = { λ fault. Some (undo_fault_name fault) };
+
+    fn fmt<W: fmt::Write>(&self, f: &mut fmt::Formatter<W>) -> fmt::Result {
+        match self {
+            UndoFault::Memory => f.write_str("Memory"),
+            UndoFault::Line(line) => write!(f, "Line {line}"),
+        }
+    }
+}

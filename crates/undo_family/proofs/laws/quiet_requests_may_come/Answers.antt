@@ -1,9 +1,0 @@
-use Rattle.undo_family.proofs.laws.quiet_requests_may_come.Goals as goal
-use Rattle.undo_model.specs.TwoBuses.{in_messages, with_packets}
-use Rattle.undo_family.proofs.Board.{quiet_may}
-
-pub returns-clause-messages : goal.returns-clause-messages
-returns-clause-messages c setup at = quiet_may setup at (in_messages at)
-
-pub returns-clause-packets : goal.returns-clause-packets
-returns-clause-packets c setup at split = quiet_may setup at (with_packets at split)
