@@ -12,7 +12,7 @@ place_at places at = slice_index_or (slice_index_or places.tables at.0 []) at.1 
 
 -- the place in the tables for a key that has a slot, and in the map for any other
 abbrev pub place_in : Index → Option (ℕ × ℕ) → Key → Option ℕ
-place_in index (Some at) key = place_at index.sensors at
+place_in index (Some at) key = place_at index.sensors.value at
 place_in index None key = btree.get key_cmp index.others key
 
 -- the place of the key's record

@@ -15,10 +15,11 @@ struct SensorPlaces {
     tables: [[Option<usize>; 256]; SENSOR_KINDS],
 }
 
-/// For each key, the place of its record in a list. A sensor's records are found by its number, in one step.
+/// For each key, the place of its record in a list. A sensor's records are found by its number, in one step. Their tables lie in
+/// memory of their own, so that a board is moved without them.
 #[derive(Drop)]
 pub(crate) struct Index {
-    sensors: SensorPlaces,
+    sensors: Box<SensorPlaces>,
     others: BTreeMap<Key, usize>,
 }
 
@@ -46,12 +47,15 @@ fn put(table: &mut [Option<usize>; 256], sensor: u8, place: usize) -> Option<usi
 
 impl Index {
     /// No key has a place.
-    pub fn new(alloc: Global) -> Index
-        ensures { (key : AnyKey) → place_of result key ≡ None }
+    pub fn new(alloc: Global) -> Result<Index, AllocError>
+        ensures { IfOk result (λ index. (key : AnyKey) → place_of index key ≡ None) }
     {
-        Index {
-            sensors: SensorPlaces::new(),
-            others: BTreeMap::new(alloc),
+        match Box::new(alloc, SensorPlaces::new()) {
+            Ok(sensors) => Ok(Index {
+                sensors,
+                others: BTreeMap::new(alloc),
+            }),
+            Err(_) => Err(AllocError),
         }
     }
 

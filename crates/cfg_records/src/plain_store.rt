@@ -44,7 +44,9 @@ impl PlainStore {
         ensures bad { result ≡ Err StoreFault.BadValue → ¬ LengthsFit pairs.now }
     {
         let mut records = Vec::new(alloc);
-        let mut places = Index::new(alloc);
+        let Ok(mut places) = Index::new(alloc) else {
+            return Err(StoreFault::Memory);
+        };
         for (key, value) in pairs {
             match places.insert(*key, records.len()) {
                 Err(_) => return Err(StoreFault::Memory),

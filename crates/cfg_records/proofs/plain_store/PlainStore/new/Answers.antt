@@ -33,11 +33,11 @@ loop-key-preserved c =
     let was : (λ (key : Key). value_at before (places key)) ≡ records_of before = λ i key. c.loop-key.invariant.written key i in
     record {
       copied =
-          c.in-Ok.ensures.items
+          c.in-Ok-push.ensures.items
           ∙ ap (λ (ps : List Pair). let p : Pair = (pair.0, c.copy.result) in ps ++ p ∷ []) c.loop-key.invariant.copied
           ∙ ap (λ (v : List ℕ). let p : Pair = (pair.0, v) in before ++ p ∷ []) c.copy.ensures
           ∙ sym more;
-      counted = omega (arith, c.in-Ok.ensures.len, c.loop-key.invariant.counted);
+      counted = omega (arith, c.in-Ok-push.ensures.len, c.loop-key.invariant.counted);
       placed = subst (λ (ps : List Pair). ArePlaced ps places_then) (sym more) (placed_push before pair places places_then c.loop-key.invariant.placed added);
       written = λ key.
           ap (λ (ps : List Pair). value_at ps (places_then key)) more
