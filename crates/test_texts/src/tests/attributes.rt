@@ -1,102 +1,44 @@
 //! BIOS attributes: of board files, and of the steps of plans.
-use super::board::BARE;
-use super::story::{Form, are_alike, otherwise};
-use cfg_records::{
-    Attribute, AttributeKind, EnumerationAttribute, Indexes, IntegerAttribute, IntegerSteps,
-    StringAttribute, Text, TextLengths,
-};
-use std::alloc::Global;
+use super::story::expect_told;
 use std::test::Fail;
-use text_board::read_board;
 
-/// An attribute of each kind. No line stands in them twice but `[[attribute]]`, nor in the board above.
-const THREE: &str = r#"[[attribute]]
-name = "Boot"
-kind = "enumeration"
-values = ["disk", "net"]
-default = [0]
-current = [1]
-readonly = false
-[[attribute]]
-name = "Owner"
-kind = "string"
-string_type = 1
-least = 2
-most = 8
-default = "abcd"
-current = "rack-2"
-readonly = true
-[[attribute]]
-name = "Wait"
-kind = "integer"
-lower = 20
-upper = 300
-increment = 10
-default = 30
-current = 40
-readonly = false # each time
-"#;
+/// What boards and plans say of attributes.
+const ATTRIBUTES: &str = r#"
+file board
+with bare
+# An attribute of each kind. No line stands in them twice but `[[attribute]]`, nor in the board above.
++ [[attribute]]
++ name = "Boot"
++ kind = "enumeration"
++ values = ["disk", "net"]
++ default = [0]
++ current = [1]
++ readonly = false
++ [[attribute]]
++ name = "Owner"
++ kind = "string"
++ string_type = 1
++ least = 2
++ most = 8
++ default = "abcd"
++ current = "rack-2"
++ readonly = true
++ [[attribute]]
++ name = "Wait"
++ kind = "integer"
++ lower = 20
++ upper = 300
++ increment = 10
++ default = 30
++ current = 40
++ readonly = false # each time
 
-/// The first: an enumeration of two values, of which it is the second.
-fn boot(alloc: Global) -> Result<Attribute, Fail> {
-    let values = vec![in alloc; Text::from_slice(b"disk"), Text::from_slice(b"net")]?;
-    let kind = EnumerationAttribute::new(
-        values,
-        Indexes::from_slice(&[0]),
-        Indexes::from_slice(&[1]),
-    );
-    Ok(Attribute {
-        handle: 0,
-        name: Text::from_slice(b"Boot"),
-        read_only: false,
-        kind: AttributeKind::Enumeration(kind.ok_or("an enumeration")?),
-    })
-}
+# Names and texts are shown by their bytes: `Boot`, `disk` and `net`, `Owner`, `abcd` and `rack-2`, `Wait`.
+=> holds 1 attributes: Distinct { items: Items { items: [Attribute { handle: 0, name: Bytes { items: [66, 111, 111, 116] }, read_only: false, kind: Enumeration(EnumerationAttribute { values: Items { items: [Bytes { items: [100, 105, 115, 107] }, Bytes { items: [110, 101, 116] }] }, default: Bytes { items: [0] }, current: Bytes { items: [1] } }) }, Attribute { handle: 1,
+=> holds 1 }, Attribute { handle: 1, name: Bytes { items: [79, 119, 110, 101, 114] }, read_only: true, kind: Text(StringAttribute { string_type: 1, lengths: TextLengths { least: 2, most: 8 }, default: Bytes { items: [97, 98, 99, 100] }, current: Bytes { items: [114, 97, 99, 107, 45, 50] } }) }, Attribute { handle: 2,
+=> holds 1 }, Attribute { handle: 2, name: Bytes { items: [87, 97, 105, 116] }, read_only: false, kind: Integer(IntegerAttribute { steps: IntegerSteps { lower: 20, upper: 300, increment: 10 }, default: 30, current: 40 }) }] } }
 
-/// The second: a text that can only be read.
-fn owner() -> Option<Attribute> {
-    let lengths = TextLengths::new(2, 8)?;
-    let default = Text::from_slice(b"abcd");
-    let kind = StringAttribute::new(1, lengths, default, Text::from_slice(b"rack-2"))?;
-    Some(Attribute {
-        handle: 1,
-        name: Text::from_slice(b"Owner"),
-        read_only: true,
-        kind: AttributeKind::Text(kind),
-    })
-}
-
-/// The third: a number.
-fn wait() -> Option<Attribute> {
-    let steps = IntegerSteps {
-        lower: 20,
-        upper: 300,
-        increment: 10,
-    };
-    Some(Attribute {
-        handle: 2,
-        name: Text::from_slice(b"Wait"),
-        read_only: false,
-        kind: AttributeKind::Integer(IntegerAttribute::new(steps, 30, 40)?),
-    })
-}
-
-#[test]
-fn attributes_of_a_file_are_the_boards(rt: HostRuntime) -> Result<(), Fail> {
-    let alloc = rt.alloc();
-    let text = [BARE, THREE].concat(alloc)?;
-    let read = read_board(alloc, text.as_str())?;
-    let want = [
-        boot(alloc)?,
-        owner().ok_or("a text")?,
-        wait().ok_or("a number")?,
-    ];
-    assert!(rt; are_alike(alloc, &read.attributes.items.as_slice(), &want)?);
-    Ok(())
-}
-
-/// Each field left out, of another type, just beyond its range and just inside, and more.
-const CASES: &str = r#"
+# Each field left out, of another type, just beyond its range and just inside, and more.
 at values = ["disk", "net"]
 => Missing attribute 0 values
 values = ["disk", 1] => WrongType attribute 0 values
@@ -219,19 +161,11 @@ readonly = false\n[[attribute]] => Missing attribute 1 name
 # Two of an enumeration's values can be its present ones.
 at current = [1]
 current = [1, 0] => holds 1 default: Bytes { items: [0] }, current: Bytes { items: [1, 0] }
-"#;
 
-#[test]
-fn fields_of_attributes(rt: HostRuntime) -> Result<(), Fail> {
-    assert_eq!(rt;
-        otherwise(rt.alloc(), Form::Board, &[BARE, THREE], CASES)?.as_str(),
-        ""
-    );
-    Ok(())
-}
+# Attributes beside other items, how many there are, and how long their texts are.
+file board
+with bare
 
-/// Attributes beside other items, how many there are, and how long their texts are.
-const ITEMS: &str = r#"
 # Attributes come between channels and state effecters.
 at tid = 5
 tid = 5 | attribute = []\ntid = 5 => reads
@@ -263,34 +197,25 @@ name = "a"\nkind = "string"\nstring_type = 0\nleast = 0\nmost = 200\ndefault = "
 behind
 [[attribute]]\nname = "Groups"\nkind = "enumeration"\nvalues = ["0", "1", "2", "3", "4", "5", "6", "7", "8", "9", "10", "11", "12", "13", "14", "15"]\ndefault = [15]\ncurrent = [15, 14, 13, 12, 11, 10, 9, 8, 7, 6, 5, 4, 3, 2, 1, 0]\nreadonly = false => holds 19 Bytes {
 [[attribute]]\nname = "Groups"\nkind = "enumeration"\nvalues = ["0", "1", "2", "3", "4", "5", "6", "7", "8", "9", "10", "11", "12", "13", "14", "15"]\ndefault = [15]\ncurrent = [15, 14, 13, 12, 11, 10, 9, 8, 7, 6, 5, 4, 3, 2, 1, 0]\nreadonly = false => holds 1 default: Bytes { items: [15] }, current: Bytes { items: [15, 14, 13, 12, 11, 10, 9, 8, 7, 6, 5, 4, 3, 2, 1, 0] }
-"#;
 
-#[test]
-fn attributes_of_a_board(rt: HostRuntime) -> Result<(), Fail> {
-    assert_eq!(rt;
-        otherwise(rt.alloc(), Form::Board, &[BARE], ITEMS)?.as_str(),
-        ""
-    );
-    Ok(())
-}
+# A step for each form of a value. No line stands in it twice but `[[step]]` and the kind's.
+file plan
++ [[step]]
++ kind = "bios-attribute"
++ handle = 7
++ indexes = [3]
++ [[step]]
++ kind = "bios-attribute"
++ handle = 8
++ text = "rack-1"
++ [[step]]
++ kind = "bios-attribute"
++ handle = 9
++ number = 30
 
-/// A step for each form of a value. No line stands in it twice but `[[step]]` and the kind's.
-pub const FORMS: &str = r#"[[step]]
-kind = "bios-attribute"
-handle = 7
-indexes = [3]
-[[step]]
-kind = "bios-attribute"
-handle = 8
-text = "rack-1"
-[[step]]
-kind = "bios-attribute"
-handle = 9
-number = 30
-"#;
+=> 3: smbus 0307<4:00>050700000103\nsmbus 0307<4:00>0508000106007261636B2D31\nsmbus 0307<4:00>050900031E<7:00>
 
-/// Each field left out, of another type, just beyond its range and just inside. A step that gives no value lacks the indexes.
-const FORM_CASES: &str = r#"
+# Each field left out, of another type, just beyond its range and just inside. A step that gives no value lacks the indexes.
 at handle = 7
 => 0 Missing handle
 handle = "7" => 0 WrongType handle
@@ -312,19 +237,10 @@ at number = 30
 number = "30" | number = 30.0 => 2 WrongType number
 number = -1 | number = -9223372036854775808 | number = -2 | number = -300 => 2 Range number
 number = 0 | number = 9223372036854775807 | number = 1 | number = 0x100000000 => reads
-"#;
 
-#[test]
-fn fields_of_steps_on_attributes(rt: HostRuntime) -> Result<(), Fail> {
-    assert_eq!(rt;
-        otherwise(rt.alloc(), Form::Plan, &[FORMS], FORM_CASES)?.as_str(),
-        ""
-    );
-    Ok(())
-}
+# Steps on the value of an attribute.
+file plan
 
-/// Steps on the value of an attribute.
-const STEPS: &str = r#"
 behind [[step]]\nkind = "bios-attribute"\n
 handle = 1 | handle = 65536 => 0 Missing indexes
 => 0 Missing handle
@@ -373,7 +289,6 @@ number = 9223372036854775807 => 3: smbus 0307<4:00>05050103<7:FF>7F
 "#;
 
 #[test]
-fn steps_on_attributes(rt: HostRuntime) -> Result<(), Fail> {
-    assert_eq!(rt; otherwise(rt.alloc(), Form::Plan, &[], STEPS)?.as_str(), "");
-    Ok(())
+fn attributes_are_read(rt: HostRuntime) -> Result<(), Fail> {
+    expect_told(&rt, rt.alloc(), ATTRIBUTES)
 }

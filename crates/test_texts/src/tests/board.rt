@@ -1,130 +1,14 @@
-//! Board files: the sample board, its own fields, its device and its sensors.
-use super::story::{Form, are_alike, ends_read, otherwise};
-use cfg_records::sample_board;
+//! Board files: the fields of a board, of its device and of its sensors.
+use super::story::expect_told;
 use std::test::Fail;
-use text_board::{FileFault, Item, Place, read_board};
-use text_fields::Field;
 
-/// The sample board.
-const SAMPLE: &str = r#"tid = 5
-clock = 0
-log = 2
-enables = 0x08
-policy = 1
-users = ["", "admin"]
-watchdog = [0, 0, 0, 0]
-boot3 = 0
-boot4 = 0
-boot5 = [0, 0, 0, 0, 0]
-sdr = ["010051C00100"]
-[device]
-id = 0x20
-revision = 1
-major = 1
-minor = 0x05
-support = 0x07
-manufacturer = 0xABCD
-product = 0x1234
-[[sensor]]
-number = 5
-type = 1
-readable = 0x3F
-settable = 0x3F
-thresholds = [0x14, 0x0A, 0x05, 0x50, 0x5F, 0x6E]
-hysteresis = [2, 2]
-supported = 0xFFF
-flags = 0xC0
-assert = 0x200
-deassert = 0
-[[sensor]]
-number = 7
-type = 4
-readable = 0x18
-settable = 0x38
-thresholds = [0, 0, 0, 0x90, 0xA0, 0xB0]
-hysteresis = [0, 0]
-supported = 0xFC0
-flags = 0
-assert = 0
-deassert = 0
-[[channel]]
-number = 1
-sessions = true
-access = [2, 2]
-limit = [4, 4]
-users = [0x14, 0x14]
-[[attribute]]
-name = "Quiet"
-kind = "enumeration"
-values = ["off", "on"]
-default = [0]
-current = [0]
-readonly = false
-[[attribute]]
-name = "Asset"
-kind = "string"
-string_type = 1
-least = 0
-most = 200
-default = ""
-current = "rack-1"
-readonly = false
-[[attribute]]
-name = "Delay"
-kind = "integer"
-lower = 0
-upper = 300
-increment = 10
-default = 30
-current = 30
-readonly = false
-"#;
+/// What boards say of themselves, of their devices and of sensors.
+const BOARDS: &str = r#"
+# The sample board. Each field left out, of another type, just beyond its range and just inside, and more. The line of `deassert` is each
+# sensor's.
+file board
+with sample
 
-/// A board without sensors, channels, attributes and effecters.
-pub const BARE: &str = r#"tid = 5
-clock = 0
-log = 2
-enables = 0x08
-policy = 1
-users = [""]
-watchdog = [0, 0, 0, 0]
-boot3 = 0
-boot4 = 0
-boot5 = [0, 0, 0, 0, 0]
-sdr = []
-[device]
-id = 0x20
-revision = 1
-major = 1
-minor = 0x05
-support = 0x07
-manufacturer = 0xABCD
-product = 0x1234
-"#;
-
-#[test]
-fn the_sample_file_holds_the_sample_board(rt: HostRuntime) -> Result<(), Fail> {
-    let read = read_board(rt.alloc(), SAMPLE)?;
-    let known = sample_board(rt.alloc())?;
-    assert!(rt; are_alike(rt.alloc(), &read, &known)?);
-    Ok(())
-}
-
-#[test]
-fn a_fault_names_its_place(rt: HostRuntime) -> Result<(), Fail> {
-    let place = Place {
-        item: Item::Top,
-        field: Field::Clock,
-    };
-    match read_board(rt.alloc(), "tid = 5") {
-        Ok(_) => Err("a board")?,
-        Err(fault) => assert_eq!(rt; fault, FileFault::Missing(place)),
-    }
-    Ok(())
-}
-
-/// Each field left out, of another type, just beyond its range and just inside, and more. The line of `deassert` is each sensor's.
-const CASES: &str = r#"
 at tid = 5
 => Missing top tid
 tid = true => WrongType top tid
@@ -304,38 +188,27 @@ flags = 0xC0 => holds 2 messages: true, scanning: true
 # The hysteresis for rising thresholds comes first, and that for falling ones second.
 at hysteresis = [2, 2]
 hysteresis = [3, 1] => holds 1 Hysteresis { positive: 3, negative: 1 }
-"#;
 
-#[test]
-fn fields_of_a_board_a_device_and_sensors(rt: HostRuntime) -> Result<(), Fail> {
-    assert_eq!(rt;
-        otherwise(rt.alloc(), Form::Board, &[SAMPLE], CASES)?.as_str(),
-        ""
-    );
-    Ok(())
-}
+# Of the prefixes those are read whose last table has each field that it needs: with the device's last number cut to 0, 0x1, 0x12, 0x123 or
+# whole, and with the channel, with the last line feed and without.
+file board
+with bare
+until users = [""] -> users = ["", "admin"] => reads
+until sdr = [] -> sdr = ["010051C00100"] => reads
++ [[channel]]
++ number = 15
++ sessions = false
+ends reads => 268 270 271 272 273 274 314 315
 
-/// How many sensors a board has at most.
-const COUNTS: &str = r#"
+# How many sensors a board has at most.
+file board
+with bare
 => holds 0 Sensor {
 <32:[[sensor]]\nnumber = #\ntype = 1\nreadable = 0\nsettable = 0\nthresholds = [0, 0, 0, 0, 0, 0]\nhysteresis = [0, 0]\nsupported = 0\nflags = 0\nassert = 0\ndeassert = 0\n> => holds 32 Sensor {
 <33:[[sensor]]\nnumber = #\ntype = 1\nreadable = 0\nsettable = 0\nthresholds = [0, 0, 0, 0, 0, 0]\nhysteresis = [0, 0]\nsupported = 0\nflags = 0\nassert = 0\ndeassert = 0\n> => Range top sensor
 "#;
 
 #[test]
-fn a_board_has_at_most_32_sensors(rt: HostRuntime) -> Result<(), Fail> {
-    assert_eq!(rt;
-        otherwise(rt.alloc(), Form::Board, &[BARE], COUNTS)?.as_str(),
-        ""
-    );
-    Ok(())
-}
-
-#[test]
-fn each_prefix_is_read_or_refused(rt: HostRuntime) -> Result<(), Fail> {
-    // The shortest that has each field that a file needs ends with `product = 0x1`.
-    let shortest = SAMPLE.get(..268).ok_or("a prefix")?;
-    let ends = ends_read(rt.alloc(), Form::Board, shortest)?;
-    assert_eq!(rt; ends.as_str(), "268 ");
-    Ok(())
+fn boards_are_read(rt: HostRuntime) -> Result<(), Fail> {
+    expect_told(&rt, rt.alloc(), BOARDS)
 }

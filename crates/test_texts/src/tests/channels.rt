@@ -1,77 +1,30 @@
 //! Users and channels of board files.
-use super::board::BARE;
-use super::story::{Form, are_alike, otherwise};
-use cfg_records::{Channel, ChannelAccess, ChannelNumber, UserAccess, UserOnChannel};
+use super::story::expect_told;
 use std::test::Fail;
-use text_board::read_board;
 
-/// A board of two users, without sensors, channels and effecters.
-const HEAD: &str = r#"tid = 5
-clock = 0
-log = 2
-enables = 0x08
-policy = 1
-users = ["", "admin"]
-watchdog = [0, 0, 0, 0]
-boot3 = 0
-boot4 = 0
-boot5 = [0, 0, 0, 0, 0]
-sdr = []
-[device]
-id = 0x20
-revision = 1
-major = 1
-minor = 0x05
-support = 0x07
-manufacturer = 0xABCD
-product = 0x1234
-"#;
+/// What boards say of users and channels.
+const CHANNELS: &str = r#"
+file board
+with bare
+# A board of two users.
+until users = [""] -> users = ["", "admin"] => reads
+# A channel with sessions, and one without. No line stands in them twice but `[[channel]]`.
++ [[channel]]
++ number = 1
++ sessions = true
++ access = [2, 0x3B]
++ limit = [4, 5]
++ users = [0x14, 0x2F]
++ [[channel]]
++ number = 15
++ sessions = false
 
-/// A channel with sessions, and one without. No line stands in them twice but `[[channel]]`.
-const TWO: &str = r#"[[channel]]
-number = 1
-sessions = true
-access = [2, 0x3B]
-limit = [4, 5]
-users = [0x14, 0x2F]
-[[channel]]
-number = 15
-sessions = false
-"#;
+=> holds 1 channels: Distinct { items: Items { items: [Channel { number: ChannelNumber { number: 1 }, non_volatile: ChannelAccess { access: 2, limit: 4 }, volatile: ChannelAccess { access: 59, limit: 5 } }] } }
+=> holds 1 sessionless: Distinct { items: Items { items: [ChannelNumber { number: 15 }] } }
+# 14h is 20, and 2Fh is 47.
+=> holds 1 user_accesses: Distinct { items: Items { items: [UserAccess { on: UserOnChannel { channel: ChannelNumber { number: 1 }, user: UserNumber { number: 1 } }, byte: 20 }, UserAccess { on: UserOnChannel { channel: ChannelNumber { number: 1 }, user: UserNumber { number: 2 } }, byte: 47 }] } }
 
-/// The first of the channels.
-fn first_channel() -> Option<Channel> {
-    Some(Channel {
-        number: ChannelNumber::of(1),
-        non_volatile: ChannelAccess::new(2, 4)?,
-        volatile: ChannelAccess::new(0x3B, 5)?,
-    })
-}
-
-/// What the two users may do on it.
-fn accesses() -> Option<[UserAccess; 2]> {
-    Some([
-        UserAccess::new(UserOnChannel::of(1, 1), 0x14)?,
-        UserAccess::new(UserOnChannel::of(1, 2), 0x2F)?,
-    ])
-}
-
-#[test]
-fn channels_of_a_file_are_the_boards(rt: HostRuntime) -> Result<(), Fail> {
-    let alloc = rt.alloc();
-    let text = [HEAD, TWO].concat(alloc)?;
-    let read = read_board(alloc, text.as_str())?;
-    let channel = first_channel().ok_or("a channel")?;
-    assert!(rt; are_alike(alloc, &read.channels.items.as_slice(), &[channel])?);
-    let sessionless = [ChannelNumber::of(15)];
-    assert!(rt; are_alike(alloc, &read.sessionless.items.as_slice(), &sessionless)?);
-    let accesses = accesses().ok_or("accesses")?;
-    assert!(rt; are_alike(alloc, &read.user_accesses.items.as_slice(), &accesses)?);
-    Ok(())
-}
-
-/// Each field left out, of another type, just beyond its range and just inside, and more.
-const CASES: &str = r#"
+# Each field left out, of another type, just beyond its range and just inside, and more.
 at number = 1
 => Missing channel 0 number
 number = true => WrongType channel 0 number
@@ -117,19 +70,10 @@ at number = 15
 number = 1\nadded = 1\n[[channel]] => Missing channel 1 sessions
 at sessions = false
 sessions = false\n[[channel]]\nnumber = 1\nsessions = false => Twice channel 2 number
-"#;
 
-#[test]
-fn fields_of_channels(rt: HostRuntime) -> Result<(), Fail> {
-    assert_eq!(rt;
-        otherwise(rt.alloc(), Form::Board, &[HEAD, TWO], CASES)?.as_str(),
-        ""
-    );
-    Ok(())
-}
-
-/// Channels come between sensors and effecters.
-const AROUND: &str = r#"
+# Channels come between sensors and effecters.
+file board
+with bare
 at tid = 5
 channel = []\ntid = 5 => reads
 channel = 1\ntid = 5 => WrongType top channel
@@ -139,19 +83,10 @@ channel = [{}]\nsensor = [{number = 1}]\ntid = 5 => Missing sensor 0 type
 channel = [{}]\nnumeric = [{id = 1}]\ntid = 5 => Missing channel 0 number
 sensor = 1\nchannel = 1\ntid = 5 => WrongType top sensor
 numeric = 1\nchannel = 1\ntid = 5 => WrongType top channel
-"#;
 
-#[test]
-fn channels_come_between_sensors_and_effecters(rt: HostRuntime) -> Result<(), Fail> {
-    assert_eq!(rt;
-        otherwise(rt.alloc(), Form::Board, &[HEAD], AROUND)?.as_str(),
-        ""
-    );
-    Ok(())
-}
-
-/// How many users and channels a board has at most, on each of which each user may do the same.
-const COUNTS: &str = r#"
+# How many users and channels a board has at most, on each of which each user may do the same.
+file board
+with bare
 at users = [""]
 users = [""<16:, "user #">]\nchannel = [<8:{number = #, sessions = true, access = [2, 2], limit = [4, 4], users = [20, 20, 20, 20, 20, 20, 20, 20, 20, 20, 20, 20, 20, 20, 20, 20, 20]}, >] => Range top users
 users = [""<15:, "user #">]\nchannel = [<9:{number = #, sessions = true, access = [2, 2], limit = [4, 4], users = [20, 20, 20, 20, 20, 20, 20, 20, 20, 20, 20, 20, 20, 20, 20, 20]}, >] => Range top channel
@@ -165,10 +100,6 @@ behind
 "#;
 
 #[test]
-fn a_board_has_at_most_16_users_and_8_channels(rt: HostRuntime) -> Result<(), Fail> {
-    assert_eq!(rt;
-        otherwise(rt.alloc(), Form::Board, &[BARE], COUNTS)?.as_str(),
-        ""
-    );
-    Ok(())
+fn channels_are_read(rt: HostRuntime) -> Result<(), Fail> {
+    expect_told(&rt, rt.alloc(), CHANNELS)
 }

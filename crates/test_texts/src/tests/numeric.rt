@@ -1,49 +1,31 @@
 //! Numeric effecters: of board files, and of the steps of plans.
-use super::board::BARE;
-use super::story::{Form, are_alike, otherwise};
-use cfg_records::{NumericEffecter, NumericRange, NumericSize};
+use super::story::expect_told;
 use std::test::Fail;
-use text_board::read_board;
 
-/// Two numeric effecters. No line stands in them twice but `[[numeric]]`, nor in the board above.
-const TWO: &str = r#"[[numeric]]
-id = 4
-size = 2
-operational = 1
-lower = 0
-upper = 1000
-current = 500
-[[numeric]]
-id = 5
-size = 1
-operational = 2
-lower = -2
-upper = 1
-current = -1
-"#;
+/// What boards and plans say of numeric effecters.
+const NUMERIC: &str = r#"
+file board
+with bare
+# Two numeric effecters. No line stands in them twice but `[[numeric]]`, nor in the board above.
++ [[numeric]]
++ id = 4
++ size = 2
++ operational = 1
++ lower = 0
++ upper = 1000
++ current = 500
++ [[numeric]]
++ id = 5
++ size = 1
++ operational = 2
++ lower = -2
++ upper = 1
++ current = -1
 
-/// The two effecters: -2 to 1, and -1, in two's complement.
-fn effecters() -> Option<[NumericEffecter; 2]> {
-    let first = NumericRange::new(NumericSize::U16, 0, 1000)?;
-    let second = NumericRange::new(NumericSize::S8, 0xFE, 1)?;
-    Some([
-        NumericEffecter::new(4, true, first, 500)?,
-        NumericEffecter::new(5, false, second, 0xFF)?,
-    ])
-}
+# -2 to 1, and -1, are shown by their bits, in two's complement.
+=> holds 1 numeric_effecters: Distinct { items: Items { items: [NumericEffecter { id: 4, enabled: true, range: NumericRange { size: U16, lower: 0, upper: 1000 }, current: 500 }, NumericEffecter { id: 5, enabled: false, range: NumericRange { size: S8, lower: 254, upper: 1 }, current: 255 }] } }
 
-#[test]
-fn numeric_effecters_of_a_file_are_the_boards(rt: HostRuntime) -> Result<(), Fail> {
-    let alloc = rt.alloc();
-    let text = [BARE, TWO].concat(alloc)?;
-    let read = read_board(alloc, text.as_str())?;
-    let want = effecters().ok_or("effecters")?;
-    assert!(rt; are_alike(alloc, &read.numeric_effecters.items.as_slice(), &want)?);
-    Ok(())
-}
-
-/// Each field left out, of another type, just beyond its range and just inside, and more.
-const CASES: &str = r#"
+# Each field left out, of another type, just beyond its range and just inside, and more.
 at id = 4
 => Missing numeric 0 id
 id = 4.0 => WrongType numeric 0 id
@@ -126,19 +108,11 @@ at current = -1
 current = -1\n[[numeric]]\nid = 4 => Missing numeric 2 size
 at id = 5
 id = 4\n[[numeric]] => Missing numeric 1 size
-"#;
 
-#[test]
-fn fields_of_numeric_effecters(rt: HostRuntime) -> Result<(), Fail> {
-    assert_eq!(rt;
-        otherwise(rt.alloc(), Form::Board, &[BARE, TWO], CASES)?.as_str(),
-        ""
-    );
-    Ok(())
-}
+# Numeric effecters beside other items, how many there are, and the numbers of each size.
+file board
+with bare
 
-/// Numeric effecters beside other items, how many there are, and the numbers of each size.
-const ITEMS: &str = r#"
 # Numeric effecters come behind all else.
 at tid = 5
 tid = 5 | numeric = []\ntid = 5 => reads
@@ -176,19 +150,10 @@ size = 4\nlower = -1\nupper = 0\ncurrent = 0 => Range numeric 0 lower
 size = 4\nlower = 0\nupper = 4294967296\ncurrent = 4294967296 => Range numeric 0 upper
 size = 5\nlower = -2147483649\nupper = 0\ncurrent = 0 => Range numeric 0 lower
 size = 5\nlower = 0\nupper = 2147483648\ncurrent = 2147483648 => Range numeric 0 upper
-"#;
 
-#[test]
-fn numeric_effecters_of_a_board(rt: HostRuntime) -> Result<(), Fail> {
-    assert_eq!(rt;
-        otherwise(rt.alloc(), Form::Board, &[BARE], ITEMS)?.as_str(),
-        ""
-    );
-    Ok(())
-}
+# Steps on the value of an effecter.
+file plan
 
-/// Steps on the value of an effecter.
-const STEPS: &str = r#"
 behind [[step]]\nkind = "numeric-effecter"\neffecter = 261\n
 size = 0\nvalue = 256 | size = 0\nvalue = -1 | size = 1\nvalue = 128 | size = 1\nvalue = -129 | size = 2\nvalue = 65536 => 0 Range value
 size = 3\nvalue = -32769 | size = 4\nvalue = 4294967296 | size = 5\nvalue = 2147483648 | size = 5\nvalue = -2147483649 => 0 Range value
@@ -211,7 +176,6 @@ size = 5\nvalue = -1 => 3: smbus 0231050105<4:FF>
 "#;
 
 #[test]
-fn steps_on_numbers(rt: HostRuntime) -> Result<(), Fail> {
-    assert_eq!(rt; otherwise(rt.alloc(), Form::Plan, &[], STEPS)?.as_str(), "");
-    Ok(())
+fn numeric_effecters_are_read(rt: HostRuntime) -> Result<(), Fail> {
+    expect_told(&rt, rt.alloc(), NUMERIC)
 }

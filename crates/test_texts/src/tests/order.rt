@@ -1,31 +1,31 @@
 //! A board file and a plan in which all is wrong. The faults come in the order of the tables of both formats, as each is mended, one after
 //! the other: in each table first all that are missing, then those of another type, then those out of their ranges.
-use super::story::{Form, otherwise};
+use super::story::expect_told;
 use std::test::Fail;
 
-/// A board file that lacks each field, but for five that are of another type.
-const BOARD: &str = r#"# tid
-# clock
-# log
-# enables
-# policy
-# users
-# watchdog
-# boot3
-# boot4
-# boot5
-# sdr
-# device
-sensor = 1
-channel = 1
-attribute = 1
-state = 1
-numeric = 1
-# items
-"#;
+/// A board file that lacks each field, but for five that are of another type, and a plan whose own fields are of other types: what the
+/// fault of each is, until a line is mended.
+const MENDED: &str = r#"
+file board
++ # tid
++ # clock
++ # log
++ # enables
++ # policy
++ # users
++ # watchdog
++ # boot3
++ # boot4
++ # boot5
++ # sdr
++ # device
++ sensor = 1
++ channel = 1
++ attribute = 1
++ state = 1
++ numeric = 1
++ # items
 
-/// What its fault is, until a line is mended.
-const MENDED_BOARD: &str = r#"
 # The file's own fields: all that are missing, then those of another type, then those out of their ranges.
 until # tid -> tid = true => Missing top tid
 until # clock -> clock = 0.5 => Missing top clock
@@ -272,24 +272,11 @@ until id = 5 # again -> id = 7 => Twice numeric 1 id
 => holds 4 Attribute { handle:
 => holds 2 StateEffecter {
 => holds 2 NumericEffecter {
-"#;
 
-#[test]
-fn faults_of_a_board_come_in_the_order_of_the_tables(rt: HostRuntime) -> Result<(), Fail> {
-    assert_eq!(rt;
-        otherwise(rt.alloc(), Form::Board, &[BOARD], MENDED_BOARD)?.as_str(),
-        ""
-    );
-    Ok(())
-}
+file plan
++ retries = true
++ step = 1
 
-/// A plan whose own fields are of other types.
-const PLAN: &str = r#"retries = true
-step = 1
-"#;
-
-/// What its fault is, until a line is mended.
-const MENDED_PLAN: &str = r#"
 # The plan's own fields: those of another type, those out of their ranges, and too many steps.
 until retries = true -> retries = 16 => WrongType retries
 until step = 1 -> step = [<257:{}, >] => WrongType step
@@ -473,10 +460,6 @@ until limit = 6 -> limit = 5 => 12 Range limit
 "#;
 
 #[test]
-fn faults_of_a_plan_come_in_the_order_of_the_tables(rt: HostRuntime) -> Result<(), Fail> {
-    assert_eq!(rt;
-        otherwise(rt.alloc(), Form::Plan, &[PLAN], MENDED_PLAN)?.as_str(),
-        ""
-    );
-    Ok(())
+fn faults_come_in_the_order_of_the_tables(rt: HostRuntime) -> Result<(), Fail> {
+    expect_told(&rt, rt.alloc(), MENDED)
 }

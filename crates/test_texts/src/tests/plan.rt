@@ -1,206 +1,62 @@
 //! Plans: what they hold, and their faults.
-use super::attributes::FORMS;
-use super::story::{Form, are_alike, ends_read, otherwise};
-use super::users::USERS;
-use cfg_records::{
-    AccessStore, BootChange, ChannelChange, ChannelNumber, EventChange, EventMasks, FieldChange,
-    FieldChanges, MaskedBits, NumericBytes, Op, SetBiosAttribute, SetBootParam, SetChannelAccess,
-    SetEventEnable, SetGlobalEnables, SetHysteresis, SetNumericEffecter, SetPowerPolicy,
-    SetStateEffecter, SetThresholds, SetUserAccess, SetUserName, SetWatchdog, SixBits,
-};
-use plan_file::{NoGet, OutsidePlan, PlanFault, StepFault, read_plan};
-use std::alloc::Global;
+use super::story::expect_told;
 use std::test::Fail;
-use undo_plans::Plan;
 
-/// A step of each kind, but for users, channels, BIOS attributes and state effecters. No line stands in it twice but `[[step]]`.
-const PLAN: &str = r#"[[step]]
-kind = "thresholds"
-sensor = 5
-lnc = 1
-lc = 2
-lnr = 3
-unc = 4
-uc = 5
-unr = 6
-[[step]]
-kind = "hysteresis"
-sensor = 6
-positive = 7
-negative = 8
-[[step]]
-kind = "event-enable"
-sensor = 9
-messages = true
-scanning = false
-select = "enable"
-assert = [7, 9, 7]
-deassert = [0, 11]
-[[step]]
-kind = "watchdog"
-use = 3
-no_log = true
-action = 1
-interrupt = 2
-pre = 10
-initial = 3000
-[[step]]
-kind = "power-policy"
-policy = 2
-[[step]]
-kind = "global-enables"
-value = 0x08
-[[step]]
-kind = "boot-param"
-param = 4
-invalid = false
-data = [3, 1]
-[[step]]
-kind = "numeric-effecter"
-effecter = 261
-size = 2
-value = 1000
-"#;
+/// What plans say.
+const PLANS: &str = r#"
+# A step of each kind, but for users, channels, BIOS attributes and state effecters. No line stands in it twice but `[[step]]`.
+file plan
++ [[step]]
++ kind = "thresholds"
++ sensor = 5
++ lnc = 1
++ lc = 2
++ lnr = 3
++ unc = 4
++ uc = 5
++ unr = 6
++ [[step]]
++ kind = "hysteresis"
++ sensor = 6
++ positive = 7
++ negative = 8
++ [[step]]
++ kind = "event-enable"
++ sensor = 9
++ messages = true
++ scanning = false
++ select = "enable"
++ assert = [7, 9, 7]
++ deassert = [0, 11]
++ [[step]]
++ kind = "watchdog"
++ use = 3
++ no_log = true
++ action = 1
++ interrupt = 2
++ pre = 10
++ initial = 3000
++ [[step]]
++ kind = "power-policy"
++ policy = 2
++ [[step]]
++ kind = "global-enables"
++ value = 0x08
++ [[step]]
++ kind = "boot-param"
++ param = 4
++ invalid = false
++ data = [3, 1]
++ [[step]]
++ kind = "numeric-effecter"
++ effecter = 261
++ size = 2
++ value = 1000
 
-/// A step on states of an effecter.
-const STATES: &str = r#"[[step]]
-kind = "state-effecter"
-effecter = 261
-states = [2, -1, 7]
-"#;
+# Each step is one request: network function and command, and the data.
+=> 3: ipmb 1026053F010203040506\nipmb 102406FF0708\nipmb 1028099080020108\nipmb 182483210A00B80B\nipmb 000602\nipmb 182E08\nipmb 0008040301\nsmbus 0231050102E803
 
-/// The steps of the plan, but for users, channels, BIOS attributes and state effecters.
-fn plain_steps() -> [Op; 8] {
-    [
-        Op::Thresholds(SetThresholds {
-            sensor: 5,
-            mask: 0x3F,
-            values: [1, 2, 3, 4, 5, 6],
-        }),
-        Op::Hysteresis(SetHysteresis {
-            sensor: 6,
-            positive: 7,
-            negative: 8,
-        }),
-        Op::EventEnable(SetEventEnable {
-            sensor: 9,
-            messages: true,
-            scanning: false,
-            change: EventChange::Enable(EventMasks {
-                assertions: 0x280,
-                deassertions: 0x801,
-            }),
-        }),
-        Op::Watchdog(SetWatchdog {
-            timer_use: 0x83,
-            actions: 0x21,
-            pre_timeout: 10,
-            flags_to_clear: 0,
-            initial: 3000,
-        }),
-        Op::PowerPolicy(SetPowerPolicy { policy: 2 }),
-        Op::GlobalEnables(SetGlobalEnables { byte: 0x08 }),
-        Op::BootParam(SetBootParam {
-            invalid: false,
-            change: BootChange::InfoAcknowledge(MaskedBits { mask: 3, bits: 1 }),
-        }),
-        Op::NumericEffecter(SetNumericEffecter {
-            effecter: 261,
-            size: 2,
-            value: NumericBytes::Two(0xE8, 0x03),
-        }),
-    ]
-}
-
-/// The steps on users and channels.
-fn user_steps() -> [Op; 3] {
-    [
-        Op::UserName(SetUserName {
-            user: 2,
-            name: *b"operator\0\0\0\0\0\0\0\0",
-        }),
-        // Bit 7: bits 6:4 change. Bit 6 is callback, bit 4 messages.
-        Op::UserAccess(SetUserAccess {
-            first: 0xD1,
-            user: 3,
-            limit: 4,
-            session_limit: None,
-        }),
-        Op::ChannelAccess(SetChannelAccess {
-            channel: ChannelNumber::of(6),
-            store: AccessStore::Volatile,
-            change: ChannelChange::Both(SixBits::of(0x2B), SixBits::of(5)),
-        }),
-    ]
-}
-
-/// The steps on BIOS attributes, and the one on states.
-fn other_steps() -> [Op; 4] {
-    let mut changes = FieldChanges::new();
-    changes.push(FieldChange {
-        choice: 1,
-        state: 2,
-    });
-    changes.push(FieldChange {
-        choice: 0,
-        state: 0,
-    });
-    changes.push(FieldChange {
-        choice: 1,
-        state: 7,
-    });
-    [
-        Op::BiosAttribute(SetBiosAttribute::of(7, 0x00, &[1, 3])),
-        Op::BiosAttribute(SetBiosAttribute::of(8, 0x01, b"\x06\x00rack-1")),
-        Op::BiosAttribute(SetBiosAttribute::of(9, 0x03, &[30, 0, 0, 0, 0, 0, 0, 0])),
-        Op::StateEffecter(SetStateEffecter {
-            effecter: 261,
-            changes,
-        }),
-    ]
-}
-
-/// The plan of these steps.
-fn plan_of(alloc: Global, text: &str) -> Result<Plan, Fail> {
-    Ok(read_plan(alloc, text)?)
-}
-
-#[test]
-fn each_kind_is_read(rt: HostRuntime) -> Result<(), Fail> {
-    let alloc = rt.alloc();
-    let plan = plan_of(alloc, PLAN)?;
-    assert_eq!(rt; plan.retries.number(), 3);
-    assert!(rt; are_alike(alloc, &plan.steps.as_slice(), &plain_steps())?);
-    let plan = plan_of(alloc, USERS)?;
-    assert!(rt; are_alike(alloc, &plan.steps.as_slice(), &user_steps())?);
-    let text = [FORMS, STATES].concat(alloc)?;
-    let plan = plan_of(alloc, text.as_str())?;
-    assert!(rt; are_alike(alloc, &plan.steps.as_slice(), &other_steps())?);
-    Ok(())
-}
-
-#[test]
-fn a_fault_names_its_step(rt: HostRuntime) -> Result<(), Fail> {
-    for (text, fault) in [
-        (
-            "[[step]]\nkind = \"clock\"\n",
-            StepFault::OutsidePlan(OutsidePlan::Clock),
-        ),
-        (
-            "step = [{kind = \"watchdog\", flags_clear = 0}]",
-            StepFault::NoGet(NoGet::FlagsClear),
-        ),
-    ] {
-        match read_plan(rt.alloc(), text) {
-            Ok(_) => Err("a plan")?,
-            Err(found) => assert_eq!(rt; found, PlanFault::Step(0, fault)),
-        }
-    }
-    Ok(())
-}
-
-/// Each field left out, of another type, just beyond its range and just inside, and more. No threshold is needed.
-const CASES: &str = r#"
+# Each field left out, of another type, just beyond its range and just inside, and more. No threshold is needed.
 at sensor = 5
 => 0 Missing sensor
 sensor = true => 0 WrongType sensor
@@ -334,19 +190,10 @@ at no_log = true
 no_log = 0 => 3 WrongType no_log
 => 3 Missing no_log
 no_log = false => reads
-"#;
 
-#[test]
-fn fields_of_steps(rt: HostRuntime) -> Result<(), Fail> {
-    assert_eq!(rt;
-        otherwise(rt.alloc(), Form::Plan, &[PLAN], CASES)?.as_str(),
-        ""
-    );
-    Ok(())
-}
+# Whole plans, and steps of which a part is told.
+file plan
 
-/// Whole plans, and steps of which a part is told.
-const PLANS: &str = r#"
 # How often the frames of a request are sent again: 3 times where a plan doesn't say it.
 => 3:
 retries = 0 => 0:
@@ -420,24 +267,17 @@ param = 5 => 3: ipmb 000885
 # Two steps on thresholds: the mask is of those that a step gives.
 behind [[step]]\nkind = "thresholds"\nsensor = 5\nunc = 0x4B\nuc = 0x5A\n
 [[step]]\nkind = "thresholds"\nsensor = 5\nuc = 0x5C\nunr = 0x64 => 3: ipmb 102605180000004B5A00\nipmb 10260530000000005C64
+
+# A plan of one step, of which six prefixes are plans.
+file plan
++ retries = 15
++ [[step]]
++ kind = "power-policy"
++ policy = 2
+ends reads => 0 11 12 13 54 55
 "#;
 
 #[test]
-fn plans_and_steps(rt: HostRuntime) -> Result<(), Fail> {
-    assert_eq!(rt; otherwise(rt.alloc(), Form::Plan, &[], PLANS)?.as_str(), "");
-    Ok(())
-}
-
-/// A plan of one step, of which six prefixes are plans.
-const SHORT: &str = r#"retries = 15
-[[step]]
-kind = "power-policy"
-policy = 2
-"#;
-
-#[test]
-fn each_prefix_is_read_or_refused(rt: HostRuntime) -> Result<(), Fail> {
-    let ends = ends_read(rt.alloc(), Form::Plan, SHORT)?;
-    assert_eq!(rt; ends.as_str(), "0 11 12 13 54 55 ");
-    Ok(())
+fn plans_are_read(rt: HostRuntime) -> Result<(), Fail> {
+    expect_told(&rt, rt.alloc(), PLANS)
 }

@@ -1,75 +1,36 @@
 //! The lines of schedules, good and bad.
-use super::story::{Form, otherwise};
+use super::story::expect_told;
 use std::test::Fail;
-use text_schedule::{Call, Event, OtherMessage, OtherRequest, ScheduleFault, read_schedule};
-use two_wire::Bus;
 
-/// An event of each form.
-const EACH: &str = "# what others do
-start
-to-bmc 0
-to-mgr 007
-noise ipmb ff
+/// What schedules say.
+const SCHEDULES: &str = r#"
+# An event of each form. The first digits of `2a07` are the function of number 10 on logical unit 2, and the last the sequence number 1 of
+# logical unit 3.
+file schedule
++ # what others do
++ start
++ to-bmc 0
++ to-mgr 007
++ noise ipmb ff
++
++ noise smbus 00aB
++ idle ipmb 2C
++ idle smbus 08
++ scan 05 60
++ tick
++ other smbus 0B 01800002
++ other ipmb 40 2a074205fF
 
-noise smbus 00aB
-idle ipmb 2C
-idle smbus 08
-scan 05 60
-tick
-other smbus 0B 01800002
-other ipmb 40 2a074205fF
-";
+=> Schedule { events: [Calls(Start), ToBmc(0), ToMgr(7), Noise(Ipmb, Octets { items: [255] }), Noise(Smbus, Octets { items: [0, 171] }), Idle(Ipmb, 44), Idle(Smbus, 8), Scan { sensor: 5, reading: 96 }, Tick, OtherSmbus(OtherMessage { from: 11, body: Octets { items: [1, 128, 0, 2] } }), OtherIpmb(OtherRequest { requester: Party { address: Address { byte: 64 }, lun: Below { number: 3 } }, responder: Below { number: 2 }, net_fn: NetFn { number: 10 }, sequence: Below { number: 1 }, command: 66, body: Bytes { items: [5, 255] } })] }
 
-#[test]
-fn each_event_is_read(rt: HostRuntime) -> Result<(), Fail> {
-    let schedule = read_schedule(rt.alloc(), EACH)?;
-    let [
-        Event::Calls(Call::Start),
-        Event::ToBmc(0),
-        Event::ToMgr(7),
-        Event::Noise(Bus::Ipmb, short),
-        Event::Noise(Bus::Smbus, long),
-        Event::Idle(Bus::Ipmb, 0x2C),
-        Event::Idle(Bus::Smbus, 0x08),
-        Event::Scan {
-            sensor: 5,
-            reading: 0x60,
-        },
-        Event::Tick,
-        Event::OtherSmbus(OtherMessage { from: 0x0B, body }),
-        Event::OtherIpmb(
-            OtherRequest {
-                requester,
-                responder,
-                net_fn,
-                sequence,
-                command: 0x42,
-                body: asked,
-            },
-        ),
-    ] = schedule.as_slice()
-    else {
-        return Err("other events")?;
-    };
-    assert_eq!(rt; short.as_slice(), &[0xFF][..]);
-    assert_eq!(rt; long.as_slice(), &[0x00, 0xAB][..]);
-    assert_eq!(rt; body.as_slice(), &[0x01, 0x80, 0x00, 0x02][..]);
-    assert_eq!(rt; requester.address.byte(), 0x40);
-    assert_eq!(rt; requester.lun.number(), 3);
-    assert_eq!(rt; responder.number(), 2);
-    assert_eq!(rt; net_fn.number(), 10);
-    assert_eq!(rt; sequence.number(), 1);
-    assert_eq!(rt; asked.as_slice(), &[0x05, 0xFF][..]);
-    Ok(())
-}
+# Schedules, good and bad.
+file schedule
 
-/// Schedules, good and bad.
-const CASES: &str = r#"
 # The calls of the manager. The last line needs no line feed.
-start\nquiet\nstop\nagain\nundo => [Calls(Start), Calls(Quiet), Calls(Stop), Calls(Again), Calls(Undo)]
+start\nquiet\nstop\nagain\nundo => Schedule { events: [Calls(Start), Calls(Quiet), Calls(Stop), Calls(Again), Calls(Undo)] }
 
 # Frames have numbers of at most nine digits.
-to-bmc 0\nto-mgr 007\nto-bmc 999999999 => [ToBmc(0), ToMgr(7), ToBmc(999999999)]
+to-bmc 0\nto-mgr 007\nto-bmc 999999999 => Schedule { events: [ToBmc(0), ToMgr(7), ToBmc(999999999)] }
 
 # Bad lines are named.
 stat => Line 1
@@ -107,28 +68,28 @@ scan 05 => Line 1
 tick 1 => Line 1
 behind # a comment\n
 \nstart\nhalt\nstop => Line 4
+
+# Each prefix is read, or refused at its last line.
+file schedule
++ # a run
++ start
++ to-bmc 0
++ to-mgr 1
++ other ipmb 40 280042
++ noise smbus FF
++ idle smbus 08
++ scan 05 60
+ends reads => 0 1 2 3 4 5 6 7 8 13 14 22 23 31 32 52 53 67 68 81 82 92 93
+ends Line 2 => 9 10 11 12
+ends Line 3 => 15 16 17 18 19 20 21
+ends Line 4 => 24 25 26 27 28 29 30
+ends Line 5 => 33 34 35 36 37 38 39 40 41 42 43 44 45 46 47 48 49 50 51
+ends Line 6 => 54 55 56 57 58 59 60 61 62 63 64 65 66
+ends Line 7 => 69 70 71 72 73 74 75 76 77 78 79 80
+ends Line 8 => 83 84 85 86 87 88 89 90 91
 "#;
 
 #[test]
-fn lines_good_and_bad(rt: HostRuntime) -> Result<(), Fail> {
-    assert_eq!(rt;
-        otherwise(rt.alloc(), Form::Schedule, &[], CASES)?.as_str(),
-        ""
-    );
-    Ok(())
-}
-
-#[test]
-fn each_prefix_is_read_or_refused_at_its_last_line(rt: HostRuntime) -> Result<(), Fail> {
-    let text =
-        "# a run\nstart\nto-bmc 0\nto-mgr 1\nother ipmb 40 280042\nnoise smbus FF\nidle smbus 08\nscan 05 60\n";
-    for end in 0..text.len() {
-        let prefix = text.get(..end).ok_or("no prefix")?;
-        let line = prefix.split('\n').count();
-        match read_schedule(rt.alloc(), prefix) {
-            Ok(schedule) => assert!(rt; schedule.as_slice().len() < line),
-            Err(fault) => assert_eq!(rt; fault, ScheduleFault::Line(line)),
-        }
-    }
-    Ok(())
+fn schedules_are_read(rt: HostRuntime) -> Result<(), Fail> {
+    expect_told(&rt, rt.alloc(), SCHEDULES)
 }

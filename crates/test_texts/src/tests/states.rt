@@ -1,47 +1,26 @@
 //! State effecters: of board files, and of the steps of plans.
-use super::board::BARE;
-use super::story::{Form, are_alike, otherwise};
-use cfg_records::{Items, StateEffecter, StateField};
-use std::alloc::Global;
+use super::story::expect_told;
 use std::test::Fail;
-use text_board::read_board;
 
-/// Two state effecters. No line stands in them twice but `[[state]]`, nor in the board above.
-const TWO: &str = r#"[[state]]
-id = 4
-operational = 1
-states = [[1, 2, 255], [7]]
-current = [2, 7]
-[[state]]
-id = 5
-operational = 2
-states = [[0]]
-current = [0]
-"#;
+/// What boards and plans say of state effecters.
+const STATES: &str = r#"
+file board
+with bare
+# Two state effecters. No line stands in them twice but `[[state]]`, nor in the board above.
++ [[state]]
++ id = 4
++ operational = 1
++ states = [[1, 2, 255], [7]]
++ current = [2, 7]
++ [[state]]
++ id = 5
++ operational = 2
++ states = [[0]]
++ current = [0]
 
-/// A field that can be in these states, and is in that.
-fn field(alloc: Global, allowed: &[u8], current: u8) -> Result<StateField, Fail> {
-    let allowed = Items::new(allowed.to_vec(alloc)?);
-    Ok(StateField::new(allowed, current).ok_or("a field")?)
-}
+=> holds 1 state_effecters: Distinct { items: Items { items: [StateEffecter { id: 4, enabled: true, fields: Items { items: [StateField { allowed: Items { items: [1, 2, 255] }, current: 2 }, StateField { allowed: Items { items: [7] }, current: 7 }] } }, StateEffecter { id: 5, enabled: false, fields: Items { items: [StateField { allowed: Items { items: [0] }, current: 0 }] } }] } }
 
-#[test]
-fn state_effecters_of_a_file_are_the_boards(rt: HostRuntime) -> Result<(), Fail> {
-    let alloc = rt.alloc();
-    let text = [BARE, TWO].concat(alloc)?;
-    let read = read_board(alloc, text.as_str())?;
-    let first = vec![in alloc; field(alloc, &[1, 2, 255], 2)?, field(alloc, &[7], 7)?]?;
-    let second = vec![in alloc; field(alloc, &[0], 0)?]?;
-    let want = [
-        StateEffecter::new(4, true, first).ok_or("the first")?,
-        StateEffecter::new(5, false, second).ok_or("the second")?,
-    ];
-    assert!(rt; are_alike(alloc, &read.state_effecters.items.as_slice(), &want)?);
-    Ok(())
-}
-
-/// Each field left out, of another type, just beyond its range and just inside, and more.
-const CASES: &str = r#"
+# Each field left out, of another type, just beyond its range and just inside, and more.
 at id = 4
 => Missing state 0 id
 id = 4.0 => WrongType state 0 id
@@ -105,19 +84,11 @@ at current = [0]
 current = [0]\n[[state]]\nid = 4 => Missing state 2 operational
 current = [0]\n[[state]]\nid = 4\noperational = 1\nstates = [[0]]\ncurrent = [1] => Range state 2 current
 current = [0]\n[[state]]\nid = 4\noperational = 1\nstates = [[0]]\ncurrent = [0]\n[[state]] => Twice state 2 id
-"#;
 
-#[test]
-fn fields_of_state_effecters(rt: HostRuntime) -> Result<(), Fail> {
-    assert_eq!(rt;
-        otherwise(rt.alloc(), Form::Board, &[BARE, TWO], CASES)?.as_str(),
-        ""
-    );
-    Ok(())
-}
+# State effecters beside other items, how many there are, and how many fields and states.
+file board
+with bare
 
-/// State effecters beside other items, how many there are, and how many fields and states.
-const ITEMS: &str = r#"
 # State effecters come between channels and numeric effecters.
 at tid = 5
 tid = 5 | state = []\ntid = 5 => reads
@@ -147,19 +118,10 @@ behind [[state]]\nid = 9\noperational = 1\nstates =
  [<9:[1, 2], >]\ncurrent = [<9:2, >] => Range state 0 states
  [[<256:7, >]]\ncurrent = [7] => reads
  [[<257:7, >]]\ncurrent = [7] => Range state 0 states
-"#;
 
-#[test]
-fn state_effecters_of_a_board(rt: HostRuntime) -> Result<(), Fail> {
-    assert_eq!(rt;
-        otherwise(rt.alloc(), Form::Board, &[BARE], ITEMS)?.as_str(),
-        ""
-    );
-    Ok(())
-}
+# Steps on the states of an effecter.
+file plan
 
-/// Steps on the states of an effecter.
-const STEPS: &str = r#"
 behind [[step]]\nkind = "state-effecter"\n
 effecter = 0\nstates = [0] | effecter = 65535\nstates = [0] => reads
 effecter = 65536\nstates = [0] | effecter = -1\nstates = [0] => 0 Range effecter
@@ -182,7 +144,6 @@ behind [[step]]\nkind = "state-effecter"\neffecter = 261\nstates =
 "#;
 
 #[test]
-fn steps_on_states(rt: HostRuntime) -> Result<(), Fail> {
-    assert_eq!(rt; otherwise(rt.alloc(), Form::Plan, &[], STEPS)?.as_str(), "");
-    Ok(())
+fn state_effecters_are_read(rt: HostRuntime) -> Result<(), Fail> {
+    expect_told(&rt, rt.alloc(), STATES)
 }

@@ -1,32 +1,9 @@
-//! Stories of texts: a file, and what comes of it with other lines.
-use bmc_play::read_inputs;
-use cfg_records::{Op, RecordKind};
-use plan_file::read_plan;
-use record_kinds::Limits;
+//! Stories of texts: files, and what comes of each with other lines.
+use super::came::{Form, came_of};
+use super::files::{BARE, SAMPLE};
 use std::alloc::{AllocError, Global};
-use std::fmt::Debug;
-use text_board::read_board;
-use text_schedule::read_schedule;
-use text_undo::{push_requests, read_undo, write_undo};
-use undo_plans::{Plan, Requests};
-
-/// What a text is of.
-#[derive(Clone, Copy, PartialEq, Eq)]
-pub enum Form {
-    Board,
-    Plan,
-    Undo,
-    Schedule,
-    /// A board file, a plan and a schedule, with a line `---` before the second and the third.
-    Play,
-}
-
-/// What comes of a text: what is read, as text, or what its fault is called.
-#[derive(Drop)]
-enum Came {
-    Read(String),
-    Refused(String),
-}
+use std::process::Abort;
+use std::test::Fail;
 
 /// Where the other lines of a story stand.
 #[derive(Clone, Copy)]
@@ -37,112 +14,8 @@ enum Place<'s> {
     Behind(&'s str),
 }
 
-/// A board file shows all that it says, as Rust writes it.
-fn came_of_board(alloc: Global, text: &str) -> Result<Came, AllocError> {
-    match read_board(alloc, text) {
-        Ok(board) => Ok(Came::Read(format!(in alloc; "{board:?}")?)),
-        Err(fault) => Ok(Came::Refused(format!(in alloc; "{fault}")?)),
-    }
-}
-
-/// Adds the line of a step's request, as an undo text has it.
-fn push_step(alloc: Global, text: &mut String, step: &Op) -> Result<(), AllocError> {
-    let mut requests = Requests::new(alloc)?;
-    requests.push(Limits::set_asked(step));
-    push_requests(alloc, text, &requests)
-}
-
-/// How often the plan's frames are sent again, and the requests of its steps, a line each.
-fn shown(alloc: Global, plan: &Plan) -> Result<String, AllocError> {
-    let mut text = format!(in alloc; "{}: ", plan.retries.number())?;
-    for step in plan.steps.as_slice() {
-        push_step(alloc, &mut text, step)?;
-    }
-    String::from_str(alloc, text.as_str().trim_end())
-}
-
-/// A plan shows what is sent.
-fn came_of_plan(alloc: Global, text: &str) -> Result<Came, AllocError> {
-    match read_plan(alloc, text) {
-        Ok(plan) => Ok(Came::Read(shown(alloc, &plan)?)),
-        Err(fault) => Ok(Came::Refused(format!(in alloc; "{fault}")?)),
-    }
-}
-
-/// An undo text shows what is written of its list.
-fn came_of_undo(alloc: Global, text: &str) -> Result<Came, AllocError> {
-    match read_undo(alloc, text) {
-        Ok(list) => Ok(Came::Read(write_undo(alloc, &list)?)),
-        Err(fault) => Ok(Came::Refused(format!(in alloc; "{fault}")?)),
-    }
-}
-
-/// A schedule shows its events, as Rust writes them.
-fn came_of_schedule(alloc: Global, text: &str) -> Result<Came, AllocError> {
-    match read_schedule(alloc, text) {
-        Ok(schedule) => Ok(Came::Read(format!(in alloc; "{:?}", schedule.as_slice())?)),
-        Err(fault) => Ok(Came::Refused(format!(in alloc; "{fault}")?)),
-    }
-}
-
-/// The three texts of a play, of which the first two end with `---`.
-fn three(text: &str) -> Option<(&str, &str, &str)> {
-    let (board, others) = text.split_once("---\n")?;
-    let (plan, schedule) = others.split_once("---\n")?;
-    Some((board, plan, schedule))
-}
-
-/// The texts of a play show what Rust writes of them.
-fn came_of_play(alloc: Global, text: &str) -> Result<Came, AllocError> {
-    let (board, plan, schedule) = three(text).unwrap_or((text, "", ""));
-    match read_inputs(alloc, board, plan, schedule) {
-        Ok(inputs) => Ok(Came::Read(format!(in alloc; "{inputs:?}")?)),
-        Err(fault) => Ok(Came::Refused(format!(in alloc; "{fault}")?)),
-    }
-}
-
-/// What comes of a text of this form.
-fn came_of(alloc: Global, form: Form, text: &str) -> Result<Came, AllocError> {
-    match form {
-        Form::Board => came_of_board(alloc, text),
-        Form::Plan => came_of_plan(alloc, text),
-        Form::Undo => came_of_undo(alloc, text),
-        Form::Schedule => came_of_schedule(alloc, text),
-        Form::Play => came_of_play(alloc, text),
-    }
-}
-
-/// Whether the text has a part exactly so often as the words say: a number, and the part.
-fn holds(text: &str, words: &str) -> bool {
-    match words.split_once(' ') {
-        Some((times, part)) => times.parse() == Ok(text.matches(part).count()),
-        None => false,
-    }
-}
-
-impl Came {
-    /// Whether it is what the story tells.
-    fn is(&self, told: &str) -> bool {
-        match self {
-            Came::Refused(name) => name.as_str() == told,
-            Came::Read(text) => match told.strip_prefix("holds ") {
-                Some(words) => holds(text.as_str(), words),
-                None => told == "reads" || text.as_str() == told,
-            },
-        }
-    }
-
-    /// It, as a line of a story tells it.
-    fn text(&self) -> &str {
-        match self {
-            Came::Refused(name) => name.as_str(),
-            Came::Read(text) => text.as_str(),
-        }
-    }
-}
-
 /// The count, the part and the rest of `N:PART>REST`.
-fn repetition(piece: &str) -> Option<(u16, &str, &str)> {
+fn repetition(piece: &str) -> Option<(usize, &str, &str)> {
     let (inside, rest) = piece.split_once('>')?;
     let (times, part) = inside.split_once(':')?;
     Some((times.parse().ok()?, part, rest))
@@ -174,6 +47,16 @@ fn written(alloc: Global, words: &str) -> Result<String, AllocError> {
     Ok(text)
 }
 
+/// Whether the file has this line.
+fn has_line(file: &str, line: &str) -> bool {
+    for held in file.lines() {
+        if held == line {
+            return true;
+        }
+    }
+    false
+}
+
 /// The file with other lines in the place of each line that is this.
 fn edited(alloc: Global, file: &str, old: &str, new: &str) -> Result<String, AllocError> {
     let new = written(alloc, new)?;
@@ -185,14 +68,26 @@ fn edited(alloc: Global, file: &str, old: &str, new: &str) -> Result<String, All
     Ok(text)
 }
 
+/// How long the prefixes of the text are of which this comes, from the shortest on, with a space behind each.
+fn ends_of(alloc: Global, form: Form, text: &str, told: &str) -> Result<String, AllocError> {
+    let mut ends = String::new(alloc);
+    for end in 0..=text.len() {
+        if let Some(prefix) = text.get(..end) {
+            if came_of(alloc, form, prefix)?.is(told) {
+                write!(ends, "{end} ")?;
+            }
+        }
+    }
+    Ok(ends)
+}
+
 /// A story that is played.
 #[derive(Drop)]
 struct Player<'s> {
-    form: Form,
     /// The file as it stands.
     file: String,
     place: Place<'s>,
-    /// Whether nothing was told yet.
+    /// Whether nothing was told of the file yet.
     is_silent: bool,
     /// What came otherwise than told, a line each.
     otherwise: String,
@@ -212,34 +107,49 @@ impl<'s> Player<'s> {
         }
     }
 
-    /// Of the text comes what is told.
+    /// Of the text with these lines comes what is told.
     fn hear(
         &mut self,
         alloc: Global,
-        lines: &str,
+        form: Form,
+        (lines, told): (&str, &str),
         text: &str,
-        told: &str,
     ) -> Result<(), AllocError> {
         self.is_silent = false;
-        let came = came_of(alloc, self.form, text)?;
+        let came = came_of(alloc, form, text)?;
         if !came.is(told) {
-            writeln!(self.otherwise, "{lines} => {}", came.text())?;
+            writeln!(self.otherwise, "{lines} => {}", came.text.as_str())?;
         }
         Ok(())
     }
 
     /// With each of the lines there comes what is told.
-    fn hear_each(&mut self, alloc: Global, each: &str, told: &str) -> Result<(), AllocError> {
+    fn hear_each(
+        &mut self,
+        alloc: Global,
+        form: Form,
+        (each, told): (&str, &str),
+    ) -> Result<(), AllocError> {
         let told = written(alloc, told)?;
         for lines in each.split(" | ") {
             let text = self.whole(alloc, lines)?;
-            self.hear(alloc, lines, text.as_str(), told.as_str())?;
+            self.hear(alloc, form, (lines, told.as_str()), text.as_str())?;
         }
         Ok(())
     }
 
+    /// The line can't be read.
+    fn refuse(&mut self, line: &str) -> Result<(), AllocError> {
+        writeln!(self.otherwise, "{line} is no line of a story")
+    }
+
     /// Of the file comes what is told, until other lines stand in a line's place.
-    fn mend(&mut self, alloc: Global, edit: &str, told: &str) -> Result<(), AllocError> {
+    fn mend(
+        &mut self,
+        alloc: Global,
+        form: Form,
+        (edit, told): (&str, &str),
+    ) -> Result<(), AllocError> {
         let Some((old, new)) = edit.split_once(" -> ") else {
             return self.refuse(edit);
         };
@@ -250,105 +160,154 @@ impl<'s> Player<'s> {
         }
         let told = written(alloc, told)?;
         let file = std::mem::replace(&mut self.file, mended);
-        self.hear(alloc, edit, file.as_str(), told.as_str())
+        self.hear(alloc, form, (edit, told.as_str()), file.as_str())
     }
 
-    /// The line can't be read.
-    fn refuse(&mut self, line: &str) -> Result<(), AllocError> {
-        writeln!(self.otherwise, "{line} is no line of a story")
+    /// Of the file's prefixes of the told lengths comes this, and of no others.
+    fn measure(
+        &mut self,
+        alloc: Global,
+        form: Form,
+        (what, told): (&str, &str),
+    ) -> Result<(), AllocError> {
+        self.is_silent = false;
+        let ends = ends_of(alloc, form, self.file.as_str(), what)?;
+        let ends = ends.as_str().trim_end();
+        if ends != told {
+            writeln!(self.otherwise, "ends {what} => {ends}")?;
+        }
+        Ok(())
     }
 
     /// The lines below stand in the place of this one.
     fn go(&mut self, line: &'s str) -> Result<(), AllocError> {
         self.place = Place::At(line);
-        if self.file.as_str().lines().any(|held| held == line) {
+        if has_line(self.file.as_str(), line) {
             return Ok(());
         }
         writeln!(self.otherwise, "{line} is no line of the file")
     }
 
-    /// Plays a line.
-    fn play(&mut self, alloc: Global, line: &'s str) -> Result<(), AllocError> {
-        if line.is_empty() || line.starts_with('#') {
-            return Ok(());
+    /// The file gets the lines of the board that is called so.
+    fn add_board(&mut self, name: &str) -> Result<(), AllocError> {
+        match name {
+            "bare" => self.file.push_str(BARE),
+            "sample" => self.file.push_str(SAMPLE),
+            _ => self.refuse(name),
         }
-        if let Some(old) = line.strip_prefix("at ") {
-            return self.go(old);
+    }
+
+    /// A file begins. Of the one before something was told.
+    fn begin(&mut self, alloc: Global) -> Result<(), AllocError> {
+        self.end()?;
+        self.file = String::new(alloc);
+        self.place = Place::Behind("");
+        self.is_silent = true;
+        Ok(())
+    }
+
+    /// Something was told of the file.
+    fn end(&mut self) -> Result<(), AllocError> {
+        if self.is_silent {
+            self.otherwise.push_str("nothing is told\n")?;
         }
-        if let Some(head) = line.strip_prefix("behind") {
-            self.place = Place::Behind(head.trim_start());
-            return Ok(());
-        }
+        Ok(())
+    }
+
+    /// Plays a line that tells what comes.
+    fn tell(&mut self, alloc: Global, form: Form, line: &str) -> Result<(), AllocError> {
         if let Some(told) = line.strip_prefix("=> ") {
-            return self.hear_each(alloc, "", told);
+            return self.hear_each(alloc, form, ("", told));
         }
         let Some((lines, told)) = line.split_once(" => ") else {
             return self.refuse(line);
         };
-        match lines.strip_prefix("until ") {
-            Some(edit) => self.mend(alloc, edit, told),
-            None => self.hear_each(alloc, lines, told),
+        if let Some(edit) = lines.strip_prefix("until ") {
+            return self.mend(alloc, form, (edit, told));
+        }
+        match lines.strip_prefix("ends ") {
+            Some(what) => self.measure(alloc, form, (what, told)),
+            None => self.hear_each(alloc, form, (lines, told)),
+        }
+    }
+
+    /// Plays a line of a file of this form.
+    fn play(&mut self, alloc: Global, form: Form, line: &'s str) -> Result<(), AllocError> {
+        let (word, rest) = line.split_once(' ').unwrap_or((line, ""));
+        match word {
+            "+" => writeln!(self.file, "{rest}"),
+            "with" => self.add_board(rest),
+            "at" => self.go(rest),
+            "behind" => {
+                self.place = Place::Behind(rest);
+                Ok(())
+            }
+            _ => self.tell(alloc, form, line),
         }
     }
 }
 
-/// What comes otherwise than the story tells it of a text of this form, whose file is these parts: a line each, and nothing where all
-/// comes so. A line of a story is one of these:
+/// Plays a line, and gives the form of the file behind it.
+fn play<'s>(
+    alloc: Global,
+    player: &mut Player<'s>,
+    form: Option<Form>,
+    line: &'s str,
+) -> Result<Option<Form>, AllocError> {
+    if line.is_empty() || line.starts_with('#') {
+        return Ok(form);
+    }
+    if let Some(name) = line.strip_prefix("file ") {
+        if form.is_some() {
+            player.begin(alloc)?;
+        }
+        let begun = Form::of(name);
+        if begun.is_none() {
+            player.refuse(line)?;
+        }
+        return Ok(begun);
+    }
+    match form {
+        Some(form) => player.play(alloc, form, line)?,
+        None => player.refuse(line)?,
+    }
+    Ok(form)
+}
+
+/// What comes otherwise than the story tells it: a line each, and nothing where all comes so. A line of a story is one of these:
 ///
+/// - `file FORM`: a file of this form begins, with no line. `Form::of` has the forms;
+/// - `+ LINE`: the file gets this line; `with bare`, `with sample`: it gets the lines of this board;
 /// - `at LINE`: the lines below stand in the place of each line of the file that is this;
 /// - `behind LINES`: they stand behind the file and these lines; `behind` alone, and no such line: behind the file;
 /// - `LINES => WHAT`, `LINES | LINES => WHAT`: this comes of the whole with these lines, and with each of these; before `=> WHAT` there
 ///   may be nothing;
 /// - `until LINE -> LINES => WHAT`: this comes of the file, and from then on these lines stand in the place of that line;
+/// - `ends WHAT => LENGTHS`: this comes of the prefixes of the file that are so long, and of no others;
 /// - `# ..`: a remark.
 ///
 /// WHAT is what a fault is called; or `reads`; or `holds N PART`, where what is read shows this part so often; or all that it shows. A
-/// plan shows how often frames are sent again, a colon and the requests of its steps, and an undo text what is written of its list. The
-/// others show what Rust writes of them. In all but the LINE of `at`, `\n` is a line feed and `\r` a carriage return, and `<N:PART>` is so
-/// many times the part, with its place, from 0, at each `#` in it.
-pub fn otherwise(
-    alloc: Global,
-    form: Form,
-    file: &[&str],
-    story: &str,
-) -> Result<String, AllocError> {
+/// plan shows how often frames are sent again, a colon and the requests of its steps, and an undo text what is written of its list. What
+/// is cut in two shows both parts with a bar between them. The others show what Rust writes of them. In LINES and behind `=> `, `\n` is a
+/// line feed and `\r` a carriage return, and `<N:PART>` is so many times the part, with its place, from 0, at each `#` in it.
+pub fn otherwise(alloc: Global, story: &str) -> Result<String, AllocError> {
     let mut player = Player {
-        form,
-        file: file.concat(alloc)?,
+        file: String::new(alloc),
         place: Place::Behind(""),
         is_silent: true,
         otherwise: String::new(alloc),
     };
+    let mut form = None;
     for line in story.lines() {
-        player.play(alloc, line)?;
+        form = play(alloc, &mut player, form, line)?;
     }
-    if player.is_silent {
-        player.otherwise.push_str("nothing is told")?;
-    }
+    player.end()?;
     let Player { otherwise, .. } = player;
     Ok(otherwise)
 }
 
-/// Whether Rust writes both values alike, and so each of their parts.
-pub fn are_alike<A: Debug, B: Debug>(
-    alloc: Global,
-    one: &A,
-    other: &B,
-) -> Result<bool, AllocError> {
-    let one = format!(in alloc; "{one:?}")?;
-    let other = format!(in alloc; "{other:?}")?;
-    Ok(one.as_str() == other.as_str())
-}
-
-/// How long the prefixes of the text are that are read, from the shortest on, with a space behind each.
-pub fn ends_read(alloc: Global, form: Form, text: &str) -> Result<String, AllocError> {
-    let mut ends = String::new(alloc);
-    for end in 0..=text.len() {
-        if let Some(prefix) = text.get(..end) {
-            if let Came::Read(_) = came_of(alloc, form, prefix)? {
-                write!(ends, "{end} ")?;
-            }
-        }
-    }
-    Ok(ends)
+/// All comes as the story tells it.
+pub fn expect_told(rt: &impl Abort, alloc: Global, story: &str) -> Result<(), Fail> {
+    assert_eq!(rt; otherwise(alloc, story)?.as_str(), "");
+    Ok(())
 }

@@ -1,62 +1,27 @@
-//! Undo texts: the list of a plan of two steps on thresholds, and bad lines.
-use super::story::{Form, are_alike, ends_read, otherwise};
-use cfg_records::Asked;
-use std::alloc::{AllocError, Global};
+//! Undo texts, good and bad.
+use super::story::expect_told;
 use std::test::Fail;
-use text_undo::{UndoFault, read_undo, write_undo};
-use two_wire::{Below, NetFn};
-use undo_plans::{NextNumbers, Requests, UndoList};
 
-/// The text of a plan that sets upper thresholds of sensor 5 twice.
-const TEXT: &str = r#"undo 1
-next ipmb 4 smbus 0
-ipmb 10260530000000005A6E
-ipmb 10260518000000505F00
-"#;
+/// What is read of undo texts, and written of it.
+const UNDO_TEXTS: &str = r#"
+# The text of a plan that sets upper thresholds of sensor 5 twice. Of its prefixes those are read that end behind lines 2, 3 and 4.
+file undo
++ undo 1
++ next ipmb 4 smbus 0
++ ipmb 10260530000000005A6E
++ ipmb 10260518000000505F00
+ends reads => 27 53 79
 
-/// The request that sets thresholds by these bytes.
-fn set_thresholds(body: &[u8; 8]) -> Asked {
-    Asked::ipmi(NetFn::new(0x04), 0x26, body)
-}
+# The list has the request of the first step first: 18h is the mask of upper non-critical 50h and upper critical 5Fh, and 30h that of upper
+# critical 5Ah and upper non-recoverable 6Eh.
+file list
++ undo 1
++ next ipmb 4 smbus 0
++ ipmb 10260530000000005A6E
++ ipmb 10260518000000505F00
+=> UndoList { requests: Requests { items: [Ipmi { from: 0, net_fn: NetFn { number: 4 }, lun: Below { number: 0 }, command: 38, body: Bytes { items: [5, 24, 0, 0, 0, 80, 95, 0] } }, Ipmi { from: 0, net_fn: NetFn { number: 4 }, lun: Below { number: 0 }, command: 38, body: Bytes { items: [5, 48, 0, 0, 0, 0, 90, 110] } }] }, next: NextNumbers { ipmb: Below { number: 4 }, smbus: Below { number: 0 } } }
 
-/// The list of that plan. The first step is undone by upper non-critical 50h and upper critical 5Fh, the second one by upper critical 5Ah
-/// and upper non-recoverable 6Eh.
-fn list(alloc: Global) -> Result<UndoList, AllocError> {
-    let mut requests = Requests::new(alloc)?;
-    requests.push(set_thresholds(&[0x05, 0x18, 0x00, 0x00, 0x00, 0x50, 0x5F, 0x00]));
-    requests.push(set_thresholds(&[0x05, 0x30, 0x00, 0x00, 0x00, 0x00, 0x5A, 0x6E]));
-    Ok(UndoList {
-        requests,
-        next: NextNumbers {
-            ipmb: Below::new(4),
-            smbus: Below::new(0),
-        },
-    })
-}
-
-#[test]
-fn a_list_is_written_and_read(rt: HostRuntime) -> Result<(), Fail> {
-    let alloc = rt.alloc();
-    let list = list(alloc)?;
-    assert_eq!(rt; write_undo(alloc, &list)?.as_str(), TEXT);
-    let read = read_undo(alloc, TEXT)?;
-    assert!(rt; are_alike(alloc, &read, &list)?);
-    Ok(())
-}
-
-#[test]
-fn a_fault_is_named(rt: HostRuntime) -> Result<(), Fail> {
-    match read_undo(rt.alloc(), "undo 1\n") {
-        Ok(_) => Err("a list")?,
-        Err(fault) => assert_eq!(rt; fault, UndoFault::Line(2)),
-    }
-    let name = format!(in rt.alloc(); "{}", UndoFault::Line(3))?;
-    assert_eq!(rt; name.as_str(), "Line 3");
-    Ok(())
-}
-
-/// Undo texts, good and bad.
-const CASES: &str = r#"
+file undo
 # The first bad line is named.
 => Line 1
 undo 1 => Line 1
@@ -113,15 +78,6 @@ undo 1\nnext ipmb 4 smbus 0\nipmb 10260530000000005a6e\n => undo 1\nnext ipmb 4 
 "#;
 
 #[test]
-fn undo_texts_good_and_bad(rt: HostRuntime) -> Result<(), Fail> {
-    assert_eq!(rt; otherwise(rt.alloc(), Form::Undo, &[], CASES)?.as_str(), "");
-    Ok(())
-}
-
-#[test]
-fn every_prefix_is_refused_or_read(rt: HostRuntime) -> Result<(), Fail> {
-    // Those are read that end behind lines 2, 3 and 4.
-    let ends = ends_read(rt.alloc(), Form::Undo, TEXT)?;
-    assert_eq!(rt; ends.as_str(), "27 53 79 ");
-    Ok(())
+fn undo_texts_are_read(rt: HostRuntime) -> Result<(), Fail> {
+    expect_told(&rt, rt.alloc(), UNDO_TEXTS)
 }

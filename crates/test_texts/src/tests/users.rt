@@ -1,30 +1,34 @@
 //! Steps of plans that change users and channels.
-use super::story::{Form, otherwise};
+use super::story::expect_told;
 use std::test::Fail;
 
-/// A step of each kind. No line stands in it twice but `[[step]]`.
-pub const USERS: &str = r#"[[step]]
-kind = "user-name"
-user = 2
-name = "operator"
-[[step]]
-kind = "user-access"
-channel = 1
-user = 3
-limit = 4
-callback = true
-link = false
-messaging = true
-[[step]]
-kind = "channel-access"
-channel = 6
-store = "volatile"
-access = 0x2B
-limit = 5
-"#;
+/// What plans say of users and channels.
+const USERS: &str = r#"
+# A step of each kind. No line stands in it twice but `[[step]]`.
+file plan
++ [[step]]
++ kind = "user-name"
++ user = 2
++ name = "operator"
++ [[step]]
++ kind = "user-access"
++ channel = 1
++ user = 3
++ limit = 4
++ callback = true
++ link = false
++ messaging = true
++ [[step]]
++ kind = "channel-access"
++ channel = 6
++ store = "volatile"
++ access = 0x2B
++ limit = 5
 
-/// Each field left out, of another type, just beyond its range and just inside, and more. Of a channel's access and limit a step needs one.
-const CASES: &str = r#"
+# The name has sixteen bytes. D1h: bit 7, callback, messages, and channel 1. ABh and 85h: the volatile store changes.
+=> 3: ipmb 1845026F70657261746F72<8:00>\nipmb 1843D10304\nipmb 184006AB85
+
+# Each field left out, of another type, just beyond its range and just inside, and more. Of a channel's access and limit a step needs one.
 at user = 2
 => 0 Missing user
 user = "2" => 0 WrongType user
@@ -86,19 +90,10 @@ at messaging = true
 messaging = [] => 1 WrongType messaging
 at limit = 4
 session_limit = 4 => 1 NoGet SessionLimit
-"#;
 
-#[test]
-fn fields_of_steps_on_users_and_channels(rt: HostRuntime) -> Result<(), Fail> {
-    assert_eq!(rt;
-        otherwise(rt.alloc(), Form::Plan, &[USERS], CASES)?.as_str(),
-        ""
-    );
-    Ok(())
-}
+# Steps of which a part is told.
+file plan
 
-/// Steps of which a part is told.
-const STEPS: &str = r#"
 # Callback, link and messages come together.
 behind [[step]]\nkind = "user-access"\nchannel = 1\nuser = 2\n
 limit = 4 => reads
@@ -141,7 +136,6 @@ store = "volatile"\nlimit = 15 => 0 Range limit
 "#;
 
 #[test]
-fn steps_on_users_and_channels(rt: HostRuntime) -> Result<(), Fail> {
-    assert_eq!(rt; otherwise(rt.alloc(), Form::Plan, &[], STEPS)?.as_str(), "");
-    Ok(())
+fn steps_on_users_and_channels_are_read(rt: HostRuntime) -> Result<(), Fail> {
+    expect_told(&rt, rt.alloc(), USERS)
 }

@@ -1,15 +1,15 @@
 //! Stories that are told wrong, and what is said of each line.
-use super::story::{Form, otherwise};
+use super::story::otherwise;
 use std::test::Fail;
-
-/// A plan.
-const FILE: &str = r#"[[step]]
-kind = "power-policy"
-policy = 2
-"#;
 
 /// Each line is told wrong, but for those that say so.
 const WRONG: &str = r#"
+# A line of no file.
+policy = 1 => reads
+file plan
++ [[step]]
++ kind = "power-policy"
++ policy = 2
 # The number of the fault's step, what can be read, a fault that isn't one, how often a part is shown, and what is shown.
 at policy = 2
 policy = 3 => 1 Range policy
@@ -35,11 +35,52 @@ behind
 # What is no line of a story.
 policy = 3
  # policy = 3
+until policy = 1
 until policy = 1 => reads
+with other
+# Of the prefixes those are read that have no step or all of it, with its last line feed and without.
+ends reads => 0 41
+ends 0 Missing policy => 30 31 32
+
+# A file of which nothing is told, and one of no form.
+file plan
++ retries = 2
+file other
++ retries = 2
+
+# Each form is told wrong.
+file board
+=> none
+file plan
+=> none
+file undo
+=> none
+file list
+=> none
+file schedule
+=> none
+file play
+=> none
+file first line
+a\n => a
+file first word
+a b => a
+file behind
+ipmb 1 => 1
+file plain number
+12 => 1
+file number
+12 => 1
+file byte
+0A => 11
+file bytes
+0A => [11]
+file plan
 "#;
 
 /// What is said of it.
-const SAID: &str = r#"policy = 3 => 0 Range policy
+const SAID: &str = r#"policy = 1 => reads is no line of a story
+policy = 3 => 0 Range policy
 policy = 3 => 0 Range policy
 policy = 1 => 3: ipmb 000601
 policy = 1 => 3: ipmb 000601
@@ -58,39 +99,34 @@ ipmb 000601
 <2>[[step]]\n => Text
 policy = 3 is no line of a story
  # policy = 3 is no line of a story
+until policy = 1 is no line of a story
 policy = 1 is no line of a story
+other is no line of a story
+ends reads => 0 41 42
+ends 0 Missing policy => 30 31
+nothing is told
+file other is no line of a story
++ retries = 2 is no line of a story
+ => Missing top tid
+ => 3:
+ => Line 1
+ => Line 1
+ => Schedule { events: [] }
+ => board Missing top tid
+a\n => a|
+a b => a|b
+ipmb 1 => "1"
+12 => 12
+12 => 12
+0A => 10
+0A => [10]
+nothing is told
 "#;
 
 #[test]
 fn what_is_told_wrong_is_noticed(rt: HostRuntime) -> Result<(), Fail> {
-    assert_eq!(rt;
-        otherwise(rt.alloc(), Form::Plan, &[FILE], WRONG)?.as_str(),
-        SAID
-    );
-    Ok(())
-}
-
-#[test]
-fn a_story_that_tells_nothing_is_noticed(rt: HostRuntime) -> Result<(), Fail> {
-    for story in ["", "\n# policy = 1 => reads\n"] {
-        assert_eq!(rt;
-            otherwise(rt.alloc(), Form::Plan, &[FILE], story)?.as_str(),
-            "nothing is told"
-        );
-    }
-    Ok(())
-}
-
-#[test]
-fn each_form_is_told_wrong(rt: HostRuntime) -> Result<(), Fail> {
-    for (form, said) in [
-        (Form::Board, " => Missing top tid\n"),
-        (Form::Plan, " => 3:\n"),
-        (Form::Undo, " => Line 1\n"),
-        (Form::Schedule, " => []\n"),
-        (Form::Play, " => board Missing top tid\n"),
-    ] {
-        assert_eq!(rt; otherwise(rt.alloc(), form, &[], "=> none")?.as_str(), said);
-    }
+    let alloc = rt.alloc();
+    assert_eq!(rt; otherwise(alloc, WRONG)?.as_str(), SAID);
+    assert_eq!(rt; otherwise(alloc, "")?.as_str(), "nothing is told\n");
     Ok(())
 }

@@ -1,0 +1,85 @@
+//! Calls of each reader and writer of texts, one by one.
+use super::came::{Form, came_of, shown};
+use super::files::SAMPLE;
+use bmc_play::{Account, Stopped};
+use cfg_records::{BoardFile, sample_board};
+use lab_run::Fault;
+use plan_file::read_plan;
+use std::test::Fail;
+use text_schedule::read_schedule;
+use text_undo::{read_undo, write_undo};
+use two_wire::code::NODE_BUSY;
+use undo_core::{Phase, Why};
+
+#[test]
+fn the_sample_file_holds_the_sample_board(rt: HostRuntime) -> Result<(), Fail> {
+    let alloc = rt.alloc();
+    let read = came_of(alloc, Form::Board, SAMPLE)?;
+    let known = shown::<BoardFile, &str>(alloc, Ok(sample_board(alloc)?))?;
+    assert_eq!(rt; read.text.as_str(), known.text.as_str());
+    Ok(())
+}
+
+/// A plan of one step.
+const PLAN: &str = r#"retries = 2
+[[step]]
+kind = "power-policy"
+policy = 2
+"#;
+
+#[test]
+fn a_plan_is_read(rt: HostRuntime) -> Result<(), Fail> {
+    let plan = read_plan(rt.alloc(), PLAN)?;
+    assert_eq!(rt; plan.steps.as_slice().len(), 1);
+    assert_eq!(rt; plan.retries.number(), 2);
+    Ok(())
+}
+
+#[test]
+fn a_schedule_is_read(rt: HostRuntime) -> Result<(), Fail> {
+    let schedule = read_schedule(rt.alloc(), "start\n\nto-bmc 7\n")?;
+    assert_eq!(rt; schedule.as_slice().len(), 2);
+    Ok(())
+}
+
+/// The undo text of a plan that sets upper thresholds of sensor 5 twice.
+const UNDO: &str = r#"undo 1
+next ipmb 4 smbus 0
+ipmb 10260530000000005A6E
+ipmb 10260518000000505F00
+"#;
+
+#[test]
+fn an_undo_text_is_read_and_written(rt: HostRuntime) -> Result<(), Fail> {
+    let list = read_undo(rt.alloc(), UNDO)?;
+    assert_eq!(rt; list.requests.len(), 2);
+    assert_eq!(rt; write_undo(rt.alloc(), &list)?.as_str(), UNDO);
+    Ok(())
+}
+
+/// What is told of that plan where it halted before a third step, as the lab came to an event that it doesn't take.
+const TOLD: &str = r#"phase Halted 2 Refused C0
+frames 0
+undo 2
+ipmb 10260530000000005A6E
+ipmb 10260518000000505F00
+records changed 13
+fault 83 NoFrame
+"#;
+
+#[test]
+fn an_account_is_written(rt: HostRuntime) -> Result<(), Fail> {
+    let undo = read_undo(rt.alloc(), UNDO)?;
+    let account = Account {
+        phase: Phase::Halted(2, Why::Refused(NODE_BUSY)),
+        frames: &[],
+        undo: &undo.requests,
+        changed: 13,
+        stopped: Some(Stopped {
+            place: 83,
+            fault: Fault::NoFrame,
+        }),
+    };
+    assert_eq!(rt; account.text(rt.alloc(), true)?.as_str(), TOLD);
+    Ok(())
+}
