@@ -1,7 +1,7 @@
 pub mod Deliveries
 pub mod FirstFaults
 pub mod Sending
-pub mod Frames
+pub mod AllFrames
 pub mod Checks
 pub mod Idling
 pub mod Sent

@@ -5,7 +5,7 @@ use Rattle.model_lab.specs.Marks.{IsKnown}
 use Rattle.model_lab.specs.Meaning.{lab_names}
 use Rattle.model_lab.specs.Played.{plans}
 use Rattle.lab_run.specs.FramesShown.{marks_on}
-use Rattle.lab_run.proofs.Frames.{all_frames}
+use Rattle.lab_run.proofs.AllFrames.{all_frames}
 use Rattle.lab_run.proofs.lab_state.Lab.marks.Goals as goal
 
 pub returns : goal.returns
