@@ -1,5 +1,5 @@
 -- What is drawn of a play, once it is known how it ended and what was noted.
-use Rattle.std.proofs.Common.{◌≡◌, ℕ, ◌+◌, List, length, Option, Some, None, Result, Ok, Err, IfOk, string_bytes, sym}
+use Rattle.std.proofs.Common.{◌≡◌, ℕ, ◌+◌, List, length, Option, Some, None, Result, Ok, Err, IfOk, string_bytes, sym, subst}
 use Rattle.cfg_records.specs.declared.board_file.BoardFile.{BoardFile}
 use Rattle.record_base.specs.declared.op.Op.{Op}
 use Rattle.text_schedule.specs.declared.event.Event.{Event}
@@ -9,12 +9,14 @@ use Rattle.lab_run.specs.declared.note.Note.{Note}
 use Rattle.lab_play.specs.Ends.{IsEnding, Plays}
 use Rattle.lab_play.specs.Noted.{NotesPlay}
 use Rattle.lab_play.specs.declared.played.Played.{Played}
+use Rattle.lab_play.specs.declared.played.LabFault.{LabFault}
 use Rattle.lab_play.specs.declared.played.LabFault.TheVariants as fault
 use Rattle.bmc_play.specs.declared.account.Stopped.{Stopped}
 use Rattle.bmc_play.specs.declared.inputs.Inputs.{Inputs}
 use Rattle.bmc_lab.specs.declared.report.Report.{Report}
 use Rattle.bmc_play.specs.Account.{status_of}
 use Rattle.bmc_play.specs.Drawn.{EndsAt, NotesPlayOf, Draws, drawing}
+use Rattle.bmc_play.specs.Ended.{given_of}
 
 -- the notes of a play of all events are as many as these
 ends_whole : (events : List Event) (notes : ℕ) (played : Played) (ending : Ending) → IsEnding (Ok played) ending → notes ≡ length events → EndsAt events notes None ending
@@ -28,7 +30,7 @@ ends_stopped events notes why place played (Whole told) is behind = absurd is
 ends_stopped events notes why place played (Stops cause at told) is behind = (sym is.0, sym is.1, behind)
 
 -- what was noted of a play of all events
-pub notes_whole : (file : BoardFile) (steps : List Op) (retries : ℕ) (events : List Event) (notes : List Note) (played : Played)
+notes_whole : (file : BoardFile) (steps : List Op) (retries : ℕ) (events : List Event) (notes : List Note) (played : Played)
     → Plays file steps retries events (Ok played) → NotesPlay file steps retries events (Ok played) notes → NotesPlayOf file steps retries events None notes
 notes_whole file steps retries events notes played plays noted = record {
   ending = plays.ending;
@@ -39,7 +41,7 @@ notes_whole file steps retries events notes played plays noted = record {
 }
 
 -- and of one that an event's fault ended
-pub notes_stopped : (file : BoardFile) (steps : List Op) (retries : ℕ) (events : List Event) (notes : List Note) (why : Fault) (place : ℕ) (played : Played)
+notes_stopped : (file : BoardFile) (steps : List Op) (retries : ℕ) (events : List Event) (notes : List Note) (why : Fault) (place : ℕ) (played : Played)
     → Plays file steps retries events (Err (fault.Event why place played)) → NotesPlay file steps retries events (Err (fault.Event why place played)) notes
     → NotesPlayOf file steps retries events (Some (record { place = place; fault = why })) notes
 notes_stopped file steps retries events notes why place played plays noted = record {
@@ -49,6 +51,16 @@ notes_stopped file steps retries events notes why place played plays noted = rec
   ends = ends_stopped events (length notes) why place played plays.ending plays.is noted.1;
   are = noted.0;
 }
+
+-- what was noted of a play with these parts
+pub notes_of : (file : BoardFile) (steps : List Op) (retries : ℕ) (events : List Event) (notes : List Note) (given : Result Played LabFault) (played : Played) (stopped : Option Stopped)
+    → given ≡ given_of played stopped → Plays file steps retries events given → NotesPlay file steps retries events given notes → NotesPlayOf file steps retries events stopped notes
+notes_of file steps retries events notes given played None same plays noted =
+    notes_whole file steps retries events notes played (subst (λ (g : Result Played LabFault). Plays file steps retries events g) same plays)
+    (subst (λ (g : Result Played LabFault). NotesPlay file steps retries events g notes) same noted)
+notes_of file steps retries events notes given played (Some stopped) same plays noted =
+    notes_stopped file steps retries events notes stopped.fault stopped.place played (subst (λ (g : Result Played LabFault). Plays file steps retries events g) same plays)
+    (subst (λ (g : Result Played LabFault). NotesPlay file steps retries events g notes) same noted)
 
 -- a report of the drawing draws the play
 pub draws : {E : Type 0} (inputs : Inputs) (r : Result Report E) (notes : List Note) (stopped : Option Stopped)

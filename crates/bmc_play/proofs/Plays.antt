@@ -1,5 +1,5 @@
 -- What is said of a play, once it is known how it ended and what its account is.
-use Rattle.std.proofs.Common.{◌≡◌, ℕ, Bool, List, Result, Ok, Err, Some, None, IfOk, string_bytes, sym, subst}
+use Rattle.std.proofs.Common.{◌≡◌, ℕ, Bool, List, Option, Result, Ok, Err, Some, None, IfOk, string_bytes, sym, subst}
 use Rattle.lab_run.specs.declared.fault.Fault.{Fault}
 use Rattle.model_lab.specs.Played.{Told, Ending, Whole, Stops}
 use Rattle.lab_play.specs.Ends.{Tells, IsEnding, Plays}
@@ -8,6 +8,8 @@ use Rattle.lab_play.specs.declared.played.LabFault.{LabFault}
 use Rattle.lab_play.specs.declared.played.LabFault.TheVariants as fault
 use Rattle.bmc_play.specs.declared.inputs.Inputs.{Inputs}
 use Rattle.bmc_play.specs.declared.account.Account.{Account}
+use Rattle.bmc_play.specs.declared.account.Stopped.{Stopped}
+use Rattle.bmc_play.specs.Ended.{given_of}
 use Rattle.bmc_play.specs.Inputs.{AreRead}
 use Rattle.bmc_play.specs.Lines.{text_of}
 use Rattle.bmc_lab.specs.declared.console.Stream.{Stream}
@@ -36,7 +38,7 @@ stopped_account why place played (Whole told) account is says named = absurd is
 stopped_account why place played (Stops cause at told) account is says named = (says told is.2, (record { place = place; fault = why }, named, sym is.0, sym is.1))
 
 -- the account's text recounts a play of all events
-pub recounts_whole : {E : Type 0} (frames : Bool) (inputs : Inputs) (r : Result Report E) (played : Played) (account : Account) → PlaysOf inputs (Ok played) → SaysOf account played
+recounts_whole : {E : Type 0} (frames : Bool) (inputs : Inputs) (r : Result Report E) (played : Played) (account : Account) → PlaysOf inputs (Ok played) → SaysOf account played
     → account.stopped ≡ None → IfOk r (λ report. string_bytes report.text ≡ text_of frames account) → IfOk r (λ report. report.status ≡ status_of account.stopped)
     → IfOk r (λ report. Recounts frames inputs (string_bytes report.text) report.status)
 recounts_whole frames inputs (Ok report) played account plays says none said ended = record {
@@ -51,7 +53,7 @@ recounts_whole frames inputs (Ok report) played account plays says none said end
 recounts_whole frames inputs (Err e) played account plays says none said ended = tt
 
 -- and one that an event's fault ended
-pub recounts_stopped : {E : Type 0} (frames : Bool) (inputs : Inputs) (r : Result Report E) (why : Fault) (place : ℕ) (played : Played) (account : Account)
+recounts_stopped : {E : Type 0} (frames : Bool) (inputs : Inputs) (r : Result Report E) (why : Fault) (place : ℕ) (played : Played) (account : Account)
     → PlaysOf inputs (Err (fault.Event why place played)) → SaysOf account played → account.stopped ≡ Some (record { place = place; fault = why })
     → IfOk r (λ report. string_bytes report.text ≡ text_of frames account) → IfOk r (λ report. report.status ≡ status_of account.stopped)
     → IfOk r (λ report. Recounts frames inputs (string_bytes report.text) report.status)
@@ -65,6 +67,16 @@ recounts_stopped frames inputs (Ok report) why place played account plays says n
   ended = ended;
 }
 recounts_stopped frames inputs (Err e) why place played account plays says named said ended = tt
+
+-- the account's text recounts a play with these parts
+pub recounts : {E : Type 0} (frames : Bool) (inputs : Inputs) (r : Result Report E) (given : Result Played LabFault) (played : Played) (stopped : Option Stopped) (account : Account)
+    → given ≡ given_of played stopped → PlaysOf inputs given → SaysOf account played → account.stopped ≡ stopped
+    → IfOk r (λ report. string_bytes report.text ≡ text_of frames account) → IfOk r (λ report. report.status ≡ status_of account.stopped)
+    → IfOk r (λ report. Recounts frames inputs (string_bytes report.text) report.status)
+recounts frames inputs r given played None account same plays says named said ended =
+    recounts_whole frames inputs r played account (subst (PlaysOf inputs) same plays) says named said ended
+recounts frames inputs r given played (Some stopped) account same plays says named said ended =
+    recounts_stopped frames inputs r stopped.fault stopped.place played account (subst (PlaysOf inputs) same plays) says named said ended
 
 -- a report of the play that the texts tell says so
 pub says_play : {E : Type 0} (tells : Telling) (board plan schedule : List ℕ) (r : Result Report E) (inputs : Inputs) → AreRead board plan schedule (Ok inputs)

@@ -2,6 +2,7 @@ pub mod Account
 pub mod Alike
 pub mod Determined
 pub mod Drawn
+pub mod Ended
 pub mod Files
 pub mod Inputs
 pub mod Lines

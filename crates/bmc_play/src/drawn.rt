@@ -5,12 +5,13 @@ ghost use Rattle.bmc_play.specs.Account.{status_of};
 ghost use Rattle.bmc_play.specs.Drawn.{NotesPlayOf, Draws, drawing};
 
 use crate::account::Stopped;
+use crate::ended::parts_of;
 use crate::inputs::Inputs;
 use crate::lines::push_stopped;
 use crate::report::status;
 use bmc_lab::{Report, Stream};
 use cfg_records::BoardFile;
-use lab_play::{LabFault, play_noted};
+use lab_play::play_noted;
 use lab_run::Note;
 use std::alloc::{AllocError, Global};
 use text_chart::chart;
@@ -28,16 +29,9 @@ fn noted<'a>(
     requires { notes.now.items ≡ [] }
     ensures { IfOk result (λ stopped. NotesPlayOf file plan.steps plan.retries events.now stopped notes.new.items) }
 {
-    match play_noted(alloc, file, plan, events, notes) {
-        Ok(_played) => Ok(None),
-        Err(LabFault::Memory) => Err(AllocError),
-        Err(
-            LabFault::Event {
-                fault,
-                place,
-                played: _played,
-            },
-        ) => Ok(Some(Stopped { place, fault })),
+    match parts_of(play_noted(alloc, file, plan, events, notes)) {
+        Ok(ended) => Ok(ended.stopped),
+        Err(AllocError) => Err(AllocError),
     }
 }
 

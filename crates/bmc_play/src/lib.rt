@@ -4,6 +4,7 @@
 
 mod account;
 mod drawn;
+mod ended;
 pub mod files;
 mod inputs;
 pub mod laws;

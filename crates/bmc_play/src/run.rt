@@ -6,12 +6,12 @@ ghost use Rattle.bmc_lab.specs.Ending.{RunEnds};
 ghost use Rattle.bmc_play.specs.Drawn.{Draws};
 ghost use Rattle.bmc_play.specs.Run.{is_memory, refusal_line, tells_of, Recounts, Says};
 
-use crate::account::Stopped;
 use crate::drawn::drawn_report;
+use crate::ended::parts_of;
 use crate::inputs::{InputFault, Inputs, read_inputs};
 use crate::report::{account_of, account_report};
 use bmc_lab::{Console, Ending, Report, Status, Stream};
-use lab_play::{LabFault, play};
+use lab_play::play;
 use plan_file::PlanFault;
 use std::alloc::{AllocError, Global};
 use std::io;
@@ -59,19 +59,9 @@ fn played_report(alloc: Global, frames: bool, inputs: Inputs) -> Result<Report, 
     ensures told { IfOk result (λ report. Recounts frames inputs (string_bytes report.text) report.status) }
 {
     let Inputs { file, plan, events } = inputs;
-    match play(alloc, file, plan, events.as_slice()) {
-        Ok(played) => account_report(alloc, frames, &account_of(&played, None)),
-        Err(LabFault::Memory) => Err(AllocError),
-        Err(
-            LabFault::Event {
-                fault,
-                place,
-                played,
-            },
-        ) => {
-            let stopped = Stopped { place, fault };
-            account_report(alloc, frames, &account_of(&played, Some(stopped)))
-        }
+    match parts_of(play(alloc, file, plan, events.as_slice())) {
+        Ok(ended) => account_report(alloc, frames, &account_of(&ended.played, ended.stopped)),
+        Err(AllocError) => Err(AllocError),
     }
 }
 
