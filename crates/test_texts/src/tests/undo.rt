@@ -74,7 +74,7 @@ undo 1\nnext ipmb 63 smbus 31\nsmbus 3FFF\nipmb F8FF\n => undo 1\nnext ipmb 63 s
 undo 1\nnext ipmb 2 smbus 2\nipmb 10260510000000005F00\nsmbus 0231040002F401\n => undo 1\nnext ipmb 2 smbus 2\nipmb 10260510000000005F00\nsmbus 0231040002F401\n
 
 # Digits are read in either case.
-undo 1\nnext ipmb 4 smbus 0\nipmb 10260530000000005a6e\n => undo 1\nnext ipmb 4 smbus 0\nipmb 10260530000000005A6E\n
+undo 1\nnext ipmb 4 smbus 0\nipmb 10260530000000005a6e\nipmb 10260518000000505f00\n => undo 1\nnext ipmb 4 smbus 0\nipmb 10260530000000005A6E\nipmb 10260518000000505F00\n
 "#;
 
 #[test]
