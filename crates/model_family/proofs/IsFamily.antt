@@ -24,7 +24,7 @@ use Rattle.bmc_board.specs.Request.{Get, Set}
 use Rattle.bmc_board.specs.Request.{asked_by}
 use Rattle.bmc_board.specs.State.{State, IsUnchanged}
 use Rattle.bmc_board.specs.Replies.{refused, unknown_code}
-use Rattle.bmc_board.specs.Answer.{Given, answer_of}
+use Rattle.bmc_board.specs.Answer.{Given, get_answer, answer_of}
 use Rattle.bmc_board.specs.AnyAnswer.{IsCode}
 use Rattle.bmc_board.specs.Row.{Sets, Serves, Replies, Row}
 use Rattle.bmc_board.proofs.AnswerFacts.{limits_are_of, never_busy}
@@ -113,6 +113,25 @@ get_shows setup at before asked key a after is row carried =
     let s = shows (limits_at setup key) (before.records key) before.activity.live (unknown_code setup key) (board_answer a) (unknown_is_fault setup key) (ap (λ (g : Given). g.0) served) carried in
     record { value = s.old; found = s.value_is; shows = shows_within (limits_at setup key) (before.records key) before.activity.live (board_answer a) s }
 
+-- a Get's code is that of whether there are limits and a value
+get_agrees : (limits : Option Limits) (value : Option (List ℕ)) (live other : LivePart) (unknown : ℕ) → (get_answer limits value live unknown).code ≡ (get_answer limits value other unknown).code
+get_agrees (Some l) (Some value) live other unknown = refl
+get_agrees (Some l) None live other unknown = refl
+get_agrees None (Some value) live other unknown = refl
+get_agrees None None live other unknown = refl
+
+gets_agree : (setup : BoardFile) (b after c later : State) (asked other : Asked) (key : Key) (a d : Answered) → asked_by asked ≡ Ok (Get key) → asked_by other ≡ Ok (Get key) → c.records ≡ b.records
+    → Row setup b asked (board_answer a) after → Row setup c other (board_answer d) later → d.code ≡ a.code
+gets_agree setup b after c later asked other key a d is is_too same row row_too =
+    let limits = limits_at setup key in
+    let unknown = unknown_code setup key in
+    let one = read_as setup b asked (Get key) (board_answer a) after is row in
+    let two = read_as setup c other (Get key) (board_answer d) later is_too row_too in
+    ap (λ (g : Given). g.0.code) two
+    ∙ ap (λ (r : Records). (get_answer limits (r key) c.activity.live unknown).code) same
+    ∙ get_agrees limits (b.records key) c.activity.live b.activity.live unknown
+    ∙ sym (ap (λ (g : Given). g.0.code) one)
+
 -- ---- Sets
 
 -- what a Set at a record with these limits and this value does to the records
@@ -190,6 +209,7 @@ is_family setup at = record {
   gets_are = get_is_read at;
   gets_keep = λ board after asked key a is row. ap (λ (g : Given). g.1.records) (read_as setup board asked (Get key) (board_answer a) after is row);
   gets_show = λ board after asked key a is row carried. get_shows setup at board asked key a after is row carried;
+  gets_agree = λ board after second later asked other key a d is is_too same row row_too. gets_agree setup board after second later asked other key a d is is_too same row row_too;
   sets_do = λ board after op a row carried. set_does setup at board op a.code after (set_tells setup at board op a after row) carried;
   refusals_keep = λ board after op a row ne. (set_tells setup at board op a after row).keeps ne;
   refusals_say = λ board after op a row ne r s. (set_tells setup at board op a after row).says ne s.before s.after s.found s.sets;

@@ -51,6 +51,7 @@ module _ (F : Family) (laws : IsFamily F) (given : List (Giving F)) where
     gets_are = laws.gets_are;
     gets_keep = λ b after asked key a is row. laws.gets_keep b after asked key a is row.0;
     gets_show = λ b after asked key a is row carried. showed key a.body (F.records b) (laws.gets_show b after asked key a is row.0 carried);
+    gets_agree = λ b after c later asked other key a d is is_too same row row_too. laws.gets_agree b after c later asked other key a d is is_too same row.0 row_too.0;
     sets_do = λ b after op a row carried. does op (F.records b) (F.records after) (laws.sets_do b after op a row.0 carried);
     refusals_keep = λ b after op a row. laws.refusals_keep b after op a row.0;
     refusals_say = λ b after op a row ne r s. laws.refusals_say b after op a row.0 ne r (did op (F.records b) r s);

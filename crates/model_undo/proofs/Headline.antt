@@ -222,12 +222,16 @@ module _ (F : Family) (laws : IsFamily F) (L : Bus → Line) (lines : (bus : Bus
 
   -- two Gets where the records are the same
   pub shows_same : (b c : F.Board) → AllValid F (F.records b) → F.records c ≡ F.records b → ShowsSame F b c
-  shows_same b c valid same key one other is_get is_get_too shown again b' c' row was_shown row_again was_again =
-      let before = laws.gets_show b b' one key shown is_get row was_shown in
-      let after = laws.gets_show c c' other key again is_get_too row_again was_again in
-      let found : F.get (F.records b) key ≡ Some after.value = ap (λ (r : F.Records). F.get r key) (sym same) ∙ after.found in
-      let alike : after.value ≡ before.value = same_Some _ _ (sym found ∙ before.found) in
-      laws.steady key before.value again.body shown.body (valid key before.value before.found) (subst (λ (v : F.Value). F.Shows key v again.body) alike after.shows) before.shows
+  shows_same b c valid same key one other is_get is_get_too shown again b' c' row row_again =
+      let alike : again.code ≡ shown.code = laws.gets_agree b b' c c' one other key shown again is_get is_get_too same row row_again in (
+        alike,
+        λ was_shown.
+            let before = laws.gets_show b b' one key shown is_get row was_shown in
+            let after = laws.gets_show c c' other key again is_get_too row_again (alike ∙ was_shown) in
+            let found : F.get (F.records b) key ≡ Some after.value = ap (λ (r : F.Records). F.get r key) (sym same) ∙ after.found in
+            let one_value : after.value ≡ before.value = same_Some _ _ (sym found ∙ before.found) in
+            laws.steady key before.value again.body shown.body (valid key before.value before.found) (subst (λ (v : F.Value). F.Shows key v again.body) one_value after.shows) before.shows,
+      )
 
   pub undone_for_good : UndoneForGood F L W
   undone_for_good plan retries on board start events later may undone =

@@ -101,6 +101,21 @@ get_shows : (b : Board) (key : ℕ) (a : Answered) (o : Option Halves) → slice
 get_shows b key a None at e zero_code = absurd (let c = code_of a not_present [] e in omega arith)
 get_shows b key a (Some v) at e zero_code = record { value = v; found = at; shows = (b.requests, ap (λ (a : Answered). a.body) e) }
 
+-- a Get's code is that of whether there is such a register
+get_agrees : (o : Option Halves) (key m n : ℕ) → (get_answer key o m).code ≡ (get_answer key o n).code
+get_agrees None key m n = refl
+get_agrees (Some v) key m n = refl
+
+gets_agree : (b after c later : Board) (asked other : Asked) (key : ℕ) (a d : Answered) → asked ≡ AskGet key → other ≡ AskGet key → c.registers ≡ b.registers → Row b asked a after → Row c other d later
+    → d.code ≡ a.code
+gets_agree b after c later asked other key a d is is_too same row row_too =
+    let one : a ≡ get_answer key (slice_get b.registers key) b.requests = (subst (λ (x : Asked). Row b x a after) is row).0 in
+    let two : d ≡ get_answer key (slice_get c.registers key) c.requests = (subst (λ (x : Asked). Row c x d later) is_too row_too).0 in
+    ap (λ (x : Answered). x.code) two
+    ∙ ap (λ (r : List Halves). (get_answer key (slice_get r key) c.requests).code) same
+    ∙ get_agrees (slice_get b.registers key) key c.requests b.requests
+    ∙ sym (ap (λ (x : Answered). x.code) one)
+
 valid_from : (v : Halves) → is_valid v ≡ true → IsValid v
 valid_from v t = let parts = and_parts _ _ t in (leb-true _ _ parts.0, ltb-true _ _ parts.1)
 
@@ -184,6 +199,7 @@ registers_are_family = record {
   gets_are = λ key. refl;
   gets_keep = λ b after asked key a is row. registers_after after b.registers (suc b.requests) (subst (λ (x : Asked). Row b x a after) is row).1;
   gets_show = λ b after asked key a is row. get_shows b key a (slice_get b.registers key) refl (subst (λ (x : Asked). Row b x a after) is row).0;
+  gets_agree = gets_agree;
   sets_do = λ b after w a row. does b after w a (slice_get b.registers w.register) refl (tells b after w a row);
   refusals_keep = λ b after w a row. keeps b after w a (slice_get b.registers w.register) (tells b after w a row);
   refusals_say = λ b after w a row. says b after w a (slice_get b.registers w.register) refl (tells b after w a row);

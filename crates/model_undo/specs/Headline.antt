@@ -21,11 +21,12 @@ abbrev pub AnyMakesStop : (F : Family) (L : Bus → Line) → List (Happening F 
 AnyMakesStop F L [] = ⊥
 AnyMakesStop F L (e ∷ es) = MakesStop F L e ⊎ AnyMakesStop F L es
 
--- any two Gets of a record, whoever asks them, show the same configuration: one at the first board, one at the second
+-- any two Gets of a record, whoever asks them, one at the first board and one at the second, are both answered with 00h and show the same
+-- configuration, or are both refused with the same code
 abbrev pub ShowsSame : (F : Family) → F.Board → F.Board → Type 0
 ShowsSame F b c = (key : F.words.Key) (one other : F.words.Asked) → F.IsGet one key → F.IsGet other key → (shown again : Answered) (b' c' : F.Board)
-    → F.Row b one shown b' → shown.code ≡ success → F.Row c other again c' → again.code ≡ success
-    → F.conf key again.body ≡ F.conf key shown.body
+    → F.Row b one shown b' → F.Row c other again c'
+    → (again.code ≡ shown.code) × (shown.code ≡ success → F.conf key again.body ≡ F.conf key shown.body)
 
 -- from a board whose records are valid, and a start on both buses, so long as each thing may happen where it does
 module _ (F : Family) (L : Bus → Line) (W : Wires F.words) where
@@ -41,7 +42,7 @@ module _ (F : Family) (L : Bus → Line) (W : Wires F.words) where
       Stands F plan (F.records board) (phase_of F.words w.machine) (F.records w.board) × Halts F w.machine.stopped plan (phase_of F.words w.machine) (F.records w.board)
 
   -- once a plan is undone, and at every moment from then on, all records are what they were at the start, and each Get, whoever
-  -- asks it, shows the same configuration as at the start
+  -- asks it, is answered with the same code and shows the same configuration as at the start
   abbrev pub UndoneForGood : Type 0
   UndoneForGood = (plan : List F.words.Op) (retries : ℕ) (on : States L) (board : F.Board) → IsStart on board
       → (events later : List (Happening F L)) → AllMay F L W (events ++ later) (opening F L plan retries on board)

@@ -38,6 +38,9 @@ pub record IsFamily (F : Family) : Type 0 where
   pub gets_are : (key : F.words.Key) → F.IsGet (get_asked F.words key) key
   pub gets_keep : (b after : F.Board) (asked : F.words.Asked) (key : F.words.Key) (a : Answered) → F.IsGet asked key → F.Row b asked a after → F.records after ≡ F.records b
   pub gets_show : (b after : F.Board) (asked : F.words.Asked) (key : F.words.Key) (a : Answered) → F.IsGet asked key → F.Row b asked a after → a.code ≡ success → Showed F key a.body (F.records b)
+  -- the command relation: whoever asks, and whatever isn't configuration, a Get is answered with one code where the records are the same
+  pub gets_agree : (b after c later : F.Board) (asked other : F.words.Asked) (key : F.words.Key) (a d : Answered) → F.IsGet asked key → F.IsGet other key → F.records c ≡ F.records b
+      → F.Row b asked a after → F.Row c other d later → d.code ≡ a.code
   -- the command relation: a Set that is carried out does its operation; one that is refused changes no record, and its
   -- operation isn't accepted there
   pub sets_do : (b after : F.Board) (op : F.words.Op) (a : Answered) → F.Row b (set_asked F.words op) a after → a.code ≡ success → SetsTo F op (F.records b) (F.records after)
