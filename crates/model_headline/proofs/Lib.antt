@@ -6,6 +6,7 @@ pub mod Sent
 pub mod Begun
 pub mod Calls
 pub mod Live
+mod Joined
 pub mod Only
 pub mod Taken
 pub mod Returns

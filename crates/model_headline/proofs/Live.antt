@@ -80,6 +80,10 @@ module _ (setup : BoardFile) (names : Names) (plan : List Op) (start : Records) 
     begun_by AtUndone bus closed = closed_begun bus None closed
     begun_by (AtRefused k code) bus closed = closed_begun bus None closed
 
+    -- the model began no more requests than the lab's manager did
+    pub most_begun : (bus : Bus) → length (requests setup names on bus).begun ≤ begun_on (words setup names) bus x.manager.machine
+    most_begun bus = begun_by x.manager.machine.stage bus (h.joined.are_open bus)
+
     spans_alike : (bus : Bus) → (rules_on setup names bus).span ≡ span_of (numbers_of bus)
     spans_alike Ipmb = refl
     spans_alike Smbus = refl

@@ -1,28 +1,31 @@
 -- What every play tells stands on the records.
-use Rattle.std.proofs.Common.{◌≡◌, ℕ, ◌+◌, ◌-◌, List, [], ◌∷◌, length, refl, sym, ◌∙◌, ap, subst, arith, inl, inr}
+use Rattle.std.proofs.Common.{◌≡◌, ℕ, ◌+◌, ◌-◌, List, [], ◌∷◌, ◌++◌, length, refl, sym, ◌∙◌, ap, subst, arith, inl, inr}
 use Rattle.std.specs.Prelude.{take}
 use Rattle.std.proofs.Math.Seq.{take-append_seam}
 use Rattle.record_base.specs.declared.op.Op.{Op}
 use Rattle.cfg_records.specs.declared.board_file.BoardFile.{BoardFile}
 use Rattle.bmc_board.specs.State.{State}
 use Rattle.model_bus.specs.Repeat.{In}
-use Rattle.model_undo.specs.Phase.{Phase}
+use Rattle.model_undo.specs.Phase.{Phase, Undone}
 use Rattle.model_undo.specs.Plan.{Stands}
+use Rattle.model_undo.specs.Machine.{phase_of}
+use Rattle.model_undo.specs.Headline.{ShowsSame}
 use Rattle.model_lab.specs.ManagerSteps.{Stop as StopNow}
 use Rattle.model_lab.specs.Lab as lab
 use Rattle.model_lab.specs.Lab.{Lab, run, opening}
 use Rattle.model_lab.specs.Faults.{AllTaken}
 use Rattle.model_lab.specs.Own.{AllOwn}
+use Rattle.model_lab.specs.Joins.{AllJoinLive}
 use Rattle.text_schedule.specs.declared.event.Call.{Call as Called}
 use Rattle.text_schedule.specs.declared.event.Call.TheVariants as called
 use Rattle.text_schedule.specs.declared.event.Event.{Event}
 use Rattle.text_schedule.specs.declared.event.Event.TheVariants as event
 use Rattle.model_lab.specs.Meaning.{lab_names, call_of, Bench, event_of}
-use Rattle.model_lab.specs.Played.{plans, Whole, Stops, happens, after, AreTaken, told_of}
+use Rattle.model_lab.specs.Played.{plans, Ending, Whole, Stops, happens, after, AreTaken, told_of, IsPlayed}
 use Rattle.model_headline.specs.Tied.{F}
-use Rattle.model_headline.specs.Theorem.{IsTakenAndOwn}
-use Rattle.model_headline.specs.Plays.{AreOwn, ToldStands, PlaysStand}
-use Rattle.model_headline.proofs.Theorem.{headline}
+use Rattle.model_headline.specs.Theorem.{IsHonestAndOwn}
+use Rattle.model_headline.specs.Plays.{taken_by, told_by, AllKeepPremise, AreOwn, ToldStands, PlaysStand}
+use Rattle.model_headline.proofs.Theorem.{first_honest, first_own, premises_agree, headline_of}
 
 -- ---- a schedule's stop is the lab's
 
@@ -43,9 +46,18 @@ module _ (bench : Bench) (file : BoardFile) where
   taken_from [] x all = tt
   taken_from (e ∷ es) x all = (all.0, taken_from es (happens bench file e x) all.1)
 
-  own_from : (plan : List Op) (retries : ℕ) (es : List Event) (x : Lab plans) → AreOwn bench file plan retries es x → AllOwn plans file (events_from es x) x
-  own_from plan retries [] x all = tt
-  own_from plan retries (e ∷ es) x all = (all.0, own_from plan retries es (happens bench file e x) all.1)
+  own_from : (es : List Event) (x : Lab plans) → AreOwn bench file es x → AllOwn plans file (events_from es x) x
+  own_from [] x all = tt
+  own_from (e ∷ es) x all = (all.0, own_from es (happens bench file e x) all.1)
+
+  live_from : (es : List Event) (x : Lab plans) → AllKeepPremise bench file es x → AllJoinLive plans file (events_from es x) x
+  live_from [] x all = tt
+  live_from (e ∷ es) x all = (all.0, live_from es (happens bench file e x) all.1)
+
+  -- the events of a schedule are those of its parts
+  parts_from : (es fs : List Event) (x : Lab plans) → events_from (es ++ fs) x ≡ events_from es x ++ events_from fs (after bench file es x)
+  parts_from [] fs x = refl
+  parts_from (e ∷ es) fs x = ap (λ (rest : List lab.Event). event_of lab_names bench x.board e ∷ rest) (parts_from es fs (happens bench file e x))
 
   runs_so : (es : List Event) (x : Lab plans) → run plans file (events_from es x) x ≡ after bench file es x
   unfolding run
@@ -79,34 +91,78 @@ module _ (bench : Bench) (file : BoardFile) where
     abbrev first : Lab plans
     first = opening plans file lab_names plan retries
 
-    told_stands : (es : List Event) → AreTaken bench file es first → AreOwn bench file plan retries es first → ToldStands bench file plan retries es (told_of bench file first (after bench file es first))
-    told_stands es taken own =
+    -- a good schedule is one that the lab takes and whose first events are all good
+    abbrev Good : List lab.Event → Type 0
+    Good events = IsHonestAndOwn file lab_names plan retries events
+
+    prefix_good : (es fs : List Event) → Good (events_from (es ++ fs) first) → Good (events_from es first)
+    prefix_good es fs good =
+        let split = parts_from es fs first in
+        let later = events_from fs (after bench file es first) in
+        let whole : Good (events_from es first ++ later) = subst Good split good in
+        (first_honest file lab_names plan retries (events_from es first) later first whole.0, first_own file lab_names plan retries (events_from es first) later first whole.1)
+
+    -- once undone, for good
+    for_good : (es later : List Event) → Good (events_from (es ++ later) first) → phase_of plans.words (after bench file es first).manager.machine ≡ Undone
+        → ((after bench file (es ++ later) first).board.records ≡ first.board.records) × ShowsSame (F file lab_names) first.board (after bench file (es ++ later) first).board
+    for_good es later good at =
+        let one = events_from es first in
+        let two = events_from later (after bench file es first) in
+        let split = parts_from es later first in
+        let undone : phase_of plans.words (run plans file one first).manager.machine ≡ Undone = ap (λ (y : Lab plans). phase_of plans.words y.manager.machine) (runs_so es first) ∙ at in
+        let there = (headline_of file lab_names plan retries Good (λ events is. is)).undone one two (subst Good split good) undone in
+        let reaches : run plans file (one ++ two) first ≡ after bench file (es ++ later) first = ap (λ (events : List lab.Event). run plans file events first) (sym split) ∙ runs_so (es ++ later) first in
+        subst (λ (y : Lab plans). (y.board.records ≡ first.board.records) × ShowsSame (F file lab_names) first.board y.board) reaches there
+
+    told_stands : (es : List Event) → Good (events_from es first) → ToldStands bench file plan retries es (told_of bench file first (after bench file es first))
+    told_stands es good =
         let events = events_from es first in
-        let good : IsTakenAndOwn file lab_names plan retries events = (taken_from es first taken, own_from plan retries es first own) in
-        let law = headline file lab_names plan retries in
+        let law = headline_of file lab_names plan retries Good (λ given is. is) in
         let here = law.stands events good in
         let x = run plans file events first in
         subst (λ (y : Lab plans). ToldStands bench file plan retries es (told_of bench file first y)) (runs_so es first) (record {
           stands = here.0;
           undone = λ at. subst (λ (p : Phase). Stands (F file lab_names) plan first.board.records p x.board.records) at here.0;
+          for_good = λ before later rest split at.
+              for_good before later (prefix_good (before ++ later) rest (subst (λ (all : List Event). Good (events_from all first)) split good)) at;
           halts = (x.manager.machine.stopped, here.1);
           stopped = λ k at. stop_from es first (law.stopped events k good at);
         })
 
+    -- of events that were taken, by either premise
+    kept_good : (es : List Event) → AreTaken bench file es first → AllKeepPremise bench file es first → Good (events_from es first)
+    kept_good es taken kept =
+        let events = events_from es first in
+        let agree = premises_agree file lab_names plan retries in
+        let honest = agree.honest events (taken_from es first taken) in
+        (honest, agree.own events (honest, live_from es first kept))
+
+    own_good : (es : List Event) → AreTaken bench file es first → AreOwn bench file es first → Good (events_from es first)
+    own_good es taken own =
+        ((premises_agree file lab_names plan retries).honest (events_from es first) (taken_from es first taken), own_from es first own)
+
     before_place : (n : ℕ) → n + 1 - 1 ≡ n
     before_place n = omega arith
 
-    pub plays_stand : PlaysStand bench file plan retries
-    plays_stand events (Whole told) played own = subst (ToldStands bench file plan retries events) (sym played.1) (told_stands events played.0 own)
-    plays_stand events (Stops fault place told) played own =
+    -- the events that a play took were taken, and what it tells is told of them
+    taken_told : (events : List Event) (ending : Ending) → IsPlayed bench file plan retries events ending
+        → AreTaken bench file (taken_by events ending) first × (told_by ending ≡ told_of bench file first (after bench file (taken_by events ending) first))
+    taken_told events (Whole told) played = played
+    taken_told events (Stops fault place told) played =
         let before = played.0 in
         let rest = played.1 in
         let e = played.2 in
-        let split = played.3 in
-        let at = played.4 in
-        let taken = played.5 in
-        let is = played.7 in
         let first_ones : take (place - 1) events ≡ before =
-        ap (λ (n : ℕ). take (n - 1) events) at ∙ ap (λ (n : ℕ). take n events) (before_place (length before)) ∙ ap (take (length before)) split ∙ take-append_seam before (e ∷ rest) in
-        subst (λ (es : List Event). ToldStands bench file plan retries es told) (sym first_ones)
-        (subst (ToldStands bench file plan retries before) (sym is) (told_stands before taken (subst (λ (es : List Event). AreOwn bench file plan retries es first) first_ones own)))
+        ap (λ (n : ℕ). take (n - 1) events) played.4 ∙ ap (λ (n : ℕ). take n events) (before_place (length before)) ∙ ap (take (length before)) played.3 ∙ take-append_seam before (e ∷ rest) in
+        subst (λ (es : List Event). AreTaken bench file es first × (told ≡ told_of bench file first (after bench file es first))) (sym first_ones) (played.5, played.7)
+
+    stands_of : (events : List Event) (ending : Ending) → IsPlayed bench file plan retries events ending → Good (events_from (taken_by events ending) first)
+        → ToldStands bench file plan retries (taken_by events ending) (told_by ending)
+    stands_of events ending played good =
+        subst (ToldStands bench file plan retries (taken_by events ending)) (sym (taken_told events ending played).1) (told_stands (taken_by events ending) good)
+
+    pub plays_stand : PlaysStand bench file plan retries
+    plays_stand events ending played =
+        let es = taken_by events ending in
+        let taken = (taken_told events ending played).0 in
+        (λ kept. stands_of events ending played (kept_good es taken kept), λ own. stands_of events ending played (own_good es taken own))

@@ -1,4 +1,4 @@
--- Whatever happens in a lab that takes each event, the manager's phase stands on the records.
+-- Whatever happens in a lab by honest events, the manager's phase stands on the records.
 use Rattle.std.proofs.Common.{◌≡◌, ℕ, List, [], ◌∷◌, ◌++◌, length, None, refl, ◌∙◌, ap, subst, arith}
 use Rattle.std.proofs.lemmas.Option.{none-some}
 use Rattle.two_wire.specs.declared.Bus.{Bus}
@@ -29,30 +29,33 @@ use Rattle.model_family.proofs.Board.{starts_valid}
 use Rattle.undo_plans.specs.declared.names.Names.{Names}
 use Rattle.model_lab.specs.ManagerSteps.{addresses}
 use Rattle.model_lab.specs.Lab.{Event, Calls, ToBmc, ToMgr, OtherIpmb, OtherSmbus, Noise, Idles, OnBench, Lab, step, run}
-use Rattle.model_lab.specs.Faults.{fault_of, AllTaken}
+use Rattle.model_lab.specs.Faults.{AllTaken}
+use Rattle.model_lab.specs.Honest.{HasBytes, IsHonest, AllHonest}
 use Rattle.model_lab.specs.Own.{IsOwn, AllOwn}
+use Rattle.model_lab.specs.Joins.{IsJoinLive, AllJoinLive}
 use Rattle.model_lab.proofs.Breaches.{faults_are_breaches}
 use Rattle.model_headline.specs.Each.{Each}
 use Rattle.model_headline.specs.Tied.{P, F, L, W, rules_on, requests, EntryAnswers, IsTied, world_of, Goes}
 use Rattle.model_headline.specs.Follows.{Holds, IsFollowed}
-use Rattle.model_headline.specs.Theorem.{first, after, IsTakenAndOwn, AlwaysStands, UndoneForGood, StopsOnlyIfTold, Headline}
+use Rattle.model_headline.specs.Theorem.{first, after, IsTrusted, IsHonestAndOwn, IsTakenAndOwn, AlwaysStands, UndoneForGood, StopsOnlyIfTold, Headline, PremisesAgree}
 use Rattle.model_headline.proofs.Goes.{stays_there, goes_may, goes_reach, goes_on}
+use Rattle.model_headline.proofs.Joined.{is_own, is_live}
 use Rattle.model_headline.proofs.Stopped.{told_to_stop}
 use Rattle.model_headline.proofs.Steps.{calls_followed, replies_followed, requests_followed, others_followed}
 
 -- ---- one event
 
 module _ (setup : BoardFile) (names : Names) (plan : List Op) (start : Records) where
-  -- an event that is taken, and joins no other request's assembly, is followed
-  pub event_followed : (x : Lab (P setup names)) (e : Event) → fault_of (P setup names) x e ≡ None → IsOwn (P setup names) x e → IsFollowed setup names plan start x e
-  event_followed x (Calls call) none own = calls_followed setup names plan start x call
-  event_followed x (ToBmc number) none own = requests_followed setup names plan start x number ((faults_are_breaches (P setup names)).taken x (ToBmc number) tt none) own
-  event_followed x (ToMgr number) none own = replies_followed setup names plan start x number ((faults_are_breaches (P setup names)).taken x (ToMgr number) tt none)
-  event_followed x (OtherIpmb r) none own = (others_followed setup names plan start).requests x r ((faults_are_breaches (P setup names)).taken x (OtherIpmb r) tt none)
-  event_followed x (OtherSmbus m) none own = (others_followed setup names plan start).messages x m ((faults_are_breaches (P setup names)).taken x (OtherSmbus m) tt none)
-  event_followed x (Noise on bytes) none own = (others_followed setup names plan start).noise x on bytes
-  event_followed x (Idles on requester) none own = (others_followed setup names plan start).idles x on requester ((faults_are_breaches (P setup names)).taken x (Idles on requester) tt none)
-  event_followed x (OnBench activity) none own = (others_followed setup names plan start).bench x activity
+  -- an event that is honest, and joins no other request's assembly, is followed
+  pub event_followed : (x : Lab (P setup names)) (e : Event) → (HasBytes (P setup names) e → IsHonest (P setup names) x e) → IsOwn (P setup names) x e → IsFollowed setup names plan start x e
+  event_followed x (Calls call) honest own = calls_followed setup names plan start x call
+  event_followed x (ToBmc number) honest own = requests_followed setup names plan start x number (honest tt) own
+  event_followed x (ToMgr number) honest own = replies_followed setup names plan start x number (honest tt)
+  event_followed x (OtherIpmb r) honest own = (others_followed setup names plan start).requests x r (honest tt)
+  event_followed x (OtherSmbus m) honest own = (others_followed setup names plan start).messages x m (honest tt)
+  event_followed x (Noise on bytes) honest own = (others_followed setup names plan start).noise x on bytes
+  event_followed x (Idles on requester) honest own = (others_followed setup names plan start).idles x on requester (honest tt)
+  event_followed x (OnBench activity) honest own = (others_followed setup names plan start).bench x activity
 
   -- ---- all events
 
@@ -70,13 +73,60 @@ module _ (setup : BoardFile) (names : Names) (plan : List Op) (start : Records) 
       (run_holds (F setup names) (is_family setup (addresses names)) (L setup names) (packet_lines (addresses names) packets_of packets_cut) (W setup names) (λ bus. 0) plan start g.happenings (world_of setup names x on) h g.may)
 
   pub all_followed : (events : List Event) (x : Lab (P setup names)) (on : States (L setup names)) → IsTied setup names x on → Holds setup names plan start (world_of setup names x on)
-      → AllTaken (P setup names) setup events x → AllOwn (P setup names) setup events x → Goes setup names x on (run (P setup names) setup events x)
-  all_followed [] x on tied h taken own = subst (Goes setup names x on) (no_events x) (stays_there setup names x on tied)
-  all_followed (e ∷ es) x on tied h taken own =
+      → AllHonest (P setup names) setup events x → AllOwn (P setup names) setup events x → Goes setup names x on (run (P setup names) setup events x)
+  all_followed [] x on tied h honest own = subst (Goes setup names x on) (no_events x) (stays_there setup names x on tied)
+  all_followed (e ∷ es) x on tied h honest own =
       let next : Lab (P setup names) = step (P setup names) setup x e in
-      let one : Goes setup names x on next = event_followed x e taken.0 own.0 on tied h in
-      let rest = all_followed es next one.left one.tied (still_holds x next on h one) taken.1 own.1 in
+      let one : Goes setup names x on next = event_followed x e honest.0 own.0 on tied h in
+      let rest = all_followed es next one.left one.tied (still_holds x next on h one) honest.1 own.1 in
       subst (Goes setup names x on) (more_events e es x) (goes_on setup names x next (run (P setup names) setup es next) on one rest)
+
+  -- ---- one premise for another
+
+  -- what an honest event joins
+  event_own : (x : Lab (P setup names)) (on : States (L setup names)) → IsTied setup names x on → Holds setup names plan start (world_of setup names x on)
+      → (e : Event) → (HasBytes (P setup names) e → IsHonest (P setup names) x e) → IsJoinLive (P setup names) x e → IsOwn (P setup names) x e
+  event_own x on tied h (ToBmc number) honest joins = is_own setup names plan start x on tied h number (honest tt) joins
+  event_own x on tied h (Calls call) honest joins = tt
+  event_own x on tied h (ToMgr number) honest joins = tt
+  event_own x on tied h (OtherIpmb r) honest joins = tt
+  event_own x on tied h (OtherSmbus m) honest joins = tt
+  event_own x on tied h (Noise bus bytes) honest joins = tt
+  event_own x on tied h (Idles bus requester) honest joins = tt
+  event_own x on tied h (OnBench activity) honest joins = tt
+
+  event_live : (x : Lab (P setup names)) (on : States (L setup names)) → IsTied setup names x on → Holds setup names plan start (world_of setup names x on)
+      → (e : Event) → (HasBytes (P setup names) e → IsHonest (P setup names) x e) → IsOwn (P setup names) x e → IsJoinLive (P setup names) x e
+  event_live x on tied h (ToBmc number) honest joins = is_live setup names plan start x on tied h number (honest tt) joins
+  event_live x on tied h (Calls call) honest joins = tt
+  event_live x on tied h (ToMgr number) honest joins = tt
+  event_live x on tied h (OtherIpmb r) honest joins = tt
+  event_live x on tied h (OtherSmbus m) honest joins = tt
+  event_live x on tied h (Noise bus bytes) honest joins = tt
+  event_live x on tied h (Idles bus requester) honest joins = tt
+  event_live x on tied h (OnBench activity) honest joins = tt
+
+  pub all_own : (events : List Event) (x : Lab (P setup names)) (on : States (L setup names)) → IsTied setup names x on → Holds setup names plan start (world_of setup names x on)
+      → AllHonest (P setup names) setup events x → AllJoinLive (P setup names) setup events x → AllOwn (P setup names) setup events x
+  all_own [] x on tied h honest joins = tt
+  all_own (e ∷ es) x on tied h honest joins =
+      let next : Lab (P setup names) = step (P setup names) setup x e in
+      let own = event_own x on tied h e honest.0 joins.0 in
+      let one : Goes setup names x on next = event_followed x e honest.0 own on tied h in
+      (own, all_own es next one.left one.tied (still_holds x next on h one) honest.1 joins.1)
+
+  pub all_live : (events : List Event) (x : Lab (P setup names)) (on : States (L setup names)) → IsTied setup names x on → Holds setup names plan start (world_of setup names x on)
+      → AllHonest (P setup names) setup events x → AllOwn (P setup names) setup events x → AllJoinLive (P setup names) setup events x
+  all_live [] x on tied h honest own = tt
+  all_live (e ∷ es) x on tied h honest own =
+      let next : Lab (P setup names) = step (P setup names) setup x e in
+      let one : Goes setup names x on next = event_followed x e honest.0 own.0 on tied h in
+      (event_live x on tied h e honest.0 own.0, all_live es next one.left one.tied (still_holds x next on h one) honest.1 own.1)
+
+  -- what a lab takes is honest
+  pub taken_honest : (events : List Event) (x : Lab (P setup names)) → AllTaken (P setup names) setup events x → AllHonest (P setup names) setup events x
+  taken_honest [] x taken = tt
+  taken_honest (e ∷ es) x taken = (λ bytes. (faults_are_breaches (P setup names)).taken x e bytes taken.0, taken_honest es (step (P setup names) setup x e) taken.1)
 
 -- ---- the start
 
@@ -133,10 +183,10 @@ module _ (setup : BoardFile) (names : Names) (plan : List Op) (retries : ℕ) wh
 
   -- ---- the theorem
 
-  goes : (events : List Event) → IsTakenAndOwn setup names plan retries events → Goes setup names (first setup names plan retries) quiet (after setup names plan retries events)
+  goes : (events : List Event) → IsHonestAndOwn setup names plan retries events → Goes setup names (first setup names plan retries) quiet (after setup names plan retries events)
   goes events good = all_followed setup names plan (first setup names plan retries).board.records events (first setup names plan retries) quiet first_tied first_holds good.0 good.1
 
-  pub always_stands : AlwaysStands setup names plan retries
+  always_stands : AlwaysStands setup names plan retries (IsHonestAndOwn setup names plan retries)
   always_stands events good =
       let x0 = first setup names plan retries in
       let g = goes events good in
@@ -148,18 +198,18 @@ module _ (setup : BoardFile) (names : Names) (plan : List Op) (retries : ℕ) wh
       )
 
   -- the part of a schedule that comes first, and the rest
-  first_taken : (events later : List Event) (x : Lab (P setup names)) → AllTaken (P setup names) setup (events ++ later) x → AllTaken (P setup names) setup events x
-  first_taken [] later x all = tt
-  first_taken (e ∷ es) later x all = (all.0, first_taken es later (step (P setup names) setup x e) all.1)
+  pub first_honest : (events later : List Event) (x : Lab (P setup names)) → AllHonest (P setup names) setup (events ++ later) x → AllHonest (P setup names) setup events x
+  first_honest [] later x all = tt
+  first_honest (e ∷ es) later x all = (all.0, first_honest es later (step (P setup names) setup x e) all.1)
 
-  first_own : (events later : List Event) (x : Lab (P setup names)) → AllOwn (P setup names) setup (events ++ later) x → AllOwn (P setup names) setup events x
+  pub first_own : (events later : List Event) (x : Lab (P setup names)) → AllOwn (P setup names) setup (events ++ later) x → AllOwn (P setup names) setup events x
   first_own [] later x all = tt
   first_own (e ∷ es) later x all = (all.0, first_own es later (step (P setup names) setup x e) all.1)
 
-  later_taken : (events later : List Event) (x : Lab (P setup names)) → AllTaken (P setup names) setup (events ++ later) x → AllTaken (P setup names) setup later (run (P setup names) setup events x)
+  later_honest : (events later : List Event) (x : Lab (P setup names)) → AllHonest (P setup names) setup (events ++ later) x → AllHonest (P setup names) setup later (run (P setup names) setup events x)
   unfolding run
-  later_taken [] later x all = all
-  later_taken (e ∷ es) later x all = later_taken es later (step (P setup names) setup x e) all.1
+  later_honest [] later x all = all
+  later_honest (e ∷ es) later x all = later_honest es later (step (P setup names) setup x e) all.1
 
   later_own : (events later : List Event) (x : Lab (P setup names)) → AllOwn (P setup names) setup (events ++ later) x → AllOwn (P setup names) setup later (run (P setup names) setup events x)
   unfolding run
@@ -171,26 +221,46 @@ module _ (setup : BoardFile) (names : Names) (plan : List Op) (retries : ℕ) wh
   both_run [] later x = refl
   both_run (e ∷ es) later x = both_run es later (step (P setup names) setup x e)
 
-  pub undone_stays : UndoneForGood setup names plan retries
+  undone_stays : UndoneForGood setup names plan retries (IsHonestAndOwn setup names plan retries)
   undone_stays events later good undone =
       let x0 = first setup names plan retries in
       let y = after setup names plan retries events in
       let z = run (P setup names) setup later y in
-      let g = goes events (first_taken events later x0 good.0, first_own events later x0 good.1) in
+      let g = goes events (first_honest events later x0 good.0, first_own events later x0 good.1) in
       let h = still_holds setup names plan x0.board.records x0 y quiet first_holds g in
-      let more : Goes setup names y g.left z = all_followed setup names plan x0.board.records later y g.left g.tied h (later_taken events later x0 good.0) (later_own events later x0 good.1) in
+      let more : Goes setup names y g.left z = all_followed setup names plan x0.board.records later y g.left g.tied h (later_honest events later x0 good.0) (later_own events later x0 good.1) in
       let at : phase_of (F setup names).words (world.run (F setup names) (L setup names) (W setup names) g.happenings (world_of setup names x0 quiet)).machine ≡ Undone =
       ap (λ (w : World (F setup names) (L setup names)). phase_of (F setup names).words w.machine) g.reaches ∙ undone in
       let told = undone_for_good (F setup names) (is_family setup (addresses names)) (L setup names) (packet_lines (addresses names) packets_of packets_cut) (W setup names) plan retries quiet x0.board is_start g.happenings more.happenings (goes_may setup names x0 y z quiet g more) at in
       subst (λ (l : Lab (P setup names)). (l.board.records ≡ x0.board.records) × ShowsSame (F setup names) x0.board l.board) (both_run events later x0)
       (subst (λ (w : World (F setup names) (L setup names)). (w.board.records ≡ x0.board.records) × ShowsSame (F setup names) x0.board w.board) (goes_reach setup names x0 y z quiet g more) told)
 
-  pub stops_if_told : StopsOnlyIfTold setup names plan retries
+  stops_if_told : StopsOnlyIfTold setup names plan retries (IsHonestAndOwn setup names plan retries)
   stops_if_told events k good halted =
       let y = after setup names plan retries events in
       let told : Halts (F setup names) y.manager.machine.stopped plan (Halted k Stop) y.board.records =
       subst (λ (p : Phase). Halts (F setup names) y.manager.machine.stopped plan p y.board.records) halted (always_stands events good).1 in
       told_to_stop (P setup names) setup events (first setup names plan retries) refl told
 
-  pub headline : Headline setup names plan retries
-  headline = record { stands = always_stands; undone = undone_stays; stopped = stops_if_told }
+  -- ---- of each premise that comes to this one
+
+  pub premises_agree : PremisesAgree setup names plan retries
+  premises_agree =
+      let x0 = first setup names plan retries in record {
+        own = λ events good. all_own setup names plan x0.board.records events x0 quiet first_tied first_holds good.0 good.1;
+        live = λ events good. all_live setup names plan x0.board.records events x0 quiet first_tied first_holds good.0 good.1;
+        honest = λ events taken. taken_honest setup names plan x0.board.records events x0 taken;
+      }
+
+  pub headline_of : (Good : List Event → Type 0) → ((events : List Event) → Good events → IsHonestAndOwn setup names plan retries events) → Headline setup names plan retries Good
+  headline_of Good comes_to = record {
+    stands = λ events good. always_stands events (comes_to events good);
+    undone = λ events later good undone. undone_stays events later (comes_to (events ++ later) good) undone;
+    stopped = λ events k good halted. stops_if_told events k (comes_to events good) halted;
+  }
+
+  pub headline : Headline setup names plan retries (IsTrusted setup names plan retries)
+  headline = headline_of (IsTrusted setup names plan retries) (λ events good. (good.0, premises_agree.own events good))
+
+  pub headline_own : Headline setup names plan retries (IsTakenAndOwn setup names plan retries)
+  headline_own = headline_of (IsTakenAndOwn setup names plan retries) (λ events good. (premises_agree.honest events good.0, good.1))

@@ -1,17 +1,20 @@
--- What a play tells, where no packet that it delivers joins another request's assembly.
-use Rattle.std.specs.Prelude.{◌≡◌, ℕ, ◌-◌, Bool, List, [], ◌∷◌, take}
+-- What a play tells, where no packet that it delivers joins one that has waited too long.
+use Rattle.std.specs.Prelude.{◌≡◌, ℕ, ◌+◌, ◌-◌, Bool, List, [], ◌∷◌, ◌++◌, length, take, Option, Some, None}
 use Rattle.record_base.specs.declared.op.Op.{Op}
 use Rattle.cfg_records.specs.declared.board_file.BoardFile.{BoardFile}
 use Rattle.model_bus.specs.Repeat.{In}
-use Rattle.model_undo.specs.Phase.{Stop, Halted, Undone}
+use Rattle.model_undo.specs.Phase.{Stop, Phase, Halted, Undone}
 use Rattle.model_undo.specs.Plan.{Stands, Halts}
+use Rattle.model_undo.specs.Machine.{phase_of}
+use Rattle.model_undo.specs.Headline.{ShowsSame}
 use Rattle.model_lab.specs.Lab.{Lab, opening}
 use Rattle.model_lab.specs.Own.{IsOwn}
+use Rattle.model_lab.specs.Joins.{IsJoinLive}
 use Rattle.text_schedule.specs.declared.event.Call.TheVariants.{Stop as StopCall}
 use Rattle.text_schedule.specs.declared.event.Event.{Event}
 use Rattle.text_schedule.specs.declared.event.Event.TheVariants.{Calls}
 use Rattle.model_lab.specs.Meaning.{lab_names, Bench, event_of}
-use Rattle.model_lab.specs.Played.{plans, Told, Ending, Whole, Stops, happens, IsPlayed}
+use Rattle.model_lab.specs.Played.{plans, Told, Ending, Whole, Stops, happens, after, IsPlayed}
 use Rattle.model_headline.specs.Tied.{F}
 
 -- the events that a play took: all, or those before the one that has a fault
@@ -24,24 +27,60 @@ abbrev pub told_by : Ending → Told
 told_by (Whole told) = told
 told_by (Stops fault place told) = told
 
-module _ (bench : Bench) (file : BoardFile) (plan : List Op) (retries : ℕ) where
+module _ (bench : Bench) (file : BoardFile) where
+  -- the event brings the port no packet that joins one which waited while eight or more newer requests were begun on SMBus
+  abbrev pub KeepsPremise : Lab plans → Event → Type 0
+  KeepsPremise x e = IsJoinLive plans x (event_of lab_names bench x.board e)
+
+  -- no event does, where it happens
+  abbrev pub AllKeepPremise : List Event → Lab plans → Type 0
+  AllKeepPremise [] x = Unit {0}
+  AllKeepPremise (e ∷ es) x = KeepsPremise x e × AllKeepPremise es (happens bench file e x)
+
   -- no packet that an event delivers to the port joins an assembly that another request's packet opened, where it happens
   abbrev pub AreOwn : List Event → Lab plans → Type 0
   AreOwn [] x = Unit {0}
   AreOwn (e ∷ es) x = IsOwn plans x (event_of lab_names bench x.board e) × AreOwn es (happens bench file e x)
 
-  -- The phase says what the records are, so an undone plan leaves those of the start, and UndoRefused isn't told. A plan that halted has the
-  -- cause that the phase names; and it halts with Stop only where it was told to stop.
+  -- this is told of the premise on packets: every event keeps it, or the one of this place, counted from 1, is the first that doesn't
+  abbrev pub TellsPremise : List Event → Lab plans → Option ℕ → Type 0
+  TellsPremise events x None = AllKeepPremise events x
+  TellsPremise events x (Some place) =
+      (before : List Event) × (rest : List Event) × (e : Event) × (events ≡ before ++ e ∷ rest) × (place ≡ length before + 1) × AllKeepPremise before x
+      × (¬ KeepsPremise (after bench file before x) e)
+
+module _ (bench : Bench) (file : BoardFile) (plan : List Op) (retries : ℕ) where
+  -- the lab as it begins, and after events
+  abbrev pub lab_after : List Event → Lab plans
+  lab_after events = after bench file events (opening plans file lab_names plan retries)
+
+  abbrev pub phase_after : List Event → Phase
+  phase_after events = phase_of plans.words (lab_after events).manager.machine
+
+  -- Once the plan is undone, and after all that comes then, every record is what it was at the start, and each Get, whoever asks it, is
+  -- answered with the same code and shows the same configuration.
+  abbrev pub UndoneForGood : List Event → Type 0
+  UndoneForGood taken = (events later rest : List Event) → taken ≡ (events ++ later) ++ rest → phase_after events ≡ Undone
+      → ((lab_after (events ++ later)).board.records ≡ (lab_after []).board.records) × ShowsSame (F file lab_names) (lab_after []).board (lab_after (events ++ later)).board
+
+  -- The phase says what the records are, so an undone plan leaves those of the start, and UndoRefused isn't told. So it does at each
+  -- event from the one on at which the plan was undone. A plan that halted has the cause that the phase names; and it halts with Stop only
+  -- where it was told to stop.
   pub record ToldStands (taken : List Event) (told : Told) : Type 0 where
     pub stands : Stands (F file lab_names) plan told.start told.phase told.records
     pub undone : told.phase ≡ Undone → told.records ≡ told.start
+    pub for_good : UndoneForGood taken
     pub halts : (stopped : Bool) × Halts (F file lab_names) stopped plan told.phase told.records
     pub stopped : (k : ℕ) → told.phase ≡ Halted k Stop → In (Calls StopCall) taken
 
-  -- so it is where no packet of the events taken joins another request's assembly
+  -- so it is where no packet of the events taken joins one that has waited so long
+  abbrev pub StandsIfKept : List Event → Ending → Type 0
+  StandsIfKept events ending = AllKeepPremise bench file (taken_by events ending) (lab_after []) → ToldStands (taken_by events ending) (told_by ending)
+
+  -- and where none joins another request's assembly
   abbrev pub StandsIfOwn : List Event → Ending → Type 0
-  StandsIfOwn events ending = AreOwn (taken_by events ending) (opening plans file lab_names plan retries) → ToldStands (taken_by events ending) (told_by ending)
+  StandsIfOwn events ending = AreOwn bench file (taken_by events ending) (lab_after []) → ToldStands (taken_by events ending) (told_by ending)
 
   -- and so it is of every play
   abbrev pub PlaysStand : Type 0
-  PlaysStand = (events : List Event) (ending : Ending) → IsPlayed bench file plan retries events ending → StandsIfOwn events ending
+  PlaysStand = (events : List Event) (ending : Ending) → IsPlayed bench file plan retries events ending → StandsIfKept events ending × StandsIfOwn events ending

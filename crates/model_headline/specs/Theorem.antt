@@ -1,4 +1,4 @@
--- What a lab's phase says at every moment of a schedule that the lab takes.
+-- What a lab's phase says at every moment of an honest schedule.
 use Rattle.std.specs.Prelude.{◌≡◌, ℕ, List, ◌++◌}
 use Rattle.record_base.specs.declared.op.Op.{Op}
 use Rattle.cfg_records.specs.declared.board_file.BoardFile.{BoardFile}
@@ -11,7 +11,9 @@ use Rattle.undo_plans.specs.declared.names.Names.{Names}
 use Rattle.model_lab.specs.ManagerSteps.{Stop as StopCall}
 use Rattle.model_lab.specs.Lab.{Event, Calls, Lab, run, opening}
 use Rattle.model_lab.specs.Faults.{AllTaken}
+use Rattle.model_lab.specs.Honest.{AllHonest}
 use Rattle.model_lab.specs.Own.{AllOwn}
+use Rattle.model_lab.specs.Joins.{AllJoinLive}
 use Rattle.model_headline.specs.Tied.{P, F}
 
 module _ (setup : BoardFile) (names : Names) (plan : List Op) (retries : ℕ) where
@@ -27,7 +29,16 @@ module _ (setup : BoardFile) (names : Names) (plan : List Op) (retries : ℕ) wh
   abbrev pub phase_after : List Event → Phase
   phase_after events = phase_of (F setup names).words (after events).manager.machine
 
-  -- the lab takes each event, and no packet that it delivers to the port joins an assembly that another request's packet opened
+  -- Each event is honest, and no packet that the lab delivers to the port joins one that has waited there while eight or more newer
+  -- requests of the manager were begun on SMBus.
+  abbrev pub IsTrusted : List Event → Type 0
+  IsTrusted events = AllHonest (P setup names) setup events first × AllJoinLive (P setup names) setup events first
+
+  -- each event is honest, and no packet that the lab delivers to the port joins an assembly that another request's packet opened
+  abbrev pub IsHonestAndOwn : List Event → Type 0
+  IsHonestAndOwn events = AllHonest (P setup names) setup events first × AllOwn (P setup names) setup events first
+
+  -- the lab takes each event, and so
   abbrev pub IsTakenAndOwn : List Event → Type 0
   IsTakenAndOwn events = AllTaken (P setup names) setup events first × AllOwn (P setup names) setup events first
 
@@ -37,21 +48,30 @@ module _ (setup : BoardFile) (names : Names) (plan : List Op) (retries : ℕ) wh
       Stands (F setup names) plan first.board.records (phase_after events) (after events).board.records
       × Halts (F setup names) (after events).manager.machine.stopped plan (phase_after events) (after events).board.records
 
-  -- so it is after every such schedule, and so at each of its events, since what it begins with is such a schedule too
-  abbrev pub AlwaysStands : Type 0
-  AlwaysStands = (events : List Event) → IsTakenAndOwn events → StandsAfter events
+  -- what holds of every good schedule
+  module _ (Good : List Event → Type 0) where
+    -- so it is after each, and so at each of its events, since what it begins with is such a schedule too
+    abbrev pub AlwaysStands : Type 0
+    AlwaysStands = (events : List Event) → Good events → StandsAfter events
 
-  -- once the plan is undone, and after all that comes then, every record is what it was at the start, and each Get, whoever asks it, shows
-  -- the same configuration
-  abbrev pub UndoneForGood : Type 0
-  UndoneForGood = (events later : List Event) → IsTakenAndOwn (events ++ later) → phase_after events ≡ Undone
-      → ((after (events ++ later)).board.records ≡ first.board.records) × ShowsSame (F setup names) first.board (after (events ++ later)).board
+    -- once the plan is undone, and after all that comes then, every record is what it was at the start, and each Get, whoever asks it, is
+    -- answered with the same code and shows the same configuration
+    abbrev pub UndoneForGood : Type 0
+    UndoneForGood = (events later : List Event) → Good (events ++ later) → phase_after events ≡ Undone
+        → ((after (events ++ later)).board.records ≡ first.board.records) × ShowsSame (F setup names) first.board (after (events ++ later)).board
 
-  -- a plan halts because of a stop only where it was told to stop
-  abbrev pub StopsOnlyIfTold : Type 0
-  StopsOnlyIfTold = (events : List Event) (k : ℕ) → IsTakenAndOwn events → phase_after events ≡ Halted k Stop → In (Calls StopCall) events
+    -- a plan halts because of a stop only where it was told to stop
+    abbrev pub StopsOnlyIfTold : Type 0
+    StopsOnlyIfTold = (events : List Event) (k : ℕ) → Good events → phase_after events ≡ Halted k Stop → In (Calls StopCall) events
 
-  pub record Headline : Type 0 where
-    pub stands : AlwaysStands
-    pub undone : UndoneForGood
-    pub stopped : StopsOnlyIfTold
+    pub record Headline : Type 0 where
+      pub stands : AlwaysStands
+      pub undone : UndoneForGood
+      pub stopped : StopsOnlyIfTold
+
+  -- What the premises have to do with one another. Where each event is honest, no packet joins one that has waited so long exactly where
+  -- none joins an assembly that another request's packet opened. What a lab takes is honest.
+  pub record PremisesAgree : Type 0 where
+    pub own : (events : List Event) → IsTrusted events → AllOwn (P setup names) setup events first
+    pub live : (events : List Event) → IsHonestAndOwn events → AllJoinLive (P setup names) setup events first
+    pub honest : (events : List Event) → AllTaken (P setup names) setup events first → AllHonest (P setup names) setup events first

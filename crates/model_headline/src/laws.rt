@@ -7,7 +7,7 @@ ghost use Rattle.cfg_records.specs.Records.{Records};
 ghost use Rattle.undo_plans.specs.declared.names.Names.{Names};
 ghost use Rattle.model_headline.specs.Follows.{CallsAreFollowed, RepliesAreFollowed, RequestsAreFollowed, OthersAreFollowed};
 ghost use Rattle.model_lab.specs.Meaning.{Bench};
-ghost use Rattle.model_headline.specs.Theorem.{Headline};
+ghost use Rattle.model_headline.specs.Theorem.{Headline, IsTrusted, IsTakenAndOwn, PremisesAgree};
 ghost use Rattle.model_headline.specs.Plays.{PlaysStand};
 ghost use Rattle.model_headline.specs.CleanLink.{RunsOnCleanLink};
 ghost use Rattle.model_headline.specs.CleanPlays.{PlaysRunClean};
@@ -34,14 +34,27 @@ pub fn others_are_followed()
     ensures { (setup : BoardFile) (names : Names) (plan : List Op) (start : Records) → OthersAreFollowed setup names plan start }
 {}
 
-/// The headline, over a lab. After every schedule that a lab takes and in which no packet joins another request's assembly, so at each of
-/// its events, the manager's phase says what the records are, and a plan that halted has its cause. Once the plan is undone, and after all
-/// that comes then, every record is what it was at the start, and each Get shows the same configuration.
+/// The headline, over a lab. After every honest schedule in which no packet joins one that waited while eight or more newer requests were
+/// begun, so at each of its events, the manager's phase says what the records are, and a plan that halted has its cause. Once the plan is
+/// undone, and after all that comes then, every record is what it was at the start, and each Get is answered with the same code and shows
+/// the same configuration.
 pub fn undo_takes_everything_back()
-    ensures { (setup : BoardFile) (names : Names) (plan : List Op) (retries : ℕ) → Headline setup names plan retries }
+    ensures { (setup : BoardFile) (names : Names) (plan : List Op) (retries : ℕ) → Headline setup names plan retries (IsTrusted setup names plan retries) }
 {}
 
-/// What every play tells: its phase says what the records are, and a plan that halted has its cause.
+/// So it is of every schedule that a lab takes and in which no packet joins another request's assembly.
+pub fn taken_schedules_are_undone()
+    ensures { (setup : BoardFile) (names : Names) (plan : List Op) (retries : ℕ) → Headline setup names plan retries (IsTakenAndOwn setup names plan retries) }
+{}
+
+/// Where each event is honest, no packet joins one that has waited so long exactly where none joins another request's assembly; and what a
+/// lab takes is honest.
+pub fn premises_agree()
+    ensures { (setup : BoardFile) (names : Names) (plan : List Op) (retries : ℕ) → PremisesAgree setup names plan retries }
+{}
+
+/// What every play tells, by either premise on packets: its phase says what the records are, what is undone stays so, and a plan that
+/// halted has its cause.
 pub fn plays_stand()
     ensures { (bench : Bench) (file : BoardFile) (plan : List Op) (retries : ℕ) → PlaysStand bench file plan retries }
 {}

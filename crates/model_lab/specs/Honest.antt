@@ -1,5 +1,5 @@
 -- What the links and the other requesters are trusted with, in words of the lab.
-use Rattle.std.specs.Prelude.{◌≡◌, ◌≢◌, ◌⊎◌, ℕ, ◌+◌, ◌<◌, ◌≤◌, false, List, ◌∷◌, All, Some, None, slice_get}
+use Rattle.std.specs.Prelude.{◌≡◌, ◌≢◌, ◌⊎◌, ℕ, ◌+◌, ◌<◌, ◌≤◌, false, List, [], ◌∷◌, All, Some, None, slice_get}
 use Rattle.two_wire.specs.declared.Bus.{Bus}
 use Rattle.two_wire.specs.declared.Bus.TheVariants.{Ipmb, Smbus}
 use Rattle.ipmb_frame.specs.declared.message.Msg.{Msg}
@@ -8,6 +8,7 @@ use Rattle.mctp_net.specs.declared.packet.Packet.{Packet}
 use Rattle.mctp_net.specs.Grammar.{IsPacket}
 use Rattle.pldm_base.specs.declared.message.PldmRequest.{PldmRequest}
 use Rattle.pldm_base.specs.Message.{IsRequest}
+use Rattle.cfg_records.specs.declared.board_file.BoardFile.{BoardFile}
 use Rattle.model_bus.specs.Circle.{span_of}
 use Rattle.bmc_board.specs.Table.{is_changing}
 use Rattle.model_lab.specs.Spelled.{numbers_of}
@@ -15,7 +16,7 @@ use Rattle.model_undo.specs.Machine.{open_bus}
 use Rattle.model_lab.specs.PortSteps.{asked_in, pldm_asked}
 use Rattle.undo_plans.specs.declared.names.Names.{Names}
 use Rattle.model_lab.specs.ManagerSteps.{own_on, peer_on, Plans}
-use Rattle.model_lab.specs.Lab.{Way, ToPort, ToManager, LabFrame, Event, Calls, ToBmc, ToMgr, OtherIpmb, OtherSmbus, Noise, Idles, OnBench, Lab, idles_on}
+use Rattle.model_lab.specs.Lab.{Way, ToPort, ToManager, LabFrame, Event, Calls, ToBmc, ToMgr, OtherIpmb, OtherSmbus, Noise, Idles, OnBench, Lab, idles_on, step}
 use Rattle.model_lab.specs.Faults.{Fault, Room, begun_on, fault_of}
 
 -- neither the manager nor the controller is known so on the bus
@@ -62,6 +63,11 @@ module _ (P : Plans) where
   abbrev pub HasBytes : Event → Type 0
   HasBytes (Noise on bytes) = All (λ b. b < 256) bytes
   HasBytes _ = Unit {0}
+
+  -- every event of a schedule is honest, where it happens; what isn't bytes is no noise
+  abbrev pub AllHonest : BoardFile → List Event → Lab P → Type 0
+  AllHonest setup [] x = Unit {0}
+  AllHonest setup (e ∷ es) x = (HasBytes e → IsHonest x e) × AllHonest setup es (step P setup x e)
 
   -- a lab takes honest events alone, and refuses an honest one only for want of room
   pub record FaultsAreBreaches : Type 0 where

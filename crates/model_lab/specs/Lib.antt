@@ -11,6 +11,7 @@ pub mod ManagerSteps
 pub mod Lab
 pub mod Faults
 pub mod Own
+pub mod Joins
 pub mod Honest
 pub mod Clean
 pub mod Example
