@@ -22,6 +22,7 @@ pub mod Stopped
 pub mod Theorem
 pub mod Plays
 pub mod CleanQueue
+pub mod CleanFresh
 pub mod CleanLog
 pub mod CleanExchange
 pub mod CleanTest
