@@ -1,5 +1,5 @@
 -- What a request that comes to the port on IPMB does in a lab, it does in the model's world.
-use Rattle.std.proofs.Common.{◌≡◌, ℕ, Bool, true, false, cond, ◌&&◌, List, [], ◌∷◌, length, Option, Some, None, refl, sym, ◌∙◌, ap, subst, inl, inr}
+use Rattle.std.proofs.Common.{◌≡◌, ℕ, Bool, true, false, cond, ◌&&◌, List, [], ◌∷◌, ◌++◌, length, Option, Some, None, refl, sym, ◌∙◌, ap, subst, inl, inr}
 use Rattle.std.specs.Prelude.{◌==◌, ◌≢◌, slice_get, IfSome}
 use Rattle.std.specs.List.{list_all}
 use Rattle.std.specs.Str.{bytes_eq}
@@ -30,6 +30,7 @@ use Rattle.model_bus.specs.Carried.{Outcome, Repeats, IsBusy, IsNew, kept_for, o
 use Rattle.model_bus.proofs.Lists.{Grows, grows, at_end, one_more}
 use Rattle.model_undo.specs.Words.{Answered}
 use Rattle.model_undo.specs.Machine.{count_of}
+use Rattle.model_undo.specs.Giving.{given_by}
 use Rattle.model_undo.specs.World as world
 use Rattle.model_undo.specs.World.{States, World, OnBus, update}
 use Rattle.model_lab.specs.ManagerWords.{family_answer}
@@ -47,7 +48,7 @@ use Rattle.model_lab.specs.Lab.{Way, ToManager, ToOthers, LabFrame, Lab, port_do
 use Rattle.model_lab.specs.Honest.{IsAnother}
 use Rattle.model_lab.proofs.Spelling.{are_the_models}
 use Rattle.model_headline.specs.Each.{Each}
-use Rattle.model_headline.specs.Tied.{P, F, L, W, ipmb_bus, rules_on, requests, HoldsAsked, IsHeldBy, IsHeld, IsAnswer, EntryAnswers, IsTied, world_of, Goes}
+use Rattle.model_headline.specs.Tied.{P, F, L, W, ipmb_bus, rules_on, requests, HoldsAsked, IsHeldBy, IsHeld, IsAnswer, EntryAnswers, IsTied, world_of, IsGiven, Goes}
 use Rattle.model_headline.specs.Follows.{Holds}
 use Rattle.model_headline.proofs.Each.{each_append}
 use Rattle.model_headline.proofs.Frames.{all_held}
@@ -183,6 +184,7 @@ module _ (setup : BoardFile) (names : Names) (plan : List Op) (start : Records) 
       left = update (L setup names) Ipmb other_on on;
       may = (((tt, another), refl, records_stay done quiet), tt);
       reaches = refl;
+      gives = tt;
       tied = port_tied ToOthers 0 done other_on
           (record { log = refl; begun = refl; taken = refl; written = record { requests = (tied.written Ipmb).requests; replies = (tied.written Ipmb).replies }; more = λ n f e. e }) tt;
     }
@@ -201,6 +203,7 @@ module _ (setup : BoardFile) (names : Names) (plan : List Op) (start : Records) 
           left = on;
           may = tt;
           reaches = refl;
+          gives = tt;
           tied = record {
             named = tied.named;
             ipmb_wire = tied.ipmb_wire;
@@ -322,12 +325,34 @@ module _ (setup : BoardFile) (names : Names) (plan : List Op) (start : Records) 
         subst (λ a. (F setup names).Row x.board a (family_answer given.0) given.1) (sym read_so) (has_answer setup x.board (asked_in r)),
       )
 
+      -- the answer is the lab's
+      gave : (o : Outcome) → Each (IsGiven setup names x (left_lab ToManager f.request o))
+          (given_by (F setup names) (L setup names) (W setup names) Ipmb (exchange (new_bytes o hold.bytes) (answer_to setup x.board r)) x.board (left_by o given.1 x.board) ++ [])
+      gave (Repeats reply) = tt
+      gave IsBusy = tt
+      gave IsNew = (
+        record {
+          before = refl;
+          answers = record {
+            bus = Ipmb;
+            kept = kept;
+            carried = ap (λ (log : List Entry). Carried kept ∷ log) tied.ipmb_log;
+            from_manager = ap (λ (q : Heard). q.requester) heard_so;
+            asks = ap (asked_from (addresses names) Ipmb) bytes_so;
+            replies = refl;
+            row = subst (λ a. (F setup names).Row x.board a (family_answer given.0) given.1) (sym read_so) (has_answer setup x.board (asked_in r));
+          };
+        },
+        tt,
+      )
+
       manager_asks : Goes setup names x on (left_lab ToManager f.request done)
       manager_asks = record {
         happenings = OnBus Ipmb reaches_port (left_by done given.1 x.board) ∷ [];
         left = update (L setup names) Ipmb model_after on;
         may = (((tt, honest_there), refl, subst (λ o. world.BoardMay (F setup names) (L setup names) (W setup names) Ipmb o x.board (left_by done given.1 x.board)) (sym carried_so) (board_may done)), tt);
         reaches = ap (λ (s : BusState). let w : World (F setup names) (L setup names) = record { machine = x.manager.machine; on = update (L setup names) Ipmb s on; board = left_by done given.1 x.board } in w) happens_so;
+        gives = subst (λ o. Each (IsGiven setup names x (left_lab ToManager f.request done)) (given_by (F setup names) (L setup names) (W setup names) Ipmb o x.board (left_by done given.1 x.board) ++ [])) (sym carried_so) (gave done);
         tied = port_tied ToManager f.request done model_after goes_on held_reply;
       }
 

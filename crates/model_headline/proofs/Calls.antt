@@ -1,5 +1,5 @@
 -- What the calls of a manager do in a lab, they do in the model's world.
-use Rattle.std.proofs.Common.{◌≡◌, ◌+◌, Bool, true, false, List, [], ◌∷◌, length, Option, Some, None, refl, sym, ◌∙◌, ap, subst, arith}
+use Rattle.std.proofs.Common.{◌≡◌, ◌+◌, Bool, true, false, List, [], ◌∷◌, ◌++◌, length, Option, Some, None, refl, sym, ◌∙◌, ap, subst, arith}
 use Rattle.std.specs.Prelude.{slice_get, nat_lt}
 use Rattle.std.specs.Option.{option_map}
 use Rattle.std.proofs.lemmas.Bool.{cond_both}
@@ -12,6 +12,7 @@ use Rattle.mctp_net.specs.Assembly.{Assemblies, nothing, open_beside}
 use Rattle.model_bus.specs.PacketBus.{Clears}
 use Rattle.model_undo.specs.Machine.{count_of, Task, Gets, Sets, Undoes, Part, Stage, AtStart, Opened, AtEnd, AtHalt, AtUndone, AtRefused, Machine, Turn, sending, starts, undoes, quiets, agains, stops, first_stage, undo_stage, enters}
 use Rattle.model_undo.specs.Joined.{IsClosed, AreOpen}
+use Rattle.model_undo.specs.Giving.{Giving, given_at}
 use Rattle.model_undo.specs.World as world
 use Rattle.model_undo.specs.World.{States, World, Happening, Start, Quiet, Stop, Again, Undo, OnBus, update}
 use Rattle.model_lab.specs.ManagerWords.{bus_of}
@@ -29,7 +30,7 @@ use Rattle.model_lab.specs.Spelled.{numbers_of}
 use Rattle.model_headline.specs.Each.{Each}
 use Rattle.model_headline.proofs.Frames.{all_held}
 use Rattle.model_headline.specs.Follows.{Holds}
-use Rattle.model_headline.specs.Tied.{P, F, L, W, rules_on, requests, EntryAnswers, IsTied, world_of, Goes}
+use Rattle.model_headline.specs.Tied.{P, F, L, W, rules_on, requests, EntryAnswers, IsTied, world_of, IsGiven, Goes}
 use Rattle.model_headline.proofs.Begun.{own, words, NoneOpen, enter_tied, again_tied, same_world}
 
 module _ (setup : BoardFile) (names : Names) (plan : List Op) (start : Records) where
@@ -109,12 +110,13 @@ module _ (setup : BoardFile) (names : Names) (plan : List Op) (start : Records) 
     goes_by : (call : Happening (F setup names) (L setup names)) (y : Lab (P setup names)) (o : Option (Turn (words setup names)))
         → world.May (F setup names) (L setup names) (W setup names) (world_of setup names x on) call
         → world.happens (F setup names) (L setup names) (W setup names) (world_of setup names x on) call ≡ world.opens (F setup names) (L setup names) (W setup names) o (world_of setup names x on)
-        → y ≡ done_by x.manager.joined o x → Follows o → Goes setup names x on y
-    goes_by call y o may is same f = record {
+        → given_at (F setup names) (L setup names) (W setup names) (world_of setup names x on) call ≡ [] → y ≡ done_by x.manager.joined o x → Follows o → Goes setup names x on y
+    goes_by call y o may is none same f = record {
       happenings = call ∷ [];
       left = f.left;
       may = (may, tt);
       reaches = is ∙ f.reaches ∙ ap (λ z. world_of setup names z f.left) (sym same);
+      gives = subst (λ (gs : List (Giving (F setup names))). Each (IsGiven setup names x y) (gs ++ [])) (sym none) tt;
       tied = subst (λ z. IsTied setup names z f.left) (sym same) f.ties;
     }
 
@@ -123,7 +125,7 @@ module _ (setup : BoardFile) (names : Names) (plan : List Op) (start : Records) 
     start_is = refl
 
     pub start_goes : Goes setup names x on (call_does (P setup names) (called (P setup names) manager.Start x.manager) x)
-    start_goes = goes_by Start _ (starts (words setup names) machine.stage machine) tt refl start_is (starts_so machine.stage refl)
+    start_goes = goes_by Start _ (starts (words setup names) machine.stage machine) tt refl refl start_is (starts_so machine.stage refl)
 
     -- ---- stop
 
@@ -143,7 +145,7 @@ module _ (setup : BoardFile) (names : Names) (plan : List Op) (start : Records) 
     stop_is = refl
 
     pub stop_goes : Goes setup names x on (call_does (P setup names) (called (P setup names) manager.Stop x.manager) x)
-    stop_goes = goes_by Stop _ (stops (words setup names) machine.stage machine) tt refl stop_is (stops_so machine.stage)
+    stop_goes = goes_by Stop _ (stops (words setup names) machine.stage machine) tt refl refl stop_is (stops_so machine.stage)
 
     -- ---- quiet and again
 
@@ -197,12 +199,13 @@ module _ (setup : BoardFile) (names : Names) (plan : List Op) (start : Records) 
     repeats_by : (call : Happening (F setup names) (L setup names)) (y : Lab (P setup names)) (o : Option (Turn (words setup names)))
         → world.May (F setup names) (L setup names) (W setup names) (world_of setup names x on) call
         → world.happens (F setup names) (L setup names) (W setup names) (world_of setup names x on) call ≡ world.repeats (F setup names) (L setup names) (W setup names) o (world_of setup names x on)
-        → y ≡ done_by x.manager.joined o x → Repeats o → Goes setup names x on y
-    repeats_by call y o may is same f = record {
+        → given_at (F setup names) (L setup names) (W setup names) (world_of setup names x on) call ≡ [] → y ≡ done_by x.manager.joined o x → Repeats o → Goes setup names x on y
+    repeats_by call y o may is none same f = record {
       happenings = call ∷ [];
       left = f.left;
       may = (may, tt);
       reaches = is ∙ f.reaches ∙ ap (λ z. world_of setup names z f.left) (sym same);
+      gives = subst (λ (gs : List (Giving (F setup names))). Each (IsGiven setup names x y) (gs ++ [])) (sym none) tt;
       tied = subst (λ z. IsTied setup names z f.left) (sym same) f.ties;
     }
 
@@ -211,14 +214,14 @@ module _ (setup : BoardFile) (names : Names) (plan : List Op) (start : Records) 
     quiet_is = refl
 
     pub quiet_goes : Goes setup names x on (call_does (P setup names) (called (P setup names) manager.Quiet x.manager) x)
-    quiet_goes = repeats_by Quiet _ (quiets (words setup names) machine.stage machine) tt refl quiet_is (quiets_so machine.stage refl)
+    quiet_goes = repeats_by Quiet _ (quiets (words setup names) machine.stage machine) tt refl refl quiet_is (quiets_so machine.stage refl)
 
     again_is : call_does (P setup names) (called (P setup names) manager.Again x.manager) x ≡ done_by x.manager.joined (agains (words setup names) machine.stage machine) x
     unfolding called
     again_is = refl
 
     pub again_goes : Goes setup names x on (call_does (P setup names) (called (P setup names) manager.Again x.manager) x)
-    again_goes = repeats_by Again _ (agains (words setup names) machine.stage machine) tt refl again_is (agains_so machine.stage refl)
+    again_goes = repeats_by Again _ (agains (words setup names) machine.stage machine) tt refl refl again_is (agains_so machine.stage refl)
 
     -- ---- undo
 
@@ -274,11 +277,12 @@ module _ (setup : BoardFile) (names : Names) (plan : List Op) (start : Records) 
           may = (((tt, tt), refl, refl), (tt, tt));
           reaches = ap (λ o. world.opens (F setup names) (L setup names) (W setup names) o w) (ap (λ s. undoes (words setup names) s machine) (sym at) ∙ is)
               ∙ same_world setup names sent y now ∙ ap (λ z. world_of setup names z now) (sym same);
+          gives = tt;
           tied = subst (λ z. IsTied setup names z now) (sym same) ok;
         }
 
     undo_rests : Goes setup names x on x
-    undo_rests = record { happenings = []; left = on; may = tt; reaches = refl; tied = tied }
+    undo_rests = record { happenings = []; left = on; may = tt; reaches = refl; gives = tt; tied = tied }
 
     pub are_closed : (stage : Stage (words setup names)) → stage ≡ machine.stage → (bus : Bus) → AreOpen (F setup names) (W setup names) (λ b. 0) stage bus (requests setup names on bus)
     are_closed stage at = subst (λ s. (bus : Bus) → AreOpen (F setup names) (W setup names) (λ b. 0) s bus (requests setup names on bus)) (sym at) h.joined.are_open

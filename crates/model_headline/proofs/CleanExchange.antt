@@ -1,5 +1,5 @@
 -- On a clean link the open request is carried out, its reply is taken, and the manager goes on.
-use Rattle.std.proofs.Common.{◌≡◌, ℕ, suc, ◌+◌, ◌*◌, ◌%◌, Bool, true, false, cond, List, [], ◌∷◌, Some, None, refl, sym, ◌∙◌, ap}
+use Rattle.std.proofs.Common.{◌≡◌, ℕ, suc, ◌+◌, ◌*◌, ◌%◌, Bool, true, false, cond, List, [], ◌∷◌, Some, None, refl, sym, ◌∙◌, ap, subst, arith, ◌≤◌, inr}
 use Rattle.std.specs.Prelude.{◌==◌}
 use Rattle.std.specs.Option.{option_map}
 use Rattle.std.proofs.lemmas.Bool.{and_from, eq-eqb}
@@ -19,7 +19,7 @@ use Rattle.model_bus.specs.Bytes.{answers}
 use Rattle.model_bus.proofs.NumberLaws.{ipmb_numbers}
 use Rattle.model_undo.specs.Words.{Answered, is_busy}
 use Rattle.model_undo.specs.Wires.{number_of, IsMade}
-use Rattle.model_undo.specs.Machine.{Counts, Task, Part as TaskPart, Stage, Opened, Machine, Turn, enters, takes, reply_of}
+use Rattle.model_undo.specs.Machine.{Counts, Task, Part as TaskPart, Stage, Opened, Machine, Turn, enters, takes, reply_of, stage_after, undo_after, one_answered}
 use Rattle.model_undo.specs.Clean.{Moment}
 use Rattle.model_family.specs.Family.{answer}
 use Rattle.model_lab.specs.Wires.{bytes_of, reply_to}
@@ -38,7 +38,8 @@ use Rattle.model_headline.specs.Tied.{P, F, rules_on, ipmb_bus}
 use Rattle.model_headline.proofs.Sending.{from_zero}
 use Rattle.model_headline.proofs.CleanQueue.{due, Link, dues_of, port_goes, manager_goes, settles}
 use Rattle.model_headline.proofs.CleanTest.{accepts}
-use Rattle.model_headline.proofs.CleanLog.{IsLogOf, next_is_new}
+use Rattle.model_headline.proofs.CleanLog.{IsLogOf, none_idle, next_is_new}
+use Rattle.model_headline.proofs.CleanFresh.{NoIdles, SendsNewest, sends_newest, Calm}
 
 module _ (setup : BoardFile) (names : Names) where
   -- what stands in a lab at a moment beside the manager's machine and the board
@@ -73,6 +74,9 @@ module _ (setup : BoardFile) (names : Names) where
     pub smbus : IsLogOf (rules_on setup names Smbus) c.smbus r.smbus_log
     pub kept : r.kept.open_count ≡ 0
     pub joined : r.joined.open_count ≡ 0
+
+  pub clear_idles : (c : Counts) (t : Turn (F setup names).words) (b : State) (r : Rest) → IsClear c r → NoIdles (P setup names) (link_at t b r)
+  clear_idles c t b r clear q = (none_idle (rules_on setup names Ipmb) c.ipmb r.ipmb_log q clear.ipmb, none_idle (rules_on setup names Smbus) c.smbus r.smbus_log q clear.smbus)
 
   pub not_busy : (b : State) (asked : Asked) → is_busy (answer setup b asked).0.code ≡ false
   not_busy b asked = (is_family setup (addresses names)).never_busy b (answer setup b asked).1 asked (answer setup b asked).0 (has_answer setup b asked)
@@ -185,6 +189,8 @@ module _ (setup : BoardFile) (names : Names) where
     pub count : ℕ
     pub rest : Rest
     pub clear : IsClear (after_reply task part m b).machine.counts rest
+    pub calm : Calm (P setup names) setup count (link_at (enters (F setup names).words (Opened true task part) m) b r)
+    pub few : count ≤ 8
     pub is : settles (P setup names) setup count (link_at (enters (F setup names).words (Opened true task part) m) b r) ≡ link_at (after_reply task part m b) (answer setup b part.asked).1 rest
 
   pub ipmb_exchange : (task : Task (F setup names).words) (from net_fn lun command : ℕ) (body : List ℕ) (before : List (List ℕ)) (m : Machine (F setup names).words) (b : State) (r : Rest)
@@ -197,8 +203,17 @@ module _ (setup : BoardFile) (names : Names) where
       let e = Carried (record { request = heard_in request; reply = reply_to Ipmb (bytes_of (number_of Ipmb m.counts.ipmb) asked) (answer setup b asked).0 }) in
       let told = Tells (response_to request (answer setup b asked).0) in
       let mid : Link (P setup names) = record l { board = (answer setup b asked).1; ipmb = ipmb_port (e ∷ r.ipmb_log); queue = due Ipmb ToManager told ∷ [] } in
+      let heard = port_answers m.counts.ipmb from net_fn lun command body made b r.ipmb_log clear.ipmb in
+      let taken = manager_takes r.joined task before m from net_fn lun command body made b in
+      let turn = after_reply task part m b in
+      let quiet : NoIdles (P setup names) mid = (λ q. (none_idle (rules_on setup names Ipmb) (suc m.counts.ipmb) (e ∷ r.ipmb_log) q (log_grows m.counts.ipmb from net_fn lun command body made b r.ipmb_log clear.ipmb), none_idle (rules_on setup names Smbus) m.counts.smbus r.smbus_log q clear.smbus)) in
+      let newest : SendsNewest (P setup names) (goes_on (P setup names) mid.manager turn) =
+      sends_newest (P setup names) mid.manager (stage_after (F setup names).words m.stopped m.plan (answer setup b asked).0 task part) (record m { stage = Opened true task part; resent = 0; undo = undo_after (F setup names).words (answer setup b asked).0 task part m.undo; counts = one_answered Ipmb m.counts }) in
+      let last : SendsNewest (P setup names) (hears_response (P setup names) (response_to request (answer setup b asked).0) mid.manager) = subst (SendsNewest (P setup names)) (sym taken) newest in
       record {
         count = 2;
+        calm = (clear_idles m.counts (enters (F setup names).words (Opened true task part) m) b r clear, (omega arith, tt), subst (λ (d : Deed). Calm (P setup names) setup 1 (port_goes (P setup names) Ipmb d [] l)) (sym heard) (quiet, (omega arith, inr (refl, last)), quiet));
+        few = omega arith;
         rest = record r { ipmb_log = e ∷ r.ipmb_log };
         clear = record {
           ipmb = log_grows m.counts.ipmb from net_fn lun command body made b r.ipmb_log clear.ipmb;
@@ -206,6 +221,6 @@ module _ (setup : BoardFile) (names : Names) where
           kept = clear.kept;
           joined = clear.joined;
         };
-        is = ap (λ (d : Deed). settles (P setup names) setup 1 (port_goes (P setup names) Ipmb d [] l)) (port_answers m.counts.ipmb from net_fn lun command body made b r.ipmb_log clear.ipmb)
-            ∙ ap (λ (d : ManagerDeed (P setup names)). manager_goes (P setup names) d [] mid) (manager_takes r.joined task before m from net_fn lun command body made b);
+        is = ap (λ (d : Deed). settles (P setup names) setup 1 (port_goes (P setup names) Ipmb d [] l)) heard
+            ∙ ap (λ (d : ManagerDeed (P setup names)). manager_goes (P setup names) d [] mid) taken;
       }

@@ -1,8 +1,9 @@
 -- Over a link that loses nothing a plan is done after two requests a step, or halts, and is undone.
-use Rattle.std.proofs.Common.{◌≡◌, ℕ, zero, suc, ◌+◌, Bool, true, false, cond, List, [], ◌∷◌, length, Option, Some, None, refl, sym, ◌∙◌, ap, subst, arith}
-use Rattle.std.specs.Prelude.{slice_get, IfSome, ◌==◌}
+use Rattle.std.proofs.Common.{lit<, ◌≡◌, ℕ, zero, suc, ◌+◌, ◌*◌, ◌<◌, ◌≤◌, ◌++◌, Bool, true, false, cond, List, [], ◌∷◌, length, Option, Some, None, refl, sym, ◌∙◌, ap, subst, arith, length-append}
+use Rattle.std.specs.Prelude.{slice_get, IfSome, ◌==◌, nat_le}
 use Rattle.std.specs.Option.{option_map}
 use Rattle.std.proofs.lemmas.Bool.{cond_both}
+use Rattle.std.proofs.lemmas.Bool.Decides.{nat_tests}
 use Rattle.std.proofs.lemmas.Option.{none-some}
 use Rattle.two_wire.specs.Codes.{success}
 use Rattle.two_wire.specs.declared.Bus.{Bus}
@@ -18,20 +19,20 @@ use Rattle.bmc_board.specs.State.{State}
 use Rattle.bmc_board.proofs.AnswerFacts.{stays_sound}
 use Rattle.bmc_board.proofs.OneAnswer.{has_answer}
 use Rattle.model_undo.specs.Words.{Answered, Words}
-use Rattle.model_undo.specs.Phase.{Phase, Undone}
+use Rattle.model_undo.specs.Phase.{Why, Stop, Refused, NotRestorable, GetRefused, Phase, Undone}
 use Rattle.model_undo.specs.Plan.{IsAfter}
 use Rattle.model_undo.specs.Wires.{IsMade}
 use Rattle.model_undo.specs.Machine.{Counts, Task, Gets, Sets, Undoes, Part as TaskPart, Stage, AtStart, Opened, AtEnd, AtHalt, AtUndone, AtRefused, Machine, Turn, Sending, enters, sends_at, takes, series_of, bodies_with, finished, refused, set_stage, next_stage, undo_stage, first_stage, stage_after, undo_after, one_answered, bus_at, phase_of, open_bus, open_bus_at, undo_of, opened}
-use Rattle.model_undo.specs.Clean.{Moment, answered_in_all, told, one, clean, IsAtRest, RunsClean}
+use Rattle.model_undo.specs.Clean.{Moment, answered_in_all, told, one, clean, Sticks, EndsIn, IsAtRest, RunsClean}
 use Rattle.model_undo.proofs.Clean.{always_runs_clean}
 use Rattle.model_lab.specs.ManagerWords.{manager_words}
 use Rattle.model_family.specs.Family.{answer}
 use Rattle.model_family.proofs.IsFamily.{is_family}
 use Rattle.model_family.proofs.Board.{starts_valid}
 use Rattle.undo_plans.specs.declared.names.Names.{Names}
-use Rattle.model_lab.specs.ManagerSteps.{addresses, ManagerState, Sent, sent_of, Start as StartCall, Undo as UndoCall, called, goes_on}
+use Rattle.model_lab.specs.ManagerSteps.{addresses, ManagerState, Sent, sent_of, Call, Start as StartCall, Undo as UndoCall, called, goes_on}
 use Rattle.model_lab.specs.Lab.{Event, Calls, Lab, call_does, manager_does, step, run}
-use Rattle.model_lab.specs.Faults.{begun_on, is_open_bus}
+use Rattle.model_lab.specs.Faults.{Fault, Room, begun_on, is_open_bus, fault_of, AllTaken}
 use Rattle.model_lab.specs.Clean.{DeliversFrom, IsCleanRun, IsCleanUndo}
 use Rattle.model_lab.proofs.Stepping.{runs_by}
 use Rattle.model_headline.specs.Made.{AllSeries, StageMade}
@@ -40,7 +41,8 @@ use Rattle.model_headline.specs.Theorem.{first, after}
 use Rattle.model_headline.specs.CleanLink.{HasEnded, RunsOnCleanLink}
 use Rattle.model_headline.proofs.Made.{takes_made, undo_made, starts_made}
 use Rattle.model_headline.proofs.CleanQueue.{Link, link_of, dues_of, settles, settles_more, Shows, settled, called_goes, all_sent}
-use Rattle.model_headline.proofs.CleanExchange.{Rest, link_at, IsClear, not_busy, part_of, Exchanged, ipmb_exchange}
+use Rattle.model_headline.proofs.CleanFresh.{NoIdles, sends_newest, Fresh, Calm, calm_more, Goes, goes, called_fresh}
+use Rattle.model_headline.proofs.CleanExchange.{Rest, link_at, IsClear, clear_idles, not_busy, part_of, Exchanged, ipmb_exchange}
 use Rattle.model_headline.proofs.CleanSmbus.{smbus_exchange}
 
 module _ (setup : BoardFile) (names : Names) where
@@ -96,8 +98,8 @@ module _ (setup : BoardFile) (names : Names) where
     clear : IsClear setup names m.counts r
     sound : IsSound setup b.records
 
-  -- the link goes to one that shows what comes of the board's answers
-  record Follows (y : Moment (F setup names)) (l : Link (P setup names)) : Type 0 where
+  -- the link goes to one that shows what comes of the board's answers to so many requests
+  record Follows (n : ℕ) (y : Moment (F setup names)) (l : Link (P setup names)) : Type 0 where
     stage : Stage M
     machine : Machine M
     board : State
@@ -106,13 +108,26 @@ module _ (setup : BoardFile) (names : Names) where
     same : y ≡ moment stage machine board
     is : settles (P setup names) setup count l ≡ link_at setup names (enters M stage machine) board rest
     going : Going stage machine board rest
+    calm : Calm (P setup names) setup count l
+    few : count ≤ 8 * n
 
-  stays : (stage : Stage M) (m : Machine M) (b : State) (r : Rest setup names) → Going stage m b r → Follows (moment stage m b) (link_at setup names (enters M stage m) b r)
-  stays stage m b r g = record { stage = stage; machine = m; board = b; rest = r; count = 0; same = refl; is = refl; going = g }
+  stays : (n : ℕ) (stage : Stage M) (m : Machine M) (b : State) (r : Rest setup names) → Going stage m b r → Follows n (moment stage m b) (link_at setup names (enters M stage m) b r)
+  stays n stage m b r g = record {
+    stage = stage;
+    machine = m;
+    board = b;
+    rest = r;
+    count = 0;
+    same = refl;
+    is = refl;
+    going = g;
+    calm = clear_idles setup names m.counts (enters M stage m) b r g.clear;
+    few = omega arith;
+  }
 
   answered_one : (task : Task M) (asked : Asked) (before : List (List ℕ)) (m : Machine M) (b : State) (r : Rest setup names) → Going (Opened true task (part_of setup names asked before)) m b r
       → Exchanged setup names task (part_of setup names asked before) m b r
-      → Follows (one (F setup names) (answer setup) (moment (Opened true task (part_of setup names asked before)) m b)) (link_at setup names (enters M (Opened true task (part_of setup names asked before)) m) b r)
+      → Follows 1 (one (F setup names) (answer setup) (moment (Opened true task (part_of setup names asked before)) m b)) (link_at setup names (enters M (Opened true task (part_of setup names asked before)) m) b r)
   answered_one task asked before m b r g e =
       let part = part_of setup names asked before in
       let opened_machine : Machine M = record m { stage = Opened true task part; resent = 0 } in
@@ -128,6 +143,8 @@ module _ (setup : BoardFile) (names : Names) where
         same = ap (λ (t : Bool). told (F setup names) (answer setup) (cond t None (Some (takes M a task part opened_machine))) (answer setup b asked).1 (moment (Opened true task part) m b)) (not_busy setup names b asked);
         is = e.is;
         going = record { heeded = after_heeded m.stopped m.plan a task part; made = kept.stage; undo = kept.undo; clear = e.clear; sound = stays_sound setup b asked g.sound };
+        calm = e.calm;
+        few = e.few;
       }
 
   exchanged : (task : Task M) (asked : Asked) (before : List (List ℕ)) (m : Machine M) (b : State) (r : Rest setup names) → IsMade M asked → IsClear setup names m.counts r → IsSound setup b.records
@@ -136,18 +153,18 @@ module _ (setup : BoardFile) (names : Names) where
   exchanged task (Pldm from kind command body) before m b r made clear sound = smbus_exchange setup names task from kind command body before m b r made clear sound
 
   -- with the open request, if one is open
-  exchange : (stage : Stage M) (m : Machine M) (b : State) (r : Rest setup names) → Going stage m b r → Follows (one (F setup names) (answer setup) (moment stage m b)) (link_at setup names (enters M stage m) b r)
+  exchange : (stage : Stage M) (m : Machine M) (b : State) (r : Rest setup names) → Going stage m b r → Follows 1 (one (F setup names) (answer setup) (moment stage m b)) (link_at setup names (enters M stage m) b r)
   exchange (Opened true task part) m b r g = answered_one task part.asked part.before m b r g (exchanged task part.asked part.before m b r g.made.0 g.clear g.sound)
   exchange (Opened false task part) m b r g = absurd g.heeded
-  exchange AtStart m b r g = stays AtStart m b r g
-  exchange AtEnd m b r g = stays AtEnd m b r g
-  exchange (AtHalt k why) m b r g = stays (AtHalt k why) m b r g
-  exchange AtUndone m b r g = stays AtUndone m b r g
-  exchange (AtRefused k code) m b r g = stays (AtRefused k code) m b r g
+  exchange AtStart m b r g = stays 1 AtStart m b r g
+  exchange AtEnd m b r g = stays 1 AtEnd m b r g
+  exchange (AtHalt k why) m b r g = stays 1 (AtHalt k why) m b r g
+  exchange AtUndone m b r g = stays 1 AtUndone m b r g
+  exchange (AtRefused k code) m b r g = stays 1 (AtRefused k code) m b r g
 
   -- with as many requests as this
-  exchanges : (n : ℕ) (stage : Stage M) (m : Machine M) (b : State) (r : Rest setup names) → Going stage m b r → Follows (clean (F setup names) (answer setup) n (moment stage m b)) (link_at setup names (enters M stage m) b r)
-  exchanges zero stage m b r g = stays stage m b r g
+  exchanges : (n : ℕ) (stage : Stage M) (m : Machine M) (b : State) (r : Rest setup names) → Going stage m b r → Follows n (clean (F setup names) (answer setup) n (moment stage m b)) (link_at setup names (enters M stage m) b r)
+  exchanges zero stage m b r g = stays zero stage m b r g
   exchanges (suc n) stage m b r g =
       let e = exchange stage m b r g in
       let more = exchanges n e.stage e.machine e.board e.rest e.going in
@@ -160,6 +177,8 @@ module _ (setup : BoardFile) (names : Names) where
         same = ap (clean (F setup names) (answer setup) n) e.same ∙ more.same;
         is = settles_more (P setup names) setup e.count more.count (link_at setup names (enters M stage m) b r) ∙ ap (settles (P setup names) setup more.count) e.is ∙ more.is;
         going = more.going;
+        calm = calm_more (P setup names) setup e.count more.count (link_at setup names (enters M stage m) b r) e.calm (subst (Calm (P setup names) setup more.count) (sym e.is) more.calm);
+        few = let one = e.few in let rest = more.few in omega (arith, one, rest);
       }
 
   -- ---- how it ends
@@ -221,40 +240,87 @@ module _ (setup : BoardFile) (names : Names) where
         count = at.count;
       }
 
+  -- all frames can be delivered, and each schedule that delivers them is taken
+  delivered : (k : ℕ) (stage : Stage M) (m : Machine M) (b : State) (r : Rest setup names) (phase : Phase) (n : ℕ) → Going stage m b r
+      → IsAtRest (F setup names) (answer setup) (clean (F setup names) (answer setup) k (moment stage m b)) phase n
+      → (y : Lab (P setup names)) (number : ℕ) → let l = link_at setup names (enters M stage m) b r in
+      link_of (P setup names) y l.queue ≡ l → Fresh (P setup names) setup y number l.queue → number + 8 * k ≤ 65530 → Goes (P setup names) setup y number (8 * k)
+  delivered k stage m b r phase n g rest y number from fresh small =
+      let l = link_at setup names (enters M stage m) b r in
+      let f = exchanges k stage m b r g in
+      let at : IsAtRest (F setup names) (answer setup) (moment f.stage f.machine f.board) phase n = subst (λ (x : Moment (F setup names)). IsAtRest (F setup names) (answer setup) x phase n) f.same rest in
+      let none : sends_at M f.stage f.machine.counts ≡ None = at.rests in
+      let empty_there : (link_at setup names (enters M f.stage f.machine) f.board f.rest).queue ≡ [] = ap (λ (o : Option (Sending M)). dues_of (P setup names) (option_map (sent_of (P setup names) names) o)) none in
+      let to : settles (P setup names) setup f.count (link_of (P setup names) y l.queue) ≡ link_at setup names (enters M f.stage f.machine) f.board f.rest = ap (settles (P setup names) setup f.count) from ∙ f.is in
+      let most = f.few in
+      let go = goes (P setup names) setup f.count y number l.queue fresh (subst (Calm (P setup names) setup f.count) (sym from) f.calm) (omega (arith, most, small)) (ap (λ (x : Link (P setup names)). x.queue) to ∙ empty_there) in
+      record { events = go.events; delivers = go.delivers; taken = go.taken; few = λ es d. let few = go.few es d in omega (arith, few, most) }
+
   -- ---- the undo
+
+  -- the lab as the undo begins
+  record Undoing (stage : Stage M) (m : Machine M) (b : State) (r : Rest setup names) (z : Lab (P setup names)) (number : ℕ) : Type 0 where
+    y : Lab (P setup names)
+    is : step (P setup names) setup z (Calls UndoCall) ≡ y
+    next : Rest setup names
+    going : Going (undo_stage M m.undo) (enters M stage m).machine b next
+    fresh : Fresh (P setup names) setup y number (link_at setup names (enters M (undo_stage M m.undo) (enters M stage m).machine) b next).queue
+    there : let l = link_at setup names (enters M (undo_stage M m.undo) (enters M stage m).machine) b next in link_of (P setup names) y l.queue ≡ l
+
+  undo_begins : (stage : Stage M) (m : Machine M) (b : State) (r : Rest setup names) (z : Lab (P setup names)) (number : ℕ) → Going stage m b r → link_of (P setup names) z [] ≡ link_at setup names (enters M stage m) b r
+      → Shows (P setup names) setup z number [] → undo_of M (enters M stage m).machine ≡ Some (enters M (undo_stage M m.undo) (enters M stage m).machine) → Undoing stage m b r z number
+  unfolding step called
+  undo_begins stage m b r z number g is shows taken =
+      let from = (enters M stage m).machine in
+      let t = enters M (undo_stage M m.undo) from in
+      let manager : ManagerState (P setup names) = record { machine = t.machine; names = names; joined = nothing } in
+      let before : ManagerState (P setup names) = record { machine = from; names = names; joined = r.joined } in
+      let o = option_map (sent_of (P setup names) names) t.sends in
+      let manager_is : z.manager ≡ before = ap (λ (l : Link (P setup names)). l.manager) is in
+      let c = called_goes (P setup names) setup z number shows manager o in
+      let next : Rest setup names = record r { joined = nothing } in
+      let quiet : NoIdles (P setup names) (link_of (P setup names) z []) = subst (NoIdles (P setup names)) (sym is) (clear_idles setup names m.counts (enters M stage m) b r g.clear) in
+      record {
+        y = manager_does (P setup names) (record { manager = manager; sent = o }) z;
+        is = ap (λ (x : ManagerState (P setup names)). call_does (P setup names) (called (P setup names) UndoCall x) z) manager_is
+            ∙ ap (λ (u : Option (Turn M)). call_does (P setup names) (option_map (goes_on (P setup names) (record before { joined = nothing })) u) z) taken;
+        next = next;
+        going = record {
+          heeded = undo_heeded m.undo;
+          made = undo_made (addresses names) m.undo g.undo;
+          undo = g.undo;
+          clear = record { ipmb = g.clear.ipmb; smbus = g.clear.smbus; kept = g.clear.kept; joined = refl };
+          sound = g.sound;
+        };
+        fresh = called_fresh (P setup names) setup z number shows quiet manager o (sends_newest (P setup names) (record before { joined = nothing }) (undo_stage M m.undo) from);
+        there = c.1 ∙ ap (λ (l : Link (P setup names)). record l { manager = manager; queue = dues_of (P setup names) o }) is;
+      }
 
   undoing_so : (stage : Stage M) (m : Machine M) (b : State) (r : Rest setup names) (z : Lab (P setup names)) (number : ℕ) → Going stage m b r → link_of (P setup names) z [] ≡ link_at setup names (enters M stage m) b r
       → Shows (P setup names) setup z number [] → let from = (enters M stage m).machine in
       undo_of M from ≡ Some (enters M (undo_stage M m.undo) from) → (k n : ℕ) → let x = clean (F setup names) (answer setup) k (moment (undo_stage M m.undo) from b) in
       IsAtRest (F setup names) (answer setup) x Undone n
       → (es : List Event) → DeliversFrom (P setup names) setup (length z.frames) es (step (P setup names) setup z (Calls UndoCall)) → Ended (run (P setup names) setup es (step (P setup names) setup z (Calls UndoCall))) x Undone n
-  unfolding step called
   undoing_so stage m b r z number g is shows taken k n rest es d =
       let from = (enters M stage m).machine in
-      let t = enters M (undo_stage M m.undo) from in
-      let manager : ManagerState (P setup names) = record { machine = t.machine; names = names; joined = nothing } in
-      let before : ManagerState (P setup names) = record { machine = from; names = names; joined = r.joined } in
-      let o = option_map (sent_of (P setup names) names) t.sends in
-      let y = manager_does (P setup names) (record { manager = manager; sent = o }) z in
-      let manager_is : z.manager ≡ before = ap (λ (l : Link (P setup names)). l.manager) is in
-      let becomes : step (P setup names) setup z (Calls UndoCall) ≡ y =
-      ap (λ (x : ManagerState (P setup names)). call_does (P setup names) (called (P setup names) UndoCall x) z) manager_is
-      ∙ ap (λ (u : Option (Turn M)). call_does (P setup names) (option_map (goes_on (P setup names) (record before { joined = nothing })) u) z) taken in
-      let c = called_goes (P setup names) setup z number shows manager o in
-      let next : Rest setup names = record r { joined = nothing } in
-      let going : Going (undo_stage M m.undo) from b next = record {
-        heeded = undo_heeded m.undo;
-        made = undo_made (addresses names) m.undo g.undo;
-        undo = g.undo;
-        clear = record { ipmb = g.clear.ipmb; smbus = g.clear.smbus; kept = g.clear.kept; joined = refl };
-        sound = g.sound;
-      } in
-      let there : link_of (P setup names) y (dues_of (P setup names) o) ≡ link_at setup names t b next = c.1 ∙ ap (λ (l : Link (P setup names)). record l { manager = manager; queue = dues_of (P setup names) o }) is in
-      let delivers : DeliversFrom (P setup names) setup number es y =
-      subst (λ (x : Lab (P setup names)). DeliversFrom (P setup names) setup number es x) becomes
+      let u = undo_begins stage m b r z number g is shows taken in
+      let delivers : DeliversFrom (P setup names) setup number es u.y =
+      subst (λ (x : Lab (P setup names)). DeliversFrom (P setup names) setup number es x) u.is
       (subst (λ (i : ℕ). DeliversFrom (P setup names) setup i es (step (P setup names) setup z (Calls UndoCall))) (sym (all_sent (P setup names) setup z number shows)) d) in
-      subst (λ (x : Lab (P setup names)). Ended (run (P setup names) setup es x) (clean (F setup names) (answer setup) k (moment (undo_stage M m.undo) from b)) Undone n) (sym becomes)
-      (ends k (undo_stage M m.undo) from b next Undone n going rest es y number there c.0 delivers)
+      subst (λ (x : Lab (P setup names)). Ended (run (P setup names) setup es x) (clean (F setup names) (answer setup) k (moment (undo_stage M m.undo) from b)) Undone n) (sym u.is)
+      (ends k (undo_stage M m.undo) from b u.next Undone n u.going rest es u.y number u.there u.fresh.shows delivers)
+
+  -- the undo's frames can be delivered too
+  undo_delivered : (stage : Stage M) (m : Machine M) (b : State) (r : Rest setup names) (z : Lab (P setup names)) (number : ℕ) → Going stage m b r → link_of (P setup names) z [] ≡ link_at setup names (enters M stage m) b r
+      → Shows (P setup names) setup z number [] → let from = (enters M stage m).machine in
+      undo_of M from ≡ Some (enters M (undo_stage M m.undo) from) → (k n : ℕ) → IsAtRest (F setup names) (answer setup) (clean (F setup names) (answer setup) k (moment (undo_stage M m.undo) from b)) Undone n
+      → number + 8 * k ≤ 65530 → Goes (P setup names) setup (step (P setup names) setup z (Calls UndoCall)) (length z.frames) (8 * k)
+  undo_delivered stage m b r z number g is shows taken k n rest small =
+      let from = (enters M stage m).machine in
+      let u = undo_begins stage m b r z number g is shows taken in
+      subst (λ (i : ℕ). Goes (P setup names) setup (step (P setup names) setup z (Calls UndoCall)) i (8 * k)) (all_sent (P setup names) setup z number shows)
+      (subst (λ (x : Lab (P setup names)). Goes (P setup names) setup x number (8 * k)) (sym u.is)
+      (delivered k (undo_stage M m.undo) from b u.next Undone n u.going rest u.y number u.there u.fresh small))
 
   -- a schedule that undoes, and what the lab is after it
   abbrev TakesBack : Turn M → State → ℕ → ℕ → State → Type 0
@@ -276,6 +342,16 @@ module _ (setup : BoardFile) (names : Names) where
   undoing (Opened heeded task part) m b r z number g is shows k n start back taken es d = absurd (taken refl)
   undoing AtUndone m b r z number g is shows k n start back taken es d = absurd (taken refl)
   undoing (AtRefused j code) m b r z number g is shows k n start back taken es d = absurd (taken refl)
+
+  undoing_delivered : (stage : Stage M) (m : Machine M) (b : State) (r : Rest setup names) (z : Lab (P setup names)) (number : ℕ) → Going stage m b r → link_of (P setup names) z [] ≡ link_at setup names (enters M stage m) b r
+      → Shows (P setup names) setup z number [] → (k n : ℕ) (start : State) → IfSome (undo_of M (enters M stage m).machine) (λ t. TakesBack t b k n start) → (undo_of M (enters M stage m).machine ≡ None → ⊥)
+      → number + 8 * k ≤ 65530 → Goes (P setup names) setup (step (P setup names) setup z (Calls UndoCall)) (length z.frames) (8 * k)
+  undoing_delivered AtEnd m b r z number g is shows k n start back taken small = undo_delivered AtEnd m b r z number g is shows refl k n back.0 small
+  undoing_delivered (AtHalt j why) m b r z number g is shows k n start back taken small = undo_delivered (AtHalt j why) m b r z number g is shows refl k n back.0 small
+  undoing_delivered AtStart m b r z number g is shows k n start back taken small = absurd (taken refl)
+  undoing_delivered (Opened heeded task part) m b r z number g is shows k n start back taken small = absurd (taken refl)
+  undoing_delivered AtUndone m b r z number g is shows k n start back taken small = absurd (taken refl)
+  undoing_delivered (AtRefused j code) m b r z number g is shows k n start back taken small = absurd (taken refl)
 
   -- ---- the schedule
 
@@ -326,6 +402,84 @@ module _ (setup : BoardFile) (names : Names) where
         ap (run (P setup names) setup c.deliveries) (sym started) ∙ sym ((runs_by (P setup names) setup).one (Calls StartCall) c.deliveries x0) ∙ ap (λ (l : List Event). run (P setup names) setup l x0) (sym c.all) in
         subst (λ (z : Lab (P setup names)). Ended z x phase n) same e
 
+    -- a schedule of the plan delivers all frames, and each that does is taken
+    fresh0 : Fresh (P setup names) setup (manager_does (P setup names) (record { manager = manager0; sent = sent0 }) x0) 0 (dues_of (P setup names) sent0)
+    fresh0 = called_fresh (P setup names) setup x0 0 shows0 (λ q. (refl, refl)) manager0 sent0 (sends_newest (P setup names) (let before : ManagerState (P setup names) = record { machine = m0; names = names; joined = nothing } in before) stage0 m0)
+
+    start_goes : (k : ℕ) (phase : Phase) (n : ℕ) → IsAtRest (F setup names) (answer setup) (clean (F setup names) (answer setup) k (moment stage0 m0 x0.board)) phase n → 8 * k ≤ 65530
+        → Goes (P setup names) setup (step (P setup names) setup x0 (Calls StartCall)) 0 (8 * k)
+    start_goes k phase n rest small =
+        subst (λ (y : Lab (P setup names)). Goes (P setup names) setup y 0 (8 * k)) (sym started)
+        (delivered k stage0 m0 x0.board r0 phase n going0 rest (manager_does (P setup names) (record { manager = manager0; sent = sent0 }) x0) 0 (called_goes (P setup names) setup x0 0 shows0 manager0 sent0).1 fresh0 (omega (arith, small)))
+
+    -- what holds of the schedules that only start
+    record CanRun (k : ℕ) : Type 0 where
+      events : List Event
+      clean_run : IsCleanRun (P setup names) setup events x0
+      taken : (es : List Event) → IsCleanRun (P setup names) setup es x0 → AllTaken (P setup names) setup es x0
+      few : (es : List Event) → IsCleanRun (P setup names) setup es x0 → length (run (P setup names) setup es x0).frames ≤ 8 * k
+
+    call_taken : (y : Lab (P setup names)) (call : Call) → length y.frames < 65536 → fault_of (P setup names) y (Calls call) ≡ None
+    call_taken y call small = by (length y.frames) small
+      where
+        by : (i : ℕ) → i < 65536 → cond (nat_le 65536 i) (Some Room) None ≡ None
+        by i below = let no : nat_le 65536 i ≡ false = grind (arith, nat_tests) in ap (λ (t : Bool). let none : Option Fault = None in cond t (Some Room) none) no
+
+    can_run : (k : ℕ) (phase : Phase) (n : ℕ) → IsAtRest (F setup names) (answer setup) (clean (F setup names) (answer setup) k (moment stage0 m0 x0.board)) phase n → 8 * k ≤ 65530 → CanRun k
+    can_run k phase n rest small =
+        let g = start_goes k phase n rest small in
+        record {
+          events = Calls StartCall ∷ g.events;
+          clean_run = record { deliveries = g.events; delivered = g.delivers; all = refl };
+          taken = λ es c. subst (λ (l : List Event). AllTaken (P setup names) setup l x0) (sym c.all) (call_taken x0 StartCall (lit< tt), g.taken c.deliveries c.delivered);
+          few = λ es c.
+              let few = g.few c.deliveries c.delivered in
+              let same : run (P setup names) setup es x0 ≡ run (P setup names) setup c.deliveries (step (P setup names) setup x0 (Calls StartCall)) =
+              ap (λ (l : List Event). run (P setup names) setup l x0) c.all ∙ (runs_by (P setup names) setup).one (Calls StartCall) c.deliveries x0 in
+              subst (λ (y : Lab (P setup names)). length y.frames ≤ 8 * k) (sym same) (omega (arith, few));
+        }
+
+    -- and of those that undo
+    record CanUndo : Type 0 where
+      events : List Event
+      clean_undo : IsCleanUndo (P setup names) setup events x0
+      taken : (es : List Event) → IsCleanUndo (P setup names) setup es x0 → AllTaken (P setup names) setup es x0
+
+    both_taken : (es later : List Event) (y : Lab (P setup names)) → AllTaken (P setup names) setup es y → AllTaken (P setup names) setup later (run (P setup names) setup es y) → AllTaken (P setup names) setup (es ++ later) y
+    unfolding run
+    both_taken [] later y one two = two
+    both_taken (e ∷ es) later y one two = (one.0, both_taken es later (step (P setup names) setup y e) one.1 two)
+
+    undo_goes : (es : List Event) (k j n q : ℕ) (phase : Phase) → let x = clean (F setup names) (answer setup) k (moment stage0 m0 x0.board) in
+        IsAtRest (F setup names) (answer setup) x phase n → IfSome (undo_of M x.turn.machine) (λ t. TakesBack t x.board j q x0.board) → (undo_of M x.turn.machine ≡ None → ⊥)
+        → 8 * k + 8 * j ≤ 65530 → CanRun k → IsCleanRun (P setup names) setup es x0
+        → let z = run (P setup names) setup es x0 in Goes (P setup names) setup (step (P setup names) setup z (Calls UndoCall)) (length z.frames) (8 * j)
+    undo_goes es k j n q phase rest back taken small can c =
+        let e = ran_to es k phase n rest c in
+        let z = run (P setup names) setup es x0 in
+        let back_there = subst (λ (y : Moment (F setup names)). IfSome (undo_of M y.turn.machine) (λ t. TakesBack t y.board j q x0.board)) e.same back in
+        let taken_there = subst (λ (y : Moment (F setup names)). undo_of M y.turn.machine ≡ None → ⊥) e.same taken in
+        let few = can.few es c in
+        let sent = all_sent (P setup names) setup z e.number e.shows in
+        undoing_delivered e.stage e.machine e.board e.rest z e.number e.going e.is e.shows j q x0.board back_there taken_there (omega (arith, few, sent, small))
+
+    can_undo : (k j n q : ℕ) (phase : Phase) → let x = clean (F setup names) (answer setup) k (moment stage0 m0 x0.board) in
+        IsAtRest (F setup names) (answer setup) x phase n → IfSome (undo_of M x.turn.machine) (λ t. TakesBack t x.board j q x0.board) → (undo_of M x.turn.machine ≡ None → ⊥)
+        → 8 * k + 8 * j ≤ 65530 → CanRun k → CanUndo
+    can_undo k j n q phase rest back taken small can =
+        let first_part = can.events in
+        let g = undo_goes first_part k j n q phase rest back taken small can can.clean_run in
+        record {
+          events = first_part ++ Calls UndoCall ∷ g.events;
+          clean_undo = record { before = first_part; deliveries = g.events; ran = can.clean_run; delivered = g.delivers; all = refl };
+          taken = λ es c.
+              let z = run (P setup names) setup c.before x0 in
+              let more = undo_goes c.before k j n q phase rest back taken small can c.ran in
+              let few = can.few c.before c.ran in
+              subst (λ (l : List Event). AllTaken (P setup names) setup l x0) (sym c.all)
+              (both_taken c.before (Calls UndoCall ∷ c.deliveries) x0 (can.taken c.before c.ran) (call_taken z UndoCall (omega (arith, few, small)), more.taken c.deliveries c.delivered));
+        }
+
     undone_to : (es : List Event) (k j n q : ℕ) (phase : Phase) → let x = clean (F setup names) (answer setup) k (moment stage0 m0 x0.board) in
         IsAtRest (F setup names) (answer setup) x phase n → IfSome (undo_of M x.turn.machine) (λ t. TakesBack t x.board j q x0.board) → (undo_of M x.turn.machine ≡ None → ⊥)
         → IsCleanUndo (P setup names) setup es x0 → IsBack (run (P setup names) setup es x0) q x0.board
@@ -355,6 +509,37 @@ module _ (setup : BoardFile) (names : Names) where
           ap (λ (l : Link (P setup names)). l.board) e.is ∙ sym (ap (λ (y : Moment (F setup names)). y.board) e.same),
         )
 
+    -- a plan of at most 256 steps takes few frames
+    abbrev Runs : Type 0
+    Runs = RunsClean (F setup names) (answer setup) plan x0.board (moment stage0 m0 x0.board)
+
+    most_more : (i : ℕ) (ops : List Op) (b : State) (phase : Phase) (more : ℕ) → EndsIn (F setup names) (answer setup) i ops b phase more → more ≤ 2
+    most_more i [] b phase more e = let none = e.1 in omega (arith, none)
+    most_more i (op ∷ ops) b phase more e = by e.0 e.1
+      where
+        by : (why : Why) → Sticks (F setup names) (answer setup) b op why more → more ≤ 2
+        by Stop s = absurd s
+        by (GetRefused code) s = let one = s.2 in omega (arith, one)
+        by NotRestorable s = let one = s.2 in omega (arith, one)
+        by (Refused code) s = let two = s.4 in omega (arith, two)
+
+    few_steps : (r : Runs) → length plan ≤ 256 → length r.steps ≤ 256
+    few_steps r few = let all = ap (λ (l : List Op). length l) r.whole ∙ length-append r.steps r.rest in omega (arith, few, all)
+
+    small_run : (r : Runs) → length plan ≤ 256 → CanRun (length r.steps + length r.steps + r.more)
+    small_run r few =
+        let k = length r.steps in
+        let steps = few_steps r few in
+        let more = most_more k r.rest r.at r.phase r.more r.ends in
+        can_run (k + k + r.more) r.phase (k + k + r.more) r.run.0 (omega (arith, steps, more))
+
+    small_undo : (r : Runs) → length plan ≤ 256 → CanUndo
+    small_undo r few =
+        let k = length r.steps in
+        let steps = few_steps r few in
+        let more = most_more k r.rest r.at r.phase r.more r.ends in
+        can_undo (k + k + r.more) k (k + k + r.more) (k + k + r.more + k) r.phase r.run.0 r.undo r.undo_is_taken (omega (arith, steps, more)) (small_run r few)
+
     pub runs_on_clean_link : RunsOnCleanLink setup names plan retries
     runs_on_clean_link =
         let r : RunsClean (F setup names) (answer setup) plan x0.board (moment stage0 m0 x0.board) =
@@ -371,6 +556,10 @@ module _ (setup : BoardFile) (names : Names) where
           phase = r.phase;
           more = r.more;
           ends = r.ends;
+          can_run = λ few. let can = small_run r few in (can.events, can.clean_run);
+          can_undo = λ few. let can = small_undo r few in (can.events, can.clean_undo);
+          run_taken = λ few. (small_run r few).taken;
+          undo_taken = λ few. (small_undo r few).taken;
           ran = λ es c.
               let h = has_ended es x r.phase n (ran_to es n r.phase n r.run.0 c) in
               (h.0, subst (λ (b : State). IsAfter (F setup names) plan x0.board.records k b.records) (sym h.1) r.run.1);

@@ -4,7 +4,7 @@ use Rattle.std.specs.Prelude.{◌==◌, nat_le}
 use Rattle.std.specs.List.{list_any, list_all}
 use Rattle.std.proofs.lemmas.Bool.{and_left, and_right, eq-eqb, cond-true, cond-false, cases_eq, cases_Bool}
 use Rattle.std.proofs.lemmas.List.Folds.{list_any_at}
-use Rattle.model_bus.specs.Request.{Request as Heard, Kept, Entry, Carried, is_same, carried_since}
+use Rattle.model_bus.specs.Request.{Request as Heard, Kept, Entry, Carried, is_same, carried_since, idles_of}
 use Rattle.model_bus.specs.Carried.{IsNew, kept_for, requesters, is_busy, outcome, outcome_of}
 use Rattle.model_bus.specs.Numbering.{Bus as Rules}
 use Rattle.model_bus.specs.BusState.{request_of}
@@ -15,6 +15,11 @@ use Rattle.model_bus.proofs.Repeats.{Has, is_same-number, list_all-has}
 abbrev pub IsLogOf : Rules → ℕ → List Entry → Type 0
 IsLogOf b zero log = log ≡ []
 IsLogOf b (suc n) log = (k : Kept) × (rest : List Entry) × (log ≡ Carried k ∷ rest) × (k.request ≡ request_of b n k.request.bytes) × IsLogOf b n rest
+
+-- no window was forgotten
+pub none_idle : (b : Rules) (n : ℕ) (log : List Entry) (q : ℕ) → IsLogOf b n log → idles_of q log ≡ 0
+none_idle b zero log q is = ap (idles_of q) is
+none_idle b (suc n) log q (k, rest, e, r, is) = ap (idles_of q) e ∙ none_idle b n rest q is
 
 module _ (b : Rules) (numbers : IsNumbering b) where
   not_kept : (n : ℕ) (log : List Entry) (newer : List ℕ) (top : ℕ) (bytes : List ℕ) → IsLogOf b n log → n ≤ top → ((d : ℕ) → n ≤ d → d < top → Has newer (b.number_of d))

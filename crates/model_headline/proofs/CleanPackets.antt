@@ -1,8 +1,9 @@
 -- On a clean link the packets of a message come one after another, and what comes of them is what comes of the message.
-use Rattle.std.proofs.Common.{◌≡◌, ℕ, ◌+◌, ◌-◌, ◌<◌, ◌≤◌, Bool, true, cond, ◌||◌, List, [], ◌∷◌, ◌++◌, length, map, Option, Some, None, refl, sym, ◌∙◌, ap, arith}
+use Rattle.std.proofs.Common.{◌≡◌, ℕ, ◌+◌, ◌-◌, ◌<◌, ◌≤◌, Bool, true, cond, ◌||◌, List, [], ◌∷◌, ◌++◌, length, map, Option, Some, None, refl, sym, ◌∙◌, ap, subst, arith, inl, inr}
 use Rattle.std.specs.List.{All}
 use Rattle.std.specs.Prelude.{◌==◌}
 use Rattle.std.proofs.lemmas.Bool.{eq-eqb}
+use Rattle.std.proofs.lemmas.List.{length-map}
 use Rattle.std.proofs.lemmas.List.Elements.{All-nil, All-cons, All-head, All-tail}
 use Rattle.two_wire.specs.declared.Bus.TheVariants.{Smbus}
 use Rattle.mctp_net.specs.declared.packet.Name.{Name}
@@ -26,6 +27,7 @@ use Rattle.model_lab.specs.ManagerSteps.{Plans, ManagerState, ManagerDeed, heede
 use Rattle.model_lab.specs.Lab.{ToPort, ToManager}
 use Rattle.model_lab.proofs.Parts.{parts_are_cuts}
 use Rattle.model_headline.proofs.CleanQueue.{Due, due, Link, port_goes, manager_goes, settles}
+use Rattle.model_headline.proofs.CleanFresh.{NoIdles, SendsNewest, Calm}
 
 -- ---- what is kept after them
 
@@ -143,6 +145,28 @@ module _ (P : Plans) (setup : BoardFile) where
       ∙ ap (λ (ds : List Due). settles P setup (length (q ∷ rest)) (record next { queue = ds })) (no_more (dues_at (q ∷ rest)))
       ∙ port_hears (q ∷ rest) next m h.1 (All-tail (λ x. x.envelope ≡ m.envelope) p (q ∷ rest) same) is
 
+  -- and each of them while the request is the newest
+  pub port_calm : (ps : List Packet) (l : Link P) (m : Message) → ComesBack l.smbus.eid l.smbus.kept ps m → AreIn m.envelope ps → m.envelope.destination ≡ l.smbus.wire → length ps ≤ 4
+      → NoIdles P l → NoIdles P (port_goes P Smbus (hears_message setup (left l.smbus ps) l.board m) [] l) → Calm P setup (length ps) (record l { queue = dues_at ps })
+  port_calm [] l m h same is few none ends = absurd h
+  port_calm (p ∷ []) l m h same is few none ends =
+      let mine : p.envelope ≡ m.envelope = All-head (λ q. q.envelope ≡ m.envelope) p [] same in
+      let heard = there l.smbus l.board p (ap (λ (e : Envelope). e.destination) mine ∙ is) ∙ gives l.smbus l.board p m h in
+      (none, (omega arith, tt), subst (λ (d : Deed). NoIdles P (port_goes P Smbus d [] l)) (sym heard) ends)
+  port_calm (p ∷ q ∷ rest) l m h same is few none ends =
+      let mine : p.envelope ≡ m.envelope = All-head (λ x. x.envelope ≡ m.envelope) p (q ∷ rest) same in
+      let next : Link P = record l { smbus = with_kept l.smbus (after l.smbus.eid l.smbus.kept p) } in
+      let heard = there l.smbus l.board p (ap (λ (e : Envelope). e.destination) mine ∙ is) ∙ waits l.smbus l.board p h.0 in
+      let more : Calm P setup (length (q ∷ rest)) (record next { queue = dues_at (q ∷ rest) }) = port_calm (q ∷ rest) next m h.1 (All-tail (λ x. x.envelope ≡ m.envelope) p (q ∷ rest) same) is (omega (arith, few)) none ends in (
+        none,
+        (shorter q rest few, tt),
+        subst (λ (d : Deed). Calm P setup (length (q ∷ rest)) (port_goes P Smbus d (dues_at (q ∷ rest)) l)) (sym heard)
+            (subst (λ (ds : List Due). Calm P setup (length (q ∷ rest)) (record next { queue = ds })) (sym (no_more (dues_at (q ∷ rest)))) more),
+      )
+    where
+      shorter : (q : Packet) (rest : List Packet) → length (p ∷ q ∷ rest) ≤ 4 → length (dues_at (q ∷ rest)) ≤ 4
+      shorter q rest few = let same = length-map (map Part (q ∷ rest)) (due Smbus ToPort) in let also = length-map (q ∷ rest) Part in omega arith
+
   -- ---- at the manager
 
   abbrev with_joined : ManagerState P → Assemblies → ManagerState P
@@ -182,3 +206,37 @@ module _ (P : Plans) (setup : BoardFile) where
       (joins_on l.manager p part heeded (mine p in_it) h.0.kept_on ∙ ap (λ (t : Bool). cond t (hears_reply P Smbus (message_of next.joined p).body next) (rests P next)) h.0.more)
       ∙ ap (λ (ds : List Due). settles P setup (length (q ∷ rest)) (record on { queue = ds })) (no_more (dues_back (q ∷ rest)))
       ∙ manager_joins (q ∷ rest) on m part heeded h.1 (All-tail (λ x. x.envelope ≡ m.envelope) p (q ∷ rest) same) mine
+
+  -- and each but the last leaves its machine as it was
+  pub manager_calm : (ps : List Packet) (l : Link P) (m : Message) (part : TaskPart P.words) → heeded_on P Smbus l.manager.machine.stage ≡ Some part → ComesBack l.manager.names.own_eid l.manager.joined ps m → AreIn m.envelope ps
+      → ((p : Packet) → p.envelope ≡ m.envelope → is_part l.manager.names (open_count P Smbus l.manager) p ≡ true) → length ps ≤ 4
+      → NoIdles P l → SendsNewest P (hears_reply P Smbus m.body (with_joined l.manager (kept_after_parts l.manager.names.own_eid l.manager.joined ps))) → Calm P setup (length ps) (record l { queue = dues_back ps })
+  manager_calm [] l m part heeded h same mine few none newest = absurd h
+  manager_calm (p ∷ []) l m part heeded h same mine few none newest =
+      let in_it : p.envelope ≡ m.envelope = All-head (λ q. q.envelope ≡ m.envelope) p [] same in
+      let own = l.manager.names.own_eid in
+      let kept = l.manager.joined in
+      let next = with_joined l.manager (after own kept p) in
+      let made : message_of next.joined p ≡ m = ap (λ (a : Assemblies). message_of a p) (whole_is own kept p m h) ∙ sym (whole-one own kept p m h) in
+      let heard : hears_packet P p l.manager ≡ hears_reply P Smbus m.body next =
+      joins_on l.manager p part heeded (mine p in_it) (whole-passes own kept p m h)
+      ∙ ap (λ (t : Bool). cond t (hears_reply P Smbus (message_of next.joined p).body next) (rests P next)) (whole-fits own kept p m h).1
+      ∙ ap (λ (x : Message). hears_reply P Smbus x.body next) made in
+      (none, (omega arith, inr (refl, subst (SendsNewest P) (sym heard) newest)), none)
+  manager_calm (p ∷ q ∷ rest) l m part heeded h same mine few none newest =
+      let in_it : p.envelope ≡ m.envelope = All-head (λ x. x.envelope ≡ m.envelope) p (q ∷ rest) same in
+      let own = l.manager.names.own_eid in
+      let kept = l.manager.joined in
+      let next = with_joined l.manager (after own kept p) in
+      let on : Link P = record l { manager = next } in
+      let heard : hears_packet P p l.manager ≡ rests P next =
+      joins_on l.manager p part heeded (mine p in_it) h.0.kept_on ∙ ap (λ (t : Bool). cond t (hears_reply P Smbus (message_of next.joined p).body next) (rests P next)) h.0.more in
+      let more : Calm P setup (length (q ∷ rest)) (record on { queue = dues_back (q ∷ rest) }) = manager_calm (q ∷ rest) on m part heeded h.1 (All-tail (λ x. x.envelope ≡ m.envelope) p (q ∷ rest) same) mine (omega (arith, few)) none newest in (
+        none,
+        (shorter q rest few, inl (ap (λ (d : ManagerDeed P). d.manager.machine) heard, ap (λ (d : ManagerDeed P). d.sent) heard)),
+        subst (λ (d : ManagerDeed P). Calm P setup (length (q ∷ rest)) (manager_goes P d (dues_back (q ∷ rest)) l)) (sym heard)
+            (subst (λ (ds : List Due). Calm P setup (length (q ∷ rest)) (record on { queue = ds })) (sym (no_more (dues_back (q ∷ rest)))) more),
+      )
+    where
+      shorter : (q : Packet) (rest : List Packet) → length (p ∷ q ∷ rest) ≤ 4 → length (dues_back (q ∷ rest)) ≤ 4
+      shorter q rest few = let same = length-map (map Part (q ∷ rest)) (due Smbus ToManager) in let also = length-map (q ∷ rest) Part in omega arith

@@ -27,7 +27,7 @@ abbrev pub AreDue : List Due → List LabFrame → Type 0
 AreDue [] fs = fs ≡ []
 AreDue (d ∷ ds) fs = (request : ℕ) × (idles : ℕ) × (rest : List LabFrame) × (fs ≡ record { on = d.on; way = d.way; request = request; idles = idles; value = d.value } ∷ rest) × AreDue ds rest
 
-due_more : (ds es : List Due) (fs gs : List LabFrame) → AreDue ds fs → AreDue es gs → AreDue (ds ++ es) (fs ++ gs)
+pub due_more : (ds es : List Due) (fs gs : List LabFrame) → AreDue ds fs → AreDue es gs → AreDue (ds ++ es) (fs ++ gs)
 due_more [] es fs gs a b = subst (λ (l : List LabFrame). AreDue es (l ++ gs)) (sym a) b
 due_more (d ∷ ds) es fs gs (request, idles, rest, e, a) b = (request, idles, rest ++ gs, ap (λ (l : List LabFrame). l ++ gs) e, due_more ds es rest gs a b)
 
@@ -39,7 +39,7 @@ past_end : {X : Type 0} (xs : List X) → slice_get (xs ++ []) (length xs) ≡ N
 past_end [] = refl
 past_end (x ∷ xs) = past_end xs
 
-one_longer : {X : Type 0} (xs : List X) (y : X) → length (xs ++ y ∷ []) ≡ length xs + 1
+pub one_longer : {X : Type 0} (xs : List X) (y : X) → length (xs ++ y ∷ []) ≡ length xs + 1
 one_longer [] y = refl
 one_longer (x ∷ xs) y = let r = one_longer xs y in omega arith
 
@@ -73,12 +73,12 @@ module _ (P : Plans) where
   abbrev pub manager_goes : ManagerDeed P → List Due → Link → Link
   manager_goes d rest l = record l { manager = d.manager; queue = rest ++ dues_of d.sent }
 
-  frames_due : (on : Bus) (way : Way) (request : ℕ) (x : Lab P) (vs : List Value) → AreDue (map (due on way) vs) (map (frame_now P on way request x) vs)
+  pub frames_due : (on : Bus) (way : Way) (request : ℕ) (x : Lab P) (vs : List Value) → AreDue (map (due on way) vs) (map (frame_now P on way request x) vs)
   frames_due on way request x [] = refl
   frames_due on way request x (v ∷ vs) = (request, (frame_now P on way request x v).idles, map (frame_now P on way request x) vs, refl, frames_due on way request x vs)
 
   -- only what the tags were opened for changes as a packet comes
-  opens_same : (v : Value) (request : ℕ) (x : Lab P) → (o : ℕ → ℕ) × (opens P v request x ≡ record x { opened = o })
+  pub opens_same : (v : Value) (request : ℕ) (x : Lab P) → (o : ℕ → ℕ) × (opens P v request x ≡ record x { opened = o })
   opens_same (Asks r) request x = (x.opened, refl)
   opens_same (Tells r) request x = (x.opened, refl)
   opens_same (Part p) request x = by (p.start && is_ours x.smbus.eid p)
@@ -115,21 +115,21 @@ module _ (P : Plans) (setup : BoardFile) where
     pub are : AreDue queue waiting
 
   -- the frame in front, and what stands there after it
-  found : (x : Lab P) (number : ℕ) (d : Due) (ds : List Due) → (s : Shows x number (d ∷ ds)) → slice_get x.frames number ≡ Some (record { on = d.on; way = d.way; request = s.are.0; idles = s.are.1; value = d.value })
+  pub found : (x : Lab P) (number : ℕ) (d : Due) (ds : List Due) → (s : Shows x number (d ∷ ds)) → slice_get x.frames number ≡ Some (record { on = d.on; way = d.way; request = s.are.0; idles = s.are.1; value = d.value })
   found x number d ds s =
       let f : LabFrame = record { on = d.on; way = d.way; request = s.are.0; idles = s.are.1; value = d.value } in
       ap (λ (n : ℕ). slice_get x.frames n) (sym s.count)
       ∙ ap (λ (fs : List LabFrame). slice_get fs (length s.done)) (s.frames ∙ ap (λ (fs : List LabFrame). s.done ++ fs) s.are.3)
       ∙ at_seam s.done f s.are.2
 
-  none_found : (x : Lab P) (number : ℕ) → Shows x number [] → slice_get x.frames number ≡ None
+  pub none_found : (x : Lab P) (number : ℕ) → Shows x number [] → slice_get x.frames number ≡ None
   none_found x number s =
       ap (λ (n : ℕ). slice_get x.frames n) (sym s.count)
       ∙ ap (λ (fs : List LabFrame). slice_get fs (length s.done)) (s.frames ∙ ap (λ (fs : List LabFrame). s.done ++ fs) s.are)
       ∙ past_end s.done
 
   -- more frames are sent, and the first was delivered
-  goes_on : (x y : Lab P) (number : ℕ) (d : Due) (ds more : List Due) (fs : List LabFrame) → Shows x number (d ∷ ds) → y.frames ≡ x.frames ++ fs → AreDue more fs → Shows y (number + 1) (ds ++ more)
+  abbrev pub goes_on : (x y : Lab P) (number : ℕ) (d : Due) (ds more : List Due) (fs : List LabFrame) → Shows x number (d ∷ ds) → y.frames ≡ x.frames ++ fs → AreDue more fs → Shows y (number + 1) (ds ++ more)
   goes_on x y number d ds more fs s e a =
       let f : LabFrame = record { on = d.on; way = d.way; request = s.are.0; idles = s.are.1; value = d.value } in
       let rest = s.are.2 in
@@ -175,7 +175,7 @@ module _ (P : Plans) (setup : BoardFile) where
         shows = goes_on x y number (due Smbus ToPort v) ds (map (due Smbus ToManager) d.sent) _ s refl (frames_due P Smbus ToManager request (record y0 { board = d.board; smbus = d.port }) d.sent);
       })
 
-  append_none : {X : Type 0} (xs : List X) → xs ++ [] ≡ xs
+  pub append_none : {X : Type 0} (xs : List X) → xs ++ [] ≡ xs
   append_none [] = refl
   append_none (x ∷ xs) = ap (λ l. x ∷ l) (append_none xs)
 

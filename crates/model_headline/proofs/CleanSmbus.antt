@@ -2,12 +2,14 @@
 use Rattle.std.proofs.Common.{lit<, ◌≡◌, ℕ, ◌+◌, ◌%◌, ◌<◌, ◌≤◌, Bool, true, false, cond, not, ◌&&◌, List, [], ◌∷◌, length, map, Some, None, refl, sym, ◌∙◌, ap, subst, arith, inl, inr}
 use Rattle.std.specs.Prelude.{◌==◌}
 use Rattle.std.proofs.lemmas.Bool.{and_from, eq-eqb}
+use Rattle.std.proofs.lemmas.List.{length-map}
 use Rattle.std.proofs.lemmas.Option.{none-some}
 use Rattle.two_wire.specs.declared.Bus.{Bus}
-use Rattle.two_wire.specs.declared.Bus.TheVariants.{Smbus}
+use Rattle.two_wire.specs.declared.Bus.TheVariants.{Ipmb, Smbus}
 use Rattle.mctp_net.specs.declared.packet.Packet.{Packet}
 use Rattle.mctp_net.specs.declared.packet.Envelope.{Envelope}
 use Rattle.mctp_net.specs.declared.message.Message.{Message}
+use Rattle.mctp_net.specs.Cut.{piece}
 use Rattle.mctp_net.specs.Assembly.{Assemblies, name_of, ComesBack}
 use Rattle.pldm_base.specs.declared.message.PldmRequest.{PldmRequest}
 use Rattle.pldm_base.specs.Message.{IsRequest}
@@ -36,7 +38,7 @@ use Rattle.model_bus.proofs.NumberLaws.{smbus_numbers}
 use Rattle.model_undo.specs.Words.{Answered, is_busy}
 use Rattle.model_undo.specs.Wires.{number_of, IsSeries, IsOf, IsMade}
 use Rattle.model_undo.specs.TwoBuses.{Addresses}
-use Rattle.model_undo.specs.Machine.{Task, Opened, Machine, enters, takes, reply_of}
+use Rattle.model_undo.specs.Machine.{Task, Opened, Machine, enters, takes, reply_of, stage_after, undo_after, one_answered}
 use Rattle.model_lab.specs.ManagerWords.{from_manager, manager_words}
 use Rattle.model_family.specs.Family.{answer}
 use Rattle.model_lab.specs.Wires.{bytes_of, reply_to}
@@ -55,9 +57,10 @@ use Rattle.model_headline.specs.Tied.{P, F, rules_on, smbus_bus}
 use Rattle.model_headline.proofs.Sending.{made_type, from_zero}
 use Rattle.model_headline.proofs.CleanQueue.{Link, port_goes, manager_goes, settles, settles_more}
 use Rattle.model_headline.proofs.CleanTest.{accepts}
-use Rattle.model_headline.proofs.CleanLog.{IsLogOf, next_is_new}
-use Rattle.model_headline.proofs.CleanPackets.{AreIn, closes, come_back, none_beside, dues_back, port_hears, manager_joins}
-use Rattle.model_headline.proofs.CleanExchange.{Rest, smbus_port, manager_with, link_at, IsClear, not_busy, part_of, Exchanged}
+use Rattle.model_headline.proofs.CleanLog.{IsLogOf, none_idle, next_is_new}
+use Rattle.model_headline.proofs.CleanFresh.{NoIdles, SendsNewest, sends_newest, Calm, calm_more}
+use Rattle.model_headline.proofs.CleanPackets.{AreIn, closes, come_back, none_beside, dues_back, port_hears, port_calm, manager_joins, manager_calm}
+use Rattle.model_headline.proofs.CleanExchange.{Rest, smbus_port, manager_with, link_at, IsClear, clear_idles, not_busy, part_of, Exchanged}
 
 -- ---- the manager's requests on SMBus are short
 
@@ -191,6 +194,9 @@ module _ (setup : BoardFile) (names : Names) where
         ap (λ (t : Bool). cond t (taken_or (P setup names) manager (reply_of (F setup names).words given open_machine)) (rests (P setup names) manager)) passes
         ∙ ap (taken_or (P setup names) manager) (taken_is given.code given.body (not_busy setup names b wanted))
 
+  at_most : (ps : List Packet) → length (map piece ps) ≤ 4 → length ps ≤ 4
+  at_most ps few = let same = length-map ps piece in omega arith
+
   -- a packet of the reply goes to the manager, under the request's tag
   is_mine : (count : ℕ) (p : Packet) → p.envelope ≡ telling count → is_part names count p ≡ true
   is_mine count p is =
@@ -223,8 +229,19 @@ module _ (setup : BoardFile) (names : Names) where
       let port : settles (P setup names) setup (length ps) l ≡ mid =
       port_hears (P setup names) setup ps l ask comes asked_in refl
       ∙ ap (λ (d : Deed). port_goes (P setup names) Smbus d [] l) (port_answers n from kind command body made b kept r.smbus_log clear.smbus) in
+      let few_asked : length ps ≤ 4 = at_most ps (parts_are_cuts.cut ask some_asked fits_asked).cut.few in
+      let few_told : length qs ≤ 4 = at_most qs (parts_are_cuts.cut tell some_told fits_told).cut.few in
+      let quiet : NoIdles (P setup names) mid = (λ i. (none_idle (rules_on setup names Ipmb) m.counts.ipmb r.ipmb_log i clear.ipmb, none_idle (rules_on setup names Smbus) n r.smbus_log i clear.smbus)) in
+      let taken = manager_takes joined task before m from kind command body made b in
+      let newest = sends_newest (P setup names) (manager_with setup names joined (enters (F setup names).words (Opened true task part) m).machine) (stage_after (F setup names).words m.stopped m.plan (answer setup b wanted).0 task part)
+      (record m { stage = Opened true task part; resent = 0; undo = undo_after (F setup names).words (answer setup b wanted).0 task part m.undo; counts = one_answered Smbus m.counts }) in
       record {
         count = length ps + length qs;
+        calm = calm_more (P setup names) setup (length ps) (length qs) l
+            (port_calm (P setup names) setup ps l ask comes asked_in refl few_asked (clear_idles setup names m.counts (enters (F setup names).words (Opened true task part) m) b r clear)
+            (subst (λ (d : Deed). NoIdles (P setup names) (port_goes (P setup names) Smbus d [] l)) (sym (port_answers n from kind command body made b kept r.smbus_log clear.smbus)) quiet))
+            (subst (Calm (P setup names) setup (length qs)) (sym port) (manager_calm (P setup names) setup qs mid tell part refl goes told_in (is_mine n) few_told quiet (subst (SendsNewest (P setup names)) (sym taken) newest)));
+        few = omega (arith, few_asked, few_told);
         rest = record r { smbus_log = e ∷ r.smbus_log; kept = kept; joined = joined };
         clear = record {
           ipmb = clear.ipmb;
@@ -235,5 +252,5 @@ module _ (setup : BoardFile) (names : Names) where
         is = settles_more (P setup names) setup (length ps) (length qs) l
             ∙ ap (settles (P setup names) setup (length qs)) port
             ∙ manager_joins (P setup names) setup qs mid tell part refl goes told_in (is_mine n)
-            ∙ ap (λ (d : ManagerDeed (P setup names)). manager_goes (P setup names) d [] mid) (manager_takes joined task before m from kind command body made b);
+            ∙ ap (λ (d : ManagerDeed (P setup names)). manager_goes (P setup names) d [] mid) taken;
       }

@@ -23,6 +23,7 @@ pub mod Stopped
 pub mod Theorem
 pub mod Plays
 pub mod CleanQueue
+pub mod CleanFresh
 pub mod CleanLog
 pub mod CleanExchange
 pub mod CleanTest

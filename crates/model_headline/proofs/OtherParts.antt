@@ -54,7 +54,7 @@ use Rattle.model_headline.specs.Tied.{P, L, smbus_bus, rules_on, requests, IsHel
 use Rattle.model_headline.proofs.Each.{each_append, each_map, each_by_place}
 use Rattle.model_headline.proofs.Frames.{all_held}
 use Rattle.model_headline.proofs.Sending.{part_envelope, small_part}
-use Rattle.model_headline.proofs.Goes.{stays_there, goes_on}
+use Rattle.model_headline.proofs.Goes.{Quietly, quiet_there, quietly_on, goes_quietly}
 
 -- ---- what a port keeps, and its wire
 
@@ -286,48 +286,57 @@ module _ (setup : BoardFile) (names : Names) where
     abbrev taken : Step × List Sent
     taken = takes (ends.port (name_in p)) (let s : Sent = record { request = 0; idles = 0; packet = seen (piece p) } in s)
 
-    is_taken : IsPortOf (packet_happens b ends event) port → Goes setup names x on left_lab
+    is_taken : IsPortOf (packet_happens b ends event) port → Quietly setup names x on left_lab
     is_taken is = record {
-      happenings = OnBus Smbus event x.board ∷ [];
-      left = update (L setup names) Smbus (packet_happens b ends event) on;
-      may = (((tt, another), refl, refl), tt);
-      reaches = refl;
-      tied = tied_at (packet_happens b ends event) is (asks_stays (other_request (name_in p) taken.0) taken.1);
-    }
-
-    is_closed : IsPortOf (packet_happens b ends (Closes (name_in p))) port → Goes setup names x on left_lab
-    is_closed is = record {
-      happenings = OnBus Smbus (Closes (name_in p)) x.board ∷ [];
-      left = update (L setup names) Smbus (packet_happens b ends (Closes (name_in p))) on;
-      may = (((tt, tt), refl, refl), tt);
-      reaches = refl;
-      tied = tied_at (packet_happens b ends (Closes (name_in p))) is (record { manager = refl; taken = refl; written = tied.written Smbus; more = λ n f at. at; mine = set_beside [] });
-    }
-
-    is_nothing : IsPortOf ends port → Goes setup names x on left_lab
-    is_nothing is = record {
-      happenings = [];
-      left = on;
-      may = tt;
-      reaches = refl;
-      tied = record {
-        named = tied.named;
-        ipmb_wire = tied.ipmb_wire;
-        smbus_wire = fits.wire ∙ tied.smbus_wire;
-        ipmb_log = tied.ipmb_log;
-        smbus_port = is;
-        waits = tied.waits;
-        alone = tied.alone;
-        counted = tied.counted;
-        written = tied.written;
-        answered = tied.answered;
-        made = tied.made;
-        frames = tied.frames;
-        opened = tied.opened;
+      went = record {
+        happenings = OnBus Smbus event x.board ∷ [];
+        left = update (L setup names) Smbus (packet_happens b ends event) on;
+        may = (((tt, another), refl, refl), tt);
+        reaches = refl;
+        tied = tied_at (packet_happens b ends event) is (asks_stays (other_request (name_in p) taken.0) taken.1);
       };
+      none = refl;
     }
 
-    by_cause : (c : Option DropCause) → IsPortOf (happens_if b (event_by c (name_in p) event) ends) port → Goes setup names x on left_lab
+    is_closed : IsPortOf (packet_happens b ends (Closes (name_in p))) port → Quietly setup names x on left_lab
+    is_closed is = record {
+      went = record {
+        happenings = OnBus Smbus (Closes (name_in p)) x.board ∷ [];
+        left = update (L setup names) Smbus (packet_happens b ends (Closes (name_in p))) on;
+        may = (((tt, tt), refl, refl), tt);
+        reaches = refl;
+        tied = tied_at (packet_happens b ends (Closes (name_in p))) is (record { manager = refl; taken = refl; written = tied.written Smbus; more = λ n f at. at; mine = set_beside [] });
+      };
+      none = refl;
+    }
+
+    is_nothing : IsPortOf ends port → Quietly setup names x on left_lab
+    is_nothing is = record {
+      went = record {
+        happenings = [];
+        left = on;
+        may = tt;
+        reaches = refl;
+        tied = record {
+          named = tied.named;
+          ipmb_wire = tied.ipmb_wire;
+          smbus_wire = fits.wire ∙ tied.smbus_wire;
+          ipmb_log = tied.ipmb_log;
+          smbus_port = is;
+          waits = tied.waits;
+          alone = tied.alone;
+          counted = tied.counted;
+          written = tied.written;
+          answered = tied.answered;
+          made = tied.made;
+          frames = tied.frames;
+          opened = tied.opened;
+        };
+      };
+      none = refl;
+    }
+
+    by_cause : (c : Option DropCause) → IsPortOf (happens_if b (event_by c (name_in p) event) ends) port → Quietly setup names x on left_lab
     by_cause (Some NotOurs) is = is_nothing is
     by_cause (Some NoSlot) is = is_closed is
     by_cause (Some NoStart) is = is_taken is
@@ -337,7 +346,7 @@ module _ (setup : BoardFile) (names : Names) where
     by_cause None is = is_taken is
 
     -- another's packet comes to the port; the frames that are sent come with the last
-    pub part_goes : Goes setup names x on left_lab
+    pub part_goes : Quietly setup names x on left_lab
     part_goes = by_cause cause (parts_leave_log setup x.smbus before p b ends small tied.smbus_port).others
 
   -- ---- all packets of a message
@@ -347,14 +356,14 @@ module _ (setup : BoardFile) (names : Names) where
   IsOthers p = (length p.payload ≤ unit_size) × (p.envelope.source_eid ≢ names.own_eid)
 
   parts_go : (ps : List Packet) → Each IsOthers ps → (x : Lab (P setup names)) (on : States (L setup names)) → IsTied setup names x on → (before : State)
-      → Goes setup names x on (record x { smbus = (hears_parts setup x.smbus before ps).port })
+      → Quietly setup names x on (record x { smbus = (hears_parts setup x.smbus before ps).port })
   unfolding hears_parts
-  parts_go [] all x on tied before = stays_there setup names x on tied
+  parts_go [] all x on tied before = quiet_there setup names x on tied
   parts_go (p ∷ ps) all x on tied before =
       let d = hears_part setup x.smbus before p in
       let next : Lab (P setup names) = record x { smbus = d.port } in
       let first = part_goes x on tied before p all.0.0 all.0.1 in
-      goes_on setup names x next (record next { smbus = (hears_parts setup d.port d.board ps).port }) on first (parts_go ps all.1 next first.left first.tied d.board)
+      quietly_on setup names x next (record next { smbus = (hears_parts setup d.port d.board ps).port }) on first (parts_go ps all.1 next first.went.left first.went.tied d.board)
 
   all_others : (m : Message) → m.envelope.source_eid ≢ names.own_eid → Each IsOthers (parts_of m)
   all_others m another = each_by_place IsOthers (parts_of m) (λ n p at. (small_part m n p at, λ same. another (ap (λ (e : Envelope). e.source_eid) (sym (part_envelope m n p at)) ∙ same)))
@@ -367,30 +376,34 @@ module _ (setup : BoardFile) (names : Names) where
     held : (now : States (L setup names)) (d : Deed) → Each (IsHeld setup names now) (map (frame_now (P setup names) Smbus ToOthers 0 (unsent d)) d.sent)
     held now d = each_map (frame_now (P setup names) Smbus ToOthers 0 (unsent d)) (IsHeld setup names now) d.sent (each_by_place _ d.sent (λ n v at. tt))
 
-    ends_so : (d : Deed) → Keeps setup x.board d → Goes setup names x on (record x { smbus = d.port }) → Goes setup names x on (port_does (P setup names) Smbus ToOthers 0 d x)
+    ends_so : (d : Deed) → Keeps setup x.board d → Quietly setup names x on (record x { smbus = d.port }) → Goes setup names x on (port_does (P setup names) Smbus ToOthers 0 d x)
     ends_so d keeps first =
-        let t = first.tied in
-        goes_on setup names x (record x { smbus = d.port }) (port_does (P setup names) Smbus ToOthers 0 d x) on first (record {
-          happenings = OnBench d.board ∷ [];
-          left = first.left;
-          may = (keeps, tt);
-          reaches = refl;
-          tied = record {
-            named = t.named;
-            ipmb_wire = t.ipmb_wire;
-            smbus_wire = t.smbus_wire;
-            ipmb_log = t.ipmb_log;
-            smbus_port = t.smbus_port;
-            waits = t.waits;
-            alone = t.alone;
-            counted = t.counted;
-            written = t.written;
-            answered = t.answered;
-            made = t.made;
-            frames = each_append (IsHeld setup names first.left) x.frames (map (frame_now (P setup names) Smbus ToOthers 0 (unsent d)) d.sent) t.frames (held first.left d);
-            opened = t.opened;
+        let now = first.went.left in
+        let t = first.went.tied in
+        goes_quietly setup names x (port_does (P setup names) Smbus ToOthers 0 d x) on (quietly_on setup names x (record x { smbus = d.port }) (port_does (P setup names) Smbus ToOthers 0 d x) on first (record {
+          went = record {
+            happenings = OnBench d.board ∷ [];
+            left = now;
+            may = (keeps, tt);
+            reaches = refl;
+            tied = record {
+              named = t.named;
+              ipmb_wire = t.ipmb_wire;
+              smbus_wire = t.smbus_wire;
+              ipmb_log = t.ipmb_log;
+              smbus_port = t.smbus_port;
+              waits = t.waits;
+              alone = t.alone;
+              counted = t.counted;
+              written = t.written;
+              answered = t.answered;
+              made = t.made;
+              frames = each_append (IsHeld setup names now) x.frames (map (frame_now (P setup names) Smbus ToOthers 0 (unsent d)) d.sent) t.frames (held now d);
+              opened = t.opened;
+            };
           };
-        })
+          none = refl;
+        }))
 
     -- a message of another comes, if it goes to the port's address
     pub message_goes : (m : Message) → ChangesNothing m.envelope.source_eid m.body → IsAnother Smbus x.manager.names m.envelope.source_eid
@@ -402,4 +415,4 @@ module _ (setup : BoardFile) (names : Names) where
 
         by : (t : Bool) → Goes setup names x on (port_does (P setup names) Smbus ToOthers 0 (cond t (hears_parts setup x.smbus x.board (parts_of m)) (stays x.smbus x.board)) x)
         by true = ends_so (hears_parts setup x.smbus x.board (parts_of m)) (parts_keep setup x.board x.smbus m quiet) (parts_go (parts_of m) (all_others m there) x on tied x.board)
-        by false = ends_so (stays x.smbus x.board) refl (stays_there setup names x on tied)
+        by false = ends_so (stays x.smbus x.board) refl (quiet_there setup names x on tied)

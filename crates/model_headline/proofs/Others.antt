@@ -56,6 +56,7 @@ module _ (setup : BoardFile) (names : Names) (plan : List Op) (start : Records) 
       left = update (L setup names) Ipmb (idle_ipmb requester) on;
       may = (((tt, λ e. closed_on Ipmb (honest (e ∙ ap (λ n. n.own_address) (sym tied.named)))), refl, refl), tt);
       reaches = refl;
+      gives = tt;
       tied = record {
         named = tied.named;
         ipmb_wire = tied.ipmb_wire;
@@ -83,6 +84,7 @@ module _ (setup : BoardFile) (names : Names) (plan : List Op) (start : Records) 
       left = update (L setup names) Smbus (record (on Smbus) { bus = idle_smbus requester }) on;
       may = (((tt, (tt, λ e. closed_on Smbus (honest (e ∙ ap (λ n. n.own_eid) (sym tied.named))))), refl, refl), tt);
       reaches = refl;
+      gives = tt;
       tied = record {
         named = tied.named;
         ipmb_wire = tied.ipmb_wire;
@@ -111,7 +113,7 @@ module _ (setup : BoardFile) (names : Names) (plan : List Op) (start : Records) 
     -- ---- noise and the bench
 
     pub noise_goes : Goes setup names x on x
-    noise_goes = record { happenings = []; left = on; may = tt; reaches = refl; tied = tied }
+    noise_goes = record { happenings = []; left = on; may = tt; reaches = refl; gives = tt; tied = tied }
 
     pub bench_goes : (activity : Activity) → Goes setup names x on (record x { board = state x.board.records activity })
     bench_goes activity = record {
@@ -119,6 +121,7 @@ module _ (setup : BoardFile) (names : Names) (plan : List Op) (start : Records) 
       left = on;
       may = (refl, tt);
       reaches = refl;
+      gives = tt;
       tied = record {
         named = tied.named;
         ipmb_wire = tied.ipmb_wire;

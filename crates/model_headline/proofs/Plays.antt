@@ -2,17 +2,19 @@
 use Rattle.std.proofs.Common.{◌≡◌, ℕ, ◌+◌, ◌-◌, List, [], ◌∷◌, ◌++◌, length, refl, sym, ◌∙◌, ap, subst, arith, inl, inr}
 use Rattle.std.specs.Prelude.{take}
 use Rattle.std.proofs.Math.Seq.{take-append_seam}
+use Rattle.record_base.specs.declared.message.Asked.{Asked}
 use Rattle.record_base.specs.declared.op.Op.{Op}
 use Rattle.cfg_records.specs.declared.board_file.BoardFile.{BoardFile}
 use Rattle.bmc_board.specs.State.{State}
 use Rattle.model_bus.specs.Repeat.{In}
-use Rattle.model_undo.specs.Phase.{Phase, Undone}
-use Rattle.model_undo.specs.Plan.{Stands}
+use Rattle.model_undo.specs.Words.{Answered}
+use Rattle.model_undo.specs.Phase.{Stop, Refused, NotRestorable, GetRefused, Phase, Fresh, Getting, Setting, Done, Halted, Unsettled, Undoing, Undone, UndoRefused}
+use Rattle.model_undo.specs.Plan.{IsAfter, Stands}
 use Rattle.model_undo.specs.Machine.{phase_of}
 use Rattle.model_undo.specs.Headline.{ShowsSame}
 use Rattle.model_lab.specs.ManagerSteps.{Stop as StopNow}
 use Rattle.model_lab.specs.Lab as lab
-use Rattle.model_lab.specs.Lab.{Lab, run, opening}
+use Rattle.model_lab.specs.Lab.{Lab, step, run, opening}
 use Rattle.model_lab.specs.Faults.{AllTaken}
 use Rattle.model_lab.specs.Own.{AllOwn}
 use Rattle.model_lab.specs.Joins.{AllJoinLive}
@@ -23,8 +25,10 @@ use Rattle.text_schedule.specs.declared.event.Event.TheVariants as event
 use Rattle.model_lab.specs.Meaning.{lab_names, call_of, Bench, event_of}
 use Rattle.model_lab.specs.Played.{plans, Ending, Whole, Stops, happens, after, AreTaken, told_of, IsPlayed}
 use Rattle.model_headline.specs.Tied.{F}
+use Rattle.model_headline.specs.Answers.{Answers, CausedBy}
+use Rattle.model_headline.specs.Theorem as law
 use Rattle.model_headline.specs.Theorem.{IsHonestAndOwn}
-use Rattle.model_headline.specs.Plays.{taken_by, told_by, AllKeepPremise, AreOwn, ToldStands, PlaysStand}
+use Rattle.model_headline.specs.Plays.{taken_by, told_by, AllKeepPremise, AreOwn, GaveIn, ToldStands, PlaysStand}
 use Rattle.model_headline.proofs.Theorem.{first_honest, first_own, premises_agree, headline_of}
 
 -- ---- a schedule's stop is the lab's
@@ -87,6 +91,32 @@ module _ (bench : Bench) (file : BoardFile) where
   stop_from (e ∷ es) x (inl here) = inl (stops_here x.board e here)
   stop_from (e ∷ es) x (inr later) = inr (stop_from es (happens bench file e x) later)
 
+  -- where a lab's events are split, the schedule's are
+  record Split (es : List Event) (x : Lab plans) (ks : List lab.Event) (e : lab.Event) : Type 0 where
+    before : List Event
+    event : Event
+    later : List Event
+    all : es ≡ before ++ event ∷ later
+    same : events_from before x ≡ ks
+    is : event_of lab_names bench (after bench file before x).board event ≡ e
+
+  split_from : (es : List Event) (x : Lab plans) (ks : List lab.Event) (e : lab.Event) (rest : List lab.Event) → events_from es x ≡ ks ++ e ∷ rest → Split es x ks e
+  split_from [] x [] e rest h = absurd cc
+  split_from [] x (k ∷ ks) e rest h = absurd cc
+  split_from (d ∷ es) x [] e rest h = record { before = []; event = d; later = es; all = refl; same = refl; is = cc }
+  split_from (d ∷ es) x (k ∷ ks) e rest h =
+      let here : event_of lab_names bench x.board d ≡ k = cc in
+      let there : events_from es (happens bench file d x) ≡ ks ++ e ∷ rest = cc in
+      let s = split_from es (happens bench file d x) ks e rest there in
+      record {
+        before = d ∷ s.before;
+        event = s.event;
+        later = s.later;
+        all = ap (λ (l : List Event). d ∷ l) s.all;
+        same = λ i. here i ∷ s.same i;
+        is = s.is;
+      }
+
   module _ (plan : List Op) (retries : ℕ) where
     abbrev first : Lab plans
     first = opening plans file lab_names plan retries
@@ -114,19 +144,51 @@ module _ (bench : Bench) (file : BoardFile) where
         let reaches : run plans file (one ++ two) first ≡ after bench file (es ++ later) first = ap (λ (events : List lab.Event). run plans file events first) (sym split) ∙ runs_so (es ++ later) first in
         subst (λ (y : Lab plans). (y.board.records ≡ first.board.records) × ShowsSame (F file lab_names) first.board y.board) reaches there
 
+    -- an answer that was given in a run was given in the play
+    gave_so : (es : List Event) (k : ℕ) (asked : Asked) (a : Answered) → law.GaveIn file lab_names plan retries (events_from es first) k asked a → GaveIn bench file plan retries es k asked a
+    gave_so es k asked a g =
+        let s = split_from es first g.before g.event g.later g.all in
+        let y = after bench file s.before first in
+        let there : run plans file g.before first ≡ y = ap (λ (l : List lab.Event). run plans file l first) (sym s.same) ∙ runs_so s.before first in
+        record {
+          before = s.before;
+          event = s.event;
+          later = s.later;
+          all = s.all;
+          answers = subst (λ (e : lab.Event). Answers file lab_names y (step plans file y e) asked a) (sym s.is)
+              (subst (λ (z : Lab plans). Answers file lab_names z (step plans file z g.event) asked a) there g.answers);
+          at = subst (λ (z : Lab plans). IsAfter (F file lab_names) plan first.board.records k z.board.records) there g.at;
+        }
+
+    -- and so is the cause of a halt
+    caused_so : (es : List Event) (phase : Phase) → CausedBy file lab_names (law.GaveIn file lab_names plan retries (events_from es first)) (In (lab.Calls StopNow) (events_from es first)) plan phase
+        → CausedBy file lab_names (GaveIn bench file plan retries es) (In (event.Calls called.Stop) es) plan phase
+    caused_so es (Halted k Stop) c = stop_from es first c
+    caused_so es (Halted k (Refused code)) c = (c.0, c.1, c.2, gave_so es k _ _ c.3, c.4)
+    caused_so es (Halted k (GetRefused code)) c = (c.0, c.1, c.2, gave_so es k _ _ c.3, c.4)
+    caused_so es (Halted k NotRestorable) c = (c.0, c.1, c.2, gave_so es k _ _ c.3, c.4)
+    caused_so es Fresh c = tt
+    caused_so es (Getting k) c = tt
+    caused_so es (Setting k) c = tt
+    caused_so es Done c = tt
+    caused_so es (Unsettled k) c = tt
+    caused_so es (Undoing k) c = tt
+    caused_so es Undone c = tt
+    caused_so es (UndoRefused k code) c = tt
+
     told_stands : (es : List Event) → Good (events_from es first) → ToldStands bench file plan retries es (told_of bench file first (after bench file es first))
     told_stands es good =
         let events = events_from es first in
-        let law = headline_of file lab_names plan retries Good (λ given is. is) in
-        let here = law.stands events good in
+        let headline = headline_of file lab_names plan retries Good (λ given is. is) in
+        let here = headline.stands events good in
+        let causes = headline.halts events good in
         let x = run plans file events first in
         subst (λ (y : Lab plans). ToldStands bench file plan retries es (told_of bench file first y)) (runs_so es first) (record {
-          stands = here.0;
-          undone = λ at. subst (λ (p : Phase). Stands (F file lab_names) plan first.board.records p x.board.records) at here.0;
+          stands = here;
+          undone = λ at. subst (λ (p : Phase). Stands (F file lab_names) plan first.board.records p x.board.records) at here;
           for_good = λ before later rest split at.
               for_good before later (prefix_good (before ++ later) rest (subst (λ (all : List Event). Good (events_from all first)) split good)) at;
-          halts = (x.manager.machine.stopped, here.1);
-          stopped = λ k at. stop_from es first (law.stopped events k good at);
+          halts = caused_so es (phase_of plans.words x.manager.machine) causes;
         })
 
     -- of events that were taken, by either premise

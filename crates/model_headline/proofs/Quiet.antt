@@ -1,5 +1,5 @@
 -- A packet of the manager that ends no message, at the port on SMBus.
-use Rattle.std.proofs.Common.{◌≡◌, ℕ, ◌%◌, Bool, true, false, cond, not, ◌&&◌, List, [], ◌∷◌, length, map, Option, Some, None, refl, sym, ◌∙◌, ap, subst}
+use Rattle.std.proofs.Common.{◌≡◌, ℕ, ◌%◌, Bool, true, false, cond, not, ◌&&◌, List, [], ◌∷◌, ◌++◌, length, map, Option, Some, None, refl, sym, ◌∙◌, ap, subst}
 use Rattle.std.specs.Prelude.{◌==◌}
 use Rattle.two_wire.specs.declared.Bus.{Bus}
 use Rattle.two_wire.specs.declared.Bus.TheVariants.{Ipmb, Smbus}
@@ -21,6 +21,7 @@ use Rattle.model_bus.specs.PacketEffect.{step_of, whole_request, completed_reque
 use Rattle.model_bus.proofs.Lists.{Grows}
 use Rattle.model_undo.specs.Machine.{count_of}
 use Rattle.model_undo.specs.Line.{exchange, carried_at}
+use Rattle.model_undo.specs.Giving.{given_by}
 use Rattle.model_undo.specs.World as world
 use Rattle.model_undo.specs.World.{States, World, OnBus, update}
 use Rattle.model_lab.specs.Spelled.{numbers_of}
@@ -33,7 +34,7 @@ use Rattle.model_lab.specs.PortEvents.{name_in, event_by, happens_if, IsPortOf}
 use Rattle.model_lab.specs.Own.{JoinsOwn}
 use Rattle.model_lab.specs.Lab.{ToManager, LabFrame, Lab, with_port, frame_now, port_does}
 use Rattle.model_headline.specs.Each.{Each}
-use Rattle.model_headline.specs.Tied.{P, F, L, W, rules_on, requests, HoldsAskedPart, IsHeld, EntryAnswers, IsTied, world_of, Goes}
+use Rattle.model_headline.specs.Tied.{P, F, L, W, rules_on, requests, HoldsAskedPart, IsHeld, EntryAnswers, IsTied, world_of, IsGiven, Goes}
 use Rattle.model_headline.specs.Follows.{Holds}
 use Rattle.model_headline.proofs.Each.{each_append}
 use Rattle.model_headline.proofs.Frames.{all_held}
@@ -184,6 +185,7 @@ module _ (setup : BoardFile) (names : Names) (plan : List Op) (start : Records) 
       left = on;
       may = tt;
       reaches = refl;
+      gives = tt;
       tied = record {
         named = tied.named;
         ipmb_wire = tied.ipmb_wire;
@@ -218,6 +220,7 @@ module _ (setup : BoardFile) (names : Names) (plan : List Op) (start : Records) 
       left = now (waits_as (set_at (name_in p) [] ends.port));
       may = (((tt, tt), refl, refl), tt);
       reaches = refl;
+      gives = tt;
       tied = leaves_tied quiet (waits_as (set_at (name_in p) [] ends.port))
           (quiet_leaves (set_at (name_in p) [] ends.port) (quiet_port (Some NoSlot) e refl (waits_as (set_at (name_in p) [] ends.port)) (other_after (Some NoSlot) e))
           (part.still_opened setup names plan start x on tied h f hold live mine [] (λ t is. absurd is)));
@@ -250,5 +253,6 @@ module _ (setup : BoardFile) (names : Names) (plan : List Op) (start : Records) 
           left = now left;
           may = (((tt, part.honest_part setup names plan start x on tied h f hold live mine ours slot), refl, subst (λ o. world.BoardMay (F setup names) (L setup names) (W setup names) Smbus o x.board x.board) (sym carried) refl), tt);
           reaches = ap (λ (y : Ends). let w : World (F setup names) (L setup names) = record { machine = x.manager.machine; on = now y; board = x.board } in w) happened;
+          gives = subst (λ o. Each (IsGiven setup names x (done_by quiet)) (given_by (F setup names) (L setup names) (W setup names) Smbus o x.board x.board ++ [])) (sym carried) tt;
           tied = leaves_tied quiet left (quiet_leaves (set_at (name_in p) after ends.port) port (part.still_opened setup names plan start x on tied h f hold live mine after waits));
         })

@@ -61,7 +61,7 @@ module _ (setup : BoardFile) (names : Names) (plan : List Op) (start : Records) 
     rest_goes : (d : ManagerDeed (P setup names)) → d ≡ rests (P setup names) m → Goes setup names x on (manager_does (P setup names) d x)
     rest_goes d is =
         subst (λ e. Goes setup names x on (manager_does (P setup names) e x)) (sym is)
-        (let quiet : Goes setup names x on x = record { happenings = []; left = on; may = tt; reaches = refl; tied = tied } in quiet)
+        (let quiet : Goes setup names x on x = record { happenings = []; left = on; may = tt; reaches = refl; gives = tt; tied = tied } in quiet)
 
     -- ---- a reply is taken
 
@@ -97,6 +97,7 @@ module _ (setup : BoardFile) (names : Names) (plan : List Op) (start : Records) 
             happenings = ToManager bus e ∷ [];
             left = after.left;
             may = (((outside, honest), told), tt);
+            gives = tt;
             reaches = looked
                 ∙ ap (λ o. world.brought (F setup names) (L setup names) (W setup names) bus e o w) brings
                 ∙ ap (λ o. world.answered (F setup names) (L setup names) (W setup names) bus e o w) is
@@ -339,6 +340,7 @@ module _ (setup : BoardFile) (names : Names) (plan : List Op) (start : Records) 
             happenings = ToManager Smbus arrives ∷ [];
             left = moved;
             may = (((tt, honest_part), refl), tt);
+            gives = tt;
             reaches = looked Smbus arrives task part at same tt refl honest_part ∙ ap (λ o. world.brought (F setup names) (L setup names) (W setup names) Smbus arrives o w) e;
             tied = waits_tied r.joined still r.waits r.alone;
           }

@@ -1,24 +1,30 @@
 -- Whatever happens in a lab by honest events, the manager's phase stands on the records.
-use Rattle.std.proofs.Common.{◌≡◌, ℕ, List, [], ◌∷◌, ◌++◌, length, None, refl, ◌∙◌, ap, subst, arith}
-use Rattle.std.proofs.lemmas.Option.{none-some}
+use Rattle.std.proofs.Common.{◌≡◌, ℕ, List, [], ◌∷◌, ◌++◌, length, None, refl, sym, ◌∙◌, ap, subst, arith, append-nil}
+use Rattle.std.proofs.lemmas.Option.{none-some, slice_get_read}
 use Rattle.two_wire.specs.declared.Bus.{Bus}
 use Rattle.two_wire.specs.declared.Bus.TheVariants.{Ipmb, Smbus}
 use Rattle.mctp_net.specs.Assembly.{nothing}
 use Rattle.mctp_net.specs.Sound.{IsSound}
+use Rattle.record_base.specs.declared.message.Asked.{Asked}
 use Rattle.record_base.specs.declared.op.Op.{Op}
 use Rattle.cfg_records.specs.declared.board_file.BoardFile.{BoardFile}
 use Rattle.cfg_records.specs.Records.{Records}
+use Rattle.bmc_board.specs.State.{State}
+use Rattle.model_bus.specs.Repeat.{In}
 use Rattle.model_bus.specs.BusState.{opening as opening_bus}
 use Rattle.model_bus.specs.Start.{NothingUnderWay}
 use Rattle.model_bus.specs.Packet.{packets_of}
 use Rattle.model_bus.specs.PacketBus.{opening_ends}
 use Rattle.model_bus.specs.Answering.{AreWritten}
 use Rattle.model_bus.proofs.Cutting.{packets_cut}
-use Rattle.model_undo.specs.Phase.{Stop, Phase, Halted, Undone}
-use Rattle.model_undo.specs.Plan.{Halts}
+use Rattle.model_undo.specs.Words.{Answered, get_asked, set_asked}
+use Rattle.model_undo.specs.Phase.{Stop, Refused, NotRestorable, GetRefused, Phase, Fresh, Getting, Setting, Done, Halted, Unsettled, Undoing, Undone, UndoRefused}
+use Rattle.model_undo.specs.Plan.{IsAfter, Halts}
+use Rattle.model_undo.specs.Giving.{Giving, given_in, GaveIn as Gave, CausedIn}
+use Rattle.model_undo.proofs.Giving.{halts_by_answers}
 use Rattle.model_undo.specs.Machine.{count_of, phase_of}
 use Rattle.model_undo.specs.World as world
-use Rattle.model_undo.specs.World.{States, World}
+use Rattle.model_undo.specs.World.{States, World, Happening}
 use Rattle.model_undo.specs.Headline.{IsStart, ShowsSame}
 use Rattle.model_undo.proofs.World.{run_holds}
 use Rattle.model_undo.proofs.Headline.{opening_holds, stands_at, halts_at, undone_for_good}
@@ -27,7 +33,7 @@ use Rattle.model_lab.specs.Spelled.{numbers_of}
 use Rattle.model_family.proofs.IsFamily.{is_family}
 use Rattle.model_family.proofs.Board.{starts_valid}
 use Rattle.undo_plans.specs.declared.names.Names.{Names}
-use Rattle.model_lab.specs.ManagerSteps.{addresses}
+use Rattle.model_lab.specs.ManagerSteps.{Stop as StopCall, addresses}
 use Rattle.model_lab.specs.Lab.{Event, Calls, ToBmc, ToMgr, OtherIpmb, OtherSmbus, Noise, Idles, OnBench, Lab, step, run}
 use Rattle.model_lab.specs.Faults.{AllTaken}
 use Rattle.model_lab.specs.Honest.{HasBytes, IsHonest, AllHonest}
@@ -35,10 +41,12 @@ use Rattle.model_lab.specs.Own.{IsOwn, AllOwn}
 use Rattle.model_lab.specs.Joins.{IsJoinLive, AllJoinLive}
 use Rattle.model_lab.proofs.Breaches.{faults_are_breaches}
 use Rattle.model_headline.specs.Each.{Each}
-use Rattle.model_headline.specs.Tied.{P, F, L, W, rules_on, requests, EntryAnswers, IsTied, world_of, Goes}
+use Rattle.model_headline.specs.Tied.{P, F, L, W, rules_on, requests, EntryAnswers, IsTied, IsGiven, world_of, Goes}
 use Rattle.model_headline.specs.Follows.{Holds, IsFollowed}
-use Rattle.model_headline.specs.Theorem.{first, after, IsTrusted, IsHonestAndOwn, IsTakenAndOwn, AlwaysStands, UndoneForGood, StopsOnlyIfTold, Headline, PremisesAgree}
-use Rattle.model_headline.proofs.Goes.{stays_there, goes_may, goes_reach, goes_on}
+use Rattle.model_headline.specs.Answers.{CausedBy}
+use Rattle.model_headline.specs.Theorem.{first, after, phase_after, IsTrusted, IsHonestAndOwn, IsTakenAndOwn, AlwaysStands, UndoneForGood, GaveIn, HaltsByAnswers, Headline, PremisesAgree}
+use Rattle.model_headline.proofs.Each.{each_at, each_imply, each_append}
+use Rattle.model_headline.proofs.Goes.{Went, went_there, stays_there, given_on, goes_may, goes_reach, goes_on, gives_both}
 use Rattle.model_headline.proofs.Joined.{is_own, is_live}
 use Rattle.model_headline.proofs.Stopped.{told_to_stop}
 use Rattle.model_headline.proofs.Steps.{calls_followed, replies_followed, requests_followed, others_followed}
@@ -68,18 +76,58 @@ module _ (setup : BoardFile) (names : Names) (plan : List Op) (start : Records) 
   more_events e es x = refl
 
   -- where the world holds, it holds after what the lab does
-  pub still_holds : (x y : Lab (P setup names)) (on : States (L setup names)) → Holds setup names plan start (world_of setup names x on) → (g : Goes setup names x on y) → Holds setup names plan start (world_of setup names y g.left)
+  pub still_holds : (x y : Lab (P setup names)) (on : States (L setup names)) → Holds setup names plan start (world_of setup names x on) → (g : Went setup names x on y) → Holds setup names plan start (world_of setup names y g.left)
   still_holds x y on h g = subst (Holds setup names plan start) g.reaches
       (run_holds (F setup names) (is_family setup (addresses names)) (L setup names) (packet_lines (addresses names) packets_of packets_cut) (W setup names) (λ bus. 0) plan start g.happenings (world_of setup names x on) h g.may)
 
+  -- the answer was given at an event
+  pub record GivenIn (es : List Event) (x : Lab (P setup names)) (g : Giving (F setup names)) : Type 0 where
+    pub before : List Event
+    pub event : Event
+    pub later : List Event
+    pub all : es ≡ before ++ event ∷ later
+    pub given : IsGiven setup names (run (P setup names) setup before x) (step (P setup names) setup (run (P setup names) setup before x) event) g
+
+  -- the model's world goes on to the lab's after all events, and gives no answer but those that are given at them
+  pub record Ran (es : List Event) (x : Lab (P setup names)) (on : States (L setup names)) : Type 0 where
+    pub went : Went setup names x on (run (P setup names) setup es x)
+    pub gives : Each (GivenIn es x) (given_on setup names x on (run (P setup names) setup es x) went)
+
+  given_first : (e : Event) (es : List Event) (x : Lab (P setup names)) (g : Giving (F setup names)) → IsGiven setup names x (step (P setup names) setup x e) g → GivenIn (e ∷ es) x g
+  given_first e es x g is = record {
+    before = [];
+    event = e;
+    later = es;
+    all = refl;
+    given = subst (λ (y : Lab (P setup names)). IsGiven setup names y (step (P setup names) setup y e) g) (no_events x) is;
+  }
+
+  given_later : (e : Event) (es : List Event) (x : Lab (P setup names)) (g : Giving (F setup names)) → GivenIn es (step (P setup names) setup x e) g → GivenIn (e ∷ es) x g
+  given_later e es x g is = record {
+    before = e ∷ is.before;
+    event = is.event;
+    later = is.later;
+    all = ap (λ (l : List Event). e ∷ l) is.all;
+    given = subst (λ (y : Lab (P setup names)). IsGiven setup names y (step (P setup names) setup y is.event) g) (more_events e is.before x) is.given;
+  }
+
   pub all_followed : (events : List Event) (x : Lab (P setup names)) (on : States (L setup names)) → IsTied setup names x on → Holds setup names plan start (world_of setup names x on)
-      → AllHonest (P setup names) setup events x → AllOwn (P setup names) setup events x → Goes setup names x on (run (P setup names) setup events x)
-  all_followed [] x on tied h honest own = subst (Goes setup names x on) (no_events x) (stays_there setup names x on tied)
+      → AllHonest (P setup names) setup events x → AllOwn (P setup names) setup events x → Ran events x on
+  unfolding run
+  all_followed [] x on tied h honest own = record { went = stays_there setup names x on tied; gives = tt }
   all_followed (e ∷ es) x on tied h honest own =
       let next : Lab (P setup names) = step (P setup names) setup x e in
+      let last : Lab (P setup names) = run (P setup names) setup es next in
       let one : Goes setup names x on next = event_followed x e honest.0 own.0 on tied h in
-      let rest = all_followed es next one.left one.tied (still_holds x next on h one) honest.1 own.1 in
-      subst (Goes setup names x on) (more_events e es x) (goes_on setup names x next (run (P setup names) setup es next) on one rest)
+      let first = went_there setup names x next on one in
+      let rest = all_followed es next one.left one.tied (still_holds x next on h first) honest.1 own.1 in
+      record {
+        went = goes_on setup names x next last on first rest.went;
+        gives = subst (Each (GivenIn (e ∷ es) x)) (gives_both setup names x next last on first rest.went)
+            (each_append (GivenIn (e ∷ es) x) (given_on setup names x on next first) (given_on setup names next one.left last rest.went)
+            (each_imply (IsGiven setup names x next) (GivenIn (e ∷ es) x) (given_on setup names x on next first) (given_first e es x) one.gives)
+            (each_imply (GivenIn es next) (GivenIn (e ∷ es) x) (given_on setup names next one.left last rest.went) (given_later e es x) rest.gives));
+      }
 
   -- ---- one premise for another
 
@@ -113,7 +161,7 @@ module _ (setup : BoardFile) (names : Names) (plan : List Op) (start : Records) 
       let next : Lab (P setup names) = step (P setup names) setup x e in
       let own = event_own x on tied h e honest.0 joins.0 in
       let one : Goes setup names x on next = event_followed x e honest.0 own on tied h in
-      (own, all_own es next one.left one.tied (still_holds x next on h one) honest.1 joins.1)
+      (own, all_own es next one.left one.tied (still_holds x next on h (went_there setup names x next on one)) honest.1 joins.1)
 
   pub all_live : (events : List Event) (x : Lab (P setup names)) (on : States (L setup names)) → IsTied setup names x on → Holds setup names plan start (world_of setup names x on)
       → AllHonest (P setup names) setup events x → AllOwn (P setup names) setup events x → AllJoinLive (P setup names) setup events x
@@ -121,7 +169,7 @@ module _ (setup : BoardFile) (names : Names) (plan : List Op) (start : Records) 
   all_live (e ∷ es) x on tied h honest own =
       let next : Lab (P setup names) = step (P setup names) setup x e in
       let one : Goes setup names x on next = event_followed x e honest.0 own.0 on tied h in
-      (event_live x on tied h e honest.0 own.0, all_live es next one.left one.tied (still_holds x next on h one) honest.1 own.1)
+      (event_live x on tied h e honest.0 own.0, all_live es next one.left one.tied (still_holds x next on h (went_there setup names x next on one)) honest.1 own.1)
 
   -- what a lab takes is honest
   pub taken_honest : (events : List Event) (x : Lab (P setup names)) → AllTaken (P setup names) setup events x → AllHonest (P setup names) setup events x
@@ -183,19 +231,16 @@ module _ (setup : BoardFile) (names : Names) (plan : List Op) (retries : ℕ) wh
 
   -- ---- the theorem
 
-  goes : (events : List Event) → IsHonestAndOwn setup names plan retries events → Goes setup names (first setup names plan retries) quiet (after setup names plan retries events)
+  goes : (events : List Event) → IsHonestAndOwn setup names plan retries events → Ran setup names plan (first setup names plan retries).board.records events (first setup names plan retries) quiet
   goes events good = all_followed setup names plan (first setup names plan retries).board.records events (first setup names plan retries) quiet first_tied first_holds good.0 good.1
 
   always_stands : AlwaysStands setup names plan retries (IsHonestAndOwn setup names plan retries)
   always_stands events good =
       let x0 = first setup names plan retries in
-      let g = goes events good in
+      let g = (goes events good).went in
       let y = after setup names plan retries events in
       let h = still_holds setup names plan x0.board.records x0 y quiet first_holds g in
-      let w = world_of setup names y g.left in (
-        stands_at (F setup names) (is_family setup (addresses names)) (L setup names) (packet_lines (addresses names) packets_of packets_cut) (W setup names) plan x0.board.records w h,
-        halts_at (F setup names) (is_family setup (addresses names)) (L setup names) (packet_lines (addresses names) packets_of packets_cut) (W setup names) plan x0.board.records w h,
-      )
+      stands_at (F setup names) (is_family setup (addresses names)) (L setup names) (packet_lines (addresses names) packets_of packets_cut) (W setup names) plan x0.board.records (world_of setup names y g.left) h
 
   -- the part of a schedule that comes first, and the rest
   pub first_honest : (events later : List Event) (x : Lab (P setup names)) → AllHonest (P setup names) setup (events ++ later) x → AllHonest (P setup names) setup events x
@@ -226,21 +271,81 @@ module _ (setup : BoardFile) (names : Names) (plan : List Op) (retries : ℕ) wh
       let x0 = first setup names plan retries in
       let y = after setup names plan retries events in
       let z = run (P setup names) setup later y in
-      let g = goes events (first_honest events later x0 good.0, first_own events later x0 good.1) in
+      let g = (goes events (first_honest events later x0 good.0, first_own events later x0 good.1)).went in
       let h = still_holds setup names plan x0.board.records x0 y quiet first_holds g in
-      let more : Goes setup names y g.left z = all_followed setup names plan x0.board.records later y g.left g.tied h (later_honest events later x0 good.0) (later_own events later x0 good.1) in
+      let more : Went setup names y g.left z = (all_followed setup names plan x0.board.records later y g.left g.tied h (later_honest events later x0 good.0) (later_own events later x0 good.1)).went in
       let at : phase_of (F setup names).words (world.run (F setup names) (L setup names) (W setup names) g.happenings (world_of setup names x0 quiet)).machine ≡ Undone =
       ap (λ (w : World (F setup names) (L setup names)). phase_of (F setup names).words w.machine) g.reaches ∙ undone in
       let told = undone_for_good (F setup names) (is_family setup (addresses names)) (L setup names) (packet_lines (addresses names) packets_of packets_cut) (W setup names) plan retries quiet x0.board is_start g.happenings more.happenings (goes_may setup names x0 y z quiet g more) at in
       subst (λ (l : Lab (P setup names)). (l.board.records ≡ x0.board.records) × ShowsSame (F setup names) x0.board l.board) (both_run events later x0)
       (subst (λ (w : World (F setup names) (L setup names)). (w.board.records ≡ x0.board.records) × ShowsSame (F setup names) x0.board w.board) (goes_reach setup names x0 y z quiet g more) told)
 
-  stops_if_told : StopsOnlyIfTold setup names plan retries (IsHonestAndOwn setup names plan retries)
-  stops_if_told events k good halted =
+  -- ---- causes of a halt
+
+  -- the plan is to stop only where it was told to
+  stopped_by : (events : List Event) (k : ℕ) → IsHonestAndOwn setup names plan retries events → phase_after setup names plan retries events ≡ Halted k Stop → In (Calls StopCall) events
+  stopped_by events k good halted =
+      let x0 = first setup names plan retries in
       let y = after setup names plan retries events in
+      let g = (goes events good).went in
+      let h = still_holds setup names plan x0.board.records x0 y quiet first_holds g in
       let told : Halts (F setup names) y.manager.machine.stopped plan (Halted k Stop) y.board.records =
-      subst (λ (p : Phase). Halts (F setup names) y.manager.machine.stopped plan p y.board.records) halted (always_stands events good).1 in
-      told_to_stop (P setup names) setup events (first setup names plan retries) refl told
+      subst (λ (p : Phase). Halts (F setup names) y.manager.machine.stopped plan p y.board.records) halted
+      (halts_at (F setup names) (is_family setup (addresses names)) (L setup names) (packet_lines (addresses names) packets_of packets_cut) (W setup names) plan x0.board.records (world_of setup names y g.left) h) in
+      told_to_stop (P setup names) setup events x0 refl told
+
+  -- an answer that is one of a run's was given at an event of it
+  gave_in : (events : List Event) (given : List (Giving (F setup names))) → Each (GivenIn setup names plan (first setup names plan retries).board.records events (first setup names plan retries)) given
+      → (k : ℕ) (asked : Asked) (a : Answered) → Gave (F setup names) (L setup names) (W setup names) given plan (first setup names plan retries).board.records k asked a → GaveIn setup names plan retries events k asked a
+  gave_in events given all k asked a g =
+      let x0 = first setup names plan retries in
+      let one : Giving (F setup names) = record { before = g.before; asked = asked; answered = a; after = g.after } in
+      let is = each_at (GivenIn setup names plan x0.board.records events x0) given g.is_one.0 one all (slice_get_read given (length given) g.is_one.0 one refl g.is_one.1 (sym g.is_one.2)) in
+      record {
+        before = is.before;
+        event = is.event;
+        later = is.later;
+        all = is.all;
+        answers = is.given.answers;
+        at = subst (λ (b : State). IsAfter (F setup names) plan x0.board.records k b.records) is.given.before g.at;
+      }
+
+  caused : (events : List Event) (happenings : List (Happening (F setup names) (L setup names)))
+      → Each (GivenIn setup names plan (first setup names plan retries).board.records events (first setup names plan retries)) (given_in (F setup names) (L setup names) (W setup names) happenings (world_of setup names (first setup names plan retries) quiet))
+      → (phase : Phase) → ((k : ℕ) → phase ≡ Halted k Stop → In (Calls StopCall) events)
+      → CausedIn (F setup names) (L setup names) (W setup names) happenings (world_of setup names (first setup names plan retries) quiet) plan (first setup names plan retries).board.records phase
+      → CausedBy setup names (GaveIn setup names plan retries events) (In (Calls StopCall) events) plan phase
+  caused events hs all (Halted k Stop) told c = told k refl
+  caused events hs all (Halted k (Refused code)) told c =
+      let op = c.2.op in
+      (op, c.1, c.2.step, gave_in events (given_in (F setup names) (L setup names) (W setup names) hs (world_of setup names (first setup names plan retries) quiet)) all k (set_asked (F setup names).words op) (record { code = code; body = c.1 }) c.2.gave, c.0)
+  caused events hs all (Halted k (GetRefused code)) told c =
+      let op = c.2.op in
+      (op, c.1, c.2.step, gave_in events (given_in (F setup names) (L setup names) (W setup names) hs (world_of setup names (first setup names plan retries) quiet)) all k (get_asked (F setup names).words ((F setup names).words.key_of op)) (record { code = code; body = c.1 }) c.2.gave, c.0)
+  caused events hs all (Halted k NotRestorable) told c =
+      let op = c.1.op in
+      (op, c.0, c.1.step, gave_in events (given_in (F setup names) (L setup names) (W setup names) hs (world_of setup names (first setup names plan retries) quiet)) all k (get_asked (F setup names).words ((F setup names).words.key_of op)) (record { code = 0; body = c.0 }) c.1.gave, c.2)
+  caused events hs all Fresh told c = tt
+  caused events hs all (Getting k) told c = tt
+  caused events hs all (Setting k) told c = tt
+  caused events hs all Done told c = tt
+  caused events hs all (Unsettled k) told c = tt
+  caused events hs all (Undoing k) told c = tt
+  caused events hs all Undone told c = tt
+  caused events hs all (UndoRefused k code) told c = tt
+
+  halts_so : HaltsByAnswers setup names plan retries (IsHonestAndOwn setup names plan retries)
+  halts_so events good =
+      let x0 = first setup names plan retries in
+      let y = after setup names plan retries events in
+      let ran = goes events good in
+      let g = ran.went in
+      let may = subst (λ (hs : List (Happening (F setup names) (L setup names))). world.AllMay (F setup names) (L setup names) (W setup names) hs (world_of setup names x0 quiet)) (sym (append-nil g.happenings)) g.may in
+      let there = halts_by_answers (F setup names) (is_family setup (addresses names)) (L setup names) (packet_lines (addresses names) packets_of packets_cut) (W setup names) plan retries quiet x0.board is_start g.happenings [] may in
+      let phase_is : phase_of (F setup names).words (world.run (F setup names) (L setup names) (W setup names) g.happenings (world_of setup names x0 quiet)).machine ≡ phase_after setup names plan retries events =
+      ap (λ (w : World (F setup names) (L setup names)). phase_of (F setup names).words w.machine) g.reaches in
+      caused events g.happenings ran.gives (phase_after setup names plan retries events) (λ k halted. stopped_by events k good halted)
+      (subst (CausedIn (F setup names) (L setup names) (W setup names) g.happenings (world_of setup names x0 quiet) plan x0.board.records) phase_is there)
 
   -- ---- of each premise that comes to this one
 
@@ -256,7 +361,7 @@ module _ (setup : BoardFile) (names : Names) (plan : List Op) (retries : ℕ) wh
   headline_of Good comes_to = record {
     stands = λ events good. always_stands events (comes_to events good);
     undone = λ events later good undone. undone_stays events later (comes_to (events ++ later) good) undone;
-    stopped = λ events k good halted. stops_if_told events k (comes_to events good) halted;
+    halts = λ events good. halts_so events (comes_to events good);
   }
 
   pub headline : Headline setup names plan retries (IsTrusted setup names plan retries)

@@ -19,7 +19,7 @@ use Rattle.bmc_board.specs.State.{State}
 use Rattle.bmc_board.specs.Answer.{answer_of}
 use Rattle.bmc_board.proofs.OneAnswer.{has_answer}
 use Rattle.model_bus.specs.declared.numbers.Numbers.TheVariants as numbers
-use Rattle.model_bus.specs.Request.{Request as Heard, Kept, Entry, idles_of}
+use Rattle.model_bus.specs.Request.{Request as Heard, Kept, Entry, Carried, idles_of}
 use Rattle.model_bus.specs.Numbering.{Bus as Rules, is_above}
 use Rattle.model_bus.specs.Carried.{Outcome, Repeats, IsBusy, IsNew, outcome, log_after, reply_after, carried_after}
 use Rattle.model_bus.specs.Assembly.{Name, Sent, Step, Waits, Whole, Drops, takes, waiting, first_request, message_of as model_message_of}
@@ -31,6 +31,7 @@ use Rattle.model_bus.specs.PacketEffect.{step_of, whole_request, completed_reque
 use Rattle.model_bus.proofs.Lists.{grows, at_end, one_more}
 use Rattle.model_undo.specs.Words.{Answered}
 use Rattle.model_undo.specs.Line.{exchange}
+use Rattle.model_undo.specs.Giving.{given_by}
 use Rattle.model_undo.specs.World as world
 use Rattle.model_undo.specs.World.{States, World, OnBus}
 use Rattle.model_lab.specs.ManagerWords.{family_answer}
@@ -49,7 +50,7 @@ use Rattle.model_lab.specs.Own.{JoinsOwn}
 use Rattle.model_lab.specs.Lab.{ToManager, LabFrame, Lab, frame_now, port_does, opens}
 use Rattle.model_lab.proofs.Spelling.{are_the_models}
 use Rattle.model_headline.specs.Each.{Each}
-use Rattle.model_headline.specs.Tied.{P, F, L, W, rules_on, HoldsAskedPart, IsHeld, IsHeldBy, EntryAnswers, IsTied, world_of, Goes}
+use Rattle.model_headline.specs.Tied.{P, F, L, W, rules_on, HoldsAskedPart, IsHeld, IsHeldBy, EntryAnswers, IsTied, world_of, IsGiven, Goes}
 use Rattle.model_headline.specs.Follows.{Holds}
 use Rattle.model_headline.proofs.Each.{each_map, each_by_place}
 use Rattle.model_headline.proofs.Sending.{from_zero, part_seen, part_envelope}
@@ -157,6 +158,10 @@ module _ (setup : BoardFile) (names : Names) (plan : List Op) (start : Records) 
 
       abbrev deed : Deed
       deed = deed_by names.own_eid ends.bus.log
+
+      -- the same, by what is done with the request
+      abbrev deed_as : Outcome → Deed
+      deed_as o = record { port = record next { log = log_after o kept ends.bus.log }; board = left_by o given.1 x.board; sent = replies next whole (said Smbus r (reply_after o kept)) }
 
       asked_so : hears_pldm setup next x.board whole (Some q) ≡ deed_by p.envelope.source_eid x.smbus.log
       unfolding turn
@@ -286,12 +291,34 @@ module _ (setup : BoardFile) (names : Names) (plan : List Op) (start : Records) 
           ∙ ap (λ (y : Heard). exchange (carried_of rules (Some y) ends.bus) (part.answer setup names plan start x on tied h f hold live mine)) (as_sent ∙ sym hold.heard)
           ∙ ap (λ (a : List ℕ). exchange (new_bytes done r.bytes) a) answer_is
 
+      -- the answer is the lab's
+      gave : (o : Outcome) → Each (IsGiven setup names x (quiet.done_by setup names plan start x on tied h f hold live mine (deed_as o)))
+          (given_by (F setup names) (L setup names) (W setup names) Smbus (exchange (new_bytes o r.bytes) kept.reply) x.board (left_by o given.1 x.board) ++ [])
+      gave (Repeats reply) = tt
+      gave IsBusy = tt
+      gave IsNew = (
+        record {
+          before = refl;
+          answers = record {
+            bus = Smbus;
+            kept = kept;
+            carried = ap (λ (log : List Entry). Carried kept ∷ log) tied.smbus_port.log;
+            from_manager = refl;
+            asks = refl;
+            replies = refl;
+            row = subst (λ a. (F setup names).Row x.board a (family_answer given.0) given.1) (sym (ap (asked_from (addresses names) Smbus) bytes_so ∙ hold.reads)) (has_answer setup x.board (pldm_asked names.own_eid q));
+          };
+        },
+        tt,
+      )
+
       pub whole_goes : Goes setup names x on (quiet.done_by setup names plan start x on tied h f hold live mine (hears_part setup x.smbus x.board p))
       whole_goes = quiet.finish setup names plan start x on tied h f hold live mine deed (sym deed_so) (record {
         happenings = OnBus Smbus (part.arrives setup names plan start x on tied h f hold live mine) (left_by done given.1 x.board) ∷ [];
         left = quiet.now setup names plan start x on tied h f hold live mine left;
         may = (((tt, part.honest_part setup names plan start x on tied h f hold live mine ours slot), refl, subst (λ o. world.BoardMay (F setup names) (L setup names) (W setup names) Smbus o x.board (left_by done given.1 x.board)) (sym carried) (board_may done)), tt);
         reaches = ap (λ (y : Ends). let w : World (F setup names) (L setup names) = record { machine = x.manager.machine; on = quiet.now setup names plan start x on tied h f hold live mine y; board = left_by done given.1 x.board } in w) happened;
+        gives = subst (λ o. Each (IsGiven setup names x (quiet.done_by setup names plan start x on tied h f hold live mine deed)) (given_by (F setup names) (L setup names) (W setup names) Smbus o x.board (left_by done given.1 x.board) ++ [])) (sym carried) (gave done);
         tied = quiet.leaves_tied setup names plan start x on tied h f hold live mine deed left leaves;
       })
 

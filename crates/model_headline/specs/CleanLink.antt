@@ -1,5 +1,5 @@
 -- What comes of a clean schedule: each frame that is sent is delivered once and in order, and nobody else sends any.
-use Rattle.std.specs.Prelude.{◌≡◌, ℕ, ◌+◌, List, ◌++◌, length, None}
+use Rattle.std.specs.Prelude.{◌≡◌, ℕ, ◌+◌, ◌≤◌, List, ◌++◌, length, None}
 use Rattle.two_wire.specs.declared.Bus.TheVariants.{Ipmb, Smbus}
 use Rattle.record_base.specs.declared.op.Op.{Op}
 use Rattle.cfg_records.specs.declared.board_file.BoardFile.{BoardFile}
@@ -11,7 +11,7 @@ use Rattle.model_undo.specs.Clean.{GoAll, EndsIn}
 use Rattle.model_family.specs.Family.{answer}
 use Rattle.undo_plans.specs.declared.names.Names.{Names}
 use Rattle.model_lab.specs.Lab.{Event}
-use Rattle.model_lab.specs.Faults.{begun_on}
+use Rattle.model_lab.specs.Faults.{begun_on, AllTaken}
 use Rattle.model_lab.specs.Clean.{IsCleanRun, IsCleanUndo}
 use Rattle.model_headline.specs.Tied.{P, F}
 use Rattle.model_headline.specs.Theorem.{first, after, phase_after}
@@ -39,6 +39,11 @@ module _ (setup : BoardFile) (names : Names) (plan : List Op) (retries : ℕ) wh
     pub phase : Phase
     pub more : ℕ
     pub ends : EndsIn (F setup names) (answer setup) (length steps) rest at phase more
+    -- a clean schedule of a plan of at most 256 steps exists, and a lab takes each event of any
+    pub can_run : length plan ≤ 256 → (events : List Event) × IsCleanRun (P setup names) setup events (first setup names plan retries)
+    pub can_undo : length plan ≤ 256 → (events : List Event) × IsCleanUndo (P setup names) setup events (first setup names plan retries)
+    pub run_taken : length plan ≤ 256 → (events : List Event) → IsCleanRun (P setup names) setup events (first setup names plan retries) → AllTaken (P setup names) setup events (first setup names plan retries)
+    pub undo_taken : length plan ≤ 256 → (events : List Event) → IsCleanUndo (P setup names) setup events (first setup names plan retries) → AllTaken (P setup names) setup events (first setup names plan retries)
     pub ran : (events : List Event) → IsCleanRun (P setup names) setup events (first setup names plan retries)
         → HasEnded events phase (length steps + length steps + more)
         × IsAfter (F setup names) plan (first setup names plan retries).board.records (length steps) (after setup names plan retries events).board.records

@@ -11,7 +11,7 @@ use Rattle.model_lab.specs.Faults.{begun_on}
 use Rattle.model_lab.specs.Clean.{IsCleanRun, IsCleanUndo}
 use Rattle.text_schedule.specs.declared.event.Event.{Event}
 use Rattle.model_lab.specs.Meaning.{lab_names, Bench, event_of}
-use Rattle.model_lab.specs.Played.{plans, Told, Whole, happens, after, IsPlayed}
+use Rattle.model_lab.specs.Played.{plans, Told, Ending, Whole, happens, after, IsPlayed}
 use Rattle.model_headline.specs.Tied.{F}
 use Rattle.model_headline.specs.CleanLink.{RunsOnCleanLink}
 
@@ -29,11 +29,33 @@ module _ (bench : Bench) (file : BoardFile) (plan : List Op) (retries : ℕ) whe
   abbrev pub begun_by : List Event → ℕ
   begun_by events = let m = (after bench file events first).manager.machine in begun_on plans.words Ipmb m + begun_on plans.words Smbus m
 
-  -- A play of a clean schedule tells how the plan runs on a clean link: its phase, and the records after the steps that were done; and
-  -- where the schedule undoes, Undone and the records of the start.
-  pub record PlaysRunClean : Type 0 where
+  -- the play took all events, and tells the phase that the plan ends in on a clean link, and the records after the steps that were done
+  abbrev pub TellsRun : RunsOnCleanLink file lab_names plan retries → List Event → Ending → Type 0
+  TellsRun runs events ending =
+      (told : Told) × (ending ≡ Whole told) × (told.phase ≡ runs.phase) × (begun_by events ≡ length runs.steps + length runs.steps + runs.more)
+      × IsAfter (F file lab_names) plan told.start (length runs.steps) told.records
+
+  -- it took all events, and tells that the plan is undone, and the records of the start
+  abbrev pub TellsUndo : RunsOnCleanLink file lab_names plan retries → List Event → Ending → Type 0
+  TellsUndo runs events ending =
+      (told : Told) × (ending ≡ Whole told) × (told.phase ≡ Undone) × (begun_by events ≡ length runs.steps + length runs.steps + runs.more + length runs.steps)
+      × (told.records ≡ told.start)
+
+  -- the schedule starts the plan, or starts and undoes it, on a link that loses, repeats and delays nothing
+  abbrev pub StartsClean : List Event → Type 0
+  StartsClean events = IsCleanRun plans file (events_from bench file events first) first
+
+  abbrev pub UndoesClean : List Event → Type 0
+  UndoesClean events = IsCleanUndo plans file (events_from bench file events first) first
+
+  -- so ends a play whose schedule is clean
+  pub record EndsClean (events : List Event) (ending : Ending) : Type 0 where
     pub runs : RunsOnCleanLink file lab_names plan retries
-    pub ran : (events : List Event) (told : Told) → IsPlayed bench file plan retries events (Whole told) → IsCleanRun plans file (events_from bench file events first) first
-        → (told.phase ≡ runs.phase) × (begun_by events ≡ length runs.steps + length runs.steps + runs.more) × IsAfter (F file lab_names) plan told.start (length runs.steps) told.records
-    pub undone : (events : List Event) (told : Told) → IsPlayed bench file plan retries events (Whole told) → IsCleanUndo plans file (events_from bench file events first) first
-        → (told.phase ≡ Undone) × (begun_by events ≡ length runs.steps + length runs.steps + runs.more + length runs.steps) × (told.records ≡ told.start)
+    pub ran : StartsClean events → TellsRun runs events ending
+    pub undone : UndoesClean events → TellsUndo runs events ending
+
+  -- A plan of at most 256 steps has clean schedules, one that starts it and one that undoes it too; and every play of one ends so.
+  pub record PlaysRunClean : Type 0 where
+    pub can_run : (events : List Event) × StartsClean events
+    pub can_undo : (events : List Event) × UndoesClean events
+    pub ends : (events : List Event) (ending : Ending) → IsPlayed bench file plan retries events ending → EndsClean events ending

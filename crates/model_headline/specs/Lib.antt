@@ -1,5 +1,6 @@
 pub mod Each
 pub mod Made
+pub mod Answers
 pub mod Tied
 pub mod Follows
 pub mod Theorem

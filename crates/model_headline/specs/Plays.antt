@@ -1,20 +1,23 @@
 -- What a play tells, where no packet that it delivers joins one that has waited too long.
-use Rattle.std.specs.Prelude.{◌≡◌, ℕ, ◌+◌, ◌-◌, Bool, List, [], ◌∷◌, ◌++◌, length, take, Option, Some, None}
+use Rattle.std.specs.Prelude.{◌≡◌, ℕ, ◌+◌, ◌-◌, List, [], ◌∷◌, ◌++◌, length, take, Option, Some, None}
+use Rattle.record_base.specs.declared.message.Asked.{Asked}
 use Rattle.record_base.specs.declared.op.Op.{Op}
 use Rattle.cfg_records.specs.declared.board_file.BoardFile.{BoardFile}
 use Rattle.model_bus.specs.Repeat.{In}
-use Rattle.model_undo.specs.Phase.{Stop, Phase, Halted, Undone}
-use Rattle.model_undo.specs.Plan.{Stands, Halts}
+use Rattle.model_undo.specs.Words.{Answered}
+use Rattle.model_undo.specs.Phase.{Phase, Undone}
+use Rattle.model_undo.specs.Plan.{IsAfter, Stands}
 use Rattle.model_undo.specs.Machine.{phase_of}
 use Rattle.model_undo.specs.Headline.{ShowsSame}
 use Rattle.model_lab.specs.Lab.{Lab, opening}
 use Rattle.model_lab.specs.Own.{IsOwn}
 use Rattle.model_lab.specs.Joins.{IsJoinLive}
-use Rattle.text_schedule.specs.declared.event.Call.TheVariants.{Stop as StopCall}
+use Rattle.text_schedule.specs.declared.event.Call.TheVariants.{Stop}
 use Rattle.text_schedule.specs.declared.event.Event.{Event}
 use Rattle.text_schedule.specs.declared.event.Event.TheVariants.{Calls}
 use Rattle.model_lab.specs.Meaning.{lab_names, Bench, event_of}
 use Rattle.model_lab.specs.Played.{plans, Told, Ending, Whole, Stops, happens, after, IsPlayed}
+use Rattle.model_headline.specs.Answers.{Answers, CausedBy}
 use Rattle.model_headline.specs.Tied.{F}
 
 -- the events that a play took: all, or those before the one that has a fault
@@ -63,15 +66,23 @@ module _ (bench : Bench) (file : BoardFile) (plan : List Op) (retries : ℕ) whe
   UndoneForGood taken = (events later rest : List Event) → taken ≡ (events ++ later) ++ rest → phase_after events ≡ Undone
       → ((lab_after (events ++ later)).board.records ≡ (lab_after []).board.records) × ShowsSame (F file lab_names) (lab_after []).board (lab_after (events ++ later)).board
 
+  -- at an event that was taken the board answered the manager so, at the records after the plan's first k steps
+  pub record GaveIn (taken : List Event) (k : ℕ) (asked : Asked) (a : Answered) : Type 0 where
+    pub before : List Event
+    pub event : Event
+    pub later : List Event
+    pub all : taken ≡ before ++ event ∷ later
+    pub answers : Answers file lab_names (lab_after before) (happens bench file event (lab_after before)) asked a
+    pub at : IsAfter (F file lab_names) plan (lab_after []).board.records k (lab_after before).board.records
+
   -- The phase says what the records are, so an undone plan leaves those of the start, and UndoRefused isn't told. So it does at each
-  -- event from the one on at which the plan was undone. A plan that halted has the cause that the phase names; and it halts with Stop only
-  -- where it was told to stop.
+  -- event from the one on at which the plan was undone. A plan that halted has its cause in the events that were taken: the answer that
+  -- was given there, or a call of `stop`.
   pub record ToldStands (taken : List Event) (told : Told) : Type 0 where
     pub stands : Stands (F file lab_names) plan told.start told.phase told.records
     pub undone : told.phase ≡ Undone → told.records ≡ told.start
     pub for_good : UndoneForGood taken
-    pub halts : (stopped : Bool) × Halts (F file lab_names) stopped plan told.phase told.records
-    pub stopped : (k : ℕ) → told.phase ≡ Halted k Stop → In (Calls StopCall) taken
+    pub halts : CausedBy file lab_names (GaveIn taken) (In (Calls Stop) taken) plan told.phase
 
   -- so it is where no packet of the events taken joins one that has waited so long
   abbrev pub StandsIfKept : List Event → Ending → Type 0

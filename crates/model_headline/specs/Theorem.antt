@@ -1,19 +1,22 @@
 -- What a lab's phase says at every moment of an honest schedule.
-use Rattle.std.specs.Prelude.{◌≡◌, ℕ, List, ◌++◌}
+use Rattle.std.specs.Prelude.{◌≡◌, ℕ, List, ◌∷◌, ◌++◌}
+use Rattle.record_base.specs.declared.message.Asked.{Asked}
 use Rattle.record_base.specs.declared.op.Op.{Op}
 use Rattle.cfg_records.specs.declared.board_file.BoardFile.{BoardFile}
 use Rattle.model_bus.specs.Repeat.{In}
-use Rattle.model_undo.specs.Phase.{Stop, Phase, Halted, Undone}
-use Rattle.model_undo.specs.Plan.{Stands, Halts}
+use Rattle.model_undo.specs.Words.{Answered}
+use Rattle.model_undo.specs.Phase.{Phase, Undone}
+use Rattle.model_undo.specs.Plan.{IsAfter, Stands}
 use Rattle.model_undo.specs.Machine.{phase_of}
 use Rattle.model_undo.specs.Headline.{ShowsSame}
 use Rattle.undo_plans.specs.declared.names.Names.{Names}
-use Rattle.model_lab.specs.ManagerSteps.{Stop as StopCall}
-use Rattle.model_lab.specs.Lab.{Event, Calls, Lab, run, opening}
+use Rattle.model_lab.specs.ManagerSteps.{Stop}
+use Rattle.model_lab.specs.Lab.{Event, Calls, Lab, step, run, opening}
 use Rattle.model_lab.specs.Faults.{AllTaken}
 use Rattle.model_lab.specs.Honest.{AllHonest}
 use Rattle.model_lab.specs.Own.{AllOwn}
 use Rattle.model_lab.specs.Joins.{AllJoinLive}
+use Rattle.model_headline.specs.Answers.{Answers, CausedBy}
 use Rattle.model_headline.specs.Tied.{P, F}
 
 module _ (setup : BoardFile) (names : Names) (plan : List Op) (retries : ℕ) where
@@ -42,11 +45,18 @@ module _ (setup : BoardFile) (names : Names) (plan : List Op) (retries : ℕ) wh
   abbrev pub IsTakenAndOwn : List Event → Type 0
   IsTakenAndOwn events = AllTaken (P setup names) setup events first × AllOwn (P setup names) setup events first
 
-  -- the phase says what the records are, and a plan that halted has the cause that the phase names
+  -- the phase says what the records are
   abbrev pub StandsAfter : List Event → Type 0
-  StandsAfter events =
-      Stands (F setup names) plan first.board.records (phase_after events) (after events).board.records
-      × Halts (F setup names) (after events).manager.machine.stopped plan (phase_after events) (after events).board.records
+  StandsAfter events = Stands (F setup names) plan first.board.records (phase_after events) (after events).board.records
+
+  -- at an event of the schedule the board answered the manager so, at the records after the plan's first k steps
+  pub record GaveIn (events : List Event) (k : ℕ) (asked : Asked) (a : Answered) : Type 0 where
+    pub before : List Event
+    pub event : Event
+    pub later : List Event
+    pub all : events ≡ before ++ event ∷ later
+    pub answers : Answers setup names (after before) (step (P setup names) setup (after before) event) asked a
+    pub at : IsAfter (F setup names) plan first.board.records k (after before).board.records
 
   -- what holds of every good schedule
   module _ (Good : List Event → Type 0) where
@@ -60,14 +70,14 @@ module _ (setup : BoardFile) (names : Names) (plan : List Op) (retries : ℕ) wh
     UndoneForGood = (events later : List Event) → Good (events ++ later) → phase_after events ≡ Undone
         → ((after (events ++ later)).board.records ≡ first.board.records) × ShowsSame (F setup names) first.board (after (events ++ later)).board
 
-    -- a plan halts because of a stop only where it was told to stop
-    abbrev pub StopsOnlyIfTold : Type 0
-    StopsOnlyIfTold = (events : List Event) (k : ℕ) → Good events → phase_after events ≡ Halted k Stop → In (Calls StopCall) events
+    -- a plan that halted has its cause in its own schedule: an answer that was given in it, or a call of `stop`
+    abbrev pub HaltsByAnswers : Type 0
+    HaltsByAnswers = (events : List Event) → Good events → CausedBy setup names (GaveIn events) (In (Calls Stop) events) plan (phase_after events)
 
     pub record Headline : Type 0 where
       pub stands : AlwaysStands
       pub undone : UndoneForGood
-      pub stopped : StopsOnlyIfTold
+      pub halts : HaltsByAnswers
 
   -- What the premises have to do with one another. Where each event is honest, no packet joins one that has waited so long exactly where
   -- none joins an assembly that another request's packet opened. What a lab takes is honest.

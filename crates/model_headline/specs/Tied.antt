@@ -25,6 +25,7 @@ use Rattle.model_undo.specs.Line.{Line}
 use Rattle.model_undo.specs.Wires.{Wires}
 use Rattle.model_undo.specs.TwoBuses.{with_packets}
 use Rattle.model_undo.specs.World.{States, World, Happening, AllMay, run}
+use Rattle.model_undo.specs.Giving.{Giving, given_in}
 use Rattle.model_family.specs.Family.{family}
 use Rattle.model_lab.specs.Spelled.{numbers_of}
 use Rattle.model_lab.specs.Wires.{asked_from, reply_to}
@@ -41,6 +42,7 @@ use Rattle.model_lab.specs.PortEvents.{name_in, IsPortOf, IsManagersPart}
 use Rattle.model_lab.specs.ManagerEvents.{HoldsReply, HoldsPart, name_awaited}
 use Rattle.model_headline.specs.Each.{Each}
 use Rattle.model_headline.specs.Made.{MachineMade}
+use Rattle.model_headline.specs.Answers.{Answers}
 use Rattle.model_lab.specs.Lab.{Way, ToPort, ToManager, ToOthers, LabFrame, Lab}
 
 module _ (setup : BoardFile) (names : Names) where
@@ -193,10 +195,16 @@ module _ (setup : BoardFile) (names : Names) where
   abbrev pub world_of : Lab P → States L → World F L
   world_of x on = record { machine = x.manager.machine; on = on; board = x.board }
 
-  -- what the lab does, the model's world does in so many steps
+  -- the lab gave the manager the answer as it went from one to the other
+  pub record IsGiven (x y : Lab P) (g : Giving F) : Type 0 where
+    pub before : g.before ≡ x.board
+    pub answers : Answers setup names x y g.asked g.answered
+
+  -- what the lab does, the model's world does in so many steps, and gives no answer but the lab's
   pub record Goes (x : Lab P) (on : States L) (y : Lab P) : Type 0 where
     pub happenings : List (Happening F L)
     pub left : States L
     pub may : AllMay F L W happenings (world_of x on)
     pub reaches : run F L W happenings (world_of x on) ≡ world_of y left
+    pub gives : Each (IsGiven x y) (given_in F L W happenings (world_of x on))
     pub tied : IsTied y left

@@ -1,6 +1,6 @@
 //! The model's world does what a lab does at an event.
 
-ghost use Rattle.std.specs.Prelude.{ℕ, List};
+ghost use Rattle.std.specs.Prelude.{ℕ, ◌≤◌, List, length};
 ghost use Rattle.record_base.specs.declared.op.Op.{Op};
 ghost use Rattle.cfg_records.specs.declared.board_file.BoardFile.{BoardFile};
 ghost use Rattle.cfg_records.specs.Records.{Records};
@@ -60,12 +60,13 @@ pub fn plays_stand()
 {}
 
 /// Over a link that loses, repeats and delays nothing, and on which nobody else asks, a plan is done after two requests for each step, or
-/// halts at the first step that isn't accepted or can't be restored. Its undo takes one request for each step that was done.
+/// halts at the first step that isn't accepted or can't be restored. Its undo takes one request for each step that was done. A plan of at
+/// most 256 steps has such schedules, and a lab takes each of their events.
 pub fn clean_links_run_plans()
     ensures { (setup : BoardFile) (names : Names) (plan : List Op) (retries : ℕ) → RunsOnCleanLink setup names plan retries }
 {}
 
-/// What every play of a clean schedule tells: so the plan ran, and so it was undone.
+/// A plan of at most 256 steps has clean schedules. A play of one takes it whole, and tells it: so the plan ran, and so it was undone.
 pub fn clean_plays_run_plans()
-    ensures { (bench : Bench) (file : BoardFile) (plan : List Op) (retries : ℕ) → PlaysRunClean bench file plan retries }
+    ensures { (bench : Bench) (file : BoardFile) (plan : List Op) (retries : ℕ) → length plan ≤ 256 → PlaysRunClean bench file plan retries }
 {}

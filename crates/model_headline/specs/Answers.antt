@@ -1,0 +1,43 @@
+-- The answers that a lab's controller gives the manager, and what made a plan halt.
+use Rattle.std.specs.Prelude.{◌≡◌, ◌≢◌, ℕ, List, ◌∷◌, Some, slice_get}
+use Rattle.two_wire.specs.Codes.{success}
+use Rattle.two_wire.specs.declared.Bus.{Bus}
+use Rattle.record_base.specs.declared.message.Asked.{Asked}
+use Rattle.record_base.specs.declared.op.Op.{Op}
+use Rattle.cfg_records.specs.declared.board_file.BoardFile.{BoardFile}
+use Rattle.model_bus.specs.Request.{Kept, Carried}
+use Rattle.model_undo.specs.Words.{Answered, get_asked, set_asked}
+use Rattle.model_undo.specs.Phase.{Stop, Refused, NotRestorable, GetRefused, Phase, Halted}
+use Rattle.model_undo.specs.Family.{Family}
+use Rattle.model_family.specs.Family.{family}
+use Rattle.undo_plans.specs.declared.names.Names.{Names}
+use Rattle.model_lab.specs.Wires.{asked_from, reply_to}
+use Rattle.model_lab.specs.ManagerSteps.{own_on, addresses, board_plans}
+use Rattle.model_lab.specs.Lab.{Lab, port_on}
+
+module _ (setup : BoardFile) (names : Names) where
+  abbrev Board : Family
+  Board = family setup (addresses names)
+
+  -- As a lab goes from one to the other, a port carries out a request of the manager that asks this. The board answers it so by the
+  -- command relation, and the reply is kept.
+  pub record Answers (x y : Lab (board_plans names)) (asked : Asked) (a : Answered) : Type 0 where
+    pub bus : Bus
+    pub kept : Kept
+    pub carried : (port_on (board_plans names) bus y).log ≡ Carried kept ∷ (port_on (board_plans names) bus x).log
+    pub from_manager : kept.request.requester ≡ own_on bus names
+    pub asks : asked_from (addresses names) bus kept.request.bytes ≡ asked
+    pub replies : kept.reply ≡ reply_to bus kept.request.bytes a
+    pub row : Board.Row x.board asked a y.board
+
+  -- What made a plan halt after k steps, in a run whose answers at the records after k steps are `Gave k`: the answer that was given in it
+  -- to the Get or to the Set of step k, or a stop.
+  abbrev pub CausedBy : (Gave : ℕ → Asked → Answered → Type 0) → (stopped : Type 0) → List Op → Phase → Type 0
+  CausedBy Gave stopped plan (Halted k Stop) = stopped
+  CausedBy Gave stopped plan (Halted k (Refused code)) =
+      (op : Op) × (body : List ℕ) × (slice_get plan k ≡ Some op) × Gave k (set_asked Board.words op) (record { code = code; body = body }) × (code ≢ success)
+  CausedBy Gave stopped plan (Halted k (GetRefused code)) =
+      (op : Op) × (body : List ℕ) × (slice_get plan k ≡ Some op) × Gave k (get_asked Board.words (Board.words.key_of op)) (record { code = code; body = body }) × (code ≢ success)
+  CausedBy Gave stopped plan (Halted k NotRestorable) =
+      (op : Op) × (body : List ℕ) × (slice_get plan k ≡ Some op) × Gave k (get_asked Board.words (Board.words.key_of op)) (record { code = success; body = body }) × (¬ Board.Restorable op body)
+  CausedBy Gave stopped plan _ = Unit {0}
