@@ -21,3 +21,4 @@ pub mod CleanBuses
 pub mod SeriesExample
 pub mod PacketDelivery
 pub mod RegistersFit
+pub mod Unsettled
