@@ -22,3 +22,4 @@ pub mod SeriesExample
 pub mod PacketDelivery
 pub mod RegistersFit
 pub mod Unsettled
+pub mod OnBus
