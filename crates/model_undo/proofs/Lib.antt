@@ -21,3 +21,5 @@ pub mod CleanBuses
 pub mod SeriesExample
 pub mod PacketDelivery
 pub mod RegistersFit
+pub mod Unsettled
+pub mod OnBus

@@ -14,33 +14,33 @@ use Rattle.model_undo.proofs.World.{round}
 
 module _ (M : Words) where
   -- it is past the plan: undoing, or at the end of that
-  abbrev IsPast : Stage M → Type 0
+  abbrev pub IsPast : Stage M → Type 0
   IsPast (Opened heeded (Undoes u us) part) = Unit {0}
   IsPast AtUndone = Unit {0}
   IsPast (AtRefused k code) = Unit {0}
   IsPast _ = ⊥
 
-  abbrev SameNumbers : Counts → Counts → Type 0
+  abbrev pub SameNumbers : Counts → Counts → Type 0
   SameNumbers c d = (bus : Bus) → number_of bus (count_of bus c) ≡ number_of bus (count_of bus d)
 
   -- what a manager past the plan no longer looks at, or only by its numbers
-  record Rest : Type 0 where
-    plan : List M.Op
-    stopped : Bool
-    undo : List M.Series
-    counts : Counts
+  pub record Rest : Type 0 where
+    pub plan : List M.Op
+    pub stopped : Bool
+    pub undo : List M.Series
+    pub counts : Counts
 
-  abbrev with_rest : Rest → Machine M → Machine M
+  abbrev pub with_rest : Rest → Machine M → Machine M
   with_rest r m = record m { plan = r.plan; stopped = r.stopped; undo = r.undo; counts = r.counts }
 
   -- one is the other but for that
-  record IsAlike (m n : Machine M) : Type 0 where
-    rest : Rest
-    is : n ≡ with_rest rest m
-    past : IsPast m.stage
-    numbers : SameNumbers rest.counts m.counts
+  pub record IsAlike (m n : Machine M) : Type 0 where
+    pub rest : Rest
+    pub is : n ≡ with_rest rest m
+    pub past : IsPast m.stage
+    pub numbers : SameNumbers rest.counts m.counts
 
-  abbrev AreAlike : Option (Turn M) → Option (Turn M) → Type 0
+  abbrev pub AreAlike : Option (Turn M) → Option (Turn M) → Type 0
   AreAlike None None = Unit {0}
   AreAlike (Some t) (Some u) = IsAlike t.machine u.machine × (option_map (request_of M) u.sends ≡ option_map (request_of M) t.sends)
   AreAlike None (Some u) = ⊥
@@ -197,10 +197,10 @@ module _ (M : Words) where
   same_out None (Some u) alike = absurd alike
   same_out (Some t) None alike = absurd alike
 
-  same_phase : (m n : Machine M) → IsAlike m n → phase_of M n ≡ phase_of M m
+  pub same_phase : (m n : Machine M) → IsAlike m n → phase_of M n ≡ phase_of M m
   same_phase m n h = ap (λ (x : Machine M). phase_at M x.stage) h.is
 
-  any_alike : (c : Call) (m n : Machine M) → IsAlike m n → AreAlike (turn_of M c m) (turn_of M c n)
+  pub any_alike : (c : Call) (m n : Machine M) → IsAlike m n → AreAlike (turn_of M c m) (turn_of M c n)
   any_alike c m n h = subst (λ (x : Machine M). AreAlike (turn_of M c m) (turn_of M c x)) (sym h.is) (call_alike c m h.rest h.past h.numbers)
 
   one_more : (c : Call) (calls : List Call) (m n : Machine M) → IsAlike (after M (turn_of M c m) m) (after M (turn_of M c n) n) → AreAlike (turn_of M c m) (turn_of M c n)
@@ -219,33 +219,33 @@ module _ (M : Words) where
 
   -- ---- the list is taken where the plan ended or halted
 
+  undo_begun : (m : Machine M) → AreAlike (Some (enters M (undo_stage M m.undo) m)) (Some (enters M (undo_stage M m.undo) (resumed M m.retries (list_of M m))))
+  undo_begun m = (
+    record {
+      rest = record { plan = []; stopped = true; undo = m.undo; counts = (list_of M m).next };
+      is = refl;
+      past = undo_past m.undo;
+      numbers = λ bus. round bus m.counts;
+    },
+    same_sends (undo_stage M m.undo) (list_of M m).next m.counts (λ bus. round bus m.counts),
+  )
+
+  pub over_alike : (stage : Stage M) (m : Machine M) → IsOver M (phase_at M stage) → AreAlike (undoes M stage m) (turn_of M CallUndo (resumed M m.retries (list_of M m)))
+  over_alike AtEnd m over = undo_begun m
+  over_alike (AtHalt k why) m over = undo_begun m
+  over_alike AtStart m over = absurd over
+  over_alike (Opened true (Gets k op) part) m over = absurd over
+  over_alike (Opened true (Sets k op back) part) m over = absurd over
+  over_alike (Opened true (Undoes u us) part) m over = absurd over
+  over_alike (Opened false task part) m over = absurd over
+  over_alike AtUndone m over = absurd over
+  over_alike (AtRefused k code) m over = absurd over
+
   pub goes_on_alike : GoesOnAlike M
   goes_on_alike = record { halted = λ retries list. refl; none_open = λ retries list. refl; same_list = λ retries m. listed m; alike = from }
     where
       listed : (m : Machine M) → list_of M (resumed M m.retries (list_of M m)) ≡ list_of M m
       listed m = λ i. record { series = m.undo; next = record { ipmb = round Ipmb m.counts i; smbus = round Smbus m.counts i } }
-
-      begun : (m : Machine M) → AreAlike (Some (enters M (undo_stage M m.undo) m)) (Some (enters M (undo_stage M m.undo) (resumed M m.retries (list_of M m))))
-      begun m = (
-        record {
-          rest = record { plan = []; stopped = true; undo = m.undo; counts = (list_of M m).next };
-          is = refl;
-          past = undo_past m.undo;
-          numbers = λ bus. round bus m.counts;
-        },
-        same_sends (undo_stage M m.undo) (list_of M m).next m.counts (λ bus. round bus m.counts),
-      )
-
-      over_alike : (stage : Stage M) (m : Machine M) → IsOver M (phase_at M stage) → AreAlike (undoes M stage m) (turn_of M CallUndo (resumed M m.retries (list_of M m)))
-      over_alike AtEnd m over = begun m
-      over_alike (AtHalt k why) m over = begun m
-      over_alike AtStart m over = absurd over
-      over_alike (Opened true (Gets k op) part) m over = absurd over
-      over_alike (Opened true (Sets k op back) part) m over = absurd over
-      over_alike (Opened true (Undoes u us) part) m over = absurd over
-      over_alike (Opened false task part) m over = absurd over
-      over_alike AtUndone m over = absurd over
-      over_alike (AtRefused k code) m over = absurd over
 
       both_some : (o p : Option (Turn M)) (m n : Machine M) → AreAlike o p → ((t : Turn M) × (p ≡ Some t)) → IsAlike (after M o m) (after M p n)
       both_some (Some t) (Some u) m n alike is = alike.0

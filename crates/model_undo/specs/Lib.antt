@@ -20,3 +20,4 @@ pub mod Giving
 pub mod Delivery
 pub mod CleanBuses
 pub mod SeriesExample
+pub mod Unsettled

@@ -9,6 +9,7 @@ ghost use Rattle.model_undo.specs.TwoBuses.{Addresses, in_messages, with_packets
 ghost use Rattle.model_undo.specs.Headline.{AlwaysStands, UndoneForGood, StopsOnlyIfTold};
 ghost use Rattle.model_undo.specs.Giving.{HaltsByAnswers};
 ghost use Rattle.model_undo.specs.Resume.{GoesOnAlike};
+ghost use Rattle.model_undo.specs.Unsettled.{UnsettledByQuiet};
 ghost use Rattle.model_undo.specs.RecordsRun.{RecordsStand};
 ghost use Rattle.model_undo.specs.Clean.{AnswersByRow, AlwaysRunsClean};
 ghost use Rattle.model_undo.specs.CleanBuses.{AllCanBeSent, AlwaysRunsOverBuses};
@@ -58,6 +59,12 @@ pub fn stops_only_if_told()
 /// `undo` on it goes through the same phases and sends the same requests, under the same numbers, as the manager from which the list was taken.
 pub fn resumed_goes_on_alike()
     ensures { GoesOnAlike register_words }
+{}
+
+/// A request comes to be unsettled only by a call of `quiet`, after its frames were sent again as often as is allowed since it was opened or
+/// since `again`.
+pub fn unsettled_only_by_quiet()
+    ensures { UnsettledByQuiet register_words }
 {}
 
 /// Where the board answers each request at once and the manager takes each reply, a plan takes two requests for each step and ends done, or
