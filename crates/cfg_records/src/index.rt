@@ -18,7 +18,7 @@ struct SensorPlaces {
 /// For each key, the place of its record in a list. A sensor's records are found by its number, in one step. Their tables lie in
 /// memory of their own, so that a board is moved without them.
 #[derive(Drop)]
-pub(crate) struct Index {
+pub struct Index {
     sensors: Box<SensorPlaces>,
     others: BTreeMap<Key, usize>,
 }

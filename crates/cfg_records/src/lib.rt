@@ -3,7 +3,7 @@
 #![tactic(auto)]
 
 pub mod board_file;
-mod index;
+pub mod index;
 pub mod plain_store;
 pub mod sample;
 pub mod store;

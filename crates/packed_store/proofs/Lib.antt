@@ -1,0 +1,4 @@
+pub mod Entries
+pub mod Offsets
+pub mod Images
+pub mod Packs

@@ -1,0 +1,5 @@
+pub mod SortedKeys
+pub mod SortedKeysLaws
+pub mod Places
+pub mod Image
+pub mod ImageLaws

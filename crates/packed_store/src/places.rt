@@ -1,0 +1,57 @@
+//! Where each key's record lies in an image.
+ghost use Rattle.std.specs.Prelude.{◌≡◌, None, Some, IfOk, OnOk, if◌then◌else◌};
+ghost use Rattle.record_base.specs.declared.key.Key.{Key as AnyKey};
+ghost use Rattle.record_base.specs.Keys.{same_key};
+ghost use Rattle.packed_store.specs.Places.{offset_of};
+
+use crate::sorted_keys::SortedKeys;
+use cfg_records::Key;
+use cfg_records::index::Index;
+use std::alloc::{AllocError, Global};
+
+/// The offset of each key's record. A sensor's is found by the sensor's number, in one step, and any other's in the sorted list.
+#[derive(Drop)]
+pub(crate) struct Places {
+    sensors: Index,
+    others: SortedKeys,
+}
+
+impl Places {
+    /// No key has an offset.
+    pub fn new(alloc: Global) -> Result<Places, AllocError>
+        ensures { IfOk result (λ places. (key : AnyKey) → offset_of places key ≡ None) }
+    {
+        let sensors = Index::new(alloc)?;
+        Ok(Places {
+            sensors,
+            others: SortedKeys::new(alloc),
+        })
+    }
+
+    /// The offset of the key's record.
+    pub fn find(&self, key: &Key) -> Option<usize>
+        ensures { result ≡ offset_of self.now key.now }
+    {
+        match self.sensors.place_of(key) {
+            Some(offset) => Some(offset),
+            None => self.others.find(key),
+        }
+    }
+
+    /// Adds a key that has no offset.
+    pub fn insert(&mut self, key: Key, offset: usize) -> Result<(), AllocError>
+        requires { offset_of self.old key ≡ None }
+        ensures { OnOk result ((k : AnyKey) → offset_of self.new k ≡ (if same_key key k then Some offset else offset_of self.old k)) }
+    {
+        match key.slot() {
+            Some(_) => {
+                self.sensors.insert(key, offset)?;
+                Ok(())
+            }
+            None => {
+                self.others.insert(key, offset)?;
+                Ok(())
+            }
+        }
+    }
+}
