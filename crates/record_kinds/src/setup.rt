@@ -1,5 +1,5 @@
 //! What never changes of a board.
-ghost use Rattle.std.specs.Prelude.{◌≡◌, ◌≤◌, length};
+ghost use Rattle.std.specs.Prelude.{◌≡◌, ◌≤◌, IfOk, length};
 ghost use Rattle.std.specs.Option.{option_copied};
 ghost use Rattle.record_base.specs.Distinct.{NamesDiffer};
 ghost use Rattle.record_kinds.specs.Places.{ArePlaces};
@@ -8,15 +8,16 @@ use cfg_records::{
     AccessStore, Attribute, Attributes, BoardFile, Channel, ChannelNumber, Device, NumericEffecter,
     Sensor, StateEffecter, StoredAccess, User, UserAccess, UserNumber, UserOnChannel,
 };
+use std::alloc::{AllocError, Global};
 use std::marker::Model;
 
 /// The place of a sensor that isn't there.
 const NOWHERE: u8 = 255;
 
-/// A board file, in which a sensor is found by its number in one step.
+/// A board file, in which a sensor is found by its number in one step. The file lies in memory of its own.
 #[derive(Debug, Drop)]
 pub struct Setup {
-    file: BoardFile,
+    file: Box<BoardFile>,
     /// For each number, where in the file its sensor stands.
     places: [u8; 256],
 }
@@ -27,9 +28,9 @@ impl Model for Setup {
 
     ghost Value = { BoardFile };
 
-    ghost view = { λ s. s.file };
+    ghost view = { λ s. s.file.value };
 
-    ghost invariant = { λ s. ArePlaces s.file.sensors.items s.places };
+    ghost invariant = { λ s. ArePlaces s.file.value.sensors.items s.places };
 }
 
 /// For each number, where the sensor of this number stands.
@@ -49,11 +50,14 @@ impl Setup {
     ghost use Rattle.record_kinds.specs.Boards.{sensor_at, numeric_at, state_at, user_at, access_at, channel_at, is_sessionless, stored_at, attribute_at};
 
     /// The set-up of this board file.
-    pub fn new(file: BoardFile) -> Setup
-        ensures { result ≡ file }
+    pub fn new(alloc: Global, file: BoardFile) -> Result<Setup, AllocError>
+        ensures { IfOk result (λ setup. setup ≡ file) }
     {
         let places = places_of(file.sensors.items.as_slice());
-        Setup { file, places }
+        match Box::new(alloc, file) {
+            Ok(file) => Ok(Setup { file, places }),
+            Err(_) => Err(AllocError),
+        }
     }
 
     /// The number of its terminus.

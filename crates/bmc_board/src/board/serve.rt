@@ -128,8 +128,9 @@ impl<S: Store> Board<S> {
     {
         let activity = Activity::opening(alloc, &file)?;
         let tables = Tables::open(alloc, &file.attributes)?;
+        let setup = Setup::new(alloc, file)?;
         Ok(Board {
-            setup: Setup::new(file),
+            setup,
             activity,
             store,
             made: Value::new(),
