@@ -1,7 +1,8 @@
 //! The frames that both controllers get.
 
+use crate::boards::Board;
 use crate::smbus::pec;
-use crate::{Kind, Slot};
+use crate::{Bus, Kind, Slot};
 
 const WIRE: u8 = 0x20;
 const REQUESTER: u8 = 0x2C;
@@ -68,10 +69,10 @@ pub struct Work {
     pub frames: Vec<Slot>,
 }
 
-fn work(name: &'static str, kind: Kind, frames: Vec<Vec<u8>>) -> Work {
+fn work(name: &'static str, bus: Bus, board: Board, frames: Vec<Vec<u8>>) -> Work {
     Work {
         name,
-        kind,
+        kind: Kind { bus, board },
         frames: frames.iter().map(|frame| Slot::new(frame)).collect(),
     }
 }
@@ -162,16 +163,29 @@ fn attributes() -> Vec<Vec<u8>> {
 /// What is measured.
 pub fn works() -> Vec<Work> {
     let all: Vec<u8> = (0..32).collect();
+    let (ipmb, smbus, sample) = (Bus::Ipmb, Bus::Smbus, Board::Sample);
     vec![
-        work("Set and Get of thresholds", Kind::Ipmb, thresholds(&[5])),
-        work("eight requesters in turn", Kind::Ipmb, eight_requesters()),
-        work("repeats", Kind::Ipmb, repeats()),
-        work("Get Device ID", Kind::Ipmb, device_id()),
-        work("bad check byte", Kind::Ipmb, bad_check()),
-        work("32 sensors", Kind::Sensors, thresholds(&all)),
-        work("GetTID", Kind::Smbus, get_tid()),
-        work("messages of two packets", Kind::Smbus, two_packets()),
-        work("Set and Get of an attribute", Kind::Smbus, attributes()),
+        work("Set and Get of thresholds", ipmb, sample, thresholds(&[5])),
+        work("eight requesters in turn", ipmb, sample, eight_requesters()),
+        work("repeats", ipmb, sample, repeats()),
+        work("Get Device ID", ipmb, sample, device_id()),
+        work("bad check byte", ipmb, sample, bad_check()),
+        work("32 sensors", ipmb, Board::Of32, thresholds(&all)),
+        work("GetTID", smbus, sample, get_tid()),
+        work("messages of two packets", smbus, sample, two_packets()),
+        work("Set and Get of an attribute", smbus, sample, attributes()),
+        work(
+            "largest board, 32 sensors",
+            ipmb,
+            Board::Largest,
+            thresholds(&all),
+        ),
+        work(
+            "largest board, an attribute",
+            smbus,
+            Board::Largest,
+            attributes(),
+        ),
     ]
 }
 
@@ -326,15 +340,15 @@ impl Random {
 /// Whether the frame has a command that the plain controller lacks: of boot options, global enables, users, channels, effecters, and tables of
 /// attributes.
 fn is_lacking(kind: Kind, frame: &[u8]) -> bool {
-    match kind {
-        Kind::Ipmb | Kind::Sensors => {
+    match kind.bus {
+        Bus::Ipmb => {
             frame.len() > 5
                 && matches!(
                     (frame[1] >> 2, frame[5]),
                     (0x00, 8 | 9) | (0x06, 0x2E | 0x2F | 0x40 | 0x41 | 0x43..=0x47)
                 )
         }
-        Kind::Smbus => {
+        Bus::Smbus => {
             frame.len() > 11
                 && matches!(
                     (frame[10] & 0x3F, frame[11]),
@@ -352,9 +366,9 @@ pub fn random(kind: Kind, count: usize) -> Vec<Slot> {
         if frames.len() > 16 && random.below(4) == 0 {
             frames.push(frames[frames.len() - 1 - random.below(16)]);
         } else {
-            let next = match kind {
-                Kind::Ipmb | Kind::Sensors => random.ipmb(),
-                Kind::Smbus => random.smbus(),
+            let next = match kind.bus {
+                Bus::Ipmb => random.ipmb(),
+                Bus::Smbus => random.smbus(),
             };
             let known = next.iter().filter(|frame| !is_lacking(kind, frame));
             frames.extend(known.map(|frame| Slot::new(frame)));

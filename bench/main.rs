@@ -1,5 +1,6 @@
 //! Measures the proved controller beside one in plain Rust, over the same frames, and checks that both send the same bytes.
 
+mod boards;
 mod frames;
 mod plain;
 mod proved;
@@ -7,6 +8,7 @@ mod serve;
 mod smbus;
 mod windows;
 
+use boards::Board;
 use frames::Work;
 use std::process::ExitCode;
 use std::time::Instant;
@@ -44,16 +46,19 @@ impl Slot {
     }
 }
 
-/// Which bus the frames go over, and which board serves them.
-#[repr(u8)]
+/// Which bus the frames go over.
 #[derive(Clone, Copy, Debug, PartialEq, Eq)]
-pub enum Kind {
-    /// The sample board on IPMB.
-    Ipmb = 0,
-    /// The sample board on the System Management Bus.
-    Smbus = 1,
-    /// 32 sensors on IPMB.
-    Sensors = 2,
+pub enum Bus {
+    Ipmb,
+    /// The System Management Bus.
+    Smbus,
+}
+
+/// Which bus the frames go over, and which board serves them.
+#[derive(Clone, Copy, Debug, PartialEq, Eq)]
+pub struct Kind {
+    pub bus: Bus,
+    pub board: Board,
 }
 
 /// A controller: hands it the frames in turn, so many times over and once more, and leaves what it sent at last to each.
@@ -62,20 +67,27 @@ type Serve = fn(Kind, &[Slot], u64, &mut [Slot]);
 /// The plain controllers, of which the faster counts.
 const PLAIN: [Serve; 2] = [serve::by_options, serve::by_words];
 
+/// The controllers that have to send what the proved one sends: that over the other store, and the plain ones.
+const OTHERS: [(&str, Serve); 3] = [
+    ("list", proved::over_list),
+    ("options", serve::by_options),
+    ("words", serve::by_words),
+];
+
 fn replies_of(serve: Serve, kind: Kind, frames: &[Slot], rounds: u64) -> Vec<Slot> {
     let mut replies = vec![Slot::new(&[]); frames.len()];
     serve(kind, frames, rounds, &mut replies);
     replies
 }
 
-/// Whether both controllers send the same, after one round and after two.
+/// Whether all controllers send the same, after one round and after two.
 fn agree(name: &str, kind: Kind, frames: &[Slot]) -> bool {
     let mut same = true;
     for rounds in [0, 1] {
         let proved = replies_of(proved::serve, kind, frames, rounds);
-        for plain in PLAIN {
-            let plain = replies_of(plain, kind, frames, rounds);
-            for ((frame, a), b) in frames.iter().zip(&proved).zip(&plain) {
+        for (other, serve) in OTHERS {
+            let replies = replies_of(serve, kind, frames, rounds);
+            for ((frame, a), b) in frames.iter().zip(&proved).zip(&replies) {
                 if a.as_slice() != b.as_slice() {
                     eprintln!(
                         "bench: {name}, {} round(s): to {:02X?}",
@@ -83,7 +95,7 @@ fn agree(name: &str, kind: Kind, frames: &[Slot]) -> bool {
                         frame.as_slice()
                     );
                     eprintln!("bench:   proved {:02X?}", a.as_slice());
-                    eprintln!("bench:   plain  {:02X?}", b.as_slice());
+                    eprintln!("bench:   {other} {:02X?}", b.as_slice());
                     same = false;
                 }
             }
@@ -108,9 +120,9 @@ fn random_agree(kind: Kind) -> bool {
         "bench: {} frames that look random, {kind:?}: {silent} with no reply",
         frames.len()
     );
-    let (place, codes): (usize, &[u8]) = match kind {
-        Kind::Ipmb | Kind::Sensors => (6, &[0x00, 0xC0, 0xC1, 0xC2, 0xC7, 0xCB, 0xCC]),
-        Kind::Smbus => (12, &[0x00, 0x02, 0x03, 0x04, 0x05, 0x20, 0x88]),
+    let (place, codes): (usize, &[u8]) = match kind.bus {
+        Bus::Ipmb => (6, &[0x00, 0xC0, 0xC1, 0xC2, 0xC7, 0xCB, 0xCC]),
+        Bus::Smbus => (12, &[0x00, 0x02, 0x03, 0x04, 0x05, 0x20, 0x88]),
     };
     for code in codes {
         eprint!(", {} with {code:02X}h", count(&replies, place, *code));
@@ -143,13 +155,16 @@ fn fastest<const N: usize>(serves: [Serve; N], work: &Work) -> [f64; N] {
 
 fn measure(work: &Work) {
     let [options, words] = PLAIN;
-    let [proved, options, words] = fastest([proved::serve, options, words], work);
+    let [proved, list, options, words] =
+        fastest([proved::serve, proved::over_list, options, words], work);
     println!(
-        "{:<28} {:>14.0} {:>14.0} {:>14.0} {:>7.2}",
+        "{:<32} {:>11.0} {:>11.0} {:>11.0} {:>11.0} {:>7.2} {:>7.2}",
         work.name,
         proved,
+        list,
         options,
         words,
+        proved / list,
         proved / f64::max(options, words)
     );
 }
@@ -157,28 +172,34 @@ fn measure(work: &Work) {
 fn main() -> ExitCode {
     let works = frames::works();
     let mut same = true;
-    for kind in [Kind::Ipmb, Kind::Smbus, Kind::Sensors] {
-        same &= random_agree(kind);
+    for (bus, board) in [
+        (Bus::Ipmb, Board::Sample),
+        (Bus::Smbus, Board::Sample),
+        (Bus::Ipmb, Board::Of32),
+    ] {
+        same &= random_agree(Kind { bus, board });
     }
     for work in &works {
         same &= agree(work.name, work.kind, &work.frames);
     }
     if !same {
-        eprintln!("bench: the two controllers differ");
+        eprintln!("bench: the controllers differ");
         return ExitCode::FAILURE;
     }
     match std::env::args().nth(1).as_deref() {
         None => {
             println!(
-                "{:<28} {:>14} {:>14} {:>14} {:>7}",
-                "frames a second", "proved", "plain, options", "plain, words", "ratio"
+                "{:<32} {:>11} {:>11} {:>11} {:>11} {:>7} {:>7}",
+                "frames a second", "proved", "over list", "options", "words", "stores", "ratio"
             );
             works.iter().for_each(measure);
         }
         Some("same") => println!("the controllers send the same bytes"),
         // One list with the proved controller alone, for a profiler.
         Some(place) => {
-            let work = &works[place.parse::<usize>().expect("same, or a number of 0 to 8")];
+            let work = &works[place
+                .parse::<usize>()
+                .expect("same, or a number of 0 to 10")];
             let [speed] = fastest([proved::serve], work);
             println!("{:<28} {:>14.0}", work.name, speed);
         }

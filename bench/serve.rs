@@ -1,7 +1,8 @@
 //! The plain controller, handed frames as the proved one is.
 
+use crate::boards::Board;
 use crate::windows::{Options, Windows, Words};
-use crate::{Kind, Slot, plain, smbus};
+use crate::{Bus, Kind, Slot, plain, smbus};
 
 /// Hands the frames in turn, so many times over and once more, and leaves what was sent at last to each.
 #[inline(always)]
@@ -30,17 +31,19 @@ fn serve_with<I: Windows, P: Windows>(
     rounds: u64,
     replies: &mut [Slot],
 ) {
-    match kind {
-        Kind::Ipmb | Kind::Sensors => {
-            let mut board = match kind {
-                Kind::Sensors => plain::Board::of_32(),
-                _ => plain::Board::sample(),
+    match kind.bus {
+        Bus::Ipmb => {
+            // Of the largest board it has the sensors.
+            let mut board = match kind.board {
+                Board::Sample => plain::Board::sample(),
+                Board::Of32 | Board::Largest => plain::Board::of_32(),
             };
             let mut port = plain::Port::<I>::new();
             let on_frame = |frame: &[u8], out: &mut [u8; 80]| port.on_frame(&mut board, frame, out);
             serve(on_frame, frames, rounds, replies);
         }
-        Kind::Smbus => {
+        // Of any board it has the first three attributes.
+        Bus::Smbus => {
             let mut port = smbus::Port::<P>::new();
             let on_frame = |frame: &[u8], out: &mut [u8; 80]| port.on_frame(frame, out);
             serve(on_frame, frames, rounds, replies);

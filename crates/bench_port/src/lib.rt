@@ -1,6 +1,5 @@
 //! The port and the board behind C functions, for the measure of speed in `bench/`.
 #![tactic(auto)]
 
-mod boards;
 pub mod serve;
 pub mod slot;

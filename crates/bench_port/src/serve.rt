@@ -5,48 +5,36 @@ ghost use Rattle.bmc_core.specs.Port.{Hears};
 ghost use Rattle.bmc_board.specs.State.{state_of};
 ghost use Rattle.bench_port.specs.Serve.{frame_of, first};
 
-use crate::boards::{board_of_32, sample};
 use crate::slot::Slot;
-use bmc_board::{Board, Records};
+use bmc_board::Board;
 use bmc_core::{At, Out, Port};
-use cfg_records::Store;
+use cfg_records::{BoardFile, PlainStore, Store};
 use mctp_net::EndpointId;
 use std::alloc::{AllocError, Global};
+use text_board::read_board;
 use two_wire::{Address, Bus};
 
-/// Which bus the requests come over, and which board serves them.
-#[derive(Clone, Copy, PartialEq, Eq, Debug)]
-enum Kind {
-    /// The sample board on IPMB.
-    Ipmb,
-    /// The sample board on the System Management Bus.
-    Smbus,
-    /// 32 sensors on IPMB.
-    Sensors,
+/// The board of a file's text.
+fn file_of(alloc: Global, text: &[u8]) -> Option<BoardFile> {
+    match str::from_utf8(text) {
+        Ok(text) => read_board(alloc, text).ok(),
+        Err(_) => None,
+    }
 }
 
-impl Kind {
-    /// 1 is the System Management Bus, 2 are 32 sensors; any other number is the sample board on IPMB.
-    fn of(number: u8) -> Kind {
-        match number {
-            1 => Kind::Smbus,
-            2 => Kind::Sensors,
-            _ => Kind::Ipmb,
-        }
+/// A board over a store that is a list of values, as no program has it.
+fn over_list(alloc: Global, file: BoardFile) -> Result<Board<PlainStore>, AllocError> {
+    match PlainStore::of_file(alloc, &file) {
+        Ok(store) => Board::open(alloc, file, store),
+        Err(AllocError) => Err(AllocError),
     }
+}
 
-    fn bus(self) -> Bus {
-        match self {
-            Kind::Ipmb | Kind::Sensors => Bus::Ipmb,
-            Kind::Smbus => Bus::Smbus,
-        }
-    }
-
-    fn board(self, alloc: Global) -> Result<Board<Records>, AllocError> {
-        match self {
-            Kind::Ipmb | Kind::Smbus => sample(alloc),
-            Kind::Sensors => board_of_32(alloc),
-        }
+/// 1 is the System Management Bus, and any other number is IPMB.
+fn bus_of(number: u8) -> Bus {
+    match number {
+        1 => Bus::Smbus,
+        _ => Bus::Ipmb,
     }
 }
 
@@ -88,19 +76,20 @@ fn leave(out: &Out, reply: &mut Slot)
     }
 }
 
-fn serve(
+/// Hands the frames to a fresh port of the board.
+fn serve<S: Store>(
     alloc: Global,
-    kind: Kind,
+    bus: Bus,
+    mut board: Board<S>,
     frames: &[Slot],
     rounds: u64,
     replies: &mut [Slot],
 ) -> Result<(), AllocError> {
-    let mut board = kind.board(alloc)?;
     let at = At {
         wire: Address::new(0x20).unwrap(),
         eid: EndpointId::new(0x0A).unwrap(),
     };
-    let mut port = Port::new(alloc, kind.bus(), at)?;
+    let mut port = Port::new(alloc, bus, at)?;
     let mut out = Out::new();
     for _ in 0..rounds {
         serve_round(&mut port, &mut board, frames, &mut out);
@@ -110,15 +99,31 @@ fn serve(
 }
 
 /// Hands the frames in turn, so many times over and once more, to a fresh controller at 20h (EID 0Ah), with one `Out` for all of them, and
-/// leaves the first frame that it sent at last to each. The kind is 0 for the sample board on IPMB, 1 for that on the System Management
-/// Bus, 2 for a board of 32 sensors on IPMB. Returns whether memory was given.
+/// leaves the first frame that it sent at last to each. The bus is 0 for IPMB and 1 for the System Management Bus, the store 0 for that of the
+/// programs and 1 for a list of values, and the board is the text of a board file. Returns whether that is one and memory was given.
 #[unsafe(no_mangle)]
 pub extern "C" fn bench_port_serve(
     alloc: Global,
-    kind: u8,
+    bus: u8,
+    store: u8,
+    board: &[u8],
     frames: &[Slot],
     rounds: u64,
     replies: &mut [Slot],
 ) -> bool {
-    serve(alloc, Kind::of(kind), frames, rounds, replies).is_ok()
+    let Some(file) = file_of(alloc, board) else {
+        return false;
+    };
+    let bus = bus_of(bus);
+    let served = match store {
+        1 => match over_list(alloc, file) {
+            Ok(board) => serve(alloc, bus, board, frames, rounds, replies),
+            Err(AllocError) => Err(AllocError),
+        },
+        _ => match Board::of_file(alloc, file) {
+            Ok(board) => serve(alloc, bus, board, frames, rounds, replies),
+            Err(AllocError) => Err(AllocError),
+        },
+    };
+    served.is_ok()
 }

@@ -21,3 +21,4 @@ pub mod ToldTables
 pub mod BiosTables
 pub mod BiosTableLaws
 pub mod StandingValues
+pub mod OwnStore

@@ -7,13 +7,15 @@ ghost use Rattle.undo_core.specs.Phases.{phase_of};
 ghost use Rattle.undo_core.specs.Shown.{backs};
 ghost use Rattle.model_lab.specs.Meaning.{lab_names};
 ghost use Rattle.model_lab.specs.Played.{Told};
-ghost use Rattle.lab_run.specs.Shown.{IsSentFrame, plain_records, idles_in};
+ghost use Rattle.bmc_board.specs.OwnStore.{own_records};
+ghost use Rattle.lab_run.specs.Shown.{IsSentFrame, idles_in};
 ghost use Rattle.lab_play.specs.Noted.{NotesPlay};
 ghost use Rattle.lab_play.specs.Ends.{Tells, Plays, Begins, given, changed_in, is_value};
 
 use crate::noted::run_noted;
 use crate::run::{Halt, run};
-use cfg_records::{BoardFile, Key, PlainStore, Store, Value};
+use bmc_board::Records;
+use cfg_records::{BoardFile, Key, Store, Value};
 use lab_run::{Fault, Lab, Note, Refused, SentFrame};
 use std::alloc::{AllocError, Global};
 use text_schedule::Event;
@@ -50,8 +52,8 @@ impl Played {
     }
 
     /// The records.
-    pub fn records(&self) -> &PlainStore
-        ensures { (told : Told) → Tells self.now told → ⟦<PlainStore as Store>⟧.records result.now ≡ told.records }
+    pub fn records(&self) -> &Records
+        ensures { (told : Told) → Tells self.now told → ⟦<Records as Store>⟧.records result.now ≡ told.records }
     {
         self.lab.store()
     }
@@ -73,8 +75,8 @@ impl Played {
 }
 
 /// Whether the store has another value at the key of this record.
-fn is_changed(store: &PlainStore, first: &(Key, Value)) -> bool
-    ensures { result ≡ not (is_value first.now.1 (plain_records store.now first.now.0)) }
+fn is_changed(store: &Records, first: &(Key, Value)) -> bool
+    ensures { result ≡ not (is_value first.now.1 (own_records store.now first.now.0)) }
 {
     match store.get(&first.0) {
         Some(value) => value != first.1.as_slice(),

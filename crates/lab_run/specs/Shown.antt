@@ -4,10 +4,7 @@ use Rattle.std.specs.List.{AllZip}
 use Rattle.two_wire.specs.declared.Bus.{Bus}
 use Rattle.two_wire.specs.declared.Bus.TheVariants as bus
 use Rattle.cfg_records.specs.declared.board_file.BoardFile.{BoardFile}
-use Rattle.cfg_records.specs.Records.{Records}
-use Rattle.cfg_records.specs.Index.{place_of}
-use Rattle.cfg_records.specs.Places.{value_at}
-use Rattle.cfg_records.specs.declared.plain_store.PlainStore.{PlainStore}
+use Rattle.bmc_board.specs.OwnStore.{own_records}
 use Rattle.bmc_board.specs.State.{state_of}
 use Rattle.bmc_board.specs.Sensing.{scan, tick}
 use Rattle.model_lab.specs.Lab.{LabFrame, Lab as LabModel, idles_on}
@@ -39,14 +36,10 @@ pub record IsSentFrame (sent : SentFrame) (f : LabFrame) : Type 0 where
   pub is : IsFrame sent f
   pub read : IsFrameOn f.on f.value sent.bytes
 
--- the records of a store
-abbrev pub plain_records : PlainStore → Records
-plain_records store = λ key. value_at store.records.items (place_of store.places key)
-
 -- the lab is this one of the model, on a board of this file
 pub record Shows (file : BoardFile) (lab : Lab) (x : LabModel plans) : Type 0 where
   pub setup : lab.board.setup ≡ file
-  pub board : x.board ≡ state_of plain_records lab.board
+  pub board : x.board ≡ state_of own_records lab.board
   pub ipmb : ipmb.Shows lab.ipmb x.ipmb
   pub smbus : smbus.Shows lab.smbus x.smbus
   pub manager : manager.Shows lab_names lab.manager x.manager

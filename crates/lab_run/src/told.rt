@@ -12,7 +12,8 @@ ghost use Rattle.lab_run.specs.Shown.{Shows, IsSentFrame};
 
 use crate::frames::SentFrame;
 use crate::lab_state::Lab;
-use cfg_records::{PlainStore, Store};
+use bmc_board::Records;
+use cfg_records::Store;
 use undo_core::Phase;
 use undo_plans::UndoList;
 
@@ -39,8 +40,8 @@ impl Lab {
     }
 
     /// The records.
-    pub fn store(&self) -> &PlainStore
-        ensures { (file : AnyFile) (x : LabModel plans) → Shows file self.now x → ⟦<PlainStore as Store>⟧.records result.now ≡ x.board.records }
+    pub fn store(&self) -> &Records
+        ensures { (file : AnyFile) (x : LabModel plans) → Shows file self.now x → ⟦<Records as Store>⟧.records result.now ≡ x.board.records }
     {
         self.board.store()
     }

@@ -16,18 +16,18 @@ fn reply_text(alloc: Global, reply: &Answered) -> Result<String, AllocError> {
 }
 
 /// What the board replies to the request.
-pub fn reply_of(
+pub fn reply_of<S: Store>(
     alloc: Global,
-    board: &mut Board<Records>,
+    board: &mut Board<S>,
     asked: &Asked,
 ) -> Result<String, AllocError> {
     reply_text(alloc, &board.answer(asked))
 }
 
 /// `ipmi 10 27 05` or `pldm 02 32 0400`: what the board replies.
-pub fn asks(
+pub fn asks<S: Store>(
     alloc: Global,
-    board: &mut Board<Records>,
+    board: &mut Board<S>,
     from: u8,
     over: &str,
     digits: &str,

@@ -14,5 +14,6 @@ mod request;
 mod story;
 mod window_lines;
 
-pub use boards::{SAMPLE_FIELDS, SAMPLE_TABLES};
+pub use board_lines::asks;
+pub use boards::{SAMPLE_FIELDS, SAMPLE_TABLES, board_of};
 pub use story::{open_sample, play};

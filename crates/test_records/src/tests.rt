@@ -2,6 +2,7 @@
 mod attribute;
 mod attributes;
 mod bench;
+mod both_stores;
 mod calls;
 mod commands;
 mod effecters;

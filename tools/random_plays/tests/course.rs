@@ -1,7 +1,8 @@
 //! What a plan's steps change, by the tables of commands and of records.
 use super::steps::Step;
+use bmc_board::Records;
 use cfg_records::{
-    EventChange, EventMasks, Key, NumericBytes, PlainStore, SetEventEnable, SetNumericEffecter,
+    EventChange, EventMasks, Key, NumericBytes, SetEventEnable, SetNumericEffecter,
     SetThresholds, Store, Value, byte_at,
 };
 use std::alloc::Global;
@@ -199,7 +200,7 @@ fn value_after<'a>(
 
 /// Whether the records are those of the start after these changes.
 pub(super) fn are_after(
-    records: &PlainStore,
+    records: &Records,
     start: &[(Key, Value)],
     changes: &[(Key, Value)],
 ) -> bool {

@@ -5,7 +5,8 @@ use super::others::{idle, noise_of, other_message, other_request, scan};
 use super::steps::{Step, any_step, board_with_effecters};
 use super::tally::{Tally, may_be_offered, one_more};
 use super::told::{push_events_of, push_step};
-use cfg_records::{BoardFile, Key, PlainStore, Value, sample_board};
+use bmc_board::Records;
+use cfg_records::{BoardFile, Key, Value, sample_board};
 use lab_run::{Lab, SentFrame, Way};
 use lab_play::{LabFault, Played, play};
 use undo_plans::{Plan, Steps};
@@ -230,7 +231,7 @@ fn steps_done(phase: &Phase, steps: usize) -> Option<(usize, usize)> {
 
 /// Whether the records are those after so many steps of the course.
 fn are_after_steps(
-    records: &PlainStore,
+    records: &Records,
     start: &[(Key, Value)],
     course: &Course,
     steps: usize,
@@ -275,7 +276,7 @@ impl Made {
         scene: &Scene,
         course: &Course,
         phase: &Phase,
-        records: &PlainStore,
+        records: &Records,
     ) -> Option<&'static str> {
         let Some((least, most)) = steps_done(phase, scene.steps.len()) else {
             return Some("an undo was refused");

@@ -3,11 +3,12 @@ ghost use Rattle.std.specs.Prelude.{◌≡◌, IfOk};
 ghost use Rattle.bmc_board.specs.State.{opened, state_of};
 
 use crate::board::Board;
-use cfg_records::{BoardFile, PlainStore, Store};
+use cfg_records::{BoardFile, Store};
+use packed_store::PackedStore;
 use std::alloc::{AllocError, Global};
 
 /// The store that a controller's board keeps its records in. The programs name it so, and no store by its own name.
-pub type Records = PlainStore;
+pub type Records = PackedStore;
 
 impl Board<Records> {
     /// A board of this file over a store of its own.

@@ -1,6 +1,7 @@
 //! A plan of two steps on the sample board, over IPMB.
+use bmc_board::Records;
 use bmc_core::{At, Board, Out, Port};
-use cfg_records::{PlainStore, Store, sample_board};
+use cfg_records::{Store, sample_board};
 use mctp_net::EndpointId;
 use plan_file::read_plan;
 use std::alloc::Global;
@@ -11,10 +12,9 @@ use undo_core::{Manager, OpenFault, Phase, Sent, Why};
 use undo_plans::{Names, Plan};
 
 /// The sample board.
-fn sample(rt: &impl Abort, alloc: Global) -> Board<PlainStore> {
+fn sample(rt: &impl Abort, alloc: Global) -> Board<Records> {
     let file = sample_board(alloc).expect(rt, "memory");
-    let store = PlainStore::of_file(alloc, &file).expect(rt, "memory");
-    Board::open(alloc, file, store).expect(rt, "memory")
+    Board::of_file(alloc, file).expect(rt, "memory")
 }
 
 /// The port on IPMB of a controller at address 20h and with the identifier 0Ah.
@@ -25,7 +25,7 @@ fn open_port(rt: &impl Abort, alloc: Global) -> Port {
 }
 
 /// The port hears the bytes.
-fn hear(board: &mut Board<PlainStore>, port: &mut Port, bytes: &[u8], out: &mut Out) {
+fn hear(board: &mut Board<Records>, port: &mut Port, bytes: &[u8], out: &mut Out) {
     port.on_frame(board, bytes, out);
 }
 
@@ -92,7 +92,7 @@ fn take(manager: &mut Manager, reply: &[u8]) -> Option<Sent> {
 /// The frames come to the port, and its reply comes to the manager. What that sends then.
 fn exchange(
     rt: &impl Abort,
-    board: &mut Board<PlainStore>,
+    board: &mut Board<Records>,
     port: &mut Port,
     manager: &mut Manager,
     sent: &Sent,
@@ -113,7 +113,7 @@ const MOST_REQUESTS: usize = 16;
 /// requests were sent.
 fn drive(
     rt: &impl Abort,
-    board: &mut Board<PlainStore>,
+    board: &mut Board<Records>,
     port: &mut Port,
     manager: &mut Manager,
     first: Option<Sent>,
@@ -136,7 +136,7 @@ fn expect_list(rt: &impl Abort, alloc: Global, manager: &Manager, phase: Phase) 
 }
 
 /// Whether each record of the board is as in its file.
-fn is_as_in_its_file(rt: &impl Abort, alloc: Global, board: &Board<PlainStore>) -> bool {
+fn is_as_in_its_file(rt: &impl Abort, alloc: Global, board: &Board<Records>) -> bool {
     let file = sample_board(alloc).expect(rt, "memory");
     let records = file.records(alloc).expect(rt, "memory");
     for (key, value) in records.as_slice() {
@@ -152,7 +152,7 @@ fn is_as_in_its_file(rt: &impl Abort, alloc: Global, board: &Board<PlainStore>) 
 fn carry_out(
     rt: &impl Abort,
     alloc: Global,
-    board: &mut Board<PlainStore>,
+    board: &mut Board<Records>,
     port: &mut Port,
     manager: &mut Manager,
 ) {
@@ -175,7 +175,7 @@ fn first_of_undo(rt: &impl Abort, alloc: Global, manager: &mut Manager) -> Optio
 fn undone(
     rt: &impl Abort,
     alloc: Global,
-    board: &mut Board<PlainStore>,
+    board: &mut Board<Records>,
     port: &mut Port,
     manager: &mut Manager,
 ) {

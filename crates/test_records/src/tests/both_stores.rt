@@ -1,0 +1,112 @@
+//! The same requests to a board over each of the two stores.
+use bmc_board::Board;
+use cfg_records::{BoardFile, Key, PlainStore, Store, Value};
+use packed_store::PackedStore;
+use std::alloc::{AllocError, Global};
+use std::process::Abort;
+use std::test::Fail;
+use stories::{asks, board_of};
+
+/// The sample board with numeric effecter 4, from 0 to 1000, and state effecter 9, of two fields.
+const BOARD: &str = "board numeric = [
+board { id = 4, size = 2, operational = 1, lower = 0, upper = 1000, current = 500 },
+board ]
+board state = [
+board { id = 9, operational = 1, states = [[1, 2], [1, 2, 3]], current = [1, 1] },
+board ]
+";
+
+/// A plan of four steps: two changes of the thresholds of sensor 5, the delay becomes 40, and the board is to be started otherwise.
+const PLAN: &str = "ipmi 10 26 05 18 0000004B5A00 -> 00
+ipmi 10 26 05 30 000000005C64 -> 00
+pldm 03 07 00000000050200032800000000000000 -> 00 00000000
+ipmi 00 08 05 8004000000 -> 00
+ipmi 10 27 05 -> 00 3F140A054B5C64
+pldm 03 08 00000000010200 -> 00 00000000050200032800000000000000";
+
+/// What takes it back, the last step first.
+const UNDO: &str = "ipmi 00 08 05 0000000000 -> 00
+pldm 03 07 00000000050200031E00000000000000 -> 00 00000000
+ipmi 10 26 05 30 000000005A6E -> 00
+ipmi 10 26 05 18 000000505F00 -> 00
+ipmi 10 27 05 -> 00 3F140A05505F6E";
+
+/// A Set of upper critical of sensor 5 and one that is refused, since upper non-recoverable is lower; and Sets of effecters, of which some
+/// are refused.
+const SETS: &str = "ipmi 10 26 05 10 000000005A00 -> 00
+ipmi 10 27 05 -> 00 3F140A05505A6E
+ipmi 10 26 05 10 000000007000 -> CC
+ipmi 10 27 05 -> 00 3F140A05505A6E
+pldm 02 39 09000201020000 -> 00
+pldm 02 3A 0900 -> 00 02010202010101
+pldm 02 39 09000200000104 -> 81
+pldm 02 31 040002E803 -> 00
+pldm 02 32 0400 -> 00 0201E803E803
+pldm 02 31 040002E903 -> 02";
+
+/// The sample board with effecters.
+fn file(rt: &impl Abort, alloc: Global) -> BoardFile {
+    board_of(alloc, BOARD).ok().expect(rt, "a board")
+}
+
+/// The board over a store that is a list of values.
+fn plain(rt: &impl Abort, alloc: Global) -> Board<PlainStore> {
+    let file = file(rt, alloc);
+    let store = PlainStore::of_file(alloc, &file).expect(rt, "memory");
+    Board::open(alloc, file, store).expect(rt, "memory")
+}
+
+/// The board over a store that is one image of bytes.
+fn packed(rt: &impl Abort, alloc: Global) -> Board<PackedStore> {
+    let file = file(rt, alloc);
+    let store = PackedStore::of_file(alloc, &file).expect(rt, "memory");
+    Board::open(alloc, file, store).expect(rt, "memory")
+}
+
+/// Each line's request has its reply.
+fn expect_replies<S: Store>(
+    rt: &impl Abort,
+    alloc: Global,
+    board: &mut Board<S>,
+    lines: &str,
+) -> Result<(), AllocError> {
+    for line in lines.lines() {
+        let (words, told) = line.split_once(" -> ").unwrap_or((line, ""));
+        let (over, digits) = words.split_once(' ').unwrap_or((words, ""));
+        let came = asks(alloc, board, 0x2C, over, digits)?;
+        assert_eq!(rt; came.as_str().trim_end(), told);
+    }
+    Ok(())
+}
+
+/// Both stores have these keys' records alike. How many of them have another value than the list has.
+fn changed(
+    rt: &impl Abort,
+    plain: &PlainStore,
+    packed: &PackedStore,
+    start: &[(Key, Value)],
+) -> usize {
+    let mut changed = 0;
+    for (key, value) in start {
+        let now = plain.get(key).expect(rt, "a record");
+        assert_eq!(rt; packed.get(key).expect(rt, "a record"), now);
+        if now != value.as_slice() {
+            changed += 1;
+        }
+    }
+    changed
+}
+
+#[test]
+fn records_are_the_same_over_both_stores(rt: HostRuntime) -> Result<(), Fail> {
+    let start = file(&rt, rt.alloc()).records(rt.alloc())?;
+    let mut plain = plain(&rt, rt.alloc());
+    let mut packed = packed(&rt, rt.alloc());
+    for (lines, differ) in [(PLAN, 3), (UNDO, 0), (SETS, 3)] {
+        expect_replies(&rt, rt.alloc(), &mut plain, lines)?;
+        expect_replies(&rt, rt.alloc(), &mut packed, lines)?;
+        let changed = changed(&rt, plain.store(), packed.store(), start.as_slice());
+        assert_eq!(rt; changed, differ);
+    }
+    Ok(())
+}
