@@ -7,7 +7,7 @@ use Rattle.record_base.specs.declared.op.Op.{Op}
 use Rattle.text_schedule.specs.declared.event.Event.{Event}
 use Rattle.model_lab.specs.Played.{Ending, Whole, Stops, IsPlayed}
 use Rattle.lab_run.specs.FramesShown.{fault_of}
-use Rattle.model_headline.specs.Plays.{StandsIfOwn}
+use Rattle.model_headline.specs.Plays.{StandsIfKept}
 use Rattle.lab_run.specs.declared.note.Note.{Note}
 use Rattle.text_chart.specs.Chart.{chart_of}
 use Rattle.lab_run.specs.Shown.{own_bench}
@@ -29,7 +29,7 @@ EndsAt events notes _ _ = ⊥
 pub record NotesPlayOf (file : BoardFile) (steps : List Op) (retries : ℕ) (events : List Event) (stopped : Option Stopped) (notes : List Note) : Type 0 where
   pub ending : Ending
   pub played : IsPlayed (own_bench file) file steps retries events ending
-  pub stands : StandsIfOwn (own_bench file) file steps retries events ending
+  pub stands : StandsIfKept (own_bench file) file steps retries events ending
   pub ends : EndsAt events (length notes) stopped ending
   pub are : AreNotes (own_bench file) file steps retries events notes
 

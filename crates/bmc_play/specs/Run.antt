@@ -10,7 +10,7 @@ use Rattle.bmc_play.specs.declared.account.Account.{Account}
 use Rattle.bmc_play.specs.Inputs.{AreRead, input_fault_name}
 use Rattle.bmc_play.specs.Lines.{text_of}
 use Rattle.model_lab.specs.Played.{Ending, IsPlayed}
-use Rattle.model_headline.specs.Plays.{StandsIfOwn}
+use Rattle.model_headline.specs.Plays.{StandsIfKept}
 use Rattle.lab_run.specs.Shown.{own_bench}
 use Rattle.bmc_lab.specs.declared.console.Stream.TheVariants.{Output, Error}
 use Rattle.bmc_lab.specs.declared.status.Status.{Status}
@@ -37,7 +37,7 @@ refusal_line why = input_fault_name why ++ 10 ∷ []
 pub record Recounts (frames : Bool) (inputs : Inputs) (text : List ℕ) (status : Status) : Type 0 where
   pub ending : Ending
   pub played : IsPlayed (own_bench inputs.file) inputs.file inputs.plan.steps inputs.plan.retries inputs.events ending
-  pub stands : StandsIfOwn (own_bench inputs.file) inputs.file inputs.plan.steps inputs.plan.retries inputs.events ending
+  pub stands : StandsIfKept (own_bench inputs.file) inputs.file inputs.plan.steps inputs.plan.retries inputs.events ending
   pub account : Account
   pub is : IsAccountOf account ending
   pub said : text ≡ text_of frames account

@@ -52,7 +52,7 @@ module _ (file : BoardFile) (steps : List Op) (retries : ℕ) where
         ending = Whole (told_after events);
         is = tells events played start once at.1;
         played = is;
-        stands = plays_stand (own_bench file) file steps retries events (Whole (told_after events)) is;
+        stands = (plays_stand (own_bench file) file steps retries events (Whole (told_after events)) is).0;
       }
 
   -- the event of a place has a fault
@@ -67,7 +67,7 @@ module _ (file : BoardFile) (steps : List Op) (retries : ℕ) where
         ending = Stops (fault_of why) place told;
         is = (refl, refl, tells halts.before played start once at.1);
         played = is;
-        stands = plays_stand (own_bench file) file steps retries events (Stops (fault_of why) place told) is;
+        stands = (plays_stand (own_bench file) file steps retries events (Stops (fault_of why) place told) is).0;
       }
 
   -- ---- what is given of a play, as its events ended

@@ -10,7 +10,7 @@ use Rattle.text_schedule.specs.declared.event.Event.{Event}
 use Rattle.model_lab.specs.Meaning.{lab_names}
 use Rattle.model_lab.specs.Played.{plans, Told, Ending, Whole, Stops, told_of, IsPlayed}
 use Rattle.lab_run.specs.FramesShown.{fault_of}
-use Rattle.model_headline.specs.Plays.{StandsIfOwn}
+use Rattle.model_headline.specs.Plays.{StandsIfKept}
 use Rattle.lab_run.specs.Shown.{Shows, own_bench}
 use Rattle.lab_play.specs.declared.run.Halt.{Halt}
 use Rattle.lab_run.specs.declared.step.Refused.{Refused}
@@ -46,7 +46,7 @@ pub record Ends (file : BoardFile) (steps : List Op) (retries : ℕ) (events : L
   pub ending : Ending
   pub is : IsEnding given ending
   pub played : IsPlayed (own_bench file) file steps retries events ending
-  pub stands : StandsIfOwn (own_bench file) file steps retries events ending
+  pub stands : StandsIfKept (own_bench file) file steps retries events ending
 
 -- what a record has is this value
 abbrev pub is_value : List ℕ → Option (List ℕ) → Bool
