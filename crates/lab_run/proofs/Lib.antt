@@ -8,4 +8,5 @@ pub mod Sent
 pub mod ManagerSide
 pub mod Deeds
 pub mod PortSide
+pub mod Silence
 pub mod Coming

@@ -66,7 +66,7 @@ module _ (file : BoardFile) (old new : Lab) (x : LabModel plans) (shows : Shows 
   idles_still on = shows.idles on ∙ ap (λ (n : Idles). idles_in on n) (sym stays.idles)
 
   -- the port on IPMB did this deed
-  ipmb_shown : (d : Deed) → new.smbus ≡ old.smbus → ipmb.Shows new.ipmb d.port → state_of own_records new.board ≡ d.board → Keeps x.ipmb d
+  pub ipmb_shown : (d : Deed) → new.smbus ≡ old.smbus → ipmb.Shows new.ipmb d.port → state_of own_records new.board ≡ d.board → Keeps x.ipmb d
       → Shows file new (with_port plans bus.Ipmb d.port (record x { board = d.board }))
   ipmb_shown d other port board keeps = record {
     setup = stays.setup ∙ shows.setup;
@@ -83,7 +83,7 @@ module _ (file : BoardFile) (old new : Lab) (x : LabModel plans) (shows : Shows 
     idles bus.Smbus = idles_still bus.Smbus
 
   -- and the one on SMBus
-  smbus_shown : (d : Deed) → new.ipmb ≡ old.ipmb → smbus.Shows new.smbus d.port → state_of own_records new.board ≡ d.board → Keeps x.smbus d
+  pub smbus_shown : (d : Deed) → new.ipmb ≡ old.ipmb → smbus.Shows new.smbus d.port → state_of own_records new.board ≡ d.board → Keeps x.smbus d
       → Shows file new (with_port plans bus.Smbus d.port (record x { board = d.board }))
   smbus_shown d other port board keeps = record {
     setup = stays.setup ∙ shows.setup;
@@ -99,14 +99,24 @@ module _ (file : BoardFile) (old new : Lab) (x : LabModel plans) (shows : Shows 
     idles bus.Ipmb = idles_still bus.Ipmb
     idles bus.Smbus = keeps.idles (own_on bus.Smbus x.manager.names) ∙ idles_still bus.Smbus
 
+  -- what the ports heard, they heard at this board
+  pub ipmb_here : (bytes : List ℕ) → ipmb.Hears old.board.setup old.ipmb (state_of own_records old.board) bytes new.out new.ipmb (state_of own_records new.board)
+      → ipmb.Hears file old.ipmb x.board bytes new.out new.ipmb (state_of own_records new.board)
+  ipmb_here bytes hearing =
+      subst (λ (t : BoardFile × State). ipmb.Hears t.0 old.ipmb t.1 bytes new.out new.ipmb (state_of own_records new.board)) (λ i. (shows.setup i, sym shows.board i)) hearing
+
+  pub smbus_here : (bytes : List ℕ)
+      → ((p : PortState) → smbus.Shows old.smbus p → smbus.HearsBytes old.board.setup p (state_of own_records old.board) bytes new.smbus new.out (state_of own_records new.board))
+      → smbus.HearsBytes file x.smbus x.board bytes new.smbus new.out (state_of own_records new.board)
+  smbus_here bytes hearing =
+      subst (λ (t : BoardFile × State). smbus.HearsBytes t.0 x.smbus t.1 bytes new.smbus new.out (state_of own_records new.board)) (λ i. (shows.setup i, sym shows.board i)) (hearing x.smbus shows.smbus)
+
   pub ipmb_hears : (bytes : List ℕ) (v : Value) → new.smbus ≡ old.smbus
       → ipmb.Hears old.board.setup old.ipmb (state_of own_records old.board) bytes new.out new.ipmb (state_of own_records new.board)
       → IsFrameOn bus.Ipmb v bytes → HasHeard file bus.Ipmb x (hears file x.ipmb x.board v) new
   ipmb_hears bytes v other hearing is =
-      let now : ipmb.Hears file old.ipmb x.board bytes new.out new.ipmb (state_of own_records new.board) =
-      subst (λ (t : BoardFile × State). ipmb.Hears t.0 old.ipmb t.1 bytes new.out new.ipmb (state_of own_records new.board)) (λ i. (shows.setup i, sym shows.board i)) hearing in
       let told = heard_as file x.ipmb x.board bytes v is in
-      let did = subst (λ (d : Deed). ipmb.Does d (ipmb.done_of x.ipmb told.heard) new.ipmb (state_of own_records new.board) new.out) told.same (now x.ipmb shows.ipmb told.heard told.is) in
+      let did = subst (λ (d : Deed). ipmb.Does d (ipmb.done_of x.ipmb told.heard) new.ipmb (state_of own_records new.board) new.out) told.same (ipmb_here bytes hearing x.ipmb shows.ipmb told.heard told.is) in
       let d = hears file x.ipmb x.board v in
       let written_so : sent new.out ≡ map written d.sent = ap sent did.sent in
       record {
@@ -129,10 +139,7 @@ module _ (file : BoardFile) (old new : Lab) (x : LabModel plans) (shows : Shows 
       → IsFrameOn bus.Smbus v bytes → HasHeard file bus.Smbus x (hears file x.smbus x.board v) new
   smbus_hears bytes (Asks r) other hearing is = absurd is
   smbus_hears bytes (Tells r) other hearing is = absurd is
-  smbus_hears bytes (Part p) other hearing is =
-      let now : smbus.HearsBytes file x.smbus x.board bytes new.smbus new.out (state_of own_records new.board) =
-      subst (λ (t : BoardFile × State). smbus.HearsBytes t.0 x.smbus t.1 bytes new.smbus new.out (state_of own_records new.board)) (λ i. (shows.setup i, sym shows.board i)) (hearing x.smbus shows.smbus) in
-      smbus_did (Part p) _ other (now.packet p is)
+  smbus_hears bytes (Part p) other hearing is = smbus_did (Part p) _ other ((smbus_here bytes hearing).packet p is)
 
   -- what the port did stands in what is to be sent
   pub ipmb_done : (bytes : List ℕ) (v : Value) → ipmb.Hears old.board.setup old.ipmb (state_of own_records old.board) bytes new.out new.ipmb (state_of own_records new.board)

@@ -1,9 +1,11 @@
 -- What a port of the lab heard, before what it sends is sent; and what it did with it.
-use Rattle.std.specs.Prelude.{◌≡◌, ℕ, ◌==◌, List, map, Some, Result, Ok, Err, if◌then◌else◌, slice_get}
+use Rattle.std.specs.Prelude.{◌≡◌, ℕ, ◌==◌, List, map, find, Option, Some, option_map, Result, Ok, Err, if◌then◌else◌, slice_get}
 use Rattle.std.specs.List.{AllZip}
 use Rattle.two_wire.specs.declared.Bus.{Bus}
 use Rattle.two_wire.specs.declared.Bus.TheVariants.{Ipmb, Smbus}
 use Rattle.ipmb_frame.specs.declared.message.Request.{Request}
+use Rattle.ipmb_frame.specs.Fault.{has_fault as has_frame_fault, faults as frame_faults}
+use Rattle.mctp_net.specs.Grammar.{has_fault as has_packet_fault, faults as packet_faults}
 use Rattle.cfg_records.specs.declared.board_file.BoardFile.{BoardFile}
 use Rattle.model_lab.specs.Values.{Value, Asks, Tells, Part, written, IsFrameOn}
 use Rattle.model_lab.specs.PortSteps.{PortState, Deed}
@@ -50,8 +52,18 @@ abbrev pub done_on : Bus → PortState → Value → Done
 done_on Ipmb port v = ipmb.done_of port (heard_at port.wire v)
 done_on Smbus port v = done_with port v
 
--- what the controller did with the frame that an event delivers stands in what its port sent last
+-- why the bytes are no frame of the bus, where they are none: their first fault
+abbrev pub fault_in : Bus → List ℕ → Option Reason
+fault_in Ipmb bytes = option_map reason.Frame (find (has_frame_fault bytes) frame_faults)
+fault_in Smbus bytes = option_map reason.Packet (find (has_packet_fault bytes) packet_faults)
+
+-- the port on the bus ignored the bytes for that
+abbrev pub Ignores : Bus → List ℕ → Done → Type 0
+Ignores on bytes what = option_map done.Ignored (fault_in on bytes) ≡ Some what
+
+-- what the controller did with the frame that an event delivers stands in what its port sent last, and so does why it ignored noise
 abbrev pub Did : Event → Lab → Lab → Type 0
 Did (event.ToBmc number) old new =
     (file : BoardFile) (x : LabModel plans) (f : LabFrame) → Shows file old x → slice_get x.frames number ≡ Some f → new.out.done ≡ done_on f.on (port_on plans f.on x) f.value
+Did (event.Noise on bytes) old new = (file : BoardFile) (x : LabModel plans) → Shows file old x → Ignores on bytes new.out.done
 Did _ old new = Unit {0}

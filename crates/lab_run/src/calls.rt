@@ -53,8 +53,9 @@ impl Lab {
     }
 
     /// The manager's frames are sent, if it sends some.
-    fn send(&mut self, sent: Option<Sent>) -> Result<(), AllocError>
+    pub(crate) fn send(&mut self, sent: Option<Sent>) -> Result<(), AllocError>
         ensures becomes { OnOk result ((file : AnyFile) (x : LabModel plans) (s : Option AllSent) → Shows file self.old x → IsSent sent s → Shows file self.new (sends plans s x)) }
+        ensures out { self.new.out ≡ self.old.out }
         ensures idles { self.new.idles ≡ self.old.idles }
     {
         let Some(sent) = sent else {

@@ -7,6 +7,7 @@ mod fault;
 mod frames;
 mod lab_state;
 mod names;
+mod noise;
 mod note;
 mod noted;
 mod others;

@@ -1,18 +1,19 @@
 //! What the controller's ports hear, and what they forget.
-ghost use Rattle.std.specs.Prelude.{◌≡◌, ◌<◌, ◌≤◌, List, Some, map, OnOk, suc, slice_get};
+ghost use Rattle.std.specs.Prelude.{◌≡◌, ◌<◌, ◌≤◌, List, Some, map, OnOk, suc, slice_get, false};
 ghost use Rattle.std.specs.List.{AllZip};
 ghost use Rattle.two_wire.specs.declared.Bus.{Bus as AnyBus};
 ghost use Rattle.two_wire.specs.declared.Bus.TheVariants.{Ipmb, Smbus};
 ghost use Rattle.ipmb_frame.specs.Grammar.{IsRequest};
 ghost use Rattle.cfg_records.specs.declared.board_file.BoardFile.{BoardFile as AnyFile};
 ghost use Rattle.model_lab.specs.Values.{Value, Asks, Part, IsFrameOn, parts_of};
-ghost use Rattle.model_lab.specs.PortSteps.{hears, hears_all, idles};
+ghost use Rattle.model_lab.specs.PortSteps.{hears, hears_all, idles, stays};
 ghost use Rattle.model_lab.specs.Lab.{LabFrame, Lab as LabModel, ToOthers, delivered, port_does, port_on, with_port, with_frames};
 ghost use Rattle.model_lab.specs.Meaning.{lab_names as the_names, other_wire, request_of, message_of};
+ghost use Rattle.model_lab.specs.Faults.{is_frame};
 ghost use Rattle.model_lab.specs.Played.{plans};
 ghost use Rattle.lab_run.specs.FramesShown.{way_of};
 ghost use Rattle.lab_run.specs.Shown.{Shows, Becomes, idles_in};
-ghost use Rattle.lab_run.specs.Hearing.{HasFrames, HasHeard, done_on};
+ghost use Rattle.lab_run.specs.Hearing.{HasFrames, HasHeard, done_on, Ignores};
 
 use crate::frames::Way;
 use crate::lab_state::Lab;
@@ -108,10 +109,12 @@ impl Lab {
         Ok(())
     }
 
-    /// Somebody else's frame comes to the port on its bus, and what the port sends goes to others.
-    fn hear_other(&mut self, on: Bus, bytes: &[u8]) -> Result<(), AllocError>
+    /// Somebody else's frame comes to the port on its bus, and what the port sends goes to others. Bytes that are no frame change nothing.
+    pub(crate) fn hear_other(&mut self, on: Bus, bytes: &[u8]) -> Result<(), AllocError>
         ensures becomes { OnOk result ((file : AnyFile) (x : LabModel plans) (v : Value) → Shows file self.old x → IsFrameOn on v bytes.now
             → Shows file self.new (port_does plans on ToOthers 0 (hears file (port_on plans on x) x.board v) x)) }
+        ensures noise { OnOk result ((file : AnyFile) (x : LabModel plans) → Shows file self.old x → is_frame on bytes.now ≡ false → Shows file self.new x) }
+        ensures ignored { OnOk result ((file : AnyFile) (x : LabModel plans) → Shows file self.old x → is_frame on bytes.now ≡ false → Ignores on bytes.now self.new.out.done) }
         ensures idles { self.new.idles ≡ self.old.idles }
     {
         self.hear(on, bytes);
@@ -123,12 +126,15 @@ impl Lab {
         self.send_out(Way::ToOthers, mark)
     }
 
-    /// A frame comes to the port on its bus, which fills in what it sends.
+    /// A frame comes to the port on its bus, which fills in what it sends. Of other bytes it says what is wrong with them.
     fn hear(&mut self, on: Bus, bytes: &[u8])
         ensures heard { (file : AnyFile) (x : LabModel plans) (v : Value) → Shows file self.old x → IsFrameOn on v bytes.now
             → HasHeard file on x (hears file (port_on plans on x) x.board v) self.new }
         ensures done { (file : AnyFile) (x : LabModel plans) (v : Value) → Shows file self.old x → IsFrameOn on v bytes.now
             → self.new.out.done ≡ done_on on (port_on plans on x) v }
+        ensures noise { (file : AnyFile) (x : LabModel plans) → Shows file self.old x → is_frame on bytes.now ≡ false
+            → HasHeard file on x (stays (port_on plans on x) x.board) self.new }
+        ensures ignored { (file : AnyFile) (x : LabModel plans) → Shows file self.old x → is_frame on bytes.now ≡ false → Ignores on bytes.now self.new.out.done }
         ensures idles { self.new.idles ≡ self.old.idles }
     {
         match on {

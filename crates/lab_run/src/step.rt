@@ -1,5 +1,5 @@
 //! Events.
-ghost use Rattle.std.specs.Prelude.{◌≡◌, ◌<◌, ◌≤◌, suc, option_map, OnOk};
+ghost use Rattle.std.specs.Prelude.{◌≡◌, ◌<◌, ◌≤◌, suc, None, option_map, OnOk};
 ghost use Rattle.two_wire.specs.declared.Bus.{Bus as AnyBus};
 ghost use Rattle.cfg_records.specs.declared.board_file.BoardFile.{BoardFile as AnyFile};
 ghost use Rattle.model_lab.specs.Lab.{Lab as LabModel};
@@ -62,7 +62,8 @@ impl Lab {
 
     /// An event without a fault happens.
     fn happen(&mut self, event: &Event) -> Result<(), AllocError>
-        requires { (on : AnyBus) → idles_in on self.now.idles < 9223372036854775807 }
+        requires taken { (file : AnyFile) (x : LabModel plans) → Shows file self.now x → fault_at (own_bench file) file x event.now ≡ None }
+        requires few { (on : AnyBus) → idles_in on self.now.idles < 9223372036854775807 }
         ensures becomes { OnOk result (Becomes self.old self.new (λ file. happens (own_bench file) file event.now)) }
         ensures done { OnOk result (Did event.now self.old self.new) }
         ensures few { (on : AnyBus) → idles_in on self.new.idles ≤ suc (idles_in on self.old.idles) }
@@ -73,7 +74,7 @@ impl Lab {
             Event::ToMgr(number) => return self.to_manager(*number),
             Event::OtherIpmb(request) => return self.other_request(request),
             Event::OtherSmbus(message) => return self.other_message(message),
-            Event::Noise(..) => {}
+            Event::Noise(on, bytes) => return self.noise(*on, bytes.as_slice()),
             Event::Idle(on, requester) => self.idle(*on, *requester),
             Event::Scan { sensor, reading } => self.bench(Bench::Reading {
                 sensor: *sensor,

@@ -53,7 +53,7 @@ abbrev value_of : Msg → Value
 value_of (msg.Request r) = Asks r
 value_of (msg.Response r) = Tells r
 
-one_value : (on : Bus) (v w : Value) (bytes : List ℕ) → IsFrameOn on v bytes → IsFrameOn on w bytes → v ≡ w
+pub one_value : (on : Bus) (v w : Value) (bytes : List ℕ) → IsFrameOn on v bytes → IsFrameOn on w bytes → v ≡ w
 one_value Ipmb (Asks r) (Asks s) bytes f g = ap value_of (message-one (msg.Request r) (msg.Request s) bytes f g)
 one_value Ipmb (Asks r) (Tells s) bytes f g = ap value_of (message-one (msg.Request r) (msg.Response s) bytes f g)
 one_value Ipmb (Tells r) (Asks s) bytes f g = ap value_of (message-one (msg.Response r) (msg.Request s) bytes f g)

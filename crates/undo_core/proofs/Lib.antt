@@ -4,3 +4,4 @@ pub mod Calling
 pub mod Replies
 pub mod Heard
 pub mod Exchange
+pub mod Course

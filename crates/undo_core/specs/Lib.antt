@@ -4,3 +4,4 @@ pub mod Phases
 pub mod PhaseNames
 pub mod Shown
 pub mod Exchange
+pub mod Course

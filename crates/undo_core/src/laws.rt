@@ -1,4 +1,8 @@
-//! Laws of the frames between a manager and a controller's port, as lists of bytes.
+//! Laws of the frames between a manager and a controller's port, as lists of bytes; and of a manager over lists of calls.
+ghost use Rattle.undo_plans.specs.declared.names.Names.{Names};
+ghost use Rattle.model_undo.specs.Unsettled.{UnsettledByQuiet};
+ghost use Rattle.undo_core.specs.Shown.{words_of};
+ghost use Rattle.undo_core.specs.Course.{GoesOnOverFrames};
 ghost use Rattle.undo_core.specs.Exchange.{RequestsAreHeard, RepliesAreTaken};
 
 /// The controller's port reads the frames of a manager's request as that request, and as nothing else: it carries that request out, repeats
@@ -11,4 +15,16 @@ pub fn requests_are_heard()
 /// is busy.
 pub fn replies_are_taken()
     ensures { RepliesAreTaken }
+{}
+
+/// Over all calls and all bytes that come: a manager that goes on from the list of another, with the same names and retries, goes through the
+/// same phases from `undo` on, and sends the same frames. The list is one that was taken once the plan ended or halted.
+pub fn resumed_sends_the_same_frames()
+    ensures { (names : Names) → GoesOnOverFrames names }
+{}
+
+/// A request comes to be unsettled only by a call of `quiet`, after its frames were sent again as often as is allowed since it was opened or
+/// since `again`.
+pub fn unsettled_only_by_quiet()
+    ensures { (names : Names) → UnsettledByQuiet (words_of names) }
 {}

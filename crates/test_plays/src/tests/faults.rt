@@ -81,6 +81,41 @@ story noise changes nothing
 board sample
 schedule: noise ipmb 2018C82C0001D4 / noise smbus FF
 lines -> 0 out: phase Fresh / frames 0 / undo 0 / records same
+
+# Two packets of a Set wait at the controller, and then two of the reply to a Get at the manager. Bytes come that are too short, too long, damaged in
+# either checksum or odd in an address, on IPMB; on SMBus too short, no MCTP, of a wrong count, damaged or of another version. Among them are a start under the
+# name of the packets that wait, and the next of them.
+story a noise of every sort leaves the packets that wait at either end
+board sample
+plan
+  [[step]] / kind = \"bios-attribute\" / handle = 1 / text = \"{200*x}\"
+  [[step]] / kind = \"bios-attribute\" / handle = 1 / text = \"b\"
+schedule
+  start / to-bmc 0 / to-mgr 1 / to-bmc 2 / to-bmc 3
+  noise ipmb 2010D02C0029 / noise ipmb {33*00} / noise ipmb 2010D12C002905A6 / noise ipmb 2010D02C002905A7 / noise ipmb 2110CF2C002905A6
+  noise smbus 200F0B31010A08C9 / noise smbus 200E0B31010A08C901810232040007 / noise smbus 200F0C31010A08C901810232040007
+  noise smbus 200F0B31010A08C901810232040008 / noise smbus 200F0B31020A08C9018102320400BF / noise smbus 200F4531010A0829{64*78}6E
+  to-bmc 4 / to-bmc 5 / to-mgr 6 / to-bmc 7 / to-mgr 8 / to-mgr 9
+  noise ipmb 2C14C0200029 / noise ipmb {80*2C} / noise ipmb 2C14C120002900C000020000F5 / noise ipmb 2C14C020002900C000020000F6
+  noise ipmb 2D14BF20002900C000020000F5
+  noise smbus 300F0A2101080AC2 / noise smbus 310F0A2101080AC201020308005F / noise smbus 300F0B2101080AC201020308005F
+  noise smbus 300F0A2101080AC2010203080060 / noise smbus 300F0A2102080AC20102030800D4 / noise smbus 300F452101080A22{64*78}CA
+  to-mgr 10 / to-mgr 11 / to-bmc 12 / to-mgr 13
+lines -> 0 out
+  phase Done
+  frames 14
+  undo 2
+  smbus 03070000000005010001C800{200*78}
+  smbus 0307000000000501000106007261636B2D31
+  records changed 1
+then: undo / to-bmc 14 / to-bmc 15 / to-bmc 16 / to-bmc 17 / to-mgr 18 / to-bmc 19 / to-mgr 20
+lines -> 0 out
+  phase Undone
+  frames 21
+  undo 2
+  smbus 03070000000005010001C800{200*78}
+  smbus 0307000000000501000106007261636B2D31
+  records same
 ";
 
 /// Texts that are refused.

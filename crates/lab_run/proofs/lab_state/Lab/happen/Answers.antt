@@ -1,12 +1,14 @@
-use Rattle.std.proofs.Common.{sym, subst}
+use Rattle.std.proofs.Common.{ℕ, List, sym, ◌∙◌, ap, subst}
 use Rattle.std.specs.Prelude.{OnOk}
 use Rattle.model_lab.specs.Lab.{step}
 use Rattle.text_schedule.specs.declared.event.Event.{Event}
-use Rattle.model_lab.specs.Played.{happens}
+use Rattle.model_lab.specs.Faults.{is_frame}
+use Rattle.model_lab.specs.Played.{fault_at, happens}
 use Rattle.lab_run.specs.declared.lab_state.Lab.{Lab}
 use Rattle.lab_run.specs.Shown.{Becomes, own_bench}
-use Rattle.lab_run.specs.Hearing.{Did}
-use Rattle.lab_run.proofs.Sent.{on_any}
+use Rattle.lab_run.specs.Hearing.{Ignores, Did}
+use Rattle.lab_run.proofs.Sent.{on_ok, on_any}
+use Rattle.lab_run.proofs.Silence.{is_no_frame}
 use Rattle.lab_run.proofs.lab_state.Lab.happen.Goals as goal
 
 -- the lab becomes what it is after an event
@@ -38,7 +40,11 @@ returns-in-OtherSmbus-clause-becomes c =
 
 pub returns-in-Noise-clause-becomes : goal.returns-in-Noise-clause-becomes
 unfolding step
-returns-in-Noise-clause-becomes c = subst (After c.args.self.now c.args.self.now) (sym c.in-Noise.is) (λ file x shows. shows)
+returns-in-Noise-clause-becomes c =
+    let is = c.as_slice.ensures.value in
+    subst (λ (e : Event). OnOk c.noise.result (After c.args.self.now c.noise.new.self e)) (sym c.in-Noise.is)
+    (on_ok c.noise.result c.noise.ensures.stays (λ stays file x shows. stays file x shows
+    (ap (is_frame c.in-Noise.on) is ∙ is_no_frame c.in-Noise.on c.in-Noise.bytes x (ap (fault_at (own_bench file) file x) (sym c.in-Noise.is) ∙ c.requires.taken file x shows))))
 
 pub returns-in-Idle-clause-becomes : goal.returns-in-Idle-clause-becomes
 unfolding step
@@ -70,7 +76,11 @@ pub returns-in-OtherSmbus-clause-done : goal.returns-in-OtherSmbus-clause-done
 returns-in-OtherSmbus-clause-done c = subst (λ (e : Event). OnOk c.other_message.result (Did e c.args.self.now c.other_message.new.self)) (sym c.in-OtherSmbus.is) (on_any c.other_message.result tt)
 
 pub returns-in-Noise-clause-done : goal.returns-in-Noise-clause-done
-returns-in-Noise-clause-done c = subst (λ (e : Event). Did e c.args.self.now c.args.self.now) (sym c.in-Noise.is) tt
+returns-in-Noise-clause-done c =
+    let is = c.as_slice.ensures.value in
+    subst (λ (e : Event). OnOk c.noise.result (Did e c.args.self.now c.noise.new.self)) (sym c.in-Noise.is)
+    (on_ok c.noise.result c.noise.ensures.ignored (λ ignored file x shows. subst (λ (bytes : List ℕ). Ignores c.in-Noise.on bytes c.noise.new.self.out.done) is (ignored file x shows
+    (ap (is_frame c.in-Noise.on) is ∙ is_no_frame c.in-Noise.on c.in-Noise.bytes x (ap (fault_at (own_bench file) file x) (sym c.in-Noise.is) ∙ c.requires.taken file x shows)))))
 
 pub returns-in-Idle-clause-done : goal.returns-in-Idle-clause-done
 returns-in-Idle-clause-done c = subst (λ (e : Event). Did e c.args.self.now c.idle.new.self) (sym c.in-Idle.is) tt
