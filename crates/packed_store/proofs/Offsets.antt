@@ -10,11 +10,6 @@ pub neither : (p q : Option ℕ) → option_or p q ≡ None → (p ≡ None) × 
 neither (Some x) q none = cc
 neither None q none = (refl, none)
 
--- one more among the first
-pub more_first : (b : Bool) (p q : Option ℕ) (at : ℕ) → option_or (if b then Some at else p) q ≡ (if b then Some at else option_or p q)
-more_first true p q at = refl
-more_first false p q at = refl
-
 more_last_where : (b : Bool) (p q : Option ℕ) (at : ℕ) → (b ≡ true → p ≡ None) → option_or p (if b then Some at else q) ≡ (if b then Some at else option_or p q)
 more_last_where true p q at none = ap (λ (o : Option ℕ). option_or o (Some at)) (none refl)
 more_last_where false p q at none = refl
