@@ -1,5 +1,5 @@
 -- What a play tells, of the lab after its events.
-use Rattle.std.proofs.Common.{◌≡◌, ℕ, List, Result, Ok, Err, refl, sym, ap, subst}
+use Rattle.std.proofs.Common.{◌≡◌, ◌≤◌, ℕ, List, length, Result, Ok, Err, refl, sym, ap, subst}
 use Rattle.cfg_records.specs.declared.board_file.BoardFile.{BoardFile}
 use Rattle.record_base.specs.declared.op.Op.{Op}
 use Rattle.cfg_records.specs.Boards.{pairs_of}
@@ -11,6 +11,7 @@ use Rattle.model_lab.specs.Meaning.{lab_names}
 use Rattle.model_lab.specs.Played.{plans, Told, Whole, Stops, told_of, after, IsPlayed}
 use Rattle.lab_run.specs.FramesShown.{fault_of}
 use Rattle.model_headline.proofs.Plays.{plays_stand}
+use Rattle.model_headline.proofs.CleanPlays.{ends_clean}
 use Rattle.lab_run.specs.declared.lab_state.Lab.{Lab}
 use Rattle.lab_play.specs.declared.played.Played.{Played}
 use Rattle.lab_play.specs.declared.played.LabFault.TheVariants as fault
@@ -44,8 +45,8 @@ module _ (file : BoardFile) (steps : List Op) (retries : ℕ) where
 
   -- all events were taken
   ends_whole : (events : List Event) (played : Played) (old : Lab) → played.start.items ≡ pairs_of file → KeysDiffer (pairs_of file)
-      → Shows file old first → Take events old played.lab → Ends file steps retries events (Ok played)
-  ends_whole events played old start once shows takes =
+      → Shows file old first → length steps ≤ 256 → Take events old played.lab → Ends file steps retries events (Ok played)
+  ends_whole events played old start once shows few takes =
       let at = takes file first shows in
       let is : IsPlayed (own_bench file) file steps retries events (Whole (told_after events)) = (at.0, refl) in
       record {
@@ -53,12 +54,13 @@ module _ (file : BoardFile) (steps : List Op) (retries : ℕ) where
         is = tells events played start once at.1;
         played = is;
         stands = (plays_stand (own_bench file) file steps retries events (Whole (told_after events)) is).0;
+        clean = ends_clean (own_bench file) file steps retries few events (Whole (told_after events)) is;
       }
 
   -- the event of a place has a fault
   ends_at : (events : List Event) (played : Played) (old : Lab) (why : Fault) (place : ℕ) → played.start.items ≡ pairs_of file → KeysDiffer (pairs_of file)
-      → Shows file old first → Halts events old played.lab (record { place = place; why = refused.Fault why }) → Ends file steps retries events (Err (fault.Event why place played))
-  ends_at events played old why place start once shows halts =
+      → Shows file old first → length steps ≤ 256 → Halts events old played.lab (record { place = place; why = refused.Fault why }) → Ends file steps retries events (Err (fault.Event why place played))
+  ends_at events played old why place start once shows few halts =
       let at = halts.left file first shows in
       let told = told_after halts.before in
       let is : IsPlayed (own_bench file) file steps retries events (Stops (fault_of why) place told) =
@@ -68,17 +70,18 @@ module _ (file : BoardFile) (steps : List Op) (retries : ℕ) where
         is = (refl, refl, tells halts.before played start once at.1);
         played = is;
         stands = (plays_stand (own_bench file) file steps retries events (Stops (fault_of why) place told) is).0;
+        clean = ends_clean (own_bench file) file steps retries few events (Stops (fault_of why) place told) is;
       }
 
   -- ---- what is given of a play, as its events ended
 
   plays_at : (events : List Event) (played : Played) (old : Lab) (place : ℕ) (why : Refused) → played.start.items ≡ pairs_of file → KeysDiffer (pairs_of file)
-      → Shows file old first → Halts events old played.lab (record { place = place; why = why }) → Plays file steps retries events (given_at played place why)
-  plays_at events played old place (refused.Fault why) start once shows halts = ends_at events played old why place start once shows halts
-  plays_at events played old place refused.Memory start once shows halts = tt
+      → Shows file old first → length steps ≤ 256 → Halts events old played.lab (record { place = place; why = why }) → Plays file steps retries events (given_at played place why)
+  plays_at events played old place (refused.Fault why) start once shows few halts = ends_at events played old why place start once shows few halts
+  plays_at events played old place refused.Memory start once shows few halts = tt
 
   pub plays_given : (events : List Event) (played : Played) (new : Lab) (ended : Result (Unit {0}) Halt) → Begins file steps retries played → Runs events played.lab ended new
       → Plays file steps retries events (given (record played { lab = new }) ended)
-  plays_given events played new (Ok done) begins takes = ends_whole events (record played { lab = new }) played.lab begins.start begins.once begins.shows takes
+  plays_given events played new (Ok done) begins takes = ends_whole events (record played { lab = new }) played.lab begins.start begins.once begins.shows begins.few takes
   plays_given events played new (Err halt) begins halts =
-      plays_at events (record played { lab = new }) played.lab halt.place halt.why begins.start begins.once begins.shows halts
+      plays_at events (record played { lab = new }) played.lab halt.place halt.why begins.start begins.once begins.shows begins.few halts

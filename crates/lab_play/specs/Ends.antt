@@ -1,16 +1,18 @@
 -- What a play gives.
-use Rattle.std.specs.Prelude.{◌≡◌, ℕ, Bool, false, not, List, length, filter, Option, Some, None, Result, Ok, Err}
+use Rattle.std.specs.Prelude.{◌≡◌, ◌≤◌, ℕ, Bool, false, not, List, length, filter, Option, Some, None, Result, Ok, Err}
 use Rattle.std.specs.Str.{bytes_eq}
 use Rattle.cfg_records.specs.declared.board_file.BoardFile.{BoardFile}
 use Rattle.record_base.specs.declared.op.Op.{Op}
 use Rattle.cfg_records.specs.Records.{Records, Pair, KeysDiffer, records_of}
 use Rattle.cfg_records.specs.Boards.{pairs_of}
+use Rattle.undo_plans.specs.Steps.{most_steps}
 use Rattle.model_lab.specs.Lab.{Lab as LabModel, opening}
 use Rattle.text_schedule.specs.declared.event.Event.{Event}
 use Rattle.model_lab.specs.Meaning.{lab_names}
 use Rattle.model_lab.specs.Played.{plans, Told, Ending, Whole, Stops, told_of, IsPlayed}
 use Rattle.lab_run.specs.FramesShown.{fault_of}
 use Rattle.model_headline.specs.Plays.{StandsIfKept}
+use Rattle.model_headline.specs.CleanPlays.{EndsClean}
 use Rattle.lab_run.specs.Shown.{Shows, own_bench}
 use Rattle.lab_play.specs.declared.run.Halt.{Halt}
 use Rattle.lab_run.specs.declared.step.Refused.{Refused}
@@ -29,11 +31,12 @@ pub record Tells (played : Played) (told : Told) : Type 0 where
   pub start : first.board.records ≡ records_of played.start.items
   pub is : told ≡ told_of (own_bench file) file first now
 
--- a play of the plan that begins: its lab shows the one that the model begins with, and its records are the board's
+-- a play of the plan that begins: its lab shows the one that the model begins with, its records are the board's, and its steps are few
 pub record Begins (file : BoardFile) (steps : List Op) (retries : ℕ) (played : Played) : Type 0 where
   pub start : played.start.items ≡ pairs_of file
   pub once : KeysDiffer (pairs_of file)
   pub shows : Shows file played.lab (opening plans file lab_names steps retries)
+  pub few : length steps ≤ most_steps
 
 -- what was given is this ending
 abbrev pub IsEnding : Result Played LabFault → Ending → Type 0
@@ -47,6 +50,7 @@ pub record Ends (file : BoardFile) (steps : List Op) (retries : ℕ) (events : L
   pub is : IsEnding given ending
   pub played : IsPlayed (own_bench file) file steps retries events ending
   pub stands : StandsIfKept (own_bench file) file steps retries events ending
+  pub clean : EndsClean (own_bench file) file steps retries events ending
 
 -- what a record has is this value
 abbrev pub is_value : List ℕ → Option (List ℕ) → Bool

@@ -103,6 +103,7 @@ impl Played {
         ensures begins { IfOk result (λ played. Begins file plan.steps plan.retries played) }
         ensures never { IfOk result (λ played. (on : AnyBus) → idles_in on played.lab.idles ≡ 0) }
     {
+        let _steps = plan.steps.as_slice();
         let start = file.records(alloc)?;
         let lab = Lab::open(alloc, file, plan)?;
         Ok(Played { start, lab })
