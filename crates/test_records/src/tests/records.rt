@@ -7,6 +7,7 @@ use cfg_records::{
     Key, Live, NoKey, PlainStore, Sensor, Sensors, Store, StoreFault, ThresholdMasks, Thresholds,
     Value, sample_board,
 };
+use packed_store::PackedStore;
 use std::alloc::{AllocError, Global};
 use std::process::Abort;
 use std::test::Fail;
@@ -101,6 +102,39 @@ fn a_store_refuses_a_key_twice_before_a_bad_value(rt: HostRuntime) {
             Err(StoreFault::TwiceTheSameKey)
         )
     );
+    assert!(rt;
+        matches!(
+            PackedStore::new(rt.alloc(), bad.as_slice()),
+            Err(StoreFault::BadValue)
+        )
+    );
+    assert!(rt;
+        matches!(
+            PackedStore::new(rt.alloc(), twice.as_slice()),
+            Err(StoreFault::TwiceTheSameKey)
+        )
+    );
+}
+
+#[test]
+fn a_packed_store_has_its_pairs(rt: HostRuntime) -> Result<(), Fail> {
+    let (delay, policy) = (Key::BiosAttribute(2), Key::PowerPolicy);
+    let first = (delay, Value::from_slice(&[3, 1, 4, 1, 5, 9, 2, 6]));
+    let pairs = vec![in rt.alloc(); first, (policy, Value::from_slice(&[2]))]?;
+    let Ok(mut store) = PackedStore::new(rt.alloc(), pairs.as_slice()) else {
+        assert!(rt; false, "two keys, with a value each");
+        return Ok(());
+    };
+    assert_eq!(rt;
+        store.get(&delay).expect(&rt, "a value"),
+        [3, 1, 4, 1, 5, 9, 2, 6].as_slice()
+    );
+    assert_eq!(rt; store.put(&policy, &[1]), Ok(()));
+    assert_eq!(rt; store.get(&policy).expect(&rt, "a value"), [1].as_slice());
+    assert_eq!(rt; store.put(&delay, &[2, 7]), Ok(()));
+    assert_eq!(rt; store.get(&delay).expect(&rt, "a value"), [2, 7].as_slice());
+    assert_eq!(rt; store.put(&Key::Watchdog, &[0; 5]), Err(NoKey));
+    Ok(())
 }
 
 /// No event.
