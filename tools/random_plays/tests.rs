@@ -3,6 +3,8 @@ mod asked;
 mod course;
 mod dice;
 mod others;
+mod premise;
+mod settings;
 mod steps;
 mod story;
 mod tally;
@@ -19,7 +21,7 @@ use tally::Tally;
 const WHOLE: u64 = 250;
 
 /// What is counted, how often it was shown, and how often a whole portion shows it at least.
-fn counts(tally: &Tally) -> [(&'static str, u64, u64); 24] {
+fn counts(tally: &Tally) -> [(&'static str, u64, u64); 26] {
     [
         ("schedules", tally.schedules, WHOLE),
         ("events", tally.events, 6000),
@@ -45,6 +47,8 @@ fn counts(tally: &Tally) -> [(&'static str, u64, u64); 24] {
         ("GetRefused", tally.gets_refused, 5),
         ("Refused", tally.sets_refused, 4),
         ("NotRestorable", tally.not_restorable, 4),
+        ("packets of the manager that joined others", tally.joined, 200),
+        ("schedules that broke the premise on packets", tally.broken, 1),
     ]
 }
 

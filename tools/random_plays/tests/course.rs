@@ -159,11 +159,20 @@ fn of_numeric(set: &SetNumericEffecter) -> Result<Value, Why> {
     Ok(value)
 }
 
+/// What comes of the delay: it goes by tens up to 300.
+fn of_delay(number: u16) -> Result<Value, Why> {
+    if number > 300 || number % 10 != 0 {
+        return Err(Why::Refused(code::PLDM_INVALID_DATA));
+    }
+    Ok(Value::from_slice(&u64::from(number).to_le_bytes()))
+}
+
 /// What comes of a step where its record has this value, or isn't there: a new value, or why the plan halts.
 fn outcome(step: &Step, old: Option<&[u8]>) -> Result<Value, Why> {
     let Some(old) = old else {
         return Err(Why::GetRefused(match step {
             Step::Numeric(_) => code::PLDM_INVALID_EFFECTER,
+            Step::Setting(setting) => setting.absent(),
             _ => code::NOT_PRESENT,
         }));
     };
@@ -172,6 +181,9 @@ fn outcome(step: &Step, old: Option<&[u8]>) -> Result<Value, Why> {
         Step::Hysteresis(set) => Ok(Value::from_slice(&[set.positive, set.negative])),
         Step::Events(set) => of_events(set, old),
         Step::Numeric(set) => of_numeric(set),
+        Step::Setting(setting) => setting.outcome(old),
+        Step::Text(text) => Ok(text.value()),
+        Step::Delay(number) => of_delay(*number),
     }
 }
 

@@ -1,16 +1,49 @@
 //! Random plans, and the boards on which they run.
 use super::dice::Dice;
+use super::settings::{STATES, Setting, any_setting};
 use cfg_records::{
     BoardFile, Distinct, EventChange, EventMasks, Key, NumericBytes, NumericEffecter, NumericRange,
-    NumericSize, Op, SetEventEnable, SetHysteresis, SetNumericEffecter, SetThresholds,
-    sample_board,
+    NumericSize, Op, SetBiosAttribute, SetEventEnable, SetHysteresis, SetNumericEffecter,
+    Items, SetThresholds, StateEffecter, StateField, Value, sample_board,
 };
 use std::alloc::Global;
 use std::test::Fail;
 
+/// The handle of the sample board's text, and that of its number.
+pub(super) const ASSET: u16 = 1;
+pub(super) const DELAY: u16 = 2;
+
+/// The types of a string and of an integer (DSP0247).
+const STRING_TYPE: u8 = 0x01;
+const INTEGER_TYPE: u8 = 0x03;
+
+/// The greatest length of the text.
+const MOST_TEXT: u64 = 200;
+
+/// A text of one letter, so often.
+#[derive(Clone, Copy, Debug)]
+pub(super) struct Repeated {
+    pub letter: u8,
+    pub length: u8,
+}
+
+impl Repeated {
+    /// The value of the attribute that has this text: its length in two bytes, and the text.
+    pub fn value(&self) -> Value {
+        let mut value = Value::from_slice(&u16::from(self.length).to_le_bytes());
+        for _ in 0..self.length {
+            value.extend_from_slice(&[self.letter]);
+        }
+        value
+    }
+}
+
 /// A step of a plan.
 #[derive(Clone, Copy, Debug)]
 pub(super) enum Step {
+    Text(Repeated),
+    Delay(u16),
+    Setting(Setting),
     Thresholds(SetThresholds),
     Hysteresis(SetHysteresis),
     Events(SetEventEnable),
@@ -25,6 +58,17 @@ impl Step {
             Step::Hysteresis(set) => Op::Hysteresis(*set),
             Step::Events(set) => Op::EventEnable(*set),
             Step::Numeric(set) => Op::NumericEffecter(*set),
+            Step::Setting(setting) => setting.op(),
+            Step::Text(text) => Op::BiosAttribute(SetBiosAttribute::of(
+                ASSET,
+                STRING_TYPE,
+                text.value().as_slice(),
+            )),
+            Step::Delay(number) => Op::BiosAttribute(SetBiosAttribute::of(
+                DELAY,
+                INTEGER_TYPE,
+                &u64::from(*number).to_le_bytes(),
+            )),
         }
     }
 
@@ -35,11 +79,27 @@ impl Step {
             Step::Hysteresis(set) => Key::Hysteresis(set.sensor),
             Step::Events(set) => Key::EventEnable(set.sensor),
             Step::Numeric(set) => Key::NumericEffecter(set.effecter),
+            Step::Setting(setting) => setting.key(),
+            Step::Text(_) => Key::BiosAttribute(ASSET),
+            Step::Delay(_) => Key::BiosAttribute(DELAY),
         }
     }
 }
 
-/// The sample board, with four numeric effecters: 4 of u16 from 0 to 1000, 5 of s8 from -2 to 1, 6 of u32, which is disabled, and 261
+/// A state effecter of two fields, both in state 1.
+fn states(alloc: Global) -> Result<StateEffecter, Fail> {
+    let mut fields = Vec::new(alloc);
+    for most in [2, 3] {
+        let mut allowed = Vec::new(alloc);
+        for state in 0..most {
+            allowed.push(state + 1)?;
+        }
+        fields.push(StateField::new(Items::new(allowed), 1).ok_or("a field")?)?;
+    }
+    Ok(StateEffecter::new(STATES, true, fields).ok_or("states")?)
+}
+
+/// The sample board, with a state effecter, 9 of two fields, and four numeric effecters: 4 of u16 from 0 to 1000, 5 of s8 from -2 to 1, 6 of u32, which is disabled, and 261
 /// of s32 from -70,000 to -1.
 pub(super) fn board_with_effecters(alloc: Global) -> Result<BoardFile, Fail> {
     let mut effecters = Vec::new(alloc);
@@ -60,7 +120,10 @@ pub(super) fn board_with_effecters(alloc: Global) -> Result<BoardFile, Fail> {
         let effecter = NumericEffecter::new(id, enabled, range, current).ok_or("effecter")?;
         effecters.push(effecter)?;
     }
+    let mut state_effecters = Vec::new(alloc);
+    state_effecters.push(states(alloc)?)?;
     Ok(BoardFile {
+        state_effecters: Distinct::new(state_effecters).ok_or("state effecters")?,
         numeric_effecters: Distinct::new(effecters).ok_or("effecters")?,
         ..sample_board(alloc)?
     })
@@ -70,7 +133,7 @@ pub(super) fn board_with_effecters(alloc: Global) -> Result<BoardFile, Fail> {
 fn any_sensor(dice: &mut Dice) -> u8 {
     match dice.below(100) {
         0..=52 => 5,
-        53..=97 => 7,
+        53..=95 => 7,
         _ => 9,
     }
 }
@@ -189,12 +252,36 @@ fn any_numeric(dice: &mut Dice) -> Step {
     })
 }
 
+/// A text whose Set is of so many packets at least, where that is 1 to 4: 11 bytes of the message stand before the text.
+pub(super) fn text_of_packets(dice: &mut Dice, packets: u64) -> Step {
+    let least = (64 * packets.saturating_sub(1)).saturating_sub(10);
+    let length = least + dice.below(1 + MOST_TEXT.saturating_sub(least));
+    Step::Text(Repeated {
+        letter: 0x61 + dice.byte() % 26,
+        length: length.min(MOST_TEXT) as u8,
+    })
+}
+
+/// A number of the delay, which goes by tens up to 300: mostly such a one.
+fn any_delay(dice: &mut Dice) -> Step {
+    if dice.happens(8) {
+        return Step::Delay(dice.word() % 400);
+    }
+    Step::Delay(10 * (dice.word() % 31))
+}
+
 /// Any step.
 pub(super) fn any_step(dice: &mut Dice) -> Step {
-    match dice.below(7) {
+    match dice.below(15) {
         0 | 1 => any_thresholds(dice),
         2 => any_hysteresis(dice),
         3 | 4 => any_events(dice),
-        _ => any_numeric(dice),
+        5 | 6 => any_numeric(dice),
+        7 => any_delay(dice),
+        8..=12 => Step::Setting(any_setting(dice)),
+        _ => {
+            let packets = 1 + dice.below(4);
+            text_of_packets(dice, packets)
+        }
     }
 }

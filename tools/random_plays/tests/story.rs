@@ -2,7 +2,8 @@
 use super::course::{Course, are_after, changed_by, course_of};
 use super::dice::Dice;
 use super::others::{idle, noise_of, other_message, other_request, scan};
-use super::steps::{Step, any_step, board_with_effecters};
+use super::premise::{Waiting, is_first_of_several};
+use super::steps::{Step, any_step, board_with_effecters, text_of_packets};
 use super::tally::{Tally, may_be_offered, one_more};
 use super::told::{push_events_of, push_step};
 use bmc_board::Records;
@@ -30,16 +31,40 @@ struct Scene {
     retries: Retries,
     has_effecters: bool,
     is_crowded: bool,
+    /// Its steps are long texts, and first packets are late.
+    is_late: bool,
 }
 
-/// Any scene.
-fn any_scene(alloc: Global, dice: &mut Dice) -> Result<Scene, Fail> {
+/// Steps of long texts.
+fn long_texts(alloc: Global, dice: &mut Dice) -> Result<Vec<Step>, Fail> {
+    let mut steps = Vec::new(alloc);
+    for _ in 0..5 {
+        let packets = 2 + dice.below(3);
+        steps.push(text_of_packets(dice, packets))?;
+    }
+    Ok(steps)
+}
+
+/// Any steps.
+fn any_steps(alloc: Global, dice: &mut Dice) -> Result<Vec<Step>, Fail> {
     let mut steps = Vec::new(alloc);
     for _ in 0..dice.below(6) {
         steps.push(any_step(dice))?;
     }
+    Ok(steps)
+}
+
+/// Any scene.
+fn any_scene(alloc: Global, dice: &mut Dice) -> Result<Scene, Fail> {
+    let is_late = dice.happens(20);
+    let steps = if is_late {
+        long_texts(alloc, dice)?
+    } else {
+        any_steps(alloc, dice)?
+    };
     Ok(Scene {
         steps,
+        is_late,
         retries: Retries::new(dice.byte() % 4),
         has_effecters: dice.happens(90),
         is_crowded: dice.happens(20),
@@ -100,6 +125,43 @@ fn newest(frames: &[SentFrame]) -> usize {
     found
 }
 
+/// Whether two frames are of one message, or of two copies of it: of one request, and one way.
+fn are_of_one(frame: &SentFrame, other: &SentFrame) -> bool {
+    frame.way.is(other.way) && frame.mark == other.mark
+}
+
+/// The number of the first frame of the newest message that didn't come yet, or of the newest frame where all came. A late first packet doesn't
+/// come in its turn.
+fn due(frames: &[SentFrame], events: &[Event], skips_first: bool) -> usize {
+    let last = newest(frames);
+    let Some(message) = frames.get(last) else {
+        return last;
+    };
+    for (number, frame) in frames.iter().enumerate() {
+        let is_late = skips_first && is_first_of_several(frame);
+        if are_of_one(frame, message) && !is_late && !is_delivered(events, number) {
+            return number;
+        }
+    }
+    last
+}
+
+/// The first packet of the oldest message of several packets that may still come: it comes late.
+fn late_first(frames: &[SentFrame]) -> Event {
+    let mut newest_request = 0;
+    for frame in frames {
+        if is_first_of_several(frame) && frame.mark.request > newest_request {
+            newest_request = frame.mark.request;
+        }
+    }
+    for (number, frame) in frames.iter().enumerate() {
+        if is_first_of_several(frame) && frame.mark.request + 6 >= newest_request {
+            return delivery(frames, number);
+        }
+    }
+    Event::Tick
+}
+
 /// The frame that was sent so many frames before the last one comes to where it goes, once or again.
 fn late_copy(frames: &[SentFrame], before: u64) -> Event {
     let place = frames.len().wrapping_sub(1).wrapping_sub(before as usize);
@@ -107,12 +169,12 @@ fn late_copy(frames: &[SentFrame], before: u64) -> Event {
 }
 
 /// What brings the plan on in this phase.
-fn what_is_due(lab: &Lab) -> Event {
+fn what_is_due(lab: &Lab, events: &[Event], skips_first: bool) -> Event {
     match lab.phase() {
         Phase::Fresh => Event::Calls(Call::Start),
         Phase::Done | Phase::Halted(..) => Event::Calls(Call::Undo),
         Phase::Unsettled(_) => Event::Calls(Call::Again),
-        _ => delivery(lab.frames(), newest(lab.frames())),
+        _ => delivery(lab.frames(), due(lab.frames(), events, skips_first)),
     }
 }
 
@@ -137,11 +199,25 @@ fn noise(alloc: Global, dice: &mut Dice, frames: &[SentFrame]) -> Result<Event, 
 }
 
 /// What may happen next.
-fn any_event(alloc: Global, dice: &mut Dice, scene: &Scene, lab: &Lab) -> Result<Event, Fail> {
+fn any_event(
+    alloc: Global,
+    dice: &mut Dice,
+    scene: &Scene,
+    lab: &Lab,
+    events: &[Event],
+) -> Result<Event, Fail> {
     let is_crowded = scene.is_crowded;
     let frames = lab.frames();
+    if scene.is_late && dice.happens(70) {
+        let skips_first = dice.happens(25);
+        return Ok(if dice.happens(12) {
+            late_first(frames)
+        } else {
+            what_is_due(lab, events, skips_first)
+        });
+    }
     Ok(match dice.below(100) {
-        0..=49 => what_is_due(lab),
+        0..=49 => what_is_due(lab, events, false),
         50..=58 => late_copy(frames, dice.below(6)),
         59..=62 => late_copy(frames, dice.below(70)),
         63..=69 => Event::Calls(Call::Quiet),
@@ -265,6 +341,8 @@ struct Made {
     later: u64,
     /// How many events it took until the plan first was done or halted, and where it stood then.
     rest: Option<(usize, Phase)>,
+    /// What waits at the controller.
+    waiting: Waiting,
     /// What went wrong, if anything did.
     wrong: Option<&'static str>,
 }
@@ -278,6 +356,10 @@ impl Made {
         phase: &Phase,
         records: &Records,
     ) -> Option<&'static str> {
+        // Where a packet joined one that waited too long, nothing is promised.
+        if self.waiting.is_broken {
+            return None;
+        }
         let Some((least, most)) = steps_done(phase, scene.steps.len()) else {
             return Some("an undo was refused");
         };
@@ -294,8 +376,11 @@ impl Made {
     }
 
     /// The lab took the last event that was offered, in this phase.
-    fn take(&mut self, from: &Phase, tally: &mut Tally) {
+    fn take(&mut self, from: &Phase, before: usize, tally: &mut Tally) {
         let phase = self.lab.phase();
+        if let Some(event) = self.events.as_slice().last() {
+            self.waiting.take(event, &self.lab, before);
+        }
         count(tally, self.events.as_slice(), from, &self.lab);
         if let (None, Phase::Done | Phase::Halted(..)) = (&self.rest, &phase) {
             self.rest = Some((self.events.len(), phase));
@@ -306,7 +391,7 @@ impl Made {
     fn go_on(&mut self) {
         if let Phase::Undone = self.lab.phase() {
             self.later = self.later.wrapping_add(1);
-        } else if self.later != 0 {
+        } else if self.later != 0 && !self.waiting.is_broken {
             self.wrong = Some("the plan is no longer undone");
         }
     }
@@ -320,6 +405,7 @@ fn begun(alloc: Global, scene: &Scene) -> Result<Made, Fail> {
         lab: Lab::open(alloc, board_of(alloc, scene)?, plan_of(alloc, scene)?)?,
         later: 0,
         rest: None,
+        waiting: Waiting::NOTHING,
         wrong: None,
     })
 }
@@ -351,10 +437,11 @@ fn offer(
     tally: &mut Tally,
 ) -> Result<(), Fail> {
     let from = made.lab.phase();
+    let before = made.lab.frames().len();
     let taken = made.lab.step(&event);
     made.events.push(event)?;
     match taken {
-        Ok(()) => made.take(&from, tally),
+        Ok(()) => made.take(&from, before, tally),
         Err(_) => refuse(alloc, scene, made, tally)?,
     }
     made.go_on();
@@ -372,7 +459,7 @@ fn offer_events(
 ) -> Result<(), Fail> {
     for _ in 0..MOST_EVENTS {
         if made.later <= MOST_LATER && made.wrong.is_none() {
-            let event = any_event(alloc, dice, scene, &made.lab)?;
+            let event = any_event(alloc, dice, scene, &made.lab, made.events.as_slice())?;
             offer(alloc, scene, made, event, tally)?;
             if made.wrong.is_none() {
                 made.wrong = made.fallen(scene, course, &made.lab.phase(), made.lab.store());
@@ -395,6 +482,9 @@ fn told_otherwise(
     let phase = played.phase();
     if phase != made.lab.phase() || played.frames().len() != made.lab.frames().len() {
         return Ok(Some("a play ends otherwise"));
+    }
+    if made.waiting.is_broken {
+        return Ok(None);
     }
     if let (Phase::Undone | Phase::Fresh, 1..) = (&phase, played.changed()) {
         return Ok(Some("a record is not what it was"));
@@ -443,6 +533,10 @@ pub(super) fn expect_schedule(
     one_more(&mut tally.schedules);
     let lost = lost(whole.made.lab.frames(), whole.made.events.as_slice());
     tally.lost = tally.lost.wrapping_add(lost);
+    tally.joined = tally.joined.wrapping_add(whole.made.waiting.joined);
+    if whole.made.waiting.is_broken {
+        one_more(&mut tally.broken);
+    }
     Ok(())
 }
 

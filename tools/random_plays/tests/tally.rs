@@ -30,6 +30,8 @@ pub(super) struct Tally {
     pub gets_refused: u64,
     pub sets_refused: u64,
     pub not_restorable: u64,
+    pub joined: u64,
+    pub broken: u64,
 }
 
 /// Counts one more.
@@ -64,6 +66,8 @@ impl Tally {
         gets_refused: 0,
         sets_refused: 0,
         not_restorable: 0,
+        joined: 0,
+        broken: 0,
     };
 
     /// An event was taken.

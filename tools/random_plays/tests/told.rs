@@ -1,4 +1,5 @@
 //! Plans and schedules as texts, in the language of the stories of plays.
+use super::settings::push_setting;
 use super::steps::Step;
 use cfg_records::{
     EventChange, EventMasks, NumericBytes, SetEventEnable, SetNumericEffecter, SetThresholds,
@@ -104,6 +105,17 @@ pub(super) fn push_step(text: &mut String, step: &Step) -> Result<(), Fail> {
         )?,
         Step::Events(set) => push_events(text, set)?,
         Step::Numeric(set) => push_numeric(text, set)?,
+        Step::Setting(setting) => push_setting(text, setting)?,
+        Step::Text(it) => write!(
+            text,
+            "kind = \"bios-attribute\" / handle = 1 / text = \"{{{}*{}}}\"",
+            it.length,
+            char::from(it.letter)
+        )?,
+        Step::Delay(number) => write!(
+            text,
+            "kind = \"bios-attribute\" / handle = 2 / number = {number}"
+        )?,
     }
     text.push_str("\n")?;
     Ok(())

@@ -1,4 +1,4 @@
-use Rattle.std.proofs.Common.{◌≡◌, [], ap, subst, sym}
+use Rattle.std.proofs.Common.{[], subst, sym}
 use Rattle.bmc_core.specs.declared.out.Out.{Out}
 use Rattle.model_lab.specs.PortSteps.{hears}
 use Rattle.model_lab.specs.Lab.{ToOthers, port_on, with_port}
