@@ -1,0 +1,23 @@
+-- What a link in memory hears.
+use Rattle.std.specs.Prelude.{ℕ, ◌≤◌, List, [], ◌∷◌, length}
+use Rattle.bmc_links.specs.declared.link.Heard.{Heard}
+use Rattle.bmc_links.specs.declared.link.Heard.TheVariants.{Frame, Quiet}
+
+-- so many of the frames that it sends can be read
+abbrev pub most_kept : ℕ
+most_kept = 256
+
+-- the bytes fit a frame
+abbrev pub fits : List ℕ → Type 0
+fits bytes = length bytes ≤ 80
+
+-- what a script's beginning is heard as: no bytes are no frame, and nor is a script's end
+abbrev pub head_of : List (List ℕ) → Heard
+head_of [] = Quiet
+head_of ([] ∷ later) = Quiet
+head_of ((byte ∷ bytes) ∷ later) = Frame (byte ∷ bytes)
+
+-- what is to be heard later
+abbrev pub rest_of : List (List ℕ) → List (List ℕ)
+rest_of [] = []
+rest_of (bytes ∷ later) = later
