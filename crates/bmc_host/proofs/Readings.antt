@@ -1,5 +1,5 @@
 -- What is read off the words that clap matched.
-use Rattle.std.proofs.Common.{◌≡◌, ◌∙◌, ◌⊎◌, ℕ, List, Bool, true, false, Option, Some, None, Ok, Err, inl, inr, sym, ap, subst, codes, option_map, slice_index, arith}
+use Rattle.std.proofs.Common.{◌≡◌, ◌∙◌, ◌⊎◌, ℕ, List, Bool, Option, Some, None, inl, inr, sym, ap, subst, codes, option_map, slice_index, arith}
 use Rattle.std.specs.Prelude.{Box}
 use Rattle.std.specs.Box.{box_value}
 use Rattle.clap.specs.Words.{Row, Text, first_of, first_value, rows_of, subcommand_name_of, subcommand_rows, subcommand_rows_of}
@@ -13,6 +13,8 @@ use Rattle.bmc_lab.specs.Asked.{Asks}
 use Rattle.bmc_lab.specs.declared.status.Status.{Status}
 use Rattle.bmc_lab.specs.declared.status.Status.TheVariants.{RefusedWords, Memory}
 use Rattle.bmc_play.specs.declared.run.Shown.{Shown}
+use Rattle.bmc_host.specs.declared.refusal.Refusal.{Refusal}
+use Rattle.bmc_host.specs.declared.refusal.Refusal.TheVariants.{Memory as Lacking, Words as Refused}
 use Rattle.bmc_host.specs.declared.words.Words.{Words}
 use Rattle.bmc_host.specs.declared.words.Words.TheVariants.{Frame, Play}
 use Rattle.bmc_host.specs.declared.words.FrameWords.{FrameWords}
@@ -23,16 +25,28 @@ pub first_by_rows : (found : Found) (name : Text) (word : Option Text) → first
 first_by_rows found name word is = sym (first_value-rows found name) ∙ is
 
 -- who asks for nothing of one kind asks for nothing of another, if each of that other has one of the first
-pub refuses_more : {A B : Type 0} (P : A → Type 0) (Q : B → Type 0) (status : Status) → ((b : B) → Q b → (a : A) × P a) → Refuses P status → Refuses Q status
-refuses_more P Q status has (inl memory) = inl memory
-refuses_more P Q status has (inr refused) = inr (refused.0, λ asked asks. let one = has asked asks in refused.1 one.0 one.1)
+pub refuses_more : {A B : Type 0} (P : A → Type 0) (Q : B → Type 0) (refusal : Refusal) → ((b : B) → Q b → (a : A) × P a) → Refuses P refusal → Refuses Q refusal
+refuses_more P Q Lacking has refused = tt
+refuses_more P Q (Refused why) has refused = λ asked asks. let one = has asked asks in refused one.0 one.1
 
--- the three promises of `asked_frame`, as one
-pub frame_refuses : (word : Option Text) (digits : Text) (status : Status) → (status ≡ RefusedWords) ⊎ (status ≡ Memory)
-    → (status ≡ RefusedWords → (bus : Bus) (bytes : List ℕ) → Asks word digits bus bytes → ⊥)
-    → Refuses (λ (p : Bus × List ℕ). Asks word digits p.0 p.1) status
-frame_refuses word digits status (inl words) refused = inr (words, λ p asks. refused words p.0 p.1 asks)
-frame_refuses word digits status (inr memory) refused = inl memory
+-- who asks for nothing at all is refused rightly
+pub refuses_none : {A : Type 0} (P : A → Type 0) (refusal : Refusal) → ((a : A) → P a → ⊥) → Refuses P refusal
+refuses_none P Lacking none = tt
+refuses_none P (Refused why) none = none
+
+-- where memory is the only cause, a refusal says so
+pub refuses_unless : {A : Type 0} (P : A → Type 0) (refusal : Refusal) → ((a : A) → P a → refusal ≡ Lacking) → Refuses P refusal
+refuses_unless P Lacking only = tt
+refuses_unless P (Refused why) only = λ asked asks.
+    let bad : Refused why ≡ Lacking = only asked asks in
+    cc
+
+-- the promises of `asked_frame` and of the refusal of what it refuses, as one
+pub frame_refuses : (word : Option Text) (digits : Text) (status : Status) (refusal : Refusal) → (status ≡ RefusedWords) ⊎ (status ≡ Memory)
+    → (status ≡ RefusedWords → (bus : Bus) (bytes : List ℕ) → Asks word digits bus bytes → ⊥) → (status ≡ Memory → refusal ≡ Lacking)
+    → Refuses (λ (p : Bus × List ℕ). Asks word digits p.0 p.1) refusal
+frame_refuses word digits status refusal (inl words) refused lacks = refuses_none _ refusal (λ p asks. refused words p.0 p.1 asks)
+frame_refuses word digits status refusal (inr memory) refused lacks = refuses_unless _ refusal (λ p asks. lacks memory)
 
 -- the subcommand that was met has this name and these rows
 pub met : (m : ArgMatches) (name : Text) (rows : List Row) → subcommand_name_of m ≡ Some name → option_map (λ p. p.1) (subcommand_rows_of m) ≡ Some rows
@@ -67,13 +81,10 @@ frame_asked rows bus digits named given asked asks =
     )
 
 -- flags that give no way of showing give none
-pub shown_refuses : (frames chart : Bool) (status : Status) → shown_of frames chart ≡ Err status → Refuses (λ (shown : Shown). shown_of frames chart ≡ Ok shown) status
-shown_refuses true true status is =
-    let same : RefusedWords ≡ status = cc in
-    inr (sym same, λ shown bad. cc)
-shown_refuses true false status is = cc
-shown_refuses false true status is = cc
-shown_refuses false false status is = cc
+pub shown_refuses : (frames chart : Bool) → shown_of frames chart ≡ None → (shown : Shown) → shown_of frames chart ≡ Some shown → ⊥
+shown_refuses frames chart none shown is =
+    let bad : None ≡ Some shown = sym none ∙ is in
+    cc
 
 not_play : codes "frame" ≡ codes "play" → ⊥
 not_play same =

@@ -1,31 +1,24 @@
 -- What the words of the command line ask for.
-use Rattle.std.specs.Prelude.{◌≡◌, ◌⊎◌, Bool, true, false, List, [], Option, Some, Result, Ok, Err, codes, option_map, string_bytes}
+use Rattle.std.specs.Prelude.{◌≡◌, Bool, true, false, List, [], Option, None, Some, codes, option_map, string_bytes}
 use Rattle.std.specs.Option.{option_map_or}
 use Rattle.std.specs.Str.{bytes_eq}
 use Rattle.clap.specs.Words.{Row, Text, fault_of, first_of, one_of, subcommand_of}
-use Rattle.clap.specs.declared.error.kind.ErrorKind.{ErrorKind}
-use Rattle.clap.specs.declared.error.kind.ErrorKind.TheVariants.{OutOfMemory}
 use Rattle.bmc_lab.specs.Asked.{Asks}
-use Rattle.bmc_lab.specs.declared.status.Status.{Status}
-use Rattle.bmc_lab.specs.declared.status.Status.TheVariants.{RefusedWords, Memory}
 use Rattle.bmc_play.specs.declared.run.Shown.{Shown}
 use Rattle.bmc_play.specs.declared.run.Shown.TheVariants.{Lines, Chart}
+use Rattle.bmc_host.specs.declared.refusal.Refusal.{Refusal}
+use Rattle.bmc_host.specs.declared.refusal.Refusal.TheVariants.{Memory, Words as Refused}
 use Rattle.bmc_host.specs.declared.words.Words.{Words}
 use Rattle.bmc_host.specs.declared.words.Words.TheVariants.{Frame, Play}
 use Rattle.bmc_host.specs.declared.words.FrameWords.{FrameWords}
 use Rattle.bmc_host.specs.declared.words.PlayWords.{PlayWords}
 use Rattle.bmc_host.specs.Line.{program}
 
--- the status that words of a fault of this kind end with
-abbrev pub status_of : ErrorKind → Status
-status_of OutOfMemory = Memory
-status_of _ = RefusedWords
-
 -- how a play is shown where the flags `--frames` and `--chart` are given or not: a chart has no lines of frames
-abbrev pub shown_of : Bool → Bool → Result Shown Status
-shown_of true true = Err RefusedWords
-shown_of false true = Ok Chart
-shown_of frames false = Ok (Lines frames)
+abbrev pub shown_of : Bool → Bool → Option Shown
+shown_of true true = None
+shown_of false true = Some Chart
+shown_of frames false = Some (Lines frames)
 
 -- the text says that a flag is given
 abbrev pub says_yes : Option Text → Bool
@@ -44,7 +37,7 @@ pub record AsksFrame (rows : List Row) (asked : FrameWords) : Type 0 where
 
 -- what was matched behind `play` asks for this
 pub record AsksPlay (rows : List Row) (asked : PlayWords) : Type 0 where
-  pub shown : shown_of (is_given (codes "frames") rows) (is_given (codes "chart") rows) ≡ Ok asked.shown
+  pub shown : shown_of (is_given (codes "frames") rows) (is_given (codes "chart") rows) ≡ Some asked.shown
   pub board : first_of (codes "BOARD") rows ≡ Some (string_bytes asked.board)
   pub plan : first_of (codes "PLAN") rows ≡ Some (string_bytes asked.plan)
   pub schedule : first_of (codes "SCHEDULE") rows ≡ Some (string_bytes asked.schedule)
@@ -59,6 +52,7 @@ pub record AsksFor (words : List Text) (asked : Words) : Type 0 where
   pub taken : fault_of program words ≡ []
   pub asks : AsksBy (subcommand_of program words) asked
 
--- the status of words that aren't read: memory was refused, or the words ask for nothing
-abbrev pub Refuses : {A : Type 0} → (A → Type 0) → Status → Type 0
-Refuses {A} Asked status = (status ≡ Memory) ⊎ ((status ≡ RefusedWords) × ((asked : A) → Asked asked → ⊥))
+-- why words aren't read: memory was refused, or they ask for nothing
+abbrev pub Refuses : {A : Type 0} → (A → Type 0) → Refusal → Type 0
+Refuses Asked Memory = Unit {0}
+Refuses {A} Asked (Refused why) = (asked : A) → Asked asked → ⊥

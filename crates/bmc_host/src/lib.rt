@@ -2,9 +2,11 @@
 #![tactic(auto)]
 
 pub mod file;
+pub mod refusal;
 pub mod run;
 pub mod words;
 
 pub use file::HostFiles;
-pub use run::run_line;
+pub use refusal::Refusal;
+pub use run::{refuse, run_line};
 pub use words::{FrameWords, PlayWords, Words, words_of_process};

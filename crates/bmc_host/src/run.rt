@@ -1,10 +1,11 @@
 //! What the program does: what its words ask for, with its files.
 ghost use Rattle.std.specs.Prelude.{map, string_bytes};
 ghost use Rattle.bmc_lab.specs.Ending.{RunEnds};
-ghost use Rattle.bmc_host.specs.Run.{SaysOfLine, SaysOfWords};
+ghost use Rattle.bmc_host.specs.Run.{SaysOfLine, SaysOfWords, SaysWhy};
 
+use crate::refusal::Refusal;
 use crate::words::{FrameWords, PlayWords, Words, read};
-use bmc_lab::{Console, Ending, TextFiles, frame_of_file};
+use bmc_lab::{Console, Ending, Status, Stream, TextFiles, frame_of_file};
 use bmc_play::{PlayFiles, play_of_files};
 use std::alloc::Global;
 use std::io;
@@ -61,8 +62,24 @@ fn carry_out<F: TextFiles, W: io::Write, E: io::Write>(
     }
 }
 
+/// Says on standard error why words aren't read, or that memory was refused, and gives the status: 2, or 5.
+pub fn refuse<W: io::Write, E: io::Write>(refusal: &Refusal, console: &mut Console<W, E>) -> u8
+    ensures { RunEnds W.contents E.contents (SaysWhy refusal.now) console.old console.new result }
+{
+    let ending = match refusal {
+        Refusal::Memory => Ending::without_report(Status::Memory),
+        Refusal::Words(text) => Ending {
+            stream: Stream::Error,
+            text: text.as_bytes(),
+            status: Status::RefusedWords,
+        },
+    };
+    u8::from(ending.write(console))
+}
+
 /// Does what the words of a command line ask for, the program's own name first among them, with these files: what `frame_of_file` or
-/// `play_of_files` does. Where they ask for nothing it reads no file and writes nothing, and the status is 2.
+/// `play_of_files` does. Where they ask for nothing it reads no file, standard error gets why or the help that is asked for, and the status
+/// is 2.
 pub fn run_line<F: TextFiles, W: io::Write, E: io::Write>(
     alloc: Global,
     files: &F,
@@ -73,6 +90,6 @@ pub fn run_line<F: TextFiles, W: io::Write, E: io::Write>(
 {
     match read(alloc, words) {
         Ok(asked) => carry_out(alloc, files, &asked, console),
-        Err(status) => u8::from(Ending::without_report(status).write(console)),
+        Err(refusal) => refuse(&refusal, console),
     }
 }

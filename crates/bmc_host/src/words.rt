@@ -1,12 +1,13 @@
 //! The words of the command line.
-ghost use Rattle.std.specs.Prelude.{◌≡◌, ◌⊎◌, IfOk, IfErr, Some, map, option_map, string_bytes};
-ghost use Rattle.clap.specs.Words.{app_of, first_value, found_of, kind_of, one_text, rows_of, subcommand_rows_of};
+ghost use Rattle.std.specs.Prelude.{◌≡◌, IfOk, IfErr, Some, map, option_map, string_bytes};
+ghost use Rattle.clap.specs.Words.{app_of, first_value, new_app, found_of, one_text, rows_of, subcommand_rows_of};
 ghost use Rattle.bmc_host.specs.Line.{IsArg, IsCommand, flag_rule, frame_app, needed_rule, option_rule, play_app, program};
-ghost use Rattle.bmc_host.specs.Asked.{AsksBy, AsksFor, AsksFrame, AsksPlay, Refuses, says_yes, shown_of, status_of};
+ghost use Rattle.bmc_host.specs.Asked.{AsksBy, AsksFor, AsksFrame, AsksPlay, Refuses, says_yes, shown_of};
 
+use crate::refusal::{Refusal, refusal_by, refusal_of};
 use bmc_lab::{AskedFrame, Status, asked_frame};
 use bmc_play::Shown;
-use clap::error::{Error, ErrorKind};
+use clap::error::ErrorKind;
 use clap::{Arg, ArgAction, ArgMatches, Command};
 use std::alloc::{AllocError, Global};
 use std::rt::Env;
@@ -41,94 +42,139 @@ pub struct PlayWords {
 }
 
 /// A flag of this name.
-fn flag<'a>(alloc: Global, name: &'a str) -> Arg<'a>
+fn flag<'a>(alloc: Global, name: &'a str, help: &'a str) -> Arg<'a>
     ensures { IsArg (flag_rule name.entry.now) result }
 {
-    Arg::new(alloc, name).long(name).action(ArgAction::SetTrue)
+    Arg::new(alloc, name)
+        .long(name)
+        .action(ArgAction::SetTrue)
+        .help(help)
 }
 
-/// An option of this name, which takes a value.
-fn option<'a>(alloc: Global, name: &'a str) -> Arg<'a>
+/// An option of this name, with what its value is called.
+fn option<'a>(alloc: Global, name: &'a str, value: &'a str, help: &'a str) -> Arg<'a>
     ensures { IsArg (option_rule name.entry.now) result }
 {
-    Arg::new(alloc, name).long(name)
+    Arg::new(alloc, name)
+        .long(name)
+        .value_name(value)
+        .help(help)
 }
 
 /// A word that must be there.
-fn needed<'a>(alloc: Global, name: &'a str) -> Arg<'a>
+fn needed<'a>(alloc: Global, name: &'a str, help: &'a str) -> Arg<'a>
     ensures { IsArg (needed_rule name.entry.now) result }
 {
-    Arg::new(alloc, name).required(true)
+    Arg::new(alloc, name).required(true).help(help)
 }
+
+/// A command of this name without arguments, with what its help says at its begin and at its end.
+fn new_command<'a>(alloc: Global, name: &'a str, about: &'a str, end: &'a str) -> Command<'a>
+    ensures { IsCommand (new_app name.entry.now) result }
+{
+    Command::new(alloc, name).about(about).after_help(end)
+}
+
+const BUS_HELP: &str = "The bus, as in --bus smbus:
+ipmb   the frame is one of IPMB; so it is where no bus is named
+smbus  it is a packet of MCTP";
+
+const BOARD_HELP: &str =
+    "The board file, as in --board sample.toml; the sample board where none is named";
+
+const HEX_FORM: &str = "two hexadecimal digits for each byte, without spaces and without 0x";
+
+const HEX_HELP: &str =
+    "The frame, as in 2018C82C0001D3: two hexadecimal digits for each byte, without spaces and without 0x";
+
+const FRAME_ABOUT: &str = "Sends one frame to a fresh controller, and prints what it sends back";
+
+const FRAME_EXAMPLES: &str = "Examples:
+  bmclab frame 2018C82C0001D3
+  bmclab frame --bus smbus --board sample.toml 200F0931010A08C801800002BE";
 
 /// `frame [--bus ipmb|smbus] [--board FILE] HEX`.
 fn frame_command<'a>(alloc: Global) -> Result<Command<'a>, AllocError>
     ensures { IfOk result (IsCommand frame_app) }
 {
-    Command::new(alloc, "frame")
-        .arg(option(alloc, "bus"))?
-        .arg(option(alloc, "board"))?
-        .arg(needed(alloc, "HEX"))
+    new_command(alloc, "frame", FRAME_ABOUT, FRAME_EXAMPLES)
+        .arg(option(alloc, "bus", "BUS", BUS_HELP))?
+        .arg(option(alloc, "board", "FILE", BOARD_HELP))?
+        .arg(needed(alloc, "HEX", HEX_HELP))
 }
+
+const PLAY_ABOUT: &str = "Plays a plan on a board, over buses that lose, repeat and delay frames";
+
+const FRAMES_HELP: &str = "Prints each frame, too, as in frame 0 mgr ipmb 2010D02C002905A6";
+
+const SCHEDULE_HELP: &str = "The schedule: what comes when, as examples/clean/schedule.txt";
+
+const PLAY_EXAMPLES: &str = "Examples:
+  bmclab play sample.toml examples/clean/plan.toml examples/clean/schedule.txt
+  bmclab play --frames sample.toml examples/clean/plan.toml examples/clean/schedule.txt
+  bmclab play --chart sample.toml examples/clean/plan.toml examples/clean/schedule.txt";
 
 /// `play [--frames | --chart] BOARD PLAN SCHEDULE`.
 fn play_command<'a>(alloc: Global) -> Result<Command<'a>, AllocError>
     ensures { IfOk result (IsCommand play_app) }
 {
-    Command::new(alloc, "play")
-        .arg(flag(alloc, "frames"))?
-        .arg(flag(alloc, "chart"))?
-        .arg(needed(alloc, "BOARD"))?
-        .arg(needed(alloc, "PLAN"))?
-        .arg(needed(alloc, "SCHEDULE"))
+    new_command(alloc, "play", PLAY_ABOUT, PLAY_EXAMPLES)
+        .arg(flag(alloc, "frames", FRAMES_HELP))?
+        .arg(flag(alloc, "chart", "Draws the play in place of its lines"))?
+        .arg(needed(alloc, "BOARD", "The board file, as sample.toml"))?
+        .arg(needed(alloc, "PLAN", "The plan, as examples/clean/plan.toml"))?
+        .arg(needed(alloc, "SCHEDULE", SCHEDULE_HELP))
 }
+
+const ABOUT: &str =
+    "Sends frames to a modelled board controller, and plays plans on it and takes them back";
+
+const EXAMPLES: &str = "Examples:
+  bmclab frame 2018C82C0001D3
+  bmclab play sample.toml examples/clean/plan.toml examples/clean/schedule.txt";
 
 /// `bmclab`, and what it can do.
 fn command<'a>(alloc: Global) -> Result<Command<'a>, AllocError>
     ensures { IfOk result (λ command. app_of command ≡ program) }
 {
-    Command::new(alloc, "bmclab")
+    new_command(alloc, "bmclab", ABOUT, EXAMPLES)
+        .bin_name("bmclab")?
         .subcommand_required(true)
         .subcommand(frame_command(alloc)?)?
         .subcommand(play_command(alloc)?)
 }
 
-/// A request for help is refused like any other word that isn't one.
-fn refusal(error: &Error) -> Status
-    ensures { result ≡ status_of (kind_of error.now) }
-{
-    match error.kind() {
-        ErrorKind::OutOfMemory => Status::Memory,
-        _ => Status::RefusedWords,
-    }
-}
-
 /// A word, kept.
-fn kept(alloc: Global, word: &str) -> Result<String, Status>
+fn kept(alloc: Global, word: &str) -> Result<String, Refusal>
     ensures word { IfOk result (λ kept. string_bytes kept ≡ word.now) }
-    ensures memory { IfErr result (λ status. status ≡ Status.Memory) }
+    ensures memory { IfErr result (λ refusal. refusal ≡ Refusal.Memory) }
 {
     match String::from_str(alloc, word) {
         Ok(word) => Ok(word),
-        Err(_) => Err(Status::Memory),
+        Err(_) => Err(Refusal::Memory),
     }
 }
 
+/// The refusal of words that lack one that clap wants. Clap refuses them before.
+fn lacking(alloc: Global) -> Refusal {
+    Refusal::Words(String::new(alloc))
+}
+
 /// The word that has this name.
-fn named(alloc: Global, matches: &ArgMatches, name: &str) -> Result<String, Status>
+fn named(alloc: Global, matches: &ArgMatches, name: &str) -> Result<String, Refusal>
     ensures word { IfOk result (λ word. first_value (found_of matches.now) name.now ≡ Some (string_bytes word)) }
     ensures refused { IfErr result (Refuses (λ word. first_value (found_of matches.now) name.now ≡ Some word)) }
 {
     match matches.get_str(name) {
         Some(word) => kept(alloc, word),
-        None => Err(Status::RefusedWords),
+        None => Err(lacking(alloc)),
     }
 }
 
 /// The word that has this name, where one is given.
-fn given(alloc: Global, matches: &ArgMatches, name: &str) -> Result<Option<String>, Status>
+fn given(alloc: Global, matches: &ArgMatches, name: &str) -> Result<Option<String>, Refusal>
     ensures word { IfOk result (λ word. option_map string_bytes word ≡ first_value (found_of matches.now) name.now) }
-    ensures memory { IfErr result (λ status. status ≡ Status.Memory) }
+    ensures memory { IfErr result (λ refusal. refusal ≡ Refusal.Memory) }
 {
     match matches.get_str(name) {
         Some(word) => Ok(Some(kept(alloc, word)?)),
@@ -144,37 +190,80 @@ fn has_flag(matches: &ArgMatches, name: &str) -> bool
     matches.get_one::<bool>(name).unwrap_or(false)
 }
 
+/// What is wrong with the words BUS and HEX that name no frame.
+fn frame_fault(alloc: Global, bus: Option<&str>, digits: &str) -> Result<String, AllocError> {
+    match bus {
+        Some(name) if name != "ipmb" && name != "smbus" => {
+            format!(in alloc;
+                "invalid value '{name}' for '--bus <BUS>'\n  [possible values: ipmb, smbus]"
+            )
+        }
+        _ => format!(in alloc; "invalid value '{digits}' for '<HEX>': {HEX_FORM}"),
+    }
+}
+
+/// The refusal of words BUS and HEX that name no frame, or for which memory was refused.
+fn frame_refusal(alloc: Global, status: Status, bus: Option<&str>, digits: &str) -> Refusal
+    ensures { status ≡ Status.Memory → result ≡ Refusal.Memory }
+{
+    if status == Status::Memory {
+        return Refusal::Memory;
+    }
+    match frame_fault(alloc, bus, digits) {
+        Ok(fault) => {
+            let command = frame_command(alloc);
+            let kind = ErrorKind::InvalidValue;
+            refusal_by(alloc, command, "bmclab frame", kind, fault.as_str())
+        }
+        Err(_) => Refusal::Memory,
+    }
+}
+
 /// What the words behind `frame` ask for.
-fn frame_words(alloc: Global, matches: &ArgMatches) -> Result<FrameWords, Status>
+fn frame_words(alloc: Global, matches: &ArgMatches) -> Result<FrameWords, Refusal>
     ensures asked { IfOk result (AsksFrame (rows_of (found_of matches.now))) }
     ensures refused { IfErr result (Refuses (AsksFrame (rows_of (found_of matches.now)))) }
 {
     let Some(digits) = matches.get_str("HEX") else {
-        return Err(Status::RefusedWords);
+        return Err(lacking(alloc));
     };
     let board = given(alloc, matches, "board")?;
-    let frame = asked_frame(alloc, matches.get_str("bus"), digits)?;
-    Ok(FrameWords { board, frame })
-}
-
-/// How a play is shown with these flags. A chart has no lines of frames.
-fn shown(frames: bool, chart: bool) -> Result<Shown, Status>
-    ensures { result ≡ shown_of frames chart }
-{
-    match (frames, chart) {
-        (true, true) => Err(Status::RefusedWords),
-        (false, true) => Ok(Shown::Chart),
-        (frames, false) => Ok(Shown::Lines { frames }),
+    let bus = matches.get_str("bus");
+    match asked_frame(alloc, bus, digits) {
+        Ok(frame) => Ok(FrameWords { board, frame }),
+        Err(status) => Err(frame_refusal(alloc, status, bus, digits)),
     }
 }
 
+/// How a play is shown with these flags. A chart has no lines of frames.
+fn shown(frames: bool, chart: bool) -> Option<Shown>
+    ensures { result ≡ shown_of frames chart }
+{
+    match (frames, chart) {
+        (true, true) => None,
+        (false, true) => Some(Shown::Chart),
+        (frames, false) => Some(Shown::Lines { frames }),
+    }
+}
+
+/// The refusal of flags that don't go together.
+fn shown_refusal(alloc: Global) -> Refusal {
+    let command = play_command(alloc);
+    let kind = ErrorKind::ArgumentConflict;
+    let message = "the argument '--frames' cannot be used with '--chart'";
+    refusal_by(alloc, command, "bmclab play", kind, message)
+}
+
 /// What the words behind `play` ask for.
-fn play_words(alloc: Global, matches: &ArgMatches) -> Result<PlayWords, Status>
+fn play_words(alloc: Global, matches: &ArgMatches) -> Result<PlayWords, Refusal>
     ensures asked { IfOk result (AsksPlay (rows_of (found_of matches.now))) }
     ensures refused { IfErr result (Refuses (AsksPlay (rows_of (found_of matches.now)))) }
 {
+    let Some(shown) = shown(has_flag(matches, "frames"), has_flag(matches, "chart")) else {
+        return Err(shown_refusal(alloc));
+    };
     Ok(PlayWords {
-        shown: shown(has_flag(matches, "frames"), has_flag(matches, "chart"))?,
+        shown,
         board: named(alloc, matches, "BOARD")?,
         plan: named(alloc, matches, "PLAN")?,
         schedule: named(alloc, matches, "SCHEDULE")?,
@@ -182,7 +271,7 @@ fn play_words(alloc: Global, matches: &ArgMatches) -> Result<PlayWords, Status>
 }
 
 /// What the words that were matched ask for.
-fn matched_words(alloc: Global, matches: &ArgMatches) -> Result<Words, Status>
+fn matched_words(alloc: Global, matches: &ArgMatches) -> Result<Words, Refusal>
     ensures asked { IfOk result (AsksBy (subcommand_rows_of matches.now)) }
     ensures refused { IfErr result (Refuses (AsksBy (subcommand_rows_of matches.now))) }
 {
@@ -190,37 +279,43 @@ fn matched_words(alloc: Global, matches: &ArgMatches) -> Result<Words, Status>
         return Ok(Words::Frame(frame_words(alloc, frame)?));
     }
     let Some(play) = matches.subcommand_matches("play") else {
-        return Err(Status::RefusedWords);
+        return Err(lacking(alloc));
     };
     Ok(Words::Play(play_words(alloc, play)?))
 }
 
 /// What the words ask for, the program's own name first among them.
-pub fn read(alloc: Global, words: &[String]) -> Result<Words, Status>
+pub fn read(alloc: Global, words: &[String]) -> Result<Words, Refusal>
     ensures asked { IfOk result (AsksFor (map string_bytes words.now)) }
     ensures refused { IfErr result (Refuses (AsksFor (map string_bytes words.now))) }
 {
     let Ok(command) = command(alloc) else {
-        return Err(Status::Memory);
+        return Err(Refusal::Memory);
     };
     match command.try_get_matches_from(words) {
         Ok(matches) => matched_words(alloc, &matches),
-        Err(error) => Err(refusal(&error)),
+        Err(error) => Err(refusal_of(alloc, &error)),
+    }
+}
+
+/// The refusal of words that aren't UTF-8.
+fn no_text(alloc: Global) -> Refusal {
+    match String::from_str(alloc, "error: a word isn't UTF-8\n") {
+        Ok(text) => Refusal::Words(text),
+        Err(_) => Refusal::Memory,
     }
 }
 
 /// The words that the process was given, the program's own name first among them.
-pub fn words_of_process<R: Env + AllocGlobal>(rt: &R) -> Result<Vec<String>, Status>
-    ensures { IfErr result (λ status. (status ≡ Status.RefusedWords) ⊎ (status ≡ Status.Memory)) }
-{
+pub fn words_of_process<R: Env + AllocGlobal>(rt: &R) -> Result<Vec<String>, Refusal> {
     let args = match env::args(rt) {
         Ok(args) => args,
-        Err(error) if error.kind() == io::ErrorKind::OutOfMemory => return Err(Status::Memory),
-        Err(_) => return Err(Status::RefusedWords),
+        Err(error) if error.kind() == io::ErrorKind::OutOfMemory => return Err(Refusal::Memory),
+        Err(_) => return Err(no_text(rt.alloc())),
     };
     let words: Result<Vec<String>, AllocError> = args.collect(rt.alloc());
     match words {
         Ok(words) => Ok(words),
-        Err(_) => Err(Status::Memory),
+        Err(_) => Err(Refusal::Memory),
     }
 }

@@ -1,8 +1,8 @@
 //! The program `bmclab`: words in, lines out.
 #![tactic(auto)]
 
-use bmc_host::{HostFiles, run_line, words_of_process};
-use bmc_lab::{Console, Ending};
+use bmc_host::{HostFiles, refuse, run_line, words_of_process};
+use bmc_lab::Console;
 use std::process::ExitCode;
 
 fn main(rt: HostRuntime) -> ExitCode {
@@ -10,6 +10,6 @@ fn main(rt: HostRuntime) -> ExitCode {
     let files = HostFiles { rt: &rt };
     ExitCode::from(match words_of_process(&rt) {
         Ok(words) => run_line(rt.alloc(), &files, words.as_slice(), &mut console),
-        Err(status) => u8::from(Ending::without_report(status).write(&mut console)),
+        Err(refusal) => refuse(&refusal, &mut console),
     })
 }

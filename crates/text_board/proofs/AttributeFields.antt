@@ -1,5 +1,5 @@
 -- The BIOS attributes of a file, and what an item of an attribute has in its fields.
-use Rattle.std.proofs.Common.{◌≡◌, ℕ, zero, suc, ◌+◌, ◌<◌, ◌≤◌, nat_le, nat_lt, length, get_or, map, drop, List, [], ◌∷◌, ◌++◌, Bool, true, false, ◌||◌, Option, Some, None, IsSome, is_some, if◌then◌else◌, refl, sym, ap, ◌∙◌, arith, codes}
+use Rattle.std.proofs.Common.{◌≡◌, ℕ, zero, suc, ◌+◌, ◌<◌, ◌≤◌, nat_le, nat_lt, length, get_or, map, drop, List, [], ◌∷◌, ◌++◌, Bool, true, false, ◌&&◌, ◌||◌, Option, Some, None, IsSome, is_some, if◌then◌else◌, refl, sym, ap, ◌∙◌, arith, codes}
 use Rattle.std.proofs.lemmas.Bool.{and_parts}
 use Rattle.std.proofs.lemmas.Bool.Decides.{nat_tests}
 use Rattle.std.proofs.lemmas.Option.{same_Some}
@@ -56,7 +56,8 @@ pub values_there : (tree : Members) → Sound tree (record { 0 = field.Values; 1
 values_there tree sound =
     let v = value_of tree (record { 0 = field.Values; 1 = shape.Values; 2 = need.Always }) (in_field field.Values tree) refl refl sound in
     let ds = or_none (members v.value) in
-    let (few, all) = and_parts (nat_le (length ds) 16) (list_all (λ d. is_some (text_of d)) ds) v.within in
+    let (some, more) = and_parts (nat_le 1 (length ds)) (nat_le (length ds) 16 && list_all (λ d. is_some (text_of d)) ds) v.within in
+    let (few, all) = and_parts (nat_le (length ds) 16) (list_all (λ d. is_some (text_of d)) ds) more in
     rw v.found (true_le _ 16 few, all)
 
 -- the indexes that it has

@@ -41,9 +41,7 @@ listed_small (d ∷ ds) n all some =
     either_true (is_number n d) (is_listed ds n) (is_between 0 255 n) (λ same. number_small (natural d) n here same) (λ behind. listed_small ds n more behind) some
 
 present_cases : (states d : Data) (o : Option ℕ) → natural d ≡ o → is_state_list states ≡ true → passes (is_listed (or_none (members states))) o ≡ true → is_state d ≡ true
-present_cases states d (Some n) is list some =
-    let (few, all) = and_parts (nat_le (length (or_none (members states))) 256) (list_all is_state (or_none (members states))) list in
-    rw is (listed_small (or_none (members states)) n all some)
+present_cases states d (Some n) is list some = rw is (listed_small (or_none (members states)) n list some)
 present_cases states d None is list some = cc
 
 -- what a field can be in is a state

@@ -23,9 +23,9 @@ text_in named tree = option_and_then text_of (in_field named tree)
 abbrev pub is_kind : List ℕ → Bool
 is_kind text = bytes_eq text (codes "enumeration") || (bytes_eq text (codes "string") || bytes_eq text (codes "integer"))
 
--- at most 16 possible values
+-- at least one and at most 16 possible values
 abbrev pub are_values : List Data → Bool
-are_values ds = nat_le (length ds) most_indexes && list_all (λ d. is_some (text_of d)) ds
+are_values ds = nat_le 1 (length ds) && (nat_le (length ds) most_indexes && list_all (λ d. is_some (text_of d)) ds)
 
 -- the number is below this one
 abbrev pub is_below : ℕ → Option ℕ → Bool

@@ -214,7 +214,7 @@ is_state d = passes (is_between 0 255) (natural d)
 
 -- a list of such states
 abbrev pub is_state_list : Data → Bool
-is_state_list d = nat_le (length (or_none (members d))) 256 && list_all is_state (or_none (members d))
+is_state_list d = list_all is_state (or_none (members d))
 
 -- a list for each of 1 to 8 fields
 abbrev pub are_state_lists : List Data → Bool

@@ -63,11 +63,14 @@ fn all_texts(values: &[Value]) -> bool
     values.iter().all(|value| text(value).is_some())
 }
 
-/// Whether the value has at most 16 possible values.
+/// Whether the value has at least one and at most 16 possible values.
 pub fn are_values(value: &Value) -> bool
     ensures { result ≡ are_values (or_none (members (view value.now))) }
 {
     let values = members_of(value);
+    if values.is_empty() {
+        return false;
+    }
     values.len() <= MOST_INDEXES && all_texts(values)
 }
 

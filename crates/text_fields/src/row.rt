@@ -75,7 +75,7 @@ pub enum Shape {
     UserBytes(usize),
     /// The number of a channel: 0 to 11, or 15.
     ChannelNumber,
-    /// The states that each of 1 to 8 fields can be in, in a list of lists of at most 256 bytes.
+    /// The states that each of 1 to 8 fields can be in, in a list of lists of bytes.
     StateLists,
     /// A state for each of the item's fields, in a list: one of those that the field can be in.
     States,

@@ -24,12 +24,11 @@ fn all_states(values: &[Value]) -> bool
     values.iter().all(|value| is_between(value, 0, 255))
 }
 
-/// Whether the value is a list of at most 256 states.
+/// Whether the value is a list of states.
 fn is_state_list(value: &Value) -> bool
     ensures { result ≡ is_state_list (view value.now) }
 {
-    let states = members_of(value);
-    states.len() <= 256 && all_states(states)
+    all_states(members_of(value))
 }
 
 /// Whether each of the values is a list of states.

@@ -2,7 +2,7 @@
 use super::runs::words_of;
 use super::trouble::Trouble;
 use bmc_host::words::read;
-use bmc_host::{FrameWords, PlayWords, Words};
+use bmc_host::{FrameWords, PlayWords, Refusal, Words};
 use bmc_play::Shown;
 use std::alloc::Global;
 use two_wire::Bus;
@@ -40,12 +40,13 @@ fn play_text(alloc: Global, words: &PlayWords) -> Result<String, Trouble> {
     Ok(format!(in alloc; "{shown} {} {} {}", words.board, words.plan, words.schedule)?)
 }
 
-/// What the words ask for, or the status with which they are refused.
+/// What the words ask for, or how they are refused.
 pub fn asked_text(alloc: Global, line: &str) -> Result<String, Trouble> {
     let words = words_of(alloc, line)?;
     match read(alloc, words.as_slice()) {
         Ok(Words::Frame(frame)) => frame_text(alloc, &frame),
         Ok(Words::Play(play)) => play_text(alloc, &play),
-        Err(status) => Ok(format!(in alloc; "{status:?}")?),
+        Err(Refusal::Words(_)) => Ok(String::from_str(alloc, "refused")?),
+        Err(Refusal::Memory) => Ok(String::from_str(alloc, "memory")?),
     }
 }

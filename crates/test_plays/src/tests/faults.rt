@@ -14,6 +14,9 @@ schedule: other ipmb 40 1000260510000000005A00
 lines -> 4 out: phase Fresh / frames 0 / undo 0 / records same / fault 1 Changing
 schedule: other ipmb 2C 180001
 lines -> 4 out: phase Fresh / frames 0 / undo 0 / records same / fault 1 Impersonates
+# What is changing and from the manager's address is changing first.
+schedule: other ipmb 2C 1000260510000000005A00
+lines -> 4 out: phase Fresh / frames 0 / undo 0 / records same / fault 1 Changing
 schedule: noise ipmb 2018C82C0001D3
 lines -> 4 out: phase Fresh / frames 0 / undo 0 / records same / fault 1 Forged
 schedule: start / idle ipmb 2C
@@ -146,12 +149,15 @@ frames -> 3 err: schedule Line 2
 schedule: start\r
 frames -> 3 err: schedule Line 1
 
-story a plan of 257 steps has too many
+story a plan of 257 steps has too many, and one of 256 is played
 board sample
 plan
   257 x [[step]] / kind = \"power-policy\" / policy = 2
 schedule: start
 lines -> 3 err: plan TooMany
+plan
+  256 x [[step]] / kind = \"power-policy\" / policy = 2
+lines -> 0 out: phase Getting 0 / frames 1 / undo 0 / records same
 ";
 
 #[test]

@@ -22,6 +22,11 @@ bmclab frame --board board.toml 2018C82C0001D3 -> 3 err: file board.toml
 memory board
 bmclab frame --board board.toml 2018C82C0001D3 -> 5 err: memory
 
+story a packet goes to the board that is named
+board sample
+swap tid = 5 => tid = 9
+bmclab frame --bus smbus --board board.toml 200F0931010A08C801800002BE -> 0 out: 300F0B2101080AC001000002000938
+
 story a play is shown as the line says
 board sample
 plan events
@@ -54,10 +59,116 @@ unreadable plan
 unreadable schedule
 bmclab play --chart board.toml plan.toml schedule.txt -> 3 err: file board.toml
 
-story a line that asks for nothing says nothing
-bmclab -> 2
-bmclab frame --board none.toml 201 -> 2
-bmclab play none.toml none.toml -> 2
+story a line that asks for nothing says why
+bmclab -> 2 err
+  error: 'bmclab' requires a subcommand but one was not provided
+    [subcommands: frame, play, help] /  / Usage: bmclab <COMMAND> /  / For more information, try '--help'.
+bmclab frmae 20 -> 2 err
+  error: unrecognized subcommand 'frmae' /  /   tip: a similar subcommand exists: 'frame' /  / Usage: bmclab <COMMAND> /  / For more information, try '--help'.
+bmclab --version -> 2 err
+  error: unexpected argument '--version' found /  / Usage: bmclab <COMMAND> /  / For more information, try '--help'.
+bmclab -V -> 2 err
+  error: unexpected argument '-V' found /  / Usage: bmclab <COMMAND> /  / For more information, try '--help'.
+bmclab frame -> 2 err
+  error: the following required arguments were not provided:
+    <HEX> /  / Usage: bmclab frame <HEX> /  / For more information, try '--help'.
+bmclab frame '' -> 2 err
+  error: invalid value '' for '<HEX>': two hexadecimal digits for each byte, without spaces and without 0x /  / Usage: bmclab frame [OPTIONS] <HEX> /  / For more information, try '--help'.
+bmclab frame --buss smbus 2018 -> 2 err
+  error: unexpected argument '--buss' found /  /   tip: a similar argument exists: '--bus' /  / Usage: bmclab frame --bus <BUS> <HEX> /  / For more information, try '--help'.
+bmclab frame --bus i2c 2018 -> 2 err
+  error: invalid value 'i2c' for '--bus <BUS>'
+    [possible values: ipmb, smbus] /  / Usage: bmclab frame [OPTIONS] <HEX> /  / For more information, try '--help'.
+bmclab frame --bus -> 2 err
+  error: a value is required for '--bus <BUS>' but none was supplied /  / For more information, try '--help'.
+bmclab frame --board a --board b 20 -> 2 err
+  error: the argument '--board <FILE>' cannot be used multiple times /  / Usage: bmclab frame [OPTIONS] <HEX> /  / For more information, try '--help'.
+bmclab frame 2018 2018 -> 2 err
+  error: unexpected argument '2018' found /  / Usage: bmclab frame [OPTIONS] <HEX> /  / For more information, try '--help'.
+bmclab frame 2018C82C0001D -> 2 err
+  error: invalid value '2018C82C0001D' for '<HEX>': two hexadecimal digits for each byte, without spaces and without 0x /  / Usage: bmclab frame [OPTIONS] <HEX> /  / For more information, try '--help'.
+bmclab frame 20~18~C8~2C~00~01~D3 -> 2 err
+  error: invalid value '20 18 C8 2C 00 01 D3' for '<HEX>': two hexadecimal digits for each byte, without spaces and without 0x /  / Usage: bmclab frame [OPTIONS] <HEX> /  / For more information, try '--help'.
+bmclab frame 0x2018 -> 2 err
+  error: invalid value '0x2018' for '<HEX>': two hexadecimal digits for each byte, without spaces and without 0x /  / Usage: bmclab frame [OPTIONS] <HEX> /  / For more information, try '--help'.
+bmclab play sample.toml -> 2 err
+  error: the following required arguments were not provided:
+    <PLAN>
+    <SCHEDULE> /  / Usage: bmclab play <BOARD> <PLAN> <SCHEDULE> /  / For more information, try '--help'.
+bmclab play --chart --frames a b c -> 2 err
+  error: the argument '--frames' cannot be used with '--chart' /  / Usage: bmclab play [OPTIONS] <BOARD> <PLAN> <SCHEDULE> /  / For more information, try '--help'.
+bmclab play --frames=yes a b c -> 2 err
+  error: unexpected value 'yes' for '--frames' found; no more were expected /  / Usage: bmclab play --frames <BOARD> <PLAN> <SCHEDULE> /  / For more information, try '--help'.
+bmclab play a b c d -> 2 err
+  error: unexpected argument 'd' found /  / Usage: bmclab play [OPTIONS] <BOARD> <PLAN> <SCHEDULE> /  / For more information, try '--help'.
+
+story a request for help is refused, and helped
+bmclab --help -> 2 err
+  Sends frames to a modelled board controller, and plays plans on it and takes them back /  / Usage: bmclab <COMMAND> /  / Commands:
+    frame  Sends one frame to a fresh controller, and prints what it sends back
+    play   Plays a plan on a board, over buses that lose, repeat and delay frames
+    help   Print this message or the help of the given subcommand(s) /  / Options:
+    -h, --help  Print help /  / Examples:
+    bmclab frame 2018C82C0001D3
+    bmclab play sample.toml examples/clean/plan.toml examples/clean/schedule.txt
+bmclab -h -> 2 err
+  Sends frames to a modelled board controller, and plays plans on it and takes them back /  / Usage: bmclab <COMMAND> /  / Commands:
+    frame  Sends one frame to a fresh controller, and prints what it sends back
+    play   Plays a plan on a board, over buses that lose, repeat and delay frames
+    help   Print this message or the help of the given subcommand(s) /  / Options:
+    -h, --help  Print help /  / Examples:
+    bmclab frame 2018C82C0001D3
+    bmclab play sample.toml examples/clean/plan.toml examples/clean/schedule.txt
+bmclab help -> 2 err
+  Sends frames to a modelled board controller, and plays plans on it and takes them back /  / Usage: bmclab <COMMAND> /  / Commands:
+    frame  Sends one frame to a fresh controller, and prints what it sends back
+    play   Plays a plan on a board, over buses that lose, repeat and delay frames
+    help   Print this message or the help of the given subcommand(s) /  / Options:
+    -h, --help  Print help /  / Examples:
+    bmclab frame 2018C82C0001D3
+    bmclab play sample.toml examples/clean/plan.toml examples/clean/schedule.txt
+bmclab frame --help -> 2 err
+  Sends one frame to a fresh controller, and prints what it sends back /  / Usage: bmclab frame [OPTIONS] <HEX> /  / Arguments:
+    <HEX>  The frame, as in 2018C82C0001D3: two hexadecimal digits for each byte, without spaces and without 0x /  / Options:
+        --bus <BUS>     The bus, as in --bus smbus:
+                        ipmb   the frame is one of IPMB; so it is where no bus is named
+                        smbus  it is a packet of MCTP
+        --board <FILE>  The board file, as in --board sample.toml; the sample board where none is named
+    -h, --help          Print help /  / Examples:
+    bmclab frame 2018C82C0001D3
+    bmclab frame --bus smbus --board sample.toml 200F0931010A08C801800002BE
+bmclab help frame -> 2 err
+  Sends one frame to a fresh controller, and prints what it sends back /  / Usage: bmclab frame [OPTIONS] <HEX> /  / Arguments:
+    <HEX>  The frame, as in 2018C82C0001D3: two hexadecimal digits for each byte, without spaces and without 0x /  / Options:
+        --bus <BUS>     The bus, as in --bus smbus:
+                        ipmb   the frame is one of IPMB; so it is where no bus is named
+                        smbus  it is a packet of MCTP
+        --board <FILE>  The board file, as in --board sample.toml; the sample board where none is named
+    -h, --help          Print help /  / Examples:
+    bmclab frame 2018C82C0001D3
+    bmclab frame --bus smbus --board sample.toml 200F0931010A08C801800002BE
+bmclab play --help -> 2 err
+  Plays a plan on a board, over buses that lose, repeat and delay frames /  / Usage: bmclab play [OPTIONS] <BOARD> <PLAN> <SCHEDULE> /  / Arguments:
+    <BOARD>     The board file, as sample.toml
+    <PLAN>      The plan, as examples/clean/plan.toml
+    <SCHEDULE>  The schedule: what comes when, as examples/clean/schedule.txt /  / Options:
+        --frames  Prints each frame, too, as in frame 0 mgr ipmb 2010D02C002905A6
+        --chart   Draws the play in place of its lines
+    -h, --help    Print help /  / Examples:
+    bmclab play sample.toml examples/clean/plan.toml examples/clean/schedule.txt
+    bmclab play --frames sample.toml examples/clean/plan.toml examples/clean/schedule.txt
+    bmclab play --chart sample.toml examples/clean/plan.toml examples/clean/schedule.txt
+bmclab play -h a b c -> 2 err
+  Plays a plan on a board, over buses that lose, repeat and delay frames /  / Usage: bmclab play [OPTIONS] <BOARD> <PLAN> <SCHEDULE> /  / Arguments:
+    <BOARD>     The board file, as sample.toml
+    <PLAN>      The plan, as examples/clean/plan.toml
+    <SCHEDULE>  The schedule: what comes when, as examples/clean/schedule.txt /  / Options:
+        --frames  Prints each frame, too, as in frame 0 mgr ipmb 2010D02C002905A6
+        --chart   Draws the play in place of its lines
+    -h, --help    Print help /  / Examples:
+    bmclab play sample.toml examples/clean/plan.toml examples/clean/schedule.txt
+    bmclab play --frames sample.toml examples/clean/plan.toml examples/clean/schedule.txt
+    bmclab play --chart sample.toml examples/clean/plan.toml examples/clean/schedule.txt
 ";
 
 /// What the words ask for.
@@ -86,43 +197,43 @@ asks bmclab play --chart sample.toml plan.toml schedule.txt -> chart sample.toml
 asks bmclab play sample.toml plan.toml schedule.txt --chart -> chart sample.toml plan.toml schedule.txt
 
 story other lines are refused
-asks bmclab -> RefusedWords
-asks bmclab frame -> RefusedWords
-asks bmclab frame --bus can 2018 -> RefusedWords
-asks bmclab frame --bus -> RefusedWords
-asks bmclab frame --board -> RefusedWords
-asks bmclab frame --board sample.toml -> RefusedWords
-asks bmclab frame --board sample.toml --board sample.toml 2018 -> RefusedWords
-asks bmclab frame --board sample.toml 201 -> RefusedWords
-asks bmclab frame 2018 2018 -> RefusedWords
-asks bmclab frame --lun 0 2018 -> RefusedWords
-asks bmclab send 2018 -> RefusedWords
-asks bmclab play -> RefusedWords
-asks bmclab play sample.toml plan.toml -> RefusedWords
-asks bmclab play --frames sample.toml plan.toml -> RefusedWords
-asks bmclab play sample.toml plan.toml schedule.txt undo -> RefusedWords
-asks bmclab play --frames --frames sample.toml plan.toml schedule.txt -> RefusedWords
-asks bmclab play --frames=yes sample.toml plan.toml schedule.txt -> RefusedWords
-asks bmclab play --chart --frames sample.toml plan.toml schedule.txt -> RefusedWords
-asks bmclab play --frames sample.toml plan.toml schedule.txt --chart -> RefusedWords
-asks bmclab play --chart --chart sample.toml plan.toml schedule.txt -> RefusedWords
-asks bmclab play --chart sample.toml plan.toml -> RefusedWords
-asks bmclab play --board sample.toml plan.toml schedule.txt -> RefusedWords
-asks bmclab frame --frames 2018 -> RefusedWords
-asks bmclab frame --chart 2018 -> RefusedWords
-asks bmclab play --help -> RefusedWords
-asks bmclab help -> RefusedWords
-asks bmclab --help -> RefusedWords
+asks bmclab -> refused
+asks bmclab frame -> refused
+asks bmclab frame --bus can 2018 -> refused
+asks bmclab frame --bus -> refused
+asks bmclab frame --board -> refused
+asks bmclab frame --board sample.toml -> refused
+asks bmclab frame --board sample.toml --board sample.toml 2018 -> refused
+asks bmclab frame --board sample.toml 201 -> refused
+asks bmclab frame 2018 2018 -> refused
+asks bmclab frame --lun 0 2018 -> refused
+asks bmclab send 2018 -> refused
+asks bmclab play -> refused
+asks bmclab play sample.toml plan.toml -> refused
+asks bmclab play --frames sample.toml plan.toml -> refused
+asks bmclab play sample.toml plan.toml schedule.txt undo -> refused
+asks bmclab play --frames --frames sample.toml plan.toml schedule.txt -> refused
+asks bmclab play --frames=yes sample.toml plan.toml schedule.txt -> refused
+asks bmclab play --chart --frames sample.toml plan.toml schedule.txt -> refused
+asks bmclab play --frames sample.toml plan.toml schedule.txt --chart -> refused
+asks bmclab play --chart --chart sample.toml plan.toml schedule.txt -> refused
+asks bmclab play --chart sample.toml plan.toml -> refused
+asks bmclab play --board sample.toml plan.toml schedule.txt -> refused
+asks bmclab frame --frames 2018 -> refused
+asks bmclab frame --chart 2018 -> refused
+asks bmclab play --help -> refused
+asks bmclab help -> refused
+asks bmclab --help -> refused
 
 story a bus or bytes that are none are refused
-asks bmclab frame --bus '' 2018 -> RefusedWords
-asks bmclab frame --bus IPMB 2018 -> RefusedWords
-asks bmclab frame --bus smbus~ 2018 -> RefusedWords
-asks bmclab frame '' -> RefusedWords
-asks bmclab frame 201 -> RefusedWords
-asks bmclab frame 20~18 -> RefusedWords
-asks bmclab frame 2G -> RefusedWords
-asks bmclab frame --bus smbus 0x20 -> RefusedWords
+asks bmclab frame --bus '' 2018 -> refused
+asks bmclab frame --bus IPMB 2018 -> refused
+asks bmclab frame --bus smbus~ 2018 -> refused
+asks bmclab frame '' -> refused
+asks bmclab frame 201 -> refused
+asks bmclab frame 20~18 -> refused
+asks bmclab frame 2G -> refused
+asks bmclab frame --bus smbus 0x20 -> refused
 ";
 
 #[test]

@@ -403,6 +403,11 @@ plan events
 schedule: start / to-bmc 0 / to-mgr 1
 lines -> 0 out: phase Halted 0 GetRefused CB / frames 2 / undo 0 / records same
 
+story a board file has the positive hysteresis before the negative one
+board sample
+swap hysteresis = [2, 2] => hysteresis = [3, 1]
+ipmb 2010D02C042505FFA7 -> 0 out: 2C14C0200425000301B3
+
 story each record that changed counts
 board sample
 plan events

@@ -39,7 +39,19 @@ lines -> 0 out
   undo 1
   smbus 0307000000000501000106007261636B2D31
   records changed 1
-then: undo / to-bmc 13 / to-mgr 14
+schedule: start / to-bmc 0 / to-mgr 1
+frames -> 0 out
+  phase Setting 0 / frames 6 / undo 0 / records same
+  frame 0 mgr smbus 200F1031010A08C801800308000000000101000B
+  frame 1 bmc smbus 300F1A2101080AC00100030800000000000501000106007261636B2D3150
+  frame 2 mgr smbus 200F4531010A0889018103070000000005010001C800{50*78}73
+  frame 3 mgr smbus 200F4531010A0819{64*78}50
+  frame 4 mgr smbus 200F4531010A0829{64*78}6F
+  frame 5 mgr smbus 200F1B31010A0879{22*78}6E
+schedule
+  start / to-bmc 0 / to-mgr 1 / to-bmc 2 / to-bmc 3 / to-bmc 5 / quiet / to-bmc 6 / other smbus 0B 01800002 / to-bmc 7
+  other smbus 0C 01800002 / to-bmc 8 / to-bmc 5 / to-bmc 9 / to-mgr 12
+  undo / to-bmc 13 / to-mgr 14
 lines -> 0 out
   phase Undone
   frames 15
@@ -248,6 +260,23 @@ lines -> 4 out
   ipmb 102405FF0202
   records changed 1
   fault 83 Aged
+
+# The numbers of requests go round: the Get of step 32 is request 64, and its frame 128.
+story request 64 has the bytes of request 0
+board sample
+plan
+  33 x [[step]] / kind = \"hysteresis\" / sensor = 5 / positive = {1+1} / negative = 2
+schedule
+  start
+  64 x to-bmc {0+2} / to-mgr {1+2}
+frames -> 0 out
+  phase Getting 32 / frames 129 / undo 32
+  31 x ipmb 102405FF{x31-1}02
+  ipmb 102405FF0202
+  records changed 1
+  frame 0 mgr ipmb 2010D02C002505FFAB
+  ..
+  frame 128 mgr ipmb 2010D02C002505FFAB
 
 story forty steps are undone
 board sample

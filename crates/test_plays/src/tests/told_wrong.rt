@@ -15,7 +15,7 @@ frames -> 0 out: phase Done / ..
 chart -> 0 out: event
 ipmb 2018C82C0001D3 -> 0 out: 2C1CB820000100200101050207CDAB003412F0
 smbus 2018C82C0001D3 -> 1 out: ignored NotMctp
-bmclab frame 201 -> 3
+bmclab frame 2018C82C0001D3 -> 3
 asks bmclab frame 2018 -> smbus 2018
 swap id = 0x20 => id = 0x21
 same ipmb 2018C82C0001D3
@@ -54,7 +54,7 @@ every run is told wrong, line 8: status 0, out \"phase Fresh\\nframes 0\\nundo 0
 every run is told wrong, line 9: status 0, out \"event mgr  |comes             sends            |bmc     phase\\n\", err \"\"
 every run is told wrong, line 10: status 0, out \"2C1CB820000100200101050207CDAB003412F1\\n\", err \"\"
 every run is told wrong, line 11: status 1, out \"ignored Short\\n\", err \"\"
-every run is told wrong, line 12: status 2, out \"\", err \"\"
+every run is told wrong, line 12: status 0, out \"2C1CB820000100200101050207CDAB003412F1\\n\", err \"\"
 every run is told wrong, line 13: ipmb 2018
 every run is told wrong, line 15: status 0, out \"2C1CB820000100210101050207CDAB003412F0\\n\", err \"\"
 every run is told wrong, line 17: can't be read

@@ -1,9 +1,11 @@
 //! Writers that fail.
+use bmc_host::{Refusal, refuse};
 use bmc_lab::{Console, Ending, Report, Status, Stream, frame_run};
 use bmc_play::play_run;
 use std::alloc::{AllocError, Global};
 use std::io;
 use std::process::Abort;
+use std::test::Fail;
 use two_wire::Bus;
 
 /// What a writer was given, and how many of its calls are left before the one that fails, if one is to fail.
@@ -159,9 +161,26 @@ fn a_run_that_is_refused_memory_or_a_file_says_so(rt: HostRuntime) {
     expect_ending(&rt, rt.alloc(), &refused, Some(0), ("", Status::Output));
 }
 
+/// The refusal ends so, and this is written to standard error, whose writer fails behind so many calls, if it does.
+fn expect_refusal(
+    rt: &impl Abort,
+    alloc: Global,
+    refusal: &Refusal,
+    left: Option<usize>,
+    want: (&str, u8),
+) {
+    let (text, status) = want;
+    let mut papers = new_papers(alloc, (Some(0), left));
+    assert_eq!(rt; refuse(refusal, &mut papers), status);
+    assert!(rt; papers.out.text.is_empty());
+    assert_eq!(rt; papers.err.text.as_slice(), text.as_bytes());
+}
+
 #[test]
-fn a_run_whose_words_are_refused_writes_nothing_and_ends_with_2(rt: HostRuntime) {
-    let words = Ending::without_report(Status::RefusedWords);
-    assert!(rt; words.text.is_empty());
-    assert_eq!(rt; u8::from(words.status), 2);
+fn words_are_refused_with_a_text_or_for_memory(rt: HostRuntime) -> Result<(), Fail> {
+    let why = Refusal::Words(String::from_str(rt.alloc(), "no\n")?);
+    expect_refusal(&rt, rt.alloc(), &why, None, ("no\n", 2));
+    expect_refusal(&rt, rt.alloc(), &why, Some(0), ("", 6));
+    expect_refusal(&rt, rt.alloc(), &Refusal::Memory, None, ("memory\n", 5));
+    Ok(())
 }

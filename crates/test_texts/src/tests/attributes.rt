@@ -63,7 +63,7 @@ string_type = 0 | string_type = 255 => reads
 at least = 2
 => Missing attribute 1 least
 least = 2.0 => WrongType attribute 1 least
-least = -1 | least = 65536 => Range attribute 1 least
+least = -1 | least = 201 => Range attribute 1 least
 least = 0 | least = 4 => reads
 at most = 8
 => Missing attribute 1 most
@@ -128,9 +128,8 @@ name = 1 => WrongType attribute 1 name
 name = "" | name = "Boot" => reads
 
 # The first fault counts.
-# An enumeration without values can have none.
 at values = ["disk", "net"]
-values = [] => Range attribute 0 default
+values = [] => Range attribute 0 values
 values = ["disk"] => Range attribute 0 current
 # The bound that leaves no value is the fault, and else the value beyond it.
 at least = 2

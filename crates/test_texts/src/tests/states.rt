@@ -110,14 +110,13 @@ behind [[numeric]]\nid = 4\nsize = 0\noperational = 1\nlower = 0\nupper = 1\ncur
 [[state]]\nid = 4\noperational = 1\nstates = [[1]]\ncurrent = [1] => holds 1 StateEffecter { id: 4,
 [[state]]\nid = 4\noperational = 1\nstates = [[1]]\ncurrent = [1] => holds 1 NumericEffecter { id: 4,
 
-# An effecter has at most 8 fields, and a field at most 256 states.
+# An effecter has at most 8 fields, and a field any number of states.
 behind [[state]]\nid = 9\noperational = 1\nstates =
  []\ncurrent = [] => Range state 0 states
  [<1:[1, 2], >]\ncurrent = [<1:2, >] => holds 1 StateField {
  [<8:[1, 2], >]\ncurrent = [<8:2, >] => holds 8 StateField {
  [<9:[1, 2], >]\ncurrent = [<9:2, >] => Range state 0 states
- [[<256:7, >]]\ncurrent = [7] => reads
- [[<257:7, >]]\ncurrent = [7] => Range state 0 states
+ [[<257:7, >]]\ncurrent = [7] => reads
 
 # Steps on the states of an effecter.
 file plan

@@ -4,7 +4,7 @@ use Rattle.bmc_host.proofs.words.play_command.Goals as goal
 
 pub returns : goal.returns
 returns c =
-    let one = adds_rule _ _ _ _ _ (c.new.ensures.app, c.new.ensures.local) c.flag.ensures c.in_ok-arg.ensures in
+    let one = adds_rule _ _ _ _ _ c.new_command.ensures c.flag.ensures c.in_ok-arg.ensures in
     let two = adds_rule _ _ _ _ _ one c.flag-2.ensures c.in_ok-arg-2.ensures in
     let three = adds_rule _ _ _ _ _ two c.needed.ensures c.in_ok-arg-3.ensures in
     let four = adds_rule _ _ _ _ _ three c.needed-2.ensures c.in_ok-arg-4.ensures in

@@ -3,19 +3,18 @@ use Rattle.std.proofs.lemmas.Result.{err_from_is_err_and}
 use Rattle.clap.specs.Words.{found_of}
 use Rattle.clap.proofs.WalkLemmas.{first_value-rows, one_text-rows}
 use Rattle.bmc_host.specs.Asked.{says_yes, shown_of}
-use Rattle.bmc_host.proofs.Readings.{first_by_rows, refuses_more, shown_refuses}
+use Rattle.bmc_host.proofs.Readings.{first_by_rows, refuses_more, refuses_none, shown_refuses}
 use Rattle.bmc_host.proofs.words.play_words.Goals as goal
 
-pub returns-in_err-shown-clause-refused : goal.returns-in_err-shown-clause-refused
-returns-in_err-shown-clause-refused c =
-    let p = err_from_is_err_and c.from_residual.result c.from_residual.ensures.1 in
+pub returns-in_default-clause-refused : goal.returns-in_default-clause-refused
+returns-in_default-clause-refused c =
     let frames = c.has_flag.ensures ∙ ap says_yes (one_text-rows (found_of c.args.matches.now) (codes "frames")) in
     let chart = c.has_flag-2.ensures ∙ ap says_yes (one_text-rows (found_of c.args.matches.now) (codes "chart")) in
-    rw (p.1, p.2) (refuses_more _ _ _ (λ asked asks. (asked.shown, ap₂ shown_of frames chart ∙ asks.shown)) (shown_refuses c.has_flag.result c.has_flag-2.result _ (sym c.shown.ensures ∙ c.in_err-shown.was)))
+    refuses_none _ c.shown_refusal.result (λ asked asks. shown_refuses c.has_flag.result c.has_flag-2.result (sym c.shown.ensures ∙ c.in_default.is) asked.shown (ap₂ shown_of frames chart ∙ asks.shown))
 
 pub returns-in_err-named-clause-refused : goal.returns-in_err-named-clause-refused
 returns-in_err-named-clause-refused c =
-    let p = err_from_is_err_and c.from_residual-in_err-named.result c.from_residual-in_err-named.ensures.1 in
+    let p = err_from_is_err_and c.from_residual.result c.from_residual.ensures.1 in
     rw (p.1, p.2) (refuses_more _ _ _ (λ asked asks. (string_bytes asked.board, first_value-rows (found_of c.args.matches.now) (codes "BOARD") ∙ asks.board)) c.in_err-named.ensures.refused)
 
 pub returns-in_err-named-2-clause-refused : goal.returns-in_err-named-2-clause-refused
@@ -33,7 +32,7 @@ returns-clause-asked c =
     let frames = c.has_flag.ensures ∙ ap says_yes (one_text-rows (found_of c.args.matches.now) (codes "frames")) in
     let chart = c.has_flag-2.ensures ∙ ap says_yes (one_text-rows (found_of c.args.matches.now) (codes "chart")) in
     record {
-      shown = sym (ap₂ shown_of frames chart) ∙ (sym c.shown.ensures ∙ c.in_ok-shown.was);
+      shown = sym (ap₂ shown_of frames chart) ∙ (sym c.shown.ensures ∙ c.in-Some.is);
       board = first_by_rows (found_of c.args.matches.now) (codes "BOARD") _ c.in_ok-named.ensures.word;
       plan = first_by_rows (found_of c.args.matches.now) (codes "PLAN") _ c.in_ok-named-2.ensures.word;
       schedule = first_by_rows (found_of c.args.matches.now) (codes "SCHEDULE") _ c.in_ok-named-3.ensures.word;

@@ -8,7 +8,7 @@ use Rattle.text_board.proofs.AttributeFields.{lengths_there, most_below}
 use Rattle.text_board.proofs.attribute_items.lengths.Goals as goal
 
 pub word_in-least-requires : goal.word_in-least-requires
-word_in-least-requires c = below 65536 (number_of (table_view c.args.table.now) field.Least 0 65535 (all_sound STRING (table_view c.args.table.now) c.requires).1.1.1.0) (lit< tt)
+word_in-least-requires c = below 65536 (number_of (table_view c.args.table.now) field.Least 0 200 (all_sound STRING (table_view c.args.table.now) c.requires).1.1.1.0) (lit< tt)
 
 pub word_in-requires : goal.word_in-requires
 word_in-requires c = most_below (table_view c.args.table.now) (lengths_there (table_view c.args.table.now) (all_sound STRING (table_view c.args.table.now) c.requires).1.1.1.1.0)

@@ -1,5 +1,4 @@
-use Rattle.std.proofs.Common.{◌≡◌, true, nat_le, length, sym, ◌∙◌, ap}
-use Rattle.std.proofs.lemmas.Bool.{and_parts}
+use Rattle.std.proofs.Common.{◌≡◌, true, sym, ◌∙◌, ap}
 use Rattle.std.proofs.lemmas.List.Folds.{list_all-map}
 use Rattle.std.specs.List.{list_all, AllZip}
 use Rattle.toml.specs.View.{view}
@@ -11,9 +10,7 @@ use Rattle.text_board.proofs.state_items.field_of.Goals as goal
 
 pub states_of-requires : goal.states_of-requires
 states_of-requires c =
-    let ds = or_none (members (view c.args.states.now)) in
-    let (few, all) = and_parts (nat_le (length ds) 256) (list_all is_state ds) c.requires.states in
-    sym (list_all-map is_state view c.members_of.result.now) ∙ ap (list_all is_state) c.members_of.ensures ∙ all
+    sym (list_all-map is_state view c.members_of.result.now) ∙ ap (list_all is_state) c.members_of.ensures ∙ c.requires.states
 
 pub state-requires : goal.state-requires
 state-requires c = present_small (view c.args.states.now) (view c.args.current.now) c.requires.states c.requires.current

@@ -13,5 +13,7 @@ at_most m n h = grind (arith, nat_tests)
 pub returns-then-values-le-MOST_INDEXES : goal.returns-then-values-le-MOST_INDEXES
 returns-then-values-le-MOST_INDEXES c =
     let values = c.members_of-values.result.now in
+    let some : 1 ≤ length values = grind (arith, c.if-is_empty.false, c.if-is_empty.ensures, c.is_empty.ensures) in
+    let least : nat_le 1 (length (map view values)) ≡ true = at_most _ _ (rw (length-map values view) some) in
     let few : nat_le (length (map view values)) 16 ≡ true = at_most _ _ (rw (length-map values view) c.if-values-le-MOST_INDEXES.true) in
-    rw (← c.members_of-values.ensures, few) (c.all_texts.ensures ∙ sym (list_all-map (λ (d : Data). is_some (text_of d)) view values))
+    rw (← c.members_of-values.ensures, least, few) (c.all_texts.ensures ∙ sym (list_all-map (λ (d : Data). is_some (text_of d)) view values))
