@@ -11,7 +11,7 @@ ghost use Rattle.text_board.specs.Faults.{attribute_rows, attribute_faults_at, a
 
 use crate::check::check;
 use crate::fault::{FileFault, Item};
-use crate::tables::{ATTRIBUTE, ENUMERATION, INTEGER, STRING, TOP};
+use crate::tables::{ATTRIBUTE, ENUMERATION, INTEGER, STRING, TopFields};
 use cfg_records::{
     Attribute, AttributeKind, Attributes, Distinct, EnumerationAttribute, Indexes,
     IntegerAttribute, IntegerSteps, StringAttribute, Text, TextLengths,
@@ -19,7 +19,7 @@ use cfg_records::{
 use std::alloc::Global;
 use text_fields::attributes::{indexes_of, text, text_in};
 use text_fields::tree::{byte_in, flag, has_text, members_in, number, number_in, word_in};
-use text_fields::{Field, Row};
+use text_fields::{Checked, Field, Row};
 use toml::{Table, Value};
 
 /// The fields of the attribute that the table is: those of the kind that it names.
@@ -185,12 +185,11 @@ fn attributes_of(alloc: Global, values: &[Value]) -> Result<Vec<Attribute>, File
 }
 
 /// The attributes of the file.
-pub fn attributes(alloc: Global, tree: &Table) -> Result<Attributes, FileFault>
-    requires { field_faults TOP (table_view tree.now) ≡ [] }
-    ensures sound { IfOk result (λ _. attribute_faults (members_in Field.Attribute (table_view tree.now)) ≡ []) }
-    ensures held { IfOk result (λ attributes. HoldsAttributes (members_in Field.Attribute (table_view tree.now)) attributes.items) }
-    ensures err { IfErr result (λ why. (why ≡ FileFault.Memory) ⊎ (first (attribute_faults (members_in Field.Attribute (table_view tree.now))) ≡ Some why)) }
+pub fn attributes(alloc: Global, top: &Checked<'_, TopFields>) -> Result<Attributes, FileFault>
+    ensures sound { IfOk result (λ _. attribute_faults (members_in Field.Attribute (table_view top.now.table.now)) ≡ []) }
+    ensures held { IfOk result (λ attributes. HoldsAttributes (members_in Field.Attribute (table_view top.now.table.now)) attributes.items) }
+    ensures err { IfErr result (λ why. (why ≡ FileFault.Memory) ⊎ (first (attribute_faults (members_in Field.Attribute (table_view top.now.table.now))) ≡ Some why)) }
 {
-    let attributes = attributes_of(alloc, members_in(tree, Field::Attribute))?;
+    let attributes = attributes_of(alloc, top.tables(Field::Attribute))?;
     Ok(Distinct::new(attributes).unwrap())
 }

@@ -11,11 +11,11 @@ ghost use Rattle.text_board.specs.Holds.{HoldsBoot, HoldsDevice, HoldsEvents, Ho
 
 use crate::attribute_items::attributes;
 use crate::channel_items::file_channels;
-use crate::check::check;
+use crate::check::{check, checked};
 use crate::effecters::numeric_effecters;
 use crate::fault::{FileFault, Item, Place};
 use crate::state_items::state_effecters;
-use crate::tables::{DEVICE, SENSOR, TOP};
+use crate::tables::{DeviceFields, SENSOR, TopFields};
 use crate::users::users;
 use cfg_records::event_enable::{MESSAGES_PLACE, SCANNING_PLACE};
 use cfg_records::mask::has;
@@ -24,25 +24,23 @@ use cfg_records::{
     ManufacturerId, Numbered, PowerPolicy, SdrRecord, SdrRecords, Sensor, Sensors, Watchdog,
 };
 use std::alloc::Global;
-use text_fields::Field;
 use text_fields::range::{boot_flags, digits, enables, record, thresholds, watchdog};
-use text_fields::tree::{byte_in, members_in, number_in, pair_in, table_in, value_in, word_in};
+use text_fields::tree::{byte_in, members_in, pair_in, value_in, word_in};
+use text_fields::{Checked, Field};
 use toml::{Table, Value};
 
 /// What the table says of its board.
-fn device(table: &Table) -> Device
-    requires { field_faults DEVICE (table_view table.now) ≡ [] }
-    ensures { HoldsDevice (table_view table.now) result }
+fn device(item: &Checked<'_, DeviceFields>) -> Device
+    ensures { HoldsDevice (table_view item.now.table.now) result }
 {
-    let minor = value_in(table, Field::Minor);
     Device {
-        id: byte_in(table, Field::Id),
-        revision: byte_in(table, Field::Revision),
-        major: byte_in(table, Field::Major),
-        minor: digits(minor).unwrap(),
-        support: byte_in(table, Field::Support),
-        manufacturer: ManufacturerId::new(number_in(table, Field::Manufacturer)).unwrap(),
-        product: word_in(table, Field::Product),
+        id: item.byte(Field::Id),
+        revision: item.byte(Field::Revision),
+        major: item.byte(Field::Major),
+        minor: digits(item.value(Field::Minor)).unwrap(),
+        support: item.byte(Field::Support),
+        manufacturer: ManufacturerId::new(item.number(Field::Manufacturer)).unwrap(),
+        product: item.word(Field::Product),
     }
 }
 
@@ -125,22 +123,20 @@ fn sensors_of(alloc: Global, values: &[Value]) -> Result<Vec<Sensor>, FileFault>
 }
 
 /// The sensors of the file.
-fn sensors(alloc: Global, tree: &Table) -> Result<Sensors, FileFault>
-    requires { field_faults TOP (table_view tree.now) ≡ [] }
-    ensures sound { IfOk result (λ _. sensor_faults (members_in Field.Sensor (table_view tree.now)) ≡ []) }
-    ensures held { IfOk result (λ sensors. AllZip IsSensorIn (members_in Field.Sensor (table_view tree.now)) sensors.items) }
-    ensures err { IfErr result (λ why. (why ≡ FileFault.Memory) ⊎ (first (sensor_faults (members_in Field.Sensor (table_view tree.now))) ≡ Some why)) }
+fn sensors(alloc: Global, top: &Checked<'_, TopFields>) -> Result<Sensors, FileFault>
+    ensures sound { IfOk result (λ _. sensor_faults (members_in Field.Sensor (table_view top.now.table.now)) ≡ []) }
+    ensures held { IfOk result (λ sensors. AllZip IsSensorIn (members_in Field.Sensor (table_view top.now.table.now)) sensors.items) }
+    ensures err { IfErr result (λ why. (why ≡ FileFault.Memory) ⊎ (first (sensor_faults (members_in Field.Sensor (table_view top.now.table.now))) ≡ Some why)) }
 {
-    let sensors = sensors_of(alloc, members_in(tree, Field::Sensor))?;
+    let sensors = sensors_of(alloc, top.tables(Field::Sensor))?;
     Ok(Distinct::new(sensors).unwrap())
 }
 
 /// The global enables of the file.
-fn global_enables(tree: &Table) -> GlobalEnables
-    requires { field_faults TOP (table_view tree.now) ≡ [] }
-    ensures { HasNumber Field.Enables (table_view tree.now) result.byte }
+fn global_enables(top: &Checked<'_, TopFields>) -> GlobalEnables
+    ensures { HasNumber Field.Enables (table_view top.now.table.now) result.byte }
 {
-    enables(value_in(tree, Field::Enables)).unwrap()
+    enables(top.value(Field::Enables)).unwrap()
 }
 
 /// The sensor data records that these values are.
@@ -160,13 +156,12 @@ fn records_of(alloc: Global, values: &[Value]) -> Result<Vec<SdrRecord>, FileFau
 }
 
 /// The sensor data records of the file.
-fn sdr(alloc: Global, tree: &Table) -> Result<SdrRecords, FileFault>
-    requires { field_faults TOP (table_view tree.now) ≡ [] }
-    ensures sound { IfOk result (λ _. record_faults (members_in Field.Sdr (table_view tree.now)) ≡ []) }
-    ensures held { IfOk result (λ sdr. AllZip IsRecordIn (members_in Field.Sdr (table_view tree.now)) sdr.items) }
-    ensures err { IfErr result (λ why. (why ≡ FileFault.Memory) ⊎ (first (record_faults (members_in Field.Sdr (table_view tree.now))) ≡ Some why)) }
+fn sdr(alloc: Global, top: &Checked<'_, TopFields>) -> Result<SdrRecords, FileFault>
+    ensures sound { IfOk result (λ _. record_faults (members_in Field.Sdr (table_view top.now.table.now)) ≡ []) }
+    ensures held { IfOk result (λ sdr. AllZip IsRecordIn (members_in Field.Sdr (table_view top.now.table.now)) sdr.items) }
+    ensures err { IfErr result (λ why. (why ≡ FileFault.Memory) ⊎ (first (record_faults (members_in Field.Sdr (table_view top.now.table.now))) ≡ Some why)) }
 {
-    let records = records_of(alloc, members_in(tree, Field::Sdr))?;
+    let records = records_of(alloc, members_in(top.table, Field::Sdr))?;
     match Distinct::new(records) {
         Some(records) => Ok(records),
         None => Err(FileFault::Twice(Place {
@@ -177,65 +172,59 @@ fn sdr(alloc: Global, tree: &Table) -> Result<SdrRecords, FileFault>
 }
 
 /// The boot options of the file.
-fn boot_options(tree: &Table) -> BootOptions
-    requires { field_faults TOP (table_view tree.now) ≡ [] }
-    ensures { HoldsBoot (table_view tree.now) result }
+fn boot_options(top: &Checked<'_, TopFields>) -> BootOptions
+    ensures { HoldsBoot (table_view top.now.table.now) result }
 {
-    let clearing = byte_in(tree, Field::Boot3);
-    let acknowledge = byte_in(tree, Field::Boot4);
-    let five = value_in(tree, Field::Boot5);
+    let clearing = top.byte(Field::Boot3);
+    let acknowledge = top.byte(Field::Boot4);
+    let five = top.value(Field::Boot5);
     let flags = boot_flags(five).unwrap();
     BootOptions::new(clearing, acknowledge, flags).unwrap()
 }
 
 /// The power policy of the file.
-fn power_policy(tree: &Table) -> PowerPolicy
-    requires { field_faults TOP (table_view tree.now) ≡ [] }
-    ensures { HasNumber Field.Policy (table_view tree.now) result.number }
+fn power_policy(top: &Checked<'_, TopFields>) -> PowerPolicy
+    ensures { HasNumber Field.Policy (table_view top.now.table.now) result.number }
 {
-    PowerPolicy::new(byte_in(tree, Field::Policy)).unwrap()
+    PowerPolicy::new(top.byte(Field::Policy)).unwrap()
 }
 
 /// The settings of the file's watchdog timer.
-fn timer(tree: &Table) -> Watchdog
-    requires { field_faults TOP (table_view tree.now) ≡ [] }
-    ensures { HasNumbers Field.Watchdog (table_view tree.now) (settings result) }
+fn timer(top: &Checked<'_, TopFields>) -> Watchdog
+    ensures { HasNumbers Field.Watchdog (table_view top.now.table.now) (settings result) }
 {
-    watchdog(value_in(tree, Field::Watchdog)).unwrap()
+    watchdog(top.value(Field::Watchdog)).unwrap()
 }
 
 /// How many records the log of the file has room for.
-fn log_capacity(tree: &Table) -> LogCapacity
-    requires { field_faults TOP (table_view tree.now) ≡ [] }
-    ensures { HasNumber Field.Log (table_view tree.now) result.records }
+fn log_capacity(top: &Checked<'_, TopFields>) -> LogCapacity
+    ensures { HasNumber Field.Log (table_view top.now.table.now) result.records }
 {
-    LogCapacity::new(word_in(tree, Field::Log)).unwrap()
+    LogCapacity::new(top.word(Field::Log)).unwrap()
 }
 
-/// The board that the tree holds, or its first fault.
-fn board_of(alloc: Global, tree: &Table) -> Result<BoardFile, FileFault>
-    ensures { (result ≡ Err FileFault.Memory) ⊎ Answers (table_view tree.now) result }
+/// The board that the tree holds whose own fields have no fault, or its first fault.
+fn board_in(alloc: Global, top: &Checked<'_, TopFields>) -> Result<BoardFile, FileFault>
+    ensures { (result ≡ Err FileFault.Memory) ⊎ Answers (table_view top.now.table.now) result }
 {
-    check(Item::Top, &TOP, tree)?;
-    let sdr = sdr(alloc, tree)?;
-    let board = table_in(tree, Field::Device);
-    check(Item::Device, &DEVICE, board)?;
-    let sensors = sensors(alloc, tree)?;
-    let file_channels = file_channels(alloc, tree)?;
-    let attributes = attributes(alloc, tree)?;
-    let state_effecters = state_effecters(alloc, tree)?;
-    let numeric_effecters = numeric_effecters(alloc, tree)?;
-    let users = users(alloc, tree)?;
+    let sdr = sdr(alloc, top)?;
+    let board = checked::<DeviceFields>(Item::Device, top.table(Field::Device))?;
+    let sensors = sensors(alloc, top)?;
+    let file_channels = file_channels(alloc, top.table)?;
+    let attributes = attributes(alloc, top)?;
+    let state_effecters = state_effecters(alloc, top)?;
+    let numeric_effecters = numeric_effecters(alloc, top)?;
+    let users = users(alloc, top.table)?;
     Ok(BoardFile {
-        tid: byte_in(tree, Field::Tid),
-        device: device(board),
+        tid: top.byte(Field::Tid),
+        device: device(&board),
         sensors,
-        enables: global_enables(tree),
-        boot: boot_options(tree),
-        policy: power_policy(tree),
-        watchdog: timer(tree),
-        clock: number_in(tree, Field::Clock),
-        log: log_capacity(tree),
+        enables: global_enables(top),
+        boot: boot_options(top),
+        policy: power_policy(top),
+        watchdog: timer(top),
+        clock: top.number(Field::Clock),
+        log: log_capacity(top),
         sdr,
         numeric_effecters,
         state_effecters,
@@ -245,6 +234,14 @@ fn board_of(alloc: Global, tree: &Table) -> Result<BoardFile, FileFault>
         user_accesses: file_channels.accesses,
         attributes,
     })
+}
+
+/// The board that the tree holds, or its first fault.
+fn board_of(alloc: Global, tree: &Table) -> Result<BoardFile, FileFault>
+    ensures { (result ≡ Err FileFault.Memory) ⊎ Answers (table_view tree.now) result }
+{
+    let top = checked::<TopFields>(Item::Top, tree)?;
+    board_in(alloc, &top)
 }
 
 /// The board that the text holds, or why it is no board file: its first fault, in the order in which `TOP`, `DEVICE`, `SENSOR`,

@@ -11,12 +11,12 @@ ghost use Rattle.text_board.specs.Holds.{HoldsRange, HoldsNumeric, IsNumericIn, 
 
 use crate::check::check;
 use crate::fault::{FileFault, Item, Place};
-use crate::tables::{NUMERIC, TOP};
+use crate::tables::{NUMERIC, TopFields};
 use cfg_records::{Distinct, NumericEffecter, NumericEffecters, NumericRange};
 use std::alloc::Global;
-use text_fields::Field;
 use text_fields::numeric::{size_in, sized_in};
-use text_fields::tree::{byte_in, members_in, word_in};
+use text_fields::tree::{byte_in, word_in};
+use text_fields::{Checked, Field};
 use toml::{Table, Value};
 
 /// The operational state of an effecter that is enabled.
@@ -93,12 +93,14 @@ fn effecters_of(alloc: Global, values: &[Value]) -> Result<Vec<NumericEffecter>,
 }
 
 /// The numeric effecters of the file.
-pub fn numeric_effecters(alloc: Global, tree: &Table) -> Result<NumericEffecters, FileFault>
-    requires { field_faults TOP (table_view tree.now) ≡ [] }
-    ensures sound { IfOk result (λ _. numeric_faults (members_in Field.Numeric (table_view tree.now)) ≡ []) }
-    ensures held { IfOk result (λ effecters. AllZip IsNumericIn (members_in Field.Numeric (table_view tree.now)) effecters.items) }
-    ensures err { IfErr result (λ why. (why ≡ FileFault.Memory) ⊎ (first (numeric_faults (members_in Field.Numeric (table_view tree.now))) ≡ Some why)) }
+pub fn numeric_effecters(
+    alloc: Global,
+    top: &Checked<'_, TopFields>,
+) -> Result<NumericEffecters, FileFault>
+    ensures sound { IfOk result (λ _. numeric_faults (members_in Field.Numeric (table_view top.now.table.now)) ≡ []) }
+    ensures held { IfOk result (λ effecters. AllZip IsNumericIn (members_in Field.Numeric (table_view top.now.table.now)) effecters.items) }
+    ensures err { IfErr result (λ why. (why ≡ FileFault.Memory) ⊎ (first (numeric_faults (members_in Field.Numeric (table_view top.now.table.now))) ≡ Some why)) }
 {
-    let effecters = effecters_of(alloc, members_in(tree, Field::Numeric))?;
+    let effecters = effecters_of(alloc, top.tables(Field::Numeric))?;
     Ok(Distinct::new(effecters).unwrap())
 }

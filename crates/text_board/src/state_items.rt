@@ -12,11 +12,11 @@ ghost use Rattle.text_board.specs.Holds.{IsFieldIn, IsPresentIn, HoldsState, IsS
 use crate::check::check;
 use crate::effecters::ENABLED;
 use crate::fault::{FileFault, Item, Place};
-use crate::tables::{STATE, TOP};
+use crate::tables::{STATE, TopFields};
 use cfg_records::{Distinct, Items, StateEffecter, StateEffecters, StateField};
 use std::alloc::Global;
-use text_fields::Field;
 use text_fields::tree::{byte_in, members_in, members_of, natural, word_in};
+use text_fields::{Checked, Field};
 use toml::{Table, Value};
 
 /// The state that the value is.
@@ -139,12 +139,14 @@ fn effecters_of(alloc: Global, values: &[Value]) -> Result<Vec<StateEffecter>, F
 }
 
 /// The state effecters of the file.
-pub fn state_effecters(alloc: Global, tree: &Table) -> Result<StateEffecters, FileFault>
-    requires { field_faults TOP (table_view tree.now) ≡ [] }
-    ensures sound { IfOk result (λ _. state_faults (members_in Field.State (table_view tree.now)) ≡ []) }
-    ensures held { IfOk result (λ effecters. AllZip IsStateIn (members_in Field.State (table_view tree.now)) effecters.items) }
-    ensures err { IfErr result (λ why. (why ≡ FileFault.Memory) ⊎ (first (state_faults (members_in Field.State (table_view tree.now))) ≡ Some why)) }
+pub fn state_effecters(
+    alloc: Global,
+    top: &Checked<'_, TopFields>,
+) -> Result<StateEffecters, FileFault>
+    ensures sound { IfOk result (λ _. state_faults (members_in Field.State (table_view top.now.table.now)) ≡ []) }
+    ensures held { IfOk result (λ effecters. AllZip IsStateIn (members_in Field.State (table_view top.now.table.now)) effecters.items) }
+    ensures err { IfErr result (λ why. (why ≡ FileFault.Memory) ⊎ (first (state_faults (members_in Field.State (table_view top.now.table.now))) ≡ Some why)) }
 {
-    let effecters = effecters_of(alloc, members_in(tree, Field::State))?;
+    let effecters = effecters_of(alloc, top.tables(Field::State))?;
     Ok(Distinct::new(effecters).unwrap())
 }

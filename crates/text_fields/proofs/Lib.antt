@@ -8,3 +8,4 @@ pub mod Sizes
 pub mod SizedFields
 pub mod StateChanges
 pub mod Unique
+pub mod CheckedRows

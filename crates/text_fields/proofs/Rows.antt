@@ -76,7 +76,7 @@ pub record Number (tree : Members) (field : Field) (least most : ℕ) : Type 0 w
   pub above : least ≤ number
   pub within : number ≤ most
 
-number_cases : (tree : Members) (field : Field) (least most : ℕ) (d : Data) (o : Option ℕ) → in_field field tree ≡ Some d → natural d ≡ o → passes (is_between least most) o ≡ true → Number tree field least most
+pub number_cases : (tree : Members) (field : Field) (least most : ℕ) (d : Data) (o : Option ℕ) → in_field field tree ≡ Some d → natural d ≡ o → passes (is_between least most) o ≡ true → Number tree field least most
 number_cases tree field least most d (Some n) found is within = record {
   number = n;
   found = rw (found, is);

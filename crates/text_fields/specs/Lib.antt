@@ -8,3 +8,4 @@ pub mod Attributes
 pub mod Ranges
 pub mod Faults
 pub mod FaultNames
+pub mod CheckedRows

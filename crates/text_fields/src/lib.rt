@@ -4,6 +4,7 @@
 pub mod attributes;
 pub mod channels;
 mod check;
+mod checked;
 mod fault;
 mod field;
 pub mod numeric;
@@ -14,6 +15,7 @@ pub mod tree;
 pub mod users;
 
 pub use check::first_fault;
+pub use checked::{Checked, Fields};
 pub use fault::FieldFault;
 pub use field::Field;
 pub use row::{BYTE, Need, Row, Shape};

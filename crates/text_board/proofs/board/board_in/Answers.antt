@@ -1,0 +1,110 @@
+use Rattle.std.proofs.Common.{◌≡◌, [], Err, map, inl, inr, sym, ◌∙◌, ap}
+use Rattle.std.proofs.lemmas.Result.{err_from_is_err_and}
+use Rattle.toml.specs.View.{table_view}
+use Rattle.text_fields.specs.declared.field.Field.TheVariants as field
+use Rattle.text_board.specs.declared.fault.Item.TheVariants as item
+use Rattle.text_board.specs.declared.tables.TheConstants.{DEVICE}
+use Rattle.text_fields.specs.Trees.{table_in}
+use Rattle.text_fields.specs.Faults.{field_faults, first}
+use Rattle.text_board.specs.Faults.{fault_at}
+use Rattle.text_board.specs.Holds.{HoldsDevice}
+use Rattle.text_board.proofs.Sensors.{records_first, device_first, sensors_first, channels_first, attributes_first, states_first, effecters_first, no_faults}
+use Rattle.text_board.proofs.board.board_in.Goals as goal
+
+pub returns-in_err-sdr : goal.returns-in_err-sdr
+returns-in_err-sdr c =
+    let p = err_from_is_err_and c.from_residual.result c.from_residual.ensures.1 in
+    rw (p.1, p.2) (elim c.in_err-sdr.ensures.err [
+      | inl memory ↦ inl (ap Err memory)
+      | inr counts ↦ inr (records_first (table_view c.args.top.now.table.now) c.in_err-sdr.field-0.0 c.args.top.now.sound counts)
+    ])
+
+pub returns-in_err-board : goal.returns-in_err-board
+returns-in_err-board c =
+    let p = err_from_is_err_and c.from_residual-in_err-board.result c.from_residual-in_err-board.ensures.1 in
+    let counts = ap (λ t. first (map (fault_at item.Device) (field_faults DEVICE t))) (sym c.table.ensures) ∙ c.in_err-board.ensures.err in
+    rw (p.1, p.2) (inr (device_first (table_view c.args.top.now.table.now) c.in_err-board.field-0.0 c.args.top.now.sound c.in_ok-sdr.ensures.sound counts))
+
+pub returns-in_err-sensors : goal.returns-in_err-sensors
+returns-in_err-sensors c =
+    let p = err_from_is_err_and c.from_residual-in_err-sensors.result c.from_residual-in_err-sensors.ensures.1 in
+    let device : field_faults DEVICE (table_in field.Device (table_view c.args.top.now.table.now)) ≡ [] = ap (field_faults DEVICE) (sym c.table.ensures) ∙ c.in_ok-board.ensures.sound in
+    rw (p.1, p.2) (elim c.in_err-sensors.ensures.err [
+      | inl memory ↦ inl (ap Err memory)
+      | inr counts ↦ inr (sensors_first (table_view c.args.top.now.table.now) c.in_err-sensors.field-0.0 c.args.top.now.sound c.in_ok-sdr.ensures.sound device counts)
+    ])
+
+pub returns-in_err-file_channels : goal.returns-in_err-file_channels
+returns-in_err-file_channels c =
+    let p = err_from_is_err_and c.from_residual-in_err-file_channels.result c.from_residual-in_err-file_channels.ensures.1 in
+    let device : field_faults DEVICE (table_in field.Device (table_view c.args.top.now.table.now)) ≡ [] = ap (field_faults DEVICE) (sym c.table.ensures) ∙ c.in_ok-board.ensures.sound in
+    rw (p.1, p.2) (elim c.in_err-file_channels.ensures.err [
+      | inl memory ↦ inl (ap Err memory)
+      | inr counts ↦ inr (channels_first (table_view c.args.top.now.table.now) c.in_err-file_channels.field-0.0 c.args.top.now.sound c.in_ok-sdr.ensures.sound device c.in_ok-sensors.ensures.sound counts)
+    ])
+
+pub file_channels-requires : goal.file_channels-requires
+file_channels-requires c = c.args.top.now.sound
+
+pub returns-in_err-attributes : goal.returns-in_err-attributes
+returns-in_err-attributes c =
+    let p = err_from_is_err_and c.from_residual-in_err-attributes.result c.from_residual-in_err-attributes.ensures.1 in
+    let device : field_faults DEVICE (table_in field.Device (table_view c.args.top.now.table.now)) ≡ [] = ap (field_faults DEVICE) (sym c.table.ensures) ∙ c.in_ok-board.ensures.sound in
+    rw (p.1, p.2) (elim c.in_err-attributes.ensures.err [
+      | inl memory ↦ inl (ap Err memory)
+      | inr counts ↦ inr (attributes_first (table_view c.args.top.now.table.now) c.in_err-attributes.field-0.0 c.args.top.now.sound c.in_ok-sdr.ensures.sound device c.in_ok-sensors.ensures.sound c.in_ok-file_channels.ensures.sound counts)
+    ])
+
+pub returns-in_err-state_effecters : goal.returns-in_err-state_effecters
+returns-in_err-state_effecters c =
+    let p = err_from_is_err_and c.from_residual-in_err-state_effecters.result c.from_residual-in_err-state_effecters.ensures.1 in
+    let device : field_faults DEVICE (table_in field.Device (table_view c.args.top.now.table.now)) ≡ [] = ap (field_faults DEVICE) (sym c.table.ensures) ∙ c.in_ok-board.ensures.sound in
+    rw (p.1, p.2) (elim c.in_err-state_effecters.ensures.err [
+      | inl memory ↦ inl (ap Err memory)
+      | inr counts ↦ inr (states_first (table_view c.args.top.now.table.now) c.in_err-state_effecters.field-0.0 c.args.top.now.sound c.in_ok-sdr.ensures.sound device c.in_ok-sensors.ensures.sound c.in_ok-file_channels.ensures.sound c.in_ok-attributes.ensures.sound counts)
+    ])
+
+pub returns-in_err-numeric_effecters : goal.returns-in_err-numeric_effecters
+returns-in_err-numeric_effecters c =
+    let p = err_from_is_err_and c.from_residual-in_err-numeric_effecters.result c.from_residual-in_err-numeric_effecters.ensures.1 in
+    let device : field_faults DEVICE (table_in field.Device (table_view c.args.top.now.table.now)) ≡ [] = ap (field_faults DEVICE) (sym c.table.ensures) ∙ c.in_ok-board.ensures.sound in
+    rw (p.1, p.2) (elim c.in_err-numeric_effecters.ensures.err [
+      | inl memory ↦ inl (ap Err memory)
+      | inr counts ↦ inr (effecters_first (table_view c.args.top.now.table.now) c.in_err-numeric_effecters.field-0.0 c.args.top.now.sound c.in_ok-sdr.ensures.sound device c.in_ok-sensors.ensures.sound c.in_ok-file_channels.ensures.sound c.in_ok-attributes.ensures.sound c.in_ok-state_effecters.ensures.sound counts)
+    ])
+
+pub returns-in_err-users : goal.returns-in_err-users
+returns-in_err-users c =
+    let p = err_from_is_err_and c.from_residual-in_err-users.result c.from_residual-in_err-users.ensures.1 in
+    rw (p.1, p.2) (inl (ap Err c.in_err-users.ensures.err))
+
+pub users-requires : goal.users-requires
+users-requires c = c.args.top.now.sound
+
+pub returns : goal.returns
+returns c =
+    let tree = table_view c.args.top.now.table.now in
+    let device : field_faults DEVICE (table_in field.Device tree) ≡ [] = ap (field_faults DEVICE) (sym c.table.ensures) ∙ c.in_ok-board.ensures.sound in
+    let holds : HoldsDevice (table_in field.Device tree) c.device.result = rw (← c.table.ensures, ← c.in_ok-board.ensures.ok) c.device.ensures in
+    inr (
+      no_faults tree c.args.top.now.sound c.in_ok-sdr.ensures.sound device c.in_ok-sensors.ensures.sound c.in_ok-file_channels.ensures.sound c.in_ok-attributes.ensures.sound c.in_ok-state_effecters.ensures.sound c.in_ok-numeric_effecters.ensures.sound,
+      record {
+        terminus = c.byte.ensures.held;
+        clock = c.number.ensures.held;
+        log = c.log_capacity.ensures;
+        enables = c.global_enables.ensures;
+        sdr = c.in_ok-sdr.ensures.held;
+        boot = c.boot_options.ensures;
+        policy = c.power_policy.ensures;
+        watchdog = c.timer.ensures;
+        device = holds;
+        sensors = c.in_ok-sensors.ensures.held;
+        states = c.in_ok-state_effecters.ensures.held;
+        effecters = c.in_ok-numeric_effecters.ensures.held;
+        users = c.in_ok-users.ensures.held;
+        channels = c.in_ok-file_channels.ensures.channels;
+        sessionless = c.in_ok-file_channels.ensures.sessionless;
+        accesses = c.in_ok-file_channels.ensures.accesses;
+        attributes = c.in_ok-attributes.ensures.held;
+      },
+    )
