@@ -6,7 +6,7 @@ ghost use Rattle.bmc_links.specs.Scripts.{most_kept, fits, head_of, rest_of};
 ghost use Rattle.bmc_links.specs.declared.mem_link.MemFault.TheVariants.{TooLong};
 
 use crate::link::{Counts, Heard, Link, LinkFault};
-use std::alloc::{AllocError, Global};
+use std::alloc::Global;
 use std::vec::IntoIter;
 use two_wire::Frame;
 

@@ -1,5 +1,5 @@
 -- A packet that joins one of a recent request joins one of its own request, and the other way round.
-use Rattle.std.proofs.Common.{◌≡◌, ℕ, ◌+◌, ◌%◌, ◌<◌, ◌≤◌, Bool, true, false, List, [], ◌∷◌, length, Option, Some, None, refl, sym, ◌∙◌, ap, subst, arith, inl}
+use Rattle.std.proofs.Common.{◌≡◌, ℕ, ◌+◌, ◌%◌, ◌<◌, ◌≤◌, true, false, List, [], ◌∷◌, length, Option, Some, None, refl, sym, ◌∙◌, ap, subst, arith, inl}
 use Rattle.std.specs.Prelude.{◌==◌, slice_get, IfSome}
 use Rattle.std.proofs.lemmas.Bool.{false≢true}
 use Rattle.std.proofs.lemmas.List.{length-map}
@@ -8,7 +8,7 @@ use Rattle.two_wire.specs.declared.Bus.{Bus}
 use Rattle.two_wire.specs.declared.Bus.TheVariants.{Ipmb, Smbus}
 use Rattle.mctp_net.specs.declared.packet.Packet.{Packet}
 use Rattle.mctp_net.specs.Cut.{Piece}
-use Rattle.mctp_net.specs.Assembly.{name_of, taken_under, joined_to, drop_cause}
+use Rattle.mctp_net.specs.Assembly.{name_of, taken_under, drop_cause}
 use Rattle.mctp_net.proofs.Causes.{passes, joined-more}
 use Rattle.record_base.specs.declared.op.Op.{Op}
 use Rattle.cfg_records.specs.declared.board_file.BoardFile.{BoardFile}
@@ -24,9 +24,8 @@ use Rattle.model_bus.proofs.Assemblies.{one_tag}
 use Rattle.model_undo.specs.World.{States}
 use Rattle.undo_plans.specs.declared.names.Names.{Names}
 use Rattle.model_lab.specs.Spelled.{numbers_of}
-use Rattle.model_lab.specs.Seen.{seen, seen_name, AreSeen}
+use Rattle.model_lab.specs.Seen.{seen, AreSeen}
 use Rattle.model_lab.specs.Values.{Value, Asks, Tells, Part}
-use Rattle.model_lab.specs.PortEvents.{name_in}
 use Rattle.model_lab.specs.Faults.{begun_on}
 use Rattle.model_lab.specs.Honest.{IsLive, IsDelivered}
 use Rattle.model_lab.specs.Own.{JoinsOwn, IsOwn}

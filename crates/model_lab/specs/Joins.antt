@@ -1,5 +1,5 @@
 -- That no packet joins one that has waited too long: a count of requests.
-use Rattle.std.specs.Prelude.{◌≡◌, ℕ, ◌+◌, ◌≤◌, false, List, [], ◌∷◌, None, slice_get, IfSome}
+use Rattle.std.specs.Prelude.{◌≡◌, ◌+◌, ◌≤◌, false, List, [], ◌∷◌, None, slice_get, IfSome}
 use Rattle.two_wire.specs.declared.Bus.TheVariants.{Smbus}
 use Rattle.mctp_net.specs.Assembly.{drop_cause}
 use Rattle.cfg_records.specs.declared.board_file.BoardFile.{BoardFile}

@@ -1,8 +1,8 @@
 -- The sensors of a file beside those that were read.
-use Rattle.std.proofs.Common.{◌≡◌, ℕ, ◌≤◌, [], map, length, true, Some, refl, arith, nat_le, option_and_then, is_some, IsSome}
+use Rattle.std.proofs.Common.{◌≡◌, ℕ, ◌≤◌, [], map, length, true, Some, refl, arith, nat_le, is_some}
 use Rattle.std.proofs.lemmas.Bool.{and_parts}
 use Rattle.std.proofs.lemmas.Bool.Decides.{nat_tests}
-use Rattle.toml.specs.Data.{as_table, Data, Members}
+use Rattle.toml.specs.Data.{Data, Members}
 use Rattle.text_fields.specs.declared.field.Field.{Field}
 use Rattle.text_fields.specs.declared.row.Shape.TheVariants as shape
 use Rattle.text_fields.specs.declared.row.Need.TheVariants as need
@@ -34,12 +34,6 @@ records_there tree field most sound =
     let v = value_of tree (record { 0 = field; 1 = shape.Records most; 2 = need.Always }) (in_field field tree) refl refl sound in
     let (few, all) = and_parts (nat_le (length (or_none (members v.value))) most) (list_all (λ d. is_some (record_in d)) (or_none (members v.value))) v.within in
     rw v.found (all, le_from _ _ few)
-
--- a table that an item without a fault has
-pub table_there : (tree : Members) (field : Field) → Sound tree (record { 0 = field; 1 = shape.Table; 2 = need.Always }) → IsSome (option_and_then as_table (in_field field tree))
-table_there tree field sound =
-    let v = value_of tree (record { 0 = field; 1 = shape.Table; 2 = need.Always }) (in_field field tree) refl refl sound in
-    rw v.found v.typed
 
 -- ---- the faults of a board file
 

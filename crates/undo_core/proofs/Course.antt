@@ -263,13 +263,6 @@ module _ (names : Names) where
     deed_alike joined (Some t) None alike on = absurd alike
     deed_alike joined (Some t) (Some u) alike on = record { states = record { machines = alike.0; named = refl; joined = refl }; sent = same_sent t.sends u.sends s.names alike.1 on }
 
-    machine_call : Call → MachineCall
-    machine_call Start = CallStart
-    machine_call Quiet = CallQuiet
-    machine_call Stop = CallStop
-    machine_call Again = CallAgain
-    machine_call Undo = CallUndo
-
     call_by : (c : MachineCall) (joined : Assemblies) → AreAlikeDeeds (or_rests names (option_map (goes_on (board_plans names) (record s { joined = joined })) (machine_turn (words_of names) c s.machine)) s)
         (or_rests names (option_map (goes_on (board_plans names) (record other { joined = joined })) (machine_turn (words_of names) c other.machine)) other)
     call_by c joined =

@@ -1,10 +1,9 @@
-use Rattle.std.proofs.Common.{◌≤◌, length, map, sym, ap, ◌∙◌}
+use Rattle.std.proofs.Common.{length, map, sym, ap, ◌∙◌}
 use Rattle.std.proofs.lemmas.List.{length-map}
 use Rattle.std.proofs.lemmas.List.Folds.{list_all-map}
 use Rattle.std.specs.List.{list_all}
 use Rattle.toml.specs.View.{view, table_view}
 use Rattle.text_fields.specs.Ranges.{is_table}
-use Rattle.text_fields.specs.CheckedRows.{row_of, most_tables}
 use Rattle.text_fields.proofs.CheckedRows.{tables_there}
 use Rattle.text_fields.proofs.checked.Checked.tables.Goals as goal
 
