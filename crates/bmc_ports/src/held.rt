@@ -1,12 +1,10 @@
 //! A board with its history.
-ghost use Rattle.std.specs.Prelude.{◌≡◌, ◌≤◌, ◌<◌, ◌↔◌, ◌++◌, ◌∷◌, [], IfOk, IfErr, OnOk, OnErr, IsErr, IsTrue, length, vec_len, vec_capacity};
+ghost use Rattle.std.specs.Prelude.{◌≡◌, ◌≤◌, ◌<◌, ◌↔◌, [], IfOk, IfErr, OnOk, OnErr, IsErr, IsTrue, length, vec_len, vec_capacity};
 ghost use Rattle.record_base.specs.Meaning.{room_for};
 ghost use Rattle.bmc_board.specs.State.{state_of};
-ghost use Rattle.bmc_board.specs.Answer.{answer_of};
-ghost use Rattle.bmc_board.specs.Row.{Row};
-ghost use Rattle.bmc_board.specs.Sensing.{bench_of};
 ghost use Rattle.bmc_ports.specs.Replay.{Replays, IsRoom};
 ghost use Rattle.bmc_ports.specs.Matching.{Matches};
+ghost use Rattle.bmc_ports.specs.Calls.{IsRow, IsReply, IsHappening, GainsEvent};
 ghost use Rattle.bmc_ports.specs.ReplayLaws.{Replays-prop};
 ghost use Rattle.bmc_ports.specs.declared.event.Call.TheVariants.{Exchanged, Benched};
 ghost use Rattle.bmc_ports.specs.declared.held.OpenFault.TheVariants.{Room};
@@ -45,7 +43,9 @@ pub struct Held<J: Opening, S: Store> {
     ghost room_is: { room ≡ J.room },
     ghost within: { vec_len history ≤ room },
     ghost roomy: { room ≤ vec_capacity history },
-    ghost replays: { Replays J.setup J.opening history.items (state_of S.records board) } by { Replays-prop J.setup J.opening history.items (state_of S.records board) },
+    ghost replays: { Replays J.setup J.opening history.items
+        (state_of S.records board) } by { Replays-prop J.setup J.opening history.items
+            (state_of S.records board) },
 }
 
 impl<J: Opening, S: Store> Held<J, S> {
@@ -95,7 +95,8 @@ impl<J: Opening, S: Store> Held<J, S> {
         self.history.as_slice()
     }
 
-    /// Whether a seat's list is the history's of that seat, and the history is full where the seat was refused.
+    /// Whether a seat's list is the history's of that seat, and the history is full where the seat
+    /// was refused.
     pub fn matches(&self, seat: u8, calls: &[Call], refused: bool) -> bool
         ensures { IsTrue result ↔ Matches J.room self.now.history.items seat calls.now refused }
     {
@@ -121,10 +122,11 @@ impl<J: Opening, S: Store> Held<J, S> {
     /// Has the board answer, and adds that to the history.
     fn answer(&mut self, port: u8, asked: &Asked) -> Answered
         requires { vec_len self.old.history < self.old.room }
-        ensures row { Row J.setup (state_of S.records self.old.board) asked.now result (state_of S.records self.new.board) }
-        ensures answer { (result, state_of S.records self.new.board) ≡ answer_of J.setup (state_of S.records self.old.board) asked.now }
+        ensures row { IsRow J.setup S.records self.old.board self.new.board asked.now result }
+        ensures answer { IsReply J.setup S.records self.old.board self.new.board asked.now result }
         ensures fits { length result.body ≤ room_for asked.now }
-        ensures history { self.new.history.items ≡ self.old.history.items ++ record { seat = port; call = Exchanged asked.now result } ∷ [] }
+        ensures history { GainsEvent self.old.history.items self.new.history.items
+            port (Exchanged asked.now result) }
     {
         let Held {
             board,
@@ -140,12 +142,17 @@ impl<J: Opening, S: Store> Held<J, S> {
         answered
     }
 
-    /// The board's answer to a request, which the history gains. It takes no memory. Where the history has no room, nothing changes.
+    /// The board's answer to a request, which the history gains. It takes no memory. Where the
+    /// history has no room, nothing changes.
     pub fn exchange(&mut self, port: u8, asked: &Asked) -> Result<Answered, PeriodFull>
-        ensures row { IfOk result (λ answered. Row J.setup (state_of S.records self.old.board) asked.now answered (state_of S.records self.new.board)) }
-        ensures answer { IfOk result (λ answered. (answered, state_of S.records self.new.board) ≡ answer_of J.setup (state_of S.records self.old.board) asked.now) }
+        ensures row { IfOk result
+            (IsRow J.setup S.records self.old.board self.new.board asked.now) }
+        ensures answer { IfOk result
+            (IsReply J.setup S.records self.old.board self.new.board asked.now) }
         ensures fits { IfOk result (λ answered. length answered.body ≤ room_for asked.now) }
-        ensures history { IfOk result (λ answered. self.new.history.items ≡ self.old.history.items ++ record { seat = port; call = Exchanged asked.now answered } ∷ []) }
+        ensures history { IfOk result (λ answered.
+            GainsEvent self.old.history.items self.new.history.items
+            port (Exchanged asked.now answered)) }
         ensures full { IsErr result ↔ (vec_len self.old.history ≡ J.room) }
         ensures same { OnErr result (self.new ≡ self.old) }
     {
@@ -158,8 +165,10 @@ impl<J: Opening, S: Store> Held<J, S> {
     /// Has something happen on the board, and adds that to the history.
     fn happen(&mut self, port: u8, bench: &Bench) -> Result<(), NoSensor>
         requires { vec_len self.old.history < self.old.room }
-        ensures answer { (result, state_of S.records self.new.board) ≡ bench_of J.setup (state_of S.records self.old.board) bench.now }
-        ensures history { self.new.history.items ≡ self.old.history.items ++ record { seat = port; call = Benched bench.now result } ∷ [] }
+        ensures answer { IsHappening J.setup S.records self.old.board self.new.board
+            bench.now result }
+        ensures history { GainsEvent self.old.history.items self.new.history.items
+            port (Benched bench.now result) }
     {
         let Held {
             board,
@@ -175,11 +184,14 @@ impl<J: Opening, S: Store> Held<J, S> {
         answered
     }
 
-    /// Something happens on the board beside requests, and the history gains it. It takes no memory. Where the history has no room, nothing
-    /// changes.
+    /// Something happens on the board beside requests, and the history gains it. It takes no
+    /// memory. Where the history has no room, nothing changes.
     pub fn bench(&mut self, port: u8, bench: Bench) -> Result<Result<(), NoSensor>, PeriodFull>
-        ensures answer { IfOk result (λ answered. (answered, state_of S.records self.new.board) ≡ bench_of J.setup (state_of S.records self.old.board) bench) }
-        ensures history { IfOk result (λ answered. self.new.history.items ≡ self.old.history.items ++ record { seat = port; call = Benched bench answered } ∷ []) }
+        ensures answer { IfOk result
+            (IsHappening J.setup S.records self.old.board self.new.board bench) }
+        ensures history { IfOk result (λ answered.
+            GainsEvent self.old.history.items self.new.history.items
+            port (Benched bench answered)) }
         ensures full { IsErr result ↔ (vec_len self.old.history ≡ J.room) }
         ensures same { OnErr result (self.new ≡ self.old) }
     {

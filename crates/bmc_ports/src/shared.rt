@@ -1,12 +1,10 @@
 //! A board that threads share, and its seats.
-ghost use Rattle.std.specs.Prelude.{◌≡◌, ◌+◌, ◌≤◌, ◌++◌, ◌∷◌, ◌↔◌, [], true, false, Err, Ok, IfOk, IfErr, IsOk, IsErr, IfSome, OnOk, OnErr, length, vec_len, vec_capacity};
+ghost use Rattle.std.specs.Prelude.{◌≡◌, ◌≤◌, ◌<◌, ◌^◌, ◌↔◌, true, IsTrue, IfOk, IfErr, IsOk, IsErr, IfSome, OnOk, OnErr, length, vec_len};
 ghost use Rattle.record_base.specs.Meaning.{room_for};
 ghost use Rattle.bmc_board.specs.State.{state_of};
-ghost use Rattle.bmc_board.specs.Answer.{answer_of};
-ghost use Rattle.bmc_board.specs.Row.{Row};
-ghost use Rattle.bmc_board.specs.Sensing.{bench_of};
 ghost use Rattle.bmc_ports.specs.Replay.{Replays, IsRoom};
-ghost use Rattle.bmc_ports.specs.Matching.{Matches};
+ghost use Rattle.bmc_ports.specs.Calls.{IsRow, IsReply, IsHappening, GainsEvent, GainsCall};
+ghost use Rattle.bmc_ports.specs.Seated.{IsBlank, IsFresh, SeatMatches, AllMatch, calls_made};
 ghost use Rattle.bmc_ports.specs.declared.event.Call.TheVariants.{Exchanged, Benched};
 ghost use Rattle.bmc_ports.specs.declared.held.OpenFault.TheVariants.{Room};
 ghost use Rattle.bmc_ports.specs.declared.shared.CloseFault.TheVariants.{Mismatch};
@@ -39,23 +37,29 @@ pub struct Shared<J: Opening, S: Store> {
 /// Why a board isn't closed.
 #[derive(Clone, Copy, Debug, PartialEq, Eq)]
 pub enum CloseFault {
-    /// A seat's list isn't the history's list of that seat, or a seat was refused though the history has room.
+    /// A seat's list isn't the history's list of that seat, or a seat was refused though the
+    /// history has room.
     Mismatch,
     /// The history isn't as long as the seats' lists together. It never comes.
     Count,
 }
 
 impl<J: Opening, S: Store> Locked<J, S> {
-    /// The board's answer to a request, which the history and the seat's list gain. Where the history has no room, the seat is marked as refused, and
-    /// nothing else changes.
+    /// The board's answer to a request, which the history and the seat's list gain. Where the
+    /// history has no room, the seat is marked as refused, and nothing else changes.
     pub fn exchange(&mut self, seat: &mut Seat<J>, asked: &Asked) -> Result<Answered, PeriodFull>
-        ensures row { IfOk result (λ answered. Row J.setup (state_of S.records self.old.held.board) asked.now answered (state_of S.records self.new.held.board)) }
-        ensures answer { IfOk result (λ answered. (answered, state_of S.records self.new.held.board) ≡ answer_of J.setup (state_of S.records self.old.held.board) asked.now) }
+        ensures row { IfOk result
+            (IsRow J.setup S.records self.old.held.board self.new.held.board asked.now) }
+        ensures answer { IfOk result
+            (IsReply J.setup S.records self.old.held.board self.new.held.board asked.now) }
         ensures fits { IfOk result (λ answered. length answered.body ≤ room_for asked.now) }
-        ensures history { IfOk result (λ answered. self.new.held.history.items ≡ self.old.held.history.items ++ record { seat = seat.old.number; call = Exchanged asked.now answered } ∷ []) }
+        ensures history { IfOk result (λ answered.
+            GainsEvent self.old.held.history.items self.new.held.history.items
+            seat.old.number (Exchanged asked.now answered)) }
         ensures full { IsErr result ↔ (vec_len self.old.held.history ≡ J.room) }
         ensures same { OnErr result (self.new.held ≡ self.old.held) }
-        ensures kept { IfOk result (λ answered. seat.new.calls.items ≡ seat.old.calls.items ++ Exchanged asked.now answered ∷ []) }
+        ensures kept { IfOk result (λ answered.
+            GainsCall seat.old.calls.items seat.new.calls.items (Exchanged asked.now answered)) }
         ensures mark { OnOk result (seat.new.refused ≡ seat.old.refused) }
         ensures same_list { OnErr result (seat.new.calls.items ≡ seat.old.calls.items) }
         ensures marked { OnErr result (seat.new.refused ≡ true) }
@@ -82,18 +86,22 @@ impl<J: Opening, S: Store> Locked<J, S> {
         }
     }
 
-    /// Something happens on the board beside requests, and the history and the seat's list gain it. Where the history has no room, the seat is marked as
-    /// refused, and nothing else changes.
+    /// Something happens on the board beside requests, and the history and the seat's list gain it.
+    /// Where the history has no room, the seat is marked as refused, and nothing else changes.
     pub fn bench(
         &mut self,
         seat: &mut Seat<J>,
         bench: Bench,
     ) -> Result<Result<(), NoSensor>, PeriodFull>
-        ensures answer { IfOk result (λ answered. (answered, state_of S.records self.new.held.board) ≡ bench_of J.setup (state_of S.records self.old.held.board) bench) }
-        ensures history { IfOk result (λ answered. self.new.held.history.items ≡ self.old.held.history.items ++ record { seat = seat.old.number; call = Benched bench answered } ∷ []) }
+        ensures answer { IfOk result
+            (IsHappening J.setup S.records self.old.held.board self.new.held.board bench) }
+        ensures history { IfOk result (λ answered.
+            GainsEvent self.old.held.history.items self.new.held.history.items
+            seat.old.number (Benched bench answered)) }
         ensures full { IsErr result ↔ (vec_len self.old.held.history ≡ J.room) }
         ensures same { OnErr result (self.new.held ≡ self.old.held) }
-        ensures kept { IfOk result (λ answered. seat.new.calls.items ≡ seat.old.calls.items ++ Benched bench answered ∷ []) }
+        ensures kept { IfOk result (λ answered.
+            GainsCall seat.old.calls.items seat.new.calls.items (Benched bench answered)) }
         ensures mark { OnOk result (seat.new.refused ≡ seat.old.refused) }
         ensures same_list { OnErr result (seat.new.calls.items ≡ seat.old.calls.items) }
         ensures marked { OnErr result (seat.new.refused ≡ true) }
@@ -123,9 +131,9 @@ impl<J: Opening, S: Store> Locked<J, S> {
 
 /// Room for each seat's list.
 fn lists(alloc: Global, room: usize) -> Option<(Vec<Call>, Vec<Call>, Vec<Call>)>
-    ensures first { IfSome result (λ lists. (lists.0.items ≡ []) × (room ≤ vec_capacity lists.0)) }
-    ensures second { IfSome result (λ lists. (lists.1.items ≡ []) × (room ≤ vec_capacity lists.1)) }
-    ensures scanner { IfSome result (λ lists. (lists.2.items ≡ []) × (room ≤ vec_capacity lists.2)) }
+    ensures first { IfSome result (λ lists. IsBlank room lists.0) }
+    ensures second { IfSome result (λ lists. IsBlank room lists.1) }
+    ensures scanner { IfSome result (λ lists. IsBlank room lists.2) }
 {
     Some((
         Vec::with_capacity(alloc, room).ok()?,
@@ -148,9 +156,9 @@ impl<J: Opening, S: Store + Drop> Shared<J, S> {
         requires setup { board.setup ≡ J.setup }
         requires opening { state_of S.records board ≡ J.opening }
         requires room { room ≡ J.room }
-        ensures first { IfOk result (λ opened. (opened.1.first.calls.items ≡ []) × (opened.1.first.refused ≡ false)) }
-        ensures second { IfOk result (λ opened. (opened.1.second.calls.items ≡ []) × (opened.1.second.refused ≡ false)) }
-        ensures scanner { IfOk result (λ opened. (opened.1.scanner.calls.items ≡ []) × (opened.1.scanner.refused ≡ false)) }
+        ensures first { IfOk result (λ opened. IsFresh opened.1.first) }
+        ensures second { IfOk result (λ opened. IsFresh opened.1.second) }
+        ensures scanner { IfOk result (λ opened. IsFresh opened.1.scanner) }
         ensures within { OnOk result (IsRoom room) }
         ensures room { IfErr result (λ e. (e.0 ≡ Room) ↔ ¬ IsRoom room) }
         ensures back { IfErr result (λ e. (e.1 ≡ blank) × (e.2 ≡ board)) }
@@ -173,7 +181,8 @@ impl<J: Opening, S: Store + Drop> Shared<J, S> {
         Ok((Shared { lock }, seats))
     }
 
-    /// Waits for the lock, and has the board answer a request. What it answers is `Locked::exchange`'s.
+    /// Waits for the lock, and has the board answer a request. What it answers is
+    /// `Locked::exchange`'s.
     pub fn exchange<R: Wait>(
         &self,
         rt: &R,
@@ -181,7 +190,8 @@ impl<J: Opening, S: Store + Drop> Shared<J, S> {
         asked: &Asked,
     ) -> Result<Answered, PeriodFull>
         ensures fits { IfOk result (λ answered. length answered.body ≤ room_for asked.now) }
-        ensures kept { IfOk result (λ answered. seat.new.calls.items ≡ seat.old.calls.items ++ Exchanged asked.now answered ∷ []) }
+        ensures kept { IfOk result (λ answered.
+            GainsCall seat.old.calls.items seat.new.calls.items (Exchanged asked.now answered)) }
         ensures mark { OnOk result (seat.new.refused ≡ seat.old.refused) }
         ensures same_list { OnErr result (seat.new.calls.items ≡ seat.old.calls.items) }
         ensures marked { OnErr result (seat.new.refused ≡ true) }
@@ -190,14 +200,16 @@ impl<J: Opening, S: Store + Drop> Shared<J, S> {
         self.lock.lock(rt).exchange(seat, asked)
     }
 
-    /// Waits for the lock, and has something happen on the board beside requests. What it answers is `Locked::bench`'s.
+    /// Waits for the lock, and has something happen on the board beside requests. What it answers
+    /// is `Locked::bench`'s.
     pub fn bench<R: Wait>(
         &self,
         rt: &R,
         seat: &mut Seat<J>,
         bench: Bench,
     ) -> Result<Result<(), NoSensor>, PeriodFull>
-        ensures kept { IfOk result (λ answered. seat.new.calls.items ≡ seat.old.calls.items ++ Benched bench answered ∷ []) }
+        ensures kept { IfOk result (λ answered.
+            GainsCall seat.old.calls.items seat.new.calls.items (Benched bench answered)) }
         ensures mark { OnOk result (seat.new.refused ≡ seat.old.refused) }
         ensures same_list { OnErr result (seat.new.calls.items ≡ seat.old.calls.items) }
         ensures marked { OnErr result (seat.new.refused ≡ true) }
@@ -206,16 +218,17 @@ impl<J: Opening, S: Store + Drop> Shared<J, S> {
         self.lock.lock(rt).bench(seat, bench)
     }
 
-    /// The board and its history, where the seats' lists are the history's. It takes no lock, since nobody shares the board any more. On a fault the board
-    /// isn't handed back.
+    /// The board and its history, where the seats' lists are the history's. It takes no lock, since
+    /// nobody shares the board any more. On a fault the board isn't handed back.
     pub fn close(self, seats: Seats<J>) -> Result<(Board<S>, History), CloseFault>
         requires three { J.parts ≡ 3 }
         ensures setup { IfOk result (λ closed. closed.0.setup ≡ J.setup) }
-        ensures replays { IfOk result (λ closed. Replays J.setup J.opening closed.1 (state_of S.records closed.0)) }
-        ensures first { IfOk result (λ closed. Matches J.room closed.1 0 seats.first.calls.items seats.first.refused) }
-        ensures second { IfOk result (λ closed. Matches J.room closed.1 1 seats.second.calls.items seats.second.refused) }
-        ensures scanner { IfOk result (λ closed. Matches J.room closed.1 2 seats.scanner.calls.items seats.scanner.refused) }
-        ensures counted { IfOk result (λ closed. length closed.1 ≡ length seats.first.calls.items + length seats.second.calls.items + length seats.scanner.calls.items) }
+        ensures replays { IfOk result (λ closed.
+            Replays J.setup J.opening closed.1 (state_of S.records closed.0)) }
+        ensures first { IfOk result (λ closed. SeatMatches J.room closed.1 0 seats.first) }
+        ensures second { IfOk result (λ closed. SeatMatches J.room closed.1 1 seats.second) }
+        ensures scanner { IfOk result (λ closed. SeatMatches J.room closed.1 2 seats.scanner) }
+        ensures counted { IfOk result (λ closed. length closed.1 ≡ calls_made seats) }
         ensures fault { IfErr result (λ fault. fault ≡ Mismatch) }
     {
         self.lock.into_inner().close(seats)
@@ -223,38 +236,68 @@ impl<J: Opening, S: Store + Drop> Shared<J, S> {
 }
 
 impl<J: Opening, S: Store + Drop> Locked<J, S> {
-    /// The board and its history, exactly where each seat's list is the history's of that seat, and the history is full where a seat was refused.
+    /// The board and its history, exactly where each seat's list is the history's of that seat, and
+    /// the history is full where a seat was refused.
     pub fn close(self, seats: Seats<J>) -> Result<(Board<S>, History), CloseFault>
         requires three { J.parts ≡ 3 }
-        ensures exact { IsOk result ↔ (Matches J.room self.held.history.items 0 seats.first.calls.items seats.first.refused × Matches J.room self.held.history.items 1 seats.second.calls.items seats.second.refused × Matches J.room self.held.history.items 2 seats.scanner.calls.items seats.scanner.refused) }
+        ensures exact { IsOk result ↔ AllMatch J.room self.held.history.items seats }
         ensures fault { IfErr result (λ fault. fault ≡ Mismatch) }
         ensures board { IfOk result (λ closed. closed.0 ≡ self.held.board) }
         ensures history { IfOk result (λ closed. closed.1 ≡ self.held.history.items) }
         ensures setup { IfOk result (λ closed. closed.0.setup ≡ J.setup) }
-        ensures replays { IfOk result (λ closed. Replays J.setup J.opening closed.1 (state_of S.records closed.0)) }
-        ensures counted { length self.held.history.items ≡ length seats.first.calls.items + length seats.second.calls.items + length seats.scanner.calls.items }
+        ensures replays { IfOk result (λ closed.
+            Replays J.setup J.opening closed.1 (state_of S.records closed.0)) }
+        ensures counted { length self.held.history.items ≡ calls_made seats }
     {
+        let matches = self.matches(&seats);
         let Locked { held, mut book } = self;
+        let calls = count_calls(&mut book, seats);
+        let fault = if matches {
+            CloseFault::Count
+        } else {
+            CloseFault::Mismatch
+        };
+        if matches && held.len() == calls {
+            Ok(held.into_parts())
+        } else {
+            Err(fault)
+        }
+    }
+
+    /// Whether each seat's list is the history's of that seat, and the history is full where a seat
+    /// was refused.
+    fn matches(&self, seats: &Seats<J>) -> bool
+        ensures { IsTrue result ↔ AllMatch J.room self.now.held.history.items seats.now }
+    {
         let Seats {
             first,
             second,
             scanner,
         } = seats;
-        let matches = held.matches(0, first.calls(), first.was_refused())
-            && held.matches(1, second.calls(), second.was_refused())
-            && held.matches(2, scanner.calls(), scanner.was_refused());
-        let (first, mut all) = first.into_parts();
-        let (second, share) = second.into_parts();
-        all.merge(share);
-        let (scanner, share) = scanner.into_parts();
-        all.merge(share);
-        book.audit(&mut all);
-        if !matches {
-            return Err(CloseFault::Mismatch);
-        }
-        if held.len() != first.len() + second.len() + scanner.len() {
-            return Err(CloseFault::Count);
-        }
-        Ok(held.into_parts())
+        self.held.matches(0, first.calls(), first.was_refused())
+            && self.held.matches(1, second.calls(), second.was_refused())
+            && self.held.matches(2, scanner.calls(), scanner.was_refused())
     }
+}
+
+/// How many calls the seats made, by their lists. Their shares are all of the ledger, so the book
+/// has counted as many.
+fn count_calls<J: Opening>(book: &mut Book<J>, seats: Seats<J>) -> usize
+    requires three { J.parts ≡ 3 }
+    requires fits { book.old.total < 2 ^ 64 }
+    ensures calls { result ≡ calls_made seats }
+    ensures counted { book.old.total ≡ calls_made seats }
+{
+    let Seats {
+        first,
+        second,
+        scanner,
+    } = seats;
+    let (first, mut all) = first.into_parts();
+    let (second, share) = second.into_parts();
+    all.merge(share);
+    let (scanner, share) = scanner.into_parts();
+    all.merge(share);
+    book.audit(&mut all);
+    first.len() + second.len() + scanner.len()
 }

@@ -1,0 +1,13 @@
+//! A board with its history, on the sample board, and a link in memory.
+mod links;
+mod rooms;
+mod seats;
+
+use bmc_board::{Board, Records};
+use cfg_records::sample_board;
+use std::alloc::{AllocError, Global};
+
+/// The sample board.
+pub(crate) fn open_sample(alloc: Global) -> Result<Board<Records>, AllocError> {
+    Board::of_file(alloc, sample_board(alloc)?)
+}
