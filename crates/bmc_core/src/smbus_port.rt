@@ -54,7 +54,7 @@ impl SmbusPort {
     }
 
     /// Where it is, and which EID its endpoint has now.
-    fn at(&self) -> At
+    pub fn at(&self) -> At
         ensures wire { result.wire ≡ self.now.wire }
         ensures eid { result.eid ≡ self.now.endpoint }
     {

@@ -9,3 +9,4 @@ pub mod ManagerSide
 pub mod Deeds
 pub mod PortSide
 pub mod Coming
+pub mod Parts
