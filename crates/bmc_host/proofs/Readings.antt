@@ -67,13 +67,16 @@ frame_asked rows bus digits named given asked asks =
     )
 
 -- flags that give no way of showing give none
-pub shown_refuses : (frames chart : Bool) (status : Status) → shown_of frames chart ≡ Err status → Refuses (λ (shown : Shown). shown_of frames chart ≡ Ok shown) status
-shown_refuses true true status is =
+pub shown_refuses : (frames premises chart : Bool) (status : Status) → shown_of frames premises chart ≡ Err status
+    → Refuses (λ (shown : Shown). shown_of frames premises chart ≡ Ok shown) status
+shown_refuses frames premises false status is = cc
+shown_refuses false false true status is = cc
+shown_refuses true premises true status is =
     let same : RefusedWords ≡ status = cc in
     inr (sym same, λ shown bad. cc)
-shown_refuses true false status is = cc
-shown_refuses false true status is = cc
-shown_refuses false false status is = cc
+shown_refuses false true true status is =
+    let same : RefusedWords ≡ status = cc in
+    inr (sym same, λ shown bad. cc)
 
 not_play : codes "frame" ≡ codes "play" → ⊥
 not_play same =

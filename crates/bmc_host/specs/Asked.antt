@@ -21,11 +21,13 @@ abbrev pub status_of : ErrorKind → Status
 status_of OutOfMemory = Memory
 status_of _ = RefusedWords
 
--- how a play is shown where the flags `--frames` and `--chart` are given or not: a chart has no lines of frames
-abbrev pub shown_of : Bool → Bool → Result Shown Status
-shown_of true true = Err RefusedWords
-shown_of false true = Ok Chart
-shown_of frames false = Ok (Lines frames)
+-- how a play is shown where the flags `--frames`, `--premises` and `--chart` are given or not: a chart has no lines of frames, and none of
+-- the premise on packets
+abbrev pub shown_of : (frames premises chart : Bool) → Result Shown Status
+shown_of frames premises false = Ok (Lines frames premises)
+shown_of false false true = Ok Chart
+shown_of true premises true = Err RefusedWords
+shown_of false true true = Err RefusedWords
 
 -- the text says that a flag is given
 abbrev pub says_yes : Option Text → Bool
@@ -44,7 +46,7 @@ pub record AsksFrame (rows : List Row) (asked : FrameWords) : Type 0 where
 
 -- what was matched behind `play` asks for this
 pub record AsksPlay (rows : List Row) (asked : PlayWords) : Type 0 where
-  pub shown : shown_of (is_given (codes "frames") rows) (is_given (codes "chart") rows) ≡ Ok asked.shown
+  pub shown : shown_of (is_given (codes "frames") rows) (is_given (codes "premises") rows) (is_given (codes "chart") rows) ≡ Ok asked.shown
   pub board : first_of (codes "BOARD") rows ≡ Some (string_bytes asked.board)
   pub plan : first_of (codes "PLAN") rows ≡ Some (string_bytes asked.plan)
   pub schedule : first_of (codes "SCHEDULE") rows ≡ Some (string_bytes asked.schedule)

@@ -71,12 +71,13 @@ fn frame_command<'a>(alloc: Global) -> Result<Command<'a>, AllocError>
         .arg(needed(alloc, "HEX"))
 }
 
-/// `play [--frames | --chart] BOARD PLAN SCHEDULE`.
+/// `play [[--frames] [--premises] | --chart] BOARD PLAN SCHEDULE`.
 fn play_command<'a>(alloc: Global) -> Result<Command<'a>, AllocError>
     ensures { IfOk result (IsCommand play_app) }
 {
     Command::new(alloc, "play")
         .arg(flag(alloc, "frames"))?
+        .arg(flag(alloc, "premises"))?
         .arg(flag(alloc, "chart"))?
         .arg(needed(alloc, "BOARD"))?
         .arg(needed(alloc, "PLAN"))?
@@ -157,14 +158,14 @@ fn frame_words(alloc: Global, matches: &ArgMatches) -> Result<FrameWords, Status
     Ok(FrameWords { board, frame })
 }
 
-/// How a play is shown with these flags. A chart has no lines of frames.
-fn shown(frames: bool, chart: bool) -> Result<Shown, Status>
-    ensures { result ≡ shown_of frames chart }
+/// How a play is shown with these flags. A chart has no lines of frames, and none of the premise on packets.
+fn shown(frames: bool, premises: bool, chart: bool) -> Result<Shown, Status>
+    ensures { result ≡ shown_of frames premises chart }
 {
-    match (frames, chart) {
-        (true, true) => Err(Status::RefusedWords),
-        (false, true) => Ok(Shown::Chart),
-        (frames, false) => Ok(Shown::Lines { frames }),
+    match (frames, premises, chart) {
+        (frames, premises, false) => Ok(Shown::Lines { frames, premises }),
+        (false, false, true) => Ok(Shown::Chart),
+        _ => Err(Status::RefusedWords),
     }
 }
 
@@ -173,8 +174,11 @@ fn play_words(alloc: Global, matches: &ArgMatches) -> Result<PlayWords, Status>
     ensures asked { IfOk result (AsksPlay (rows_of (found_of matches.now))) }
     ensures refused { IfErr result (Refuses (AsksPlay (rows_of (found_of matches.now)))) }
 {
+    let frames = has_flag(matches, "frames");
+    let premises = has_flag(matches, "premises");
+    let chart = has_flag(matches, "chart");
     Ok(PlayWords {
-        shown: shown(has_flag(matches, "frames"), has_flag(matches, "chart"))?,
+        shown: shown(frames, premises, chart)?,
         board: named(alloc, matches, "BOARD")?,
         plan: named(alloc, matches, "PLAN")?,
         schedule: named(alloc, matches, "SCHEDULE")?,

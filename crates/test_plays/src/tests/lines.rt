@@ -82,6 +82,8 @@ asks bmclab play --frames sample.toml plan.toml schedule.txt -> frames sample.to
 asks bmclab play sample.toml plan.toml schedule.txt --frames -> frames sample.toml plan.toml schedule.txt
 asks bmclab play sample.toml --frames plan.toml schedule.txt -> frames sample.toml plan.toml schedule.txt
 asks bmclab play -- sample.toml plan.toml schedule.txt -> lines sample.toml plan.toml schedule.txt
+asks bmclab play --premises sample.toml plan.toml schedule.txt -> premises sample.toml plan.toml schedule.txt
+asks bmclab play --premises --frames sample.toml plan.toml schedule.txt -> frames and premises sample.toml plan.toml schedule.txt
 asks bmclab play --chart sample.toml plan.toml schedule.txt -> chart sample.toml plan.toml schedule.txt
 asks bmclab play sample.toml plan.toml schedule.txt --chart -> chart sample.toml plan.toml schedule.txt
 
@@ -105,6 +107,7 @@ asks bmclab play --frames --frames sample.toml plan.toml schedule.txt -> Refused
 asks bmclab play --frames=yes sample.toml plan.toml schedule.txt -> RefusedWords
 asks bmclab play --chart --frames sample.toml plan.toml schedule.txt -> RefusedWords
 asks bmclab play --frames sample.toml plan.toml schedule.txt --chart -> RefusedWords
+asks bmclab play --chart --premises sample.toml plan.toml schedule.txt -> RefusedWords
 asks bmclab play --chart --chart sample.toml plan.toml schedule.txt -> RefusedWords
 asks bmclab play --chart sample.toml plan.toml -> RefusedWords
 asks bmclab play --board sample.toml plan.toml schedule.txt -> RefusedWords

@@ -1,4 +1,4 @@
-use Rattle.std.proofs.Common.{◌∙◌, sym, ap, ap₂, codes, string_bytes}
+use Rattle.std.proofs.Common.{◌∙◌, sym, ap, codes, string_bytes}
 use Rattle.std.proofs.lemmas.Result.{err_from_is_err_and}
 use Rattle.clap.specs.Words.{found_of}
 use Rattle.clap.proofs.WalkLemmas.{first_value-rows, one_text-rows}
@@ -9,9 +9,11 @@ use Rattle.bmc_host.proofs.words.play_words.Goals as goal
 pub returns-in_err-shown-clause-refused : goal.returns-in_err-shown-clause-refused
 returns-in_err-shown-clause-refused c =
     let p = err_from_is_err_and c.from_residual.result c.from_residual.ensures.1 in
-    let frames = c.has_flag.ensures ∙ ap says_yes (one_text-rows (found_of c.args.matches.now) (codes "frames")) in
-    let chart = c.has_flag-2.ensures ∙ ap says_yes (one_text-rows (found_of c.args.matches.now) (codes "chart")) in
-    rw (p.1, p.2) (refuses_more _ _ _ (λ asked asks. (asked.shown, ap₂ shown_of frames chart ∙ asks.shown)) (shown_refuses c.has_flag.result c.has_flag-2.result _ (sym c.shown.ensures ∙ c.in_err-shown.was)))
+    let frames = c.has_flag-frames.ensures ∙ ap says_yes (one_text-rows (found_of c.args.matches.now) (codes "frames")) in
+    let premises = c.has_flag-premises.ensures ∙ ap says_yes (one_text-rows (found_of c.args.matches.now) (codes "premises")) in
+    let chart = c.has_flag-chart.ensures ∙ ap says_yes (one_text-rows (found_of c.args.matches.now) (codes "chart")) in
+    let flags = λ i. shown_of (frames i) (premises i) (chart i) in
+    rw (p.1, p.2) (refuses_more _ _ _ (λ asked asks. (asked.shown, flags ∙ asks.shown)) (shown_refuses c.has_flag-frames.result c.has_flag-premises.result c.has_flag-chart.result _ (sym c.shown.ensures ∙ c.in_err-shown.was)))
 
 pub returns-in_err-named-clause-refused : goal.returns-in_err-named-clause-refused
 returns-in_err-named-clause-refused c =
@@ -30,10 +32,12 @@ returns-in_err-named-3-clause-refused c =
 
 pub returns-clause-asked : goal.returns-clause-asked
 returns-clause-asked c =
-    let frames = c.has_flag.ensures ∙ ap says_yes (one_text-rows (found_of c.args.matches.now) (codes "frames")) in
-    let chart = c.has_flag-2.ensures ∙ ap says_yes (one_text-rows (found_of c.args.matches.now) (codes "chart")) in
+    let frames = c.has_flag-frames.ensures ∙ ap says_yes (one_text-rows (found_of c.args.matches.now) (codes "frames")) in
+    let premises = c.has_flag-premises.ensures ∙ ap says_yes (one_text-rows (found_of c.args.matches.now) (codes "premises")) in
+    let chart = c.has_flag-chart.ensures ∙ ap says_yes (one_text-rows (found_of c.args.matches.now) (codes "chart")) in
+    let flags = λ i. shown_of (frames i) (premises i) (chart i) in
     record {
-      shown = sym (ap₂ shown_of frames chart) ∙ (sym c.shown.ensures ∙ c.in_ok-shown.was);
+      shown = sym flags ∙ (sym c.shown.ensures ∙ c.in_ok-shown.was);
       board = first_by_rows (found_of c.args.matches.now) (codes "BOARD") _ c.in_ok-named.ensures.word;
       plan = first_by_rows (found_of c.args.matches.now) (codes "PLAN") _ c.in_ok-named-2.ensures.word;
       schedule = first_by_rows (found_of c.args.matches.now) (codes "SCHEDULE") _ c.in_ok-named-3.ensures.word;
