@@ -1,5 +1,4 @@
 use Rattle.std.proofs.Common.{◌∙◌, sym, ap}
-use Rattle.text_schedule.specs.declared.event.Event.TheVariants as event
 use Rattle.lab_run.specs.Shown.{IsSentFrame}
 use Rattle.lab_run.specs.Parts.{part_in}
 use Rattle.lab_run.proofs.Sent.{beside, none_beside}
