@@ -1,5 +1,5 @@
 //! What is looked at of a packet that comes to the controller's port.
-ghost use Rattle.std.specs.Prelude.{◌≡◌};
+ghost use Rattle.std.specs.Prelude.{◌≡◌, ◌==◌, ◌||◌};
 ghost use Rattle.two_wire.specs.declared.Bus.TheVariants.{Smbus};
 ghost use Rattle.cfg_records.specs.declared.board_file.BoardFile.{BoardFile as AnyFile};
 ghost use Rattle.model_lab.specs.Lab.{LabFrame, Lab as LabModel};
@@ -25,6 +25,13 @@ pub struct ManagerPart {
     pub ours: bool,
 }
 
+/// Whether a packet to this endpoint goes to the endpoint behind the port, or to whichever has the address.
+fn goes_to(to: u8, own: u8) -> bool
+    ensures { result ≡ (to == own || to == 0) }
+{
+    to == own || to == 0
+}
+
 impl Lab {
     /// What is looked at of the packet that a frame on the System Management Bus is.
     fn packet_of(&self, frame: &SentFrame) -> Option<ManagerPart>
@@ -35,12 +42,12 @@ impl Lab {
         };
         let envelope = packet.envelope;
         let own = self.smbus.at().eid.byte();
-        let to = envelope.destination_eid;
+        let ours = goes_to(envelope.destination_eid, own);
         Some(ManagerPart {
             start: packet.start,
             tag: envelope.tag,
             request: frame.mark.request,
-            ours: to == own || to == 0,
+            ours,
         })
     }
 
