@@ -81,8 +81,8 @@ frame_asked rows bus digits named given asked asks =
     )
 
 -- flags that give no way of showing give none
-pub shown_refuses : (frames chart : Bool) → shown_of frames chart ≡ None → (shown : Shown) → shown_of frames chart ≡ Some shown → ⊥
-shown_refuses frames chart none shown is =
+pub shown_refuses : (frames premises chart : Bool) → shown_of frames premises chart ≡ None → (shown : Shown) → shown_of frames premises chart ≡ Some shown → ⊥
+shown_refuses frames premises chart none shown is =
     let bad : None ≡ Some shown = sym none ∙ is in
     cc
 

@@ -14,11 +14,13 @@ use Rattle.bmc_host.specs.declared.words.FrameWords.{FrameWords}
 use Rattle.bmc_host.specs.declared.words.PlayWords.{PlayWords}
 use Rattle.bmc_host.specs.Line.{program}
 
--- how a play is shown where the flags `--frames` and `--chart` are given or not: a chart has no lines of frames
-abbrev pub shown_of : Bool → Bool → Option Shown
-shown_of true true = None
-shown_of false true = Some Chart
-shown_of frames false = Some (Lines frames)
+-- how a play is shown where the flags `--frames`, `--premises` and `--chart` are given or not: a chart has no lines of frames, and none of
+-- the premise on packets
+abbrev pub shown_of : (frames premises chart : Bool) → Option Shown
+shown_of frames premises false = Some (Lines frames premises)
+shown_of false false true = Some Chart
+shown_of true premises true = None
+shown_of false true true = None
 
 -- the text says that a flag is given
 abbrev pub says_yes : Option Text → Bool
@@ -37,7 +39,7 @@ pub record AsksFrame (rows : List Row) (asked : FrameWords) : Type 0 where
 
 -- what was matched behind `play` asks for this
 pub record AsksPlay (rows : List Row) (asked : PlayWords) : Type 0 where
-  pub shown : shown_of (is_given (codes "frames") rows) (is_given (codes "chart") rows) ≡ Some asked.shown
+  pub shown : shown_of (is_given (codes "frames") rows) (is_given (codes "premises") rows) (is_given (codes "chart") rows) ≡ Some asked.shown
   pub board : first_of (codes "BOARD") rows ≡ Some (string_bytes asked.board)
   pub plan : first_of (codes "PLAN") rows ≡ Some (string_bytes asked.plan)
   pub schedule : first_of (codes "SCHEDULE") rows ≡ Some (string_bytes asked.schedule)

@@ -22,10 +22,10 @@ needed_rule name = record (new_rule name) { required = true }
 abbrev pub frame_app : App
 frame_app = fold with_rule (new_app (codes "frame")) (option_rule (codes "bus") ∷ option_rule (codes "board") ∷ needed_rule (codes "HEX") ∷ [])
 
--- `play [--frames | --chart] BOARD PLAN SCHEDULE`
+-- `play [[--frames] [--premises] | --chart] BOARD PLAN SCHEDULE`
 abbrev pub play_app : App
 play_app = fold with_rule (new_app (codes "play"))
-    (flag_rule (codes "frames") ∷ flag_rule (codes "chart") ∷ needed_rule (codes "BOARD") ∷ needed_rule (codes "PLAN") ∷ needed_rule (codes "SCHEDULE") ∷ [])
+    (flag_rule (codes "frames") ∷ flag_rule (codes "premises") ∷ flag_rule (codes "chart") ∷ needed_rule (codes "BOARD") ∷ needed_rule (codes "PLAN") ∷ needed_rule (codes "SCHEDULE") ∷ [])
 
 -- one of the command's subcommands must be used
 abbrev pub needing_subcommand : App → App

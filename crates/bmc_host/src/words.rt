@@ -107,19 +107,24 @@ const PLAY_ABOUT: &str = "Plays a plan on a board, over buses that lose, repeat 
 
 const FRAMES_HELP: &str = "Prints each frame, too, as in frame 0 mgr ipmb 2010D02C002905A6";
 
+const PREMISES_HELP: &str =
+    "Prints the first event at which a packet joined one that had waited too long, or premises kept";
+
 const SCHEDULE_HELP: &str = "The schedule: what comes when, as examples/clean/schedule.txt";
 
 const PLAY_EXAMPLES: &str = "Examples:
   bmclab play sample.toml examples/clean/plan.toml examples/clean/schedule.txt
   bmclab play --frames sample.toml examples/clean/plan.toml examples/clean/schedule.txt
+  bmclab play --premises sample.toml examples/clean/plan.toml examples/clean/schedule.txt
   bmclab play --chart sample.toml examples/clean/plan.toml examples/clean/schedule.txt";
 
-/// `play [--frames | --chart] BOARD PLAN SCHEDULE`.
+/// `play [[--frames] [--premises] | --chart] BOARD PLAN SCHEDULE`.
 fn play_command<'a>(alloc: Global) -> Result<Command<'a>, AllocError>
     ensures { IfOk result (IsCommand play_app) }
 {
     new_command(alloc, "play", PLAY_ABOUT, PLAY_EXAMPLES)
         .arg(flag(alloc, "frames", FRAMES_HELP))?
+        .arg(flag(alloc, "premises", PREMISES_HELP))?
         .arg(flag(alloc, "chart", "Draws the play in place of its lines"))?
         .arg(needed(alloc, "BOARD", "The board file, as sample.toml"))?
         .arg(needed(alloc, "PLAN", "The plan, as examples/clean/plan.toml"))?
@@ -235,22 +240,26 @@ fn frame_words(alloc: Global, matches: &ArgMatches) -> Result<FrameWords, Refusa
     }
 }
 
-/// How a play is shown with these flags. A chart has no lines of frames.
-fn shown(frames: bool, chart: bool) -> Option<Shown>
-    ensures { result ≡ shown_of frames chart }
+/// How a play is shown with these flags. A chart has no lines of frames, and none of the premise on packets.
+fn shown(frames: bool, premises: bool, chart: bool) -> Option<Shown>
+    ensures { result ≡ shown_of frames premises chart }
 {
-    match (frames, chart) {
-        (true, true) => None,
-        (false, true) => Some(Shown::Chart),
-        (frames, false) => Some(Shown::Lines { frames }),
+    match (frames, premises, chart) {
+        (frames, premises, false) => Some(Shown::Lines { frames, premises }),
+        (false, false, true) => Some(Shown::Chart),
+        _ => None,
     }
 }
 
-/// The refusal of flags that don't go together.
-fn shown_refusal(alloc: Global) -> Refusal {
+/// The refusal of flags that don't go with `--chart`: `--frames`, or else `--premises`.
+fn shown_refusal(alloc: Global, frames: bool) -> Refusal {
     let command = play_command(alloc);
     let kind = ErrorKind::ArgumentConflict;
-    let message = "the argument '--frames' cannot be used with '--chart'";
+    let message = if frames {
+        "the argument '--frames' cannot be used with '--chart'"
+    } else {
+        "the argument '--premises' cannot be used with '--chart'"
+    };
     refusal_by(alloc, command, "bmclab play", kind, message)
 }
 
@@ -259,8 +268,11 @@ fn play_words(alloc: Global, matches: &ArgMatches) -> Result<PlayWords, Refusal>
     ensures asked { IfOk result (AsksPlay (rows_of (found_of matches.now))) }
     ensures refused { IfErr result (Refuses (AsksPlay (rows_of (found_of matches.now)))) }
 {
-    let Some(shown) = shown(has_flag(matches, "frames"), has_flag(matches, "chart")) else {
-        return Err(shown_refusal(alloc));
+    let frames = has_flag(matches, "frames");
+    let premises = has_flag(matches, "premises");
+    let chart = has_flag(matches, "chart");
+    let Some(shown) = shown(frames, premises, chart) else {
+        return Err(shown_refusal(alloc, frames));
     };
     Ok(PlayWords {
         shown,

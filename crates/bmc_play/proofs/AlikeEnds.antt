@@ -70,7 +70,7 @@ OneEnding = (bench : Bench) (file : BoardFile) (steps : List Op) (retries : ℕ)
     → IsPlayed bench file steps retries events ending → IsPlayed bench file steps retries events other → ending ≡ other
 
 pub ends_alike : OneEnding → (inputs : Inputs) → EndAlike inputs
-ends_alike one inputs frames text chart status other told drawn =
+ends_alike one inputs frames premises text chart status other told drawn =
     let same : told.ending ≡ drawn.play.ending =
     one (own_bench inputs.file) inputs.file inputs.plan.steps inputs.plan.retries inputs.events told.ending drawn.play.ending told.played drawn.play.played in
     let stop : drawn.stopped ≡ told.account.stopped =

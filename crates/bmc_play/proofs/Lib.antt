@@ -5,5 +5,6 @@ pub mod Noted
 pub mod OneAccount
 pub mod OneChart
 pub mod OneRun
+pub mod OnePremise
 pub mod Plays
 pub mod Readers

@@ -25,12 +25,14 @@ use Rattle.model_lab.specs.Meaning.{lab_names}
 use Rattle.model_lab.specs.Played.{Told, Ending, Whole, Stops}
 use Rattle.lab_run.specs.FramesShown.{way_of}
 use Rattle.lab_run.specs.Shown.{IsSentFrame, own_bench}
+use Rattle.model_headline.specs.Plays.{taken_by, TellsPremise}
 use Rattle.lab_play.specs.Ends.{is_value}
 use Rattle.bmc_play.specs.declared.account.Account.{Account}
-use Rattle.bmc_play.specs.Lines.{said, records_line, undo_lines, shown, ending, text_of}
+use Rattle.bmc_play.specs.Lines.{said, records_line, undo_lines, shown, premised, ending, text_of}
 use Rattle.bmc_play.specs.Account.{AreChanged, Accounts, IsAccountOf, status_of}
 use Rattle.bmc_play.specs.Determined.{OneText}
-use Rattle.bmc_play.specs.Run.{Recounts}
+use Rattle.bmc_play.specs.Run.{begun_with, Recounts}
+use Rattle.bmc_play.proofs.OnePremise.{one_premise}
 use Rattle.bmc_play.proofs.AlikeEnds.{OneEnding, same_stopped}
 use Rattle.bmc_play.proofs.Counted.{same_count}
 
@@ -128,9 +130,9 @@ same_changed number other told is also =
 -- ---- the text
 
 -- accounts of what is told of one lab have one text, where they stop alike
-same_lines : (frames : Bool) (account other : Account) (told : Told) → Accounts account told → Accounts other told → account.stopped ≡ other.stopped
-    → text_of frames account ≡ text_of frames other
-same_lines frames account other told is also stopped =
+same_lines : (frames premises : Bool) (account other : Account) (told : Told) → Accounts account told → Accounts other told → account.broken ≡ other.broken → account.stopped ≡ other.stopped
+    → text_of frames premises account ≡ text_of frames premises other
+same_lines frames premises account other told is also broken stopped =
     let now : account.phase ≡ other.phase = same_phase account.phase other.phase (is.phase ∙ sym also.phase) in
     let sent : account.frames.now ≡ other.frames.now = same_frames account.frames.now other.frames.now told.frames is.frames also.frames in
     let undo : undo_lines account.undo.now ≡ undo_lines other.undo.now =
@@ -139,7 +141,7 @@ same_lines frames account other told is also stopped =
     λ i. flat_map ended (
     said (codes "phase") (phase_name (now i))
     ∷ said (codes "frames") (decimal (length (sent i)))
-    ∷ (undo i ++ records_line (changed i) ∷ (shown frames (sent i) ++ ending (stopped i)))
+    ∷ (undo i ++ records_line (changed i) ∷ (shown frames (sent i) ++ (premised premises (broken i) (stopped i) ++ ending (stopped i))))
     )
 
 -- what accounts of an ending say of what is told
@@ -147,12 +149,17 @@ told_in : (account other : Account) (ending : Ending) → IsAccountOf account en
 told_in account other (Whole told) is also = (told, is.0, also.0)
 told_in account other (Stops cause at told) is also = (told, is.0, also.0)
 
-pub one_account : OneEnding → (frames : Bool) → OneText (Recounts frames)
-one_account one frames inputs text other_text status other_status told more =
+pub one_account : OneEnding → (frames premises : Bool) → OneText (Recounts frames premises)
+one_account one frames premises inputs text other_text status other_status told more =
     let same : more.ending ≡ told.ending =
     one (own_bench inputs.file) inputs.file inputs.plan.steps inputs.plan.retries inputs.events more.ending told.ending more.played told.played in
     let is : IsAccountOf more.account told.ending = subst (IsAccountOf more.account) same more.is in
     let stopped : told.account.stopped ≡ more.account.stopped = same_stopped told.account more.account told.ending told.is is in
     let tells = told_in told.account more.account told.ending told.is is in
-    let lines : text_of frames told.account ≡ text_of frames more.account = same_lines frames told.account more.account tells.0 tells.1 tells.2 stopped in
+    let events = inputs.events in
+    let premise : TellsPremise (own_bench inputs.file) inputs.file (taken_by events told.ending) (begun_with inputs) more.account.broken =
+    subst (λ (e : Ending). TellsPremise (own_bench inputs.file) inputs.file (taken_by events e) (begun_with inputs) more.account.broken) same more.premise in
+    let broken : told.account.broken ≡ more.account.broken =
+    one_premise (own_bench inputs.file) inputs.file (taken_by events told.ending) (begun_with inputs) told.account.broken more.account.broken told.premise premise in
+    let lines : text_of frames premises told.account ≡ text_of frames premises more.account = same_lines frames premises told.account more.account tells.0 tells.1 tells.2 broken stopped in
     (told.said ∙ lines ∙ sym more.said, told.ended ∙ ap status_of stopped ∙ sym more.ended)

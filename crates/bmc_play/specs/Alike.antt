@@ -8,5 +8,5 @@ use Rattle.bmc_play.specs.Run.{Recounts}
 -- the lines of a play and its chart end alike: with the line of the same event, or with none, and with one status
 abbrev pub EndAlike : Inputs → Type 0
 EndAlike inputs =
-    (frames : Bool) (text chart : List ℕ) (status other : Status) (told : Recounts frames inputs text status) (drawn : Draws inputs chart other)
+    (frames premises : Bool) (text chart : List ℕ) (status other : Status) (told : Recounts frames premises inputs text status) (drawn : Draws inputs chart other)
     → (drawn.stopped ≡ told.account.stopped) × (other ≡ status)

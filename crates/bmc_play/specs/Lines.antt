@@ -66,13 +66,24 @@ abbrev pub ending : Option Stopped → List (List ℕ)
 ending (Some stopped) = stopped_line stopped ∷ []
 ending None = []
 
--- the lines: the phase, how many frames there are, the requests, the records, the frames, and the event that wasn't taken
-abbrev pub lines_of : Bool → Account → List (List ℕ)
-lines_of frames told =
+-- which event broke the premise on packets first, or that each kept it; of a play that an event's fault ended it isn't said that each did
+abbrev pub premise_lines : Option ℕ → Option Stopped → List (List ℕ)
+premise_lines (Some place) stopped = said (codes "premise broken") (decimal place) ∷ []
+premise_lines None None = codes "premises kept" ∷ []
+premise_lines None (Some stopped) = []
+
+-- that, where it is asked for
+abbrev pub premised : Bool → Option ℕ → Option Stopped → List (List ℕ)
+premised true broken stopped = premise_lines broken stopped
+premised false broken stopped = []
+
+-- the lines: the phase, how many frames there are, the requests, the records, the frames, the premise, and the event that wasn't taken
+abbrev pub lines_of : (frames premises : Bool) → Account → List (List ℕ)
+lines_of frames premises told =
     said (codes "phase") (phase_name told.phase)
     ∷ said (codes "frames") (decimal (length told.frames.now))
-    ∷ (undo_lines told.undo.now ++ records_line told.changed ∷ (shown frames told.frames.now ++ ending told.stopped))
+    ∷ (undo_lines told.undo.now ++ records_line told.changed ∷ (shown frames told.frames.now ++ (premised premises told.broken told.stopped ++ ending told.stopped)))
 
 -- the text: the lines, each of which a line feed ends
-abbrev pub text_of : Bool → Account → List ℕ
-text_of frames told = flat_map ended (lines_of frames told)
+abbrev pub text_of : (frames premises : Bool) → Account → List ℕ
+text_of frames premises told = flat_map ended (lines_of frames premises told)

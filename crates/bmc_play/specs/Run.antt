@@ -1,5 +1,5 @@
 -- What a run says of three texts.
-use Rattle.std.specs.Prelude.{◌≡◌, ℕ, Bool, true, false, List, [], ◌∷◌, ◌++◌, Ok, Err}
+use Rattle.std.specs.Prelude.{◌≡◌, ℕ, Bool, true, false, List, [], ◌∷◌, ◌++◌, None, Ok, Err}
 use Rattle.text_board.specs.declared.fault.FileFault.TheVariants as of_file
 use Rattle.plan_file.specs.declared.plan_fault.PlanFault.TheVariants as of_plan
 use Rattle.text_schedule.specs.declared.schedule.ScheduleFault.TheVariants as of_schedule
@@ -9,8 +9,10 @@ use Rattle.bmc_play.specs.declared.inputs.InputFault.TheVariants as fault
 use Rattle.bmc_play.specs.declared.account.Account.{Account}
 use Rattle.bmc_play.specs.Inputs.{AreRead, input_fault_name}
 use Rattle.bmc_play.specs.Lines.{text_of}
-use Rattle.model_lab.specs.Played.{Ending, IsPlayed}
-use Rattle.model_headline.specs.Plays.{StandsIfKept}
+use Rattle.model_lab.specs.Lab.{Lab, opening}
+use Rattle.model_lab.specs.Meaning.{lab_names}
+use Rattle.model_lab.specs.Played.{plans, Ending, IsPlayed}
+use Rattle.model_headline.specs.Plays.{taken_by, told_by, TellsPremise, ToldStands}
 use Rattle.lab_run.specs.Shown.{own_bench}
 use Rattle.bmc_lab.specs.declared.console.Stream.TheVariants.{Output, Error}
 use Rattle.bmc_lab.specs.declared.status.Status.{Status}
@@ -32,15 +34,20 @@ is_memory _ = false
 abbrev pub refusal_line : InputFault → List ℕ
 refusal_line why = input_fault_name why ++ 10 ∷ []
 
+-- the lab with which a play of these inputs begins
+abbrev pub begun_with : Inputs → Lab plans
+begun_with inputs = opening plans inputs.file lab_names inputs.plan.steps inputs.plan.retries
+
 -- The text is the account of a play of these inputs: of the lab's run of the schedule, up to the first event that has a fault. The
--- play's phase is true: it says what the records are.
-pub record Recounts (frames : Bool) (inputs : Inputs) (text : List ℕ) (status : Status) : Type 0 where
+-- account tells which event broke the premise on packets first; where none did, what is told stands.
+pub record Recounts (frames premises : Bool) (inputs : Inputs) (text : List ℕ) (status : Status) : Type 0 where
   pub ending : Ending
   pub played : IsPlayed (own_bench inputs.file) inputs.file inputs.plan.steps inputs.plan.retries inputs.events ending
-  pub stands : StandsIfKept (own_bench inputs.file) inputs.file inputs.plan.steps inputs.plan.retries inputs.events ending
   pub account : Account
   pub is : IsAccountOf account ending
-  pub said : text ≡ text_of frames account
+  pub premise : TellsPremise (own_bench inputs.file) inputs.file (taken_by inputs.events ending) (begun_with inputs) account.broken
+  pub stands : account.broken ≡ None → ToldStands (own_bench inputs.file) inputs.file inputs.plan.steps inputs.plan.retries (taken_by inputs.events ending) (told_by ending)
+  pub said : text ≡ text_of frames premises account
   pub ended : status ≡ status_of account.stopped
 
 -- what a text and a status say of inputs
@@ -49,7 +56,7 @@ Telling = Inputs → List ℕ → Status → Type 0
 
 -- the play of these inputs, as it is shown
 abbrev pub tells_of : Shown → Telling
-tells_of (shown.Lines frames) = Recounts frames
+tells_of (shown.Lines frames premises) = Recounts frames premises
 tells_of shown.Chart = Draws
 
 -- what a run says, and where: on standard output the play that the texts tell, or on standard error which text is the first that is

@@ -2,7 +2,7 @@
 ghost use Rattle.std.specs.Prelude.{◌≡◌, IfOk, string_bytes};
 ghost use Rattle.bmc_play.specs.Lines.{text_of};
 
-use crate::lines::{push_frames, push_records, push_stopped};
+use crate::lines::{push_frames, push_premise, push_records, push_stopped};
 use lab_run::{Fault, SentFrame};
 use std::alloc::{AllocError, Global};
 use text_undo::push_requests;
@@ -28,15 +28,18 @@ pub struct Account<'a> {
     pub undo: &'a Requests,
     /// How many records are no longer what they were at the start.
     pub changed: usize,
+    /// The place, from 1, of the first event that broke the premise on packets.
+    pub broken: Option<usize>,
     /// Why not all events were taken.
     pub stopped: Option<Stopped>,
 }
 
 impl Account<'_> {
     /// The lines of the account: the phase, how many frames there are, how many requests undo the plan and each of them, and whether
-    /// records are changed. Then, where they are asked for, come the frames, and at last the fault of an event.
-    pub fn text(&self, alloc: Global, frames: bool) -> Result<String, AllocError>
-        ensures { IfOk result (λ text. string_bytes text ≡ text_of frames self.now) }
+    /// records are changed. Then, where they are asked for, come the frames and what is said of the premise on packets, and at last the
+    /// fault of an event.
+    pub fn text(&self, alloc: Global, frames: bool, premises: bool) -> Result<String, AllocError>
+        ensures { IfOk result (λ text. string_bytes text ≡ text_of frames premises self.now) }
     {
         let mut text = String::new(alloc);
         let phase = self.phase;
@@ -49,6 +52,9 @@ impl Account<'_> {
         push_records(&mut text, self.changed)?;
         if frames {
             push_frames(alloc, &mut text, self.frames)?;
+        }
+        if premises {
+            push_premise(&mut text, self.broken, self.stopped)?;
         }
         if let Some(stopped) = self.stopped {
             push_stopped(&mut text, stopped)?;

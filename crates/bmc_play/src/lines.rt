@@ -2,7 +2,7 @@
 ghost use Rattle.std.specs.Prelude.{◌≡◌, ◌++◌, OnOk, string_bytes};
 ghost use Rattle.std.specs.List.{flat_map};
 ghost use Rattle.text_lines.specs.Cuts.{ended};
-ghost use Rattle.bmc_play.specs.Lines.{end_name, bus_name, frame_line, frame_lines, records_line, stopped_line};
+ghost use Rattle.bmc_play.specs.Lines.{end_name, bus_name, frame_line, frame_lines, premise_lines, records_line, stopped_line};
 
 use crate::account::Stopped;
 use lab_run::{SentFrame, Way};
@@ -62,6 +62,22 @@ pub fn push_frames(alloc: Global, text: &mut String, frames: &[SentFrame]) -> Re
         push_frame(alloc, text, number, frame)?;
     }
     Ok(())
+}
+
+/// Adds the line that says which event broke the premise on packets first, or that each kept it. Where none broke it and one has a
+/// fault, nothing is said.
+pub fn push_premise(
+    text: &mut String,
+    broken: Option<usize>,
+    stopped: Option<Stopped>,
+) -> Result<(), AllocError>
+    ensures { OnOk result (string_bytes text.new ≡ string_bytes text.old ++ flat_map ended (premise_lines broken stopped)) }
+{
+    match (broken, stopped) {
+        (Some(place), _) => writeln!(text, "premise broken {place}"),
+        (None, None) => text.push_str("premises kept\n"),
+        (None, Some(_)) => Ok(()),
+    }
 }
 
 /// Adds the line of the event that wasn't taken.

@@ -14,6 +14,7 @@ use std::alloc::{AllocError, Global};
 /// The account of what was played, and of the event that the lab didn't take.
 pub(crate) fn account_of(played: &Played, stopped: Option<Stopped>) -> Account<'_>
     ensures told { (told : Told) → Tells played.now told → Accounts result told }
+    ensures broken { result.broken ≡ played.now.watch.broken }
     ensures stopped { result.stopped ≡ stopped }
 {
     Account {
@@ -21,6 +22,7 @@ pub(crate) fn account_of(played: &Played, stopped: Option<Stopped>) -> Account<'
         frames: played.frames(),
         undo: &played.undo().requests,
         changed: played.changed(),
+        broken: played.premise_broken(),
         stopped,
     }
 }
@@ -39,13 +41,14 @@ pub(crate) fn status(stopped: Option<Stopped>) -> Status
 pub(crate) fn account_report(
     alloc: Global,
     frames: bool,
+    premises: bool,
     account: &Account,
 ) -> Result<Report, AllocError>
     ensures stream { IfOk result (λ report. report.stream ≡ Output) }
-    ensures text { IfOk result (λ report. string_bytes report.text ≡ text_of frames account.now) }
+    ensures text { IfOk result (λ report. string_bytes report.text ≡ text_of frames premises account.now) }
     ensures status { IfOk result (λ report. report.status ≡ status_of account.now.stopped) }
 {
-    let text = account.text(alloc, frames)?;
+    let text = account.text(alloc, frames, premises)?;
     Ok(Report {
         stream: Stream::Output,
         text,

@@ -21,8 +21,8 @@ use text_schedule::ScheduleFault;
 /// How what was played is shown.
 #[derive(Clone, Copy, Debug, PartialEq, Eq)]
 pub enum Shown {
-    /// In lines, with those of the frames or without.
-    Lines { frames: bool },
+    /// In lines, with those of the frames or without, and with that of the premise on packets or without.
+    Lines { frames: bool, premises: bool },
     /// As a sequence chart.
     Chart,
 }
@@ -54,13 +54,21 @@ fn refusal_report(alloc: Global, why: InputFault) -> Result<Report, AllocError>
 }
 
 /// What is said of the play that these inputs tell.
-fn played_report(alloc: Global, frames: bool, inputs: Inputs) -> Result<Report, AllocError>
+fn played_report(
+    alloc: Global,
+    frames: bool,
+    premises: bool,
+    inputs: Inputs,
+) -> Result<Report, AllocError>
     ensures stream { IfOk result (λ report. report.stream ≡ Output) }
-    ensures told { IfOk result (λ report. Recounts frames inputs (string_bytes report.text) report.status) }
+    ensures told { IfOk result (λ report. Recounts frames premises inputs (string_bytes report.text) report.status) }
 {
     let Inputs { file, plan, events } = inputs;
     match parts_of(play(alloc, file, plan, events.as_slice())) {
-        Ok(ended) => account_report(alloc, frames, &account_of(&ended.played, ended.stopped)),
+        Ok(ended) => {
+            let account = account_of(&ended.played, ended.stopped);
+            account_report(alloc, frames, premises, &account)
+        }
         Err(AllocError) => Err(AllocError),
     }
 }
@@ -71,7 +79,7 @@ fn shown_report(alloc: Global, shown: Shown, inputs: Inputs) -> Result<Report, A
     ensures told { IfOk result (λ report. tells_of shown inputs (string_bytes report.text) report.status) }
 {
     match shown {
-        Shown::Lines { frames } => played_report(alloc, frames, inputs),
+        Shown::Lines { frames, premises } => played_report(alloc, frames, premises, inputs),
         Shown::Chart => drawn_report(alloc, inputs),
     }
 }
@@ -110,22 +118,24 @@ pub fn show<W: io::Write, E: io::Write>(
 }
 
 /// Plays a plan on the board of a board file by a schedule, each given as its text. Writes to standard output the lines of what was
-/// played, with `frames` those of the frames too, and gives the status: 0 where each event was played, 4 where one has a fault, whose
-/// line is then the last. The status is 3 with `board`, `plan` or `schedule` and the fault on standard error where a text is refused, 5
+/// played, with `frames` those of the frames too, and with `premises` the one that says at which event a packet of the manager first
+/// joined one that waited while eight or more newer requests were begun on SMBus, if none has a fault also that this never happened. It
+/// gives the status: 0 where each event was played, 4 where one has a fault, whose line is then the last. The status is 3 with `board`, `plan` or `schedule` and the fault on standard error where a text is refused, 5
 /// with `memory` on standard error where memory was refused, and 6 where a write failed.
 pub fn play_run<W: io::Write, E: io::Write>(
     alloc: Global,
     frames: bool,
+    premises: bool,
     board: &str,
     plan: &str,
     schedule: &str,
     console: &mut Console<W, E>,
 ) -> u8
-    ensures { RunEnds W.contents E.contents (Says (Recounts frames) board.now plan.now schedule.now) console.old console.new result }
+    ensures { RunEnds W.contents E.contents (Says (Recounts frames premises) board.now plan.now schedule.now) console.old console.new result }
 {
     show(
         alloc,
-        Shown::Lines { frames },
+        Shown::Lines { frames, premises },
         board,
         plan,
         schedule,

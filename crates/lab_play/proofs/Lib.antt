@@ -1,3 +1,7 @@
 pub mod Running
 pub mod Playing
 pub mod Noting
+pub mod Opening
+pub mod Taking
+pub mod Watches
+pub mod Watching

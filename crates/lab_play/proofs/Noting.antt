@@ -13,6 +13,7 @@ use Rattle.model_lab.specs.Played.{plans, happens, after}
 use Rattle.lab_run.specs.declared.note.Note.{Note}
 use Rattle.lab_run.specs.declared.lab_state.Lab.{Lab}
 use Rattle.lab_play.specs.declared.played.Played.{Played}
+use Rattle.lab_play.specs.declared.watch.Watch.{Watch}
 use Rattle.lab_play.specs.declared.run.Halt.{Halt}
 use Rattle.lab_run.specs.declared.step.Refused.{Refused}
 use Rattle.lab_run.specs.declared.step.Refused.TheVariants as refused
@@ -110,7 +111,7 @@ module _ (file : BoardFile) (steps : List Op) (retries : ℕ) (events : List Eve
   noted_at_halt played old place refused.Memory shows noted = tt
 
   -- what is noted of a play, as its events ended
-  pub notes_given : (played : Played) (new : Lab) (ended : Result (Unit {0}) Halt) → Begins file steps retries played → NotesRun events played.lab ended notes
-      → NotesPlay file steps retries events (given (record played { lab = new }) ended) notes
-  notes_given played new (Ok done) begins noted = (all_noted played.lab begins.shows noted.0 noted.1, noted.1)
-  notes_given played new (Err halt) begins noted = noted_at_halt (record played { lab = new }) played.lab halt.place halt.why begins.shows noted
+  pub notes_given : (played : Played) (new : Lab) (watch : Watch) (ended : Result (Unit {0}) Halt) → Begins file steps retries played → NotesRun events played.lab ended notes
+      → NotesPlay file steps retries events (given (record played { lab = new; watch = watch }) ended) notes
+  notes_given played new watch (Ok done) begins noted = (all_noted played.lab begins.shows noted.0 noted.1, noted.1)
+  notes_given played new watch (Err halt) begins noted = noted_at_halt (record played { lab = new; watch = watch }) played.lab halt.place halt.why begins.shows noted

@@ -18,7 +18,7 @@ module _ (bench : Bench) (file : BoardFile) where
   taken_more (d ∷ es) e x taken none = (taken.0, taken_more es e (happens bench file d x) taken.1 none)
 
   -- the lab after one event more
-  after_more : (es : List Event) (e : Event) (x : LabModel plans) → after bench file (es ++ e ∷ []) x ≡ happens bench file e (after bench file es x)
+  pub after_more : (es : List Event) (e : Event) (x : LabModel plans) → after bench file (es ++ e ∷ []) x ≡ happens bench file e (after bench file es x)
   after_more [] e x = refl
   after_more (d ∷ es) e x = after_more es e (happens bench file d x)
 

@@ -11,7 +11,7 @@ use Rattle.text_schedule.specs.declared.event.Event.{Event}
 use Rattle.model_lab.specs.Meaning.{lab_names}
 use Rattle.model_lab.specs.Played.{plans, Told, Ending, Whole, Stops, told_of, IsPlayed}
 use Rattle.lab_run.specs.FramesShown.{fault_of}
-use Rattle.model_headline.specs.Plays.{StandsIfKept}
+use Rattle.model_headline.specs.Plays.{taken_by, told_by, TellsPremise, ToldStands, StandsIfKept}
 use Rattle.model_headline.specs.CleanPlays.{EndsClean}
 use Rattle.lab_run.specs.Shown.{Shows, own_bench}
 use Rattle.lab_play.specs.declared.run.Halt.{Halt}
@@ -20,6 +20,7 @@ use Rattle.lab_run.specs.declared.step.Refused.TheVariants as refused
 use Rattle.lab_play.specs.declared.played.Played.{Played}
 use Rattle.lab_play.specs.declared.played.LabFault.{LabFault}
 use Rattle.lab_play.specs.declared.played.LabFault.TheVariants as fault
+use Rattle.lab_play.specs.Watched.{Watches}
 
 -- this is told: of a lab that began with these records, each listed once, and is this one now
 pub record Tells (played : Played) (told : Told) : Type 0 where
@@ -37,6 +38,7 @@ pub record Begins (file : BoardFile) (steps : List Op) (retries : ℕ) (played :
   pub once : KeysDiffer (pairs_of file)
   pub shows : Shows file played.lab (opening plans file lab_names steps retries)
   pub few : length steps ≤ most_steps
+  pub watches : Watches played.watch (opening plans file lab_names steps retries)
 
 -- what was given is this ending
 abbrev pub IsEnding : Result Played LabFault → Ending → Type 0
@@ -44,12 +46,21 @@ IsEnding (Ok played) (Whole told) = Tells played told
 IsEnding (Err (fault.Event why place played)) (Stops cause at told) = (cause ≡ fault_of why) × (at ≡ place) × Tells played told
 IsEnding _ _ = ⊥
 
--- a play of the plan by the schedule ended so, and what it tells stands
+-- the first event that broke the premise on packets, as what was given tells it
+abbrev pub broken_in : Result Played LabFault → Option ℕ
+broken_in (Ok played) = played.watch.broken
+broken_in (Err (fault.Event why place played)) = played.watch.broken
+broken_in (Err fault.Memory) = None
+
+-- A play of the plan by the schedule ended so, and it tells which event that it took broke the premise on packets first, if one did. Where
+-- none did, what it tells stands.
 pub record Ends (file : BoardFile) (steps : List Op) (retries : ℕ) (events : List Event) (given : Result Played LabFault) : Type 0 where
   pub ending : Ending
   pub is : IsEnding given ending
   pub played : IsPlayed (own_bench file) file steps retries events ending
+  pub premise : TellsPremise (own_bench file) file (taken_by events ending) (opening plans file lab_names steps retries) (broken_in given)
   pub stands : StandsIfKept (own_bench file) file steps retries events ending
+  pub unbroken : broken_in given ≡ None → ToldStands (own_bench file) file steps retries (taken_by events ending) (told_by ending)
   pub clean : EndsClean (own_bench file) file steps retries events ending
 
 -- what a record has is this value

@@ -1,3 +1,4 @@
 pub mod Runs
+pub mod Watched
 pub mod Ends
 pub mod Noted

@@ -4,5 +4,6 @@
 mod noted;
 mod played;
 mod run;
+mod watch;
 
 pub use played::{LabFault, Played, play, play_noted};

@@ -1,5 +1,5 @@
 //! A plan played by a schedule.
-ghost use Rattle.std.specs.Prelude.{◌≡◌, [], not, IfOk};
+ghost use Rattle.std.specs.Prelude.{◌≡◌, [], not, None, IfOk};
 ghost use Rattle.std.specs.List.{AllZip};
 ghost use Rattle.two_wire.specs.declared.Bus.{Bus as AnyBus};
 ghost use Rattle.cfg_records.specs.Records.{records_of};
@@ -14,6 +14,7 @@ ghost use Rattle.lab_play.specs.Ends.{Tells, Plays, Begins, given, changed_in, i
 
 use crate::noted::run_noted;
 use crate::run::{Halt, run};
+use crate::watch::Watch;
 use bmc_board::Records;
 use cfg_records::{BoardFile, Key, Store, Value};
 use lab_run::{Fault, Lab, Note, Refused, SentFrame};
@@ -27,6 +28,7 @@ use undo_plans::{Plan, UndoList};
 pub struct Played {
     start: Vec<(Key, Value)>,
     lab: Lab,
+    watch: Watch,
 }
 
 impl Played {
@@ -65,6 +67,14 @@ impl Played {
         self.start.as_slice()
     }
 
+    /// The place, counted from 1, of the first event at which a packet of the manager joined one that waited at the controller while
+    /// eight or more newer requests were begun on the System Management Bus.
+    pub fn premise_broken(&self) -> Option<usize>
+        ensures { result ≡ self.now.watch.broken }
+    {
+        self.watch.broken
+    }
+
     /// How many records have another value than they began with.
     pub fn changed(&self) -> usize
         ensures { (told : Told) → Tells self.now told → result ≡ changed_in told.records self.now.start.items }
@@ -101,12 +111,14 @@ impl Played {
     /// A play that begins: a lab as it begins, and the records of its board.
     fn begin(alloc: Global, file: BoardFile, plan: Plan) -> Result<Played, AllocError>
         ensures begins { IfOk result (λ played. Begins file plan.steps plan.retries played) }
+        ensures unbroken { IfOk result (λ played. played.watch.broken ≡ None) }
         ensures never { IfOk result (λ played. (on : AnyBus) → idles_in on played.lab.idles ≡ 0) }
     {
         let _steps = plan.steps.as_slice();
         let start = file.records(alloc)?;
         let lab = Lab::open(alloc, file, plan)?;
-        Ok(Played { start, lab })
+        let watch = Watch::new();
+        Ok(Played { start, lab, watch })
     }
 
     /// What is given of a play whose events ended so.
@@ -139,7 +151,7 @@ pub fn play(
     let Ok(mut played) = Played::begin(alloc, file, plan) else {
         return Err(LabFault::Memory);
     };
-    let ended = run(&mut played.lab, events);
+    let ended = run(&mut played.lab, &mut played.watch, events);
     played.ending(ended)
 }
 
@@ -158,6 +170,6 @@ pub fn play_noted<'a>(
     let Ok(mut played) = Played::begin(alloc, file, plan) else {
         return Err(LabFault::Memory);
     };
-    let ended = run_noted(&mut played.lab, events, notes);
+    let ended = run_noted(&mut played.lab, &mut played.watch, events, notes);
     played.ending(ended)
 }

@@ -10,3 +10,4 @@ pub mod Deeds
 pub mod PortSide
 pub mod Silence
 pub mod Coming
+pub mod Parts

@@ -3,3 +3,4 @@ pub mod FaultNames
 pub mod Shown
 pub mod Hearing
 pub mod Coming
+pub mod Parts

@@ -6,6 +6,7 @@ ghost use Rattle.model_undo.specs.Machine.{phase_of};
 ghost use Rattle.undo_core.specs.Phases as phases;
 ghost use Rattle.undo_core.specs.Shown.{backs};
 ghost use Rattle.model_lab.specs.Lab.{Lab as LabModel};
+ghost use Rattle.model_lab.specs.Faults.{begun_on};
 ghost use Rattle.model_lab.specs.Meaning.{lab_names as the_names};
 ghost use Rattle.model_lab.specs.Played.{plans};
 ghost use Rattle.lab_run.specs.Shown.{Shows, IsSentFrame};
@@ -14,6 +15,7 @@ use crate::frames::SentFrame;
 use crate::lab_state::Lab;
 use bmc_board::Records;
 use cfg_records::Store;
+use two_wire::Bus;
 use undo_core::Phase;
 use undo_plans::UndoList;
 
@@ -23,6 +25,13 @@ impl Lab {
         ensures { (file : AnyFile) (x : LabModel plans) → Shows file self.now x → phases.phase_of result ≡ phase_of plans.words x.manager.machine }
     {
         self.manager.phase()
+    }
+
+    /// How many requests the manager began on a bus: those that were answered, and the open one.
+    pub fn begun(&self, on: Bus) -> usize
+        ensures { (file : AnyFile) (x : LabModel plans) → Shows file self.now x → result ≡ begun_on plans.words on x.manager.machine }
+    {
+        self.manager.begun(on)
     }
 
     /// The frames that were sent, in the order of their numbers.

@@ -28,8 +28,22 @@ fn frame_text(alloc: Global, words: &FrameWords) -> Result<String, Trouble> {
 /// How a play is shown.
 fn shown_name(shown: Shown) -> &'static str {
     match shown {
-        Shown::Lines { frames: false } => "lines",
-        Shown::Lines { frames: true } => "frames",
+        Shown::Lines {
+            frames: false,
+            premises: false,
+        } => "lines",
+        Shown::Lines {
+            frames: true,
+            premises: false,
+        } => "frames",
+        Shown::Lines {
+            frames: false,
+            premises: true,
+        } => "premises",
+        Shown::Lines {
+            frames: true,
+            premises: true,
+        } => "frames and premises",
         Shown::Chart => "chart",
     }
 }

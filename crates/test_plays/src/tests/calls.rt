@@ -91,7 +91,7 @@ const CHART: &[u8] = b"event mgr  |comes             sends            |bmc     p
 #[test]
 fn a_plan_is_played(rt: HostRuntime) {
     let mut paper = new_paper(rt.alloc());
-    let ended = play_run(rt.alloc(), false, BOARD, "", "start\n", &mut paper);
+    let ended = play_run(rt.alloc(), false, false, BOARD, "", "start\n", &mut paper);
     assert_eq!(rt; ended, 0);
     assert_eq!(rt; paper.out.as_slice(), LINES);
     assert!(rt; paper.err.is_empty());
@@ -100,7 +100,10 @@ fn a_plan_is_played(rt: HostRuntime) {
 #[test]
 fn a_plan_is_shown(rt: HostRuntime) {
     let mut paper = new_paper(rt.alloc());
-    let shown = Shown::Lines { frames: true };
+    let shown = Shown::Lines {
+        frames: true,
+        premises: false,
+    };
     let ended = show(rt.alloc(), shown, BOARD, "", "start\n", &mut paper);
     assert_eq!(rt; ended, 0);
     assert_eq!(rt; paper.out.as_slice(), LINES);

@@ -97,6 +97,8 @@ bmclab play sample.toml -> 2 err
     <SCHEDULE> /  / Usage: bmclab play <BOARD> <PLAN> <SCHEDULE> /  / For more information, try '--help'.
 bmclab play --chart --frames a b c -> 2 err
   error: the argument '--frames' cannot be used with '--chart' /  / Usage: bmclab play [OPTIONS] <BOARD> <PLAN> <SCHEDULE> /  / For more information, try '--help'.
+bmclab play --chart --premises a b c -> 2 err
+  error: the argument '--premises' cannot be used with '--chart' /  / Usage: bmclab play [OPTIONS] <BOARD> <PLAN> <SCHEDULE> /  / For more information, try '--help'.
 bmclab play --frames=yes a b c -> 2 err
   error: unexpected value 'yes' for '--frames' found; no more were expected /  / Usage: bmclab play --frames <BOARD> <PLAN> <SCHEDULE> /  / For more information, try '--help'.
 bmclab play a b c d -> 2 err
@@ -152,22 +154,26 @@ bmclab play --help -> 2 err
     <BOARD>     The board file, as sample.toml
     <PLAN>      The plan, as examples/clean/plan.toml
     <SCHEDULE>  The schedule: what comes when, as examples/clean/schedule.txt /  / Options:
-        --frames  Prints each frame, too, as in frame 0 mgr ipmb 2010D02C002905A6
-        --chart   Draws the play in place of its lines
-    -h, --help    Print help /  / Examples:
+        --frames    Prints each frame, too, as in frame 0 mgr ipmb 2010D02C002905A6
+        --premises  Prints the first event at which a packet joined one that had waited too long, or premises kept
+        --chart     Draws the play in place of its lines
+    -h, --help      Print help /  / Examples:
     bmclab play sample.toml examples/clean/plan.toml examples/clean/schedule.txt
     bmclab play --frames sample.toml examples/clean/plan.toml examples/clean/schedule.txt
+    bmclab play --premises sample.toml examples/clean/plan.toml examples/clean/schedule.txt
     bmclab play --chart sample.toml examples/clean/plan.toml examples/clean/schedule.txt
 bmclab play -h a b c -> 2 err
   Plays a plan on a board, over buses that lose, repeat and delay frames /  / Usage: bmclab play [OPTIONS] <BOARD> <PLAN> <SCHEDULE> /  / Arguments:
     <BOARD>     The board file, as sample.toml
     <PLAN>      The plan, as examples/clean/plan.toml
     <SCHEDULE>  The schedule: what comes when, as examples/clean/schedule.txt /  / Options:
-        --frames  Prints each frame, too, as in frame 0 mgr ipmb 2010D02C002905A6
-        --chart   Draws the play in place of its lines
-    -h, --help    Print help /  / Examples:
+        --frames    Prints each frame, too, as in frame 0 mgr ipmb 2010D02C002905A6
+        --premises  Prints the first event at which a packet joined one that had waited too long, or premises kept
+        --chart     Draws the play in place of its lines
+    -h, --help      Print help /  / Examples:
     bmclab play sample.toml examples/clean/plan.toml examples/clean/schedule.txt
     bmclab play --frames sample.toml examples/clean/plan.toml examples/clean/schedule.txt
+    bmclab play --premises sample.toml examples/clean/plan.toml examples/clean/schedule.txt
     bmclab play --chart sample.toml examples/clean/plan.toml examples/clean/schedule.txt
 ";
 
@@ -193,6 +199,8 @@ asks bmclab play --frames sample.toml plan.toml schedule.txt -> frames sample.to
 asks bmclab play sample.toml plan.toml schedule.txt --frames -> frames sample.toml plan.toml schedule.txt
 asks bmclab play sample.toml --frames plan.toml schedule.txt -> frames sample.toml plan.toml schedule.txt
 asks bmclab play -- sample.toml plan.toml schedule.txt -> lines sample.toml plan.toml schedule.txt
+asks bmclab play --premises sample.toml plan.toml schedule.txt -> premises sample.toml plan.toml schedule.txt
+asks bmclab play --premises --frames sample.toml plan.toml schedule.txt -> frames and premises sample.toml plan.toml schedule.txt
 asks bmclab play --chart sample.toml plan.toml schedule.txt -> chart sample.toml plan.toml schedule.txt
 asks bmclab play sample.toml plan.toml schedule.txt --chart -> chart sample.toml plan.toml schedule.txt
 
@@ -216,6 +224,8 @@ asks bmclab play --frames --frames sample.toml plan.toml schedule.txt -> refused
 asks bmclab play --frames=yes sample.toml plan.toml schedule.txt -> refused
 asks bmclab play --chart --frames sample.toml plan.toml schedule.txt -> refused
 asks bmclab play --frames sample.toml plan.toml schedule.txt --chart -> refused
+asks bmclab play --chart --premises sample.toml plan.toml schedule.txt -> refused
+asks bmclab play --chart --frames --premises sample.toml plan.toml schedule.txt -> refused
 asks bmclab play --chart --chart sample.toml plan.toml schedule.txt -> refused
 asks bmclab play --chart sample.toml plan.toml -> refused
 asks bmclab play --board sample.toml plan.toml schedule.txt -> refused

@@ -415,6 +415,41 @@ plan events
 schedule
   start / to-bmc 0 / to-mgr 1 / to-bmc 2 / to-mgr 3 / to-bmc 4 / to-mgr 5 / to-bmc 6 / to-mgr 7
 lines -> 0 out: phase Done / frames 8 / undo 2 / ipmb 000601 / ipmb 102805E080000000 / records changed 2
+
+story a packet joins one that waited while eight newer requests were begun
+# The first packet of request 3 comes again, late, and waits. That of request 11, under the same tag, is lost, and its others join.
+board fields device-20h
+  [[attribute]] / name = \"Label\" / kind = \"string\" / string_type = 1 / least = 0 / most = 200 / default = \"\" / current = \"rack-1\" / readonly = false
+  [[attribute]] / name = \"Notes\" / kind = \"string\" / string_type = 1 / least = 0 / most = 200 / default = \"\" / current = \"yyyyyyyyyyyyyyyyyyyyyyyyyyyyyyyyyyyyyyyyyyyyyyyyyyyyyyyyyyyyyyyyyyyyyyyyyyyyyyyyyyyyyyyyyyyyyyyyyyyyyyyyyyyyyyyyyyyyyyyyyyyyyyyyyyyyyyyyyyyyyyyyyyyyyyyyyyyyyyyyyyyyyyyyyyyyyyyyyyyyyyyyyyyyyyyyyyyyyyyy\" / readonly = false
+  [[attribute]] / name = \"Delay\" / kind = \"integer\" / lower = 0 / upper = 300 / increment = 10 / default = 30 / current = 30 / readonly = false
+plan
+  [[step]] / kind = \"bios-attribute\" / handle = 1 / text = \"aaaaaaaaaaaaaaaaaaaaaaaaaaaaaaaaaaaaaaaaaaaaaaaaaaaaaaaaaaaaaaaaaaaaaaaaaaaaaaaaaaaaaaaaaaaaaaaaaaaaaaaaaaaaaaaaaaaaaaaaaaaaaaaaaaaaaaaaaaaaaaaaaaaaaaaaaaaaaaaaaaaaaaaaaaaaaaaaaaaaaaaaaaaaaaaaaaaaaaaa\"
+  [[step]] / kind = \"bios-attribute\" / handle = 0 / text = \"bbbbbbbbbbbbbbbbbbbbbbbbbbbbbbbbbbbbbbbbbbbbbbbbbbbbbbbbbbbbbbbbbbbbbbbbbbbbbbbbbbbbbbbbbbbbbbbbbbbbbbbbbbbbbbbbbbbbbbbbbbbbbbbbbbbbbbbbbbbbbbbbbbbbbbbbbbbbbbbbbbbbbbbbbbbbbbbbbbbbbbbbbbbbbbbbbbbbbbbb\"
+  [[step]] / kind = \"bios-attribute\" / handle = 2 / number = 40
+  [[step]] / kind = \"bios-attribute\" / handle = 2 / number = 50
+schedule
+  start / to-bmc 0 / to-mgr 1 / to-mgr 2 / to-mgr 3 / to-mgr 4 / to-bmc 5 / to-bmc 6 / to-bmc 7 / to-bmc 8 / to-mgr 9
+  to-bmc 10 / to-mgr 11 / to-bmc 12 / to-bmc 13 / to-bmc 14 / to-bmc 15 / to-mgr 16 / to-bmc 12 / to-bmc 17 / to-mgr 18 / to-bmc 19
+  to-mgr 20 / to-bmc 21 / to-mgr 22 / to-bmc 23 / to-mgr 24 / undo / to-bmc 25 / to-mgr 26 / to-bmc 27 / to-mgr 28 / to-bmc 29
+  to-mgr 30 / to-bmc 32 / to-bmc 33 / to-bmc 34 / to-mgr 35 / quiet / to-bmc 36 / to-bmc 37 / to-bmc 38 / to-bmc 39 / to-mgr 40
+premises -> 0 out
+  phase Undone
+  frames 41
+  undo 4
+  smbus 030700000000050200032800000000000000
+  smbus 030700000000050200031E00000000000000
+  smbus 0307000000000500000106007261636B2D31
+  smbus 03070000000005010001C8007979797979797979797979797979797979797979797979797979797979797979797979797979797979797979797979797979797979797979797979797979797979797979797979797979797979797979797979797979797979797979797979797979797979797979797979797979797979797979797979797979797979797979797979797979797979797979797979797979797979797979797979797979797979797979797979797979797979797979797979797979797979797979797979797979797979797979
+  records changed 1
+  premise broken 35
+
+story a schedule keeps the premise on packets
+board sample
+plan events
+schedule: start / to-bmc 0 / to-mgr 1 / to-bmc 2 / to-mgr 3
+premises -> 0 out: phase Done / frames 4 / undo 1 / ipmb 102805E080000000 / records changed 1 / premises kept
+then: to-mgr 9
+premises -> 4 out: phase Done / frames 4 / undo 1 / ipmb 102805E080000000 / records changed 1 / fault 6 NoFrame
 ";
 
 #[test]

@@ -16,12 +16,18 @@ pub fn new_paper(alloc: Global) -> Paper {
 }
 
 /// A play in lines.
-fn play(alloc: Global, scene: &Scene, frames: bool, paper: &mut Paper) -> Result<u8, Trouble> {
+fn play(
+    alloc: Global,
+    scene: &Scene,
+    frames: bool,
+    premises: bool,
+    paper: &mut Paper,
+) -> Result<u8, Trouble> {
     let (Some(board), Some(plan), Some(schedule)) = (scene.board(), scene.plan(), scene.schedule())
     else {
         return Err(Trouble::Unread);
     };
-    Ok(play_run(alloc, frames, board, plan, schedule, paper))
+    Ok(play_run(alloc, frames, premises, board, plan, schedule, paper))
 }
 
 /// A play that is drawn.
@@ -81,8 +87,9 @@ fn run_words(alloc: Global, scene: &Scene, line: &str, paper: &mut Paper) -> Res
 pub fn run(alloc: Global, scene: &Scene, line: &str, paper: &mut Paper) -> Result<u8, Trouble> {
     let (word, rest) = line.split_once(' ').unwrap_or((line, ""));
     match word {
-        "lines" => play(alloc, scene, false, paper),
-        "frames" => play(alloc, scene, true, paper),
+        "lines" => play(alloc, scene, false, false, paper),
+        "frames" => play(alloc, scene, true, false, paper),
+        "premises" => play(alloc, scene, false, true, paper),
         "chart" => draw(alloc, scene, paper),
         "ipmb" => send(alloc, scene, Bus::Ipmb, rest, paper),
         "smbus" => send(alloc, scene, Bus::Smbus, rest, paper),

@@ -103,7 +103,7 @@ fn expect_status(
     status: u8,
 ) {
     let mut papers = new_papers(alloc, left);
-    let ended = play_run(alloc, false, BOARD, PLAN, schedule, &mut papers);
+    let ended = play_run(alloc, false, false, BOARD, PLAN, schedule, &mut papers);
     assert_eq!(rt; ended, status, "{schedule}");
 }
 

@@ -1,4 +1,4 @@
-use Rattle.std.proofs.Common.{◌∙◌, sym, ap, ap₂, codes, string_bytes}
+use Rattle.std.proofs.Common.{◌∙◌, sym, ap, codes, string_bytes}
 use Rattle.std.proofs.lemmas.Result.{err_from_is_err_and}
 use Rattle.clap.specs.Words.{found_of}
 use Rattle.clap.proofs.WalkLemmas.{first_value-rows, one_text-rows}
@@ -8,9 +8,11 @@ use Rattle.bmc_host.proofs.words.play_words.Goals as goal
 
 pub returns-in_default-clause-refused : goal.returns-in_default-clause-refused
 returns-in_default-clause-refused c =
-    let frames = c.has_flag.ensures ∙ ap says_yes (one_text-rows (found_of c.args.matches.now) (codes "frames")) in
-    let chart = c.has_flag-2.ensures ∙ ap says_yes (one_text-rows (found_of c.args.matches.now) (codes "chart")) in
-    refuses_none _ c.shown_refusal.result (λ asked asks. shown_refuses c.has_flag.result c.has_flag-2.result (sym c.shown.ensures ∙ c.in_default.is) asked.shown (ap₂ shown_of frames chart ∙ asks.shown))
+    let frames = c.has_flag-frames.ensures ∙ ap says_yes (one_text-rows (found_of c.args.matches.now) (codes "frames")) in
+    let premises = c.has_flag-premises.ensures ∙ ap says_yes (one_text-rows (found_of c.args.matches.now) (codes "premises")) in
+    let chart = c.has_flag-chart.ensures ∙ ap says_yes (one_text-rows (found_of c.args.matches.now) (codes "chart")) in
+    let flags = λ i. shown_of (frames i) (premises i) (chart i) in
+    refuses_none _ c.shown_refusal.result (λ asked asks. shown_refuses c.has_flag-frames.result c.has_flag-premises.result c.has_flag-chart.result (sym c.shown.ensures ∙ c.in_default.is) asked.shown (flags ∙ asks.shown))
 
 pub returns-in_err-named-clause-refused : goal.returns-in_err-named-clause-refused
 returns-in_err-named-clause-refused c =
@@ -29,10 +31,12 @@ returns-in_err-named-3-clause-refused c =
 
 pub returns-clause-asked : goal.returns-clause-asked
 returns-clause-asked c =
-    let frames = c.has_flag.ensures ∙ ap says_yes (one_text-rows (found_of c.args.matches.now) (codes "frames")) in
-    let chart = c.has_flag-2.ensures ∙ ap says_yes (one_text-rows (found_of c.args.matches.now) (codes "chart")) in
+    let frames = c.has_flag-frames.ensures ∙ ap says_yes (one_text-rows (found_of c.args.matches.now) (codes "frames")) in
+    let premises = c.has_flag-premises.ensures ∙ ap says_yes (one_text-rows (found_of c.args.matches.now) (codes "premises")) in
+    let chart = c.has_flag-chart.ensures ∙ ap says_yes (one_text-rows (found_of c.args.matches.now) (codes "chart")) in
+    let flags = λ i. shown_of (frames i) (premises i) (chart i) in
     record {
-      shown = sym (ap₂ shown_of frames chart) ∙ (sym c.shown.ensures ∙ c.in-Some.is);
+      shown = sym flags ∙ (sym c.shown.ensures ∙ c.in-Some.is);
       board = first_by_rows (found_of c.args.matches.now) (codes "BOARD") _ c.in_ok-named.ensures.word;
       plan = first_by_rows (found_of c.args.matches.now) (codes "PLAN") _ c.in_ok-named-2.ensures.word;
       schedule = first_by_rows (found_of c.args.matches.now) (codes "SCHEDULE") _ c.in_ok-named-3.ensures.word;

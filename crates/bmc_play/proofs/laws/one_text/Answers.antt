@@ -4,5 +4,5 @@ use Rattle.bmc_play.proofs.OneChart.{one_chart}
 use Rattle.bmc_play.proofs.laws.one_text.Goals as goal
 
 pub returns : goal.returns
-returns c (Lines frames) = one_account c.one_ending.ensures frames
+returns c (Lines frames premises) = one_account c.one_ending.ensures frames premises
 returns c Chart = one_chart c.one_ending.ensures

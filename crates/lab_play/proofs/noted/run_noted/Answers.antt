@@ -2,7 +2,11 @@ use Rattle.std.proofs.Common.{◌+◌, ◌∷◌, ◌++◌, [], List, length, ta
 use Rattle.std.proofs.lemmas.List.{take_more, take_all, length-take, take-append-drop, drop_more}
 use Rattle.text_schedule.specs.declared.event.Event.{Event}
 use Rattle.lab_play.specs.Runs.{Take}
-use Rattle.lab_play.specs.Noted.{Notes}
+use Rattle.std.specs.List.{AllZip}
+use Rattle.lab_run.specs.declared.note.Note.{Note}
+use Rattle.lab_play.specs.Noted.{IsNote, Notes}
+use Rattle.lab_play.specs.Watched.{WatchesAll}
+use Rattle.lab_play.proofs.Watching.{watches_more, watches_none, watches_before}
 use Rattle.lab_play.proofs.Running.{takes_one_more, halts_at}
 use Rattle.lab_play.proofs.Noting.{noted_step, one_longer, noted_before}
 use Rattle.lab_play.proofs.noted.run_noted.Goals as goal
@@ -56,4 +60,25 @@ loop-place-preserved c =
           (noted_step (take place events) event c.args.lab.now c.loop-place.lab c.loop-place.notes.items c.step_noted.new.notes.items c.loop-place.invariant.0 c.loop-place.invariant.2 stepped.noted),
       omega (arith, longer, long),
       omega (arith, within),
+      subst (λ (es : List Event). WatchesAll es c.args.lab.now c.args.watch.now c.step_noted.new.watch) next
+          (watches_more (take place events) event (place + 1) c.args.lab.now c.loop-place.lab c.args.watch.now c.loop-place.watch c.step_noted.new.watch
+          (let short = length-take place events in omega (arith, short, within)) c.loop-place.invariant.0 c.loop-place.invariant.5 stepped.watched),
     )
+
+pub returns-in-Err-clause-watched : goal.returns-in-Err-clause-watched
+returns-in-Err-clause-watched c =
+    watches_before c.args.events.now c.args.lab.now c.index-events-place.result c.loop-place.place c.loop-place.lab c.args.watch.now c.loop-place.watch c.step_noted.new.watch c.in-Err.why c.loop-place.invariant.5 c.in-Err.ensures.watched
+
+pub returns-clause-watched : goal.returns-clause-watched
+returns-clause-watched c =
+    subst (λ (es : List Event). WatchesAll es c.args.lab.now c.args.watch.now c.loop-place.watch) (take_all c.loop-place.place c.args.events.now c.loop-place-test.false) c.loop-place.invariant.5
+
+pub loop-place-init : goal.loop-place-init
+loop-place-init c = (
+  λ file x shows. (tt, shows),
+  λ on. let none = c.requires.idles on in omega (arith, none),
+  λ file x shows. subst (λ (notes : List Note). AllZip IsNote notes []) (sym c.requires.empty) tt,
+  ap length c.requires.empty,
+  omega arith,
+  watches_none c.args.lab.now c.args.watch.now c.requires.unbroken,
+)

@@ -19,7 +19,7 @@ returns-in-Ok-clause-noted c =
       note,
       c.in-Ok.ensures.items,
       λ file x shows.
-          is_noted c.args.event.now c.args.lab.now c.step.new.self note file x shows (c.in_ok-step.ensures.steps file x shows) c.in_ok-step.ensures.done refl
+          is_noted c.args.event.now c.args.lab.now c.step_watched.new.lab note file x shows (c.in_ok-step_watched.ensures.steps file x shows) c.in_ok-step_watched.ensures.done refl
           (c.came-came.ensures file x shows) c.done.ensures (λ y shown. c.bus_of.ensures file y shown)
           (sym (AllZip-long IsSentFrame c.frames-before.result.now x.frames (c.frames-before.ensures file x shows)))
           (λ y shown. sym (AllZip-long IsSentFrame c.frames.result.now y.frames (c.frames.ensures file y shown)))

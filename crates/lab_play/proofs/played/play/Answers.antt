@@ -8,4 +8,4 @@ use Rattle.lab_play.proofs.played.play.Goals as goal
 pub returns : goal.returns
 returns c =
     subst (λ (r : Result Played LabFault). Plays c.args.file c.args.plan.steps c.args.plan.retries c.args.events.now r) (sym c.ending.ensures)
-    (plays_given c.args.file c.args.plan.steps c.args.plan.retries c.args.events.now c.in-Ok.played c.run-ended.new.lab c.run-ended.result c.in-Ok.ensures.begins c.run-ended.ensures)
+    (plays_given c.args.file c.args.plan.steps c.args.plan.retries c.args.events.now c.in-Ok.played c.run-ended.new.lab c.run-ended.new.watch c.run-ended.result c.in-Ok.ensures.begins c.run-ended.ensures.runs c.run-ended.ensures.watched)

@@ -1,0 +1,73 @@
+-- What is watched of the premise on packets.
+use Rattle.std.specs.Prelude.{◌≡◌, ℕ, ◌-◌, ◌<◌, Bool, true, false, not, ◌&&◌, nat_lt, List, take, Option, Some, None, Result, Ok, Err, if◌then◌else◌, slice_get, slice_index, slice_set}
+use Rattle.std.specs.Option.{is_none}
+use Rattle.cfg_records.specs.declared.board_file.BoardFile.{BoardFile}
+use Rattle.bmc_core.specs.declared.out.Done.{Done}
+use Rattle.bmc_core.specs.declared.out.Done.TheVariants as done
+use Rattle.bmc_core.specs.declared.out.Reason.TheVariants as reason
+use Rattle.model_lab.specs.Lab.{Lab as LabModel}
+use Rattle.model_lab.specs.Played.{plans, happens, after}
+use Rattle.model_headline.specs.Plays.{KeepsPremise, TellsPremise}
+use Rattle.text_schedule.specs.declared.event.Event.{Event}
+use Rattle.lab_run.specs.declared.lab_state.Lab.{Lab}
+use Rattle.lab_run.specs.declared.part.ManagerPart.{ManagerPart}
+use Rattle.lab_run.specs.declared.step.Refused.{Refused}
+use Rattle.lab_run.specs.declared.step.Refused.TheVariants as refused
+use Rattle.lab_run.specs.Shown.{Shows, own_bench}
+use Rattle.lab_play.specs.declared.run.Halt.{Halt}
+use Rattle.lab_play.specs.declared.watch.Watch.{Watch}
+
+-- what the port did was to take a packet: one that went to it, and wasn't dropped
+abbrev pub took : Done → Bool
+took (done.Ignored reason.NotOurs) = false
+took (done.Ignored (reason.Dropped cause)) = false
+took _ = true
+
+abbrev pub took_by : Option Done → Bool
+took_by None = false
+took_by (Some d) = took d
+
+-- more than eight requests were begun from the one on that was opened under the tag
+abbrev pub waits_long : List ℕ → (tag begun : ℕ) → Bool
+waits_long opened tag begun = nat_lt 8 (begun - slice_index opened tag)
+
+-- what is opened under each tag, once a packet came
+abbrev pub opened_in : ManagerPart → List ℕ → List ℕ
+opened_in part opened = if part.start && part.ours then slice_set opened part.tag part.request else opened
+
+-- the first event to break the premise, once a packet came that was taken or not, at the event of this place
+abbrev pub broken_at : Watch → ManagerPart → (begun : ℕ) → (taken : Bool) → (place : ℕ) → Option ℕ
+broken_at watch part begun taken place = if is_none watch.broken && not part.start && taken && waits_long watch.opened part.tag begun then Some place else watch.broken
+
+-- ---- what the watch knows of a lab
+
+-- under each tag, the request whose start came last
+abbrev pub Watches : Watch → LabModel plans → Type 0
+Watches watch x = (tag : ℕ) → tag < 8 → slice_get watch.opened tag ≡ Some (x.opened tag)
+
+-- the first event to break the premise is the same after one more, of this place, unless it's that
+abbrev pub TellsNext : Option ℕ → Option ℕ → (place : ℕ) → Type 0 → Type 0
+TellsNext (Some first) next place Keeps = next ≡ Some first
+TellsNext None None place Keeps = Keeps
+TellsNext None (Some first) place Keeps = (first ≡ place) × (¬ Keeps)
+
+-- an event of this place is asked of a lab, and watched if it happens; where memory was refused, nothing is said
+abbrev pub WatchesStep : Event → (place : ℕ) → Lab → Watch → Result (Unit {0}) Refused → Watch → Type 0
+WatchesStep e place lab old (Ok did) new = (file : BoardFile) (x : LabModel plans) → Shows file lab x → Watches old x
+    → Watches new (happens (own_bench file) file e x) × TellsNext old.broken new.broken place (KeepsPremise (own_bench file) file x e)
+WatchesStep e place lab old (Err (refused.Fault why)) new = new ≡ old
+WatchesStep e place lab old (Err refused.Memory) new = Unit {0}
+
+-- events happened, and this is told of the premise
+abbrev pub WatchesAll : List Event → Lab → Watch → Watch → Type 0
+WatchesAll events lab old new = (file : BoardFile) (x : LabModel plans) → Shows file lab x → Watches old x
+    → Watches new (after (own_bench file) file events x) × TellsPremise (own_bench file) file events x new.broken
+
+-- events are asked of a lab, up to the first that isn't taken; where memory was refused, nothing is said
+abbrev pub WatchesBefore : List Event → Lab → Watch → (place : ℕ) → Refused → Watch → Type 0
+WatchesBefore events lab old place (refused.Fault why) new = WatchesAll (take (place - 1) events) lab old new
+WatchesBefore events lab old place refused.Memory new = Unit {0}
+
+abbrev pub WatchesRun : List Event → Lab → Watch → Result (Unit {0}) Halt → Watch → Type 0
+WatchesRun events lab old (Ok did) new = WatchesAll events lab old new
+WatchesRun events lab old (Err halt) new = WatchesBefore events lab old halt.place halt.why new
