@@ -45,18 +45,18 @@ impl Watch {
     }
 
     /// Whether what waits under the tag of a packet that comes is of a request than which too many newer ones were begun.
-    fn waits_long(&self, part: ManagerPart, begun: usize) -> bool
-        ensures { result ≡ waits_long self.now.opened part.tag begun }
+    fn waits_long(&self, part: &ManagerPart, begun: usize) -> bool
+        ensures { result ≡ waits_long self.now.opened part.now.tag begun }
     {
         let opened = self.opened[usize::from(part.tag.number())];
         begun.saturating_sub(opened) > MOST_NEWER
     }
 
     /// A packet came to the port.
-    fn opens(&mut self, part: ManagerPart)
-        ensures opened { self.new.opened ≡ opened_in part self.old.opened }
+    fn opens(&mut self, part: &ManagerPart)
+        ensures opened { self.new.opened ≡ opened_in part.now self.old.opened }
         ensures broken { self.new.broken ≡ self.old.broken }
-        ensures low { part.tag < 8 }
+        ensures low { part.now.tag < 8 }
     {
         let tag = usize::from(part.tag.number());
         if part.start && part.ours {
@@ -70,10 +70,12 @@ impl Watch {
         ensures broken { self.new.broken ≡ broken_at self.old part begun taken place }
         ensures low { part.tag < 8 }
     {
-        if self.broken.is_none() && !part.start && taken && self.waits_long(part, begun) {
+        let starts = part.start;
+        let is_late = self.waits_long(&part, begun);
+        if self.broken.is_none() && !starts && taken && is_late {
             self.broken = Some(place);
         }
-        self.opens(part);
+        self.opens(&part);
     }
 }
 

@@ -9,5 +9,5 @@ returns-clause-begins c = record {
   once = c.in_ok-start.ensures.differ;
   shows = c.in_ok-lab.ensures.shows;
   few = subst (λ (steps : List Op). length steps ≤ most_steps) c.as_slice-steps.ensures.value c.as_slice-steps.ensures.few;
-  watches = λ tag below. c.new.ensures.opened tag below;
+  watches = λ tag below. c.new-watch.ensures.opened tag below;
 }
