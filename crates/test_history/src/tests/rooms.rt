@@ -3,7 +3,7 @@ ghost use Rattle.std.specs.Prelude.{◌≡◌};
 ghost use Rattle.bmc_board.specs.State.{state_of};
 
 use super::open_sample;
-use bmc_board::{Bench, Board, Records};
+use bmc_board::{Bench, Board};
 use bmc_ports::{Held, OpenFault, Opening, PeriodFull, Shared};
 use cfg_records::Store;
 use record_base::{Asked, net_fn};
@@ -55,7 +55,23 @@ fn fault_of<S: Store + Drop>(
     Some((alone, shared, board))
 }
 
-/// Has a board with room for two events answer, and happen, until it is full.
+/// Has a board answer, and happen, once each.
+fn call_twice<J: Opening, S: Store>(rt: &impl Abort, held: &mut Held<J, S>) {
+    let asked = Asked::ipmi(NetFn::new(net_fn::APPLICATION), 0x01, &[]);
+    let code = held.exchange(0, &asked).ok().map(|answered| answered.code);
+    assert_eq!(rt; code, Some(0x00));
+    assert_eq!(rt; held.bench(2, Bench::Tick), Ok(Ok(())));
+}
+
+/// A full history refuses a request, and what happens beside requests.
+fn refuse_both<J: Opening, S: Store>(rt: &impl Abort, held: &mut Held<J, S>) {
+    let asked = Asked::ipmi(NetFn::new(net_fn::APPLICATION), 0x01, &[]);
+    assert_eq!(rt; held.exchange(1, &asked), Err(PeriodFull));
+    assert_eq!(rt; held.bench(2, Bench::Tick), Err(PeriodFull));
+    assert!(rt; held.is_full());
+}
+
+/// Calls a board until its history, which has room for two events, is full.
 fn fill<J: Opening, S: Store + Drop>(
     rt: &impl Abort,
     alloc: Global,
@@ -69,13 +85,8 @@ fn fill<J: Opening, S: Store + Drop>(
     let Ok(mut held) = Held::<J, S>::open(alloc, board, room) else {
         return Err("memory".into());
     };
-    let asked = Asked::ipmi(NetFn::new(net_fn::APPLICATION), 0x01, &[]);
-    let answered = held.exchange(0, &asked).ok().ok_or("full")?;
-    assert_eq!(rt; answered.code, 0x00);
-    assert_eq!(rt; held.bench(2, Bench::Tick), Ok(Ok(())));
-    assert_eq!(rt; held.exchange(1, &asked), Err(PeriodFull));
-    assert_eq!(rt; held.bench(2, Bench::Tick), Err(PeriodFull));
-    assert!(rt; held.is_full());
+    call_twice(rt, &mut held);
+    refuse_both(rt, &mut held);
     let (_, history) = held.into_parts();
     assert_eq!(rt; history.len(), 2);
     Ok(())

@@ -1,11 +1,11 @@
 //! Threads that share a board.
 ghost use Rattle.std.specs.Prelude.{◌≡◌};
 ghost use Rattle.bmc_board.specs.State.{state_of};
+ghost use Rattle.bmc_board.specs.OwnStore.{own_records};
 
 use super::open_sample;
-use bmc_board::Board;
+use bmc_board::{Board, Records};
 use bmc_ports::{Call, History, Opening, Seat, Seats, Shared};
-use cfg_records::Store;
 use record_base::{Asked, net_fn};
 use std::alloc::Global;
 use std::marker::Brand;
@@ -24,23 +24,30 @@ impl<J: Opening> Promise<Seat<J>> for SeatOf {
     ghost kept_by = { λ promise seat. seat.number ≡ promise.0 };
 }
 
-/// Asks the board, and gives the seat back.
-fn ask<J: Opening, S: Store + Drop, R: Wait>(
+/// Has a seat ask the board.
+fn ask<J: Opening, R: Wait>(rt: &R, shared: &Shared<J, Records>, seat: &mut Seat<J>, asked: &Asked)
+    ensures { seat.new.number ≡ seat.old.number }
+{
+    let _ = shared.exchange(rt, seat, asked);
+}
+
+/// Has a seat ask the board, and gives it back.
+fn ask_by<J: Opening, R: Wait>(
     rt: &R,
-    shared: &Shared<J, S>,
+    shared: &Shared<J, Records>,
     mut seat: Seat<J>,
     asked: &Asked,
 ) -> Seat<J>
     ensures { result.number ≡ seat.number }
 {
-    let _ = shared.exchange(rt, &mut seat, asked);
+    ask(rt, shared, &mut seat, asked);
     seat
 }
 
 /// Each seat asks the board once, in a thread of its own.
-fn ask_each<J: Opening + Send + Sync, S: Store + Drop + Send + Sync, R: Threads + Wait + Sync>(
+fn ask_each<J: Opening + Send + Sync, R: Threads + Wait + Sync>(
     rt: &R,
-    shared: &Shared<J, S>,
+    shared: &Shared<J, Records>,
     seats: Seats<J>,
     asked: &Asked,
 ) -> Option<Seats<J>> {
@@ -61,7 +68,7 @@ fn ask_each<J: Opening + Send + Sync, S: Store + Drop + Send + Sync, R: Threads 
                     move || -> Seat<J>
                         requires { first.number ≡ 0 }
                         ensures { result.number ≡ 0 }
-                    { ask(rt, shared, first, asked) },
+                    { ask_by(rt, shared, first, asked) },
                 )
                 .ok()?;
             let second = scope
@@ -70,7 +77,7 @@ fn ask_each<J: Opening + Send + Sync, S: Store + Drop + Send + Sync, R: Threads 
                     move || -> Seat<J>
                         requires { second.number ≡ 1 }
                         ensures { result.number ≡ 1 }
-                    { ask(rt, shared, second, asked) },
+                    { ask_by(rt, shared, second, asked) },
                 )
                 .ok()?;
             let scanner = scope
@@ -79,7 +86,7 @@ fn ask_each<J: Opening + Send + Sync, S: Store + Drop + Send + Sync, R: Threads 
                     move || -> Seat<J>
                         requires { scanner.number ≡ 2 }
                         ensures { result.number ≡ 2 }
-                    { ask(rt, shared, scanner, asked) },
+                    { ask_by(rt, shared, scanner, asked) },
                 )
                 .ok()?;
             Some(Seats {
@@ -92,21 +99,21 @@ fn ask_each<J: Opening + Send + Sync, S: Store + Drop + Send + Sync, R: Threads 
 }
 
 /// Three threads ask a board for its device's identifier.
-fn share<J: Opening + Send + Sync, S: Store + Drop + Send + Sync, R: Threads + Wait + Sync>(
+fn share<J: Opening + Send + Sync, R: Threads + Wait + Sync>(
     rt: &R,
     alloc: Global,
     blank: Blank,
-    board: Board<S>,
+    board: Board<Records>,
     room: usize,
 ) -> Option<History>
     requires name { blank.name ≡ J.name }
     requires parts { blank.parts ≡ J.parts }
     requires three { blank.parts ≡ 3 }
     requires setup { board.setup ≡ J.setup }
-    requires opening { state_of S.records board ≡ J.opening }
+    requires opening { state_of own_records board ≡ J.opening }
     requires room { room ≡ J.room }
 {
-    let (shared, seats) = Shared::<J, S>::open(alloc, blank, board, room).ok()?;
+    let (shared, seats) = Shared::<J, Records>::open(alloc, blank, board, room).ok()?;
     let asked = Asked::ipmi(NetFn::new(net_fn::APPLICATION), 0x01, &[]);
     let seats = ask_each(rt, &shared, seats, &asked)?;
     let (_, history) = shared.close(seats).ok()?;
@@ -114,13 +121,13 @@ fn share<J: Opening + Send + Sync, S: Store + Drop + Send + Sync, R: Threads + W
 }
 
 /// The same, with a ledger of its own.
-fn share_at<S: Store + Drop + Send + Sync, R: Threads + Wait + Sync>(
+fn share_at<R: Threads + Wait + Sync>(
     rt: &R,
     alloc: Global,
-    board: Board<S>,
+    board: Board<Records>,
     room: usize,
 ) -> Option<History> {
-    share::<Brand, S, R>(rt, alloc, Blank::new(3), board, room)
+    share::<Brand, R>(rt, alloc, Blank::new(3), board, room)
 }
 
 #[test]
