@@ -79,6 +79,14 @@ fn expect_replies<S: Store>(
     Ok(())
 }
 
+/// Whether the store has another value at the key of this record.
+fn is_changed(store: &PlainStore, first: &(Key, Value)) -> bool {
+    match store.get(&first.0) {
+        Some(value) => value != first.1.as_slice(),
+        None => true,
+    }
+}
+
 /// Both stores have these keys' records alike. How many of them have another value than the list has.
 fn changed(
     rt: &impl Abort,
@@ -86,15 +94,11 @@ fn changed(
     packed: &PackedStore,
     start: &[(Key, Value)],
 ) -> usize {
-    let mut changed = 0;
-    for (key, value) in start {
-        let now = plain.get(key).expect(rt, "a record");
-        assert_eq!(rt; packed.get(key).expect(rt, "a record"), now);
-        if now != value.as_slice() {
-            changed += 1;
-        }
+    for (key, _) in start {
+        let value = plain.get(key).expect(rt, "a record");
+        assert_eq!(rt; packed.get(key).expect(rt, "a record"), value);
     }
-    changed
+    start.iter().filter(|r| is_changed(plain, r)).count()
 }
 
 #[test]
