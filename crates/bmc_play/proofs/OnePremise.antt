@@ -23,16 +23,16 @@ module _ (bench : Bench) (file : BoardFile) where
   one_place : (before others rest more : List Event) (e d : Event) (x : Lab plans) → before ++ e ∷ rest ≡ others ++ d ∷ more
       → AllKeepPremise bench file before x → AllKeepPremise bench file others x → (KeepsPremise bench file (after bench file before x) e → ⊥)
       → (KeepsPremise bench file (after bench file others x) d → ⊥) → length before ≡ length others
-  one_place [] [] rest more e d x same all also no not = refl
-  one_place [] (o ∷ others) rest more e d x same all also no not =
-      absurd (no (subst (KeepsPremise bench file x) (sym (same_head e o rest (others ++ d ∷ more) same)) also.0))
-  one_place (b ∷ before) [] rest more e d x same all also no not =
-      absurd (not (subst (KeepsPremise bench file x) (same_head b d (before ++ e ∷ rest) more same) all.0))
-  one_place (b ∷ before) (o ∷ others) rest more e d x same all also no not =
+  one_place [] [] rest more e d x same all also broke broke_too = refl
+  one_place [] (o ∷ others) rest more e d x same all also broke broke_too =
+      absurd (broke (subst (KeepsPremise bench file x) (sym (same_head e o rest (others ++ d ∷ more) same)) also.0))
+  one_place (b ∷ before) [] rest more e d x same all also broke broke_too =
+      absurd (broke_too (subst (KeepsPremise bench file x) (same_head b d (before ++ e ∷ rest) more same) all.0))
+  one_place (b ∷ before) (o ∷ others) rest more e d x same all also broke broke_too =
       let head : b ≡ o = same_head b o (before ++ e ∷ rest) (others ++ d ∷ more) same in
       ap suc (one_place before others rest more e d (happens bench file b x) (same_tail b o (before ++ e ∷ rest) (others ++ d ∷ more) same) all.1
-      (subst (λ (k : Event). AllKeepPremise bench file others (happens bench file k x)) (sym head) also.1) no
-      (subst (λ (k : Event). KeepsPremise bench file (after bench file others (happens bench file k x)) d → ⊥) (sym head) not))
+      (subst (λ (k : Event). AllKeepPremise bench file others (happens bench file k x)) (sym head) also.1) broke
+      (subst (λ (k : Event). KeepsPremise bench file (after bench file others (happens bench file k x)) d → ⊥) (sym head) broke_too))
 
   none_broke : (events : List Event) (x : Lab plans) (place : ℕ) → AllKeepPremise bench file events x → TellsPremise bench file events x (Some place) → ⊥
   none_broke events x place all told =

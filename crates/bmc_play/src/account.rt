@@ -1,6 +1,8 @@
 //! What a play tells.
-ghost use Rattle.std.specs.Prelude.{◌≡◌, IfOk, string_bytes};
-ghost use Rattle.bmc_play.specs.Lines.{text_of};
+ghost use Rattle.std.specs.Prelude.{◌≡◌, ◌++◌, IfOk, OnOk, string_bytes};
+ghost use Rattle.std.specs.List.{flat_map};
+ghost use Rattle.text_lines.specs.Cuts.{ended};
+ghost use Rattle.bmc_play.specs.Lines.{ending, premised, text_of};
 
 use crate::lines::{push_frames, push_premise, push_records, push_stopped};
 use lab_run::{Fault, SentFrame};
@@ -53,12 +55,21 @@ impl Account<'_> {
         if frames {
             push_frames(alloc, &mut text, self.frames)?;
         }
-        if premises {
-            push_premise(&mut text, self.broken, self.stopped)?;
-        }
-        if let Some(stopped) = self.stopped {
-            push_stopped(&mut text, stopped)?;
-        }
+        self.push_end(&mut text, premises)?;
         Ok(text)
+    }
+
+    /// Adds the lines behind the frames.
+    fn push_end(&self, text: &mut String, premises: bool) -> Result<(), AllocError>
+        ensures { OnOk result (string_bytes text.new
+            ≡ string_bytes text.old ++ flat_map ended (premised premises self.now.broken self.now.stopped ++ ending self.now.stopped)) }
+    {
+        if premises {
+            push_premise(text, self.broken, self.stopped)?;
+        }
+        match self.stopped {
+            Some(stopped) => push_stopped(text, stopped),
+            None => Ok(()),
+        }
     }
 }

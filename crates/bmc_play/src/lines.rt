@@ -1,8 +1,9 @@
 //! The lines of an account.
-ghost use Rattle.std.specs.Prelude.{◌≡◌, ◌++◌, OnOk, string_bytes};
+ghost use Rattle.std.specs.Prelude.{◌≡◌, ◌++◌, OnOk, codes, string_bytes};
+ghost use Rattle.std.specs.Fmt.{decimal};
 ghost use Rattle.std.specs.List.{flat_map};
 ghost use Rattle.text_lines.specs.Cuts.{ended};
-ghost use Rattle.bmc_play.specs.Lines.{end_name, bus_name, frame_line, frame_lines, premise_lines, records_line, stopped_line};
+ghost use Rattle.bmc_play.specs.Lines.{end_name, bus_name, frame_line, frame_lines, premise_lines, records_line, said, stopped_line};
 
 use crate::account::Stopped;
 use lab_run::{SentFrame, Way};
@@ -64,6 +65,20 @@ pub fn push_frames(alloc: Global, text: &mut String, frames: &[SentFrame]) -> Re
     Ok(())
 }
 
+/// Adds the line of the event that broke the premise on packets first.
+fn push_broken(text: &mut String, place: usize) -> Result<(), AllocError>
+    ensures { OnOk result (string_bytes text.new ≡ string_bytes text.old ++ ended (said (codes "premise broken") (decimal place))) }
+{
+    writeln!(text, "premise broken {place}")
+}
+
+/// Adds the line that says that each event kept the premise on packets.
+fn push_kept(text: &mut String) -> Result<(), AllocError>
+    ensures { OnOk result (string_bytes text.new ≡ string_bytes text.old ++ ended (codes "premises kept")) }
+{
+    text.push_str("premises kept\n")
+}
+
 /// Adds the line that says which event broke the premise on packets first, or that each kept it. Where none broke it and one has a
 /// fault, nothing is said.
 pub fn push_premise(
@@ -73,11 +88,13 @@ pub fn push_premise(
 ) -> Result<(), AllocError>
     ensures { OnOk result (string_bytes text.new ≡ string_bytes text.old ++ flat_map ended (premise_lines broken stopped)) }
 {
-    match (broken, stopped) {
-        (Some(place), _) => writeln!(text, "premise broken {place}"),
-        (None, None) => text.push_str("premises kept\n"),
-        (None, Some(_)) => Ok(()),
-    }
+    let Some(place) = broken else {
+        return match stopped {
+            Some(_) => Ok(()),
+            None => push_kept(text),
+        };
+    };
+    push_broken(text, place)
 }
 
 /// Adds the line of the event that wasn't taken.
