@@ -80,6 +80,10 @@ frame_asked rows bus digits named given asked asks =
           (subst (λ (text : Text). Asks (first_of (codes "bus") rows) text asked.frame.bus asked.frame.bytes.items) same asks.frame),
     )
 
+-- the same flags ask for the same to be shown
+pub shown_alike : (f frames p premises c chart : Bool) → f ≡ frames → p ≡ premises → c ≡ chart → shown_of f p c ≡ shown_of frames premises chart
+shown_alike f frames p premises c chart one two three = λ i. shown_of (one i) (two i) (three i)
+
 -- flags that give no way of showing give none
 pub shown_refuses : (frames premises chart : Bool) → shown_of frames premises chart ≡ None → (shown : Shown) → shown_of frames premises chart ≡ Some shown → ⊥
 shown_refuses frames premises chart none shown is =

@@ -2,8 +2,8 @@ use Rattle.std.proofs.Common.{◌∙◌, sym, ap, codes, string_bytes}
 use Rattle.std.proofs.lemmas.Result.{err_from_is_err_and}
 use Rattle.clap.specs.Words.{found_of}
 use Rattle.clap.proofs.WalkLemmas.{first_value-rows, one_text-rows}
-use Rattle.bmc_host.specs.Asked.{says_yes, shown_of}
-use Rattle.bmc_host.proofs.Readings.{first_by_rows, refuses_more, refuses_none, shown_refuses}
+use Rattle.bmc_host.specs.Asked.{says_yes}
+use Rattle.bmc_host.proofs.Readings.{first_by_rows, refuses_more, refuses_none, shown_alike, shown_refuses}
 use Rattle.bmc_host.proofs.words.play_words.Goals as goal
 
 pub returns-in_default-clause-refused : goal.returns-in_default-clause-refused
@@ -11,7 +11,7 @@ returns-in_default-clause-refused c =
     let frames = c.has_flag-frames.ensures ∙ ap says_yes (one_text-rows (found_of c.args.matches.now) (codes "frames")) in
     let premises = c.has_flag-premises.ensures ∙ ap says_yes (one_text-rows (found_of c.args.matches.now) (codes "premises")) in
     let chart = c.has_flag-chart.ensures ∙ ap says_yes (one_text-rows (found_of c.args.matches.now) (codes "chart")) in
-    let flags = λ i. shown_of (frames i) (premises i) (chart i) in
+    let flags = shown_alike _ _ _ _ _ _ frames premises chart in
     refuses_none _ c.shown_refusal.result (λ asked asks. shown_refuses c.has_flag-frames.result c.has_flag-premises.result c.has_flag-chart.result (sym c.shown.ensures ∙ c.in_default.is) asked.shown (flags ∙ asks.shown))
 
 pub returns-in_err-named-clause-refused : goal.returns-in_err-named-clause-refused
@@ -34,7 +34,7 @@ returns-clause-asked c =
     let frames = c.has_flag-frames.ensures ∙ ap says_yes (one_text-rows (found_of c.args.matches.now) (codes "frames")) in
     let premises = c.has_flag-premises.ensures ∙ ap says_yes (one_text-rows (found_of c.args.matches.now) (codes "premises")) in
     let chart = c.has_flag-chart.ensures ∙ ap says_yes (one_text-rows (found_of c.args.matches.now) (codes "chart")) in
-    let flags = λ i. shown_of (frames i) (premises i) (chart i) in
+    let flags = shown_alike _ _ _ _ _ _ frames premises chart in
     record {
       shown = sym flags ∙ (sym c.shown.ensures ∙ c.in-Some.is);
       board = first_by_rows (found_of c.args.matches.now) (codes "BOARD") _ c.in_ok-named.ensures.word;
