@@ -64,6 +64,7 @@ undo 2
 ipmb 10260530000000005A6E
 ipmb 10260518000000505F00
 records changed 13
+premise broken 35
 fault 83 NoFrame
 "#;
 
@@ -75,11 +76,12 @@ fn an_account_is_written(rt: HostRuntime) -> Result<(), Fail> {
         frames: &[],
         undo: &undo.requests,
         changed: 13,
+        broken: Some(35),
         stopped: Some(Stopped {
             place: 83,
             fault: Fault::NoFrame,
         }),
     };
-    assert_eq!(rt; account.text(rt.alloc(), true)?.as_str(), TOLD);
+    assert_eq!(rt; account.text(rt.alloc(), true, true)?.as_str(), TOLD);
     Ok(())
 }
