@@ -75,7 +75,7 @@ pub fn only_requests_take_windows()
     ensures packets { OthersAsk }
 {}
 
-/// A test decides if a frame is live: the plain program of live frames computes it.
+/// A test decides if a frame is live.
 pub fn live_test_tells()
     ensures { TestTells }
 {}

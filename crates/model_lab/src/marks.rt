@@ -1,4 +1,4 @@
-//! How old the frames of a lab are, and which window may be forgotten: a plain program over what tells it.
+//! How old the frames of a lab are, and which window may be forgotten.
 
 ghost use Rattle.std.specs.Prelude.{◌≡◌};
 ghost use Rattle.model_bus.specs.Circle.{span_of};

@@ -4,4 +4,3 @@
 
 pub mod examples;
 pub mod laws;
-pub mod manager;
