@@ -4,6 +4,3 @@
 
 pub mod examples;
 pub mod laws;
-mod numbers;
-
-pub use numbers::Numbers;

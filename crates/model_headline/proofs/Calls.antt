@@ -26,7 +26,6 @@ use Rattle.model_headline.proofs.Made.{starts_made, undo_made}
 use Rattle.model_bus.specs.BusState.{BusState}
 use Rattle.model_bus.specs.Answering.{AreWritten}
 use Rattle.model_bus.proofs.Lists.{Grows}
-use Rattle.model_lab.specs.Spelled.{numbers_of}
 use Rattle.model_headline.specs.Each.{Each}
 use Rattle.model_headline.proofs.Frames.{all_held}
 use Rattle.model_headline.specs.Follows.{Holds}
@@ -242,7 +241,7 @@ module _ (setup : BoardFile) (names : Names) (plan : List Op) (start : Records) 
       waits = λ n. refl;
       alone = cc;
       counted = by_bus (λ bus s. count_of bus machine.counts ≡ length s.taken) tied.counted;
-      written = by_bus (λ bus s. AreWritten (numbers_of bus) (rules_on setup names bus) s) tied.written;
+      written = by_bus (λ bus s. AreWritten bus (rules_on setup names bus) s) tied.written;
       answered = by_bus (λ bus s. Each (EntryAnswers setup names bus) s.log) tied.answered;
       made = tied.made;
       frames = all_held setup names on cleared x.frames (by_bus (λ bus s. Grows (requests setup names on bus).frames s.frames) (λ bus n f e. e)) tied.frames;

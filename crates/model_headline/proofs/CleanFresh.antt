@@ -10,7 +10,6 @@ use Rattle.cfg_records.specs.declared.board_file.BoardFile.{BoardFile}
 use Rattle.model_bus.specs.Request.{idles_of}
 use Rattle.model_bus.specs.Circle.{span_of}
 use Rattle.model_undo.specs.Machine.{Stage, AtStart, Opened, AtEnd, AtHalt, AtUndone, AtRefused, Machine, bus_at, enters, count_of}
-use Rattle.model_lab.specs.Spelled.{numbers_of}
 use Rattle.model_lab.specs.Values.{Value}
 use Rattle.model_lab.specs.PortSteps.{hears}
 use Rattle.model_lab.specs.ManagerSteps.{own_on, Plans, ManagerState, ManagerDeed, Sent, goes_on, manager_hears}
@@ -97,13 +96,13 @@ module _ (P : Plans) (setup : BoardFile) where
       by : (n : ℕ) → n ≡ number + length ds → nat_le 65536 n ≡ false
       by n e = let below : n < 65536 = omega (arith, e, small) in grind (arith, nat_tests)
 
-  within : (on : Bus) (n request : ℕ) → n ≤ request + 1 → n ≤ request + span_of (numbers_of on)
+  within : (on : Bus) (n request : ℕ) → n ≤ request + 1 → n ≤ request + span_of on
   within Ipmb n request h = omega (arith, h)
   within Smbus n request h = omega (arith, h)
 
   live_now : (x : Lab P) (f : LabFrame) → IsNewest P x f → NoIdles P (link_of P x []) → is_live P x f ≡ true
   live_now x f n none =
-      and_from _ _ (le-leb (begun_on P.words f.on x.manager.machine) (f.request + span_of (numbers_of f.on)) (within f.on _ f.request n.newest))
+      and_from _ _ (le-leb (begun_on P.words f.on x.manager.machine) (f.request + span_of f.on) (within f.on _ f.request n.newest))
       (eq-eqb f.idles (idles_on P f.on x) (n.idles ∙ sym (by f.on)))
     where
       by : (on : Bus) → idles_on P on x ≡ 0

@@ -29,7 +29,6 @@ use Rattle.model_undo.proofs.Buses.{cases_bus}
 use Rattle.model_undo.proofs.LineLaws.{effect}
 use Rattle.model_undo.proofs.TwoBuses.{packet_lines}
 use Rattle.model_lab.specs.Wires.{answered_from, bytes_of}
-use Rattle.model_lab.specs.Spelled.{numbers_of}
 use Rattle.model_lab.specs.Seen.{WaitsAlike}
 use Rattle.undo_plans.specs.declared.names.Names.{Names}
 use Rattle.model_lab.specs.ManagerSteps.{ManagerState, ManagerDeed, rests, taken_or, heeded_on, open_count, open_bytes, is_answer, is_part, joins, joins_for, goes_on, hears_response, hears_packet, manager_hears}
@@ -324,7 +323,7 @@ module _ (setup : BoardFile) (names : Names) (plan : List Op) (start : Records) 
           answered Ipmb = tied.answered Ipmb
           answered Smbus = subst (Each (EntryAnswers setup names Smbus)) (sym (only_manager (smbus_bus setup names) (on Smbus) hold.which hold.place).bus.log) (tied.answered Smbus)
 
-          written : (bus : Bus) → AreWritten (numbers_of bus) (rules_on setup names bus) (requests setup names moved bus)
+          written : (bus : Bus) → AreWritten bus (rules_on setup names bus) (requests setup names moved bus)
           written Ipmb = tied.written Ipmb
           written Smbus = record {
             requests = λ n b e. (tied.written Smbus).requests n b (ap (λ (l : List (List ℕ)). slice_get l n) (sym same.begun) ∙ e);

@@ -29,7 +29,6 @@ use Rattle.model_undo.specs.Headline.{IsStart, ShowsSame}
 use Rattle.model_undo.proofs.World.{run_holds}
 use Rattle.model_undo.proofs.Headline.{opening_holds, stands_at, halts_at, undone_for_good}
 use Rattle.model_undo.proofs.TwoBuses.{packet_lines}
-use Rattle.model_lab.specs.Spelled.{numbers_of}
 use Rattle.model_family.proofs.IsFamily.{is_family}
 use Rattle.model_family.proofs.Board.{starts_valid}
 use Rattle.undo_plans.specs.declared.names.Names.{Names}
@@ -194,7 +193,7 @@ module _ (setup : BoardFile) (names : Names) (plan : List Op) (retries : ℕ) wh
   nothing_counted Ipmb = refl
   nothing_counted Smbus = refl
 
-  nothing_written : (bus : Bus) → AreWritten (numbers_of bus) (rules_on setup names bus) (requests setup names quiet bus)
+  nothing_written : (bus : Bus) → AreWritten bus (rules_on setup names bus) (requests setup names quiet bus)
   nothing_written Ipmb = record { requests = λ n b e. absurd (none-some b e); replies = λ n k e. absurd (none-some k e) }
   nothing_written Smbus = record { requests = λ n b e. absurd (none-some b e); replies = λ n k e. absurd (none-some k e) }
 

@@ -10,7 +10,6 @@ use Rattle.pldm_base.specs.Message.{request_in as pldm_request_in}
 use Rattle.cfg_records.specs.declared.board_file.BoardFile.{BoardFile}
 use Rattle.model_bus.specs.Circle.{span_of}
 use Rattle.bmc_board.specs.Table.{is_changing}
-use Rattle.model_lab.specs.Spelled.{numbers_of}
 use Rattle.model_undo.specs.Words.{Words}
 use Rattle.model_undo.specs.Machine.{Machine, count_of, open_bus, same_bus}
 use Rattle.model_lab.specs.PortSteps.{asked_in, pldm_asked}
@@ -91,7 +90,7 @@ is_frame Smbus bytes = is_none (find (has_packet_fault bytes) packet_faults)
 module _ (P : Plans) where
   -- fewer newer requests than the span were begun on its bus, and the manager's window there wasn't forgotten since it was sent
   abbrev pub is_live : Lab P → LabFrame → Bool
-  is_live x f = nat_le (begun_on P.words f.on x.manager.machine) (f.request + span_of (numbers_of f.on)) && f.idles == idles_on P f.on x
+  is_live x f = nat_le (begun_on P.words f.on x.manager.machine) (f.request + span_of f.on) && f.idles == idles_on P f.on x
 
   -- 65,536 frames were sent
   abbrev pub is_full : Lab P → Bool

@@ -16,7 +16,6 @@ use Rattle.model_undo.specs.Machine.{count_of, Part as TaskPart, bus_at, Stage, 
 use Rattle.model_undo.specs.Wires.{number_of}
 use Rattle.model_undo.specs.TwoBuses.{Addresses}
 use Rattle.model_lab.specs.ManagerWords.{bus_of, manager_words}
-use Rattle.model_lab.specs.Spelled.{numbers_of}
 use Rattle.model_lab.specs.Wires.{bytes_of, answered_from}
 use Rattle.model_lab.specs.Values.{Value, Asks, Tells, Part, parts_of}
 use Rattle.model_lab.specs.Bytes.{response_bytes}
@@ -162,7 +161,7 @@ module _ (P : Plans) where
   abbrev pub tested : Bus → List ℕ → ManagerState → Option (TaskPart P.words) → ManagerDeed
   tested on reply m None = rests m
   tested on reply m (Some part) =
-      if answers (numbers_of on) (open_bytes on m part) reply
+      if answers on (open_bytes on m part) reply
       then taken_or m (reply_of P.words (answered_from on reply) m.machine)
       else rests m
 

@@ -29,7 +29,6 @@ use Rattle.model_undo.specs.Resume.{list_of, resumed, IsOver, Call as MachineCal
 use Rattle.model_undo.proofs.Resume.{Rest, with_rest, IsPast, SameNumbers, IsAlike, AreAlike, any_alike, same_phase, over_alike}
 use Rattle.model_undo.proofs.OnBus.{IsOnBus, SendsOnBus, sends_on_bus}
 use Rattle.model_lab.specs.ManagerWords.{bus_of}
-use Rattle.model_lab.specs.Spelled.{numbers_of}
 use Rattle.model_lab.specs.Wires.{bytes_of, answered_from}
 use Rattle.model_lab.specs.Bytes.{response_bytes}
 use Rattle.model_lab.specs.Values.{Value, Asks, Tells, Part, written, IsFrameOn}
@@ -209,8 +208,8 @@ module _ (names : Names) where
         → AreAlikeDeeds (tested (board_plans names) on reply (record s { joined = joined }) o) (tested (board_plans names) on reply (record other { joined = joined }) o)
     tested_alike on reply joined None = record { states = record { machines = alike_machine; named = refl; joined = refl }; sent = refl }
     tested_alike on reply joined (Some part) =
-        either (answers (numbers_of on) (open_bytes (board_plans names) on s part) reply) (answers (numbers_of on) (open_bytes (board_plans names) on other part) reply) _ _ _ _
-        (ap (λ (n : ℕ). answers (numbers_of on) (bytes_of n part.asked) reply) (numbers on))
+        either (answers on (open_bytes (board_plans names) on s part) reply) (answers on (open_bytes (board_plans names) on other part) reply) _ _ _ _
+        (ap (λ (n : ℕ). answers on (bytes_of n part.asked) reply) (numbers on))
         (by_machine (Replies (answered_from on reply)) joined)
         (record { states = record { machines = alike_machine; named = refl; joined = refl }; sent = refl })
 
