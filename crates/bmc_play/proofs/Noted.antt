@@ -3,7 +3,7 @@ use Rattle.std.proofs.Common.{◌≡◌, ℕ, ◌+◌, List, length, Option, Som
 use Rattle.cfg_records.specs.declared.board_file.BoardFile.{BoardFile}
 use Rattle.record_base.specs.declared.op.Op.{Op}
 use Rattle.text_schedule.specs.declared.event.Event.{Event}
-use Rattle.lab_run.specs.declared.fault.Fault.{Fault}
+use Rattle.model_lab.specs.declared.fault.Fault.{Fault}
 use Rattle.model_lab.specs.Played.{Ending, Whole, Stops}
 use Rattle.lab_run.specs.declared.note.Note.{Note}
 use Rattle.lab_play.specs.Ends.{IsEnding, Plays}

@@ -6,7 +6,7 @@ use Rattle.std.proofs.lemmas.List.{take-map}
 use Rattle.text_lines.specs.Cuts.{ended}
 use Rattle.cfg_records.specs.declared.board_file.BoardFile.{BoardFile}
 use Rattle.record_base.specs.declared.op.Op.{Op}
-use Rattle.undo_core.specs.PhaseNames.{phase_name}
+use Rattle.model_undo.specs.PhaseNames.{phase_name}
 use Rattle.text_schedule.specs.declared.event.Event.{Event}
 use Rattle.text_schedule.specs.declared.event.Event.TheVariants as event
 use Rattle.model_lab.specs.Lab.{opening}
@@ -24,8 +24,8 @@ use Rattle.bmc_play.specs.Lines.{ending}
 use Rattle.bmc_play.specs.Account.{status_of}
 use Rattle.bmc_play.specs.Determined.{OneText}
 use Rattle.bmc_play.specs.Drawn.{EndsAt, Draws, drawing}
-use Rattle.bmc_play.proofs.AlikeEnds.{OneEnding, same_stop, same_fault}
-use Rattle.bmc_play.proofs.OneAccount.{same_made, same_phase}
+use Rattle.bmc_play.proofs.AlikeEnds.{OneEnding, same_stop}
+use Rattle.bmc_play.proofs.OneAccount.{same_made}
 
 -- a note, wherever its event stands in memory
 abbrev bare : Note → Note
@@ -89,7 +89,7 @@ same_note note other n is also =
     let sends : note.sends ≡ other.sends = is.sends ∙ sym also.sends in
     let before : note.before ≡ other.before = is.before ∙ sym also.before in
     let after : note.after ≡ other.after = is.after ∙ sym also.after in
-    let now : note.phase ≡ other.phase = same_phase note.phase other.phase (is.phase ∙ sym also.phase) in
+    let now : note.phase ≡ other.phase = is.phase ∙ sym also.phase in
     λ i. record {
       event = record { ref_ptr = (0, 0); now = happened i };
       came = came i;
@@ -114,7 +114,7 @@ same_place : (events : List Event) (notes others : ℕ) (stopped other : Option 
 same_place events notes others None None (Whole told) ends also = (also ∙ sym ends, refl)
 same_place events notes others (Some stopped) (Some event) (Stops cause at told) (why, place, behind) (cause_is, at_is, after) =
     let same : stopped.place ≡ event.place = place ∙ sym at_is in
-    (omega (arith, behind, after, same), ap Some (same_stop stopped event same (same_fault stopped.fault event.fault cause why cause_is)))
+    (omega (arith, behind, after, same), ap Some (same_stop stopped event same (why ∙ sym cause_is)))
 same_place events notes others None other (Stops cause at told) ends also = absurd ends
 same_place events notes others (Some stopped) other (Whole told) ends also = absurd ends
 same_place events notes others None (Some event) (Whole told) ends also = absurd also

@@ -1,6 +1,6 @@
 -- What is said of a play, once it is known how it ended and what its account is.
 use Rattle.std.proofs.Common.{◌≡◌, ℕ, Bool, List, Option, Result, Ok, Err, Some, None, IfOk, string_bytes, sym, ◌∙◌, subst}
-use Rattle.lab_run.specs.declared.fault.Fault.{Fault}
+use Rattle.model_lab.specs.declared.fault.Fault.{Fault}
 use Rattle.model_lab.specs.Played.{Told, Ending, Whole, Stops}
 use Rattle.model_headline.specs.Plays.{taken_by, TellsPremise}
 use Rattle.lab_run.specs.Shown.{own_bench}

@@ -6,7 +6,6 @@ use Rattle.cfg_records.specs.declared.board_file.BoardFile.{BoardFile}
 use Rattle.record_base.specs.declared.op.Op.{Op}
 use Rattle.text_schedule.specs.declared.event.Event.{Event}
 use Rattle.model_lab.specs.Played.{Ending, Whole, Stops, IsPlayed}
-use Rattle.lab_run.specs.FramesShown.{fault_of}
 use Rattle.model_headline.specs.Plays.{StandsIfKept}
 use Rattle.lab_run.specs.declared.note.Note.{Note}
 use Rattle.text_chart.specs.Chart.{chart_of}
@@ -21,7 +20,7 @@ use Rattle.bmc_play.specs.Account.{status_of}
 -- after so many notes the play ended so: with all events, or before this one
 abbrev pub EndsAt : List Event → (notes : ℕ) → Option Stopped → Ending → Type 0
 EndsAt events notes None (Whole told) = notes ≡ length events
-EndsAt events notes (Some stopped) (Stops cause at told) = (fault_of stopped.fault ≡ cause) × (stopped.place ≡ at) × (stopped.place ≡ notes + 1)
+EndsAt events notes (Some stopped) (Stops cause at told) = (stopped.fault ≡ cause) × (stopped.place ≡ at) × (stopped.place ≡ notes + 1)
 EndsAt events notes _ _ = ⊥
 
 -- These are the notes of a play: of all its events, or of those before this one, which has a fault. The

@@ -18,7 +18,6 @@ use Rattle.lab_play.specs.declared.run.Halt.{Halt}
 use Rattle.lab_run.specs.declared.step.Refused.{Refused}
 use Rattle.lab_run.specs.declared.step.Refused.TheVariants as refused
 use Rattle.lab_run.specs.Shown.{Shows, own_bench}
-use Rattle.undo_core.specs.Phases as phases
 use Rattle.model_undo.specs.Machine.{phase_of}
 use Rattle.model_lab.specs.Played.{fault_at}
 use Rattle.lab_run.specs.Hearing.{Did}
@@ -51,7 +50,7 @@ pub is_noted : (e : Event) (old new : Lab) (note : Note) (file : BoardFile) (x :
     → note.event.now ≡ e → note.came ≡ comes_at x e → note.done ≡ done_in e new
     → ((y : LabModel plans) → Shows file new y → note.sends ≡ option_map (λ f. f.on) (slice_get y.frames note.before))
     → note.before ≡ length x.frames → ((y : LabModel plans) → Shows file new y → note.after ≡ length y.frames)
-    → ((y : LabModel plans) → Shows file new y → phases.phase_of note.phase ≡ phase_of plans.words y.manager.machine)
+    → ((y : LabModel plans) → Shows file new y → note.phase ≡ phase_of plans.words y.manager.machine)
     → IsNote note (noted_at (own_bench file) file x e)
 is_noted e old new note file x shows stepped did named came done sends before after phase =
     let y = happens (own_bench file) file e x in

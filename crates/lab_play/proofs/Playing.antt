@@ -6,10 +6,9 @@ use Rattle.cfg_records.specs.Boards.{pairs_of}
 use Rattle.cfg_records.specs.Records.{KeysDiffer, records_of}
 use Rattle.model_lab.specs.Lab.{Lab as LabModel, opening}
 use Rattle.text_schedule.specs.declared.event.Event.{Event}
-use Rattle.lab_run.specs.declared.fault.Fault.{Fault}
+use Rattle.model_lab.specs.declared.fault.Fault.{Fault}
 use Rattle.model_lab.specs.Meaning.{lab_names}
 use Rattle.model_lab.specs.Played.{plans, Told, Whole, Stops, told_of, after, IsPlayed}
-use Rattle.lab_run.specs.FramesShown.{fault_of}
 use Rattle.model_headline.proofs.Plays.{plays_stand}
 use Rattle.model_headline.proofs.CleanPlays.{ends_clean}
 use Rattle.lab_run.specs.declared.lab_state.Lab.{Lab}
@@ -70,17 +69,17 @@ module _ (file : BoardFile) (steps : List Op) (retries : ℕ) where
   ends_at events played old why place start once shows few halts premise =
       let at = halts.left file first shows in
       let told = told_after halts.before in
-      let is : IsPlayed (own_bench file) file steps retries events (Stops (fault_of why) place told) =
+      let is : IsPlayed (own_bench file) file steps retries events (Stops why place told) =
       (halts.before, halts.rest, halts.event, halts.all, halts.place, at.0, halts.refuses file first shows, refl) in
       record {
-        ending = Stops (fault_of why) place told;
+        ending = Stops why place told;
         is = (refl, refl, tells halts.before played start once at.1);
         played = is;
         premise = premise;
-        stands = (plays_stand (own_bench file) file steps retries events (Stops (fault_of why) place told) is).0;
-        unbroken = λ none. (plays_stand (own_bench file) file steps retries events (Stops (fault_of why) place told) is).0
+        stands = (plays_stand (own_bench file) file steps retries events (Stops why place told) is).0;
+        unbroken = λ none. (plays_stand (own_bench file) file steps retries events (Stops why place told) is).0
             (subst (TellsPremise (own_bench file) file (take (place - 1) events) first) none premise);
-        clean = ends_clean (own_bench file) file steps retries few events (Stops (fault_of why) place told) is;
+        clean = ends_clean (own_bench file) file steps retries few events (Stops why place told) is;
       }
 
   -- ---- what is given of a play, as its events ended

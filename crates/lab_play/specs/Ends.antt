@@ -10,7 +10,6 @@ use Rattle.model_lab.specs.Lab.{Lab as LabModel, opening}
 use Rattle.text_schedule.specs.declared.event.Event.{Event}
 use Rattle.model_lab.specs.Meaning.{lab_names}
 use Rattle.model_lab.specs.Played.{plans, Told, Ending, Whole, Stops, told_of, IsPlayed}
-use Rattle.lab_run.specs.FramesShown.{fault_of}
 use Rattle.model_headline.specs.Plays.{taken_by, told_by, TellsPremise, ToldStands, StandsIfKept}
 use Rattle.model_headline.specs.CleanPlays.{EndsClean}
 use Rattle.lab_run.specs.Shown.{Shows, own_bench}
@@ -43,7 +42,7 @@ pub record Begins (file : BoardFile) (steps : List Op) (retries : ℕ) (played :
 -- what was given is this ending
 abbrev pub IsEnding : Result Played LabFault → Ending → Type 0
 IsEnding (Ok played) (Whole told) = Tells played told
-IsEnding (Err (fault.Event why place played)) (Stops cause at told) = (cause ≡ fault_of why) × (at ≡ place) × Tells played told
+IsEnding (Err (fault.Event why place played)) (Stops cause at told) = (cause ≡ why) × (at ≡ place) × Tells played told
 IsEnding _ _ = ⊥
 
 -- the first event that broke the premise on packets, as what was given tells it

@@ -4,11 +4,10 @@ use Rattle.std.specs.List.{AllZip}
 use Rattle.two_wire.specs.declared.Bus.{Bus}
 use Rattle.cfg_records.specs.declared.board_file.BoardFile.{BoardFile}
 use Rattle.record_base.specs.declared.op.Op.{Op}
-use Rattle.model_undo.specs.Phase.{Phase}
+use Rattle.model_undo.specs.declared.phase.Phase.{Phase}
 use Rattle.model_undo.specs.Machine.{phase_of}
 use Rattle.model_lab.specs.Lab.{Lab as LabModel, opening}
 use Rattle.bmc_core.specs.declared.out.Done.{Done}
-use Rattle.undo_core.specs.Phases as phases
 use Rattle.text_schedule.specs.declared.event.Event.{Event}
 use Rattle.model_lab.specs.Meaning.{lab_names, Bench}
 use Rattle.model_lab.specs.Played.{plans, happens}
@@ -42,7 +41,7 @@ pub record IsNote (note : Note) (n : Noted) : Type 0 where
   pub sends : note.sends ≡ n.sends
   pub before : note.before ≡ n.before
   pub after : note.after ≡ n.after
-  pub phase : phases.phase_of note.phase ≡ n.phase
+  pub phase : note.phase ≡ n.phase
 
 module _ (bench : Bench) (file : BoardFile) where
   -- what there is to note of an event that happens in a lab: frames are numbered as they are sent

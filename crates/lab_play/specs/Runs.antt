@@ -4,7 +4,6 @@ use Rattle.cfg_records.specs.declared.board_file.BoardFile.{BoardFile}
 use Rattle.model_lab.specs.Lab.{Lab as LabModel}
 use Rattle.text_schedule.specs.declared.event.Event.{Event}
 use Rattle.model_lab.specs.Played.{plans, fault_at, after, AreTaken}
-use Rattle.lab_run.specs.FramesShown.{fault_of}
 use Rattle.lab_run.specs.Shown.{Shows, own_bench}
 use Rattle.lab_run.specs.declared.lab_state.Lab.{Lab}
 use Rattle.lab_play.specs.declared.run.Halt.{Halt}
@@ -19,7 +18,7 @@ Take events old new =
 -- and then this event has the fault
 abbrev pub Refuses : List Event → Lab → Event → Refused → Type 0
 Refuses events old e (refused.Fault fault) =
-    (file : BoardFile) (x : LabModel plans) → Shows file old x → fault_at (own_bench file) file (after (own_bench file) file events x) e ≡ Some (fault_of fault)
+    (file : BoardFile) (x : LabModel plans) → Shows file old x → fault_at (own_bench file) file (after (own_bench file) file events x) e ≡ Some fault
 Refuses events old e refused.Memory = Unit {0}
 
 -- the first event that isn't taken stands at the halt's place, and the lab is the one before it; where memory was refused, nothing is said of the lab

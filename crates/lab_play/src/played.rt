@@ -3,7 +3,6 @@ ghost use Rattle.std.specs.Prelude.{◌≡◌, [], not, None, IfOk};
 ghost use Rattle.std.specs.List.{AllZip};
 ghost use Rattle.two_wire.specs.declared.Bus.{Bus as AnyBus};
 ghost use Rattle.cfg_records.specs.Records.{records_of};
-ghost use Rattle.undo_core.specs.Phases.{phase_of};
 ghost use Rattle.undo_core.specs.Shown.{backs};
 ghost use Rattle.model_lab.specs.Meaning.{lab_names};
 ghost use Rattle.model_lab.specs.Played.{Told};
@@ -34,7 +33,7 @@ pub struct Played {
 impl Played {
     /// Where the manager is.
     pub fn phase(&self) -> Phase
-        ensures { (told : Told) → Tells self.now told → phase_of result ≡ told.phase }
+        ensures { (told : Told) → Tells self.now told → result ≡ told.phase }
     {
         self.lab.phase()
     }

@@ -3,8 +3,10 @@ use Rattle.std.proofs.Common.{◌≡◌, ℕ, Option, Some, None, refl, sym, ◌
 use Rattle.std.specs.Prelude.{slice_get}
 use Rattle.two_wire.specs.declared.Bus.{Bus}
 use Rattle.cfg_records.specs.declared.board_file.BoardFile.{BoardFile}
-use Rattle.model_lab.specs.Lab.{LabFrame, Lab as LabModel, ToPort, port_on}
-use Rattle.model_lab.specs.Faults.{NoFrame, first_of, delivery}
+use Rattle.model_lab.specs.declared.way.Way.TheVariants.{ToPort}
+use Rattle.model_lab.specs.Lab.{LabFrame, Lab as LabModel, port_on}
+use Rattle.model_lab.specs.declared.fault.Fault.TheVariants.{NoFrame}
+use Rattle.model_lab.specs.Faults.{first_of, delivery}
 use Rattle.bmc_core.specs.declared.out.Done.{Done}
 use Rattle.text_schedule.specs.declared.event.Event.{Event}
 use Rattle.text_schedule.specs.declared.event.Event.TheVariants as event

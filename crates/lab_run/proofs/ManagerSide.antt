@@ -24,7 +24,7 @@ use Rattle.undo_core.specs.declared.sending.Sent.{Sent}
 use Rattle.undo_core.specs.declared.phase.WrongPhase.{WrongPhase}
 use Rattle.undo_core.specs.Shown as manager
 use Rattle.undo_core.specs.Shown.{IsSent, Does, IsCalled}
-use Rattle.lab_run.specs.declared.frames.Way.TheVariants as way
+use Rattle.model_lab.specs.declared.way.Way.TheVariants as way
 use Rattle.lab_run.specs.declared.frames.SentFrame.{SentFrame}
 use Rattle.lab_run.specs.FramesShown.{sent_as}
 use Rattle.model_lab.specs.Meaning.{lab_names}

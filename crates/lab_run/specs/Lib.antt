@@ -1,5 +1,4 @@
 pub mod FramesShown
-pub mod FaultNames
 pub mod Shown
 pub mod Hearing
 pub mod Coming

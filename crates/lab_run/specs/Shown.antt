@@ -15,7 +15,7 @@ use Rattle.undo_core.specs.Shown as manager
 use Rattle.lab_run.specs.declared.frames.SentFrame.{SentFrame}
 use Rattle.model_lab.specs.Meaning.{lab_names, Bench}
 use Rattle.model_lab.specs.Played.{plans, fault_at, happens}
-use Rattle.lab_run.specs.FramesShown.{IsFrame, fault_of}
+use Rattle.lab_run.specs.FramesShown.{IsFrame}
 use Rattle.text_schedule.specs.declared.event.Event.{Event}
 use Rattle.lab_run.specs.declared.lab_state.Idles.{Idles}
 use Rattle.lab_run.specs.declared.lab_state.Lab.{Lab}
@@ -58,5 +58,5 @@ abbrev pub Steps : Event → Lab → Result (Unit {0}) Refused → Lab → Type 
 Steps e old (Ok done) new =
     (file : BoardFile) (x : LabModel plans) → Shows file old x → (fault_at (own_bench file) file x e ≡ None) × Shows file new (happens (own_bench file) file e x)
 Steps e old (Err (refused.Fault fault)) new =
-    (new ≡ old) × ((file : BoardFile) (x : LabModel plans) → Shows file old x → fault_at (own_bench file) file x e ≡ Some (fault_of fault))
+    (new ≡ old) × ((file : BoardFile) (x : LabModel plans) → Shows file old x → fault_at (own_bench file) file x e ≡ Some fault)
 Steps e old (Err refused.Memory) new = Unit {0}

@@ -16,11 +16,12 @@ mod port_side;
 mod step;
 mod told;
 
-pub use fault::{Fault, Marks};
-pub use frames::{Frames, SentFrame, Way};
+pub use fault::Marks;
+pub use frames::{Frames, SentFrame};
 pub use lab_state::Lab;
 pub use names::lab_names;
 pub use note::{Came, Note};
 pub use others::{idle_fault, message_fault, noise_fault, request_fault};
+pub use model_lab::{Fault, Way};
 pub use part::ManagerPart;
 pub use step::Refused;

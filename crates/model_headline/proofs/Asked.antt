@@ -42,7 +42,9 @@ use Rattle.model_lab.specs.PortSteps.{Deed, asked_in, left_by, response_after, h
 use Rattle.model_lab.specs.PortEvents.{answer_to}
 use Rattle.model_lab.specs.ManagerSteps.{addresses, own_on}
 use Rattle.model_lab.specs.ManagerEvents.{HoldsReply}
-use Rattle.model_lab.specs.Lab.{Way, ToManager, ToOthers, LabFrame, Lab, port_does, frame_now, with_port}
+use Rattle.model_lab.specs.declared.way.Way.{Way}
+use Rattle.model_lab.specs.declared.way.Way.TheVariants.{ToManager, ToOthers}
+use Rattle.model_lab.specs.Lab.{LabFrame, Lab, port_does, frame_now, with_port}
 use Rattle.model_lab.specs.Honest.{IsAnother}
 use Rattle.model_lab.proofs.Spelling.{are_the_models}
 use Rattle.model_headline.specs.Each.{Each}

@@ -23,7 +23,8 @@ use Rattle.model_lab.proofs.Spelled.{are_spelled}
 use Rattle.undo_plans.specs.declared.names.Names.{Names}
 use Rattle.model_undo.specs.TwoBuses.{Addresses}
 use Rattle.model_lab.specs.ManagerSteps.{Sent as SentFrames, addresses, values_of, sent_of}
-use Rattle.model_lab.specs.Lab.{ToPort, Lab, with_frames, sends}
+use Rattle.model_lab.specs.declared.way.Way.TheVariants.{ToPort}
+use Rattle.model_lab.specs.Lab.{Lab, with_frames, sends}
 use Rattle.model_headline.specs.Made.{StageMade}
 use Rattle.model_headline.specs.Tied.{P, F, L, W, rules_on, requests, IsTied, world_of}
 use Rattle.model_headline.proofs.Sent.{put, IsSentTo, sent_tied}

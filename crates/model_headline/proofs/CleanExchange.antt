@@ -31,7 +31,7 @@ use Rattle.model_lab.specs.Values.{Asks, Tells}
 use Rattle.model_lab.specs.Bytes.{heard_in, response_bytes, response_to}
 use Rattle.model_lab.specs.PortSteps.{PortState, Deed, Turn as PortTurn, hears, hears_request, request_turn, response_after, spelled, asked_in, stays}
 use Rattle.model_lab.specs.ManagerSteps.{addresses, ManagerState, ManagerDeed, sent_of, goes_on, rests, taken_or, hears_reply, hears_response}
-use Rattle.model_lab.specs.Lab.{ToManager}
+use Rattle.model_lab.specs.declared.way.Way.TheVariants.{ToManager}
 use Rattle.model_lab.proofs.Stepping.{turns_by}
 use Rattle.model_headline.specs.Tied.{P, F, rules_on, ipmb_bus}
 use Rattle.model_headline.proofs.Sending.{from_zero}

@@ -13,8 +13,12 @@ use Rattle.model_undo.specs.Machine.{Stage, AtStart, Opened, AtEnd, AtHalt, AtUn
 use Rattle.model_lab.specs.Values.{Value}
 use Rattle.model_lab.specs.PortSteps.{hears}
 use Rattle.model_lab.specs.ManagerSteps.{own_on, Plans, ManagerState, ManagerDeed, Sent, goes_on, manager_hears}
-use Rattle.model_lab.specs.Lab.{Way, ToPort, ToManager, ToOthers, LabFrame, Event, ToBmc, ToMgr, Lab, idles_on, port_on, frame_now, port_does, delivered, returned, manager_does, step, run}
-use Rattle.model_lab.specs.Faults.{Fault, Aged, Room, begun_on, is_open_bus, is_live, is_full, delivery, first_of, fault_of, AllTaken}
+use Rattle.model_lab.specs.declared.way.Way.{Way}
+use Rattle.model_lab.specs.declared.way.Way.TheVariants.{ToPort, ToManager, ToOthers}
+use Rattle.model_lab.specs.Lab.{LabFrame, Event, ToBmc, ToMgr, Lab, idles_on, port_on, frame_now, port_does, delivered, returned, manager_does, step, run}
+use Rattle.model_lab.specs.declared.fault.Fault.{Fault}
+use Rattle.model_lab.specs.declared.fault.Fault.TheVariants.{Aged, Room}
+use Rattle.model_lab.specs.Faults.{begun_on, is_open_bus, is_live, is_full, delivery, first_of, fault_of, AllTaken}
 use Rattle.model_lab.specs.Clean.{delivery_in, DeliversFrom}
 use Rattle.model_headline.specs.Each.{Each}
 use Rattle.model_headline.proofs.Each.{each_append, each_imply, each_map, each_by_place}

@@ -5,12 +5,13 @@ use Rattle.std.proofs.lemmas.Option.{none-some, same_Some}
 use Rattle.two_wire.specs.declared.Bus.TheVariants.{Ipmb, Smbus}
 use Rattle.record_base.specs.declared.op.Op.{Op}
 use Rattle.cfg_records.specs.declared.board_file.BoardFile.{BoardFile}
-use Rattle.model_undo.specs.Phase.{Undone}
+use Rattle.model_undo.specs.declared.phase.Phase.TheVariants.{Undone}
 use Rattle.model_undo.specs.Plan.{IsAfter}
 use Rattle.model_undo.specs.Machine.{phase_of}
-use Rattle.model_lab.specs.ManagerSteps as call
 use Rattle.model_lab.specs.Lab as lab
-use Rattle.model_lab.specs.Lab.{Way, ToPort, ToManager, ToOthers, LabFrame, Lab, step, run}
+use Rattle.model_lab.specs.declared.way.Way.{Way}
+use Rattle.model_lab.specs.declared.way.Way.TheVariants.{ToPort, ToManager, ToOthers}
+use Rattle.model_lab.specs.Lab.{LabFrame, Lab, step, run}
 use Rattle.model_lab.specs.Clean.{delivery_of, delivery_in, DeliversFrom, IsCleanRun, IsCleanUndo}
 use Rattle.model_lab.specs.Faults.{begun_on, AllTaken}
 use Rattle.model_lab.proofs.Endings.{one_end}
@@ -67,18 +68,18 @@ module _ (bench : Bench) (file : BoardFile) where
 
   run_written : (es : List lab.Event) (x : Lab plans) → IsCleanRun plans file es x → Written es x
   run_written es x c = subst (λ (l : List lab.Event). Written l x) (sym c.all)
-      (one_more (lab.Calls call.Start) c.deliveries x (event.Calls called.Start) refl (deliveries_written c.deliveries 0 (step plans file x (lab.Calls call.Start)) c.delivered))
+      (one_more (lab.Calls called.Start) c.deliveries x (event.Calls called.Start) refl (deliveries_written c.deliveries 0 (step plans file x (lab.Calls called.Start)) c.delivered))
 
   undo_written : (es : List lab.Event) (x : Lab plans) → IsCleanUndo plans file es x → Written es x
   undo_written es x c =
       let y = run plans file c.before x in
       let first_ones = run_written c.before x c.ran in
       let there : y ≡ after bench file first_ones.events x = ap (λ (l : List lab.Event). run plans file l x) (sym first_ones.same) ∙ runs_so first_ones.events x in
-      let rest : Written (lab.Calls call.Undo ∷ c.deliveries) y =
-      one_more (lab.Calls call.Undo) c.deliveries y (event.Calls called.Undo) refl (deliveries_written c.deliveries (length y.frames) (step plans file y (lab.Calls call.Undo)) c.delivered) in
-      let all = then_more first_ones.events (lab.Calls call.Undo ∷ c.deliveries) x (subst (Written (lab.Calls call.Undo ∷ c.deliveries)) there rest) in
+      let rest : Written (lab.Calls called.Undo ∷ c.deliveries) y =
+      one_more (lab.Calls called.Undo) c.deliveries y (event.Calls called.Undo) refl (deliveries_written c.deliveries (length y.frames) (step plans file y (lab.Calls called.Undo)) c.delivered) in
+      let all = then_more first_ones.events (lab.Calls called.Undo ∷ c.deliveries) x (subst (Written (lab.Calls called.Undo ∷ c.deliveries)) there rest) in
       subst (λ (l : List lab.Event). Written l x) (sym c.all)
-      (subst (λ (l : List lab.Event). Written (l ++ lab.Calls call.Undo ∷ c.deliveries) x) first_ones.same all)
+      (subst (λ (l : List lab.Event). Written (l ++ lab.Calls called.Undo ∷ c.deliveries) x) first_ones.same all)
 
 module _ (bench : Bench) (file : BoardFile) (plan : List Op) (retries : ℕ) where
   abbrev x0 : Lab plans

@@ -29,7 +29,8 @@ use Rattle.model_lab.specs.Faults.{begun_on}
 use Rattle.model_lab.specs.Honest.{IsLive, IsDelivered}
 use Rattle.model_lab.specs.Own.{JoinsOwn, IsOwn}
 use Rattle.model_lab.specs.Joins.{JoinsLive, IsJoinLive}
-use Rattle.model_lab.specs.Lab.{ToPort, ToBmc, LabFrame, Lab}
+use Rattle.model_lab.specs.declared.way.Way.TheVariants.{ToPort}
+use Rattle.model_lab.specs.Lab.{ToBmc, LabFrame, Lab}
 use Rattle.model_headline.specs.Tied.{P, L, smbus_bus, rules_on, HoldsAskedPart, IsHeld, IsHeldBy, IsTied, world_of}
 use Rattle.model_headline.specs.Follows.{Holds}
 use Rattle.model_headline.proofs.Each.{each_at}

@@ -43,7 +43,8 @@ use Rattle.model_lab.specs.Bytes.{pldm_heard_in}
 use Rattle.model_lab.specs.PortSteps.{PortState, Deed, turn, spelled, left_by, pldm_asked, stays, hears_control, hears_pldm, hears_typed, hears_message, hears_part, hears_parts, ends_message, hears_all}
 use Rattle.model_lab.specs.PortEvents.{name_in, part_answer_to, event_by, happens_if, IsPortOf}
 use Rattle.model_lab.specs.Honest.{IsAnother, ChangesNothing}
-use Rattle.model_lab.specs.Lab.{ToOthers, Lab, frame_now, with_port, port_does}
+use Rattle.model_lab.specs.declared.way.Way.TheVariants.{ToOthers}
+use Rattle.model_lab.specs.Lab.{Lab, frame_now, with_port, port_does}
 use Rattle.model_lab.specs.Cuts.{is_for, has_slot, kept_with_parts}
 use Rattle.model_lab.proofs.PortEvents.{parts_leave_log}
 use Rattle.model_lab.proofs.Parts.{parts_are_heard}

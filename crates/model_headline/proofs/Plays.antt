@@ -8,21 +8,21 @@ use Rattle.cfg_records.specs.declared.board_file.BoardFile.{BoardFile}
 use Rattle.bmc_board.specs.State.{State}
 use Rattle.model_bus.specs.Repeat.{In}
 use Rattle.model_undo.specs.Words.{Answered}
-use Rattle.model_undo.specs.Phase.{Stop, Refused, NotRestorable, GetRefused, Phase, Fresh, Getting, Setting, Done, Halted, Unsettled, Undoing, Undone, UndoRefused}
+use Rattle.model_undo.specs.declared.phase.Why.TheVariants.{Stop, Refused, NotRestorable, GetRefused}
+use Rattle.model_undo.specs.declared.phase.Phase.{Phase}
+use Rattle.model_undo.specs.declared.phase.Phase.TheVariants.{Fresh, Getting, Setting, Done, Halted, Unsettled, Undoing, Undone, UndoRefused}
 use Rattle.model_undo.specs.Plan.{IsAfter, Stands}
 use Rattle.model_undo.specs.Machine.{phase_of}
 use Rattle.model_undo.specs.Headline.{ShowsSame}
-use Rattle.model_lab.specs.ManagerSteps.{Stop as StopNow}
 use Rattle.model_lab.specs.Lab as lab
 use Rattle.model_lab.specs.Lab.{Lab, step, run, opening}
 use Rattle.model_lab.specs.Faults.{AllTaken}
 use Rattle.model_lab.specs.Own.{AllOwn}
 use Rattle.model_lab.specs.Joins.{AllJoinLive}
-use Rattle.text_schedule.specs.declared.event.Call.{Call as Called}
 use Rattle.text_schedule.specs.declared.event.Call.TheVariants as called
 use Rattle.text_schedule.specs.declared.event.Event.{Event}
 use Rattle.text_schedule.specs.declared.event.Event.TheVariants as event
-use Rattle.model_lab.specs.Meaning.{lab_names, call_of, Bench, event_of}
+use Rattle.model_lab.specs.Meaning.{lab_names, Bench, event_of}
 use Rattle.model_lab.specs.Played.{plans, Ending, Whole, Stops, happens, after, AreTaken, told_of, IsPlayed}
 use Rattle.model_headline.specs.Tied.{F}
 use Rattle.model_headline.specs.Answers.{Answers, CausedBy}
@@ -30,15 +30,6 @@ use Rattle.model_headline.specs.Theorem as law
 use Rattle.model_headline.specs.Theorem.{IsHonestAndOwn}
 use Rattle.model_headline.specs.Plays.{taken_by, told_by, AllKeepPremise, AreOwn, GaveIn, ToldStands, PlaysStand}
 use Rattle.model_headline.proofs.Theorem.{first_honest, first_own, premises_agree, headline_of}
-
--- ---- a schedule's stop is the lab's
-
-stop_call : (call : Called) → StopNow ≡ call_of call → called.Stop ≡ call
-stop_call called.Start e = absurd cc
-stop_call called.Quiet e = absurd cc
-stop_call called.Stop e = refl
-stop_call called.Again e = absurd cc
-stop_call called.Undo e = absurd cc
 
 module _ (bench : Bench) (file : BoardFile) where
   -- the lab's events that a schedule's are, from a lab on
@@ -68,15 +59,8 @@ module _ (bench : Bench) (file : BoardFile) where
   runs_so [] x = refl
   runs_so (e ∷ es) x = runs_so es (happens bench file e x)
 
-  stops_here : (before : State) (e : Event) → event_of lab_names bench before e ≡ lab.Calls StopNow → e ≡ event.Calls called.Stop
-  stops_here before (event.Calls call) is = ap event.Calls (sym (stop_call call (call_alike call is)))
-    where
-      call_alike : (c : Called) → lab.Calls (call_of c) ≡ lab.Calls StopNow → StopNow ≡ call_of c
-      call_alike called.Start same = absurd cc
-      call_alike called.Quiet same = absurd cc
-      call_alike called.Stop same = refl
-      call_alike called.Again same = absurd cc
-      call_alike called.Undo same = absurd cc
+  stops_here : (before : State) (e : Event) → event_of lab_names bench before e ≡ lab.Calls called.Stop → e ≡ event.Calls called.Stop
+  stops_here before (event.Calls call) is = (let same : call ≡ called.Stop = cc is in ap event.Calls same)
   stops_here before (event.ToBmc number) is = absurd cc
   stops_here before (event.ToMgr number) is = absurd cc
   stops_here before (event.OtherIpmb r) is = absurd cc
@@ -86,7 +70,7 @@ module _ (bench : Bench) (file : BoardFile) where
   stops_here before (event.Scan sensor reading) is = absurd cc
   stops_here before event.Tick is = absurd cc
 
-  stop_from : (es : List Event) (x : Lab plans) → In (lab.Calls StopNow) (events_from es x) → In (event.Calls called.Stop) es
+  stop_from : (es : List Event) (x : Lab plans) → In (lab.Calls called.Stop) (events_from es x) → In (event.Calls called.Stop) es
   stop_from [] x is = absurd is
   stop_from (e ∷ es) x (inl here) = inl (stops_here x.board e here)
   stop_from (e ∷ es) x (inr later) = inr (stop_from es (happens bench file e x) later)
@@ -161,7 +145,7 @@ module _ (bench : Bench) (file : BoardFile) where
         }
 
     -- and so is the cause of a halt
-    caused_so : (es : List Event) (phase : Phase) → CausedBy file lab_names (law.GaveIn file lab_names plan retries (events_from es first)) (In (lab.Calls StopNow) (events_from es first)) plan phase
+    caused_so : (es : List Event) (phase : Phase) → CausedBy file lab_names (law.GaveIn file lab_names plan retries (events_from es first)) (In (lab.Calls called.Stop) (events_from es first)) plan phase
         → CausedBy file lab_names (GaveIn bench file plan retries es) (In (event.Calls called.Stop) es) plan phase
     caused_so es (Halted k Stop) c = stop_from es first c
     caused_so es (Halted k (Refused code)) c = (c.0, c.1, c.2, gave_so es k _ _ c.3, c.4)

@@ -30,7 +30,8 @@ use Rattle.model_lab.specs.Values.{Part}
 use Rattle.model_lab.specs.PortSteps.{Deed, PortState, hears_part, ends_message, stays}
 use Rattle.model_lab.specs.PortEvents.{name_in, event_by, happens_if, IsPortOf}
 use Rattle.model_lab.specs.Own.{JoinsOwn}
-use Rattle.model_lab.specs.Lab.{ToManager, LabFrame, Lab, with_port, frame_now, port_does}
+use Rattle.model_lab.specs.declared.way.Way.TheVariants.{ToManager}
+use Rattle.model_lab.specs.Lab.{LabFrame, Lab, with_port, frame_now, port_does}
 use Rattle.model_headline.specs.Each.{Each}
 use Rattle.model_headline.specs.Tied.{P, F, L, W, rules_on, requests, HoldsAskedPart, IsHeld, EntryAnswers, IsTied, world_of, IsGiven, Goes}
 use Rattle.model_headline.specs.Follows.{Holds}

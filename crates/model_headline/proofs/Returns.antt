@@ -34,7 +34,8 @@ use Rattle.undo_plans.specs.declared.names.Names.{Names}
 use Rattle.model_lab.specs.ManagerSteps.{ManagerState, ManagerDeed, rests, taken_or, heeded_on, open_count, open_bytes, is_answer, is_part, joins, joins_for, goes_on, hears_response, hears_packet, manager_hears}
 use Rattle.model_lab.specs.ManagerEvents.{takes_if, IsOpenOn, IsManagerOf, IsRepliesResponse, IsRepliesPart, BringsPart, name_awaited}
 use Rattle.model_lab.specs.Honest.{IsLive, IsDelivered}
-use Rattle.model_lab.specs.Lab.{ToManager as ToTheManager, LabFrame, Lab, manager_does, returned}
+use Rattle.model_lab.specs.declared.way.Way.TheVariants.{ToManager as ToTheManager}
+use Rattle.model_lab.specs.Lab.{LabFrame, Lab, manager_does, returned}
 use Rattle.model_lab.proofs.ManagerEvents.{replies_are_brought}
 use Rattle.model_headline.specs.Tied.{P, F, L, W, ipmb_bus, smbus_bus, rules_on, requests, HoldsTold, HoldsToldPart, ComesFromAnother, IsHeldBy, IsHeld, EntryAnswers, IsTied, world_of, Goes}
 use Rattle.model_headline.specs.Each.{Each}

@@ -22,7 +22,8 @@ use Rattle.model_lab.specs.Wires.{bytes_of}
 use Rattle.undo_plans.specs.declared.names.Names.{Names}
 use Rattle.model_lab.specs.PortEvents.{IsPortOf}
 use Rattle.model_lab.specs.ManagerSteps.{addresses, values_of, own_on}
-use Rattle.model_lab.specs.Lab.{ToPort, Lab, idles_on, with_frames}
+use Rattle.model_lab.specs.declared.way.Way.TheVariants.{ToPort}
+use Rattle.model_lab.specs.Lab.{Lab, idles_on, with_frames}
 use Rattle.model_headline.specs.Each.{Each}
 use Rattle.model_headline.proofs.Each.{each_append}
 use Rattle.model_headline.specs.Tied.{P, L, smbus_bus, rules_on, requests, IsHeld, EntryAnswers, IsTied}

@@ -18,8 +18,12 @@ use Rattle.model_lab.specs.Wires.{answered_from}
 use Rattle.model_lab.specs.Values.{Value, Asks, Tells, Part}
 use Rattle.model_lab.specs.Bytes.{response_bytes}
 use Rattle.model_lab.specs.PortSteps.{PortState, Deed, hears, hears_all, idles}
-use Rattle.model_lab.specs.ManagerSteps.{Plans, Call, Start, Quiet, Stop, Again, Undo, ManagerState, ManagerDeed, Sent, rests, goes_on, turn_of, waits_after, called, heeded_on, open_bytes, taken_or, tested, hears_reply, hears_response, ends_reply, joins, joins_for, hears_packet, manager_hears, is_answer, is_part, open_count}
-use Rattle.model_lab.specs.Lab.{Way, ToManager, ToOthers, LabFrame, Event, Calls, ToBmc, ToMgr, OtherIpmb, OtherSmbus, Noise, Idles, OnBench, Lab, step, run, sends, manager_does, call_does, port_does, with_port, port_on, opens, delivered, returned}
+use Rattle.text_schedule.specs.declared.event.Call.{Call}
+use Rattle.text_schedule.specs.declared.event.Call.TheVariants.{Start, Quiet, Stop, Again, Undo}
+use Rattle.model_lab.specs.ManagerSteps.{Plans, ManagerState, ManagerDeed, Sent, rests, goes_on, turn_of, waits_after, called, heeded_on, open_bytes, taken_or, tested, hears_reply, hears_response, ends_reply, joins, joins_for, hears_packet, manager_hears, is_answer, is_part, open_count}
+use Rattle.model_lab.specs.declared.way.Way.{Way}
+use Rattle.model_lab.specs.declared.way.Way.TheVariants.{ToManager, ToOthers}
+use Rattle.model_lab.specs.Lab.{LabFrame, Event, Calls, ToBmc, ToMgr, OtherIpmb, OtherSmbus, Noise, Idles, OnBench, Lab, step, run, sends, manager_does, call_does, port_does, with_port, port_on, opens, delivered, returned}
 
 -- ---- a machine
 

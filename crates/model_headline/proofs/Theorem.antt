@@ -18,7 +18,9 @@ use Rattle.model_bus.specs.PacketBus.{opening_ends}
 use Rattle.model_bus.specs.Answering.{AreWritten}
 use Rattle.model_bus.proofs.Cutting.{packets_cut}
 use Rattle.model_undo.specs.Words.{Answered, get_asked, set_asked}
-use Rattle.model_undo.specs.Phase.{Stop, Refused, NotRestorable, GetRefused, Phase, Fresh, Getting, Setting, Done, Halted, Unsettled, Undoing, Undone, UndoRefused}
+use Rattle.model_undo.specs.declared.phase.Why.TheVariants.{Stop, Refused, NotRestorable, GetRefused}
+use Rattle.model_undo.specs.declared.phase.Phase.{Phase}
+use Rattle.model_undo.specs.declared.phase.Phase.TheVariants.{Fresh, Getting, Setting, Done, Halted, Unsettled, Undoing, Undone, UndoRefused}
 use Rattle.model_undo.specs.Plan.{IsAfter, Halts}
 use Rattle.model_undo.specs.Giving.{Giving, given_in, GaveIn as Gave, CausedIn}
 use Rattle.model_undo.proofs.Giving.{halts_by_answers}
@@ -32,7 +34,8 @@ use Rattle.model_undo.proofs.TwoBuses.{packet_lines}
 use Rattle.model_family.proofs.IsFamily.{is_family}
 use Rattle.model_family.proofs.Board.{starts_valid}
 use Rattle.undo_plans.specs.declared.names.Names.{Names}
-use Rattle.model_lab.specs.ManagerSteps.{Stop as StopCall, addresses}
+use Rattle.text_schedule.specs.declared.event.Call.TheVariants.{Stop as StopCall}
+use Rattle.model_lab.specs.ManagerSteps.{addresses}
 use Rattle.model_lab.specs.Lab.{Event, Calls, ToBmc, ToMgr, OtherIpmb, OtherSmbus, Noise, Idles, OnBench, Lab, step, run}
 use Rattle.model_lab.specs.Faults.{AllTaken}
 use Rattle.model_lab.specs.Honest.{HasBytes, IsHonest, AllHonest}

@@ -46,7 +46,8 @@ use Rattle.model_lab.specs.PortEvents.{name_in, event_by, message_answer_to, pld
 use Rattle.model_lab.specs.ManagerSteps.{addresses, own_on}
 use Rattle.model_lab.specs.ManagerEvents.{HoldsPart}
 use Rattle.model_lab.specs.Own.{JoinsOwn}
-use Rattle.model_lab.specs.Lab.{ToManager, LabFrame, Lab, frame_now, port_does, opens}
+use Rattle.model_lab.specs.declared.way.Way.TheVariants.{ToManager}
+use Rattle.model_lab.specs.Lab.{LabFrame, Lab, frame_now, port_does, opens}
 use Rattle.model_lab.proofs.Spelling.{are_the_models}
 use Rattle.model_headline.specs.Each.{Each}
 use Rattle.model_headline.specs.Tied.{P, F, L, W, rules_on, HoldsAskedPart, IsHeld, IsHeldBy, EntryAnswers, IsTied, world_of, IsGiven, Goes}

@@ -41,7 +41,9 @@ use Rattle.model_lab.specs.ManagerEvents.{HoldsReply, HoldsPart, name_awaited}
 use Rattle.model_headline.specs.Each.{Each}
 use Rattle.model_headline.specs.Made.{MachineMade}
 use Rattle.model_headline.specs.Answers.{Answers}
-use Rattle.model_lab.specs.Lab.{Way, ToPort, ToManager, ToOthers, LabFrame, Lab}
+use Rattle.model_lab.specs.declared.way.Way.{Way}
+use Rattle.model_lab.specs.declared.way.Way.TheVariants.{ToPort, ToManager, ToOthers}
+use Rattle.model_lab.specs.Lab.{LabFrame, Lab}
 
 module _ (setup : BoardFile) (names : Names) where
   abbrev pub P : Plans

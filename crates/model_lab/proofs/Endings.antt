@@ -2,7 +2,7 @@
 use Rattle.std.proofs.Common.{◌≡◌, ◌+◌, List, [], ◌∷◌, ◌++◌, length, Some, None, refl, sym, ◌∙◌, ap, subst}
 use Rattle.cfg_records.specs.declared.board_file.BoardFile.{BoardFile}
 use Rattle.model_lab.specs.Lab.{Lab}
-use Rattle.model_lab.specs.Faults.{Fault}
+use Rattle.model_lab.specs.declared.fault.Fault.{Fault}
 use Rattle.text_schedule.specs.declared.event.Event.{Event}
 use Rattle.model_lab.specs.Meaning.{Bench}
 use Rattle.model_lab.specs.Played.{plans, Ending, Whole, Stops, fault_at, happens, after, AreTaken, told_of, PlaysFrom}

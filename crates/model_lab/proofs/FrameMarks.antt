@@ -12,7 +12,8 @@ use Rattle.model_lab.specs.declared.marks.Mark.{Mark}
 use Rattle.model_lab.specs.Values.{Value, Asks, Tells, Part}
 use Rattle.model_lab.specs.PortSteps.{PortState, Deed, hears}
 use Rattle.model_lab.specs.ManagerSteps.{Plans}
-use Rattle.model_lab.specs.Lab.{LabFrame, ToManager, ToBmc, Lab, port_on, with_port, idles_on, frame_now, opens, port_does, delivered, step}
+use Rattle.model_lab.specs.declared.way.Way.TheVariants.{ToManager}
+use Rattle.model_lab.specs.Lab.{LabFrame, ToBmc, Lab, port_on, with_port, idles_on, frame_now, opens, port_does, delivered, step}
 use Rattle.model_lab.specs.Marks.{HasMark, MarksReplies}
 
 -- what stands behind a list

@@ -12,28 +12,14 @@ use Rattle.model_bus.specs.Circle.{span_of}
 use Rattle.bmc_board.specs.Table.{is_changing}
 use Rattle.model_undo.specs.Words.{Words}
 use Rattle.model_undo.specs.Machine.{Machine, count_of, open_bus, same_bus}
+use Rattle.model_lab.specs.declared.fault.Fault.{Fault}
+use Rattle.model_lab.specs.declared.fault.Fault.TheVariants.{NoFrame, WrongWay, Aged, Changing, Impersonates, Forged, StillOpen, Room}
 use Rattle.model_lab.specs.PortSteps.{asked_in, pldm_asked}
 use Rattle.undo_plans.specs.declared.names.Names.{Names}
 use Rattle.model_lab.specs.ManagerSteps.{own_on, peer_on, Plans}
-use Rattle.model_lab.specs.Lab.{Way, ToPort, ToManager, ToOthers, LabFrame, Event, Calls, ToBmc, ToMgr, OtherIpmb, OtherSmbus, Noise, Idles, OnBench, Lab, idles_on, step}
-
-pub data Fault : Type 0 where
-  -- there is no such frame
-  NoFrame : Fault
-  -- the frame doesn't go to that end
-  WrongWay : Fault
-  -- too many newer requests were begun, or the manager's window was forgotten since
-  Aged : Fault
-  -- another requester's command sets the configuration
-  Changing : Fault
-  -- it comes from the manager's or the controller's address
-  Impersonates : Fault
-  -- the noise reads as a frame
-  Forged : Fault
-  -- a request of the manager is open, on either bus
-  StillOpen : Fault
-  -- 65,536 frames were sent
-  Room : Fault
+use Rattle.model_lab.specs.declared.way.Way.{Way}
+use Rattle.model_lab.specs.declared.way.Way.TheVariants.{ToPort, ToManager, ToOthers}
+use Rattle.model_lab.specs.Lab.{LabFrame, Event, Calls, ToBmc, ToMgr, OtherIpmb, OtherSmbus, Noise, Idles, OnBench, Lab, idles_on, step}
 
 -- a fault, and whether an event has it
 pub record Check : Type 0 where

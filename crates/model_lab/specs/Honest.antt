@@ -15,8 +15,12 @@ use Rattle.model_undo.specs.Machine.{open_bus}
 use Rattle.model_lab.specs.PortSteps.{asked_in, pldm_asked}
 use Rattle.undo_plans.specs.declared.names.Names.{Names}
 use Rattle.model_lab.specs.ManagerSteps.{own_on, peer_on, Plans}
-use Rattle.model_lab.specs.Lab.{Way, ToPort, ToManager, LabFrame, Event, Calls, ToBmc, ToMgr, OtherIpmb, OtherSmbus, Noise, Idles, OnBench, Lab, idles_on, step}
-use Rattle.model_lab.specs.Faults.{Fault, Room, begun_on, fault_of}
+use Rattle.model_lab.specs.declared.way.Way.{Way}
+use Rattle.model_lab.specs.declared.way.Way.TheVariants.{ToPort, ToManager}
+use Rattle.model_lab.specs.Lab.{LabFrame, Event, Calls, ToBmc, ToMgr, OtherIpmb, OtherSmbus, Noise, Idles, OnBench, Lab, idles_on, step}
+use Rattle.model_lab.specs.declared.fault.Fault.{Fault}
+use Rattle.model_lab.specs.declared.fault.Fault.TheVariants.{Room}
+use Rattle.model_lab.specs.Faults.{begun_on, fault_of}
 
 -- neither the manager nor the controller is known so on the bus
 abbrev pub IsAnother : Bus → Names → ℕ → Type 0

@@ -9,6 +9,7 @@ pub mod Bytes
 pub mod PortSteps
 pub mod ManagerSteps
 pub mod Lab
+pub mod FaultNames
 pub mod Faults
 pub mod Own
 pub mod Joins

@@ -8,7 +8,8 @@ use Rattle.model_lab.specs.declared.marks.Mark.{Mark}
 use Rattle.model_lab.specs.declared.marks.Known.{Known}
 use Rattle.model_lab.specs.ManagerSteps.{Plans}
 use Rattle.model_lab.specs.Lab.{LabFrame, ToBmc, Idles, Lab, idles_on, step}
-use Rattle.model_lab.specs.Faults.{StillOpen, begun_on, is_live, fault_of}
+use Rattle.model_lab.specs.declared.fault.Fault.TheVariants.{StillOpen}
+use Rattle.model_lab.specs.Faults.{begun_on, is_live, fault_of}
 
 -- the frame has the mark
 pub record HasMark (f : LabFrame) (mark : Mark) : Type 0 where

@@ -5,13 +5,10 @@ use Rattle.mctp_net.specs.declared.message.Message.{Message}
 use Rattle.bmc_board.specs.State.{State}
 use Rattle.bmc_board.specs.declared.activity.Activity.{Activity}
 use Rattle.undo_plans.specs.declared.names.Names.{Names}
-use Rattle.text_schedule.specs.declared.event.Call.{Call as Called}
-use Rattle.text_schedule.specs.declared.event.Call.TheVariants as called
 use Rattle.text_schedule.specs.declared.event.OtherRequest.{OtherRequest}
 use Rattle.text_schedule.specs.declared.event.OtherMessage.{OtherMessage}
 use Rattle.text_schedule.specs.declared.event.Event.{Event}
 use Rattle.text_schedule.specs.declared.event.Event.TheVariants as event
-use Rattle.model_lab.specs.ManagerSteps.{Call, Start, Quiet, Stop, Again, Undo}
 use Rattle.model_lab.specs.Lab.{Event as LabEvent, Calls, ToBmc, ToMgr, OtherIpmb, OtherSmbus, Noise, Idles, OnBench}
 
 -- the lab's names: the manager, and the controller
@@ -21,14 +18,6 @@ lab_names = record { own_address = 0x2C; peer_address = 0x20; own_wire = 0x30; p
 -- the two-wire address of all others on SMBus
 abbrev pub other_wire : ℕ
 other_wire = 0x42
-
--- the calls
-abbrev pub call_of : Called → Call
-call_of called.Start = Start
-call_of called.Quiet = Quiet
-call_of called.Stop = Stop
-call_of called.Again = Again
-call_of called.Undo = Undo
 
 -- somebody else's request goes to the controller
 abbrev pub request_of : Names → OtherRequest → Request
@@ -64,7 +53,7 @@ pub record Bench : Type 0 where
 
 -- the event is this one, where the board is in this state
 abbrev pub event_of : Names → Bench → State → Event → LabEvent
-event_of names bench before (event.Calls call) = Calls (call_of call)
+event_of names bench before (event.Calls call) = Calls call
 event_of names bench before (event.ToBmc number) = ToBmc number
 event_of names bench before (event.ToMgr number) = ToMgr number
 event_of names bench before (event.OtherIpmb r) = OtherIpmb (request_of names r)

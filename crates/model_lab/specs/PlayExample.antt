@@ -2,7 +2,7 @@
 use Rattle.std.specs.Prelude.{◌≡◌, List, [], ◌∷◌, ◌++◌, length}
 use Rattle.std.specs.Prelude.{ℕ, ◌+◌}
 use Rattle.record_base.specs.declared.key.Key.TheVariants as key
-use Rattle.model_undo.specs.Phase.{Undone}
+use Rattle.model_undo.specs.declared.phase.Phase.TheVariants.{Undone}
 use Rattle.model_lab.specs.Example.{board_file, two_steps}
 use Rattle.text_schedule.specs.declared.event.Call.TheVariants.{Start, Undo}
 use Rattle.text_schedule.specs.declared.event.Event.{Event}

@@ -4,11 +4,12 @@ use Rattle.cfg_records.specs.declared.board_file.BoardFile.{BoardFile}
 use Rattle.record_base.specs.declared.key.Key.{Key}
 use Rattle.record_base.specs.declared.op.Op.{Op}
 use Rattle.record_base.specs.declared.message.Asked.{Asked}
-use Rattle.model_undo.specs.Phase.{Phase}
+use Rattle.model_undo.specs.declared.phase.Phase.{Phase}
 use Rattle.model_undo.specs.Machine.{phase_of}
 use Rattle.model_lab.specs.ManagerSteps.{Plans, board_plans}
 use Rattle.model_lab.specs.Lab.{LabFrame, Lab, step, opening}
-use Rattle.model_lab.specs.Faults.{Fault, fault_of}
+use Rattle.model_lab.specs.declared.fault.Fault.{Fault}
+use Rattle.model_lab.specs.Faults.{fault_of}
 use Rattle.text_schedule.specs.declared.event.Event.{Event}
 use Rattle.model_lab.specs.Meaning.{lab_names, Bench, event_of}
 

@@ -1,5 +1,5 @@
 pub mod Words
-pub mod Phase
+pub mod PhaseNames
 pub mod Family
 pub mod IsFamily
 pub mod Plan

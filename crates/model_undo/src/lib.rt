@@ -4,3 +4,6 @@
 
 pub mod examples;
 pub mod laws;
+mod phase;
+
+pub use phase::{Phase, Why};

@@ -32,7 +32,9 @@ use Rattle.model_lab.specs.ManagerWords.{bus_of}
 use Rattle.model_lab.specs.Wires.{bytes_of, answered_from}
 use Rattle.model_lab.specs.Bytes.{response_bytes}
 use Rattle.model_lab.specs.Values.{Value, Asks, Tells, Part, written, IsFrameOn}
-use Rattle.model_lab.specs.ManagerSteps.{Call, Start, Quiet, Stop, Again, Undo, ManagerState, ManagerDeed, board_plans, values_of, called, goes_on, sent_of, rests, is_answer, is_part, heeded_on, open_count, open_bytes, taken_or, tested, hears_reply, hears_response, ends_reply, joins, joins_for, hears_packet, manager_hears}
+use Rattle.text_schedule.specs.declared.event.Call.{Call}
+use Rattle.text_schedule.specs.declared.event.Call.TheVariants.{Start, Quiet, Stop, Again, Undo}
+use Rattle.model_lab.specs.ManagerSteps.{ManagerState, ManagerDeed, board_plans, values_of, called, goes_on, sent_of, rests, is_answer, is_part, heeded_on, open_count, open_bytes, taken_or, tested, hears_reply, hears_response, ends_reply, joins, joins_for, hears_packet, manager_hears}
 use Rattle.undo_core.specs.Shown.{words_of}
 use Rattle.undo_core.specs.Course.{Input, Calls, Hears, HasBytes, Frames, Seen, HearsBytes, or_rests, IsDeed, frames_of, seen_of, Course, resumes, GoesOnOverFrames}
 use Rattle.undo_core.proofs.Exchange.{one_value}
