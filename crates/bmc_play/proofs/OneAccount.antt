@@ -11,7 +11,7 @@ use Rattle.record_base.specs.declared.message.Asked.TheVariants.{Ipmi, Pldm}
 use Rattle.model_undo.specs.PhaseNames.{phase_name}
 use Rattle.undo_core.specs.Shown.{own, backs}
 use Rattle.text_undo.specs.UndoText.{line_of}
-use Rattle.model_lab.specs.declared.marks.Mark.{Mark}
+use Rattle.lab_run.specs.declared.marks.Mark.{Mark}
 use Rattle.model_lab.specs.Lab.{LabFrame}
 use Rattle.lab_run.specs.declared.frames.SentFrame.{SentFrame}
 use Rattle.model_lab.specs.Meaning.{lab_names}

@@ -4,12 +4,12 @@ use Rattle.std.specs.List.{AllZip}
 use Rattle.two_wire.specs.declared.Bus.{Bus}
 use Rattle.two_wire.specs.declared.Bus.TheVariants.{Ipmb, Smbus}
 use Rattle.undo_plans.specs.declared.names.Names.{Names}
-use Rattle.model_lab.specs.declared.marks.Known.{Known}
-use Rattle.model_lab.specs.declared.marks.Mark.{Mark}
+use Rattle.lab_run.specs.declared.marks.Known.{Known}
+use Rattle.lab_run.specs.declared.marks.Mark.{Mark}
 use Rattle.model_lab.specs.Values.{written}
 use Rattle.model_lab.specs.ManagerSteps.{board_plans}
 use Rattle.model_lab.specs.Lab.{LabFrame, Lab}
-use Rattle.model_lab.specs.Marks.{HasMark, IsKnown}
+use Rattle.lab_run.specs.Marks.{HasMark, IsKnown}
 use Rattle.model_lab.specs.declared.way.Way.{Way}
 use Rattle.lab_run.specs.declared.frames.SentFrame.{SentFrame}
 use Rattle.lab_run.specs.declared.fault.Marks.{Marks}

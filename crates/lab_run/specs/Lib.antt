@@ -1,3 +1,4 @@
+pub mod Marks
 pub mod FramesShown
 pub mod Shown
 pub mod Hearing

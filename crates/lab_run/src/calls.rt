@@ -8,8 +8,8 @@ ghost use Rattle.model_lab.specs.Played.{plans};
 ghost use Rattle.lab_run.specs.Shown.{Shows, Becomes};
 
 use crate::lab_state::Lab;
+use crate::marks::Mark;
 use model_lab::Way;
-use model_lab::marks::Mark;
 use std::alloc::AllocError;
 use text_schedule::Call;
 use undo_core::{Manager, Sent, WrongPhase};

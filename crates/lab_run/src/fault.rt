@@ -9,7 +9,7 @@ ghost use Rattle.lab_run.specs.declared.fault.Marks.{Marks as AnyMarks};
 ghost use Rattle.lab_run.specs.FramesShown.{marks_on, ShowsFrames};
 
 use crate::frames::Frames;
-use model_lab::marks::Known;
+use crate::marks::Known;
 use model_lab::{Fault, Way};
 use two_wire::Bus;
 

@@ -2,8 +2,8 @@
 ghost use Rattle.std.specs.Prelude.{◌≡◌, ◌++◌, ◌∷◌, [], length, nat_le, slice_get, Some, None, IfSome, IfNone, is_ok, if◌then◌else◌, OnOk, map};
 ghost use Rattle.lab_run.specs.FramesShown.{sent_as};
 
+use crate::marks::Mark;
 use model_lab::Way;
-use model_lab::marks::Mark;
 use std::alloc::{AllocError, Global};
 use std::marker::Model;
 use two_wire::Frame;

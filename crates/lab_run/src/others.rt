@@ -12,12 +12,12 @@ ghost use Rattle.two_wire.specs.declared.Bus.TheVariants.{Ipmb, Smbus};
 ghost use Rattle.bmc_board.specs.Table.{is_changing};
 ghost use Rattle.model_lab.specs.Meaning.{request_of};
 
+use crate::marks::is_still_open;
 use bmc_board::is_changing;
 use cfg_records::Asked;
 use ipmb_frame::read_frame;
 use mctp_net::read_packet;
 use model_lab::Fault;
-use model_lab::marks::is_still_open;
 use pldm_base::{PldmBytes, read_pldm};
 use text_schedule::{OtherMessage, OtherRequest};
 use two_wire::{Bus, Bytes};

@@ -16,11 +16,11 @@ ghost use Rattle.lab_run.specs.Shown.{Shows, Becomes, idles_in};
 ghost use Rattle.lab_run.specs.Hearing.{HasFrames, HasHeard, done_on, Ignores};
 
 use crate::lab_state::Lab;
+use crate::marks::Mark;
 use arrayvec::ArrayVec;
 use ipmb_frame::{Header, Party, Request, write_request};
 use mctp_net::{Envelope, Message, SomeData, Tag, split};
 use model_lab::Way;
-use model_lab::marks::Mark;
 use std::alloc::AllocError;
 use text_schedule::{OtherMessage, OtherRequest};
 use two_wire::{Address, Bus, Data, Frame};

@@ -23,7 +23,6 @@ pub mod PortEvents
 pub mod ManagerEvents
 pub mod PacketExample
 pub mod FullExample
-pub mod Marks
 pub mod Meaning
 pub mod Played
 pub mod PlayExample

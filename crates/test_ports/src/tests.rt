@@ -1,5 +1,4 @@
 //! What ports do with requests that come again, on the sample board.
-mod ages;
 mod either;
 mod ipmb;
 mod smbus;

@@ -1,6 +1,6 @@
 use Rattle.std.proofs.Common.{sym, ◌∙◌, subst, true, false}
 use Rattle.model_lab.specs.ManagerSteps.{board_plans}
-use Rattle.model_lab.specs.Marks.{IsKnown}
+use Rattle.lab_run.specs.Marks.{IsKnown}
 use Rattle.lab_run.proofs.Deliveries.{frame_at, no_frame, wrong_way, aged, left_room}
 use Rattle.lab_run.proofs.frames.Frames.delivery_fault.Goals as goal
 

@@ -1,7 +1,7 @@
 use Rattle.std.proofs.Common.{rules, ◌≡◌, ◌++◌, List, ℕ, map, Option, None, sym, ◌∙◌, ap, subst}
 use Rattle.undo_core.specs.declared.sending.Sent.{Sent}
 use Rattle.undo_core.specs.Shown.{IsSent}
-use Rattle.model_lab.specs.declared.marks.Mark.{Mark}
+use Rattle.lab_run.specs.declared.marks.Mark.{Mark}
 use Rattle.model_lab.specs.Lab.{sends}
 use Rattle.model_lab.specs.declared.way.Way.TheVariants as way
 use Rattle.lab_run.specs.declared.frames.SentFrame.{SentFrame}

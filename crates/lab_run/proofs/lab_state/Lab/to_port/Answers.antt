@@ -1,5 +1,5 @@
 use Rattle.std.proofs.Common.{◌≡◌, sym, ◌∙◌, ap, subst}
-use Rattle.model_lab.specs.declared.marks.Mark.{Mark}
+use Rattle.lab_run.specs.declared.marks.Mark.{Mark}
 use Rattle.model_lab.specs.Values.{IsFrameOn}
 use Rattle.model_lab.specs.PortSteps.{hears}
 use Rattle.model_lab.specs.declared.way.Way.TheVariants.{ToManager}

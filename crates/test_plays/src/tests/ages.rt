@@ -1,6 +1,6 @@
 //! How long frames are live, worked by hand from the rule.
 
-use model_lab::marks::{Known, Mark};
+use lab_run::{Known, Mark};
 use std::process::Abort;
 use std::test::Fail;
 use two_wire::Bus;

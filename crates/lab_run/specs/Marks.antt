@@ -4,8 +4,8 @@ use Rattle.two_wire.specs.declared.Bus.{Bus}
 use Rattle.cfg_records.specs.declared.board_file.BoardFile.{BoardFile}
 use Rattle.model_undo.specs.Machine.{open_bus}
 use Rattle.undo_plans.specs.declared.names.Names.{Names}
-use Rattle.model_lab.specs.declared.marks.Mark.{Mark}
-use Rattle.model_lab.specs.declared.marks.Known.{Known}
+use Rattle.lab_run.specs.declared.marks.Mark.{Mark}
+use Rattle.lab_run.specs.declared.marks.Known.{Known}
 use Rattle.model_lab.specs.ManagerSteps.{Plans}
 use Rattle.model_lab.specs.Lab.{LabFrame, ToBmc, Idles, Lab, idles_on, step}
 use Rattle.model_lab.specs.declared.fault.Fault.TheVariants.{StillOpen}

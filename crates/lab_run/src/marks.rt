@@ -5,7 +5,7 @@ ghost use Rattle.model_bus.specs.Circle.{span_of};
 ghost use Rattle.cfg_records.specs.declared.board_file.BoardFile.{BoardFile};
 ghost use Rattle.undo_plans.specs.declared.names.Names.{Names as NamesValue};
 ghost use Rattle.model_lab.specs.ManagerSteps.{board_plans};
-ghost use Rattle.model_lab.specs.Marks.{TellsLive, MarksReplies, TellsOpen};
+ghost use Rattle.lab_run.specs.Marks.{TellsLive, MarksReplies, TellsOpen};
 
 use two_wire::Bus;
 use undo_plans::Names;
