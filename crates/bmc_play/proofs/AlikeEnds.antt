@@ -5,9 +5,7 @@ use Rattle.cfg_records.specs.declared.board_file.BoardFile.{BoardFile}
 use Rattle.record_base.specs.declared.op.Op.{Op}
 use Rattle.model_lab.specs.declared.fault.Fault.{Fault}
 use Rattle.model_lab.specs.declared.fault.Fault.TheVariants as fault
-use Rattle.model_lab.specs.Meaning.{Bench}
 use Rattle.model_lab.specs.Played.{Ending, Whole, Stops, IsPlayed}
-use Rattle.lab_run.specs.Shown.{own_bench}
 use Rattle.bmc_play.specs.declared.account.Account.{Account}
 use Rattle.bmc_play.specs.declared.account.Stopped.{Stopped}
 use Rattle.bmc_play.specs.declared.inputs.Inputs.{Inputs}
@@ -38,13 +36,13 @@ one_stop events notes account (Some stopped) (Stops cause at told) (accounts, (o
 
 -- a play ends in one way
 abbrev pub OneEnding : Type 0
-OneEnding = (bench : Bench) (file : BoardFile) (steps : List Op) (retries : ℕ) (events : List Event) (ending other : Ending)
-    → IsPlayed bench file steps retries events ending → IsPlayed bench file steps retries events other → ending ≡ other
+OneEnding = (file : BoardFile) (steps : List Op) (retries : ℕ) (events : List Event) (ending other : Ending)
+    → IsPlayed file steps retries events ending → IsPlayed file steps retries events other → ending ≡ other
 
 pub ends_alike : OneEnding → (inputs : Inputs) → EndAlike inputs
 ends_alike one inputs frames premises text chart status other told drawn =
     let same : told.ending ≡ drawn.play.ending =
-    one (own_bench inputs.file) inputs.file inputs.plan.steps inputs.plan.retries inputs.events told.ending drawn.play.ending told.played drawn.play.played in
+    one inputs.file inputs.plan.steps inputs.plan.retries inputs.events told.ending drawn.play.ending told.played drawn.play.played in
     let stop : drawn.stopped ≡ told.account.stopped =
     one_stop inputs.events (length drawn.notes) told.account drawn.stopped drawn.play.ending
     (subst (λ (ending : Ending). IsAccountOf told.account ending) same told.is) drawn.play.ends in

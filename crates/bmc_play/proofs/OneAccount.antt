@@ -16,7 +16,7 @@ use Rattle.model_lab.specs.Lab.{LabFrame}
 use Rattle.lab_run.specs.declared.frames.SentFrame.{SentFrame}
 use Rattle.model_lab.specs.Meaning.{lab_names}
 use Rattle.model_lab.specs.Played.{Told, Ending, Whole, Stops}
-use Rattle.lab_run.specs.Shown.{IsSentFrame, own_bench}
+use Rattle.lab_run.specs.Shown.{IsSentFrame}
 use Rattle.model_headline.specs.Plays.{taken_by, TellsPremise}
 use Rattle.lab_play.specs.Ends.{is_value}
 use Rattle.bmc_play.specs.declared.account.Account.{Account}
@@ -110,14 +110,14 @@ told_in account other (Stops cause at told) is also = (told, is.0, also.0)
 pub one_account : OneEnding → (frames premises : Bool) → OneText (Recounts frames premises)
 one_account one frames premises inputs text other_text status other_status told more =
     let same : more.ending ≡ told.ending =
-    one (own_bench inputs.file) inputs.file inputs.plan.steps inputs.plan.retries inputs.events more.ending told.ending more.played told.played in
+    one inputs.file inputs.plan.steps inputs.plan.retries inputs.events more.ending told.ending more.played told.played in
     let is : IsAccountOf more.account told.ending = subst (IsAccountOf more.account) same more.is in
     let stopped : told.account.stopped ≡ more.account.stopped = same_stopped told.account more.account told.ending told.is is in
     let tells = told_in told.account more.account told.ending told.is is in
     let events = inputs.events in
-    let premise : TellsPremise (own_bench inputs.file) inputs.file (taken_by events told.ending) (begun_with inputs) more.account.broken =
-    subst (λ (e : Ending). TellsPremise (own_bench inputs.file) inputs.file (taken_by events e) (begun_with inputs) more.account.broken) same more.premise in
+    let premise : TellsPremise inputs.file (taken_by events told.ending) (begun_with inputs) more.account.broken =
+    subst (λ (e : Ending). TellsPremise inputs.file (taken_by events e) (begun_with inputs) more.account.broken) same more.premise in
     let broken : told.account.broken ≡ more.account.broken =
-    one_premise (own_bench inputs.file) inputs.file (taken_by events told.ending) (begun_with inputs) told.account.broken more.account.broken told.premise premise in
+    one_premise inputs.file (taken_by events told.ending) (begun_with inputs) told.account.broken more.account.broken told.premise premise in
     let lines : text_of frames premises told.account ≡ text_of frames premises more.account = same_lines frames premises told.account more.account tells.0 tells.1 tells.2 broken stopped in
     (told.said ∙ lines ∙ sym more.said, told.ended ∙ ap status_of stopped ∙ sym more.ended)

@@ -9,7 +9,6 @@ use Rattle.model_lab.specs.Played.{Ending, Whole, Stops, IsPlayed}
 use Rattle.model_headline.specs.Plays.{StandsIfKept}
 use Rattle.lab_run.specs.declared.note.Note.{Note}
 use Rattle.text_chart.specs.Chart.{chart_of}
-use Rattle.lab_run.specs.Shown.{own_bench}
 use Rattle.lab_play.specs.Noted.{AreNotes}
 use Rattle.bmc_play.specs.declared.inputs.Inputs.{Inputs}
 use Rattle.bmc_play.specs.declared.account.Stopped.{Stopped}
@@ -27,10 +26,10 @@ EndsAt events notes _ _ = ⊥
 -- play's phase is true: it says what the records are.
 pub record NotesPlayOf (file : BoardFile) (steps : List Op) (retries : ℕ) (events : List Event) (stopped : Option Stopped) (notes : List Note) : Type 0 where
   pub ending : Ending
-  pub played : IsPlayed (own_bench file) file steps retries events ending
-  pub stands : StandsIfKept (own_bench file) file steps retries events ending
+  pub played : IsPlayed file steps retries events ending
+  pub stands : StandsIfKept file steps retries events ending
   pub ends : EndsAt events (length notes) stopped ending
-  pub are : AreNotes (own_bench file) file steps retries events notes
+  pub are : AreNotes file steps retries events notes
 
 -- the chart, and the line of the event that wasn't taken
 abbrev pub drawing : List Note → Option Stopped → List ℕ

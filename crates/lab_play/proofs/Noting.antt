@@ -8,7 +8,7 @@ use Rattle.cfg_records.specs.declared.board_file.BoardFile.{BoardFile}
 use Rattle.record_base.specs.declared.op.Op.{Op}
 use Rattle.model_lab.specs.Lab.{LabFrame, Lab as LabModel, opening}
 use Rattle.text_schedule.specs.declared.event.Event.{Event}
-use Rattle.model_lab.specs.Meaning.{lab_names, Bench}
+use Rattle.model_lab.specs.Meaning.{lab_names}
 use Rattle.model_lab.specs.Played.{plans, happens, after}
 use Rattle.lab_run.specs.declared.note.Note.{Note}
 use Rattle.lab_run.specs.declared.lab_state.Lab.{Lab}
@@ -17,7 +17,7 @@ use Rattle.lab_play.specs.declared.watch.Watch.{Watch}
 use Rattle.lab_play.specs.declared.run.Halt.{Halt}
 use Rattle.lab_run.specs.declared.step.Refused.{Refused}
 use Rattle.lab_run.specs.declared.step.Refused.TheVariants as refused
-use Rattle.lab_run.specs.Shown.{Shows, own_bench}
+use Rattle.lab_run.specs.Shown.{Shows}
 use Rattle.model_undo.specs.Machine.{phase_of}
 use Rattle.model_lab.specs.Played.{fault_at}
 use Rattle.lab_run.specs.Hearing.{Did}
@@ -28,32 +28,32 @@ use Rattle.lab_play.specs.Runs.{Take}
 use Rattle.lab_run.proofs.Sent.{all_append}
 use Rattle.lab_run.proofs.Coming.{done_is}
 
-module _ (bench : Bench) (file : BoardFile) where
+module _ (file : BoardFile) where
   -- what there is to note of one event more
-  noted_more : (es : List Event) (e : Event) (x : LabModel plans) → noted_from bench file (es ++ e ∷ []) x ≡ noted_from bench file es x ++ noted_at bench file (after bench file es x) e ∷ []
+  noted_more : (es : List Event) (e : Event) (x : LabModel plans) → noted_from file (es ++ e ∷ []) x ≡ noted_from file es x ++ noted_at file (after file es x) e ∷ []
   noted_more [] e x = refl
-  noted_more (d ∷ es) e x = ap (λ ns. noted_at bench file x d ∷ ns) (noted_more es e (happens bench file d x))
+  noted_more (d ∷ es) e x = ap (λ ns. noted_at file x d ∷ ns) (noted_more es e (happens file d x))
 
 -- one event more was noted
 pub notes_one_more : (es : List Event) (e : Event) (old mid : Lab) (notes : List Note) (note : Note) → Take es old mid → Notes es old notes
-    → ((file : BoardFile) (x : LabModel plans) → Shows file mid x → IsNote note (noted_at (own_bench file) file x e)) → Notes (es ++ e ∷ []) old (notes ++ note ∷ [])
+    → ((file : BoardFile) (x : LabModel plans) → Shows file mid x → IsNote note (noted_at file x e)) → Notes (es ++ e ∷ []) old (notes ++ note ∷ [])
 notes_one_more es e old mid notes note took noted one file x shows =
-    let last = noted_at (own_bench file) file (after (own_bench file) file es x) e in
-    subst (λ ns. AllZip IsNote (notes ++ note ∷ []) ns) (sym (noted_more (own_bench file) file es e x))
-    (all_append IsNote notes (note ∷ []) (noted_from (own_bench file) file es x) (last ∷ []) (noted file x shows) (one file (after (own_bench file) file es x) (took file x shows).1, tt))
+    let last = noted_at file (after file es x) e in
+    subst (λ ns. AllZip IsNote (notes ++ note ∷ []) ns) (sym (noted_more file es e x))
+    (all_append IsNote notes (note ∷ []) (noted_from file es x) (last ∷ []) (noted file x shows) (one file (after file es x) (took file x shows).1, tt))
 
 -- ---- the note of an event that happened
 
 -- what is noted is what there is to note
 pub is_noted : (e : Event) (old new : Lab) (note : Note) (file : BoardFile) (x : LabModel plans) → Shows file old x
-    → (fault_at (own_bench file) file x e ≡ None) × Shows file new (happens (own_bench file) file e x) → Did e old new
+    → (fault_at file x e ≡ None) × Shows file new (happens file e x) → Did e old new
     → note.event.now ≡ e → note.came ≡ comes_at x e → note.done ≡ done_in e new
     → ((y : LabModel plans) → Shows file new y → note.sends ≡ option_map (λ f. f.on) (slice_get y.frames note.before))
     → note.before ≡ length x.frames → ((y : LabModel plans) → Shows file new y → note.after ≡ length y.frames)
     → ((y : LabModel plans) → Shows file new y → note.phase ≡ phase_of plans.words y.manager.machine)
-    → IsNote note (noted_at (own_bench file) file x e)
+    → IsNote note (noted_at file x e)
 is_noted e old new note file x shows stepped did named came done sends before after phase =
-    let y = happens (own_bench file) file e x in
+    let y = happens file e x in
     record {
       event = named;
       came = came;
@@ -92,17 +92,17 @@ module _ (file : BoardFile) (steps : List Op) (retries : ℕ) (events : List Eve
   first = opening plans file lab_names steps retries
 
   -- all events of a play were noted
-  all_noted : (old : Lab) → Shows file old first → Notes events old notes → length notes ≡ length events → AreNotes (own_bench file) file steps retries events notes
+  all_noted : (old : Lab) → Shows file old first → Notes events old notes → length notes ≡ length events → AreNotes file steps retries events notes
   all_noted old shows noted long =
       let whole : take (length notes) events ≡ events = ap (λ (n : ℕ). take n events) long ∙ take-length events in
-      record { each = subst (λ (es : List Event). AllZip IsNote notes (noted_from (own_bench file) file es first)) (sym whole) (noted file first shows) }
+      record { each = subst (λ (es : List Event). AllZip IsNote notes (noted_from file es first)) (sym whole) (noted file first shows) }
 
   -- those before the one of this place were
   some_noted : (old : Lab) → Shows file old first → (place : ℕ) → Notes (take (place - 1) events) old notes → place ≡ length notes + 1
-      → AreNotes (own_bench file) file steps retries events notes
+      → AreNotes file steps retries events notes
   some_noted old shows place noted at =
       let count : place - 1 ≡ length notes = omega (arith, at) in
-      record { each = subst (λ (n : ℕ). AllZip IsNote notes (noted_from (own_bench file) file (take n events) first)) count (noted file first shows) }
+      record { each = subst (λ (n : ℕ). AllZip IsNote notes (noted_from file (take n events) first)) count (noted file first shows) }
 
   noted_at_halt : (played : Played) (old : Lab) (place : ℕ) (why : Refused) → Shows file old first → NotesBefore events old place why notes
       → NotesPlay file steps retries events (given_at played place why) notes

@@ -18,7 +18,7 @@ use Rattle.lab_play.specs.declared.played.LabFault.TheVariants as fault
 use Rattle.lab_play.specs.declared.run.Halt.{Halt}
 use Rattle.lab_run.specs.declared.step.Refused.{Refused}
 use Rattle.lab_run.specs.declared.step.Refused.TheVariants as refused
-use Rattle.lab_run.specs.Shown.{Shows, own_bench}
+use Rattle.lab_run.specs.Shown.{Shows}
 use Rattle.lab_play.specs.Runs.{Take, Halts, Runs}
 use Rattle.model_headline.specs.Plays.{TellsPremise}
 use Rattle.lab_play.specs.Watched.{Watches, WatchesBefore, WatchesRun}
@@ -31,14 +31,14 @@ module _ (file : BoardFile) (steps : List Op) (retries : ℕ) where
 
   -- what is told of the lab after events
   abbrev told_after : List Event → Told
-  told_after events = told_of (own_bench file) file first (after (own_bench file) file events first)
+  told_after events = told_of file first (after file events first)
 
   tells : (events : List Event) (played : Played) → played.start.items ≡ pairs_of file → KeysDiffer (pairs_of file)
-      → Shows file played.lab (after (own_bench file) file events first) → Tells played (told_after events)
+      → Shows file played.lab (after file events first) → Tells played (told_after events)
   tells events played start once shown = record {
     file = file;
     first = first;
-    now = after (own_bench file) file events first;
+    now = after file events first;
     shown = shown;
     once = subst KeysDiffer (sym start) once;
     start = ap records_of (sym start);
@@ -47,39 +47,39 @@ module _ (file : BoardFile) (steps : List Op) (retries : ℕ) where
 
   -- all events were taken
   ends_whole : (events : List Event) (played : Played) (old : Lab) → played.start.items ≡ pairs_of file → KeysDiffer (pairs_of file)
-      → Shows file old first → length steps ≤ 256 → Take events old played.lab → TellsPremise (own_bench file) file events first played.watch.broken
+      → Shows file old first → length steps ≤ 256 → Take events old played.lab → TellsPremise file events first played.watch.broken
       → Ends file steps retries events (Ok played)
   ends_whole events played old start once shows few takes told =
       let at = takes file first shows in
-      let is : IsPlayed (own_bench file) file steps retries events (Whole (told_after events)) = (at.0, refl) in
+      let is : IsPlayed file steps retries events (Whole (told_after events)) = (at.0, refl) in
       record {
         ending = Whole (told_after events);
         is = tells events played start once at.1;
         played = is;
         premise = told;
-        stands = (plays_stand (own_bench file) file steps retries events (Whole (told_after events)) is).0;
-        unbroken = λ none. (plays_stand (own_bench file) file steps retries events (Whole (told_after events)) is).0 (subst (TellsPremise (own_bench file) file events first) none told);
-        clean = ends_clean (own_bench file) file steps retries few events (Whole (told_after events)) is;
+        stands = (plays_stand file steps retries events (Whole (told_after events)) is).0;
+        unbroken = λ none. (plays_stand file steps retries events (Whole (told_after events)) is).0 (subst (TellsPremise file events first) none told);
+        clean = ends_clean file steps retries few events (Whole (told_after events)) is;
       }
 
   -- the event of a place has a fault
   ends_at : (events : List Event) (played : Played) (old : Lab) (why : Fault) (place : ℕ) → played.start.items ≡ pairs_of file → KeysDiffer (pairs_of file)
       → Shows file old first → length steps ≤ 256 → Halts events old played.lab (record { place = place; why = refused.Fault why })
-      → TellsPremise (own_bench file) file (take (place - 1) events) first played.watch.broken → Ends file steps retries events (Err (fault.Event why place played))
+      → TellsPremise file (take (place - 1) events) first played.watch.broken → Ends file steps retries events (Err (fault.Event why place played))
   ends_at events played old why place start once shows few halts premise =
       let at = halts.left file first shows in
       let told = told_after halts.before in
-      let is : IsPlayed (own_bench file) file steps retries events (Stops why place told) =
+      let is : IsPlayed file steps retries events (Stops why place told) =
       (halts.before, halts.rest, halts.event, halts.all, halts.place, at.0, halts.refuses file first shows, refl) in
       record {
         ending = Stops why place told;
         is = (refl, refl, tells halts.before played start once at.1);
         played = is;
         premise = premise;
-        stands = (plays_stand (own_bench file) file steps retries events (Stops why place told) is).0;
-        unbroken = λ none. (plays_stand (own_bench file) file steps retries events (Stops why place told) is).0
-            (subst (TellsPremise (own_bench file) file (take (place - 1) events) first) none premise);
-        clean = ends_clean (own_bench file) file steps retries few events (Stops why place told) is;
+        stands = (plays_stand file steps retries events (Stops why place told) is).0;
+        unbroken = λ none. (plays_stand file steps retries events (Stops why place told) is).0
+            (subst (TellsPremise file (take (place - 1) events) first) none premise);
+        clean = ends_clean file steps retries few events (Stops why place told) is;
       }
 
   -- ---- what is given of a play, as its events ended

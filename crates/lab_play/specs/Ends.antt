@@ -12,7 +12,7 @@ use Rattle.model_lab.specs.Meaning.{lab_names}
 use Rattle.model_lab.specs.Played.{plans, Told, Ending, Whole, Stops, told_of, IsPlayed}
 use Rattle.model_headline.specs.Plays.{taken_by, told_by, TellsPremise, ToldStands, StandsIfKept}
 use Rattle.model_headline.specs.CleanPlays.{EndsClean}
-use Rattle.lab_run.specs.Shown.{Shows, own_bench}
+use Rattle.lab_run.specs.Shown.{Shows}
 use Rattle.lab_play.specs.declared.run.Halt.{Halt}
 use Rattle.lab_run.specs.declared.step.Refused.{Refused}
 use Rattle.lab_run.specs.declared.step.Refused.TheVariants as refused
@@ -29,7 +29,7 @@ pub record Tells (played : Played) (told : Told) : Type 0 where
   pub shown : Shows file played.lab now
   pub once : KeysDiffer played.start.items
   pub start : first.board.records ≡ records_of played.start.items
-  pub is : told ≡ told_of (own_bench file) file first now
+  pub is : told ≡ told_of file first now
 
 -- a play of the plan that begins: its lab shows the one that the model begins with, its records are the board's, and its steps are few
 pub record Begins (file : BoardFile) (steps : List Op) (retries : ℕ) (played : Played) : Type 0 where
@@ -56,11 +56,11 @@ broken_in (Err fault.Memory) = None
 pub record Ends (file : BoardFile) (steps : List Op) (retries : ℕ) (events : List Event) (given : Result Played LabFault) : Type 0 where
   pub ending : Ending
   pub is : IsEnding given ending
-  pub played : IsPlayed (own_bench file) file steps retries events ending
-  pub premise : TellsPremise (own_bench file) file (taken_by events ending) (opening plans file lab_names steps retries) (broken_in given)
-  pub stands : StandsIfKept (own_bench file) file steps retries events ending
-  pub unbroken : broken_in given ≡ None → ToldStands (own_bench file) file steps retries (taken_by events ending) (told_by ending)
-  pub clean : EndsClean (own_bench file) file steps retries events ending
+  pub played : IsPlayed file steps retries events ending
+  pub premise : TellsPremise file (taken_by events ending) (opening plans file lab_names steps retries) (broken_in given)
+  pub stands : StandsIfKept file steps retries events ending
+  pub unbroken : broken_in given ≡ None → ToldStands file steps retries (taken_by events ending) (told_by ending)
+  pub clean : EndsClean file steps retries events ending
 
 -- what a record has is this value
 abbrev pub is_value : List ℕ → Option (List ℕ) → Bool

@@ -9,7 +9,7 @@ use Rattle.model_undo.specs.Machine.{phase_of}
 use Rattle.model_lab.specs.Lab.{Lab as LabModel, opening}
 use Rattle.bmc_core.specs.declared.out.Done.{Done}
 use Rattle.text_schedule.specs.declared.event.Event.{Event}
-use Rattle.model_lab.specs.Meaning.{lab_names, Bench}
+use Rattle.model_lab.specs.Meaning.{lab_names}
 use Rattle.model_lab.specs.Played.{plans, happens}
 use Rattle.lab_run.specs.declared.note.Came.{Came}
 use Rattle.lab_run.specs.declared.note.Note.{Note}
@@ -20,7 +20,7 @@ use Rattle.lab_run.specs.declared.step.Refused.TheVariants as refused
 use Rattle.lab_play.specs.declared.played.Played.{Played}
 use Rattle.lab_play.specs.declared.played.LabFault.{LabFault}
 use Rattle.lab_play.specs.declared.played.LabFault.TheVariants as fault
-use Rattle.lab_run.specs.Shown.{Shows, own_bench}
+use Rattle.lab_run.specs.Shown.{Shows}
 use Rattle.lab_run.specs.Coming.{comes_at, done_at}
 
 -- what there is to note of an event
@@ -43,11 +43,11 @@ pub record IsNote (note : Note) (n : Noted) : Type 0 where
   pub after : note.after ≡ n.after
   pub phase : note.phase ≡ n.phase
 
-module _ (bench : Bench) (file : BoardFile) where
+module _ (file : BoardFile) where
   -- what there is to note of an event that happens in a lab: frames are numbered as they are sent
   abbrev pub noted_at : LabModel plans → Event → Noted
   noted_at x e =
-      let y = happens bench file e x in
+      let y = happens file e x in
       record {
         event = e;
         came = comes_at x e;
@@ -61,24 +61,24 @@ module _ (bench : Bench) (file : BoardFile) where
   -- and of events, one after another
   abbrev pub noted_from : List Event → LabModel plans → List Noted
   noted_from [] x = []
-  noted_from (e ∷ es) x = noted_at x e ∷ noted_from es (happens bench file e x)
+  noted_from (e ∷ es) x = noted_at x e ∷ noted_from es (happens file e x)
 
 -- the notes are those of a play's first events, as many as there are notes
-pub record AreNotes (bench : Bench) (file : BoardFile) (steps : List Op) (retries : ℕ) (events : List Event) (notes : List Note) : Type 0 where
-  pub each : AllZip IsNote notes (noted_from bench file (take (length notes) events) (opening plans file lab_names steps retries))
+pub record AreNotes (file : BoardFile) (steps : List Op) (retries : ℕ) (events : List Event) (notes : List Note) : Type 0 where
+  pub each : AllZip IsNote notes (noted_from file (take (length notes) events) (opening plans file lab_names steps retries))
 
 -- ---- what calls note
 
 -- an event is asked of a lab: a note is added where it happens, and none where it has a fault; where memory was refused, nothing is said
 abbrev pub NotesStep : Event → Lab → Result (Unit {0}) Refused → (before after : List Note) → Type 0
 NotesStep e old (Ok done) before after =
-    (note : Note) × (after ≡ before ++ note ∷ []) × ((file : BoardFile) (x : LabModel plans) → Shows file old x → IsNote note (noted_at (own_bench file) file x e))
+    (note : Note) × (after ≡ before ++ note ∷ []) × ((file : BoardFile) (x : LabModel plans) → Shows file old x → IsNote note (noted_at file x e))
 NotesStep e old (Err (refused.Fault why)) before after = after ≡ before
 NotesStep e old (Err refused.Memory) before after = Unit {0}
 
 -- of events that were asked of a lab, these were noted: whatever lab of the model it showed
 abbrev pub Notes : List Event → Lab → List Note → Type 0
-Notes events old notes = (file : BoardFile) (x : LabModel plans) → Shows file old x → AllZip IsNote notes (noted_from (own_bench file) file events x)
+Notes events old notes = (file : BoardFile) (x : LabModel plans) → Shows file old x → AllZip IsNote notes (noted_from file events x)
 
 -- those before the event of this place were noted, which has a fault; where memory was refused, nothing is said
 abbrev pub NotesBefore : List Event → Lab → (place : ℕ) → Refused → List Note → Type 0
@@ -92,6 +92,6 @@ NotesRun events old (Err halt) notes = NotesBefore events old halt.place halt.wh
 
 -- how many events of a play were noted: all, or those before the one that has the fault
 abbrev pub NotesPlay : BoardFile → List Op → (retries : ℕ) → List Event → Result Played LabFault → List Note → Type 0
-NotesPlay file steps retries events (Ok played) notes = AreNotes (own_bench file) file steps retries events notes × (length notes ≡ length events)
-NotesPlay file steps retries events (Err (fault.Event why place played)) notes = AreNotes (own_bench file) file steps retries events notes × (place ≡ length notes + 1)
+NotesPlay file steps retries events (Ok played) notes = AreNotes file steps retries events notes × (length notes ≡ length events)
+NotesPlay file steps retries events (Err (fault.Event why place played)) notes = AreNotes file steps retries events notes × (place ≡ length notes + 1)
 NotesPlay file steps retries events (Err fault.Memory) notes = Unit {0}

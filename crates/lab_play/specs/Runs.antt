@@ -4,7 +4,7 @@ use Rattle.cfg_records.specs.declared.board_file.BoardFile.{BoardFile}
 use Rattle.model_lab.specs.Lab.{Lab as LabModel}
 use Rattle.text_schedule.specs.declared.event.Event.{Event}
 use Rattle.model_lab.specs.Played.{plans, fault_at, after, AreTaken}
-use Rattle.lab_run.specs.Shown.{Shows, own_bench}
+use Rattle.lab_run.specs.Shown.{Shows}
 use Rattle.lab_run.specs.declared.lab_state.Lab.{Lab}
 use Rattle.lab_play.specs.declared.run.Halt.{Halt}
 use Rattle.lab_run.specs.declared.step.Refused.{Refused}
@@ -13,12 +13,12 @@ use Rattle.lab_run.specs.declared.step.Refused.TheVariants as refused
 -- whatever lab of the model it showed, on a board of whatever file, the events are taken, and it goes on to the one after them
 abbrev pub Take : List Event → Lab → Lab → Type 0
 Take events old new =
-    (file : BoardFile) (x : LabModel plans) → Shows file old x → AreTaken (own_bench file) file events x × Shows file new (after (own_bench file) file events x)
+    (file : BoardFile) (x : LabModel plans) → Shows file old x → AreTaken file events x × Shows file new (after file events x)
 
 -- and then this event has the fault
 abbrev pub Refuses : List Event → Lab → Event → Refused → Type 0
 Refuses events old e (refused.Fault fault) =
-    (file : BoardFile) (x : LabModel plans) → Shows file old x → fault_at (own_bench file) file (after (own_bench file) file events x) e ≡ Some fault
+    (file : BoardFile) (x : LabModel plans) → Shows file old x → fault_at file (after file events x) e ≡ Some fault
 Refuses events old e refused.Memory = Unit {0}
 
 -- the first event that isn't taken stands at the halt's place, and the lab is the one before it; where memory was refused, nothing is said of the lab

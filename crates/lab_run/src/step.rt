@@ -4,7 +4,7 @@ ghost use Rattle.two_wire.specs.declared.Bus.{Bus as AnyBus};
 ghost use Rattle.cfg_records.specs.declared.board_file.BoardFile.{BoardFile as AnyFile};
 ghost use Rattle.model_lab.specs.Lab.{Lab as LabModel};
 ghost use Rattle.model_lab.specs.Played.{plans, fault_at, happens};
-ghost use Rattle.lab_run.specs.Shown.{Shows, Becomes, Steps, own_bench, idles_in};
+ghost use Rattle.lab_run.specs.Shown.{Shows, Becomes, Steps, idles_in};
 ghost use Rattle.lab_run.specs.Hearing.{Did};
 ghost use Rattle.bmc_board.specs.Sensing.{bench_of};
 
@@ -27,7 +27,7 @@ pub enum Refused {
 impl Lab {
     /// The first thing that is wrong with an event.
     fn fault(&self, event: &Event) -> Option<Fault>
-        ensures { (file : AnyFile) (x : LabModel plans) → Shows file self.now x → result ≡ fault_at (own_bench file) file x event.now }
+        ensures { (file : AnyFile) (x : LabModel plans) → Shows file self.now x → result ≡ fault_at file x event.now }
     {
         let marks = self.marks();
         match event {
@@ -60,9 +60,9 @@ impl Lab {
 
     /// An event without a fault happens.
     fn happen(&mut self, event: &Event) -> Result<(), AllocError>
-        requires taken { (file : AnyFile) (x : LabModel plans) → Shows file self.now x → fault_at (own_bench file) file x event.now ≡ None }
+        requires taken { (file : AnyFile) (x : LabModel plans) → Shows file self.now x → fault_at file x event.now ≡ None }
         requires few { (on : AnyBus) → idles_in on self.now.idles < 9223372036854775807 }
-        ensures becomes { OnOk result (Becomes self.old self.new (λ file. happens (own_bench file) file event.now)) }
+        ensures becomes { OnOk result (Becomes self.old self.new (λ file. happens file event.now)) }
         ensures done { OnOk result (Did event.now self.old self.new) }
         ensures few { (on : AnyBus) → idles_in on self.new.idles ≤ suc (idles_in on self.old.idles) }
     {

@@ -2,8 +2,9 @@
 use Rattle.std.specs.Prelude.{ℕ, true}
 use Rattle.ipmb_frame.specs.declared.message.Request.{Request}
 use Rattle.mctp_net.specs.declared.message.Message.{Message}
+use Rattle.cfg_records.specs.declared.board_file.BoardFile.{BoardFile}
 use Rattle.bmc_board.specs.State.{State}
-use Rattle.bmc_board.specs.declared.activity.Activity.{Activity}
+use Rattle.bmc_board.specs.Sensing.{scan, tick}
 use Rattle.undo_plans.specs.declared.names.Names.{Names}
 use Rattle.text_schedule.specs.declared.event.OtherRequest.{OtherRequest}
 use Rattle.text_schedule.specs.declared.event.OtherMessage.{OtherMessage}
@@ -46,19 +47,14 @@ message_of names m = record {
   body = m.body;
 }
 
--- what isn't configuration, after a reading of a sensor was taken and after a tenth of a second
-pub record Bench : Type 0 where
-  pub scan : (sensor reading : ℕ) → State → Activity
-  pub tick : State → Activity
-
--- the event is this one, where the board is in this state
-abbrev pub event_of : Names → Bench → State → Event → LabEvent
-event_of names bench before (event.Calls call) = Calls call
-event_of names bench before (event.ToBmc number) = ToBmc number
-event_of names bench before (event.ToMgr number) = ToMgr number
-event_of names bench before (event.OtherIpmb r) = OtherIpmb (request_of names r)
-event_of names bench before (event.OtherSmbus m) = OtherSmbus (message_of names m)
-event_of names bench before (event.Noise on bytes) = Noise on bytes
-event_of names bench before (event.Idle on requester) = Idles on requester
-event_of names bench before (event.Scan sensor reading) = OnBench (bench.scan sensor reading before)
-event_of names bench before event.Tick = OnBench (bench.tick before)
+-- the event is this one, where the board of this file is in this state
+abbrev pub event_of : Names → BoardFile → State → Event → LabEvent
+event_of names file before (event.Calls call) = Calls call
+event_of names file before (event.ToBmc number) = ToBmc number
+event_of names file before (event.ToMgr number) = ToMgr number
+event_of names file before (event.OtherIpmb r) = OtherIpmb (request_of names r)
+event_of names file before (event.OtherSmbus m) = OtherSmbus (message_of names m)
+event_of names file before (event.Noise on bytes) = Noise on bytes
+event_of names file before (event.Idle on requester) = Idles on requester
+event_of names file before (event.Scan sensor reading) = OnBench (scan file sensor reading before)
+event_of names file before event.Tick = OnBench (tick before)
