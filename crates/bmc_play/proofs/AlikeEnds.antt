@@ -7,7 +7,7 @@ use Rattle.model_lab.specs.declared.fault.Fault.{Fault}
 use Rattle.model_lab.specs.declared.fault.Fault.TheVariants as fault
 use Rattle.model_lab.specs.Played.{Ending, Whole, Stops, IsPlayed}
 use Rattle.bmc_play.specs.declared.account.Account.{Account}
-use Rattle.bmc_play.specs.declared.account.Stopped.{Stopped}
+use Rattle.lab_play.specs.declared.run.Stopped.{Stopped}
 use Rattle.bmc_play.specs.declared.inputs.Inputs.{Inputs}
 use Rattle.bmc_play.specs.Account.{IsAccountOf, status_of}
 use Rattle.bmc_play.specs.Alike.{EndAlike}

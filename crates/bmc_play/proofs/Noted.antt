@@ -11,7 +11,7 @@ use Rattle.lab_play.specs.Noted.{NotesPlay}
 use Rattle.lab_play.specs.declared.played.Played.{Played}
 use Rattle.lab_play.specs.declared.played.LabFault.{LabFault}
 use Rattle.lab_play.specs.declared.played.LabFault.TheVariants as fault
-use Rattle.bmc_play.specs.declared.account.Stopped.{Stopped}
+use Rattle.lab_play.specs.declared.run.Stopped.{Stopped}
 use Rattle.bmc_play.specs.declared.inputs.Inputs.{Inputs}
 use Rattle.bmc_lab.specs.declared.report.Report.{Report}
 use Rattle.bmc_play.specs.Account.{status_of}

@@ -18,7 +18,7 @@ use Rattle.text_chart.specs.Columns.{at_most, in_column}
 use Rattle.text_chart.specs.Arrivals.{delivers, came_at, lost_from}
 use Rattle.text_chart.specs.Chart.{call_cell, comes_cell, count_of, sends_cell, done_cell, head_line, event_line, chart_of}
 use Rattle.lab_play.specs.Noted.{Noted, IsNote, noted_from, AreNotes}
-use Rattle.bmc_play.specs.declared.account.Stopped.{Stopped}
+use Rattle.lab_play.specs.declared.run.Stopped.{Stopped}
 use Rattle.bmc_play.specs.Lines.{ending}
 use Rattle.bmc_play.specs.Account.{status_of}
 use Rattle.bmc_play.specs.Determined.{OneText}

@@ -8,7 +8,7 @@ use Rattle.model_lab.specs.Played.{Told, Ending, Whole, Stops}
 use Rattle.lab_run.specs.Shown.{IsSentFrame}
 use Rattle.lab_play.specs.Ends.{changed_in}
 use Rattle.bmc_play.specs.declared.account.Account.{Account}
-use Rattle.bmc_play.specs.declared.account.Stopped.{Stopped}
+use Rattle.lab_play.specs.declared.run.Stopped.{Stopped}
 use Rattle.bmc_lab.specs.declared.status.Status.{Status}
 use Rattle.bmc_lab.specs.declared.status.Status.TheVariants as ended
 

@@ -11,7 +11,7 @@ use Rattle.lab_run.specs.declared.note.Note.{Note}
 use Rattle.text_chart.specs.Chart.{chart_of}
 use Rattle.lab_play.specs.Noted.{AreNotes}
 use Rattle.bmc_play.specs.declared.inputs.Inputs.{Inputs}
-use Rattle.bmc_play.specs.declared.account.Stopped.{Stopped}
+use Rattle.lab_play.specs.declared.run.Stopped.{Stopped}
 use Rattle.bmc_play.specs.Lines.{ending}
 use Rattle.bmc_lab.specs.declared.status.Status.{Status}
 use Rattle.bmc_play.specs.Account.{status_of}

@@ -1,5 +1,5 @@
 -- Notes of events, one after another.
-use Rattle.std.proofs.Common.{◌≡◌, ℕ, ◌+◌, ◌-◌, List, [], ◌∷◌, ◌++◌, length, take, None, Result, Ok, Err, refl, sym, ◌∙◌, ap, subst, arith, option_map}
+use Rattle.std.proofs.Common.{◌≡◌, ℕ, ◌+◌, ◌-◌, List, [], ◌∷◌, ◌++◌, length, take, Option, Some, None, Result, Ok, Err, true≢false, refl, sym, ◌∙◌, ap, subst, arith, option_map}
 use Rattle.std.specs.Prelude.{slice_get}
 use Rattle.std.proofs.lemmas.List.{length-append}
 use Rattle.std.proofs.Math.Seq.{take-length}
@@ -14,7 +14,7 @@ use Rattle.lab_run.specs.declared.note.Note.{Note}
 use Rattle.lab_run.specs.declared.lab_state.Lab.{Lab}
 use Rattle.lab_play.specs.declared.played.Played.{Played}
 use Rattle.lab_play.specs.declared.watch.Watch.{Watch}
-use Rattle.lab_play.specs.declared.run.Halt.{Halt}
+use Rattle.lab_play.specs.declared.run.Stopped.{Stopped}
 use Rattle.lab_run.specs.declared.step.Refused.{Refused}
 use Rattle.lab_run.specs.declared.step.Refused.TheVariants as refused
 use Rattle.lab_run.specs.Shown.{Shows}
@@ -22,9 +22,9 @@ use Rattle.model_undo.specs.Machine.{phase_of}
 use Rattle.model_lab.specs.Played.{fault_at}
 use Rattle.lab_run.specs.Hearing.{Did}
 use Rattle.lab_run.specs.Coming.{comes_at, done_in}
-use Rattle.lab_play.specs.Noted.{IsNote, noted_at, noted_from, AreNotes, NotesStep, Notes, NotesBefore, NotesRun, NotesPlay}
-use Rattle.lab_play.specs.Ends.{Begins, given, given_at}
-use Rattle.lab_play.specs.Runs.{Take}
+use Rattle.lab_play.specs.Noted.{IsNote, noted_at, noted_from, AreNotes, NotesStep, Notes, NotesRun, NotesPlay}
+use Rattle.lab_play.specs.Ends.{Begins, given}
+use Rattle.lab_play.specs.Runs.{Take, IsStop}
 use Rattle.lab_run.proofs.Sent.{all_append}
 use Rattle.lab_run.proofs.Coming.{done_is}
 
@@ -75,14 +75,16 @@ pub one_longer : (e : Event) (mid : Lab) (before after : List Note) → NotesSte
 one_longer e mid before after (note, is, says) = ap length is ∙ length-append before (note ∷ [])
 
 -- those before the one that isn't taken were noted
-pub noted_before : (events : List Event) (old mid : Lab) (e : Event) (place : ℕ) (why : Refused) (before after : List Note) → Notes (take place events) old before
-    → length before ≡ place → NotesStep e mid (Err why) before after → NotesBefore events old (place + 1) why after
-noted_before events old mid e place (refused.Fault fault) before after noted long same =
-    let back : place ≡ place + 1 - 1 = omega arith in (
+pub noted_before : {E : Type 0} (events : List Event) (old mid : Lab) (e : Event) (place : ℕ) (why : Refused) (before after : List Note) (given : Result (Option Stopped) E)
+    → Notes (take place events) old before → length before ≡ place → NotesStep e mid (Err why) before after → IsStop (place + 1) why given → NotesRun events old given after
+noted_before events old mid e place (refused.Fault fault) before after given noted long same is =
+    let back : place ≡ place + 1 - 1 = omega arith in
+    subst (λ g. NotesRun events old g after) (sym is) (
       subst (λ (ns : List Note). Notes (take (place + 1 - 1) events) old ns) (sym same) (subst (λ (n : ℕ). Notes (take n events) old before) back noted),
       ap (λ (n : ℕ). n + 1) (sym long) ∙ ap (λ (ns : List Note). length ns + 1) (sym same),
     )
-noted_before events old mid e place refused.Memory before after noted long same = tt
+noted_before events old mid e place refused.Memory before after (Ok stopped) noted long same is = absurd (true≢false is)
+noted_before events old mid e place refused.Memory before after (Err memory) noted long same is = tt
 
 -- ---- plays
 
@@ -104,13 +106,9 @@ module _ (file : BoardFile) (steps : List Op) (retries : ℕ) (events : List Eve
       let count : place - 1 ≡ length notes = omega (arith, at) in
       record { each = subst (λ (n : ℕ). AllZip IsNote notes (noted_from file (take n events) first)) count (noted file first shows) }
 
-  noted_at_halt : (played : Played) (old : Lab) (place : ℕ) (why : Refused) → Shows file old first → NotesBefore events old place why notes
-      → NotesPlay file steps retries events (given_at played place why) notes
-  noted_at_halt played old place (refused.Fault why) shows noted = (some_noted old shows place noted.0 noted.1, noted.1)
-  noted_at_halt played old place refused.Memory shows noted = tt
-
   -- what is noted of a play, as its events ended
-  pub notes_given : (played : Played) (new : Lab) (watch : Watch) (ended : Result (Unit {0}) Halt) → Begins file steps retries played → NotesRun events played.lab ended notes
+  pub notes_given : {E : Type 0} (played : Played) (new : Lab) (watch : Watch) (ended : Result (Option Stopped) E) → Begins file steps retries played → NotesRun events played.lab ended notes
       → NotesPlay file steps retries events (given (record played { lab = new; watch = watch }) ended) notes
-  notes_given played new watch (Ok done) begins noted = (all_noted played.lab begins.shows noted.0 noted.1, noted.1)
-  notes_given played new watch (Err halt) begins noted = noted_at_halt (record played { lab = new; watch = watch }) played.lab halt.place halt.why begins.shows noted
+  notes_given played new watch (Ok None) begins noted = (all_noted played.lab begins.shows noted.0 noted.1, noted.1)
+  notes_given played new watch (Ok (Some stopped)) begins noted = (some_noted played.lab begins.shows stopped.place noted.0 noted.1, noted.1)
+  notes_given played new watch (Err memory) begins noted = tt

@@ -1,14 +1,15 @@
 -- Schedules, event by event.
-use Rattle.std.proofs.Common.{◌≡◌, ◌+◌, ℕ, List, [], ◌∷◌, ◌++◌, length, take, drop, None, Ok, Err, refl, sym, ap, subst}
+use Rattle.std.proofs.Common.{◌≡◌, ◌+◌, ℕ, List, [], ◌∷◌, ◌++◌, length, take, drop, Option, None, Result, Ok, Err, refl, sym, ap, subst, true≢false}
 use Rattle.cfg_records.specs.declared.board_file.BoardFile.{BoardFile}
 use Rattle.model_lab.specs.Lab.{Lab as LabModel}
 use Rattle.text_schedule.specs.declared.event.Event.{Event}
 use Rattle.model_lab.specs.Played.{plans, fault_at, happens, after, AreTaken}
 use Rattle.lab_run.specs.Shown.{Shows, Steps}
-use Rattle.lab_play.specs.Runs.{Take, Halts}
+use Rattle.lab_play.specs.Runs.{Take, IsStop, Runs}
 use Rattle.lab_run.specs.declared.step.Refused.{Refused}
 use Rattle.lab_run.specs.declared.step.Refused.TheVariants as refused
 use Rattle.lab_run.specs.declared.lab_state.Lab.{Lab}
+use Rattle.lab_play.specs.declared.run.Stopped.{Stopped}
 
 module _ (file : BoardFile) where
   -- one event more is taken
@@ -29,9 +30,10 @@ takes_one_more es e old mid new took stepped file x shows =
     (taken_more file es e x before.0 now.0, subst (Shows file new) (sym (after_more file es e x)) now.1)
 
 -- an event isn't taken by a lab that took those before it
-pub halts_at : (events : List Event) (place : ℕ) (e : Event) (old mid new : Lab) (why : Refused) → events ≡ take place events ++ e ∷ drop (place + 1) events
-    → length (take place events) ≡ place → Take (take place events) old mid → Steps e mid (Err why) new → Halts events old new (record { place = place + 1; why = why })
-halts_at events place e old mid new (refused.Fault fault) all before took stepped = record {
+pub stops_at : {E : Type 0} (events : List Event) (place : ℕ) (e : Event) (old mid new : Lab) (why : Refused) (given : Result (Option Stopped) E)
+    → events ≡ take place events ++ e ∷ drop (place + 1) events → length (take place events) ≡ place → Take (take place events) old mid → Steps e mid (Err why) new
+    → IsStop (place + 1) why given → Runs events old given new
+stops_at events place e old mid new (refused.Fault fault) given all before took stepped is = subst (λ g. Runs events old g new) (sym is) (record {
   before = take place events;
   event = e;
   rest = drop (place + 1) events;
@@ -39,13 +41,6 @@ halts_at events place e old mid new (refused.Fault fault) all before took steppe
   place = ap (λ (n : ℕ). n + 1) (sym before);
   refuses = λ file x shows. stepped.1 file (after file (take place events) x) (took file x shows).1;
   left = subst (Take (take place events) old) (sym stepped.0) took;
-}
-halts_at events place e old mid new refused.Memory all before took stepped = record {
-  before = take place events;
-  event = e;
-  rest = drop (place + 1) events;
-  all = all;
-  place = ap (λ (n : ℕ). n + 1) (sym before);
-  refuses = tt;
-  left = tt;
-}
+})
+stops_at events place e old mid new refused.Memory (Ok stopped) all before took stepped is = absurd (true≢false is)
+stops_at events place e old mid new refused.Memory (Err memory) all before took stepped is = tt

@@ -1,16 +1,17 @@
 -- What is watched of the premise on packets, event by event.
-use Rattle.std.proofs.Common.{◌≡◌, ◌+◌, ◌-◌, ℕ, List, [], ◌∷◌, ◌++◌, length, Option, Some, None, Ok, Err, take, refl, sym, ◌∙◌, ap, subst, arith}
+use Rattle.std.proofs.Common.{◌≡◌, ◌+◌, ◌-◌, ℕ, List, [], ◌∷◌, ◌++◌, length, Option, Some, None, Result, Ok, Err, true≢false, take, refl, sym, ◌∙◌, ap, subst, arith}
 use Rattle.cfg_records.specs.declared.board_file.BoardFile.{BoardFile}
 use Rattle.model_lab.specs.Lab.{Lab as LabModel}
 use Rattle.model_lab.specs.Played.{plans, happens, after}
 use Rattle.model_headline.specs.Plays.{KeepsPremise, AllKeepPremise, TellsPremise}
 use Rattle.text_schedule.specs.declared.event.Event.{Event}
 use Rattle.lab_run.specs.declared.lab_state.Lab.{Lab}
+use Rattle.lab_play.specs.declared.run.Stopped.{Stopped}
 use Rattle.lab_play.specs.declared.watch.Watch.{Watch}
-use Rattle.lab_play.specs.Runs.{Take}
+use Rattle.lab_play.specs.Runs.{Take, IsStop}
 use Rattle.lab_run.specs.declared.step.Refused.{Refused}
 use Rattle.lab_run.specs.declared.step.Refused.TheVariants as refused
-use Rattle.lab_play.specs.Watched.{Watches, TellsNext, WatchesStep, WatchesAll, WatchesBefore}
+use Rattle.lab_play.specs.Watched.{Watches, TellsNext, WatchesStep, WatchesAll, WatchesRun}
 use Rattle.lab_play.proofs.Running.{after_more}
 
 module _ (file : BoardFile) where
@@ -46,9 +47,11 @@ pub watches_none : (old : Lab) (first : Watch) → first.broken ≡ None → Wat
 watches_none old first none file x shows opens = (opens, subst (TellsPremise file [] x) (sym none) tt)
 
 -- those before the event of a place, which isn't taken
-pub watches_before : (events : List Event) (old : Lab) (e : Event) (place : ℕ) (mid : Lab) (first now new : Watch) (why : Refused) → WatchesAll (take place events) old first now
-    → WatchesStep e (place + 1) mid now (Err why) new → WatchesBefore events old first (place + 1) why new
-watches_before events old e place mid first now new (refused.Fault why) watched same =
+pub watches_before : {E : Type 0} (events : List Event) (old : Lab) (e : Event) (place : ℕ) (mid : Lab) (first now new : Watch) (why : Refused) (given : Result (Option Stopped) E)
+    → WatchesAll (take place events) old first now → WatchesStep e (place + 1) mid now (Err why) new → IsStop (place + 1) why given → WatchesRun events old first given new
+watches_before events old e place mid first now new (refused.Fault why) given watched same is =
     let back : place ≡ place + 1 - 1 = omega arith in
-    subst (λ (w : Watch). WatchesAll (take (place + 1 - 1) events) old first w) (sym same) (subst (λ (n : ℕ). WatchesAll (take n events) old first now) back watched)
-watches_before events old e place mid first now new refused.Memory watched same = tt
+    subst (λ g. WatchesRun events old first g new) (sym is)
+    (subst (λ (w : Watch). WatchesAll (take (place + 1 - 1) events) old first w) (sym same) (subst (λ (n : ℕ). WatchesAll (take n events) old first now) back watched))
+watches_before events old e place mid first now new refused.Memory (Ok stopped) watched same is = absurd (true≢false is)
+watches_before events old e place mid first now new refused.Memory (Err memory) watched same is = tt

@@ -13,9 +13,7 @@ use Rattle.model_lab.specs.Played.{plans, Told, Ending, Whole, Stops, told_of, I
 use Rattle.model_headline.specs.Plays.{taken_by, told_by, TellsPremise, ToldStands, StandsIfKept}
 use Rattle.model_headline.specs.CleanPlays.{EndsClean}
 use Rattle.lab_run.specs.Shown.{Shows}
-use Rattle.lab_play.specs.declared.run.Halt.{Halt}
-use Rattle.lab_run.specs.declared.step.Refused.{Refused}
-use Rattle.lab_run.specs.declared.step.Refused.TheVariants as refused
+use Rattle.lab_play.specs.declared.run.Stopped.{Stopped}
 use Rattle.lab_play.specs.declared.played.Played.{Played}
 use Rattle.lab_play.specs.declared.played.LabFault.{LabFault}
 use Rattle.lab_play.specs.declared.played.LabFault.TheVariants as fault
@@ -78,12 +76,8 @@ Plays file steps retries events given = Ends file steps retries events given
 
 -- ---- what the calls give
 
--- of a play whose event of this place isn't taken
-abbrev pub given_at : Played → (place : ℕ) → Refused → Result Played LabFault
-given_at played place (refused.Fault why) = Err (fault.Event why place played)
-given_at played place refused.Memory = Err fault.Memory
-
 -- of a play whose events ended so
-abbrev pub given : Played → Result (Unit {0}) Halt → Result Played LabFault
-given played (Ok done) = Ok played
-given played (Err halt) = given_at played halt.place halt.why
+abbrev pub given : {E : Type 0} → Played → Result (Option Stopped) E → Result Played LabFault
+given played (Ok None) = Ok played
+given played (Ok (Some stopped)) = Err (fault.Event stopped.fault stopped.place played)
+given played (Err memory) = Err fault.Memory

@@ -1,5 +1,5 @@
 -- What is noted of each event of a play.
-use Rattle.std.specs.Prelude.{◌≡◌, ℕ, ◌+◌, ◌-◌, List, [], ◌∷◌, ◌++◌, length, take, Option, Result, Ok, Err, option_map, slice_get}
+use Rattle.std.specs.Prelude.{◌≡◌, ℕ, ◌+◌, ◌-◌, List, [], ◌∷◌, ◌++◌, length, take, Option, Some, None, Result, Ok, Err, option_map, slice_get}
 use Rattle.std.specs.List.{AllZip}
 use Rattle.two_wire.specs.declared.Bus.{Bus}
 use Rattle.cfg_records.specs.declared.board_file.BoardFile.{BoardFile}
@@ -14,7 +14,7 @@ use Rattle.model_lab.specs.Played.{plans, happens}
 use Rattle.lab_run.specs.declared.note.Came.{Came}
 use Rattle.lab_run.specs.declared.note.Note.{Note}
 use Rattle.lab_run.specs.declared.lab_state.Lab.{Lab}
-use Rattle.lab_play.specs.declared.run.Halt.{Halt}
+use Rattle.lab_play.specs.declared.run.Stopped.{Stopped}
 use Rattle.lab_run.specs.declared.step.Refused.{Refused}
 use Rattle.lab_run.specs.declared.step.Refused.TheVariants as refused
 use Rattle.lab_play.specs.declared.played.Played.{Played}
@@ -80,15 +80,11 @@ NotesStep e old (Err refused.Memory) before after = Unit {0}
 abbrev pub Notes : List Event → Lab → List Note → Type 0
 Notes events old notes = (file : BoardFile) (x : LabModel plans) → Shows file old x → AllZip IsNote notes (noted_from file events x)
 
--- those before the event of this place were noted, which has a fault; where memory was refused, nothing is said
-abbrev pub NotesBefore : List Event → Lab → (place : ℕ) → Refused → List Note → Type 0
-NotesBefore events old place (refused.Fault why) notes = Notes (take (place - 1) events) old notes × (place ≡ length notes + 1)
-NotesBefore events old place refused.Memory notes = Unit {0}
-
--- all events were noted, or those before the one that isn't taken
-abbrev pub NotesRun : List Event → Lab → Result (Unit {0}) Halt → List Note → Type 0
-NotesRun events old (Ok done) notes = Notes events old notes × (length notes ≡ length events)
-NotesRun events old (Err halt) notes = NotesBefore events old halt.place halt.why notes
+-- all events were noted, or those before the one that isn't taken; where memory was refused, nothing is said
+abbrev pub NotesRun : {E : Type 0} → List Event → Lab → Result (Option Stopped) E → List Note → Type 0
+NotesRun events old (Ok None) notes = Notes events old notes × (length notes ≡ length events)
+NotesRun events old (Ok (Some stopped)) notes = Notes (take (stopped.place - 1) events) old notes × (stopped.place ≡ length notes + 1)
+NotesRun events old (Err memory) notes = Unit {0}
 
 -- how many events of a play were noted: all, or those before the one that has the fault
 abbrev pub NotesPlay : BoardFile → List Op → (retries : ℕ) → List Event → Result Played LabFault → List Note → Type 0

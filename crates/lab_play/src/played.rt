@@ -12,11 +12,11 @@ ghost use Rattle.lab_play.specs.Noted.{NotesPlay};
 ghost use Rattle.lab_play.specs.Ends.{Tells, Plays, Begins, given, changed_in, is_value};
 
 use crate::noted::run_noted;
-use crate::run::{Halt, run};
+use crate::run::{Stopped, run};
 use crate::watch::Watch;
 use bmc_board::Records;
 use cfg_records::{BoardFile, Key, Store, Value};
-use lab_run::{Fault, Lab, Note, Refused, SentFrame};
+use lab_run::{Fault, Lab, Note, SentFrame};
 use std::alloc::{AllocError, Global};
 use text_schedule::Event;
 use undo_core::Phase;
@@ -121,19 +121,17 @@ impl Played {
     }
 
     /// What is given of a play whose events ended so.
-    fn ending(self, ended: Result<(), Halt>) -> Result<Played, LabFault>
+    fn ending(self, ended: Result<Option<Stopped>, AllocError>) -> Result<Played, LabFault>
         ensures { result ≡ given self ended }
     {
         match ended {
-            Ok(()) => Ok(self),
-            Err(halt) => match halt.why {
-                Refused::Memory => Err(LabFault::Memory),
-                Refused::Fault(fault) => Err(LabFault::Event {
-                    fault,
-                    place: halt.place,
-                    played: self,
-                }),
-            },
+            Ok(None) => Ok(self),
+            Ok(Some(Stopped { place, fault })) => Err(LabFault::Event {
+                fault,
+                place,
+                played: self,
+            }),
+            Err(_) => Err(LabFault::Memory),
         }
     }
 }
