@@ -3,45 +3,15 @@ use Rattle.std.proofs.Common.{◌≡◌, ◌∙◌, ℕ, List, length, Option, S
 use Rattle.text_schedule.specs.declared.event.Event.{Event}
 use Rattle.cfg_records.specs.declared.board_file.BoardFile.{BoardFile}
 use Rattle.record_base.specs.declared.op.Op.{Op}
-use Rattle.model_lab.specs.Faults.{Fault as LabFault}
-use Rattle.model_lab.specs.Faults as faults
-use Rattle.lab_run.specs.declared.fault.Fault.{Fault}
-use Rattle.lab_run.specs.declared.fault.Fault.TheVariants as fault
-use Rattle.model_lab.specs.Meaning.{Bench}
+use Rattle.model_lab.specs.declared.fault.Fault.{Fault}
+use Rattle.model_lab.specs.declared.fault.Fault.TheVariants as fault
 use Rattle.model_lab.specs.Played.{Ending, Whole, Stops, IsPlayed}
-use Rattle.lab_run.specs.FramesShown.{fault_of}
-use Rattle.lab_run.specs.Shown.{own_bench}
 use Rattle.bmc_play.specs.declared.account.Account.{Account}
-use Rattle.bmc_play.specs.declared.account.Stopped.{Stopped}
+use Rattle.lab_play.specs.declared.run.Stopped.{Stopped}
 use Rattle.bmc_play.specs.declared.inputs.Inputs.{Inputs}
 use Rattle.bmc_play.specs.Account.{IsAccountOf, status_of}
 use Rattle.bmc_play.specs.Alike.{EndAlike}
 use Rattle.bmc_play.specs.Drawn.{EndsAt}
-
--- the code's fault of this one of the model
-abbrev named : LabFault → Fault
-named faults.NoFrame = fault.NoFrame
-named faults.WrongWay = fault.WrongWay
-named faults.Aged = fault.Aged
-named faults.Changing = fault.Changing
-named faults.Impersonates = fault.Impersonates
-named faults.Forged = fault.Forged
-named faults.StillOpen = fault.StillOpen
-named faults.Room = fault.Room
-
-named_is : (why : Fault) → named (fault_of why) ≡ why
-named_is fault.NoFrame = refl
-named_is fault.WrongWay = refl
-named_is fault.Aged = refl
-named_is fault.Changing = refl
-named_is fault.Impersonates = refl
-named_is fault.Forged = refl
-named_is fault.StillOpen = refl
-named_is fault.Room = refl
-
--- a fault is known by that of the model
-pub same_fault : (why other : Fault) (cause : LabFault) → fault_of why ≡ cause → fault_of other ≡ cause → why ≡ other
-same_fault why other cause is other_is = sym (named_is why) ∙ ap named (is ∙ sym other_is) ∙ named_is other
 
 -- an event that wasn't taken is known by its place and its fault
 pub same_stop : (stopped other : Stopped) → stopped.place ≡ other.place → stopped.fault ≡ other.fault → stopped ≡ other
@@ -53,7 +23,7 @@ same_stop stopped other place why =
 pub same_stopped : (account other : Account) (ending : Ending) → IsAccountOf account ending → IsAccountOf other ending → account.stopped ≡ other.stopped
 same_stopped account other (Whole told) is also = is.1 ∙ sym also.1
 same_stopped account other (Stops cause at told) (accounts, (stopped, is_stopped, why, place)) (also, (event, is_event, cause_is, at_is)) =
-    is_stopped ∙ ap Some (same_stop stopped event (place ∙ sym at_is) (same_fault stopped.fault event.fault cause why cause_is)) ∙ sym is_event
+    is_stopped ∙ ap Some (same_stop stopped event (place ∙ sym at_is) (why ∙ sym cause_is)) ∙ sym is_event
 
 -- the account and the chart of one ending name the same event
 one_stop : (events : List Event) (notes : ℕ) (account : Account) (stopped : Option Stopped) (ending : Ending) → IsAccountOf account ending → EndsAt events notes stopped ending
@@ -62,17 +32,17 @@ one_stop events notes account None (Whole told) is ends = sym is.1
 one_stop events notes account (Some stopped) (Whole told) is ends = absurd ends
 one_stop events notes account None (Stops cause at told) is ends = absurd ends
 one_stop events notes account (Some stopped) (Stops cause at told) (accounts, (other, is_other, why, place)) (fault_is, place_is, behind) =
-    ap Some (same_stop stopped other (place_is ∙ sym place) (same_fault stopped.fault other.fault cause fault_is why)) ∙ sym is_other
+    ap Some (same_stop stopped other (place_is ∙ sym place) (fault_is ∙ sym why)) ∙ sym is_other
 
 -- a play ends in one way
 abbrev pub OneEnding : Type 0
-OneEnding = (bench : Bench) (file : BoardFile) (steps : List Op) (retries : ℕ) (events : List Event) (ending other : Ending)
-    → IsPlayed bench file steps retries events ending → IsPlayed bench file steps retries events other → ending ≡ other
+OneEnding = (file : BoardFile) (steps : List Op) (retries : ℕ) (events : List Event) (ending other : Ending)
+    → IsPlayed file steps retries events ending → IsPlayed file steps retries events other → ending ≡ other
 
 pub ends_alike : OneEnding → (inputs : Inputs) → EndAlike inputs
 ends_alike one inputs frames premises text chart status other told drawn =
     let same : told.ending ≡ drawn.play.ending =
-    one (own_bench inputs.file) inputs.file inputs.plan.steps inputs.plan.retries inputs.events told.ending drawn.play.ending told.played drawn.play.played in
+    one inputs.file inputs.plan.steps inputs.plan.retries inputs.events told.ending drawn.play.ending told.played drawn.play.played in
     let stop : drawn.stopped ≡ told.account.stopped =
     one_stop inputs.events (length drawn.notes) told.account drawn.stopped drawn.play.ending
     (subst (λ (ending : Ending). IsAccountOf told.account ending) same told.is) drawn.play.ends in

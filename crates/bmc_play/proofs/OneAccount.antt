@@ -8,23 +8,15 @@ use Rattle.text_lines.specs.Cuts.{ended}
 use Rattle.cfg_records.specs.Records.{Pair}
 use Rattle.record_base.specs.declared.message.Asked.{Asked}
 use Rattle.record_base.specs.declared.message.Asked.TheVariants.{Ipmi, Pldm}
-use Rattle.undo_core.specs.declared.phase.Why.{Why}
-use Rattle.undo_core.specs.declared.phase.Why.TheVariants as why
-use Rattle.undo_core.specs.declared.phase.Phase.{Phase}
-use Rattle.undo_core.specs.declared.phase.Phase.TheVariants as phase
-use Rattle.undo_core.specs.PhaseNames.{phase_name}
-use Rattle.undo_core.specs.Phases.{why_of, phase_of}
+use Rattle.model_undo.specs.PhaseNames.{phase_name}
 use Rattle.undo_core.specs.Shown.{own, backs}
 use Rattle.text_undo.specs.UndoText.{line_of}
-use Rattle.model_lab.specs.declared.marks.Mark.{Mark}
+use Rattle.lab_run.specs.declared.marks.Mark.{Mark}
 use Rattle.model_lab.specs.Lab.{LabFrame}
-use Rattle.lab_run.specs.declared.frames.Way.{Way}
-use Rattle.lab_run.specs.declared.frames.Way.TheVariants as way
 use Rattle.lab_run.specs.declared.frames.SentFrame.{SentFrame}
 use Rattle.model_lab.specs.Meaning.{lab_names}
 use Rattle.model_lab.specs.Played.{Told, Ending, Whole, Stops}
-use Rattle.lab_run.specs.FramesShown.{way_of}
-use Rattle.lab_run.specs.Shown.{IsSentFrame, own_bench}
+use Rattle.lab_run.specs.Shown.{IsSentFrame}
 use Rattle.model_headline.specs.Plays.{taken_by, TellsPremise}
 use Rattle.lab_play.specs.Ends.{is_value}
 use Rattle.bmc_play.specs.declared.account.Account.{Account}
@@ -35,34 +27,6 @@ use Rattle.bmc_play.specs.Run.{begun_with, Recounts}
 use Rattle.bmc_play.proofs.OnePremise.{one_premise}
 use Rattle.bmc_play.proofs.AlikeEnds.{OneEnding, same_stopped}
 use Rattle.bmc_play.proofs.Counted.{same_count}
-
--- ---- the phase
-
-same_why : (reason other : Why) → why_of reason ≡ why_of other → reason ≡ other
-same_why why.Stop why.Stop h = refl
-same_why (why.Refused code) (why.Refused number) h = (let same : code ≡ number = cc h in ap why.Refused same)
-same_why why.NotRestorable why.NotRestorable h = refl
-same_why (why.GetRefused code) (why.GetRefused number) h = (let same : code ≡ number = cc h in ap why.GetRefused same)
-same_why _ _ h = cc h
-
--- a phase is known by that of the machine
-pub same_phase : (now other : Phase) → phase_of now ≡ phase_of other → now ≡ other
-same_phase phase.Fresh phase.Fresh h = refl
-same_phase (phase.Getting k) (phase.Getting j) h = (let same : k ≡ j = cc h in ap phase.Getting same)
-same_phase (phase.Setting k) (phase.Setting j) h = (let same : k ≡ j = cc h in ap phase.Setting same)
-same_phase phase.Done phase.Done h = refl
-same_phase (phase.Halted k reason) (phase.Halted j other) h =
-    let step : k ≡ j = cc h in
-    let same : why_of reason ≡ why_of other = cc h in
-    λ i. phase.Halted (step i) (same_why reason other same i)
-same_phase (phase.Unsettled k) (phase.Unsettled j) h = (let same : k ≡ j = cc h in ap phase.Unsettled same)
-same_phase (phase.Undoing k) (phase.Undoing j) h = (let same : k ≡ j = cc h in ap phase.Undoing same)
-same_phase phase.Undone phase.Undone h = refl
-same_phase (phase.UndoRefused k code) (phase.UndoRefused j number) h =
-    let step : k ≡ j = cc h in
-    let same : code ≡ number = cc h in
-    λ i. phase.UndoRefused (step i) (same i)
-same_phase _ _ h = cc h
 
 -- ---- the frames
 
@@ -79,19 +43,13 @@ same_made make R one (x ∷ xs) (y ∷ ys) (b ∷ bs) all also =
     let rest : map make xs ≡ map make ys = same_made make R one xs ys bs all.1 also.1 in
     λ i. first i ∷ rest i
 
-same_way : (goes other : Way) → way_of goes ≡ way_of other → goes ≡ other
-same_way way.ToPort way.ToPort h = refl
-same_way way.ToManager way.ToManager h = refl
-same_way way.ToOthers way.ToOthers h = refl
-same_way _ _ h = cc h
-
 same_mark : (mark other : Mark) → mark.on ≡ other.on → mark.request ≡ other.request → mark.idles ≡ other.idles → mark ≡ other
 same_mark mark other on request idles = λ i. record { on = on i; request = request i; idles = idles i }
 
 -- a frame of the lab's model was sent in one way
 same_frame : (sent other : SentFrame) (f : LabFrame) → IsSentFrame sent f → IsSentFrame other f → sent ≡ other
 same_frame sent other f is also =
-    let way : sent.way ≡ other.way = same_way sent.way other.way (sym is.is.way ∙ also.is.way) in
+    let way : sent.way ≡ other.way = sym is.is.way ∙ also.is.way in
     let mark : sent.mark ≡ other.mark =
     same_mark sent.mark other.mark (sym is.is.mark.on ∙ also.is.mark.on) (sym is.is.mark.request ∙ also.is.mark.request) (sym is.is.mark.idles ∙ also.is.mark.idles) in
     let bytes : sent.bytes ≡ other.bytes = is.is.bytes ∙ sym also.is.bytes in
@@ -133,7 +91,7 @@ same_changed number other told is also =
 same_lines : (frames premises : Bool) (account other : Account) (told : Told) → Accounts account told → Accounts other told → account.broken ≡ other.broken → account.stopped ≡ other.stopped
     → text_of frames premises account ≡ text_of frames premises other
 same_lines frames premises account other told is also broken stopped =
-    let now : account.phase ≡ other.phase = same_phase account.phase other.phase (is.phase ∙ sym also.phase) in
+    let now : account.phase ≡ other.phase = is.phase ∙ sym also.phase in
     let sent : account.frames.now ≡ other.frames.now = same_frames account.frames.now other.frames.now told.frames is.frames also.frames in
     let undo : undo_lines account.undo.now ≡ undo_lines other.undo.now =
     undo_said account.undo.now ∙ ap lines_for (is.undo ∙ sym also.undo) ∙ sym (undo_said other.undo.now) in
@@ -152,14 +110,14 @@ told_in account other (Stops cause at told) is also = (told, is.0, also.0)
 pub one_account : OneEnding → (frames premises : Bool) → OneText (Recounts frames premises)
 one_account one frames premises inputs text other_text status other_status told more =
     let same : more.ending ≡ told.ending =
-    one (own_bench inputs.file) inputs.file inputs.plan.steps inputs.plan.retries inputs.events more.ending told.ending more.played told.played in
+    one inputs.file inputs.plan.steps inputs.plan.retries inputs.events more.ending told.ending more.played told.played in
     let is : IsAccountOf more.account told.ending = subst (IsAccountOf more.account) same more.is in
     let stopped : told.account.stopped ≡ more.account.stopped = same_stopped told.account more.account told.ending told.is is in
     let tells = told_in told.account more.account told.ending told.is is in
     let events = inputs.events in
-    let premise : TellsPremise (own_bench inputs.file) inputs.file (taken_by events told.ending) (begun_with inputs) more.account.broken =
-    subst (λ (e : Ending). TellsPremise (own_bench inputs.file) inputs.file (taken_by events e) (begun_with inputs) more.account.broken) same more.premise in
+    let premise : TellsPremise inputs.file (taken_by events told.ending) (begun_with inputs) more.account.broken =
+    subst (λ (e : Ending). TellsPremise inputs.file (taken_by events e) (begun_with inputs) more.account.broken) same more.premise in
     let broken : told.account.broken ≡ more.account.broken =
-    one_premise (own_bench inputs.file) inputs.file (taken_by events told.ending) (begun_with inputs) told.account.broken more.account.broken told.premise premise in
+    one_premise inputs.file (taken_by events told.ending) (begun_with inputs) told.account.broken more.account.broken told.premise premise in
     let lines : text_of frames premises told.account ≡ text_of frames premises more.account = same_lines frames premises told.account more.account tells.0 tells.1 tells.2 broken stopped in
     (told.said ∙ lines ∙ sym more.said, told.ended ∙ ap status_of stopped ∙ sym more.ended)

@@ -6,26 +6,25 @@ use Rattle.std.proofs.lemmas.List.{take-map}
 use Rattle.text_lines.specs.Cuts.{ended}
 use Rattle.cfg_records.specs.declared.board_file.BoardFile.{BoardFile}
 use Rattle.record_base.specs.declared.op.Op.{Op}
-use Rattle.undo_core.specs.PhaseNames.{phase_name}
+use Rattle.model_undo.specs.PhaseNames.{phase_name}
 use Rattle.text_schedule.specs.declared.event.Event.{Event}
 use Rattle.text_schedule.specs.declared.event.Event.TheVariants as event
 use Rattle.model_lab.specs.Lab.{opening}
-use Rattle.model_lab.specs.Meaning.{Bench, lab_names}
+use Rattle.model_lab.specs.Meaning.{lab_names}
 use Rattle.model_lab.specs.Played.{plans, Ending, Whole, Stops}
 use Rattle.lab_run.specs.declared.note.Came.{Came}
 use Rattle.lab_run.specs.declared.note.Note.{Note}
 use Rattle.text_chart.specs.Columns.{at_most, in_column}
 use Rattle.text_chart.specs.Arrivals.{delivers, came_at, lost_from}
 use Rattle.text_chart.specs.Chart.{call_cell, comes_cell, count_of, sends_cell, done_cell, head_line, event_line, chart_of}
-use Rattle.lab_run.specs.Shown.{own_bench}
 use Rattle.lab_play.specs.Noted.{Noted, IsNote, noted_from, AreNotes}
-use Rattle.bmc_play.specs.declared.account.Stopped.{Stopped}
+use Rattle.lab_play.specs.declared.run.Stopped.{Stopped}
 use Rattle.bmc_play.specs.Lines.{ending}
 use Rattle.bmc_play.specs.Account.{status_of}
 use Rattle.bmc_play.specs.Determined.{OneText}
 use Rattle.bmc_play.specs.Drawn.{EndsAt, Draws, drawing}
-use Rattle.bmc_play.proofs.AlikeEnds.{OneEnding, same_stop, same_fault}
-use Rattle.bmc_play.proofs.OneAccount.{same_made, same_phase}
+use Rattle.bmc_play.proofs.AlikeEnds.{OneEnding, same_stop}
+use Rattle.bmc_play.proofs.OneAccount.{same_made}
 
 -- a note, wherever its event stands in memory
 abbrev bare : Note → Note
@@ -89,7 +88,7 @@ same_note note other n is also =
     let sends : note.sends ≡ other.sends = is.sends ∙ sym also.sends in
     let before : note.before ≡ other.before = is.before ∙ sym also.before in
     let after : note.after ≡ other.after = is.after ∙ sym also.after in
-    let now : note.phase ≡ other.phase = same_phase note.phase other.phase (is.phase ∙ sym also.phase) in
+    let now : note.phase ≡ other.phase = is.phase ∙ sym also.phase in
     λ i. record {
       event = record { ref_ptr = (0, 0); now = happened i };
       came = came i;
@@ -101,10 +100,10 @@ same_note note other n is also =
     }
 
 -- notes of as many events of a play have one chart
-same_chart : (bench : Bench) (file : BoardFile) (steps : List Op) (retries : ℕ) (events : List Event) (notes others : List Note)
-    → length others ≡ length notes → AreNotes bench file steps retries events notes → AreNotes bench file steps retries events others → chart_of notes ≡ chart_of others
-same_chart bench file steps retries events notes others long are also =
-    let noted : ℕ → List Noted = λ n. noted_from bench file (take n events) (opening plans file lab_names steps retries) in
+same_chart : (file : BoardFile) (steps : List Op) (retries : ℕ) (events : List Event) (notes others : List Note)
+    → length others ≡ length notes → AreNotes file steps retries events notes → AreNotes file steps retries events others → chart_of notes ≡ chart_of others
+same_chart file steps retries events notes others long are also =
+    let noted : ℕ → List Noted = λ n. noted_from file (take n events) (opening plans file lab_names steps retries) in
     let each : AllZip IsNote others (noted (length notes)) = subst (λ (n : ℕ). AllZip IsNote others (noted n)) long also.each in
     sym (chart_bare notes) ∙ ap chart_of (same_made bare IsNote same_note notes others (noted (length notes)) are.each each) ∙ chart_bare others
 
@@ -114,7 +113,7 @@ same_place : (events : List Event) (notes others : ℕ) (stopped other : Option 
 same_place events notes others None None (Whole told) ends also = (also ∙ sym ends, refl)
 same_place events notes others (Some stopped) (Some event) (Stops cause at told) (why, place, behind) (cause_is, at_is, after) =
     let same : stopped.place ≡ event.place = place ∙ sym at_is in
-    (omega (arith, behind, after, same), ap Some (same_stop stopped event same (same_fault stopped.fault event.fault cause why cause_is)))
+    (omega (arith, behind, after, same), ap Some (same_stop stopped event same (why ∙ sym cause_is)))
 same_place events notes others None other (Stops cause at told) ends also = absurd ends
 same_place events notes others (Some stopped) other (Whole told) ends also = absurd ends
 same_place events notes others None (Some event) (Whole told) ends also = absurd also
@@ -123,11 +122,11 @@ same_place events notes others (Some stopped) None (Stops cause at told) ends al
 pub one_chart : OneEnding → OneText Draws
 one_chart one inputs text other_text status other_status drawn more =
     let same : more.play.ending ≡ drawn.play.ending =
-    one (own_bench inputs.file) inputs.file inputs.plan.steps inputs.plan.retries inputs.events more.play.ending drawn.play.ending more.play.played drawn.play.played in
+    one inputs.file inputs.plan.steps inputs.plan.retries inputs.events more.play.ending drawn.play.ending more.play.played drawn.play.played in
     let ends : EndsAt inputs.events (length more.notes) more.stopped drawn.play.ending = subst (EndsAt inputs.events (length more.notes) more.stopped) same more.play.ends in
     let places = same_place inputs.events (length drawn.notes) (length more.notes) drawn.stopped more.stopped drawn.play.ending drawn.play.ends ends in
     let stopped : drawn.stopped ≡ more.stopped = places.1 in
     let chart : chart_of drawn.notes ≡ chart_of more.notes =
-    same_chart (own_bench inputs.file) inputs.file inputs.plan.steps inputs.plan.retries inputs.events drawn.notes more.notes places.0 drawn.play.are more.play.are in
+    same_chart inputs.file inputs.plan.steps inputs.plan.retries inputs.events drawn.notes more.notes places.0 drawn.play.are more.play.are in
     let drawings : drawing drawn.notes drawn.stopped ≡ drawing more.notes more.stopped = λ i. chart i ++ flat_map ended (ending (stopped i)) in
     (drawn.said ∙ drawings ∙ sym more.said, drawn.ended ∙ ap status_of stopped ∙ sym more.ended)

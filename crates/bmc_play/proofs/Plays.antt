@@ -1,16 +1,15 @@
 -- What is said of a play, once it is known how it ended and what its account is.
 use Rattle.std.proofs.Common.{◌≡◌, ℕ, Bool, List, Option, Result, Ok, Err, Some, None, IfOk, string_bytes, sym, ◌∙◌, subst}
-use Rattle.lab_run.specs.declared.fault.Fault.{Fault}
+use Rattle.model_lab.specs.declared.fault.Fault.{Fault}
 use Rattle.model_lab.specs.Played.{Told, Ending, Whole, Stops}
 use Rattle.model_headline.specs.Plays.{taken_by, TellsPremise}
-use Rattle.lab_run.specs.Shown.{own_bench}
 use Rattle.lab_play.specs.Ends.{Tells, IsEnding, Plays}
 use Rattle.lab_play.specs.declared.played.Played.{Played}
 use Rattle.lab_play.specs.declared.played.LabFault.{LabFault}
 use Rattle.lab_play.specs.declared.played.LabFault.TheVariants as fault
 use Rattle.bmc_play.specs.declared.inputs.Inputs.{Inputs}
 use Rattle.bmc_play.specs.declared.account.Account.{Account}
-use Rattle.bmc_play.specs.declared.account.Stopped.{Stopped}
+use Rattle.lab_play.specs.declared.run.Stopped.{Stopped}
 use Rattle.bmc_play.specs.Ended.{given_of}
 use Rattle.bmc_play.specs.Inputs.{AreRead}
 use Rattle.bmc_play.specs.Lines.{text_of}
@@ -46,7 +45,7 @@ recounts_whole : {E : Type 0} (frames premises : Bool) (inputs : Inputs) (r : Re
 recounts_whole frames premises inputs (Ok report) played account plays says broken none said ended = record {
   ending = plays.ending;
   played = plays.played;
-  premise = subst (TellsPremise (own_bench inputs.file) inputs.file (taken_by inputs.events plays.ending) (begun_with inputs)) (sym broken) plays.premise;
+  premise = subst (TellsPremise inputs.file (taken_by inputs.events plays.ending) (begun_with inputs)) (sym broken) plays.premise;
   stands = λ none_broke. plays.unbroken (sym broken ∙ none_broke);
   account = account;
   is = whole_account played plays.ending account plays.is says none;
@@ -63,7 +62,7 @@ recounts_stopped : {E : Type 0} (frames premises : Bool) (inputs : Inputs) (r : 
 recounts_stopped frames premises inputs (Ok report) why place played account plays says broken named said ended = record {
   ending = plays.ending;
   played = plays.played;
-  premise = subst (TellsPremise (own_bench inputs.file) inputs.file (taken_by inputs.events plays.ending) (begun_with inputs)) (sym broken) plays.premise;
+  premise = subst (TellsPremise inputs.file (taken_by inputs.events plays.ending) (begun_with inputs)) (sym broken) plays.premise;
   stands = λ none_broke. plays.unbroken (sym broken ∙ none_broke);
   account = account;
   is = stopped_account why place played plays.ending account plays.is says named;

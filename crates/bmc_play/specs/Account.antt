@@ -2,15 +2,13 @@
 use Rattle.std.specs.Prelude.{◌≡◌, ℕ, List, Option, Some, None}
 use Rattle.std.specs.List.{AllZip}
 use Rattle.cfg_records.specs.Records.{Pair, KeysDiffer, records_of}
-use Rattle.undo_core.specs.Phases.{phase_of}
 use Rattle.undo_core.specs.Shown.{backs}
 use Rattle.model_lab.specs.Meaning.{lab_names}
 use Rattle.model_lab.specs.Played.{Told, Ending, Whole, Stops}
-use Rattle.lab_run.specs.FramesShown.{fault_of}
 use Rattle.lab_run.specs.Shown.{IsSentFrame}
 use Rattle.lab_play.specs.Ends.{changed_in}
 use Rattle.bmc_play.specs.declared.account.Account.{Account}
-use Rattle.bmc_play.specs.declared.account.Stopped.{Stopped}
+use Rattle.lab_play.specs.declared.run.Stopped.{Stopped}
 use Rattle.bmc_lab.specs.declared.status.Status.{Status}
 use Rattle.bmc_lab.specs.declared.status.Status.TheVariants as ended
 
@@ -24,7 +22,7 @@ pub record AreChanged (number : ℕ) (told : Told) : Type 0 where
 -- The account says what is told of a lab: the manager's phase, the frames, each as its bytes, with its way and its bus, the requests
 -- that undo what was done, and how many records changed.
 pub record Accounts (account : Account) (told : Told) : Type 0 where
-  pub phase : phase_of account.phase ≡ told.phase
+  pub phase : account.phase ≡ told.phase
   pub frames : AllZip IsSentFrame account.frames.now told.frames
   pub undo : backs lab_names account.undo.now ≡ told.undo
   pub changed : AreChanged account.changed told
@@ -33,7 +31,7 @@ pub record Accounts (account : Account) (told : Told) : Type 0 where
 abbrev pub IsAccountOf : Account → Ending → Type 0
 IsAccountOf account (Whole told) = Accounts account told × (account.stopped ≡ None)
 IsAccountOf account (Stops cause at told) =
-    Accounts account told × ((stopped : Stopped) × (account.stopped ≡ Some stopped) × (fault_of stopped.fault ≡ cause) × (stopped.place ≡ at))
+    Accounts account told × ((stopped : Stopped) × (account.stopped ≡ Some stopped) × (stopped.fault ≡ cause) × (stopped.place ≡ at))
 
 -- how a run ends: well, or by the event that wasn't taken
 abbrev pub status_of : Option Stopped → Status

@@ -6,14 +6,12 @@ use Rattle.cfg_records.specs.declared.board_file.BoardFile.{BoardFile}
 use Rattle.record_base.specs.declared.op.Op.{Op}
 use Rattle.text_schedule.specs.declared.event.Event.{Event}
 use Rattle.model_lab.specs.Played.{Ending, Whole, Stops, IsPlayed}
-use Rattle.lab_run.specs.FramesShown.{fault_of}
 use Rattle.model_headline.specs.Plays.{StandsIfKept}
 use Rattle.lab_run.specs.declared.note.Note.{Note}
 use Rattle.text_chart.specs.Chart.{chart_of}
-use Rattle.lab_run.specs.Shown.{own_bench}
 use Rattle.lab_play.specs.Noted.{AreNotes}
 use Rattle.bmc_play.specs.declared.inputs.Inputs.{Inputs}
-use Rattle.bmc_play.specs.declared.account.Stopped.{Stopped}
+use Rattle.lab_play.specs.declared.run.Stopped.{Stopped}
 use Rattle.bmc_play.specs.Lines.{ending}
 use Rattle.bmc_lab.specs.declared.status.Status.{Status}
 use Rattle.bmc_play.specs.Account.{status_of}
@@ -21,17 +19,17 @@ use Rattle.bmc_play.specs.Account.{status_of}
 -- after so many notes the play ended so: with all events, or before this one
 abbrev pub EndsAt : List Event → (notes : ℕ) → Option Stopped → Ending → Type 0
 EndsAt events notes None (Whole told) = notes ≡ length events
-EndsAt events notes (Some stopped) (Stops cause at told) = (fault_of stopped.fault ≡ cause) × (stopped.place ≡ at) × (stopped.place ≡ notes + 1)
+EndsAt events notes (Some stopped) (Stops cause at told) = (stopped.fault ≡ cause) × (stopped.place ≡ at) × (stopped.place ≡ notes + 1)
 EndsAt events notes _ _ = ⊥
 
 -- These are the notes of a play: of all its events, or of those before this one, which has a fault. The
 -- play's phase is true: it says what the records are.
 pub record NotesPlayOf (file : BoardFile) (steps : List Op) (retries : ℕ) (events : List Event) (stopped : Option Stopped) (notes : List Note) : Type 0 where
   pub ending : Ending
-  pub played : IsPlayed (own_bench file) file steps retries events ending
-  pub stands : StandsIfKept (own_bench file) file steps retries events ending
+  pub played : IsPlayed file steps retries events ending
+  pub stands : StandsIfKept file steps retries events ending
   pub ends : EndsAt events (length notes) stopped ending
-  pub are : AreNotes (own_bench file) file steps retries events notes
+  pub are : AreNotes file steps retries events notes
 
 -- the chart, and the line of the event that wasn't taken
 abbrev pub drawing : List Note → Option Stopped → List ℕ

@@ -3,7 +3,7 @@ use Rattle.std.specs.Prelude.{Option, Some, None, Result, Ok, Err}
 use Rattle.lab_play.specs.declared.played.Played.{Played}
 use Rattle.lab_play.specs.declared.played.LabFault.{LabFault}
 use Rattle.lab_play.specs.declared.played.LabFault.TheVariants as fault
-use Rattle.bmc_play.specs.declared.account.Stopped.{Stopped}
+use Rattle.lab_play.specs.declared.run.Stopped.{Stopped}
 
 -- a play of all events, or of those before the one that the lab didn't take
 abbrev pub given_of : Played → Option Stopped → Result Played LabFault

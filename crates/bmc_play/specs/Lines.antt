@@ -8,13 +8,13 @@ use Rattle.two_wire.specs.declared.Bus.{Bus}
 use Rattle.two_wire.specs.declared.Bus.TheVariants.{Ipmb, Smbus}
 use Rattle.record_base.specs.declared.message.Asked.{Asked}
 use Rattle.text_undo.specs.UndoText.{line_of}
-use Rattle.undo_core.specs.PhaseNames.{phase_name}
-use Rattle.lab_run.specs.declared.frames.Way.{Way}
-use Rattle.lab_run.specs.declared.frames.Way.TheVariants.{ToPort, ToManager, ToOthers}
+use Rattle.model_undo.specs.PhaseNames.{phase_name}
+use Rattle.model_lab.specs.declared.way.Way.{Way}
+use Rattle.model_lab.specs.declared.way.Way.TheVariants.{ToPort, ToManager, ToOthers}
 use Rattle.lab_run.specs.declared.frames.SentFrame.{SentFrame}
-use Rattle.lab_run.specs.FaultNames.{fault_name}
+use Rattle.model_lab.specs.FaultNames.{fault_name}
 use Rattle.bmc_play.specs.declared.account.Account.{Account}
-use Rattle.bmc_play.specs.declared.account.Stopped.{Stopped}
+use Rattle.lab_play.specs.declared.run.Stopped.{Stopped}
 
 -- a word, and what stands behind it after a space
 abbrev pub said : List ℕ → List ℕ → List ℕ

@@ -13,7 +13,6 @@ use Rattle.model_lab.specs.Lab.{Lab, opening}
 use Rattle.model_lab.specs.Meaning.{lab_names}
 use Rattle.model_lab.specs.Played.{plans, Ending, IsPlayed}
 use Rattle.model_headline.specs.Plays.{taken_by, told_by, TellsPremise, ToldStands}
-use Rattle.lab_run.specs.Shown.{own_bench}
 use Rattle.bmc_lab.specs.declared.console.Stream.TheVariants.{Output, Error}
 use Rattle.bmc_lab.specs.declared.status.Status.{Status}
 use Rattle.bmc_lab.specs.declared.status.Status.TheVariants.{RefusedFile}
@@ -42,11 +41,11 @@ begun_with inputs = opening plans inputs.file lab_names inputs.plan.steps inputs
 -- account tells which event broke the premise on packets first; where none did, what is told stands.
 pub record Recounts (frames premises : Bool) (inputs : Inputs) (text : List ℕ) (status : Status) : Type 0 where
   pub ending : Ending
-  pub played : IsPlayed (own_bench inputs.file) inputs.file inputs.plan.steps inputs.plan.retries inputs.events ending
+  pub played : IsPlayed inputs.file inputs.plan.steps inputs.plan.retries inputs.events ending
   pub account : Account
   pub is : IsAccountOf account ending
-  pub premise : TellsPremise (own_bench inputs.file) inputs.file (taken_by inputs.events ending) (begun_with inputs) account.broken
-  pub stands : account.broken ≡ None → ToldStands (own_bench inputs.file) inputs.file inputs.plan.steps inputs.plan.retries (taken_by inputs.events ending) (told_by ending)
+  pub premise : TellsPremise inputs.file (taken_by inputs.events ending) (begun_with inputs) account.broken
+  pub stands : account.broken ≡ None → ToldStands inputs.file inputs.plan.steps inputs.plan.retries (taken_by inputs.events ending) (told_by ending)
   pub said : text ≡ text_of frames premises account
   pub ended : status ≡ status_of account.stopped
 

@@ -5,19 +5,12 @@ ghost use Rattle.text_lines.specs.Cuts.{ended};
 ghost use Rattle.bmc_play.specs.Lines.{ending, premised, text_of};
 
 use crate::lines::{push_frames, push_premise, push_records, push_stopped};
-use lab_run::{Fault, SentFrame};
+use lab_play::Stopped;
+use lab_run::SentFrame;
 use std::alloc::{AllocError, Global};
 use text_undo::push_requests;
 use undo_core::Phase;
 use undo_plans::Requests;
-
-/// The event that the lab didn't take.
-#[derive(Clone, Copy, Debug, PartialEq, Eq)]
-pub struct Stopped {
-    /// Its place among the events, from 1.
-    pub place: usize,
-    pub fault: Fault,
-}
 
 /// What is told of a play, after its last event or before the one that the lab didn't take.
 #[derive(Clone, Copy, Debug)]

@@ -4,14 +4,13 @@ ghost use Rattle.bmc_lab.specs.declared.console.Stream.TheVariants.{Output};
 ghost use Rattle.bmc_play.specs.Account.{status_of};
 ghost use Rattle.bmc_play.specs.Drawn.{NotesPlayOf, Draws, drawing};
 
-use crate::account::Stopped;
 use crate::ended::parts_of;
 use crate::inputs::Inputs;
 use crate::lines::push_stopped;
 use crate::report::status;
 use bmc_lab::{Report, Stream};
 use cfg_records::BoardFile;
-use lab_play::play_noted;
+use lab_play::{Stopped, play_noted};
 use lab_run::Note;
 use std::alloc::{AllocError, Global};
 use text_chart::chart;

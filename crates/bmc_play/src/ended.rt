@@ -2,8 +2,7 @@
 ghost use Rattle.std.specs.Prelude.{◌≡◌, IfOk};
 ghost use Rattle.bmc_play.specs.Ended.{given_of};
 
-use crate::account::Stopped;
-use lab_play::{LabFault, Played};
+use lab_play::{LabFault, Played, Stopped};
 use std::alloc::AllocError;
 
 /// What was played, and the event that the lab didn't take.

@@ -12,8 +12,9 @@ mod lines;
 mod report;
 pub mod run;
 
-pub use account::{Account, Stopped};
+pub use account::Account;
 pub use files::{PlayFiles, play_of_files};
 pub use inputs::{InputFault, Inputs, read_inputs};
+pub use lab_play::Stopped;
 pub use lines::push_stopped;
 pub use run::{Shown, chart_run, play_run, show};

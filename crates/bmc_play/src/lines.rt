@@ -5,7 +5,7 @@ ghost use Rattle.std.specs.List.{flat_map};
 ghost use Rattle.text_lines.specs.Cuts.{ended};
 ghost use Rattle.bmc_play.specs.Lines.{end_name, bus_name, frame_line, frame_lines, premise_lines, records_line, said, stopped_line};
 
-use crate::account::Stopped;
+use lab_play::Stopped;
 use lab_run::{SentFrame, Way};
 use std::alloc::{AllocError, Global};
 use two_wire::Bus;

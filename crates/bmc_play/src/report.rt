@@ -6,9 +6,9 @@ ghost use Rattle.bmc_lab.specs.declared.console.Stream.TheVariants.{Output};
 ghost use Rattle.bmc_play.specs.Lines.{text_of};
 ghost use Rattle.bmc_play.specs.Account.{Accounts, status_of};
 
-use crate::account::{Account, Stopped};
+use crate::account::Account;
 use bmc_lab::{Report, Status, Stream};
-use lab_play::Played;
+use lab_play::{Played, Stopped};
 use std::alloc::{AllocError, Global};
 
 /// The account of what was played, and of the event that the lab didn't take.

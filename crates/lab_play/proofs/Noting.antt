@@ -1,5 +1,5 @@
 -- Notes of events, one after another.
-use Rattle.std.proofs.Common.{◌≡◌, ℕ, ◌+◌, ◌-◌, List, [], ◌∷◌, ◌++◌, length, take, None, Result, Ok, Err, refl, sym, ◌∙◌, ap, subst, arith, option_map}
+use Rattle.std.proofs.Common.{◌≡◌, ℕ, ◌+◌, ◌-◌, List, [], ◌∷◌, ◌++◌, length, take, Option, Some, None, Result, Ok, Err, true≢false, refl, sym, ◌∙◌, ap, subst, arith, option_map}
 use Rattle.std.specs.Prelude.{slice_get}
 use Rattle.std.proofs.lemmas.List.{length-append}
 use Rattle.std.proofs.Math.Seq.{take-length}
@@ -8,53 +8,52 @@ use Rattle.cfg_records.specs.declared.board_file.BoardFile.{BoardFile}
 use Rattle.record_base.specs.declared.op.Op.{Op}
 use Rattle.model_lab.specs.Lab.{LabFrame, Lab as LabModel, opening}
 use Rattle.text_schedule.specs.declared.event.Event.{Event}
-use Rattle.model_lab.specs.Meaning.{lab_names, Bench}
+use Rattle.model_lab.specs.Meaning.{lab_names}
 use Rattle.model_lab.specs.Played.{plans, happens, after}
 use Rattle.lab_run.specs.declared.note.Note.{Note}
 use Rattle.lab_run.specs.declared.lab_state.Lab.{Lab}
 use Rattle.lab_play.specs.declared.played.Played.{Played}
 use Rattle.lab_play.specs.declared.watch.Watch.{Watch}
-use Rattle.lab_play.specs.declared.run.Halt.{Halt}
+use Rattle.lab_play.specs.declared.run.Stopped.{Stopped}
 use Rattle.lab_run.specs.declared.step.Refused.{Refused}
 use Rattle.lab_run.specs.declared.step.Refused.TheVariants as refused
-use Rattle.lab_run.specs.Shown.{Shows, own_bench}
-use Rattle.undo_core.specs.Phases as phases
+use Rattle.lab_run.specs.Shown.{Shows}
 use Rattle.model_undo.specs.Machine.{phase_of}
 use Rattle.model_lab.specs.Played.{fault_at}
 use Rattle.lab_run.specs.Hearing.{Did}
 use Rattle.lab_run.specs.Coming.{comes_at, done_in}
-use Rattle.lab_play.specs.Noted.{IsNote, noted_at, noted_from, AreNotes, NotesStep, Notes, NotesBefore, NotesRun, NotesPlay}
-use Rattle.lab_play.specs.Ends.{Begins, given, given_at}
-use Rattle.lab_play.specs.Runs.{Take}
+use Rattle.lab_play.specs.Noted.{IsNote, noted_at, noted_from, AreNotes, NotesStep, Notes, NotesRun, NotesPlay}
+use Rattle.lab_play.specs.Ends.{Begins, given}
+use Rattle.lab_play.specs.Runs.{Take, IsStop}
 use Rattle.lab_run.proofs.Sent.{all_append}
 use Rattle.lab_run.proofs.Coming.{done_is}
 
-module _ (bench : Bench) (file : BoardFile) where
+module _ (file : BoardFile) where
   -- what there is to note of one event more
-  noted_more : (es : List Event) (e : Event) (x : LabModel plans) → noted_from bench file (es ++ e ∷ []) x ≡ noted_from bench file es x ++ noted_at bench file (after bench file es x) e ∷ []
+  noted_more : (es : List Event) (e : Event) (x : LabModel plans) → noted_from file (es ++ e ∷ []) x ≡ noted_from file es x ++ noted_at file (after file es x) e ∷ []
   noted_more [] e x = refl
-  noted_more (d ∷ es) e x = ap (λ ns. noted_at bench file x d ∷ ns) (noted_more es e (happens bench file d x))
+  noted_more (d ∷ es) e x = ap (λ ns. noted_at file x d ∷ ns) (noted_more es e (happens file d x))
 
 -- one event more was noted
 pub notes_one_more : (es : List Event) (e : Event) (old mid : Lab) (notes : List Note) (note : Note) → Take es old mid → Notes es old notes
-    → ((file : BoardFile) (x : LabModel plans) → Shows file mid x → IsNote note (noted_at (own_bench file) file x e)) → Notes (es ++ e ∷ []) old (notes ++ note ∷ [])
+    → ((file : BoardFile) (x : LabModel plans) → Shows file mid x → IsNote note (noted_at file x e)) → Notes (es ++ e ∷ []) old (notes ++ note ∷ [])
 notes_one_more es e old mid notes note took noted one file x shows =
-    let last = noted_at (own_bench file) file (after (own_bench file) file es x) e in
-    subst (λ ns. AllZip IsNote (notes ++ note ∷ []) ns) (sym (noted_more (own_bench file) file es e x))
-    (all_append IsNote notes (note ∷ []) (noted_from (own_bench file) file es x) (last ∷ []) (noted file x shows) (one file (after (own_bench file) file es x) (took file x shows).1, tt))
+    let last = noted_at file (after file es x) e in
+    subst (λ ns. AllZip IsNote (notes ++ note ∷ []) ns) (sym (noted_more file es e x))
+    (all_append IsNote notes (note ∷ []) (noted_from file es x) (last ∷ []) (noted file x shows) (one file (after file es x) (took file x shows).1, tt))
 
 -- ---- the note of an event that happened
 
 -- what is noted is what there is to note
 pub is_noted : (e : Event) (old new : Lab) (note : Note) (file : BoardFile) (x : LabModel plans) → Shows file old x
-    → (fault_at (own_bench file) file x e ≡ None) × Shows file new (happens (own_bench file) file e x) → Did e old new
+    → (fault_at file x e ≡ None) × Shows file new (happens file e x) → Did e old new
     → note.event.now ≡ e → note.came ≡ comes_at x e → note.done ≡ done_in e new
     → ((y : LabModel plans) → Shows file new y → note.sends ≡ option_map (λ f. f.on) (slice_get y.frames note.before))
     → note.before ≡ length x.frames → ((y : LabModel plans) → Shows file new y → note.after ≡ length y.frames)
-    → ((y : LabModel plans) → Shows file new y → phases.phase_of note.phase ≡ phase_of plans.words y.manager.machine)
-    → IsNote note (noted_at (own_bench file) file x e)
+    → ((y : LabModel plans) → Shows file new y → note.phase ≡ phase_of plans.words y.manager.machine)
+    → IsNote note (noted_at file x e)
 is_noted e old new note file x shows stepped did named came done sends before after phase =
-    let y = happens (own_bench file) file e x in
+    let y = happens file e x in
     record {
       event = named;
       came = came;
@@ -76,14 +75,16 @@ pub one_longer : (e : Event) (mid : Lab) (before after : List Note) → NotesSte
 one_longer e mid before after (note, is, says) = ap length is ∙ length-append before (note ∷ [])
 
 -- those before the one that isn't taken were noted
-pub noted_before : (events : List Event) (old mid : Lab) (e : Event) (place : ℕ) (why : Refused) (before after : List Note) → Notes (take place events) old before
-    → length before ≡ place → NotesStep e mid (Err why) before after → NotesBefore events old (place + 1) why after
-noted_before events old mid e place (refused.Fault fault) before after noted long same =
-    let back : place ≡ place + 1 - 1 = omega arith in (
+pub noted_before : {E : Type 0} (events : List Event) (old mid : Lab) (e : Event) (place : ℕ) (why : Refused) (before after : List Note) (given : Result (Option Stopped) E)
+    → Notes (take place events) old before → length before ≡ place → NotesStep e mid (Err why) before after → IsStop (place + 1) why given → NotesRun events old given after
+noted_before events old mid e place (refused.Fault fault) before after given noted long same is =
+    let back : place ≡ place + 1 - 1 = omega arith in
+    subst (λ g. NotesRun events old g after) (sym is) (
       subst (λ (ns : List Note). Notes (take (place + 1 - 1) events) old ns) (sym same) (subst (λ (n : ℕ). Notes (take n events) old before) back noted),
       ap (λ (n : ℕ). n + 1) (sym long) ∙ ap (λ (ns : List Note). length ns + 1) (sym same),
     )
-noted_before events old mid e place refused.Memory before after noted long same = tt
+noted_before events old mid e place refused.Memory before after (Ok stopped) noted long same is = absurd (true≢false is)
+noted_before events old mid e place refused.Memory before after (Err memory) noted long same is = tt
 
 -- ---- plays
 
@@ -93,25 +94,21 @@ module _ (file : BoardFile) (steps : List Op) (retries : ℕ) (events : List Eve
   first = opening plans file lab_names steps retries
 
   -- all events of a play were noted
-  all_noted : (old : Lab) → Shows file old first → Notes events old notes → length notes ≡ length events → AreNotes (own_bench file) file steps retries events notes
+  all_noted : (old : Lab) → Shows file old first → Notes events old notes → length notes ≡ length events → AreNotes file steps retries events notes
   all_noted old shows noted long =
       let whole : take (length notes) events ≡ events = ap (λ (n : ℕ). take n events) long ∙ take-length events in
-      record { each = subst (λ (es : List Event). AllZip IsNote notes (noted_from (own_bench file) file es first)) (sym whole) (noted file first shows) }
+      record { each = subst (λ (es : List Event). AllZip IsNote notes (noted_from file es first)) (sym whole) (noted file first shows) }
 
   -- those before the one of this place were
   some_noted : (old : Lab) → Shows file old first → (place : ℕ) → Notes (take (place - 1) events) old notes → place ≡ length notes + 1
-      → AreNotes (own_bench file) file steps retries events notes
+      → AreNotes file steps retries events notes
   some_noted old shows place noted at =
       let count : place - 1 ≡ length notes = omega (arith, at) in
-      record { each = subst (λ (n : ℕ). AllZip IsNote notes (noted_from (own_bench file) file (take n events) first)) count (noted file first shows) }
-
-  noted_at_halt : (played : Played) (old : Lab) (place : ℕ) (why : Refused) → Shows file old first → NotesBefore events old place why notes
-      → NotesPlay file steps retries events (given_at played place why) notes
-  noted_at_halt played old place (refused.Fault why) shows noted = (some_noted old shows place noted.0 noted.1, noted.1)
-  noted_at_halt played old place refused.Memory shows noted = tt
+      record { each = subst (λ (n : ℕ). AllZip IsNote notes (noted_from file (take n events) first)) count (noted file first shows) }
 
   -- what is noted of a play, as its events ended
-  pub notes_given : (played : Played) (new : Lab) (watch : Watch) (ended : Result (Unit {0}) Halt) → Begins file steps retries played → NotesRun events played.lab ended notes
+  pub notes_given : {E : Type 0} (played : Played) (new : Lab) (watch : Watch) (ended : Result (Option Stopped) E) → Begins file steps retries played → NotesRun events played.lab ended notes
       → NotesPlay file steps retries events (given (record played { lab = new; watch = watch }) ended) notes
-  notes_given played new watch (Ok done) begins noted = (all_noted played.lab begins.shows noted.0 noted.1, noted.1)
-  notes_given played new watch (Err halt) begins noted = noted_at_halt (record played { lab = new; watch = watch }) played.lab halt.place halt.why begins.shows noted
+  notes_given played new watch (Ok None) begins noted = (all_noted played.lab begins.shows noted.0 noted.1, noted.1)
+  notes_given played new watch (Ok (Some stopped)) begins noted = (some_noted played.lab begins.shows stopped.place noted.0 noted.1, noted.1)
+  notes_given played new watch (Err memory) begins noted = tt

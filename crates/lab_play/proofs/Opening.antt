@@ -11,7 +11,6 @@ use Rattle.model_lab.specs.Values.{Value, Asks, Tells, Part}
 use Rattle.model_lab.specs.PortSteps.{PortState, hears, idles}
 use Rattle.model_lab.specs.ManagerSteps.{ManagerDeed, Sent, called, manager_hears}
 use Rattle.model_lab.specs.Lab.{LabFrame, Lab as LabModel, sends, call_does, with_port, port_on, opens, delivered, returned, step}
-use Rattle.model_lab.specs.Meaning.{Bench}
 use Rattle.model_lab.specs.Played.{plans, happens}
 use Rattle.text_schedule.specs.declared.event.Event.{Event}
 use Rattle.text_schedule.specs.declared.event.Event.TheVariants as event
@@ -56,17 +55,17 @@ module _ (file : BoardFile) where
   returned_same None x = refl
   returned_same (Some f) x = let d = manager_hears plans f.value x.manager in sends_same d.sent (record x { manager = d.manager })
 
-  pub happens_by : (bench : Bench) (e : Event) (x : LabModel plans) (tag : ℕ) → (happens bench file e x).opened tag ≡ opened_by (part_at x e) x.opened tag
+  pub happens_by : (e : Event) (x : LabModel plans) (tag : ℕ) → (happens file e x).opened tag ≡ opened_by (part_at x e) x.opened tag
   unfolding step
-  happens_by bench (event.Calls call) x tag = ap (λ (o : ℕ → ℕ). o tag) (call_same (called plans _ x.manager) x)
-  happens_by bench (event.ToBmc number) x tag = delivered_by (slice_get x.frames number) x tag
-  happens_by bench (event.ToMgr number) x tag = ap (λ (o : ℕ → ℕ). o tag) (returned_same (slice_get x.frames number) x)
-  happens_by bench (event.OtherIpmb r) x tag = refl
-  happens_by bench (event.OtherSmbus m) x tag = refl
-  happens_by bench (event.Noise on bytes) x tag = refl
-  happens_by bench (event.Idle on requester) x tag = ap (λ (o : ℕ → ℕ). o tag) (port_same on (idles requester (port_on plans on x)) x)
-  happens_by bench (event.Scan sensor reading) x tag = refl
-  happens_by bench event.Tick x tag = refl
+  happens_by (event.Calls call) x tag = ap (λ (o : ℕ → ℕ). o tag) (call_same (called plans _ x.manager) x)
+  happens_by (event.ToBmc number) x tag = delivered_by (slice_get x.frames number) x tag
+  happens_by (event.ToMgr number) x tag = ap (λ (o : ℕ → ℕ). o tag) (returned_same (slice_get x.frames number) x)
+  happens_by (event.OtherIpmb r) x tag = refl
+  happens_by (event.OtherSmbus m) x tag = refl
+  happens_by (event.Noise on bytes) x tag = refl
+  happens_by (event.Idle on requester) x tag = ap (λ (o : ℕ → ℕ). o tag) (port_same on (idles requester (port_on plans on x)) x)
+  happens_by (event.Scan sensor reading) x tag = refl
+  happens_by event.Tick x tag = refl
 
 -- ---- a table
 

@@ -1,29 +1,26 @@
 -- What a play tells, of the lab after its events.
-use Rattle.std.proofs.Common.{◌≡◌, ◌≤◌, ℕ, ◌-◌, List, length, take, Result, Ok, Err, refl, sym, ap, subst}
+use Rattle.std.proofs.Common.{◌≡◌, ◌≤◌, ℕ, ◌-◌, List, length, take, Option, Some, None, Result, Ok, Err, refl, sym, ap, subst}
 use Rattle.cfg_records.specs.declared.board_file.BoardFile.{BoardFile}
 use Rattle.record_base.specs.declared.op.Op.{Op}
 use Rattle.cfg_records.specs.Boards.{pairs_of}
 use Rattle.cfg_records.specs.Records.{KeysDiffer, records_of}
 use Rattle.model_lab.specs.Lab.{Lab as LabModel, opening}
 use Rattle.text_schedule.specs.declared.event.Event.{Event}
-use Rattle.lab_run.specs.declared.fault.Fault.{Fault}
+use Rattle.model_lab.specs.declared.fault.Fault.{Fault}
 use Rattle.model_lab.specs.Meaning.{lab_names}
 use Rattle.model_lab.specs.Played.{plans, Told, Whole, Stops, told_of, after, IsPlayed}
-use Rattle.lab_run.specs.FramesShown.{fault_of}
 use Rattle.model_headline.proofs.Plays.{plays_stand}
 use Rattle.model_headline.proofs.CleanPlays.{ends_clean}
 use Rattle.lab_run.specs.declared.lab_state.Lab.{Lab}
 use Rattle.lab_play.specs.declared.played.Played.{Played}
 use Rattle.lab_play.specs.declared.watch.Watch.{Watch}
 use Rattle.lab_play.specs.declared.played.LabFault.TheVariants as fault
-use Rattle.lab_play.specs.declared.run.Halt.{Halt}
-use Rattle.lab_run.specs.declared.step.Refused.{Refused}
-use Rattle.lab_run.specs.declared.step.Refused.TheVariants as refused
-use Rattle.lab_run.specs.Shown.{Shows, own_bench}
-use Rattle.lab_play.specs.Runs.{Take, Halts, Runs}
+use Rattle.lab_play.specs.declared.run.Stopped.{Stopped}
+use Rattle.lab_run.specs.Shown.{Shows}
+use Rattle.lab_play.specs.Runs.{Take, StopsAt, Runs}
 use Rattle.model_headline.specs.Plays.{TellsPremise}
-use Rattle.lab_play.specs.Watched.{Watches, WatchesBefore, WatchesRun}
-use Rattle.lab_play.specs.Ends.{Tells, Begins, Ends, Plays, given, given_at}
+use Rattle.lab_play.specs.Watched.{WatchesRun}
+use Rattle.lab_play.specs.Ends.{Tells, Begins, Ends, Plays, given}
 
 module _ (file : BoardFile) (steps : List Op) (retries : ℕ) where
   -- the lab as it begins
@@ -32,14 +29,14 @@ module _ (file : BoardFile) (steps : List Op) (retries : ℕ) where
 
   -- what is told of the lab after events
   abbrev told_after : List Event → Told
-  told_after events = told_of (own_bench file) file first (after (own_bench file) file events first)
+  told_after events = told_of file first (after file events first)
 
   tells : (events : List Event) (played : Played) → played.start.items ≡ pairs_of file → KeysDiffer (pairs_of file)
-      → Shows file played.lab (after (own_bench file) file events first) → Tells played (told_after events)
+      → Shows file played.lab (after file events first) → Tells played (told_after events)
   tells events played start once shown = record {
     file = file;
     first = first;
-    now = after (own_bench file) file events first;
+    now = after file events first;
     shown = shown;
     once = subst KeysDiffer (sym start) once;
     start = ap records_of (sym start);
@@ -48,52 +45,48 @@ module _ (file : BoardFile) (steps : List Op) (retries : ℕ) where
 
   -- all events were taken
   ends_whole : (events : List Event) (played : Played) (old : Lab) → played.start.items ≡ pairs_of file → KeysDiffer (pairs_of file)
-      → Shows file old first → length steps ≤ 256 → Take events old played.lab → TellsPremise (own_bench file) file events first played.watch.broken
+      → Shows file old first → length steps ≤ 256 → Take events old played.lab → TellsPremise file events first played.watch.broken
       → Ends file steps retries events (Ok played)
   ends_whole events played old start once shows few takes told =
       let at = takes file first shows in
-      let is : IsPlayed (own_bench file) file steps retries events (Whole (told_after events)) = (at.0, refl) in
+      let is : IsPlayed file steps retries events (Whole (told_after events)) = (at.0, refl) in
       record {
         ending = Whole (told_after events);
         is = tells events played start once at.1;
         played = is;
         premise = told;
-        stands = (plays_stand (own_bench file) file steps retries events (Whole (told_after events)) is).0;
-        unbroken = λ none. (plays_stand (own_bench file) file steps retries events (Whole (told_after events)) is).0 (subst (TellsPremise (own_bench file) file events first) none told);
-        clean = ends_clean (own_bench file) file steps retries few events (Whole (told_after events)) is;
+        stands = (plays_stand file steps retries events (Whole (told_after events)) is).0;
+        unbroken = λ none. (plays_stand file steps retries events (Whole (told_after events)) is).0 (subst (TellsPremise file events first) none told);
+        clean = ends_clean file steps retries few events (Whole (told_after events)) is;
       }
 
   -- the event of a place has a fault
   ends_at : (events : List Event) (played : Played) (old : Lab) (why : Fault) (place : ℕ) → played.start.items ≡ pairs_of file → KeysDiffer (pairs_of file)
-      → Shows file old first → length steps ≤ 256 → Halts events old played.lab (record { place = place; why = refused.Fault why })
-      → TellsPremise (own_bench file) file (take (place - 1) events) first played.watch.broken → Ends file steps retries events (Err (fault.Event why place played))
-  ends_at events played old why place start once shows few halts premise =
-      let at = halts.left file first shows in
-      let told = told_after halts.before in
-      let is : IsPlayed (own_bench file) file steps retries events (Stops (fault_of why) place told) =
-      (halts.before, halts.rest, halts.event, halts.all, halts.place, at.0, halts.refuses file first shows, refl) in
+      → Shows file old first → length steps ≤ 256 → StopsAt events old played.lab (record { place = place; fault = why })
+      → TellsPremise file (take (place - 1) events) first played.watch.broken → Ends file steps retries events (Err (fault.Event why place played))
+  ends_at events played old why place start once shows few stops premise =
+      let at = stops.left file first shows in
+      let told = told_after stops.before in
+      let is : IsPlayed file steps retries events (Stops why place told) =
+      (stops.before, stops.rest, stops.event, stops.all, stops.place, at.0, stops.refuses file first shows, refl) in
       record {
-        ending = Stops (fault_of why) place told;
-        is = (refl, refl, tells halts.before played start once at.1);
+        ending = Stops why place told;
+        is = (refl, refl, tells stops.before played start once at.1);
         played = is;
         premise = premise;
-        stands = (plays_stand (own_bench file) file steps retries events (Stops (fault_of why) place told) is).0;
-        unbroken = λ none. (plays_stand (own_bench file) file steps retries events (Stops (fault_of why) place told) is).0
-            (subst (TellsPremise (own_bench file) file (take (place - 1) events) first) none premise);
-        clean = ends_clean (own_bench file) file steps retries few events (Stops (fault_of why) place told) is;
+        stands = (plays_stand file steps retries events (Stops why place told) is).0;
+        unbroken = λ none. (plays_stand file steps retries events (Stops why place told) is).0
+            (subst (TellsPremise file (take (place - 1) events) first) none premise);
+        clean = ends_clean file steps retries few events (Stops why place told) is;
       }
 
   -- ---- what is given of a play, as its events ended
 
-  plays_at : (events : List Event) (played : Played) (old : Lab) (was : Watch) (place : ℕ) (why : Refused) → played.start.items ≡ pairs_of file → KeysDiffer (pairs_of file)
-      → Shows file old first → length steps ≤ 256 → Watches was first → Halts events old played.lab (record { place = place; why = why }) → WatchesBefore events old was place why played.watch
-      → Plays file steps retries events (given_at played place why)
-  plays_at events played old was place (refused.Fault why) start once shows few opens halts watched = ends_at events played old why place start once shows few halts (watched file first shows opens).1
-  plays_at events played old was place refused.Memory start once shows few opens halts watched = tt
-
-  pub plays_given : (events : List Event) (played : Played) (new : Lab) (watch : Watch) (ended : Result (Unit {0}) Halt) → Begins file steps retries played → Runs events played.lab ended new
-      → WatchesRun events played.lab played.watch ended watch → Plays file steps retries events (given (record played { lab = new; watch = watch }) ended)
-  plays_given events played new watch (Ok done) begins takes watched =
+  pub plays_given : {E : Type 0} (events : List Event) (played : Played) (new : Lab) (watch : Watch) (ended : Result (Option Stopped) E) → Begins file steps retries played
+      → Runs events played.lab ended new → WatchesRun events played.lab played.watch ended watch → Plays file steps retries events (given (record played { lab = new; watch = watch }) ended)
+  plays_given events played new watch (Ok None) begins takes watched =
       ends_whole events (record played { lab = new; watch = watch }) played.lab begins.start begins.once begins.shows begins.few takes (watched file first begins.shows begins.watches).1
-  plays_given events played new watch (Err halt) begins halts watched =
-      plays_at events (record played { lab = new; watch = watch }) played.lab played.watch halt.place halt.why begins.start begins.once begins.shows begins.few begins.watches halts watched
+  plays_given events played new watch (Ok (Some stopped)) begins stops watched =
+      ends_at events (record played { lab = new; watch = watch }) played.lab stopped.fault stopped.place begins.start begins.once begins.shows begins.few stops
+      (watched file first begins.shows begins.watches).1
+  plays_given events played new watch (Err memory) begins stops watched = tt

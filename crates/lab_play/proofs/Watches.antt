@@ -20,7 +20,7 @@ use Rattle.text_schedule.specs.declared.event.Event.TheVariants as event
 use Rattle.lab_run.specs.declared.frames.SentFrame.{SentFrame}
 use Rattle.lab_run.specs.declared.lab_state.Lab.{Lab}
 use Rattle.lab_run.specs.declared.part.ManagerPart.{ManagerPart}
-use Rattle.lab_run.specs.Shown.{Shows, IsSentFrame, own_bench}
+use Rattle.lab_run.specs.Shown.{Shows, IsSentFrame}
 use Rattle.lab_run.specs.Hearing.{done_on, done_with}
 use Rattle.lab_run.specs.Coming.{done_at}
 use Rattle.lab_run.specs.Parts.{part_of, part_in, part_at}
@@ -54,7 +54,7 @@ module _ (file : BoardFile) (lab : Lab) (x : LabModel plans) (shows : Shows file
   frame_keeps None none = tt
   frame_keeps (Some f) none = value_keeps f.request f.value none
 
-  event_keeps : (e : Event) → part_at x e ≡ None → KeepsPremise (own_bench file) file x e
+  event_keeps : (e : Event) → part_at x e ≡ None → KeepsPremise file x e
   event_keeps (event.Calls call) none = tt
   event_keeps (event.ToBmc number) none = frame_keeps (slice_get x.frames number) none
   event_keeps (event.ToMgr number) none = tt
@@ -69,10 +69,10 @@ module _ (file : BoardFile) (lab : Lab) (x : LabModel plans) (shows : Shows file
   same_still None place Keeps keeps = keeps
   same_still (Some first) place Keeps keeps = refl
 
-  pub no_packet : (e : Event) (place : ℕ) → part_at x e ≡ None → Watches old (happens (own_bench file) file e x) × TellsNext old.broken old.broken place (KeepsPremise (own_bench file) file x e)
+  pub no_packet : (e : Event) (place : ℕ) → part_at x e ≡ None → Watches old (happens file e x) × TellsNext old.broken old.broken place (KeepsPremise file x e)
   no_packet e place none = (
-    λ tag below. opens tag below ∙ ap (λ (n : ℕ). Some n) (sym (happens_by file (own_bench file) e x tag ∙ ap (λ (o : Option ManagerPart). opened_by o x.opened tag) none)),
-    same_still old.broken place (KeepsPremise (own_bench file) file x e) (event_keeps e none),
+    λ tag below. opens tag below ∙ ap (λ (n : ℕ). Some n) (sym (happens_by file e x tag ∙ ap (λ (o : Option ManagerPart). opened_by o x.opened tag) none)),
+    same_still old.broken place (KeepsPremise file x e) (event_keeps e none),
   )
 
   -- ---- a packet comes
@@ -120,7 +120,7 @@ module _ (file : BoardFile) (lab : Lab) (x : LabModel plans) (shows : Shows file
     frame_told number None at low there took_is = absurd (none-some part there)
     frame_told number (Some f) at low there took_is = value_told f (frame_sent lab.frames x.frames number f shows.frames at) f.value refl low there took_is
 
-    event_told : (e : Event) → part.tag < 8 → part_at x e ≡ Some part → taken ≡ took_by (done_at x e) → TellsNext old.broken (broken_at old part begun taken place) place (KeepsPremise (own_bench file) file x e)
+    event_told : (e : Event) → part.tag < 8 → part_at x e ≡ Some part → taken ≡ took_by (done_at x e) → TellsNext old.broken (broken_at old part begun taken place) place (KeepsPremise file x e)
     event_told (event.Calls call) low there took_is = absurd (none-some part there)
     event_told (event.ToBmc number) low there took_is = frame_told number (slice_get x.frames number) refl low there took_is
     event_told (event.ToMgr number) low there took_is = absurd (none-some part there)
@@ -133,10 +133,10 @@ module _ (file : BoardFile) (lab : Lab) (x : LabModel plans) (shows : Shows file
 
   pub a_packet : (e : Event) (place : ℕ) (part : ManagerPart) (begun : ℕ) (taken : Bool) (new : Watch) → part.tag < 8 → part_at x e ≡ Some part → begun ≡ begun_on plans.words Smbus x.manager.machine
       → taken ≡ took_by (done_at x e) → new.opened ≡ opened_in part old.opened → new.broken ≡ broken_at old part begun taken place
-      → Watches new (happens (own_bench file) file e x) × TellsNext old.broken new.broken place (KeepsPremise (own_bench file) file x e)
+      → Watches new (happens file e x) × TellsNext old.broken new.broken place (KeepsPremise file x e)
   a_packet e place part begun taken new low there begun_is took_is opened_is broken_is = (
     λ tag below. ap (λ (l : List ℕ). slice_get l tag) opened_is ∙ still_watched part tag below
-        ∙ ap (λ (n : ℕ). Some n) (sym (happens_by file (own_bench file) e x tag ∙ ap (λ (o : Option ManagerPart). opened_by o x.opened tag) there)),
-    subst (λ (o : Option ℕ). TellsNext old.broken o place (KeepsPremise (own_bench file) file x e)) (sym (broken_is ∙ ap (λ (n : ℕ). broken_at old part n taken place) begun_is))
+        ∙ ap (λ (n : ℕ). Some n) (sym (happens_by file e x tag ∙ ap (λ (o : Option ManagerPart). opened_by o x.opened tag) there)),
+    subst (λ (o : Option ℕ). TellsNext old.broken o place (KeepsPremise file x e)) (sym (broken_is ∙ ap (λ (n : ℕ). broken_at old part n taken place) begun_is))
         (event_told place part taken e low there took_is),
   )

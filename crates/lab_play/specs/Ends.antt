@@ -10,13 +10,10 @@ use Rattle.model_lab.specs.Lab.{Lab as LabModel, opening}
 use Rattle.text_schedule.specs.declared.event.Event.{Event}
 use Rattle.model_lab.specs.Meaning.{lab_names}
 use Rattle.model_lab.specs.Played.{plans, Told, Ending, Whole, Stops, told_of, IsPlayed}
-use Rattle.lab_run.specs.FramesShown.{fault_of}
 use Rattle.model_headline.specs.Plays.{taken_by, told_by, TellsPremise, ToldStands, StandsIfKept}
 use Rattle.model_headline.specs.CleanPlays.{EndsClean}
-use Rattle.lab_run.specs.Shown.{Shows, own_bench}
-use Rattle.lab_play.specs.declared.run.Halt.{Halt}
-use Rattle.lab_run.specs.declared.step.Refused.{Refused}
-use Rattle.lab_run.specs.declared.step.Refused.TheVariants as refused
+use Rattle.lab_run.specs.Shown.{Shows}
+use Rattle.lab_play.specs.declared.run.Stopped.{Stopped}
 use Rattle.lab_play.specs.declared.played.Played.{Played}
 use Rattle.lab_play.specs.declared.played.LabFault.{LabFault}
 use Rattle.lab_play.specs.declared.played.LabFault.TheVariants as fault
@@ -30,7 +27,7 @@ pub record Tells (played : Played) (told : Told) : Type 0 where
   pub shown : Shows file played.lab now
   pub once : KeysDiffer played.start.items
   pub start : first.board.records ≡ records_of played.start.items
-  pub is : told ≡ told_of (own_bench file) file first now
+  pub is : told ≡ told_of file first now
 
 -- a play of the plan that begins: its lab shows the one that the model begins with, its records are the board's, and its steps are few
 pub record Begins (file : BoardFile) (steps : List Op) (retries : ℕ) (played : Played) : Type 0 where
@@ -43,7 +40,7 @@ pub record Begins (file : BoardFile) (steps : List Op) (retries : ℕ) (played :
 -- what was given is this ending
 abbrev pub IsEnding : Result Played LabFault → Ending → Type 0
 IsEnding (Ok played) (Whole told) = Tells played told
-IsEnding (Err (fault.Event why place played)) (Stops cause at told) = (cause ≡ fault_of why) × (at ≡ place) × Tells played told
+IsEnding (Err (fault.Event why place played)) (Stops cause at told) = (cause ≡ why) × (at ≡ place) × Tells played told
 IsEnding _ _ = ⊥
 
 -- the first event that broke the premise on packets, as what was given tells it
@@ -57,11 +54,11 @@ broken_in (Err fault.Memory) = None
 pub record Ends (file : BoardFile) (steps : List Op) (retries : ℕ) (events : List Event) (given : Result Played LabFault) : Type 0 where
   pub ending : Ending
   pub is : IsEnding given ending
-  pub played : IsPlayed (own_bench file) file steps retries events ending
-  pub premise : TellsPremise (own_bench file) file (taken_by events ending) (opening plans file lab_names steps retries) (broken_in given)
-  pub stands : StandsIfKept (own_bench file) file steps retries events ending
-  pub unbroken : broken_in given ≡ None → ToldStands (own_bench file) file steps retries (taken_by events ending) (told_by ending)
-  pub clean : EndsClean (own_bench file) file steps retries events ending
+  pub played : IsPlayed file steps retries events ending
+  pub premise : TellsPremise file (taken_by events ending) (opening plans file lab_names steps retries) (broken_in given)
+  pub stands : StandsIfKept file steps retries events ending
+  pub unbroken : broken_in given ≡ None → ToldStands file steps retries (taken_by events ending) (told_by ending)
+  pub clean : EndsClean file steps retries events ending
 
 -- what a record has is this value
 abbrev pub is_value : List ℕ → Option (List ℕ) → Bool
@@ -79,12 +76,8 @@ Plays file steps retries events given = Ends file steps retries events given
 
 -- ---- what the calls give
 
--- of a play whose event of this place isn't taken
-abbrev pub given_at : Played → (place : ℕ) → Refused → Result Played LabFault
-given_at played place (refused.Fault why) = Err (fault.Event why place played)
-given_at played place refused.Memory = Err fault.Memory
-
 -- of a play whose events ended so
-abbrev pub given : Played → Result (Unit {0}) Halt → Result Played LabFault
-given played (Ok done) = Ok played
-given played (Err halt) = given_at played halt.place halt.why
+abbrev pub given : {E : Type 0} → Played → Result (Option Stopped) E → Result Played LabFault
+given played (Ok None) = Ok played
+given played (Ok (Some stopped)) = Err (fault.Event stopped.fault stopped.place played)
+given played (Err memory) = Err fault.Memory

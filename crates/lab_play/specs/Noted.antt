@@ -1,27 +1,26 @@
 -- What is noted of each event of a play.
-use Rattle.std.specs.Prelude.{◌≡◌, ℕ, ◌+◌, ◌-◌, List, [], ◌∷◌, ◌++◌, length, take, Option, Result, Ok, Err, option_map, slice_get}
+use Rattle.std.specs.Prelude.{◌≡◌, ℕ, ◌+◌, ◌-◌, List, [], ◌∷◌, ◌++◌, length, take, Option, Some, None, Result, Ok, Err, option_map, slice_get}
 use Rattle.std.specs.List.{AllZip}
 use Rattle.two_wire.specs.declared.Bus.{Bus}
 use Rattle.cfg_records.specs.declared.board_file.BoardFile.{BoardFile}
 use Rattle.record_base.specs.declared.op.Op.{Op}
-use Rattle.model_undo.specs.Phase.{Phase}
+use Rattle.model_undo.specs.declared.phase.Phase.{Phase}
 use Rattle.model_undo.specs.Machine.{phase_of}
 use Rattle.model_lab.specs.Lab.{Lab as LabModel, opening}
 use Rattle.bmc_core.specs.declared.out.Done.{Done}
-use Rattle.undo_core.specs.Phases as phases
 use Rattle.text_schedule.specs.declared.event.Event.{Event}
-use Rattle.model_lab.specs.Meaning.{lab_names, Bench}
+use Rattle.model_lab.specs.Meaning.{lab_names}
 use Rattle.model_lab.specs.Played.{plans, happens}
 use Rattle.lab_run.specs.declared.note.Came.{Came}
 use Rattle.lab_run.specs.declared.note.Note.{Note}
 use Rattle.lab_run.specs.declared.lab_state.Lab.{Lab}
-use Rattle.lab_play.specs.declared.run.Halt.{Halt}
+use Rattle.lab_play.specs.declared.run.Stopped.{Stopped}
 use Rattle.lab_run.specs.declared.step.Refused.{Refused}
 use Rattle.lab_run.specs.declared.step.Refused.TheVariants as refused
 use Rattle.lab_play.specs.declared.played.Played.{Played}
 use Rattle.lab_play.specs.declared.played.LabFault.{LabFault}
 use Rattle.lab_play.specs.declared.played.LabFault.TheVariants as fault
-use Rattle.lab_run.specs.Shown.{Shows, own_bench}
+use Rattle.lab_run.specs.Shown.{Shows}
 use Rattle.lab_run.specs.Coming.{comes_at, done_at}
 
 -- what there is to note of an event
@@ -42,13 +41,13 @@ pub record IsNote (note : Note) (n : Noted) : Type 0 where
   pub sends : note.sends ≡ n.sends
   pub before : note.before ≡ n.before
   pub after : note.after ≡ n.after
-  pub phase : phases.phase_of note.phase ≡ n.phase
+  pub phase : note.phase ≡ n.phase
 
-module _ (bench : Bench) (file : BoardFile) where
+module _ (file : BoardFile) where
   -- what there is to note of an event that happens in a lab: frames are numbered as they are sent
   abbrev pub noted_at : LabModel plans → Event → Noted
   noted_at x e =
-      let y = happens bench file e x in
+      let y = happens file e x in
       record {
         event = e;
         came = comes_at x e;
@@ -62,37 +61,33 @@ module _ (bench : Bench) (file : BoardFile) where
   -- and of events, one after another
   abbrev pub noted_from : List Event → LabModel plans → List Noted
   noted_from [] x = []
-  noted_from (e ∷ es) x = noted_at x e ∷ noted_from es (happens bench file e x)
+  noted_from (e ∷ es) x = noted_at x e ∷ noted_from es (happens file e x)
 
 -- the notes are those of a play's first events, as many as there are notes
-pub record AreNotes (bench : Bench) (file : BoardFile) (steps : List Op) (retries : ℕ) (events : List Event) (notes : List Note) : Type 0 where
-  pub each : AllZip IsNote notes (noted_from bench file (take (length notes) events) (opening plans file lab_names steps retries))
+pub record AreNotes (file : BoardFile) (steps : List Op) (retries : ℕ) (events : List Event) (notes : List Note) : Type 0 where
+  pub each : AllZip IsNote notes (noted_from file (take (length notes) events) (opening plans file lab_names steps retries))
 
 -- ---- what calls note
 
 -- an event is asked of a lab: a note is added where it happens, and none where it has a fault; where memory was refused, nothing is said
 abbrev pub NotesStep : Event → Lab → Result (Unit {0}) Refused → (before after : List Note) → Type 0
 NotesStep e old (Ok done) before after =
-    (note : Note) × (after ≡ before ++ note ∷ []) × ((file : BoardFile) (x : LabModel plans) → Shows file old x → IsNote note (noted_at (own_bench file) file x e))
+    (note : Note) × (after ≡ before ++ note ∷ []) × ((file : BoardFile) (x : LabModel plans) → Shows file old x → IsNote note (noted_at file x e))
 NotesStep e old (Err (refused.Fault why)) before after = after ≡ before
 NotesStep e old (Err refused.Memory) before after = Unit {0}
 
 -- of events that were asked of a lab, these were noted: whatever lab of the model it showed
 abbrev pub Notes : List Event → Lab → List Note → Type 0
-Notes events old notes = (file : BoardFile) (x : LabModel plans) → Shows file old x → AllZip IsNote notes (noted_from (own_bench file) file events x)
+Notes events old notes = (file : BoardFile) (x : LabModel plans) → Shows file old x → AllZip IsNote notes (noted_from file events x)
 
--- those before the event of this place were noted, which has a fault; where memory was refused, nothing is said
-abbrev pub NotesBefore : List Event → Lab → (place : ℕ) → Refused → List Note → Type 0
-NotesBefore events old place (refused.Fault why) notes = Notes (take (place - 1) events) old notes × (place ≡ length notes + 1)
-NotesBefore events old place refused.Memory notes = Unit {0}
-
--- all events were noted, or those before the one that isn't taken
-abbrev pub NotesRun : List Event → Lab → Result (Unit {0}) Halt → List Note → Type 0
-NotesRun events old (Ok done) notes = Notes events old notes × (length notes ≡ length events)
-NotesRun events old (Err halt) notes = NotesBefore events old halt.place halt.why notes
+-- all events were noted, or those before the one that isn't taken; where memory was refused, nothing is said
+abbrev pub NotesRun : {E : Type 0} → List Event → Lab → Result (Option Stopped) E → List Note → Type 0
+NotesRun events old (Ok None) notes = Notes events old notes × (length notes ≡ length events)
+NotesRun events old (Ok (Some stopped)) notes = Notes (take (stopped.place - 1) events) old notes × (stopped.place ≡ length notes + 1)
+NotesRun events old (Err memory) notes = Unit {0}
 
 -- how many events of a play were noted: all, or those before the one that has the fault
 abbrev pub NotesPlay : BoardFile → List Op → (retries : ℕ) → List Event → Result Played LabFault → List Note → Type 0
-NotesPlay file steps retries events (Ok played) notes = AreNotes (own_bench file) file steps retries events notes × (length notes ≡ length events)
-NotesPlay file steps retries events (Err (fault.Event why place played)) notes = AreNotes (own_bench file) file steps retries events notes × (place ≡ length notes + 1)
+NotesPlay file steps retries events (Ok played) notes = AreNotes file steps retries events notes × (length notes ≡ length events)
+NotesPlay file steps retries events (Err (fault.Event why place played)) notes = AreNotes file steps retries events notes × (place ≡ length notes + 1)
 NotesPlay file steps retries events (Err fault.Memory) notes = Unit {0}

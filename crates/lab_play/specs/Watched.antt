@@ -13,8 +13,8 @@ use Rattle.lab_run.specs.declared.lab_state.Lab.{Lab}
 use Rattle.lab_run.specs.declared.part.ManagerPart.{ManagerPart}
 use Rattle.lab_run.specs.declared.step.Refused.{Refused}
 use Rattle.lab_run.specs.declared.step.Refused.TheVariants as refused
-use Rattle.lab_run.specs.Shown.{Shows, own_bench}
-use Rattle.lab_play.specs.declared.run.Halt.{Halt}
+use Rattle.lab_run.specs.Shown.{Shows}
+use Rattle.lab_play.specs.declared.run.Stopped.{Stopped}
 use Rattle.lab_play.specs.declared.watch.Watch.{Watch}
 
 -- what the port did was to take a packet: one that went to it, and wasn't dropped
@@ -54,20 +54,17 @@ TellsNext None (Some first) place Keeps = (first ≡ place) × (¬ Keeps)
 -- an event of this place is asked of a lab, and watched if it happens; where memory was refused, nothing is said
 abbrev pub WatchesStep : Event → (place : ℕ) → Lab → Watch → Result (Unit {0}) Refused → Watch → Type 0
 WatchesStep e place lab old (Ok did) new = (file : BoardFile) (x : LabModel plans) → Shows file lab x → Watches old x
-    → Watches new (happens (own_bench file) file e x) × TellsNext old.broken new.broken place (KeepsPremise (own_bench file) file x e)
+    → Watches new (happens file e x) × TellsNext old.broken new.broken place (KeepsPremise file x e)
 WatchesStep e place lab old (Err (refused.Fault why)) new = new ≡ old
 WatchesStep e place lab old (Err refused.Memory) new = Unit {0}
 
 -- events happened, and this is told of the premise
 abbrev pub WatchesAll : List Event → Lab → Watch → Watch → Type 0
 WatchesAll events lab old new = (file : BoardFile) (x : LabModel plans) → Shows file lab x → Watches old x
-    → Watches new (after (own_bench file) file events x) × TellsPremise (own_bench file) file events x new.broken
+    → Watches new (after file events x) × TellsPremise file events x new.broken
 
 -- events are asked of a lab, up to the first that isn't taken; where memory was refused, nothing is said
-abbrev pub WatchesBefore : List Event → Lab → Watch → (place : ℕ) → Refused → Watch → Type 0
-WatchesBefore events lab old place (refused.Fault why) new = WatchesAll (take (place - 1) events) lab old new
-WatchesBefore events lab old place refused.Memory new = Unit {0}
-
-abbrev pub WatchesRun : List Event → Lab → Watch → Result (Unit {0}) Halt → Watch → Type 0
-WatchesRun events lab old (Ok did) new = WatchesAll events lab old new
-WatchesRun events lab old (Err halt) new = WatchesBefore events lab old halt.place halt.why new
+abbrev pub WatchesRun : {E : Type 0} → List Event → Lab → Watch → Result (Option Stopped) E → Watch → Type 0
+WatchesRun events lab old (Ok None) new = WatchesAll events lab old new
+WatchesRun events lab old (Ok (Some stopped)) new = WatchesAll (take (stopped.place - 1) events) lab old new
+WatchesRun events lab old (Err memory) new = Unit {0}

@@ -7,3 +7,4 @@ mod run;
 mod watch;
 
 pub use played::{LabFault, Played, play, play_noted};
+pub use run::Stopped;

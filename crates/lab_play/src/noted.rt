@@ -6,9 +6,10 @@ ghost use Rattle.lab_play.specs.Runs.{Runs};
 ghost use Rattle.lab_play.specs.Noted.{NotesStep, NotesRun};
 ghost use Rattle.lab_play.specs.Watched.{WatchesStep, WatchesRun};
 
-use crate::run::Halt;
+use crate::run::{Stopped, stopped_at};
 use crate::watch::{Watch, step_watched};
 use lab_run::{Lab, Note, Refused};
+use std::alloc::AllocError;
 use text_schedule::Event;
 
 /// One event happens in a lab, the premise on packets is watched, and the event's note is added. On a fault nothing changes.
@@ -43,13 +44,13 @@ fn step_noted<'a>(
     }
 }
 
-/// The events happen in a lab, up to the first that isn't taken, the premise on packets is watched, and each event is noted.
+/// The events happen in a lab, up to the first that isn't taken, which is given, the premise on packets is watched, and each event is noted.
 pub(crate) fn run_noted<'a>(
     lab: &mut Lab,
     watch: &mut Watch,
     events: &'a [Event],
     notes: &mut Vec<Note<'a>>,
-) -> Result<(), Halt>
+) -> Result<Option<Stopped>, AllocError>
     requires idles { (on : AnyBus) → idles_in on lab.now.idles ≡ 0 }
     requires empty { notes.now.items ≡ [] }
     requires unbroken { watch.now.broken ≡ None }
@@ -60,8 +61,8 @@ pub(crate) fn run_noted<'a>(
     for (place, event) in events.iter().enumerate() {
         let place = place + 1;
         if let Err(why) = step_noted(lab, watch, event, place, notes) {
-            return Err(Halt { place, why });
+            return stopped_at(place, why);
         }
     }
-    Ok(())
+    Ok(None)
 }

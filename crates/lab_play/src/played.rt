@@ -3,7 +3,6 @@ ghost use Rattle.std.specs.Prelude.{◌≡◌, [], not, None, IfOk};
 ghost use Rattle.std.specs.List.{AllZip};
 ghost use Rattle.two_wire.specs.declared.Bus.{Bus as AnyBus};
 ghost use Rattle.cfg_records.specs.Records.{records_of};
-ghost use Rattle.undo_core.specs.Phases.{phase_of};
 ghost use Rattle.undo_core.specs.Shown.{backs};
 ghost use Rattle.model_lab.specs.Meaning.{lab_names};
 ghost use Rattle.model_lab.specs.Played.{Told};
@@ -13,11 +12,11 @@ ghost use Rattle.lab_play.specs.Noted.{NotesPlay};
 ghost use Rattle.lab_play.specs.Ends.{Tells, Plays, Begins, given, changed_in, is_value};
 
 use crate::noted::run_noted;
-use crate::run::{Halt, run};
+use crate::run::{Stopped, run};
 use crate::watch::Watch;
 use bmc_board::Records;
 use cfg_records::{BoardFile, Key, Store, Value};
-use lab_run::{Fault, Lab, Note, Refused, SentFrame};
+use lab_run::{Fault, Lab, Note, SentFrame};
 use std::alloc::{AllocError, Global};
 use text_schedule::Event;
 use undo_core::Phase;
@@ -34,7 +33,7 @@ pub struct Played {
 impl Played {
     /// Where the manager is.
     pub fn phase(&self) -> Phase
-        ensures { (told : Told) → Tells self.now told → phase_of result ≡ told.phase }
+        ensures { (told : Told) → Tells self.now told → result ≡ told.phase }
     {
         self.lab.phase()
     }
@@ -122,19 +121,17 @@ impl Played {
     }
 
     /// What is given of a play whose events ended so.
-    fn ending(self, ended: Result<(), Halt>) -> Result<Played, LabFault>
+    fn ending(self, ended: Result<Option<Stopped>, AllocError>) -> Result<Played, LabFault>
         ensures { result ≡ given self ended }
     {
         match ended {
-            Ok(()) => Ok(self),
-            Err(halt) => match halt.why {
-                Refused::Memory => Err(LabFault::Memory),
-                Refused::Fault(fault) => Err(LabFault::Event {
-                    fault,
-                    place: halt.place,
-                    played: self,
-                }),
-            },
+            Ok(None) => Ok(self),
+            Ok(Some(Stopped { place, fault })) => Err(LabFault::Event {
+                fault,
+                place,
+                played: self,
+            }),
+            Err(_) => Err(LabFault::Memory),
         }
     }
 }

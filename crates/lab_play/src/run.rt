@@ -2,23 +2,38 @@
 ghost use Rattle.std.specs.Prelude.{◌≡◌, None};
 ghost use Rattle.two_wire.specs.declared.Bus.{Bus as AnyBus};
 ghost use Rattle.lab_run.specs.Shown.{idles_in};
-ghost use Rattle.lab_play.specs.Runs.{Runs};
+ghost use Rattle.lab_play.specs.Runs.{IsStop, Runs};
 ghost use Rattle.lab_play.specs.Watched.{WatchesRun};
 
 use crate::watch::{Watch, step_watched};
-use lab_run::{Lab, Refused};
+use lab_run::{Fault, Lab, Refused};
+use std::alloc::AllocError;
 use text_schedule::Event;
 
-/// Where a schedule ends before its last event, and why.
+/// The event that a lab didn't take.
 #[derive(Clone, Copy, Debug, PartialEq, Eq)]
-pub(crate) struct Halt {
-    /// The place of the event that isn't taken, counted from 1.
+pub struct Stopped {
+    /// Its place among the events, counted from 1.
     pub place: usize,
-    pub why: Refused,
+    pub fault: Fault,
 }
 
-/// The events happen in a lab, up to the first that isn't taken, and the premise on packets is watched.
-pub(crate) fn run(lab: &mut Lab, watch: &mut Watch, events: &[Event]) -> Result<(), Halt>
+/// What is given of a schedule whose event of this place isn't taken.
+pub(crate) fn stopped_at(place: usize, why: Refused) -> Result<Option<Stopped>, AllocError>
+    ensures { IsStop place why result }
+{
+    match why {
+        Refused::Memory => Err(AllocError),
+        Refused::Fault(fault) => Ok(Some(Stopped { place, fault })),
+    }
+}
+
+/// The events happen in a lab, up to the first that isn't taken, which is given, and the premise on packets is watched.
+pub(crate) fn run(
+    lab: &mut Lab,
+    watch: &mut Watch,
+    events: &[Event],
+) -> Result<Option<Stopped>, AllocError>
     requires idles { (on : AnyBus) → idles_in on lab.now.idles ≡ 0 }
     requires unbroken { watch.now.broken ≡ None }
     ensures runs { Runs events.now lab.old result lab.new }
@@ -27,8 +42,8 @@ pub(crate) fn run(lab: &mut Lab, watch: &mut Watch, events: &[Event]) -> Result<
     for (place, event) in events.iter().enumerate() {
         let place = place + 1;
         if let Err(why) = step_watched(lab, watch, event, place) {
-            return Err(Halt { place, why });
+            return stopped_at(place, why);
         }
     }
-    Ok(())
+    Ok(None)
 }

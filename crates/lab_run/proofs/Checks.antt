@@ -3,7 +3,9 @@ use Rattle.std.proofs.Common.{◌≡◌, ℕ, Bool, true, false, Option, List, [
 use Rattle.two_wire.specs.declared.Bus.{Bus}
 use Rattle.undo_plans.specs.declared.names.Names.{Names}
 use Rattle.model_lab.specs.Lab.{Lab}
-use Rattle.model_lab.specs.Faults.{Fault, Changing, Impersonates, Room, Check, check, first_of, is_own, is_full}
+use Rattle.model_lab.specs.declared.fault.Fault.{Fault}
+use Rattle.model_lab.specs.declared.fault.Fault.TheVariants.{Changing, Impersonates, Room}
+use Rattle.model_lab.specs.Faults.{Check, check, first_of, is_own, is_full}
 use Rattle.model_lab.specs.Played.{plans}
 
 -- the first of two is the first of three

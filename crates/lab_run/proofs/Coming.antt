@@ -3,15 +3,17 @@ use Rattle.std.proofs.Common.{◌≡◌, ℕ, Option, Some, None, refl, sym, ◌
 use Rattle.std.specs.Prelude.{slice_get}
 use Rattle.two_wire.specs.declared.Bus.{Bus}
 use Rattle.cfg_records.specs.declared.board_file.BoardFile.{BoardFile}
-use Rattle.model_lab.specs.Lab.{LabFrame, Lab as LabModel, ToPort, port_on}
-use Rattle.model_lab.specs.Faults.{NoFrame, first_of, delivery}
+use Rattle.model_lab.specs.declared.way.Way.TheVariants.{ToPort}
+use Rattle.model_lab.specs.Lab.{LabFrame, Lab as LabModel, port_on}
+use Rattle.model_lab.specs.declared.fault.Fault.TheVariants.{NoFrame}
+use Rattle.model_lab.specs.Faults.{first_of, delivery}
 use Rattle.bmc_core.specs.declared.out.Done.{Done}
 use Rattle.text_schedule.specs.declared.event.Event.{Event}
 use Rattle.text_schedule.specs.declared.event.Event.TheVariants as event
 use Rattle.lab_run.specs.declared.frames.SentFrame.{SentFrame}
 use Rattle.model_lab.specs.Played.{plans, fault_at}
 use Rattle.lab_run.specs.declared.lab_state.Lab.{Lab}
-use Rattle.lab_run.specs.Shown.{Shows, IsSentFrame, own_bench}
+use Rattle.lab_run.specs.Shown.{Shows, IsSentFrame}
 use Rattle.lab_run.specs.Hearing.{Did, done_on}
 use Rattle.lab_run.specs.Coming.{done_at, done_in}
 use Rattle.lab_run.proofs.Sent.{beside, none_beside}
@@ -20,13 +22,13 @@ use Rattle.lab_run.proofs.Sent.{beside, none_beside}
 
 module _ (file : BoardFile) (old new : Lab) (x : LabModel plans) (shows : Shows file old x) where
   -- a frame that is delivered was sent
-  done_of_frame : (number : ℕ) (o : Option LabFrame) → slice_get x.frames number ≡ o → fault_at (own_bench file) file x (event.ToBmc number) ≡ None → Did (event.ToBmc number) old new
+  done_of_frame : (number : ℕ) (o : Option LabFrame) → slice_get x.frames number ≡ o → fault_at file x (event.ToBmc number) ≡ None → Did (event.ToBmc number) old new
       → Some new.out.done ≡ option_map (λ f. done_on f.on (port_on plans f.on x) f.value) o
   done_of_frame number (Some f) is none did = ap (λ (d : Done). Some d) (did file x f shows is)
   done_of_frame number None is none did =
       let no : Some NoFrame ≡ None = sym (ap (λ (o : Option LabFrame). first_of (delivery plans ToPort x o)) is) ∙ none in cc no
 
-  pub done_is : (e : Event) → fault_at (own_bench file) file x e ≡ None → Did e old new → done_in e new ≡ done_at x e
+  pub done_is : (e : Event) → fault_at file x e ≡ None → Did e old new → done_in e new ≡ done_at x e
   done_is (event.Calls call) none did = refl
   done_is (event.ToBmc number) none did =
       done_of_frame number (slice_get x.frames number) refl none did

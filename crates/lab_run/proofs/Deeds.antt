@@ -26,7 +26,8 @@ use Rattle.model_lab.specs.Bytes.{heard_in, pldm_heard_in}
 use Rattle.model_lab.specs.Values.{Value, Asks, Tells, Part, IsFrameOn, parts_of}
 use Rattle.model_lab.specs.PortSteps.{PortState, Deed, stays, turn, spelled, asked_in, pldm_asked, hears_request, hears_control, hears_pldm, hears_typed, hears_message, ends_message, hears_part, hears_parts, hears_all, hears}
 use Rattle.model_lab.specs.ManagerSteps.{own_on}
-use Rattle.model_lab.specs.Lab.{ToOthers, LabFrame, Lab as LabModel, port_does}
+use Rattle.model_lab.specs.declared.way.Way.TheVariants.{ToOthers}
+use Rattle.model_lab.specs.Lab.{LabFrame, Lab as LabModel, port_does}
 use Rattle.bmc_core.specs.declared.out.Reason.{Reason}
 use Rattle.bmc_core.specs.declared.out.Reason.TheVariants.{NotOurs, NotRequest}
 use Rattle.bmc_core.specs.IpmbHeard.{IsHeard}

@@ -4,11 +4,13 @@ use Rattle.std.specs.List.{AllZip}
 use Rattle.std.proofs.lemmas.Slice.Zip.{AllZip-long}
 use Rattle.undo_plans.specs.declared.names.Names.{Names}
 use Rattle.model_lab.specs.ManagerSteps.{board_plans}
-use Rattle.model_lab.specs.Lab.{Way as LabWay, LabFrame, Lab}
-use Rattle.model_lab.specs.Faults.{NoFrame, WrongWay, Aged, Room, check, first_of, same_way, delivery, is_live, is_full}
+use Rattle.model_lab.specs.declared.way.Way.{Way as LabWay}
+use Rattle.model_lab.specs.Lab.{LabFrame, Lab}
+use Rattle.model_lab.specs.declared.fault.Fault.TheVariants.{NoFrame, WrongWay, Aged, Room}
+use Rattle.model_lab.specs.Faults.{check, first_of, same_way, delivery, is_live, is_full}
 use Rattle.lab_run.specs.declared.frames.SentFrame.{SentFrame}
 use Rattle.lab_run.specs.declared.fault.Marks.{Marks}
-use Rattle.lab_run.specs.FramesShown.{way_of, IsFrame, ShowsFrames}
+use Rattle.lab_run.specs.FramesShown.{IsFrame, ShowsFrames}
 
 -- the frame of a number is the model's
 pub frame_at : (sent : List SentFrame) (frames : List LabFrame) (n : ℕ) (s : SentFrame) → AllZip IsFrame sent frames → slice_get sent n ≡ Some s
@@ -42,12 +44,12 @@ module _ (names : Names) (sent : List SentFrame) (marks : Marks) (x : Lab (board
 
     -- of a frame that was sent
     module _ (s : SentFrame) (f : LabFrame) (there : slice_get x.frames n ≡ Some f) (fits : IsFrame s f) where
-      pub wrong_way : same_way (way_of s.way) way ≡ false → Some WrongWay ≡ first_of (delivery (board_plans names) way x (slice_get x.frames n))
+      pub wrong_way : same_way s.way way ≡ false → Some WrongWay ≡ first_of (delivery (board_plans names) way x (slice_get x.frames n))
       wrong_way other = let e : same_way f.way way ≡ false = ap (λ w. same_way w way) fits.way ∙ other in rw (there, e) refl
 
-      pub aged : same_way (way_of s.way) way ≡ true → is_live (board_plans names) x f ≡ false → Some Aged ≡ first_of (delivery (board_plans names) way x (slice_get x.frames n))
+      pub aged : same_way s.way way ≡ true → is_live (board_plans names) x f ≡ false → Some Aged ≡ first_of (delivery (board_plans names) way x (slice_get x.frames n))
       aged meant old = let e : same_way f.way way ≡ true = ap (λ w. same_way w way) fits.way ∙ meant in rw (there, e, old) refl
 
-      pub left_room : same_way (way_of s.way) way ≡ true → is_live (board_plans names) x f ≡ true
+      pub left_room : same_way s.way way ≡ true → is_live (board_plans names) x f ≡ true
           → first_of (check Room (is_full (board_plans names) x) ∷ []) ≡ first_of (delivery (board_plans names) way x (slice_get x.frames n))
       left_room meant fresh = let e : same_way f.way way ≡ true = ap (λ w. same_way w way) fits.way ∙ meant in rw (there, e, fresh) refl

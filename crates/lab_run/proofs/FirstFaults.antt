@@ -1,6 +1,7 @@
 -- The first of a few faults.
 use Rattle.std.proofs.Common.{◌≡◌, Bool, true, false, [], ◌∷◌, Some, None, refl}
-use Rattle.model_lab.specs.Faults.{Changing, Impersonates, check, first_of}
+use Rattle.model_lab.specs.declared.fault.Fault.TheVariants.{Changing, Impersonates}
+use Rattle.model_lab.specs.Faults.{check, first_of}
 
 pub by_changing : (changing own : Bool) → changing ≡ true → Some Changing ≡ first_of (check Changing changing ∷ check Impersonates own ∷ [])
 by_changing changing own is = rw is refl

@@ -1,3 +1,4 @@
+pub mod FrameMarks
 pub mod Deliveries
 pub mod FirstFaults
 pub mod Sending

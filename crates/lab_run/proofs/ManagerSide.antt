@@ -15,7 +15,7 @@ use Rattle.mctp_net.specs.Grammar.{IsPacket}
 use Rattle.cfg_records.specs.declared.board_file.BoardFile.{BoardFile}
 use Rattle.undo_plans.specs.declared.names.Names.{Names}
 use Rattle.model_bus.specs.Request.{idles_of}
-use Rattle.model_lab.specs.declared.marks.Mark.{Mark}
+use Rattle.lab_run.specs.declared.marks.Mark.{Mark}
 use Rattle.model_lab.specs.Values.{Value, Asks, Tells, Part, IsFrameOn}
 use Rattle.model_lab.specs.ManagerSteps.{own_on, Sent as AllSent, ManagerState, ManagerDeed, rests, hears_response, hears_packet, manager_hears}
 use Rattle.model_lab.specs.Lab.{LabFrame, Lab as LabModel, idles_on, sends, call_does, returned}
@@ -24,7 +24,7 @@ use Rattle.undo_core.specs.declared.sending.Sent.{Sent}
 use Rattle.undo_core.specs.declared.phase.WrongPhase.{WrongPhase}
 use Rattle.undo_core.specs.Shown as manager
 use Rattle.undo_core.specs.Shown.{IsSent, Does, IsCalled}
-use Rattle.lab_run.specs.declared.frames.Way.TheVariants as way
+use Rattle.model_lab.specs.declared.way.Way.TheVariants as way
 use Rattle.lab_run.specs.declared.frames.SentFrame.{SentFrame}
 use Rattle.lab_run.specs.FramesShown.{sent_as}
 use Rattle.model_lab.specs.Meaning.{lab_names}

@@ -17,7 +17,8 @@ use Rattle.ipmb_frame.specs.declared.message.Request.{Request}
 use Rattle.model_lab.specs.Values.{Value, Asks, Tells, Part, written, IsFrameOn, parts_of}
 use Rattle.model_lab.specs.PortSteps.{PortState, Deed, hears, hears_all}
 use Rattle.model_lab.specs.ManagerSteps.{own_on}
-use Rattle.model_lab.specs.Lab.{ToManager, ToOthers, LabFrame, Lab as LabModel, port_on, with_port, idles_on, port_does, opens, delivered}
+use Rattle.model_lab.specs.declared.way.Way.TheVariants.{ToManager, ToOthers}
+use Rattle.model_lab.specs.Lab.{LabFrame, Lab as LabModel, port_on, with_port, idles_on, port_does, opens, delivered}
 use Rattle.bmc_core.specs.declared.out.Out.{Out}
 use Rattle.bmc_core.specs.declared.out.Done.{Done}
 use Rattle.bmc_core.specs.declared.out.Reason.{Reason}

@@ -5,12 +5,12 @@ use Rattle.std.specs.List.{AllZip}
 use Rattle.two_wire.specs.declared.Bus.{Bus}
 use Rattle.two_wire.specs.declared.Bus.TheVariants as bus
 use Rattle.cfg_records.specs.declared.board_file.BoardFile.{BoardFile}
-use Rattle.model_lab.specs.declared.marks.Mark.{Mark}
+use Rattle.lab_run.specs.declared.marks.Mark.{Mark}
 use Rattle.model_lab.specs.Values.{Value, written, IsFrameOn}
 use Rattle.model_lab.specs.Lab.{LabFrame, Lab as LabModel, frame_now, idles_on, with_frames}
-use Rattle.model_lab.specs.Marks.{HasMark}
-use Rattle.lab_run.specs.declared.frames.Way.{Way}
-use Rattle.lab_run.specs.FramesShown.{way_of, sent_as}
+use Rattle.lab_run.specs.Marks.{HasMark}
+use Rattle.model_lab.specs.declared.way.Way.{Way}
+use Rattle.lab_run.specs.FramesShown.{sent_as}
 use Rattle.model_lab.specs.Played.{plans}
 use Rattle.lab_run.specs.declared.lab_state.Lab.{Lab}
 use Rattle.lab_run.specs.Shown.{Shows, IsSentFrame, idles_in}
@@ -63,7 +63,7 @@ at_place {A} R (x ∷ xs) (z ∷ ys) (suc n) y all less is =
 
 module _ (on : Bus) (way : Way) (request idles : ℕ) (mark : Mark) (marked : mark ≡ record { on = on; request = request; idles = idles }) where
   abbrev frame_of : Value → LabFrame
-  frame_of v = record { on = on; way = way_of way; request = request; idles = idles; value = v }
+  frame_of v = record { on = on; way = way; request = request; idles = idles; value = v }
 
   has_mark : (v : Value) → HasMark (frame_of v) mark
   has_mark v = record { on = ap (λ (m : Mark). m.on) (sym marked); request = ap (λ (m : Mark). m.request) (sym marked); idles = ap (λ (m : Mark). m.idles) (sym marked) }
@@ -83,7 +83,7 @@ module _ (on : Bus) (way : Way) (request idles : ℕ) (mark : Mark) (marked : ma
 module _ (file : BoardFile) (lab : Lab) (x : LabModel plans) (on : Bus) (way : Way) (request : ℕ) (mark : Mark) (values : List Value) (frames : List (List ℕ)) where
   pub frames_shown : mark ≡ record { on = on; request = request; idles = idles_in on lab.idles } → Shows file lab x → frames ≡ map written values
       → AllZip (IsFrameOn on) values frames
-      → Shows file (record lab { frames = lab.frames ++ map (sent_as way mark) frames }) (with_frames plans on (way_of way) request values x)
+      → Shows file (record lab { frames = lab.frames ++ map (sent_as way mark) frames }) (with_frames plans on way request values x)
   frames_shown marked shows is read =
       let now : mark ≡ record { on = on; request = request; idles = idles_on plans on x } = marked ∙ (λ i. record { on = on; request = request; idles = sym (shows.idles on) i }) in
       record {
@@ -93,11 +93,11 @@ module _ (file : BoardFile) (lab : Lab) (x : LabModel plans) (on : Bus) (way : W
         smbus = shows.smbus;
         manager = shows.manager;
         named = shows.named;
-        frames = all_append IsSentFrame lab.frames (map (sent_as way mark) frames) x.frames (map (frame_now plans on (way_of way) request x) values) shows.frames
+        frames = all_append IsSentFrame lab.frames (map (sent_as way mark) frames) x.frames (map (frame_now plans on way request x) values) shows.frames
             (frames_sent on way request (idles_on plans on x) mark now values frames is read);
         idles = idles shows;
       }
     where
-      idles : Shows file lab x → (b : Bus) → idles_on plans b (with_frames plans on (way_of way) request values x) ≡ idles_in b lab.idles
+      idles : Shows file lab x → (b : Bus) → idles_on plans b (with_frames plans on way request values x) ≡ idles_in b lab.idles
       idles old bus.Ipmb = old.idles bus.Ipmb
       idles old bus.Smbus = old.idles bus.Smbus

@@ -20,8 +20,10 @@ use Rattle.cfg_records.specs.declared.board_file.BoardFile.{BoardFile}
 use Rattle.bmc_board.specs.State.{state_of}
 use Rattle.model_lab.specs.Values.{IsFrameOn}
 use Rattle.model_lab.specs.PortSteps.{PortState, stays}
-use Rattle.model_lab.specs.Lab.{Way, LabFrame, Noise, Lab as LabModel, port_on, with_port, with_frames}
-use Rattle.model_lab.specs.Faults.{Forged, is_frame, fault_of}
+use Rattle.model_lab.specs.declared.way.Way.{Way}
+use Rattle.model_lab.specs.Lab.{LabFrame, Noise, Lab as LabModel, port_on, with_port, with_frames}
+use Rattle.model_lab.specs.declared.fault.Fault.TheVariants.{Forged}
+use Rattle.model_lab.specs.Faults.{is_frame, fault_of}
 use Rattle.model_lab.specs.Played.{plans}
 use Rattle.bmc_core.specs.declared.out.Out.{Out}
 use Rattle.bmc_core.specs.declared.out.Reason.TheVariants as reason

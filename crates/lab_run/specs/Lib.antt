@@ -1,5 +1,5 @@
+pub mod Marks
 pub mod FramesShown
-pub mod FaultNames
 pub mod Shown
 pub mod Hearing
 pub mod Coming

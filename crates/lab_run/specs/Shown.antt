@@ -6,25 +6,20 @@ use Rattle.two_wire.specs.declared.Bus.TheVariants as bus
 use Rattle.cfg_records.specs.declared.board_file.BoardFile.{BoardFile}
 use Rattle.bmc_board.specs.OwnStore.{own_records}
 use Rattle.bmc_board.specs.State.{state_of}
-use Rattle.bmc_board.specs.Sensing.{scan, tick}
 use Rattle.model_lab.specs.Lab.{LabFrame, Lab as LabModel, idles_on}
 use Rattle.bmc_core.specs.IpmbShown as ipmb
 use Rattle.bmc_core.specs.SmbusShown as smbus
 use Rattle.model_lab.specs.Values.{IsFrameOn}
 use Rattle.undo_core.specs.Shown as manager
 use Rattle.lab_run.specs.declared.frames.SentFrame.{SentFrame}
-use Rattle.model_lab.specs.Meaning.{lab_names, Bench}
+use Rattle.model_lab.specs.Meaning.{lab_names}
 use Rattle.model_lab.specs.Played.{plans, fault_at, happens}
-use Rattle.lab_run.specs.FramesShown.{IsFrame, fault_of}
+use Rattle.lab_run.specs.FramesShown.{IsFrame}
 use Rattle.text_schedule.specs.declared.event.Event.{Event}
 use Rattle.lab_run.specs.declared.lab_state.Idles.{Idles}
 use Rattle.lab_run.specs.declared.lab_state.Lab.{Lab}
 use Rattle.lab_run.specs.declared.step.Refused.{Refused}
 use Rattle.lab_run.specs.declared.step.Refused.TheVariants as refused
-
--- what isn't configuration, on a board of this file: as the board's own bench has it
-abbrev pub own_bench : BoardFile → Bench
-own_bench file = record { scan = scan file; tick = tick }
 
 -- how often the manager's window was forgotten on a bus
 abbrev pub idles_in : Bus → Idles → ℕ
@@ -56,7 +51,7 @@ Becomes old new makes = (file : BoardFile) (x : LabModel plans) → Shows file o
 -- An event is asked of a lab. It happens where it has no fault, and else nothing changes. Where memory is refused, nothing is said.
 abbrev pub Steps : Event → Lab → Result (Unit {0}) Refused → Lab → Type 0
 Steps e old (Ok done) new =
-    (file : BoardFile) (x : LabModel plans) → Shows file old x → (fault_at (own_bench file) file x e ≡ None) × Shows file new (happens (own_bench file) file e x)
+    (file : BoardFile) (x : LabModel plans) → Shows file old x → (fault_at file x e ≡ None) × Shows file new (happens file e x)
 Steps e old (Err (refused.Fault fault)) new =
-    (new ≡ old) × ((file : BoardFile) (x : LabModel plans) → Shows file old x → fault_at (own_bench file) file x e ≡ Some (fault_of fault))
+    (new ≡ old) × ((file : BoardFile) (x : LabModel plans) → Shows file old x → fault_at file x e ≡ Some fault)
 Steps e old (Err refused.Memory) new = Unit {0}

@@ -4,20 +4,19 @@ ghost use Rattle.cfg_records.specs.declared.board_file.BoardFile.{BoardFile as A
 ghost use Rattle.undo_core.specs.Shown.{Calls, IsSent};
 ghost use Rattle.model_lab.specs.ManagerSteps.{Sent as AllSent, called};
 ghost use Rattle.model_lab.specs.Lab.{Lab as LabModel, sends, call_does, returned};
-ghost use Rattle.model_lab.specs.Meaning.{call_of};
 ghost use Rattle.model_lab.specs.Played.{plans};
 ghost use Rattle.lab_run.specs.Shown.{Shows, Becomes};
 
-use crate::frames::Way;
 use crate::lab_state::Lab;
-use model_lab::marks::Mark;
+use crate::marks::Mark;
+use model_lab::Way;
 use std::alloc::AllocError;
 use text_schedule::Call;
 use undo_core::{Manager, Sent, WrongPhase};
 
 /// Calls the manager.
 fn made(manager: &mut Manager, call: Call) -> Result<Option<Sent>, WrongPhase>
-    ensures { Calls (call_of call) manager.old manager.new result }
+    ensures { Calls call manager.old manager.new result }
 {
     match call {
         Call::Start => manager.start(),
@@ -31,7 +30,7 @@ fn made(manager: &mut Manager, call: Call) -> Result<Option<Sent>, WrongPhase>
 impl Lab {
     /// The manager is called. In a wrong phase nothing changes.
     pub(crate) fn call(&mut self, call: Call) -> Result<(), AllocError>
-        ensures becomes { OnOk result (Becomes self.old self.new (λ file x. call_does plans (called plans (call_of call) x.manager) x)) }
+        ensures becomes { OnOk result (Becomes self.old self.new (λ file x. call_does plans (called plans call x.manager) x)) }
         ensures idles { self.new.idles ≡ self.old.idles }
     {
         match made(&mut self.manager, call) {

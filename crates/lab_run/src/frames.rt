@@ -2,38 +2,14 @@
 ghost use Rattle.std.specs.Prelude.{◌≡◌, ◌++◌, ◌∷◌, [], length, nat_le, slice_get, Some, None, IfSome, IfNone, is_ok, if◌then◌else◌, OnOk, map};
 ghost use Rattle.lab_run.specs.FramesShown.{sent_as};
 
-use model_lab::marks::Mark;
+use crate::marks::Mark;
+use model_lab::Way;
 use std::alloc::{AllocError, Global};
 use std::marker::Model;
 use two_wire::Frame;
 
 /// A lab that sent so many frames takes no event that could send another.
 pub const MOST_FRAMES: usize = 65_536;
-
-/// To whom a frame goes.
-#[derive(Clone, Copy, Debug, PartialEq, Eq)]
-pub enum Way {
-    ToPort,
-    ToManager,
-    ToOthers,
-}
-
-impl Way {
-    ghost use Rattle.model_lab.specs.Faults.{same_way};
-    ghost use Rattle.lab_run.specs.FramesShown.{way_of};
-
-    /// Whether it's this one.
-    pub fn is(self, other: Way) -> bool
-        ensures { result ≡ same_way (way_of self) (way_of other) }
-    {
-        match (self, other) {
-            (Way::ToPort, Way::ToPort)
-            | (Way::ToManager, Way::ToManager)
-            | (Way::ToOthers, Way::ToOthers) => true,
-            _ => false,
-        }
-    }
-}
 
 /// A frame that was sent.
 #[derive(Debug, Drop)]

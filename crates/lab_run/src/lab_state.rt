@@ -17,12 +17,12 @@ ghost use Rattle.lab_run.specs.Shown.{Shows, idles_in};
 
 use crate::fault::Marks;
 use crate::frames::Frames;
+use crate::marks::Known;
 use crate::names::lab_names;
 use bmc_board::{Board, Records};
 use bmc_core::{At, IpmbPort, Out, SmbusPort};
 use cfg_records::BoardFile;
 use mctp_net::EndpointId;
-use model_lab::marks::Known;
 use std::alloc::{AllocError, Global};
 use two_wire::Bus;
 use undo_core::{Manager, OpenFault};

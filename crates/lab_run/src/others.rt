@@ -1,23 +1,23 @@
 //! What is wrong with what others do.
-ghost use Rattle.std.specs.Prelude.{◌≡◌, ◌≤◌, length, [], ◌∷◌, Some, None, option_map};
+ghost use Rattle.std.specs.Prelude.{◌≡◌, ◌≤◌, length, [], ◌∷◌, Some, None};
 ghost use Rattle.two_wire.specs.Sizes.{most_message_bytes};
 ghost use Rattle.undo_plans.specs.declared.names.Names.{Names as AnyNames};
 ghost use Rattle.model_undo.specs.Machine.{open_bus};
 ghost use Rattle.model_lab.specs.PortSteps.{asked_in};
 ghost use Rattle.model_lab.specs.ManagerSteps.{board_plans};
 ghost use Rattle.model_lab.specs.Lab.{Lab, Noise, Idles};
-ghost use Rattle.model_lab.specs.Faults.{fault_of as fault_of_event, first_of, check, Changing, Impersonates, is_own, message_changes};
+ghost use Rattle.model_lab.specs.declared.fault.Fault.TheVariants.{Changing, Impersonates};
+ghost use Rattle.model_lab.specs.Faults.{fault_of as fault_of_event, first_of, check, is_own, message_changes};
 ghost use Rattle.two_wire.specs.declared.Bus.TheVariants.{Ipmb, Smbus};
 ghost use Rattle.bmc_board.specs.Table.{is_changing};
-ghost use Rattle.lab_run.specs.FramesShown.{fault_of};
 ghost use Rattle.model_lab.specs.Meaning.{request_of};
 
-use crate::fault::Fault;
+use crate::marks::is_still_open;
 use bmc_board::is_changing;
 use cfg_records::Asked;
 use ipmb_frame::read_frame;
 use mctp_net::read_packet;
-use model_lab::marks::is_still_open;
+use model_lab::Fault;
 use pldm_base::{PldmBytes, read_pldm};
 use text_schedule::{OtherMessage, OtherRequest};
 use two_wire::{Bus, Bytes};
@@ -28,7 +28,7 @@ const PLDM_TYPE: u8 = 0x01;
 
 /// What is wrong with noise.
 pub fn noise_fault(on: Bus, bytes: &[u8]) -> Option<Fault>
-    ensures { (names : AnyNames) (x : Lab (board_plans names)) → option_map fault_of result ≡ fault_of_event (board_plans names) x (Noise on bytes.now) }
+    ensures { (names : AnyNames) (x : Lab (board_plans names)) → result ≡ fault_of_event (board_plans names) x (Noise on bytes.now) }
 {
     let reads = match on {
         Bus::Ipmb => read_frame(bytes).is_ok(),
@@ -40,7 +40,7 @@ pub fn noise_fault(on: Bus, bytes: &[u8]) -> Option<Fault>
 /// What is wrong with forgetting a requester's window, where a request of the manager is open on that bus or on none.
 pub fn idle_fault(names: &Names, on: Bus, requester: u8, opened_on: Option<Bus>) -> Option<Fault>
     ensures { (x : Lab (board_plans names.now)) → x.manager.names ≡ names.now → open_bus (board_plans names.now).words x.manager.machine ≡ opened_on
-        → option_map fault_of result ≡ fault_of_event (board_plans names.now) x (Idles on requester) }
+        → result ≡ fault_of_event (board_plans names.now) x (Idles on requester) }
 {
     if is_still_open(names, on, requester, opened_on) {
         Some(Fault::StillOpen)
@@ -74,7 +74,7 @@ fn is_own(on: Bus, names: &Names, from: u8) -> bool
 
 /// What is wrong with another requester's request but for want of room.
 pub fn request_fault(names: &Names, request: &OtherRequest) -> Option<Fault>
-    ensures { option_map fault_of result ≡ first_of (check Changing (is_changing (asked_in (request_of names.now request.now)))
+    ensures { result ≡ first_of (check Changing (is_changing (asked_in (request_of names.now request.now)))
         ∷ check Impersonates (is_own Ipmb names.now request.now.requester.address) ∷ []) }
 {
     if is_changing(&asked(request)) {
@@ -110,7 +110,7 @@ fn message_changes(from: u8, bytes: &[u8]) -> bool
 
 /// What is wrong with another requester's message but for want of room.
 pub fn message_fault(names: &Names, message: &OtherMessage) -> Option<Fault>
-    ensures { option_map fault_of result ≡ first_of (check Changing (message_changes message.now.from message.now.body)
+    ensures { result ≡ first_of (check Changing (message_changes message.now.from message.now.body)
         ∷ check Impersonates (is_own Smbus names.now message.now.from) ∷ []) }
 {
     if message_changes(message.from, message.body.as_slice()) {

@@ -7,20 +7,20 @@ ghost use Rattle.ipmb_frame.specs.Grammar.{IsRequest};
 ghost use Rattle.cfg_records.specs.declared.board_file.BoardFile.{BoardFile as AnyFile};
 ghost use Rattle.model_lab.specs.Values.{Value, Asks, Part, IsFrameOn, parts_of};
 ghost use Rattle.model_lab.specs.PortSteps.{hears, hears_all, idles, stays};
-ghost use Rattle.model_lab.specs.Lab.{LabFrame, Lab as LabModel, ToOthers, delivered, port_does, port_on, with_port, with_frames};
+ghost use Rattle.model_lab.specs.declared.way.Way.TheVariants.{ToOthers};
+ghost use Rattle.model_lab.specs.Lab.{LabFrame, Lab as LabModel, delivered, port_does, port_on, with_port, with_frames};
 ghost use Rattle.model_lab.specs.Meaning.{lab_names as the_names, other_wire, request_of, message_of};
 ghost use Rattle.model_lab.specs.Faults.{is_frame};
 ghost use Rattle.model_lab.specs.Played.{plans};
-ghost use Rattle.lab_run.specs.FramesShown.{way_of};
 ghost use Rattle.lab_run.specs.Shown.{Shows, Becomes, idles_in};
 ghost use Rattle.lab_run.specs.Hearing.{HasFrames, HasHeard, done_on, Ignores};
 
-use crate::frames::Way;
 use crate::lab_state::Lab;
+use crate::marks::Mark;
 use arrayvec::ArrayVec;
 use ipmb_frame::{Header, Party, Request, write_request};
 use mctp_net::{Envelope, Message, SomeData, Tag, split};
-use model_lab::marks::Mark;
+use model_lab::Way;
 use std::alloc::AllocError;
 use text_schedule::{OtherMessage, OtherRequest};
 use two_wire::{Address, Bus, Data, Frame};
@@ -147,7 +147,7 @@ impl Lab {
     fn send_out(&mut self, way: Way, mark: Mark) -> Result<(), AllocError>
         requires { mark.idles ≡ idles_in mark.on self.old.idles }
         ensures sent { OnOk result ((file : AnyFile) (x : LabModel plans) (values : List Value) → Shows file self.old x → HasFrames mark.on values self.old.out
-            → Shows file self.new (with_frames plans mark.on (way_of way) mark.request values x)) }
+            → Shows file self.new (with_frames plans mark.on way mark.request values x)) }
         ensures out { self.new.out ≡ self.old.out }
         ensures idles { self.new.idles ≡ self.old.idles }
     {

@@ -1,19 +1,17 @@
 //! Events.
-ghost use Rattle.std.specs.Prelude.{◌≡◌, ◌<◌, ◌≤◌, suc, None, option_map, OnOk};
+ghost use Rattle.std.specs.Prelude.{◌≡◌, ◌<◌, ◌≤◌, suc, None, OnOk};
 ghost use Rattle.two_wire.specs.declared.Bus.{Bus as AnyBus};
 ghost use Rattle.cfg_records.specs.declared.board_file.BoardFile.{BoardFile as AnyFile};
 ghost use Rattle.model_lab.specs.Lab.{Lab as LabModel};
 ghost use Rattle.model_lab.specs.Played.{plans, fault_at, happens};
-ghost use Rattle.lab_run.specs.FramesShown.{fault_of};
-ghost use Rattle.lab_run.specs.Shown.{Shows, Becomes, Steps, own_bench, idles_in};
+ghost use Rattle.lab_run.specs.Shown.{Shows, Becomes, Steps, idles_in};
 ghost use Rattle.lab_run.specs.Hearing.{Did};
 ghost use Rattle.bmc_board.specs.Sensing.{bench_of};
 
-use crate::fault::Fault;
-use crate::frames::Way;
 use crate::lab_state::Lab;
 use crate::others::{idle_fault, message_fault, noise_fault, request_fault};
 use bmc_board::Bench;
+use model_lab::{Fault, Way};
 use std::alloc::AllocError;
 use text_schedule::Event;
 
@@ -29,7 +27,7 @@ pub enum Refused {
 impl Lab {
     /// The first thing that is wrong with an event.
     fn fault(&self, event: &Event) -> Option<Fault>
-        ensures { (file : AnyFile) (x : LabModel plans) → Shows file self.now x → option_map fault_of result ≡ fault_at (own_bench file) file x event.now }
+        ensures { (file : AnyFile) (x : LabModel plans) → Shows file self.now x → result ≡ fault_at file x event.now }
     {
         let marks = self.marks();
         match event {
@@ -62,9 +60,9 @@ impl Lab {
 
     /// An event without a fault happens.
     fn happen(&mut self, event: &Event) -> Result<(), AllocError>
-        requires taken { (file : AnyFile) (x : LabModel plans) → Shows file self.now x → fault_at (own_bench file) file x event.now ≡ None }
+        requires taken { (file : AnyFile) (x : LabModel plans) → Shows file self.now x → fault_at file x event.now ≡ None }
         requires few { (on : AnyBus) → idles_in on self.now.idles < 9223372036854775807 }
-        ensures becomes { OnOk result (Becomes self.old self.new (λ file. happens (own_bench file) file event.now)) }
+        ensures becomes { OnOk result (Becomes self.old self.new (λ file. happens file event.now)) }
         ensures done { OnOk result (Did event.now self.old self.new) }
         ensures few { (on : AnyBus) → idles_in on self.new.idles ≤ suc (idles_in on self.old.idles) }
     {

@@ -3,7 +3,6 @@ ghost use Rattle.std.specs.Prelude.{◌≡◌};
 ghost use Rattle.std.specs.List.{AllZip};
 ghost use Rattle.cfg_records.specs.declared.board_file.BoardFile.{BoardFile as AnyFile};
 ghost use Rattle.model_undo.specs.Machine.{phase_of};
-ghost use Rattle.undo_core.specs.Phases as phases;
 ghost use Rattle.undo_core.specs.Shown.{backs};
 ghost use Rattle.model_lab.specs.Lab.{Lab as LabModel};
 ghost use Rattle.model_lab.specs.Faults.{begun_on};
@@ -22,7 +21,7 @@ use undo_plans::UndoList;
 impl Lab {
     /// Where the manager is.
     pub fn phase(&self) -> Phase
-        ensures { (file : AnyFile) (x : LabModel plans) → Shows file self.now x → phases.phase_of result ≡ phase_of plans.words x.manager.machine }
+        ensures { (file : AnyFile) (x : LabModel plans) → Shows file self.now x → result ≡ phase_of plans.words x.manager.machine }
     {
         self.manager.phase()
     }

@@ -3,9 +3,9 @@ use Rattle.std.proofs.Common.{◌≡◌, ℕ, ◌+◌, ◌*◌, ◌/◌, ◌%◌
 use Rattle.std.specs.Prelude.{slice_get, slice_index}
 use Rattle.std.proofs.lemmas.Bool.{and_parts, and_from, and_right, eqb-true, eq-eqb, lt-ltb, cond_both, cond-true, cases_Bool, true≢false, not_from_false, not_from_true}
 use Rattle.std.proofs.lemmas.Option.{same_Some, slice_get_within}
-use Rattle.model_bus.specs.declared.numbers.Numbers.{Numbers}
-use Rattle.model_bus.specs.declared.numbers.Numbers.TheVariants.{Ipmb, Pldm}
-use Rattle.model_bus.specs.Numbering.{Bus, ipmb, smbus}
+use Rattle.two_wire.specs.declared.Bus.{Bus}
+use Rattle.two_wire.specs.declared.Bus.TheVariants.{Ipmb, Smbus}
+use Rattle.model_bus.specs.Numbering.{Rules, ipmb, smbus}
 use Rattle.model_bus.specs.BusState.{BusState, Content, Ask, Reply, is_open, taken_content}
 use Rattle.model_bus.specs.PacketBus.{rules_of}
 use Rattle.model_bus.specs.PacketSchedule.{JoinRule}
@@ -73,13 +73,13 @@ pldm_numbered code m n opened asked reply o a r passes =
     ap (λ (x : List ℕ). pldm_answers x (pldm_reply h r.number code r.body)) (sym o.spelled) ∙ ap (pldm_answers opened) (sym r.reply_spelled) ∙ passes in
     own ∙ same_instance r.number m r.instance o.instance (eqb-true _ _ (and_parts _ _ (and_parts _ _ here).0).1)
 
-accepts : (kind : Numbers) (code : ℕ) (request reply : List ℕ) → is_busy_code code ≡ false → IsReplyOn kind code request reply → answers kind request reply ≡ true
+accepts : (on : Bus) (code : ℕ) (request reply : List ℕ) → is_busy_code code ≡ false → IsReplyOn on code request reply → answers on request reply ≡ true
 accepts Ipmb code request reply free r = ipmb_accepts code request reply free r
-accepts Pldm code request reply free r = pldm_accepts code request reply free r
+accepts Smbus code request reply free r = pldm_accepts code request reply free r
 
-numbered : (kind : Numbers) (code m n : ℕ) (opened asked reply : List ℕ) → IsRequestOn kind m opened → IsRequestOn kind n asked → IsReplyOn kind code asked reply → answers kind opened reply ≡ true → n ≡ m
+numbered : (on : Bus) (code m n : ℕ) (opened asked reply : List ℕ) → IsRequestOn on m opened → IsRequestOn on n asked → IsReplyOn on code asked reply → answers on opened reply ≡ true → n ≡ m
 numbered Ipmb code m n opened asked reply o a r passes = ipmb_numbered code m n opened asked reply o a r passes
-numbered Pldm code m n opened asked reply o a r passes = pldm_numbered code m n opened asked reply o a r passes
+numbered Smbus code m n opened asked reply o a r passes = pldm_numbered code m n opened asked reply o a r passes
 
 ipmb_busy : (code : ℕ) (opened : List ℕ) (h : IpmbHeader) (number : ℕ) (body : List ℕ) → is_busy_code code ≡ true → ipmb_answers opened (ipmb_reply h number code body) ≡ false
 ipmb_busy code [] h number body busy = refl
@@ -94,15 +94,15 @@ pldm_busy code (k ∷ f ∷ []) h number body busy = refl
 pldm_busy code (k ∷ f ∷ t ∷ []) h number body busy = refl
 pldm_busy code (k ∷ f ∷ t ∷ c ∷ rest) h number body busy = and_right _ _ (and_right _ _ (not_from_true _ busy))
 
-pub busy_fails : (kind : Numbers) → BusyFails kind
+pub busy_fails : (on : Bus) → BusyFails on
 busy_fails Ipmb code opened request reply busy r = ap (ipmb_answers opened) r.reply_spelled ∙ ipmb_busy code opened r.header r.number r.body busy
-busy_fails Pldm code opened request reply busy r = ap (pldm_answers opened) r.reply_spelled ∙ pldm_busy code opened r.header r.number r.body busy
+busy_fails Smbus code opened request reply busy r = ap (pldm_answers opened) r.reply_spelled ∙ pldm_busy code opened r.header r.number r.body busy
 
 -- ---- what is taken
 
-module _ (kind : Numbers) (b : Bus) (numbers : IsNumbering b) (s : BusState) (h : Holds b s) (written : AreWritten kind b s) where
+module _ (on : Bus) (b : Rules) (numbers : IsNumbering b) (s : BusState) (h : Holds b s) (written : AreWritten on b s) where
   pub test_is_model : (n : ℕ) (c : Content) (opened : List ℕ) → slice_get s.begun (length s.taken) ≡ Some opened → length s.begun ≤ n + b.span → Fits b s.begun s.carried n c
-      → taken_content b c s ≡ taken_by_test kind opened c
+      → taken_content b c s ≡ taken_by_test on opened c
   test_is_model n (Ask bytes) opened at live fits = refl
   test_is_model n (Reply number None) opened at live fits = refl
   test_is_model n (Reply number (Some reply)) opened at live fits =
@@ -110,41 +110,41 @@ module _ (kind : Numbers) (b : Bus) (numbers : IsNumbering b) (s : BusState) (h 
       let k = fits.1.kept in
       let asked_at = (h.sound.asked n k fits.1.at).0 in
       let r = written.replies n k fits.1.at in
-      let answered : IsReplyOn kind r.0 k.request.bytes reply = subst (IsReplyOn kind r.0 k.request.bytes) fits.1.replied r.2 in
+      let answered : IsReplyOn on r.0 k.request.bytes reply = subst (IsReplyOn on r.0 k.request.bytes) fits.1.replied r.2 in
       let open_at : place < length s.begun = slice_get_within s.begun place opened at in
       let is_now : is_open s ≡ true = lt-ltb place (length s.begun) open_at in
       let one_open = h.sound.one_open in let below = h.sound.below in
       let within = slice_get_within s.begun n k.request.bytes asked_at in
       let none : Option (List ℕ) = None in
-      elim (cases_Bool (answers kind opened reply)) [
+      elim (cases_Bool (answers on opened reply)) [
         | inl passes ↦
             let same : b.number_of n ≡ b.number_of place =
-            numbered kind r.0 (b.number_of place) (b.number_of n) opened k.request.bytes reply (written.requests place opened at) (written.requests n k.request.bytes asked_at) answered passes in
+            numbered on r.0 (b.number_of place) (b.number_of n) opened k.request.bytes reply (written.requests place opened at) (written.requests n k.request.bytes asked_at) answered passes in
             cond-true _ _ _ (and_from _ _ is_now (eq-eqb number (b.number_of place) (fits.0 ∙ same))) ∙ sym (ap (λ (t : Bool). cond t (Some reply) none) passes)
         | inr fails ↦
             cond_both (is_open s && eqb number (b.number_of place)) (Some reply) none (λ (o : Option (List ℕ)). o ≡ none)
             (λ t.
             let same : n ≡ place = numbers.one n place (omega arith) (omega arith) (sym fits.0 ∙ eqb-true _ _ (and_parts _ _ t).1) in
             let is : k.request.bytes ≡ opened = same_Some _ _ (sym asked_at ∙ ap (slice_get s.begun) same ∙ at) in
-            let passes : answers kind opened reply ≡ true = subst (λ (x : List ℕ). answers kind x reply ≡ true) is (accepts kind r.0 k.request.bytes reply r.1 answered) in
+            let passes : answers on opened reply ≡ true = subst (λ (x : List ℕ). answers on x reply ≡ true) is (accepts on r.0 k.request.bytes reply r.1 answered) in
             absurd (true≢false (sym passes ∙ fails)))
             (λ f. refl)
             ∙ sym (ap (λ (t : Bool). cond t (Some reply) none) fails)
       ]
 
-  pub tests_agree : TestsAgree kind b s
+  pub tests_agree : TestsAgree on b s
   tests_agree which f opened at live is = test_is_model f.request f.content opened is live.0 (h.sound.frames which f at).fits
 
-whole_messages : (kind : Numbers) (b : Bus) → IsNumbering b → TestIsModel kind b
-whole_messages kind b numbers start events none empty honest written = tests_agree kind b numbers _ (run_holds b numbers events start (start_holds b start none empty) honest) written
+whole_messages : (on : Bus) (b : Rules) → IsNumbering b → TestIsModel on b
+whole_messages on b numbers start events none empty honest written = tests_agree on b numbers _ (run_holds b numbers events start (start_holds b start none empty) honest) written
 
 pub ipmb_test : (manager controller first : ℕ) → TestIsModel Ipmb (ipmb manager controller first)
 ipmb_test manager controller first = whole_messages Ipmb (ipmb manager controller first) (ipmb_numbers manager controller first)
 
-pub smbus_test : (manager controller first : ℕ) → TestIsModel Pldm (smbus manager controller first)
-smbus_test manager controller first = whole_messages Pldm (smbus manager controller first) (smbus_numbers manager controller first)
+pub smbus_test : (manager controller first : ℕ) → TestIsModel Smbus (smbus manager controller first)
+smbus_test manager controller first = whole_messages Smbus (smbus manager controller first) (smbus_numbers manager controller first)
 
-pub packet_test : (rule : JoinRule) → AsksNoLess rule → TestIsModelInPackets Pldm rule
+pub packet_test : (rule : JoinRule) → AsksNoLess rule → TestIsModelInPackets Smbus rule
 packet_test rule asks b cutting start events none waits empty honest written =
     let ok = packet_run_holds b cutting start.bus.log events start (start_ends_hold b cutting start none waits empty) (all_imply rule asks b events start honest) in
-    tests_agree Pldm (rules_of b) (smbus_numbers b.manager b.controller b.first) _ ok.holds written
+    tests_agree Smbus (rules_of b) (smbus_numbers b.manager b.controller b.first) _ ok.holds written

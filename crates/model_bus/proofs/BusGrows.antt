@@ -5,7 +5,7 @@ use Rattle.std.proofs.lemmas.Bool.{cond_both}
 use Rattle.std.proofs.lemmas.Option.{none-some, slice_get_within}
 use Rattle.model_bus.specs.Request.{Kept}
 use Rattle.model_bus.specs.Carried.{Outcome, Repeats, IsBusy, IsNew, outcome, carried_after}
-use Rattle.model_bus.specs.Numbering.{Bus}
+use Rattle.model_bus.specs.Numbering.{Rules}
 use Rattle.model_bus.specs.BusState.{BusState, Frame, Content, Ask, Reply, Event, Begins, SendsAgain, ReachesPort, ReachesManager, OtherAsks, IsIdle, Resumes, request_of, is_open, begins, sends_again, comes, taken_now, taken_from, OtherReplies, takes_if, at_port, happens}
 use Rattle.model_bus.proofs.Lists.{Grows, grows}
 
@@ -22,7 +22,7 @@ carried_grows (Repeats reply) k ks = λ n x e. e
 carried_grows IsBusy k ks = λ n x e. e
 carried_grows IsNew k ks = grows ks (k ∷ [])
 
-module _ (b : Bus) where
+module _ (b : Rules) where
   pub comes_grow : (answer : List ℕ) (n : ℕ) (c : Content) (s : BusState) → BusGrows s (comes b answer n c s)
   comes_grow answer n (Ask bytes) s = record { begun = λ n x e. e; carried = carried_grows (outcome b.is_above (request_of b n bytes) s.log) (record { request = request_of b n bytes; reply = answer }) s.carried }
   comes_grow answer n (Reply number reply) s = stays s

@@ -5,7 +5,7 @@ use Rattle.std.proofs.lemmas.Bool.{cond-true, cond-false, and_from, or_from, le-
 use Rattle.std.proofs.lemmas.Option.{none-some}
 use Rattle.model_bus.specs.Request.{carried_since}
 use Rattle.model_bus.specs.Carried.{Outcome, IsNew, outcome, outcome_of, is_busy}
-use Rattle.model_bus.specs.Numbering.{Bus, ipmb, smbus}
+use Rattle.model_bus.specs.Numbering.{Rules, ipmb, smbus}
 use Rattle.model_bus.specs.BusState.{request_of, Content, Reply, BusState, is_open, new_bytes, carried_content, taken_content}
 use Rattle.model_bus.specs.Effect.{IsKeptFor}
 use Rattle.model_bus.specs.Packet.{Packet, IsCutFrom}
@@ -27,7 +27,7 @@ ended [] n none = omega arith
 ended (x ∷ xs) zero none = absurd (none-some x (sym none))
 ended (x ∷ xs) (suc n) none = let rest = ended xs n none in omega arith
 
-module _ (b : Bus) (numbers : IsNumbering b) (s : BusState) (h : Holds b s) where
+module _ (b : Rules) (numbers : IsNumbering b) (s : BusState) (h : Holds b s) where
   -- the open request, not yet carried out, is new unless the controller is busy
   pub open_is_new : (bytes : List ℕ) → slice_get s.carried (length s.taken) ≡ None → is_busy b.manager s.log ≡ false → outcome b.is_above (request_of b (length s.taken) bytes) s.log ≡ IsNew
   open_is_new bytes none free =
@@ -53,7 +53,7 @@ module _ (b : Bus) (numbers : IsNumbering b) (s : BusState) (h : Holds b s) wher
         );
   }
 
-whole_messages : (b : Bus) → IsNumbering b → OpenGoesThrough b
+whole_messages : (b : Rules) → IsNumbering b → OpenGoesThrough b
 whole_messages b numbers start events none empty honest = goes_through b numbers _ (run_holds b numbers events start (start_holds b start none empty) honest)
 
 pub ipmb_goes_through : (manager controller first : ℕ) → OpenGoesThrough (ipmb manager controller first)

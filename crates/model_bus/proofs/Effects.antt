@@ -5,7 +5,7 @@ use Rattle.std.proofs.lemmas.Bool.{and_parts, eqb-true, ltb-true, ltb-false, con
 use Rattle.std.proofs.lemmas.Option.{slice_get_within, slice_get_past}
 use Rattle.model_bus.specs.Request.{Kept, Entry}
 use Rattle.model_bus.specs.Carried.{Outcome, outcome_of, is_busy}
-use Rattle.model_bus.specs.Numbering.{Bus}
+use Rattle.model_bus.specs.Numbering.{Rules}
 use Rattle.model_bus.specs.BusState.{request_of, Content, Ask, Reply, Frame, BusState, Event, Begins, SendsAgain, ReachesPort, ReachesManager, OtherAsks, OtherReplies, IsIdle, Resumes, is_open, begins, sends_again, hears, comes, takes_if, at_port, new_bytes, carried_content, carried_now, taken_content, taken_now}
 use Rattle.model_bus.specs.Schedule.{IsLive, IsHonest}
 use Rattle.model_bus.specs.Effect.{IsKeptFor, SameRequests, IsBegun, IsCarried, IsTaken, HasEffect}
@@ -16,7 +16,7 @@ use Rattle.model_bus.proofs.Strangers.{ignored}
 use Rattle.model_bus.proofs.Sound.{seen, Fits}
 use Rattle.model_bus.proofs.Steps.{Holds, heard}
 
-module _ (b : Bus) (numbers : IsNumbering b) where
+module _ (b : Rules) (numbers : IsNumbering b) where
   new_effect : (s : BusState) (h : Holds b s) (n : ℕ) (bytes answer : List ℕ) (busy : Bool) → n ≡ length s.carried → slice_get s.begun n ≡ Some bytes
       → let k : Kept = record { request = request_of b n bytes; reply = answer } in
       MatchOption (new_bytes (outcome_of None busy) bytes) (SameRequests s (heard b numbers s n k (outcome_of None busy))) (λ bytes. IsCarried s (heard b numbers s n k (outcome_of None busy)) bytes answer)

@@ -4,7 +4,7 @@ use Rattle.std.specs.Prelude.{slice_get, cond}
 use Rattle.std.proofs.lemmas.Bool.{cond_both, eq-eqb, ne_eqb}
 use Rattle.model_bus.specs.Request.{Kept, Entry, Carried, carried_by}
 use Rattle.model_bus.specs.Carried.{Outcome, Repeats, IsBusy, IsNew, outcome, log_after, carried_after}
-use Rattle.model_bus.specs.Numbering.{Bus}
+use Rattle.model_bus.specs.Numbering.{Rules}
 use Rattle.model_bus.specs.BusState.{request_of, Content, Ask, Reply, Frame, BusState, Event, Begins, SendsAgain, ReachesPort, ReachesManager, OtherAsks, IsIdle, Resumes, is_open, begins, sends_again, comes, takes_if, taken_now, taken_from, OtherReplies, at_port, happens, run}
 use Rattle.model_bus.specs.Schedule.{IsHonest, AllHonest}
 use Rattle.model_bus.specs.Start.{NothingUnderWay}
@@ -29,7 +29,7 @@ other m before log carried k (Repeats reply) e h = h
 other m before log carried k IsBusy e h = h
 other m before log carried k IsNew e h = carried_by-other m k log e ∙ h
 
-module _ (b : Bus) (before : List Entry) where
+module _ (b : Rules) (before : List Entry) where
   -- the log of a bus does
   abbrev pub LogShows : BusState → Type 0
   LogShows s = InLog b.manager before s.log s.carried

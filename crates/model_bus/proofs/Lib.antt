@@ -23,7 +23,5 @@ pub mod Cutting
 pub mod Decides
 pub mod PacketDecides
 pub mod Schedules
-pub mod FrameMarks
-pub mod StepsSoFar
 pub mod Windows
 pub mod WindowSteps

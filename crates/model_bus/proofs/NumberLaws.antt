@@ -1,10 +1,10 @@
 -- What the two numberings have in common.
 use Rattle.std.proofs.Common.{◌≡◌, ◌≢◌, ℕ, ◌+◌, ◌-◌, ◌%◌, ◌<◌, ◌≤◌, true, false, not, inl, inr, arith, sym, ◌∙◌, ap}
 use Rattle.std.proofs.lemmas.Bool.{and_from, and_left, and_right, lt-ltb, le-ltb, le-leb, lt-leb, cases_lt}
-use Rattle.model_bus.specs.Numbering.{Bus, ipmb, smbus, is_above, is_next}
+use Rattle.model_bus.specs.Numbering.{Rules, ipmb, smbus, is_above, is_next}
 
 -- what the theorem needs of a numbering
-pub record IsNumbering (b : Bus) : Type 0 where
+pub record IsNumbering (b : Rules) : Type 0 where
   -- the numbers of the next requests are above
   pub near : (m n : ℕ) → m < n → n < m + b.span → b.is_above (b.number_of m) (b.number_of n) ≡ true
   -- before a number comes again, one came that is not above

@@ -4,7 +4,7 @@ use Rattle.std.specs.Prelude.{slice_get, IfSome, nat_le, ◌==◌}
 use Rattle.std.specs.List.{list_all}
 use Rattle.std.proofs.lemmas.Bool.{and_parts, leb-true, eqb-true, eqb-false, not-true, or_cases, both_ways, true≢false}
 use Rattle.model_bus.specs.Request.{idles_of}
-use Rattle.model_bus.specs.Numbering.{Bus}
+use Rattle.model_bus.specs.Numbering.{Rules}
 use Rattle.model_bus.specs.BusState.{BusState, Frame, Content, Ask, Reply, Event, Begins, SendsAgain, ReachesPort, ReachesManager, OtherAsks, OtherReplies, IsIdle, Resumes}
 use Rattle.model_bus.specs.Schedule.{IsLive, is_live}
 use Rattle.model_bus.specs.Repeat.{In}
@@ -26,15 +26,15 @@ rule_of true = AnyJoin
 rule_of false = LiveWhereJoined
 
 -- a packet that waits is live
-abbrev pub sent_is_live : Bus → BusState → Sent → Bool
+abbrev pub sent_is_live : Rules → BusState → Sent → Bool
 sent_is_live b s t = nat_le (length s.begun) (t.request + b.span) && (t.idles == idles_of b.manager s.log)
 
 -- it may be joined to what waits
-abbrev pub may_join : Bool → Bus → BusState → List Sent → Sent → Bool
+abbrev pub may_join : Bool → Rules → BusState → List Sent → Sent → Bool
 may_join any b s taken p = any || (not (is_joined (takes taken p).0) || list_all (sent_is_live b s) (waiting taken p))
 
 -- the same of a packet, if there is one
-abbrev pub packet_may_join : Bool → Bus → BusState → List Sent → ℕ → ℕ → Option Packet → Bool
+abbrev pub packet_may_join : Bool → Rules → BusState → List Sent → ℕ → ℕ → Option Packet → Bool
 packet_may_join any b s taken n idles None = true
 packet_may_join any b s taken n idles (Some p) = may_join any b s taken (record { request = n; idles = idles; packet = p })
 
@@ -85,7 +85,7 @@ all_tells p [] all t is = absurd is
 all_tells p (u ∷ us) all t (inl e) = subst (λ (t : Sent). p t ≡ true) e (and_parts _ _ all).0
 all_tells p (u ∷ us) all t (inr is) = all_tells p us (and_parts _ _ all).1 t is
 
-may_join-tells : (any : Bool) (b : Bus) (s : BusState) (taken : List Sent) (p : Sent) → may_join any b s taken p ≡ true → MayJoin (rule_of any) b s taken p
+may_join-tells : (any : Bool) (b : Rules) (s : BusState) (taken : List Sent) (p : Sent) → may_join any b s taken p ≡ true → MayJoin (rule_of any) b s taken p
 may_join-tells true b s taken p h = tt
 may_join-tells false b s taken p h =
     λ joined t is. elim (or_cases (not (is_joined (takes taken p).0)) (list_all (sent_is_live b s) (waiting taken p)) h) [
@@ -93,7 +93,7 @@ may_join-tells false b s taken p h =
       | inr all ↦ let parts = and_parts _ _ (all_tells (sent_is_live b s) (waiting taken p) all t is) in (leb-true _ _ parts.0, eqb-true _ _ parts.1)
     ]
 
-packet_may_join-tells : (any : Bool) (b : Bus) (s : BusState) (taken : List Sent) (n idles : ℕ) (o : Option Packet) → packet_may_join any b s taken n idles o ≡ true → PacketMayJoin (rule_of any) b s taken n idles o
+packet_may_join-tells : (any : Bool) (b : Rules) (s : BusState) (taken : List Sent) (n idles : ℕ) (o : Option Packet) → packet_may_join any b s taken n idles o ≡ true → PacketMayJoin (rule_of any) b s taken n idles o
 packet_may_join-tells any b s taken n idles None t = tt
 packet_may_join-tells any b s taken n idles (Some p) t = may_join-tells any b s taken (record { request = n; idles = idles; packet = p }) t
 

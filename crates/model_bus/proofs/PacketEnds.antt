@@ -4,7 +4,7 @@ use Rattle.std.specs.Prelude.{slice_get, IfSome}
 use Rattle.std.proofs.lemmas.Bool.{cond_both, cases_Bool, and_parts, eqb-true, ltb-true}
 use Rattle.std.proofs.lemmas.Option.{slice_get_within}
 use Rattle.model_bus.specs.Request.{Request, Entry}
-use Rattle.model_bus.specs.Numbering.{Bus, tag_of}
+use Rattle.model_bus.specs.Numbering.{Rules, tag_of}
 use Rattle.model_bus.specs.BusState.{BusState, Frame, Content, Ask, Reply, Event, Begins, SendsAgain, ReachesPort, ReachesManager, OtherAsks, OtherReplies, IsIdle, Resumes, is_open, begins, sends_again, request_of, hears, taken_content, takes_if, happens}
 use Rattle.model_bus.specs.Schedule.{IsLive, IsHonest}
 use Rattle.model_bus.specs.Start.{NothingUnderWay, EmptyWindow, NothingWaits}
@@ -30,14 +30,14 @@ pub same_requests : (s : BusState) → SameRequests s s
 same_requests s = record { begun = refl; carried = refl; taken = refl }
 
 -- nothing is complete, and nothing moves
-pub port_still : (b : Bus) (n : ℕ) (content : Content) (answer : List ℕ) (s : BusState) → PortEffect b n content None answer s s
+pub port_still : (b : Rules) (n : ℕ) (content : Content) (answer : List ℕ) (s : BusState) → PortEffect b n content None answer s s
 port_still b n content answer s = record { as_sent = tt; moves = same_requests s }
 
-pub manager_still : (b : Bus) (content : Content) (s : BusState) → ManagerEffect b content None s s
+pub manager_still : (b : Rules) (content : Content) (s : BusState) → ManagerEffect b content None s s
 manager_still b content s = record { as_sent = tt; moves = same_requests s }
 
 -- an event that brings no frame to an end takes no reply
-module _ (b : Bus) where
+module _ (b : Rules) where
   abbrev TakesNone : BusState → BusState → Type 0
   TakesNone old new = (new.taken ≡ old.taken) × (length old.begun ≤ length new.begun)
 
@@ -58,7 +58,7 @@ module _ (b : Bus) where
   plain_takes_none s Resumes plain honest = absurd plain
 
 module _ (b : PacketBus) (cutting : IsCutting b.split) (before : List Entry) where
-  abbrev pub rules : Bus
+  abbrev pub rules : Rules
   rules = rules_of b
 
   abbrev pub PortAssemblies : BusState → (Name → List Sent) → Type 0

@@ -1,7 +1,7 @@
 -- The laws of packets.
 use Rattle.std.proofs.Common.{ℕ, ◌+◌, ◌≤◌, List, [], ◌∷◌, ◌++◌, length, Option, Some, None, sym, subst}
 use Rattle.std.specs.Prelude.{slice_get, IfSome}
-use Rattle.model_bus.specs.Numbering.{Bus}
+use Rattle.model_bus.specs.Numbering.{Rules}
 use Rattle.model_bus.specs.BusState.{BusState, Frame, Content, Ask, Reply}
 use Rattle.model_bus.specs.Schedule.{IsLive}
 use Rattle.model_bus.specs.Packet.{Packet}
@@ -20,7 +20,7 @@ whole_joined Drops whole = whole
 
 -- a rule that asks no less of a packet of a recent request than that what waits is recent where it completes a message
 abbrev pub AsksNoLess : JoinRule → Type 0
-AsksNoLess rule = (b : Bus) (s : BusState) (taken : List Sent) (p : Sent) → length s.begun ≤ p.request + b.span → MayJoin rule b s taken p → MayJoin RecentWhereWhole b s taken p
+AsksNoLess rule = (b : Rules) (s : BusState) (taken : List Sent) (p : Sent) → length s.begun ≤ p.request + b.span → MayJoin rule b s taken p → MayJoin RecentWhereWhole b s taken p
 
 pub recent_itself : AsksNoLess RecentWhereWhole
 recent_itself b s taken p live joins = joins

@@ -7,7 +7,7 @@ use Rattle.std.proofs.lemmas.Slice.Eq.{bytes_eq-Decides}
 use Rattle.std.proofs.lemmas.Option.{same_Some}
 use Rattle.model_bus.specs.Request.{Request, Kept, is_same}
 use Rattle.model_bus.specs.Carried.{kept_for}
-use Rattle.model_bus.specs.Numbering.{Bus}
+use Rattle.model_bus.specs.Numbering.{Rules}
 use Rattle.model_bus.specs.BusState.{request_of}
 use Rattle.model_bus.proofs.NumberLaws.{IsNumbering}
 
@@ -18,7 +18,7 @@ pub is_same-number : (r s : Request) → is_same r s ≡ true → r.number ≡ s
 is_same-number r s h = eqb-true _ _ (and_parts _ _ (and_parts _ _ h).0).1
 
 -- carried has request n at n
-abbrev pub Asked : Bus → List (List ℕ) → List Kept → Type 0
+abbrev pub Asked : Rules → List (List ℕ) → List Kept → Type 0
 Asked b begun carried = (n : ℕ) (k : Kept) → slice_get carried n ≡ Some k → (slice_get begun n ≡ Some k.request.bytes) × (k.request ≡ request_of b n k.request.bytes)
 
 -- a part of what was carried, newest first, from a number up to another
@@ -36,7 +36,7 @@ list_all-has p [] x h fails = absurd h
 list_all-has p (y ∷ ys) x (inl e) fails = and_left _ _ (ap p e ∙ fails)
 list_all-has p (y ∷ ys) x (inr h) fails = and_right _ _ (list_all-has p ys x h fails)
 
-module _ (b : Bus) (numbers : IsNumbering b) (begun : List (List ℕ)) (carried : List Kept) (asked : Asked b begun carried) where
+module _ (b : Rules) (numbers : IsNumbering b) (begun : List (List ℕ)) (carried : List Kept) (asked : Asked b begun carried) where
   -- the number of a carried request
   pub number_at : (n : ℕ) (k : Kept) → slice_get carried n ≡ Some k → k.request.number ≡ b.number_of n
   number_at n k at = ap (λ (r : Request). r.number) (asked n k at).1

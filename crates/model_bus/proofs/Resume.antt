@@ -4,7 +4,7 @@ use Rattle.std.specs.Prelude.{slice_get}
 use Rattle.std.proofs.lemmas.Bool.{lt-ltb, le-ltb, ltb-false, cases_lt, cond_both}
 use Rattle.std.proofs.lemmas.List.{length-drop}
 use Rattle.model_bus.specs.Request.{Request}
-use Rattle.model_bus.specs.Numbering.{Bus, ipmb, smbus, tag_of}
+use Rattle.model_bus.specs.Numbering.{Rules, ipmb, smbus, tag_of}
 use Rattle.model_bus.specs.BusState.{BusState, Frame, Content, Ask, Reply, Event, Begins, SendsAgain, ReachesPort, ReachesManager, OtherAsks, OtherReplies, IsIdle, Resumes, is_open, begins, sends_again, comes, at_port, taken_content, taken_now, taken_from, takes_if, happens, run}
 use Rattle.model_bus.specs.Repeat.{In}
 use Rattle.model_bus.specs.Packet.{Packet}
@@ -33,7 +33,7 @@ same_test low high n in_low in_high =
     ]
 
 -- numbers go on from the number that comes next
-abbrev pub NumbersGoOn : (ℕ → Bus) → Type 0
+abbrev pub NumbersGoOn : (ℕ → Rules) → Type 0
 NumbersGoOn bus = (first n later : ℕ) → (bus ((bus first).number_of n)).number_of later ≡ (bus first).number_of (n + later)
 
 pub ipmb_goes_on : (manager controller : ℕ) → NumbersGoOn (ipmb manager controller)
@@ -49,7 +49,7 @@ tags_go_on first n later = omega arith
 abbrev pub Longer : BusState → BusState → Type 0
 Longer old new = (length old.begun ≤ length new.begun) × (length old.taken ≤ length new.taken)
 
-module _ (bus : ℕ → Bus) (go_on : NumbersGoOn bus) where
+module _ (bus : ℕ → Rules) (go_on : NumbersGoOn bus) where
   -- by what it knows the new manager does what the bus says
   pub acts_as : (first : ℕ) (old s : BusState) → length old.taken ≡ length old.begun → Longer old s → ActsAs (bus ((bus first).number_of (length old.begun))) (known_since old s) (bus first) s
   acts_as first old s closed longer =
@@ -71,7 +71,7 @@ module _ (bus : ℕ → Bus) (go_on : NumbersGoOn bus) where
         takes = same_takes own (bus first) known s opened open_number;
       }
     where
-      same_takes : (own b : Bus) (known s : BusState) → is_open known ≡ is_open s → own.number_of (length known.taken) ≡ b.number_of (length s.taken) → (c : Content) → taken_content own c known ≡ taken_content b c s
+      same_takes : (own b : Rules) (known s : BusState) → is_open known ≡ is_open s → own.number_of (length known.taken) ≡ b.number_of (length s.taken) → (c : Content) → taken_content own c known ≡ taken_content b c s
       same_takes own b known s opened number (Ask bytes) = refl
       same_takes own b known s opened number (Reply n None) = refl
       same_takes own b known s opened number (Reply n (Some reply)) =
@@ -89,7 +89,7 @@ takes_longer (Some reply) s = let more = length_more s.taken reply in (omega ari
 still_longer : (old mid new : BusState) → Longer old mid → Longer mid new → Longer old new
 still_longer old mid new one two = let a = one.0 in let b = one.1 in let c = two.0 in let d = two.1 in (omega arith, omega arith)
 
-module _ (b : Bus) where
+module _ (b : Rules) where
   again_longer : (o : Option (List ℕ)) (s : BusState) → Longer s (sends_again b o s)
   again_longer None s = stays_long s
   again_longer (Some bytes) s = stays_long s
@@ -129,13 +129,13 @@ module _ (b : Bus) where
   whole_returns_longer number (Whole ss) s = takes_longer (taken_content b (Reply number (Some (message_of ss))) s) s
 
 -- the manager's requests where none is open
-pub closed_lengths : (b : Bus) (s : BusState) → Holds b s → is_open s ≡ false → length s.taken ≡ length s.begun
+pub closed_lengths : (b : Rules) (s : BusState) → Holds b s → is_open s ≡ false → length s.taken ≡ length s.begun
 closed_lengths b s h closed =
     let answered = h.sound.answered in let below = h.sound.below in
     let none : length s.begun ≤ length s.taken = ltb-false _ _ closed in
     omega arith
 
-goes_on : (bus : ℕ → Bus) → NumbersGoOn bus → ((first : ℕ) → IsNumbering (bus first)) → GoesOn bus
+goes_on : (bus : ℕ → Rules) → NumbersGoOn bus → ((first : ℕ) → IsNumbering (bus first)) → GoesOn bus
 goes_on bus go_on numbers first start events later none empty honest =
     let b = bus first in
     let old = run b events start in
@@ -150,7 +150,7 @@ pub smbus_resumes : (manager controller : ℕ) → GoesOn (smbus manager control
 smbus_resumes manager controller = goes_on (smbus manager controller) (smbus_goes_on manager controller) (smbus_numbers manager controller)
 
 module _ (b : PacketBus) where
-  abbrev rules : Bus
+  abbrev rules : Rules
   rules = rules_of b
 
   port_longer : (answer : List ℕ) (n idles : ℕ) (o : Option Packet) (x : Ends) → Longer x.bus (port_takes b answer n idles o x).bus

@@ -4,7 +4,7 @@ use Rattle.std.specs.Prelude.{slice_get}
 use Rattle.std.proofs.lemmas.Bool.{eq-eqb, ne_eqb}
 use Rattle.std.proofs.lemmas.Option.{slice_get_within}
 use Rattle.model_bus.specs.Request.{Kept, Entry, Carried, Idled, carried_since, idles_of}
-use Rattle.model_bus.specs.Numbering.{Bus}
+use Rattle.model_bus.specs.Numbering.{Rules}
 use Rattle.model_bus.specs.BusState.{request_of, Content, Ask, Reply, Frame}
 use Rattle.model_bus.specs.Effect.{IsKeptFor}
 use Rattle.model_bus.proofs.Lists.{Grows, grows, at_end, one_more, length_more}
@@ -37,23 +37,23 @@ pub seen-idle_other : (q p : ℕ) (log : List Entry) → (p ≡ q → ⊥) → s
 seen-idle_other q p log e = rw (ne_eqb p q e) refl
 
 -- a frame's content is of its request
-abbrev pub Fits : Bus → List (List ℕ) → List Kept → ℕ → Content → Type 0
+abbrev pub Fits : Rules → List (List ℕ) → List Kept → ℕ → Content → Type 0
 Fits b begun carried n (Ask bytes) = slice_get begun n ≡ Some bytes
 Fits b begun carried n (Reply number None) = number ≡ b.number_of n
 Fits b begun carried n (Reply number (Some reply)) = (number ≡ b.number_of n) × IsKeptFor carried n reply
 
 -- a frame that was sent: since the manager's window was forgotten, no frame of a request below the floor
-pub record IsSent (b : Bus) (floor : ℕ) (begun : List (List ℕ)) (carried : List Kept) (idles : ℕ) (f : Frame) : Type 0 where
+pub record IsSent (b : Rules) (floor : ℕ) (begun : List (List ℕ)) (carried : List Kept) (idles : ℕ) (f : Frame) : Type 0 where
   pub earlier : f.idles ≤ idles
   pub floor_below : f.idles ≡ idles → floor ≤ f.request
   pub fits : Fits b begun carried f.request f.content
 
 -- every frame is one that was sent so
-abbrev pub AllSent : Bus → ℕ → List (List ℕ) → List Kept → ℕ → List Frame → Type 0
+abbrev pub AllSent : Rules → ℕ → List (List ℕ) → List Kept → ℕ → List Frame → Type 0
 AllSent b floor begun carried idles frames = (i : ℕ) (f : Frame) → slice_get frames i ≡ Some f → IsSent b floor begun carried idles f
 
 -- the invariant: what the manager's window holds are the carried requests from the floor on, newest first
-pub record Sound (b : Bus) (floor : ℕ) (begun : List (List ℕ)) (carried : List Kept) (taken : List (List ℕ)) (s : Seen) (sent_frames : List Frame) : Type 0 where
+pub record Sound (b : Rules) (floor : ℕ) (begun : List (List ℕ)) (carried : List Kept) (taken : List (List ℕ)) (s : Seen) (sent_frames : List Frame) : Type 0 where
   pub asked : Asked b begun carried
   pub replied : (n : ℕ) (reply : List ℕ) → slice_get taken n ≡ Some reply → IsKeptFor carried n reply
   pub since : IsRun carried floor s.since (length carried)
@@ -66,21 +66,21 @@ pub record Sound (b : Bus) (floor : ℕ) (begun : List (List ℕ)) (carried : Li
 pub IsKeptFor-grows : (carried more : List Kept) → Grows carried more → (n : ℕ) (reply : List ℕ) → IsKeptFor carried n reply → IsKeptFor more n reply
 IsKeptFor-grows carried more g n reply h = record { kept = h.kept; at = g n h.kept h.at; replied = h.replied }
 
-pub Fits-grows : (b : Bus) (begun begun' : List (List ℕ)) (carried more : List Kept) → Grows begun begun' → Grows carried more → (n : ℕ) (c : Content) → Fits b begun carried n c → Fits b begun' more n c
+pub Fits-grows : (b : Rules) (begun begun' : List (List ℕ)) (carried more : List Kept) → Grows begun begun' → Grows carried more → (n : ℕ) (c : Content) → Fits b begun carried n c → Fits b begun' more n c
 Fits-grows b begun begun' carried more g h n (Ask bytes) e = g n bytes e
 Fits-grows b begun begun' carried more g h n (Reply number None) e = e
 Fits-grows b begun begun' carried more g h n (Reply number (Some reply)) e = (e.0, IsKeptFor-grows carried more h n reply e.1)
 
-pub AllSent-grows : (b : Bus) (floor : ℕ) (begun begun' : List (List ℕ)) (carried more : List Kept) (idles : ℕ) (frames : List Frame) → Grows begun begun' → Grows carried more → AllSent b floor begun carried idles frames → AllSent b floor begun' more idles frames
+pub AllSent-grows : (b : Rules) (floor : ℕ) (begun begun' : List (List ℕ)) (carried more : List Kept) (idles : ℕ) (frames : List Frame) → Grows begun begun' → Grows carried more → AllSent b floor begun carried idles frames → AllSent b floor begun' more idles frames
 AllSent-grows b floor begun begun' carried more idles frames g h all i f at =
     let s = all i f at in
     record { earlier = s.earlier; floor_below = s.floor_below; fits = Fits-grows b begun begun' carried more g h f.request f.content s.fits }
 
-pub AllSent-push : (b : Bus) (floor : ℕ) (begun : List (List ℕ)) (carried : List Kept) (idles : ℕ) (frames : List Frame) (g : Frame) → AllSent b floor begun carried idles frames → IsSent b floor begun carried idles g → AllSent b floor begun carried idles (frames ++ g ∷ [])
+pub AllSent-push : (b : Rules) (floor : ℕ) (begun : List (List ℕ)) (carried : List Kept) (idles : ℕ) (frames : List Frame) (g : Frame) → AllSent b floor begun carried idles frames → IsSent b floor begun carried idles g → AllSent b floor begun carried idles (frames ++ g ∷ [])
 AllSent-push b floor begun carried idles frames g all new i f at =
     elim (one_more frames g i f at) [ inl h ↦ all i f h | inr h ↦ subst (IsSent b floor begun carried idles) h.1 new ]
 
-module _ (b : Bus) (numbers : IsNumbering b) where
+module _ (b : Rules) (numbers : IsNumbering b) where
   -- the manager begins a request
   pub sound_begins : (floor : ℕ) (begun : List (List ℕ)) (carried : List Kept) (taken : List (List ℕ)) (s : Seen) (frames : List Frame) (bytes : List ℕ) → Sound b floor begun carried taken s frames → length begun ≤ length taken
       → Sound b floor (begun ++ bytes ∷ []) carried taken s (frames ++ record { request = length begun; idles = s.idles; content = Ask bytes } ∷ [])

@@ -5,7 +5,7 @@ use Rattle.std.proofs.lemmas.Bool.{and_parts, eqb-true, ltb-true, ltb-false, con
 use Rattle.std.proofs.lemmas.Option.{none-some, slice_get_within}
 use Rattle.model_bus.specs.Request.{Kept, Entry, idles_of}
 use Rattle.model_bus.specs.Carried.{Outcome, Repeats, IsBusy, IsNew, outcome, outcome_of, log_after, reply_after, carried_after, is_busy}
-use Rattle.model_bus.specs.Numbering.{Bus}
+use Rattle.model_bus.specs.Numbering.{Rules}
 use Rattle.model_bus.specs.BusState.{request_of, Content, Ask, Reply, Frame, BusState, Event, Begins, SendsAgain, ReachesPort, ReachesManager, OtherAsks, OtherReplies, IsIdle, Resumes, opening, is_open, sent, begins, sends_again, hears, comes, taken_content, takes_if, taken_now, at_port, happens, run}
 use Rattle.model_bus.specs.Schedule.{IsLive, IsHonest, AllHonest}
 use Rattle.model_bus.specs.Start.{NothingUnderWay, EmptyWindow}
@@ -17,15 +17,15 @@ use Rattle.model_bus.proofs.Strangers.{ignored}
 use Rattle.model_bus.proofs.Sound.{Seen, seen, seen-mine, seen-other, seen-idle, seen-idle_other, Fits, Sound, sound_begins, sound_again, sound_reply, sound_carried, sound_idle, sound_takes}
 
 -- the invariant at a floor
-abbrev pub SoundAt : Bus → ℕ → BusState → Type 0
+abbrev pub SoundAt : Rules → ℕ → BusState → Type 0
 SoundAt b floor s = Sound b floor s.begun s.carried s.taken (seen b.manager s.log) s.frames
 
 -- the invariant of a bus
-pub record Holds (b : Bus) (s : BusState) : Type 0 where
+pub record Holds (b : Rules) (s : BusState) : Type 0 where
   pub floor : ℕ
   pub sound : SoundAt b floor s
 
-pub opening_holds : (b : Bus) (before : List Entry) → EmptyWindow b before → Holds b (opening before)
+pub opening_holds : (b : Rules) (before : List Entry) → EmptyWindow b before → Holds b (opening before)
 opening_holds b before empty = record {
   floor = 0;
   sound = subst (λ (since : List Kept). Sound b 0 [] [] [] (record { since = since; idles = idles_of b.manager before }) []) (sym empty) (record {
@@ -48,10 +48,10 @@ opens s start =
     ∙ ap (λ (l : List (List ℕ)). record { begun = s.begun; carried = s.carried; taken = l; log = s.log; frames = [] }) (sym start.taken)
     ∙ ap (λ (l : List Frame). record { begun = s.begun; carried = s.carried; taken = s.taken; log = s.log; frames = l }) (sym start.frames)
 
-pub start_holds : (b : Bus) (s : BusState) → NothingUnderWay s → EmptyWindow b s.log → Holds b s
+pub start_holds : (b : Rules) (s : BusState) → NothingUnderWay s → EmptyWindow b s.log → Holds b s
 start_holds b s start empty = subst (Holds b) (opens s start) (opening_holds b s.log empty)
 
-module _ (b : Bus) (numbers : IsNumbering b) where
+module _ (b : Rules) (numbers : IsNumbering b) where
   pub again_holds : (s : BusState) (o : Option (List ℕ)) → slice_get s.begun (length s.taken) ≡ o → Holds b s → Holds b (sends_again b o s)
   again_holds s None e h = h
   again_holds s (Some bytes) e h = record { floor = h.floor; sound = sound_again b numbers h.floor s.begun s.carried s.taken (seen b.manager s.log) s.frames bytes h.sound e }

@@ -4,7 +4,7 @@ use Rattle.std.specs.Prelude.{IfSome, MatchOption}
 use Rattle.std.proofs.lemmas.Bool.{and_parts, and_from, cond_both, cond-true, eqb-true, eq-eqb}
 use Rattle.std.proofs.lemmas.Option.{none-some, same_Some}
 use Rattle.model_bus.specs.Request.{Request}
-use Rattle.model_bus.specs.Numbering.{Bus}
+use Rattle.model_bus.specs.Numbering.{Rules}
 use Rattle.model_bus.specs.BusState.{BusState, Reply, OtherAsks, is_open, taken_content, taken_from, takes_if, happens}
 use Rattle.model_bus.specs.Bytes.{PldmHeader, pldm_request, request_in, SpellsRequest, ReadsRequests}
 use Rattle.model_bus.specs.Packet.{Packet}
@@ -12,11 +12,11 @@ use Rattle.model_bus.specs.Assembly.{Name, is_name, Step, Waits, Whole, Drops, t
 use Rattle.model_bus.specs.PacketBus.{PacketBus, rules_of, reply_name, Ends, manager_takes, other_returns, other_request, hears_other}
 use Rattle.model_bus.specs.PacketEffect.{OthersAsk}
 
-none_from : (b : Bus) (source number : ℕ) (reply : List ℕ) (s : BusState) → (source ≡ b.controller → ⊥) → taken_from b source number reply s ≡ None
+none_from : (b : Rules) (source number : ℕ) (reply : List ℕ) (s : BusState) → (source ≡ b.controller → ⊥) → taken_from b source number reply s ≡ None
 none_from b source number reply s other =
     cond_both (eqb source b.controller) (taken_content b (Reply number (Some reply)) s) None (λ o. o ≡ None) (λ t. absurd (other (eqb-true source b.controller t))) (λ _. refl)
 
-pub ignored : (b : Bus) (source number : ℕ) (reply : List ℕ) (s : BusState) → (source ≡ b.controller → ⊥) → takes_if (taken_from b source number reply s) s ≡ s
+pub ignored : (b : Rules) (source number : ℕ) (reply : List ℕ) (s : BusState) → (source ≡ b.controller → ⊥) → takes_if (taken_from b source number reply s) s ≡ s
 ignored b source number reply s other = ap (λ (o : Option (List ℕ)). takes_if o s) (none_from b source number reply s other)
 
 pub packet_ignored : (b : PacketBus) (x : Ends) (name : Name) (packet : Packet) (number : ℕ) → (name.source ≡ b.controller → ⊥) → other_returns b name packet number x ≡ x
@@ -50,7 +50,7 @@ if_some (Some r) P Q to h = to r h
 pub not_of : (manager : ℕ) (name : Name) (st : Step) → (name.source ≡ manager → ⊥) → IfSome (other_request name st) (λ r. r.requester ≡ manager → ⊥)
 not_of manager name st other = if_some (other_request name st) (λ r. r.requester ≡ name.source) (λ r. r.requester ≡ manager → ⊥) (λ r from is. other (sym from ∙ is)) (asked_by name st)
 
-by_request : (b : Bus) (answer : List ℕ) (source : ℕ) (s : BusState) (o : Option Request) → IfSome o (λ r. r.requester ≡ source)
+by_request : (b : Rules) (answer : List ℕ) (source : ℕ) (s : BusState) (o : Option Request) → IfSome o (λ r. r.requester ≡ source)
     → MatchOption o (hears_other b answer o s ≡ s) (λ r. (r.requester ≡ source) × (hears_other b answer o s ≡ happens b s (OtherAsks r answer)))
 by_request b answer source s None h = refl
 by_request b answer source s (Some r) h = (h, refl)

@@ -2,7 +2,7 @@
 use Rattle.std.proofs.Common.{refl, ℕ, ◌++◌, List, [], ◌∷◌}
 use Rattle.std.proofs.lemmas.Bool.{or_parts}
 use Rattle.model_bus.specs.Request.{Entry}
-use Rattle.model_bus.specs.Numbering.{Bus, ipmb, smbus}
+use Rattle.model_bus.specs.Numbering.{Rules, ipmb, smbus}
 use Rattle.model_bus.specs.BusState.{BusState, Event, is_open, happens, run}
 use Rattle.model_bus.specs.Schedule.{AllHonest, NoneOpenIsHonest}
 use Rattle.model_bus.specs.AtMostOnce.{AtMostOnce, AlwaysAtMostOnce}
@@ -13,16 +13,16 @@ use Rattle.model_bus.proofs.InLog.{LogShows, start_shows, run_shows}
 use Rattle.model_bus.proofs.Effects.{has_effect}
 
 -- a prefix of an honest schedule is honest
-pub honest_prefix : (b : Bus) (events later : List Event) (s : BusState) → AllHonest b (events ++ later) s → AllHonest b events s
+pub honest_prefix : (b : Rules) (events later : List Event) (s : BusState) → AllHonest b (events ++ later) s → AllHonest b events s
 honest_prefix b [] later s honest = tt
 honest_prefix b (e ∷ es) later s honest = (honest.0, honest_prefix b es later (happens b s e) honest.1)
 
 -- and so is the rest, after it
-pub honest_rest : (b : Bus) (events later : List Event) (s : BusState) → AllHonest b (events ++ later) s → AllHonest b later (run b events s)
+pub honest_rest : (b : Rules) (events later : List Event) (s : BusState) → AllHonest b (events ++ later) s → AllHonest b later (run b events s)
 honest_rest b [] later s honest = honest
 honest_rest b (e ∷ es) later s honest = honest_rest b es later (happens b s e) honest.1
 
-pub at_most_once_from : (b : Bus) (before : List Entry) (s : BusState) → Holds b s → LogShows b before s → AtMostOnce b before s
+pub at_most_once_from : (b : Rules) (before : List Entry) (s : BusState) → Holds b s → LogShows b before s → AtMostOnce b before s
 at_most_once_from b before s h shows = record {
   asked = h.sound.asked;
   replied = λ n reply e. let r = h.sound.replied n reply e in (r.kept, r.at, r.replied);
@@ -32,13 +32,13 @@ at_most_once_from b before s h shows = record {
   nothing_else = shows;
 }
 
-always : (b : Bus) → IsNumbering b → AlwaysAtMostOnce b
+always : (b : Rules) → IsNumbering b → AlwaysAtMostOnce b
 always b numbers start events later none empty honest =
     let first = honest_prefix b events later start honest in
     at_most_once_from b start.log (run b events start) (run_holds b numbers events start (start_holds b start none empty) first)
     (run_shows b start.log events start (start_shows b start.log start none refl) first)
 
-effects : (b : Bus) → IsNumbering b → EventsHaveEffects b
+effects : (b : Rules) → IsNumbering b → EventsHaveEffects b
 effects b numbers start events e none empty honest =
     has_effect b numbers (run b events start) e
     (run_holds b numbers events start (start_holds b start none empty) (honest_prefix b events (e ∷ []) start honest))

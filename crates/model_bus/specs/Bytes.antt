@@ -1,8 +1,8 @@
 -- Requests and replies as the bytes of each bus: all but addresses and check bytes, the number included.
 use Rattle.std.specs.Prelude.{◌≡◌, ◌↔◌, ℕ, ◌+◌, ◌*◌, ◌/◌, ◌%◌, ◌<◌, Bool, false, ◌==◌, ◌&&◌, ◌||◌, not, List, ◌∷◌, Option, Some, None, if◌then◌else◌}
 use Rattle.two_wire.specs.Codes.{node_busy, pldm_not_ready}
-use Rattle.model_bus.specs.declared.numbers.Numbers.{Numbers}
-use Rattle.model_bus.specs.declared.numbers.Numbers.TheVariants.{Ipmb, Pldm}
+use Rattle.two_wire.specs.declared.Bus.{Bus}
+use Rattle.two_wire.specs.declared.Bus.TheVariants.{Ipmb, Smbus}
 use Rattle.model_bus.specs.Request.{Request}
 
 -- ---- the codes of a busy port
@@ -125,21 +125,21 @@ ReadsRequests = (source : ℕ) (r : Request) (bytes : List ℕ) → (request_in 
 -- ---- either
 
 -- the completion code with which a port of the bus says that it is busy
-abbrev pub busy_code : Numbers → ℕ
+abbrev pub busy_code : Bus → ℕ
 busy_code Ipmb = node_busy
-busy_code Pldm = pldm_not_ready
+busy_code Smbus = pldm_not_ready
 
 -- the bytes are a request's under this number
-abbrev pub IsRequestOn : Numbers → ℕ → List ℕ → Type 0
+abbrev pub IsRequestOn : Bus → ℕ → List ℕ → Type 0
 IsRequestOn Ipmb number bytes = IsIpmbRequest number bytes
-IsRequestOn Pldm number bytes = IsPldmRequest number bytes
+IsRequestOn Smbus number bytes = IsPldmRequest number bytes
 
 -- the bytes are a reply's with this code, to the request of these bytes
-abbrev pub IsReplyOn : Numbers → ℕ → List ℕ → List ℕ → Type 0
+abbrev pub IsReplyOn : Bus → ℕ → List ℕ → List ℕ → Type 0
 IsReplyOn Ipmb code request reply = IsIpmbReply code request reply
-IsReplyOn Pldm code request reply = IsPldmReply code request reply
+IsReplyOn Smbus code request reply = IsPldmReply code request reply
 
 -- what the manager asks of a reply beside its addresses, and its tag on SMBus
-abbrev pub answers : Numbers → List ℕ → List ℕ → Bool
+abbrev pub answers : Bus → List ℕ → List ℕ → Bool
 answers Ipmb opened reply = ipmb_answers opened reply
-answers Pldm opened reply = pldm_answers opened reply
+answers Smbus opened reply = pldm_answers opened reply

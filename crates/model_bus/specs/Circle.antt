@@ -1,7 +1,7 @@
 -- The circle of numbers of a bus.
 use Rattle.std.specs.Prelude.{ℕ}
-use Rattle.model_bus.specs.declared.numbers.Numbers.{Numbers}
-use Rattle.model_bus.specs.declared.numbers.Numbers.TheVariants.{Ipmb, Pldm}
+use Rattle.two_wire.specs.declared.Bus.{Bus}
+use Rattle.two_wire.specs.declared.Bus.TheVariants.{Ipmb, Smbus}
 
 -- how many sequence numbers IPMB has
 abbrev pub sequence_numbers : ℕ
@@ -12,11 +12,11 @@ abbrev pub instances : ℕ
 instances = 32
 
 -- how many numbers there are
-abbrev pub circle_of : Numbers → ℕ
+abbrev pub circle_of : Bus → ℕ
 circle_of Ipmb = sequence_numbers
-circle_of Pldm = instances
+circle_of Smbus = instances
 
 -- how many newer requests make a frame too old: 32 on IPMB, 8 on SMBus
-abbrev pub span_of : Numbers → ℕ
+abbrev pub span_of : Bus → ℕ
 span_of Ipmb = 32
-span_of Pldm = 8
+span_of Smbus = 8

@@ -1,7 +1,7 @@
 -- What a link without loss gives: the open request is carried out, its reply is taken, and packets in order are the message.
 use Rattle.std.specs.Prelude.{◌≡◌, ℕ, true, false, List, [], ◌∷◌, length, map, Some, None, slice_get}
 use Rattle.model_bus.specs.Carried.{is_busy}
-use Rattle.model_bus.specs.Numbering.{Bus}
+use Rattle.model_bus.specs.Numbering.{Rules}
 use Rattle.model_bus.specs.BusState.{BusState, Frame, Ask, Reply, Event, is_open, carried_now, taken_now, run}
 use Rattle.model_bus.specs.Schedule.{AllHonest}
 use Rattle.model_bus.specs.Start.{NothingUnderWay, EmptyWindow, NothingWaits}
@@ -12,7 +12,7 @@ use Rattle.model_bus.specs.PacketBus.{PacketBus, rules_of, Ends, PacketEvent, pa
 use Rattle.model_bus.specs.PacketSchedule.{JoinRule, AllPacketHonest}
 
 -- what becomes of the open request's frames
-pub record GoesThrough (b : Bus) (s : BusState) : Type 0 where
+pub record GoesThrough (b : Rules) (s : BusState) : Type 0 where
   -- where it isn't carried out yet, and the controller isn't busy, any frame of it that comes is carried out
   pub carried : (which : ℕ) (f : Frame) (bytes : List ℕ) → slice_get s.frames which ≡ Some f → f.request ≡ length s.taken → f.content ≡ Ask bytes
       → slice_get s.carried (length s.taken) ≡ None → is_busy b.manager s.log ≡ false → carried_now b (Some f) s ≡ Some bytes
@@ -21,7 +21,7 @@ pub record GoesThrough (b : Bus) (s : BusState) : Type 0 where
       → is_open s ≡ true → IsKeptFor s.carried (length s.taken) reply × (taken_now b (Some f) s ≡ Some reply)
 
 -- so it is at every event of every honest schedule from a start
-abbrev pub OpenGoesThrough : Bus → Type 0
+abbrev pub OpenGoesThrough : Rules → Type 0
 OpenGoesThrough b = (start : BusState) (events : List Event) → NothingUnderWay start → EmptyWindow b start.log
     → AllHonest b events start → GoesThrough b (run b events start)
 

@@ -1,7 +1,7 @@
 -- What an event does to the manager's requests: nothing, or one step of the open one.
 use Rattle.std.specs.Prelude.{◌≡◌, ℕ, ◌<◌, List, [], ◌∷◌, ◌++◌, length, Some, None, slice_get, MatchOption, MatchBool}
 use Rattle.model_bus.specs.Request.{Kept}
-use Rattle.model_bus.specs.Numbering.{Bus}
+use Rattle.model_bus.specs.Numbering.{Rules}
 use Rattle.model_bus.specs.BusState.{BusState, Event, Begins, SendsAgain, ReachesPort, ReachesManager, OtherAsks, OtherReplies, IsIdle, Resumes, is_open, happens, run, carried_now, taken_now}
 use Rattle.model_bus.specs.Schedule.{AllHonest}
 use Rattle.model_bus.specs.Start.{NothingUnderWay, EmptyWindow}
@@ -43,7 +43,7 @@ pub record IsTaken (old new : BusState) (reply : List ℕ) : Type 0 where
   pub kept : IsKeptFor old.carried (length old.taken) reply
 
 -- what each event does
-abbrev pub HasEffect : Bus → BusState → Event → Type 0
+abbrev pub HasEffect : Rules → BusState → Event → Type 0
 HasEffect b s (Begins bytes) = MatchBool (is_open s) (SameRequests s (happens b s (Begins bytes))) (IsBegun s (happens b s (Begins bytes)) bytes)
 HasEffect b s SendsAgain = SameRequests s (happens b s SendsAgain)
 HasEffect b s (ReachesPort which answer) =
@@ -58,6 +58,6 @@ HasEffect b s (IsIdle requester) = SameRequests s (happens b s (IsIdle requester
 HasEffect b s Resumes = SameRequests s (happens b s Resumes)
 
 -- of every event of every honest schedule from a start
-abbrev pub EventsHaveEffects : Bus → Type 0
+abbrev pub EventsHaveEffects : Rules → Type 0
 EventsHaveEffects b = (start : BusState) (events : List Event) (e : Event) → NothingUnderWay start → EmptyWindow b start.log
     → AllHonest b (events ++ e ∷ []) start → HasEffect b (run b events start) e

@@ -1,6 +1,6 @@
 -- Schedules that compute, on each bus: none of the theorems is about nothing.
 use Rattle.std.specs.Prelude.{◌≡◌, ℕ, zero, suc, ◌+◌, List, [], ◌∷◌, ◌++◌, length, Some, None, slice_get}
-use Rattle.model_bus.specs.Numbering.{Bus}
+use Rattle.model_bus.specs.Numbering.{Rules}
 use Rattle.model_bus.specs.BusState.{Content, Reply, Event, Begins, SendsAgain, ReachesPort, ReachesManager, OtherAsks, OtherReplies, IsIdle, Resumes, opening, run}
 use Rattle.model_bus.specs.Schedule.{AllHonest}
 
@@ -39,18 +39,18 @@ abbrev pub smbus_example : List Event
 smbus_example = hard_start ++ late_reply 29 ++ Resumes ∷ rounds 6 9 ++ ReachesPort 3 (73 ∷ []) ∷ IsIdle 44 ∷ [] ++ rounds 1 22
 
 -- the schedule is honest, and each of so many requests was carried out and its reply taken
-pub record EndsAnswered (b : Bus) (events : List Event) (requests : ℕ) : Type 0 where
+pub record EndsAnswered (b : Rules) (events : List Event) (requests : ℕ) : Type 0 where
   pub honest : AllHonest b events (opening [])
   pub begun : length (run b events (opening [])).begun ≡ requests
   pub carried : length (run b events (opening [])).carried ≡ requests
   pub taken : length (run b events (opening [])).taken ≡ requests
 
 -- what a frame held
-abbrev pub Held : Bus → List Event → ℕ → ℕ → Content → Type 0
+abbrev pub Held : Rules → List Event → ℕ → ℕ → Content → Type 0
 Held b events which request content = slice_get (run b events (opening [])).frames which ≡ Some (record { request = request; idles = 0; content = content })
 
 -- the busy answer, the kept replies to the repeats, the second after the newer requests, and the replies taken first
-pub record ShowsRepeats (b : Bus) (events : List Event) (late : ℕ) : Type 0 where
+pub record ShowsRepeats (b : Rules) (events : List Event) (late : ℕ) : Type 0 where
   pub busy : Held b events 1 0 (Reply (b.number_of 0) None)
   pub repeated : Held b events 6 0 (Reply (b.number_of 0) (Some (71 ∷ [])))
   pub late_repeated : Held b events late 0 (Reply (b.number_of 0) (Some (71 ∷ [])))

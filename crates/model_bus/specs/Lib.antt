@@ -21,5 +21,4 @@ pub mod Answering
 pub mod Example
 pub mod PacketExample
 pub mod Circle
-pub mod LiveFrames
 pub mod Premise

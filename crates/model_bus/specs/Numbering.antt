@@ -1,6 +1,6 @@
 -- Sequence numbers and instances: how a bus numbers the manager's requests, and which number is above which.
 use Rattle.std.specs.Prelude.{ℕ, ◌+◌, ◌-◌, ◌%◌, ◌/◌, Bool, nat_lt, nat_le, ◌&&◌}
-use Rattle.model_bus.specs.declared.numbers.Numbers.TheVariants.{Ipmb, Pldm}
+use Rattle.two_wire.specs.declared.Bus.TheVariants.{Ipmb, Smbus}
 use Rattle.model_bus.specs.Circle.{sequence_numbers, instances, span_of}
 
 -- going up from one number on a circle, how far the other is
@@ -17,7 +17,7 @@ is_next circle low high = nat_lt 0 (distance circle low high) && nat_le (distanc
 
 -- what one bus fixes: both ends' addresses, the number of the manager's n-th request, which number is above which,
 -- and the span: how many newer requests of the manager, once begun, make a frame too old
-pub record Bus : Type 0 where
+pub record Rules : Type 0 where
   pub manager : ℕ
   pub controller : ℕ
   pub number_of : ℕ → ℕ
@@ -25,12 +25,12 @@ pub record Bus : Type 0 where
   pub span : ℕ
 
 -- IPMB, for a manager whose requests count from `first`: sequence numbers
-abbrev pub ipmb : ℕ → ℕ → ℕ → Bus
+abbrev pub ipmb : ℕ → ℕ → ℕ → Rules
 ipmb manager controller first = record { manager = manager; controller = controller; number_of = λ n. (first + n) % sequence_numbers; is_above = is_above sequence_numbers; span = span_of Ipmb }
 
 -- PLDM over MCTP on SMBus: instances
-abbrev pub smbus : ℕ → ℕ → ℕ → Bus
-smbus manager controller first = record { manager = manager; controller = controller; number_of = λ n. (first + n) % instances; is_above = is_above instances; span = span_of Pldm }
+abbrev pub smbus : ℕ → ℕ → ℕ → Rules
+smbus manager controller first = record { manager = manager; controller = controller; number_of = λ n. (first + n) % instances; is_above = is_above instances; span = span_of Smbus }
 
 -- the tag of the manager's n-th request on SMBus
 abbrev pub tag_of : ℕ → ℕ → ℕ

@@ -1,7 +1,7 @@
 -- A bus on which messages go in packets, with the assemblies at both ends, and what an event does to it.
 use Rattle.std.specs.Prelude.{ℕ, Bool, true, false, ◌==◌, ◌&&◌, length, List, [], ◌∷◌, Option, Some, None, if◌then◌else◌, slice_get}
 use Rattle.model_bus.specs.Request.{Request, Entry}
-use Rattle.model_bus.specs.Numbering.{Bus, smbus, tag_of}
+use Rattle.model_bus.specs.Numbering.{Rules, smbus, tag_of}
 use Rattle.model_bus.specs.BusState.{BusState, Frame, Content, Ask, Reply, Event, OtherAsks, Resumes, opening, is_open, request_of, hears, taken_content, takes_if, happens}
 use Rattle.model_bus.specs.Bytes.{request_in}
 use Rattle.model_bus.specs.Packet.{Packet}
@@ -15,7 +15,7 @@ pub record PacketBus : Type 0 where
   pub split : List ℕ → List Packet
 
 -- its rules for whole messages
-abbrev pub rules_of : PacketBus → Bus
+abbrev pub rules_of : PacketBus → Rules
 rules_of b = smbus b.manager b.controller b.first
 
 -- the name of the packets of request n at the port; the tag's owner is the requester
@@ -57,13 +57,13 @@ set_at name taken assemblies n = if is_name n name then taken else assemblies n
 
 -- a request that is complete at the port, under the number that stands in its first packet; its reply belongs to request n,
 -- whose frame's packet completed it
-abbrev pub whole_comes : Bus → List ℕ → ℕ → Step → BusState → BusState
+abbrev pub whole_comes : Rules → List ℕ → ℕ → Step → BusState → BusState
 whole_comes b answer n Waits s = s
 whole_comes b answer n Drops s = s
 whole_comes b answer n (Whole ss) s = hears b n (record { request = request_of b (first_request n ss) (message_of ss); reply = answer }) s
 
 -- a reply that is complete at the manager, under the number of its last packet's frame
-abbrev pub whole_returns : Bus → ℕ → Step → BusState → BusState
+abbrev pub whole_returns : Rules → ℕ → Step → BusState → BusState
 whole_returns b number Waits s = s
 whole_returns b number Drops s = s
 whole_returns b number (Whole ss) s = takes_if (taken_content b (Reply number (Some (message_of ss))) s) s
@@ -75,7 +75,7 @@ other_request name Drops = None
 other_request name (Whole ss) = if name.owner then request_in name.source (message_of ss) else None
 
 -- the port hears a request of another, if there is one; control messages, other types and malformed requests take no window
-abbrev pub hears_other : Bus → List ℕ → Option Request → BusState → BusState
+abbrev pub hears_other : Rules → List ℕ → Option Request → BusState → BusState
 hears_other b answer None s = s
 hears_other b answer (Some r) s = happens b s (OtherAsks r answer)
 

@@ -2,7 +2,7 @@
 use Rattle.std.specs.Prelude.{◌≡◌, List, [], ◌∷◌, ◌++◌, ℕ, Option, Some, None, slice_get, if◌then◌else◌, IfSome, MatchOption}
 use Rattle.model_bus.specs.Request.{Request}
 use Rattle.model_bus.specs.Carried.{outcome}
-use Rattle.model_bus.specs.Numbering.{Bus}
+use Rattle.model_bus.specs.Numbering.{Rules}
 use Rattle.model_bus.specs.BusState.{BusState, Frame, Content, Ask, Reply, OtherAsks, request_of, new_bytes, taken_content, happens}
 use Rattle.model_bus.specs.Effect.{SameRequests, IsCarried, IsTaken, HasEffect}
 use Rattle.model_bus.specs.Packet.{Packet, IsCutting}
@@ -17,7 +17,7 @@ step_of assemblies name n idles None = Drops
 step_of assemblies name n idles (Some p) = (takes (assemblies name) (record { request = n; idles = idles; packet = p })).0
 
 -- the request that is complete, if one is
-abbrev pub whole_request : Bus → ℕ → Step → Option Request
+abbrev pub whole_request : Rules → ℕ → Step → Option Request
 whole_request b n (Whole ss) = Some (request_of b (first_request n ss) (message_of ss))
 whole_request b n Waits = None
 whole_request b n Drops = None
@@ -43,29 +43,29 @@ completed_reply b x place n idles (Reply number (Some reply)) =
     else None
 
 -- what the port carries out of a request that is complete
-abbrev pub carried_of : Bus → Option Request → BusState → Option (List ℕ)
+abbrev pub carried_of : Rules → Option Request → BusState → Option (List ℕ)
 carried_of b None s = None
 carried_of b (Some r) s = new_bytes (outcome b.is_above r s.log) r.bytes
 
 -- what the manager takes of a reply that is complete
-abbrev pub taken_of : Bus → Option Content → BusState → Option (List ℕ)
+abbrev pub taken_of : Rules → Option Content → BusState → Option (List ℕ)
 taken_of b None s = None
 taken_of b (Some content) s = taken_content b content s
 
 -- the frame of request n holds this request
-abbrev pub HoldsRequest : Bus → ℕ → Content → Request → Type 0
+abbrev pub HoldsRequest : Rules → ℕ → Content → Request → Type 0
 HoldsRequest b n (Ask bytes) r = r ≡ request_of b n bytes
 HoldsRequest b n (Reply number reply) r = ⊥
 
 -- Where a request is complete at the port, it is the one that the frame holds. No request of the manager moves, or, where
 -- the rule says that it is new, it is the open one, and is carried out for the first time.
-pub record PortEffect (b : Bus) (n : ℕ) (content : Content) (complete : Option Request) (answer : List ℕ) (old new : BusState) : Type 0 where
+pub record PortEffect (b : Rules) (n : ℕ) (content : Content) (complete : Option Request) (answer : List ℕ) (old new : BusState) : Type 0 where
   pub as_sent : IfSome complete (HoldsRequest b n content)
   pub moves : MatchOption (carried_of b complete old) (SameRequests old new) (λ bytes. IsCarried old new bytes answer)
 
 -- Where a reply is complete at the manager, it is the one that the frame holds. No request moves, or, where the reply has
 -- the open request's number, it is taken, and is the one that is kept for it.
-pub record ManagerEffect (b : Bus) (content : Content) (complete : Option Content) (old new : BusState) : Type 0 where
+pub record ManagerEffect (b : Rules) (content : Content) (complete : Option Content) (old new : BusState) : Type 0 where
   pub as_sent : IfSome complete (λ whole. whole ≡ content)
   pub moves : MatchOption (taken_of b complete old) (SameRequests old new) (λ reply. IsTaken old new reply)
 

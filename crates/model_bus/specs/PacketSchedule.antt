@@ -1,7 +1,7 @@
 -- Honest schedules of packets.
 use Rattle.std.specs.Prelude.{◌≡◌, ◌≢◌, ℕ, ◌+◌, ◌≤◌, false, ◌||◌, List, [], ◌∷◌, ◌++◌, length, Option, Some, None, slice_get, IfSome}
 use Rattle.model_bus.specs.Request.{idles_of}
-use Rattle.model_bus.specs.Numbering.{Bus}
+use Rattle.model_bus.specs.Numbering.{Rules}
 use Rattle.model_bus.specs.BusState.{BusState, Content, Ask, Reply, Event, ReachesPort, ReachesManager, IsIdle, Resumes, is_open}
 use Rattle.model_bus.specs.Schedule.{IsLive, IsHonest}
 use Rattle.model_bus.specs.Repeat.{In}
@@ -24,7 +24,7 @@ pub data JoinRule : Type 0 where
   RecentWhereWhole : JoinRule
 
 -- the rule allows this packet to be taken to those that wait
-abbrev pub MayJoin : JoinRule → Bus → BusState → List Sent → Sent → Type 0
+abbrev pub MayJoin : JoinRule → Rules → BusState → List Sent → Sent → Type 0
 MayJoin AnyJoin b s taken p = Unit {0}
 MayJoin LiveWhereJoined b s taken p =
     IsJoined (takes taken p).0 → (t : Sent) → In t (waiting taken p) → (length s.begun ≤ t.request + b.span) × (t.idles ≡ idles_of b.manager s.log)
@@ -32,7 +32,7 @@ MayJoin OneRequestWhereJoined b s taken p = IsJoined (takes taken p).0 → (t : 
 MayJoin RecentWhereWhole b s taken p = IsWhole (takes taken p).0 → (t : Sent) → In t (waiting taken p) → length s.begun ≤ t.request + b.span
 
 -- the same of a packet of request n, if there is such a packet
-abbrev pub PacketMayJoin : JoinRule → Bus → BusState → List Sent → ℕ → ℕ → Option Packet → Type 0
+abbrev pub PacketMayJoin : JoinRule → Rules → BusState → List Sent → ℕ → ℕ → Option Packet → Type 0
 PacketMayJoin rule b s taken n idles None = Unit {0}
 PacketMayJoin rule b s taken n idles (Some p) = MayJoin rule b s taken (record { request = n; idles = idles; packet = p })
 

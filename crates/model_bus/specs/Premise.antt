@@ -1,11 +1,11 @@
 -- Schedules that show why each premise is there: each breaks one, and a request is carried out twice or answered wrongly.
 use Rattle.std.specs.Prelude.{◌≡◌, ℕ, List, [], ◌∷◌, ◌++◌, length}
-use Rattle.model_bus.specs.Numbering.{Bus}
+use Rattle.model_bus.specs.Numbering.{Rules}
 use Rattle.model_bus.specs.BusState.{Event, Begins, SendsAgain, ReachesPort, ReachesManager, OtherAsks, IsIdle, opening, run}
 use Rattle.model_bus.specs.Example.{rounds}
 
 -- so many requests are begun, carried out and taken in the end
-abbrev pub Counts : Bus → List Event → ℕ → ℕ → ℕ → Type 0
+abbrev pub Counts : Rules → List Event → ℕ → ℕ → ℕ → Type 0
 Counts b events begun carried taken =
     let s = run b events (opening []) in
     (length s.begun ≡ begun) × (length s.carried ≡ carried) × (length s.taken ≡ taken)
@@ -34,7 +34,7 @@ resumed_while_open =
     Begins (8 ∷ []) ∷ ReachesPort 0 (1 ∷ []) ∷ ReachesManager 1 ∷ OtherAsks (record { requester = 44; number = 0; bytes = 7 ∷ [] }) (2 ∷ []) ∷ ReachesPort 0 (3 ∷ []) ∷ []
 
 -- the window isn't empty at the start: it holds such a request
-abbrev pub InUseAtStart : Bus → Type 0
+abbrev pub InUseAtStart : Rules → Type 0
 InUseAtStart b =
     let asked : List Event = OtherAsks (record { requester = 44; number = 0; bytes = 7 ∷ [] }) (9 ∷ []) ∷ [] in
     let s = run b (Begins (7 ∷ []) ∷ ReachesPort 0 (1 ∷ []) ∷ ReachesManager 1 ∷ []) (opening (run b asked (opening [])).log) in

@@ -1,6 +1,6 @@
 -- Another manager in the place of one: by what it knows it does what the bus says of it.
 use Rattle.std.specs.Prelude.{◌≡◌, ℕ, ◌+◌, ◌%◌, false, List, [], ◌∷◌, ◌++◌, length, drop, slice_get}
-use Rattle.model_bus.specs.Numbering.{Bus, tag_of}
+use Rattle.model_bus.specs.Numbering.{Rules, tag_of}
 use Rattle.model_bus.specs.BusState.{BusState, Content, Event, Resumes, is_open, taken_content, run}
 use Rattle.model_bus.specs.Schedule.{AllHonest}
 use Rattle.model_bus.specs.Start.{NothingUnderWay, EmptyWindow, NothingWaits}
@@ -14,7 +14,7 @@ known_since old s = record s { begun = drop (length old.begun) s.begun; taken = 
 
 -- A manager under the rules `own`, that knows this of the bus, does what the bus is said to do: a request is open for it where
 -- one is, with the same bytes and number; its next request has the next number; and it takes the same replies.
-pub record ActsAs (own : Bus) (known : BusState) (b : Bus) (s : BusState) : Type 0 where
+pub record ActsAs (own : Rules) (known : BusState) (b : Rules) (s : BusState) : Type 0 where
   pub opened : is_open known ≡ is_open s
   pub open_request : slice_get known.begun (length known.taken) ≡ slice_get s.begun (length s.taken)
   pub open_number : own.number_of (length known.taken) ≡ b.number_of (length s.taken)
@@ -23,7 +23,7 @@ pub record ActsAs (own : Bus) (known : BusState) (b : Bus) (s : BusState) : Type
 
 -- After every resume of an honest schedule the new manager, whose requests count from the number that came next, acts so, and
 -- goes on doing so. `bus` gives the rules by the count from which a manager's requests go on.
-abbrev pub GoesOn : (ℕ → Bus) → Type 0
+abbrev pub GoesOn : (ℕ → Rules) → Type 0
 GoesOn bus = (first : ℕ) (start : BusState) (events later : List Event) → NothingUnderWay start → EmptyWindow (bus first) start.log
     → AllHonest (bus first) (events ++ Resumes ∷ later) start
     → let old = run (bus first) events start in

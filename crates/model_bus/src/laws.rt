@@ -14,8 +14,8 @@ ghost use Rattle.model_bus.specs.PacketEffect.{EventsHavePacketEffects, OthersAs
 ghost use Rattle.model_bus.specs.Bytes.{ReadsRequests};
 ghost use Rattle.model_bus.specs.CleanLink.{OpenGoesThrough, OpenGoesThroughInPackets, CutIsWhole};
 ghost use Rattle.model_bus.specs.Slots.{SlotsDecide};
-ghost use Rattle.model_bus.specs.declared.numbers.Numbers.{Numbers};
-ghost use Rattle.model_bus.specs.declared.numbers.Numbers.TheVariants.{Ipmb, Pldm};
+ghost use Rattle.two_wire.specs.declared.Bus.{Bus};
+ghost use Rattle.two_wire.specs.declared.Bus.TheVariants.{Ipmb, Smbus};
 ghost use Rattle.model_bus.specs.Answering.{TestIsModel, TestIsModelInPackets, BusyFails};
 ghost use Rattle.model_bus.specs.Resume.{GoesOn, GoesOnInPackets, TagsGoOn, NothingWaitsWhereClosed};
 
@@ -63,9 +63,9 @@ pub fn open_request_goes_through()
 /// busy port) takes exactly what the model takes by the number. So the model needn't look at commands.
 pub fn test_on_bytes_is_the_model()
     ensures ipmb { (manager controller first : ℕ) → TestIsModel Ipmb (ipmb manager controller first) }
-    ensures smbus { (manager controller first : ℕ) → TestIsModel Pldm (smbus manager controller first) }
-    ensures in_packets { TestIsModelInPackets Pldm RecentWhereWhole }
-    ensures busy { (kind : Numbers) → BusyFails kind }
+    ensures smbus { (manager controller first : ℕ) → TestIsModel Smbus (smbus manager controller first) }
+    ensures in_packets { TestIsModelInPackets Smbus RecentWhereWhole }
+    ensures busy { (on : Bus) → BusyFails on }
 {}
 
 /// What another requester's packets do at the port. A message that they make is a request only where it is one by its bytes;
@@ -75,7 +75,7 @@ pub fn only_requests_take_windows()
     ensures packets { OthersAsk }
 {}
 
-/// A test decides if a frame is live: the plain program of live frames computes it.
+/// A test decides if a frame is live.
 pub fn live_test_tells()
     ensures { TestTells }
 {}

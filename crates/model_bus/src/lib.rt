@@ -4,8 +4,3 @@
 
 pub mod examples;
 pub mod laws;
-mod live_frames;
-mod numbers;
-
-pub use live_frames::{End, SentFrame, Step, sent_frames};
-pub use numbers::Numbers;

@@ -9,7 +9,7 @@ use Rattle.cfg_records.specs.Records.{Records, with_record}
 use Rattle.bmc_board.specs.State.{State, state, opening as activity}
 use Rattle.model_bus.specs.BusState.{ReachesPort, ReachesManager}
 use Rattle.model_undo.specs.Family.{AllValid}
-use Rattle.model_undo.specs.Phase.{Undone}
+use Rattle.model_undo.specs.declared.phase.Phase.TheVariants.{Undone}
 use Rattle.model_undo.specs.Machine.{phase_of}
 use Rattle.model_undo.specs.World.{World, Happening, Start, Undo, ToManager, OnBus, AllMay, run, opening}
 use Rattle.model_undo.specs.Headline.{IsStart}

@@ -18,7 +18,6 @@ use Rattle.bmc_board.specs.Answer.{answer_of}
 use Rattle.bmc_board.specs.Table.{is_changing}
 use Rattle.bmc_board.proofs.OneAnswer.{has_answer}
 use Rattle.bmc_board.proofs.Quiet.{keeps_records}
-use Rattle.model_bus.specs.declared.numbers.Numbers.TheVariants as numbers
 use Rattle.model_bus.specs.Request.{Request as Heard, Kept, Entry, Carried, Idled, is_same, carried_since, idles_of}
 use Rattle.model_bus.specs.Numbering.{is_above}
 use Rattle.model_bus.specs.BusState.{BusState, Frame, Content, Reply, Event, ReachesPort, OtherAsks, request_of, at_port, comes, hears as model_hears, happens, new_bytes, carried_content, carried_now}
@@ -35,7 +34,6 @@ use Rattle.model_undo.specs.World as world
 use Rattle.model_undo.specs.World.{States, World, OnBus, update}
 use Rattle.model_lab.specs.ManagerWords.{family_answer}
 use Rattle.model_lab.specs.Wires.{reply_to, answered_from, asked_from}
-use Rattle.model_lab.specs.Spelled.{numbers_of}
 use Rattle.model_family.proofs.IsFamily.{is_family}
 use Rattle.undo_plans.specs.declared.names.Names.{Names}
 use Rattle.model_lab.specs.Values.{Asks}
@@ -44,7 +42,9 @@ use Rattle.model_lab.specs.PortSteps.{Deed, asked_in, left_by, response_after, h
 use Rattle.model_lab.specs.PortEvents.{answer_to}
 use Rattle.model_lab.specs.ManagerSteps.{addresses, own_on}
 use Rattle.model_lab.specs.ManagerEvents.{HoldsReply}
-use Rattle.model_lab.specs.Lab.{Way, ToManager, ToOthers, LabFrame, Lab, port_does, frame_now, with_port}
+use Rattle.model_lab.specs.declared.way.Way.{Way}
+use Rattle.model_lab.specs.declared.way.Way.TheVariants.{ToManager, ToOthers}
+use Rattle.model_lab.specs.Lab.{LabFrame, Lab, port_does, frame_now, with_port}
 use Rattle.model_lab.specs.Honest.{IsAnother}
 use Rattle.model_lab.proofs.Spelling.{are_the_models}
 use Rattle.model_headline.specs.Each.{Each}
@@ -137,7 +137,7 @@ module _ (setup : BoardFile) (names : Names) (plan : List Op) (start : Records) 
       log : s.log ≡ log_after o kept (on Ipmb).log
       begun : s.begun ≡ (on Ipmb).begun
       taken : s.taken ≡ (on Ipmb).taken
-      written : AreWritten numbers.Ipmb (ipmb_bus setup names) s
+      written : AreWritten Ipmb (ipmb_bus setup names) s
       more : Grows (on Ipmb).frames s.frames
 
     port_tied : (way : Way) (request : ℕ) (o : Outcome) (s : BusState) → Goes_on o s
@@ -152,7 +152,7 @@ module _ (setup : BoardFile) (names : Names) (plan : List Op) (start : Records) 
       waits = tied.waits;
       alone = tied.alone;
       counted = by (λ any b. count_of any x.manager.machine.counts ≡ length b.taken) tied.counted (tied.counted Ipmb ∙ ap (λ (l : List (List ℕ)). length l) (sym g.taken));
-      written = by (λ any b. AreWritten (numbers_of any) (rules_on setup names any) b) tied.written g.written;
+      written = by (λ any b. AreWritten any (rules_on setup names any) b) tied.written g.written;
       answered = by (λ any b. Each (EntryAnswers setup names any) b.log) tied.answered (subst (Each (EntryAnswers setup names Ipmb)) (sym g.log) (log_answers o));
       made = tied.made;
       frames = each_append (IsHeld setup names (update (L setup names) Ipmb s on)) x.frames (frame_now (P setup names) Ipmb way request (before_sent o) (response_after r (reply_after o kept)) ∷ [])
@@ -256,15 +256,15 @@ module _ (setup : BoardFile) (names : Names) (plan : List Op) (start : Records) 
       not_busy : is_busy_code given.0.code ≡ false
       not_busy = (is_family setup (own setup names)).never_busy x.board given.1 (asked_in r) (family_answer given.0) (has_answer setup x.board (asked_in r))
 
-      kept_answers : IsReplyOn numbers.Ipmb given.0.code kept.request.bytes kept.reply
-      kept_answers = subst (λ (b : List ℕ). IsReplyOn numbers.Ipmb given.0.code b (reply_to Ipmb b (family_answer given.0))) (sym bytes_so) (are_the_models.reply Ipmb hold.number hold.bytes (family_answer given.0) hold.spelled)
+      kept_answers : IsReplyOn Ipmb given.0.code kept.request.bytes kept.reply
+      kept_answers = subst (λ (b : List ℕ). IsReplyOn Ipmb given.0.code b (reply_to Ipmb b (family_answer given.0))) (sym bytes_so) (are_the_models.reply Ipmb hold.number hold.bytes (family_answer given.0) hold.spelled)
 
-      replies_in : (o : Outcome) (n : ℕ) (k : Kept) → slice_get (carried_after o kept (on Ipmb).carried) n ≡ Some k → (code : ℕ) × (is_busy_code code ≡ false) × IsReplyOn numbers.Ipmb code k.request.bytes k.reply
+      replies_in : (o : Outcome) (n : ℕ) (k : Kept) → slice_get (carried_after o kept (on Ipmb).carried) n ≡ Some k → (code : ℕ) × (is_busy_code code ≡ false) × IsReplyOn Ipmb code k.request.bytes k.reply
       replies_in (Repeats reply) n k e = (tied.written Ipmb).replies n k e
       replies_in IsBusy n k e = (tied.written Ipmb).replies n k e
       replies_in IsNew n k e = elim (one_more (on Ipmb).carried kept n k e) [
         | inl old ↦ (tied.written Ipmb).replies n k old
-        | inr new ↦ subst (λ (q : Kept). (code : ℕ) × (is_busy_code code ≡ false) × IsReplyOn numbers.Ipmb code q.request.bytes q.reply) new.1 (given.0.code, not_busy, kept_answers)
+        | inr new ↦ subst (λ (q : Kept). (code : ℕ) × (is_busy_code code ≡ false) × IsReplyOn Ipmb code q.request.bytes q.reply) new.1 (given.0.code, not_busy, kept_answers)
       ]
 
       goes_on : Goes_on done model_after
@@ -278,7 +278,7 @@ module _ (setup : BoardFile) (names : Names) (plan : List Op) (start : Records) 
 
       -- the response says what the model's frame holds
       says : (o : Outcome) → outcome (is_above 64) (heard_in r) (on Ipmb).log ≡ o
-          → HoldsReply numbers.Ipmb (response_bytes (response_to r (answered_from Ipmb (said Ipmb (heard_in r) (reply_after o kept))))) (Reply kept.request.number (reply_after o kept))
+          → HoldsReply Ipmb (response_bytes (response_to r (answered_from Ipmb (said Ipmb (heard_in r) (reply_after o kept))))) (Reply kept.request.number (reply_after o kept))
       says (Repeats reply) e =
           let a = repeat_answers setup names Ipmb (is_above 64) (heard_in r) (on Ipmb).log reply (tied.answered Ipmb) e in
           let is : reply ≡ reply_to Ipmb hold.bytes a.0 = a.1 ∙ ap (λ (b : List ℕ). reply_to Ipmb b a.0) bytes_so in
@@ -287,7 +287,7 @@ module _ (setup : BoardFile) (names : Names) (plan : List Op) (start : Records) 
         (busy_on Ipmb).code,
         hold.bytes,
         refl,
-        subst (λ (b : List ℕ). IsReplyOn numbers.Ipmb (busy_on Ipmb).code hold.bytes b) (sym (responds (busy_on Ipmb))) (are_the_models.reply Ipmb hold.number hold.bytes (busy_on Ipmb) hold.spelled),
+        subst (λ (b : List ℕ). IsReplyOn Ipmb (busy_on Ipmb).code hold.bytes b) (sym (responds (busy_on Ipmb))) (are_the_models.reply Ipmb hold.number hold.bytes (busy_on Ipmb) hold.spelled),
       )
       says IsNew e = responds (family_answer given.0) ∙ ap (λ (b : List ℕ). reply_to Ipmb b (family_answer given.0)) (sym bytes_so)
 

@@ -18,13 +18,13 @@ use Rattle.model_undo.specs.Wires.{number_of, IsMade}
 use Rattle.model_undo.specs.World as world
 use Rattle.model_undo.specs.World.{States}
 use Rattle.model_lab.specs.ManagerWords.{bus_of, manager_words}
-use Rattle.model_lab.specs.Spelled.{numbers_of}
 use Rattle.model_lab.specs.Wires.{bytes_of}
 use Rattle.model_lab.proofs.Spelled.{are_spelled}
 use Rattle.undo_plans.specs.declared.names.Names.{Names}
 use Rattle.model_undo.specs.TwoBuses.{Addresses}
 use Rattle.model_lab.specs.ManagerSteps.{Sent as SentFrames, addresses, values_of, sent_of}
-use Rattle.model_lab.specs.Lab.{ToPort, Lab, with_frames, sends}
+use Rattle.model_lab.specs.declared.way.Way.TheVariants.{ToPort}
+use Rattle.model_lab.specs.Lab.{Lab, with_frames, sends}
 use Rattle.model_headline.specs.Made.{StageMade}
 use Rattle.model_headline.specs.Tied.{P, F, L, W, rules_on, requests, IsTied, world_of}
 use Rattle.model_headline.proofs.Sent.{put, IsSentTo, sent_tied}
@@ -41,13 +41,13 @@ module _ (setup : BoardFile) (names : Names) where
   abbrev pub NoneOpen : States (L setup names) → Type 0
   NoneOpen on = (bus : Bus) → length (requests setup names on bus).begun ≡ length (requests setup names on bus).taken
 
-  is_number : (bus : Bus) (n : ℕ) (bytes : List ℕ) → IsRequestOn (numbers_of bus) (number_of bus n) bytes → IsRequestOn (numbers_of bus) ((rules_on setup names bus).number_of n) bytes
-  is_number Ipmb n bytes is = subst (λ (k : ℕ). IsRequestOn (numbers_of Ipmb) (k % 64) bytes) (from_zero n) is
-  is_number Smbus n bytes is = subst (λ (k : ℕ). IsRequestOn (numbers_of Smbus) (k % 32) bytes) (from_zero n) is
+  is_number : (bus : Bus) (n : ℕ) (bytes : List ℕ) → IsRequestOn bus (number_of bus n) bytes → IsRequestOn bus ((rules_on setup names bus).number_of n) bytes
+  is_number Ipmb n bytes is = subst (λ (k : ℕ). IsRequestOn Ipmb (k % 64) bytes) (from_zero n) is
+  is_number Smbus n bytes is = subst (λ (k : ℕ). IsRequestOn Smbus (k % 32) bytes) (from_zero n) is
 
   -- the model's request is begun
   begun_sent : (asked : Asked) (count : ℕ) (s : BusState) → IsMade (manager_words own) asked → length s.begun ≡ count
-      → ((n : ℕ) (b : List ℕ) → slice_get s.begun n ≡ Some b → IsRequestOn (numbers_of (bus_of asked)) ((rules_on setup names (bus_of asked)).number_of n) b)
+      → ((n : ℕ) (b : List ℕ) → slice_get s.begun n ≡ Some b → IsRequestOn (bus_of asked) ((rules_on setup names (bus_of asked)).number_of n) b)
       → IsSentTo setup names (bus_of asked) s (begins (rules_on setup names (bus_of asked)) (bytes_of (number_of (bus_of asked) count) asked) s) (bytes_of (number_of (bus_of asked) count) asked) count
   begun_sent asked count s made all spelled =
       let bus = bus_of asked in
@@ -60,11 +60,11 @@ module _ (setup : BoardFile) (names : Names) where
         requests = λ n b e. by n b (one_more s.begun bytes n b e);
       }
     where
-      by : (n : ℕ) (b : List ℕ) → (slice_get s.begun n ≡ Some b) ⊎ ((n ≡ length s.begun) × (bytes_of (number_of (bus_of asked) count) asked ≡ b)) → IsRequestOn (numbers_of (bus_of asked)) ((rules_on setup names (bus_of asked)).number_of n) b
+      by : (n : ℕ) (b : List ℕ) → (slice_get s.begun n ≡ Some b) ⊎ ((n ≡ length s.begun) × (bytes_of (number_of (bus_of asked) count) asked ≡ b)) → IsRequestOn (bus_of asked) ((rules_on setup names (bus_of asked)).number_of n) b
       by n b (inl old) = spelled n b old
       by n b (inr new) =
-          subst (λ (x : List ℕ). IsRequestOn (numbers_of (bus_of asked)) ((rules_on setup names (bus_of asked)).number_of n) x) new.1
-          (subst (λ (k : ℕ). IsRequestOn (numbers_of (bus_of asked)) ((rules_on setup names (bus_of asked)).number_of k) (bytes_of (number_of (bus_of asked) count) asked)) (sym all ∙ sym new.0)
+          subst (λ (x : List ℕ). IsRequestOn (bus_of asked) ((rules_on setup names (bus_of asked)).number_of n) x) new.1
+          (subst (λ (k : ℕ). IsRequestOn (bus_of asked) ((rules_on setup names (bus_of asked)).number_of k) (bytes_of (number_of (bus_of asked) count) asked)) (sym all ∙ sym new.0)
           (is_number (bus_of asked) count (bytes_of (number_of (bus_of asked) count) asked) ((are_spelled own).requests count asked made)))
 
   closed_is : (s : BusState) → length s.begun ≡ length s.taken → is_open s ≡ false

@@ -17,7 +17,9 @@ use Rattle.model_undo.specs.World as world
 use Rattle.model_undo.specs.World.{States, World, Happening, Start, Quiet, Stop, Again, Undo, OnBus, update}
 use Rattle.model_lab.specs.ManagerWords.{bus_of}
 use Rattle.undo_plans.specs.declared.names.Names.{Names}
-use Rattle.model_lab.specs.ManagerSteps.{goes_on, Call, called}
+use Rattle.text_schedule.specs.declared.event.Call.{Call}
+use Rattle.model_lab.specs.ManagerSteps.{goes_on, called}
+use Rattle.text_schedule.specs.declared.event.Call.TheVariants as calls
 use Rattle.model_lab.specs.ManagerSteps as manager
 use Rattle.model_lab.specs.ManagerEvents.{name_awaited}
 use Rattle.model_lab.specs.Lab.{Lab, call_does, sends}
@@ -26,7 +28,6 @@ use Rattle.model_headline.proofs.Made.{starts_made, undo_made}
 use Rattle.model_bus.specs.BusState.{BusState}
 use Rattle.model_bus.specs.Answering.{AreWritten}
 use Rattle.model_bus.proofs.Lists.{Grows}
-use Rattle.model_lab.specs.Spelled.{numbers_of}
 use Rattle.model_headline.specs.Each.{Each}
 use Rattle.model_headline.proofs.Frames.{all_held}
 use Rattle.model_headline.specs.Follows.{Holds}
@@ -120,11 +121,11 @@ module _ (setup : BoardFile) (names : Names) (plan : List Op) (start : Records) 
       tied = subst (λ z. IsTied setup names z f.left) (sym same) f.ties;
     }
 
-    start_is : call_does (P setup names) (called (P setup names) manager.Start x.manager) x ≡ done_by x.manager.joined (starts (words setup names) machine.stage machine) x
+    start_is : call_does (P setup names) (called (P setup names) calls.Start x.manager) x ≡ done_by x.manager.joined (starts (words setup names) machine.stage machine) x
     unfolding called
     start_is = refl
 
-    pub start_goes : Goes setup names x on (call_does (P setup names) (called (P setup names) manager.Start x.manager) x)
+    pub start_goes : Goes setup names x on (call_does (P setup names) (called (P setup names) calls.Start x.manager) x)
     start_goes = goes_by Start _ (starts (words setup names) machine.stage machine) tt refl refl start_is (starts_so machine.stage refl)
 
     -- ---- stop
@@ -140,11 +141,11 @@ module _ (setup : BoardFile) (names : Names) (plan : List Op) (start : Records) 
     stops_so AtUndone = rests
     stops_so (AtRefused k code) = rests
 
-    stop_is : call_does (P setup names) (called (P setup names) manager.Stop x.manager) x ≡ done_by x.manager.joined (stops (words setup names) machine.stage machine) x
+    stop_is : call_does (P setup names) (called (P setup names) calls.Stop x.manager) x ≡ done_by x.manager.joined (stops (words setup names) machine.stage machine) x
     unfolding called
     stop_is = refl
 
-    pub stop_goes : Goes setup names x on (call_does (P setup names) (called (P setup names) manager.Stop x.manager) x)
+    pub stop_goes : Goes setup names x on (call_does (P setup names) (called (P setup names) calls.Stop x.manager) x)
     stop_goes = goes_by Stop _ (stops (words setup names) machine.stage machine) tt refl refl stop_is (stops_so machine.stage)
 
     -- ---- quiet and again
@@ -209,18 +210,18 @@ module _ (setup : BoardFile) (names : Names) (plan : List Op) (start : Records) 
       tied = subst (λ z. IsTied setup names z f.left) (sym same) f.ties;
     }
 
-    quiet_is : call_does (P setup names) (called (P setup names) manager.Quiet x.manager) x ≡ done_by x.manager.joined (quiets (words setup names) machine.stage machine) x
+    quiet_is : call_does (P setup names) (called (P setup names) calls.Quiet x.manager) x ≡ done_by x.manager.joined (quiets (words setup names) machine.stage machine) x
     unfolding called
     quiet_is = refl
 
-    pub quiet_goes : Goes setup names x on (call_does (P setup names) (called (P setup names) manager.Quiet x.manager) x)
+    pub quiet_goes : Goes setup names x on (call_does (P setup names) (called (P setup names) calls.Quiet x.manager) x)
     quiet_goes = repeats_by Quiet _ (quiets (words setup names) machine.stage machine) tt refl refl quiet_is (quiets_so machine.stage refl)
 
-    again_is : call_does (P setup names) (called (P setup names) manager.Again x.manager) x ≡ done_by x.manager.joined (agains (words setup names) machine.stage machine) x
+    again_is : call_does (P setup names) (called (P setup names) calls.Again x.manager) x ≡ done_by x.manager.joined (agains (words setup names) machine.stage machine) x
     unfolding called
     again_is = refl
 
-    pub again_goes : Goes setup names x on (call_does (P setup names) (called (P setup names) manager.Again x.manager) x)
+    pub again_goes : Goes setup names x on (call_does (P setup names) (called (P setup names) calls.Again x.manager) x)
     again_goes = repeats_by Again _ (agains (words setup names) machine.stage machine) tt refl refl again_is (agains_so machine.stage refl)
 
     -- ---- undo
@@ -242,7 +243,7 @@ module _ (setup : BoardFile) (names : Names) (plan : List Op) (start : Records) 
       waits = λ n. refl;
       alone = cc;
       counted = by_bus (λ bus s. count_of bus machine.counts ≡ length s.taken) tied.counted;
-      written = by_bus (λ bus s. AreWritten (numbers_of bus) (rules_on setup names bus) s) tied.written;
+      written = by_bus (λ bus s. AreWritten bus (rules_on setup names bus) s) tied.written;
       answered = by_bus (λ bus s. Each (EntryAnswers setup names bus) s.log) tied.answered;
       made = tied.made;
       frames = all_held setup names on cleared x.frames (by_bus (λ bus s. Grows (requests setup names on bus).frames s.frames) (λ bus n f e. e)) tied.frames;
@@ -295,18 +296,18 @@ module _ (setup : BoardFile) (names : Names) (plan : List Op) (start : Records) 
     undo_so AtUndone at = undo_rests
     undo_so (AtRefused k code) at = undo_rests
 
-    undo_is : done_by nothing (undoes (words setup names) machine.stage machine) x ≡ call_does (P setup names) (called (P setup names) manager.Undo x.manager) x
+    undo_is : done_by nothing (undoes (words setup names) machine.stage machine) x ≡ call_does (P setup names) (called (P setup names) calls.Undo x.manager) x
     unfolding called
     undo_is = refl
 
-    pub undo_goes : Goes setup names x on (call_does (P setup names) (called (P setup names) manager.Undo x.manager) x)
+    pub undo_goes : Goes setup names x on (call_does (P setup names) (called (P setup names) calls.Undo x.manager) x)
     undo_goes = subst (λ y. Goes setup names x on y) undo_is (undo_so machine.stage refl)
 
     -- ---- any call
 
     pub call_goes : (call : Call) → Goes setup names x on (call_does (P setup names) (called (P setup names) call x.manager) x)
-    call_goes manager.Start = start_goes
-    call_goes manager.Quiet = quiet_goes
-    call_goes manager.Stop = stop_goes
-    call_goes manager.Again = again_goes
-    call_goes manager.Undo = undo_goes
+    call_goes calls.Start = start_goes
+    call_goes calls.Quiet = quiet_goes
+    call_goes calls.Stop = stop_goes
+    call_goes calls.Again = again_goes
+    call_goes calls.Undo = undo_goes

@@ -24,7 +24,6 @@ use Rattle.model_undo.specs.Clean.{Moment}
 use Rattle.model_family.specs.Family.{answer}
 use Rattle.model_lab.specs.Wires.{bytes_of, reply_to}
 use Rattle.model_lab.specs.WireLaws.{managers, upper, lower}
-use Rattle.model_lab.specs.Spelled.{numbers_of}
 use Rattle.model_lab.proofs.Spelled.{are_spelled}
 use Rattle.model_family.proofs.IsFamily.{is_family}
 use Rattle.undo_plans.specs.declared.names.Names.{Names}
@@ -32,7 +31,7 @@ use Rattle.model_lab.specs.Values.{Asks, Tells}
 use Rattle.model_lab.specs.Bytes.{heard_in, response_bytes, response_to}
 use Rattle.model_lab.specs.PortSteps.{PortState, Deed, Turn as PortTurn, hears, hears_request, request_turn, response_after, spelled, asked_in, stays}
 use Rattle.model_lab.specs.ManagerSteps.{addresses, ManagerState, ManagerDeed, sent_of, goes_on, rests, taken_or, hears_reply, hears_response}
-use Rattle.model_lab.specs.Lab.{ToManager}
+use Rattle.model_lab.specs.declared.way.Way.TheVariants.{ToManager}
 use Rattle.model_lab.proofs.Stepping.{turns_by}
 use Rattle.model_headline.specs.Tied.{P, F, rules_on, ipmb_bus}
 use Rattle.model_headline.proofs.Sending.{from_zero}
@@ -156,8 +155,8 @@ module _ (setup : BoardFile) (names : Names) where
     abbrev manager : ManagerState (P setup names)
     manager = manager_with joined open_machine
 
-    passes : answers (numbers_of Ipmb) wanted_bytes (reply_to Ipmb wanted_bytes given) ≡ true
-    passes = accepts (numbers_of Ipmb) given.code wanted_bytes (reply_to Ipmb wanted_bytes given) (not_busy b wanted) ((are_spelled (addresses names)).replies m.counts.ipmb wanted given made)
+    passes : answers Ipmb wanted_bytes (reply_to Ipmb wanted_bytes given) ≡ true
+    passes = accepts Ipmb given.code wanted_bytes (reply_to Ipmb wanted_bytes given) (not_busy b wanted) ((are_spelled (addresses names)).replies m.counts.ipmb wanted given made)
 
     taken_is : (code : ℕ) (data_of : List ℕ) → is_busy code ≡ false → reply_of (F setup names).words (record { code = code; body = data_of }) open_machine ≡ Some (takes (F setup names).words (record { code = code; body = data_of }) task (part_of wanted before) open_machine)
     taken_is code data_of free = ap (λ (t : Bool). cond t None (Some (takes (F setup names).words (record { code = code; body = data_of }) task (part_of wanted before) open_machine))) free

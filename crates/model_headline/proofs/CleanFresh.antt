@@ -10,12 +10,15 @@ use Rattle.cfg_records.specs.declared.board_file.BoardFile.{BoardFile}
 use Rattle.model_bus.specs.Request.{idles_of}
 use Rattle.model_bus.specs.Circle.{span_of}
 use Rattle.model_undo.specs.Machine.{Stage, AtStart, Opened, AtEnd, AtHalt, AtUndone, AtRefused, Machine, bus_at, enters, count_of}
-use Rattle.model_lab.specs.Spelled.{numbers_of}
 use Rattle.model_lab.specs.Values.{Value}
 use Rattle.model_lab.specs.PortSteps.{hears}
 use Rattle.model_lab.specs.ManagerSteps.{own_on, Plans, ManagerState, ManagerDeed, Sent, goes_on, manager_hears}
-use Rattle.model_lab.specs.Lab.{Way, ToPort, ToManager, ToOthers, LabFrame, Event, ToBmc, ToMgr, Lab, idles_on, port_on, frame_now, port_does, delivered, returned, manager_does, step, run}
-use Rattle.model_lab.specs.Faults.{Fault, Aged, Room, begun_on, is_open_bus, is_live, is_full, delivery, first_of, fault_of, AllTaken}
+use Rattle.model_lab.specs.declared.way.Way.{Way}
+use Rattle.model_lab.specs.declared.way.Way.TheVariants.{ToPort, ToManager, ToOthers}
+use Rattle.model_lab.specs.Lab.{LabFrame, Event, ToBmc, ToMgr, Lab, idles_on, port_on, frame_now, port_does, delivered, returned, manager_does, step, run}
+use Rattle.model_lab.specs.declared.fault.Fault.{Fault}
+use Rattle.model_lab.specs.declared.fault.Fault.TheVariants.{Aged, Room}
+use Rattle.model_lab.specs.Faults.{begun_on, is_open_bus, is_live, is_full, delivery, first_of, fault_of, AllTaken}
 use Rattle.model_lab.specs.Clean.{delivery_in, DeliversFrom}
 use Rattle.model_headline.specs.Each.{Each}
 use Rattle.model_headline.proofs.Each.{each_append, each_imply, each_map, each_by_place}
@@ -97,13 +100,13 @@ module _ (P : Plans) (setup : BoardFile) where
       by : (n : ℕ) → n ≡ number + length ds → nat_le 65536 n ≡ false
       by n e = let below : n < 65536 = omega (arith, e, small) in grind (arith, nat_tests)
 
-  within : (on : Bus) (n request : ℕ) → n ≤ request + 1 → n ≤ request + span_of (numbers_of on)
+  within : (on : Bus) (n request : ℕ) → n ≤ request + 1 → n ≤ request + span_of on
   within Ipmb n request h = omega (arith, h)
   within Smbus n request h = omega (arith, h)
 
   live_now : (x : Lab P) (f : LabFrame) → IsNewest P x f → NoIdles P (link_of P x []) → is_live P x f ≡ true
   live_now x f n none =
-      and_from _ _ (le-leb (begun_on P.words f.on x.manager.machine) (f.request + span_of (numbers_of f.on)) (within f.on _ f.request n.newest))
+      and_from _ _ (le-leb (begun_on P.words f.on x.manager.machine) (f.request + span_of f.on) (within f.on _ f.request n.newest))
       (eq-eqb f.idles (idles_on P f.on x) (n.idles ∙ sym (by f.on)))
     where
       by : (on : Bus) → idles_on P on x ≡ 0

@@ -19,7 +19,10 @@ use Rattle.bmc_board.specs.State.{State}
 use Rattle.bmc_board.proofs.AnswerFacts.{stays_sound}
 use Rattle.bmc_board.proofs.OneAnswer.{has_answer}
 use Rattle.model_undo.specs.Words.{Answered, Words}
-use Rattle.model_undo.specs.Phase.{Why, Stop, Refused, NotRestorable, GetRefused, Phase, Undone}
+use Rattle.model_undo.specs.declared.phase.Why.{Why}
+use Rattle.model_undo.specs.declared.phase.Why.TheVariants.{Stop, Refused, NotRestorable, GetRefused}
+use Rattle.model_undo.specs.declared.phase.Phase.{Phase}
+use Rattle.model_undo.specs.declared.phase.Phase.TheVariants.{Undone}
 use Rattle.model_undo.specs.Plan.{IsAfter}
 use Rattle.model_undo.specs.Wires.{IsMade}
 use Rattle.model_undo.specs.Machine.{Counts, Task, Gets, Sets, Undoes, Part as TaskPart, Stage, AtStart, Opened, AtEnd, AtHalt, AtUndone, AtRefused, Machine, Turn, Sending, enters, sends_at, takes, series_of, bodies_with, finished, refused, set_stage, next_stage, undo_stage, first_stage, stage_after, undo_after, one_answered, bus_at, phase_of, open_bus, open_bus_at, undo_of, opened}
@@ -30,9 +33,13 @@ use Rattle.model_family.specs.Family.{answer}
 use Rattle.model_family.proofs.IsFamily.{is_family}
 use Rattle.model_family.proofs.Board.{starts_valid}
 use Rattle.undo_plans.specs.declared.names.Names.{Names}
-use Rattle.model_lab.specs.ManagerSteps.{addresses, ManagerState, Sent, sent_of, Call, Start as StartCall, Undo as UndoCall, called, goes_on}
+use Rattle.text_schedule.specs.declared.event.Call.{Call}
+use Rattle.text_schedule.specs.declared.event.Call.TheVariants.{Start as StartCall, Undo as UndoCall}
+use Rattle.model_lab.specs.ManagerSteps.{addresses, ManagerState, Sent, sent_of, called, goes_on}
 use Rattle.model_lab.specs.Lab.{Event, Calls, Lab, call_does, manager_does, step, run}
-use Rattle.model_lab.specs.Faults.{Fault, Room, begun_on, is_open_bus, fault_of, AllTaken}
+use Rattle.model_lab.specs.declared.fault.Fault.{Fault}
+use Rattle.model_lab.specs.declared.fault.Fault.TheVariants.{Room}
+use Rattle.model_lab.specs.Faults.{begun_on, is_open_bus, fault_of, AllTaken}
 use Rattle.model_lab.specs.Clean.{DeliversFrom, IsCleanRun, IsCleanUndo}
 use Rattle.model_lab.proofs.Stepping.{runs_by}
 use Rattle.model_headline.specs.Made.{AllSeries, StageMade}

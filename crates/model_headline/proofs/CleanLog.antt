@@ -6,7 +6,7 @@ use Rattle.std.proofs.lemmas.Bool.{and_left, and_right, eq-eqb, cond-true, cond-
 use Rattle.std.proofs.lemmas.List.Folds.{list_any_at}
 use Rattle.model_bus.specs.Request.{Request as Heard, Kept, Entry, Carried, is_same, carried_since, idles_of}
 use Rattle.model_bus.specs.Carried.{IsNew, kept_for, requesters, is_busy, outcome, outcome_of}
-use Rattle.model_bus.specs.Numbering.{Bus as Rules}
+use Rattle.model_bus.specs.Numbering.{Rules}
 use Rattle.model_bus.specs.BusState.{request_of}
 use Rattle.model_bus.proofs.NumberLaws.{IsNumbering}
 use Rattle.model_bus.proofs.Repeats.{Has, is_same-number, list_all-has}

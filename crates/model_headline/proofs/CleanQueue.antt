@@ -10,7 +10,9 @@ use Rattle.bmc_board.specs.State.{State}
 use Rattle.model_lab.specs.Values.{Value, Asks, Tells, Part}
 use Rattle.model_lab.specs.PortSteps.{PortState, Deed, hears}
 use Rattle.model_lab.specs.ManagerSteps.{Plans, ManagerState, ManagerDeed, Sent, manager_hears}
-use Rattle.model_lab.specs.Lab.{Way, ToPort, ToManager, ToOthers, LabFrame, Event, ToBmc, ToMgr, Lab, frame_now, opens, port_does, delivered, returned, manager_does, step, run}
+use Rattle.model_lab.specs.declared.way.Way.{Way}
+use Rattle.model_lab.specs.declared.way.Way.TheVariants.{ToPort, ToManager, ToOthers}
+use Rattle.model_lab.specs.Lab.{LabFrame, Event, ToBmc, ToMgr, Lab, frame_now, opens, port_does, delivered, returned, manager_does, step, run}
 use Rattle.model_lab.specs.Clean.{delivery_in, DeliversFrom}
 
 -- a frame that is due: where it is, to whom it goes, and what it is

@@ -43,7 +43,6 @@ use Rattle.model_lab.specs.ManagerWords.{from_manager, manager_words}
 use Rattle.model_family.specs.Family.{answer}
 use Rattle.model_lab.specs.Wires.{bytes_of, reply_to}
 use Rattle.model_lab.specs.WireLaws.{managers}
-use Rattle.model_lab.specs.Spelled.{numbers_of}
 use Rattle.model_lab.proofs.Spelled.{are_spelled}
 use Rattle.undo_plans.specs.declared.names.Names.{Names}
 use Rattle.model_lab.specs.Values.{Part, parts_of}
@@ -182,8 +181,8 @@ module _ (setup : BoardFile) (names : Names) where
     abbrev manager : ManagerState (P setup names)
     manager = manager_with setup names joined open_machine
 
-    passes : answers (numbers_of Smbus) wanted_bytes (reply_to Smbus wanted_bytes given) ≡ true
-    passes = accepts (numbers_of Smbus) given.code wanted_bytes (reply_to Smbus wanted_bytes given) (not_busy setup names b wanted) ((are_spelled (addresses names)).replies m.counts.smbus wanted given made)
+    passes : answers Smbus wanted_bytes (reply_to Smbus wanted_bytes given) ≡ true
+    passes = accepts Smbus given.code wanted_bytes (reply_to Smbus wanted_bytes given) (not_busy setup names b wanted) ((are_spelled (addresses names)).replies m.counts.smbus wanted given made)
 
     taken_is : (code : ℕ) (data_of : List ℕ) → is_busy code ≡ false
         → reply_of (F setup names).words (record { code = code; body = data_of }) open_machine ≡ Some (takes (F setup names).words (record { code = code; body = data_of }) task (part_of setup names wanted before) open_machine)

@@ -1,8 +1,8 @@
 -- The manager's test takes the reply to the open request, unless that says that the port is busy.
 use Rattle.std.proofs.Common.{◌≡◌, ℕ, ◌+◌, ◌*◌, ◌/◌, ◌%◌, true, false, List, refl, ◌∙◌, ap, arith}
 use Rattle.std.proofs.lemmas.Bool.{and_from, eq-eqb, not_from_false}
-use Rattle.model_bus.specs.declared.numbers.Numbers.{Numbers}
-use Rattle.model_bus.specs.declared.numbers.Numbers.TheVariants.{Ipmb, Pldm}
+use Rattle.two_wire.specs.declared.Bus.{Bus}
+use Rattle.two_wire.specs.declared.Bus.TheVariants.{Ipmb, Smbus}
 use Rattle.model_bus.specs.Bytes.{ipmb_request, IsIpmbReply, ipmb_answers, pldm_request, IsPldmReply, pldm_answers, is_busy_code, IsReplyOn, answers}
 
 ipmb_accepts : (code : ℕ) (request reply : List ℕ) → is_busy_code code ≡ false → IsIpmbReply code request reply → ipmb_answers request reply ≡ true
@@ -28,6 +28,6 @@ pldm_accepts code request reply free r =
     ∙ and_from _ _ (and_from _ _ (and_from _ _ refl (eq-eqb _ _ clear)) (eq-eqb _ _ same))
     (and_from _ _ (and_from _ _ (eq-eqb h.pldm_type h.pldm_type refl) (eq-eqb h.command h.command refl)) (not_from_false _ free))
 
-pub accepts : (kind : Numbers) (code : ℕ) (request reply : List ℕ) → is_busy_code code ≡ false → IsReplyOn kind code request reply → answers kind request reply ≡ true
+pub accepts : (on : Bus) (code : ℕ) (request reply : List ℕ) → is_busy_code code ≡ false → IsReplyOn on code request reply → answers on request reply ≡ true
 accepts Ipmb code request reply free r = ipmb_accepts code request reply free r
-accepts Pldm code request reply free r = pldm_accepts code request reply free r
+accepts Smbus code request reply free r = pldm_accepts code request reply free r

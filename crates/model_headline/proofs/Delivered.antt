@@ -11,7 +11,8 @@ use Rattle.undo_plans.specs.declared.names.Names.{Names}
 use Rattle.model_lab.specs.PortSteps.{hears}
 use Rattle.model_lab.specs.Own.{JoinsOwn}
 use Rattle.model_lab.specs.Honest.{IsLive, IsDelivered}
-use Rattle.model_lab.specs.Lab.{ToPort, ToManager, LabFrame, Lab, port_does, port_on, opens, delivered}
+use Rattle.model_lab.specs.declared.way.Way.TheVariants.{ToPort, ToManager}
+use Rattle.model_lab.specs.Lab.{LabFrame, Lab, port_does, port_on, opens, delivered}
 use Rattle.model_headline.specs.Tied.{P, L, IsHeld, IsHeldBy, IsTied, world_of, Goes}
 use Rattle.model_headline.specs.Follows.{Holds}
 use Rattle.model_headline.proofs.Each.{each_at}

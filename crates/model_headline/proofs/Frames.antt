@@ -7,7 +7,9 @@ use Rattle.model_bus.specs.BusState.{Frame}
 use Rattle.model_bus.proofs.Lists.{Grows}
 use Rattle.model_undo.specs.World.{States}
 use Rattle.undo_plans.specs.declared.names.Names.{Names}
-use Rattle.model_lab.specs.Lab.{Way, ToPort, ToManager, ToOthers, LabFrame}
+use Rattle.model_lab.specs.declared.way.Way.{Way}
+use Rattle.model_lab.specs.declared.way.Way.TheVariants.{ToPort, ToManager, ToOthers}
+use Rattle.model_lab.specs.Lab.{LabFrame}
 use Rattle.model_headline.specs.Each.{Each}
 use Rattle.model_headline.proofs.Each.{each_imply}
 use Rattle.model_headline.specs.Tied.{L, IsHeldBy, IsHeld, IsOf, requests}

@@ -23,14 +23,14 @@ use Rattle.model_bus.proofs.Sound.{Fits}
 use Rattle.model_bus.proofs.Assemblies.{one_tag}
 use Rattle.model_undo.specs.World.{States}
 use Rattle.undo_plans.specs.declared.names.Names.{Names}
-use Rattle.model_lab.specs.Spelled.{numbers_of}
 use Rattle.model_lab.specs.Seen.{seen, AreSeen}
 use Rattle.model_lab.specs.Values.{Value, Asks, Tells, Part}
 use Rattle.model_lab.specs.Faults.{begun_on}
 use Rattle.model_lab.specs.Honest.{IsLive, IsDelivered}
 use Rattle.model_lab.specs.Own.{JoinsOwn, IsOwn}
 use Rattle.model_lab.specs.Joins.{JoinsLive, IsJoinLive}
-use Rattle.model_lab.specs.Lab.{ToPort, ToBmc, LabFrame, Lab}
+use Rattle.model_lab.specs.declared.way.Way.TheVariants.{ToPort}
+use Rattle.model_lab.specs.Lab.{ToBmc, LabFrame, Lab}
 use Rattle.model_headline.specs.Tied.{P, L, smbus_bus, rules_on, HoldsAskedPart, IsHeld, IsHeldBy, IsTied, world_of}
 use Rattle.model_headline.specs.Follows.{Holds}
 use Rattle.model_headline.proofs.Each.{each_at}
@@ -117,7 +117,7 @@ module _ (setup : BoardFile) (names : Names) (plan : List Op) (start : Records) 
       live_on : (bus : Bus) → f.on ≡ bus → IsLive (P setup names) x f → IsHeldBy setup names ToPort bus on f → Own f.value → Live f.value
       live_on Ipmb at live hold joins = subst Live (sym hold.value) tt
       live_on Smbus at live hold joins =
-          recent_too (subst (λ (b : Bus). begun_on (P setup names).words b x.manager.machine ≤ f.request + span_of (numbers_of b)) at live.recent) f.value joins
+          recent_too (subst (λ (b : Bus). begun_on (P setup names).words b x.manager.machine ≤ f.request + span_of b) at live.recent) f.value joins
 
     module _ (number : ℕ) (d : IsDelivered (P setup names) ToPort x number) where
       held : IsHeldBy setup names ToPort d.frame.on on d.frame

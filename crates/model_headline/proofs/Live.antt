@@ -9,7 +9,6 @@ use Rattle.model_bus.specs.Circle.{span_of}
 use Rattle.model_bus.specs.BusState.{Frame}
 use Rattle.model_bus.specs.Schedule.{IsLive as IsLiveThere}
 use Rattle.model_bus.specs.Answering.{TestsAgree}
-use Rattle.model_bus.specs.declared.numbers.Numbers.TheVariants as numbers
 use Rattle.model_bus.proofs.NumberLaws.{IsNumbering, ipmb_numbers, smbus_numbers}
 use Rattle.model_bus.proofs.Steps.{Holds as BusHolds}
 use Rattle.model_bus.proofs.Answering.{tests_agree}
@@ -20,7 +19,6 @@ use Rattle.model_undo.specs.World.{States}
 use Rattle.model_undo.proofs.Buses.{cases_bus}
 use Rattle.model_undo.proofs.TwoBuses.{packet_lines}
 use Rattle.model_undo.proofs.LineLaws.{AllHold, whole_is_line, packets_are_line}
-use Rattle.model_lab.specs.Spelled.{numbers_of}
 use Rattle.undo_plans.specs.declared.names.Names.{Names}
 use Rattle.model_lab.specs.Lab.{LabFrame, Lab, idles_on}
 use Rattle.model_lab.specs.Faults.{is_open_bus, begun_on}
@@ -46,11 +44,11 @@ module _ (setup : BoardFile) (names : Names) (plan : List Op) (start : Records) 
   smbus_holds x on h = h.holds Smbus
 
   module _ (x : Lab (P setup names)) (on : States (L setup names)) (tied : IsTied setup names x on) (h : Holds setup names plan start (world_of setup names x on)) where
-    pub ipmb_agrees : TestsAgree numbers.Ipmb (ipmb_bus setup names) (on Ipmb)
-    ipmb_agrees = tests_agree numbers.Ipmb (ipmb_bus setup names) (numbering Ipmb) (on Ipmb) (ipmb_holds x on h) (tied.written Ipmb)
+    pub ipmb_agrees : TestsAgree Ipmb (ipmb_bus setup names) (on Ipmb)
+    ipmb_agrees = tests_agree Ipmb (ipmb_bus setup names) (numbering Ipmb) (on Ipmb) (ipmb_holds x on h) (tied.written Ipmb)
 
-    pub smbus_agrees : TestsAgree numbers.Pldm (rules_on setup names Smbus) (on Smbus).bus
-    smbus_agrees = tests_agree numbers.Pldm (rules_on setup names Smbus) (numbering Smbus) (on Smbus).bus (smbus_holds x on h).1.holds (tied.written Smbus)
+    pub smbus_agrees : TestsAgree Smbus (rules_on setup names Smbus) (on Smbus).bus
+    smbus_agrees = tests_agree Smbus (rules_on setup names Smbus) (numbering Smbus) (on Smbus).bus (smbus_holds x on h).1.holds (tied.written Smbus)
 
     -- ---- how many requests were begun
 
@@ -84,7 +82,7 @@ module _ (setup : BoardFile) (names : Names) (plan : List Op) (start : Records) 
     pub most_begun : (bus : Bus) → length (requests setup names on bus).begun ≤ begun_on (words setup names) bus x.manager.machine
     most_begun bus = begun_by x.manager.machine.stage bus (h.joined.are_open bus)
 
-    spans_alike : (bus : Bus) → (rules_on setup names bus).span ≡ span_of (numbers_of bus)
+    spans_alike : (bus : Bus) → (rules_on setup names bus).span ≡ span_of bus
     spans_alike Ipmb = refl
     spans_alike Smbus = refl
 
@@ -92,7 +90,7 @@ module _ (setup : BoardFile) (names : Names) (plan : List Op) (start : Records) 
     pub live_there : (f : LabFrame) (g : Frame) (bus : Bus) → f.on ≡ bus → IsLive (P setup names) x f → g.request ≡ f.request → g.idles ≡ f.idles → IsLiveThere (rules_on setup names bus) (requests setup names on bus) g
     live_there f g bus at live request idles =
         let most = begun_by x.manager.machine.stage bus (h.joined.are_open bus) in
-        let recent : begun_on (words setup names) bus x.manager.machine ≤ f.request + span_of (numbers_of bus) = subst (λ (b : Bus). begun_on (words setup names) b x.manager.machine ≤ f.request + span_of (numbers_of b)) at live.recent in
+        let recent : begun_on (words setup names) bus x.manager.machine ≤ f.request + span_of bus = subst (λ (b : Bus). begun_on (words setup names) b x.manager.machine ≤ f.request + span_of b) at live.recent in
         let span = spans_alike bus in
         let remembered : f.idles ≡ idles_on (P setup names) bus x = subst (λ (b : Bus). f.idles ≡ idles_on (P setup names) b x) at live.remembered in
         (omega (arith, request), idles ∙ remembered ∙ sym (idles_alike setup names bus x on tied))

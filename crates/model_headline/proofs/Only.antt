@@ -2,7 +2,7 @@
 use Rattle.std.proofs.Common.{◌≡◌, ℕ, List, [], Option, Some, None, refl}
 use Rattle.std.specs.Prelude.{slice_get}
 use Rattle.std.proofs.lemmas.Bool.{cond_both}
-use Rattle.model_bus.specs.Numbering.{Bus as Rules}
+use Rattle.model_bus.specs.Numbering.{Rules}
 use Rattle.model_bus.specs.BusState.{BusState, Frame, Content, Ask, Reply, taken_content, takes_if}
 use Rattle.model_bus.specs.Packet.{Packet}
 use Rattle.model_bus.specs.Assembly.{Step, Waits, Whole, Drops, message_of}

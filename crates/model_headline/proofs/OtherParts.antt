@@ -23,7 +23,6 @@ use Rattle.bmc_board.specs.Table.{is_changing}
 use Rattle.bmc_board.specs.Answer.{answer_of}
 use Rattle.bmc_board.proofs.OneAnswer.{has_answer}
 use Rattle.bmc_board.proofs.Quiet.{keeps_records}
-use Rattle.model_bus.specs.declared.numbers.Numbers.TheVariants as numbers
 use Rattle.model_bus.specs.Repeat.{In}
 use Rattle.model_bus.specs.Request.{Request as Heard, Kept, Entry}
 use Rattle.model_bus.specs.Numbering.{is_above}
@@ -37,7 +36,6 @@ use Rattle.model_bus.proofs.Lists.{Grows}
 use Rattle.model_undo.specs.Machine.{count_of}
 use Rattle.model_undo.specs.World.{States, OnBus, OnBench, update}
 use Rattle.model_lab.specs.ManagerWords.{family_answer}
-use Rattle.model_lab.specs.Spelled.{numbers_of}
 use Rattle.model_lab.specs.Seen.{seen, WaitsAlike}
 use Rattle.undo_plans.specs.declared.names.Names.{Names}
 use Rattle.model_lab.specs.Values.{parts_of}
@@ -45,7 +43,8 @@ use Rattle.model_lab.specs.Bytes.{pldm_heard_in}
 use Rattle.model_lab.specs.PortSteps.{PortState, Deed, turn, spelled, left_by, pldm_asked, stays, hears_control, hears_pldm, hears_typed, hears_message, hears_part, hears_parts, ends_message, hears_all}
 use Rattle.model_lab.specs.PortEvents.{name_in, part_answer_to, event_by, happens_if, IsPortOf}
 use Rattle.model_lab.specs.Honest.{IsAnother, ChangesNothing}
-use Rattle.model_lab.specs.Lab.{ToOthers, Lab, frame_now, with_port, port_does}
+use Rattle.model_lab.specs.declared.way.Way.TheVariants.{ToOthers}
+use Rattle.model_lab.specs.Lab.{Lab, frame_now, with_port, port_does}
 use Rattle.model_lab.specs.Cuts.{is_for, has_slot, kept_with_parts}
 use Rattle.model_lab.proofs.PortEvents.{parts_leave_log}
 use Rattle.model_lab.proofs.Parts.{parts_are_heard}
@@ -239,7 +238,7 @@ module _ (setup : BoardFile) (names : Names) where
     record Stays (e : Ends) : Type 0 where
       manager : e.manager ≡ ends.manager
       taken : e.bus.taken ≡ ends.bus.taken
-      written : AreWritten numbers.Pldm (rules_on setup names Smbus) e.bus
+      written : AreWritten Smbus (rules_on setup names Smbus) e.bus
       more : Grows ends.bus.frames e.bus.frames
       mine : (n : ℕ) → e.port (request_name b n) ≡ ends.port (request_name b n)
 
@@ -253,7 +252,7 @@ module _ (setup : BoardFile) (names : Names) where
       waits = subst (λ w. WaitsAlike w x.manager.joined) (sym s.manager) tied.waits;
       alone = tied.alone;
       counted = by (λ any c. count_of any x.manager.machine.counts ≡ length c.taken) tied.counted (tied.counted Smbus ∙ ap (λ (t : List (List ℕ)). length t) (sym s.taken));
-      written = by (λ any c. AreWritten (numbers_of any) (rules_on setup names any) c) tied.written s.written;
+      written = by (λ any c. AreWritten any (rules_on setup names any) c) tied.written s.written;
       answered = by (λ any c. Each (EntryAnswers setup names any) c.log) tied.answered (subst (Each (EntryAnswers setup names Smbus)) (sym is.log) fits.answered);
       made = tied.made;
       frames = all_held setup names on (update (L setup names) Smbus e on) x.frames (by (λ any c. Grows (requests setup names on any).frames c.frames) (λ any n f at. at) s.more) tied.frames;

@@ -17,7 +17,6 @@ use Rattle.model_bus.proofs.Lists.{Grows}
 use Rattle.model_undo.specs.Machine.{Stage, AtStart, Opened, AtEnd, AtHalt, AtUndone, AtRefused, open_bus_at, open_bus, count_of}
 use Rattle.model_undo.specs.Joined.{IsClosed, AreOpen}
 use Rattle.model_undo.specs.World.{States, OnBus, OnBench, update}
-use Rattle.model_lab.specs.Spelled.{numbers_of}
 use Rattle.undo_plans.specs.declared.names.Names.{Names}
 use Rattle.model_lab.specs.PortSteps.{idles}
 use Rattle.model_lab.specs.ManagerSteps.{own_on}
@@ -66,7 +65,7 @@ module _ (setup : BoardFile) (names : Names) (plan : List Op) (start : Records) 
         waits = tied.waits;
         alone = tied.alone;
         counted = by (λ any b. count_of any x.manager.machine.counts ≡ length b.taken) tied.counted (tied.counted Ipmb);
-        written = by (λ any b. AreWritten (numbers_of any) (rules_on setup names any) b) tied.written (record { requests = (tied.written Ipmb).requests; replies = (tied.written Ipmb).replies });
+        written = by (λ any b. AreWritten any (rules_on setup names any) b) tied.written (record { requests = (tied.written Ipmb).requests; replies = (tied.written Ipmb).replies });
         answered = by (λ any b. Each (EntryAnswers setup names any) b.log) tied.answered (tt, tied.answered Ipmb);
         made = tied.made;
         frames = all_held setup names on (update (L setup names) Ipmb (idle_ipmb requester) on) x.frames (by (λ any b. Grows (requests setup names on any).frames b.frames) (λ any n f e. e) (λ n f e. e)) tied.frames;
@@ -94,7 +93,7 @@ module _ (setup : BoardFile) (names : Names) (plan : List Op) (start : Records) 
         waits = tied.waits;
         alone = tied.alone;
         counted = by (λ any b. count_of any x.manager.machine.counts ≡ length b.taken) tied.counted (tied.counted Smbus);
-        written = by (λ any b. AreWritten (numbers_of any) (rules_on setup names any) b) tied.written (record { requests = (tied.written Smbus).requests; replies = (tied.written Smbus).replies });
+        written = by (λ any b. AreWritten any (rules_on setup names any) b) tied.written (record { requests = (tied.written Smbus).requests; replies = (tied.written Smbus).replies });
         answered = by (λ any b. Each (EntryAnswers setup names any) b.log) tied.answered (tt, tied.answered Smbus);
         made = tied.made;
         frames = all_held setup names on (update (L setup names) Smbus (record (on Smbus) { bus = idle_smbus requester }) on) x.frames (by (λ any b. Grows (requests setup names on any).frames b.frames) (λ any n f e. e) (λ n f e. e)) tied.frames;

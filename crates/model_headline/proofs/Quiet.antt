@@ -10,7 +10,6 @@ use Rattle.mctp_net.specs.Assembly.{is_ours, fails, drop_cause, after as kept_af
 use Rattle.record_base.specs.declared.op.Op.{Op}
 use Rattle.cfg_records.specs.declared.board_file.BoardFile.{BoardFile}
 use Rattle.cfg_records.specs.Records.{Records}
-use Rattle.model_bus.specs.declared.numbers.Numbers.TheVariants as numbers
 use Rattle.model_bus.specs.Repeat.{In}
 use Rattle.model_bus.specs.Assembly.{Name, Sent, Step, takes}
 use Rattle.model_bus.specs.BusState.{BusState, Frame, Content}
@@ -24,7 +23,6 @@ use Rattle.model_undo.specs.Line.{exchange, carried_at}
 use Rattle.model_undo.specs.Giving.{given_by}
 use Rattle.model_undo.specs.World as world
 use Rattle.model_undo.specs.World.{States, World, OnBus, update}
-use Rattle.model_lab.specs.Spelled.{numbers_of}
 use Rattle.model_lab.specs.Seen.{WaitsAlike}
 use Rattle.model_lab.proofs.PacketSteps.{first_of}
 use Rattle.undo_plans.specs.declared.names.Names.{Names}
@@ -32,7 +30,8 @@ use Rattle.model_lab.specs.Values.{Part}
 use Rattle.model_lab.specs.PortSteps.{Deed, PortState, hears_part, ends_message, stays}
 use Rattle.model_lab.specs.PortEvents.{name_in, event_by, happens_if, IsPortOf}
 use Rattle.model_lab.specs.Own.{JoinsOwn}
-use Rattle.model_lab.specs.Lab.{ToManager, LabFrame, Lab, with_port, frame_now, port_does}
+use Rattle.model_lab.specs.declared.way.Way.TheVariants.{ToManager}
+use Rattle.model_lab.specs.Lab.{LabFrame, Lab, with_port, frame_now, port_does}
 use Rattle.model_headline.specs.Each.{Each}
 use Rattle.model_headline.specs.Tied.{P, F, L, W, rules_on, requests, HoldsAskedPart, IsHeld, EntryAnswers, IsTied, world_of, IsGiven, Goes}
 use Rattle.model_headline.specs.Follows.{Holds}
@@ -88,7 +87,7 @@ module _ (setup : BoardFile) (names : Names) (plan : List Op) (start : Records) 
       pub port : IsPortOf e d.port
       pub manager : e.manager ≡ ends.manager
       pub taken : e.bus.taken ≡ ends.bus.taken
-      pub written : AreWritten numbers.Pldm (rules_on setup names Smbus) e.bus
+      pub written : AreWritten Smbus (rules_on setup names Smbus) e.bus
       pub more : Grows ends.bus.frames e.bus.frames
       pub answered : Each (EntryAnswers setup names Smbus) e.bus.log
       pub opened : (n : ℕ) (t : Sent) → In t (e.port (request_name (part.b setup names plan start x on tied h f hold live mine) n)) → t.request ≡ opened_after (n % 8)
@@ -104,7 +103,7 @@ module _ (setup : BoardFile) (names : Names) (plan : List Op) (start : Records) 
       waits = subst (λ w. WaitsAlike w x.manager.joined) (sym l.manager) tied.waits;
       alone = tied.alone;
       counted = by (λ any b. count_of any x.manager.machine.counts ≡ length b.taken) tied.counted (tied.counted Smbus ∙ ap (λ (t : List (List ℕ)). length t) (sym l.taken));
-      written = by (λ any b. AreWritten (numbers_of any) (rules_on setup names any) b) tied.written l.written;
+      written = by (λ any b. AreWritten any (rules_on setup names any) b) tied.written l.written;
       answered = by (λ any b. Each (EntryAnswers setup names any) b.log) tied.answered l.answered;
       made = tied.made;
       frames = each_append (IsHeld setup names (now e)) x.frames (map (frame_now (P setup names) Smbus ToManager f.request (unsent d)) d.sent)

@@ -29,13 +29,13 @@ use Rattle.model_undo.proofs.Buses.{cases_bus}
 use Rattle.model_undo.proofs.LineLaws.{effect}
 use Rattle.model_undo.proofs.TwoBuses.{packet_lines}
 use Rattle.model_lab.specs.Wires.{answered_from, bytes_of}
-use Rattle.model_lab.specs.Spelled.{numbers_of}
 use Rattle.model_lab.specs.Seen.{WaitsAlike}
 use Rattle.undo_plans.specs.declared.names.Names.{Names}
 use Rattle.model_lab.specs.ManagerSteps.{ManagerState, ManagerDeed, rests, taken_or, heeded_on, open_count, open_bytes, is_answer, is_part, joins, joins_for, goes_on, hears_response, hears_packet, manager_hears}
 use Rattle.model_lab.specs.ManagerEvents.{takes_if, IsOpenOn, IsManagerOf, IsRepliesResponse, IsRepliesPart, BringsPart, name_awaited}
 use Rattle.model_lab.specs.Honest.{IsLive, IsDelivered}
-use Rattle.model_lab.specs.Lab.{ToManager as ToTheManager, LabFrame, Lab, manager_does, returned}
+use Rattle.model_lab.specs.declared.way.Way.TheVariants.{ToManager as ToTheManager}
+use Rattle.model_lab.specs.Lab.{LabFrame, Lab, manager_does, returned}
 use Rattle.model_lab.proofs.ManagerEvents.{replies_are_brought}
 use Rattle.model_headline.specs.Tied.{P, F, L, W, ipmb_bus, smbus_bus, rules_on, requests, HoldsTold, HoldsToldPart, ComesFromAnother, IsHeldBy, IsHeld, EntryAnswers, IsTied, world_of, Goes}
 use Rattle.model_headline.specs.Each.{Each}
@@ -324,7 +324,7 @@ module _ (setup : BoardFile) (names : Names) (plan : List Op) (start : Records) 
           answered Ipmb = tied.answered Ipmb
           answered Smbus = subst (Each (EntryAnswers setup names Smbus)) (sym (only_manager (smbus_bus setup names) (on Smbus) hold.which hold.place).bus.log) (tied.answered Smbus)
 
-          written : (bus : Bus) → AreWritten (numbers_of bus) (rules_on setup names bus) (requests setup names moved bus)
+          written : (bus : Bus) → AreWritten bus (rules_on setup names bus) (requests setup names moved bus)
           written Ipmb = tied.written Ipmb
           written Smbus = record {
             requests = λ n b e. (tied.written Smbus).requests n b (ap (λ (l : List (List ℕ)). slice_get l n) (sym same.begun) ∙ e);

@@ -41,7 +41,8 @@ use Rattle.model_lab.specs.Seen.{seen, seen_name}
 use Rattle.undo_plans.specs.declared.names.Names.{Names}
 use Rattle.model_lab.specs.Values.{Value, Part, parts_of}
 use Rattle.model_lab.specs.ManagerSteps.{addresses, values_of}
-use Rattle.model_lab.specs.Lab.{ToPort, LabFrame}
+use Rattle.model_lab.specs.declared.way.Way.TheVariants.{ToPort}
+use Rattle.model_lab.specs.Lab.{LabFrame}
 use Rattle.model_lab.proofs.Parts.{parts_are_cuts}
 use Rattle.model_headline.specs.Each.{Each}
 use Rattle.model_headline.proofs.Each.{each_map, each_by_place}

@@ -18,12 +18,12 @@ use Rattle.model_undo.specs.Machine.{count_of}
 use Rattle.model_undo.specs.Wires.{number_of, IsMade}
 use Rattle.model_undo.specs.World.{States, update}
 use Rattle.model_lab.specs.ManagerWords.{bus_of, manager_words}
-use Rattle.model_lab.specs.Spelled.{numbers_of}
 use Rattle.model_lab.specs.Wires.{bytes_of}
 use Rattle.undo_plans.specs.declared.names.Names.{Names}
 use Rattle.model_lab.specs.PortEvents.{IsPortOf}
 use Rattle.model_lab.specs.ManagerSteps.{addresses, values_of, own_on}
-use Rattle.model_lab.specs.Lab.{ToPort, Lab, idles_on, with_frames}
+use Rattle.model_lab.specs.declared.way.Way.TheVariants.{ToPort}
+use Rattle.model_lab.specs.Lab.{Lab, idles_on, with_frames}
 use Rattle.model_headline.specs.Each.{Each}
 use Rattle.model_headline.proofs.Each.{each_append}
 use Rattle.model_headline.specs.Tied.{P, L, smbus_bus, rules_on, requests, IsHeld, EntryAnswers, IsTied}
@@ -57,7 +57,7 @@ module _ (setup : BoardFile) (names : Names) where
     pub taken : new.taken ≡ old.taken
     pub carried : new.carried ≡ old.carried
     pub frames : new.frames ≡ old.frames ++ record { request = count; idles = idles_of (rules_on setup names bus).manager old.log; content = Ask bytes } ∷ []
-    pub requests : (n : ℕ) (b : List ℕ) → slice_get new.begun n ≡ Some b → IsRequestOn (numbers_of bus) ((rules_on setup names bus).number_of n) b
+    pub requests : (n : ℕ) (b : List ℕ) → slice_get new.begun n ≡ Some b → IsRequestOn bus ((rules_on setup names bus).number_of n) b
 
   port_put : (bus : Bus) (s : BusState) (x : Lab (P setup names)) (on : States (L setup names)) → s.log ≡ (requests setup names on bus).log → IsPortOf (on Smbus) x.smbus → IsPortOf (put bus s on Smbus) x.smbus
   port_put Ipmb s x on same is = is
@@ -97,7 +97,7 @@ module _ (setup : BoardFile) (names : Names) where
         waits = waits_put bus s on (λ e. WaitsAlike e.manager x.manager.joined) (λ e b q. q) tied.waits;
         alone = tied.alone;
         counted = each_put bus s on (λ any b. count_of any x.manager.machine.counts ≡ length b.taken) tied.counted (tied.counted bus ∙ ap (λ (l : List (List ℕ)). length l) (sym is.taken));
-        written = each_put bus s on (λ any b. AreWritten (numbers_of any) (rules_on setup names any) b) tied.written
+        written = each_put bus s on (λ any b. AreWritten any (rules_on setup names any) b) tied.written
             (record { requests = is.requests; replies = λ n k e. (tied.written bus).replies n k (ap (λ (l : List Kept). slice_get l n) (sym is.carried) ∙ e) });
         answered = each_put bus s on (λ any b. Each (EntryAnswers setup names any) b.log) tied.answered (subst (Each (EntryAnswers setup names bus)) (sym is.log) (tied.answered bus));
         made = tied.made;

@@ -5,7 +5,8 @@ use Rattle.record_base.specs.declared.op.Op.{Op}
 use Rattle.cfg_records.specs.declared.board_file.BoardFile.{BoardFile}
 use Rattle.cfg_records.specs.Records.{Records}
 use Rattle.undo_plans.specs.declared.names.Names.{Names}
-use Rattle.model_lab.specs.ManagerSteps.{Call, called}
+use Rattle.text_schedule.specs.declared.event.Call.{Call}
+use Rattle.model_lab.specs.ManagerSteps.{called}
 use Rattle.two_wire.specs.declared.Bus.{Bus}
 use Rattle.two_wire.specs.declared.Bus.TheVariants.{Ipmb, Smbus}
 use Rattle.ipmb_frame.specs.declared.message.Request.{Request}
@@ -14,7 +15,8 @@ use Rattle.bmc_board.specs.declared.activity.Activity.{Activity}
 use Rattle.bmc_board.specs.State.{state}
 use Rattle.model_lab.specs.Values.{Asks}
 use Rattle.model_lab.specs.PortSteps.{hears, hears_all, idles}
-use Rattle.model_lab.specs.Lab.{Calls, ToBmc, ToMgr, OtherIpmb, OtherSmbus, Noise, Idles, OnBench, ToOthers, Lab, step, call_does, port_does, with_port, port_on, delivered, returned}
+use Rattle.model_lab.specs.declared.way.Way.TheVariants.{ToOthers}
+use Rattle.model_lab.specs.Lab.{Calls, ToBmc, ToMgr, OtherIpmb, OtherSmbus, Noise, Idles, OnBench, Lab, step, call_does, port_does, with_port, port_on, delivered, returned}
 use Rattle.model_headline.specs.Tied.{P, Goes}
 use Rattle.model_headline.specs.Follows.{CallsAreFollowed, RepliesAreFollowed, RequestsAreFollowed, OthersAreFollowed}
 use Rattle.model_headline.proofs.Calls.{call_goes}

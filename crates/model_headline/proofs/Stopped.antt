@@ -14,13 +14,16 @@ use Rattle.model_bus.specs.Repeat.{In}
 use Rattle.model_bus.specs.Bytes.{answers}
 use Rattle.model_undo.specs.Words.{Answered, is_busy, Words}
 use Rattle.model_undo.specs.Machine.{Stage, AtStart, Opened, AtEnd, AtHalt, AtUndone, AtRefused, Machine, Part as TaskPart, Turn, sending, rests as machine_rests, starts, undoes, quiets, agains, replies, takes, reply_of}
-use Rattle.model_lab.specs.Spelled.{numbers_of}
 use Rattle.model_lab.specs.Wires.{answered_from}
 use Rattle.model_lab.specs.Values.{Value, Asks, Tells, Part}
 use Rattle.model_lab.specs.Bytes.{response_bytes}
 use Rattle.model_lab.specs.PortSteps.{PortState, Deed, hears, hears_all, idles}
-use Rattle.model_lab.specs.ManagerSteps.{Plans, Call, Start, Quiet, Stop, Again, Undo, ManagerState, ManagerDeed, Sent, rests, goes_on, turn_of, waits_after, called, heeded_on, open_bytes, taken_or, tested, hears_reply, hears_response, ends_reply, joins, joins_for, hears_packet, manager_hears, is_answer, is_part, open_count}
-use Rattle.model_lab.specs.Lab.{Way, ToManager, ToOthers, LabFrame, Event, Calls, ToBmc, ToMgr, OtherIpmb, OtherSmbus, Noise, Idles, OnBench, Lab, step, run, sends, manager_does, call_does, port_does, with_port, port_on, opens, delivered, returned}
+use Rattle.text_schedule.specs.declared.event.Call.{Call}
+use Rattle.text_schedule.specs.declared.event.Call.TheVariants.{Start, Quiet, Stop, Again, Undo}
+use Rattle.model_lab.specs.ManagerSteps.{Plans, ManagerState, ManagerDeed, Sent, rests, goes_on, turn_of, waits_after, called, heeded_on, open_bytes, taken_or, tested, hears_reply, hears_response, ends_reply, joins, joins_for, hears_packet, manager_hears, is_answer, is_part, open_count}
+use Rattle.model_lab.specs.declared.way.Way.{Way}
+use Rattle.model_lab.specs.declared.way.Way.TheVariants.{ToManager, ToOthers}
+use Rattle.model_lab.specs.Lab.{LabFrame, Event, Calls, ToBmc, ToMgr, OtherIpmb, OtherSmbus, Noise, Idles, OnBench, Lab, step, run, sends, manager_does, call_does, port_does, with_port, port_on, opens, delivered, returned}
 
 -- ---- a machine
 
@@ -91,7 +94,7 @@ module _ (P : Plans) where
 
   tested_same : (on : Bus) (reply : List ℕ) (m : ManagerState P) (o : Option (TaskPart P.words)) → Same m (tested P on reply m o)
   tested_same on reply m None = refl
-  tested_same on reply m (Some part) = by (answers (numbers_of on) (open_bytes P on m part) reply)
+  tested_same on reply m (Some part) = by (answers on (open_bytes P on m part) reply)
     where
       by : (t : Bool) → Same m (cond t (taken_or P m (reply_of P.words (answered_from on reply) m.machine)) (rests P m))
       by true = taken_same m (reply_of P.words (answered_from on reply) m.machine) (reply_keeps P.words m.machine.stage (answered_from on reply) m.machine)

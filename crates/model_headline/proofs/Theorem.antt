@@ -18,7 +18,9 @@ use Rattle.model_bus.specs.PacketBus.{opening_ends}
 use Rattle.model_bus.specs.Answering.{AreWritten}
 use Rattle.model_bus.proofs.Cutting.{packets_cut}
 use Rattle.model_undo.specs.Words.{Answered, get_asked, set_asked}
-use Rattle.model_undo.specs.Phase.{Stop, Refused, NotRestorable, GetRefused, Phase, Fresh, Getting, Setting, Done, Halted, Unsettled, Undoing, Undone, UndoRefused}
+use Rattle.model_undo.specs.declared.phase.Why.TheVariants.{Stop, Refused, NotRestorable, GetRefused}
+use Rattle.model_undo.specs.declared.phase.Phase.{Phase}
+use Rattle.model_undo.specs.declared.phase.Phase.TheVariants.{Fresh, Getting, Setting, Done, Halted, Unsettled, Undoing, Undone, UndoRefused}
 use Rattle.model_undo.specs.Plan.{IsAfter, Halts}
 use Rattle.model_undo.specs.Giving.{Giving, given_in, GaveIn as Gave, CausedIn}
 use Rattle.model_undo.proofs.Giving.{halts_by_answers}
@@ -29,11 +31,11 @@ use Rattle.model_undo.specs.Headline.{IsStart, ShowsSame}
 use Rattle.model_undo.proofs.World.{run_holds}
 use Rattle.model_undo.proofs.Headline.{opening_holds, stands_at, halts_at, undone_for_good}
 use Rattle.model_undo.proofs.TwoBuses.{packet_lines}
-use Rattle.model_lab.specs.Spelled.{numbers_of}
 use Rattle.model_family.proofs.IsFamily.{is_family}
 use Rattle.model_family.proofs.Board.{starts_valid}
 use Rattle.undo_plans.specs.declared.names.Names.{Names}
-use Rattle.model_lab.specs.ManagerSteps.{Stop as StopCall, addresses}
+use Rattle.text_schedule.specs.declared.event.Call.TheVariants.{Stop as StopCall}
+use Rattle.model_lab.specs.ManagerSteps.{addresses}
 use Rattle.model_lab.specs.Lab.{Event, Calls, ToBmc, ToMgr, OtherIpmb, OtherSmbus, Noise, Idles, OnBench, Lab, step, run}
 use Rattle.model_lab.specs.Faults.{AllTaken}
 use Rattle.model_lab.specs.Honest.{HasBytes, IsHonest, AllHonest}
@@ -194,7 +196,7 @@ module _ (setup : BoardFile) (names : Names) (plan : List Op) (retries : ℕ) wh
   nothing_counted Ipmb = refl
   nothing_counted Smbus = refl
 
-  nothing_written : (bus : Bus) → AreWritten (numbers_of bus) (rules_on setup names bus) (requests setup names quiet bus)
+  nothing_written : (bus : Bus) → AreWritten bus (rules_on setup names bus) (requests setup names quiet bus)
   nothing_written Ipmb = record { requests = λ n b e. absurd (none-some b e); replies = λ n k e. absurd (none-some k e) }
   nothing_written Smbus = record { requests = λ n b e. absurd (none-some b e); replies = λ n k e. absurd (none-some k e) }
 

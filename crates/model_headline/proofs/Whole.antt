@@ -18,9 +18,8 @@ use Rattle.cfg_records.specs.Records.{Records}
 use Rattle.bmc_board.specs.State.{State}
 use Rattle.bmc_board.specs.Answer.{answer_of}
 use Rattle.bmc_board.proofs.OneAnswer.{has_answer}
-use Rattle.model_bus.specs.declared.numbers.Numbers.TheVariants as numbers
 use Rattle.model_bus.specs.Request.{Request as Heard, Kept, Entry, Carried, idles_of}
-use Rattle.model_bus.specs.Numbering.{Bus as Rules, is_above}
+use Rattle.model_bus.specs.Numbering.{Rules, is_above}
 use Rattle.model_bus.specs.Carried.{Outcome, Repeats, IsBusy, IsNew, outcome, log_after, reply_after, carried_after}
 use Rattle.model_bus.specs.Assembly.{Name, Sent, Step, Waits, Whole, Drops, takes, waiting, first_request, message_of as model_message_of}
 use Rattle.model_bus.specs.BusState.{Frame, Content, Ask, Reply, request_of, hears as model_hears, new_bytes}
@@ -47,7 +46,8 @@ use Rattle.model_lab.specs.PortEvents.{name_in, event_by, message_answer_to, pld
 use Rattle.model_lab.specs.ManagerSteps.{addresses, own_on}
 use Rattle.model_lab.specs.ManagerEvents.{HoldsPart}
 use Rattle.model_lab.specs.Own.{JoinsOwn}
-use Rattle.model_lab.specs.Lab.{ToManager, LabFrame, Lab, frame_now, port_does, opens}
+use Rattle.model_lab.specs.declared.way.Way.TheVariants.{ToManager}
+use Rattle.model_lab.specs.Lab.{LabFrame, Lab, frame_now, port_does, opens}
 use Rattle.model_lab.proofs.Spelling.{are_the_models}
 use Rattle.model_headline.specs.Each.{Each}
 use Rattle.model_headline.specs.Tied.{P, F, L, W, rules_on, HoldsAskedPart, IsHeld, IsHeldBy, EntryAnswers, IsTied, world_of, IsGiven, Goes}
@@ -197,15 +197,15 @@ module _ (setup : BoardFile) (names : Names) (plan : List Op) (start : Records) 
       not_busy : is_busy_code given.0.code ≡ false
       not_busy = (is_family setup (own setup names)).never_busy x.board given.1 (pldm_asked names.own_eid q) (family_answer given.0) (has_answer setup x.board (pldm_asked names.own_eid q))
 
-      replies_so : (a : Answered) → IsReplyOn numbers.Pldm a.code r.bytes (reply_to Smbus r.bytes a)
-      replies_so a = subst (λ (y : List ℕ). IsReplyOn numbers.Pldm a.code y (reply_to Smbus y a)) (sym bytes_so) (are_the_models.reply Smbus hold.number hold.part.bytes a hold.spelled)
+      replies_so : (a : Answered) → IsReplyOn Smbus a.code r.bytes (reply_to Smbus r.bytes a)
+      replies_so a = subst (λ (y : List ℕ). IsReplyOn Smbus a.code y (reply_to Smbus y a)) (sym bytes_so) (are_the_models.reply Smbus hold.number hold.part.bytes a hold.spelled)
 
-      replies_in : (o : Outcome) (n : ℕ) (k : Kept) → slice_get (carried_after o kept ends.bus.carried) n ≡ Some k → (code : ℕ) × (is_busy_code code ≡ false) × IsReplyOn numbers.Pldm code k.request.bytes k.reply
+      replies_in : (o : Outcome) (n : ℕ) (k : Kept) → slice_get (carried_after o kept ends.bus.carried) n ≡ Some k → (code : ℕ) × (is_busy_code code ≡ false) × IsReplyOn Smbus code k.request.bytes k.reply
       replies_in (Repeats reply) n k e = (tied.written Smbus).replies n k e
       replies_in IsBusy n k e = (tied.written Smbus).replies n k e
       replies_in IsNew n k e = elim (one_more ends.bus.carried kept n k e) [
         | inl old ↦ (tied.written Smbus).replies n k old
-        | inr new ↦ subst (λ (y : Kept). (code : ℕ) × (is_busy_code code ≡ false) × IsReplyOn numbers.Pldm code y.request.bytes y.reply) new.1 (given.0.code, not_busy, replies_so (family_answer given.0))
+        | inr new ↦ subst (λ (y : Kept). (code : ℕ) × (is_busy_code code ≡ false) × IsReplyOn Smbus code y.request.bytes y.reply) new.1 (given.0.code, not_busy, replies_so (family_answer given.0))
       ]
 
       log_answers : (o : Outcome) → Each (EntryAnswers setup names Smbus) (log_after o kept ends.bus.log)

@@ -7,7 +7,9 @@ use Rattle.record_base.specs.declared.op.Op.{Op}
 use Rattle.cfg_records.specs.declared.board_file.BoardFile.{BoardFile}
 use Rattle.model_bus.specs.Request.{Kept, Carried}
 use Rattle.model_undo.specs.Words.{Answered, get_asked, set_asked}
-use Rattle.model_undo.specs.Phase.{Stop, Refused, NotRestorable, GetRefused, Phase, Halted}
+use Rattle.model_undo.specs.declared.phase.Why.TheVariants.{Stop, Refused, NotRestorable, GetRefused}
+use Rattle.model_undo.specs.declared.phase.Phase.{Phase}
+use Rattle.model_undo.specs.declared.phase.Phase.TheVariants.{Halted}
 use Rattle.model_undo.specs.Family.{Family}
 use Rattle.model_family.specs.Family.{family}
 use Rattle.undo_plans.specs.declared.names.Names.{Names}

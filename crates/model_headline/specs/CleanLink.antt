@@ -4,7 +4,8 @@ use Rattle.two_wire.specs.declared.Bus.TheVariants.{Ipmb, Smbus}
 use Rattle.record_base.specs.declared.op.Op.{Op}
 use Rattle.cfg_records.specs.declared.board_file.BoardFile.{BoardFile}
 use Rattle.bmc_board.specs.State.{State}
-use Rattle.model_undo.specs.Phase.{Phase, Undone}
+use Rattle.model_undo.specs.declared.phase.Phase.{Phase}
+use Rattle.model_undo.specs.declared.phase.Phase.TheVariants.{Undone}
 use Rattle.model_undo.specs.Plan.{IsAfter}
 use Rattle.model_undo.specs.Machine.{open_bus}
 use Rattle.model_undo.specs.Clean.{GoAll, EndsIn}

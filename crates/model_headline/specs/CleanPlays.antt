@@ -3,31 +3,31 @@ use Rattle.std.specs.Prelude.{◌≡◌, ℕ, ◌+◌, List, [], ◌∷◌, leng
 use Rattle.two_wire.specs.declared.Bus.TheVariants.{Ipmb, Smbus}
 use Rattle.record_base.specs.declared.op.Op.{Op}
 use Rattle.cfg_records.specs.declared.board_file.BoardFile.{BoardFile}
-use Rattle.model_undo.specs.Phase.{Undone}
+use Rattle.model_undo.specs.declared.phase.Phase.TheVariants.{Undone}
 use Rattle.model_undo.specs.Plan.{IsAfter}
 use Rattle.model_lab.specs.Lab as lab
 use Rattle.model_lab.specs.Lab.{Lab, opening}
 use Rattle.model_lab.specs.Faults.{begun_on}
 use Rattle.model_lab.specs.Clean.{IsCleanRun, IsCleanUndo}
 use Rattle.text_schedule.specs.declared.event.Event.{Event}
-use Rattle.model_lab.specs.Meaning.{lab_names, Bench, event_of}
+use Rattle.model_lab.specs.Meaning.{lab_names, event_of}
 use Rattle.model_lab.specs.Played.{plans, Told, Ending, Whole, happens, after, IsPlayed}
 use Rattle.model_headline.specs.Tied.{F}
 use Rattle.model_headline.specs.CleanLink.{RunsOnCleanLink}
 
-module _ (bench : Bench) (file : BoardFile) where
+module _ (file : BoardFile) where
   -- the lab's events that a schedule's are, from a lab on
   abbrev pub events_from : List Event → Lab plans → List lab.Event
   events_from [] x = []
-  events_from (e ∷ es) x = event_of lab_names bench x.board e ∷ events_from es (happens bench file e x)
+  events_from (e ∷ es) x = event_of lab_names file x.board e ∷ events_from es (happens file e x)
 
-module _ (bench : Bench) (file : BoardFile) (plan : List Op) (retries : ℕ) where
+module _ (file : BoardFile) (plan : List Op) (retries : ℕ) where
   abbrev pub first : Lab plans
   first = opening plans file lab_names plan retries
 
   -- so many requests of the manager were begun when the schedule was over
   abbrev pub begun_by : List Event → ℕ
-  begun_by events = let m = (after bench file events first).manager.machine in begun_on plans.words Ipmb m + begun_on plans.words Smbus m
+  begun_by events = let m = (after file events first).manager.machine in begun_on plans.words Ipmb m + begun_on plans.words Smbus m
 
   -- the play took all events, and tells the phase that the plan ends in on a clean link, and the records after the steps that were done
   abbrev pub TellsRun : RunsOnCleanLink file lab_names plan retries → List Event → Ending → Type 0
@@ -43,10 +43,10 @@ module _ (bench : Bench) (file : BoardFile) (plan : List Op) (retries : ℕ) whe
 
   -- the schedule starts the plan, or starts and undoes it, on a link that loses, repeats and delays nothing
   abbrev pub StartsClean : List Event → Type 0
-  StartsClean events = IsCleanRun plans file (events_from bench file events first) first
+  StartsClean events = IsCleanRun plans file (events_from file events first) first
 
   abbrev pub UndoesClean : List Event → Type 0
-  UndoesClean events = IsCleanUndo plans file (events_from bench file events first) first
+  UndoesClean events = IsCleanUndo plans file (events_from file events first) first
 
   -- so ends a play whose schedule is clean
   pub record EndsClean (events : List Event) (ending : Ending) : Type 0 where
@@ -58,4 +58,4 @@ module _ (bench : Bench) (file : BoardFile) (plan : List Op) (retries : ℕ) whe
   pub record PlaysRunClean : Type 0 where
     pub can_run : (events : List Event) × StartsClean events
     pub can_undo : (events : List Event) × UndoesClean events
-    pub ends : (events : List Event) (ending : Ending) → IsPlayed bench file plan retries events ending → EndsClean events ending
+    pub ends : (events : List Event) (ending : Ending) → IsPlayed file plan retries events ending → EndsClean events ending

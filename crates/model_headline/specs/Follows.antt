@@ -14,10 +14,12 @@ use Rattle.model_undo.proofs.World.{WorldHolds}
 use Rattle.model_undo.proofs.TwoBuses.{packet_lines}
 use Rattle.model_family.proofs.IsFamily.{is_family}
 use Rattle.undo_plans.specs.declared.names.Names.{Names}
-use Rattle.model_lab.specs.ManagerSteps.{Call, addresses}
+use Rattle.text_schedule.specs.declared.event.Call.{Call}
+use Rattle.model_lab.specs.ManagerSteps.{addresses}
 use Rattle.model_lab.specs.Own.{IsOwn}
 use Rattle.model_lab.specs.Honest.{IsDelivered, IsHonest}
-use Rattle.model_lab.specs.Lab.{Event, Calls, ToBmc, ToMgr, OtherIpmb, OtherSmbus, Noise, Idles, OnBench, ToPort, ToManager, Lab, step}
+use Rattle.model_lab.specs.declared.way.Way.TheVariants.{ToPort, ToManager}
+use Rattle.model_lab.specs.Lab.{Event, Calls, ToBmc, ToMgr, OtherIpmb, OtherSmbus, Noise, Idles, OnBench, Lab, step}
 use Rattle.model_headline.specs.Tied.{P, F, L, W, IsTied, world_of, Goes}
 
 module _ (setup : BoardFile) (names : Names) (plan : List Op) (start : Records) where

@@ -5,7 +5,8 @@ use Rattle.record_base.specs.declared.op.Op.{Op}
 use Rattle.cfg_records.specs.declared.board_file.BoardFile.{BoardFile}
 use Rattle.model_bus.specs.Repeat.{In}
 use Rattle.model_undo.specs.Words.{Answered}
-use Rattle.model_undo.specs.Phase.{Phase, Undone}
+use Rattle.model_undo.specs.declared.phase.Phase.{Phase}
+use Rattle.model_undo.specs.declared.phase.Phase.TheVariants.{Undone}
 use Rattle.model_undo.specs.Plan.{IsAfter, Stands}
 use Rattle.model_undo.specs.Machine.{phase_of}
 use Rattle.model_undo.specs.Headline.{ShowsSame}
@@ -15,7 +16,7 @@ use Rattle.model_lab.specs.Joins.{IsJoinLive}
 use Rattle.text_schedule.specs.declared.event.Call.TheVariants.{Stop}
 use Rattle.text_schedule.specs.declared.event.Event.{Event}
 use Rattle.text_schedule.specs.declared.event.Event.TheVariants.{Calls}
-use Rattle.model_lab.specs.Meaning.{lab_names, Bench, event_of}
+use Rattle.model_lab.specs.Meaning.{lab_names, event_of}
 use Rattle.model_lab.specs.Played.{plans, Told, Ending, Whole, Stops, happens, after, IsPlayed}
 use Rattle.model_headline.specs.Answers.{Answers, CausedBy}
 use Rattle.model_headline.specs.Tied.{F}
@@ -30,32 +31,32 @@ abbrev pub told_by : Ending → Told
 told_by (Whole told) = told
 told_by (Stops fault place told) = told
 
-module _ (bench : Bench) (file : BoardFile) where
+module _ (file : BoardFile) where
   -- the event brings the port no packet that joins one which waited while eight or more newer requests were begun on SMBus
   abbrev pub KeepsPremise : Lab plans → Event → Type 0
-  KeepsPremise x e = IsJoinLive plans x (event_of lab_names bench x.board e)
+  KeepsPremise x e = IsJoinLive plans x (event_of lab_names file x.board e)
 
   -- no event does, where it happens
   abbrev pub AllKeepPremise : List Event → Lab plans → Type 0
   AllKeepPremise [] x = Unit {0}
-  AllKeepPremise (e ∷ es) x = KeepsPremise x e × AllKeepPremise es (happens bench file e x)
+  AllKeepPremise (e ∷ es) x = KeepsPremise x e × AllKeepPremise es (happens file e x)
 
   -- no packet that an event delivers to the port joins an assembly that another request's packet opened, where it happens
   abbrev pub AreOwn : List Event → Lab plans → Type 0
   AreOwn [] x = Unit {0}
-  AreOwn (e ∷ es) x = IsOwn plans x (event_of lab_names bench x.board e) × AreOwn es (happens bench file e x)
+  AreOwn (e ∷ es) x = IsOwn plans x (event_of lab_names file x.board e) × AreOwn es (happens file e x)
 
   -- this is told of the premise on packets: every event keeps it, or the one of this place, counted from 1, is the first that doesn't
   abbrev pub TellsPremise : List Event → Lab plans → Option ℕ → Type 0
   TellsPremise events x None = AllKeepPremise events x
   TellsPremise events x (Some place) =
       (before : List Event) × (rest : List Event) × (e : Event) × (events ≡ before ++ e ∷ rest) × (place ≡ length before + 1) × AllKeepPremise before x
-      × (¬ KeepsPremise (after bench file before x) e)
+      × (¬ KeepsPremise (after file before x) e)
 
-module _ (bench : Bench) (file : BoardFile) (plan : List Op) (retries : ℕ) where
+module _ (file : BoardFile) (plan : List Op) (retries : ℕ) where
   -- the lab as it begins, and after events
   abbrev pub lab_after : List Event → Lab plans
-  lab_after events = after bench file events (opening plans file lab_names plan retries)
+  lab_after events = after file events (opening plans file lab_names plan retries)
 
   abbrev pub phase_after : List Event → Phase
   phase_after events = phase_of plans.words (lab_after events).manager.machine
@@ -72,7 +73,7 @@ module _ (bench : Bench) (file : BoardFile) (plan : List Op) (retries : ℕ) whe
     pub event : Event
     pub later : List Event
     pub all : taken ≡ before ++ event ∷ later
-    pub answers : Answers file lab_names (lab_after before) (happens bench file event (lab_after before)) asked a
+    pub answers : Answers file lab_names (lab_after before) (happens file event (lab_after before)) asked a
     pub at : IsAfter (F file lab_names) plan (lab_after []).board.records k (lab_after before).board.records
 
   -- The phase says what the records are, so an undone plan leaves those of the start, and UndoRefused isn't told. So it does at each
@@ -86,12 +87,12 @@ module _ (bench : Bench) (file : BoardFile) (plan : List Op) (retries : ℕ) whe
 
   -- so it is where no packet of the events taken joins one that has waited so long
   abbrev pub StandsIfKept : List Event → Ending → Type 0
-  StandsIfKept events ending = AllKeepPremise bench file (taken_by events ending) (lab_after []) → ToldStands (taken_by events ending) (told_by ending)
+  StandsIfKept events ending = AllKeepPremise file (taken_by events ending) (lab_after []) → ToldStands (taken_by events ending) (told_by ending)
 
   -- and where none joins another request's assembly
   abbrev pub StandsIfOwn : List Event → Ending → Type 0
-  StandsIfOwn events ending = AreOwn bench file (taken_by events ending) (lab_after []) → ToldStands (taken_by events ending) (told_by ending)
+  StandsIfOwn events ending = AreOwn file (taken_by events ending) (lab_after []) → ToldStands (taken_by events ending) (told_by ending)
 
   -- and so it is of every play
   abbrev pub PlaysStand : Type 0
-  PlaysStand = (events : List Event) (ending : Ending) → IsPlayed bench file plan retries events ending → StandsIfKept events ending × StandsIfOwn events ending
+  PlaysStand = (events : List Event) (ending : Ending) → IsPlayed file plan retries events ending → StandsIfKept events ending × StandsIfOwn events ending

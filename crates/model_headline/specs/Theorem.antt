@@ -5,12 +5,13 @@ use Rattle.record_base.specs.declared.op.Op.{Op}
 use Rattle.cfg_records.specs.declared.board_file.BoardFile.{BoardFile}
 use Rattle.model_bus.specs.Repeat.{In}
 use Rattle.model_undo.specs.Words.{Answered}
-use Rattle.model_undo.specs.Phase.{Phase, Undone}
+use Rattle.model_undo.specs.declared.phase.Phase.{Phase}
+use Rattle.model_undo.specs.declared.phase.Phase.TheVariants.{Undone}
 use Rattle.model_undo.specs.Plan.{IsAfter, Stands}
 use Rattle.model_undo.specs.Machine.{phase_of}
 use Rattle.model_undo.specs.Headline.{ShowsSame}
 use Rattle.undo_plans.specs.declared.names.Names.{Names}
-use Rattle.model_lab.specs.ManagerSteps.{Stop}
+use Rattle.text_schedule.specs.declared.event.Call.TheVariants.{Stop}
 use Rattle.model_lab.specs.Lab.{Event, Calls, Lab, step, run, opening}
 use Rattle.model_lab.specs.Faults.{AllTaken}
 use Rattle.model_lab.specs.Honest.{AllHonest}

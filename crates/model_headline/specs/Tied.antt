@@ -8,8 +8,7 @@ use Rattle.mctp_net.specs.declared.packet.Packet.{Packet}
 use Rattle.mctp_net.specs.Sizes.{unit_size}
 use Rattle.mctp_net.specs.Assembly.{open_beside, is_ours}
 use Rattle.cfg_records.specs.declared.board_file.BoardFile.{BoardFile}
-use Rattle.model_bus.specs.declared.numbers.Numbers.TheVariants as numbers
-use Rattle.model_bus.specs.Numbering.{Bus as Rules, ipmb}
+use Rattle.model_bus.specs.Numbering.{Rules, ipmb}
 use Rattle.model_bus.specs.Repeat.{In}
 use Rattle.model_bus.specs.Packet.{packets_of}
 use Rattle.model_bus.specs.Assembly.{Sent}
@@ -27,7 +26,6 @@ use Rattle.model_undo.specs.TwoBuses.{with_packets}
 use Rattle.model_undo.specs.World.{States, World, Happening, AllMay, run}
 use Rattle.model_undo.specs.Giving.{Giving, given_in}
 use Rattle.model_family.specs.Family.{family}
-use Rattle.model_lab.specs.Spelled.{numbers_of}
 use Rattle.model_lab.specs.Wires.{asked_from, reply_to}
 use Rattle.model_lab.specs.ManagerWires.{wires}
 use Rattle.model_lab.specs.Seen.{WaitsAlike}
@@ -43,7 +41,9 @@ use Rattle.model_lab.specs.ManagerEvents.{HoldsReply, HoldsPart, name_awaited}
 use Rattle.model_headline.specs.Each.{Each}
 use Rattle.model_headline.specs.Made.{MachineMade}
 use Rattle.model_headline.specs.Answers.{Answers}
-use Rattle.model_lab.specs.Lab.{Way, ToPort, ToManager, ToOthers, LabFrame, Lab}
+use Rattle.model_lab.specs.declared.way.Way.{Way}
+use Rattle.model_lab.specs.declared.way.Way.TheVariants.{ToPort, ToManager, ToOthers}
+use Rattle.model_lab.specs.Lab.{LabFrame, Lab}
 
 module _ (setup : BoardFile) (names : Names) where
   abbrev pub P : Plans
@@ -96,7 +96,7 @@ module _ (setup : BoardFile) (names : Names) where
     pub read : asked_from (addresses names) Ipmb bytes ≡ asked_in asked
     -- what a response to it says
     pub number : ℕ
-    pub spelled : IsRequestOn numbers.Ipmb number bytes
+    pub spelled : IsRequestOn Ipmb number bytes
     pub responds : (a : Answered) → response_bytes (response_to asked a) ≡ reply_to Ipmb bytes a
     pub from_manager : asked.header.requester.address ≡ names.own_address
 
@@ -107,7 +107,7 @@ module _ (setup : BoardFile) (names : Names) where
     pub is_of : IsOf frames f which frame
     pub told : Response
     pub value : f.value ≡ Tells told
-    pub held : HoldsReply numbers.Ipmb (response_bytes told) frame.content
+    pub held : HoldsReply Ipmb (response_bytes told) frame.content
     pub answers : is_answer names told ≡ true
 
   -- the value is a packet of a request of the manager on SMBus, which the model's frame holds
@@ -130,7 +130,7 @@ module _ (setup : BoardFile) (names : Names) where
     pub heard : pldm_heard_in names.own_eid asked ≡ request_of (rules_of smbus_bus) part.frame.request part.bytes
     pub reads : asked_from (addresses names) Smbus part.bytes ≡ pldm_asked names.own_eid asked
     pub number : ℕ
-    pub spelled : IsRequestOn numbers.Pldm number part.bytes
+    pub spelled : IsRequestOn Smbus number part.bytes
 
   -- the value is a packet of a reply to the manager on SMBus, which the model's frame holds
   pub record HoldsToldPart (frames : List Frame) (f : LabFrame) : Type 0 where
@@ -184,7 +184,7 @@ module _ (setup : BoardFile) (names : Names) where
     pub waits : WaitsAlike (on Smbus).manager x.manager.joined
     pub alone : open_beside (name_awaited names (open_count P Smbus x.manager)) x.manager.joined ≡ 0
     pub counted : (bus : Bus) → count_of bus x.manager.machine.counts ≡ length (requests on bus).taken
-    pub written : (bus : Bus) → AreWritten (numbers_of bus) (rules_on bus) (requests on bus)
+    pub written : (bus : Bus) → AreWritten bus (rules_on bus) (requests on bus)
     pub answered : (bus : Bus) → Each (EntryAnswers bus) (requests on bus).log
     pub made : MachineMade (addresses names) x.manager.machine
     pub frames : Each (IsHeld on) x.frames

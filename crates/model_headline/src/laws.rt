@@ -6,7 +6,6 @@ ghost use Rattle.cfg_records.specs.declared.board_file.BoardFile.{BoardFile};
 ghost use Rattle.cfg_records.specs.Records.{Records};
 ghost use Rattle.undo_plans.specs.declared.names.Names.{Names};
 ghost use Rattle.model_headline.specs.Follows.{CallsAreFollowed, RepliesAreFollowed, RequestsAreFollowed, OthersAreFollowed};
-ghost use Rattle.model_lab.specs.Meaning.{Bench};
 ghost use Rattle.model_headline.specs.Theorem.{Headline, IsTrusted, IsTakenAndOwn, PremisesAgree};
 ghost use Rattle.model_headline.specs.Plays.{PlaysStand};
 ghost use Rattle.model_headline.specs.CleanLink.{RunsOnCleanLink};
@@ -56,7 +55,7 @@ pub fn premises_agree()
 /// What every play tells, by either premise on packets: its phase says what the records are, what is undone stays so, and a plan that
 /// halted has its cause.
 pub fn plays_stand()
-    ensures { (bench : Bench) (file : BoardFile) (plan : List Op) (retries : ℕ) → PlaysStand bench file plan retries }
+    ensures { (file : BoardFile) (plan : List Op) (retries : ℕ) → PlaysStand file plan retries }
 {}
 
 /// Over a link that loses, repeats and delays nothing, and on which nobody else asks, a plan is done after two requests for each step, or
@@ -68,5 +67,5 @@ pub fn clean_links_run_plans()
 
 /// A plan of at most 256 steps has clean schedules. A play of one takes it whole, and tells it: so the plan ran, and so it was undone.
 pub fn clean_plays_run_plans()
-    ensures { (bench : Bench) (file : BoardFile) (plan : List Op) (retries : ℕ) → length plan ≤ 256 → PlaysRunClean bench file plan retries }
+    ensures { (file : BoardFile) (plan : List Op) (retries : ℕ) → length plan ≤ 256 → PlaysRunClean file plan retries }
 {}

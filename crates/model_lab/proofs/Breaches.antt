@@ -20,8 +20,12 @@ use Rattle.pldm_base.specs.Message.{IsRequest, request_in}
 use Rattle.pldm_base.proofs.InBytes.{request-in, request-in_back}
 use Rattle.undo_plans.specs.declared.names.Names.{Names}
 use Rattle.model_lab.specs.ManagerSteps.{own_on, peer_on, Plans}
-use Rattle.model_lab.specs.Lab.{Way, ToPort, ToManager, ToOthers, LabFrame, Event, Calls, ToBmc, ToMgr, OtherIpmb, OtherSmbus, Noise, Idles, OnBench, Lab}
-use Rattle.model_lab.specs.Faults.{Fault, Room, Check, first_of, same_way, is_own, pldm_changes, message_changes, is_frame, is_live, delivery, checks, fault_of}
+use Rattle.model_lab.specs.declared.way.Way.{Way}
+use Rattle.model_lab.specs.declared.way.Way.TheVariants.{ToPort, ToManager, ToOthers}
+use Rattle.model_lab.specs.Lab.{LabFrame, Event, Calls, ToBmc, ToMgr, OtherIpmb, OtherSmbus, Noise, Idles, OnBench, Lab}
+use Rattle.model_lab.specs.declared.fault.Fault.{Fault}
+use Rattle.model_lab.specs.declared.fault.Fault.TheVariants.{Room}
+use Rattle.model_lab.specs.Faults.{Check, first_of, same_way, is_own, pldm_changes, message_changes, is_frame, is_live, delivery, checks, fault_of}
 use Rattle.model_lab.specs.Honest.{IsAnother, ChangesNothing, IsNoFrame, IsLive, IsDelivered, IsHonest, HasBytes, FaultsAreBreaches}
 
 -- ---- lists of faults

@@ -14,5 +14,4 @@ pub mod PortEvents
 pub mod ManagerEvents
 pub mod PacketExample
 pub mod FullExample
-pub mod FrameMarks
 pub mod Endings

@@ -17,8 +17,7 @@ use Rattle.mctp_net.specs.Assembly.{Assemblies, name_of, is_open as is_open_list
 use Rattle.mctp_net.specs.Sound.{Fits}
 use Rattle.mctp_net.proofs.Causes.{passes_back}
 use Rattle.mctp_net.proofs.Names.{name-self}
-use Rattle.model_bus.specs.declared.numbers.Numbers.TheVariants as numbers
-use Rattle.model_bus.specs.Numbering.{Bus as Rules, tag_of}
+use Rattle.model_bus.specs.Numbering.{Rules, tag_of}
 use Rattle.model_bus.specs.BusState.{BusState, Frame, Content, Ask, Reply, ReachesManager, is_open, taken_content, taken_now}
 use Rattle.model_bus.specs.Bytes.{answers}
 use Rattle.model_bus.specs.Answering.{taken_by_test, TestsAgree}
@@ -29,7 +28,6 @@ use Rattle.model_bus.specs.Packet.{Packet as ModelPacket}
 use Rattle.model_bus.proofs.Answering.{busy_fails}
 use Rattle.model_undo.specs.Machine.{Part as TaskPart, reply_of}
 use Rattle.model_undo.specs.Line.{brings_whole, brings_packets, brought_at}
-use Rattle.model_lab.specs.Spelled.{numbers_of}
 use Rattle.model_lab.specs.Wires.{answered_from}
 use Rattle.model_lab.specs.Seen.{seen, WaitsAlike, Agrees, model_after}
 use Rattle.model_lab.proofs.PacketSteps.{first_of, takes-agrees}
@@ -54,27 +52,27 @@ module _ (P : Plans) (m : ManagerState P) (open_part : TaskPart P.words) (on : B
 
   -- while the request is heeded, what is heard is what the test takes
   heard-by_test : (reply : List ℕ) → heeded_on P on m.machine.stage ≡ Some open_part
-      → hears_reply P on reply m ≡ takes_if P on (let none : Option (List ℕ) = None in cond (answers (numbers_of on) opened reply) (Some reply) none) m
-  heard-by_test reply heeded = ap (tested P on reply m) heeded ∙ by_test reply (answers (numbers_of on) opened reply)
+      → hears_reply P on reply m ≡ takes_if P on (let none : Option (List ℕ) = None in cond (answers on opened reply) (Some reply) none) m
+  heard-by_test reply heeded = ap (tested P on reply m) heeded ∙ by_test reply (answers on opened reply)
 
   -- no busy reply is taken
-  heard-busy : (reply : List ℕ) → heeded_on P on m.machine.stage ≡ Some open_part → SaysBusy (numbers_of on) reply → hears_reply P on reply m ≡ rests P m
+  heard-busy : (reply : List ℕ) → heeded_on P on m.machine.stage ≡ Some open_part → SaysBusy on reply → hears_reply P on reply m ≡ rests P m
   heard-busy reply heeded busy =
       heard-by_test reply heeded
-      ∙ ap (λ (t : Bool). takes_if P on (let none : Option (List ℕ) = None in cond t (Some reply) none) m) (busy_fails (numbers_of on) busy.0 opened busy.1 reply busy.2 busy.3)
+      ∙ ap (λ (t : Bool). takes_if P on (let none : Option (List ℕ) = None in cond t (Some reply) none) m) (busy_fails on busy.0 opened busy.1 reply busy.2 busy.3)
 
 -- ---- IPMB
 
-module _ (P : Plans) (m : ManagerState P) (open_part : TaskPart P.words) (b : Rules) (s : BusState) (which : ℕ) (r : Response) (agree : TestsAgree numbers.Ipmb b s)
+module _ (P : Plans) (m : ManagerState P) (open_part : TaskPart P.words) (b : Rules) (s : BusState) (which : ℕ) (r : Response) (agree : TestsAgree Ipmb b s)
     (at : IsOpenOn P Ipmb m open_part s) (is : IsRepliesResponse m.names b s which r) where
   heard-response : hears_response P r m ≡ hears_reply P Ipmb (response_bytes r) m
   unfolding hears_response
   heard-response = ap (λ (t : Bool). cond t (hears_reply P Ipmb (response_bytes r) m) (rests P m)) is.answers
 
-  taken-is : brings_whole b s (ReachesManager which) ≡ taken_by_test numbers.Ipmb (open_bytes P Ipmb m open_part) is.frame.content
+  taken-is : brings_whole b s (ReachesManager which) ≡ taken_by_test Ipmb (open_bytes P Ipmb m open_part) is.frame.content
   taken-is = ap (λ (o : Option Frame). taken_now b o s) is.sent ∙ agree which is.frame (open_bytes P Ipmb m open_part) is.sent is.live at.opened
 
-  by_content : (c : Content) → HoldsReply numbers.Ipmb (response_bytes r) c → hears_reply P Ipmb (response_bytes r) m ≡ takes_if P Ipmb (taken_by_test numbers.Ipmb (open_bytes P Ipmb m open_part) c) m
+  by_content : (c : Content) → HoldsReply Ipmb (response_bytes r) c → hears_reply P Ipmb (response_bytes r) m ≡ takes_if P Ipmb (taken_by_test Ipmb (open_bytes P Ipmb m open_part) c) m
   by_content (Ask asked) held = absurd held
   by_content (Reply number None) held = heard-busy P m open_part Ipmb (response_bytes r) at.heeded held
   by_content (Reply number (Some reply)) held = ap (λ (bytes : List ℕ). hears_reply P Ipmb bytes m) held ∙ heard-by_test P m open_part Ipmb reply at.heeded
@@ -169,7 +167,7 @@ part_fields false v w o t h = absurd cc
 tag_alone : (u v w o t : Bool) → u ≡ true → v ≡ true → w ≡ true → o ≡ false → ((u && v) && (w && (not o && t))) ≡ t
 tag_alone u v w o t a b c d = rw (a, b, c, d) refl
 
-module _ (P : Plans) (m : ManagerState P) (open_part : TaskPart P.words) (b : PacketBus) (x : Ends) (which place : ℕ) (p : Packet) (agree : TestsAgree numbers.Pldm (rules_of b) x.bus)
+module _ (P : Plans) (m : ManagerState P) (open_part : TaskPart P.words) (b : PacketBus) (x : Ends) (which place : ℕ) (p : Packet) (agree : TestsAgree Smbus (rules_of b) x.bus)
     (effect : HasPacketEffect b x (PacketReachesManager which place)) (at : IsOpenOn P Smbus m open_part x.bus) (is : IsManagerOf P m b x) (r : IsRepliesPart m.names b x which place p) where
   abbrev event : PacketEvent
   event = PacketReachesManager which place
@@ -360,9 +358,9 @@ module _ (P : Plans) (m : ManagerState P) (open_part : TaskPart P.words) (b : Pa
           subst (λ (name : ModelName). IsSent (whole_reply number (takes (x.manager name) sent_as).0)) (sym r.named) of_part
 
       -- the manager's test takes what the model takes
-      test-is : taken_content (rules_of b) content x.bus ≡ taken_by_test numbers.Pldm (open_bytes P Smbus m open_part) content
+      test-is : taken_content (rules_of b) content x.bus ≡ taken_by_test Smbus (open_bytes P Smbus m open_part) content
       test-is =
-          subst (λ (c : Content). taken_content (rules_of b) c x.bus ≡ taken_by_test numbers.Pldm (open_bytes P Smbus m open_part) c) held_is
+          subst (λ (c : Content). taken_content (rules_of b) c x.bus ≡ taken_by_test Smbus (open_bytes P Smbus m open_part) c) held_is
           (agree which r.frame (open_bytes P Smbus m open_part) r.sent r.live at.opened)
 
       abbrev brought : Step × List Sent → Option (List ℕ)
@@ -377,7 +375,7 @@ module _ (P : Plans) (m : ManagerState P) (open_part : TaskPart P.words) (b : Pa
           let whole_is : Reply number (Some (model_message_of all)) ≡ content = subst (λ (q : Step × List Sent). IsSent (whole_reply number q.0)) h as-sent in
           let bytes_are : model_message_of all ≡ reply = cc in
           let body : (message_of kept p).body ≡ reply = sym (whole-bytes m.names.own_eid m.joined p sent_as (x.manager (name_in p)) refl (is.waits _) none ends) ∙ bytes_are in
-          let test : Option (List ℕ) = (let none_taken : Option (List ℕ) = None in cond (answers numbers.Pldm (open_bytes P Smbus m open_part) reply) (Some reply) none_taken) in
+          let test : Option (List ℕ) = (let none_taken : Option (List ℕ) = None in cond (answers Smbus (open_bytes P Smbus m open_part) reply) (Some reply) none_taken) in
           built kept taken_ends test ends-are
           (brings-are ∙ ap brought h ∙ ap (λ (c : Content). taken_content (rules_of b) c x.bus) whole_is ∙ test-is)
           (joined-is None none

@@ -17,7 +17,7 @@ use Rattle.mctp_net.proofs.Soundness.{joined-waiting, sound-after}
 use Rattle.mctp_net.proofs.Wholes.{ended-body}
 use Rattle.cfg_records.specs.declared.board_file.BoardFile.{BoardFile}
 use Rattle.model_bus.specs.Request.{Request as Heard, Entry}
-use Rattle.model_bus.specs.Numbering.{Bus, ipmb, is_above}
+use Rattle.model_bus.specs.Numbering.{Rules, ipmb, is_above}
 use Rattle.model_bus.specs.Carried.{outcome, log_after}
 use Rattle.model_bus.specs.BusState.{BusState, Frame, Ask, Content, request_of, comes, at_port}
 use Rattle.model_bus.specs.Bytes.{request_in}
@@ -37,7 +37,7 @@ use Rattle.model_lab.proofs.PortPart.{log_if, read_in, Leaves, message-leaves}
 -- ---- IPMB
 
 module _ (setup : BoardFile) (port : PortState) (before : State) (r : Request) (manager controller first : ℕ) (s : BusState) (same : s.log ≡ port.log) where
-  abbrev rules : Bus
+  abbrev rules : Rules
   rules = ipmb manager controller first
 
   abbrev answer : List ℕ

@@ -10,7 +10,7 @@ use Rattle.model_undo.specs.Wires.{number_of}
 use Rattle.model_lab.specs.ManagerWords.{bus_of}
 use Rattle.model_lab.specs.Wires.{bytes_of, reply_to}
 use Rattle.model_lab.specs.WireLaws.{IsManagers, managers, upper, lower}
-use Rattle.model_lab.specs.Spelled.{numbers_of, AreSpelled}
+use Rattle.model_lab.specs.Spelled.{AreSpelled}
 
 below_4 : (lun : ℕ) → lun ≡ 0 → lun < 4
 below_4 lun is = subst (λ (n : ℕ). n < 4) (sym is) (lit< tt)
@@ -21,7 +21,7 @@ small n = omega arith
 instance_back : (number : ℕ) → number < 32 → (128 + number) % 32 ≡ number
 instance_back number below = omega (arith, below)
 
-request : (at : Bus → Addresses) (n : ℕ) (asked : Asked) → IsManagers at asked → IsRequestOn (numbers_of (bus_of asked)) (number_of (bus_of asked) n) (bytes_of (number_of (bus_of asked) n) asked)
+request : (at : Bus → Addresses) (n : ℕ) (asked : Asked) → IsManagers at asked → IsRequestOn (bus_of asked) (number_of (bus_of asked) n) (bytes_of (number_of (bus_of asked) n) asked)
 request at n (Ipmi from net_fn lun command body) is = record {
   header = record { net_fn = net_fn; responder_lun = lun; requester_lun = 0; command = command };
   is_header = record { responder = below_4 lun is.1; requester = lit< tt };
@@ -36,7 +36,7 @@ request at n (Pldm from kind command body) is = record {
 }
 
 reply : (at : Bus → Addresses) (n : ℕ) (asked : Asked) (a : Answered) → IsManagers at asked
-    → IsReplyOn (numbers_of (bus_of asked)) a.code (bytes_of (number_of (bus_of asked) n) asked) (reply_to (bus_of asked) (bytes_of (number_of (bus_of asked) n) asked) a)
+    → IsReplyOn (bus_of asked) a.code (bytes_of (number_of (bus_of asked) n) asked) (reply_to (bus_of asked) (bytes_of (number_of (bus_of asked) n) asked) a)
 reply at n (Ipmi from net_fn lun command body) a is = record {
   header = record { net_fn = net_fn; responder_lun = lun; requester_lun = 0; command = command };
   is_header = record { responder = below_4 lun is.1; requester = lit< tt };

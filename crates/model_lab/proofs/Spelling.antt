@@ -7,7 +7,6 @@ use Rattle.record_base.specs.declared.message.Asked.TheVariants.{Ipmi, Pldm}
 use Rattle.model_bus.specs.Bytes.{ipmb_reply, pldm_reply, IsRequestOn, IsReplyOn, IsIpmbRequest, IsIpmbReply, IsPldmRequest, IsPldmReply}
 use Rattle.model_undo.specs.Words.{Answered as Told}
 use Rattle.model_lab.specs.ManagerWords.{bus_of}
-use Rattle.model_lab.specs.Spelled.{numbers_of}
 use Rattle.model_lab.specs.Wires.{bytes_of, reply_to}
 use Rattle.model_lab.specs.Bytes.{Fits, IsNumber, AreTheModels}
 
@@ -20,7 +19,7 @@ low n lun below = omega (arith, below)
 instance_back : (number : ℕ) → number < 32 → (128 + number) % 32 ≡ number
 instance_back number below = omega (arith, below)
 
-request : (number : ℕ) (asked : Asked) → Fits asked → IsNumber (bus_of asked) number → IsRequestOn (numbers_of (bus_of asked)) number (bytes_of number asked)
+request : (number : ℕ) (asked : Asked) → Fits asked → IsNumber (bus_of asked) number → IsRequestOn (bus_of asked) number (bytes_of number asked)
 request number (Ipmi from net_fn lun command body) fits is = record {
   header = record { net_fn = net_fn; responder_lun = lun; requester_lun = 0; command = command };
   is_header = record { responder = fits; requester = lit< tt };
@@ -56,7 +55,7 @@ pldm_reply_is number bytes a r = record {
   reply_spelled = ap (λ (x : List ℕ). reply_to Smbus x a) r.spelled ∙ (λ i. pldm_reply r.header (instance_back number r.instance i) a.code a.body);
 }
 
-reply : (on : Bus) (number : ℕ) (bytes : List ℕ) (a : Told) → IsRequestOn (numbers_of on) number bytes → IsReplyOn (numbers_of on) a.code bytes (reply_to on bytes a)
+reply : (on : Bus) (number : ℕ) (bytes : List ℕ) (a : Told) → IsRequestOn on number bytes → IsReplyOn on a.code bytes (reply_to on bytes a)
 reply Ipmb number bytes a r = ipmb_reply_is number bytes a r
 reply Smbus number bytes a r = pldm_reply_is number bytes a r
 

@@ -15,7 +15,6 @@ use Rattle.model_bus.specs.Bytes.{busy_code, is_busy_code, answers, IsRequestOn,
 use Rattle.bmc_board.specs.Decode.{sent_by}
 use Rattle.model_undo.specs.Words.{Answered as Told}
 use Rattle.model_lab.specs.ManagerWords.{bus_of}
-use Rattle.model_lab.specs.Spelled.{numbers_of}
 use Rattle.model_lab.specs.Wires.{bytes_of, asked_from, reply_to, answered_from}
 
 -- ---- requests
@@ -46,7 +45,7 @@ pldm_heard_in from r = record { requester = from; number = r.header.instance; by
 
 -- the answer of a port that is busy
 abbrev pub busy_on : Bus → Told
-busy_on on = record { code = busy_code (numbers_of on); body = [] }
+busy_on on = record { code = busy_code on; body = [] }
 
 -- what a port replies to a request: the reply, or where there is none, that it is busy
 abbrev pub said : Bus → Heard → Option (List ℕ) → List ℕ
@@ -71,15 +70,15 @@ pub record AreReadBack : Type 0 where
 
 -- they are a request's and a reply's of the model
 pub record AreTheModels : Type 0 where
-  pub request : (number : ℕ) (asked : Asked) → Fits asked → IsNumber (bus_of asked) number → IsRequestOn (numbers_of (bus_of asked)) number (bytes_of number asked)
-  pub reply : (on : Bus) (number : ℕ) (bytes : List ℕ) (a : Told) → IsRequestOn (numbers_of on) number bytes → IsReplyOn (numbers_of on) a.code bytes (reply_to on bytes a)
+  pub request : (number : ℕ) (asked : Asked) → Fits asked → IsNumber (bus_of asked) number → IsRequestOn (bus_of asked) number (bytes_of number asked)
+  pub reply : (on : Bus) (number : ℕ) (bytes : List ℕ) (a : Told) → IsRequestOn on number bytes → IsReplyOn on a.code bytes (reply_to on bytes a)
 
 -- the reply to a request passes the manager's test against it, unless its code is one of a busy port
 abbrev pub Accepts : Type 0
-Accepts = (on : Bus) (number : ℕ) (bytes : List ℕ) (a : Told) → IsRequestOn (numbers_of on) number bytes → is_busy_code a.code ≡ false
-    → answers (numbers_of on) bytes (reply_to on bytes a) ≡ true
+Accepts = (on : Bus) (number : ℕ) (bytes : List ℕ) (a : Told) → IsRequestOn on number bytes → is_busy_code a.code ≡ false
+    → answers on bytes (reply_to on bytes a) ≡ true
 
 -- a reply that passes it has the open request's number
 abbrev pub IsNumbered : Type 0
-IsNumbered = (on : Bus) (m n : ℕ) (opened bytes : List ℕ) (a : Told) → IsRequestOn (numbers_of on) m opened → IsRequestOn (numbers_of on) n bytes
-    → answers (numbers_of on) opened (reply_to on bytes a) ≡ true → n ≡ m
+IsNumbered = (on : Bus) (m n : ℕ) (opened bytes : List ℕ) (a : Told) → IsRequestOn on m opened → IsRequestOn on n bytes
+    → answers on opened (reply_to on bytes a) ≡ true → n ≡ m

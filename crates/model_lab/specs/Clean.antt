@@ -1,8 +1,11 @@
 -- Clean schedules: those of links that lose, repeat and delay nothing, and bring nothing of anybody else's.
 use Rattle.std.specs.Prelude.{◌≡◌, ◌⊎◌, ℕ, ◌+◌, List, [], ◌∷◌, ◌++◌, length, Option, Some, None, slice_get}
 use Rattle.cfg_records.specs.declared.board_file.BoardFile.{BoardFile}
-use Rattle.model_lab.specs.ManagerSteps.{Plans, Start, Undo}
-use Rattle.model_lab.specs.Lab.{Way, ToPort, ToManager, ToOthers, LabFrame, Event, Calls, ToBmc, ToMgr, Lab, step, run}
+use Rattle.text_schedule.specs.declared.event.Call.TheVariants.{Start, Undo}
+use Rattle.model_lab.specs.ManagerSteps.{Plans}
+use Rattle.model_lab.specs.declared.way.Way.{Way}
+use Rattle.model_lab.specs.declared.way.Way.TheVariants.{ToPort, ToManager, ToOthers}
+use Rattle.model_lab.specs.Lab.{LabFrame, Event, Calls, ToBmc, ToMgr, Lab, step, run}
 
 -- how a frame of this number is delivered, by its way
 abbrev pub delivery_of : ℕ → Way → Option Event

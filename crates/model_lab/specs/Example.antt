@@ -25,14 +25,18 @@ use Rattle.record_base.specs.Sensor.EventEnable.{are_within, event_value, IsEven
 use Rattle.record_base.specs.EventLaws.{tested_events}
 use Rattle.record_base.specs.Sensor.Thresholds.{IsThresholds, is_clear, is_in_order}
 use Rattle.record_base.specs.ThresholdLaws.{tests_pass}
-use Rattle.model_undo.specs.Phase.{Phase, Done, Undone, Unsettled}
+use Rattle.model_undo.specs.declared.phase.Phase.{Phase}
+use Rattle.model_undo.specs.declared.phase.Phase.TheVariants.{Done, Undone, Unsettled}
 use Rattle.model_undo.specs.Machine.{phase_of}
 use Rattle.model_lab.specs.Values.{written}
 use Rattle.undo_plans.specs.declared.names.Names.{Names}
-use Rattle.model_lab.specs.ManagerSteps.{Plans, board_plans, Start, Quiet, Again, Undo}
+use Rattle.text_schedule.specs.declared.event.Call.TheVariants.{Start, Quiet, Again, Undo}
+use Rattle.model_lab.specs.ManagerSteps.{Plans, board_plans}
 use Rattle.model_lab.specs.Lab.{LabFrame, Event, Calls, ToBmc, ToMgr, OtherIpmb, Noise, Idles, Lab, run, opening}
 use Rattle.model_lab.specs.Clean.{IsClean}
-use Rattle.model_lab.specs.Faults.{Fault, NoFrame, WrongWay, Changing, Impersonates, Forged, StillOpen, fault_of, AllTaken}
+use Rattle.model_lab.specs.declared.fault.Fault.{Fault}
+use Rattle.model_lab.specs.declared.fault.Fault.TheVariants.{NoFrame, WrongWay, Changing, Impersonates, Forged, StillOpen}
+use Rattle.model_lab.specs.Faults.{fault_of, AllTaken}
 
 -- ---- the board
 

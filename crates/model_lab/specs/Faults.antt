@@ -10,31 +10,16 @@ use Rattle.pldm_base.specs.Message.{request_in as pldm_request_in}
 use Rattle.cfg_records.specs.declared.board_file.BoardFile.{BoardFile}
 use Rattle.model_bus.specs.Circle.{span_of}
 use Rattle.bmc_board.specs.Table.{is_changing}
-use Rattle.model_lab.specs.Spelled.{numbers_of}
 use Rattle.model_undo.specs.Words.{Words}
 use Rattle.model_undo.specs.Machine.{Machine, count_of, open_bus, same_bus}
+use Rattle.model_lab.specs.declared.fault.Fault.{Fault}
+use Rattle.model_lab.specs.declared.fault.Fault.TheVariants.{NoFrame, WrongWay, Aged, Changing, Impersonates, Forged, StillOpen, Room}
 use Rattle.model_lab.specs.PortSteps.{asked_in, pldm_asked}
 use Rattle.undo_plans.specs.declared.names.Names.{Names}
 use Rattle.model_lab.specs.ManagerSteps.{own_on, peer_on, Plans}
-use Rattle.model_lab.specs.Lab.{Way, ToPort, ToManager, ToOthers, LabFrame, Event, Calls, ToBmc, ToMgr, OtherIpmb, OtherSmbus, Noise, Idles, OnBench, Lab, idles_on, step}
-
-pub data Fault : Type 0 where
-  -- there is no such frame
-  NoFrame : Fault
-  -- the frame doesn't go to that end
-  WrongWay : Fault
-  -- too many newer requests were begun, or the manager's window was forgotten since
-  Aged : Fault
-  -- another requester's command sets the configuration
-  Changing : Fault
-  -- it comes from the manager's or the controller's address
-  Impersonates : Fault
-  -- the noise reads as a frame
-  Forged : Fault
-  -- a request of the manager is open, on either bus
-  StillOpen : Fault
-  -- 65,536 frames were sent
-  Room : Fault
+use Rattle.model_lab.specs.declared.way.Way.{Way}
+use Rattle.model_lab.specs.declared.way.Way.TheVariants.{ToPort, ToManager, ToOthers}
+use Rattle.model_lab.specs.Lab.{LabFrame, Event, Calls, ToBmc, ToMgr, OtherIpmb, OtherSmbus, Noise, Idles, OnBench, Lab, idles_on, step}
 
 -- a fault, and whether an event has it
 pub record Check : Type 0 where
@@ -91,7 +76,7 @@ is_frame Smbus bytes = is_none (find (has_packet_fault bytes) packet_faults)
 module _ (P : Plans) where
   -- fewer newer requests than the span were begun on its bus, and the manager's window there wasn't forgotten since it was sent
   abbrev pub is_live : Lab P → LabFrame → Bool
-  is_live x f = nat_le (begun_on P.words f.on x.manager.machine) (f.request + span_of (numbers_of f.on)) && f.idles == idles_on P f.on x
+  is_live x f = nat_le (begun_on P.words f.on x.manager.machine) (f.request + span_of f.on) && f.idles == idles_on P f.on x
 
   -- 65,536 frames were sent
   abbrev pub is_full : Lab P → Bool

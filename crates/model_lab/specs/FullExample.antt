@@ -1,7 +1,8 @@
 -- A run until there is no room.
 use Rattle.std.specs.Prelude.{◌≡◌, ℕ, zero, suc, List, [], ◌∷◌, length, Some}
 use Rattle.model_lab.specs.Lab.{Event, OtherIpmb}
-use Rattle.model_lab.specs.Faults.{Room, fault_of, AllTaken}
+use Rattle.model_lab.specs.declared.fault.Fault.TheVariants.{Room}
+use Rattle.model_lab.specs.Faults.{fault_of, AllTaken}
 use Rattle.model_lab.specs.Example.{board_file, plans, one_step, start, after, other_request}
 
 -- somebody reserves the log

@@ -11,13 +11,16 @@ use Rattle.pldm_base.specs.Message.{IsRequest}
 use Rattle.cfg_records.specs.declared.board_file.BoardFile.{BoardFile}
 use Rattle.model_bus.specs.Circle.{span_of}
 use Rattle.bmc_board.specs.Table.{is_changing}
-use Rattle.model_lab.specs.Spelled.{numbers_of}
 use Rattle.model_undo.specs.Machine.{open_bus}
 use Rattle.model_lab.specs.PortSteps.{asked_in, pldm_asked}
 use Rattle.undo_plans.specs.declared.names.Names.{Names}
 use Rattle.model_lab.specs.ManagerSteps.{own_on, peer_on, Plans}
-use Rattle.model_lab.specs.Lab.{Way, ToPort, ToManager, LabFrame, Event, Calls, ToBmc, ToMgr, OtherIpmb, OtherSmbus, Noise, Idles, OnBench, Lab, idles_on, step}
-use Rattle.model_lab.specs.Faults.{Fault, Room, begun_on, fault_of}
+use Rattle.model_lab.specs.declared.way.Way.{Way}
+use Rattle.model_lab.specs.declared.way.Way.TheVariants.{ToPort, ToManager}
+use Rattle.model_lab.specs.Lab.{LabFrame, Event, Calls, ToBmc, ToMgr, OtherIpmb, OtherSmbus, Noise, Idles, OnBench, Lab, idles_on, step}
+use Rattle.model_lab.specs.declared.fault.Fault.{Fault}
+use Rattle.model_lab.specs.declared.fault.Fault.TheVariants.{Room}
+use Rattle.model_lab.specs.Faults.{begun_on, fault_of}
 
 -- neither the manager nor the controller is known so on the bus
 abbrev pub IsAnother : Bus → Names → ℕ → Type 0
@@ -36,7 +39,7 @@ module _ (P : Plans) where
   -- fewer newer requests of the manager than the span were begun on the frame's bus, and the manager's window there wasn't forgotten
   -- since it was sent
   pub record IsLive (x : Lab P) (f : LabFrame) : Type 0 where
-    pub recent : begun_on P.words f.on x.manager.machine ≤ f.request + span_of (numbers_of f.on)
+    pub recent : begun_on P.words f.on x.manager.machine ≤ f.request + span_of f.on
     pub remembered : f.idles ≡ idles_on P f.on x
 
   -- the frame of this number was sent, it's live, and it's delivered to the end for which it is meant

@@ -10,16 +10,13 @@ use Rattle.model_bus.specs.Request.{idles_of}
 use Rattle.bmc_board.specs.declared.activity.Activity.{Activity}
 use Rattle.bmc_board.specs.State.{State, state, opened as opened_board}
 use Rattle.model_undo.specs.Machine.{opened as opened_machine}
+use Rattle.model_lab.specs.declared.way.Way.{Way}
+use Rattle.model_lab.specs.declared.way.Way.TheVariants.{ToPort, ToManager, ToOthers}
 use Rattle.model_lab.specs.Values.{Value, Asks, Tells, Part}
 use Rattle.model_lab.specs.PortSteps.{PortState, Deed, hears, hears_all, idles, quiet_port}
 use Rattle.undo_plans.specs.declared.names.Names.{Names}
-use Rattle.model_lab.specs.ManagerSteps.{own_on, Plans, Call, ManagerState, ManagerDeed, Sent, called, manager_hears}
-
--- to whom a frame goes
-pub data Way : Type 0 where
-  ToPort : Way
-  ToManager : Way
-  ToOthers : Way
+use Rattle.text_schedule.specs.declared.event.Call.{Call}
+use Rattle.model_lab.specs.ManagerSteps.{own_on, Plans, ManagerState, ManagerDeed, Sent, called, manager_hears}
 
 -- A frame that was sent. Its request is the count of the manager's request that it carries; a reply has that of the frame whose
 -- delivery brought it. `idles` counts how often the manager's window had been forgotten on its bus when it was sent.

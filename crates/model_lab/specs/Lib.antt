@@ -9,6 +9,7 @@ pub mod Bytes
 pub mod PortSteps
 pub mod ManagerSteps
 pub mod Lab
+pub mod FaultNames
 pub mod Faults
 pub mod Own
 pub mod Joins
@@ -22,7 +23,6 @@ pub mod PortEvents
 pub mod ManagerEvents
 pub mod PacketExample
 pub mod FullExample
-pub mod Marks
 pub mod Meaning
 pub mod Played
 pub mod PlayExample

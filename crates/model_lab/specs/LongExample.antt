@@ -9,12 +9,15 @@ use Rattle.record_base.specs.declared.key.Key.TheVariants as key
 use Rattle.record_base.specs.declared.op.Op.{Op}
 use Rattle.record_base.specs.declared.op.Op.TheVariants as op
 use Rattle.bmc_board.specs.State.{opened}
-use Rattle.model_undo.specs.Phase.{Getting}
+use Rattle.model_undo.specs.declared.phase.Phase.TheVariants.{Getting}
 use Rattle.model_lab.specs.Values.{Value, Asks, Tells, Part, written, parts_of}
 use Rattle.model_lab.specs.PortSteps.{hears, quiet_port}
-use Rattle.model_lab.specs.ManagerSteps.{Start}
-use Rattle.model_lab.specs.Lab.{Way, ToPort, ToManager, ToOthers, LabFrame, Event, Calls, ToBmc, ToMgr, OtherIpmb, OtherSmbus, Lab, run}
-use Rattle.model_lab.specs.Faults.{Aged, fault_of, AllTaken}
+use Rattle.text_schedule.specs.declared.event.Call.TheVariants.{Start}
+use Rattle.model_lab.specs.declared.way.Way.{Way}
+use Rattle.model_lab.specs.declared.way.Way.TheVariants.{ToPort, ToManager, ToOthers}
+use Rattle.model_lab.specs.Lab.{LabFrame, Event, Calls, ToBmc, ToMgr, OtherIpmb, OtherSmbus, Lab, run}
+use Rattle.model_lab.specs.declared.fault.Fault.TheVariants.{Aged}
+use Rattle.model_lab.specs.Faults.{fault_of, AllTaken}
 use Rattle.model_lab.specs.Own.{AllOwn}
 use Rattle.model_lab.specs.Example.{board_file, plans, start, after, phase_after, bytes_at, other_request, exchange}
 

@@ -7,9 +7,7 @@ use Rattle.mctp_net.specs.declared.packet.Packet.{Packet}
 use Rattle.mctp_net.specs.declared.packet.Name.{Name}
 use Rattle.mctp_net.specs.Cut.{piece}
 use Rattle.mctp_net.specs.Assembly.{Assemblies, open_beside, is_ours}
-use Rattle.model_bus.specs.declared.numbers.Numbers.{Numbers}
-use Rattle.model_bus.specs.declared.numbers.Numbers.TheVariants as numbers
-use Rattle.model_bus.specs.Numbering.{Bus as Rules}
+use Rattle.model_bus.specs.Numbering.{Rules}
 use Rattle.model_bus.specs.Schedule.{IsLive}
 use Rattle.model_bus.specs.BusState.{BusState, Frame, Content, Ask, Reply, ReachesManager}
 use Rattle.model_bus.specs.Bytes.{is_busy_code, IsReplyOn}
@@ -26,11 +24,11 @@ use Rattle.model_lab.specs.ManagerSteps.{Plans, ManagerState, ManagerDeed, is_an
 use Rattle.model_lab.specs.PortEvents.{name_in}
 
 -- the bytes are a reply's that says that the port is busy
-abbrev pub SaysBusy : Numbers → List ℕ → Type 0
+abbrev pub SaysBusy : Bus → List ℕ → Type 0
 SaysBusy kind bytes = (code : ℕ) × (request : List ℕ) × (is_busy_code code ≡ true) × IsReplyOn kind code request bytes
 
 -- the bytes are the reply that the model's frame holds; where it holds none, they say that the port is busy
-abbrev pub HoldsReply : Numbers → List ℕ → Content → Type 0
+abbrev pub HoldsReply : Bus → List ℕ → Content → Type 0
 HoldsReply kind bytes (Ask asked) = ⊥
 HoldsReply kind bytes (Reply number (Some reply)) = bytes ≡ reply
 HoldsReply kind bytes (Reply number None) = SaysBusy kind bytes
@@ -39,7 +37,7 @@ HoldsReply kind bytes (Reply number None) = SaysBusy kind bytes
 abbrev pub HoldsPart : PacketBus → ℕ → Packet → Content → Type 0
 HoldsPart b place p (Ask asked) = ⊥
 HoldsPart b place p (Reply number (Some reply)) = slice_get (b.split reply) place ≡ Some (seen (piece p))
-HoldsPart b place p (Reply number None) = (p.start ≡ true) × (p.end ≡ true) × (p.sequence ≡ 0) × SaysBusy numbers.Pldm p.payload
+HoldsPart b place p (Reply number None) = (p.start ≡ true) × (p.end ≡ true) × (p.sequence ≡ 0) × SaysBusy Smbus p.payload
 
 -- under which name the packets come of the reply to the request of this count
 abbrev pub name_awaited : Names → ℕ → Name
@@ -50,7 +48,7 @@ pub record IsRepliesResponse (names : Names) (b : Rules) (s : BusState) (which :
   pub frame : Frame
   pub sent : slice_get s.frames which ≡ Some frame
   pub live : IsLive b s frame
-  pub held : HoldsReply numbers.Ipmb (response_bytes r) frame.content
+  pub held : HoldsReply Ipmb (response_bytes r) frame.content
   pub answers : is_answer names r ≡ true
 
 -- the packet is the one at this place of frame `which`, a live one, and comes from the controller to the manager
@@ -98,9 +96,9 @@ module _ (P : Plans) where
   -- What comes of a live reply, where the manager's test takes what the model takes and the event does what it does in each honest
   -- schedule. While no request is heeded on the bus nothing comes of anything.
   pub record RepliesAreBrought : Type 0 where
-    pub responses : (m : ManagerState P) (open_part : TaskPart P.words) (b : Rules) (s : BusState) (which : ℕ) (r : Response) → TestsAgree numbers.Ipmb b s
+    pub responses : (m : ManagerState P) (open_part : TaskPart P.words) (b : Rules) (s : BusState) (which : ℕ) (r : Response) → TestsAgree Ipmb b s
         → IsOpenOn Ipmb m open_part s → IsRepliesResponse m.names b s which r → BringsResponse m b s which r
-    pub parts : (m : ManagerState P) (open_part : TaskPart P.words) (b : PacketBus) (x : Ends) (which place : ℕ) (p : Packet) → TestsAgree numbers.Pldm (rules_of b) x.bus
+    pub parts : (m : ManagerState P) (open_part : TaskPart P.words) (b : PacketBus) (x : Ends) (which place : ℕ) (p : Packet) → TestsAgree Smbus (rules_of b) x.bus
         → HasPacketEffect b x (PacketReachesManager which place) → IsOpenOn Smbus m open_part x.bus → IsManagerOf m b x → IsRepliesPart m.names b x which place p
         → BringsPart m b x which place p
     pub unheeded_response : (m : ManagerState P) (r : Response) → heeded_on P Ipmb m.machine.stage ≡ None → hears_response P r m ≡ rests P m

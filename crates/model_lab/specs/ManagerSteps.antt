@@ -15,8 +15,9 @@ use Rattle.model_undo.specs.Words.{Words}
 use Rattle.model_undo.specs.Machine.{count_of, Part as TaskPart, bus_at, Stage, Opened, Machine, Sending, Turn, start_of, quiet_of, stop_of, again_of, undo_of, reply_of, same_bus}
 use Rattle.model_undo.specs.Wires.{number_of}
 use Rattle.model_undo.specs.TwoBuses.{Addresses}
+use Rattle.text_schedule.specs.declared.event.Call.{Call}
+use Rattle.text_schedule.specs.declared.event.Call.TheVariants.{Start, Quiet, Stop, Again, Undo}
 use Rattle.model_lab.specs.ManagerWords.{bus_of, manager_words}
-use Rattle.model_lab.specs.Spelled.{numbers_of}
 use Rattle.model_lab.specs.Wires.{bytes_of, answered_from}
 use Rattle.model_lab.specs.Values.{Value, Asks, Tells, Part, parts_of}
 use Rattle.model_lab.specs.Bytes.{response_bytes}
@@ -76,14 +77,6 @@ pub record Sent : Type 0 where
   pub on : Bus
   pub request : ℕ
   pub values : List Value
-
--- the calls of a manager
-pub data Call : Type 0 where
-  Start : Call
-  Quiet : Call
-  Stop : Call
-  Again : Call
-  Undo : Call
 
 -- the response goes from the controller to the manager
 abbrev pub is_answer : Names → Response → Bool
@@ -162,7 +155,7 @@ module _ (P : Plans) where
   abbrev pub tested : Bus → List ℕ → ManagerState → Option (TaskPart P.words) → ManagerDeed
   tested on reply m None = rests m
   tested on reply m (Some part) =
-      if answers (numbers_of on) (open_bytes on m part) reply
+      if answers on (open_bytes on m part) reply
       then taken_or m (reply_of P.words (answered_from on reply) m.machine)
       else rests m
 

@@ -2,16 +2,14 @@
 use Rattle.std.specs.Prelude.{ℕ, true}
 use Rattle.ipmb_frame.specs.declared.message.Request.{Request}
 use Rattle.mctp_net.specs.declared.message.Message.{Message}
+use Rattle.cfg_records.specs.declared.board_file.BoardFile.{BoardFile}
 use Rattle.bmc_board.specs.State.{State}
-use Rattle.bmc_board.specs.declared.activity.Activity.{Activity}
+use Rattle.bmc_board.specs.Sensing.{scan, tick}
 use Rattle.undo_plans.specs.declared.names.Names.{Names}
-use Rattle.text_schedule.specs.declared.event.Call.{Call as Called}
-use Rattle.text_schedule.specs.declared.event.Call.TheVariants as called
 use Rattle.text_schedule.specs.declared.event.OtherRequest.{OtherRequest}
 use Rattle.text_schedule.specs.declared.event.OtherMessage.{OtherMessage}
 use Rattle.text_schedule.specs.declared.event.Event.{Event}
 use Rattle.text_schedule.specs.declared.event.Event.TheVariants as event
-use Rattle.model_lab.specs.ManagerSteps.{Call, Start, Quiet, Stop, Again, Undo}
 use Rattle.model_lab.specs.Lab.{Event as LabEvent, Calls, ToBmc, ToMgr, OtherIpmb, OtherSmbus, Noise, Idles, OnBench}
 
 -- the lab's names: the manager, and the controller
@@ -21,14 +19,6 @@ lab_names = record { own_address = 0x2C; peer_address = 0x20; own_wire = 0x30; p
 -- the two-wire address of all others on SMBus
 abbrev pub other_wire : ℕ
 other_wire = 0x42
-
--- the calls
-abbrev pub call_of : Called → Call
-call_of called.Start = Start
-call_of called.Quiet = Quiet
-call_of called.Stop = Stop
-call_of called.Again = Again
-call_of called.Undo = Undo
 
 -- somebody else's request goes to the controller
 abbrev pub request_of : Names → OtherRequest → Request
@@ -57,19 +47,14 @@ message_of names m = record {
   body = m.body;
 }
 
--- what isn't configuration, after a reading of a sensor was taken and after a tenth of a second
-pub record Bench : Type 0 where
-  pub scan : (sensor reading : ℕ) → State → Activity
-  pub tick : State → Activity
-
--- the event is this one, where the board is in this state
-abbrev pub event_of : Names → Bench → State → Event → LabEvent
-event_of names bench before (event.Calls call) = Calls (call_of call)
-event_of names bench before (event.ToBmc number) = ToBmc number
-event_of names bench before (event.ToMgr number) = ToMgr number
-event_of names bench before (event.OtherIpmb r) = OtherIpmb (request_of names r)
-event_of names bench before (event.OtherSmbus m) = OtherSmbus (message_of names m)
-event_of names bench before (event.Noise on bytes) = Noise on bytes
-event_of names bench before (event.Idle on requester) = Idles on requester
-event_of names bench before (event.Scan sensor reading) = OnBench (bench.scan sensor reading before)
-event_of names bench before event.Tick = OnBench (bench.tick before)
+-- the event is this one, where the board of this file is in this state
+abbrev pub event_of : Names → BoardFile → State → Event → LabEvent
+event_of names file before (event.Calls call) = Calls call
+event_of names file before (event.ToBmc number) = ToBmc number
+event_of names file before (event.ToMgr number) = ToMgr number
+event_of names file before (event.OtherIpmb r) = OtherIpmb (request_of names r)
+event_of names file before (event.OtherSmbus m) = OtherSmbus (message_of names m)
+event_of names file before (event.Noise on bytes) = Noise on bytes
+event_of names file before (event.Idle on requester) = Idles on requester
+event_of names file before (event.Scan sensor reading) = OnBench (scan file sensor reading before)
+event_of names file before event.Tick = OnBench (tick before)

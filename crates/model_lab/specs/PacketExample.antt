@@ -7,12 +7,16 @@ use Rattle.mctp_net.specs.declared.message.Message.{Message}
 use Rattle.record_base.specs.declared.message.Asked.{Asked}
 use Rattle.record_base.specs.declared.message.Asked.TheVariants.{Pldm}
 use Rattle.model_undo.specs.Words.{Words}
-use Rattle.model_undo.specs.Phase.{Phase, Getting, Setting, Halted, Refused}
+use Rattle.model_undo.specs.declared.phase.Why.TheVariants.{Refused}
+use Rattle.model_undo.specs.declared.phase.Phase.{Phase}
+use Rattle.model_undo.specs.declared.phase.Phase.TheVariants.{Getting, Setting, Halted}
 use Rattle.model_undo.specs.Machine.{Sets, begun, phase_of}
 use Rattle.model_lab.specs.ManagerWords.{bus_of}
 use Rattle.model_lab.specs.Values.{Value, Asks, Tells, Part, parts_of}
-use Rattle.model_lab.specs.ManagerSteps.{Plans, Start, Quiet}
-use Rattle.model_lab.specs.Lab.{ToManager, LabFrame, Event, Calls, ToBmc, ToMgr, Lab, run, opening}
+use Rattle.text_schedule.specs.declared.event.Call.TheVariants.{Start, Quiet}
+use Rattle.model_lab.specs.ManagerSteps.{Plans}
+use Rattle.model_lab.specs.declared.way.Way.TheVariants.{ToManager}
+use Rattle.model_lab.specs.Lab.{LabFrame, Event, Calls, ToBmc, ToMgr, Lab, run, opening}
 use Rattle.model_lab.specs.Faults.{AllTaken}
 use Rattle.model_lab.specs.Own.{AllOwn}
 use Rattle.model_lab.specs.Example.{board_file, names}

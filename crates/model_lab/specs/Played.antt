@@ -4,13 +4,14 @@ use Rattle.cfg_records.specs.declared.board_file.BoardFile.{BoardFile}
 use Rattle.record_base.specs.declared.key.Key.{Key}
 use Rattle.record_base.specs.declared.op.Op.{Op}
 use Rattle.record_base.specs.declared.message.Asked.{Asked}
-use Rattle.model_undo.specs.Phase.{Phase}
+use Rattle.model_undo.specs.declared.phase.Phase.{Phase}
 use Rattle.model_undo.specs.Machine.{phase_of}
 use Rattle.model_lab.specs.ManagerSteps.{Plans, board_plans}
 use Rattle.model_lab.specs.Lab.{LabFrame, Lab, step, opening}
-use Rattle.model_lab.specs.Faults.{Fault, fault_of}
+use Rattle.model_lab.specs.declared.fault.Fault.{Fault}
+use Rattle.model_lab.specs.Faults.{fault_of}
 use Rattle.text_schedule.specs.declared.event.Event.{Event}
-use Rattle.model_lab.specs.Meaning.{lab_names, Bench, event_of}
+use Rattle.model_lab.specs.Meaning.{lab_names, event_of}
 
 -- the plans of the lab's manager
 abbrev pub plans : Plans
@@ -29,14 +30,14 @@ pub data Ending : Type 0 where
   Whole : Told → Ending
   Stops : Fault → (place : ℕ) → Told → Ending
 
-module _ (bench : Bench) (file : BoardFile) where
+module _ (file : BoardFile) where
   -- the fault of an event
   abbrev pub fault_at : Lab plans → Event → Option Fault
-  fault_at x e = fault_of plans x (event_of lab_names bench x.board e)
+  fault_at x e = fault_of plans x (event_of lab_names file x.board e)
 
   -- the lab after an event
   abbrev pub happens : Event → Lab plans → Lab plans
-  happens e x = step plans file x (event_of lab_names bench x.board e)
+  happens e x = step plans file x (event_of lab_names file x.board e)
 
   -- the lab after events
   abbrev pub after : List Event → Lab plans → Lab plans

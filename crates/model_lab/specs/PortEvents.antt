@@ -12,7 +12,7 @@ use Rattle.mctp_net.specs.Sound.{IsSound}
 use Rattle.pldm_base.specs.declared.message.PldmRequest.{PldmRequest}
 use Rattle.pldm_base.specs.Message.{request_in as pldm_request_in}
 use Rattle.cfg_records.specs.declared.board_file.BoardFile.{BoardFile}
-use Rattle.model_bus.specs.Numbering.{Bus, ipmb}
+use Rattle.model_bus.specs.Numbering.{Rules, ipmb}
 use Rattle.model_bus.specs.BusState.{BusState, Frame, Ask, OtherAsks, ReachesPort, request_of, happens}
 use Rattle.model_bus.specs.Bytes.{request_in}
 use Rattle.model_bus.specs.Assembly.{Name}
@@ -31,7 +31,7 @@ abbrev pub answer_to : BoardFile → State → Request → List ℕ
 answer_to setup before r = spelled Ipmb (heard_in r) (answer_of setup before (asked_in r)).0
 
 -- A request leaves the log that the model's event leaves: another's asking, or a frame of the manager that holds these bytes.
-pub record RequestsAreEvents (setup : BoardFile) (port : PortState) (before : State) (r : Request) (b : Bus) (s : BusState) : Type 0 where
+pub record RequestsAreEvents (setup : BoardFile) (port : PortState) (before : State) (r : Request) (b : Rules) (s : BusState) : Type 0 where
   pub others : (happens b s (OtherAsks (heard_in r) (answer_to setup before r))).log ≡ (hears_request setup port before r).port.log
   pub managers : (which : ℕ) (f : Frame) (bytes : List ℕ) → slice_get s.frames which ≡ Some f → f.content ≡ Ask bytes → heard_in r ≡ request_of b f.request bytes
       → (happens b s (ReachesPort which (answer_to setup before r))).log ≡ (hears_request setup port before r).port.log

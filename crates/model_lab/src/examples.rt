@@ -4,7 +4,6 @@ ghost use Rattle.model_lab.specs.Example.{ShowsFaults, TwoStepsUndone, RepliesOn
 ghost use Rattle.model_lab.specs.LongExample.{CopiesAge, NinthIsBusy, AnswersPackets, JoinsPackets};
 ghost use Rattle.model_lab.specs.PacketExample.{SetsInPackets, TakesPackets};
 ghost use Rattle.model_lab.specs.FullExample.{FillsUp};
-ghost use Rattle.model_lab.specs.Meaning.{Bench};
 ghost use Rattle.model_lab.specs.PlayExample.{PlaysTwoSteps};
 
 /// Frames that weren't sent, that go another way or that are somebody else's, noise that is a frame, and an idle while a request is open.
@@ -64,5 +63,5 @@ pub fn lab_fills_up()
 
 /// Two steps on thresholds are done and undone in twelve frames.
 pub fn two_steps_are_played()
-    ensures { (bench : Bench) → PlaysTwoSteps bench }
+    ensures { PlaysTwoSteps }
 {}

@@ -19,7 +19,6 @@ ghost use Rattle.model_lab.specs.Stepwise.{TurnsBy, RunsBy};
 ghost use Rattle.model_lab.specs.Cuts.{PartsAreCuts, PartsAreHeard};
 ghost use Rattle.model_lab.specs.PortEvents.{RequestsLeaveLog, PartsLeaveLog};
 ghost use Rattle.model_lab.specs.ManagerEvents.{RepliesAreBrought};
-ghost use Rattle.model_lab.specs.Meaning.{Bench};
 ghost use Rattle.model_lab.specs.Played.{Ending, IsPlayed};
 
 /// The manager's requests are requests on their bus, IPMI on IPMB and PLDM on SMBus, each under its number; and a reply to one is a reply
@@ -81,6 +80,6 @@ pub fn replies_are_brought()
 
 /// A play ends in one way.
 pub fn one_ending()
-    ensures { (bench : Bench) (file : BoardFile) (steps : List Op) (retries : ℕ) (events : List Event) (ending other : Ending)
-        → IsPlayed bench file steps retries events ending → IsPlayed bench file steps retries events other → ending ≡ other }
+    ensures { (file : BoardFile) (steps : List Op) (retries : ℕ) (events : List Event) (ending other : Ending)
+        → IsPlayed file steps retries events ending → IsPlayed file steps retries events other → ending ≡ other }
 {}

@@ -7,7 +7,8 @@ use Rattle.two_wire.specs.Codes.{success}
 use Rattle.model_undo.specs.Words.{Answered, get_asked, set_asked}
 use Rattle.model_undo.specs.Family.{Family, AllValid}
 use Rattle.model_undo.specs.IsFamily.{Showed, IsFamily}
-use Rattle.model_undo.specs.Phase.{Why, Stop, Refused, NotRestorable, GetRefused}
+use Rattle.model_undo.specs.declared.phase.Why.{Why}
+use Rattle.model_undo.specs.declared.phase.Why.TheVariants.{Stop, Refused, NotRestorable, GetRefused}
 use Rattle.model_undo.specs.Plan.{Gave, Because}
 use Rattle.model_undo.specs.Machine.{Task, Gets, Sets, Undoes, Stage, AtStart, Opened, AtEnd, AtHalt, AtUndone, AtRefused, Part, first_part, first_stage, undo_stage, next_stage, set_stage, stage_after, undo_after}
 use Rattle.model_undo.proofs.Undoable.{past_none, CanUndo, length_of, sets_to_one, sets_to_valid, sets_back, ready}

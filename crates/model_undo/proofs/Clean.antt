@@ -9,7 +9,10 @@ use Rattle.two_wire.specs.declared.Bus.TheVariants.{Ipmb, Smbus}
 use Rattle.model_undo.specs.Words.{Answered, get_asked}
 use Rattle.model_undo.specs.Family.{Family, AllValid}
 use Rattle.model_undo.specs.IsFamily.{Showed, IsFamily}
-use Rattle.model_undo.specs.Phase.{Why, Refused, NotRestorable, GetRefused, Phase, Done, Halted, Undone}
+use Rattle.model_undo.specs.declared.phase.Why.{Why}
+use Rattle.model_undo.specs.declared.phase.Why.TheVariants.{Refused, NotRestorable, GetRefused}
+use Rattle.model_undo.specs.declared.phase.Phase.{Phase}
+use Rattle.model_undo.specs.declared.phase.Phase.TheVariants.{Done, Halted, Undone}
 use Rattle.model_undo.specs.Plan.{IsAfter}
 use Rattle.model_undo.specs.Machine.{Counts, one_answered, Task, Gets, Sets, Undoes, Stage, AtStart, Opened, AtEnd, AtHalt, AtUndone, AtRefused, Machine, Turn, first_part, begun, bus_at, enters, first_stage, undo_stage, next_stage, set_stage, takes, phase_at, undoes, undo_of, opened}
 use Rattle.model_undo.specs.Clean.{Moment, answered_in_all, AnswersByRow, one, clean, got, did, told, Goes, GoAll, Sticks, EndsIn, IsAtRest, AlwaysRunsClean}

@@ -5,7 +5,7 @@ use Rattle.std.proofs.lemmas.Bool.{lt-ltb, le-ltb, cond-true, eq-eqb}
 use Rattle.std.proofs.lemmas.Option.{slice_get_past}
 use Rattle.model_bus.specs.Request.{Kept, Entry, Carried, idles_of, carried_since}
 use Rattle.model_bus.specs.Carried.{requesters, IsNew, outcome, is_busy}
-use Rattle.model_bus.specs.Numbering.{Bus as Rules}
+use Rattle.model_bus.specs.Numbering.{Rules}
 use Rattle.model_bus.specs.BusState.{BusState, Frame, Content, Ask, Reply, Begins, ReachesPort, ReachesManager, request_of, is_open, hears, carried_now, taken_now, at_port, comes, takes_if, happens, begins}
 use Rattle.model_bus.specs.Schedule.{IsLive}
 use Rattle.model_bus.proofs.Lists.{at_end, length_more}

@@ -6,7 +6,7 @@ use Rattle.std.proofs.lemmas.Bool.{and_parts, and_from, eqb-true, false≢true, 
 use Rattle.std.proofs.lemmas.Slice.Eq.{bytes_eq-Decides}
 use Rattle.two_wire.specs.declared.Bus.{Bus}
 use Rattle.two_wire.specs.declared.Bus.TheVariants.{Ipmb, Smbus}
-use Rattle.model_bus.specs.Numbering.{Bus as Rules, ipmb, smbus}
+use Rattle.model_bus.specs.Numbering.{Rules, ipmb, smbus}
 use Rattle.model_bus.specs.BusState.{BusState, Event, Begins, SendsAgain, ReachesPort, ReachesManager, OtherAsks, OtherReplies, IsIdle, Resumes}
 use Rattle.model_bus.specs.Packet.{packets_of}
 use Rattle.model_bus.specs.PacketBus.{PacketBus, Ends, PacketEvent, Plain, PacketReachesPort, PacketReachesManager, OtherPacket, OtherReplyPacket, Closes, Clears, PacketResumes}

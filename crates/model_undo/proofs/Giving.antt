@@ -5,7 +5,9 @@ use Rattle.std.specs.Prelude.{Contains}
 use Rattle.std.proofs.lemmas.List.Elements.{Contains-append_left, Contains-append_right}
 use Rattle.two_wire.specs.declared.Bus.{Bus}
 use Rattle.model_undo.specs.Words.{Answered}
-use Rattle.model_undo.specs.Phase.{Stop, Refused, NotRestorable, GetRefused, Phase, Fresh, Getting, Setting, Done, Halted, Unsettled, Undoing, Undone, UndoRefused}
+use Rattle.model_undo.specs.declared.phase.Why.TheVariants.{Stop, Refused, NotRestorable, GetRefused}
+use Rattle.model_undo.specs.declared.phase.Phase.{Phase}
+use Rattle.model_undo.specs.declared.phase.Phase.TheVariants.{Fresh, Getting, Setting, Done, Halted, Unsettled, Undoing, Undone, UndoRefused}
 use Rattle.model_undo.specs.Family.{Family, SetsTo}
 use Rattle.model_undo.specs.IsFamily.{Showed, IsFamily}
 use Rattle.model_undo.specs.Plan.{IsAfter, Stands, GaveGet, GaveSet, Halts}

@@ -10,7 +10,9 @@ use Rattle.model_bus.specs.Start.{NothingUnderWay}
 use Rattle.model_undo.specs.Words.{Answered, is_busy}
 use Rattle.model_undo.specs.Family.{Family, AllValid}
 use Rattle.model_undo.specs.IsFamily.{IsFamily}
-use Rattle.model_undo.specs.Phase.{Stop, Phase, Halted, Undone}
+use Rattle.model_undo.specs.declared.phase.Why.TheVariants.{Stop}
+use Rattle.model_undo.specs.declared.phase.Phase.{Phase}
+use Rattle.model_undo.specs.declared.phase.Phase.TheVariants.{Halted, Undone}
 use Rattle.model_undo.specs.Plan.{Stands, Halts}
 use Rattle.model_undo.specs.Machine.{count_of, Gets, Sets, Undoes, Stage, AtStart, Opened, AtEnd, AtHalt, AtUndone, AtRefused, Machine, Turn, phase_at, phase_of, bus_at, sending, starts, undoes, quiets, agains, stops, replies, takes, reply_of, same_bus}
 use Rattle.model_undo.specs.Wires.{number_of, Wires}

@@ -14,7 +14,6 @@ pub mod Resume
 pub mod TwoBuses
 pub mod Clean
 pub mod RecordsRun
-pub mod NumberedLaws
 pub mod Giving
 pub mod Delivery
 pub mod CleanBuses

@@ -3,7 +3,7 @@ use Rattle.std.proofs.Common.{◌≡◌, ℕ, Bool, true, false, List, Option, S
 use Rattle.std.specs.Prelude.{slice_get, MatchOption, MatchBool}
 use Rattle.std.proofs.lemmas.Bool.{false≢true, true≢false, le-ltb}
 use Rattle.model_bus.specs.Request.{Entry}
-use Rattle.model_bus.specs.Numbering.{Bus as Rules}
+use Rattle.model_bus.specs.Numbering.{Rules}
 use Rattle.model_bus.specs.BusState.{BusState, Frame, Event, Begins, SendsAgain, ReachesPort, ReachesManager, OtherAsks, OtherReplies, IsIdle, Resumes, is_open}
 use Rattle.model_bus.specs.Start.{NothingUnderWay}
 use Rattle.model_bus.specs.Effect.{SameRequests, IsBegun, IsCarried, IsTaken}

@@ -3,7 +3,10 @@ use Rattle.std.specs.Prelude.{◌≡◌, ◌≢◌, ℕ, zero, suc, ◌+◌, Lis
 use Rattle.two_wire.specs.Codes.{success}
 use Rattle.model_undo.specs.Words.{Answered, get_asked, set_asked}
 use Rattle.model_undo.specs.Family.{Family, AllValid}
-use Rattle.model_undo.specs.Phase.{Why, Stop, Refused, NotRestorable, GetRefused, Phase, Done, Halted, Undone}
+use Rattle.model_undo.specs.declared.phase.Why.{Why}
+use Rattle.model_undo.specs.declared.phase.Why.TheVariants.{Stop, Refused, NotRestorable, GetRefused}
+use Rattle.model_undo.specs.declared.phase.Phase.{Phase}
+use Rattle.model_undo.specs.declared.phase.Phase.TheVariants.{Done, Halted, Undone}
 use Rattle.model_undo.specs.Plan.{IsAfter}
 use Rattle.model_undo.specs.Machine.{Counts, Sending, Turn, phase_of, start_of, undo_of, reply_of, opened}
 

@@ -3,7 +3,8 @@ use Rattle.std.specs.Prelude.{◌≡◌, ℕ, zero, suc, ◌+◌, true, List, []
 use Rattle.two_wire.specs.declared.Bus.{Bus}
 use Rattle.two_wire.specs.declared.Bus.TheVariants.{Ipmb, Smbus}
 use Rattle.model_undo.specs.Words.{Answered}
-use Rattle.model_undo.specs.Phase.{Phase, Undone}
+use Rattle.model_undo.specs.declared.phase.Phase.{Phase}
+use Rattle.model_undo.specs.declared.phase.Phase.TheVariants.{Undone}
 use Rattle.model_undo.specs.Family.{Family, AllValid}
 use Rattle.model_undo.specs.Plan.{IsAfter}
 use Rattle.model_undo.specs.Machine.{Part, Stage, Opened, bus_at, sending, phase_of}

@@ -1,6 +1,6 @@
 -- A line that loses nothing: each frame comes to its end once, as soon as it is sent.
 use Rattle.std.specs.Prelude.{◌≡◌, ℕ, suc, ◌-◌, false, List, [], ◌∷◌, length, Option, Some, None, slice_get}
-use Rattle.model_bus.specs.Numbering.{Bus as Rules}
+use Rattle.model_bus.specs.Numbering.{Rules}
 use Rattle.model_bus.specs.Carried.{is_busy}
 use Rattle.model_bus.specs.BusState.{BusState, Frame, Content, Ask, Reply, ReachesPort, ReachesManager}
 use Rattle.model_bus.specs.Packet.{Packet, IsCut}

@@ -6,7 +6,7 @@ use Rattle.two_wire.specs.declared.Bus.TheVariants.{Ipmb, Smbus}
 use Rattle.model_bus.specs.BusState.{ReachesPort, ReachesManager, OtherAsks, opening as opening_bus}
 use Rattle.model_bus.specs.Packet.{packets_of}
 use Rattle.model_bus.specs.PacketBus.{Plain, PacketReachesPort, PacketReachesManager, opening_ends}
-use Rattle.model_undo.specs.Phase.{Undone}
+use Rattle.model_undo.specs.declared.phase.Phase.TheVariants.{Undone}
 use Rattle.model_undo.specs.Machine.{phase_of}
 use Rattle.model_undo.specs.Wires.{Wires}
 use Rattle.model_undo.specs.Line.{Line}

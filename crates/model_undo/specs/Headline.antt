@@ -4,7 +4,8 @@ use Rattle.two_wire.specs.Codes.{success}
 use Rattle.two_wire.specs.declared.Bus.{Bus}
 use Rattle.model_undo.specs.Words.{Answered}
 use Rattle.model_undo.specs.Family.{Family, AllValid}
-use Rattle.model_undo.specs.Phase.{Stop, Halted, Undone}
+use Rattle.model_undo.specs.declared.phase.Why.TheVariants.{Stop}
+use Rattle.model_undo.specs.declared.phase.Phase.TheVariants.{Halted, Undone}
 use Rattle.model_undo.specs.Plan.{Stands, Halts}
 use Rattle.model_undo.specs.Machine.{phase_of}
 use Rattle.model_undo.specs.Wires.{Wires}

@@ -1,5 +1,5 @@
 pub mod Words
-pub mod Phase
+pub mod PhaseNames
 pub mod Family
 pub mod IsFamily
 pub mod Plan
@@ -15,7 +15,6 @@ pub mod TwoBuses
 pub mod Example
 pub mod Clean
 pub mod RecordsRun
-pub mod Numbered
 pub mod Giving
 pub mod Delivery
 pub mod CleanBuses

@@ -1,6 +1,6 @@
 -- A bus as a manager sees it: what can happen on it, and what that does to the manager's requests.
 use Rattle.std.specs.Prelude.{ℕ, Bool, true, false, List, Option, Some, None, slice_get}
-use Rattle.model_bus.specs.Numbering.{Bus as Rules}
+use Rattle.model_bus.specs.Numbering.{Rules}
 use Rattle.model_bus.specs.BusState.{BusState, Frame, Event, Begins, SendsAgain, ReachesPort, ReachesManager, OtherReplies, Resumes, carried_now, taken_now, happens}
 use Rattle.model_bus.specs.Schedule.{IsHonest}
 use Rattle.model_bus.specs.Start.{NothingUnderWay, EmptyWindow, NothingWaits}

@@ -3,7 +3,10 @@ use Rattle.std.specs.Prelude.{◌≡◌, ◌≢◌, ℕ, zero, suc, Bool, true, 
 use Rattle.two_wire.specs.Codes.{success}
 use Rattle.model_undo.specs.Words.{Answered, get_asked, set_asked}
 use Rattle.model_undo.specs.Family.{Family, SetsTo}
-use Rattle.model_undo.specs.Phase.{Why, Stop, Refused, NotRestorable, GetRefused, Phase, Fresh, Getting, Setting, Done, Halted, Unsettled, Undoing, Undone, UndoRefused}
+use Rattle.model_undo.specs.declared.phase.Why.{Why}
+use Rattle.model_undo.specs.declared.phase.Why.TheVariants.{Stop, Refused, NotRestorable, GetRefused}
+use Rattle.model_undo.specs.declared.phase.Phase.{Phase}
+use Rattle.model_undo.specs.declared.phase.Phase.TheVariants.{Fresh, Getting, Setting, Done, Halted, Unsettled, Undoing, Undone, UndoRefused}
 
 -- the records are those at the start with the first steps of the plan done, in order; a plan is a list of operations
 abbrev pub IsAfter : (F : Family) → List F.words.Op → F.Records → ℕ → F.Records → Type 0

@@ -3,7 +3,9 @@ use Rattle.std.specs.Prelude.{◌≡◌, ℕ, ◌%◌, true, List, [], ◌∷◌
 use Rattle.std.specs.Option.{option_map}
 use Rattle.two_wire.specs.declared.Bus.{Bus}
 use Rattle.model_undo.specs.Words.{Answered, Words}
-use Rattle.model_undo.specs.Phase.{Stop, Phase, Done, Halted}
+use Rattle.model_undo.specs.declared.phase.Why.TheVariants.{Stop}
+use Rattle.model_undo.specs.declared.phase.Phase.{Phase}
+use Rattle.model_undo.specs.declared.phase.Phase.TheVariants.{Done, Halted}
 use Rattle.model_undo.specs.Machine.{Counts, Machine, AtHalt, Sending, Turn, open_bus, phase_of, start_of, quiet_of, stop_of, again_of, undo_of, reply_of}
 use Rattle.model_undo.specs.Wires.{number_of}
 

@@ -3,7 +3,9 @@ use Rattle.std.specs.Prelude.{◌≡◌, ℕ, List, [], ◌∷◌, ◌++◌, Opt
 use Rattle.two_wire.specs.Codes.{success, invalid_data_field}
 use Rattle.two_wire.specs.declared.Bus.TheVariants.{Ipmb}
 use Rattle.model_undo.specs.Words.{Words}
-use Rattle.model_undo.specs.Phase.{Phase, Stop, Refused, NotRestorable, Getting, Setting, Done, Halted, Undoing, Undone}
+use Rattle.model_undo.specs.declared.phase.Why.TheVariants.{Stop, Refused, NotRestorable}
+use Rattle.model_undo.specs.declared.phase.Phase.{Phase}
+use Rattle.model_undo.specs.declared.phase.Phase.TheVariants.{Getting, Setting, Done, Halted, Undoing, Undone}
 use Rattle.model_undo.specs.Machine.{Machine, opened}
 use Rattle.model_undo.specs.Resume.{Call, CallStart, CallStop, CallUndo, Replies, NumberedRequest, trace}
 

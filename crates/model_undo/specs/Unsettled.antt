@@ -1,7 +1,7 @@
 -- Whence a request comes to be unsettled: from `quiet` alone, once its frames were sent again as often as is allowed.
 use Rattle.std.specs.Prelude.{◌≡◌, ◌≢◌, ℕ, List, [], ◌∷◌, ◌++◌, Option, Some, None, replicate}
 use Rattle.model_undo.specs.Words.{Words}
-use Rattle.model_undo.specs.Phase.{Unsettled}
+use Rattle.model_undo.specs.declared.phase.Phase.TheVariants.{Unsettled}
 use Rattle.model_undo.specs.Machine.{Machine, Sending, Turn, open_bus, phase_of}
 use Rattle.model_undo.specs.Resume.{Call, CallQuiet, turn_of, after}
 

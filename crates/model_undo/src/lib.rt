@@ -4,4 +4,6 @@
 
 pub mod examples;
 pub mod laws;
-pub mod manager;
+mod phase;
+
+pub use phase::{Phase, Why};

@@ -1,4 +1,5 @@
 //! What runs write and how they end: stories by theme, and calls one by one.
+mod ages;
 mod asked;
 mod calls;
 mod charts;

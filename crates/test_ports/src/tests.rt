@@ -1,7 +1,6 @@
 //! What ports do with requests that come again, on the sample board.
 mod either;
 mod ipmb;
-mod numbers;
 mod smbus;
 mod told_wrong;
 mod window;

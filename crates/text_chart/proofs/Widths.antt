@@ -5,7 +5,7 @@ use Rattle.std.proofs.lemmas.List.{length-append, length-replicate}
 use Rattle.std.proofs.lemmas.List.Elements.{All-cons}
 use Rattle.std.specs.List.{All, enumerate_from}
 use Rattle.std.specs.Fmt.{decimal}
-use Rattle.undo_core.specs.PhaseNames.{phase_name}
+use Rattle.model_undo.specs.PhaseNames.{phase_name}
 use Rattle.lab_run.specs.declared.note.Note.{Note}
 use Rattle.text_chart.specs.Columns.{at_most, in_column}
 use Rattle.text_chart.specs.Chart.{head_line, event_line, chart_lines, call_cell, comes_cell, sends_cell, done_cell}

@@ -11,7 +11,7 @@ use Rattle.text_schedule.specs.declared.event.Event.{Event}
 use Rattle.text_schedule.specs.declared.event.Event.TheVariants as event
 use Rattle.bmc_core.specs.declared.out.Done.{Done}
 use Rattle.bmc_core.specs.declared.out.Done.TheVariants as done
-use Rattle.undo_core.specs.PhaseNames.{phase_name}
+use Rattle.model_undo.specs.PhaseNames.{phase_name}
 use Rattle.text_chart.specs.declared.cells.Side.{Side}
 use Rattle.text_chart.specs.declared.cells.Side.TheVariants.{Manager, Controller}
 use Rattle.lab_run.specs.declared.note.Came.{Came}

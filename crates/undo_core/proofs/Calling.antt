@@ -6,7 +6,8 @@ use Rattle.record_base.specs.declared.op.Op.{Op}
 use Rattle.record_base.specs.declared.message.Asked.{Asked}
 use Rattle.undo_plans.specs.declared.names.Names.{Names}
 use Rattle.model_undo.specs.Machine as machine
-use Rattle.model_lab.specs.ManagerSteps.{board_plans, ManagerState, Call, waits_after, turn_of, called, goes_on, sent_of}
+use Rattle.text_schedule.specs.declared.event.Call.{Call}
+use Rattle.model_lab.specs.ManagerSteps.{board_plans, ManagerState, waits_after, turn_of, called, goes_on, sent_of}
 use Rattle.undo_core.specs.declared.stage.Task.{Task}
 use Rattle.undo_core.specs.declared.stage.Stage.{Stage}
 use Rattle.undo_core.specs.declared.stage.Stage.TheVariants as stage
@@ -15,11 +16,9 @@ use Rattle.undo_core.specs.declared.sending.Sent.{Sent}
 use Rattle.undo_core.specs.declared.manager.Manager.{Manager}
 use Rattle.undo_core.specs.Shown.{words_of, own, IsTask, IsStage, Shows, IsSent, Does, IsCalled}
 use Rattle.undo_core.specs.Counted.{counts_of}
-use Rattle.undo_core.specs.Phases.{phase_of}
-use Rattle.undo_core.specs.declared.phase.Why.{Why}
-use Rattle.undo_core.specs.declared.phase.Phase.{Phase}
-use Rattle.undo_core.specs.declared.phase.Phase.TheVariants as phase
-use Rattle.model_undo.specs.Phase as model
+use Rattle.model_undo.specs.declared.phase.Why.{Why}
+use Rattle.model_undo.specs.declared.phase.Phase.{Phase}
+use Rattle.model_undo.specs.declared.phase.Phase.TheVariants as phase
 
 module _ (names : Names) (plan : List Op) (requests : List Asked) where
   -- which stage of a manager shows a stage of the machine
@@ -191,36 +190,13 @@ again_turn names m of part is = ap (λ (t : machine.Stage (words_of names)). mac
 
 -- ---- stop
 
--- the phases of a plan that runs are the machine's alone
-is_getting : (p : Phase) (k : ℕ) → phase_of p ≡ model.Getting k → p ≡ phase.Getting k
-is_getting phase.Fresh k is = absurd (cc)
-is_getting (phase.Getting j) k is = cc
-is_getting (phase.Setting j) k is = absurd (cc)
-is_getting phase.Done k is = absurd (cc)
-is_getting (phase.Halted j why) k is = absurd (cc)
-is_getting (phase.Unsettled j) k is = absurd (cc)
-is_getting (phase.Undoing j) k is = absurd (cc)
-is_getting phase.Undone k is = absurd (cc)
-is_getting (phase.UndoRefused j code) k is = absurd (cc)
-
-is_setting : (p : Phase) (k : ℕ) → phase_of p ≡ model.Setting k → p ≡ phase.Setting k
-is_setting phase.Fresh k is = absurd (cc)
-is_setting (phase.Getting j) k is = absurd (cc)
-is_setting (phase.Setting j) k is = cc
-is_setting phase.Done k is = absurd (cc)
-is_setting (phase.Halted j why) k is = absurd (cc)
-is_setting (phase.Unsettled j) k is = absurd (cc)
-is_setting (phase.Undoing j) k is = absurd (cc)
-is_setting phase.Undone k is = absurd (cc)
-is_setting (phase.UndoRefused j code) k is = absurd (cc)
-
-pub no_stop : (names : Names) (m : machine.Machine (words_of names)) (p : Phase) → phase_of p ≡ machine.phase_of (words_of names) m → ((k : ℕ) → p ≡ phase.Getting k → ⊥) → ((k : ℕ) → p ≡ phase.Setting k → ⊥)
+pub no_stop : (names : Names) (m : machine.Machine (words_of names)) (p : Phase) → p ≡ machine.phase_of (words_of names) m → ((k : ℕ) → p ≡ phase.Getting k → ⊥) → ((k : ℕ) → p ≡ phase.Setting k → ⊥)
     → machine.stop_of (words_of names) m ≡ None
 no_stop names m p shown no_get no_set = at m.stage shown where
-  at : (t : machine.Stage (words_of names)) → phase_of p ≡ machine.phase_at (words_of names) t → machine.stops (words_of names) t m ≡ None
+  at : (t : machine.Stage (words_of names)) → p ≡ machine.phase_at (words_of names) t → machine.stops (words_of names) t m ≡ None
   at machine.AtStart is = refl
-  at (machine.Opened true (machine.Gets k op) part) is = absurd (no_get k (is_getting p k is))
-  at (machine.Opened true (machine.Sets k op back) part) is = absurd (no_set k (is_setting p k is))
+  at (machine.Opened true (machine.Gets k op) part) is = absurd (no_get k is)
+  at (machine.Opened true (machine.Sets k op back) part) is = absurd (no_set k is)
   at (machine.Opened true (machine.Undoes first rest) part) is = refl
   at (machine.Opened false task part) is = refl
   at machine.AtEnd is = refl
@@ -228,7 +204,7 @@ no_stop names m p shown no_get no_set = at m.stage shown where
   at machine.AtUndone is = refl
   at (machine.AtRefused k code) is = refl
 
-getting_stops : (names : Names) (m : machine.Machine (words_of names)) (k : ℕ) (t : machine.Stage (words_of names)) → machine.phase_at (words_of names) t ≡ model.Getting k
+getting_stops : (names : Names) (m : machine.Machine (words_of names)) (k : ℕ) (t : machine.Stage (words_of names)) → machine.phase_at (words_of names) t ≡ phase.Getting k
     → machine.stops (words_of names) t m ≡ Some (machine.rests (words_of names) (record m { stopped = true }))
 getting_stops names m k machine.AtStart is = absurd (cc)
 getting_stops names m k (machine.Opened true (machine.Gets j op) part) is = refl
@@ -240,7 +216,7 @@ getting_stops names m k (machine.AtHalt j why) is = absurd (cc)
 getting_stops names m k machine.AtUndone is = absurd (cc)
 getting_stops names m k (machine.AtRefused j code) is = absurd (cc)
 
-setting_stops : (names : Names) (m : machine.Machine (words_of names)) (k : ℕ) (t : machine.Stage (words_of names)) → machine.phase_at (words_of names) t ≡ model.Setting k
+setting_stops : (names : Names) (m : machine.Machine (words_of names)) (k : ℕ) (t : machine.Stage (words_of names)) → machine.phase_at (words_of names) t ≡ phase.Setting k
     → machine.stops (words_of names) t m ≡ Some (machine.rests (words_of names) (record m { stopped = true }))
 setting_stops names m k machine.AtStart is = absurd (cc)
 setting_stops names m k (machine.Opened true (machine.Gets j op) part) is = refl
@@ -252,14 +228,14 @@ setting_stops names m k (machine.AtHalt j why) is = absurd (cc)
 setting_stops names m k machine.AtUndone is = absurd (cc)
 setting_stops names m k (machine.AtRefused j code) is = absurd (cc)
 
-pub stop_turn : (names : Names) (m : machine.Machine (words_of names)) (p : Phase) → phase_of p ≡ machine.phase_of (words_of names) m → ((k : ℕ) × (p ≡ phase.Getting k)) ⊎ ((k : ℕ) × (p ≡ phase.Setting k))
+pub stop_turn : (names : Names) (m : machine.Machine (words_of names)) (p : Phase) → p ≡ machine.phase_of (words_of names) m → ((k : ℕ) × (p ≡ phase.Getting k)) ⊎ ((k : ℕ) × (p ≡ phase.Setting k))
     → machine.stop_of (words_of names) m ≡ Some (machine.rests (words_of names) (record m { stopped = true }))
-stop_turn names m p shown (inl w) = getting_stops names m w.0 m.stage (sym shown ∙ ap phase_of w.1)
-stop_turn names m p shown (inr w) = setting_stops names m w.0 m.stage (sym shown ∙ ap phase_of w.1)
+stop_turn names m p shown (inl w) = getting_stops names m w.0 m.stage (sym shown ∙ w.1)
+stop_turn names m p shown (inr w) = setting_stops names m w.0 m.stage (sym shown ∙ w.1)
 
 -- ---- undo
 
-is_halt : (names : Names) (plan : List Op) (requests : List Asked) (r : Stage) (k : ℕ) (why : model.Why) → IsStage names plan requests r (machine.AtHalt k why) → (j : ℕ) × (cause : Why) × (r ≡ stage.AtHalt j cause)
+is_halt : (names : Names) (plan : List Op) (requests : List Asked) (r : Stage) (k : ℕ) (why : Why) → IsStage names plan requests r (machine.AtHalt k why) → (j : ℕ) × (cause : Why) × (r ≡ stage.AtHalt j cause)
 is_halt names plan requests stage.AtStart k why is = absurd is
 is_halt names plan requests (stage.Opened heeded task asked) k why is = absurd is
 is_halt names plan requests stage.AtEnd k why is = absurd is

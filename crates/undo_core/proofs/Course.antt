@@ -29,11 +29,12 @@ use Rattle.model_undo.specs.Resume.{list_of, resumed, IsOver, Call as MachineCal
 use Rattle.model_undo.proofs.Resume.{Rest, with_rest, IsPast, SameNumbers, IsAlike, AreAlike, any_alike, same_phase, over_alike}
 use Rattle.model_undo.proofs.OnBus.{IsOnBus, SendsOnBus, sends_on_bus}
 use Rattle.model_lab.specs.ManagerWords.{bus_of}
-use Rattle.model_lab.specs.Spelled.{numbers_of}
 use Rattle.model_lab.specs.Wires.{bytes_of, answered_from}
 use Rattle.model_lab.specs.Bytes.{response_bytes}
 use Rattle.model_lab.specs.Values.{Value, Asks, Tells, Part, written, IsFrameOn}
-use Rattle.model_lab.specs.ManagerSteps.{Call, Start, Quiet, Stop, Again, Undo, ManagerState, ManagerDeed, board_plans, values_of, called, goes_on, sent_of, rests, is_answer, is_part, heeded_on, open_count, open_bytes, taken_or, tested, hears_reply, hears_response, ends_reply, joins, joins_for, hears_packet, manager_hears}
+use Rattle.text_schedule.specs.declared.event.Call.{Call}
+use Rattle.text_schedule.specs.declared.event.Call.TheVariants.{Start, Quiet, Stop, Again, Undo}
+use Rattle.model_lab.specs.ManagerSteps.{ManagerState, ManagerDeed, board_plans, values_of, called, goes_on, sent_of, rests, is_answer, is_part, heeded_on, open_count, open_bytes, taken_or, tested, hears_reply, hears_response, ends_reply, joins, joins_for, hears_packet, manager_hears}
 use Rattle.undo_core.specs.Shown.{words_of}
 use Rattle.undo_core.specs.Course.{Input, Calls, Hears, HasBytes, Frames, Seen, HearsBytes, or_rests, IsDeed, frames_of, seen_of, Course, resumes, GoesOnOverFrames}
 use Rattle.undo_core.proofs.Exchange.{one_value}
@@ -209,8 +210,8 @@ module _ (names : Names) where
         → AreAlikeDeeds (tested (board_plans names) on reply (record s { joined = joined }) o) (tested (board_plans names) on reply (record other { joined = joined }) o)
     tested_alike on reply joined None = record { states = record { machines = alike_machine; named = refl; joined = refl }; sent = refl }
     tested_alike on reply joined (Some part) =
-        either (answers (numbers_of on) (open_bytes (board_plans names) on s part) reply) (answers (numbers_of on) (open_bytes (board_plans names) on other part) reply) _ _ _ _
-        (ap (λ (n : ℕ). answers (numbers_of on) (bytes_of n part.asked) reply) (numbers on))
+        either (answers on (open_bytes (board_plans names) on s part) reply) (answers on (open_bytes (board_plans names) on other part) reply) _ _ _ _
+        (ap (λ (n : ℕ). answers on (bytes_of n part.asked) reply) (numbers on))
         (by_machine (Replies (answered_from on reply)) joined)
         (record { states = record { machines = alike_machine; named = refl; joined = refl }; sent = refl })
 

@@ -35,7 +35,6 @@ use Rattle.model_undo.specs.Words.{Answered}
 use Rattle.model_undo.specs.Machine as machine
 use Rattle.model_undo.specs.Wires.{number_of}
 use Rattle.model_lab.specs.ManagerWords.{bus_of}
-use Rattle.model_lab.specs.Spelled.{numbers_of}
 use Rattle.model_lab.specs.Wires.{bytes_of, reply_to, answered_from}
 use Rattle.model_lab.specs.Bytes.{response_bytes, response_to}
 use Rattle.model_lab.specs.Values.{Value, Asks, Tells, Part, written, parts_of, IsFrameOn}
@@ -309,7 +308,7 @@ requests_are_heard names count (Pldm from kind command body) setup port before a
 module _ (names : Names) where
   -- the bytes of a reply that passes the test unless it says that the port is busy
   takes : (on : Bus) (m : ManagerState (board_plans names)) (part : machine.Part (words_of names)) (reply : List ℕ) (a : Answered)
-      → heeded_on (board_plans names) on m.machine.stage ≡ Some part → answers (numbers_of on) (open_bytes (board_plans names) on m part) reply ≡ not (is_busy_code a.code)
+      → heeded_on (board_plans names) on m.machine.stage ≡ Some part → answers on (open_bytes (board_plans names) on m part) reply ≡ not (is_busy_code a.code)
       → answered_from on reply ≡ a → hears_reply (board_plans names) on reply m ≡ taken_or (board_plans names) m (machine.reply_of (words_of names) a m.machine)
   takes on m part reply a heeds test says =
       ap (tested (board_plans names) on reply m) heeds
@@ -376,7 +375,7 @@ module _ (names : Names) where
 
 -- the response to a request passes the test
 response_passes : (names : Names) (count from net_fn lun command : ℕ) (body : List ℕ) (a : Answered) → lun < 4
-    → answers (numbers_of Ipmb) (bytes_of (count % 64) (Ipmi from net_fn lun command body)) (response_bytes (response_to (request_on names count net_fn lun command body) a))
+    → answers Ipmb (bytes_of (count % 64) (Ipmi from net_fn lun command body)) (response_bytes (response_to (request_on names count net_fn lun command body) a))
     ≡ not (is_busy_code a.code)
 response_passes names count from net_fn lun command body a below =
     ipmb_by_fields net_fn lun command (count % 64) body (response_to (request_on names count net_fn lun command body) a) below (lit< tt) below from
@@ -384,7 +383,7 @@ response_passes names count from net_fn lun command body a below =
 
 -- and so does the reply on SMBus
 reply_passes : (number from kind command : ℕ) (body : List ℕ) (a : Answered) → number < 32
-    → answers (numbers_of Smbus) (bytes_of number (Pldm from kind command body)) (reply_to Smbus (bytes_of number (Pldm from kind command body)) a) ≡ not (is_busy_code a.code)
+    → answers Smbus (bytes_of number (Pldm from kind command body)) (reply_to Smbus (bytes_of number (Pldm from kind command body)) a) ≡ not (is_busy_code a.code)
 reply_passes number from kind command body a below =
     let clear : ((128 + number) % 32 / 64 == 0) ≡ true = eq-eqb _ _ (let z : (128 + number) % 32 / 64 ≡ 0 = omega (arith, below) in z) in
     let same : ((128 + number) % 32 % 32 == (128 + number) % 32) ≡ true = eq-eqb _ _ (let s : (128 + number) % 32 % 32 ≡ (128 + number) % 32 = omega (arith, below) in s) in
@@ -401,8 +400,8 @@ module _ (names : Names) (count from : ℕ) (a : Answered) (at : machine.Machine
   told_on_ipmb net_fn lun command body can told heeds is counted =
       let asked : Asked = Ipmi from net_fn lun command body in
       let r = response_to (request_on names count net_fn lun command body) a in
-      let test : answers (numbers_of Ipmb) (open_bytes (board_plans names) Ipmb now part) (response_bytes r) ≡ not (is_busy_code a.code) =
-      (λ i. answers (numbers_of Ipmb) (bytes_of (number_of Ipmb (counted i)) (is i)) (response_bytes r)) ∙ response_passes names count from net_fn lun command body a can.2 in
+      let test : answers Ipmb (open_bytes (board_plans names) Ipmb now part) (response_bytes r) ≡ not (is_busy_code a.code) =
+      (λ i. answers Ipmb (bytes_of (number_of Ipmb (counted i)) (is i)) (response_bytes r)) ∙ response_passes names count from net_fn lun command body a can.2 in
       record {
         read = one_read (Tells r) (record {
           header = record {
@@ -447,8 +446,8 @@ module _ (names : Names) (count from : ℕ) (a : Answered) (at : machine.Machine
       && (e.source_eid == names.peer_eid && (not e.tag_owner && e.tag == open_count (board_plans names) Smbus now % 8))) ≡ true) m.envelope ps
       (λ i. (eq-eqb names.own_wire names.own_wire refl i && eq-eqb names.peer_wire names.peer_wire refl i) && (eq-eqb names.peer_eid names.peer_eid refl i && (true && tag i))) cut.enveloped in
       let kept = kept_after_parts names.own_eid joined ps in
-      let test : answers (numbers_of Smbus) (open_bytes (board_plans names) Smbus (with_joined names now kept) part) m.body ≡ not (is_busy_code a.code) =
-      (λ i. answers (numbers_of Smbus) (bytes_of (number_of Smbus (counted i)) (is i)) m.body) ∙ reply_passes (count % 32) from kind command body a (instance_below count) in
+      let test : answers Smbus (open_bytes (board_plans names) Smbus (with_joined names now kept) part) m.body ≡ not (is_busy_code a.code) =
+      (λ i. answers Smbus (bytes_of (number_of Smbus (counted i)) (is i)) m.body) ∙ reply_passes (count % 32) from kind command body a (instance_below count) in
       record {
         read = message_read m env some fits;
         joined = kept;

@@ -19,7 +19,6 @@ use Rattle.mctp_net.specs.Assembly.{Assemblies, drop_cause, after as kept_after,
 use Rattle.undo_plans.specs.declared.names.Names.{Names}
 use Rattle.model_bus.specs.Bytes.{answers, ipmb_answers, pldm_answers, is_busy_code}
 use Rattle.model_lab.specs.ManagerWords.{bus_of}
-use Rattle.model_lab.specs.Spelled.{numbers_of}
 use Rattle.model_lab.specs.Wires.{bytes_of, answered_from}
 use Rattle.model_undo.specs.Words.{Answered, is_busy}
 use Rattle.model_undo.specs.Wires.{number_of}
@@ -117,7 +116,7 @@ heard_response names m s r t asked passes shows was goes test =
     let is : Heeds names Ipmb asked s.machine.stage =
     heeds_stage names m.steps m.undo.requests Ipmb t asked s.machine.stage (subst (λ (x : Stage). IsStage names m.steps m.undo.requests x s.machine.stage) was shows.stage) goes in
     let taken = taken_or P s (machine.reply_of (words_of names) a s.machine) in
-    let tests : answers (numbers_of Ipmb) (bytes_of (number_of Ipmb s.machine.counts.ipmb) is.0.asked) (response_bytes r) ≡ (passes && not (is_busy_code r.code)) =
+    let tests : answers Ipmb (bytes_of (number_of Ipmb s.machine.counts.ipmb) is.0.asked) (response_bytes r) ≡ (passes && not (is_busy_code r.code)) =
     (λ i. ipmb_answers (bytes_of ((shows.counts i).ipmb % 64) (sym is.2 i)) (response_bytes r)) ∙ test in
     ap (λ (o : Option (machine.Part (words_of names))). if is_answer s.names r then tested P Ipmb (response_bytes r) s o else rests P s) is.1
     ∙ (λ i. if is_answer ((shows.is_named ∙ sym shows.named) i) r then (if tests i then taken else rests P s) else rests P s)
@@ -182,7 +181,7 @@ heard_message names m s bytes t asked passes a shows was goes says test =
     let is : Heeds names Smbus asked s.machine.stage =
     heeds_stage names m.steps m.undo.requests Smbus t asked s.machine.stage (subst (λ (x : Stage). IsStage names m.steps m.undo.requests x s.machine.stage) was shows.stage) goes in
     let taken = taken_or P s (machine.reply_of (words_of names) a s.machine) in
-    let tests : answers (numbers_of Smbus) (bytes_of (number_of Smbus s.machine.counts.smbus) is.0.asked) bytes ≡ (passes && not (is_busy_code a.code)) =
+    let tests : answers Smbus (bytes_of (number_of Smbus s.machine.counts.smbus) is.0.asked) bytes ≡ (passes && not (is_busy_code a.code)) =
     (λ i. pldm_answers (bytes_of ((shows.counts i).smbus % 32) (sym is.2 i)) bytes) ∙ test in
     ap (tested P Smbus bytes s) is.1
     ∙ (λ i. if tests i then taken_or P s (machine.reply_of (words_of names) (says i) s.machine) else rests P s)

@@ -3,11 +3,13 @@ use Rattle.std.specs.Prelude.{◌≡◌, ℕ, ◌<◌, List, [], ◌∷◌, All,
 use Rattle.two_wire.specs.declared.Bus.{Bus}
 use Rattle.undo_plans.specs.declared.names.Names.{Names}
 use Rattle.mctp_net.specs.Assembly.{nothing}
-use Rattle.model_undo.specs.Phase.{Phase}
+use Rattle.model_undo.specs.declared.phase.Phase.{Phase}
 use Rattle.model_undo.specs.Machine.{phase_of}
 use Rattle.model_undo.specs.Resume.{list_of, resumed, IsOver}
 use Rattle.model_lab.specs.Values.{Value, written, IsFrameOn}
-use Rattle.model_lab.specs.ManagerSteps.{Call, Undo, Sent, ManagerState, ManagerDeed, board_plans, called, rests, manager_hears}
+use Rattle.text_schedule.specs.declared.event.Call.{Call}
+use Rattle.text_schedule.specs.declared.event.Call.TheVariants.{Undo}
+use Rattle.model_lab.specs.ManagerSteps.{Sent, ManagerState, ManagerDeed, board_plans, called, rests, manager_hears}
 use Rattle.undo_core.specs.Shown.{words_of}
 
 -- what comes to a manager: a call, or bytes over a bus

@@ -20,7 +20,6 @@ use Rattle.model_undo.specs.Words.{Answered}
 use Rattle.model_undo.specs.Machine.{Part as TaskPart, reply_of}
 use Rattle.model_undo.specs.Wires.{number_of}
 use Rattle.model_lab.specs.ManagerWords.{bus_of}
-use Rattle.model_lab.specs.Spelled.{numbers_of}
 use Rattle.model_lab.specs.Wires.{bytes_of, reply_to}
 use Rattle.model_lab.specs.Bytes.{said}
 use Rattle.model_lab.specs.Values.{Value, Tells, Part, written, parts_of, IsFrameOn}
@@ -90,7 +89,7 @@ heard_as names count asked =
 abbrev pub turn_at : BoardFile → PortState → State → Names → ℕ → Asked → Turn
 turn_at setup port before names count asked =
     let r = heard_as names count asked in
-    turn (is_above (circle_of (numbers_of (bus_of asked)))) r (spelled (bus_of asked) r) setup (own names asked) port.log before
+    turn (is_above (circle_of (bus_of asked))) r (spelled (bus_of asked) r) setup (own names asked) port.log before
 
 -- a port hears values, one after another
 abbrev pub hears_each : BoardFile → PortState → State → List Value → Deed

@@ -11,7 +11,8 @@ use Rattle.model_undo.specs.Machine.{reply_of}
 use Rattle.undo_core.specs.declared.phase.WrongPhase.{WrongPhase}
 use Rattle.model_lab.specs.ManagerWords.{from_manager}
 use Rattle.model_lab.specs.Values.{written, IsFrameOn}
-use Rattle.model_lab.specs.ManagerSteps.{addresses, board_plans, Sent as AllSent, Call, ManagerState, ManagerDeed, called, rests, taken_or}
+use Rattle.text_schedule.specs.declared.event.Call.{Call}
+use Rattle.model_lab.specs.ManagerSteps.{addresses, board_plans, Sent as AllSent, ManagerState, ManagerDeed, called, rests, taken_or}
 use Rattle.undo_core.specs.declared.stage.Task.{Task}
 use Rattle.undo_core.specs.declared.stage.Task.TheVariants as task
 use Rattle.undo_core.specs.declared.stage.Stage.{Stage}
@@ -19,7 +20,6 @@ use Rattle.undo_core.specs.declared.stage.Stage.TheVariants as stage
 use Rattle.undo_core.specs.declared.sending.Sent.{Sent}
 use Rattle.undo_core.specs.declared.manager.Manager.{Manager}
 use Rattle.undo_core.specs.Counted.{counts_of}
-use Rattle.undo_core.specs.Phases.{why_of}
 
 -- the words of a manager with these names
 abbrev pub words_of : Names → Words
@@ -46,7 +46,7 @@ IsStage names plan requests stage.AtStart machine.AtStart = Unit {0}
 IsStage names plan requests (stage.Opened heeded task asked) (machine.Opened heeds of part) =
     (heeds ≡ heeded) × IsTask names plan requests task of × (part ≡ machine.first_part (words_of names) of) × (own names asked ≡ part.asked)
 IsStage names plan requests stage.AtEnd machine.AtEnd = Unit {0}
-IsStage names plan requests (stage.AtHalt k why) (machine.AtHalt j cause) = (j ≡ k) × (cause ≡ why_of why)
+IsStage names plan requests (stage.AtHalt k why) (machine.AtHalt j cause) = (j ≡ k) × (cause ≡ why)
 IsStage names plan requests stage.AtUndone machine.AtUndone = Unit {0}
 IsStage names plan requests (stage.AtRefused k code) (machine.AtRefused j number) = (j ≡ k) × (number ≡ code)
 IsStage names plan requests _ _ = ⊥

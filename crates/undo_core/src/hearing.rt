@@ -7,7 +7,7 @@ ghost use Rattle.record_base.specs.declared.message.Asked.{Asked as AnyAsked};
 ghost use Rattle.record_kinds.specs.Limits.{inverse};
 ghost use Rattle.undo_plans.specs.declared.names.Names.{Names};
 ghost use Rattle.undo_plans.specs.Steps.{most_steps};
-ghost use Rattle.model_undo.specs.Phase.{Refused, GetRefused};
+ghost use Rattle.model_undo.specs.declared.phase.Why.TheVariants.{Refused, GetRefused};
 ghost use Rattle.model_undo.specs.Machine as machine;
 ghost use Rattle.undo_core.specs.Shown.{words_of, own, backs, IsTask, IsStage};
 ghost use Rattle.undo_core.specs.Bounds.{task_steps, steps_needed, task_undone, undone_needed, task_backs, most_backs, task_left, replies_left, done_by, with_done};

@@ -12,5 +12,6 @@ mod showing;
 mod stage;
 
 pub use manager::{Manager, OpenFault};
-pub use phase::{Phase, Why, WrongPhase};
+pub use model_undo::{Phase, Why};
+pub use phase::WrongPhase;
 pub use sending::Sent;

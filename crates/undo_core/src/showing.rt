@@ -9,7 +9,6 @@ ghost use Rattle.model_undo.specs.Machine as machine;
 ghost use Rattle.model_lab.specs.ManagerSteps.{ManagerState, board_plans, sent_of};
 ghost use Rattle.model_lab.specs.Faults.{begun_on};
 ghost use Rattle.undo_core.specs.Counted.{counts_of};
-ghost use Rattle.undo_core.specs.Phases.{phase_of};
 ghost use Rattle.undo_core.specs.Shown.{words_of, backs, IsStage, Shows, IsSent};
 ghost use Rattle.undo_core.specs.Bounds.{steps_needed, undone_needed, most_backs, replies_left};
 
@@ -25,7 +24,7 @@ use undo_plans::UndoList;
 impl Manager {
     /// The phase.
     pub fn phase(&self) -> Phase
-        ensures { (names : AnyNames) (s : ManagerState (board_plans names)) → Shows names self.now s → phase_of result ≡ machine.phase_of (words_of names) s.machine }
+        ensures { (names : AnyNames) (s : ManagerState (board_plans names)) → Shows names self.now s → result ≡ machine.phase_of (words_of names) s.machine }
     {
         self.stage.phase()
     }

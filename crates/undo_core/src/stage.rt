@@ -2,12 +2,11 @@
 ghost use Rattle.std.specs.Prelude.{◌≡◌, ◌⊎◌, ℕ, Bool, true, false, List, Option, IfSome, IsSome};
 ghost use Rattle.model_lab.specs.ManagerWords.{bus_of as bus_of_request};
 ghost use Rattle.undo_core.specs.declared.stage.Stage.TheVariants.{Opened as IsOpened, AtEnd as IsAtEnd, AtHalt as IsAtHalt};
-ghost use Rattle.undo_core.specs.declared.phase.Why.{Why as AnyWhy};
+ghost use Rattle.model_undo.specs.declared.phase.Why.{Why as AnyWhy};
 ghost use Rattle.record_base.specs.declared.op.Op.{Op};
 ghost use Rattle.record_base.specs.declared.message.Asked.{Asked as AnyAsked};
 ghost use Rattle.undo_plans.specs.declared.names.Names.{Names};
 ghost use Rattle.model_undo.specs.Machine as machine;
-ghost use Rattle.undo_core.specs.Phases.{phase_of};
 ghost use Rattle.undo_core.specs.Shown.{words_of, IsTask, IsStage};
 ghost use Rattle.undo_core.specs.Bounds.{done_by};
 
@@ -67,7 +66,7 @@ impl Task {
     /// The phase while its request is heeded.
     fn phase(&self) -> Phase
         ensures { (names : Names) (plan : List Op) (requests : List AnyAsked) (of : machine.Task (words_of names)) → IsTask names plan requests self.now of
-            → phase_of result ≡ machine.task_phase (words_of names) of }
+            → result ≡ machine.task_phase (words_of names) of }
     {
         match self {
             Task::Gets(step) => Phase::Getting(*step),
@@ -81,7 +80,7 @@ impl Stage {
     /// The phase.
     pub fn phase(&self) -> Phase
         ensures { (names : Names) (plan : List Op) (requests : List AnyAsked) (at : machine.Stage (words_of names)) → IsStage names plan requests self.now at
-            → phase_of result ≡ machine.phase_at (words_of names) at }
+            → result ≡ machine.phase_at (words_of names) at }
     {
         match self {
             Stage::AtStart => Phase::Fresh,

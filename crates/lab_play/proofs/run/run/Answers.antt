@@ -3,7 +3,7 @@ use Rattle.std.proofs.lemmas.List.{take_more, take_all, length-take, take-append
 use Rattle.text_schedule.specs.declared.event.Event.{Event}
 use Rattle.lab_play.specs.Runs.{Take}
 use Rattle.lab_play.specs.Watched.{WatchesAll}
-use Rattle.lab_play.proofs.Running.{takes_one_more, halts_at}
+use Rattle.lab_play.proofs.Running.{takes_one_more, stops_at}
 use Rattle.lab_play.proofs.Watching.{watches_more, watches_none, watches_before}
 use Rattle.lab_play.proofs.run.run.Goals as goal
 
@@ -14,11 +14,12 @@ returns-in-Err-clause-runs c =
     let event = c.index-events-place.result in
     let within = c.loop-place-test.true in
     let long = length-take place events in
-    halts_at events place event c.args.lab.now c.loop-place.lab c.step_watched.new.lab c.in-Err.why
+    stops_at events place event c.args.lab.now c.loop-place.lab c.step_watched.new.lab c.in-Err.why c.stopped_at.result
     (sym (take-append-drop place events) ∙ ap (λ (es : List Event). take place events ++ es) (drop_more events place event within ∙ ap (λ (e : Event). e ∷ drop (place + 1) events) (sym c.index-events-place.is)))
     (omega (arith, long, within))
     c.loop-place.invariant.0
     c.in-Err.ensures.steps
+    c.stopped_at.ensures
 
 pub loop-place-preserved : goal.loop-place-preserved
 loop-place-preserved c =
@@ -41,7 +42,7 @@ returns-clause-runs c =
 
 pub returns-in-Err-clause-watched : goal.returns-in-Err-clause-watched
 returns-in-Err-clause-watched c =
-    watches_before c.args.events.now c.args.lab.now c.index-events-place.result c.loop-place.place c.loop-place.lab c.args.watch.now c.loop-place.watch c.step_watched.new.watch c.in-Err.why c.loop-place.invariant.2 c.in-Err.ensures.watched
+    watches_before c.args.events.now c.args.lab.now c.index-events-place.result c.loop-place.place c.loop-place.lab c.args.watch.now c.loop-place.watch c.step_watched.new.watch c.in-Err.why c.stopped_at.result c.loop-place.invariant.2 c.in-Err.ensures.watched c.stopped_at.ensures
 
 pub returns-clause-watched : goal.returns-clause-watched
 returns-clause-watched c =

@@ -9,10 +9,10 @@ use Rattle.model_lab.proofs.examples.two_steps_are_played.Goals as goal
 
 pub returns : goal.returns
 unfolding run
-returns c bench =
+returns c =
     let first = opening plans board_file lab_names two_steps 3 in
     record {
-      told = told_of bench board_file first (after bench board_file two_and_back first);
+      told = told_of board_file first (after board_file two_and_back first);
       played = (two_steps_undone.taken, refl);
       undone = two_steps_undone.undone;
       frames = two_steps_undone.frames;

@@ -5,4 +5,4 @@ use Rattle.model_lab.proofs.Endings.{one_end}
 use Rattle.model_lab.proofs.laws.one_ending.Goals as goal
 
 pub returns : goal.returns
-returns c bench file steps retries events ending other is was = one_end bench file (opening plans file lab_names steps retries) events ending other is was
+returns c file steps retries events ending other is was = one_end file (opening plans file lab_names steps retries) events ending other is was

@@ -1,6 +1,6 @@
 use Rattle.std.proofs.Common.{◌≡◌, ◌++◌, ◌+◌, ℕ, List, take, string_bytes, codes, ap, ◌∙◌}
 use Rattle.std.specs.Fmt.{decimal}
-use Rattle.undo_core.specs.PhaseNames.{phase_name}
+use Rattle.model_undo.specs.PhaseNames.{phase_name}
 use Rattle.text_chart.specs.Columns.{at_most, in_column}
 use Rattle.text_chart.specs.Chart.{call_cell, comes_cell, sends_cell, done_cell}
 use Rattle.text_chart.proofs.Lines.{line_added}

@@ -5,7 +5,7 @@ use Rattle.text_schedule.specs.declared.event.Event.{Event}
 use Rattle.model_lab.specs.Faults.{is_frame}
 use Rattle.model_lab.specs.Played.{fault_at, happens}
 use Rattle.lab_run.specs.declared.lab_state.Lab.{Lab}
-use Rattle.lab_run.specs.Shown.{Becomes, own_bench}
+use Rattle.lab_run.specs.Shown.{Becomes}
 use Rattle.lab_run.specs.Hearing.{Ignores, Did}
 use Rattle.lab_run.proofs.Sent.{on_ok, on_any}
 use Rattle.lab_run.proofs.Silence.{is_no_frame}
@@ -13,7 +13,7 @@ use Rattle.lab_run.proofs.lab_state.Lab.happen.Goals as goal
 
 -- the lab becomes what it is after an event
 abbrev After : Lab → Lab → Event → Type 0
-After old new e = Becomes old new (λ file. happens (own_bench file) file e)
+After old new e = Becomes old new (λ file. happens file e)
 
 pub returns-in-Calls-clause-becomes : goal.returns-in-Calls-clause-becomes
 unfolding step
@@ -44,7 +44,7 @@ returns-in-Noise-clause-becomes c =
     let is = c.as_slice.ensures.value in
     subst (λ (e : Event). OnOk c.noise.result (After c.args.self.now c.noise.new.self e)) (sym c.in-Noise.is)
     (on_ok c.noise.result c.noise.ensures.stays (λ stays file x shows. stays file x shows
-    (ap (is_frame c.in-Noise.on) is ∙ is_no_frame c.in-Noise.on c.in-Noise.bytes x (ap (fault_at (own_bench file) file x) (sym c.in-Noise.is) ∙ c.requires.taken file x shows))))
+    (ap (is_frame c.in-Noise.on) is ∙ is_no_frame c.in-Noise.on c.in-Noise.bytes x (ap (fault_at file x) (sym c.in-Noise.is) ∙ c.requires.taken file x shows))))
 
 pub returns-in-Idle-clause-becomes : goal.returns-in-Idle-clause-becomes
 unfolding step
@@ -80,7 +80,7 @@ returns-in-Noise-clause-done c =
     let is = c.as_slice.ensures.value in
     subst (λ (e : Event). OnOk c.noise.result (Did e c.args.self.now c.noise.new.self)) (sym c.in-Noise.is)
     (on_ok c.noise.result c.noise.ensures.ignored (λ ignored file x shows. subst (λ (bytes : List ℕ). Ignores c.in-Noise.on bytes c.noise.new.self.out.done) is (ignored file x shows
-    (ap (is_frame c.in-Noise.on) is ∙ is_no_frame c.in-Noise.on c.in-Noise.bytes x (ap (fault_at (own_bench file) file x) (sym c.in-Noise.is) ∙ c.requires.taken file x shows)))))
+    (ap (is_frame c.in-Noise.on) is ∙ is_no_frame c.in-Noise.on c.in-Noise.bytes x (ap (fault_at file x) (sym c.in-Noise.is) ∙ c.requires.taken file x shows)))))
 
 pub returns-in-Idle-clause-done : goal.returns-in-Idle-clause-done
 returns-in-Idle-clause-done c = subst (λ (e : Event). Did e c.args.self.now c.idle.new.self) (sym c.in-Idle.is) tt

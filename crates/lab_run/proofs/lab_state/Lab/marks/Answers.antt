@@ -1,7 +1,7 @@
 use Rattle.std.proofs.Common.{sym}
 use Rattle.two_wire.specs.declared.Bus.{Bus}
 use Rattle.two_wire.specs.declared.Bus.TheVariants as bus
-use Rattle.model_lab.specs.Marks.{IsKnown}
+use Rattle.lab_run.specs.Marks.{IsKnown}
 use Rattle.model_lab.specs.Meaning.{lab_names}
 use Rattle.model_lab.specs.Played.{plans}
 use Rattle.lab_run.specs.FramesShown.{marks_on}

@@ -2,7 +2,8 @@ use Rattle.std.proofs.Common.{◌≡◌, map, take}
 use Rattle.two_wire.specs.declared.Bus.TheVariants as bus
 use Rattle.cfg_records.specs.declared.board_file.BoardFile.{BoardFile}
 use Rattle.model_lab.specs.Values.{Part, parts_of}
-use Rattle.model_lab.specs.Lab.{Lab as LabModel, ToOthers, port_does}
+use Rattle.model_lab.specs.declared.way.Way.TheVariants.{ToOthers}
+use Rattle.model_lab.specs.Lab.{Lab as LabModel, port_does}
 use Rattle.model_lab.specs.Meaning.{lab_names, message_of}
 use Rattle.model_lab.specs.Played.{plans}
 use Rattle.lab_run.specs.Shown.{Shows}

@@ -1,9 +1,9 @@
 use Rattle.std.proofs.Common.{rules, ◌≡◌, ◌++◌, List, ℕ, map, Option, None, sym, ◌∙◌, ap, subst}
 use Rattle.undo_core.specs.declared.sending.Sent.{Sent}
 use Rattle.undo_core.specs.Shown.{IsSent}
-use Rattle.model_lab.specs.declared.marks.Mark.{Mark}
+use Rattle.lab_run.specs.declared.marks.Mark.{Mark}
 use Rattle.model_lab.specs.Lab.{sends}
-use Rattle.lab_run.specs.declared.frames.Way.TheVariants as way
+use Rattle.model_lab.specs.declared.way.Way.TheVariants as way
 use Rattle.lab_run.specs.declared.frames.SentFrame.{SentFrame}
 use Rattle.lab_run.specs.FramesShown.{sent_as}
 use Rattle.model_lab.specs.Played.{plans}

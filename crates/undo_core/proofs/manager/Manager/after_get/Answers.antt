@@ -2,7 +2,7 @@ use Rattle.std.proofs.Common.{rules, ◌≡◌, ◌==◌, Some, if◌then◌else
 use Rattle.two_wire.specs.Codes.{success}
 use Rattle.record_base.specs.declared.op.Op.{Op}
 use Rattle.record_kinds.specs.Limits.{inverse}
-use Rattle.model_undo.specs.Phase.{GetRefused}
+use Rattle.model_undo.specs.declared.phase.Why.TheVariants.{GetRefused}
 use Rattle.model_undo.specs.Machine as machine
 use Rattle.undo_core.specs.Shown.{words_of, IsStage}
 use Rattle.undo_core.proofs.Backs.{same_read}

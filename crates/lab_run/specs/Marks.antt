@@ -4,11 +4,12 @@ use Rattle.two_wire.specs.declared.Bus.{Bus}
 use Rattle.cfg_records.specs.declared.board_file.BoardFile.{BoardFile}
 use Rattle.model_undo.specs.Machine.{open_bus}
 use Rattle.undo_plans.specs.declared.names.Names.{Names}
-use Rattle.model_lab.specs.declared.marks.Mark.{Mark}
-use Rattle.model_lab.specs.declared.marks.Known.{Known}
+use Rattle.lab_run.specs.declared.marks.Mark.{Mark}
+use Rattle.lab_run.specs.declared.marks.Known.{Known}
 use Rattle.model_lab.specs.ManagerSteps.{Plans}
 use Rattle.model_lab.specs.Lab.{LabFrame, ToBmc, Idles, Lab, idles_on, step}
-use Rattle.model_lab.specs.Faults.{StillOpen, begun_on, is_live, fault_of}
+use Rattle.model_lab.specs.declared.fault.Fault.TheVariants.{StillOpen}
+use Rattle.model_lab.specs.Faults.{begun_on, is_live, fault_of}
 
 -- the frame has the mark
 pub record HasMark (f : LabFrame) (mark : Mark) : Type 0 where

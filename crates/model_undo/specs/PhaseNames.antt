@@ -1,10 +1,10 @@
 -- What phases and the reasons of a halt are called.
 use Rattle.std.specs.Prelude.{ℕ, true, ◌/◌, ◌%◌, List, ◌++◌, codes}
 use Rattle.std.specs.Fmt.{decimal, digits}
-use Rattle.undo_core.specs.declared.phase.Why.{Why}
-use Rattle.undo_core.specs.declared.phase.Why.TheVariants as why
-use Rattle.undo_core.specs.declared.phase.Phase.{Phase}
-use Rattle.undo_core.specs.declared.phase.Phase.TheVariants as phase
+use Rattle.model_undo.specs.declared.phase.Why.{Why}
+use Rattle.model_undo.specs.declared.phase.Why.TheVariants as why
+use Rattle.model_undo.specs.declared.phase.Phase.{Phase}
+use Rattle.model_undo.specs.declared.phase.Phase.TheVariants as phase
 
 -- a byte in two hexadecimal digits, in upper case
 abbrev pub two_digits : ℕ → List ℕ

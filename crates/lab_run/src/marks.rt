@@ -1,12 +1,11 @@
-//! How old the frames of a lab are, and which window may be forgotten: a plain program over what tells it.
+//! How old the frames of a lab are, and which window may be forgotten.
 
 ghost use Rattle.std.specs.Prelude.{◌≡◌};
 ghost use Rattle.model_bus.specs.Circle.{span_of};
 ghost use Rattle.cfg_records.specs.declared.board_file.BoardFile.{BoardFile};
-ghost use Rattle.model_lab.specs.Spelled.{numbers_of};
 ghost use Rattle.undo_plans.specs.declared.names.Names.{Names as NamesValue};
 ghost use Rattle.model_lab.specs.ManagerSteps.{board_plans};
-ghost use Rattle.model_lab.specs.Marks.{TellsLive, MarksReplies, TellsOpen};
+ghost use Rattle.lab_run.specs.Marks.{TellsLive, MarksReplies, TellsOpen};
 
 use two_wire::Bus;
 use undo_plans::Names;
@@ -32,7 +31,7 @@ pub struct Known {
 
 /// How many newer requests, once begun, make a frame too old.
 fn span(on: Bus) -> usize
-    ensures { result ≡ span_of (numbers_of on) }
+    ensures { result ≡ span_of on }
 {
     match on {
         Bus::Ipmb => 32,

@@ -1,7 +1,7 @@
 -- What faults are called.
 use Rattle.std.specs.Prelude.{ℕ, List, codes}
-use Rattle.lab_run.specs.declared.fault.Fault.{Fault}
-use Rattle.lab_run.specs.declared.fault.Fault.TheVariants as fault
+use Rattle.model_lab.specs.declared.fault.Fault.{Fault}
+use Rattle.model_lab.specs.declared.fault.Fault.TheVariants as fault
 
 -- each by its name
 abbrev pub fault_name : Fault → List ℕ
