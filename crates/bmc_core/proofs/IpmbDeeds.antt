@@ -9,10 +9,10 @@ use Rattle.model_bus.specs.Numbering.{is_above}
 use Rattle.model_bus.specs.Carried.{Outcome, Repeats, IsBusy, IsNew, log_after, reply_after}
 use Rattle.bmc_board.specs.State.{State}
 use Rattle.bmc_board.specs.Answer.{answer_of}
-use Rattle.model_lab.specs.Bytes.{heard_in}
-use Rattle.model_lab.specs.PortSteps.{PortState, Deed, Turn, spelled, asked_in, response_after, hears_request}
-use Rattle.model_lab.specs.Values.{Value, written}
-use Rattle.model_lab.proofs.Stepping.{turns_by}
+use Rattle.model_ports.specs.Bytes.{heard_in}
+use Rattle.model_ports.specs.PortSteps.{PortState, Deed, Turn, spelled, asked_in, response_after, hears_request}
+use Rattle.model_ports.specs.Values.{Value, written}
+use Rattle.model_ports.proofs.Turning.{turns_by}
 use Rattle.bmc_core.specs.declared.out.Out.{Out}
 use Rattle.bmc_core.specs.declared.ipmb_port.IpmbPort.{IpmbPort}
 use Rattle.bmc_core.specs.Outs.{sends, done_by, AreRead}

@@ -9,14 +9,14 @@ use Rattle.ipmb_frame.specs.declared.message.Request.{Request}
 use Rattle.ipmb_frame.specs.declared.message.Response.{Response}
 use Rattle.ipmb_frame.specs.Grammar.{packed, request_bytes, request_head, request_tail, response_connection, response_lead, response_head, response_tail, frame, IsRequest, IsResponse}
 use Rattle.record_base.specs.declared.message.Answered.{Answered}
-use Rattle.model_lab.specs.Bytes.{heard_in}
+use Rattle.model_ports.specs.Bytes.{heard_in}
 use Rattle.model_bus.specs.Request.{Request as Asking, Kept, Entry, Carried}
 use Rattle.model_bus.specs.Numbering.{is_above}
 use Rattle.model_bus.specs.Carried.{IsNew, outcome}
 use Rattle.bmc_windows.specs.declared.request.Request.{Request as Heard}
 use Rattle.bmc_windows.specs.Keeps.{Reading, Keeps}
 use Rattle.bmc_windows.specs.Heard.{request_of, kept_of as kept_as}
-use Rattle.model_lab.specs.PortSteps.{PortState}
+use Rattle.model_ports.specs.PortSteps.{PortState}
 use Rattle.bmc_core.specs.declared.ipmb_port.IpmbPort.{IpmbPort}
 use Rattle.bmc_core.specs.IpmbShown.{reading, whole, response, response_giving, kept_of, outcome_at, carries, IsFresh, Shows}
 

@@ -21,9 +21,9 @@ use Rattle.model_bus.specs.Carried.{Outcome, Repeats, IsBusy, IsNew}
 use Rattle.model_bus.specs.Request.{Kept, Carried}
 use Rattle.bmc_board.specs.State.{State}
 use Rattle.bmc_board.specs.Answer.{answer_of}
-use Rattle.model_lab.specs.Bytes.{said}
-use Rattle.model_lab.specs.Values.{Value, Part}
-use Rattle.model_lab.specs.PortSteps.{PortState, Deed, stays, left_by, turn, hears_control, hears_pldm, hears_typed, hears_message, hears_part, ends_message, hears}
+use Rattle.model_ports.specs.Bytes.{said}
+use Rattle.model_ports.specs.Values.{Value, Part}
+use Rattle.model_ports.specs.PortSteps.{PortState, Deed, stays, left_by, turn, hears_control, hears_pldm, hears_typed, hears_message, hears_part, ends_message, hears}
 use Rattle.bmc_core.specs.declared.out.Out.{Out}
 use Rattle.bmc_core.specs.declared.out.Done.TheVariants as done
 use Rattle.bmc_core.specs.declared.out.Reason.TheVariants as reason

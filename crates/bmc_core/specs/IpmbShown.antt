@@ -15,9 +15,9 @@ use Rattle.bmc_board.specs.State.{State}
 use Rattle.bmc_windows.specs.Keeps.{Reading, Held, Keeps}
 use Rattle.bmc_windows.specs.declared.request.Request.{Request as Heard}
 use Rattle.bmc_windows.specs.Heard.{request_of}
-use Rattle.model_lab.specs.Bytes.{heard_in}
-use Rattle.model_lab.specs.Values.{Value, Tells, written}
-use Rattle.model_lab.specs.PortSteps.{PortState, Deed, stays, spelled, response_after, hears_request}
+use Rattle.model_ports.specs.Bytes.{heard_in}
+use Rattle.model_ports.specs.Values.{Value, Tells, written}
+use Rattle.model_ports.specs.PortSteps.{PortState, Deed, stays, spelled, response_after, hears_request}
 use Rattle.bmc_core.specs.declared.out.Out.{Out}
 use Rattle.bmc_core.specs.declared.out.Reason.{Reason}
 use Rattle.bmc_core.specs.declared.out.Done.{Done}

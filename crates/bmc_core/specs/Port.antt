@@ -7,7 +7,7 @@ use Rattle.record_base.specs.declared.message.Asked.{Asked}
 use Rattle.record_base.specs.declared.message.Answered.{Answered}
 use Rattle.bmc_board.specs.State.{State}
 use Rattle.bmc_board.specs.Answer.{answer_of}
-use Rattle.model_lab.specs.PortSteps.{PortState, asked_in}
+use Rattle.model_ports.specs.PortSteps.{PortState, asked_in}
 use Rattle.bmc_core.specs.declared.out.Out.{Out}
 use Rattle.bmc_core.specs.declared.step.Step.{Step}
 use Rattle.bmc_core.specs.declared.step.Step.TheVariants.{Ask, Done}

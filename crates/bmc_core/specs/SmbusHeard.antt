@@ -16,9 +16,9 @@ use Rattle.model_bus.specs.Circle.{instances}
 use Rattle.model_bus.specs.Request.{Request as Asking, Kept}
 use Rattle.model_bus.specs.Numbering.{is_above}
 use Rattle.model_bus.specs.Carried.{Outcome, Repeats, IsBusy, IsNew, outcome, log_after, reply_after}
-use Rattle.model_lab.specs.Bytes.{pldm_heard_in, said}
-use Rattle.model_lab.specs.Values.{Value, Part, parts_of}
-use Rattle.model_lab.specs.PortSteps.{PortState, reply_envelope, spelled, pldm_asked}
+use Rattle.model_ports.specs.Bytes.{pldm_heard_in, said}
+use Rattle.model_ports.specs.Values.{Value, Part, parts_of}
+use Rattle.model_ports.specs.PortSteps.{PortState, reply_envelope, spelled, pldm_asked}
 use Rattle.bmc_core.specs.declared.out.Done.{Done}
 use Rattle.bmc_core.specs.declared.out.Done.TheVariants as done
 use Rattle.bmc_core.specs.declared.out.Reason.{Reason}

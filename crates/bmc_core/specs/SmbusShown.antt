@@ -14,8 +14,8 @@ use Rattle.model_bus.specs.Request.{Entry, Carried, Idled}
 use Rattle.model_bus.specs.Carried.{Outcome, Repeats, IsBusy, IsNew}
 use Rattle.bmc_windows.specs.Keeps.{Reading, Held, Keeps}
 use Rattle.bmc_board.specs.State.{State}
-use Rattle.model_lab.specs.Values.{Value, Part, written}
-use Rattle.model_lab.specs.PortSteps.{PortState, Deed, stays, hears, quiet_port}
+use Rattle.model_ports.specs.Values.{Value, Part, written}
+use Rattle.model_ports.specs.PortSteps.{PortState, Deed, stays, hears, quiet_port}
 use Rattle.bmc_core.specs.declared.out.Out.{Out}
 use Rattle.bmc_core.specs.declared.out.Done.{Done}
 use Rattle.bmc_core.specs.declared.out.Done.TheVariants as done

@@ -3,7 +3,7 @@ ghost use Rattle.std.specs.Prelude.{◌≡◌, ◌==◌, IfOk};
 ghost use Rattle.std.specs.List.{list_any};
 ghost use Rattle.model_bus.specs.Carried.{requesters};
 ghost use Rattle.bmc_board.specs.State.{state_of};
-ghost use Rattle.model_lab.specs.PortSteps.{PortState, quiet_port, idles};
+ghost use Rattle.model_ports.specs.PortSteps.{PortState, quiet_port, idles};
 ghost use Rattle.bmc_core.specs.SmbusShown.{Shows, Hearing, IsStep, Ends, HearsBytes, request_in};
 ghost use Rattle.bmc_core.specs.SmbusHeard.{Asks};
 

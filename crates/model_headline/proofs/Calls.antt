@@ -15,7 +15,7 @@ use Rattle.model_undo.specs.Joined.{IsClosed, AreOpen}
 use Rattle.model_undo.specs.Giving.{Giving, given_at}
 use Rattle.model_undo.specs.World as world
 use Rattle.model_undo.specs.World.{States, World, Happening, Start, Quiet, Stop, Again, Undo, OnBus, update}
-use Rattle.model_lab.specs.ManagerWords.{bus_of}
+use Rattle.model_ports.specs.Wires.{bus_of, numbers_of}
 use Rattle.undo_plans.specs.declared.names.Names.{Names}
 use Rattle.model_lab.specs.ManagerSteps.{goes_on, Call, called}
 use Rattle.model_lab.specs.ManagerSteps as manager
@@ -26,7 +26,6 @@ use Rattle.model_headline.proofs.Made.{starts_made, undo_made}
 use Rattle.model_bus.specs.BusState.{BusState}
 use Rattle.model_bus.specs.Answering.{AreWritten}
 use Rattle.model_bus.proofs.Lists.{Grows}
-use Rattle.model_lab.specs.Spelled.{numbers_of}
 use Rattle.model_headline.specs.Each.{Each}
 use Rattle.model_headline.proofs.Frames.{all_held}
 use Rattle.model_headline.specs.Follows.{Holds}

@@ -10,9 +10,9 @@ use Rattle.cfg_records.specs.declared.board_file.BoardFile.{BoardFile}
 use Rattle.model_bus.specs.Request.{idles_of}
 use Rattle.model_bus.specs.Circle.{span_of}
 use Rattle.model_undo.specs.Machine.{Stage, AtStart, Opened, AtEnd, AtHalt, AtUndone, AtRefused, Machine, bus_at, enters, count_of}
-use Rattle.model_lab.specs.Spelled.{numbers_of}
-use Rattle.model_lab.specs.Values.{Value}
-use Rattle.model_lab.specs.PortSteps.{hears}
+use Rattle.model_ports.specs.Wires.{numbers_of}
+use Rattle.model_ports.specs.Values.{Value}
+use Rattle.model_ports.specs.PortSteps.{hears}
 use Rattle.model_lab.specs.ManagerSteps.{own_on, Plans, ManagerState, ManagerDeed, Sent, goes_on, manager_hears}
 use Rattle.model_lab.specs.Lab.{Way, ToPort, ToManager, ToOthers, LabFrame, Event, ToBmc, ToMgr, Lab, idles_on, port_on, frame_now, port_does, delivered, returned, manager_does, step, run}
 use Rattle.model_lab.specs.Faults.{Fault, Aged, Room, begun_on, is_open_bus, is_live, is_full, delivery, first_of, fault_of, AllTaken}

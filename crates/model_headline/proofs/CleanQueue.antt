@@ -7,8 +7,8 @@ use Rattle.two_wire.specs.declared.Bus.TheVariants.{Ipmb, Smbus}
 use Rattle.cfg_records.specs.declared.board_file.BoardFile.{BoardFile}
 use Rattle.mctp_net.specs.Assembly.{is_ours}
 use Rattle.bmc_board.specs.State.{State}
-use Rattle.model_lab.specs.Values.{Value, Asks, Tells, Part}
-use Rattle.model_lab.specs.PortSteps.{PortState, Deed, hears}
+use Rattle.model_ports.specs.Values.{Value, Asks, Tells, Part}
+use Rattle.model_ports.specs.PortSteps.{PortState, Deed, hears}
 use Rattle.model_lab.specs.ManagerSteps.{Plans, ManagerState, ManagerDeed, Sent, manager_hears}
 use Rattle.model_lab.specs.Lab.{Way, ToPort, ToManager, ToOthers, LabFrame, Event, ToBmc, ToMgr, Lab, frame_now, opens, port_does, delivered, returned, manager_does, step, run}
 use Rattle.model_lab.specs.Clean.{delivery_in, DeliversFrom}

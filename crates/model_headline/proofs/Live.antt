@@ -20,7 +20,7 @@ use Rattle.model_undo.specs.World.{States}
 use Rattle.model_undo.proofs.Buses.{cases_bus}
 use Rattle.model_undo.proofs.TwoBuses.{packet_lines}
 use Rattle.model_undo.proofs.LineLaws.{AllHold, whole_is_line, packets_are_line}
-use Rattle.model_lab.specs.Spelled.{numbers_of}
+use Rattle.model_ports.specs.Wires.{numbers_of}
 use Rattle.undo_plans.specs.declared.names.Names.{Names}
 use Rattle.model_lab.specs.Lab.{LabFrame, Lab, idles_on}
 use Rattle.model_lab.specs.Faults.{is_open_bus, begun_on}

@@ -17,9 +17,9 @@ use Rattle.model_bus.proofs.Lists.{Grows}
 use Rattle.model_undo.specs.Machine.{Stage, AtStart, Opened, AtEnd, AtHalt, AtUndone, AtRefused, open_bus_at, open_bus, count_of}
 use Rattle.model_undo.specs.Joined.{IsClosed, AreOpen}
 use Rattle.model_undo.specs.World.{States, OnBus, OnBench, update}
-use Rattle.model_lab.specs.Spelled.{numbers_of}
+use Rattle.model_ports.specs.Wires.{numbers_of}
 use Rattle.undo_plans.specs.declared.names.Names.{Names}
-use Rattle.model_lab.specs.PortSteps.{idles}
+use Rattle.model_ports.specs.PortSteps.{idles}
 use Rattle.model_lab.specs.ManagerSteps.{own_on}
 use Rattle.model_lab.specs.Lab.{Lab, with_port, port_on}
 use Rattle.model_headline.specs.Each.{Each}

@@ -17,7 +17,8 @@ use Rattle.model_bus.specs.Packet.{packets_of}
 use Rattle.model_bus.specs.PacketBus.{opening_ends}
 use Rattle.model_bus.specs.Answering.{AreWritten}
 use Rattle.model_bus.proofs.Cutting.{packets_cut}
-use Rattle.model_undo.specs.Words.{Answered, get_asked, set_asked}
+use Rattle.model_bus.specs.Answered.{Answered}
+use Rattle.model_undo.specs.Words.{get_asked, set_asked}
 use Rattle.model_undo.specs.Phase.{Stop, Refused, NotRestorable, GetRefused, Phase, Fresh, Getting, Setting, Done, Halted, Unsettled, Undoing, Undone, UndoRefused}
 use Rattle.model_undo.specs.Plan.{IsAfter, Halts}
 use Rattle.model_undo.specs.Giving.{Giving, given_in, GaveIn as Gave, CausedIn}
@@ -29,7 +30,7 @@ use Rattle.model_undo.specs.Headline.{IsStart, ShowsSame}
 use Rattle.model_undo.proofs.World.{run_holds}
 use Rattle.model_undo.proofs.Headline.{opening_holds, stands_at, halts_at, undone_for_good}
 use Rattle.model_undo.proofs.TwoBuses.{packet_lines}
-use Rattle.model_lab.specs.Spelled.{numbers_of}
+use Rattle.model_ports.specs.Wires.{numbers_of}
 use Rattle.model_family.proofs.IsFamily.{is_family}
 use Rattle.model_family.proofs.Board.{starts_valid}
 use Rattle.undo_plans.specs.declared.names.Names.{Names}

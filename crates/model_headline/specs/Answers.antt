@@ -6,12 +6,13 @@ use Rattle.record_base.specs.declared.message.Asked.{Asked}
 use Rattle.record_base.specs.declared.op.Op.{Op}
 use Rattle.cfg_records.specs.declared.board_file.BoardFile.{BoardFile}
 use Rattle.model_bus.specs.Request.{Kept, Carried}
-use Rattle.model_undo.specs.Words.{Answered, get_asked, set_asked}
+use Rattle.model_bus.specs.Answered.{Answered}
+use Rattle.model_undo.specs.Words.{get_asked, set_asked}
 use Rattle.model_undo.specs.Phase.{Stop, Refused, NotRestorable, GetRefused, Phase, Halted}
 use Rattle.model_undo.specs.Family.{Family}
 use Rattle.model_family.specs.Family.{family}
 use Rattle.undo_plans.specs.declared.names.Names.{Names}
-use Rattle.model_lab.specs.Wires.{asked_from, reply_to}
+use Rattle.model_ports.specs.Wires.{asked_from, reply_to}
 use Rattle.model_lab.specs.ManagerSteps.{own_on, addresses, board_plans}
 use Rattle.model_lab.specs.Lab.{Lab, port_on}
 

@@ -27,7 +27,7 @@ use Rattle.record_base.specs.Sensor.Thresholds.{IsThresholds, is_clear, is_in_or
 use Rattle.record_base.specs.ThresholdLaws.{tests_pass}
 use Rattle.model_undo.specs.Phase.{Phase, Done, Undone, Unsettled}
 use Rattle.model_undo.specs.Machine.{phase_of}
-use Rattle.model_lab.specs.Values.{written}
+use Rattle.model_ports.specs.Values.{written}
 use Rattle.undo_plans.specs.declared.names.Names.{Names}
 use Rattle.model_lab.specs.ManagerSteps.{Plans, board_plans, Start, Quiet, Again, Undo}
 use Rattle.model_lab.specs.Lab.{LabFrame, Event, Calls, ToBmc, ToMgr, OtherIpmb, Noise, Idles, Lab, run, opening}

@@ -10,8 +10,8 @@ use Rattle.model_bus.specs.Request.{idles_of}
 use Rattle.bmc_board.specs.declared.activity.Activity.{Activity}
 use Rattle.bmc_board.specs.State.{State, state, opened as opened_board}
 use Rattle.model_undo.specs.Machine.{opened as opened_machine}
-use Rattle.model_lab.specs.Values.{Value, Asks, Tells, Part}
-use Rattle.model_lab.specs.PortSteps.{PortState, Deed, hears, hears_all, idles, quiet_port}
+use Rattle.model_ports.specs.Values.{Value, Asks, Tells, Part}
+use Rattle.model_ports.specs.PortSteps.{PortState, Deed, hears, hears_all, idles, quiet_port}
 use Rattle.undo_plans.specs.declared.names.Names.{Names}
 use Rattle.model_lab.specs.ManagerSteps.{own_on, Plans, Call, ManagerState, ManagerDeed, Sent, called, manager_hears}
 

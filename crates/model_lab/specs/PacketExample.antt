@@ -9,8 +9,8 @@ use Rattle.record_base.specs.declared.message.Asked.TheVariants.{Pldm}
 use Rattle.model_undo.specs.Words.{Words}
 use Rattle.model_undo.specs.Phase.{Phase, Getting, Setting, Halted, Refused}
 use Rattle.model_undo.specs.Machine.{Sets, begun, phase_of}
-use Rattle.model_lab.specs.ManagerWords.{bus_of}
-use Rattle.model_lab.specs.Values.{Value, Asks, Tells, Part, parts_of}
+use Rattle.model_ports.specs.Wires.{bus_of}
+use Rattle.model_ports.specs.Values.{Value, Asks, Tells, Part, parts_of}
 use Rattle.model_lab.specs.ManagerSteps.{Plans, Start, Quiet}
 use Rattle.model_lab.specs.Lab.{ToManager, LabFrame, Event, Calls, ToBmc, ToMgr, Lab, run, opening}
 use Rattle.model_lab.specs.Faults.{AllTaken}

@@ -6,4 +6,3 @@
 pub mod examples;
 pub mod laws;
 pub mod marks;
-pub mod packets;

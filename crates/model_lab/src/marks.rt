@@ -3,7 +3,7 @@
 ghost use Rattle.std.specs.Prelude.{◌≡◌};
 ghost use Rattle.model_bus.specs.Circle.{span_of};
 ghost use Rattle.cfg_records.specs.declared.board_file.BoardFile.{BoardFile};
-ghost use Rattle.model_lab.specs.Spelled.{numbers_of};
+ghost use Rattle.model_ports.specs.Wires.{numbers_of};
 ghost use Rattle.undo_plans.specs.declared.names.Names.{Names as NamesValue};
 ghost use Rattle.model_lab.specs.ManagerSteps.{board_plans};
 ghost use Rattle.model_lab.specs.Marks.{TellsLive, MarksReplies, TellsOpen};

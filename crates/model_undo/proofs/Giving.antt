@@ -4,7 +4,7 @@ use Rattle.std.proofs.Common.{◌≡◌, ℕ, zero, suc, lit<, Bool, true, false
 use Rattle.std.specs.Prelude.{Contains}
 use Rattle.std.proofs.lemmas.List.Elements.{Contains-append_left, Contains-append_right}
 use Rattle.two_wire.specs.declared.Bus.{Bus}
-use Rattle.model_undo.specs.Words.{Answered}
+use Rattle.model_bus.specs.Answered.{Answered}
 use Rattle.model_undo.specs.Phase.{Stop, Refused, NotRestorable, GetRefused, Phase, Fresh, Getting, Setting, Done, Halted, Unsettled, Undoing, Undone, UndoRefused}
 use Rattle.model_undo.specs.Family.{Family, SetsTo}
 use Rattle.model_undo.specs.IsFamily.{Showed, IsFamily}

@@ -1,7 +1,8 @@
 -- The steps of a numbered plan.
 use Rattle.std.proofs.Common.{◌≡◌, ℕ, zero, suc, ◌+◌, ◌<◌, ◌≤◌, Bool, true, false, if◌then◌else◌, length, Some, None, refl, ◌∙◌, ap, arith}
 use Rattle.std.specs.Prelude.{slice_get}
-use Rattle.model_undo.specs.Words.{Answered, is_busy}
+use Rattle.model_bus.specs.Answered.{Answered}
+use Rattle.model_undo.specs.Words.{is_busy}
 use Rattle.model_undo.specs.Machine.{Machine, Gets, Sets, Undoes, replies, takes}
 use Rattle.model_undo.specs.Numbered.{Do, Reverse, numbered, part_of, stage_of, taken_of, plan_from, backs}
 use Rattle.model_undo.specs.declared.manager.Asked.TheVariants.{Get, Set, Back}

@@ -2,7 +2,8 @@
 use Rattle.std.specs.Prelude.{◌≡◌, ◌≢◌, ℕ, List, [], ◌∷◌, ◌++◌, Option, Some, None, Contains, slice_get}
 use Rattle.two_wire.specs.Codes.{success}
 use Rattle.two_wire.specs.declared.Bus.{Bus}
-use Rattle.model_undo.specs.Words.{Answered, get_asked, set_asked}
+use Rattle.model_bus.specs.Answered.{Answered}
+use Rattle.model_undo.specs.Words.{get_asked, set_asked}
 use Rattle.model_undo.specs.Phase.{Stop, Refused, NotRestorable, GetRefused, Phase, Halted}
 use Rattle.model_undo.specs.Family.{Family}
 use Rattle.model_undo.specs.Plan.{IsAfter}

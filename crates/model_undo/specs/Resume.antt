@@ -2,7 +2,8 @@
 use Rattle.std.specs.Prelude.{◌≡◌, ℕ, ◌%◌, true, List, [], ◌∷◌, length, Option, Some, None}
 use Rattle.std.specs.Option.{option_map}
 use Rattle.two_wire.specs.declared.Bus.{Bus}
-use Rattle.model_undo.specs.Words.{Answered, Words}
+use Rattle.model_bus.specs.Answered.{Answered}
+use Rattle.model_undo.specs.Words.{Words}
 use Rattle.model_undo.specs.Phase.{Stop, Phase, Done, Halted}
 use Rattle.model_undo.specs.Machine.{Counts, Machine, AtHalt, Sending, Turn, open_bus, phase_of, start_of, quiet_of, stop_of, again_of, undo_of, reply_of}
 use Rattle.model_undo.specs.Wires.{number_of}

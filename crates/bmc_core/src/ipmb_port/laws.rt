@@ -3,7 +3,7 @@ ghost use Rattle.std.specs.Prelude.{List, ℕ, ◌≡◌, Result};
 ghost use Rattle.ipmb_frame.specs.declared.message.Request.{Request};
 ghost use Rattle.cfg_records.specs.declared.board_file.BoardFile.{BoardFile};
 ghost use Rattle.bmc_board.specs.State.{State};
-ghost use Rattle.model_lab.specs.PortSteps.{PortState};
+ghost use Rattle.model_ports.specs.PortSteps.{PortState};
 ghost use Rattle.bmc_core.specs.declared.out.Reason.{Reason};
 ghost use Rattle.bmc_core.specs.IpmbHeard.{IsHeard};
 ghost use Rattle.bmc_core.specs.IpmbRuns.{IsHeardThenTold, Coming, KeepsTheRule, Ends, Happening, CarriesTheRule};

@@ -4,7 +4,7 @@ ghost use Rattle.two_wire.specs.Sizes.{most_message_bytes};
 ghost use Rattle.mctp_net.specs.Control.{request_of as control_request_of};
 ghost use Rattle.mctp_net.specs.Places.{seen};
 ghost use Rattle.pldm_base.specs.Message.{request_in as pldm_request_in, has_fault, faults};
-ghost use Rattle.model_lab.specs.PortSteps.{PortState};
+ghost use Rattle.model_ports.specs.PortSteps.{PortState};
 ghost use Rattle.bmc_core.specs.SmbusShown.{HasTaken, HasHeard};
 ghost use Rattle.bmc_core.specs.SmbusHeard.{message_heard, control_heard, pldm_heard};
 

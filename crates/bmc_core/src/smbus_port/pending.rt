@@ -3,8 +3,8 @@ ghost use Rattle.std.specs.Prelude.{◌≡◌, ◌≤◌, length};
 ghost use Rattle.two_wire.specs.Sizes.{most_message_bytes};
 ghost use Rattle.pldm_base.specs.Message.{request_bytes};
 ghost use Rattle.bmc_windows.specs.Heard.{request_of};
-ghost use Rattle.model_lab.specs.Bytes.{pldm_heard_in};
-ghost use Rattle.model_lab.specs.PortSteps.{pldm_asked};
+ghost use Rattle.model_ports.specs.Bytes.{pldm_heard_in};
+ghost use Rattle.model_ports.specs.PortSteps.{pldm_asked};
 ghost use Rattle.bmc_core.specs.SmbusShown.{pldm_reading};
 
 use cfg_records::Asked;

@@ -9,7 +9,7 @@ ghost use Rattle.model_bus.specs.Numbering.{is_above};
 ghost use Rattle.model_bus.specs.Carried.{outcome, IsNew};
 ghost use Rattle.bmc_board.specs.State.{state_of};
 ghost use Rattle.bmc_board.specs.Answer.{answer_of};
-ghost use Rattle.model_lab.specs.Bytes.{said};
+ghost use Rattle.model_ports.specs.Bytes.{said};
 ghost use Rattle.bmc_core.specs.declared.out.Done.TheVariants as done_as;
 ghost use Rattle.bmc_core.specs.Outs.{sends, AreRead};
 ghost use Rattle.bmc_core.specs.SmbusHeard.{asking, asked_of, kept_with};

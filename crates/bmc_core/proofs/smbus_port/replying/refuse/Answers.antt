@@ -3,8 +3,8 @@ use Rattle.two_wire.specs.declared.Bus.TheVariants.{Smbus}
 use Rattle.two_wire.specs.Codes.{pldm_not_ready}
 use Rattle.pldm_base.specs.declared.message.Header.{Header}
 use Rattle.pldm_base.specs.Message.{reply_start}
-use Rattle.model_lab.specs.Values.{Value}
-use Rattle.model_lab.specs.Bytes.{said}
+use Rattle.model_ports.specs.Values.{Value}
+use Rattle.model_ports.specs.Bytes.{said}
 use Rattle.bmc_core.specs.declared.out.Done.TheVariants as done
 use Rattle.bmc_core.specs.Outs.{sends, AreRead}
 use Rattle.bmc_core.specs.SmbusHeard.{InMessage, asking}
