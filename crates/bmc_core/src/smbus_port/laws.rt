@@ -8,7 +8,8 @@ ghost use Rattle.bmc_core.specs.SmbusRuns.{IsHeardThenTold, Coming, KeepsTheRule
 
 /// A port of a board hears a packet, and then is told the board's answer to what the packet asks.
 pub fn a_packet_is_heard_and_then_told()
-    ensures { (setup : BoardFile) (port : PortState) (before : State) (p : Packet) → IsHeardThenTold setup port before p }
+    ensures { (setup : BoardFile) (port : PortState) (before : State) (p : Packet)
+        → IsHeardThenTold setup port before p }
 {}
 
 /// Over any list of packets, idle requesters and requests that are told any answer or dropped, the requests that a port carries out are

@@ -4,7 +4,7 @@ use Rattle.ipmb_frame.specs.declared.message.Header.{Header}
 use Rattle.bmc_core.specs.Outs.{sends}
 use Rattle.bmc_core.specs.IpmbShown.{HasUnits}
 use Rattle.bmc_core.proofs.IpmbRepeats.{repeat_is}
-use Rattle.bmc_core.proofs.ipmb_port.repeat.Goals as goal
+use Rattle.bmc_core.proofs.ipmb_port.replying.repeat.Goals as goal
 
 pub returns-then-byte_at-byte : goal.returns-then-byte_at-byte
 returns-then-byte_at-byte c r head a =
