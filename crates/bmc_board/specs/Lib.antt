@@ -11,6 +11,7 @@ pub mod Stores
 pub mod Room
 pub mod Gives
 pub mod Leaves
+pub mod Serves
 pub mod AnyAnswer
 pub mod AnyLive
 pub mod PldmTypes

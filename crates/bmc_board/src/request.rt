@@ -40,7 +40,8 @@ fn command_at(refusals: Refusals, line: Option<Line>, body: &[u8]) -> Result<Com
 /// The command of an IPMI request, or the first code that refuses it: the logical unit comes first, then the command, then the
 /// length of its data. Who asks makes no difference.
 pub fn read_ipmi(lun: Lun, net_fn: NetFn, number: u8, body: &[u8]) -> Result<Command, Code>
-    ensures { (from : ℕ) → asked_of result body.now ≡ asked_by (Asked.Ipmi from net_fn lun number body.now) }
+    ensures { (from : ℕ) → asked_of result body.now
+        ≡ asked_by (Asked.Ipmi from net_fn lun number body.now) }
 {
     if lun.number() != 0 {
         return Err(code::INVALID_FOR_LUN);
@@ -51,7 +52,8 @@ pub fn read_ipmi(lun: Lun, net_fn: NetFn, number: u8, body: &[u8]) -> Result<Com
 /// The command of a PLDM request, or the first code that refuses it: the type comes first, then the command, then the length of
 /// its data. Who asks makes no difference.
 pub fn read_pldm(kind: Below<64>, number: u8, body: &[u8]) -> Result<Command, Code>
-    ensures { (from : ℕ) → asked_of result body.now ≡ asked_by (Asked.Pldm from kind number body.now) }
+    ensures { (from : ℕ) → asked_of result body.now
+        ≡ asked_by (Asked.Pldm from kind number body.now) }
 {
     let kind = kind.number();
     if !is_pldm_type(kind) {

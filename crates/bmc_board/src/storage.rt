@@ -86,7 +86,8 @@ impl PartAsked {
         to: &mut B,
     ) -> Result<(), Code>
         requires { length (B.bytes to.old) + most_ipmi_reply_data ≤ B.capacity }
-        ensures { Gives result (B.bytes to.old) (B.bytes to.new) (part_of self.now reserved bytes.now next) }
+        ensures { Gives result (B.bytes to.old) (B.bytes to.new)
+            (part_of self.now reserved bytes.now next) }
     {
         let offset = self.offset as usize;
         if offset != 0 && !reserved {

@@ -1,5 +1,5 @@
 -- What a port does with a request is the lab's deed.
-use Rattle.std.proofs.Common.{◌≡◌, ℕ, true, false, [], ◌∷◌, List, Some, None, refl, sym, ap, subst}
+use Rattle.std.proofs.Common.{◌≡◌, ℕ, Bool, true, false, [], ◌∷◌, List, Some, None, Result, Ok, Err, refl, sym, ap, subst}
 use Rattle.std.proofs.lemmas.Bool.{true≢false}
 use Rattle.ipmb_frame.specs.declared.message.Request.{Request}
 use Rattle.record_base.specs.declared.message.Answered.{Answered}
@@ -9,14 +9,17 @@ use Rattle.model_bus.specs.Numbering.{is_above}
 use Rattle.model_bus.specs.Carried.{Outcome, Repeats, IsBusy, IsNew, log_after, reply_after}
 use Rattle.bmc_board.specs.State.{State}
 use Rattle.bmc_board.specs.Answer.{answer_of}
-use Rattle.model_lab.specs.Bytes.{heard_in}
-use Rattle.model_lab.specs.PortSteps.{PortState, Deed, Turn, spelled, asked_in, response_after, hears_request}
-use Rattle.model_lab.specs.Values.{Value, written}
-use Rattle.model_lab.proofs.Stepping.{turns_by}
+use Rattle.model_ports.specs.Bytes.{heard_in}
+use Rattle.model_ports.specs.PortSteps.{PortState, Deed, Turn, spelled, asked_in, response_after, hears_request}
+use Rattle.model_ports.specs.Values.{Value, written}
+use Rattle.model_ports.proofs.Turning.{turns_by}
 use Rattle.bmc_core.specs.declared.out.Out.{Out}
+use Rattle.bmc_core.specs.declared.out.Reason.{Reason}
+use Rattle.bmc_core.specs.declared.step.Step.TheVariants as step
 use Rattle.bmc_core.specs.declared.ipmb_port.IpmbPort.{IpmbPort}
 use Rattle.bmc_core.specs.Outs.{sends, done_by, AreRead}
-use Rattle.bmc_core.specs.IpmbShown.{Shows, Does, Settles, outcome_at, after, answers, response_told, carries, kept_of, first_answer, first_response}
+use Rattle.bmc_core.proofs.OwnBytes.{none_read}
+use Rattle.bmc_core.specs.IpmbShown.{Shows, Does, IsSettled, next_of, Steps, deed_of, done_of, outcome_at, after, answers, response_told, carries, kept_of, first_answer, first_response}
 
 -- what comes of a request after this turn
 abbrev deed_by : PortState → Request → Turn → Deed
@@ -36,15 +39,15 @@ module _ (setup : BoardFile) (p : PortState) (before : State) (r : Request) wher
   unfolding hears_request
   new_deed is = ap (deed_by p r) ((turns_by (is_above 64) (heard_in r) (spelled Ipmb (heard_in r)) setup (asked_in r) p.log before).new is)
 
-  settled : (port : IpmbPort) (out : Out) (o : Outcome) → outcome_at p r ≡ o → Settles r o false out → Shows port p → Does (hears_request setup p before r) (done_by o) port before out
+  settled : (port : IpmbPort) (out : Out) (o : Outcome) → outcome_at p r ≡ o → IsSettled r o out true → Shows port p → Does (hears_request setup p before r) (done_by o) port before out
   settled port out (Repeats reply) is settles shows =
       subst (λ (d : Deed). Does d (done_by (Repeats reply)) port before out) (sym (repeat_deed reply is)) (record { shows = shows; left = refl; sent = settles.1.0; read = settles.1.1 })
   settled port out IsBusy is settles shows =
       subst (λ (d : Deed). Does d (done_by IsBusy) port before out) (sym (busy_deed is)) (record { shows = shows; left = refl; sent = settles.1.0; read = settles.1.1 })
-  settled port out IsNew is settles shows = absurd (true≢false (sym settles))
+  settled port out IsNew is settles shows = absurd (true≢false settles)
 
   -- a request that isn't new
-  pub settled_does : (port : IpmbPort) (out : Out) → Settles r (outcome_at p r) false out → Shows port p → Does (hears_request setup p before r) (done_by (outcome_at p r)) port before out
+  pub settled_does : (port : IpmbPort) (out : Out) → IsSettled r (outcome_at p r) out true → Shows port p → Does (hears_request setup p before r) (done_by (outcome_at p r)) port before out
   settled_does port out settles shows = settled port out (outcome_at p r) refl settles shows
 
   -- a new one
@@ -56,10 +59,36 @@ module _ (setup : BoardFile) (p : PortState) (before : State) (r : Request) wher
       (subst (λ (d : Deed). Does d (done_by IsNew) next after out) (sym (new_deed is)) (record { shows = shows; left = left; sent = sent; read = read }))
 
 -- what is new is new by the rule
-pub is_new : (r : Request) (o : Outcome) (out : Out) → Settles r o true out → o ≡ IsNew
-is_new r (Repeats reply) out settles = absurd (true≢false settles.0)
-is_new r IsBusy out settles = absurd (true≢false settles.0)
+pub is_new : (r : Request) (o : Outcome) (out : Out) → IsSettled r o out false → o ≡ IsNew
+is_new r (Repeats reply) out settles = absurd (true≢false (sym settles.0))
+is_new r IsBusy out settles = absurd (true≢false (sym settles.0))
 is_new r IsNew out settles = refl
+
+-- a request that is to be carried out is what was heard, and is new
+new_by : (p : PortState) (r q : Request) (out : Out) (settled : Bool) → IsSettled r (outcome_at p r) out settled → step.Ask q ≡ next_of settled r
+    → ((let x : Result Request Reason = Ok r in x) ≡ Ok q) × (outcome_at p q ≡ IsNew)
+new_by p r q out true settles given = let no : step.Ask q ≡ step.Done = given in absurd cc
+new_by p r q out false settles given =
+    let yes : step.Ask q ≡ step.Ask r = given in
+    let same : r ≡ q = cc in
+    (ap Ok same, subst (λ (x : Request). outcome_at p x ≡ IsNew) same (is_new r (outcome_at p r) out settles))
+
+pub step_new : (p : PortState) (heard : Result Request Reason) (q : Request) (out : Out) → Steps p heard (step.Ask q) out → (heard ≡ Ok q) × (outcome_at p q ≡ IsNew)
+step_new p (Ok r) q out is = new_by p r q out is.0 is.1 is.2
+step_new p (Err why) q out is = let no : step.Ask q ≡ step.Done = is.0 in absurd cc
+
+-- ---- what is settled as it is heard
+
+module _ (setup : BoardFile) (before : State) where
+  settled_request : (p : PortState) (r : Request) (next : IpmbPort) (out : Out) (was : Bool) → IsSettled r (outcome_at p r) out was
+      → step.Done ≡ next_of was r → Shows next p → Does (hears_request setup p before r) (done_by (outcome_at p r)) next before out
+  settled_request p r next out true settles given shows = settled_does setup p before r next out settles shows
+  settled_request p r next out false settles given shows = let no : step.Done ≡ step.Ask r = given in absurd cc
+
+  pub settled_heard : (p : PortState) (heard : Result Request Reason) (next : IpmbPort) (out : Out) → Steps p heard step.Done out → Shows next p
+      → Does (deed_of setup p before heard) (done_of p heard) next before out
+  settled_heard p (Ok r) next out is shows = settled_request p r next out is.0 is.1 is.2 shows
+  settled_heard p (Err why) next out is shows = record { shows = shows; left = refl; sent = is.1; read = none_read Ipmb }
 
 -- ---- an answer that is told
 
@@ -78,13 +107,13 @@ module _ (p : PortState) (r : Request) (a : Answered) where
   abbrev IsToldBy : IpmbPort → Out → Outcome → Type 0
   IsToldBy port out o = Shows port (after_by o) × (out ≡ answers_by o) × AreRead Ipmb (response_by o ∷ [])
 
-  settled_told : (port : IpmbPort) (out : Out) (o : Outcome) → Settles r o false out → Shows port p → IsToldBy port out o
+  settled_told : (port : IpmbPort) (out : Out) (o : Outcome) → IsSettled r o out true → Shows port p → IsToldBy port out o
   settled_told port out (Repeats reply) settles shows = (shows, settles.1.0, settles.1.1)
   settled_told port out IsBusy settles shows = (shows, settles.1.0, settles.1.1)
-  settled_told port out IsNew settles shows = absurd (true≢false (sym settles))
+  settled_told port out IsNew settles shows = absurd (true≢false settles)
 
   -- to a request that isn't new any more
-  pub told_settled : (port : IpmbPort) (out : Out) → Settles r (outcome_at p r) false out → Shows port p
+  pub told_settled : (port : IpmbPort) (out : Out) → IsSettled r (outcome_at p r) out true → Shows port p
       → Shows port (after p r a) × (out ≡ answers p r a) × AreRead Ipmb (response_told p r a ∷ [])
   told_settled port out settles shows = settled_told port out (outcome_at p r) settles shows
 

@@ -9,16 +9,14 @@ use Rattle.ipmb_frame.specs.declared.message.Request.{Request}
 use Rattle.ipmb_frame.specs.declared.message.Response.{Response}
 use Rattle.ipmb_frame.specs.Grammar.{packed, request_bytes, request_head, request_tail, response_connection, response_lead, response_head, response_tail, frame, IsRequest, IsResponse}
 use Rattle.record_base.specs.declared.message.Answered.{Answered}
-use Rattle.model_lab.specs.Bytes.{heard_in}
+use Rattle.model_ports.specs.Bytes.{heard_in}
 use Rattle.model_bus.specs.Request.{Request as Asking, Kept, Entry, Carried}
 use Rattle.model_bus.specs.Numbering.{is_above}
 use Rattle.model_bus.specs.Carried.{IsNew, outcome}
 use Rattle.bmc_windows.specs.declared.request.Request.{Request as Heard}
-use Rattle.bmc_windows.specs.Keeps.{Reading, Keeps}
+use Rattle.bmc_windows.specs.Keeps.{Reading, Held, Keeps}
 use Rattle.bmc_windows.specs.Heard.{request_of, kept_of as kept_as}
-use Rattle.model_lab.specs.PortSteps.{PortState}
-use Rattle.bmc_core.specs.declared.ipmb_port.IpmbPort.{IpmbPort}
-use Rattle.bmc_core.specs.IpmbShown.{reading, whole, response, response_giving, kept_of, outcome_at, carries, IsFresh, Shows}
+use Rattle.bmc_core.specs.IpmbShown.{reading, whole, response, response_giving, kept_of, IsKept}
 
 -- all but the last byte
 butlast : (xs : List ℕ) (last n : ℕ) → n ≡ length xs → take n (xs ++ last ∷ []) ≡ xs
@@ -70,24 +68,23 @@ kept_reply r a bytes is =
     ∙ sym (λ i. packed (high h.net_fn h.responder.lun is.header.responder.lun i + 1) (low h.sequence h.requester.lun is.header.requester.lun i)
     ∷ packed (high h.sequence h.requester.lun is.header.requester.lun i) (low h.net_fn h.responder.lun is.header.responder.lun i) ∷ h.command ∷ a.code ∷ a.body)
 
--- so a port that keeps the request and this frame is the lab's port that carried the request out
-pub carried_shows : (old next : IpmbPort) (heard : Heard 64) (r : Request) (a : Answered) (bytes given : List ℕ)
-    → request_of reading heard ≡ heard_in r → IsResponse (response_giving r a) bytes → given ≡ bytes → next.wire ≡ old.wire
-    → ((how : Reading) (log : List Entry) → Keeps 64 how old.windows log → outcome (is_above 64) (request_of how heard) log ≡ IsNew
-    → Keeps 64 how next.windows (Carried (kept_as how heard given) ∷ log))
-    → (p : PortState) → Shows old p → outcome_at p r ≡ IsNew → IsFresh old heard → Shows next (carries p r a)
-carried_shows old next heard r a bytes given same is written wire carried p shows new fresh =
+-- so windows that keep the request and this frame have carried the request out
+pub carried_of : (old next : Held) (heard : Heard 64) (r : Request) (a : Answered) (bytes given : List ℕ)
+    → request_of reading heard ≡ heard_in r → IsResponse (response_giving r a) bytes → given ≡ bytes
+    → ((how : Reading) (log : List Entry) → Keeps 64 how old log → outcome (is_above 64) (request_of how heard) log ≡ IsNew
+    → Keeps 64 how next (Carried (kept_as how heard given) ∷ log))
+    → IsKept old r a next
+carried_of old next heard r a bytes given same is written carried p of new fresh =
     let reply : reading.reply given ≡ (kept_of r a).reply = ap (λ (xs : List ℕ). reading.reply xs) written ∙ kept_reply r a bytes is in
     record {
-      wire = wire ∙ shows.wire;
-      keeps = subst (λ (k : Kept). Keeps 64 reading next.windows (Carried k ∷ p.log)) (λ i. record { request = same i; reply = reply i })
-          (carried reading p.log shows.keeps (ap (λ (q : Asking). outcome (is_above 64) q p.log) same ∙ new));
+      keeps = subst (λ (k : Kept). Keeps 64 reading next (Carried k ∷ p.log)) (λ i. record { request = same i; reply = reply i })
+          (carried reading p.log of.keeps (ap (λ (q : Asking). outcome (is_above 64) q p.log) same ∙ new));
       frames = record {
-        log = Carried (kept_as whole heard given) ∷ shows.frames.log;
-        keeps = carried whole shows.frames.log shows.frames.keeps (fresh shows.frames.log shows.frames.keeps);
+        log = Carried (kept_as whole heard given) ∷ of.frames.log;
+        keeps = carried whole of.frames.log of.frames.keeps (ap (λ (q : Asking). outcome (is_above 64) q of.frames.log) same ∙ fresh of.frames.log of.frames.keeps);
         answered = (
           record { asked = r; code = a.code; body = a.body; same = sym same; frame = subst (λ (xs : List ℕ). IsResponse (response_giving r a) xs) (sym written) is },
-          shows.frames.answered,
+          of.frames.answered,
         );
       };
     }

@@ -10,9 +10,9 @@ use Rattle.model_bus.specs.Numbering.{is_above}
 use Rattle.model_bus.specs.Carried.{Repeats, outcome}
 use Rattle.model_bus.proofs.Sentence.{sentence_64}
 use Rattle.two_wire.specs.declared.Bus.TheVariants.{Ipmb}
-use Rattle.model_lab.specs.Bytes.{heard_in}
-use Rattle.model_lab.specs.Values.{written}
-use Rattle.model_lab.specs.PortSteps.{response_after}
+use Rattle.model_ports.specs.Bytes.{heard_in}
+use Rattle.model_ports.specs.Values.{written}
+use Rattle.model_ports.specs.PortSteps.{response_after}
 use Rattle.bmc_core.specs.Outs.{AreRead}
 use Rattle.bmc_core.proofs.OwnBytes.{response_read}
 use Rattle.bmc_core.specs.IpmbShown.{reading, HasUnits, IsAnswered, AllAnswered, response}

@@ -1,12 +1,12 @@
 -- What a port of either bus does in two steps, with the board between, is what it does in one.
-use Rattle.std.proofs.Common.{◌≡◌, ℕ, Bool, true, false, List, [], ◌∷◌, Some, None, Result, Ok, Err, refl, sym, subst}
+use Rattle.std.proofs.Common.{◌≡◌, ℕ, List, [], ◌∷◌, Some, None, Result, refl, sym, subst}
 use Rattle.two_wire.specs.declared.Bus.TheVariants as on
 use Rattle.ipmb_frame.specs.declared.message.Request.{Request}
 use Rattle.cfg_records.specs.declared.board_file.BoardFile.{BoardFile}
 use Rattle.model_bus.specs.Carried.{Outcome, Repeats, IsBusy, IsNew}
 use Rattle.bmc_board.specs.State.{State}
 use Rattle.bmc_board.specs.Answer.{answer_of}
-use Rattle.model_lab.specs.PortSteps.{PortState, Deed, left_by, asked_in, hears_request}
+use Rattle.model_ports.specs.PortSteps.{PortState, Deed, left_by, asked_in, hears_request}
 use Rattle.bmc_core.specs.declared.out.Out.{Out}
 use Rattle.bmc_core.specs.declared.out.Reason.{Reason}
 use Rattle.bmc_core.specs.declared.out.Reason.TheVariants as reason
@@ -23,8 +23,7 @@ use Rattle.bmc_core.specs.IpmbShown as ipmb
 use Rattle.bmc_core.specs.SmbusShown as smbus
 use Rattle.bmc_core.specs.SmbusHeard.{InMessage, Heard, Ignored, Waiting, Control, Asks, taken, heard_in, asked_of as message_asked, asks_of, found, asks, done_of}
 use Rattle.bmc_core.specs.Port.{asked_of, Hears, IsStep, IsTold, IsHeardThenTold}
-use Rattle.bmc_core.proofs.OwnBytes.{none_read}
-use Rattle.bmc_core.proofs.IpmbDeeds.{settled_does, is_new}
+use Rattle.bmc_core.proofs.IpmbDeeds.{step_new, settled_heard}
 use Rattle.bmc_core.proofs.IpmbLists.{heard_then_told as request_heard_then_told}
 use Rattle.bmc_core.proofs.SmbusLists.{new_one}
 use Rattle.bmc_core.proofs.SmbusPorts.{answer_for, left_after, deed_of, hears_bytes, left_new, does}
@@ -32,19 +31,9 @@ use Rattle.bmc_core.proofs.SmbusPorts.{answer_for, left_after, deed_of, hears_by
 -- ---- on IPMB
 
 module _ (setup : BoardFile) (before : State) where
-  settled_request : (p : PortState) (r : Request) (next : IpmbPort) (out : Out) (new : Bool) → ipmb.Settles r (ipmb.outcome_at p r) new out
-      → step.Done ≡ ipmb.next_of new r → ipmb.Shows next p → ipmb.Does (hears_request setup p before r) (done_by (ipmb.outcome_at p r)) next before out
-  settled_request p r next out false settles given shows = settled_does setup p before r next out settles shows
-  settled_request p r next out true settles given shows = let no : step.Done ≡ step.Ask r = given in absurd cc
-
-  settled_heard : (p : PortState) (heard : Result Request Reason) (next : IpmbPort) (out : Out) → ipmb.Steps p heard step.Done out → ipmb.Shows next p
-      → ipmb.Does (ipmb.deed_of setup p before heard) (ipmb.done_of p heard) next before out
-  settled_heard p (Ok r) next out is shows = settled_request p r next out is.0 is.1 is.2 shows
-  settled_heard p (Err why) next out is shows = record { shows = shows; left = refl; sent = is.1; read = none_read on.Ipmb }
-
   ipmb_settled : (port next : IpmbPort) (bytes : List ℕ) (out : Out) → ipmb.IsStep port bytes next out step.Done → ipmb.Hears setup port before bytes out next before
   ipmb_settled port next bytes out is p shows heard at =
-      settled_heard p heard next out (is.steps p shows heard at) (subst (λ (x : IpmbPort). ipmb.Shows x p) (sym is.stays) shows)
+      settled_heard setup before p heard next out (is.steps p shows heard at) (subst (λ (x : IpmbPort). ipmb.Shows x p) (sym is.stays) shows)
 
   told_request : (p : PortState) (r : Request) (next : IpmbPort) (out : Out) → let given = answer_of setup before (asked_in r) in
       ipmb.outcome_at p r ≡ IsNew → ipmb.Shows next (ipmb.after p r given.0) → out ≡ ipmb.answers p r given.0 → AreRead on.Ipmb (ipmb.response_told p r given.0 ∷ [])
@@ -53,22 +42,13 @@ module _ (setup : BoardFile) (before : State) where
       subst (λ (d : Deed). ipmb.Does d (done_by (ipmb.outcome_at p r)) next (answer_of setup before (asked_in r)).1 out)
       (sym ((request_heard_then_told setup p before r).asked is)) (record { shows = shows; left = refl; sent = sent; read = read })
 
-  asked_request : (p : PortState) (r q : Request) (next : IpmbPort) (first out : Out) (new : Bool) → let given = answer_of setup before (asked_in q) in
-      ipmb.Settles r (ipmb.outcome_at p r) new first → step.Ask q ≡ ipmb.next_of new r → ipmb.Shows next (ipmb.after p q given.0) → out ≡ ipmb.answers p q given.0
-      → AreRead on.Ipmb (ipmb.response_told p q given.0 ∷ [])
-      → ipmb.Does (hears_request setup p before r) (done_by (ipmb.outcome_at p r)) next given.1 out
-  asked_request p r q next first out false settles given shows sent read = let no : step.Ask q ≡ step.Done = given in absurd cc
-  asked_request p r q next first out true settles given shows sent read =
-      let yes : step.Ask q ≡ step.Ask r = given in
-      let same : q ≡ r = cc in
-      subst (λ (x : Request). ipmb.Does (hears_request setup p before x) (done_by (ipmb.outcome_at p x)) next (answer_of setup before (asked_in q)).1 out) same
-      (told_request p q next out (subst (λ (x : Request). ipmb.outcome_at p x ≡ IsNew) (sym same) (is_new r (ipmb.outcome_at p r) first settles)) shows sent read)
-
   asked_heard : (p : PortState) (heard : Result Request Reason) (q : Request) (next : IpmbPort) (first out : Out) → let given = answer_of setup before (asked_in q) in
       ipmb.Steps p heard (step.Ask q) first → ipmb.Shows next (ipmb.after p q given.0) → out ≡ ipmb.answers p q given.0 → AreRead on.Ipmb (ipmb.response_told p q given.0 ∷ [])
       → ipmb.Does (ipmb.deed_of setup p before heard) (ipmb.done_of p heard) next given.1 out
-  asked_heard p (Ok r) q next first out is shows sent read = asked_request p r q next first out is.0 is.1 is.2 shows sent read
-  asked_heard p (Err why) q next first out is shows sent read = let no : step.Ask q ≡ step.Done = is.0 in absurd cc
+  asked_heard p heard q next first out is shows sent read =
+      let so = step_new p heard q first is in
+      subst (λ (h : Result Request Reason). ipmb.Does (ipmb.deed_of setup p before h) (ipmb.done_of p h) next (answer_of setup before (asked_in q)).1 out) (sym so.0)
+      (told_request p q next out so.1 shows sent read)
 
   ipmb_asked : (port between next : IpmbPort) (bytes : List ℕ) (first out : Out) (q : Request) → let given = answer_of setup before (asked_in q) in
       ipmb.IsStep port bytes between first (step.Ask q) → ipmb.IsTold between q given.0 next out → ipmb.Hears setup port before bytes out next given.1
@@ -79,7 +59,7 @@ module _ (setup : BoardFile) (before : State) where
 -- ---- on the System Management Bus
 
 -- a request that is asked is what was heard, and is new
-is_asked : (port : PortState) (h : Heard) (m : InMessage) → asks port h ≡ Some m → (h ≡ Asks m) × (found port m ≡ IsNew)
+pub is_asked : (port : PortState) (h : Heard) (m : InMessage) → asks port h ≡ Some m → (h ≡ Asks m) × (found port m ≡ IsNew)
 is_asked port (Ignored why) m is = absurd cc
 is_asked port Waiting m is = absurd cc
 is_asked port (Control e r) m is = absurd cc
@@ -100,7 +80,7 @@ module _ (setup : BoardFile) (before : State) where
   left_none port (Control e r) is = refl
   left_none port (Asks m) is = none_left before (answer_of setup before (message_asked m)).1 m (found port m) is
 
-  done_step : (next : SmbusPort) (out : Out) (port : PortState) (h : Heard) → smbus.IsStep next out step.Done port h
+  pub done_step : (next : SmbusPort) (out : Out) (port : PortState) (h : Heard) → smbus.IsStep next out step.Done port h
       → smbus.Does next out before (deed_of setup before port h) (done_of port h)
   done_step next out port h is = does setup before next out before port h (is.1 (answer_for setup before h)) (left_none port h is.0)
 

@@ -9,7 +9,6 @@ use Rattle.mctp_net.specs.declared.packet.Packet.{Packet}
 use Rattle.mctp_net.specs.declared.message.Message.{Message}
 use Rattle.mctp_net.specs.declared.taken.DropCause.{DropCause}
 use Rattle.mctp_net.specs.Assembly.{Assemblies, drop_cause, after as kept_after, message_of}
-use Rattle.mctp_net.specs.Places.{Kept as Assembler, seen}
 use Rattle.mctp_net.specs.Control.{Request as ControlRequest, request_of as control_request_of, reply_to as control_reply_to, eid_after}
 use Rattle.mctp_net.specs.Grammar.{IsPacket, has_fault, faults}
 use Rattle.pldm_base.specs.declared.fault.PldmFault.{PldmFault}
@@ -21,16 +20,16 @@ use Rattle.model_bus.specs.Carried.{Outcome, Repeats, IsBusy, IsNew}
 use Rattle.model_bus.specs.Request.{Kept, Carried}
 use Rattle.bmc_board.specs.State.{State}
 use Rattle.bmc_board.specs.Answer.{answer_of}
-use Rattle.model_lab.specs.Bytes.{said}
-use Rattle.model_lab.specs.Values.{Value, Part}
-use Rattle.model_lab.specs.PortSteps.{PortState, Deed, stays, left_by, turn, hears_control, hears_pldm, hears_typed, hears_message, hears_part, ends_message, hears}
+use Rattle.model_ports.specs.Bytes.{said}
+use Rattle.model_ports.specs.Values.{Value, Part}
+use Rattle.model_ports.specs.PortSteps.{PortState, Deed, stays, left_by, turn, hears_control, hears_pldm, hears_typed, hears_message, hears_part, ends_message, hears}
 use Rattle.bmc_core.specs.declared.out.Out.{Out}
 use Rattle.bmc_core.specs.declared.out.Done.TheVariants as done
 use Rattle.bmc_core.specs.declared.out.Reason.TheVariants as reason
 use Rattle.bmc_core.specs.declared.smbus_port.SmbusPort.{SmbusPort}
 use Rattle.bmc_core.specs.Outs.{sends, done_by, AreRead}
 use Rattle.bmc_core.specs.SmbusHeard.{InMessage, Heard, Ignored, Waiting, Control, Asks, control_heard, pldm_heard, typed_heard, message_heard, part_heard, with_part, taken, heard_in, asking, asked_of, asks_of, found, asks, done_of, kept_with, asks_effect, effect}
-use Rattle.bmc_core.specs.SmbusShown.{Shows, Hearing, HasEffect, Ends, Does, HearsBytes, parts_from, frames_from, HasHeard, HasTaken, IsSettled}
+use Rattle.bmc_core.specs.SmbusShown.{Shows, Hearing, HasEffect, Ends, Does, HearsBytes, parts_from, frames_from, HasHeard, IsSettled}
 use Rattle.bmc_core.proofs.OwnBytes.{none_read}
 
 -- ---- the bytes
@@ -58,6 +57,13 @@ hearing_packet port bytes p Holds faultless whole heard = record {
       let e : (let r : Result Packet PacketFault = Ok p in r) ≡ Ok q = whole q is in
       let same : p ≡ q = cc in
       subst (λ (r : Packet). Holds (taken port r) (heard_in port r)) same heard;
+}
+
+-- of what holds of each, what follows
+pub hearing_map : (port : PortState) (bytes : List ℕ) (P Q : PortState → Heard → Type 0) → ((now : PortState) (h : Heard) → P now h → Q now h) → Hearing port bytes P → Hearing port bytes Q
+hearing_map port bytes P Q follows is = record {
+  faulty = λ fault first. follows port (Ignored (reason.Packet fault)) (is.faulty fault first);
+  packet = λ p at. follows (taken port p) (heard_in port p) (is.packet p at);
 }
 
 -- ---- what is heard, and what comes of it
@@ -101,17 +107,17 @@ asked wire own Waiting eid out m is = let no : Some m ≡ None = is.2 in absurd 
 asked wire own (Control e r) eid out m is = let no : Some m ≡ None = is.2 in absurd cc
 asked wire own (Asks n) eid out m is = let yes : Some m ≡ Some n = is.1 in let same : n ≡ m = cc in (is.0, ap Asks same)
 
--- what is heard in a whole message, where the packet ends it
-pub heard_whole : (port : SmbusPort) (p : PortState) (q : Packet) (assembler : Assembler) (was out : Out) (eid : ℕ) (given : Option InMessage) (body : List ℕ) → Shows port p
-    → HasTaken p q (seen assembler) was true → body ≡ (message_of (seen assembler) q).body
-    → HasHeard port.wire port.endpoint (message_heard (record { envelope = q.envelope; body = body })) eid out given
-    → HasHeard p.wire p.eid (heard_in p q) eid out given
-heard_whole port p q assembler was out eid given body shows took shown heard =
-    let message : message_heard (record { envelope = q.envelope; body = body }) ≡ heard_in p q =
-    (λ i. message_heard (record { envelope = q.envelope; body = shown i })) ∙ ap (λ (a : Assemblies). message_heard (message_of a q)) took.kept ∙ sym took.heard in
-    subst (λ (n : ℕ). HasHeard n p.eid (heard_in p q) eid out given) (sym shows.wire)
-    (subst (λ (n : ℕ). HasHeard port.wire n (heard_in p q) eid out given) (sym shows.eid)
-    (subst (λ (h : Heard). HasHeard port.wire port.endpoint h eid out given) message heard))
+-- what is heard at the place that the port has
+pub heard_at : (p : PortState) (h : Heard) (wire own eid : ℕ) (out : Out) (given is : Option InMessage) → p.wire ≡ wire → p.eid ≡ own → given ≡ is
+    → HasHeard wire own h eid out given → HasHeard p.wire p.eid h eid out is
+heard_at p h wire own eid out given is at_wire at_eid so heard =
+    subst (λ (n : ℕ). HasHeard n p.eid h eid out is) (sym at_wire)
+    (subst (λ (n : ℕ). HasHeard wire n h eid out is) (sym at_eid) (subst (λ (o : Option InMessage). HasHeard wire own h eid out o) so heard))
+
+-- the body of the message that a packet ends
+pub message_is : (left : Assemblies) (q : Packet) (body : List ℕ) → body ≡ (message_of left q).body
+    → message_heard (record { envelope = q.envelope; body = body }) ≡ message_heard (message_of left q)
+message_is left q body is = λ i. message_heard (record { envelope = q.envelope; body = is i })
 
 -- what was done with a request, from the place that the port has
 pub settled_as : (p : PortState) (m : InMessage) (wire eid : ℕ) (before out : Out) (test is : Bool) → p.wire ≡ wire → p.eid ≡ eid → test ≡ is
@@ -222,22 +228,6 @@ module _ (setup : BoardFile) (before : State) where
     faulty = h.faulty;
     packet = λ p is. subst (λ (d : Deed). Does next out after d (done_of (taken port p) (heard_in port p))) (sym (packet_deed port p)) (h.packet p is);
   }
-
-  -- where nothing is asked, the board stays
-  pub left_ended : (port : PortState) (h : Heard) (wire own eid : ℕ) (out : Out) → HasHeard wire own h eid out None → left_after port h ≡ before
-  left_ended port (Ignored why) wire own eid out is = refl
-  left_ended port Waiting wire own eid out is = refl
-  left_ended port (Control e r) wire own eid out is = refl
-  left_ended port (Asks m) wire own eid out is = let no : (let n : Option InMessage = None in n) ≡ Some m = is.1 in absurd cc
-
-  left_where : (o : Outcome) (after : State) (busy : List ℕ) (parts : List ℕ → List Value) (was out : Out) → IsSettled o busy parts was out true → left_by o after before ≡ before
-  left_where (Repeats reply) after busy parts was out is = refl
-  left_where IsBusy after busy parts was out is = refl
-  left_where IsNew after busy parts was out is = let no : true ≡ false = is.0 in absurd cc
-
-  pub left_settled : (port : PortState) (m : InMessage) (busy : List ℕ) (parts : List ℕ → List Value) (was out : Out)
-      → IsSettled (found port m) busy parts was out true → left_after port (Asks m) ≡ before
-  left_settled port m busy parts was out is = left_where (found port m) (answer_of setup before (asked_of m)).1 busy parts was out is
 
   pub left_new : (port : PortState) (m : InMessage) → found port m ≡ IsNew → left_after port (Asks m) ≡ (answer_of setup before (asked_of m)).1
   left_new port m is = ap (λ (o : Outcome). left_by o (answer_of setup before (asked_of m)).1 before) is

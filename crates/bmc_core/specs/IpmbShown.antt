@@ -1,5 +1,5 @@
 -- The lab's port that a port on IPMB shows, and what each call makes of it.
-use Rattle.std.specs.Prelude.{◌≡◌, ℕ, ◌-◌, ◌<◌, List, [], ◌∷◌, Bool, true, false, length, take, drop, slice_index, map, Some, None, Result, Ok, Err, refl}
+use Rattle.std.specs.Prelude.{◌≡◌, ℕ, ◌-◌, ◌<◌, List, [], ◌∷◌, Bool, true, false, length, take, drop, slice_index, map, Option, Some, None, Result, Ok, Err, refl}
 use Rattle.ipmb_frame.specs.declared.message.Header.{Header}
 use Rattle.ipmb_frame.specs.declared.message.Request.{Request}
 use Rattle.ipmb_frame.specs.declared.message.Response.{Response}
@@ -13,11 +13,9 @@ use Rattle.model_bus.specs.Carried.{Outcome, Repeats, IsBusy, IsNew, outcome, lo
 use Rattle.two_wire.specs.declared.Bus.TheVariants.{Ipmb}
 use Rattle.bmc_board.specs.State.{State}
 use Rattle.bmc_windows.specs.Keeps.{Reading, Held, Keeps}
-use Rattle.bmc_windows.specs.declared.request.Request.{Request as Heard}
-use Rattle.bmc_windows.specs.Heard.{request_of}
-use Rattle.model_lab.specs.Bytes.{heard_in}
-use Rattle.model_lab.specs.Values.{Value, Tells, written}
-use Rattle.model_lab.specs.PortSteps.{PortState, Deed, stays, spelled, response_after, hears_request}
+use Rattle.model_ports.specs.Bytes.{heard_in}
+use Rattle.model_ports.specs.Values.{Value, Tells, written}
+use Rattle.model_ports.specs.PortSteps.{PortState, Deed, stays, spelled, response_after, hears_request}
 use Rattle.bmc_core.specs.declared.out.Out.{Out}
 use Rattle.bmc_core.specs.declared.out.Reason.{Reason}
 use Rattle.bmc_core.specs.declared.out.Done.{Done}
@@ -61,11 +59,15 @@ pub record KeepsFrames (windows : Held) : Type 0 where
   pub keeps : Keeps sequence_numbers whole windows log
   pub answered : AllAnswered log
 
+-- the windows keep what this log leaves, and frames
+pub record AreOf (windows : Held) (log : List Entry) : Type 0 where
+  pub keeps : Keeps sequence_numbers reading windows log
+  pub frames : KeepsFrames windows
+
 -- the port has the lab's address, and keeps what the lab's log leaves
 pub record Shows (port : IpmbPort) (p : PortState) : Type 0 where
   pub wire : port.wire ≡ p.wire
-  pub keeps : Keeps sequence_numbers reading port.windows p.log
-  pub frames : KeepsFrames port.windows
+  pub log : AreOf port.windows p.log
 
 -- ---- responses
 
@@ -114,27 +116,35 @@ IsSent v what out = (out ≡ sends (written v ∷ []) what) × AreRead Ipmb (v �
 
 -- ---- before the board is asked
 
--- a request is new by the frames that the port keeps
-abbrev pub IsFresh : IpmbPort → Heard sequence_numbers → Type 0
-IsFresh port heard = (log : List Entry) → Keeps sequence_numbers whole port.windows log → outcome (is_above sequence_numbers) (request_of whole heard) log ≡ IsNew
+-- a request is new by the frames that the windows keep
+abbrev pub IsFresh : Held → Request → Type 0
+IsFresh windows r = (log : List Entry) → Keeps sequence_numbers whole windows log → outcome (is_above sequence_numbers) (heard_in r) log ≡ IsNew
 
--- a request is new, or else its response is sent, which is read as itself
-abbrev pub Settles : Request → Outcome → Bool → Out → Type 0
-Settles r (Repeats reply) new out =
-    (new ≡ false) × IsSent (response_after r (Some reply)) done.Repeated out
-Settles r IsBusy new out =
-    (new ≡ false) × IsSent (response_after r None) done.Busy out
-Settles r IsNew new out = new ≡ true
+-- a request that isn't new was answered by its response, which is read as itself, and a new one wasn't
+abbrev pub IsSettled : Request → Outcome → Out → Bool → Type 0
+IsSettled r (Repeats reply) out settled = (settled ≡ true) × IsSent (response_after r (Some reply)) done.Repeated out
+IsSettled r IsBusy out settled = (settled ≡ true) × IsSent (response_after r None) done.Busy out
+IsSettled r IsNew out settled = settled ≡ false
 
 -- what is to be done next: a new request is to be carried out
 abbrev pub next_of : Bool → Request → Step Request
-next_of true r = step.Ask r
-next_of false r = step.Done
+next_of false r = step.Ask r
+next_of true r = step.Done
 
 -- what is heard at the lab's port is settled, or is to be carried out
 abbrev pub Steps : PortState → Result Request Reason → Step Request → Out → Type 0
-Steps p (Ok r) next out = (new : Bool) × Settles r (outcome_at p r) new out × (next ≡ next_of new r)
+Steps p (Ok r) next out = (settled : Bool) × IsSettled r (outcome_at p r) out settled × (next ≡ next_of settled r)
 Steps p (Err why) next out = (next ≡ step.Done) × (out ≡ sends [] (done.Ignored why))
+
+-- the same of a request that is new, if one is
+abbrev pub step_of : Option Request → Step Request
+step_of (Some r) = step.Ask r
+step_of None = step.Done
+
+-- Bytes are heard at this address, over these windows: whatever log the windows keep, what is heard is settled, or is to be carried out.
+abbrev pub IsHeardAt : ℕ → Held → List ℕ → Option Request → Out → Type 0
+IsHeardAt wire windows bytes given out = (p : PortState) → AreOf windows p.log → (heard : Result Request Reason) → IsHeard wire bytes heard
+    → Steps p heard (step_of given) out
 
 -- A port hears the bytes up to where the board is to be asked, and stays as it was: whatever port of the lab it shows, what is heard
 -- there is settled, or is to be carried out.
@@ -168,6 +178,10 @@ first_response r a = response_after r (Some (kept_of r a).reply)
 
 abbrev pub first_answer : Request → Answered → Out
 first_answer r a = sends (written (first_response r a) ∷ []) done.Answered
+
+-- A new request was answered so: the windows keep both, and the response is sent, which is read as itself.
+abbrev pub IsKept : Held → Request → Answered → Held → Type 0
+IsKept old r a new = (p : PortState) → AreOf old p.log → outcome_at p r ≡ IsNew → IsFresh old r → AreOf new (carries p r a).log
 
 -- A port is told this answer: whatever port of the lab it shows, it goes on as the rule has it, and sends what that says, which is read as
 -- itself.

@@ -4,6 +4,7 @@ pub mod IpmbHeard
 pub mod IpmbRuns
 pub mod IpmbShown
 pub mod SmbusHeard
+pub mod Boards
 pub mod SmbusShown
 pub mod SmbusRuns
 pub mod Port

@@ -7,7 +7,7 @@ use Rattle.record_base.specs.declared.message.Asked.{Asked}
 use Rattle.record_base.specs.declared.message.Answered.{Answered}
 use Rattle.bmc_board.specs.State.{State}
 use Rattle.bmc_board.specs.Answer.{answer_of}
-use Rattle.model_lab.specs.PortSteps.{PortState, asked_in}
+use Rattle.model_ports.specs.PortSteps.{PortState, asked_in}
 use Rattle.bmc_core.specs.declared.out.Out.{Out}
 use Rattle.bmc_core.specs.declared.step.Step.{Step}
 use Rattle.bmc_core.specs.declared.step.Step.TheVariants.{Ask, Done}
@@ -65,7 +65,7 @@ IsStep _ bytes _ out _ = ⊥
 -- a port is told this answer to a request
 abbrev pub IsTold : Port → Pending → Answered → Port → Out → Type 0
 IsTold (Ipmb port) (pending.Ipmb r) a (Ipmb next) out = ipmb.IsTold port r a next out
-IsTold (Smbus port) (pending.Smbus m) a (Smbus next) out = (p : PortState) → smbus.Shows port p → smbus.Ends next out p (smbus_heard.Asks (smbus.request_in m)) a
+IsTold (Smbus port) (pending.Smbus m) a (Smbus next) out = smbus.IsTold port m a next out
 IsTold _ _ a _ out = ⊥
 
 -- A port of a board that hears the bytes, and is told the board's answer at that moment to what is asked, has heard them as a whole; and

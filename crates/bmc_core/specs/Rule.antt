@@ -1,7 +1,8 @@
 -- The rule for repeated requests, over lists of what is brought to a port.
-use Rattle.std.specs.Prelude.{ℕ, Bool, List, [], ◌∷◌, Option}
+use Rattle.std.specs.Prelude.{ℕ, Bool, ◌==◌, List, [], ◌∷◌, Option}
+use Rattle.std.specs.List.{list_any}
 use Rattle.model_bus.specs.Request.{Entry, Idled}
-use Rattle.model_bus.specs.Carried.{Heard as Brought, HeardRequest, HeardIdle, outcome, log_with, reply_after}
+use Rattle.model_bus.specs.Carried.{Heard as Brought, HeardRequest, HeardIdle, outcome, log_with, reply_after, requesters}
 
 -- the log after a list that was brought
 abbrev pub logs_with : (ℕ → ℕ → Bool) → List Brought → List Entry → List Entry
@@ -13,3 +14,7 @@ abbrev pub replies : (ℕ → ℕ → Bool) → List Entry → List Brought → 
 replies above log [] = []
 replies above log (HeardRequest k ∷ bs) = reply_after (outcome above k.request log) k ∷ replies above (log_with above (HeardRequest k) log) bs
 replies above log (HeardIdle requester ∷ bs) = replies above (Idled requester ∷ log) bs
+
+-- a requester has a window
+abbrev pub has_window : ℕ → List Entry → Bool
+has_window requester log = list_any (λ q. q == requester) (requesters log)

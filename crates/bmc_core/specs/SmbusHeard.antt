@@ -13,12 +13,12 @@ use Rattle.pldm_base.specs.Message.{request_in as pldm_request_in, has_fault as 
 use Rattle.record_base.specs.declared.message.Asked.{Asked}
 use Rattle.record_base.specs.declared.message.Answered.{Answered}
 use Rattle.model_bus.specs.Circle.{instances}
-use Rattle.model_bus.specs.Request.{Request as Asking, Kept}
+use Rattle.model_bus.specs.Request.{Request as Asking, Kept, Entry}
 use Rattle.model_bus.specs.Numbering.{is_above}
 use Rattle.model_bus.specs.Carried.{Outcome, Repeats, IsBusy, IsNew, outcome, log_after, reply_after}
-use Rattle.model_lab.specs.Bytes.{pldm_heard_in, said}
-use Rattle.model_lab.specs.Values.{Value, Part, parts_of}
-use Rattle.model_lab.specs.PortSteps.{PortState, reply_envelope, spelled, pldm_asked}
+use Rattle.model_ports.specs.Bytes.{pldm_heard_in, said}
+use Rattle.model_ports.specs.Values.{Value, Part, parts_of}
+use Rattle.model_ports.specs.PortSteps.{PortState, reply_envelope, spelled, pldm_asked}
 use Rattle.bmc_core.specs.declared.out.Done.{Done}
 use Rattle.bmc_core.specs.declared.out.Done.TheVariants as done
 use Rattle.bmc_core.specs.declared.out.Reason.{Reason}
@@ -89,9 +89,13 @@ asking m = pldm_heard_in m.envelope.source_eid m.request
 abbrev pub asked_of : InMessage → Asked
 asked_of m = pldm_asked m.envelope.source_eid m.request
 
--- what the port does with it: a repeat is looked for first
+-- what the rule does with it after what is in the log: a repeat is looked for first
+abbrev pub found_in : List Entry → InMessage → Outcome
+found_in log m = outcome (is_above instances) (asking m) log
+
+-- and what the port does with it
 abbrev pub found : PortState → InMessage → Outcome
-found port m = outcome (is_above instances) (asking m) port.log
+found port m = found_in port.log m
 
 abbrev pub asks_of : InMessage → Outcome → Option InMessage
 asks_of m IsNew = Some m
@@ -120,6 +124,10 @@ reply_parts port e body = map Part (parts_of (record { envelope = reply_envelope
 pub record Effect : Type 0 where
   pub port : PortState
   pub sent : List Value
+
+-- the reply of a port that is busy
+abbrev pub busy_reply : InMessage → List ℕ
+busy_reply m = said Smbus (asking m) None
 
 -- the request with the reply of this answer
 abbrev pub kept_with : InMessage → Answered → Kept

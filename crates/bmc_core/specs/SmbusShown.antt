@@ -10,16 +10,18 @@ use Rattle.mctp_net.specs.Places.{seen}
 use Rattle.record_base.specs.declared.message.Answered.{Answered}
 use Rattle.cfg_records.specs.declared.board_file.BoardFile.{BoardFile}
 use Rattle.model_bus.specs.Circle.{instances}
-use Rattle.model_bus.specs.Request.{Entry, Carried, Idled}
-use Rattle.model_bus.specs.Carried.{Outcome, Repeats, IsBusy, IsNew}
+use Rattle.model_bus.specs.Request.{Kept, Entry, Carried, Idled}
+use Rattle.model_bus.specs.Numbering.{is_above}
+use Rattle.model_bus.specs.Carried.{Outcome, Repeats, IsBusy, IsNew, outcome}
 use Rattle.bmc_windows.specs.Keeps.{Reading, Held, Keeps}
 use Rattle.bmc_board.specs.State.{State}
-use Rattle.model_lab.specs.Values.{Value, Part, written}
-use Rattle.model_lab.specs.PortSteps.{PortState, Deed, stays, hears, quiet_port}
+use Rattle.model_ports.specs.Values.{Value, Part, written}
+use Rattle.model_ports.specs.PortSteps.{PortState, Deed, stays, hears, quiet_port}
 use Rattle.bmc_core.specs.declared.out.Out.{Out}
 use Rattle.bmc_core.specs.declared.out.Done.{Done}
 use Rattle.bmc_core.specs.declared.out.Done.TheVariants as done
 use Rattle.bmc_core.specs.declared.out.Reason.TheVariants as reason
+use Rattle.bmc_core.specs.declared.port.At.{At}
 use Rattle.bmc_core.specs.declared.step.Step.{Step}
 use Rattle.bmc_core.specs.declared.step.Step.TheVariants as step
 use Rattle.bmc_core.specs.declared.smbus_port.pending.SmbusPending.{SmbusPending}
@@ -73,10 +75,19 @@ Ends next out port h a = HasEffect next out (effect port h a) (done_of port h)
 abbrev pub request_in : SmbusPending → InMessage
 request_in pending = record { envelope = pending.envelope; request = record { header = pending.header; body = pending.body } }
 
--- a new request is asked of the board, and of all else comes what comes of it, whatever the board would answer
+-- the port is told this answer to a request: whatever port of the lab it shows, that comes of it which comes of the request there
+abbrev pub IsTold : SmbusPort → SmbusPending → Answered → SmbusPort → Out → Type 0
+IsTold port pending a next out = (p : PortState) → Shows port p → Ends next out p (Asks (request_in pending)) a
+
+-- the request is new, or where none is given, nothing is asked, and of what was heard comes what comes of it, whatever the board would answer
+abbrev pub IsGiven : SmbusPort → Out → Option InMessage → PortState → Heard → Type 0
+IsGiven next out (Some m) port h = (asks port h ≡ Some m) × Shows next port
+IsGiven next out None port h = (asks port h ≡ None) × ((a : Answered) → Ends next out port h a)
+
+-- a new request is asked of the board
 abbrev pub IsStep : SmbusPort → Out → Step SmbusPending → PortState → Heard → Type 0
-IsStep next out (step.Ask pending) port h = (asks port h ≡ Some (request_in pending)) × Shows next port
-IsStep next out step.Done port h = (asks port h ≡ None) × ((a : Answered) → Ends next out port h a)
+IsStep next out (step.Ask pending) port h = IsGiven next out (Some (request_in pending)) port h
+IsStep next out step.Done port h = IsGiven next out None port h
 
 -- the port and the board are then those of the deed, it sends what the deed sends, each read as itself, and names what was done
 pub record Does (next : SmbusPort) (out : Out) (after : State) (deed : Deed) (what : Done) : Type 0 where
@@ -100,6 +111,15 @@ parts_from wire eid e body = reply_parts (quiet_port wire eid) e body
 abbrev pub frames_from : (wire eid : ℕ) → Envelope → List ℕ → List (List ℕ)
 frames_from wire eid e body = map written (parts_from wire eid e body)
 
+-- a reply of these bytes is sent from a place to the sender of the envelope's message, each packet read as itself, and this was done
+pub record Replies (at : At) (to : Envelope) (body : List ℕ) (what : Done) (out : Out) : Type 0 where
+  pub sent : out ≡ sends (frames_from at.wire at.eid to body) what
+  pub read : AreRead Smbus (parts_from at.wire at.eid to body)
+
+-- a new request was kept with its reply
+abbrev pub IsKept : Held → Kept → Held → Type 0
+IsKept old k new = (log : List Entry) → AreOf old log → outcome (is_above instances) k.request log ≡ IsNew → AreOf new (Carried k ∷ log)
+
 -- The endpoint has this identifier then. Of all that is no request comes what is sent, which is read as itself, and a request is given.
 abbrev pub HasHeard : (wire eid : ℕ) → Heard → ℕ → Out → Option InMessage → Type 0
 HasHeard wire eid (Ignored why) next out given = (next ≡ eid) × (out ≡ ignored why) × (given ≡ None)
@@ -118,6 +138,12 @@ IsPart port p h out false = HasHeard port.wire port.eid h port.eid out None
 pub record HasTaken (port : PortState) (p : Packet) (left : Assemblies) (out : Out) (whole : Bool) : Type 0 where
   pub kept : left ≡ (taken port p).kept
   pub heard : IsPart (taken port p) p (heard_in port p) out whole
+
+-- What was read in bytes: the packet that ends a message, in which this is heard; or else no request is heard, and comes what is sent. What
+-- waits then is this.
+abbrev pub IsRead : PortState → List ℕ → Assemblies → Out → Option Packet → Type 0
+IsRead port bytes left out (Some p) = Hearing port bytes (λ now h. (now ≡ record port { kept = left }) × (h ≡ message_heard (message_of left p)))
+IsRead port bytes left out None = Hearing port bytes (λ now h. (now ≡ record port { kept = left }) × HasHeard port.wire port.eid h port.eid out None)
 
 -- a request that repeats another, or for which there's no window, was answered by these packets, each read as itself, and a new one wasn't
 abbrev pub IsSettled : Outcome → (busy : List ℕ) → (List ℕ → List Value) → Out → Out → Bool → Type 0

@@ -1,10 +1,9 @@
 //! The port of either bus.
-ghost use Rattle.std.specs.Prelude.{◌≡◌, ◌==◌, ◌≤◌, IfOk, length};
-ghost use Rattle.std.specs.List.{list_any};
-ghost use Rattle.model_bus.specs.Carried.{requesters};
+ghost use Rattle.std.specs.Prelude.{◌≡◌, ◌≤◌, IfOk, length};
 ghost use Rattle.record_base.specs.Meaning.{room_for};
 ghost use Rattle.bmc_board.specs.State.{state_of};
-ghost use Rattle.model_lab.specs.PortSteps.{PortState, quiet_port, idles};
+ghost use Rattle.model_ports.specs.PortSteps.{PortState, quiet_port, idles};
+ghost use Rattle.bmc_core.specs.Rule.{has_window};
 ghost use Rattle.bmc_core.specs.Port.{bus_of, bus_asked, asked_of, Shows, Hears, IsStep, IsOn, IsTold};
 
 pub mod laws;
@@ -66,7 +65,8 @@ impl Port {
 
     /// Takes what is heard on the bus, and fills in what is to be sent. It takes no memory.
     pub fn on_frame<S: Store>(&mut self, board: &mut Board<S>, bytes: &[u8], out: &mut Out)
-        ensures heard { Hears board.old.setup self.old (state_of S.records board.old) bytes.now out.new self.new (state_of S.records board.new) }
+        ensures heard { Hears board.old.setup self.old (state_of S.records board.old) bytes.now
+            out.new self.new (state_of S.records board.new) }
         ensures setup { board.new.setup ≡ board.old.setup }
         ensures bus { bus_of self.new ≡ bus_of self.old }
     {
@@ -118,7 +118,7 @@ impl Port {
     /// Forgets a requester's window, and says whether there was one.
     pub fn idle(&mut self, requester: u8) -> bool
         ensures keeps { (p : PortState) → Shows self.old p → Shows self.new (idles requester p) }
-        ensures had { (p : PortState) → Shows self.old p → result ≡ list_any (λ q. q == requester) (requesters p.log) }
+        ensures had { (p : PortState) → Shows self.old p → result ≡ has_window requester p.log }
         ensures bus { bus_of self.new ≡ bus_of self.old }
     {
         match self {

@@ -1,11 +1,13 @@
 //! A port on the System Management Bus, which carries each distinct request out once.
-ghost use Rattle.std.specs.Prelude.{◌≡◌, ◌==◌, IfOk};
-ghost use Rattle.std.specs.List.{list_any};
-ghost use Rattle.model_bus.specs.Carried.{requesters};
+ghost use Rattle.std.specs.Prelude.{◌≡◌, ◌≤◌, length, IfOk};
+ghost use Rattle.two_wire.specs.Sizes.{most_message_bytes};
+ghost use Rattle.mctp_net.specs.Places.{seen};
 ghost use Rattle.bmc_board.specs.State.{state_of};
-ghost use Rattle.model_lab.specs.PortSteps.{PortState, quiet_port, idles};
-ghost use Rattle.bmc_core.specs.SmbusShown.{Shows, Hearing, IsStep, Ends, HearsBytes, request_in};
-ghost use Rattle.bmc_core.specs.SmbusHeard.{Asks};
+ghost use Rattle.model_ports.specs.PortSteps.{PortState, quiet_port, idles};
+ghost use Rattle.bmc_core.specs.declared.smbus_port.SmbusPort.{SmbusPort as AnyPort};
+ghost use Rattle.bmc_core.specs.Rule.{has_window};
+ghost use Rattle.bmc_core.specs.SmbusHeard.{message_heard};
+ghost use Rattle.bmc_core.specs.SmbusShown.{AreOf, Shows, Hearing, IsGiven, IsStep, IsTold, IsRead, HearsBytes};
 
 mod hearing;
 pub mod laws;
@@ -18,7 +20,8 @@ use crate::step::Step;
 use bmc_board::Board;
 use cfg_records::{Answered, Store};
 use hearing::{hear, take};
-use mctp_net::{Assembler, Endpoint, read_packet};
+use mctp_net::{Assembler, Endpoint, Envelope, Packet, read_packet};
+use pending::RequestInMessage;
 pub use pending::SmbusPending;
 use replying::{Kept, Reply, carry_out, keep_answer, settle};
 use std::alloc::{AllocError, Global};
@@ -37,6 +40,58 @@ pub struct SmbusPort {
     windows: Kept,
     /// Where the reply of a new request is made.
     made: Reply,
+}
+
+/// The packet to this address that the bytes are, where it ends a message. Of all else `out` says what was done.
+fn read<'a>(
+    wire: Address,
+    endpoint: &Endpoint,
+    assembler: &mut Assembler,
+    bytes: &'a [u8],
+    out: &mut Out,
+) -> Option<Packet<'a>>
+    ensures { (p : PortState) → p.wire ≡ wire → p.eid ≡ endpoint.now → p.kept ≡ seen assembler.old
+        → IsRead p bytes.now (seen assembler.new) out.new result }
+{
+    let packet = match read_packet(bytes) {
+        Ok(packet) => packet,
+        Err(fault) => {
+            out.ignore(Reason::Packet(fault));
+            return None;
+        }
+    };
+    if !take(wire, endpoint, assembler, &packet, out) {
+        return None;
+    }
+    Some(packet)
+}
+
+/// The new request that a message of this envelope and body is. Of all else `out` says what was done.
+fn heard<'a>(
+    wire: Address,
+    endpoint: &mut Endpoint,
+    windows: &Kept,
+    envelope: Envelope,
+    body: &'a [u8],
+    out: &mut Out,
+) -> Option<RequestInMessage<'a>>
+    requires { length body.now ≤ most_message_bytes }
+    ensures { (p : PortState) (next : AnyPort) → p.wire ≡ wire → p.eid ≡ endpoint.old
+        → AreOf windows.now p.log → Shows next (record p { eid = endpoint.new })
+        → IsGiven next out.new result p
+        (message_heard (record { envelope = envelope; body = body.now })) }
+{
+    let Some(request) = hear(wire, endpoint, envelope, body, out) else {
+        return None;
+    };
+    let at = At {
+        wire,
+        eid: endpoint.eid(),
+    };
+    if settle(windows, &at, &request, out) {
+        return None;
+    }
+    Some(request)
 }
 
 impl SmbusPort {
@@ -66,42 +121,29 @@ impl SmbusPort {
 
     /// Takes what is heard on the bus: asks what a new request asks of the board, or fills in what is to be sent. It takes no memory.
     pub fn hear(&mut self, bytes: &[u8], out: &mut Out) -> Step<SmbusPending>
-        ensures { (p : PortState) → Shows self.old p → Hearing p bytes.now (IsStep self.new out.new result) }
+        ensures { (p : PortState) → Shows self.old p
+            → Hearing p bytes.now (IsStep self.new out.new result) }
     {
-        let packet = match read_packet(bytes) {
-            Ok(packet) => packet,
-            Err(fault) => {
-                out.ignore(Reason::Packet(fault));
-                return Step::Done;
-            }
-        };
-        let envelope = packet.envelope;
-        if !take(self.wire, &self.endpoint, &mut self.assembler, &packet, out) {
+        let Some(packet) = read(self.wire, &self.endpoint, &mut self.assembler, bytes, out) else {
             return Step::Done;
-        }
-        let Some(request) = hear(
+        };
+        match heard(
             self.wire,
             &mut self.endpoint,
-            envelope,
+            &self.windows,
+            packet.envelope,
             self.assembler.body(&packet),
             out,
-        ) else {
-            return Step::Done;
-        };
-        let at = At {
-            wire: self.wire,
-            eid: self.endpoint.eid(),
-        };
-        if settle(&self.windows, &at, &request, out) {
-            return Step::Done;
+        ) {
+            Some(request) => Step::Ask(request.pending()),
+            None => Step::Done,
         }
-        Step::Ask(request.pending())
     }
 
     /// Takes the answer to what was asked, and fills in what is to be sent. It takes no memory. Where the request
     /// repeats another by now, it gets the kept reply; where no window is free any more, the port answers that it's busy.
     pub fn told(&mut self, pending: SmbusPending, answered: &Answered, out: &mut Out)
-        ensures { (p : PortState) → Shows self.old p → Ends self.new out.new p (Asks (request_in pending)) answered.now }
+        ensures { IsTold self.old pending answered.now self.new out.new }
     {
         let at = self.at();
         let bytes = pending.bytes();
@@ -121,21 +163,19 @@ impl SmbusPort {
 
     /// Takes what is heard on the bus, has a new request carried out, and fills in what is to be sent. It takes no memory.
     pub fn on_frame<S: Store>(&mut self, board: &mut Board<S>, bytes: &[u8], out: &mut Out)
-        ensures heard { (p : PortState) → Shows self.old p → HearsBytes board.old.setup p (state_of S.records board.old) bytes.now self.new out.new (state_of S.records board.new) }
+        ensures heard { (p : PortState) → Shows self.old p
+            → HearsBytes board.old.setup p (state_of S.records board.old) bytes.now
+            self.new out.new (state_of S.records board.new) }
         ensures setup { board.new.setup ≡ board.old.setup }
     {
-        let packet = match read_packet(bytes) {
-            Ok(packet) => packet,
-            Err(fault) => return out.ignore(Reason::Packet(fault)),
-        };
-        let envelope = packet.envelope;
-        if !take(self.wire, &self.endpoint, &mut self.assembler, &packet, out) {
+        let Some(packet) = read(self.wire, &self.endpoint, &mut self.assembler, bytes, out) else {
             return;
-        }
-        let Some(request) = hear(
+        };
+        let Some(request) = heard(
             self.wire,
             &mut self.endpoint,
-            envelope,
+            &self.windows,
+            packet.envelope,
             self.assembler.body(&packet),
             out,
         ) else {
@@ -145,16 +185,13 @@ impl SmbusPort {
             wire: self.wire,
             eid: self.endpoint.eid(),
         };
-        if settle(&self.windows, &at, &request, out) {
-            return;
-        }
         carry_out(&mut self.windows, &mut self.made, board, &at, &request, out);
     }
 
     /// Forgets a requester's window, and says whether there was one.
     pub fn idle(&mut self, requester: u8) -> bool
-        ensures forgotten { (p : PortState) → Shows self.old p → Shows self.new (idles requester p) }
-        ensures had { (p : PortState) → Shows self.old p → result ≡ list_any (λ q. q == requester) (requesters p.log) }
+        ensures keeps { (p : PortState) → Shows self.old p → Shows self.new (idles requester p) }
+        ensures had { (p : PortState) → Shows self.old p → result ≡ has_window requester p.log }
     {
         self.windows.idle(requester)
     }

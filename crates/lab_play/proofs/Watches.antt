@@ -9,7 +9,7 @@ use Rattle.two_wire.specs.declared.Bus.TheVariants.{Ipmb, Smbus}
 use Rattle.mctp_net.specs.declared.packet.Packet.{Packet}
 use Rattle.mctp_net.specs.Assembly.{is_ours}
 use Rattle.cfg_records.specs.declared.board_file.BoardFile.{BoardFile}
-use Rattle.model_lab.specs.Values.{Value, Asks, Tells, Part, IsFrameOn}
+use Rattle.model_ports.specs.Values.{Value, Asks, Tells, Part, IsFrameOn}
 use Rattle.model_lab.specs.Joins.{JoinsLive}
 use Rattle.model_lab.specs.Faults.{begun_on}
 use Rattle.model_lab.specs.Lab.{LabFrame, Lab as LabModel, port_on}

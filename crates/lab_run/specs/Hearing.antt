@@ -7,8 +7,8 @@ use Rattle.ipmb_frame.specs.declared.message.Request.{Request}
 use Rattle.ipmb_frame.specs.Fault.{has_fault as has_frame_fault, faults as frame_faults}
 use Rattle.mctp_net.specs.Grammar.{has_fault as has_packet_fault, faults as packet_faults}
 use Rattle.cfg_records.specs.declared.board_file.BoardFile.{BoardFile}
-use Rattle.model_lab.specs.Values.{Value, Asks, Tells, Part, written, IsFrameOn}
-use Rattle.model_lab.specs.PortSteps.{PortState, Deed}
+use Rattle.model_ports.specs.Values.{Value, Asks, Tells, Part, written, IsFrameOn}
+use Rattle.model_ports.specs.PortSteps.{PortState, Deed}
 use Rattle.model_lab.specs.Lab.{LabFrame, Lab as LabModel, port_on, with_port}
 use Rattle.bmc_core.specs.declared.out.Out.{Out}
 use Rattle.bmc_core.specs.declared.out.Done.{Done}

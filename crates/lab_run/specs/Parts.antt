@@ -1,7 +1,7 @@
 -- The packet that an event brings to the controller's port on SMBus.
 use Rattle.std.specs.Prelude.{ℕ, Option, Some, None, slice_get}
 use Rattle.mctp_net.specs.Assembly.{is_ours}
-use Rattle.model_lab.specs.Values.{Value, Asks, Tells, Part}
+use Rattle.model_ports.specs.Values.{Value, Asks, Tells, Part}
 use Rattle.model_lab.specs.Lab.{LabFrame, Lab as LabModel}
 use Rattle.text_schedule.specs.declared.event.Event.{Event}
 use Rattle.text_schedule.specs.declared.event.Event.TheVariants as event

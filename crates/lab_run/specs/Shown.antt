@@ -9,7 +9,7 @@ use Rattle.bmc_board.specs.State.{state_of}
 use Rattle.model_lab.specs.Lab.{LabFrame, Lab as LabModel, idles_on}
 use Rattle.bmc_core.specs.IpmbShown as ipmb
 use Rattle.bmc_core.specs.SmbusShown as smbus
-use Rattle.model_lab.specs.Values.{IsFrameOn}
+use Rattle.model_ports.specs.Values.{IsFrameOn}
 use Rattle.undo_core.specs.Shown as manager
 use Rattle.lab_run.specs.declared.frames.SentFrame.{SentFrame}
 use Rattle.model_lab.specs.Meaning.{lab_names}

@@ -7,7 +7,7 @@ ghost use Rattle.undo_core.specs.Shown.{words_of};
 ghost use Rattle.cfg_records.specs.declared.board_file.BoardFile.{BoardFile as AnyFile};
 ghost use Rattle.two_wire.specs.declared.Bus.{Bus as AnyBus};
 ghost use Rattle.model_lab.specs.Lab.{Lab as LabModel, opening};
-ghost use Rattle.model_lab.specs.PortSteps.{quiet_port};
+ghost use Rattle.model_ports.specs.PortSteps.{quiet_port};
 ghost use Rattle.bmc_core.specs.IpmbShown as ipmb;
 ghost use Rattle.bmc_core.specs.SmbusShown as smbus;
 ghost use Rattle.model_lab.specs.Meaning.{lab_names as the_names};

@@ -3,7 +3,7 @@ ghost use Rattle.std.specs.Prelude.{◌≡◌, ◌≤◌, length, [], ◌∷◌,
 ghost use Rattle.two_wire.specs.Sizes.{most_message_bytes};
 ghost use Rattle.undo_plans.specs.declared.names.Names.{Names as AnyNames};
 ghost use Rattle.model_undo.specs.Machine.{open_bus};
-ghost use Rattle.model_lab.specs.PortSteps.{asked_in};
+ghost use Rattle.model_ports.specs.PortSteps.{asked_in};
 ghost use Rattle.model_lab.specs.ManagerSteps.{board_plans};
 ghost use Rattle.model_lab.specs.Lab.{Lab, Noise, Idles};
 ghost use Rattle.model_lab.specs.declared.fault.Fault.TheVariants.{Changing, Impersonates};

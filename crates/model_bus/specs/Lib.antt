@@ -1,3 +1,5 @@
+pub mod Answered
+pub mod Addresses
 pub mod Request
 pub mod Numbering
 pub mod Carried

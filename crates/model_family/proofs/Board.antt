@@ -8,11 +8,11 @@ use Rattle.record_kinds.specs.Sound.{IsSoundAt}
 use Rattle.record_kinds.proofs.Starts.{starts_sound}
 use Rattle.bmc_board.proofs.OneAnswer.{has_answer}
 use Rattle.bmc_board.proofs.Quiet.{keeps_records}
-use Rattle.model_undo.specs.TwoBuses.{Addresses}
+use Rattle.model_bus.specs.Addresses.{Addresses}
 use Rattle.model_undo.specs.Line.{Exchange, Line}
 use Rattle.model_undo.specs.World.{BoardMay}
 use Rattle.model_family.specs.Family.{Allows, family, answer}
-use Rattle.model_lab.specs.Wires.{asked_from}
+use Rattle.model_ports.specs.Wires.{asked_from}
 use Rattle.model_lab.specs.ManagerWires.{wires}
 use Rattle.model_family.specs.Board.{StartsValid, QuietMay, AnswersMay}
 

@@ -16,7 +16,7 @@ use Rattle.model_undo.specs.Family.{AllValid}
 use Rattle.model_undo.specs.World.{World, BoardMay, May}
 use Rattle.model_undo.specs.Example.{addresses, messages, quiet_messages}
 use Rattle.model_family.specs.Family.{family, answer}
-use Rattle.model_lab.specs.Wires.{asked_from}
+use Rattle.model_ports.specs.Wires.{asked_from}
 use Rattle.model_lab.specs.ManagerWires.{wires}
 use Rattle.model_family.specs.Example.{with_others, board, with_policy, to_port, to_manager, after, EndsUndone}
 

@@ -31,11 +31,13 @@ use Rattle.bmc_board.proofs.AnswerFacts.{limits_are_of, never_busy}
 use Rattle.bmc_board.proofs.Decoded.{is_read_from_all, gets_are_read, sets_are_read}
 use Rattle.bmc_board.proofs.OneAnswer.{has_one_answer}
 use Rattle.bmc_board.proofs.Undone.{unknown_is_fault, Shows, shows}
-use Rattle.model_undo.specs.Words.{Answered, is_busy}
+use Rattle.model_bus.specs.Answered.{Answered}
+use Rattle.model_undo.specs.Words.{is_busy}
 use Rattle.model_undo.specs.Family.{SetsTo}
 use Rattle.model_undo.specs.IsFamily.{Showed, IsFamily}
-use Rattle.model_undo.specs.TwoBuses.{Addresses}
-use Rattle.model_lab.specs.ManagerWords.{bus_of, from_manager, board_answer}
+use Rattle.model_bus.specs.Addresses.{Addresses}
+use Rattle.model_ports.specs.Wires.{bus_of, board_answer}
+use Rattle.model_lab.specs.ManagerWords.{from_manager}
 use Rattle.model_family.specs.Family.{Allows, SetsWithin, ShowsWithin, conf_within, family}
 
 -- ---- the kinds: what holds within limits that may be none

@@ -10,11 +10,11 @@ use Rattle.bmc_board.specs.State.{State, opened}
 use Rattle.bmc_board.specs.Table.{is_changing}
 use Rattle.bmc_board.specs.Row.{Row}
 use Rattle.model_undo.specs.Family.{AllValid}
-use Rattle.model_undo.specs.TwoBuses.{Addresses}
+use Rattle.model_bus.specs.Addresses.{Addresses}
 use Rattle.model_undo.specs.Line.{Exchange, Line}
 use Rattle.model_undo.specs.World.{World, OnBus, IsHonestOn, May}
 use Rattle.model_family.specs.Family.{family, answer}
-use Rattle.model_lab.specs.Wires.{asked_from, reply_to}
+use Rattle.model_ports.specs.Wires.{asked_from, reply_to}
 use Rattle.model_lab.specs.ManagerWires.{wires}
 
 -- the records that a board's file gives are valid, and so are all that its limits allow

@@ -12,10 +12,11 @@ use Rattle.bmc_board.specs.Request.{Get, asked_by}
 use Rattle.bmc_board.specs.State.{State}
 use Rattle.bmc_board.specs.Answer.{answer_of}
 use Rattle.bmc_board.specs.Row.{Row}
-use Rattle.model_undo.specs.Words.{Answered}
+use Rattle.model_bus.specs.Answered.{Answered}
 use Rattle.model_undo.specs.Family.{Family}
-use Rattle.model_undo.specs.TwoBuses.{Addresses}
-use Rattle.model_lab.specs.ManagerWords.{board_answer, family_answer, manager_words}
+use Rattle.model_bus.specs.Addresses.{Addresses}
+use Rattle.model_ports.specs.Wires.{board_answer, family_answer}
+use Rattle.model_lab.specs.ManagerWords.{manager_words}
 
 -- the limits allow the value
 abbrev pub Allows : Option Limits → List ℕ → Type 0

@@ -17,11 +17,11 @@ use Rattle.model_undo.specs.Words.{Words}
 use Rattle.model_undo.specs.Wires.{number_of, IsMade}
 use Rattle.model_undo.specs.World as world
 use Rattle.model_undo.specs.World.{States}
-use Rattle.model_lab.specs.ManagerWords.{bus_of, manager_words}
-use Rattle.model_lab.specs.Wires.{bytes_of}
+use Rattle.model_ports.specs.Wires.{bus_of, bytes_of}
+use Rattle.model_lab.specs.ManagerWords.{manager_words}
 use Rattle.model_lab.proofs.Spelled.{are_spelled}
 use Rattle.undo_plans.specs.declared.names.Names.{Names}
-use Rattle.model_undo.specs.TwoBuses.{Addresses}
+use Rattle.model_bus.specs.Addresses.{Addresses}
 use Rattle.model_lab.specs.ManagerSteps.{Sent as SentFrames, addresses, values_of, sent_of}
 use Rattle.model_lab.specs.declared.way.Way.TheVariants.{ToPort}
 use Rattle.model_lab.specs.Lab.{Lab, with_frames, sends}

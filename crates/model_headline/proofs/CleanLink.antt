@@ -18,7 +18,8 @@ use Rattle.record_kinds.proofs.Starts.{starts_sound}
 use Rattle.bmc_board.specs.State.{State}
 use Rattle.bmc_board.proofs.AnswerFacts.{stays_sound}
 use Rattle.bmc_board.proofs.OneAnswer.{has_answer}
-use Rattle.model_undo.specs.Words.{Answered, Words}
+use Rattle.model_bus.specs.Answered.{Answered}
+use Rattle.model_undo.specs.Words.{Words}
 use Rattle.model_undo.specs.declared.phase.Why.{Why}
 use Rattle.model_undo.specs.declared.phase.Why.TheVariants.{Stop, Refused, NotRestorable, GetRefused}
 use Rattle.model_undo.specs.declared.phase.Phase.{Phase}

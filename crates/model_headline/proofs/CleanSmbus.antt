@@ -35,23 +35,24 @@ use Rattle.model_bus.specs.BusState.{request_of}
 use Rattle.model_bus.specs.PacketBus.{rules_of}
 use Rattle.model_bus.specs.Bytes.{answers}
 use Rattle.model_bus.proofs.NumberLaws.{smbus_numbers}
-use Rattle.model_undo.specs.Words.{Answered, is_busy}
+use Rattle.model_bus.specs.Answered.{Answered}
+use Rattle.model_undo.specs.Words.{is_busy}
 use Rattle.model_undo.specs.Wires.{number_of, IsSeries, IsOf, IsMade}
-use Rattle.model_undo.specs.TwoBuses.{Addresses}
+use Rattle.model_bus.specs.Addresses.{Addresses}
 use Rattle.model_undo.specs.Machine.{Task, Opened, Machine, enters, takes, reply_of, stage_after, undo_after, one_answered}
 use Rattle.model_lab.specs.ManagerWords.{from_manager, manager_words}
 use Rattle.model_family.specs.Family.{answer}
-use Rattle.model_lab.specs.Wires.{bytes_of, reply_to}
+use Rattle.model_ports.specs.Wires.{bytes_of, reply_to}
 use Rattle.model_lab.specs.WireLaws.{managers}
 use Rattle.model_lab.proofs.Spelled.{are_spelled}
 use Rattle.undo_plans.specs.declared.names.Names.{Names}
-use Rattle.model_lab.specs.Values.{Part, parts_of}
-use Rattle.model_lab.specs.Bytes.{pldm_heard_in, said}
-use Rattle.model_lab.specs.Cuts.{kept_after_parts}
-use Rattle.model_lab.specs.PortSteps.{Deed, Turn as PortTurn, hears_message, hears_pldm, pldm_turn, pldm_asked, replies, spelled}
+use Rattle.model_ports.specs.Values.{Part, parts_of}
+use Rattle.model_ports.specs.Bytes.{pldm_heard_in, said}
+use Rattle.model_ports.specs.Cuts.{kept_after_parts}
+use Rattle.model_ports.specs.PortSteps.{Deed, Turn as PortTurn, hears_message, hears_pldm, pldm_turn, pldm_asked, replies, spelled}
 use Rattle.model_lab.specs.ManagerSteps.{addresses, ManagerState, ManagerDeed, goes_on, rests, taken_or, hears_reply, is_part}
-use Rattle.model_lab.proofs.Stepping.{turns_by}
-use Rattle.model_lab.proofs.Parts.{parts_are_cuts}
+use Rattle.model_ports.proofs.Turning.{turns_by}
+use Rattle.model_ports.proofs.Parts.{parts_are_cuts}
 use Rattle.model_headline.specs.Tied.{P, F, rules_on, smbus_bus}
 use Rattle.model_headline.proofs.Sending.{made_type, from_zero}
 use Rattle.model_headline.proofs.CleanQueue.{Link, port_goes, manager_goes, settles, settles_more}

@@ -6,8 +6,9 @@ use Rattle.two_wire.specs.Codes.{success}
 use Rattle.two_wire.specs.declared.Bus.{Bus}
 use Rattle.record_base.specs.declared.op.Op.{Op}
 use Rattle.record_base.specs.declared.message.Asked.{Asked}
-use Rattle.model_undo.specs.Words.{Answered, Words}
-use Rattle.model_undo.specs.TwoBuses.{Addresses}
+use Rattle.model_bus.specs.Answered.{Answered}
+use Rattle.model_undo.specs.Words.{Words}
+use Rattle.model_bus.specs.Addresses.{Addresses}
 use Rattle.model_undo.specs.Machine.{Task, Gets, Sets, Undoes, Part, Stage, AtStart, Opened, AtEnd, AtHalt, AtUndone, AtRefused, begun, Machine, Turn, series_of, bodies_with, takes, finished, refused, set_stage, next_stage, undo_stage, undo_after, first_stage, starts}
 use Rattle.model_lab.specs.ManagerWords.{manager_words}
 use Rattle.model_headline.specs.Made as made

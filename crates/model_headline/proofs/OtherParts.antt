@@ -35,19 +35,19 @@ use Rattle.model_bus.specs.PacketBus.{PacketBus, Ends, PacketEvent, OtherPacket,
 use Rattle.model_bus.proofs.Lists.{Grows}
 use Rattle.model_undo.specs.Machine.{count_of}
 use Rattle.model_undo.specs.World.{States, OnBus, OnBench, update}
-use Rattle.model_lab.specs.ManagerWords.{family_answer}
-use Rattle.model_lab.specs.Seen.{seen, WaitsAlike}
+use Rattle.model_ports.specs.Wires.{family_answer}
+use Rattle.model_ports.specs.Seen.{seen, WaitsAlike}
 use Rattle.undo_plans.specs.declared.names.Names.{Names}
-use Rattle.model_lab.specs.Values.{parts_of}
-use Rattle.model_lab.specs.Bytes.{pldm_heard_in}
-use Rattle.model_lab.specs.PortSteps.{PortState, Deed, turn, spelled, left_by, pldm_asked, stays, hears_control, hears_pldm, hears_typed, hears_message, hears_part, hears_parts, ends_message, hears_all}
-use Rattle.model_lab.specs.PortEvents.{name_in, part_answer_to, event_by, happens_if, IsPortOf}
+use Rattle.model_ports.specs.Values.{parts_of}
+use Rattle.model_ports.specs.Bytes.{pldm_heard_in}
+use Rattle.model_ports.specs.PortSteps.{PortState, Deed, turn, spelled, left_by, pldm_asked, stays, hears_control, hears_pldm, hears_typed, hears_message, hears_part, hears_parts, ends_message, hears_all}
+use Rattle.model_ports.specs.PortEvents.{name_in, part_answer_to, event_by, happens_if, IsPortOf}
 use Rattle.model_lab.specs.Honest.{IsAnother, ChangesNothing}
 use Rattle.model_lab.specs.declared.way.Way.TheVariants.{ToOthers}
 use Rattle.model_lab.specs.Lab.{Lab, frame_now, with_port, port_does}
-use Rattle.model_lab.specs.Cuts.{is_for, has_slot, kept_with_parts}
-use Rattle.model_lab.proofs.PortEvents.{parts_leave_log}
-use Rattle.model_lab.proofs.Parts.{parts_are_heard}
+use Rattle.model_ports.specs.Cuts.{is_for, has_slot, kept_with_parts}
+use Rattle.model_ports.proofs.PortEvents.{parts_leave_log}
+use Rattle.model_ports.proofs.Parts.{parts_are_heard}
 use Rattle.model_headline.specs.Each.{Each}
 use Rattle.model_headline.specs.Tied.{P, L, smbus_bus, rules_on, requests, IsHeld, IsAnswer, EntryAnswers, IsTied, Goes}
 use Rattle.model_headline.proofs.Each.{each_append, each_map, each_by_place}

@@ -22,14 +22,14 @@ use Rattle.model_bus.specs.PacketEffect.{HasPacketEffect}
 use Rattle.model_bus.proofs.Cutting.{packets_cut}
 use Rattle.model_undo.specs.World.{States}
 use Rattle.model_undo.proofs.LineLaws.{effect}
-use Rattle.model_lab.specs.Seen.{seen, Agrees}
-use Rattle.model_lab.proofs.PacketSteps.{takes-agrees}
+use Rattle.model_ports.specs.Seen.{seen, Agrees}
+use Rattle.model_ports.proofs.PacketSteps.{takes-agrees}
 use Rattle.undo_plans.specs.declared.names.Names.{Names}
-use Rattle.model_lab.specs.Values.{Part}
-use Rattle.model_lab.specs.PortEvents.{name_in, part_answer_to, PartsAreEvents}
+use Rattle.model_ports.specs.Values.{Part}
+use Rattle.model_ports.specs.PortEvents.{name_in, part_answer_to, PartsAreEvents}
 use Rattle.model_lab.specs.Own.{JoinsOwn}
 use Rattle.model_lab.specs.Lab.{LabFrame, Lab, opens}
-use Rattle.model_lab.proofs.PortEvents.{parts_leave_log}
+use Rattle.model_ports.proofs.PortEvents.{parts_leave_log}
 use Rattle.model_headline.specs.Tied.{P, L, smbus_bus, rules_on, HoldsAskedPart, IsTied, world_of}
 use Rattle.model_headline.specs.Follows.{Holds}
 use Rattle.model_headline.proofs.Sending.{from_zero}

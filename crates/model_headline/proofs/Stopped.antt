@@ -12,12 +12,13 @@ use Rattle.mctp_net.specs.Assembly.{is_ours, drop_cause, after as kept_after, me
 use Rattle.cfg_records.specs.declared.board_file.BoardFile.{BoardFile}
 use Rattle.model_bus.specs.Repeat.{In}
 use Rattle.model_bus.specs.Bytes.{answers}
-use Rattle.model_undo.specs.Words.{Answered, is_busy, Words}
+use Rattle.model_bus.specs.Answered.{Answered}
+use Rattle.model_undo.specs.Words.{is_busy, Words}
 use Rattle.model_undo.specs.Machine.{Stage, AtStart, Opened, AtEnd, AtHalt, AtUndone, AtRefused, Machine, Part as TaskPart, Turn, sending, rests as machine_rests, starts, undoes, quiets, agains, replies, takes, reply_of}
-use Rattle.model_lab.specs.Wires.{answered_from}
-use Rattle.model_lab.specs.Values.{Value, Asks, Tells, Part}
-use Rattle.model_lab.specs.Bytes.{response_bytes}
-use Rattle.model_lab.specs.PortSteps.{PortState, Deed, hears, hears_all, idles}
+use Rattle.model_ports.specs.Wires.{answered_from}
+use Rattle.model_ports.specs.Values.{Value, Asks, Tells, Part}
+use Rattle.model_ports.specs.Bytes.{response_bytes}
+use Rattle.model_ports.specs.PortSteps.{PortState, Deed, hears, hears_all, idles}
 use Rattle.text_schedule.specs.declared.event.Call.{Call}
 use Rattle.text_schedule.specs.declared.event.Call.TheVariants.{Start, Quiet, Stop, Again, Undo}
 use Rattle.model_lab.specs.ManagerSteps.{Plans, ManagerState, ManagerDeed, Sent, rests, goes_on, turn_of, waits_after, called, heeded_on, open_bytes, taken_or, tested, hears_reply, hears_response, ends_reply, joins, joins_for, hears_packet, manager_hears, is_answer, is_part, open_count}

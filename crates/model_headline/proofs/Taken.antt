@@ -14,7 +14,8 @@ use Rattle.model_bus.specs.Repeat.{In}
 use Rattle.model_bus.specs.PacketBus.{request_name}
 use Rattle.model_bus.specs.Effect.{IsTaken}
 use Rattle.model_bus.proofs.Lists.{length_more}
-use Rattle.model_undo.specs.Words.{Answered, is_busy}
+use Rattle.model_bus.specs.Answered.{Answered}
+use Rattle.model_undo.specs.Words.{is_busy}
 use Rattle.model_undo.specs.Machine.{Task, Part, Opened, Turn, bus_at, count_of, one_answered, replies, takes, reply_of}
 use Rattle.model_undo.specs.Joined.{IsClosed, OthersStill}
 use Rattle.model_undo.specs.World as world
@@ -22,9 +23,9 @@ use Rattle.model_undo.specs.World.{States}
 use Rattle.model_undo.proofs.Buses.{each_bus}
 use Rattle.model_undo.proofs.World.{count_here, count_there}
 use Rattle.model_undo.proofs.Joined.{Joined, told}
-use Rattle.model_lab.specs.Wires.{answered_from}
+use Rattle.model_ports.specs.Wires.{answered_from}
 use Rattle.model_family.proofs.IsFamily.{is_family}
-use Rattle.model_lab.specs.Seen.{WaitsAlike}
+use Rattle.model_ports.specs.Seen.{WaitsAlike}
 use Rattle.undo_plans.specs.declared.names.Names.{Names}
 use Rattle.model_lab.specs.ManagerSteps.{goes_on, open_count, sent_of}
 use Rattle.model_lab.specs.ManagerEvents.{name_awaited}

@@ -17,7 +17,8 @@ use Rattle.model_bus.specs.Packet.{packets_of}
 use Rattle.model_bus.specs.PacketBus.{opening_ends}
 use Rattle.model_bus.specs.Answering.{AreWritten}
 use Rattle.model_bus.proofs.Cutting.{packets_cut}
-use Rattle.model_undo.specs.Words.{Answered, get_asked, set_asked}
+use Rattle.model_bus.specs.Answered.{Answered}
+use Rattle.model_undo.specs.Words.{get_asked, set_asked}
 use Rattle.model_undo.specs.declared.phase.Why.TheVariants.{Stop, Refused, NotRestorable, GetRefused}
 use Rattle.model_undo.specs.declared.phase.Phase.{Phase}
 use Rattle.model_undo.specs.declared.phase.Phase.TheVariants.{Fresh, Getting, Setting, Done, Halted, Unsettled, Undoing, Undone, UndoRefused}

@@ -6,14 +6,15 @@ use Rattle.record_base.specs.declared.message.Asked.{Asked}
 use Rattle.record_base.specs.declared.op.Op.{Op}
 use Rattle.cfg_records.specs.declared.board_file.BoardFile.{BoardFile}
 use Rattle.model_bus.specs.Request.{Kept, Carried}
-use Rattle.model_undo.specs.Words.{Answered, get_asked, set_asked}
+use Rattle.model_bus.specs.Answered.{Answered}
+use Rattle.model_undo.specs.Words.{get_asked, set_asked}
 use Rattle.model_undo.specs.declared.phase.Why.TheVariants.{Stop, Refused, NotRestorable, GetRefused}
 use Rattle.model_undo.specs.declared.phase.Phase.{Phase}
 use Rattle.model_undo.specs.declared.phase.Phase.TheVariants.{Halted}
 use Rattle.model_undo.specs.Family.{Family}
 use Rattle.model_family.specs.Family.{family}
 use Rattle.undo_plans.specs.declared.names.Names.{Names}
-use Rattle.model_lab.specs.Wires.{asked_from, reply_to}
+use Rattle.model_ports.specs.Wires.{asked_from, reply_to}
 use Rattle.model_lab.specs.ManagerSteps.{own_on, addresses, board_plans}
 use Rattle.model_lab.specs.Lab.{Lab, port_on}
 

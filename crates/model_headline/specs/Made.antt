@@ -4,7 +4,7 @@ use Rattle.two_wire.specs.declared.Bus.{Bus}
 use Rattle.record_base.specs.declared.message.Asked.{Asked}
 use Rattle.model_undo.specs.Words.{Words}
 use Rattle.model_undo.specs.Wires.{IsSeries, IsMade}
-use Rattle.model_undo.specs.TwoBuses.{Addresses}
+use Rattle.model_bus.specs.Addresses.{Addresses}
 use Rattle.model_undo.specs.Machine.{Task, Gets, Sets, Undoes, Stage, Opened, Machine}
 use Rattle.model_lab.specs.ManagerWords.{manager_words}
 

@@ -1,16 +1,8 @@
-pub mod PacketSteps
-pub mod Waiting
-pub mod Cutting
-pub mod WholeBytes
 pub mod Spelled
-pub mod Spelling
 pub mod Breaches
 pub mod Example
-pub mod Parts
 pub mod LongExample
 pub mod Stepping
-pub mod PortPart
-pub mod PortEvents
 pub mod ManagerEvents
 pub mod PacketExample
 pub mod FullExample

@@ -4,11 +4,10 @@ use Rattle.two_wire.specs.declared.Bus.{Bus}
 use Rattle.record_base.specs.declared.message.Asked.{Asked}
 use Rattle.record_base.specs.declared.message.Asked.TheVariants.{Ipmi, Pldm}
 use Rattle.model_bus.specs.Bytes.{ipmb_reply, pldm_reply, IsRequestOn, IsReplyOn}
-use Rattle.model_undo.specs.Words.{Answered}
-use Rattle.model_undo.specs.TwoBuses.{Addresses}
+use Rattle.model_bus.specs.Answered.{Answered}
+use Rattle.model_bus.specs.Addresses.{Addresses}
 use Rattle.model_undo.specs.Wires.{number_of}
-use Rattle.model_lab.specs.ManagerWords.{bus_of}
-use Rattle.model_lab.specs.Wires.{bytes_of, reply_to}
+use Rattle.model_ports.specs.Wires.{bus_of, bytes_of, reply_to}
 use Rattle.model_lab.specs.WireLaws.{IsManagers, managers, upper, lower}
 use Rattle.model_lab.specs.Spelled.{AreSpelled}
 

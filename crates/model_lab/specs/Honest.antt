@@ -12,7 +12,7 @@ use Rattle.cfg_records.specs.declared.board_file.BoardFile.{BoardFile}
 use Rattle.model_bus.specs.Circle.{span_of}
 use Rattle.bmc_board.specs.Table.{is_changing}
 use Rattle.model_undo.specs.Machine.{open_bus}
-use Rattle.model_lab.specs.PortSteps.{asked_in, pldm_asked}
+use Rattle.model_ports.specs.PortSteps.{asked_in, pldm_asked}
 use Rattle.undo_plans.specs.declared.names.Names.{Names}
 use Rattle.model_lab.specs.ManagerSteps.{own_on, peer_on, Plans}
 use Rattle.model_lab.specs.declared.way.Way.{Way}

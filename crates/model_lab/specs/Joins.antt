@@ -3,7 +3,7 @@ use Rattle.std.specs.Prelude.{◌≡◌, ◌+◌, ◌≤◌, false, List, [], �
 use Rattle.two_wire.specs.declared.Bus.TheVariants.{Smbus}
 use Rattle.mctp_net.specs.Assembly.{drop_cause}
 use Rattle.cfg_records.specs.declared.board_file.BoardFile.{BoardFile}
-use Rattle.model_lab.specs.Values.{Value, Asks, Tells, Part}
+use Rattle.model_ports.specs.Values.{Value, Asks, Tells, Part}
 use Rattle.model_lab.specs.ManagerSteps.{Plans}
 use Rattle.model_lab.specs.Lab.{Event, ToBmc, Lab, step}
 use Rattle.model_lab.specs.Faults.{begun_on}

@@ -1,12 +1,7 @@
-pub mod Seen
 pub mod ManagerWords
-pub mod Wires
 pub mod WireLaws
 pub mod ManagerWires
 pub mod Spelled
-pub mod Values
-pub mod Bytes
-pub mod PortSteps
 pub mod ManagerSteps
 pub mod Lab
 pub mod FaultNames
@@ -16,10 +11,8 @@ pub mod Joins
 pub mod Honest
 pub mod Clean
 pub mod Example
-pub mod Cuts
 pub mod LongExample
 pub mod Stepwise
-pub mod PortEvents
 pub mod ManagerEvents
 pub mod PacketExample
 pub mod FullExample

@@ -10,8 +10,8 @@ use Rattle.record_base.specs.declared.op.Op.{Op}
 use Rattle.record_base.specs.declared.op.Op.TheVariants as op
 use Rattle.bmc_board.specs.State.{opened}
 use Rattle.model_undo.specs.declared.phase.Phase.TheVariants.{Getting}
-use Rattle.model_lab.specs.Values.{Value, Asks, Tells, Part, written, parts_of}
-use Rattle.model_lab.specs.PortSteps.{hears, quiet_port}
+use Rattle.model_ports.specs.Values.{Value, Asks, Tells, Part, written, parts_of}
+use Rattle.model_ports.specs.PortSteps.{hears, quiet_port}
 use Rattle.text_schedule.specs.declared.event.Call.TheVariants.{Start}
 use Rattle.model_lab.specs.declared.way.Way.{Way}
 use Rattle.model_lab.specs.declared.way.Way.TheVariants.{ToPort, ToManager, ToOthers}

@@ -3,11 +3,11 @@ use Rattle.std.specs.Prelude.{ℕ}
 use Rattle.two_wire.specs.declared.Bus.{Bus}
 use Rattle.record_base.specs.declared.message.Asked.{Asked}
 use Rattle.model_bus.specs.Bytes.{IsRequestOn, IsReplyOn}
-use Rattle.model_undo.specs.Words.{Answered}
-use Rattle.model_undo.specs.TwoBuses.{Addresses}
+use Rattle.model_bus.specs.Answered.{Answered}
+use Rattle.model_bus.specs.Addresses.{Addresses}
 use Rattle.model_undo.specs.Wires.{number_of, IsMade}
-use Rattle.model_lab.specs.ManagerWords.{bus_of, manager_words}
-use Rattle.model_lab.specs.Wires.{bytes_of, reply_to}
+use Rattle.model_ports.specs.Wires.{bus_of, bytes_of, reply_to}
+use Rattle.model_lab.specs.ManagerWords.{manager_words}
 
 -- the manager's requests are requests under their numbers, and a reply to one is a reply to it, with the answer's code
 pub record AreSpelled (at : Bus → Addresses) : Type 0 where

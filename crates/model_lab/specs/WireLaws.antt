@@ -8,11 +8,11 @@ use Rattle.record_base.specs.declared.message.Asked.TheVariants.{Ipmi, Pldm}
 use Rattle.record_kinds.specs.Limits.{get_asked, set_asked}
 use Rattle.bmc_board.specs.Decode.{IsFromNobody}
 use Rattle.bmc_board.proofs.Decoded.{gets_are_read, sets_are_read}
-use Rattle.model_undo.specs.Words.{Answered}
-use Rattle.model_undo.specs.TwoBuses.{Addresses}
+use Rattle.model_bus.specs.Answered.{Answered}
+use Rattle.model_bus.specs.Addresses.{Addresses}
 use Rattle.model_undo.specs.Wires.{IsSeries, IsOf, IsMade}
-use Rattle.model_lab.specs.ManagerWords.{bus_of, from_manager, manager_words}
-use Rattle.model_lab.specs.Wires.{bytes_of, asked_from, reply_to, answered_from}
+use Rattle.model_ports.specs.Wires.{bus_of, bytes_of, asked_from, reply_to, answered_from}
+use Rattle.model_lab.specs.ManagerWords.{from_manager, manager_words}
 
 -- the request is the manager's, to logical unit 0
 abbrev pub IsManagers : (Bus → Addresses) → Asked → Type 0

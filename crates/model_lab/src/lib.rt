@@ -6,7 +6,6 @@
 pub mod examples;
 mod fault;
 pub mod laws;
-pub mod packets;
 mod way;
 
 pub use fault::Fault;

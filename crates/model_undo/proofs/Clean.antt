@@ -6,7 +6,8 @@ use Rattle.std.proofs.lemmas.Option.{none-some, slice_get_within}
 use Rattle.two_wire.specs.Codes.{success}
 use Rattle.two_wire.specs.declared.Bus.{Bus}
 use Rattle.two_wire.specs.declared.Bus.TheVariants.{Ipmb, Smbus}
-use Rattle.model_undo.specs.Words.{Answered, get_asked}
+use Rattle.model_bus.specs.Answered.{Answered}
+use Rattle.model_undo.specs.Words.{get_asked}
 use Rattle.model_undo.specs.Family.{Family, AllValid}
 use Rattle.model_undo.specs.IsFamily.{Showed, IsFamily}
 use Rattle.model_undo.specs.declared.phase.Why.{Why}

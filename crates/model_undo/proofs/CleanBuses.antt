@@ -11,7 +11,8 @@ use Rattle.model_bus.specs.BusState.{BusState}
 use Rattle.model_bus.specs.Start.{NothingUnderWay}
 use Rattle.model_bus.specs.Effect.{SameRequests, IsBegun, IsCarried, IsTaken}
 use Rattle.model_bus.proofs.Lists.{length_more}
-use Rattle.model_undo.specs.Words.{Answered, is_busy}
+use Rattle.model_bus.specs.Answered.{Answered}
+use Rattle.model_undo.specs.Words.{is_busy}
 use Rattle.model_undo.specs.declared.phase.Phase.{Phase}
 use Rattle.model_undo.specs.declared.phase.Phase.TheVariants.{Undone}
 use Rattle.model_undo.specs.Family.{Family}

@@ -7,7 +7,8 @@ use Rattle.two_wire.specs.declared.Bus.{Bus}
 use Rattle.two_wire.specs.declared.Bus.TheVariants.{Ipmb, Smbus}
 use Rattle.model_bus.specs.BusState.{BusState}
 use Rattle.model_bus.specs.Start.{NothingUnderWay}
-use Rattle.model_undo.specs.Words.{Answered, is_busy}
+use Rattle.model_bus.specs.Answered.{Answered}
+use Rattle.model_undo.specs.Words.{is_busy}
 use Rattle.model_undo.specs.Family.{Family, AllValid}
 use Rattle.model_undo.specs.IsFamily.{IsFamily}
 use Rattle.model_undo.specs.declared.phase.Why.TheVariants.{Stop}

@@ -1,7 +1,8 @@
 -- A request goes out on its own bus, whatever the machine is called and whatever reply comes.
 use Rattle.std.proofs.Common.{◌≡◌, ◌+◌, Bool, true, false, Option, Some, None, refl}
 use Rattle.std.specs.Prelude.{nat_lt, slice_get, if◌then◌else◌}
-use Rattle.model_undo.specs.Words.{Answered, is_busy, Words}
+use Rattle.model_bus.specs.Answered.{Answered}
+use Rattle.model_undo.specs.Words.{is_busy, Words}
 use Rattle.model_undo.specs.Machine.{Counts, one_answered, Task, Part, Gets, Sets, Undoes, Stage, AtStart, Opened, AtEnd, AtHalt, AtUndone, AtRefused, Machine, Sending, Turn, bus_at, sending, sends_at, first_stage, undo_stage, stage_after, starts, undoes, quiets, agains, stops, replies, takes}
 use Rattle.model_undo.specs.Resume.{Call, CallStart, CallQuiet, CallStop, CallAgain, CallUndo, Replies, turn_of}
 

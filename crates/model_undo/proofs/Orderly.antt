@@ -7,7 +7,7 @@ use Rattle.model_bus.specs.Request.{Kept}
 use Rattle.model_bus.specs.BusState.{BusState}
 use Rattle.model_bus.specs.Effect.{IsKeptFor, SameRequests, IsBegun, IsCarried, IsTaken}
 use Rattle.model_bus.proofs.Lists.{at_end, one_more, length_more}
-use Rattle.model_undo.specs.Words.{Answered}
+use Rattle.model_bus.specs.Answered.{Answered}
 use Rattle.model_undo.specs.Family.{Family}
 use Rattle.model_undo.specs.Wires.{Wires}
 use Rattle.model_undo.proofs.Undoable.{past_none}

@@ -4,7 +4,8 @@ use Rattle.std.specs.Prelude.{◌≢◌, ◌==◌, slice_get, slice_set, unwrap_
 use Rattle.std.proofs.lemmas.Bool.{and_parts, and_from, leb-true, ltb-true, le-leb, lt-ltb, cond_both, false≢true}
 use Rattle.std.proofs.lemmas.Option.{same_Some, none-some}
 use Rattle.two_wire.specs.Codes.{success, not_present, invalid_data_field}
-use Rattle.model_undo.specs.Words.{Answered, is_busy}
+use Rattle.model_bus.specs.Answered.{Answered}
+use Rattle.model_undo.specs.Words.{is_busy}
 use Rattle.model_undo.specs.Family.{AllValid, SetsTo}
 use Rattle.model_undo.specs.IsFamily.{Showed, IsFamily}
 use Rattle.model_undo.specs.Registers.{Halves, Write, Asked, AskGet, AskSet, Board, IsValid, is_valid, written, shown, configuration, back, inverse, inverse_of_high, IsRestorable, replied, get_answer, set_answer, answer, Row, registers}

@@ -7,8 +7,9 @@ use Rattle.two_wire.specs.declared.Bus.{Bus}
 use Rattle.two_wire.specs.declared.Bus.TheVariants.{Ipmb, Smbus}
 use Rattle.model_bus.specs.Packet.{packets_of}
 use Rattle.model_bus.proofs.Cutting.{cuts_all}
-use Rattle.model_undo.specs.Words.{Answered}
-use Rattle.model_undo.specs.TwoBuses.{Addresses, with_packets, packets_come}
+use Rattle.model_bus.specs.Answered.{Answered}
+use Rattle.model_bus.specs.Addresses.{Addresses}
+use Rattle.model_undo.specs.TwoBuses.{with_packets, packets_come}
 use Rattle.model_undo.specs.Clean.{AnswersByRow}
 use Rattle.model_undo.specs.CleanBuses.{AllCanBeSent}
 use Rattle.model_undo.specs.Registers.{Halves, Write, Asked, AskGet, AskSet, Board, is_valid, written, replied, get_answer, set_answer, answer, bytes_of, register_words, registers, wires}

@@ -6,7 +6,8 @@ use Rattle.std.proofs.lemmas.Option.{none-some}
 use Rattle.two_wire.specs.Codes.{success}
 use Rattle.two_wire.specs.declared.Bus.{Bus}
 use Rattle.two_wire.specs.declared.Bus.TheVariants.{Ipmb, Smbus}
-use Rattle.model_undo.specs.Words.{Answered, is_busy, Words}
+use Rattle.model_bus.specs.Answered.{Answered}
+use Rattle.model_undo.specs.Words.{is_busy, Words}
 use Rattle.model_undo.specs.Machine.{Counts, count_of, one_answered, Part, Gets, Sets, Undoes, Stage, AtStart, Opened, AtEnd, AtHalt, AtUndone, AtRefused, Machine, Turn, bus_at, told_stage, bodies_with, next_asked, sending, sends_at, enters, phase_at, phase_of, undo_stage, starts, undoes, quiets, agains, stops, replies}
 use Rattle.model_undo.specs.Resume.{list_of, resumed, Call, CallStart, CallQuiet, CallStop, CallAgain, CallUndo, Replies, turn_of, after, request_of, goes_out, trace, IsOver, GoesOnAlike}
 use Rattle.model_undo.specs.Wires.{number_of}

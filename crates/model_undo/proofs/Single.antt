@@ -2,7 +2,8 @@
 use Rattle.std.proofs.Common.{◌≡◌, ℕ, Bool, List, [], ◌∷◌, Option, refl, ◌∙◌, ap}
 use Rattle.std.specs.Prelude.{◌==◌, if◌then◌else◌}
 use Rattle.two_wire.specs.Codes.{success}
-use Rattle.model_undo.specs.Words.{Answered, Words, AreSingle}
+use Rattle.model_bus.specs.Answered.{Answered}
+use Rattle.model_undo.specs.Words.{Words, AreSingle}
 use Rattle.model_undo.specs.Machine.{Task, Gets, Sets, Undoes, Stage, series_of, first_part, refused, finished, told_stage, stage_after, undo_with, undo_after}
 
 -- the stage after the reply to a task, and what then undoes

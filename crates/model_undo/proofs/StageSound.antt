@@ -3,7 +3,8 @@ use Rattle.std.proofs.Common.{◌≡◌, ℕ, suc, refl, Bool, true, false, List
 use Rattle.std.specs.Prelude.{slice_get, ◌≢◌, IfSome}
 use Rattle.std.proofs.lemmas.Bool.{cases_eq}
 use Rattle.two_wire.specs.Codes.{success}
-use Rattle.model_undo.specs.Words.{Answered, is_busy, get_asked, set_asked}
+use Rattle.model_bus.specs.Answered.{Answered}
+use Rattle.model_undo.specs.Words.{is_busy, get_asked, set_asked}
 use Rattle.model_undo.specs.Family.{Family}
 use Rattle.model_undo.specs.IsFamily.{Showed}
 use Rattle.model_undo.specs.Plan.{IsAfter, Stands, Gave, Because, Halts}

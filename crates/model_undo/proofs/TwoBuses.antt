@@ -5,7 +5,8 @@ use Rattle.two_wire.specs.declared.Bus.TheVariants.{Ipmb, Smbus}
 use Rattle.model_bus.specs.Numbering.{ipmb, smbus}
 use Rattle.model_bus.specs.Packet.{Packet, IsCutting}
 use Rattle.model_bus.proofs.NumberLaws.{ipmb_numbers, smbus_numbers}
-use Rattle.model_undo.specs.TwoBuses.{Addresses, in_messages, with_packets, messages_come, packets_come}
+use Rattle.model_bus.specs.Addresses.{Addresses}
+use Rattle.model_undo.specs.TwoBuses.{in_messages, with_packets, messages_come, packets_come}
 use Rattle.model_undo.proofs.LineLaws.{IsLine, whole_is_line, packets_are_line}
 use Rattle.model_undo.proofs.Delivery.{LosesNothing, messages_lose_nothing}
 use Rattle.model_undo.proofs.PacketDelivery.{packets_lose_nothing}

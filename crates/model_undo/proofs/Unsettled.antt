@@ -5,7 +5,8 @@ use Rattle.std.proofs.lemmas.Bool.{true≢false, ltb-true, ltb-false}
 use Rattle.std.proofs.lemmas.List.{append-nil, append_assoc, replicate-append-replicate}
 use Rattle.std.proofs.lemmas.Option.{none-some}
 use Rattle.two_wire.specs.Codes.{success}
-use Rattle.model_undo.specs.Words.{Answered, is_busy, Words}
+use Rattle.model_bus.specs.Answered.{Answered}
+use Rattle.model_undo.specs.Words.{is_busy, Words}
 use Rattle.model_undo.specs.declared.phase.Phase.TheVariants.{Unsettled}
 use Rattle.model_undo.specs.Machine.{Counts, one_answered, Task, Part, Gets, Sets, Undoes, Stage, AtStart, Opened, AtEnd, AtHalt, AtUndone, AtRefused, Machine, Sending, Turn, task_step, task_phase, phase_at, phase_of, open_bus_at, bus_at, sending, enters, first_stage, undo_stage, set_stage, next_stage, refused, goes_on, finished, told_stage, stage_after, bodies_with, next_asked, starts, undoes, quiets, agains, stops, replies, takes, undo_after}
 use Rattle.model_undo.specs.Resume.{Call, CallStart, CallQuiet, CallStop, CallAgain, CallUndo, Replies, turn_of, after}

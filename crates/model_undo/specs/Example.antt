@@ -10,7 +10,8 @@ use Rattle.model_undo.specs.declared.phase.Phase.TheVariants.{Undone}
 use Rattle.model_undo.specs.Machine.{phase_of}
 use Rattle.model_undo.specs.Wires.{Wires}
 use Rattle.model_undo.specs.Line.{Line}
-use Rattle.model_undo.specs.TwoBuses.{Addresses, in_messages, with_packets}
+use Rattle.model_bus.specs.Addresses.{Addresses}
+use Rattle.model_undo.specs.TwoBuses.{in_messages, with_packets}
 use Rattle.model_undo.specs.World.{States, Happening, Start, Quiet, Again, Undo, Resume, ToManager, OnBus, AllMay, run, opening}
 use Rattle.model_undo.specs.Registers.{Board, Write, register_words, registers, wires}
 

@@ -1,6 +1,7 @@
 -- A family of kinds of record, and the board that keeps the records: all that an undo needs to know of them.
 use Rattle.std.specs.Prelude.{◌≡◌, ℕ, List, Option, Some}
-use Rattle.model_undo.specs.Words.{Answered, Words}
+use Rattle.model_bus.specs.Answered.{Answered}
+use Rattle.model_undo.specs.Words.{Words}
 
 -- what a family says
 pub record Family : Type 1 where

@@ -2,7 +2,7 @@
 use Rattle.std.specs.Prelude.{◌≡◌, ℕ, List, [], ◌∷◌, ◌++◌, ◌⊎◌}
 use Rattle.two_wire.specs.Codes.{success}
 use Rattle.two_wire.specs.declared.Bus.{Bus}
-use Rattle.model_undo.specs.Words.{Answered}
+use Rattle.model_bus.specs.Answered.{Answered}
 use Rattle.model_undo.specs.Family.{Family, AllValid}
 use Rattle.model_undo.specs.declared.phase.Why.TheVariants.{Stop}
 use Rattle.model_undo.specs.declared.phase.Phase.TheVariants.{Halted, Undone}

@@ -1,7 +1,8 @@
 -- What holds of a family. The kinds of record and the command relation prove it of the records that there are.
 use Rattle.std.specs.Prelude.{◌≡◌, ◌≢◌, List, ℕ, Some, None, false}
 use Rattle.two_wire.specs.Codes.{success}
-use Rattle.model_undo.specs.Words.{Answered, is_busy, AreSingle, get_asked, set_asked}
+use Rattle.model_bus.specs.Answered.{Answered}
+use Rattle.model_undo.specs.Words.{is_busy, AreSingle, get_asked, set_asked}
 use Rattle.model_undo.specs.Family.{Family, AllValid, SetsTo}
 
 -- what a Get that is carried out shows: the value that the record has

@@ -4,7 +4,7 @@ use Rattle.two_wire.specs.declared.Bus.{Bus}
 use Rattle.model_bus.specs.Request.{Kept}
 use Rattle.model_bus.specs.BusState.{BusState}
 use Rattle.model_bus.specs.Effect.{SameRequests, IsBegun}
-use Rattle.model_undo.specs.Words.{Answered}
+use Rattle.model_bus.specs.Answered.{Answered}
 use Rattle.model_undo.specs.Family.{Family}
 use Rattle.model_undo.specs.Machine.{Counts, count_of, Part, Stage, Opened, AtStart, AtEnd, AtHalt, AtUndone, AtRefused, bus_at}
 use Rattle.model_undo.specs.Wires.{number_of, Wires}

@@ -4,7 +4,8 @@ use Rattle.two_wire.specs.Codes.{success}
 use Rattle.two_wire.specs.Retries.{most_retries}
 use Rattle.two_wire.specs.declared.Bus.{Bus}
 use Rattle.two_wire.specs.declared.Bus.TheVariants.{Ipmb, Smbus}
-use Rattle.model_undo.specs.Words.{Answered, is_busy, Words}
+use Rattle.model_bus.specs.Answered.{Answered}
+use Rattle.model_undo.specs.Words.{is_busy, Words}
 use Rattle.model_undo.specs.declared.phase.Why.{Why}
 use Rattle.model_undo.specs.declared.phase.Why.TheVariants.{Stop, Refused, NotRestorable, GetRefused}
 use Rattle.model_undo.specs.declared.phase.Phase.{Phase}

@@ -1,7 +1,8 @@
 -- The records after the steps of a plan, and what a manager's phase says of the records.
 use Rattle.std.specs.Prelude.{◌≡◌, ◌≢◌, ℕ, zero, suc, Bool, true, List, length, Some, ◌⊎◌, slice_get}
 use Rattle.two_wire.specs.Codes.{success}
-use Rattle.model_undo.specs.Words.{Answered, get_asked, set_asked}
+use Rattle.model_bus.specs.Answered.{Answered}
+use Rattle.model_undo.specs.Words.{get_asked, set_asked}
 use Rattle.model_undo.specs.Family.{Family, SetsTo}
 use Rattle.model_undo.specs.declared.phase.Why.{Why}
 use Rattle.model_undo.specs.declared.phase.Why.TheVariants.{Stop, Refused, NotRestorable, GetRefused}

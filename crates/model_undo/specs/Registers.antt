@@ -5,7 +5,8 @@
 use Rattle.std.specs.Prelude.{◌≡◌, ℕ, zero, suc, ◌%◌, ◌≤◌, ◌<◌, Bool, ◌==◌, nat_le, nat_lt, ◌&&◌, List, [], ◌∷◌, Option, Some, None, if◌then◌else◌, slice_get, slice_set, unwrap_or, refl}
 use Rattle.two_wire.specs.Codes.{success, not_present, invalid_data_field}
 use Rattle.two_wire.specs.declared.Bus.TheVariants.{Ipmb, Smbus}
-use Rattle.model_undo.specs.Words.{Answered, Words}
+use Rattle.model_bus.specs.Answered.{Answered}
+use Rattle.model_undo.specs.Words.{Words}
 use Rattle.model_undo.specs.Family.{Family}
 use Rattle.model_undo.specs.Wires.{Wires}
 

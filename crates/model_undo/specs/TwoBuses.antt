@@ -2,15 +2,11 @@
 use Rattle.std.specs.Prelude.{ℕ, List}
 use Rattle.two_wire.specs.declared.Bus.{Bus}
 use Rattle.two_wire.specs.declared.Bus.TheVariants.{Ipmb, Smbus}
+use Rattle.model_bus.specs.Addresses.{Addresses}
 use Rattle.model_bus.specs.Numbering.{ipmb, smbus}
 use Rattle.model_bus.specs.Packet.{Packet}
 use Rattle.model_undo.specs.Line.{Line, whole, packets}
 use Rattle.model_undo.specs.Delivery.{Delivery, by_message, by_packets}
-
--- the addresses of both ends of a bus
-pub record Addresses : Type 0 where
-  pub manager : ℕ
-  pub controller : ℕ
 
 -- both buses in whole messages
 abbrev pub in_messages : (Bus → Addresses) → Bus → Line

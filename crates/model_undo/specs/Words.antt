@@ -3,11 +3,6 @@ use Rattle.std.specs.Prelude.{◌≡◌, ℕ, List, [], ◌∷◌, Option, None,
 use Rattle.two_wire.specs.Codes.{node_busy, pldm_not_ready}
 use Rattle.two_wire.specs.declared.Bus.{Bus}
 
--- a reply to a request: its completion code and its data
-pub record Answered : Type 0 where
-  pub code : ℕ
-  pub body : List ℕ
-
 -- the code says that a controller is busy; a manager takes a reply with it as none
 abbrev pub is_busy : ℕ → Bool
 is_busy code = (code == node_busy) || (code == pldm_not_ready)

@@ -2,7 +2,7 @@
 use Rattle.std.specs.Prelude.{◌≡◌, ℕ, Bool, true, false, List, [], ◌∷◌, Option, Some, None}
 use Rattle.two_wire.specs.declared.Bus.{Bus}
 use Rattle.two_wire.specs.declared.Bus.TheVariants.{Ipmb, Smbus}
-use Rattle.model_undo.specs.Words.{Answered}
+use Rattle.model_bus.specs.Answered.{Answered}
 use Rattle.model_undo.specs.Family.{Family}
 use Rattle.model_undo.specs.Machine.{Stage, Opened, AtEnd, AtHalt, Machine, Sending, Turn, bus_at, start_of, quiet_of, stop_of, again_of, undo_of, reply_of, opened, same_bus}
 use Rattle.model_undo.specs.Resume.{list_of, resumed}

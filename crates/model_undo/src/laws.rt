@@ -5,7 +5,8 @@ ghost use Rattle.std.specs.Prelude.{ℕ, List};
 ghost use Rattle.two_wire.specs.declared.Bus.{Bus};
 ghost use Rattle.model_bus.specs.Packet.{Packet, IsCutting, packets_of};
 ghost use Rattle.model_undo.specs.IsFamily.{IsFamily};
-ghost use Rattle.model_undo.specs.TwoBuses.{Addresses, in_messages, with_packets, messages_come, packets_come};
+ghost use Rattle.model_bus.specs.Addresses.{Addresses};
+ghost use Rattle.model_undo.specs.TwoBuses.{in_messages, with_packets, messages_come, packets_come};
 ghost use Rattle.model_undo.specs.Headline.{AlwaysStands, UndoneForGood, StopsOnlyIfTold};
 ghost use Rattle.model_undo.specs.Giving.{HaltsByAnswers};
 ghost use Rattle.model_undo.specs.Resume.{GoesOnAlike};
@@ -13,7 +14,7 @@ ghost use Rattle.model_undo.specs.Unsettled.{UnsettledByQuiet};
 ghost use Rattle.model_undo.specs.RecordsRun.{RecordsStand};
 ghost use Rattle.model_undo.specs.Clean.{AnswersByRow, AlwaysRunsClean};
 ghost use Rattle.model_undo.specs.CleanBuses.{AllCanBeSent, AlwaysRunsOverBuses};
-ghost use Rattle.model_undo.specs.Words.{Answered};
+ghost use Rattle.model_bus.specs.Answered.{Answered};
 ghost use Rattle.model_undo.specs.Registers.{Board, Asked, register_words, registers, wires};
 
 /// The registers are a family of kinds of record: masked Sets, refusals that depend on the old value, and replies from which

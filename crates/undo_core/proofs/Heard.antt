@@ -18,12 +18,12 @@ use Rattle.mctp_net.specs.declared.taken.Taken.TheVariants as taken
 use Rattle.mctp_net.specs.Assembly.{Assemblies, drop_cause, after as kept_after, message_of, IsTaken}
 use Rattle.undo_plans.specs.declared.names.Names.{Names}
 use Rattle.model_bus.specs.Bytes.{answers, ipmb_answers, pldm_answers, is_busy_code}
-use Rattle.model_lab.specs.ManagerWords.{bus_of}
-use Rattle.model_lab.specs.Wires.{bytes_of, answered_from}
-use Rattle.model_undo.specs.Words.{Answered, is_busy}
+use Rattle.model_ports.specs.Wires.{bus_of, bytes_of, answered_from}
+use Rattle.model_bus.specs.Answered.{Answered}
+use Rattle.model_undo.specs.Words.{is_busy}
 use Rattle.model_undo.specs.Wires.{number_of}
 use Rattle.model_undo.specs.Machine as machine
-use Rattle.model_lab.specs.Bytes.{response_bytes}
+use Rattle.model_ports.specs.Bytes.{response_bytes}
 use Rattle.model_lab.specs.ManagerSteps.{board_plans, ManagerState, heeded_on, tested, rests, taken_or, is_answer, is_part, hears_response, hears_reply, hears_packet, joins_for, joins, ends_reply}
 use Rattle.undo_core.specs.declared.stage.Task.{Task}
 use Rattle.undo_core.specs.declared.stage.Stage.{Stage}

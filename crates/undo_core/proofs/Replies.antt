@@ -11,8 +11,9 @@ use Rattle.record_base.specs.declared.message.Asked.{Asked}
 use Rattle.record_base.specs.declared.message.Asked.TheVariants.{Ipmi, Pldm}
 use Rattle.mctp_net.specs.Places.{seen}
 use Rattle.undo_plans.specs.declared.names.Names.{Names}
-use Rattle.model_lab.specs.ManagerWords.{bus_of}
-use Rattle.model_undo.specs.Words.{Answered, is_busy}
+use Rattle.model_ports.specs.Wires.{bus_of}
+use Rattle.model_bus.specs.Answered.{Answered}
+use Rattle.model_undo.specs.Words.{is_busy}
 use Rattle.model_undo.specs.Machine as machine
 use Rattle.model_lab.specs.ManagerSteps.{board_plans, ManagerState, sent_of, taken_or, goes_on}
 use Rattle.undo_core.specs.declared.stage.Task.{Task}

@@ -6,8 +6,8 @@ use Rattle.mctp_net.specs.declared.packet.Packet.{Packet}
 use Rattle.mctp_net.specs.declared.message.Message.{Message}
 use Rattle.mctp_net.specs.Cut.{IsCutOf, AreWritten}
 use Rattle.mctp_net.proofs.OneCut.{cut-one}
-use Rattle.model_lab.specs.Values.{Part, written, parts_of, IsFrameOn}
-use Rattle.model_lab.proofs.Parts.{parts_are_cuts}
+use Rattle.model_ports.specs.Values.{Part, written, parts_of, IsFrameOn}
+use Rattle.model_ports.proofs.Parts.{parts_are_cuts}
 
 -- each frame is its packet's
 packets_written : (ps : List Packet) (frames : List (List ℕ)) → AreWritten ps frames → frames ≡ map written (map (λ p. Part p) ps)

@@ -6,7 +6,7 @@ use Rattle.mctp_net.specs.Assembly.{nothing}
 use Rattle.model_undo.specs.declared.phase.Phase.{Phase}
 use Rattle.model_undo.specs.Machine.{phase_of}
 use Rattle.model_undo.specs.Resume.{list_of, resumed, IsOver}
-use Rattle.model_lab.specs.Values.{Value, written, IsFrameOn}
+use Rattle.model_ports.specs.Values.{Value, written, IsFrameOn}
 use Rattle.text_schedule.specs.declared.event.Call.{Call}
 use Rattle.text_schedule.specs.declared.event.Call.TheVariants.{Undo}
 use Rattle.model_lab.specs.ManagerSteps.{Sent, ManagerState, ManagerDeed, board_plans, called, rests, manager_hears}

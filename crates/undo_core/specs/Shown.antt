@@ -5,12 +5,13 @@ use Rattle.record_base.specs.declared.op.Op.{Op}
 use Rattle.record_base.specs.declared.message.Asked.{Asked}
 use Rattle.undo_plans.specs.declared.names.Names.{Names}
 use Rattle.mctp_net.specs.Places.{seen}
-use Rattle.model_undo.specs.Words.{Answered, Words}
+use Rattle.model_bus.specs.Answered.{Answered}
+use Rattle.model_undo.specs.Words.{Words}
 use Rattle.model_undo.specs.Machine as machine
 use Rattle.model_undo.specs.Machine.{reply_of}
 use Rattle.undo_core.specs.declared.phase.WrongPhase.{WrongPhase}
 use Rattle.model_lab.specs.ManagerWords.{from_manager}
-use Rattle.model_lab.specs.Values.{written, IsFrameOn}
+use Rattle.model_ports.specs.Values.{written, IsFrameOn}
 use Rattle.text_schedule.specs.declared.event.Call.{Call}
 use Rattle.model_lab.specs.ManagerSteps.{addresses, board_plans, Sent as AllSent, ManagerState, ManagerDeed, called, rests, taken_or}
 use Rattle.undo_core.specs.declared.stage.Task.{Task}

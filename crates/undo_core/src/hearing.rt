@@ -19,9 +19,8 @@ ghost use Rattle.ipmb_frame.specs.declared.message.Response.{Response as AnyResp
 ghost use Rattle.ipmb_frame.specs.Grammar.{IsResponse};
 ghost use Rattle.mctp_net.specs.declared.packet.Packet.{Packet as AnyPacket};
 ghost use Rattle.mctp_net.specs.Grammar.{IsPacket};
-ghost use Rattle.model_lab.specs.ManagerWords.{bus_of as bus_of_request};
-ghost use Rattle.model_lab.specs.Wires.{bytes_of, answered_from};
-ghost use Rattle.model_lab.specs.Bytes.{response_bytes};
+ghost use Rattle.model_ports.specs.Wires.{bus_of as bus_of_request, bytes_of, answered_from};
+ghost use Rattle.model_ports.specs.Bytes.{response_bytes};
 ghost use Rattle.model_lab.specs.ManagerSteps.{ManagerState, board_plans, hears_response, is_answer as is_answer_of, rests, hears_packet, hears_reply, is_part as is_part_of, joins as joins_packet};
 
 use crate::Why;

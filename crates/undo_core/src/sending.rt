@@ -1,9 +1,9 @@
 //! Requests as the frames that are sent.
 ghost use Rattle.std.specs.Prelude.{◌≡◌, ◌+◌, ◌%◌, ◌<◌, suc, true, [], ◌∷◌, ℕ, map};
-ghost use Rattle.model_lab.specs.Values.{written, IsFrameOn};
+ghost use Rattle.model_ports.specs.Values.{written, IsFrameOn};
 ghost use Rattle.model_lab.specs.ManagerSteps.{values_of};
 ghost use Rattle.model_undo.specs.Machine.{count_of, one_answered};
-ghost use Rattle.model_lab.specs.ManagerWords.{bus_of as bus_of_request};
+ghost use Rattle.model_ports.specs.Wires.{bus_of as bus_of_request};
 ghost use Rattle.record_base.specs.declared.message.Asked.TheVariants as asked_as;
 ghost use Rattle.std.specs.List.{AllZip};
 ghost use Rattle.two_wire.specs.declared.Bus.TheVariants.{Ipmb as IsIpmb, Smbus as IsSmbus};

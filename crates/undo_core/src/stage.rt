@@ -1,6 +1,6 @@
 //! How far a manager is.
 ghost use Rattle.std.specs.Prelude.{◌≡◌, ◌⊎◌, ℕ, Bool, true, false, List, Option, IfSome, IsSome};
-ghost use Rattle.model_lab.specs.ManagerWords.{bus_of as bus_of_request};
+ghost use Rattle.model_ports.specs.Wires.{bus_of as bus_of_request};
 ghost use Rattle.undo_core.specs.declared.stage.Stage.TheVariants.{Opened as IsOpened, AtEnd as IsAtEnd, AtHalt as IsAtHalt};
 ghost use Rattle.model_undo.specs.declared.phase.Why.{Why as AnyWhy};
 ghost use Rattle.record_base.specs.declared.op.Op.{Op};

@@ -19,7 +19,9 @@ const LOGGING_PLACE: usize = 3;
 /// Adds to the log each event that a reading of the sensor makes. A full log refuses, and notes that.
 fn log_events(log: &mut Sel, sensor: &Sensor, compared: &Compared, reading: u8, events: &Events)
     requires { All (λ event. event.place < 6) events.now.items }
-    ensures { log.new ≡ after_all log.old (map (log_record sensor.now.sensor_type sensor.now.number compared.now reading) events.now.items) }
+    ensures { log.new ≡ after_all log.old (map
+        (log_record sensor.now.sensor_type sensor.now.number compared.now reading)
+        events.now.items) }
 {
     for event in events.as_slice() {
         let record = compared.log_record(sensor.sensor_type, sensor.number, reading, event);
@@ -55,7 +57,8 @@ impl<S: Store> Board<S> {
 
     /// The sensor gives a reading, which is taken only while the sensor scans.
     fn take_reading(&mut self, sensor: &Sensor, reading: u8)
-        ensures left { self.new.activity ≡ after_reading (S.records self.old.store) sensor.now reading self.old.activity }
+        ensures left { self.new.activity
+            ≡ after_reading (S.records self.old.store) sensor.now reading self.old.activity }
         ensures records { S.records self.new.store ≡ S.records self.old.store }
         ensures setup { self.new.setup ≡ self.old.setup }
     {
@@ -86,11 +89,13 @@ impl<S: Store> Board<S> {
     /// What happens on the board beside requests. It takes no memory, and leaves every record. A reading of a sensor that isn't there
     /// changes nothing.
     pub fn bench(&mut self, event: Bench) -> Result<(), NoSensor>
-        ensures happens { (result, state_of S.records self.new) ≡ bench_of self.old.setup (state_of S.records self.old) event }
+        ensures happens { (result, state_of S.records self.new)
+            ≡ bench_of self.old.setup (state_of S.records self.old) event }
         ensures records { S.records self.new.store ≡ S.records self.old.store }
         ensures setup { self.new.setup ≡ self.old.setup }
         ensures unknown { IsErr result ↔ NamesNoSensor self.old.setup event }
-        ensures refused { OnErr result (IsUnchanged (state_of S.records self.old) (state_of S.records self.new)) }
+        ensures refused { OnErr result
+            (IsUnchanged (state_of S.records self.old) (state_of S.records self.new)) }
     {
         match event {
             Bench::Reading { sensor, raw } => {

@@ -14,7 +14,8 @@ impl Board<Records> {
     /// A board of this file over a store of its own.
     pub fn of_file(alloc: Global, file: BoardFile) -> Result<Self, AllocError>
         ensures setup { IfOk result (λ board. board.setup ≡ file) }
-        ensures state { IfOk result (λ board. state_of ⟦<Records as Store>⟧.records board ≡ opened file) }
+        ensures state { IfOk result
+            (λ board. state_of ⟦<Records as Store>⟧.records board ≡ opened file) }
     {
         match Records::of_file(alloc, &file) {
             Ok(store) => Board::open(alloc, file, store),

@@ -105,20 +105,17 @@ impl<S: Store> Board<S> {
     ghost use Rattle.bmc_board.specs.State.{opened, state_of};
     ghost use Rattle.bmc_board.specs.Leaves.{Leaves};
     ghost use Rattle.bmc_board.specs.Sensing.{reading_answer};
-    ghost use Rattle.bmc_board.specs.Live.{reset_answer, progress_answer, leave_answer, password_answer, longest_live_reply, longest_live};
+    ghost use Rattle.bmc_board.specs.Live.{progress_answer, leave_answer, longest_live_reply, longest_live};
+    ghost use Rattle.bmc_board.specs.Serves.{given_by, serve_by, live_by, Fits, Says, Serves};
     ghost use Rattle.bmc_board.specs.BiosTables.{table_answer, longest_part};
-    ghost use Rattle.record_base.specs.Numbers.{user_in};
-    ghost use Rattle.record_base.specs.Requests.{byte_at};
-    ghost use Rattle.record_kinds.specs.Boards.{user_at};
-    ghost use Rattle.user_chan.specs.Passwords.{change_of};
     ghost use Rattle.bmc_board.specs.Room.{longest_reply};
     ghost use Rattle.bmc_board.specs.Row.{Row};
     ghost use Rattle.bmc_board.specs.Request as request;
     ghost use Rattle.bmc_board.specs.Request.{request_of, asked_of, asked_by};
-    ghost use Rattle.bmc_board.specs.Answer.{set_outcome, serve as serve_of, reply as reply_of, answer_of};
-    ghost use Rattle.std.specs.Prelude.{Some};
+    ghost use Rattle.bmc_board.specs.Answer.{outcome_at};
+    ghost use Rattle.std.specs.Prelude.{Some, Ok};
     ghost use Rattle.record_base.specs.Meaning.{told};
-    ghost use Rattle.record_kinds.specs.Limits.{key_of, reader_of, limits_at};
+    ghost use Rattle.record_kinds.specs.Limits.{key_of};
 
     /// A board of this file over this store of its records.
     pub fn open(alloc: Global, file: BoardFile, store: S) -> Result<Self, AllocError>
@@ -147,8 +144,9 @@ impl<S: Store> Board<S> {
 
     /// Starts the watchdog timer, where it was set once.
     fn reset_watchdog(&mut self) -> Result<(), Code>
-        ensures answer { (bytes : List ℕ) → Gives result bytes bytes (reset_answer (S.records self.old.store Key.Watchdog) (unknown_code self.old.setup Key.Watchdog) self.old.activity).0 }
-        ensures left { self.new.activity ≡ (reset_answer (S.records self.old.store Key.Watchdog) (unknown_code self.old.setup Key.Watchdog) self.old.activity).1 }
+        ensures answer { Says result (live_by S.records self.old LiveCommand.ResetWatchdog []).0 }
+        ensures left { self.new.activity ≡
+            (live_by S.records self.old LiveCommand.ResetWatchdog []).1 }
         ensures records { S.records self.new.store ≡ S.records self.old.store }
         ensures setup { self.new.setup ≡ self.old.setup }
     {
@@ -166,7 +164,7 @@ impl<S: Store> Board<S> {
 
     /// Sets parameter 0 of the boot options, where a byte is given for it.
     fn set_boot_progress(&mut self, byte: Option<u8>) -> Result<(), Code>
-        ensures answer { (bytes : List ℕ) → Gives result bytes bytes (progress_answer byte self.old.activity).0 }
+        ensures answer { Says result (progress_answer byte self.old.activity).0 }
         ensures left { self.new.activity ≡ (progress_answer byte self.old.activity).1 }
         ensures records { S.records self.new.store ≡ S.records self.old.store }
         ensures setup { self.new.setup ≡ self.old.setup }
@@ -185,7 +183,7 @@ impl<S: Store> Board<S> {
 
     /// Whether a channel has an access that could be set.
     fn leave_channel(&self, channel: ChannelNumber) -> Result<(), Code>
-        ensures { (bytes : List ℕ) → Gives result bytes bytes (leave_answer self.now.setup channel) }
+        ensures { Says result (leave_answer self.now.setup channel) }
     {
         if self.setup.channel(channel).is_some() {
             return Ok(());
@@ -199,8 +197,10 @@ impl<S: Store> Board<S> {
 
     /// Carries out Set User Password. An unknown user is refused before the size of the password.
     fn set_password(&mut self, body: &[u8]) -> Result<(), Code>
-        ensures answer { (bytes : List ℕ) → Gives result bytes bytes (password_answer (user_at self.old.setup.users.items (user_in (byte_at body.now 0)).number) (change_of body.now) (user_in (byte_at body.now 0)).number self.old.activity).0 }
-        ensures left { self.new.activity ≡ (password_answer (user_at self.old.setup.users.items (user_in (byte_at body.now 0)).number) (change_of body.now) (user_in (byte_at body.now 0)).number self.old.activity).1 }
+        ensures answer { Says result
+            (live_by S.records self.old LiveCommand.SetUserPassword body.now).0 }
+        ensures left { self.new.activity ≡
+            (live_by S.records self.old LiveCommand.SetUserPassword body.now).1 }
         ensures records { S.records self.new.store ≡ S.records self.old.store }
         ensures setup { self.new.setup ≡ self.old.setup }
     {
@@ -222,7 +222,8 @@ impl<S: Store> Board<S> {
     /// Appends what Get Sensor Reading replies of the sensor of this number.
     fn show_reading<B: Buffer>(&self, sensor: u8, to: &mut B) -> Result<(), Code>
         requires room { length (B.bytes to.old) + longest_live_reply ≤ B.capacity }
-        ensures { Gives result (B.bytes to.old) (B.bytes to.new) (reading_answer self.now.setup (S.records self.now.store) self.now.activity sensor) }
+        ensures { Gives result (B.bytes to.old) (B.bytes to.new)
+            (reading_answer self.now.setup (S.records self.now.store) self.now.activity sensor) }
     {
         let key = Key::EventEnable(sensor);
         if self.setup.sensor(sensor).is_none() {
@@ -239,7 +240,8 @@ impl<S: Store> Board<S> {
     #[inline(never)]
     fn show_table<B: Buffer>(&mut self, body: &[u8], to: &mut B) -> Result<(), Code>
         requires room { length (B.bytes to.old) + longest_part ≤ B.capacity }
-        ensures answer { Gives result (B.bytes to.old) (B.bytes to.new) (table_answer self.old.setup (S.records self.old.store) body.now) }
+        ensures answer { Gives result (B.bytes to.old) (B.bytes to.new)
+            (table_answer self.old.setup (S.records self.old.store) body.now) }
         ensures activity { self.new.activity ≡ self.old.activity }
         ensures store { self.new.store ≡ self.old.store }
         ensures setup { self.new.setup ≡ self.old.setup }
@@ -253,9 +255,8 @@ impl<S: Store> Board<S> {
     #[tactic(auto, using(crate::proofs::LiveFacts::as_long))]
     fn live<B: Buffer>(&mut self, command: LiveCommand, body: &[u8], to: &mut B) -> Result<(), Code>
         requires room { length (B.bytes to.old) + longest_live command ≤ B.capacity }
-        ensures answer { Gives result (B.bytes to.old) (B.bytes to.new) (serve_of self.old.setup (state_of S.records self.old) (request.Live command body.now)).0 }
-        ensures left { state_of S.records self.new ≡ (serve_of self.old.setup (state_of S.records self.old) (request.Live command body.now)).1 }
-        ensures setup { self.new.setup ≡ self.old.setup }
+        ensures { Serves S.records self.old self.new (Ok (request.Live command body.now))
+            result (B.bytes to.old) (B.bytes to.new) }
     {
         match command {
             LiveCommand::GetDeviceId => show(&device_data(self.setup.device()), to),
@@ -290,7 +291,8 @@ impl<S: Store> Board<S> {
     /// Appends what a Get of the key's record replies.
     fn get<B: Buffer>(&self, key: &Key, to: &mut B) -> Result<(), Code>
         requires room { length (B.bytes to.old) + longest_reply (request.Get key.now) ≤ B.capacity }
-        ensures { Gives result (B.bytes to.old) (B.bytes to.new) (serve_of self.now.setup (state_of S.records self.now) (request.Get key.now)).0 }
+        ensures { Gives result (B.bytes to.old) (B.bytes to.new)
+            (serve_by S.records self.now (request.Get key.now)).0 }
     {
         match (self.setup.limits(key), self.store.get(key)) {
             (Some(limits), Some(value)) => {
@@ -305,9 +307,8 @@ impl<S: Store> Board<S> {
     #[inline(always)]
     fn set<B: Buffer>(&mut self, op: &Op, to: &mut B) -> Result<(), Code>
         requires room { length (B.bytes to.old) + longest_reply (request.Set op.now) ≤ B.capacity }
-        ensures answer { Gives result (B.bytes to.old) (B.bytes to.new) (serve_of self.old.setup (state_of S.records self.old) (request.Set op.now)).0 }
-        ensures left { state_of S.records self.new ≡ (serve_of self.old.setup (state_of S.records self.old) (request.Set op.now)).1 }
-        ensures setup { self.new.setup ≡ self.old.setup }
+        ensures { Serves S.records self.old self.new (Ok (request.Set op.now))
+            result (B.bytes to.old) (B.bytes to.new) }
     {
         let key = Limits::key(op);
         match (self.setup.limits(&key), self.store.find(&key)) {
@@ -330,30 +331,27 @@ impl<S: Store> Board<S> {
         body: &[u8],
         to: &mut B,
     ) -> Result<(), Code>
-        requires room { length (B.bytes to.old) + longest_reply (request.Set (K.reader.op_in body.now)) ≤ B.capacity }
-        ensures answer { Gives result (B.bytes to.old) (B.bytes to.new) (serve_of self.old.setup (state_of S.records self.old) (request.Set (K.reader.op_in body.now))).0 }
-        ensures left { state_of S.records self.new ≡ (serve_of self.old.setup (state_of S.records self.old) (request.Set (K.reader.op_in body.now))).1 }
-        ensures setup { self.new.setup ≡ self.old.setup }
+        requires { Fits (Ok (request.Set (K.reader.op_in body.now))) (B.bytes to.old) B.capacity }
+        ensures { Serves S.records self.old self.new (Ok (request.Set (K.reader.op_in body.now)))
+            result (B.bytes to.old) (B.bytes to.new) }
     {
         self.set(&K::op_in(body), to)
     }
 
     /// Carries out the command that changes a record of the kind.
     fn change<B: Buffer>(&mut self, kind: PlainKind, body: &[u8], to: &mut B) -> Result<(), Code>
-        requires room { length (B.bytes to.old) + longest_reply (request.Set ((reader_of kind).op_in body.now)) ≤ B.capacity }
-        ensures answer { Gives result (B.bytes to.old) (B.bytes to.new) (serve_of self.old.setup (state_of S.records self.old) (request.Set ((reader_of kind).op_in body.now))).0 }
-        ensures left { state_of S.records self.new ≡ (serve_of self.old.setup (state_of S.records self.old) (request.Set ((reader_of kind).op_in body.now))).1 }
-        ensures setup { self.new.setup ≡ self.old.setup }
+        requires { Fits (request_of (Command.Set kind) body.now) (B.bytes to.old) B.capacity }
+        ensures { Serves S.records self.old self.new (request_of (Command.Set kind) body.now)
+            result (B.bytes to.old) (B.bytes to.new) }
     {
         of_each_plain_kind!(changed [self, kind, body, to])
     }
 
     /// Carries out Set System Boot Options.
     fn set_boot_options<B: Buffer>(&mut self, body: &[u8], to: &mut B) -> Result<(), Code>
-        requires room { IfOk (request_of Command.SetBootOptions body.now) (λ r. length (B.bytes to.old) + longest_reply r ≤ B.capacity) }
-        ensures answer { Gives result (B.bytes to.old) (B.bytes to.new) (reply_of self.old.setup (state_of S.records self.old) (request_of Command.SetBootOptions body.now)).0 }
-        ensures left { state_of S.records self.new ≡ (reply_of self.old.setup (state_of S.records self.old) (request_of Command.SetBootOptions body.now)).1 }
-        ensures setup { self.new.setup ≡ self.old.setup }
+        requires { Fits (request_of Command.SetBootOptions body.now) (B.bytes to.old) B.capacity }
+        ensures { Serves S.records self.old self.new (request_of Command.SetBootOptions body.now)
+            result (B.bytes to.old) (B.bytes to.new) }
     {
         match boot_request_in(body)? {
             BootRequest::Progress(byte) => self.live(LiveCommand::SetBootProgress(byte), &[], to),
@@ -363,10 +361,9 @@ impl<S: Store> Board<S> {
 
     /// Carries out Get System Boot Options.
     fn get_boot_options<B: Buffer>(&mut self, body: &[u8], to: &mut B) -> Result<(), Code>
-        requires room { IfOk (request_of Command.GetBootOptions body.now) (λ r. length (B.bytes to.old) + longest_reply r ≤ B.capacity) }
-        ensures answer { Gives result (B.bytes to.old) (B.bytes to.new) (reply_of self.old.setup (state_of S.records self.old) (request_of Command.GetBootOptions body.now)).0 }
-        ensures left { state_of S.records self.new ≡ (reply_of self.old.setup (state_of S.records self.old) (request_of Command.GetBootOptions body.now)).1 }
-        ensures setup { self.new.setup ≡ self.old.setup }
+        requires { Fits (request_of Command.GetBootOptions body.now) (B.bytes to.old) B.capacity }
+        ensures { Serves S.records self.old self.new (request_of Command.GetBootOptions body.now)
+            result (B.bytes to.old) (B.bytes to.new) }
     {
         match boot_shown_in(body)? {
             BootShown::Progress => self.live(LiveCommand::GetBootProgress, &[], to),
@@ -376,8 +373,9 @@ impl<S: Store> Board<S> {
 
     /// Makes the value that the operation makes of its record, and gives the record's place: nothing is written.
     fn try_set(&mut self, op: &Op) -> Result<S::Place, Code>
-        ensures made { told result self.new.made ≡ set_outcome (limits_at self.old.setup (key_of op.now)) (S.records self.old.store (key_of op.now)) (unknown_code self.old.setup (key_of op.now)) op.now }
-        ensures place { IfOk result (λ place. S.places self.old.store (key_of op.now) ≡ Some place) }
+        ensures made { told result self.new.made
+            ≡ outcome_at self.old.setup (state_of S.records self.old) op.now }
+        ensures place { IfOk result (λ at. S.places self.old.store (key_of op.now) ≡ Some at) }
         ensures store { self.new.store ≡ self.old.store }
         ensures activity { self.new.activity ≡ self.old.activity }
         ensures setup { self.new.setup ≡ self.old.setup }
@@ -398,9 +396,8 @@ impl<S: Store> Board<S> {
         first: &SetChannelAccess,
         second: &SetChannelAccess,
     ) -> Result<(), Code>
-        ensures answer { (bytes : List ℕ) → Gives result bytes bytes (serve_of self.old.setup (state_of S.records self.old) (request.SetStores first.now second.now)).0 }
-        ensures left { state_of S.records self.new ≡ (serve_of self.old.setup (state_of S.records self.old) (request.SetStores first.now second.now)).1 }
-        ensures setup { self.new.setup ≡ self.old.setup }
+        ensures { (bytes : List ℕ) → Serves S.records self.old self.new
+            (Ok (request.SetStores first.now second.now)) result bytes bytes }
     {
         let place = self.try_set(&Op::ChannelAccess(*first))?;
         let made: Bytes<2> = Bytes::from_slice(self.made.as_slice());
@@ -412,10 +409,9 @@ impl<S: Store> Board<S> {
 
     /// Carries out Set Channel Access.
     fn set_channel_access<B: Buffer>(&mut self, body: &[u8], to: &mut B) -> Result<(), Code>
-        requires room { IfOk (request_of Command.SetChannelAccess body.now) (λ r. length (B.bytes to.old) + longest_reply r ≤ B.capacity) }
-        ensures answer { Gives result (B.bytes to.old) (B.bytes to.new) (reply_of self.old.setup (state_of S.records self.old) (request_of Command.SetChannelAccess body.now)).0 }
-        ensures left { state_of S.records self.new ≡ (reply_of self.old.setup (state_of S.records self.old) (request_of Command.SetChannelAccess body.now)).1 }
-        ensures setup { self.new.setup ≡ self.old.setup }
+        requires { Fits (request_of Command.SetChannelAccess body.now) (B.bytes to.old) B.capacity }
+        ensures { Serves S.records self.old self.new (request_of Command.SetChannelAccess body.now)
+            result (B.bytes to.old) (B.bytes to.new) }
     {
         match channel_request_in(body) {
             ChannelRequest::Leave(channel) => {
@@ -429,10 +425,9 @@ impl<S: Store> Board<S> {
     /// Carries out SetBIOSAttributeCurrentValue. The operation is made here, of the data, and stays here.
     #[inline(never)]
     fn set_attribute<B: Buffer>(&mut self, body: &[u8], to: &mut B) -> Result<(), Code>
-        requires room { IfOk (request_of Command.SetBiosAttribute body.now) (λ r. length (B.bytes to.old) + longest_reply r ≤ B.capacity) }
-        ensures answer { Gives result (B.bytes to.old) (B.bytes to.new) (reply_of self.old.setup (state_of S.records self.old) (request_of Command.SetBiosAttribute body.now)).0 }
-        ensures left { state_of S.records self.new ≡ (reply_of self.old.setup (state_of S.records self.old) (request_of Command.SetBiosAttribute body.now)).1 }
-        ensures setup { self.new.setup ≡ self.old.setup }
+        requires { Fits (request_of Command.SetBiosAttribute body.now) (B.bytes to.old) B.capacity }
+        ensures { Serves S.records self.old self.new (request_of Command.SetBiosAttribute body.now)
+            result (B.bytes to.old) (B.bytes to.new) }
     {
         let op = attribute_in(body)?;
         self.set(&Op::BiosAttribute(op), to)
@@ -440,23 +435,26 @@ impl<S: Store> Board<S> {
 
     /// Carries out GetBIOSAttributeCurrentValueByHandle.
     fn get_attribute<B: Buffer>(&mut self, body: &[u8], to: &mut B) -> Result<(), Code>
-        requires room { IfOk (request_of Command.GetBiosAttribute body.now) (λ r. length (B.bytes to.old) + longest_reply r ≤ B.capacity) }
-        ensures answer { Gives result (B.bytes to.old) (B.bytes to.new) (reply_of self.old.setup (state_of S.records self.old) (request_of Command.GetBiosAttribute body.now)).0 }
-        ensures left { state_of S.records self.new ≡ (reply_of self.old.setup (state_of S.records self.old) (request_of Command.GetBiosAttribute body.now)).1 }
-        ensures setup { self.new.setup ≡ self.old.setup }
+        requires { Fits (request_of Command.GetBiosAttribute body.now) (B.bytes to.old) B.capacity }
+        ensures { Serves S.records self.old self.new (request_of Command.GetBiosAttribute body.now)
+            result (B.bytes to.old) (B.bytes to.new) }
     {
         let handle = attribute_shown_in(body)?;
         self.get(&Key::BiosAttribute(handle), to)
     }
 
-    /// Carries out a command with this data, of a length that the command takes, and appends the data of the reply.
-    fn serve<B: Buffer>(&mut self, command: Command, body: &[u8], to: &mut B) -> Result<(), Code>
-        requires room { IfOk (request_of command body.now) (λ r. length (B.bytes to.old) + longest_reply r ≤ B.capacity) }
-        ensures answer { Gives result (B.bytes to.old) (B.bytes to.new) (reply_of self.old.setup (state_of S.records self.old) (request_of command body.now)).0 }
-        ensures left { state_of S.records self.new ≡ (reply_of self.old.setup (state_of S.records self.old) (request_of command body.now)).1 }
-        ensures setup { self.new.setup ≡ self.old.setup }
+    /// Carries out the command with the request's data, where a command was read, and appends the data of the reply.
+    pub fn reply<B: Buffer>(
+        &mut self,
+        command: Result<Command, Code>,
+        body: &[u8],
+        to: &mut B,
+    ) -> Result<(), Code>
+        requires room { Fits (asked_of command body.now) (B.bytes to.old) B.capacity }
+        ensures { Serves S.records self.old self.new (asked_of command body.now)
+            result (B.bytes to.old) (B.bytes to.new) }
     {
-        match command {
+        match command? {
             Command::Live(command) => self.live(command, body, to),
             Command::Get(kind) => self.get(&kind.key_in(body), to),
             Command::Set(kind) => self.change(kind, body, to),
@@ -469,30 +467,18 @@ impl<S: Store> Board<S> {
         }
     }
 
-    /// Carries out the command with the request's data, where a command was read, and appends the data of the reply.
-    pub fn reply<B: Buffer>(
-        &mut self,
-        command: Result<Command, Code>,
-        body: &[u8],
-        to: &mut B,
-    ) -> Result<(), Code>
-        requires room { IfOk (asked_of command body.now) (λ r. length (B.bytes to.old) + longest_reply r ≤ B.capacity) }
-        ensures answer { Gives result (B.bytes to.old) (B.bytes to.new) (reply_of self.old.setup (state_of S.records self.old) (asked_of command body.now)).0 }
-        ensures left { state_of S.records self.new ≡ (reply_of self.old.setup (state_of S.records self.old) (asked_of command body.now)).1 }
-        ensures setup { self.new.setup ≡ self.old.setup }
-    {
-        self.serve(command?, body, to)
-    }
-
     /// The answer to a request. It takes no memory.
     pub fn answer(&mut self, asked: &Asked) -> Answered
         // The answer and the state after it stand in the command relation, and are its function's.
-        ensures row { Row self.old.setup (state_of S.records self.old) asked.now result (state_of S.records self.new) }
-        ensures answer { (result, state_of S.records self.new) ≡ answer_of self.old.setup (state_of S.records self.old) asked.now }
+        ensures row { Row self.old.setup (state_of S.records self.old) asked.now
+            result (state_of S.records self.new) }
+        ensures answer { (result, state_of S.records self.new)
+            ≡ given_by S.records self.old asked.now }
         ensures setup { self.new.setup ≡ self.old.setup }
 
         // A refusal changes nothing, but that a full log which refuses a record notes that it overflowed.
-        ensures refused { result.code ≢ success → Leaves (asked_by asked.now) result.code (state_of S.records self.old) (state_of S.records self.new) }
+        ensures refused { result.code ≢ success → Leaves (asked_by asked.now) result.code
+            (state_of S.records self.old) (state_of S.records self.new) }
         // The codes of a busy controller are not a board's.
         ensures not_busy { result.code ≢ node_busy }
         ensures ready { result.code ≢ pldm_not_ready }

@@ -7,5 +7,6 @@ ghost use Rattle.bmc_core.specs.Port.{IsHeardThenTold};
 
 /// `on_frame` hears the bytes, has the board answer what is asked, and is told that answer.
 pub fn bytes_are_heard_and_then_told()
-    ensures { (setup : BoardFile) (port : Port) (before : State) (bytes : List ℕ) → IsHeardThenTold setup port before bytes }
+    ensures { (setup : BoardFile) (port : Port) (before : State) (bytes : List ℕ)
+        → IsHeardThenTold setup port before bytes }
 {}

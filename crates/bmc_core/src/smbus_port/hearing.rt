@@ -4,7 +4,7 @@ ghost use Rattle.two_wire.specs.Sizes.{most_message_bytes};
 ghost use Rattle.mctp_net.specs.Control.{request_of as control_request_of};
 ghost use Rattle.mctp_net.specs.Places.{seen};
 ghost use Rattle.pldm_base.specs.Message.{request_in as pldm_request_in, has_fault, faults};
-ghost use Rattle.model_lab.specs.PortSteps.{PortState};
+ghost use Rattle.model_ports.specs.PortSteps.{PortState};
 ghost use Rattle.bmc_core.specs.SmbusShown.{HasTaken, HasHeard};
 ghost use Rattle.bmc_core.specs.SmbusHeard.{message_heard, control_heard, pldm_heard};
 
@@ -60,7 +60,9 @@ pub(super) fn hear<'a>(
     out: &mut Out,
 ) -> Option<RequestInMessage<'a>>
     requires { length body.now ≤ most_message_bytes }
-    ensures { HasHeard wire endpoint.old (message_heard (record { envelope = envelope; body = body.now })) endpoint.new out.new result }
+    ensures { HasHeard wire endpoint.old
+        (message_heard (record { envelope = envelope; body = body.now }))
+        endpoint.new out.new result }
 {
     if !envelope.tag_owner {
         out.ignore(Reason::NotRequest);
@@ -81,7 +83,8 @@ pub(super) fn hear<'a>(
 
 /// Has a control message answered by the endpoint.
 fn control(wire: Address, endpoint: &mut Endpoint, envelope: Envelope, body: &[u8], out: &mut Out)
-    ensures { HasHeard wire endpoint.old (control_heard envelope (control_request_of body.now)) endpoint.new out.new None }
+    ensures { HasHeard wire endpoint.old (control_heard envelope (control_request_of body.now))
+        endpoint.new out.new None }
 {
     match endpoint.control(body) {
         Some(reply) => {
@@ -99,7 +102,9 @@ fn control(wire: Address, endpoint: &mut Endpoint, envelope: Envelope, body: &[u
 /// Reads a request in the bytes of a PLDM message, if they are one.
 fn pldm<'a>(envelope: Envelope, bytes: &'a [u8], out: &mut Out) -> Option<RequestInMessage<'a>>
     requires { length bytes.now ≤ 255 }
-    ensures { (wire eid : ℕ) → HasHeard wire eid (pldm_heard envelope (pldm_request_in bytes.now) (find (has_fault bytes.now) faults)) eid out.new result }
+    ensures { (wire eid : ℕ) → HasHeard wire eid
+        (pldm_heard envelope (pldm_request_in bytes.now) (find (has_fault bytes.now) faults))
+        eid out.new result }
 {
     match read_pldm(&PldmBytes::new(bytes)) {
         Ok(request) => Some(RequestInMessage::new(envelope, request, &bytes[1..])),

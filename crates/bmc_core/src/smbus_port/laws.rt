@@ -3,12 +3,13 @@ ghost use Rattle.std.specs.Prelude.{List};
 ghost use Rattle.mctp_net.specs.declared.packet.Packet.{Packet};
 ghost use Rattle.cfg_records.specs.declared.board_file.BoardFile.{BoardFile};
 ghost use Rattle.bmc_board.specs.State.{State};
-ghost use Rattle.model_lab.specs.PortSteps.{PortState};
+ghost use Rattle.model_ports.specs.PortSteps.{PortState};
 ghost use Rattle.bmc_core.specs.SmbusRuns.{IsHeardThenTold, Coming, KeepsTheRule, Ends, Happening, CarriesTheRule};
 
 /// A port of a board hears a packet, and then is told the board's answer to what the packet asks.
 pub fn a_packet_is_heard_and_then_told()
-    ensures { (setup : BoardFile) (port : PortState) (before : State) (p : Packet) → IsHeardThenTold setup port before p }
+    ensures { (setup : BoardFile) (port : PortState) (before : State) (p : Packet)
+        → IsHeardThenTold setup port before p }
 {}
 
 /// Over any list of packets, idle requesters and requests that are told any answer or dropped, the requests that a port carries out are

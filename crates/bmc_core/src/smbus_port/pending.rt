@@ -3,9 +3,8 @@ ghost use Rattle.std.specs.Prelude.{◌≡◌, ◌≤◌, length};
 ghost use Rattle.two_wire.specs.Sizes.{most_message_bytes};
 ghost use Rattle.pldm_base.specs.Message.{request_bytes};
 ghost use Rattle.bmc_windows.specs.Heard.{request_of};
-ghost use Rattle.model_lab.specs.Bytes.{pldm_heard_in};
-ghost use Rattle.model_lab.specs.PortSteps.{pldm_asked};
-ghost use Rattle.bmc_core.specs.SmbusShown.{pldm_reading};
+ghost use Rattle.bmc_core.specs.SmbusHeard.{asking, asked_of};
+ghost use Rattle.bmc_core.specs.SmbusShown.{pldm_reading, request_in};
 
 use cfg_records::Asked;
 use mctp_net::Envelope;
@@ -58,7 +57,7 @@ impl<'a> RequestInMessage<'a> {
 
     /// The request as the windows keep it, with the ignored bit 0.
     pub fn kept(&self) -> bmc_windows::Request<'_, { INSTANCES }>
-        ensures is { request_of pldm_reading result ≡ pldm_heard_in self.now.envelope.source_eid self.now.request }
+        ensures is { request_of pldm_reading result ≡ asking self.now }
         ensures room { length result.rest.now ≤ most_message_bytes }
     {
         let header = self.request.header;
@@ -73,7 +72,11 @@ impl<'a> RequestInMessage<'a> {
 
     /// A copy that waits for an answer.
     pub fn pending(&self) -> SmbusPending
-        ensures { result ≡ record { envelope = self.now.envelope; header = self.now.request.header; body = self.now.request.body } }
+        ensures { result ≡ record {
+          envelope = self.now.envelope;
+          header = self.now.request.header;
+          body = self.now.request.body;
+        } }
     {
         SmbusPending {
             envelope: self.envelope,
@@ -96,7 +99,7 @@ pub struct SmbusPending {
 impl SmbusPending {
     /// What it asks of the board.
     pub fn asked(&self) -> Asked
-        ensures { result ≡ pldm_asked self.now.envelope.source_eid (record { header = self.now.header; body = self.now.body }) }
+        ensures { result ≡ asked_of (request_in self.now) }
     {
         Asked::Pldm {
             from: self.envelope.source_eid,
@@ -108,7 +111,7 @@ impl SmbusPending {
 
     /// Its bytes, with the ignored bit 0.
     pub(super) fn bytes(&self) -> Bytes<255>
-        ensures { result ≡ request_bytes (record { header = self.now.header; body = self.now.body }) }
+        ensures { result ≡ request_bytes (request_in self.now).request }
     {
         let mut bytes = Bytes::new();
         write_pldm(&self.as_request(), &mut bytes);
@@ -116,7 +119,7 @@ impl SmbusPending {
     }
 
     fn as_request(&self) -> PldmRequest<'_>
-        ensures { result ≡ record { header = self.now.header; body = self.now.body } }
+        ensures { result ≡ (request_in self.now).request }
     {
         PldmRequest {
             header: self.header,
@@ -126,8 +129,8 @@ impl SmbusPending {
 
     /// The request, where these are its bytes.
     pub(super) fn request<'a>(&'a self, bytes: &'a Bytes<255>) -> RequestInMessage<'a>
-        requires { bytes.now ≡ request_bytes (record { header = self.now.header; body = self.now.body }) }
-        ensures { result ≡ record { envelope = self.now.envelope; request = record { header = self.now.header; body = self.now.body } } }
+        requires { bytes.now ≡ request_bytes (request_in self.now).request }
+        ensures { result ≡ request_in self.now }
     {
         RequestInMessage::new(self.envelope, self.as_request(), &bytes.as_slice()[1..])
     }

@@ -1,19 +1,14 @@
 //! What a port replies to requests, and what it keeps of them.
-ghost use Rattle.std.specs.Prelude.{◌≡◌, ◌<◌, ◌≤◌, ◌∷◌, length, List, None};
+ghost use Rattle.std.specs.Prelude.{◌≡◌, ◌<◌, ◌≤◌, ◌∷◌, length, List};
 ghost use Rattle.two_wire.specs.Sizes.{most_message_bytes};
-ghost use Rattle.two_wire.specs.declared.Bus.TheVariants.{Smbus};
 ghost use Rattle.pldm_base.specs.Message.{IsHeader, reply_start};
-ghost use Rattle.model_bus.specs.Circle.{instances};
-ghost use Rattle.model_bus.specs.Request.{Entry, Carried};
-ghost use Rattle.model_bus.specs.Numbering.{is_above};
-ghost use Rattle.model_bus.specs.Carried.{outcome, IsNew};
+ghost use Rattle.model_bus.specs.Request.{Entry};
 ghost use Rattle.bmc_board.specs.State.{state_of};
-ghost use Rattle.bmc_board.specs.Answer.{answer_of};
-ghost use Rattle.model_lab.specs.Bytes.{said};
+ghost use Rattle.bmc_board.specs.Serves.{given_by};
 ghost use Rattle.bmc_core.specs.declared.out.Done.TheVariants as done_as;
-ghost use Rattle.bmc_core.specs.Outs.{sends, AreRead};
-ghost use Rattle.bmc_core.specs.SmbusHeard.{asking, asked_of, kept_with};
-ghost use Rattle.bmc_core.specs.SmbusShown.{AreOf, parts_from, frames_from, IsSettled};
+ghost use Rattle.bmc_core.specs.Boards.{kept_at};
+ghost use Rattle.bmc_core.specs.SmbusHeard.{asking, asked_of, found_in, busy_reply, kept_with};
+ghost use Rattle.bmc_core.specs.SmbusShown.{AreOf, parts_from, IsSettled, IsKept, Replies};
 
 use super::hearing::PLDM;
 use super::pending::{INSTANCES, RequestInMessage};
@@ -37,8 +32,7 @@ pub(super) type Reply = Bytes<{ MOST_MESSAGE_BYTES }>;
 /// Sends a reply of these bytes from this place to the sender of the envelope's message. The caller has noted in `out` what was done.
 pub(super) fn send(at: &At, to: &Envelope, body: &[u8], out: &mut Out)
     requires { length body.now ≤ most_message_bytes }
-    ensures sent { 0 < length body.now → out.new ≡ sends (frames_from at.now.wire at.now.eid to.now body.now) out.old.done }
-    ensures read { 0 < length body.now → AreRead Smbus (parts_from at.now.wire at.now.eid to.now body.now) }
+    ensures { 0 < length body.now → Replies at.now to.now body.now out.old.done out.new }
 {
     if body.is_empty() {
         return;
@@ -68,8 +62,7 @@ fn begin(header: &Header, code: u8, reply: &mut Reply)
 
 /// Answers that the port is busy.
 fn refuse(at: &At, request: &RequestInMessage<'_>, out: &mut Out)
-    ensures sent { out.new ≡ sends (frames_from at.now.wire at.now.eid request.now.envelope (said Smbus (asking request.now) None)) done_as.Busy }
-    ensures read { AreRead Smbus (parts_from at.now.wire at.now.eid request.now.envelope (said Smbus (asking request.now) None)) }
+    ensures { Replies at.now request.now.envelope (busy_reply request.now) done_as.Busy out.new }
 {
     let mut reply = Bytes::new();
     begin(
@@ -84,7 +77,8 @@ fn refuse(at: &At, request: &RequestInMessage<'_>, out: &mut Out)
 /// Answers a request that isn't new: by the reply that is kept for it, or that the port is busy. Returns whether it did.
 pub(super) fn settle(windows: &Kept, at: &At, request: &RequestInMessage<'_>, out: &mut Out) -> bool
     ensures { (log : List Entry) → AreOf windows.now log
-        → IsSettled (outcome (is_above instances) (asking request.now) log) (said Smbus (asking request.now) None) (parts_from at.now.wire at.now.eid request.now.envelope) out.old out.new result }
+        → IsSettled (found_in log request.now) (busy_reply request.now)
+        (parts_from at.now.wire at.now.eid request.now.envelope) out.old out.new result }
 {
     match windows.find(&request.kept()) {
         Found::Repeats(reply) => {
@@ -104,10 +98,9 @@ pub(super) fn settle(windows: &Kept, at: &At, request: &RequestInMessage<'_>, ou
 fn keep(windows: &mut Kept, at: &At, request: &RequestInMessage<'_>, reply: &[u8], out: &mut Out)
     requires some { 0 < length reply.now }
     requires fits { length reply.now ≤ most_message_bytes }
-    ensures kept { (log : List Entry) → AreOf windows.old log → outcome (is_above instances) (asking request.now) log ≡ IsNew
-        → AreOf windows.new (Carried (record { request = asking request.now; reply = reply.now }) ∷ log) }
-    ensures sent { out.new ≡ sends (frames_from at.now.wire at.now.eid request.now.envelope reply.now) done_as.Answered }
-    ensures read { AreRead Smbus (parts_from at.now.wire at.now.eid request.now.envelope reply.now) }
+    ensures kept { IsKept windows.old
+        (record { request = asking request.now; reply = reply.now }) windows.new }
+    ensures sent { Replies at.now request.now.envelope reply.now done_as.Answered out.new }
 {
     windows.keep(&request.kept(), reply);
     out.done = Done::Answered;
@@ -123,10 +116,9 @@ pub(super) fn keep_answer(
     answered: &Answered,
     out: &mut Out,
 )
-    ensures kept { (log : List Entry) → AreOf windows.old log → outcome (is_above instances) (asking request.now) log ≡ IsNew
-        → AreOf windows.new (Carried (kept_with request.now answered.now) ∷ log) }
-    ensures sent { out.new ≡ sends (frames_from at.now.wire at.now.eid request.now.envelope (kept_with request.now answered.now).reply) done_as.Answered }
-    ensures read { AreRead Smbus (parts_from at.now.wire at.now.eid request.now.envelope (kept_with request.now answered.now).reply) }
+    ensures kept { IsKept windows.old (kept_with request.now answered.now) windows.new }
+    ensures sent { Replies at.now request.now.envelope (kept_with request.now answered.now).reply
+        done_as.Answered out.new }
 {
     begin(&request.request.header, answered.code, made);
     made.extend_from_slice(answered.body.as_slice());
@@ -142,11 +134,11 @@ pub(super) fn carry_out<S: Store>(
     request: &RequestInMessage<'_>,
     out: &mut Out,
 )
-    ensures kept { (log : List Entry) → AreOf windows.old log → outcome (is_above instances) (asking request.now) log ≡ IsNew
-        → AreOf windows.new (Carried (kept_with request.now (answer_of board.old.setup (state_of S.records board.old) (asked_of request.now)).0) ∷ log) }
-    ensures sent { out.new ≡ sends (frames_from at.now.wire at.now.eid request.now.envelope (kept_with request.now (answer_of board.old.setup (state_of S.records board.old) (asked_of request.now)).0).reply) done_as.Answered }
-    ensures read { AreRead Smbus (parts_from at.now.wire at.now.eid request.now.envelope (kept_with request.now (answer_of board.old.setup (state_of S.records board.old) (asked_of request.now)).0).reply) }
-    ensures left { state_of S.records board.new ≡ (answer_of board.old.setup (state_of S.records board.old) (asked_of request.now)).1 }
+    ensures kept { IsKept windows.old (kept_at S.records board.old request.now) windows.new }
+    ensures sent { Replies at.now request.now.envelope
+        (kept_at S.records board.old request.now).reply done_as.Answered out.new }
+    ensures left { state_of S.records board.new
+        ≡ (given_by S.records board.old (asked_of request.now)).1 }
     ensures setup { board.new.setup ≡ board.old.setup }
 {
     respond(board, request, made);
@@ -155,8 +147,9 @@ pub(super) fn carry_out<S: Store>(
 
 /// Has a request carried out, and makes its reply.
 fn respond<S: Store>(board: &mut Board<S>, request: &RequestInMessage<'_>, reply: &mut Reply)
-    ensures reply { reply.new ≡ (kept_with request.now (answer_of board.old.setup (state_of S.records board.old) (asked_of request.now)).0).reply }
-    ensures left { state_of S.records board.new ≡ (answer_of board.old.setup (state_of S.records board.old) (asked_of request.now)).1 }
+    ensures reply { reply.new ≡ (kept_at S.records board.old request.now).reply }
+    ensures left { state_of S.records board.new
+        ≡ (given_by S.records board.old (asked_of request.now)).1 }
     ensures setup { board.new.setup ≡ board.old.setup }
 {
     let header = &request.request.header;

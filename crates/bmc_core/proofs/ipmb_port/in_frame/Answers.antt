@@ -1,6 +1,6 @@
+use Rattle.std.proofs.Common.{ℕ, List, drop, ap}
 use Rattle.bmc_core.proofs.IpmbFrames.{compared}
 use Rattle.bmc_core.proofs.ipmb_port.in_frame.Goals as goal
 
-pub returns-clause-heard : goal.returns-clause-heard
-returns-clause-heard c =
-    λ i. record { requester = c.byte.ensures.value i; number = c.args.request.now.header.sequence; bytes = compared c.args.request.now c.args.bytes.now c.requires i }
+pub new-requires : goal.new-requires
+new-requires c = ap (λ (xs : List ℕ). drop 1 xs) (compared _ c.args.bytes.now c.requires)

@@ -1,10 +1,10 @@
 use Rattle.std.proofs.Common.{◌≡◌, [], ◌∷◌, ◌++◌, ℕ, List, map, sym, ◌∙◌, ap, subst}
 use Rattle.std.specs.List.{AllZip}
 use Rattle.record_base.specs.declared.message.Asked.{Asked}
-use Rattle.model_lab.specs.Values.{written, IsFrameOn}
+use Rattle.model_ports.specs.Values.{written, IsFrameOn}
 use Rattle.model_lab.specs.ManagerSteps.{values_of}
 use Rattle.model_undo.specs.Machine.{count_of}
-use Rattle.model_lab.specs.ManagerWords.{bus_of as bus_of_request}
+use Rattle.model_ports.specs.Wires.{bus_of as bus_of_request}
 use Rattle.undo_core.specs.Counted.{counts_of}
 use Rattle.undo_core.proofs.sending.frames_of.Goals as goal
 

@@ -1,51 +1,34 @@
-use Rattle.std.proofs.Common.{rules, ◌≡◌, ℕ, Bool, true, false, List, refl, sym, subst}
-use Rattle.ipmb_frame.specs.declared.message.Header.{Header}
-use Rattle.ipmb_frame.specs.Grammar.{IsResponse}
+use Rattle.std.proofs.Common.{◌≡◌, Bool, true, false, subst}
+use Rattle.ipmb_frame.specs.declared.message.Request.{Request}
 use Rattle.model_bus.specs.Carried.{IsNew}
-use Rattle.bmc_core.specs.IpmbShown.{response, response_giving, outcome_at, Settles}
-use Rattle.bmc_core.proofs.OwnBytes.{response_read}
-use Rattle.bmc_core.proofs.IpmbFrames.{carried_shows}
+use Rattle.model_ports.specs.PortSteps.{PortState}
+use Rattle.bmc_core.specs.declared.ipmb_port.IpmbPort.{IpmbPort}
+use Rattle.bmc_core.specs.IpmbShown.{Shows, outcome_at, IsSettled, IsTold}
 use Rattle.bmc_core.proofs.IpmbDeeds.{told_settled, told_new, is_new}
 use Rattle.bmc_core.proofs.ipmb_port.IpmbPort.told.Goals as goal
 
-pub returns-then-not-is_new-clause-shows : goal.returns-then-not-is_new-clause-shows
-returns-then-not-is_new-clause-shows c p shows =
-    let r = c.args.pending in
-    let settled : c.is_new.result ≡ false = search (rules, c.if-not-is_new.true) in
-    (told_settled p r c.args.answered.now c.args.self.now c.is_new.new.out
-    (subst (λ (b : Bool). Settles r (outcome_at p r) b c.is_new.new.out) settled (c.is_new.ensures.settles p r shows (sym c.header.ensures) c.compared-heard.ensures.heard)) shows).0
+pub returns-then-settle : goal.returns-then-settle
+returns-then-settle c =
+    let port = c.args.self.now in
+    let r : Request = c.request-request.result in
+    let out = c.settle.new.out in
+    let settled : (p : PortState) → Shows port p → IsSettled r (outcome_at p r) out true =
+    λ p shows. subst (λ (b : Bool). IsSettled r (outcome_at p r) out b) c.if-settle.true (c.settle.ensures.settles p shows.log) in
+    let told = λ (p : PortState) (shows : Shows port p). told_settled p r c.args.answered.now port out (settled p shows) shows in
+    subst (λ (q : Request). IsTold port q c.args.answered.now port out) c.request-request.ensures
+    (record { shows = λ p shows. (told p shows).0; sent = λ p shows. (told p shows).1; read = λ p shows. (told p shows).2 })
 
-pub returns-then-not-is_new-clause-read : goal.returns-then-not-is_new-clause-read
-returns-then-not-is_new-clause-read c p shows =
-    let r = c.args.pending in
-    let settled : c.is_new.result ≡ false = search (rules, c.if-not-is_new.true) in
-    (told_settled p r c.args.answered.now c.args.self.now c.is_new.new.out
-    (subst (λ (b : Bool). Settles r (outcome_at p r) b c.is_new.new.out) settled (c.is_new.ensures.settles p r shows (sym c.header.ensures) c.compared-heard.ensures.heard)) shows).2
-
-pub returns-clause-shows : goal.returns-clause-shows
-returns-clause-shows c p shows =
-    let r = c.args.pending in
+pub returns : goal.returns
+returns c =
+    let port = c.args.self.now in
+    let r : Request = c.request-request.result in
     let a = c.args.answered.now in
-    let fresh : c.is_new.result ≡ true = search (rules, c.if-not-is_new.false) in
-    let new : outcome_at p r ≡ IsNew = is_new r (outcome_at p r) c.is_new.new.out
-    (subst (λ (b : Bool). Settles r (outcome_at p r) b c.is_new.new.out) fresh (c.is_new.ensures.settles p r shows (sym c.header.ensures) c.compared-heard.ensures.heard)) in
-    let is : IsResponse (response_giving r a) c.write_response_into.new.frame =
-    subst (λ (h : Header). IsResponse (response h a.code a.body) c.write_response_into.new.frame) c.header-in-len1.ensures
-    (subst (λ (body : List ℕ). IsResponse (response c.header-in-len1.result.now a.code body) c.write_response_into.new.frame) c.as_slice.ensures.value c.write_response_into.ensures) in
-    (told_new p r a c.keep.new.self _ new
-    (carried_shows c.args.self.now c.keep.new.self c.compared-heard.result r a c.write_response_into.new.frame _ c.compared-heard.ensures.heard is c.as_slice-in-len1.ensures.value
-    c.keep.ensures.wire c.keep.ensures.carried p shows new (c.is_new.ensures.fresh fresh)) refl (response_read _ _ _ is refl)).0
-
-pub returns-clause-read : goal.returns-clause-read
-returns-clause-read c p shows =
-    let r = c.args.pending in
-    let a = c.args.answered.now in
-    let fresh : c.is_new.result ≡ true = search (rules, c.if-not-is_new.false) in
-    let new : outcome_at p r ≡ IsNew = is_new r (outcome_at p r) c.is_new.new.out
-    (subst (λ (b : Bool). Settles r (outcome_at p r) b c.is_new.new.out) fresh (c.is_new.ensures.settles p r shows (sym c.header.ensures) c.compared-heard.ensures.heard)) in
-    let is : IsResponse (response_giving r a) c.write_response_into.new.frame =
-    subst (λ (h : Header). IsResponse (response h a.code a.body) c.write_response_into.new.frame) c.header-in-len1.ensures
-    (subst (λ (body : List ℕ). IsResponse (response c.header-in-len1.result.now a.code body) c.write_response_into.new.frame) c.as_slice.ensures.value c.write_response_into.ensures) in
-    (told_new p r a c.keep.new.self _ new
-    (carried_shows c.args.self.now c.keep.new.self c.compared-heard.result r a c.write_response_into.new.frame _ c.compared-heard.ensures.heard is c.as_slice-in-len1.ensures.value
-    c.keep.ensures.wire c.keep.ensures.carried p shows new (c.is_new.ensures.fresh fresh)) refl (response_read _ _ _ is refl)).2
+    let out = c.keep_answer.new.out in
+    let next : IpmbPort = record { wire = port.wire; windows = c.keep_answer.new.windows } in
+    let new : (p : PortState) → Shows port p → outcome_at p r ≡ IsNew =
+    λ p shows. is_new r (outcome_at p r) c.settle.new.out (subst (λ (b : Bool). IsSettled r (outcome_at p r) c.settle.new.out b) c.if-settle.false (c.settle.ensures.settles p shows.log)) in
+    let told = λ (p : PortState) (shows : Shows port p).
+    told_new p r a next out (new p shows)
+    (record { wire = shows.wire; log = c.keep_answer.ensures.kept p shows.log (new p shows) (c.settle.ensures.fresh c.if-settle.false) }) c.keep_answer.ensures.sent c.keep_answer.ensures.read in
+    subst (λ (q : Request). IsTold port q a next out) c.request-request.ensures
+    (record { shows = λ p shows. (told p shows).0; sent = λ p shows. (told p shows).1; read = λ p shows. (told p shows).2 })

@@ -7,4 +7,4 @@ pub returns-in-Ipmb-clause-keeps : goal.returns-in-Ipmb-clause-keeps
 returns-in-Ipmb-clause-keeps c p shows = c.idle.ensures.keeps p (subst (λ (x : Port). Shows x p) c.in-Ipmb.is shows)
 
 pub returns-in-Smbus-clause-keeps : goal.returns-in-Smbus-clause-keeps
-returns-in-Smbus-clause-keeps c p shows = c.idle-in-Smbus.ensures.forgotten p (subst (λ (x : Port). Shows x p) c.in-Smbus.is shows)
+returns-in-Smbus-clause-keeps c p shows = c.idle-in-Smbus.ensures.keeps p (subst (λ (x : Port). Shows x p) c.in-Smbus.is shows)

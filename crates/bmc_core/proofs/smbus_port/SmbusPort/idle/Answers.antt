@@ -1,8 +1,8 @@
 use Rattle.bmc_core.specs.SmbusShown.{pldm_reading}
 use Rattle.bmc_core.proofs.smbus_port.SmbusPort.idle.Goals as goal
 
-pub returns-clause-forgotten : goal.returns-clause-forgotten
-returns-clause-forgotten c p shows =
+pub returns-clause-keeps : goal.returns-clause-keeps
+returns-clause-keeps c p shows =
     record { wire = shows.wire; eid = shows.eid; kept = shows.kept; log = record { kept = c.idle.ensures.keeps pldm_reading p.log shows.log.kept; replies = shows.log.replies } }
 
 pub returns-clause-had : goal.returns-clause-had

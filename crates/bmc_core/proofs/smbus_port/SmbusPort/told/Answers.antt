@@ -31,7 +31,7 @@ returns c p shows =
     new (found p m) _ _ c.args.out.now c.settle.new.out
     (settled_as p m at.wire at.eid c.args.out.now c.settle.new.out c.settle.result false at_wire at_eid c.if-settle.false (c.settle.ensures p.log shows.log)) in
     let sent : c.keep_answer.new.out ≡ sends (frames_from p.wire p.eid m.envelope (kept_with m a).reply) done.Answered =
-    c.keep_answer.ensures.sent ∙ (λ i. sends (frames_from (sym at_wire i) (sym at_eid i) m.envelope (kept_with m a).reply) done.Answered) in
+    c.keep_answer.ensures.sent.sent ∙ (λ i. sends (frames_from (sym at_wire i) (sym at_eid i) m.envelope (kept_with m a).reply) done.Answered) in
     subst (λ (x : InMessage). Ends next c.keep_answer.new.out p (Asks x) a) c.request-request.ensures
     (answered next c.keep_answer.new.out p m a is (record { wire = shows.wire; eid = shows.eid; kept = shows.kept; log = c.keep_answer.ensures.kept p.log shows.log is }) sent
-    (parts_at p m.envelope (kept_with m a).reply at.wire at.eid at_wire at_eid c.keep_answer.ensures.read))
+    (parts_at p m.envelope (kept_with m a).reply at.wire at.eid at_wire at_eid c.keep_answer.ensures.sent.read))

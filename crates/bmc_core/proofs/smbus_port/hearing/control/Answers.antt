@@ -9,4 +9,4 @@ returns-in-Some c =
     let e = c.args.envelope in
     replied wire c.args.endpoint.now e (control_request_of c.args.body.now) c.in-Some.reply c.control.new.self c.send.new.out c.in-Some.ensures.reply c.in-Some.ensures.after
     (subst (λ (n : ℕ). IsSent wire n e c.in-Some.reply c.send.new.out) c.eid.ensures
-    (subst (λ (xs : List ℕ). IsSent wire c.eid.result e xs c.send.new.out) c.as_slice.ensures.value (λ some. (c.send.ensures.sent some, c.send.ensures.read some))))
+    (subst (λ (xs : List ℕ). IsSent wire c.eid.result e xs c.send.new.out) c.as_slice.ensures.value (λ some. ((c.send.ensures some).sent, (c.send.ensures some).read))))

@@ -1,13 +1,12 @@
 use Rattle.std.proofs.Common.{◌≡◌, ◌∷◌, ◌∙◌, ap, subst}
-use Rattle.two_wire.specs.declared.Bus.TheVariants.{Smbus}
 use Rattle.mctp_net.specs.declared.packet.Envelope.{Envelope}
 use Rattle.model_bus.specs.Request.{Request as Asking, Carried}
 use Rattle.model_bus.specs.Numbering.{is_above}
 use Rattle.model_bus.specs.Carried.{outcome}
 use Rattle.bmc_windows.specs.Keeps.{Keeps}
-use Rattle.bmc_core.specs.Outs.{AreRead}
+use Rattle.bmc_core.specs.declared.out.Done.TheVariants as done
 use Rattle.bmc_core.specs.SmbusHeard.{InMessage}
-use Rattle.bmc_core.specs.SmbusShown.{pldm_reading, parts_from}
+use Rattle.bmc_core.specs.SmbusShown.{pldm_reading, Replies}
 use Rattle.bmc_core.proofs.smbus_port.replying.keep.Goals as goal
 
 pub returns-clause-kept : goal.returns-clause-kept
@@ -17,8 +16,7 @@ returns-clause-kept c log h new = record {
   replies = (c.requires.some, h.replies);
 }
 
-pub returns-clause-read : goal.returns-clause-read
-returns-clause-read c =
-    let at = c.args.at.now in
+pub returns-clause-sent : goal.returns-clause-sent
+returns-clause-sent c =
     let envelope : c.request.inside.envelope ≡ c.args.request.now.envelope = ap (λ (x : InMessage). x.envelope) c.request.view_is in
-    subst (λ (e : Envelope). AreRead Smbus (parts_from at.wire at.eid e c.args.reply.now)) envelope (c.send.ensures.read c.requires.some)
+    subst (λ (e : Envelope). Replies c.args.at.now e c.args.reply.now done.Answered c.send.new.out) envelope (c.send.ensures c.requires.some)

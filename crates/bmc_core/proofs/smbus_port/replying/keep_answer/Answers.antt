@@ -3,11 +3,10 @@ use Rattle.two_wire.specs.declared.Bus.TheVariants.{Smbus}
 use Rattle.pldm_base.specs.declared.message.Header.{Header}
 use Rattle.pldm_base.specs.Message.{reply_start}
 use Rattle.model_bus.specs.Request.{Carried}
-use Rattle.model_lab.specs.PortSteps.{spelled}
+use Rattle.model_ports.specs.PortSteps.{spelled}
 use Rattle.bmc_core.specs.declared.out.Done.TheVariants as done
-use Rattle.bmc_core.specs.Outs.{sends, AreRead}
 use Rattle.bmc_core.specs.SmbusHeard.{InMessage, asking}
-use Rattle.bmc_core.specs.SmbusShown.{AreOf, parts_from, frames_from}
+use Rattle.bmc_core.specs.SmbusShown.{AreOf, Replies}
 use Rattle.bmc_core.proofs.SmbusReplies.{spelled_so}
 use Rattle.bmc_core.proofs.smbus_port.replying.keep_answer.Goals as goal
 
@@ -29,14 +28,4 @@ returns-clause-sent c =
     let bytes : c.as_slice-2.result.now ≡ spelled Smbus (asking m) a =
     c.as_slice-2.ensures.value ∙ c.extend_from_slice.ensures ∙ (λ i. c.begin.ensures.started i ++ c.as_slice.ensures.value i)
     ∙ ap (λ (h : Header). (1 ∷ reply_start h a.code) ++ a.body) header ∙ sym (spelled_so m a (subst (λ (h : Header). h.instance < 32) header c.begin.ensures.header.instance)) in
-    c.keep.ensures.sent ∙ ap (λ (xs : List ℕ). sends (frames_from c.args.at.now.wire c.args.at.now.eid m.envelope xs) done.Answered) bytes
-
-pub returns-clause-read : goal.returns-clause-read
-returns-clause-read c =
-    let m = c.args.request.now in
-    let a = c.args.answered.now in
-    let header : c.request.inside.request.header ≡ m.request.header = ap (λ (x : InMessage). x.request.header) c.request.view_is in
-    let bytes : c.as_slice-2.result.now ≡ spelled Smbus (asking m) a =
-    c.as_slice-2.ensures.value ∙ c.extend_from_slice.ensures ∙ (λ i. c.begin.ensures.started i ++ c.as_slice.ensures.value i)
-    ∙ ap (λ (h : Header). (1 ∷ reply_start h a.code) ++ a.body) header ∙ sym (spelled_so m a (subst (λ (h : Header). h.instance < 32) header c.begin.ensures.header.instance)) in
-    subst (λ (xs : List ℕ). AreRead Smbus (parts_from c.args.at.now.wire c.args.at.now.eid m.envelope xs)) bytes c.keep.ensures.read
+    subst (λ (xs : List ℕ). Replies c.args.at.now m.envelope xs done.Answered c.keep.new.out) bytes c.keep.ensures.sent

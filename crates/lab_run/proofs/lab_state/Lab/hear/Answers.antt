@@ -1,8 +1,8 @@
 use Rattle.std.proofs.Common.{rules, ◌≡◌, false, refl, sym, subst}
 use Rattle.two_wire.specs.declared.Bus.{Bus}
 use Rattle.two_wire.specs.declared.Bus.TheVariants as bus
-use Rattle.model_lab.specs.Values.{IsFrameOn}
-use Rattle.model_lab.specs.PortSteps.{hears, stays as stays_there}
+use Rattle.model_ports.specs.Values.{IsFrameOn}
+use Rattle.model_ports.specs.PortSteps.{hears, stays as stays_there}
 use Rattle.model_lab.specs.Lab.{port_on}
 use Rattle.model_lab.specs.Faults.{is_frame}
 use Rattle.model_lab.specs.Played.{plans}

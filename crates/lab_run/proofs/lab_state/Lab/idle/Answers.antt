@@ -3,7 +3,7 @@ use Rattle.two_wire.specs.declared.Bus.{Bus}
 use Rattle.two_wire.specs.declared.Bus.TheVariants.{Ipmb, Smbus}
 use Rattle.undo_plans.specs.declared.names.Names.{Names}
 use Rattle.model_lab.specs.Lab.{with_port, port_on}
-use Rattle.model_lab.specs.PortSteps.{idles}
+use Rattle.model_ports.specs.PortSteps.{idles}
 use Rattle.model_lab.specs.Played.{plans}
 use Rattle.lab_run.specs.Shown.{Shows}
 use Rattle.lab_run.proofs.Idling.{one_more, no_more, forgot_ipmb, forgot_smbus}
@@ -35,7 +35,7 @@ pub returns-then-requester-self-clause-becomes : goal.returns-then-requester-sel
 returns-then-requester-self-clause-becomes c file x shows =
     let old = c.args.self.now in
     let own : c.args.requester ≡ x.manager.names.own_eid = c.if-requester-self.true ∙ ap (λ (n : Names). n.own_eid) (shows.named ∙ sym shows.manager.is_named) in
-    let made = forgot_smbus file old x shows c.args.requester (old.idles.smbus + 1) c.idle-in-Smbus.new.self (c.idle-in-Smbus.ensures.forgotten x.smbus shows.smbus)
+    let made = forgot_smbus file old x shows c.args.requester (old.idles.smbus + 1) c.idle-in-Smbus.new.self (c.idle-in-Smbus.ensures.keeps x.smbus shows.smbus)
     (one_more c.args.requester x.manager.names.own_eid x.smbus.log old.idles.smbus own (shows.idles Smbus)) in
     subst (λ (on : Bus). Shows file (record old { smbus = c.idle-in-Smbus.new.self; idles = record old.idles { smbus = old.idles.smbus + 1 } }) (with_port plans on (idles c.args.requester (port_on plans on x)) x)) (sym c.in-Smbus.is) made
 
@@ -43,6 +43,6 @@ pub returns-else-requester-self-clause-becomes : goal.returns-else-requester-sel
 returns-else-requester-self-clause-becomes c file x shows =
     let old = c.args.self.now in
     let own : old.names.own_eid ≡ x.manager.names.own_eid = ap (λ (n : Names). n.own_eid) (shows.named ∙ sym shows.manager.is_named) in
-    let made = forgot_smbus file old x shows c.args.requester old.idles.smbus c.idle-in-Smbus.new.self (c.idle-in-Smbus.ensures.forgotten x.smbus shows.smbus)
+    let made = forgot_smbus file old x shows c.args.requester old.idles.smbus c.idle-in-Smbus.new.self (c.idle-in-Smbus.ensures.keeps x.smbus shows.smbus)
     (no_more c.args.requester x.manager.names.own_eid x.smbus.log old.idles.smbus (λ is. c.if-requester-self.false (is ∙ sym own)) (shows.idles Smbus)) in
     subst (λ (on : Bus). Shows file (record old { smbus = c.idle-in-Smbus.new.self }) (with_port plans on (idles c.args.requester (port_on plans on x)) x)) (sym c.in-Smbus.is) made

@@ -1,7 +1,7 @@
 use Rattle.std.proofs.Common.{◌≡◌, map, take}
 use Rattle.two_wire.specs.declared.Bus.TheVariants as bus
 use Rattle.cfg_records.specs.declared.board_file.BoardFile.{BoardFile}
-use Rattle.model_lab.specs.Values.{Part, parts_of}
+use Rattle.model_ports.specs.Values.{Part, parts_of}
 use Rattle.model_lab.specs.declared.way.Way.TheVariants.{ToOthers}
 use Rattle.model_lab.specs.Lab.{Lab as LabModel, port_does}
 use Rattle.model_lab.specs.Meaning.{lab_names, message_of}

@@ -1,9 +1,10 @@
 use Rattle.std.proofs.Common.{◌≡◌, ◌%◌, true, not, None, sym, ◌∙◌, subst}
 use Rattle.std.specs.Prelude.{IsSome}
 use Rattle.std.proofs.lemmas.Bool.{true≢false}
-use Rattle.model_undo.specs.Words.{Answered, is_busy}
+use Rattle.model_bus.specs.Answered.{Answered}
+use Rattle.model_undo.specs.Words.{is_busy}
 use Rattle.model_bus.specs.Bytes.{pldm_answers}
-use Rattle.model_lab.specs.Wires.{bytes_of}
+use Rattle.model_ports.specs.Wires.{bytes_of}
 use Rattle.undo_core.specs.Shown.{own, Does}
 use Rattle.undo_core.proofs.Heard.{heard_message, no_message}
 use Rattle.undo_core.proofs.manager.Manager.on_message.Goals as goal

@@ -1,8 +1,9 @@
 use Rattle.std.proofs.Common.{rules, ◌≡◌, ◌≤◌, length, Bool, true, false, Option, refl, sym, ◌∙◌, ap, subst, arith}
 use Rattle.two_wire.specs.declared.Bus.{Bus}
 use Rattle.record_base.specs.declared.message.Asked.{Asked}
-use Rattle.model_lab.specs.ManagerWords.{bus_of}
-use Rattle.model_undo.specs.Words.{Answered, is_busy}
+use Rattle.model_ports.specs.Wires.{bus_of}
+use Rattle.model_bus.specs.Answered.{Answered}
+use Rattle.model_undo.specs.Words.{is_busy}
 use Rattle.model_undo.specs.Machine.{one_answered}
 use Rattle.undo_core.specs.declared.stage.Stage.{Stage}
 use Rattle.undo_core.specs.declared.stage.Stage.TheVariants.{Opened}

@@ -1,6 +1,6 @@
 use Rattle.std.proofs.Common.{sym, subst}
 use Rattle.model_undo.specs.Machine as machine
-use Rattle.model_undo.specs.Words.{Answered}
+use Rattle.model_bus.specs.Answered.{Answered}
 use Rattle.undo_core.specs.declared.stage.Task.{Task}
 use Rattle.undo_core.specs.Bounds.{done_by, with_done}
 use Rattle.undo_core.specs.Shown.{words_of, IsTask, IsStage}

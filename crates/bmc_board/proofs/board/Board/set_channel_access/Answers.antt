@@ -1,0 +1,13 @@
+use Rattle.std.proofs.Common.{◌≡◌, ℕ, List, Result, Ok, sym, ◌∙◌, ap, subst}
+use Rattle.user_chan.specs.declared.channel_request.ChannelRequest.{ChannelRequest}
+use Rattle.bmc_board.specs.Request.{Request, channel_asked}
+use Rattle.bmc_board.specs.Serves.{Serves}
+use Rattle.bmc_board.proofs.board.Board.set_channel_access.Goals as goal
+
+-- two stores are changed, or none, with no data in the reply
+pub returns-in-Two : goal.returns-in-Two
+returns-in-Two g c =
+    let to : List ℕ = g.B.Buffer.bytes c.args.to.now in
+    subst (λ (r : Result Request ℕ). Serves g.S.Store.records c.args.self.now c.set_stores.new.self r c.set_stores.result to to)
+    (ap (λ (r : ChannelRequest). let asked : Result Request ℕ = Ok (channel_asked r) in asked) (sym c.in-Two.is ∙ c.channel_request_in.ensures))
+    (c.set_stores.ensures to)

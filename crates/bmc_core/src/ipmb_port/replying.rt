@@ -1,0 +1,187 @@
+//! What a port replies to requests, and what it keeps of them.
+ghost use Rattle.std.specs.Prelude.{◌≡◌, ◌≤◌, ◌-◌, ◌∷◌, [], length, drop, slice_index, true, false, Some};
+ghost use Rattle.two_wire.specs.Sizes.{most_ipmi_reply_data};
+ghost use Rattle.two_wire.specs.declared.Bus.TheVariants.{Ipmb};
+ghost use Rattle.ipmb_frame.specs.declared.message.Request.{Request as AnyRequest};
+ghost use Rattle.ipmb_frame.specs.Grammar.{IsResponse};
+ghost use Rattle.bmc_board.specs.Request.{asked_by, asked_of};
+ghost use Rattle.bmc_board.specs.State.{state_of};
+ghost use Rattle.bmc_board.specs.Serves.{given_by};
+ghost use Rattle.model_ports.specs.Bytes.{heard_in};
+ghost use Rattle.model_ports.specs.PortSteps.{PortState, asked_in, response_after};
+ghost use Rattle.bmc_core.specs.Outs.{sends, AreRead};
+ghost use Rattle.bmc_core.specs.Boards.{answer_to};
+ghost use Rattle.bmc_core.specs.IpmbShown.{reading, HasUnits, IsAnswered, AreOf, IsFresh, IsSent, IsSettled, IsKept, outcome_at, response, response_frame, response_giving, first_answer, first_response};
+
+use super::pending::{RequestInFrame, SEQUENCE_NUMBERS};
+use crate::out::{Done, Out};
+use bmc_board::request::read_ipmi;
+use bmc_board::{Board, Command};
+use bmc_windows::{Found, Windows};
+use cfg_records::{Answered, Store, byte_at};
+use ipmb_frame::{Header, begin_response, end_response, write_response_into};
+use two_wire::{Code, Frame, code};
+
+/// The requests that a port carried out, with the frames of their responses. A response has at most 32 bytes, and a request at most 27
+/// behind the first that is kept.
+pub(super) type Kept = Windows<{ SEQUENCE_NUMBERS }, 32>;
+
+/// The command of a request to the board, or the first code that refuses it.
+fn command_in(request: &RequestInFrame<'_>) -> Result<Command, Code>
+    ensures { asked_of result request.now.body ≡ asked_by (asked_in request.now) }
+{
+    let header = request.header();
+    read_ipmi(
+        header.responder.lun,
+        header.net_fn,
+        header.command,
+        request.body(),
+    )
+}
+
+/// Has a request carried out, and makes the frame its response.
+fn respond<S: Store>(board: &mut Board<S>, request: &RequestInFrame<'_>, frame: &mut Frame)
+    ensures answer { IsResponse
+        (response_giving request.now (answer_to S.records board.old request.now)) frame.new }
+    ensures left { state_of S.records board.new
+        ≡ (given_by S.records board.old (asked_in request.now)).1 }
+    ensures setup { board.new.setup ≡ board.old.setup }
+{
+    let header = request.header();
+    begin_response(frame, header, 0);
+    match board.reply(command_in(request), request.body(), frame) {
+        Ok(()) => {}
+        Err(code) => begin_response(frame, header, code.value()),
+    }
+    end_response(frame);
+}
+
+/// Sends the response of this header, code and data, to a request that isn't carried out. The caller has noted in `out` what was done.
+#[inline(always)]
+fn send(out: &mut Out, header: &Header, code: u8, body: &[u8])
+    requires { length body.now ≤ most_ipmi_reply_data }
+    ensures sent { out.new ≡ sends (response_frame header.now code body.now ∷ []) out.old.done }
+    ensures read { IsResponse (response header.now code body.now)
+        (response_frame header.now code body.now) }
+{
+    out.frames.keep_one();
+    match out.frames.list.as_mut_slice() {
+        [frame] => write_response_into(frame, header, code, body),
+        _ => unreachable!(),
+    }
+}
+
+/// The code and the data of a response, in its frame.
+fn reply_in(frame: &[u8]) -> (u8, &[u8])
+    ensures code { result.0 ≡ slice_index (reading.reply frame.now) 3 }
+    ensures body { result.1.now ≡ drop 4 (reading.reply frame.now) }
+    ensures fits { length result.1.now ≤ length frame.now - 8 }
+{
+    let [checked @ .., _check] = frame else {
+        return (0, &[]);
+    };
+    (byte_at(checked, 6), checked.get(7..).unwrap_or(&[]))
+}
+
+/// Sends the frame that is kept for the request of this header once more. One from another address is written anew, from the
+/// header's. The caller has noted in `out` what was done.
+#[inline(always)]
+fn repeat(out: &mut Out, header: &Header, kept: &[u8])
+    requires units { HasUnits header.now }
+    requires fits { length kept.now ≤ 32 }
+    ensures { (r : AnyRequest) → r.header ≡ header.now
+        → IsAnswered (record { request = heard_in r; reply = kept.now })
+        → IsSent (response_after r (Some (reading.reply kept.now))) out.old.done out.new }
+{
+    out.frames.keep_one();
+    match out.frames.list.as_mut_slice() {
+        [frame] => {
+            if byte_at(kept, 3) == header.responder.address.byte() {
+                frame.replace(kept);
+            } else {
+                let (code, body) = reply_in(kept);
+                write_response_into(frame, header, code, body);
+            }
+        }
+        _ => unreachable!(),
+    }
+}
+
+/// Answers a request that isn't new: by the response that is kept for it, or that the port is busy. Returns whether it did.
+pub(super) fn settle(windows: &Kept, request: &RequestInFrame<'_>, out: &mut Out) -> bool
+    ensures fresh { result ≡ false → IsFresh windows.now request.now }
+    ensures settles { (p : PortState) → AreOf windows.now p.log
+        → IsSettled request.now (outcome_at p request.now) out.new result }
+{
+    let heard = request.kept();
+    match windows.find(&heard) {
+        Found::Repeats(kept) => {
+            out.done = Done::Repeated;
+            repeat(out, request.header(), kept.as_slice());
+            true
+        }
+        Found::Busy => {
+            out.done = Done::Busy;
+            send(out, request.header(), code::NODE_BUSY.value(), &[]);
+            true
+        }
+        Found::New => false,
+    }
+}
+
+/// Keeps a new request with the response of this answer, and sends that.
+pub(super) fn keep_answer(
+    windows: &mut Kept,
+    request: &RequestInFrame<'_>,
+    answered: &Answered,
+    out: &mut Out,
+)
+    requires { length answered.now.body ≤ most_ipmi_reply_data }
+    ensures kept { IsKept windows.old request.now answered.now windows.new }
+    ensures sent { out.new ≡ first_answer request.now answered.now }
+    ensures read { AreRead Ipmb (first_response request.now answered.now ∷ []) }
+{
+    let heard = request.kept();
+    out.done = Done::Answered;
+    out.frames.keep_one();
+    match out.frames.list.as_mut_slice() {
+        [frame] => {
+            write_response_into(
+                frame,
+                request.header(),
+                answered.code,
+                answered.body.as_slice(),
+            );
+            windows.keep(&heard, frame.as_slice());
+        }
+        _ => unreachable!(),
+    }
+}
+
+/// Has a new request carried out, keeps it with its response, and sends that.
+pub(super) fn carry_out<S: Store>(
+    windows: &mut Kept,
+    board: &mut Board<S>,
+    request: &RequestInFrame<'_>,
+    out: &mut Out,
+)
+    ensures kept { IsKept windows.old request.now (answer_to S.records board.old request.now)
+        windows.new }
+    ensures sent { out.new
+        ≡ first_answer request.now (answer_to S.records board.old request.now) }
+    ensures read { AreRead Ipmb
+        (first_response request.now (answer_to S.records board.old request.now) ∷ []) }
+    ensures left { state_of S.records board.new
+        ≡ (given_by S.records board.old (asked_in request.now)).1 }
+    ensures setup { board.new.setup ≡ board.old.setup }
+{
+    out.done = Done::Answered;
+    out.frames.keep_one();
+    match out.frames.list.as_mut_slice() {
+        [frame] => {
+            respond(board, request, frame);
+            windows.keep(&request.kept(), frame.as_slice());
+        }
+        _ => unreachable!(),
+    }
+}

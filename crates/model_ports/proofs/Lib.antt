@@ -1,0 +1,9 @@
+pub mod PacketSteps
+pub mod Waiting
+pub mod Cutting
+pub mod WholeBytes
+pub mod Spelling
+pub mod Parts
+pub mod Turning
+pub mod PortPart
+pub mod PortEvents

@@ -1,0 +1,13 @@
+use Rattle.model_ports.proofs.PacketSteps.{takes-agrees}
+use Rattle.model_ports.proofs.Waiting.{waits-alike}
+use Rattle.model_ports.proofs.WholeBytes.{whole-bytes}
+use Rattle.model_ports.proofs.packets.assemblies_agree.Goals as goal
+
+pub returns-clause-step : goal.returns-clause-step
+returns-clause-step c = takes-agrees
+
+pub returns-clause-waits : goal.returns-clause-waits
+returns-clause-waits c = waits-alike
+
+pub returns-clause-whole : goal.returns-clause-whole
+returns-clause-whole c = whole-bytes
