@@ -17,10 +17,10 @@ use std::time::Instant;
 const RANDOM: usize = 4000;
 
 /// How often each list of frames is measured, once with each controller in turn.
-const TURNS: usize = 200;
+const TURNS: usize = 1000;
 
-/// About how many requests one measure takes.
-const REQUESTS: u64 = 1 << 16;
+/// About how many requests one measure takes: few, so that many a turn is over before the machine turns to other work.
+const REQUESTS: u64 = 1 << 14;
 
 /// The bytes of a frame, of which the first `length` count. None stand for no frame.
 #[repr(C)]
@@ -131,26 +131,30 @@ fn random_agree(kind: Kind) -> bool {
     agree("random", kind, &frames)
 }
 
-/// Frames a second.
-fn speed(serve: Serve, kind: Kind, frames: &[Slot]) -> f64 {
-    let rounds = REQUESTS / frames.len() as u64;
-    let mut replies = vec![Slot::new(&[]); frames.len()];
+/// The seconds that a fresh controller takes to serve the frames so many times over and once more.
+fn seconds(serve: Serve, work: &Work, rounds: u64, replies: &mut [Slot]) -> f64 {
     let start = Instant::now();
-    serve(kind, frames, rounds - 1, &mut replies);
+    serve(work.kind, &work.frames, rounds, replies);
     let seconds = start.elapsed().as_secs_f64();
     std::hint::black_box(&replies);
-    (rounds * frames.len() as u64) as f64 / seconds
+    seconds
 }
 
-/// The fastest of so many turns, each of all controllers one after another.
+/// Frames a second, by the fastest of so many turns, each of all controllers one after another. What it takes to read a board's file and to
+/// open the board isn't counted: the fastest turn with no rounds is taken away.
 fn fastest<const N: usize>(serves: [Serve; N], work: &Work) -> [f64; N] {
-    let mut best = [0.0; N];
+    let rounds = REQUESTS / work.frames.len() as u64;
+    let mut replies = vec![Slot::new(&[]); work.frames.len()];
+    let mut opened = [f64::INFINITY; N];
+    let mut served = [f64::INFINITY; N];
     for _ in 0..TURNS {
-        for (best, serve) in best.iter_mut().zip(serves) {
-            *best = f64::max(*best, speed(serve, work.kind, &work.frames));
+        for (place, serve) in serves.into_iter().enumerate() {
+            opened[place] = opened[place].min(seconds(serve, work, 0, &mut replies));
+            served[place] = served[place].min(seconds(serve, work, rounds, &mut replies));
         }
     }
-    best
+    let frames = (rounds * work.frames.len() as u64) as f64;
+    std::array::from_fn(|place| frames / (served[place] - opened[place]))
 }
 
 fn measure(work: &Work) {

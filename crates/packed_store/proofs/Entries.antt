@@ -8,6 +8,7 @@ use Rattle.std.specs.declared.cmp.Ordering.TheVariants.{Less, Greater}
 use Rattle.std.specs.List.Sorted.{IsSearchInRange, IsBinarySearchResult, IsSortedBy}
 use Rattle.std.proofs.lemmas.Bool.{cases_order}
 use Rattle.std.proofs.lemmas.List.Sorted.{searchable_from_sorted}
+use Rattle.std.proofs.lemmas.List.{get_or_default}
 use Rattle.std.proofs.lemmas.List.Edits.{length-insert, get_or-insert_below, get_or-insert_at, get_or-insert_above}
 use Rattle.record_base.specs.declared.key.Key.{Key}
 use Rattle.record_base.specs.Keys.{key_cmp, same_key}
@@ -39,6 +40,13 @@ searched entries key rising (Err place) inside parted =
     )
 
 -- ---- what is found
+
+-- an entry that was read, and has the key
+pub read_at : (entries : List Entry) (key : Key) (place : ℕ) (entry : Entry) → place < length entries → entry ≡ get_or entries place entry → same_key (key_of entry) key ≡ true → IsAt entries key place
+read_at entries key place entry inside there same = record {
+  inside = inside;
+  has_key = λ d. ap key_of (get_or_default entries place d entry inside ∙ sym there) ∙ exact_key (key_of entry) key same;
+}
 
 rest_rising : (x : Entry) (xs : List Entry) → AreRising (x ∷ xs) → AreRising xs
 rest_rising x xs rising i j d lt inside = rising (suc i) (suc j) d (omega arith) (omega arith)

@@ -54,4 +54,11 @@ impl Places {
             }
         }
     }
+
+    /// Notes where keys are looked for first, once all keys are there.
+    pub fn note_rows(&mut self)
+        ensures { offset_of self.new ≡ offset_of self.old }
+    {
+        self.others.note_rows();
+    }
 }

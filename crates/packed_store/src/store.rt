@@ -59,6 +59,7 @@ impl PackedStore {
             places.insert(*key, bytes.len())?;
             add(&mut bytes, longest(key), value.as_slice())?;
         }
+        places.note_rows();
         Ok(PackedStore { bytes, places })
     }
 

@@ -1,7 +1,7 @@
 use Rattle.std.proofs.Common.{◌≡◌, List, length, take, ◌∙◌, ap, arith}
 use Rattle.std.proofs.Math.Seq.{take-length}
 use Rattle.cfg_records.specs.Records.{Pair, records_of}
-use Rattle.packed_store.specs.Image.{Offsets}
+use Rattle.packed_store.specs.Image.{Offsets, records_in}
 use Rattle.packed_store.specs.Places.{offset_of}
 use Rattle.packed_store.proofs.Packs.{no_offset, image_more, written_more}
 use Rattle.packed_store.proofs.store.PackedStore.pack.Goals as goal
@@ -25,6 +25,8 @@ loop-key-preserved c =
     }
 
 pub returns : goal.returns
-returns c = λ i key.
+returns c =
+    let packed : records_in c.loop-key.bytes.items (offset_of c.loop-key.places) ≡ records_of c.args.pairs.now = λ i key.
     (c.loop-key.invariant.written key
-    ∙ ap (λ (pairs : List Pair). records_of pairs key) (ap (λ n. take n c.args.pairs.now) (omega arith) ∙ take-length c.args.pairs.now)) i
+    ∙ ap (λ (pairs : List Pair). records_of pairs key) (ap (λ n. take n c.args.pairs.now) (omega arith) ∙ take-length c.args.pairs.now)) i in
+    ap (records_in c.loop-key.bytes.items) c.note_rows.ensures ∙ packed

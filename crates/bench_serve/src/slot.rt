@@ -1,6 +1,6 @@
 //! Frames in a caller's memory.
 ghost use Rattle.std.specs.Prelude.{◌≡◌, ◌≤◌, length};
-ghost use Rattle.bench_port.specs.Serve.{frame_of};
+ghost use Rattle.bench_serve.specs.Serve.{frame_of};
 
 /// A slot has room for so many bytes.
 const ROOM: usize = 80;

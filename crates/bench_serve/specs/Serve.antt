@@ -1,6 +1,6 @@
 -- Frames in a caller's memory.
 use Rattle.std.specs.Prelude.{ℕ, List, [], ◌∷◌, take}
-use Rattle.bench_port.specs.declared.slot.Slot.{Slot}
+use Rattle.bench_serve.specs.declared.slot.Slot.{Slot}
 
 -- the frame in a slot
 abbrev pub frame_of : Slot → List ℕ

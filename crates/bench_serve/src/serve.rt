@@ -3,30 +3,22 @@ ghost use Rattle.std.specs.Prelude.{◌≡◌};
 ghost use Rattle.bmc_core.specs.Outs.{sent};
 ghost use Rattle.bmc_core.specs.Port.{Hears};
 ghost use Rattle.bmc_board.specs.State.{state_of};
-ghost use Rattle.bench_port.specs.Serve.{frame_of, first};
+ghost use Rattle.bench_serve.specs.Serve.{frame_of, first};
 
 use crate::slot::Slot;
 use bmc_board::Board;
 use bmc_core::{At, Out, Port};
-use cfg_records::{BoardFile, PlainStore, Store};
+use cfg_records::{BoardFile, Store};
 use mctp_net::EndpointId;
 use std::alloc::{AllocError, Global};
 use text_board::read_board;
 use two_wire::{Address, Bus};
 
 /// The board of a file's text.
-fn file_of(alloc: Global, text: &[u8]) -> Option<BoardFile> {
+pub fn file_of(alloc: Global, text: &[u8]) -> Option<BoardFile> {
     match str::from_utf8(text) {
         Ok(text) => read_board(alloc, text).ok(),
         Err(_) => None,
-    }
-}
-
-/// A board over a store that is a list of values, as no program has it.
-fn over_list(alloc: Global, file: BoardFile) -> Result<Board<PlainStore>, AllocError> {
-    match PlainStore::of_file(alloc, &file) {
-        Ok(store) => Board::open(alloc, file, store),
-        Err(AllocError) => Err(AllocError),
     }
 }
 
@@ -76,10 +68,11 @@ fn leave(out: &Out, reply: &mut Slot)
     }
 }
 
-/// Hands the frames to a fresh port of the board.
-fn serve<S: Store>(
+/// Hands the frames in turn, so many times over and once more, to a fresh port of the board at 20h (EID 0Ah), with one `Out` for all of
+/// them, and leaves the first frame that it sent at last to each. The bus is 0 for IPMB and 1 for the System Management Bus.
+pub fn serve<S: Store>(
     alloc: Global,
-    bus: Bus,
+    bus: u8,
     mut board: Board<S>,
     frames: &[Slot],
     rounds: u64,
@@ -89,41 +82,11 @@ fn serve<S: Store>(
         wire: Address::new(0x20).unwrap(),
         eid: EndpointId::new(0x0A).unwrap(),
     };
-    let mut port = Port::new(alloc, bus, at)?;
+    let mut port = Port::new(alloc, bus_of(bus), at)?;
     let mut out = Out::new();
     for _ in 0..rounds {
         serve_round(&mut port, &mut board, frames, &mut out);
     }
     leave_round(&mut port, &mut board, frames, replies, &mut out);
     Ok(())
-}
-
-/// Hands the frames in turn, so many times over and once more, to a fresh controller at 20h (EID 0Ah), with one `Out` for all of them, and
-/// leaves the first frame that it sent at last to each. The bus is 0 for IPMB and 1 for the System Management Bus, the store 0 for that of the
-/// programs and 1 for a list of values, and the board is the text of a board file. Returns whether that is one and memory was given.
-#[unsafe(no_mangle)]
-pub extern "C" fn bench_port_serve(
-    alloc: Global,
-    bus: u8,
-    store: u8,
-    board: &[u8],
-    frames: &[Slot],
-    rounds: u64,
-    replies: &mut [Slot],
-) -> bool {
-    let Some(file) = file_of(alloc, board) else {
-        return false;
-    };
-    let bus = bus_of(bus);
-    let served = match store {
-        1 => match over_list(alloc, file) {
-            Ok(board) => serve(alloc, bus, board, frames, rounds, replies),
-            Err(AllocError) => Err(AllocError),
-        },
-        _ => match Board::of_file(alloc, file) {
-            Ok(board) => serve(alloc, bus, board, frames, rounds, replies),
-            Err(AllocError) => Err(AllocError),
-        },
-    };
-    served.is_ok()
 }
