@@ -1,6 +1,6 @@
 //! Standard output and standard error.
-ghost use Rattle.std.specs.Prelude.{◌≡◌, ◌⊎◌};
-ghost use Rattle.bmc_lab.specs.Console.{HasFailed, Written};
+ghost use Rattle.std.specs.Prelude.{◌≡◌, OnOk};
+ghost use Rattle.bmc_lab.specs.Console.{HasFailed, Written, Notes};
 
 use std::io;
 
@@ -43,18 +43,23 @@ impl<W: io::Write, E: io::Write> Console<W, E> {
         self.failed
     }
 
-    /// Writes the text to the stream, or has failed.
-    pub fn write(&mut self, stream: Stream, text: &[u8])
-        ensures { HasFailed self.new
-            ⊎ ((self.new.failed ≡ self.old.failed)
-            × Written stream text.now (W.contents self.old.out) (W.contents self.new.out) (E.contents self.old.err) (E.contents self.new.err)) }
+    /// Writes the text to the stream. Where that fails, the console has failed.
+    pub fn write(&mut self, stream: Stream, text: &[u8]) -> io::Result<()>
+        ensures written { OnOk result
+            (Written stream text.now (W.contents self.old.out) (W.contents self.new.out)
+            (E.contents self.old.err) (E.contents self.new.err)) }
+        ensures noted { Notes self.old.failed result self.new.failed }
     {
         let written = match stream {
             Stream::Output => self.out.write_all(text),
             Stream::Error => self.err.write_all(text),
         };
-        if written.is_err() {
-            self.failed = true;
+        match written {
+            Ok(()) => Ok(()),
+            Err(why) => {
+                self.failed = true;
+                Err(why)
+            }
         }
     }
 }

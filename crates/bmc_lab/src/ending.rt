@@ -61,11 +61,9 @@ impl<'a> Ending<'a> {
             ⊎ ((result ≡ self.now.status)
             × Written self.now.stream self.now.text.now (W.contents console.old.out) (W.contents console.new.out) (E.contents console.old.err) (E.contents console.new.err)) }
     {
-        console.write(self.stream, self.text);
-        if console.has_failed() {
-            Status::Output
-        } else {
-            self.status
+        match console.write(self.stream, self.text) {
+            Ok(()) if !console.has_failed() => self.status,
+            _ => Status::Output,
         }
     }
 }

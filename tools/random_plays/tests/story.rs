@@ -540,24 +540,27 @@ pub(super) fn expect_schedule(
     Ok(())
 }
 
-/// What is written where the plan rests in this phase: the phase, and the records by the plan's course.
+/// What is written where the plan rests in this phase: the phase, the records by the plan's course, and that the premise on packets was kept. Where
+/// it was broken, nothing is said of the records.
 fn push_end(text: &mut String, whole: &Whole, phase: &Phase) -> Result<(), Fail> {
+    write!(text, "premises -> 0 out: phase {phase} / ..")?;
+    if whole.made.waiting.is_broken {
+        text.push_str("\n")?;
+        return Ok(());
+    }
     let steps = match phase {
         Phase::Fresh | Phase::Undone => 0,
         Phase::Done => whole.scene.steps.len(),
         Phase::Halted(step, _) => *step,
         _ => {
-            writeln!(text, "lines -> 0 out: phase {phase} / ..")?;
+            text.push_str(" / premises kept\n")?;
             return Ok(());
         }
     };
     let changes = whole.course.changes.as_slice().get(..steps).ok_or("steps")?;
     match changed_by(whole.made.start.as_slice(), changes) {
-        0 => writeln!(text, "lines -> 0 out: phase {phase} / .. / records same")?,
-        many => writeln!(
-            text,
-            "lines -> 0 out: phase {phase} / .. / records changed {many}"
-        )?,
+        0 => text.push_str(" / records same / premises kept\n")?,
+        many => writeln!(text, " / records changed {many} / premises kept")?,
     }
     Ok(())
 }

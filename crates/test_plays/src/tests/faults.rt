@@ -53,6 +53,16 @@ plan events
 schedule
   65537 x other ipmb 40 280042
 lines -> 4 out: phase Fresh / frames 65536 / undo 0 / records same / fault 65537 Room
+
+# The Set's four packets are frames 65,534 to 65,537. Then nothing else is sent, but a tenth of a second may go by.
+story a message goes across the 65,536th frame
+board sample
+plan: [[step]] / kind = \"bios-attribute\" / handle = 1 / text = \"{200*x}\"
+schedule
+  start / to-bmc 0
+  65532 x other ipmb 40 280042
+  to-mgr 1 / tick / to-bmc 65534
+lines -> 4 out: phase Setting 0 / frames 65538 / undo 0 / records same / fault 65537 Room
 ";
 
 /// What others ask, what happens on the bench, and noise.
@@ -79,6 +89,18 @@ schedule
 frames -> 0 out
   phase Fresh / frames 1 / undo 0 / records same
   frame 0 bmc ipmb 402C94200048000100000097
+
+story a clock at its end stays there
+board sample
+swap clock = 0 => clock = 0xFFFFFFFF
+schedule
+  other ipmb 40 280048
+  20 x tick
+  other ipmb 42 280048
+frames -> 0 out
+  phase Fresh / frames 2 / undo 0 / records same
+  frame 0 bmc ipmb 402C9420004800FFFFFFFF9C
+  frame 1 bmc ipmb 422C9220004800FFFFFFFF9C
 
 story noise changes nothing
 board sample
@@ -142,6 +164,9 @@ plan: [[step]] / kind = \"log\"
 frames -> 3 err: plan 0 OutsidePlan Log
 plan: [[step]] / kind = \"watchdog\" / flags_clear = 0
 frames -> 3 err: plan 0 NoGet FlagsClear
+# In a step of another kind the field is ignored.
+plan: [[step]] / kind = \"power-policy\" / policy = 2 / flags_clear = 0
+lines -> 0 out: phase Getting 0 / frames 1 / undo 0 / records same
 plan events
 schedule: start / to-bmc x
 frames -> 3 err: schedule Line 2

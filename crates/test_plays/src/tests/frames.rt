@@ -63,7 +63,7 @@ ipmb 2018C82C0001D3 -> 3 err: board Text
 const FULL: &str =
     "# A file that has as much of everything as a file can, but for its sensor data records.
 part full-top
-  tid = 5 / clock = 0 / log = 1024 / enables = 0x08 / policy = 1 / watchdog = [0, 0, 0, 0]
+  tid = 5 / clock = 0xFFFFFFFF / log = 1024 / enables = 0x08 / policy = 1 / watchdog = [0, 0, 0, 0]
   boot3 = 0 / boot4 = 0 / boot5 = [0, 0, 0, 0, 0]
   users = [\"\", \"1\", \"2\", \"3\", \"4\", \"5\", \"6\", \"7\", \"8\", \"9\", \"10\", \"11\", \"12\", \"13\", \"14\", \"15\"]
 part full-items
@@ -95,6 +95,20 @@ ipmb 2018C82C0044081078 -> 0 out: 2C1CB8200044CC..
 ipmb 2018C82C0044071178 -> 0 out: 2C1CB8200044CC..
 ipmb 2028B82C00230000400000066B -> 0 out: 2C2CA820002300..
 ipmb 2028B82C00230000410000066A -> 0 out: 2C2CA8200023CB..
+# The clock is at its end.
+ipmb 2028B82C00488C -> 0 out: 2C2CA820004800FFFFFFFF9C
+
+# Each of 64 attributes has a name and four values of its own. Of these 320 strings the last part of their table has those from number 302 on, and then the check.
+story 64 attributes have more strings than a byte counts
+board fields device-20h
+  64 x [[attribute]] / name = \"N{x0+1}\" / kind = \"enumeration\" / values = [\"a{x0+1}\", \"b{x0+1}\", \"c{x0+1}\", \"d{x0+1}\"] / default = [0] / current = [1] / readonly = false
+smbus 200F0F31010A08C801800301400800000000C0 -> 0 out
+  300F452101080A800100030100000000000433432E0103006233432F01030063334330010300643343310103004E334432010300613344330103006233443401030063334435010362
+  300F452101080A1000643344360103004E33453701030061334538010300623345390103006333453A0103006433453B0103004E33463C0103006133463D0103006233463E010300EB
+  300F132101080A606333463F010300643346A0B1B26DA6
+plan: [[step]] / kind = \"bios-attribute\" / handle = 63 / indexes = [3]
+schedule: start / to-bmc 0 / to-mgr 1 / to-bmc 2 / to-mgr 3
+lines -> 0 out: phase Done / frames 4 / undo 1 / smbus 030700000000053F00000101 / records changed 1
 
 story a file with 65 records is none
 board full-top records-65 device-20h full-items

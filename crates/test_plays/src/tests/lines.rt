@@ -220,6 +220,10 @@ asks bmclab play -> refused
 asks bmclab play sample.toml plan.toml -> refused
 asks bmclab play --frames sample.toml plan.toml -> refused
 asks bmclab play sample.toml plan.toml schedule.txt undo -> refused
+asks bmclab play sample.toml plan.toml schedule.txt undo again -> refused
+asks bmclab play --frames sample.toml plan.toml schedule.txt undo -> refused
+asks bmclab play --frames --premises sample.toml plan.toml schedule.txt undo -> refused
+asks bmclab frame --bus smbus --board sample.toml 2018 2018 -> refused
 asks bmclab play --frames --frames sample.toml plan.toml schedule.txt -> refused
 asks bmclab play --frames=yes sample.toml plan.toml schedule.txt -> refused
 asks bmclab play --chart --frames sample.toml plan.toml schedule.txt -> refused

@@ -82,8 +82,9 @@ part effecter: [[numeric]] / id = 4 / size = 2 / operational = 1 / lower = 0 / u
 # Effecter 6, which is disabled.
 part disabled: [[numeric]] / id = 6 / size = 0 / operational = 2 / lower = 0 / upper = 9 / current = 9
 
-# Effecters of u16 from 0 to 1000, of s8 from -2 to 1, of u32, which is disabled, and of s32 from -70,000 to -1.
+# Effecters of u16 from 0 to 1000, of s8 from -2 to 1, of u32, which is disabled, and of s32 from -70,000 to -1. Effecter 9 has two fields of states.
 part effecters
+  [[state]] / id = 9 / operational = 1 / states = [[1, 2], [1, 2, 3]] / current = [1, 1]
   [[numeric]] / id = 4 / size = 2 / operational = 1 / lower = 0 / upper = 1000 / current = 500
   [[numeric]] / id = 5 / size = 1 / operational = 1 / lower = -2 / upper = 1 / current = 0
   [[numeric]] / id = 6 / size = 4 / operational = 2 / lower = 0 / upper = 9 / current = 9

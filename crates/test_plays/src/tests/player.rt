@@ -20,7 +20,8 @@ use std::alloc::Global;
 /// - `swap OLD => NEW`: in the board NEW stands in the place of the first OLD;
 /// - `unreadable plan`, `memory plan`: the file of the plan can't be read, or memory for it is refused;
 /// - `lines -> 0 out`: a play of the three texts ends with this status, and writes the lines to this stream (`out` or `err`) and nothing to
-///   the other, nor to both where none is named; `frames` is one with its frames, and `chart` one that is drawn;
+///   the other, nor to both where none is named; `frames` is one with its frames, `premises` one that says whether the premise on packets
+///   was kept, and `chart` one that is drawn;
 /// - `ipmb HEX -> 0 out`, `smbus ..`: so does a frame that is sent to the board, or to the sample board where the story has none;
 /// - `same ipmb HEX`: the frame is answered by the story's board as by the sample board;
 /// - `bmclab WORDS -> 0 out`: so does this command line, where the files `board.toml`, `plan.toml` and `schedule.txt` hold the texts; in a

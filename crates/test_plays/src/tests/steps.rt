@@ -59,6 +59,43 @@ lines -> 0 out
   smbus 0307000000000501000106007261636B2D31
   records same
 
+# Each text is four packets, under a tag of its own. The first packet of the first Set (2) comes again once the next Get was begun, and waits; the
+# other three join it, and the reply that was kept is sent again (12). Of the second Set the first copy's last packet (16) comes behind the second
+# copy, and completes the first; the whole second copy comes once the next Get was begun. The first half of the third Set waits while the undo begins
+# (28, 29), and its second half comes when two newer requests were begun. No packet joins one of another request.
+story late packets of long texts change nothing
+board sample
+plan
+  [[step]] / kind = \"bios-attribute\" / handle = 1 / text = \"{200*a}\"
+  [[step]] / kind = \"bios-attribute\" / handle = 1 / text = \"{200*b}\"
+  [[step]] / kind = \"bios-attribute\" / handle = 1 / text = \"{200*c}\"
+schedule
+  start / to-bmc 0 / to-mgr 1 / to-bmc 2 / to-bmc 3 / to-bmc 4 / to-bmc 5 / to-mgr 6
+  to-bmc 2 / to-bmc 7 / to-mgr 8 / to-bmc 3 / to-mgr 9 / to-bmc 4 / to-bmc 5 / to-mgr 10 / to-mgr 11 / to-mgr 12
+  to-bmc 13 / to-bmc 14 / to-bmc 15 / quiet / to-bmc 16 / to-mgr 21 / to-bmc 17 / to-bmc 18 / to-bmc 19 / to-bmc 20 / to-mgr 23
+  to-bmc 22 / to-mgr 24 / to-mgr 25 / to-mgr 26 / to-mgr 27 / to-bmc 28 / to-bmc 29 / to-bmc 30 / to-bmc 31 / to-mgr 32
+premises -> 0 out
+  phase Done
+  frames 33
+  undo 3
+  smbus 03070000000005010001C800{200*62}
+  smbus 03070000000005010001C800{200*61}
+  smbus 0307000000000501000106007261636B2D31
+  records changed 1
+  premises kept
+then
+  to-bmc 28 / to-bmc 29 / undo / to-bmc 33 / to-bmc 34 / to-bmc 35 / to-bmc 36 / to-mgr 37
+  to-bmc 38 / to-bmc 39 / to-bmc 40 / to-bmc 41 / to-bmc 30 / to-bmc 31 / to-mgr 42 / to-mgr 43 / to-bmc 44 / to-mgr 45 / to-bmc 38
+premises -> 0 out
+  phase Undone
+  frames 46
+  undo 3
+  smbus 03070000000005010001C800{200*62}
+  smbus 03070000000005010001C800{200*61}
+  smbus 0307000000000501000106007261636B2D31
+  records same
+  premises kept
+
 # Steps set notes that are as long as they can be, the asset's name and the delay twice. The undo of the notes has the tag of the Set of the
 # name. The first packet of that Set comes again, and waits, and the last three packets of the undo of the notes join it: no event has a
 # fault, and the plan is undone, but the asset has a name that nobody gave it.

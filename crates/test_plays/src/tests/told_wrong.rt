@@ -13,6 +13,7 @@ lines -> 0
 lines -> 0 out: phase Fresh / .. / records changed 1
 frames -> 0 out: phase Done / ..
 chart -> 0 out: event
+premises -> 0 out: phase Fresh / .. / premise broken 1
 ipmb 2018C82C0001D3 -> 0 out: 2C1CB820000100200101050207CDAB003412F0
 smbus 2018C82C0001D3 -> 1 out: ignored NotMctp
 bmclab frame 2018C82C0001D3 -> 3
@@ -52,17 +53,17 @@ every run is told wrong, line 6: status 0, out \"phase Fresh\\nframes 0\\nundo 0
 every run is told wrong, line 7: status 0, out \"phase Fresh\\nframes 0\\nundo 0\\nrecords same\\n\", err \"\"
 every run is told wrong, line 8: status 0, out \"phase Fresh\\nframes 0\\nundo 0\\nrecords same\\n\", err \"\"
 every run is told wrong, line 9: status 0, out \"event mgr  |comes             sends            |bmc     phase\\n\", err \"\"
-every run is told wrong, line 10: status 0, out \"2C1CB820000100200101050207CDAB003412F1\\n\", err \"\"
-every run is told wrong, line 11: status 1, out \"ignored Short\\n\", err \"\"
-every run is told wrong, line 12: status 0, out \"2C1CB820000100200101050207CDAB003412F1\\n\", err \"\"
-every run is told wrong, line 13: ipmb 2018
-every run is told wrong, line 15: status 0, out \"2C1CB820000100210101050207CDAB003412F0\\n\", err \"\"
-every run is told wrong, line 17: can't be read
-every run is told wrong, line 18: status 3, out \"\", err \"file plan.toml\\n\"
-every run is told wrong, line 20: status 5, out \"\", err \"memory\\n\"
-a story's texts are told wrong, line 23: can't be read
+every run is told wrong, line 10: status 0, out \"phase Fresh\\nframes 0\\nundo 0\\nrecords same\\npremises kept\\n\", err \"\"
+every run is told wrong, line 11: status 0, out \"2C1CB820000100200101050207CDAB003412F1\\n\", err \"\"
+every run is told wrong, line 12: status 1, out \"ignored Short\\n\", err \"\"
+every run is told wrong, line 13: status 0, out \"2C1CB820000100200101050207CDAB003412F1\\n\", err \"\"
+every run is told wrong, line 14: ipmb 2018
+every run is told wrong, line 16: status 0, out \"2C1CB820000100210101050207CDAB003412F0\\n\", err \"\"
+every run is told wrong, line 18: can't be read
+every run is told wrong, line 19: status 3, out \"\", err \"file plan.toml\\n\"
+every run is told wrong, line 21: status 5, out \"\", err \"memory\\n\"
 a story's texts are told wrong, line 24: can't be read
-a story's texts are told wrong, line 27: can't be read
+a story's texts are told wrong, line 25: can't be read
 a story's texts are told wrong, line 28: can't be read
 a story's texts are told wrong, line 29: can't be read
 a story's texts are told wrong, line 30: can't be read
@@ -70,7 +71,8 @@ a story's texts are told wrong, line 31: can't be read
 a story's texts are told wrong, line 32: can't be read
 a story's texts are told wrong, line 33: can't be read
 a story's texts are told wrong, line 34: can't be read
-nothing is played of this one, line 38: nothing was played
+a story's texts are told wrong, line 35: can't be read
+nothing is played of this one, line 39: nothing was played
 ";
 
 #[test]

@@ -4,7 +4,7 @@ use bmc_core::{At, Board, Out, Port};
 use cfg_records::{Store, sample_board};
 use mctp_net::EndpointId;
 use plan_file::read_plan;
-use std::alloc::Global;
+use std::alloc::{AllocError, Global};
 use std::process::Abort;
 use text_undo::{read_undo, write_undo};
 use two_wire::{Address, Bus};
@@ -210,6 +210,26 @@ fn a_plan_is_carried_out_and_undone_by_its_manager_or_by_another(rt: HostRuntime
     for by_another in [false, true] {
         expect_undone(&rt, rt.alloc(), by_another);
     }
+}
+
+/// As many requests as a list can have, of which each sets the power restore policy.
+fn many_requests(alloc: Global) -> Result<String, AllocError> {
+    let mut text = String::from_str(alloc, "undo 1\nnext ipmb 4 smbus 0\n")?;
+    for _ in 0..256 {
+        text.push_str("ipmb 000601\n")?;
+    }
+    Ok(text)
+}
+
+#[test]
+fn a_manager_takes_over_256_requests(rt: HostRuntime) {
+    let text = many_requests(rt.alloc()).expect(&rt, "memory");
+    let mut manager = resumed(&rt, rt.alloc(), text.as_str());
+    assert_eq!(rt; manager.phase(), Phase::Halted(256, Why::Stop));
+    let written = write_undo(rt.alloc(), manager.undo_list()).expect(&rt, "memory");
+    assert_eq!(rt; written.as_str(), text.as_str());
+    assert!(rt; manager.undo().expect(&rt, "the phase of an undo").is_some());
+    assert_eq!(rt; manager.phase(), Phase::Undoing(255));
 }
 
 #[test]
