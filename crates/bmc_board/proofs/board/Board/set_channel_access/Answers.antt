@@ -1,4 +1,4 @@
-use Rattle.std.proofs.Common.{◌≡◌, ℕ, List, Result, Ok, sym, ◌∙◌, ap, subst}
+use Rattle.std.proofs.Common.{ℕ, List, Result, Ok, sym, ◌∙◌, ap, subst}
 use Rattle.user_chan.specs.declared.channel_request.ChannelRequest.{ChannelRequest}
 use Rattle.bmc_board.specs.Request.{Request, channel_asked}
 use Rattle.bmc_board.specs.Serves.{Serves}
