@@ -1,19 +1,11 @@
 -- What comes of files that are checked.
-use Rattle.std.proofs.Common.{◌≡◌, inl, ◌∷◌, ◌++◌, [], ℕ, List, ◌+◌, ◌<◌, Ok, String, Global, string_bytes, map, take, length, get_or}
+use Rattle.std.proofs.Common.{◌≡◌, ◌∷◌, ◌++◌, [], ℕ, List, ◌+◌, ◌<◌, String, Global, string_bytes, map, take, length, get_or}
 use Rattle.std.proofs.lemmas.List.{take_more, map-append}
 use Rattle.std.proofs.lemmas.Slice.Zip.{all_zipped_more}
 use Rattle.std.specs.List.{AllZip}
 use Rattle.bmc_lab.specs.Files.{Readings}
 use Rattle.bmc_check.specs.declared.outcome.Outcome.{Outcome}
-use Rattle.bmc_check.specs.declared.outcome.Outcome.TheVariants.{Fine, Told, Refused}
-use Rattle.bmc_check.specs.Outcomes.{IsOutcome}
 use Rattle.bmc_host.specs.Checks.{ComesOf}
-
--- what comes of a file's text comes of the file
-pub comes_of_text : (gives : Readings) (word text : List ℕ) → gives word (Ok text) → (outcome : Outcome) → IsOutcome text outcome → ComesOf gives word outcome
-comes_of_text gives word text given Fine is = (text, given, is)
-comes_of_text gives word text given Told is = (text, given, is)
-comes_of_text gives word text given Refused is = inl (text, given, is)
 
 -- what came of one more file
 pub next_checked : (gives : Readings) (words : List (String Global)) (place : ℕ) (word : String Global) (outcomes : List Outcome) (outcome : Outcome)

@@ -18,9 +18,7 @@ use Rattle.bmc_host.specs.declared.refusal.Refusal.TheVariants.{Memory as Lackin
 use Rattle.bmc_host.specs.declared.words.Words.{Words}
 use Rattle.bmc_host.specs.declared.words.Words.TheVariants.{Frame, Play, Check}
 use Rattle.bmc_host.specs.declared.words.FrameWords.{FrameWords}
-use Rattle.bmc_host.specs.declared.words.PlayWords.{PlayWords}
-use Rattle.bmc_host.specs.declared.words.CheckWords.{CheckWords}
-use Rattle.bmc_host.specs.Asked.{AsksBy, AsksCheck, AsksFrame, AsksPlay, Refuses, shown_of}
+use Rattle.bmc_host.specs.Asked.{AsksBy, AsksFrame, Refuses, shown_of}
 
 -- `matches.get_str`, by the rows
 pub first_by_rows : (found : Found) (name : Text) (word : Option Text) → first_value found name ≡ word → first_of name (rows_of found) ≡ word
@@ -102,11 +100,6 @@ not_check same =
     let bad : ◌≡◌ {A = ℕ} 102 99 = ap (λ (t : Text). slice_index t 0) same in
     absurd (omega arith)
 
-play_not_check : codes "play" ≡ codes "check" → ⊥
-play_not_check same =
-    let bad : ◌≡◌ {A = ℕ} 112 99 = ap (λ (t : Text). slice_index t 0) same in
-    absurd (omega arith)
-
 -- what asks for anything behind `frame` asks for a frame
 pub frame_behind : (met : Option (Text × List Row)) (rows : List Row) → met ≡ Some (codes "frame", rows) → (asked : Words) → AsksBy met asked → (words : FrameWords) × AsksFrame rows words
 frame_behind met rows is (Frame words) asks =
@@ -118,30 +111,6 @@ frame_behind met rows is (Play words) asks =
 frame_behind met rows is (Check words) asks =
     let same : (codes "frame", rows) ≡ (codes "check", asks.0) = some_same met (codes "frame", rows) (codes "check", asks.0) is asks.1 in
     absurd (not_check (ap (λ (p : Text × List Row). p.0) same))
-
--- what asks for anything behind `play` asks for a play
-pub play_behind : (met : Option (Text × List Row)) (rows : List Row) → met ≡ Some (codes "play", rows) → (asked : Words) → AsksBy met asked → (words : PlayWords) × AsksPlay rows words
-play_behind met rows is (Frame words) asks =
-    let same : (codes "frame", asks.0) ≡ (codes "play", rows) = some_same met (codes "frame", asks.0) (codes "play", rows) asks.1 is in
-    absurd (not_play (ap (λ (p : Text × List Row). p.0) same))
-play_behind met rows is (Play words) asks =
-    let same : (codes "play", asks.0) ≡ (codes "play", rows) = some_same met (codes "play", asks.0) (codes "play", rows) asks.1 is in
-    (words, subst (λ (r : List Row). AsksPlay r words) (ap (λ (p : Text × List Row). p.1) same) asks.2)
-play_behind met rows is (Check words) asks =
-    let same : (codes "play", rows) ≡ (codes "check", asks.0) = some_same met (codes "play", rows) (codes "check", asks.0) is asks.1 in
-    absurd (play_not_check (ap (λ (p : Text × List Row). p.0) same))
-
--- what asks for anything behind `check` asks for a check
-pub check_behind : (met : Option (Text × List Row)) (rows : List Row) → met ≡ Some (codes "check", rows) → (asked : Words) → AsksBy met asked → (words : CheckWords) × AsksCheck rows words
-check_behind met rows is (Frame words) asks =
-    let same : (codes "frame", asks.0) ≡ (codes "check", rows) = some_same met (codes "frame", asks.0) (codes "check", rows) asks.1 is in
-    absurd (not_check (ap (λ (p : Text × List Row). p.0) same))
-check_behind met rows is (Play words) asks =
-    let same : (codes "play", asks.0) ≡ (codes "check", rows) = some_same met (codes "play", asks.0) (codes "check", rows) asks.1 is in
-    absurd (play_not_check (ap (λ (p : Text × List Row). p.0) same))
-check_behind met rows is (Check words) asks =
-    let same : (codes "check", asks.0) ≡ (codes "check", rows) = some_same met (codes "check", asks.0) (codes "check", rows) asks.1 is in
-    (words, subst (λ (r : List Row). AsksCheck r words) (ap (λ (p : Text × List Row). p.1) same) asks.2)
 
 -- what isn't there is nothing
 pub none_there : {A : Type 0} (found : Option A) (thing : A) → found ≡ None → found ≡ Some thing → ⊥
