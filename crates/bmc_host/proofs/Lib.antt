@@ -1,2 +1,3 @@
 pub mod Builders
 pub mod Readings
+pub mod Checks

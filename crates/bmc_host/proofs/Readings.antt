@@ -16,7 +16,7 @@ use Rattle.bmc_play.specs.declared.run.Shown.{Shown}
 use Rattle.bmc_host.specs.declared.refusal.Refusal.{Refusal}
 use Rattle.bmc_host.specs.declared.refusal.Refusal.TheVariants.{Memory as Lacking, Words as Refused}
 use Rattle.bmc_host.specs.declared.words.Words.{Words}
-use Rattle.bmc_host.specs.declared.words.Words.TheVariants.{Frame, Play}
+use Rattle.bmc_host.specs.declared.words.Words.TheVariants.{Frame, Play, Check}
 use Rattle.bmc_host.specs.declared.words.FrameWords.{FrameWords}
 use Rattle.bmc_host.specs.Asked.{AsksBy, AsksFrame, Refuses, shown_of}
 
@@ -95,6 +95,11 @@ not_play same =
     let bad : ◌≡◌ {A = ℕ} 102 112 = ap (λ (t : Text). slice_index t 0) same in
     absurd (omega arith)
 
+not_check : codes "frame" ≡ codes "check" → ⊥
+not_check same =
+    let bad : ◌≡◌ {A = ℕ} 102 99 = ap (λ (t : Text). slice_index t 0) same in
+    absurd (omega arith)
+
 -- what asks for anything behind `frame` asks for a frame
 pub frame_behind : (met : Option (Text × List Row)) (rows : List Row) → met ≡ Some (codes "frame", rows) → (asked : Words) → AsksBy met asked → (words : FrameWords) × AsksFrame rows words
 frame_behind met rows is (Frame words) asks =
@@ -103,3 +108,12 @@ frame_behind met rows is (Frame words) asks =
 frame_behind met rows is (Play words) asks =
     let same : (codes "frame", rows) ≡ (codes "play", asks.0) = some_same met (codes "frame", rows) (codes "play", asks.0) is asks.1 in
     absurd (not_play (ap (λ (p : Text × List Row). p.0) same))
+frame_behind met rows is (Check words) asks =
+    let same : (codes "frame", rows) ≡ (codes "check", asks.0) = some_same met (codes "frame", rows) (codes "check", asks.0) is asks.1 in
+    absurd (not_check (ap (λ (p : Text × List Row). p.0) same))
+
+-- what isn't there is nothing
+pub none_there : {A : Type 0} (found : Option A) (thing : A) → found ≡ None → found ≡ Some thing → ⊥
+none_there found thing none some =
+    let bad : None ≡ Some thing = sym none ∙ some in
+    cc

@@ -1,17 +1,18 @@
 -- What the words of the command line ask for.
-use Rattle.std.specs.Prelude.{◌≡◌, Bool, true, false, List, [], Option, None, Some, codes, option_map, string_bytes}
+use Rattle.std.specs.Prelude.{◌≡◌, Bool, true, false, List, [], Option, None, Some, codes, map, option_map, string_bytes}
 use Rattle.std.specs.Option.{option_map_or}
 use Rattle.std.specs.Str.{bytes_eq}
-use Rattle.clap.specs.Words.{Row, Text, fault_of, first_of, one_of, subcommand_of}
+use Rattle.clap.specs.Words.{Row, Text, all_of, fault_of, first_of, one_of, subcommand_of}
 use Rattle.bmc_lab.specs.Asked.{Asks}
 use Rattle.bmc_play.specs.declared.run.Shown.{Shown}
 use Rattle.bmc_play.specs.declared.run.Shown.TheVariants.{Lines, Chart}
 use Rattle.bmc_host.specs.declared.refusal.Refusal.{Refusal}
 use Rattle.bmc_host.specs.declared.refusal.Refusal.TheVariants.{Memory, Words as Refused}
 use Rattle.bmc_host.specs.declared.words.Words.{Words}
-use Rattle.bmc_host.specs.declared.words.Words.TheVariants.{Frame, Play}
+use Rattle.bmc_host.specs.declared.words.Words.TheVariants.{Frame, Play, Check}
 use Rattle.bmc_host.specs.declared.words.FrameWords.{FrameWords}
 use Rattle.bmc_host.specs.declared.words.PlayWords.{PlayWords}
+use Rattle.bmc_host.specs.declared.words.CheckWords.{CheckWords}
 use Rattle.bmc_host.specs.Line.{program}
 
 -- how a play is shown where the flags `--frames`, `--premises` and `--chart` are given or not: a chart has no lines of frames, and none of
@@ -44,10 +45,15 @@ pub record AsksPlay (rows : List Row) (asked : PlayWords) : Type 0 where
   pub plan : first_of (codes "PLAN") rows ≡ Some (string_bytes asked.plan)
   pub schedule : first_of (codes "SCHEDULE") rows ≡ Some (string_bytes asked.schedule)
 
+-- what was matched behind `check` asks for this
+pub record AsksCheck (rows : List Row) (asked : CheckWords) : Type 0 where
+  pub files : all_of (codes "FILE") rows ≡ Some (map string_bytes asked.files.items)
+
 -- the subcommand, with what was matched behind it, asks for this
 abbrev pub AsksBy : Option (Text × List Row) → Words → Type 0
 AsksBy met (Frame asked) = (rows : List Row) × (met ≡ Some (codes "frame", rows)) × AsksFrame rows asked
 AsksBy met (Play asked) = (rows : List Row) × (met ≡ Some (codes "play", rows)) × AsksPlay rows asked
+AsksBy met (Check asked) = (rows : List Row) × (met ≡ Some (codes "check", rows)) × AsksCheck rows asked
 
 -- the words, the program's own name first among them, are of its command line, and ask for this
 pub record AsksFor (words : List Text) (asked : Words) : Type 0 where

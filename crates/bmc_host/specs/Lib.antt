@@ -1,3 +1,4 @@
 pub mod Line
 pub mod Asked
+pub mod Checks
 pub mod Run

@@ -1,5 +1,6 @@
 -- The program's command line, as clap has it.
 use Rattle.std.specs.Prelude.{◌≡◌, true, false, [], ◌∷◌, Some, codes, fold}
+use Rattle.clap.specs.Lexer.{usize_max}
 use Rattle.clap.specs.Words.{App, Rule, Text, app_of, new_app, new_rule, rule_of, with_rule, with_subcommand}
 use Rattle.clap.specs.declared.builder.ArgAction.TheVariants.{SetTrue}
 use Rattle.clap.specs.declared.builder.arg.Arg.{Arg}
@@ -18,6 +19,10 @@ flag_rule name = record (new_rule name) { long = Some name; action = Some SetTru
 abbrev pub needed_rule : Text → Rule
 needed_rule name = record (new_rule name) { required = true }
 
+-- words of which at least one must be there
+abbrev pub several_rule : Text → Rule
+several_rule name = record (new_rule name) { required = true; range = Some (record { start_inclusive = 1; end_inclusive = usize_max }) }
+
 -- `frame [--bus ipmb|smbus] [--board FILE] HEX`
 abbrev pub frame_app : App
 frame_app = fold with_rule (new_app (codes "frame")) (option_rule (codes "bus") ∷ option_rule (codes "board") ∷ needed_rule (codes "HEX") ∷ [])
@@ -27,13 +32,21 @@ abbrev pub play_app : App
 play_app = fold with_rule (new_app (codes "play"))
     (flag_rule (codes "frames") ∷ flag_rule (codes "premises") ∷ flag_rule (codes "chart") ∷ needed_rule (codes "BOARD") ∷ needed_rule (codes "PLAN") ∷ needed_rule (codes "SCHEDULE") ∷ [])
 
+-- `check FILE..`
+abbrev pub check_app : App
+check_app = with_rule (new_app (codes "check")) (several_rule (codes "FILE"))
+
 -- one of the command's subcommands must be used
 abbrev pub needing_subcommand : App → App
 needing_subcommand app = record app { top = record app.top { subcommand_required = true } }
 
+-- `bmclab`, and what it can do with a board
+abbrev pub runs : App
+runs = with_subcommand (with_subcommand (needing_subcommand (new_app (codes "bmclab"))) frame_app.top) play_app.top
+
 -- `bmclab`, and what it can do
 abbrev pub program : App
-program = with_subcommand (with_subcommand (needing_subcommand (new_app (codes "bmclab"))) frame_app.top) play_app.top
+program = with_subcommand runs check_app.top
 
 -- the argument is of this rule, and of one command alone
 abbrev pub IsArg : Rule → Arg → Type 0

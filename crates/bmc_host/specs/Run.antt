@@ -1,5 +1,5 @@
 -- What a run of a command line says.
-use Rattle.std.specs.Prelude.{◌≡◌, ◌⊎◌, List, [], ◌∷◌, option_map, string_bytes}
+use Rattle.std.specs.Prelude.{◌≡◌, ◌⊎◌, List, [], ◌∷◌, map, option_map, string_bytes}
 use Rattle.clap.specs.Words.{Text}
 use Rattle.bmc_lab.specs.declared.console.Stream.TheVariants.{Error}
 use Rattle.bmc_lab.specs.declared.status.Status.TheVariants.{RefusedWords}
@@ -10,13 +10,16 @@ use Rattle.bmc_play.specs.Run.{tells_of}
 use Rattle.bmc_host.specs.declared.refusal.Refusal.{Refusal}
 use Rattle.bmc_host.specs.declared.refusal.Refusal.TheVariants.{Memory as Lacking, Words as Refused}
 use Rattle.bmc_host.specs.declared.words.Words.{Words}
-use Rattle.bmc_host.specs.declared.words.Words.TheVariants.{Frame, Play}
+use Rattle.bmc_host.specs.declared.words.Words.TheVariants.{Frame, Play, Check}
 use Rattle.bmc_host.specs.Asked.{AsksFor}
+use Rattle.bmc_host.specs.Checks.{SaysOfChecks}
 
--- what a run says that does what words ask for: what it says of the frame, with the board file that is named, or of the three files of the play
+-- what a run says that does what words ask for: what it says of the frame, with the board file that is named, of the three files of the play, or
+-- of the files that it checks
 abbrev pub SaysOfWords : Readings → Words → Saying
 SaysOfWords gives (Frame asked) = SaysOfFile gives (option_map string_bytes asked.board) asked.frame.bus asked.frame.bytes.items
 SaysOfWords gives (Play asked) = SaysOfFiles gives (tells_of asked.shown) (string_bytes asked.board ∷ string_bytes asked.plan ∷ string_bytes asked.schedule ∷ [])
+SaysOfWords gives (Check asked) = SaysOfChecks gives (map string_bytes asked.files.items)
 
 -- what a run says of words that it doesn't read, unless memory was refused: standard error says why
 abbrev pub SaysWhy : Refusal → Saying

@@ -3,8 +3,9 @@ ghost use Rattle.std.specs.Prelude.{map, string_bytes};
 ghost use Rattle.bmc_lab.specs.Ending.{RunEnds};
 ghost use Rattle.bmc_host.specs.Run.{SaysOfLine, SaysOfWords, SaysWhy};
 
+use crate::check::{TellsCause, check_files};
 use crate::refusal::Refusal;
-use crate::words::{FrameWords, PlayWords, Words, read};
+use crate::words::{CheckWords, FrameWords, PlayWords, Words, read};
 use bmc_lab::{Console, Ending, Status, Stream, TextFiles, frame_of_file};
 use bmc_play::{PlayFiles, play_of_files};
 use std::alloc::Global;
@@ -47,8 +48,20 @@ fn play<F: TextFiles, W: io::Write, E: io::Write>(
     play_of_files(alloc, files, words.shown, named, console)
 }
 
+/// Checks the files that the words name.
+fn check<F: TextFiles + TellsCause, W: io::Write, E: io::Write>(
+    alloc: Global,
+    files: &F,
+    words: &CheckWords,
+    console: &mut Console<W, E>,
+) -> u8
+    ensures { RunEnds W.contents E.contents (SaysOfWords (F.gives files.now) (Words.Check words.now)) console.old console.new result }
+{
+    check_files(alloc, files, words.files.as_slice(), console)
+}
+
 /// Does what the words ask for.
-fn carry_out<F: TextFiles, W: io::Write, E: io::Write>(
+fn carry_out<F: TextFiles + TellsCause, W: io::Write, E: io::Write>(
     alloc: Global,
     files: &F,
     words: &Words,
@@ -59,6 +72,7 @@ fn carry_out<F: TextFiles, W: io::Write, E: io::Write>(
     match words {
         Words::Frame(words) => send(alloc, files, words, console),
         Words::Play(words) => play(alloc, files, words, console),
+        Words::Check(words) => check(alloc, files, words, console),
     }
 }
 
@@ -77,10 +91,10 @@ pub fn refuse<W: io::Write, E: io::Write>(refusal: &Refusal, console: &mut Conso
     u8::from(ending.write(console))
 }
 
-/// Does what the words of a command line ask for, the program's own name first among them, with these files: what `frame_of_file` or
-/// `play_of_files` does. Where they ask for nothing it reads no file, standard error gets why or the help that is asked for, and the status
+/// Does what the words of a command line ask for, the program's own name first among them, with these files: what `frame_of_file`,
+/// `play_of_files` or `check_files` does. Where they ask for nothing it reads no file, standard error gets why or the help that is asked for, and the status
 /// is 2.
-pub fn run_line<F: TextFiles, W: io::Write, E: io::Write>(
+pub fn run_line<F: TextFiles + TellsCause, W: io::Write, E: io::Write>(
     alloc: Global,
     files: &F,
     words: &[String],

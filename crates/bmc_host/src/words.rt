@@ -1,8 +1,8 @@
 //! The words of the command line.
 ghost use Rattle.std.specs.Prelude.{◌≡◌, IfOk, IfErr, Some, map, option_map, string_bytes};
-ghost use Rattle.clap.specs.Words.{app_of, first_value, new_app, found_of, one_text, rows_of, subcommand_rows_of};
-ghost use Rattle.bmc_host.specs.Line.{IsArg, IsCommand, flag_rule, frame_app, needed_rule, option_rule, play_app, program};
-ghost use Rattle.bmc_host.specs.Asked.{AsksBy, AsksFor, AsksFrame, AsksPlay, Refuses, says_yes, shown_of};
+ghost use Rattle.clap.specs.Words.{all_of, app_of, first_value, new_app, found_of, one_text, rows_of, subcommand_rows_of};
+ghost use Rattle.bmc_host.specs.Line.{IsArg, IsCommand, check_app, flag_rule, frame_app, needed_rule, option_rule, play_app, program, runs, several_rule};
+ghost use Rattle.bmc_host.specs.Asked.{AsksBy, AsksCheck, AsksFor, AsksFrame, AsksPlay, Refuses, says_yes, shown_of};
 
 use crate::refusal::{Refusal, refusal_by, refusal_of};
 use bmc_lab::{AskedFrame, Status, asked_frame};
@@ -18,6 +18,7 @@ use std::{env, io};
 pub enum Words {
     Frame(FrameWords),
     Play(PlayWords),
+    Check(CheckWords),
 }
 
 /// What the words of `bmclab frame` ask for.
@@ -39,6 +40,13 @@ pub struct PlayWords {
     pub plan: String,
     /// The word of the schedule.
     pub schedule: String,
+}
+
+/// What the words of `bmclab check` ask for.
+#[derive(Debug, Drop)]
+pub struct CheckWords {
+    /// The words of the files, at least one.
+    pub files: Vec<String>,
 }
 
 /// A flag of this name.
@@ -66,6 +74,16 @@ fn needed<'a>(alloc: Global, name: &'a str, help: &'a str) -> Arg<'a>
     ensures { IsArg (needed_rule name.entry.now) result }
 {
     Arg::new(alloc, name).required(true).help(help)
+}
+
+/// Words of which at least one must be there.
+fn several<'a>(alloc: Global, name: &'a str, help: &'a str) -> Arg<'a>
+    ensures { IsArg (several_rule name.entry.now) result }
+{
+    Arg::new(alloc, name)
+        .required(true)
+        .num_args(1..)
+        .help(help)
 }
 
 /// A command of this name without arguments, with what its help says at its begin and at its end.
@@ -131,22 +149,45 @@ fn play_command<'a>(alloc: Global) -> Result<Command<'a>, AllocError>
         .arg(needed(alloc, "SCHEDULE", SCHEDULE_HELP))
 }
 
+const CHECK_ABOUT: &str = "Tells what files hold, where a fault is, and which keys nothing reads";
+
+const CHECK_EXAMPLES: &str = "Examples:
+  bmclab check sample.toml
+  bmclab check sample.toml examples/clean/plan.toml examples/clean/schedule.txt";
+
+const FILES_HELP: &str = "The files: board files, plans, schedules and undo texts";
+
+/// `check FILE..`.
+fn check_command<'a>(alloc: Global) -> Result<Command<'a>, AllocError>
+    ensures { IfOk result (IsCommand check_app) }
+{
+    new_command(alloc, "check", CHECK_ABOUT, CHECK_EXAMPLES).arg(several(alloc, "FILE", FILES_HELP))
+}
+
 const ABOUT: &str =
-    "Sends frames to a modelled board controller, and plays plans on it and takes them back";
+    "Sends frames to a modelled board controller, plays plans on it and takes them back, and checks files";
 
 const EXAMPLES: &str = "Examples:
   bmclab frame 2018C82C0001D3
-  bmclab play sample.toml examples/clean/plan.toml examples/clean/schedule.txt";
+  bmclab play sample.toml examples/clean/plan.toml examples/clean/schedule.txt
+  bmclab check sample.toml examples/clean/plan.toml examples/clean/schedule.txt";
 
-/// `bmclab`, and what it can do.
-fn command<'a>(alloc: Global) -> Result<Command<'a>, AllocError>
-    ensures { IfOk result (λ command. app_of command ≡ program) }
+/// `bmclab`, and what it can do with a board.
+fn run_commands<'a>(alloc: Global) -> Result<Command<'a>, AllocError>
+    ensures { IfOk result (λ command. app_of command ≡ runs) }
 {
     new_command(alloc, "bmclab", ABOUT, EXAMPLES)
         .bin_name("bmclab")?
         .subcommand_required(true)
         .subcommand(frame_command(alloc)?)?
         .subcommand(play_command(alloc)?)
+}
+
+/// `bmclab`, and what it can do.
+fn command<'a>(alloc: Global) -> Result<Command<'a>, AllocError>
+    ensures { IfOk result (λ command. app_of command ≡ program) }
+{
+    run_commands(alloc)?.subcommand(check_command(alloc)?)
 }
 
 /// A word, kept.
@@ -184,6 +225,34 @@ fn given(alloc: Global, matches: &ArgMatches, name: &str) -> Result<Option<Strin
     match matches.get_str(name) {
         Some(word) => Ok(Some(kept(alloc, word)?)),
         None => Ok(None),
+    }
+}
+
+/// These words, kept.
+fn all_kept(alloc: Global, words: &[&str]) -> Result<Vec<String>, Refusal>
+    ensures words { IfOk result (λ kept. map string_bytes kept.items ≡ map (λ word. word.now) words.now) }
+    ensures memory { IfErr result (λ refusal. refusal ≡ Refusal.Memory) }
+{
+    let mut all = Vec::new(alloc);
+    for word in words {
+        let word = kept(alloc, word)?;
+        if all.push(word).is_err() {
+            return Err(Refusal::Memory);
+        }
+    }
+    Ok(all)
+}
+
+/// The words that have this name.
+fn all_named(alloc: Global, matches: &ArgMatches, name: &str) -> Result<Vec<String>, Refusal>
+    ensures words { IfOk result
+        (λ words. all_of name.now (rows_of (found_of matches.now)) ≡ Some (map string_bytes words.items)) }
+    ensures refused { IfErr result
+        (Refuses (λ words. all_of name.now (rows_of (found_of matches.now)) ≡ Some words)) }
+{
+    match matches.get_strs(name) {
+        Some(words) => all_kept(alloc, words),
+        None => Err(lacking(alloc)),
     }
 }
 
@@ -282,6 +351,16 @@ fn play_words(alloc: Global, matches: &ArgMatches) -> Result<PlayWords, Refusal>
     })
 }
 
+/// What the words behind `check` ask for.
+fn check_words(alloc: Global, matches: &ArgMatches) -> Result<CheckWords, Refusal>
+    ensures asked { IfOk result (AsksCheck (rows_of (found_of matches.now))) }
+    ensures refused { IfErr result (Refuses (AsksCheck (rows_of (found_of matches.now)))) }
+{
+    Ok(CheckWords {
+        files: all_named(alloc, matches, "FILE")?,
+    })
+}
+
 /// What the words that were matched ask for.
 fn matched_words(alloc: Global, matches: &ArgMatches) -> Result<Words, Refusal>
     ensures asked { IfOk result (AsksBy (subcommand_rows_of matches.now)) }
@@ -290,10 +369,13 @@ fn matched_words(alloc: Global, matches: &ArgMatches) -> Result<Words, Refusal>
     if let Some(frame) = matches.subcommand_matches("frame") {
         return Ok(Words::Frame(frame_words(alloc, frame)?));
     }
-    let Some(play) = matches.subcommand_matches("play") else {
+    if let Some(play) = matches.subcommand_matches("play") {
+        return Ok(Words::Play(play_words(alloc, play)?));
+    }
+    let Some(check) = matches.subcommand_matches("check") else {
         return Err(lacking(alloc));
     };
-    Ok(Words::Play(play_words(alloc, play)?))
+    Ok(Words::Check(check_words(alloc, check)?))
 }
 
 /// What the words ask for, the program's own name first among them.

@@ -4,6 +4,7 @@ mod board;
 mod calls;
 mod came;
 mod channels;
+mod checks;
 mod files;
 mod lines;
 mod numeric;

@@ -2,7 +2,7 @@
 use super::runs::words_of;
 use super::trouble::Trouble;
 use bmc_host::words::read;
-use bmc_host::{FrameWords, PlayWords, Refusal, Words};
+use bmc_host::{CheckWords, FrameWords, PlayWords, Refusal, Words};
 use bmc_play::Shown;
 use std::alloc::Global;
 use two_wire::Bus;
@@ -54,12 +54,22 @@ fn play_text(alloc: Global, words: &PlayWords) -> Result<String, Trouble> {
     Ok(format!(in alloc; "{shown} {} {} {}", words.board, words.plan, words.schedule)?)
 }
 
+/// Files to check: their words.
+fn check_text(alloc: Global, words: &CheckWords) -> Result<String, Trouble> {
+    let mut text = String::from_str(alloc, "check")?;
+    for file in &words.files {
+        write!(text, " {file}")?;
+    }
+    Ok(text)
+}
+
 /// What the words ask for, or how they are refused.
 pub fn asked_text(alloc: Global, line: &str) -> Result<String, Trouble> {
     let words = words_of(alloc, line)?;
     match read(alloc, words.as_slice()) {
         Ok(Words::Frame(frame)) => frame_text(alloc, &frame),
         Ok(Words::Play(play)) => play_text(alloc, &play),
+        Ok(Words::Check(check)) => check_text(alloc, &check),
         Err(Refusal::Words(_)) => Ok(String::from_str(alloc, "refused")?),
         Err(Refusal::Memory) => Ok(String::from_str(alloc, "memory")?),
     }

@@ -59,10 +59,41 @@ unreadable plan
 unreadable schedule
 bmclab play --chart board.toml plan.toml schedule.txt -> 3 err: file board.toml
 
+story files are checked
+board sample
+plan: retires = 9
+schedule: start / quit
+bmclab check board.toml -> 0 out: board.toml: board, 2 sensors, 2 users, ..
+bmclab check plan.toml -> 1 out
+  plan.toml: plan, 0 steps, retries 3
+  plan.toml: top: unknown key retires, nearest is retries
+bmclab check schedule.txt -> 3 out: schedule.txt: schedule refused, line 2
+# All are read, in the order of the words, and one that is refused counts most.
+bmclab check schedule.txt plan.toml -> 3 out
+  schedule.txt: schedule refused, line 2
+  plan.toml: plan, 0 steps, retries 3
+  plan.toml: top: unknown key retires, nearest is retries
+bmclab check plan.toml none.toml schedule.txt folder locked.toml bytes -> 3 out
+  plan.toml: plan, 0 steps, retries 3
+  plan.toml: top: unknown key retires, nearest is retries
+  none.toml: not read, there is no such file
+  schedule.txt: schedule refused, line 2
+  folder: not read, it is a folder
+  locked.toml: not read, it may not be read
+  bytes: not read, it isn't UTF-8
+unreadable plan
+bmclab check plan.toml -> 3 out: plan.toml: not read, it can't be read
+memory plan
+bmclab check board.toml plan.toml -> 5 err: memory
+plan
+bmclab check plan.toml plan.toml -> 0 out
+  plan.toml: empty
+  plan.toml: empty
+
 story a line that asks for nothing says why
 bmclab -> 2 err
   error: 'bmclab' requires a subcommand but one was not provided
-    [subcommands: frame, play, help] /  / Usage: bmclab <COMMAND> /  / For more information, try '--help'.
+    [subcommands: frame, play, check, help] /  / Usage: bmclab <COMMAND> /  / For more information, try '--help'.
 bmclab frmae 20 -> 2 err
   error: unrecognized subcommand 'frmae' /  /   tip: a similar subcommand exists: 'frame' /  / Usage: bmclab <COMMAND> /  / For more information, try '--help'.
 bmclab --version -> 2 err
@@ -103,32 +134,43 @@ bmclab play --frames=yes a b c -> 2 err
   error: unexpected value 'yes' for '--frames' found; no more were expected /  / Usage: bmclab play --frames <BOARD> <PLAN> <SCHEDULE> /  / For more information, try '--help'.
 bmclab play a b c d -> 2 err
   error: unexpected argument 'd' found /  / Usage: bmclab play [OPTIONS] <BOARD> <PLAN> <SCHEDULE> /  / For more information, try '--help'.
+bmclab check -> 2 err
+  error: the following required arguments were not provided:
+    <FILE>... /  / Usage: bmclab check <FILE>... /  / For more information, try '--help'.
+bmclab check --all a -> 2 err
+  error: unexpected argument '--all' found /  /   tip: to pass '--all' as a value, use '-- --all' /  / Usage: bmclab check <FILE>... /  / For more information, try '--help'.
 
 story a request for help is refused, and helped
 bmclab --help -> 2 err
-  Sends frames to a modelled board controller, and plays plans on it and takes them back /  / Usage: bmclab <COMMAND> /  / Commands:
+  Sends frames to a modelled board controller, plays plans on it and takes them back, and checks files /  / Usage: bmclab <COMMAND> /  / Commands:
     frame  Sends one frame to a fresh controller, and prints what it sends back
     play   Plays a plan on a board, over buses that lose, repeat and delay frames
+    check  Tells what files hold, where a fault is, and which keys nothing reads
     help   Print this message or the help of the given subcommand(s) /  / Options:
     -h, --help  Print help /  / Examples:
     bmclab frame 2018C82C0001D3
     bmclab play sample.toml examples/clean/plan.toml examples/clean/schedule.txt
+    bmclab check sample.toml examples/clean/plan.toml examples/clean/schedule.txt
 bmclab -h -> 2 err
-  Sends frames to a modelled board controller, and plays plans on it and takes them back /  / Usage: bmclab <COMMAND> /  / Commands:
+  Sends frames to a modelled board controller, plays plans on it and takes them back, and checks files /  / Usage: bmclab <COMMAND> /  / Commands:
     frame  Sends one frame to a fresh controller, and prints what it sends back
     play   Plays a plan on a board, over buses that lose, repeat and delay frames
+    check  Tells what files hold, where a fault is, and which keys nothing reads
     help   Print this message or the help of the given subcommand(s) /  / Options:
     -h, --help  Print help /  / Examples:
     bmclab frame 2018C82C0001D3
     bmclab play sample.toml examples/clean/plan.toml examples/clean/schedule.txt
+    bmclab check sample.toml examples/clean/plan.toml examples/clean/schedule.txt
 bmclab help -> 2 err
-  Sends frames to a modelled board controller, and plays plans on it and takes them back /  / Usage: bmclab <COMMAND> /  / Commands:
+  Sends frames to a modelled board controller, plays plans on it and takes them back, and checks files /  / Usage: bmclab <COMMAND> /  / Commands:
     frame  Sends one frame to a fresh controller, and prints what it sends back
     play   Plays a plan on a board, over buses that lose, repeat and delay frames
+    check  Tells what files hold, where a fault is, and which keys nothing reads
     help   Print this message or the help of the given subcommand(s) /  / Options:
     -h, --help  Print help /  / Examples:
     bmclab frame 2018C82C0001D3
     bmclab play sample.toml examples/clean/plan.toml examples/clean/schedule.txt
+    bmclab check sample.toml examples/clean/plan.toml examples/clean/schedule.txt
 bmclab frame --help -> 2 err
   Sends one frame to a fresh controller, and prints what it sends back /  / Usage: bmclab frame [OPTIONS] <HEX> /  / Arguments:
     <HEX>  The frame, as in 2018C82C0001D3: two hexadecimal digits for each byte, without spaces and without 0x /  / Options:
@@ -162,6 +204,12 @@ bmclab play --help -> 2 err
     bmclab play --frames sample.toml examples/clean/plan.toml examples/clean/schedule.txt
     bmclab play --premises sample.toml examples/clean/plan.toml examples/clean/schedule.txt
     bmclab play --chart sample.toml examples/clean/plan.toml examples/clean/schedule.txt
+bmclab check --help -> 2 err
+  Tells what files hold, where a fault is, and which keys nothing reads /  / Usage: bmclab check <FILE>... /  / Arguments:
+    <FILE>...  The files: board files, plans, schedules and undo texts /  / Options:
+    -h, --help  Print help /  / Examples:
+    bmclab check sample.toml
+    bmclab check sample.toml examples/clean/plan.toml examples/clean/schedule.txt
 bmclab play -h a b c -> 2 err
   Plays a plan on a board, over buses that lose, repeat and delay frames /  / Usage: bmclab play [OPTIONS] <BOARD> <PLAN> <SCHEDULE> /  / Arguments:
     <BOARD>     The board file, as sample.toml
@@ -204,7 +252,16 @@ asks bmclab play --premises --frames sample.toml plan.toml schedule.txt -> frame
 asks bmclab play --chart sample.toml plan.toml schedule.txt -> chart sample.toml plan.toml schedule.txt
 asks bmclab play sample.toml plan.toml schedule.txt --chart -> chart sample.toml plan.toml schedule.txt
 
+story a check names its files in their order
+asks bmclab check plan.toml -> check plan.toml
+asks bmclab check sample.toml plan.toml schedule.txt undo.txt -> check sample.toml plan.toml schedule.txt undo.txt
+asks bmclab check plan.toml plan.toml -> check plan.toml plan.toml
+asks bmclab check -- --frames -> check --frames
+
 story other lines are refused
+asks bmclab check -> refused
+asks bmclab check --frames plan.toml -> refused
+asks bmclab check --help -> refused
 asks bmclab -> refused
 asks bmclab frame -> refused
 asks bmclab frame --bus can 2018 -> refused
@@ -256,6 +313,6 @@ fn a_run_does_what_its_line_asks_for(rt: HostRuntime) -> Result<(), Fail> {
 }
 
 #[test]
-fn words_ask_for_a_frame_or_a_play(rt: HostRuntime) -> Result<(), Fail> {
+fn words_ask_for_a_frame_a_play_or_a_check(rt: HostRuntime) -> Result<(), Fail> {
     expect_told(&rt, rt.alloc(), ASKS)
 }

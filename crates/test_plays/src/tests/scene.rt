@@ -1,5 +1,6 @@
 //! The texts of a story, as files in memory: `board.toml`, `plan.toml` and `schedule.txt`.
 use super::trouble::Trouble;
+use bmc_host::{Cause, TellsCause};
 use bmc_lab::{TextFiles, Unreadable};
 use std::alloc::Global;
 
@@ -94,6 +95,18 @@ impl TextFiles for Scene {
         match file {
             Ok(text) => String::from_str(self.alloc, text.as_str()).map_err(|_| Unreadable::Memory),
             Err(why) => Err(*why),
+        }
+    }
+}
+
+impl TellsCause for Scene {
+    fn cause(&self, word: &str) -> Cause {
+        match word {
+            "board.toml" | "plan.toml" | "schedule.txt" => Cause::Other,
+            "folder" => Cause::Folder,
+            "locked.toml" => Cause::Forbidden,
+            "bytes" => Cause::NotUtf8,
+            _ => Cause::Missing,
         }
     }
 }

@@ -1,4 +1,5 @@
 //! What comes of a text: what is read of it, or its fault.
+use bmc_check::checked;
 use bmc_play::read_inputs;
 use cfg_records::{Op, RecordKind};
 use plan_file::read_plan;
@@ -34,6 +35,8 @@ pub enum Form {
     Number,
     Byte,
     Bytes,
+    /// A file of the name `file`, of which is told what there is to tell.
+    Check,
 }
 
 /// What comes of a text.
@@ -62,6 +65,7 @@ impl Form {
             "number" => Form::Number,
             "byte" => Form::Byte,
             "bytes" => Form::Bytes,
+            "check" => Form::Check,
             _ => return None,
         })
     }
@@ -145,6 +149,17 @@ fn came_of_play(alloc: Global, text: &str) -> Result<Came, AllocError> {
     shown(alloc, read_inputs(alloc, board, plan, schedule))
 }
 
+/// A file that is looked at shows what is told of it, and then what came of it.
+fn came_of_check(alloc: Global, file: &str) -> Result<Came, AllocError> {
+    let mut text = String::new(alloc);
+    let outcome = checked(alloc, &mut text, "file", file)?;
+    write!(text, "{outcome:?}")?;
+    Ok(Came {
+        is_read: true,
+        text,
+    })
+}
+
 /// What comes of a text of this form.
 pub fn came_of(alloc: Global, form: Form, text: &str) -> Result<Came, AllocError> {
     match form {
@@ -161,6 +176,7 @@ pub fn came_of(alloc: Global, form: Form, text: &str) -> Result<Came, AllocError
         Form::Number => shown(alloc, number(text, 9).ok_or("none")),
         Form::Byte => shown(alloc, byte(text).ok_or("none")),
         Form::Bytes => shown(alloc, bytes(alloc, text)?.ok_or("none")),
+        Form::Check => came_of_check(alloc, text),
     }
 }
 

@@ -288,7 +288,7 @@ fn play<'s>(
 ///
 /// WHAT is what a fault is called; or `reads`; or `holds N PART`, where what is read shows this part so often; or all that it shows. A
 /// plan shows how often frames are sent again, a colon and the requests of its steps, and an undo text what is written of its list. What
-/// is cut in two shows both parts with a bar between them. The others show what Rust writes of them. In LINES and behind `=> `, `\n` is a
+/// is cut in two shows both parts with a bar between them. A file that is checked shows its lines and what came of it. The others show what Rust writes of them. In LINES and behind `=> `, `\n` is a
 /// line feed and `\r` a carriage return, and `<N:PART>` is so many times the part, with its place, from 0, at each `#` in it.
 pub fn otherwise(alloc: Global, story: &str) -> Result<String, AllocError> {
     let mut player = Player {

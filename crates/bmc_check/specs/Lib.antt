@@ -1,0 +1,4 @@
+pub mod Looks
+pub mod Near
+pub mod Known
+pub mod Outcomes

@@ -1,0 +1,139 @@
+//! The tables of files, and the fields that each can have.
+ghost use Rattle.std.specs.Prelude.{◌≡◌, IfOk};
+ghost use Rattle.toml.specs.View.{table_view};
+ghost use Rattle.text_board.specs.Faults.{attribute_rows, has_sessions, session_rows};
+ghost use Rattle.plan_file.specs.Kinds.{kind_in};
+ghost use Rattle.bmc_check.specs.Known.{step_rows, known};
+
+use plan_file::{Kind, PLAN};
+use std::alloc::{AllocError, Global};
+use text_board::{
+    ATTRIBUTE, DEVICE, ENUMERATION, INTEGER, NUMERIC, SENSOR, SESSIONS, STATE, STRING, TOP,
+};
+use text_fields::tree::{has_text, in_field};
+use text_fields::{Field, Need, Row, Shape};
+use toml::Table;
+
+/// Tables of a file that are of one sort.
+#[derive(Clone, Copy, Debug, PartialEq, Eq)]
+pub enum Group {
+    /// A board file's own table.
+    Top,
+    /// `[device]`.
+    Device,
+    /// The `[[sensor]]`s.
+    Sensor,
+    /// The `[[channel]]`s.
+    Channel,
+    /// The `[[attribute]]`s.
+    Attribute,
+    /// The `[[state]]`s.
+    State,
+    /// The `[[numeric]]`s.
+    Numeric,
+    /// A plan's own table.
+    Plan,
+    /// The `[[step]]`s.
+    Step,
+}
+
+/// The field of a step that names its kind.
+const KIND: [Row; 1] = [Row(Field::Kind, Shape::Text, Need::Always)];
+
+/// All kinds of step.
+const KINDS: [Kind; 13] = [
+    Kind::Thresholds,
+    Kind::Hysteresis,
+    Kind::EventEnable,
+    Kind::Watchdog,
+    Kind::PowerPolicy,
+    Kind::GlobalEnables,
+    Kind::BootParam,
+    Kind::BiosAttribute,
+    Kind::StateEffecter,
+    Kind::NumericEffecter,
+    Kind::UserName,
+    Kind::UserAccess,
+    Kind::ChannelAccess,
+];
+
+/// The last field of a channel with sessions, whatever the number of users.
+const USERS: [Row; 1] = [Row(Field::Users, Shape::UserBytes(0), Need::Always)];
+
+/// Whether the channel that the table is has sessions.
+pub(crate) fn has_sessions(table: &Table) -> bool
+    ensures { result ≡ has_sessions (table_view table.now) }
+{
+    match in_field(table, Field::Sessions) {
+        Some(value) => match value.as_bool() {
+            Some(sessions) => sessions,
+            None => false,
+        },
+        None => false,
+    }
+}
+
+/// The fields of a channel with sessions.
+fn session_rows(alloc: Global) -> Result<Vec<Row>, AllocError>
+    ensures { IfOk result (λ rows. rows.items ≡ session_rows 0) }
+{
+    let mut rows = Vec::from_slice(alloc, &SESSIONS)?;
+    rows.extend_from_slice(&USERS)?;
+    Ok(rows)
+}
+
+/// The fields of an attribute: those of the kind that it names.
+fn attribute_rows(table: &Table) -> &'static [Row]
+    ensures { result.now ≡ attribute_rows (table_view table.now) }
+{
+    if has_text(table, Field::Kind, "enumeration") {
+        return &ENUMERATION;
+    }
+    if has_text(table, Field::Kind, "string") {
+        return &STRING;
+    }
+    if has_text(table, Field::Kind, "integer") {
+        return &INTEGER;
+    }
+    &ATTRIBUTE
+}
+
+/// The kind that the step names.
+#[tactic(auto, unfolding(plan_file::specs::Kinds::kind_in))]
+fn kind_in(step: &Table) -> Option<Kind>
+    ensures { result ≡ kind_in (table_view step.now) }
+{
+    KINDS
+        .iter()
+        .copied()
+        .find(|kind| has_text(step, Field::Kind, kind.word()))
+}
+
+/// The fields of a step: `kind`, and those of the kind that it names.
+fn step_rows(alloc: Global, table: &Table) -> Result<Vec<Row>, AllocError>
+    ensures { IfOk result (λ rows. rows.items ≡ step_rows (kind_in (table_view table.now))) }
+{
+    let mut rows = Vec::from_slice(alloc, &KIND)?;
+    if let Some(kind) = kind_in(table) {
+        rows.extend_from_slice(kind.rows())?;
+    }
+    Ok(rows)
+}
+
+/// The fields that a table of the group can have, as the reader of its file has them, in its order. Of a channel they are those of one with
+/// sessions, and of an attribute those of its kind.
+pub fn known_rows(alloc: Global, group: Group, table: &Table) -> Result<Vec<Row>, AllocError>
+    ensures { IfOk result (λ rows. rows.items ≡ known group (table_view table.now)) }
+{
+    match group {
+        Group::Top => Vec::from_slice(alloc, &TOP),
+        Group::Device => Vec::from_slice(alloc, &DEVICE),
+        Group::Sensor => Vec::from_slice(alloc, &SENSOR),
+        Group::Channel => session_rows(alloc),
+        Group::Attribute => Vec::from_slice(alloc, attribute_rows(table)),
+        Group::State => Vec::from_slice(alloc, &STATE),
+        Group::Numeric => Vec::from_slice(alloc, &NUMERIC),
+        Group::Plan => Vec::from_slice(alloc, &PLAN),
+        Group::Step => step_rows(alloc, table),
+    }
+}

@@ -1,0 +1,147 @@
+//! Files that are looked at: what they look like, what they hold, their faults, and the keys that nothing reads.
+use super::story::expect_told;
+use std::test::Fail;
+
+/// What is told of files, by what they look like.
+const LOOKED_AT: &str = r#"
+# The sample board, and one without sensors.
+file check
+with sample
+=> file: board, 2 sensors, 2 users, 1 channel, 3 attributes, 0 state effecters, 0 numeric effecters, 1 sensor data record\nFine
+file check
+with bare
+=> file: board, 0 sensors, 1 user, 0 channels, 0 attributes, 0 state effecters, 0 numeric effecters, 0 sensor data records\nFine
+
+# What a file looks like is told by its first line that is neither blank nor a remark.
+file check
+=> file: empty\nFine
+\n \n \r\n# undo 1\n  # tid = 5\n => file: empty\nFine
+undo 1\nnext ipmb 4 smbus 0\n => file: undo text, 0 requests\nFine
+undo 1\nnext ipmb 4 smbus 0\nipmb 10260530000000005A6E\n => file: undo text, 1 request\nFine
+undo 1\n | undo 1\r\n | undo 2\n | undo 1\nnext ipmb 64 smbus 0\n => holds 1 Refused
+# undo 1\nundo 1\n => file: undo text refused, line 1\nRefused
+undo 1\n => file: undo text refused, line 2\nRefused
+undo | undo\nundo 1\n | start\nundo => holds 1 file: schedule
+undo => file: schedule, 1 event\nFine
+undo x => file: schedule refused, line 1\nRefused
+start\n\n# quiet\nstop => file: schedule, 2 events\nFine
+start\nquit => file: schedule refused, line 2\nRefused
+tid 5 | device => file: schedule refused, line 1\nRefused
+retries = 9 => file: plan, 0 steps, retries 9\nFine
+[[step]]\nkind = "power-policy"\npolicy = 2 => file: plan, 1 step, retries 3\nFine
+  [[step]]\r\n  kind = "power-policy"\r\n  policy = 2 => file: plan, 1 step, retries 3\nFine
+# a board\ntid = 5 | log = 1\n  tid = 5 | log = 1\n[device] => holds 1 file: board refused
+log = 1 | [devices] => holds 1 file: plan, 0 steps
+start\ntid = 5 => file: schedule refused, line 2\nRefused
+"#;
+
+/// What is told of a file that is refused.
+const REFUSED: &str = r#"
+# Where a text is no TOML, and why not.
+file check
+retries = => file: plan refused, TOML parse error at line 1, column 10: invalid value, expected a string, number, boolean, date-time, array or inline table\nRefused
+
+# A fault's table, item and field.
+file check
+with sample
+at number = 7
+number = 5 => file: board refused, Twice: table sensor, item 1, field number\nRefused
+number = true => file: board refused, WrongType: table sensor, item 1, field number\nRefused
+at tid = 5
+tid = 256 => file: board refused, Range: table top, field tid\nRefused
+tid = 5\ntid = 5 => holds 1 file: board refused, TOML parse error at line 2, column 1: 
+at support = 0x07
+# support => file: board refused, Missing: table device, field support\nRefused
+at sessions = true
+sessions = 1 => file: board refused, WrongType: table channel, item 0, field sessions\nRefused
+at default = ""
+default = 1 => file: board refused, WrongType: table attribute, item 1, field default\nRefused
+file check
+with bare
+[[state]] => file: board refused, Missing: table state, item 0, field id\nRefused
+[[numeric]] => file: board refused, Missing: table numeric, item 0, field id\nRefused
+
+file check
+retries = 16 => file: plan refused, Range: table top, field retries\nRefused
+<257:[[step]]\n> => file: plan refused, TooMany: table top, field step\nRefused
+[[step]]\nkind = "hysteresis"\nsensor = 5\npositive = 1 => file: plan refused, Missing: table step, item 0, field negative\nRefused
+[[step]]\nkind = "power-policy"\npolicy = 2\n[[step]]\nkind = "clock" => file: plan refused, OutsidePlan Clock: table step, item 1, field kind\nRefused
+[[step]]\nkind = "reset" => file: plan refused, UnknownKind: table step, item 0, field kind\nRefused
+[[step]]\nkind = "user-access"\nsession_limit = 1 => file: plan refused, NoGet SessionLimit: table step, item 0, field session_limit\nRefused
+[[step]]\nkind = "watchdog"\nflags_clear = 1 => file: plan refused, NoGet FlagsClear: table step, item 0, field flags_clear\nRefused
+[[step]]\nkind = "channel-access"\nstore = "both" => file: plan refused, NoGet BothStores: table step, item 0, field store\nRefused
+[[step]]\nkind = "boot-param"\nparam = 0 => file: plan refused, NoGet SetInProgress: table step, item 0, field param\nRefused
+"#;
+
+/// What is told of keys that nothing reads.
+const UNREAD_KEYS: &str = r#"
+# A key with a slip, and one that is like no field. Of fields that are as near the first counts: `unc` stands before `uc`.
+file check
++ [[step]]
++ kind = "thresholds"
++ sensor = 5
++ uc = 0x40
+at uc = 0x40
+ucc = 0x40 => file: plan, 1 step, retries 3\nfile: step 0: unknown key ucc, nearest is unc\nTold
+xc = 1 => file: plan, 1 step, retries 3\nfile: step 0: unknown key xc, nearest is lc\nTold
+nuc = 1 => file: plan, 1 step, retries 3\nfile: step 0: unknown key nuc, nearest is uc\nTold
+frobnicate = 1 => file: plan, 1 step, retries 3\nfile: step 0: unknown key frobnicate\nTold
+"a b" = 1 => file: plan, 1 step, retries 3\nfile: step 0: unknown key "a b"\nTold
+zz = 1\nknd = 1 => file: plan, 1 step, retries 3\nfile: step 0: unknown key knd, nearest is kind\nfile: step 0: unknown key zz, nearest is lc\nTold
+uc = 0x40\n[[step]]\nkind = "power-policy"\npolicy = 2\npolicies = 2 => file: plan, 2 steps, retries 3\nfile: step 1: unknown key policies\nTold
+uc = 0x40\n[[steps]]\nkind = "power-policy" => file: plan, 1 step, retries 3\nfile: top: unknown key steps, nearest is step\nTold
+file check
+retires = 9 => file: plan, 0 steps, retries 3\nfile: top: unknown key retires, nearest is retries\nTold
+
+# Keys of each table of a board file. Fields of another kind of attribute are unknown.
+file check
+with sample
+at tid = 5
+tid = 5\ntidd = 5 => holds 1 \nfile: top: unknown key tidd, nearest is tid\nTold
+at support = 0x07
+support = 0x07\nsuport = 7 => holds 1 \nfile: device: unknown key suport, nearest is support\nTold
+at number = 7
+number = 7\nnumbers = 7 => holds 1 \nfile: sensor 1: unknown key numbers, nearest is number\nTold
+at sessions = true
+sessions = true\nsession = 7 => holds 1 \nfile: channel 0: unknown key session, nearest is sessions\nTold
+sessions = false => holds 1 \nfile: channel 0: key access not used\nfile: channel 0: key limit not used\nfile: channel 0: key users not used\nTold
+at string_type = 1
+string_type = 1\nlower = 7 => holds 1 \nfile: attribute 1: unknown key lower\nTold
+at default = [0]
+default = [0]\nmots = 7 => holds 1 \nfile: attribute 0: unknown key mots\nTold
+at increment = 10
+increment = 10\nuper = 7 => holds 1 \nfile: attribute 2: unknown key uper, nearest is upper\nTold
+file check
+with bare
+[[state]]\nid = 1\noperational = 2\nstates = [[1, 2]]\ncurrent = [1]\nstate = 1 => holds 1 \nfile: state 0: unknown key state, nearest is states\nTold
+[[numeric]]\nid = 1\nsize = 0\noperational = 2\nlower = 1\nupper = 2\ncurrent = 1\nsizes = 1 => holds 1 \nfile: numeric 0: unknown key sizes, nearest is size\nTold
+[[channel]]\nnumber = 2\nsessions = false => holds 1 \nFine
+[[channel]]\nnumber = 2\nsessions = false\nlimit = true => holds 1 \nfile: channel 0: key limit not used\nTold
+
+# Events that are left.
+file check
++ [[step]]
++ kind = "event-enable"
++ sensor = 9
++ messages = true
++ scanning = false
+select = "leave" => file: plan, 1 step, retries 3\nFine
+select = "leave"\nassert = [1] => file: plan, 1 step, retries 3\nfile: step 0: key assert not used\nTold
+select = "leave"\nassert = []\ndeassert = [] => file: plan, 1 step, retries 3\nfile: step 0: key assert not used\nfile: step 0: key deassert not used\nTold
+select = "enable"\nassert = [1]\ndeassert = [] => file: plan, 1 step, retries 3\nFine
+"#;
+
+#[test]
+fn files_are_read_as_what_they_look_like(rt: HostRuntime) -> Result<(), Fail> {
+    expect_told(&rt, rt.alloc(), LOOKED_AT)
+}
+
+#[test]
+fn faults_say_where(rt: HostRuntime) -> Result<(), Fail> {
+    expect_told(&rt, rt.alloc(), REFUSED)
+}
+
+#[test]
+fn keys_that_nothing_reads_are_told(rt: HostRuntime) -> Result<(), Fail> {
+    expect_told(&rt, rt.alloc(), UNREAD_KEYS)
+}
