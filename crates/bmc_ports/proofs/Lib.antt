@@ -1,3 +1,1 @@
-pub mod Replaying
-pub mod Following
-pub mod Getting
+pub mod Turning

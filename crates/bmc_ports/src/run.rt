@@ -1,0 +1,129 @@
+//! Two port workers and a scanner, each in a thread of its own.
+ghost use Rattle.std.specs.Prelude.{◌≡◌, IfOk};
+ghost use Rattle.bmc_ports.specs.Seated.{ComesBack, AllComeBack};
+
+use crate::gate::Gate;
+use crate::scanner::scan;
+use crate::worker::{End, serve_port};
+use bmc_board::Bench;
+use bmc_core::Port;
+use bmc_history::{Opening, Seat, Seats, Shared};
+use bmc_links::Link;
+use cfg_records::Store;
+use std::snapshot::Snapshot;
+use std::sync::Wait;
+use std::thread;
+use std::thread::{Promise, Threads};
+
+/// No thread could be started, for want of memory or of the system's leave. The seats are gone then.
+#[derive(Clone, Copy, Debug, PartialEq, Eq)]
+pub struct NoThread;
+
+/// What a thread gives back: the seat that it was given, with what it called, and why it ended.
+#[derive(Drop)]
+struct SeatOf<J: Opening>(Snapshot<Seat<J>>);
+
+impl<J: Opening> Promise<(Seat<J>, End)> for SeatOf<J> {
+    ghost kept_by = { λ promise given. ComesBack promise.0.value given.0 given.1 };
+}
+
+/// Serves a port, and gives its seat back.
+fn serve<J: Opening, S: Store + Drop, L: Link, G: Gate, R: Wait>(
+    rt: &R,
+    shared: &Shared<J, S>,
+    mut seat: Seat<J>,
+    mut port: Port,
+    link: &mut L,
+    gate: &G,
+    turns: u32,
+) -> (Seat<J>, End)
+    ensures { ComesBack seat result.0 result.1 }
+{
+    let end = serve_port(rt, shared, &mut seat, &mut port, link, gate, turns);
+    (seat, end)
+}
+
+/// Has events happen, and gives the scanner's seat back.
+fn happen<J: Opening, S: Store + Drop, R: Wait>(
+    rt: &R,
+    shared: &Shared<J, S>,
+    mut seat: Seat<J>,
+    bench: &[Bench],
+    turns: u32,
+) -> (Seat<J>, End)
+    ensures { ComesBack seat result.0 result.1 }
+{
+    let end = scan(rt, shared, &mut seat, bench, turns);
+    (seat, end)
+}
+
+/// Serves both ports of a board and has events happen on it, each in a thread of its own, until all three end. Each makes at most so many
+/// turns: a port's worker makes one with each call of its link's `next`, and the scanner with each event of its list.
+pub fn run_two<J, S, A, B, G, R>(
+    rt: &R,
+    shared: &Shared<J, S>,
+    seats: Seats<J>,
+    ports: [Port; 2],
+    first_link: &mut A,
+    second_link: &mut B,
+    bench: &[Bench],
+    gate: &G,
+    turns: u32,
+) -> Result<(Seats<J>, [End; 3]), NoThread>
+where
+    J: Opening + Send + Sync,
+    S: Store + Drop + Send,
+    A: Link + Send,
+    B: Link + Send,
+    G: Gate + Sync,
+    R: Threads + Wait + Sync,
+    ensures { IfOk result (λ run. AllComeBack seats run.0 run.1) }
+{
+    let Seats {
+        first,
+        second,
+        scanner,
+    } = seats;
+    let [first_port, second_port] = ports;
+    thread::scope(
+        thread::scope_env(),
+        rt,
+        |scope| -> Result<(Seats<J>, [End; 3]), NoThread>
+            requires { (first.number ≡ 0) × (second.number ≡ 1) × (scanner.number ≡ 2) }
+        {
+            let Ok(first) = scope.spawn_with(
+                SeatOf(Snapshot::of(&first)),
+                move || -> (Seat<J>, End)
+                    ensures { ComesBack first result.0 result.1 }
+                { serve(rt, shared, first, first_port, first_link, gate, turns) },
+            ) else {
+                return Err(NoThread);
+            };
+            let Ok(second) = scope.spawn_with(
+                SeatOf(Snapshot::of(&second)),
+                move || -> (Seat<J>, End)
+                    ensures { ComesBack second result.0 result.1 }
+                { serve(rt, shared, second, second_port, second_link, gate, turns) },
+            ) else {
+                return Err(NoThread);
+            };
+            let Ok(scanner) = scope.spawn_with(
+                SeatOf(Snapshot::of(&scanner)),
+                move || -> (Seat<J>, End)
+                    ensures { ComesBack scanner result.0 result.1 }
+                { happen(rt, shared, scanner, bench, turns) },
+            ) else {
+                return Err(NoThread);
+            };
+            let (first, first_end) = first.join(rt);
+            let (second, second_end) = second.join(rt);
+            let (scanner, scanner_end) = scanner.join(rt);
+            let seats = Seats {
+                first,
+                second,
+                scanner,
+            };
+            Ok((seats, [first_end, second_end, scanner_end]))
+        },
+    )
+}
