@@ -1,5 +1,5 @@
 -- What a worker's port hears, and what its seat calls.
-use Rattle.std.specs.Prelude.{◌≡◌, ◌++◌, ℕ, List, [], ◌∷◌, length, Option, Some, None, Result, Ok, Err}
+use Rattle.std.specs.Prelude.{◌≡◌, ◌++◌, ℕ, zero, suc, List, [], ◌∷◌, length, Option, Some, None, Result, Ok, Err}
 use Rattle.record_base.specs.declared.message.Answered.{Answered}
 use Rattle.bmc_core.specs.declared.out.Out.{Out}
 use Rattle.bmc_core.specs.declared.step.Step.{Step}
@@ -85,12 +85,17 @@ abbrev pub end_of : Result (Unit {0}) PeriodFull → End
 end_of (Ok done) = Turns
 end_of (Err full) = Full
 
+-- a worker that found room to its end made all its turns
+abbrev pub MadeAll : End → ℕ → Counts → Counts → Type 0
+MadeAll Turns turns before after = after.calls ≡ counted_on before.calls turns
+MadeAll Full turns before after = Unit {0}
+
 -- A worker made turns and ended so. Its port heard as many frames as its link counted, and was told the replies that its seat's list
--- gained, in their order. It made all turns, unless it found no room.
+-- gained, in their order.
 pub record Worked (end : End) (turns : ℕ) (before after : Port) (held kept : List Call) (counted counts : Counts) : Type 0 where
   pub frames : List (List ℕ)
   pub gained : List Call
-  pub calls : end ≡ Turns → counts.calls ≡ counted_on counted.calls turns
+  pub calls : MadeAll end turns counted counts
   pub heard : counts.heard ≡ counted_on counted.heard (length frames)
   pub list : kept ≡ held ++ gained
   pub serves : ServesTo end frames before gained after

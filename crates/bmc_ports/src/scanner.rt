@@ -5,7 +5,7 @@ ghost use Rattle.bmc_ports.specs.declared.worker.End.TheVariants.{Turns, Full};
 
 use crate::worker::End;
 use bmc_board::Bench;
-use bmc_history::{Opening, Seat, Shared};
+use bmc_history::{Opening, PeriodFull, Seat, Shared};
 use cfg_records::Store;
 use std::sync::Wait;
 
@@ -26,8 +26,9 @@ pub(crate) fn scan<J: Opening, S: Store + Drop, R: Wait>(
         let Some(event) = bench.get(turn) else {
             return End::Turns;
         };
-        if shared.bench(rt, seat, *event).is_err() {
-            return End::Full;
+        match shared.bench(rt, seat, *event) {
+            Ok(_) => {}
+            Err(PeriodFull) => return End::Full,
         }
     }
     End::Turns

@@ -144,8 +144,9 @@ pub fn serve_port<J: Opening, S: Store + Drop, L: Link, G: Gate, R: Wait>(
 {
     let mut desk = Desk::new(gate);
     for _ in 0..turns {
-        if turn(rt, shared, seat, port, link, &mut desk).is_err() {
-            return End::Full;
+        match turn(rt, shared, seat, port, link, &mut desk) {
+            Ok(()) => {}
+            Err(PeriodFull) => return End::Full,
         }
     }
     End::Turns

@@ -5,6 +5,6 @@ use Rattle.bmc_ports.specs.declared.worker.End.TheVariants.{Turns}
 use Rattle.bmc_ports.proofs.worker.serve_port.Given as goal
 
 abbrev pub invariant-loop : goal.invariant-loop
-invariant-loop l =
-    Worked Turns l.counter l.initial.port l.port l.initial.seat.calls.items l.seat.calls.items (goal.counts_of l.initial.link) (goal.counts_of l.link)
+invariant-loop g l =
+    Worked Turns l.counter l.initial.port l.port l.initial.seat.calls.items l.seat.calls.items (g.L.Link.counts_of l.initial.link) (g.L.Link.counts_of l.link)
     × (l.seat.refused ≡ l.initial.seat.refused) × (l.seat.number ≡ l.initial.seat.number) × (bus_of l.port ≡ bus_of l.initial.port)
