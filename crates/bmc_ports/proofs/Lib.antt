@@ -1,3 +1,2 @@
-pub mod Replaying
-pub mod Following
-pub mod Getting
+pub mod Turning
+pub mod Scanning

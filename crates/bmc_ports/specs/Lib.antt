@@ -1,8 +1,3 @@
-pub mod Replay
-pub mod ReplayLaws
-pub mod Matching
-pub mod Calls
+pub mod Serving
+pub mod Scanning
 pub mod Seated
-pub mod BareLaws
-pub mod Follows
-pub mod Gets

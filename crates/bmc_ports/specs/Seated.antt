@@ -1,32 +1,20 @@
--- What the seats of a board hold together.
-use Rattle.std.specs.Prelude.{◌≡◌, ◌+◌, ◌≤◌, ℕ, List, [], false, length, vec_capacity, Vec}
-use Rattle.bmc_ports.specs.declared.event.Call.{Call}
-use Rattle.bmc_ports.specs.declared.event.Event.{Event}
-use Rattle.bmc_ports.specs.declared.seat.Seat.{Seat}
-use Rattle.bmc_ports.specs.declared.seat.Seats.{Seats}
-use Rattle.bmc_ports.specs.Matching.{Matches}
+-- Seats that come back from threads.
+use Rattle.std.specs.Prelude.{◌≡◌, ◌++◌, List, [], ◌∷◌, true}
+use Rattle.bmc_history.specs.declared.event.Call.{Call}
+use Rattle.bmc_history.specs.declared.seat.Seat.{Seat}
+use Rattle.bmc_history.specs.declared.seat.Seats.{Seats}
+use Rattle.bmc_ports.specs.declared.worker.End.{End}
+use Rattle.bmc_ports.specs.declared.worker.End.TheVariants.{Full}
 
--- an empty list that has room for so many calls
-abbrev pub IsBlank : {A : Type 0} → ℕ → Vec Call A → Type 0
-IsBlank room calls = (calls.items ≡ []) × (room ≤ vec_capacity calls)
+-- it's the seat of the same number, its list begins with what it held, and it's marked where its thread found no room
+pub record ComesBack {J : Type 0} {g h : _} (before : Seat J g) (after : Seat J h) (end : End) : Type 0 where
+  pub number : after.number ≡ before.number
+  pub gained : List Call
+  pub list : after.calls.items ≡ before.calls.items ++ gained
+  pub marked : end ≡ Full → after.refused ≡ true
 
--- the seat called nothing yet, and was never refused
-abbrev pub IsFresh : {J : Type 0} {g : _} → Seat J g → Type 0
-IsFresh seat = (seat.calls.items ≡ []) × (seat.refused ≡ false)
-
--- the seat's list is the history's of this number; where it was refused, the history is full
-abbrev pub SeatMatches : {J : Type 0} {g : _} → ℕ → List Event → ℕ → Seat J g → Type 0
-SeatMatches room history number seat = Matches room history number seat.calls.items seat.refused
-
--- each seat is as the history has it: the ports' are the seats 0 and 1, and the scanner's is 2
-abbrev pub AllMatch : {J : Type 0} {g : _} → ℕ → List Event → Seats J g → Type 0
-AllMatch room history seats =
-    SeatMatches room history 0 seats.first
-    × SeatMatches room history 1 seats.second
-    × SeatMatches room history 2 seats.scanner
-
--- how many calls the three seats made
-abbrev pub calls_made : {J : Type 0} {g : _} → Seats J g → ℕ
-calls_made seats =
-    length seats.first.calls.items + length seats.second.calls.items
-    + length seats.scanner.calls.items
+-- each seat does, with why its thread ended
+abbrev pub AllComeBack : {J : Type 0} {g h : _} → (first second scanner : Seat J g) → Seats J h → List End → Type 0
+AllComeBack first second scanner after (one ∷ two ∷ three ∷ []) =
+    ComesBack first after.first one × ComesBack second after.second two × ComesBack scanner after.scanner three
+AllComeBack first second scanner after _ = ⊥

@@ -1,20 +1,16 @@
-//! A board that several threads call under one lock, and the history of what was asked and answered.
+//! Workers that serve a board's ports in threads of their own, under one lock, and the links and the gate that they use.
 #![tactic(auto)]
 
-pub mod event;
 pub mod gate;
-pub mod held;
-pub mod history;
-pub mod laws;
-pub mod opening;
-pub mod seat;
-pub mod shared;
+pub mod run;
+pub mod scanner;
+pub mod worker;
 
+pub use bmc_history::{
+    Call, CloseFault, Event, Held, History, Locked, MOST_EVENTS, OpenFault, Opening, PeriodFull,
+    Seat, Seats, Shared,
+};
 pub use bmc_links::{Counts, Heard, Link, LinkFault, MOST_KEPT, MemFault, MemLink};
-pub use event::{Call, Event};
 pub use gate::Gate;
-pub use held::{Held, MOST_EVENTS, OpenFault, PeriodFull};
-pub use history::History;
-pub use opening::Opening;
-pub use seat::{Seat, Seats};
-pub use shared::{CloseFault, Locked, Shared};
+pub use run::{NoThread, run_two};
+pub use worker::{End, serve_port};

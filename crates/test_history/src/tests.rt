@@ -1,7 +1,9 @@
 //! A board with its history, on the sample board, and a link in memory.
+mod gates;
 mod links;
 mod rooms;
 mod seats;
+mod workers;
 
 use bmc_board::{Board, Records};
 use cfg_records::sample_board;

@@ -1,0 +1,43 @@
+-- What a call of a board with a history gives, and what it leaves.
+use Rattle.std.specs.Prelude.{◌≡◌, ◌++◌, ◌∷◌, [], ℕ, List, Result}
+use Rattle.record_base.specs.declared.message.Asked.{Asked}
+use Rattle.record_base.specs.declared.message.Answered.{Answered}
+use Rattle.cfg_records.specs.Records.{Records}
+use Rattle.cfg_records.specs.declared.board_file.BoardFile.{BoardFile}
+use Rattle.bmc_board.specs.declared.bench.Bench.{Bench}
+use Rattle.bmc_board.specs.declared.bench.NoSensor.{NoSensor}
+use Rattle.bmc_board.specs.declared.board.Board.{Board}
+use Rattle.bmc_board.specs.State.{state_of}
+use Rattle.bmc_board.specs.Answer.{answer_of}
+use Rattle.bmc_board.specs.Row.{Row, Is}
+use Rattle.bmc_board.specs.Sensing.{bench_of}
+use Rattle.bmc_history.specs.declared.event.Call.{Call}
+use Rattle.bmc_history.specs.declared.event.Event.{Event}
+use Rattle.bmc_history.specs.Follows.{Happens}
+
+-- the board answers the request so, and goes from one state to the other, by the command relation
+abbrev pub IsRow : {S : Type 0} {g h : _} → BoardFile → (S → Records) → Board S g h → Board S g h
+    → Asked → Answered → Type 0
+IsRow setup records before after asked answered =
+    Row setup (state_of records before) asked answered (state_of records after)
+
+-- the board's one answer to the request is this, and it leaves the board so
+abbrev pub IsReply : {S : Type 0} {g h : _} → BoardFile → (S → Records) → Board S g h → Board S g h
+    → Asked → Answered → Type 0
+IsReply setup records before after asked answered =
+    Is answered (state_of records after) (answer_of setup (state_of records before) asked)
+
+-- the board's one answer to what happened is this, and it leaves the board so
+abbrev pub IsHappening : {S : Type 0} {g h : _} → BoardFile → (S → Records) → Board S g h
+    → Board S g h → Bench → Result (Unit {0}) NoSensor → Type 0
+IsHappening setup records before after bench answered =
+    Happens setup (state_of records before) answered (state_of records after)
+    (bench_of setup (state_of records before) bench)
+
+-- the history has one event more, its last: the seat's call
+abbrev pub GainsEvent : List Event → List Event → ℕ → Call → Type 0
+GainsEvent before after seat call = after ≡ before ++ record { seat = seat; call = call } ∷ []
+
+-- the seat's list has one call more, its last
+abbrev pub GainsCall : List Call → List Call → Call → Type 0
+GainsCall before after call = after ≡ before ++ call ∷ []

@@ -1,0 +1,63 @@
+-- What a Get shows of a record that was set before in the same history.
+use Rattle.std.specs.Prelude.{◌≡◌, ℕ, List, ◌∷◌, ◌++◌, Some, Result, Ok, ◌⊎◌, All, fold}
+use Rattle.two_wire.specs.Codes.{success}
+use Rattle.record_base.specs.declared.key.Key.{Key}
+use Rattle.record_base.specs.declared.op.Op.{Op}
+use Rattle.record_base.specs.declared.op.Op.TheVariants as of_kind
+use Rattle.record_base.specs.declared.message.Asked.{Asked}
+use Rattle.record_base.specs.declared.message.Answered.{Answered}
+use Rattle.cfg_records.specs.declared.board_file.BoardFile.{BoardFile}
+use Rattle.record_kinds.specs.declared.limits.Limits.{Limits}
+use Rattle.record_kinds.specs.Limits.{key_of, limits_at, sets, view}
+use Rattle.bmc_board.specs.Request.{Request}
+use Rattle.bmc_board.specs.Request.{Get, Set, SetStores}
+use Rattle.bmc_board.specs.Request.{asked_by}
+use Rattle.bmc_board.specs.Replies.{done}
+use Rattle.bmc_board.specs.State.{State}
+use Rattle.bmc_history.specs.declared.event.Call.{Call}
+use Rattle.bmc_history.specs.declared.event.Call.TheVariants.{Exchanged, Benched}
+use Rattle.bmc_history.specs.declared.event.Event.{Event}
+use Rattle.bmc_history.specs.Replay.{after_call, Replays}
+
+-- the state that events leave
+abbrev pub state_after : BoardFile → State → List Event → State
+state_after setup first events = fold (λ before event. after_call setup before event.call) first events
+
+-- the request may write the record: it sets it, or it sets the access of a channel in two stores, of which one has it
+abbrev pub Writes : Result Request ℕ → Key → Type 0
+Writes (Ok (Set op)) key = key_of op ≡ key
+Writes (Ok (SetStores first second)) key = (key_of (of_kind.ChannelAccess first) ≡ key) ⊎ (key_of (of_kind.ChannelAccess second) ≡ key)
+Writes _ key = ⊥
+
+abbrev pub MayWrite : Key → Call → Type 0
+MayWrite key (Exchanged asked answered) = Writes (asked_by asked) key
+MayWrite key (Benched bench answered) = ⊥
+
+-- In a history, a Set of a record is carried out, and a Get of it is answered later. No call between the two may write the record.
+pub record SetsThenGets (setup : BoardFile) (first last : State) (op : Op) (before between later : List Event) (set get : Event) (shown : Answered) : Type 0 where
+  pub replays : Replays setup first (before ++ (set ∷ (between ++ (get ∷ later)))) last
+  pub setter : Asked
+  pub replied : Answered
+  pub set_is : set.call ≡ Exchanged setter replied
+  pub is_set : asked_by setter ≡ Ok (Set op)
+  pub carried_out : replied.code ≡ success
+  pub unwritten : All (λ event. ¬ MayWrite (key_of op) event.call) between
+  pub getter : Asked
+  pub get_is : get.call ≡ Exchanged getter shown
+  pub is_get : asked_by getter ≡ Ok (Get (key_of op))
+
+-- a Get's answer at a state shows the value that the operation made of the record's value at an earlier state
+pub record ShowsWhatWasSet (setup : BoardFile) (op : Op) (at_set at_get : State) (shown : Answered) : Type 0 where
+  pub limits : Limits
+  pub old : List ℕ
+  pub new : List ℕ
+  pub limits_are : limits_at setup (key_of op) ≡ Some limits
+  pub had : at_set.records (key_of op) ≡ Some old
+  pub was_set : sets limits op old new
+  pub is_shown : shown ≡ done (view limits new at_get.activity.live)
+
+-- such a Get shows what the Set wrote
+abbrev pub GetsWhatWasSet : Type 0
+GetsWhatWasSet = (setup : BoardFile) (first last : State) (op : Op) (before between later : List Event) (set get : Event) (shown : Answered)
+    → SetsThenGets setup first last op before between later set get shown
+    → ShowsWhatWasSet setup op (state_after setup first before) (state_after setup first (before ++ (set ∷ between))) shown

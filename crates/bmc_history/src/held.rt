@@ -1,0 +1,203 @@
+//! A board with its history.
+ghost use Rattle.std.specs.Prelude.{◌≡◌, ◌≤◌, ◌<◌, ◌↔◌, [], IfOk, IfErr, OnOk, OnErr, IsErr, IsTrue, length, vec_len, vec_capacity};
+ghost use Rattle.record_base.specs.Meaning.{room_for};
+ghost use Rattle.bmc_board.specs.State.{state_of};
+ghost use Rattle.bmc_history.specs.Replay.{Replays, IsRoom};
+ghost use Rattle.bmc_history.specs.Matching.{Matches};
+ghost use Rattle.bmc_history.specs.Calls.{IsRow, IsReply, IsHappening, GainsEvent};
+ghost use Rattle.bmc_history.specs.ReplayLaws.{Replays-prop};
+ghost use Rattle.bmc_history.specs.declared.event.Call.TheVariants.{Exchanged, Benched};
+ghost use Rattle.bmc_history.specs.declared.held.OpenFault.TheVariants.{Room};
+
+use crate::event::{Call, Event};
+use crate::history::{History, are_calls};
+use crate::opening::Opening;
+use bmc_board::{Bench, Board, NoSensor};
+use cfg_records::{Answered, Asked, Store};
+use std::alloc::Global;
+use std::marker::PhantomData;
+
+/// The most events that a history may have room for.
+pub const MOST_EVENTS: usize = 4_096;
+
+/// Why a board isn't opened.
+#[derive(Clone, Copy, Debug, PartialEq, Eq)]
+pub enum OpenFault {
+    Memory,
+    /// There would be room for no event, or for over `MOST_EVENTS`.
+    Room,
+}
+
+/// The history has no room for another event.
+#[derive(Clone, Copy, Debug, PartialEq, Eq)]
+pub struct PeriodFull;
+
+/// A board, and the history that led to it from the board that it opened with.
+#[derive(Drop)]
+pub struct Held<J: Opening, S: Store> {
+    board: Board<S>,
+    history: Vec<Event>,
+    room: usize,
+    of: PhantomData<J>,
+    ghost setup: { board.setup ≡ J.setup },
+    ghost room_is: { room ≡ J.room },
+    ghost within: { vec_len history ≤ room },
+    ghost roomy: { room ≤ vec_capacity history },
+    ghost replays: { Replays J.setup J.opening history.items
+        (state_of S.records board) } by { Replays-prop J.setup J.opening history.items
+            (state_of S.records board) },
+}
+
+impl<J: Opening, S: Store> Held<J, S> {
+    /// A board with no history yet. All memory is taken here.
+    pub fn open(alloc: Global, board: Board<S>, room: usize) -> Result<Self, (OpenFault, Board<S>)>
+        requires setup { board.setup ≡ J.setup }
+        requires opening { state_of S.records board ≡ J.opening }
+        requires room { room ≡ J.room }
+        ensures board { IfOk result (λ held. held.board ≡ board) }
+        ensures history { IfOk result (λ held. held.history.items ≡ []) }
+        ensures within { OnOk result (IsRoom room) }
+        ensures room { IfErr result (λ e. (e.0 ≡ Room) ↔ ¬ IsRoom room) }
+        ensures back { IfErr result (λ e. e.1 ≡ board) }
+    {
+        if room < 1 || room > MOST_EVENTS {
+            return Err((OpenFault::Room, board));
+        }
+        match Vec::with_capacity(alloc, room) {
+            Ok(history) => Ok(Held {
+                board,
+                history,
+                room,
+                of: PhantomData,
+            }),
+            Err(_) => Err((OpenFault::Memory, board)),
+        }
+    }
+
+    /// How many events there are.
+    pub fn len(&self) -> usize
+        ensures { result ≡ vec_len self.now.history }
+    {
+        self.history.len()
+    }
+
+    /// Whether there is no room for another event.
+    pub fn is_full(&self) -> bool
+        ensures { IsTrue result ↔ (vec_len self.now.history ≡ self.now.room) }
+    {
+        self.history.len() == self.room
+    }
+
+    /// The events, in order.
+    pub fn events(&self) -> &[Event]
+        ensures { result.now ≡ self.now.history.items }
+    {
+        self.history.as_slice()
+    }
+
+    /// Whether a seat's list is the history's of that seat, and the history is full where the seat
+    /// was refused.
+    pub fn matches(&self, seat: u8, calls: &[Call], refused: bool) -> bool
+        ensures { IsTrue result ↔ Matches J.room self.now.history.items seat calls.now refused }
+    {
+        (!refused || self.is_full()) && are_calls(self.history.as_slice(), seat, calls)
+    }
+
+    /// The board, and the history that leads to it.
+    pub fn into_parts(self) -> (Board<S>, History)
+        ensures board { result.0 ≡ self.board }
+        ensures history { result.1 ≡ self.history.items }
+        ensures setup { result.0.setup ≡ J.setup }
+        ensures replays { Replays J.setup J.opening result.1 (state_of S.records result.0) }
+    {
+        let Held {
+            board,
+            history,
+            room: _,
+            of: _,
+        } = self;
+        (board, History::new(history))
+    }
+
+    /// Has the board answer, and adds that to the history.
+    fn answer(&mut self, port: u8, asked: &Asked) -> Answered
+        requires { vec_len self.old.history < self.old.room }
+        ensures row { IsRow J.setup S.records self.old.board self.new.board asked.now result }
+        ensures answer { IsReply J.setup S.records self.old.board self.new.board asked.now result }
+        ensures fits { length result.body ≤ room_for asked.now }
+        ensures history { GainsEvent self.old.history.items self.new.history.items
+            port (Exchanged asked.now result) }
+    {
+        let Held {
+            board,
+            history,
+            room: _,
+            of: _,
+        } = self;
+        let answered = board.answer(asked);
+        history.push_reserved(Event {
+            seat: port,
+            call: Call::exchanged(asked, &answered),
+        });
+        answered
+    }
+
+    /// The board's answer to a request, which the history gains. It takes no memory. Where the
+    /// history has no room, nothing changes.
+    pub fn exchange(&mut self, port: u8, asked: &Asked) -> Result<Answered, PeriodFull>
+        ensures row { IfOk result
+            (IsRow J.setup S.records self.old.board self.new.board asked.now) }
+        ensures answer { IfOk result
+            (IsReply J.setup S.records self.old.board self.new.board asked.now) }
+        ensures fits { IfOk result (λ answered. length answered.body ≤ room_for asked.now) }
+        ensures history { IfOk result (λ answered.
+            GainsEvent self.old.history.items self.new.history.items
+            port (Exchanged asked.now answered)) }
+        ensures full { IsErr result ↔ (vec_len self.old.history ≡ J.room) }
+        ensures same { OnErr result (self.new ≡ self.old) }
+    {
+        if self.is_full() {
+            return Err(PeriodFull);
+        }
+        Ok(self.answer(port, asked))
+    }
+
+    /// Has something happen on the board, and adds that to the history.
+    fn happen(&mut self, port: u8, bench: &Bench) -> Result<(), NoSensor>
+        requires { vec_len self.old.history < self.old.room }
+        ensures answer { IsHappening J.setup S.records self.old.board self.new.board
+            bench.now result }
+        ensures history { GainsEvent self.old.history.items self.new.history.items
+            port (Benched bench.now result) }
+    {
+        let Held {
+            board,
+            history,
+            room: _,
+            of: _,
+        } = self;
+        let answered = board.bench(*bench);
+        history.push_reserved(Event {
+            seat: port,
+            call: Call::benched(bench, answered),
+        });
+        answered
+    }
+
+    /// Something happens on the board beside requests, and the history gains it. It takes no
+    /// memory. Where the history has no room, nothing changes.
+    pub fn bench(&mut self, port: u8, bench: Bench) -> Result<Result<(), NoSensor>, PeriodFull>
+        ensures answer { IfOk result
+            (IsHappening J.setup S.records self.old.board self.new.board bench) }
+        ensures history { IfOk result (λ answered.
+            GainsEvent self.old.history.items self.new.history.items
+            port (Benched bench answered)) }
+        ensures full { IsErr result ↔ (vec_len self.old.history ≡ J.room) }
+        ensures same { OnErr result (self.new ≡ self.old) }
+    {
+        if self.is_full() {
+            return Err(PeriodFull);
+        }
+        Ok(self.happen(port, &bench))
+    }
+}

@@ -1,0 +1,303 @@
+//! A board that threads share, and its seats.
+ghost use Rattle.std.specs.Prelude.{◌≡◌, ◌≤◌, ◌<◌, ◌^◌, ◌↔◌, true, IsTrue, IfOk, IfErr, IsOk, IsErr, IfSome, OnOk, OnErr, length, vec_len};
+ghost use Rattle.record_base.specs.Meaning.{room_for};
+ghost use Rattle.bmc_board.specs.State.{state_of};
+ghost use Rattle.bmc_history.specs.Replay.{Replays, IsRoom};
+ghost use Rattle.bmc_history.specs.Calls.{IsRow, IsReply, IsHappening, GainsEvent, GainsCall};
+ghost use Rattle.bmc_history.specs.Seated.{IsBlank, IsFresh, SeatMatches, AllMatch, calls_made};
+ghost use Rattle.bmc_history.specs.declared.event.Call.TheVariants.{Exchanged, Benched};
+ghost use Rattle.bmc_history.specs.declared.held.OpenFault.TheVariants.{Room};
+ghost use Rattle.bmc_history.specs.declared.shared.CloseFault.TheVariants.{Mismatch};
+
+use crate::event::Call;
+use crate::held::{Held, OpenFault, PeriodFull};
+use crate::history::History;
+use crate::opening::Opening;
+use crate::seat::{Seat, Seats};
+use bmc_board::{Bench, Board, NoSensor};
+use cfg_records::{Answered, Asked, Store};
+use std::alloc::Global;
+use std::sync::ledger::{Blank, Book};
+use std::sync::{Mutex, Wait};
+
+/// What lies under the lock: the board with its history, whose events a book counts.
+#[derive(Drop)]
+pub struct Locked<J: Opening, S: Store> {
+    held: Held<J, S>,
+    book: Book<J>,
+    ghost counted: { vec_len held.history ≡ book.total },
+}
+
+/// A board that threads share. Each call of it holds the lock for one event of the board.
+#[derive(Drop)]
+pub struct Shared<J: Opening, S: Store> {
+    lock: Mutex<Locked<J, S>>,
+}
+
+/// Why a board isn't closed.
+#[derive(Clone, Copy, Debug, PartialEq, Eq)]
+pub enum CloseFault {
+    /// A seat's list isn't the history's list of that seat, or a seat was refused though the
+    /// history has room.
+    Mismatch,
+    /// The history isn't as long as the seats' lists together. It never comes.
+    Count,
+}
+
+impl<J: Opening, S: Store> Locked<J, S> {
+    /// The board's answer to a request, which the history and the seat's list gain. Where the
+    /// history has no room, the seat is marked as refused, and nothing else changes.
+    pub fn exchange(&mut self, seat: &mut Seat<J>, asked: &Asked) -> Result<Answered, PeriodFull>
+        ensures row { IfOk result
+            (IsRow J.setup S.records self.old.held.board self.new.held.board asked.now) }
+        ensures answer { IfOk result
+            (IsReply J.setup S.records self.old.held.board self.new.held.board asked.now) }
+        ensures fits { IfOk result (λ answered. length answered.body ≤ room_for asked.now) }
+        ensures history { IfOk result (λ answered.
+            GainsEvent self.old.held.history.items self.new.held.history.items
+            seat.old.number (Exchanged asked.now answered)) }
+        ensures full { IsErr result ↔ (vec_len self.old.held.history ≡ J.room) }
+        ensures same { OnErr result (self.new.held ≡ self.old.held) }
+        ensures kept { IfOk result (λ answered.
+            GainsCall seat.old.calls.items seat.new.calls.items (Exchanged asked.now answered)) }
+        ensures mark { OnOk result (seat.new.refused ≡ seat.old.refused) }
+        ensures same_list { OnErr result (seat.new.calls.items ≡ seat.old.calls.items) }
+        ensures marked { OnErr result (seat.new.refused ≡ true) }
+        ensures number { seat.new.number ≡ seat.old.number }
+    {
+        let Locked { held, book } = self;
+        let Seat {
+            number,
+            calls,
+            refused,
+            share,
+        } = seat;
+        book.audit(share);
+        match held.exchange(*number, asked) {
+            Ok(answered) => {
+                book.add(share, 1);
+                calls.push_reserved(Call::exchanged(asked, &answered));
+                Ok(answered)
+            }
+            Err(full) => {
+                *refused = true;
+                Err(full)
+            }
+        }
+    }
+
+    /// Something happens on the board beside requests, and the history and the seat's list gain it.
+    /// Where the history has no room, the seat is marked as refused, and nothing else changes.
+    pub fn bench(
+        &mut self,
+        seat: &mut Seat<J>,
+        bench: Bench,
+    ) -> Result<Result<(), NoSensor>, PeriodFull>
+        ensures answer { IfOk result
+            (IsHappening J.setup S.records self.old.held.board self.new.held.board bench) }
+        ensures history { IfOk result (λ answered.
+            GainsEvent self.old.held.history.items self.new.held.history.items
+            seat.old.number (Benched bench answered)) }
+        ensures full { IsErr result ↔ (vec_len self.old.held.history ≡ J.room) }
+        ensures same { OnErr result (self.new.held ≡ self.old.held) }
+        ensures kept { IfOk result (λ answered.
+            GainsCall seat.old.calls.items seat.new.calls.items (Benched bench answered)) }
+        ensures mark { OnOk result (seat.new.refused ≡ seat.old.refused) }
+        ensures same_list { OnErr result (seat.new.calls.items ≡ seat.old.calls.items) }
+        ensures marked { OnErr result (seat.new.refused ≡ true) }
+        ensures number { seat.new.number ≡ seat.old.number }
+    {
+        let Locked { held, book } = self;
+        let Seat {
+            number,
+            calls,
+            refused,
+            share,
+        } = seat;
+        book.audit(share);
+        match held.bench(*number, bench) {
+            Ok(answered) => {
+                book.add(share, 1);
+                calls.push_reserved(Call::benched(&bench, answered));
+                Ok(answered)
+            }
+            Err(full) => {
+                *refused = true;
+                Err(full)
+            }
+        }
+    }
+}
+
+/// Room for each seat's list.
+fn lists(alloc: Global, room: usize) -> Option<(Vec<Call>, Vec<Call>, Vec<Call>)>
+    ensures first { IfSome result (λ lists. IsBlank room lists.0) }
+    ensures second { IfSome result (λ lists. IsBlank room lists.1) }
+    ensures scanner { IfSome result (λ lists. IsBlank room lists.2) }
+{
+    Some((
+        Vec::with_capacity(alloc, room).ok()?,
+        Vec::with_capacity(alloc, room).ok()?,
+        Vec::with_capacity(alloc, room).ok()?,
+    ))
+}
+
+impl<J: Opening, S: Store + Drop> Shared<J, S> {
+    /// A board to be shared, and its seats. All memory is taken here.
+    pub fn open(
+        alloc: Global,
+        blank: Blank,
+        board: Board<S>,
+        room: usize,
+    ) -> Result<(Self, Seats<J>), (OpenFault, Blank, Board<S>)>
+        requires name { blank.name ≡ J.name }
+        requires parts { blank.parts ≡ J.parts }
+        requires three { blank.parts ≡ 3 }
+        requires setup { board.setup ≡ J.setup }
+        requires opening { state_of S.records board ≡ J.opening }
+        requires room { room ≡ J.room }
+        ensures first { IfOk result (λ opened. IsFresh opened.1.first) }
+        ensures second { IfOk result (λ opened. IsFresh opened.1.second) }
+        ensures scanner { IfOk result (λ opened. IsFresh opened.1.scanner) }
+        ensures within { OnOk result (IsRoom room) }
+        ensures room { IfErr result (λ e. (e.0 ≡ Room) ↔ ¬ IsRoom room) }
+        ensures back { IfErr result (λ e. (e.1 ≡ blank) × (e.2 ≡ board)) }
+    {
+        let held = match Held::open(alloc, board, room) {
+            Ok(held) => held,
+            Err((fault, board)) => return Err((fault, blank, board)),
+        };
+        let Some((first, second, scanner)) = lists(alloc, room) else {
+            let (board, _) = held.into_parts();
+            return Err((OpenFault::Memory, blank, board));
+        };
+        let (book, mut whole) = blank.open::<J>();
+        let seats = Seats {
+            second: Seat::new(1, second, whole.split_off(1, 0)),
+            scanner: Seat::new(2, scanner, whole.split_off(1, 0)),
+            first: Seat::new(0, first, whole),
+        };
+        let lock = Mutex::new(Locked { held, book });
+        Ok((Shared { lock }, seats))
+    }
+
+    /// Waits for the lock, and has the board answer a request. What it answers is
+    /// `Locked::exchange`'s.
+    pub fn exchange<R: Wait>(
+        &self,
+        rt: &R,
+        seat: &mut Seat<J>,
+        asked: &Asked,
+    ) -> Result<Answered, PeriodFull>
+        ensures fits { IfOk result (λ answered. length answered.body ≤ room_for asked.now) }
+        ensures kept { IfOk result (λ answered.
+            GainsCall seat.old.calls.items seat.new.calls.items (Exchanged asked.now answered)) }
+        ensures mark { OnOk result (seat.new.refused ≡ seat.old.refused) }
+        ensures same_list { OnErr result (seat.new.calls.items ≡ seat.old.calls.items) }
+        ensures marked { OnErr result (seat.new.refused ≡ true) }
+        ensures number { seat.new.number ≡ seat.old.number }
+    {
+        self.lock.lock(rt).exchange(seat, asked)
+    }
+
+    /// Waits for the lock, and has something happen on the board beside requests. What it answers
+    /// is `Locked::bench`'s.
+    pub fn bench<R: Wait>(
+        &self,
+        rt: &R,
+        seat: &mut Seat<J>,
+        bench: Bench,
+    ) -> Result<Result<(), NoSensor>, PeriodFull>
+        ensures kept { IfOk result (λ answered.
+            GainsCall seat.old.calls.items seat.new.calls.items (Benched bench answered)) }
+        ensures mark { OnOk result (seat.new.refused ≡ seat.old.refused) }
+        ensures same_list { OnErr result (seat.new.calls.items ≡ seat.old.calls.items) }
+        ensures marked { OnErr result (seat.new.refused ≡ true) }
+        ensures number { seat.new.number ≡ seat.old.number }
+    {
+        self.lock.lock(rt).bench(seat, bench)
+    }
+
+    /// The board and its history, where the seats' lists are the history's. It takes no lock, since
+    /// nobody shares the board any more. On a fault the board isn't handed back.
+    pub fn close(self, seats: Seats<J>) -> Result<(Board<S>, History), CloseFault>
+        requires three { J.parts ≡ 3 }
+        ensures setup { IfOk result (λ closed. closed.0.setup ≡ J.setup) }
+        ensures replays { IfOk result (λ closed.
+            Replays J.setup J.opening closed.1 (state_of S.records closed.0)) }
+        ensures first { IfOk result (λ closed. SeatMatches J.room closed.1 0 seats.first) }
+        ensures second { IfOk result (λ closed. SeatMatches J.room closed.1 1 seats.second) }
+        ensures scanner { IfOk result (λ closed. SeatMatches J.room closed.1 2 seats.scanner) }
+        ensures counted { IfOk result (λ closed. length closed.1 ≡ calls_made seats) }
+        ensures fault { IfErr result (λ fault. fault ≡ Mismatch) }
+    {
+        self.lock.into_inner().close(seats)
+    }
+}
+
+impl<J: Opening, S: Store + Drop> Locked<J, S> {
+    /// The board and its history, exactly where each seat's list is the history's of that seat, and
+    /// the history is full where a seat was refused.
+    pub fn close(self, seats: Seats<J>) -> Result<(Board<S>, History), CloseFault>
+        requires three { J.parts ≡ 3 }
+        ensures exact { IsOk result ↔ AllMatch J.room self.held.history.items seats }
+        ensures fault { IfErr result (λ fault. fault ≡ Mismatch) }
+        ensures board { IfOk result (λ closed. closed.0 ≡ self.held.board) }
+        ensures history { IfOk result (λ closed. closed.1 ≡ self.held.history.items) }
+        ensures setup { IfOk result (λ closed. closed.0.setup ≡ J.setup) }
+        ensures replays { IfOk result (λ closed.
+            Replays J.setup J.opening closed.1 (state_of S.records closed.0)) }
+        ensures counted { length self.held.history.items ≡ calls_made seats }
+    {
+        let matches = self.matches(&seats);
+        let Locked { held, mut book } = self;
+        let calls = count_calls(&mut book, seats);
+        let fault = if matches {
+            CloseFault::Count
+        } else {
+            CloseFault::Mismatch
+        };
+        if matches && held.len() == calls {
+            Ok(held.into_parts())
+        } else {
+            Err(fault)
+        }
+    }
+
+    /// Whether each seat's list is the history's of that seat, and the history is full where a seat
+    /// was refused.
+    fn matches(&self, seats: &Seats<J>) -> bool
+        ensures { IsTrue result ↔ AllMatch J.room self.now.held.history.items seats.now }
+    {
+        let Seats {
+            first,
+            second,
+            scanner,
+        } = seats;
+        self.held.matches(0, first.calls(), first.was_refused())
+            && self.held.matches(1, second.calls(), second.was_refused())
+            && self.held.matches(2, scanner.calls(), scanner.was_refused())
+    }
+}
+
+/// How many calls the seats made, by their lists. Their shares are all of the ledger, so the book
+/// has counted as many.
+fn count_calls<J: Opening>(book: &mut Book<J>, seats: Seats<J>) -> usize
+    requires three { J.parts ≡ 3 }
+    requires fits { book.old.total < 2 ^ 64 }
+    ensures calls { result ≡ calls_made seats }
+    ensures counted { book.old.total ≡ calls_made seats }
+{
+    let Seats {
+        first,
+        second,
+        scanner,
+    } = seats;
+    let (first, mut all) = first.into_parts();
+    let (second, share) = second.into_parts();
+    all.merge(share);
+    let (scanner, share) = scanner.into_parts();
+    all.merge(share);
+    book.audit(&mut all);
+    first.len() + second.len() + scanner.len()
+}

@@ -1,0 +1,143 @@
+-- A worker's turns, one after another.
+use Rattle.std.specs.Prelude.{Result, Ok, Err, OnOk, OnErr}
+use Rattle.std.proofs.Common.{◌≡◌, refl, ◌+◌, ◌++◌, ℕ, zero, suc, List, [], ◌∷◌, length, ap, sym, ◌∙◌, subst, arith}
+use Rattle.std.proofs.lemmas.List.{append_assoc, length-append, append-nil}
+use Rattle.bmc_core.specs.declared.out.Out.{Out}
+use Rattle.bmc_core.specs.declared.step.Step.TheVariants.{Ask, Done}
+use Rattle.bmc_core.specs.declared.port.Port.{Port}
+use Rattle.bmc_core.specs.declared.port.Pending.{Pending}
+use Rattle.bmc_core.specs.Port.{IsStep}
+use Rattle.bmc_links.specs.declared.link.Counts.{Counts}
+use Rattle.bmc_links.specs.Counted.{one_more}
+use Rattle.bmc_history.specs.declared.event.Call.{Call}
+use Rattle.bmc_history.specs.declared.held.PeriodFull.{PeriodFull}
+use Rattle.bmc_ports.specs.Serving.{counted_on, CallsNext, Carries, Serves, ServesTo, MadeAll, Worked, end_of}
+use Rattle.bmc_ports.specs.declared.worker.End.{End}
+use Rattle.bmc_ports.specs.declared.worker.End.TheVariants.{Turns, Full}
+
+-- more on a count, and then more
+pub counted_twice : (count first later : ℕ) → counted_on (counted_on count first) later ≡ counted_on count (later + first)
+counted_twice count first zero = let same : first ≡ 0 + first = omega arith in ap (counted_on count) same
+counted_twice count first (suc later) =
+    let same : suc (later + first) ≡ suc later + first = omega arith in
+    ap one_more (counted_twice count first later) ∙ ap (counted_on count) same
+
+-- frames that are heard, and then others
+pub serves_both : (first later : List (List ℕ)) (before mid after : Port) (calls rest : List Call)
+    → Serves first before calls mid → Serves later mid rest after → Serves (first ++ later) before (calls ++ rest) after
+serves_both [] later before mid after calls rest (none, same) then =
+    subst (λ (xs : List Call). Serves later before (xs ++ rest) after) (sym none)
+    (subst (λ (port : Port). Serves later port rest after) (sym same) then)
+serves_both (frame ∷ first) later before mid after calls rest (at, one, others, split, hears, serves) then = (
+  at,
+  one,
+  others ++ rest,
+  ap (λ (xs : List Call). xs ++ rest) split ∙ append_assoc one others rest,
+  hears,
+  serves_both first later at mid after others rest serves then,
+)
+
+-- the same, where the last request was dropped or not
+pub serves_on : (end : End) (first later : List (List ℕ)) (before mid after : Port) (calls rest : List Call)
+    → Serves first before calls mid → ServesTo end later mid rest after → ServesTo end (first ++ later) before (calls ++ rest) after
+serves_on Turns first later before mid after calls rest begins then = serves_both first later before mid after calls rest begins then
+serves_on Full first later before mid after calls rest begins then = record {
+  served = first ++ then.served;
+  last = then.last;
+  mid = then.mid;
+  all = ap (λ (xs : List (List ℕ)). first ++ xs) then.all ∙ sym (append_assoc first then.served (then.last ∷ []));
+  serves = serves_both first then.served before mid then.mid calls rest begins then.serves;
+  drops = then.drops;
+}
+
+-- a worker that made no turn
+pub idle : (port : Port) (held : List Call) (counts : Counts) → Worked Turns 0 port port held held counts counts
+idle port held counts = record {
+  frames = [];
+  gained = [];
+  calls = refl;
+  heard = refl;
+  list = sym (append-nil held);
+  serves = (refl, refl);
+}
+
+-- calls of `next`, and one more
+made_on : (end : End) (turns : ℕ) (first counted counts : Counts) → MadeAll Turns turns first counted → MadeAll end 1 counted counts
+    → MadeAll end (turns + 1) first counts
+made_on Turns turns first counted counts begins then =
+    let same : suc turns ≡ turns + 1 = omega arith in then ∙ ap one_more begins ∙ ap (counted_on first.calls) same
+made_on Full turns first counted counts begins then = tt
+
+-- a worker that made turns makes one more
+pub works_on : (end : End) (turns : ℕ) (before mid after : Port) (held kept more : List Call) (first counted counts : Counts)
+    → Worked Turns turns before mid held kept first counted
+    → Worked end 1 mid after kept more counted counts
+    → Worked end (turns + 1) before after held more first counts
+works_on end turns before mid after held kept more first counted counts begins then =
+    let both : length then.frames + length begins.frames ≡ length (begins.frames ++ then.frames) = omega (arith, length-append begins.frames then.frames) in record {
+      frames = begins.frames ++ then.frames;
+      gained = begins.gained ++ then.gained;
+      calls = made_on end turns first counted counts begins.calls then.calls;
+      heard = then.heard ∙ ap (λ (n : ℕ). counted_on n (length then.frames)) begins.heard
+          ∙ counted_twice first.heard (length begins.frames) (length then.frames)
+          ∙ ap (counted_on first.heard) both;
+      list = then.list ∙ ap (λ (xs : List Call). xs ++ then.gained) begins.list ∙ append_assoc held begins.gained then.gained;
+      serves = serves_on end begins.frames then.frames before mid after begins.gained then.gained begins.serves then.serves;
+    }
+
+-- a worker that found no room needn't have made all its turns
+pub full_early : (made turns : ℕ) (before after : Port) (held kept : List Call) (counted counts : Counts)
+    → Worked Full made before after held kept counted counts → Worked Full turns before after held kept counted counts
+full_early made turns before after held kept counted counts worked = record {
+  frames = worked.frames;
+  gained = worked.gained;
+  calls = tt;
+  heard = worked.heard;
+  list = worked.list;
+  serves = worked.serves;
+}
+
+-- ---- one turn, of which this is known: one call of `next` heard a frame, and what came of it left the link's counts alone
+module _ (before : Port) (frame : List ℕ) (counted mid counts : Counts) (next : CallsNext (frame ∷ []) counted mid)
+    (calls : counts.calls ≡ mid.calls) (heard : counts.heard ≡ mid.heard) where
+  -- nothing was asked
+  pub settled : (after : Port) (out : Out) (held : List Call) → IsStep before frame after out Done → Worked Turns 1 before after held held counted counts
+  settled after out held step = record {
+    frames = frame ∷ [];
+    gained = [];
+    calls = calls ∙ next.calls;
+    heard = heard ∙ next.heard;
+    list = sym (append-nil held);
+    serves = (after, [], [], refl, record { between = after; out = out; step = Done; heard = step; settles = (refl, refl) }, (refl, refl));
+  }
+
+  -- a request was asked, and answered or refused
+  pub asked : (between after : Port) (out : Out) (pending : Pending) (held kept : List Call) (result : Result (Unit {0}) PeriodFull)
+      → IsStep before frame between out (Ask pending)
+      → OnOk result (Carries pending between held kept after)
+      → OnErr result (kept ≡ held)
+      → OnErr result (after ≡ between)
+      → Worked (end_of result) 1 before after held kept counted counts
+  asked between after out pending held kept (Ok done) step carries list port = record {
+    frames = frame ∷ [];
+    gained = carries.0;
+    calls = calls ∙ next.calls;
+    heard = heard ∙ next.heard;
+    list = carries.1;
+    serves = (after, carries.0, [], sym (append-nil carries.0), record { between = between; out = out; step = Ask pending; heard = step; settles = carries.2 }, (refl, refl));
+  }
+  asked between after out pending held kept (Err full) step carries list port = record {
+    frames = frame ∷ [];
+    gained = [];
+    calls = tt;
+    heard = heard ∙ next.heard;
+    list = list ∙ sym (append-nil held);
+    serves = record {
+      served = [];
+      last = frame;
+      mid = before;
+      all = refl;
+      serves = (refl, refl);
+      drops = record { out = out; pending = pending; asks = subst (λ (port : Port). IsStep before frame port out (Ask pending)) (sym port) step };
+    };
+  }

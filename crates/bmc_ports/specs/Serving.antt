@@ -1,0 +1,101 @@
+-- What a worker's port hears, and what its seat calls.
+use Rattle.std.specs.Prelude.{◌≡◌, ◌++◌, ℕ, zero, suc, List, [], ◌∷◌, length, Option, Some, None, Result, Ok, Err}
+use Rattle.record_base.specs.declared.message.Answered.{Answered}
+use Rattle.bmc_core.specs.declared.out.Out.{Out}
+use Rattle.bmc_core.specs.declared.step.Step.{Step}
+use Rattle.bmc_core.specs.declared.step.Step.TheVariants.{Ask, Done}
+use Rattle.bmc_core.specs.declared.port.Port.{Port}
+use Rattle.bmc_core.specs.declared.port.Pending.{Pending}
+use Rattle.bmc_core.specs.Port.{asked_of, IsStep, IsTold}
+use Rattle.bmc_links.specs.declared.link.Counts.{Counts}
+use Rattle.bmc_links.specs.Counted.{one_more}
+use Rattle.bmc_history.specs.declared.event.Call.{Call}
+use Rattle.bmc_history.specs.declared.event.Call.TheVariants.{Exchanged}
+use Rattle.bmc_history.specs.declared.held.PeriodFull.{PeriodFull}
+use Rattle.bmc_ports.specs.declared.worker.End.{End}
+use Rattle.bmc_ports.specs.declared.worker.End.TheVariants.{Turns, Full}
+
+-- a link's count, so many later
+abbrev pub counted_on : ℕ → ℕ → ℕ
+counted_on count zero = count
+counted_on count (suc more) = one_more (counted_on count more)
+
+-- one call of `next` was counted, and what it heard
+pub record CallsNext (frames : List (List ℕ)) (before after : Counts) : Type 0 where
+  pub calls : after.calls ≡ counted_on before.calls 1
+  pub heard : after.heard ≡ counted_on before.heard (length frames)
+
+-- the frame that was heard, if one was, as a list
+abbrev pub frames_in : Option (List ℕ) → List (List ℕ)
+frames_in None = []
+frames_in (Some frame) = frame ∷ []
+
+-- ---- the port
+
+-- After the first step of a port, nothing is left to do, or the board was asked what the request asks, and the port was told the reply.
+abbrev pub Settles : Step Pending → Port → List Call → Port → Type 0
+Settles Done between calls after = (calls ≡ []) × (between ≡ after)
+Settles (Ask pending) between calls after =
+    (answered : Answered) × (out : Out) × (calls ≡ Exchanged (asked_of pending) answered ∷ [])
+    × IsTold between pending answered after out
+
+-- a port heard the frame, and the board was called so for it
+pub record Hears (before : Port) (frame : List ℕ) (calls : List Call) (after : Port) : Type 0 where
+  pub between : Port
+  pub out : Out
+  pub step : Step Pending
+  pub heard : IsStep before frame between out step
+  pub settles : Settles step between calls after
+
+-- the board was asked so, and the seat's list gained the request with the reply that the port was told
+abbrev pub Carries : Pending → Port → List Call → List Call → Port → Type 0
+Carries pending before held kept after = (calls : List Call) × (kept ≡ held ++ calls) × Settles (Ask pending) before calls after
+
+-- it heard frames, one after another
+abbrev pub Serves : List (List ℕ) → Port → List Call → Port → Type 0
+Serves [] before calls after = (calls ≡ []) × (before ≡ after)
+Serves (frame ∷ later) before calls after =
+    (mid : Port) × (first : List Call) × (rest : List Call) × (calls ≡ first ++ rest)
+    × Hears before frame first mid × Serves later mid rest after
+
+-- it heard a frame whose request was dropped
+pub record Drops (before : Port) (frame : List ℕ) (after : Port) : Type 0 where
+  pub out : Out
+  pub pending : Pending
+  pub asks : IsStep before frame after out (Ask pending)
+
+-- it heard frames, and dropped the request of the last
+pub record ServesAllButLast (frames : List (List ℕ)) (before : Port) (calls : List Call) (after : Port) : Type 0 where
+  pub served : List (List ℕ)
+  pub last : List ℕ
+  pub mid : Port
+  pub all : frames ≡ served ++ last ∷ []
+  pub serves : Serves served before calls mid
+  pub drops : Drops mid last after
+
+-- a worker that found no room dropped the request for which it looked
+abbrev pub ServesTo : End → List (List ℕ) → Port → List Call → Port → Type 0
+ServesTo Turns = Serves
+ServesTo Full = ServesAllButLast
+
+-- ---- the worker
+
+-- how a worker ends, or would, by what its last call of the board came to
+abbrev pub end_of : Result (Unit {0}) PeriodFull → End
+end_of (Ok done) = Turns
+end_of (Err full) = Full
+
+-- a worker that found room to its end made all its turns
+abbrev pub MadeAll : End → ℕ → Counts → Counts → Type 0
+MadeAll Turns turns before after = after.calls ≡ counted_on before.calls turns
+MadeAll Full turns before after = Unit {0}
+
+-- A worker made turns and ended so. Its port heard as many frames as its link counted, and was told the replies that its seat's list
+-- gained, in their order.
+pub record Worked (end : End) (turns : ℕ) (before after : Port) (held kept : List Call) (counted counts : Counts) : Type 0 where
+  pub frames : List (List ℕ)
+  pub gained : List Call
+  pub calls : MadeAll end turns counted counts
+  pub heard : counts.heard ≡ counted_on counted.heard (length frames)
+  pub list : kept ≡ held ++ gained
+  pub serves : ServesTo end frames before gained after

@@ -1,0 +1,153 @@
+//! A worker of one port: it hears frames over a link, has the board answer what they ask, and sends the replies.
+ghost use Rattle.std.specs.Prelude.{◌≡◌, true, OnOk, OnErr};
+ghost use Rattle.bmc_core.specs.Port.{bus_of, bus_asked};
+ghost use Rattle.bmc_ports.specs.Serving.{CallsNext, frames_in, Carries, Worked, end_of};
+ghost use Rattle.bmc_ports.specs.declared.worker.End.TheVariants.{Turns, Full};
+
+use crate::gate::Gate;
+use bmc_core::{Out, Pending, Port, Step};
+use bmc_history::{Opening, PeriodFull, Seat, Shared};
+use bmc_links::{Heard, Link};
+use cfg_records::Store;
+use std::sync::Wait;
+use two_wire::Frame;
+
+/// Why a worker ended.
+#[derive(Clone, Copy, Debug, PartialEq, Eq)]
+pub enum End {
+    /// It made all of its turns, or, as the scanner, came to the end of its list.
+    Turns,
+    /// The board's history had no room for its call.
+    Full,
+}
+
+/// The next frame of a link. A call that fails hears none: what it would have heard is lost.
+fn hear_next<L: Link>(link: &mut L) -> Option<Frame>
+    ensures { CallsNext (frames_in result) (L.counts_of link.old) (L.counts_of link.new) }
+{
+    match link.next() {
+        Ok(Heard::Frame(frame)) => Some(frame),
+        Ok(Heard::Quiet) | Err(_) => None,
+    }
+}
+
+/// Sends frames in their order. A frame whose sending fails is lost, and the next one is sent.
+fn send_all<L: Link>(link: &mut L, frames: &[Frame])
+    ensures calls { (L.counts_of link.new).calls ≡ (L.counts_of link.old).calls }
+    ensures heard { (L.counts_of link.new).heard ≡ (L.counts_of link.old).heard }
+{
+    for frame in frames {
+        let _ = link.send(frame);
+    }
+}
+
+/// What a worker keeps from turn to turn: the gate, how often it passed it, and the place for what its port sends.
+#[derive(Drop)]
+struct Desk<'a, G: Gate> {
+    gate: &'a G,
+    passed: u64,
+    out: Out,
+}
+
+impl<'a, G: Gate> Desk<'a, G> {
+    /// A worker's, that passed no gate yet.
+    fn new(gate: &'a G) -> Self {
+        Desk {
+            gate,
+            passed: 0,
+            out: Out::new(),
+        }
+    }
+
+    /// Passes the gate once more.
+    fn pass(&mut self, port: u8) {
+        self.gate.pass(port, self.passed);
+        self.passed = self.passed.wrapping_add(1);
+    }
+}
+
+/// Has the board answer a request, tells the port, and sends the reply. Where the history has no room, the request is dropped.
+fn carry_out<J: Opening, S: Store + Drop, L: Link, G: Gate, R: Wait>(
+    rt: &R,
+    shared: &Shared<J, S>,
+    seat: &mut Seat<J>,
+    port: &mut Port,
+    link: &mut L,
+    desk: &mut Desk<'_, G>,
+    pending: Pending,
+) -> Result<(), PeriodFull>
+    requires bus { bus_asked pending ≡ bus_of port.old }
+    ensures carried { OnOk result
+        (Carries pending port.old seat.old.calls.items seat.new.calls.items port.new) }
+    ensures list { OnErr result (seat.new.calls.items ≡ seat.old.calls.items) }
+    ensures port { OnErr result (port.new ≡ port.old) }
+    ensures marked { OnErr result (seat.new.refused ≡ true) }
+    ensures mark { OnOk result (seat.new.refused ≡ seat.old.refused) }
+    ensures number { seat.new.number ≡ seat.old.number }
+    ensures bus { bus_of port.new ≡ bus_of port.old }
+    ensures calls { (L.counts_of link.new).calls ≡ (L.counts_of link.old).calls }
+    ensures heard { (L.counts_of link.new).heard ≡ (L.counts_of link.old).heard }
+{
+    desk.pass(seat.number());
+    let answered = shared.exchange(rt, seat, &pending.asked())?;
+    port.told(pending, &answered, &mut desk.out);
+    send_all(link, desk.out.frames.as_slice());
+    desk.pass(seat.number());
+    Ok(())
+}
+
+/// One turn: one call of the link's `next`, and all that a frame heard asks for.
+fn turn<J: Opening, S: Store + Drop, L: Link, G: Gate, R: Wait>(
+    rt: &R,
+    shared: &Shared<J, S>,
+    seat: &mut Seat<J>,
+    port: &mut Port,
+    link: &mut L,
+    desk: &mut Desk<'_, G>,
+) -> Result<(), PeriodFull>
+    ensures worked { Worked (end_of result) 1 port.old port.new seat.old.calls.items
+        seat.new.calls.items (L.counts_of link.old) (L.counts_of link.new) }
+    ensures marked { OnErr result (seat.new.refused ≡ true) }
+    ensures mark { OnOk result (seat.new.refused ≡ seat.old.refused) }
+    ensures number { seat.new.number ≡ seat.old.number }
+    ensures bus { bus_of port.new ≡ bus_of port.old }
+{
+    let Some(frame) = hear_next(link) else {
+        return Ok(());
+    };
+    match port.hear(frame.as_slice(), &mut desk.out) {
+        Step::Ask(pending) => carry_out(rt, shared, seat, port, link, desk, pending),
+        Step::Done => {
+            send_all(link, desk.out.frames.as_slice());
+            Ok(())
+        }
+    }
+}
+
+/// Serves a port over a link for so many turns, or until the board's history is full. A repeat, a control message and what the port
+/// ignores take no lock and pass no gate.
+pub fn serve_port<J: Opening, S: Store + Drop, L: Link, G: Gate, R: Wait>(
+    rt: &R,
+    shared: &Shared<J, S>,
+    seat: &mut Seat<J>,
+    port: &mut Port,
+    link: &mut L,
+    gate: &G,
+    turns: u32,
+) -> End
+    ensures worked { Worked result turns port.old port.new seat.old.calls.items
+        seat.new.calls.items (L.counts_of link.old) (L.counts_of link.new) }
+    ensures marked { result ≡ Full → seat.new.refused ≡ true }
+    ensures mark { result ≡ Turns → seat.new.refused ≡ seat.old.refused }
+    ensures number { seat.new.number ≡ seat.old.number }
+    ensures bus { bus_of port.new ≡ bus_of port.old }
+{
+    let mut desk = Desk::new(gate);
+    for _ in 0..turns {
+        match turn(rt, shared, seat, port, link, &mut desk) {
+            Ok(()) => {}
+            Err(PeriodFull) => return End::Full,
+        }
+    }
+    End::Turns
+}
