@@ -11,6 +11,7 @@ use Rattle.model_lab.specs.Meaning.{lab_names}
 use Rattle.model_lab.specs.Played.{plans, Told, Whole, Stops, told_of, after, IsPlayed}
 use Rattle.lab_run.specs.FramesShown.{fault_of}
 use Rattle.model_headline.proofs.Plays.{plays_stand}
+use Rattle.model_claim.proofs.Promised.{keeps_promise}
 use Rattle.model_headline.proofs.CleanPlays.{ends_clean}
 use Rattle.lab_run.specs.declared.lab_state.Lab.{Lab}
 use Rattle.lab_play.specs.declared.played.Played.{Played}
@@ -60,6 +61,7 @@ module _ (file : BoardFile) (steps : List Op) (retries : ℕ) where
         premise = told;
         stands = (plays_stand (own_bench file) file steps retries events (Whole (told_after events)) is).0;
         unbroken = λ none. (plays_stand (own_bench file) file steps retries events (Whole (told_after events)) is).0 (subst (TellsPremise (own_bench file) file events first) none told);
+        promise = λ none. keeps_promise (own_bench file) file steps retries events (Whole (told_after events)) is (subst (TellsPremise (own_bench file) file events first) none told);
         clean = ends_clean (own_bench file) file steps retries few events (Whole (told_after events)) is;
       }
 
@@ -79,6 +81,8 @@ module _ (file : BoardFile) (steps : List Op) (retries : ℕ) where
         premise = premise;
         stands = (plays_stand (own_bench file) file steps retries events (Stops (fault_of why) place told) is).0;
         unbroken = λ none. (plays_stand (own_bench file) file steps retries events (Stops (fault_of why) place told) is).0
+            (subst (TellsPremise (own_bench file) file (take (place - 1) events) first) none premise);
+        promise = λ none. keeps_promise (own_bench file) file steps retries events (Stops (fault_of why) place told) is
             (subst (TellsPremise (own_bench file) file (take (place - 1) events) first) none premise);
         clean = ends_clean (own_bench file) file steps retries few events (Stops (fault_of why) place told) is;
       }

@@ -13,6 +13,7 @@ use Rattle.model_lab.specs.Played.{plans, Told, Ending, Whole, Stops, told_of, I
 use Rattle.lab_run.specs.FramesShown.{fault_of}
 use Rattle.model_headline.specs.Plays.{taken_by, told_by, TellsPremise, ToldStands, StandsIfKept}
 use Rattle.model_headline.specs.CleanPlays.{EndsClean}
+use Rattle.model_claim.specs.Promise.{Promise}
 use Rattle.lab_run.specs.Shown.{Shows, own_bench}
 use Rattle.lab_play.specs.declared.run.Halt.{Halt}
 use Rattle.lab_run.specs.declared.step.Refused.{Refused}
@@ -53,7 +54,7 @@ broken_in (Err (fault.Event why place played)) = played.watch.broken
 broken_in (Err fault.Memory) = None
 
 -- A play of the plan by the schedule ended so, and it tells which event that it took broke the premise on packets first, if one did. Where
--- none did, what it tells stands.
+-- none did, what it tells stands, and keeps the promise.
 pub record Ends (file : BoardFile) (steps : List Op) (retries : ℕ) (events : List Event) (given : Result Played LabFault) : Type 0 where
   pub ending : Ending
   pub is : IsEnding given ending
@@ -61,6 +62,7 @@ pub record Ends (file : BoardFile) (steps : List Op) (retries : ℕ) (events : L
   pub premise : TellsPremise (own_bench file) file (taken_by events ending) (opening plans file lab_names steps retries) (broken_in given)
   pub stands : StandsIfKept (own_bench file) file steps retries events ending
   pub unbroken : broken_in given ≡ None → ToldStands (own_bench file) file steps retries (taken_by events ending) (told_by ending)
+  pub promise : broken_in given ≡ None → Promise file steps (taken_by events ending) (told_by ending)
   pub clean : EndsClean (own_bench file) file steps retries events ending
 
 -- what a record has is this value
