@@ -10,6 +10,7 @@ use Rattle.model_lab.specs.declared.fault.Fault.{Fault}
 use Rattle.model_lab.specs.Meaning.{lab_names}
 use Rattle.model_lab.specs.Played.{plans, Told, Whole, Stops, told_of, after, IsPlayed}
 use Rattle.model_headline.proofs.Plays.{plays_stand}
+use Rattle.model_claim.proofs.Promised.{keeps_promise}
 use Rattle.model_headline.proofs.CleanPlays.{ends_clean}
 use Rattle.lab_run.specs.declared.lab_state.Lab.{Lab}
 use Rattle.lab_play.specs.declared.played.Played.{Played}
@@ -57,6 +58,7 @@ module _ (file : BoardFile) (steps : List Op) (retries : ℕ) where
         premise = told;
         stands = (plays_stand file steps retries events (Whole (told_after events)) is).0;
         unbroken = λ none. (plays_stand file steps retries events (Whole (told_after events)) is).0 (subst (TellsPremise file events first) none told);
+        promise = λ none. keeps_promise file steps retries events (Whole (told_after events)) is (subst (TellsPremise file events first) none told);
         clean = ends_clean file steps retries few events (Whole (told_after events)) is;
       }
 
@@ -76,6 +78,7 @@ module _ (file : BoardFile) (steps : List Op) (retries : ℕ) where
         premise = premise;
         stands = (plays_stand file steps retries events (Stops why place told) is).0;
         unbroken = λ none. (plays_stand file steps retries events (Stops why place told) is).0
+        promise = λ none. keeps_promise file steps retries events (Stops (fault_of why) place told) is
             (subst (TellsPremise file (take (place - 1) events) first) none premise);
         clean = ends_clean file steps retries few events (Stops why place told) is;
       }

@@ -12,6 +12,7 @@ use Rattle.model_lab.specs.Meaning.{lab_names}
 use Rattle.model_lab.specs.Played.{plans, Told, Ending, Whole, Stops, told_of, IsPlayed}
 use Rattle.model_headline.specs.Plays.{taken_by, told_by, TellsPremise, ToldStands, StandsIfKept}
 use Rattle.model_headline.specs.CleanPlays.{EndsClean}
+use Rattle.model_claim.specs.Promise.{Promise}
 use Rattle.lab_run.specs.Shown.{Shows}
 use Rattle.lab_play.specs.declared.run.Stopped.{Stopped}
 use Rattle.lab_play.specs.declared.played.Played.{Played}
@@ -50,7 +51,7 @@ broken_in (Err (fault.Event why place played)) = played.watch.broken
 broken_in (Err fault.Memory) = None
 
 -- A play of the plan by the schedule ended so, and it tells which event that it took broke the premise on packets first, if one did. Where
--- none did, what it tells stands.
+-- none did, what it tells stands, and keeps the promise.
 pub record Ends (file : BoardFile) (steps : List Op) (retries : ℕ) (events : List Event) (given : Result Played LabFault) : Type 0 where
   pub ending : Ending
   pub is : IsEnding given ending
@@ -58,6 +59,7 @@ pub record Ends (file : BoardFile) (steps : List Op) (retries : ℕ) (events : L
   pub premise : TellsPremise file (taken_by events ending) (opening plans file lab_names steps retries) (broken_in given)
   pub stands : StandsIfKept file steps retries events ending
   pub unbroken : broken_in given ≡ None → ToldStands file steps retries (taken_by events ending) (told_by ending)
+  pub promise : broken_in given ≡ None → Promise file steps (taken_by events ending) (told_by ending)
   pub clean : EndsClean file steps retries events ending
 
 -- what a record has is this value

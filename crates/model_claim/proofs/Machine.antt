@@ -1,0 +1,176 @@
+-- The manager's table is the machine of the undo model.
+use Rattle.std.proofs.Common.{◌≡◌, ℕ, suc, ◌+◌, Bool, true, false, cond, List, [], ◌∷◌, length, map, Option, Some, None, refl, ◌∙◌, ap}
+use Rattle.std.specs.Prelude.{◌==◌, nat_lt, slice_get}
+use Rattle.std.proofs.lemmas.List.{length-map}
+use Rattle.two_wire.specs.Codes.{success}
+use Rattle.two_wire.specs.declared.Bus.{Bus}
+use Rattle.two_wire.specs.declared.Bus.TheVariants.{Ipmb, Smbus}
+use Rattle.record_base.specs.declared.op.Op.{Op}
+use Rattle.record_base.specs.declared.message.Answered.{Answered}
+use Rattle.record_kinds.specs.Limits.{inverse}
+use Rattle.undo_plans.specs.declared.names.Names.{Names}
+use Rattle.model_undo.specs.Words.{Words}
+use Rattle.model_undo.specs.Machine as machine
+use Rattle.model_lab.specs.ManagerSteps as manager
+use Rattle.model_claim.specs.Manager.{Call, Start, Quiet, Stop, Again, Undo, Task, Gets, Sets, Undoes, Phase, Fresh, Open, Done, Halted, Undone, UndoRefused, Manager, Turn, enters, rests, next_step, set_step, undo_step, called, carried_out, refused, one_more, bus_of, asked_for}
+use Rattle.model_claim.specs.Seen.{seen_as, words_of, P, W, series, seen_call, seen_task, part_of, stage_of, counts_of, machine_of}
+use Rattle.model_undo.specs.declared.phase.Why.TheVariants as undo_why
+
+module _ (names : Names) where
+  abbrev M : Words
+  M = W names
+
+  -- what a turn sends
+  abbrev pub sends_of : Turn → Option (machine.Sending M)
+  sends_of t = let none : Option (machine.Sending M) = None in cond t.sends (machine.sends_at M (stage_of names t.manager.phase) (counts_of names t.manager.answered)) none
+
+  abbrev pub seen_turn : Turn → machine.Turn M
+  seen_turn t = record { machine = machine_of names t.manager; sends = sends_of t }
+
+  -- the manager in a phase
+  abbrev pub at_phase : Phase → Manager → Manager
+  at_phase phase m = record m { phase = phase }
+
+  -- ---- calls
+
+  abbrev pub turn_at : Call → machine.Stage M → machine.Machine M → Option (machine.Turn M)
+  turn_at Start stage m = machine.starts M stage m
+  turn_at Quiet stage m = machine.quiets M stage m
+  turn_at Stop stage m = machine.stops M stage m
+  turn_at Again stage m = machine.agains M stage m
+  turn_at Undo stage m = machine.undoes M stage m
+
+  pub turns_at : (call : Call) (m : machine.Machine M) → manager.turn_of (P names) (seen_call call) m ≡ turn_at call m.stage m
+  turns_at Start m = refl
+  turns_at Quiet m = refl
+  turns_at Stop m = refl
+  turns_at Again m = refl
+  turns_at Undo m = refl
+
+  -- what waits is what the call leaves
+  pub record Waits (call : Call) (made : List ℕ) (before after : Manager) : Type 0 where
+    pub made_then : List ℕ
+    pub is : manager.waits_after (P names) (seen_call call) (seen_as before.waits made) ≡ seen_as after.waits made_then
+
+  -- the machine's turn is the manager's, or there is none, and nothing changes
+  abbrev pub IsTurn : Call → (made : List ℕ) → Option (machine.Turn M) → Manager → Turn → Type 0
+  IsTurn call made None m t = t ≡ rests m
+  IsTurn call made (Some T) m t = (T ≡ seen_turn t) × Waits call made m t.manager
+
+  begins : (o : Option Op) (m : Manager) → machine.enters M (machine.first_stage M o) (machine_of names m) ≡ seen_turn (enters (next_step false 0 o) m)
+  begins None m = refl
+  begins (Some op) m = refl
+
+  goes_back : (ops : List Op) (m : Manager) → machine.enters M (machine.undo_stage M (map (series names) ops)) (machine_of names m) ≡ seen_turn (enters (undo_step ops) m)
+  goes_back [] m = refl
+  goes_back (back ∷ rest) m = refl
+
+  picks : (call : Call) (made : List ℕ) (b : Bool) (A B : machine.Turn M) (m : Manager) (s t : Turn) → IsTurn call made (Some A) m s → IsTurn call made (Some B) m t → IsTurn call made (cond b (Some A) (Some B)) m (cond b s t)
+  picks call made true A B m s t x y = x
+  picks call made false A B m s t x y = y
+
+  module _ (made : List ℕ) (m : Manager) where
+    pub call_turn : (call : Call) (phase : Phase) → IsTurn call made (turn_at call (stage_of names phase) (machine_of names (at_phase phase m))) (at_phase phase m) (called call phase (at_phase phase m))
+    call_turn Start Fresh = (begins (slice_get m.plan 0) (at_phase Fresh m), record { made_then = made; is = waits_same (next_step false 0 (slice_get m.plan 0)) })
+      where
+        waits_same : (phase : Phase) → seen_as m.waits made ≡ seen_as (enters phase (at_phase Fresh m)).manager.waits made
+        waits_same phase = refl
+    call_turn Start (Open true task) = refl
+    call_turn Start (Open false task) = refl
+    call_turn Start Done = refl
+    call_turn Start (Halted k why) = refl
+    call_turn Start Undone = refl
+    call_turn Start (UndoRefused k code) = refl
+    call_turn Quiet Fresh = refl
+    call_turn Quiet (Open true task) = at (nat_lt m.resent m.retries)
+      where
+        again : Turn
+        again = record { manager = record (at_phase (Open true task) m) { resent = m.resent + 1 }; sends = true }
+
+        stays : Turn
+        stays = rests (record (at_phase (Open true task) m) { phase = Open false task })
+
+        at : (b : Bool) → IsTurn Quiet made (cond b (Some (seen_turn again)) (Some (seen_turn stays))) (at_phase (Open true task) m) (cond b again stays)
+        at true = (refl, record { made_then = made; is = refl })
+        at false = (refl, record { made_then = made; is = refl })
+    call_turn Quiet (Open false task) = refl
+    call_turn Quiet Done = refl
+    call_turn Quiet (Halted k why) = refl
+    call_turn Quiet Undone = refl
+    call_turn Quiet (UndoRefused k code) = refl
+    call_turn Stop Fresh = refl
+    call_turn Stop (Open true (Gets k op)) = (refl, record { made_then = made; is = refl })
+    call_turn Stop (Open true (Sets k op back)) = (refl, record { made_then = made; is = refl })
+    call_turn Stop (Open true (Undoes back rest)) = refl
+    call_turn Stop (Open false task) = refl
+    call_turn Stop Done = refl
+    call_turn Stop (Halted k why) = refl
+    call_turn Stop Undone = refl
+    call_turn Stop (UndoRefused k code) = refl
+    call_turn Again Fresh = refl
+    call_turn Again (Open true task) = refl
+    call_turn Again (Open false task) = (refl, record { made_then = made; is = refl })
+    call_turn Again Done = refl
+    call_turn Again (Halted k why) = refl
+    call_turn Again Undone = refl
+    call_turn Again (UndoRefused k code) = refl
+    call_turn Undo Fresh = refl
+    call_turn Undo (Open true task) = refl
+    call_turn Undo (Open false task) = refl
+    call_turn Undo Done = (goes_back m.undo (record (at_phase Done m) { waits = [] }), record { made_then = []; is = refl })
+    call_turn Undo (Halted k why) = (goes_back m.undo (record (at_phase (Halted k why) m) { waits = [] }), record { made_then = []; is = refl })
+    call_turn Undo Undone = refl
+    call_turn Undo (UndoRefused k code) = refl
+
+  -- ---- replies
+
+  counts_alike : (on : Bus) (answered : Bus → ℕ) → machine.one_answered on (counts_of names answered) ≡ counts_of names (one_more on answered)
+  counts_alike Ipmb answered = refl
+  counts_alike Smbus answered = refl
+
+  sets_then : (stopped : Bool) (k : ℕ) (op : Op) (o : Option Op) (m : Manager) → machine.enters M (machine.set_stage M stopped k op o) (machine_of names m) ≡ seen_turn (enters (set_step stopped k op o) m)
+  sets_then stopped k op None m = refl
+  sets_then true k op (Some back) m = refl
+  sets_then false k op (Some back) m = refl
+
+  gets_then : (stopped : Bool) (k : ℕ) (o : Option Op) (m : Manager) → machine.enters M (machine.next_stage M stopped k o) (machine_of names m) ≡ seen_turn (enters (next_step stopped k o) m)
+  gets_then stopped k None m = refl
+  gets_then true k (Some op) m = refl
+  gets_then false k (Some op) m = refl
+
+  -- the manager once the request was answered
+  abbrev pub answered : Task → Manager → Manager
+  answered task m = record m { answered = one_more (bus_of (asked_for names task)) m.answered }
+
+  module _ (a : Answered) (m : Manager) where
+    -- the machine takes the reply to the request of a task, with these counts
+    abbrev takes_with : Task → machine.Counts → machine.Turn M
+    takes_with task counts =
+        machine.enters M (machine.stage_after M m.stopped m.plan (words_of a) (seen_task names task) (part_of names (asked_for names task)))
+        (record (machine_of names m) { undo = machine.undo_after M (words_of a) (seen_task names task) (part_of names (asked_for names task)) (map (series names) m.undo); counts = counts })
+
+    counted : (task : Task) → takes_with task (machine.one_answered (bus_of (asked_for names task)) (counts_of names m.answered)) ≡ takes_with task (counts_of names (answered task m).answered)
+    counted task = ap (takes_with task) (counts_alike (bus_of (asked_for names task)) m.answered)
+
+    pub takes_turn : (task : Task) → machine.takes M (words_of a) (seen_task names task) (part_of names (asked_for names task)) (machine_of names m)
+        ≡ seen_turn (cond (a.code == success) (carried_out task a.body (answered task m)) (refused task a.code (answered task m)))
+    takes_turn (Gets k op) = counted (Gets k op) ∙ at (a.code == success)
+      where
+        at : (b : Bool) → machine.enters M (cond b (machine.set_stage M m.stopped k op (inverse op a.body)) (machine.AtHalt k (undo_why.GetRefused a.code))) (machine_of names (answered (Gets k op) m))
+            ≡ seen_turn (cond b (carried_out (Gets k op) a.body (answered (Gets k op) m)) (refused (Gets k op) a.code (answered (Gets k op) m)))
+        at true = sets_then m.stopped k op (inverse op a.body) (answered (Gets k op) m)
+        at false = refl
+    takes_turn (Sets k op back) = counted (Sets k op back) ∙ at (a.code == success)
+      where
+        at : (b : Bool)
+            → machine.enters M (cond b (machine.next_stage M m.stopped (suc k) (slice_get m.plan (suc k))) (machine.AtHalt k (undo_why.Refused a.code)))
+            (record (machine_of names (answered (Sets k op back) m)) { undo = cond b (series names back ∷ map (series names) m.undo) (map (series names) m.undo) })
+            ≡ seen_turn (cond b (carried_out (Sets k op back) a.body (answered (Sets k op back) m)) (refused (Sets k op back) a.code (answered (Sets k op back) m)))
+        at true = gets_then m.stopped (suc k) (slice_get m.plan (suc k)) (record (answered (Sets k op back) m) { undo = back ∷ m.undo })
+        at false = refl
+    takes_turn (Undoes back rest) = counted (Undoes back rest) ∙ at (a.code == success)
+      where
+        at : (b : Bool) → machine.enters M (cond b (machine.undo_stage M (map (series names) rest)) (machine.AtRefused (length (map (series names) rest)) a.code)) (machine_of names (answered (Undoes back rest) m))
+            ≡ seen_turn (cond b (carried_out (Undoes back rest) a.body (answered (Undoes back rest) m)) (refused (Undoes back rest) a.code (answered (Undoes back rest) m)))
+        at true = goes_back rest (answered (Undoes back rest) m)
+        at false = ap (λ (n : ℕ). machine.enters M (machine.AtRefused n a.code) (machine_of names (answered (Undoes back rest) m))) (length-map rest (series names))

@@ -1,0 +1,64 @@
+-- What the model says of records is what the statement says.
+use Rattle.std.proofs.Common.{◌≡◌, ℕ, zero, suc, true, false, List, length, Option, Some, None, refl, subst, ◌⊎◌, inl, inr}
+use Rattle.std.proofs.lemmas.List.{length-map}
+use Rattle.record_base.specs.declared.op.Op.{Op}
+use Rattle.cfg_records.specs.declared.board_file.BoardFile.{BoardFile}
+use Rattle.cfg_records.specs.Records.{Records}
+use Rattle.record_kinds.specs.declared.limits.Limits.{Limits}
+use Rattle.record_kinds.specs.Limits.{key_of, limits_at}
+use Rattle.bmc_board.specs.State.{State}
+use Rattle.undo_plans.specs.declared.names.Names.{Names}
+use Rattle.model_undo.specs.Family.{Family}
+use Rattle.model_undo.specs.Family as undo_family
+use Rattle.model_undo.specs.Plan as plans
+use Rattle.model_undo.specs.Machine as machine
+use Rattle.model_undo.specs.Headline as undo_headline
+use Rattle.model_family.specs.Family.{SetsWithin, conf_within}
+use Rattle.model_headline.specs.Tied.{F}
+use Rattle.model_claim.specs.Manager.{Gets, Sets, Undoes, Phase, Fresh, Open, Done, Halted, Undone, UndoRefused}
+use Rattle.model_claim.specs.Claim.{SetsTo, IsAfter, Stands, ShowsSame}
+use Rattle.model_claim.specs.Seen.{words_of, W, series, stage_of}
+
+module _ (setup : BoardFile) (names : Names) where
+  abbrev family : Family
+  family = F setup names
+
+  sets_so : (op : Op) (old new : Records) → undo_family.SetsTo family op old new → SetsTo setup op old new
+  sets_so op old new s = at (limits_at setup (key_of op)) refl s.sets
+    where
+      at : (o : Option Limits) → limits_at setup (key_of op) ≡ o → SetsWithin o op s.before s.after → SetsTo setup op old new
+      at (Some limits) e sets = record { limits = limits; before = s.before; after = s.after; within = e; found = s.found; accepted = sets; changed = s.changed }
+      at None e none = absurd none
+
+  module _ (plan : List Op) (start : Records) where
+    pub after_so : (k : ℕ) (r : Records) → plans.IsAfter family plan start k r → IsAfter setup plan start k r
+    after_so zero r is = is
+    after_so (suc k) r is = (is.0, is.1, after_so k is.0 is.2, is.3, sets_so is.1 is.0 r is.4)
+
+    both : (k m : ℕ) (r : Records) → plans.IsAfter family plan start k r ⊎ plans.IsAfter family plan start m r → IsAfter setup plan start k r ⊎ IsAfter setup plan start m r
+    both k m r (inl is) = inl (after_so k r is)
+    both k m r (inr is) = inr (after_so m r is)
+
+    swapped : (k m : ℕ) (r : Records) → plans.IsAfter family plan start k r ⊎ plans.IsAfter family plan start m r → IsAfter setup plan start m r ⊎ IsAfter setup plan start k r
+    swapped k m r (inl is) = inr (after_so k r is)
+    swapped k m r (inr is) = inl (after_so m r is)
+
+    pub stands_so : (phase : Phase) (r : Records) → plans.Stands family plan start (machine.phase_at (W names) (stage_of names phase)) r → Stands setup plan start phase r
+    stands_so Fresh r is = is
+    stands_so (Open true (Gets k op)) r is = after_so k r is
+    stands_so (Open false (Gets k op)) r is = both k (suc k) r is
+    stands_so (Open true (Sets k op back)) r is = both k (suc k) r is
+    stands_so (Open false (Sets k op back)) r is = both k (suc k) r is
+    stands_so (Open true (Undoes back rest)) r is =
+        swapped (suc (length rest)) (length rest) r (subst (λ n. plans.IsAfter family plan start (suc n) r ⊎ plans.IsAfter family plan start n r) (length-map rest (series names)) is)
+    stands_so (Open false (Undoes back rest)) r is =
+        both (length rest) (suc (length rest)) r (subst (λ n. plans.IsAfter family plan start n r ⊎ plans.IsAfter family plan start (suc n) r) (length-map rest (series names)) is)
+    stands_so Done r is = after_so (length plan) r is
+    stands_so (Halted k why) r is = after_so k r is
+    stands_so Undone r is = is
+    stands_so (UndoRefused k code) r is = is
+
+  pub shows_so : (b c : State) → undo_headline.ShowsSame family b c → ShowsSame setup b c
+  shows_so b c same key one other gets again_gets shown again left left_again row again_row =
+      let told = same key one other gets again_gets (words_of shown) (words_of again) left left_again row again_row in
+      (told.0, λ ok limits e. subst (λ (o : Option Limits). conf_within o again.body ≡ conf_within o shown.body) e (told.1 ok))

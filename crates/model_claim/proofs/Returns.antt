@@ -1,0 +1,227 @@
+-- What each frame makes of the manager is the model's.
+use Rattle.std.proofs.Common.{◌≡◌, ℕ, ◌<◌, Bool, true, false, not, ◌&&◌, cond, List, Option, Some, None, refl, sym, ◌∙◌, ap, arith, inl, inr}
+use Rattle.std.specs.Prelude.{◌==◌}
+use Rattle.two_wire.specs.Codes.{success}
+use Rattle.two_wire.specs.declared.Bus.{Bus}
+use Rattle.two_wire.specs.declared.Bus.TheVariants.{Ipmb, Smbus}
+use Rattle.ipmb_frame.specs.declared.message.Response.{Response}
+use Rattle.mctp_net.specs.declared.packet.Packet.{Packet}
+use Rattle.mctp_net.specs.declared.taken.DropCause.{DropCause}
+use Rattle.mctp_net.specs.Assembly.{Assemblies, drop_cause}
+use Rattle.record_base.specs.declared.message.Asked.{Asked}
+use Rattle.record_base.specs.declared.message.Asked.TheVariants.{Ipmi, Pldm}
+use Rattle.record_base.specs.declared.message.Answered.{Answered}
+use Rattle.record_kinds.specs.Limits.{key_of}
+use Rattle.undo_plans.specs.declared.names.Names.{Names}
+use Rattle.model_undo.specs.Words as undo
+use Rattle.model_undo.specs.Machine as machine
+use Rattle.model_ports.specs.Bytes.{response_bytes}
+use Rattle.model_lab.specs.WireLaws.{IsManagers, managers}
+use Rattle.model_lab.specs.ManagerSteps.{addresses}
+use Rattle.model_lab.specs.ManagerSteps as manager
+use Rattle.model_lab.specs.Lab as lab
+use Rattle.model_claim.specs.Frames.{Value, Asks, Tells, Part, is_taken, waits_after, whole}
+use Rattle.model_claim.specs.Manager.{Task, Gets, Sets, Undoes, Phase, Fresh, Open, Done, Halted, Undone, UndoRefused, Manager, Turn, rests, asked_for, told, told_in, is_part, read_in, hears, carried_out, refused}
+use Rattle.model_claim.specs.Lab.{Lab, goes_on}
+use Rattle.model_claim.proofs.Packets.{Agrees, IsKept, is_kept}
+use Rattle.model_claim.proofs.Answers.{is_busy, of_answer, responses_alike, messages_alike}
+use Rattle.model_claim.proofs.Machine.{seen_turn, at_phase, answered, takes_turn}
+use Rattle.model_claim.proofs.Sends.{seen_deed, turn_lands, IsSeen}
+use Rattle.model_claim.specs.Seen.{seen_as, words_of, P, W, seen_value, seen_task, part_of, stage_of, machine_of, seen_manager, seen_lab, Made}
+use Rattle.model_claim.proofs.Holds.{IsOrderly, IsLow}
+
+cond_same : {X : Type 0} (b : Bool) (x : X) → x ≡ cond b x x
+cond_same true x = refl
+cond_same false x = refl
+
+module _ (names : Names) (x : Lab) (made : Made) where
+  -- a deed of the model's manager lands in the lab after a turn
+  abbrev pub Lands : manager.ManagerDeed (P names) → Turn → Type 0
+  Lands d t = IsSeen names (lab.manager_does (P names) d (seen_lab names made x)) (goes_on names t x)
+
+  -- it does where it is the turn's
+  pub lands : (d : manager.ManagerDeed (P names)) (t : Turn) (made_then : List ℕ) → d ≡ seen_deed names made_then t → Lands d t
+  lands d t made_then e =
+      let then : Made = record made { manager = made_then } in
+      record { made = then; is = ap (λ (d : manager.ManagerDeed (P names)). lab.manager_does (P names) d (seen_lab names made x)) e ∙ turn_lands names t then x }
+
+  module _ (task : Task) (m : Manager) (made_then : List ℕ) where
+    -- the manager, while the task's request is open
+    abbrev opened : Manager
+    opened = at_phase names (Open true task) m
+
+    abbrev there : manager.ManagerState (P names)
+    there = seen_manager names made_then opened
+
+    -- the machine takes an answer, or not
+    abbrev taken : undo.Answered → manager.ManagerDeed (P names)
+    taken a = manager.taken_or (P names) there (machine.reply_of (W names) a there.machine)
+
+    goes_there : (t : Turn) → opened.waits ≡ t.manager.waits → manager.goes_on (P names) there (seen_turn names t) ≡ seen_deed names made_then t
+    goes_there t e = λ i. record { manager = record { machine = machine_of names t.manager; names = names; joined = seen_as (e i) made_then }; sent = (seen_deed names made_then t).sent }
+
+    carried_waits : (task : Task) (body : List ℕ) (m : Manager) → m.waits ≡ (carried_out task body m).manager.waits
+    carried_waits (Gets k op) body m = refl
+    carried_waits (Sets k op back) body m = refl
+    carried_waits (Undoes back rest) body m = refl
+
+    refused_waits : (task : Task) (code : ℕ) (m : Manager) → m.waits ≡ (refused task code m).manager.waits
+    refused_waits (Gets k op) code m = refl
+    refused_waits (Sets k op back) code m = refl
+    refused_waits (Undoes back rest) code m = refl
+
+    waits_so : (a : Answered) (b : Bool) → opened.waits ≡ (cond b (carried_out task a.body (answered names task opened)) (refused task a.code (answered names task opened))).manager.waits
+    waits_so a true = carried_waits task a.body (answered names task opened)
+    waits_so a false = refused_waits task a.code (answered names task opened)
+
+    answer_so : (a : Answered) (busy : Bool) → is_busy a.code ≡ busy
+        → cond busy (manager.rests (P names) there) (taken (words_of a))
+        ≡ seen_deed names made_then (cond busy (rests opened) (cond (a.code == success) (carried_out task a.body (answered names task opened)) (refused task a.code (answered names task opened))))
+    answer_so a true e = refl
+    answer_so a false e =
+        ap (λ (b : Bool). manager.taken_or (P names) there (let none : Option (machine.Turn (W names)) = None in cond b none (Some (machine.takes (W names) (words_of a) (seen_task names task) (part_of names (asked_for names task)) there.machine)))) e
+        ∙ ap (λ (t : machine.Turn (W names)). manager.goes_on (P names) there t) (takes_turn names a opened task)
+        ∙ goes_there (cond (a.code == success) (carried_out task a.body (answered names task opened)) (refused task a.code (answered names task opened))) (waits_so a (a.code == success))
+
+    -- what comes of an answer
+    pub answer_told : (o : Option Answered) → of_answer taken (manager.rests (P names) there) o ≡ seen_deed names made_then (told names task o opened)
+    answer_told None = refl
+    answer_told (Some a) = answer_so a (is_busy a.code) refl
+
+    -- the request, where it is heeded on the bus
+    abbrev heeds : Bus → Asked → Option (machine.Part (W names))
+    heeds on asked = let none : Option (machine.Part (W names)) = None in cond (machine.same_bus on (machine.bus_at (W names) (part_of names asked))) (Some (part_of names asked)) none
+
+    -- ---- whole messages
+
+    abbrev LowAsked : Asked → Type 0
+    LowAsked (Ipmi from net_fn lun command body) = lun < 4
+    LowAsked (Pldm from kind command body) = Unit {0}
+
+    by_response : (r : Response) → IsLow names r.header → (asked : Asked) → LowAsked asked
+        → manager.tested (P names) Ipmb (response_bytes r) there (heeds Ipmb asked) ≡ of_answer taken (manager.rests (P names) there) (told_in (m.answered Ipmb) asked r)
+    by_response r low (Ipmi from net_fn lun command body) lun_low =
+        responses_alike taken (manager.rests (P names) there) (m.answered Ipmb) from net_fn lun command body r lun_low low.requester low.responder
+    by_response r low (Pldm from kind command body) lun_low = refl
+
+    managers_low : (asked : Asked) → IsManagers (addresses names) asked → LowAsked asked
+    managers_low (Ipmi from net_fn lun command body) is = omega (arith, is.1)
+    managers_low (Pldm from kind command body) is = tt
+
+    task_low : (task : Task) → LowAsked (asked_for names task)
+    task_low (Gets k op) = managers_low (asked_for names (Gets k op)) (managers (addresses names) (asked_for names (Gets k op)) (asked_for names (Gets k op), inl (key_of op, refl), inl refl))
+    task_low (Sets k op back) = managers_low (asked_for names (Sets k op back)) (managers (addresses names) (asked_for names (Sets k op back)) (asked_for names (Sets k op back), inr (op, refl), inl refl))
+    task_low (Undoes back rest) = managers_low (asked_for names (Undoes back rest)) (managers (addresses names) (asked_for names (Undoes back rest)) (asked_for names (Undoes back rest), inr (back, refl), inl refl))
+
+    pub response_told : (r : Response) → IsLow names r.header → manager.hears_reply (P names) Ipmb (response_bytes r) there ≡ seen_deed names made_then (told names task (told_in (m.answered Ipmb) (asked_for names task) r) opened)
+    response_told r low = by_response r low (asked_for names task) (task_low task) ∙ answer_told (told_in (m.answered Ipmb) (asked_for names task) r)
+
+    by_message : (reply : List ℕ) (asked : Asked)
+        → manager.tested (P names) Smbus reply there (heeds Smbus asked) ≡ of_answer taken (manager.rests (P names) there) (read_in (m.answered Smbus) asked reply)
+    by_message reply (Ipmi from net_fn lun command body) = refl
+    by_message reply (Pldm from kind command body) = messages_alike taken (manager.rests (P names) there) (m.answered Smbus) from kind command body reply
+
+    pub message_told : (reply : List ℕ) → manager.hears_reply (P names) Smbus reply there ≡ seen_deed names made_then (told names task (read_in (m.answered Smbus) (asked_for names task) reply) opened)
+    message_told reply = by_message reply (asked_for names task) ∙ answer_told (read_in (m.answered Smbus) (asked_for names task) reply)
+
+  -- ---- packets
+
+  module _ (task : Task) (m : Manager) (p : Packet) (orderly : IsOrderly m.waits) where
+    abbrev kept : IsKept p m.waits made.manager orderly names.own_eid
+    kept = is_kept p m.waits made.manager orderly names.own_eid
+
+    -- with the packet
+    abbrev joined_manager : Manager
+    joined_manager = record m { waits = waits_after names.own_eid p m.waits }
+
+    abbrev before_it : Manager
+    before_it = opened task m made.manager
+
+    abbrev with_it : manager.ManagerState (P names)
+    with_it = there task joined_manager kept.made_then
+
+    -- the turn that the packet makes
+    abbrev turn_then : Bool → Turn
+    turn_then ends = cond ends (told names task (read_in (m.answered Smbus) (asked_for names task) (whole p m.waits)) (opened task joined_manager kept.made_then)) (rests (opened task joined_manager kept.made_then))
+
+    message_is : (ends : Bool) → p.end ≡ ends → is_taken names.own_eid p m.waits ≡ true
+        → cond ends (manager.hears_reply (P names) Smbus (cond p.start p.payload kept.made_then) with_it) (manager.rests (P names) with_it) ≡ seen_deed names kept.made_then (turn_then ends)
+    message_is true e sure = ap (λ (reply : List ℕ). manager.hears_reply (P names) Smbus reply with_it) (kept.ends sure e) ∙ message_told task joined_manager kept.made_then (whole p m.waits)
+    message_is false e sure = refl
+
+    by_cause : (cause : Option DropCause) (yes : Bool) → Agrees p m.waits made.manager orderly yes cause → is_taken names.own_eid p m.waits ≡ yes → manager.ends_reply (P names) p cause with_it ≡ seen_deed names kept.made_then (turn_then (yes && p.end))
+    by_cause (Some cause) true agrees e = absurd agrees
+    by_cause (Some cause) false agrees e = refl
+    by_cause None true agrees e = message_is p.end refl e
+    by_cause None false agrees e = absurd agrees
+
+    joins_so : manager.joins (P names) p (there task m made.manager) ≡ seen_deed names kept.made_then (turn_then (is_taken names.own_eid p m.waits && p.end))
+    joins_so =
+        ap (λ (a : Assemblies). manager.ends_reply (P names) p (drop_cause names.own_eid (seen_as m.waits made.manager) p) (record (there task m made.manager) { joined = a })) kept.is
+        ∙ by_cause (drop_cause names.own_eid (seen_as m.waits made.manager) p) (is_taken names.own_eid p m.waits) kept.agrees refl
+
+    by_part : (b : Bool) → Lands (cond b (manager.joins (P names) p (there task m made.manager)) (manager.rests (P names) (there task m made.manager))) (cond (not b) (rests before_it) (turn_then (is_taken names.own_eid p m.waits && p.end)))
+    by_part true = lands (manager.joins (P names) p (there task m made.manager)) (turn_then (is_taken names.own_eid p m.waits && p.end)) kept.made_then joins_so
+    by_part false = lands (manager.rests (P names) (there task m made.manager)) (rests before_it) made.manager refl
+
+    by_asked : (asked : Asked) → Lands (manager.joins_for (P names) p (there task m made.manager) (heeds task m made.manager Smbus asked)) (cond (not (is_part names (m.answered Smbus) asked p)) (rests before_it) (turn_then (is_taken names.own_eid p m.waits && p.end)))
+    by_asked (Ipmi from net_fn lun command body) = lands (manager.rests (P names) (there task m made.manager)) (rests before_it) made.manager refl
+    by_asked (Pldm from kind command body) = by_part (is_part names (m.answered Smbus) (Pldm from kind command body) p)
+
+    pub packet_lands : Lands (manager.hears_packet (P names) p (there task m made.manager)) (hears names (Part p) (Open true task) before_it)
+    unfolding manager.hears_packet
+    packet_lands = by_asked (asked_for names task)
+
+  -- ---- any frame
+
+  -- a response is low
+  abbrev pub LowValue : Value → Type 0
+  LowValue (Tells r) = IsLow names r.header
+  LowValue value = Unit {0}
+
+  module _ (m : Manager) (orderly : IsOrderly m.waits) where
+    abbrev Comes : Value → Phase → Type 0
+    Comes v phase = Lands (manager.manager_hears (P names) (seen_value v) (seen_manager names made.manager (at_phase names phase m))) (hears names v phase (at_phase names phase m))
+
+    nothing : (v : Value) (phase : Phase) → manager.manager_hears (P names) (seen_value v) (seen_manager names made.manager (at_phase names phase m)) ≡ manager.rests (P names) (seen_manager names made.manager (at_phase names phase m))
+        → hears names v phase (at_phase names phase m) ≡ rests (at_phase names phase m) → Comes v phase
+    nothing v phase d t =
+        lands (manager.manager_hears (P names) (seen_value v) (seen_manager names made.manager (at_phase names phase m))) (hears names v phase (at_phase names phase m)) made.manager
+        (d ∙ ap (seen_deed names made.manager) (sym t))
+
+    ignored : (r : Response) (phase : Phase) → manager.heeded_on (P names) Ipmb (stage_of names phase) ≡ None
+        → manager.hears_response (P names) r (seen_manager names made.manager (at_phase names phase m)) ≡ manager.rests (P names) (seen_manager names made.manager (at_phase names phase m))
+    unfolding manager.hears_response
+    ignored r phase e =
+        (λ i. cond ((r.header.requester.address == names.own_address && r.header.responder.address == names.peer_address)) (manager.tested (P names) Ipmb (response_bytes r) (seen_manager names made.manager (at_phase names phase m)) (e i)) (manager.rests (P names) (seen_manager names made.manager (at_phase names phase m))))
+        ∙ sym (cond_same ((r.header.requester.address == names.own_address && r.header.responder.address == names.peer_address)) (manager.rests (P names) (seen_manager names made.manager (at_phase names phase m))))
+
+    response_comes : (r : Response) (task : Task) → IsLow names r.header → Comes (Tells r) (Open true task)
+    unfolding manager.hears_response
+    response_comes r task low = at ((r.header.requester.address == names.own_address && r.header.responder.address == names.peer_address))
+      where
+        at : (b : Bool) → Lands (cond b (manager.hears_reply (P names) Ipmb (response_bytes r) (there task m made.manager)) (manager.rests (P names) (there task m made.manager))) (cond b (told names task (told_in (m.answered Ipmb) (asked_for names task) r) (opened task m made.manager)) (rests (opened task m made.manager)))
+        at true = lands (manager.hears_reply (P names) Ipmb (response_bytes r) (there task m made.manager)) (told names task (told_in (m.answered Ipmb) (asked_for names task) r) (opened task m made.manager)) made.manager (response_told task m made.manager r low)
+        at false = lands (manager.rests (P names) (there task m made.manager)) (rests (opened task m made.manager)) made.manager refl
+
+    unheard : (p : Packet) (phase : Phase) → manager.heeded_on (P names) Smbus (stage_of names phase) ≡ None
+        → manager.hears_packet (P names) p (seen_manager names made.manager (at_phase names phase m)) ≡ manager.rests (P names) (seen_manager names made.manager (at_phase names phase m))
+    unfolding manager.hears_packet
+    unheard p phase e = ap (manager.joins_for (P names) p (seen_manager names made.manager (at_phase names phase m))) e
+
+    pub comes : (v : Value) → LowValue v → (phase : Phase) → Comes v phase
+    comes (Asks r) low phase = nothing (Asks r) phase refl refl
+    comes (Tells r) low Fresh = nothing (Tells r) Fresh (ignored r Fresh refl) refl
+    comes (Tells r) low (Open true task) = response_comes r task low
+    comes (Tells r) low (Open false task) = nothing (Tells r) (Open false task) (ignored r (Open false task) refl) refl
+    comes (Tells r) low Done = nothing (Tells r) Done (ignored r Done refl) refl
+    comes (Tells r) low (Halted k why) = nothing (Tells r) (Halted k why) (ignored r (Halted k why) refl) refl
+    comes (Tells r) low Undone = nothing (Tells r) Undone (ignored r Undone refl) refl
+    comes (Tells r) low (UndoRefused k code) = nothing (Tells r) (UndoRefused k code) (ignored r (UndoRefused k code) refl) refl
+    comes (Part p) low Fresh = nothing (Part p) Fresh (unheard p Fresh refl) refl
+    comes (Part p) low (Open true task) = packet_lands task m p orderly
+    comes (Part p) low (Open false task) = nothing (Part p) (Open false task) (unheard p (Open false task) refl) refl
+    comes (Part p) low Done = nothing (Part p) Done (unheard p Done refl) refl
+    comes (Part p) low (Halted k why) = nothing (Part p) (Halted k why) (unheard p (Halted k why) refl) refl
+    comes (Part p) low Undone = nothing (Part p) Undone (unheard p Undone refl) refl
+    comes (Part p) low (UndoRefused k code) = nothing (Part p) (UndoRefused k code) (unheard p (UndoRefused k code) refl) refl

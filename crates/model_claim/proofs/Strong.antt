@@ -1,0 +1,225 @@
+-- The machinery's headline follows from the statement's claim: so the claim is as strong.
+use Rattle.std.proofs.Common.{◌≡◌, ◌⊎◌, ℕ, zero, suc, true, false, List, [], ◌∷◌, ◌++◌, length, map, Option, Some, None, refl, sym, ◌∙◌, ap, subst, inl, inr}
+use Rattle.std.proofs.lemmas.List.{length-map, map-append}
+use Rattle.two_wire.specs.Codes.{success}
+use Rattle.record_base.specs.declared.op.Op.{Op}
+use Rattle.record_base.specs.declared.message.Asked.{Asked}
+use Rattle.cfg_records.specs.declared.board_file.BoardFile.{BoardFile}
+use Rattle.cfg_records.specs.Records.{Records}
+use Rattle.record_kinds.specs.declared.limits.Limits.{Limits}
+use Rattle.record_kinds.specs.Limits.{key_of, limits_at, get_asked, set_asked, conf}
+use Rattle.bmc_board.specs.State.{State}
+use Rattle.bmc_board.specs.Row.{Row}
+use Rattle.undo_plans.specs.declared.names.Names.{Names}
+use Rattle.model_bus.specs.Request as bus
+use Rattle.model_bus.specs.Repeat.{In}
+use Rattle.model_undo.specs.Words as undo
+use Rattle.model_undo.specs.Family as undo_family
+use Rattle.model_undo.specs.Plan as plans
+use Rattle.model_undo.specs.Machine as machine
+use Rattle.model_undo.specs.Headline as undo_headline
+use Rattle.model_lab.specs.ManagerSteps as manager
+use Rattle.model_lab.specs.Lab as lab
+use Rattle.model_family.specs.Family.{SetsWithin, conf_within}
+use Rattle.model_headline.specs.Each.{Each}
+use Rattle.model_headline.specs.Tied.{F}
+use Rattle.model_headline.specs.Answers as answers
+use Rattle.model_headline.specs.Theorem as law
+use Rattle.model_claim.specs.Manager.{Stop, Why, Stopped, GetRefused, SetRefused, NotRestorable, Gets, Sets, Undoes, Phase, Fresh, Open, Done, Halted, Undone, UndoRefused, by_manager}
+use Rattle.model_claim.specs.Lab.{Event, Calls, Carried, Lab, port_on, step}
+use Rattle.model_claim.specs.Claim.{SetsTo, IsAfter, Stands, ShowsSame, AllHonest, first, after, GaveIn, IsCause, Claim}
+use Rattle.model_claim.specs.Seen.{P, W, spell, seen_log, series, bare, seen_event, seen_lab, stage_of}
+use Rattle.model_claim.proofs.Holds.{Reads}
+use Rattle.model_claim.proofs.Labs.{step_so}
+use Rattle.model_claim.proofs.Honesty.{first_honest, later_honest}
+use Rattle.model_claim.proofs.Claim.{ran, port_log, holds_reads, board_of}
+use Rattle.model_claim.specs.Refines.{Refines}
+use Rattle.model_claim.proofs.Refined.{all_here, honest_alike}
+use Rattle.text_schedule.specs.declared.event.Call.TheVariants as lab_call
+use Rattle.model_undo.specs.declared.phase.Phase.{Phase as UndoPhase}
+use Rattle.model_undo.specs.declared.phase.Phase.TheVariants as undo_phase
+
+module _ (setup : BoardFile) (names : Names) where
+  sets_back : (op : Op) (old new : Records) → SetsTo setup op old new → undo_family.SetsTo (F setup names) op old new
+  sets_back op old new s = record {
+    before = s.before;
+    after = s.after;
+    found = s.found;
+    sets = subst (λ (o : Option Limits). SetsWithin o op s.before s.after) (sym s.within) s.accepted;
+    changed = s.changed;
+  }
+
+  module _ (plan : List Op) (start : Records) where
+    after_back : (k : ℕ) (r : Records) → IsAfter setup plan start k r → plans.IsAfter (F setup names) plan start k r
+    after_back zero r is = is
+    after_back (suc k) r is = (is.0, is.1, after_back k is.0 is.2, is.3, sets_back is.1 is.0 r is.4)
+
+    both : (k m : ℕ) (r : Records) → IsAfter setup plan start k r ⊎ IsAfter setup plan start m r → plans.IsAfter (F setup names) plan start k r ⊎ plans.IsAfter (F setup names) plan start m r
+    both k m r (inl is) = inl (after_back k r is)
+    both k m r (inr is) = inr (after_back m r is)
+
+    swapped : (k m : ℕ) (r : Records) → IsAfter setup plan start k r ⊎ IsAfter setup plan start m r → plans.IsAfter (F setup names) plan start m r ⊎ plans.IsAfter (F setup names) plan start k r
+    swapped k m r (inl is) = inr (after_back k r is)
+    swapped k m r (inr is) = inl (after_back m r is)
+
+    stands_back : (phase : Phase) (r : Records) → Stands setup plan start phase r → plans.Stands (F setup names) plan start (machine.phase_at (W names) (stage_of names phase)) r
+    stands_back Fresh r is = is
+    stands_back (Open true (Gets k op)) r is = after_back k r is
+    stands_back (Open false (Gets k op)) r is = both k (suc k) r is
+    stands_back (Open true (Sets k op back)) r is = both k (suc k) r is
+    stands_back (Open false (Sets k op back)) r is = both k (suc k) r is
+    stands_back (Open true (Undoes back rest)) r is =
+        subst (λ n. plans.IsAfter (F setup names) plan start (suc n) r ⊎ plans.IsAfter (F setup names) plan start n r) (sym (length-map rest (series names))) (swapped (length rest) (suc (length rest)) r is)
+    stands_back (Open false (Undoes back rest)) r is =
+        subst (λ n. plans.IsAfter (F setup names) plan start n r ⊎ plans.IsAfter (F setup names) plan start (suc n) r) (sym (length-map rest (series names))) (both (length rest) (suc (length rest)) r is)
+    stands_back Done r is = after_back (length plan) r is
+    stands_back (Halted k why) r is = after_back k r is
+    stands_back Undone r is = is
+    stands_back (UndoRefused k code) r is = is
+
+  shows_back : (b c : State) → ShowsSame setup b c → undo_headline.ShowsSame (F setup names) b c
+  shows_back b c same key one other gets again_gets shown again left left_again row again_row =
+      let told = same key one other gets again_gets (board_of shown) (board_of again) left left_again row again_row in
+      (told.0, λ ok. at (limits_at setup key) refl (told.1 ok))
+    where
+      at : (o : Option Limits) → limits_at setup key ≡ o → ((limits : Limits) → limits_at setup key ≡ Some limits → conf limits again.body ≡ conf limits shown.body) → conf_within (limits_at setup key) again.body ≡ conf_within (limits_at setup key) shown.body
+      at (Some limits) e told = subst (λ (o : Option Limits). conf_within o again.body ≡ conf_within o shown.body) (sym e) (told limits e)
+      at None e told = subst (λ (o : Option Limits). conf_within o again.body ≡ conf_within o shown.body) (sym e) refl
+
+-- a call of `stop` here is one in the model
+stop_in : (earlier later : List Event) → In (lab.Calls lab_call.Stop) (map seen_event (earlier ++ Calls Stop ∷ later))
+stop_in [] later = inl refl
+stop_in (e ∷ es) later = inr (stop_in es later)
+
+module _ (setup : BoardFile) (names : Names) (plan : List Op) (retries : ℕ) where
+  abbrev start : Lab
+  start = first setup names plan retries
+
+  gave_back : (events : List Event) (k : ℕ) (asked : Asked) (a : undo.Answered) → AllHonest setup names events start
+      → GaveIn setup names plan retries events k asked (board_of a) → law.GaveIn setup names plan retries (map seen_event events) k (by_manager names asked) a
+  gave_back events k asked a all g =
+      let all_here : AllHonest setup names (g.before ++ g.event ∷ g.later) start = subst (λ (es : List Event). AllHonest setup names es start) g.all all in
+      let x : Lab = after setup names plan retries g.before in
+      let f = ran setup names plan retries g.before (first_honest setup names g.before (g.event ∷ g.later) start all_here) in
+      let one = step_so setup names f.made_then x f.holds g.event (later_honest setup names g.before (g.event ∷ g.later) start all_here).0 in
+      let y : Lab = step setup names x g.event in
+      let after_is : lab.step (P names) setup (law.after setup names plan retries (map seen_event g.before)) (seen_event g.event) ≡ seen_lab names one.made y =
+      ap (λ (l : lab.Lab (P names)). lab.step (P names) setup l (seen_event g.event)) f.is ∙ one.is in
+      let reads : Each (Reads names g.bus) (Carried g.heard (board_of a) ∷ (port_on g.bus x).log) = subst (Each (Reads names g.bus)) g.carried (holds_reads setup names plan retries g.bus y one.holds) in
+      let was : answers.Answers setup names (seen_lab names f.made_then x) (seen_lab names one.made y) (by_manager names asked) a = record {
+        bus = g.bus;
+        kept = record { request = bare g.heard; reply = spell g.bus g.heard.bytes (board_of a) };
+        carried = port_log setup names plan retries g.bus one.made y ∙ ap (seen_log (spell g.bus)) g.carried
+            ∙ ap (λ (log : List bus.Entry). bus.Carried (record { request = bare g.heard; reply = spell g.bus g.heard.bytes (board_of a) }) ∷ log) (sym (port_log setup names plan retries g.bus f.made_then x));
+        from_manager = g.from_manager;
+        asks = reads.0 g.from_manager ∙ g.asks;
+        replies = refl;
+        row = subst (λ (q : Asked). Row setup x.board q (board_of a) y.board) g.asks g.row;
+      } in
+      record {
+        before = map seen_event g.before;
+        event = seen_event g.event;
+        later = map seen_event g.later;
+        all = ap (map seen_event) g.all ∙ map-append seen_event g.before (g.event ∷ g.later);
+        answers = subst (λ (l : lab.Lab (P names)). answers.Answers setup names l (lab.step (P names) setup (law.after setup names plan retries (map seen_event g.before)) (seen_event g.event)) (by_manager names asked) a) (sym f.is)
+            (subst (λ (l : lab.Lab (P names)). answers.Answers setup names (seen_lab names f.made_then x) l (by_manager names asked) a) (sym after_is) was);
+        at = subst (λ (l : lab.Lab (P names)). plans.IsAfter (F setup names) plan start.board.records k l.board.records) (sym f.is) (after_back setup names plan start.board.records k x.board.records g.at);
+      }
+
+  module _ (claim : Claim setup names plan retries) where
+    abbrev Trusted : List lab.Event → Type 0
+    Trusted = law.IsTrusted setup names plan retries
+
+    abbrev Caused : List Event → UndoPhase → Type 0
+    Caused events = answers.CausedBy setup names (law.GaveIn setup names plan retries (map seen_event events)) (In (lab.Calls lab_call.Stop) (map seen_event events)) plan
+
+    honest_of : (events : List Event) → Trusted (map seen_event events) → AllHonest setup names events start
+    honest_of events trusted = (honest_alike setup names plan retries events).1 trusted
+
+    stands_there : (events : List Event) → Trusted (map seen_event events) → law.StandsAfter setup names plan retries (map seen_event events)
+    stands_there events trusted =
+        let all = honest_of events trusted in
+        subst (λ (l : lab.Lab (P names)). plans.Stands (F setup names) plan start.board.records (machine.phase_of (W names) l.manager.machine) l.board.records) (sym (ran setup names plan retries events all).is)
+        (stands_back setup names plan start.board.records (after setup names plan retries events).manager.phase (after setup names plan retries events).board.records (claim.stands events all))
+
+    caused : (events : List Event) → AllHonest setup names events start → (phase : Phase) → ((k : ℕ) (why : Why) → phase ≡ Halted k why → IsCause setup names plan retries events k why) → Caused events (machine.phase_at (W names) (stage_of names phase))
+    caused events all Fresh c = tt
+    caused events all (Open true (Gets k op)) c = tt
+    caused events all (Open true (Sets k op back)) c = tt
+    caused events all (Open true (Undoes back rest)) c = tt
+    caused events all (Open false task) c = tt
+    caused events all Done c = tt
+    caused events all Undone c = tt
+    caused events all (UndoRefused k code) c = tt
+    caused events all (Halted k Stopped) c =
+        let is = c k Stopped refl in
+        subst (λ (es : List Event). In (lab.Calls lab_call.Stop) (map seen_event es)) (sym is.2) (stop_in is.0 is.1)
+    caused events all (Halted k (GetRefused code)) c =
+        let is = c k (GetRefused code) refl in
+        (is.0, is.1, is.2, gave_back events k (get_asked (key_of is.0)) (record { code = code; body = is.1 }) all is.3, is.4)
+    caused events all (Halted k (SetRefused code)) c =
+        let is = c k (SetRefused code) refl in
+        (is.0, is.1, is.2, gave_back events k (set_asked is.0) (record { code = code; body = is.1 }) all is.3, is.4)
+    caused events all (Halted k NotRestorable) c =
+        let is = c k NotRestorable refl in
+        (is.0, is.1, is.2, gave_back events k (get_asked (key_of is.0)) (record { code = success; body = is.1 }) all is.3, is.4)
+
+    halts_there : (events : List Event) → Trusted (map seen_event events) → Caused events (law.phase_after setup names plan retries (map seen_event events))
+    halts_there events trusted =
+        let all = honest_of events trusted in
+        subst (Caused events) (sym (ap (λ (l : lab.Lab (P names)). machine.phase_of (W names) l.manager.machine) (ran setup names plan retries events all).is))
+        (caused events all (after setup names plan retries events).manager.phase (λ k why at_halt. claim.halts events k why all at_halt))
+
+    undone_phase : (phase : Phase) → machine.phase_at (W names) (stage_of names phase) ≡ undo_phase.Undone → phase ≡ Undone
+    undone_phase Fresh e = absurd cc
+    undone_phase (Open true (Gets k op)) e = absurd cc
+    undone_phase (Open true (Sets k op back)) e = absurd cc
+    undone_phase (Open true (Undoes back rest)) e = absurd cc
+    undone_phase (Open false task) e = absurd cc
+    undone_phase Done e = absurd cc
+    undone_phase Undone e = refl
+    undone_phase (UndoRefused k code) e = absurd cc
+    undone_phase (Halted k why) e = absurd cc
+
+    undone_there : (events later : List Event) → Trusted (map seen_event events ++ map seen_event later) → law.phase_after setup names plan retries (map seen_event events) ≡ undo_phase.Undone
+        → ((law.after setup names plan retries (map seen_event events ++ map seen_event later)).board.records ≡ start.board.records) × undo_headline.ShowsSame (F setup names) start.board (law.after setup names plan retries (map seen_event events ++ map seen_event later)).board
+    undone_there events later trusted at_undone =
+        let split_map : map seen_event (events ++ later) ≡ map seen_event events ++ map seen_event later = map-append seen_event events later in
+        let all = honest_of (events ++ later) (subst Trusted (sym split_map) trusted) in
+        let f = ran setup names plan retries events (first_honest setup names events later start all) in
+        let g = ran setup names plan retries (events ++ later) all in
+        let here : (after setup names plan retries events).manager.phase ≡ Undone = undone_phase (after setup names plan retries events).manager.phase (ap (λ (l : lab.Lab (P names)). machine.phase_of (W names) l.manager.machine) (sym f.is) ∙ at_undone) in
+        let told = claim.undone events later all here in
+        let end : seen_lab names g.made_then (after setup names plan retries (events ++ later)) ≡ law.after setup names plan retries (map seen_event events ++ map seen_event later) = sym g.is ∙ ap (law.after setup names plan retries) split_map in (
+          ap (λ (l : lab.Lab (P names)). l.board.records) (sym end) ∙ told.0,
+          subst (λ (l : lab.Lab (P names)). undo_headline.ShowsSame (F setup names) start.board l.board) end (shows_back setup names start.board (after setup names plan retries (events ++ later)).board told.1),
+        )
+
+    abbrev UndoneThere : List lab.Event → List lab.Event → Type 0
+    UndoneThere es ls = Trusted (es ++ ls) → law.phase_after setup names plan retries es ≡ undo_phase.Undone
+        → ((law.after setup names plan retries (es ++ ls)).board.records ≡ start.board.records) × undo_headline.ShowsSame (F setup names) start.board (law.after setup names plan retries (es ++ ls)).board
+
+    abbrev HaltsThere : List lab.Event → Type 0
+    HaltsThere es = Trusted es → answers.CausedBy setup names (law.GaveIn setup names plan retries es) (In (lab.Calls lab_call.Stop) es) plan (law.phase_after setup names plan retries es)
+
+    pub headline_back : law.Headline setup names plan retries Trusted
+    headline_back = record {
+      stands = λ events trusted.
+          let same = all_here events in
+          subst (law.StandsAfter setup names plan retries) (sym same.1) (stands_there same.0 (subst Trusted same.1 trusted));
+      undone = λ events later.
+          let same = all_here events in
+          let more = all_here later in
+          subst (λ (es : List lab.Event). UndoneThere es later) (sym same.1) (subst (UndoneThere (map seen_event same.0)) (sym more.1) (undone_there same.0 more.0));
+      halts = λ events.
+          let same = all_here events in
+          subst HaltsThere (sym same.1) (halts_there same.0);
+    }
+
+pub refines : (setup : BoardFile) (names : Names) (plan : List Op) (retries : ℕ) → Refines setup names plan retries
+refines setup names plan retries = record {
+  every = all_here;
+  honest = honest_alike setup names plan retries;
+  alike = λ events all. let g = ran setup names plan retries events all in (g.made_then, g.is);
+  strong = headline_back setup names plan retries;
+}

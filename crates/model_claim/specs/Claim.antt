@@ -1,0 +1,166 @@
+-- The claim: after every honest schedule the manager's phase says what the records are, and undone means that each is what it was.
+use Rattle.std.specs.Prelude.{◌≡◌, ◌≢◌, ◌⊎◌, ℕ, zero, suc, ◌+◌, ◌<◌, ◌≤◌, true, false, List, [], ◌∷◌, ◌++◌, length, All, Option, Some, None, Ok, slice_get}
+use Rattle.two_wire.specs.Codes.{success}
+use Rattle.two_wire.specs.declared.Bus.{Bus}
+use Rattle.two_wire.specs.declared.Bus.TheVariants.{Ipmb, Smbus}
+use Rattle.ipmb_frame.specs.declared.message.Msg.{Msg}
+use Rattle.ipmb_frame.specs.Grammar.{IsMessage}
+use Rattle.mctp_net.specs.declared.packet.Packet.{Packet}
+use Rattle.mctp_net.specs.Grammar.{IsPacket}
+use Rattle.pldm_base.specs.declared.message.PldmRequest.{PldmRequest}
+use Rattle.pldm_base.specs.Message.{IsRequest}
+use Rattle.record_base.specs.declared.key.Key.{Key}
+use Rattle.record_base.specs.declared.op.Op.{Op}
+use Rattle.record_base.specs.declared.message.Asked.{Asked}
+use Rattle.record_base.specs.declared.message.Asked.TheVariants.{Ipmi, Pldm}
+use Rattle.record_base.specs.declared.message.Answered.{Answered}
+use Rattle.cfg_records.specs.declared.board_file.BoardFile.{BoardFile}
+use Rattle.cfg_records.specs.Records.{Records, with_record}
+use Rattle.record_kinds.specs.declared.limits.Limits.{Limits}
+use Rattle.record_kinds.specs.Limits.{key_of, get_asked, set_asked, restorable, limits_at, sets, conf}
+use Rattle.bmc_board.specs.State.{State}
+use Rattle.bmc_board.specs.Request.{Get, asked_by}
+use Rattle.bmc_board.specs.Table.{is_changing}
+use Rattle.bmc_board.specs.Row.{Row}
+use Rattle.undo_plans.specs.declared.names.Names.{Names}
+use Rattle.model_claim.specs.Frames.{Value, Part, span, is_taken}
+use Rattle.model_claim.specs.Manager.{Stop, Why, Stopped, GetRefused, SetRefused, NotRestorable, Gets, Sets, Undoes, Phase, Fresh, Open, Done, Halted, Undone, UndoRefused, own_on, by_manager, open_in}
+use Rattle.model_claim.specs.Lab.{Heard, Carried, heard_in, pldm_heard, Way, ToPort, ToManager, Frame, Event, Calls, ToBmc, ToMgr, OtherIpmb, OtherSmbus, Noise, Idles, OnBench, Lab, port_on, idles_on, step, run, opening}
+
+-- ---- what a phase says of the records
+
+module _ (setup : BoardFile) where
+  -- the operation is accepted at these records, and leaves those: its own record is changed, and no other
+  pub record SetsTo (op : Op) (old new : Records) : Type 0 where
+    pub limits : Limits
+    pub before : List ℕ
+    pub after : List ℕ
+    pub within : limits_at setup (key_of op) ≡ Some limits
+    pub found : old (key_of op) ≡ Some before
+    pub accepted : sets limits op before after
+    pub changed : new ≡ with_record old (key_of op) after
+
+  -- the records are those at the start with the first steps of the plan done, in order
+  abbrev pub IsAfter : List Op → (start : Records) → (steps : ℕ) → Records → Type 0
+  IsAfter plan start zero r = r ≡ start
+  IsAfter plan start (suc k) r = (before : Records) × (op : Op) × IsAfter plan start k before × (slice_get plan k ≡ Some op) × SetsTo op before r
+
+  -- what the phase says of the records
+  abbrev pub Stands : List Op → (start : Records) → Phase → Records → Type 0
+  Stands plan start Fresh r = r ≡ start
+  Stands plan start (Open true (Gets k op)) r = IsAfter plan start k r
+  Stands plan start (Open false (Gets k op)) r = IsAfter plan start k r ⊎ IsAfter plan start (suc k) r
+  Stands plan start (Open heeded (Sets k op back)) r = IsAfter plan start k r ⊎ IsAfter plan start (suc k) r
+  Stands plan start (Open heeded (Undoes back rest)) r = IsAfter plan start (length rest) r ⊎ IsAfter plan start (suc (length rest)) r
+  Stands plan start Done r = IsAfter plan start (length plan) r
+  Stands plan start (Halted k why) r = IsAfter plan start k r
+  Stands plan start Undone r = r ≡ start
+  Stands plan start (UndoRefused k code) r = ⊥
+
+  -- Any two Gets of a record, whoever asks them, one at the first board and one at the second, are answered with the same code, and where
+  -- that is 00h they show the same configuration.
+  abbrev pub ShowsSame : State → State → Type 0
+  ShowsSame b c = (key : Key) (one other : Asked) → asked_by one ≡ Ok (Get key) → asked_by other ≡ Ok (Get key)
+      → (shown again : Answered) (left left_again : State) → Row setup b one shown left → Row setup c other again left_again
+      → (again.code ≡ shown.code) × (shown.code ≡ success → (limits : Limits) → limits_at setup key ≡ Some limits → conf limits again.body ≡ conf limits shown.body)
+
+-- ---- honest events
+
+-- how many requests of the manager were begun on a bus: those that were answered, and the open one
+abbrev pub open_on : Bus → Option Asked → ℕ
+open_on Ipmb (Some (Ipmi from net_fn lun command body)) = 1
+open_on Smbus (Some (Pldm from kind command body)) = 1
+open_on on asked = 0
+
+abbrev pub begun : Names → Bus → Lab → ℕ
+begun names on x = x.manager.answered on + open_on on (open_in names x.manager.phase)
+
+-- The frame of this place was sent, and is delivered to the end for which it is meant. Fewer newer requests of the manager than the span
+-- were begun on its bus, and the manager's window there wasn't forgotten since it was sent.
+pub record IsDelivered (names : Names) (way : Way) (x : Lab) (place : ℕ) : Type 0 where
+  pub frame : Frame
+  pub sent : slice_get x.frames place ≡ Some frame
+  pub meant : frame.way ≡ way
+  pub recent : begun names frame.on x ≤ frame.request + span frame.on
+  pub remembered : frame.idles ≡ idles_on names frame.on x
+
+-- neither the manager nor the controller is known so on the bus
+abbrev pub IsAnother : Bus → Names → ℕ → Type 0
+IsAnother Ipmb names from = (from ≢ names.own_address) × (from ≢ names.peer_address)
+IsAnother Smbus names from = (from ≢ names.own_eid) × (from ≢ names.peer_eid)
+
+-- the bytes are no frame of the bus
+abbrev pub IsNoFrame : Bus → List ℕ → Type 0
+IsNoFrame Ipmb bytes = (m : Msg) → ¬ IsMessage m bytes
+IsNoFrame Smbus bytes = (p : Packet) → ¬ IsPacket p bytes
+
+module _ (setup : BoardFile) (names : Names) where
+  -- A packet that isn't the first of its message, and that the port takes, joins others of the request whose first packet came last under
+  -- its tag. Fewer than eight newer requests of the manager than that one were begun on SMBus.
+  abbrev pub JoinsLive : Lab → Value → Type 0
+  JoinsLive x (Part p) = p.start ≡ false → p.envelope.destination ≡ x.smbus.wire → is_taken x.smbus.eid p x.smbus.waits ≡ true
+      → begun names Smbus x ≤ x.opened p.envelope.tag + span Smbus
+  JoinsLive x value = Unit {0}
+
+  -- Frames are delivered as above, and packets join no stale ones. No other requester sends a command that sets records, or has the manager's
+  -- or the controller's address. Noise reads as no frame. The manager's window isn't forgotten while a request of it is open.
+  abbrev pub IsHonest : Lab → Event → Type 0
+  IsHonest x (Calls call) = Unit {0}
+  IsHonest x (ToBmc place) = (is : IsDelivered names ToPort x place) × JoinsLive x is.frame.value
+  IsHonest x (ToMgr place) = IsDelivered names ToManager x place
+  IsHonest x (OtherIpmb r) = (is_changing (heard_in r).asked ≡ false) × IsAnother Ipmb names r.header.requester.address
+  IsHonest x (OtherSmbus m) =
+      ((rest : List ℕ) (r : PldmRequest) → m.body ≡ 1 ∷ rest → IsRequest r rest → is_changing (pldm_heard m.envelope.source_eid r).asked ≡ false)
+      × IsAnother Smbus names m.envelope.source_eid
+  IsHonest x (Noise on bytes) = All (λ b. b < 256) bytes → IsNoFrame on bytes
+  IsHonest x (Idles on requester) = requester ≡ own_on on names → open_in names x.manager.phase ≡ None
+  IsHonest x (OnBench activity) = Unit {0}
+
+  -- every event of a schedule is honest, where it happens
+  abbrev pub AllHonest : List Event → Lab → Type 0
+  AllHonest [] x = Unit {0}
+  AllHonest (e ∷ es) x = IsHonest x e × AllHonest es (step setup names x e)
+
+-- ---- the claim
+
+module _ (setup : BoardFile) (names : Names) (plan : List Op) (retries : ℕ) where
+  -- the lab as it begins, and after events
+  abbrev pub first : Lab
+  first = opening setup names plan retries
+
+  abbrev pub after : List Event → Lab
+  after events = run setup names events first
+
+  -- At an event of the schedule, where the records were those after the plan's first k steps, a port carried out a request of the manager that
+  -- asks this, and the board answered it so.
+  pub record GaveIn (events : List Event) (k : ℕ) (asked : Asked) (a : Answered) : Type 0 where
+    pub before : List Event
+    pub event : Event
+    pub later : List Event
+    pub all : events ≡ before ++ event ∷ later
+    pub at : IsAfter setup plan first.board.records k (after before).board.records
+    pub bus : Bus
+    pub heard : Heard
+    pub from_manager : heard.requester ≡ own_on bus names
+    pub asks : heard.asked ≡ by_manager names asked
+    pub carried : (port_on bus (step setup names (after before) event)).log ≡ Carried heard a ∷ (port_on bus (after before)).log
+    pub row : Row setup (after before).board heard.asked a (step setup names (after before) event).board
+
+  -- what made a plan halt at step k: a call of `stop`, or the answer to the step's Get or Set
+  abbrev pub IsCause : List Event → ℕ → Why → Type 0
+  IsCause events k Stopped = (before : List Event) × (later : List Event) × (events ≡ before ++ Calls Stop ∷ later)
+  IsCause events k (GetRefused code) =
+      (op : Op) × (body : List ℕ) × (slice_get plan k ≡ Some op) × GaveIn events k (get_asked (key_of op)) (record { code = code; body = body }) × (code ≢ success)
+  IsCause events k (SetRefused code) =
+      (op : Op) × (body : List ℕ) × (slice_get plan k ≡ Some op) × GaveIn events k (set_asked op) (record { code = code; body = body }) × (code ≢ success)
+  IsCause events k NotRestorable =
+      (op : Op) × (body : List ℕ) × (slice_get plan k ≡ Some op) × GaveIn events k (get_asked (key_of op)) (record { code = success; body = body }) × (¬ restorable op body)
+
+  -- After every honest schedule, and so at each of its events, the phase says what the records are. Once the plan is undone, and after all
+  -- that comes then, every record is what it was, and each Get is answered with the same code and shows the same configuration. A plan that
+  -- halted has its cause in the schedule.
+  pub record Claim : Type 0 where
+    pub stands : (events : List Event) → AllHonest setup names events first → Stands setup plan first.board.records (after events).manager.phase (after events).board.records
+    pub undone : (events later : List Event) → AllHonest setup names (events ++ later) first → (after events).manager.phase ≡ Undone
+        → ((after (events ++ later)).board.records ≡ first.board.records) × ShowsSame setup first.board (after (events ++ later)).board
+    pub halts : (events : List Event) (k : ℕ) (why : Why) → AllHonest setup names events first → (after events).manager.phase ≡ Halted k why → IsCause events k why

@@ -1,0 +1,197 @@
+-- A manager: what each call and each frame makes of it, and when it sends the frames of its open request.
+use Rattle.std.specs.Prelude.{ℕ, suc, ◌+◌, ◌==◌, ◌&&◌, ◌||◌, not, ◌/◌, ◌%◌, nat_lt, Bool, true, false, List, [], ◌∷◌, length, map, Option, Some, None, if◌then◌else◌, slice_get}
+use Rattle.two_wire.specs.Codes.{success, node_busy, pldm_not_ready}
+use Rattle.two_wire.specs.declared.Bus.{Bus}
+use Rattle.two_wire.specs.declared.Bus.TheVariants.{Ipmb, Smbus}
+use Rattle.ipmb_frame.specs.declared.message.Response.{Response}
+use Rattle.mctp_net.specs.declared.packet.Packet.{Packet}
+use Rattle.pldm_base.specs.Message.{request_bytes}
+use Rattle.record_base.specs.declared.op.Op.{Op}
+use Rattle.record_base.specs.declared.message.Asked.{Asked}
+use Rattle.record_base.specs.declared.message.Asked.TheVariants.{Ipmi, Pldm}
+use Rattle.record_base.specs.declared.message.Answered.{Answered}
+use Rattle.record_kinds.specs.Limits.{key_of, get_asked, set_asked, inverse}
+use Rattle.bmc_board.specs.Decode.{sent_by}
+use Rattle.undo_plans.specs.declared.names.Names.{Names}
+use Rattle.model_claim.specs.Frames.{Value, Asks, Tells, Part, circle, envelope, packets_of, is_taken, whole, waits_after}
+
+-- the calls
+pub data Call : Type 0 where
+  Start Quiet Stop Again Undo : Call
+
+-- why a plan halted: it was to stop, the Get or the Set of a step was refused, or the step can't be undone from the reply to its Get
+pub data Why : Type 0 where
+  Stopped NotRestorable : Why
+  GetRefused SetRefused : (code : ℕ) → Why
+
+-- what a manager is at; each is one request, and steps count from 0
+pub data Task : Type 0 where
+  -- it gets the record that step k of the plan changes
+  Gets : (k : ℕ) (op : Op) → Task
+  -- it carries step k out, and keeps what undoes it
+  Sets : (k : ℕ) (op back : Op) → Task
+  -- it undoes a step by the first operation, and those before it by the rest
+  Undoes : (back : Op) (rest : List Op) → Task
+
+-- Where it is with its plan. A task's request is open: heeded, or unsettled, since it was sent as often as is allowed, and then no reply is
+-- taken. A plan halted after k steps.
+pub data Phase : Type 0 where
+  Fresh Done Undone : Phase
+  Open : (heeded : Bool) (task : Task) → Phase
+  Halted : (k : ℕ) (why : Why) → Phase
+  UndoRefused : (k code : ℕ) → Phase
+
+pub record Manager : Type 0 where
+  pub plan : List Op
+  -- how often the frames of a request may be sent again, and how often those of the open one were, since it was opened or heeded again
+  pub retries : ℕ
+  pub resent : ℕ
+  pub phase : Phase
+  -- the plan is to halt before the next Set
+  pub stopped : Bool
+  -- what undoes the steps that were acknowledged, the last step's first
+  pub undo : List Op
+  -- how many of its requests were answered on each bus: so it is the open one's number, counted from 0
+  pub answered : Bus → ℕ
+  -- the packets that wait
+  pub waits : List Packet
+
+-- ---- requests
+
+-- by which the manager is known as a requester on a bus
+abbrev pub own_on : Bus → Names → ℕ
+own_on Ipmb names = names.own_address
+own_on Smbus names = names.own_eid
+
+-- IPMI goes over IPMB, and PLDM over SMBus
+abbrev pub bus_of : Asked → Bus
+bus_of (Ipmi from net_fn lun command body) = Ipmb
+bus_of (Pldm from kind command body) = Smbus
+
+-- the manager asks this
+abbrev pub by_manager : Names → Asked → Asked
+by_manager names asked = sent_by (own_on (bus_of asked) names) asked
+
+-- the request of a task
+abbrev pub asked_for : Names → Task → Asked
+asked_for names (Gets k op) = by_manager names (get_asked (key_of op))
+asked_for names (Sets k op back) = by_manager names (set_asked op)
+asked_for names (Undoes back rest) = by_manager names (set_asked back)
+
+-- the open request
+abbrev pub open_in : Names → Phase → Option Asked
+open_in names (Open heeded task) = Some (asked_for names task)
+open_in names phase = None
+
+-- the frames of the manager's request of this number: one on IPMB, and on SMBus the packets of a message, whose tag is the number's
+abbrev pub frames_of : Names → ℕ → Asked → List Value
+frames_of names n (Ipmi from net_fn lun command body) =
+    Asks (record { header = record { responder = record { address = names.peer_address; lun = lun }; requester = record { address = names.own_address; lun = 0 }; net_fn = net_fn; sequence = n % circle Ipmb; command = command }; body = body }) ∷ []
+frames_of names n (Pldm from kind command body) =
+    map Part (packets_of (envelope names.peer_wire names.own_wire names.peer_eid names.own_eid true (n % 8))
+    (1 ∷ request_bytes (record { header = record { instance = n % circle Smbus; pldm_type = kind; command = command }; body = body })))
+
+-- ---- what becomes of the manager, and whether it sends the frames of its open request then
+
+pub record Turn : Type 0 where
+  pub manager : Manager
+  pub sends : Bool
+
+-- a phase is entered, and the request that it opens, if it opens one, is sent
+abbrev pub enters : Phase → Manager → Turn
+enters phase m = record { manager = record m { phase = phase; resent = 0 }; sends = true }
+
+-- nothing is sent
+abbrev pub rests : Manager → Turn
+rests m = record { manager = m; sends = false }
+
+-- the next step's Get, unless the plan ended or is to stop
+abbrev pub next_step : Bool → ℕ → Option Op → Phase
+next_step stopped k None = Done
+next_step true k (Some op) = Halted k Stopped
+next_step false k (Some op) = Open true (Gets k op)
+
+-- the step's Set, unless it can't be undone or the plan is to stop
+abbrev pub set_step : Bool → ℕ → Op → Option Op → Phase
+set_step stopped k op None = Halted k NotRestorable
+set_step true k op (Some back) = Halted k Stopped
+set_step false k op (Some back) = Open true (Sets k op back)
+
+-- what undoes is gone through, or nothing is left
+abbrev pub undo_step : List Op → Phase
+undo_step [] = Undone
+undo_step (back ∷ rest) = Open true (Undoes back rest)
+
+-- a call; in a phase that isn't one for the call nothing changes
+abbrev pub called : Call → Phase → Manager → Turn
+called Start Fresh m = enters (next_step false 0 (slice_get m.plan 0)) m
+called Quiet (Open true task) m =
+    if nat_lt m.resent m.retries
+    then record { manager = record m { resent = m.resent + 1 }; sends = true }
+    else rests (record m { phase = Open false task })
+called Again (Open false task) m = enters (Open true task) m
+called Stop (Open true (Gets k op)) m = rests (record m { stopped = true })
+called Stop (Open true (Sets k op back)) m = rests (record m { stopped = true })
+called Undo Done m = enters (undo_step m.undo) (record m { waits = [] })
+called Undo (Halted k why) m = enters (undo_step m.undo) (record m { waits = [] })
+called call phase m = rests m
+
+-- the task's request was carried out, and its reply shows these data
+abbrev pub carried_out : Task → List ℕ → Manager → Turn
+carried_out (Gets k op) body m = enters (set_step m.stopped k op (inverse op body)) m
+carried_out (Sets k op back) body m = enters (next_step m.stopped (suc k) (slice_get m.plan (suc k))) (record m { undo = back ∷ m.undo })
+carried_out (Undoes back rest) body m = enters (undo_step rest) m
+
+-- it was refused
+abbrev pub refused : Task → ℕ → Manager → Turn
+refused (Gets k op) code m = enters (Halted k (GetRefused code)) m
+refused (Sets k op back) code m = enters (Halted k (SetRefused code)) m
+refused (Undoes back rest) code m = enters (UndoRefused (length rest) code) m
+
+-- one more was answered on the bus
+abbrev pub one_more : Bus → (Bus → ℕ) → Bus → ℕ
+one_more Ipmb answered Ipmb = suc (answered Ipmb)
+one_more Smbus answered Smbus = suc (answered Smbus)
+one_more bus answered on = answered on
+
+-- the answer to the task's request comes, if one does; that of a busy port is none
+abbrev pub told : Names → Task → Option Answered → Manager → Turn
+told names task None m = rests m
+told names task (Some a) m =
+    let next : Manager = record m { answered = one_more (bus_of (asked_for names task)) m.answered } in
+    if a.code == node_busy || a.code == pldm_not_ready then rests m
+    else if a.code == success then carried_out task a.body next
+    else refused task a.code next
+
+-- ---- frames
+
+-- the answer that a response gives to the request of this number: it has the same netFn, number and command
+abbrev pub told_in : ℕ → Asked → Response → Option Answered
+told_in n (Ipmi from net_fn lun command body) r =
+    if r.header.net_fn == net_fn && r.header.sequence == n % circle Ipmb && r.header.command == command then Some (record { code = r.code; body = r.body }) else None
+told_in n (Pldm from kind command body) r = None
+
+-- a packet goes from the controller to the manager, under the tag of the request of this number
+abbrev pub is_part : Names → ℕ → Asked → Packet → Bool
+is_part names n (Ipmi from net_fn lun command body) p = false
+is_part names n (Pldm from kind command body) p =
+    (p.envelope.destination == names.own_wire && p.envelope.source == names.peer_wire)
+    && (p.envelope.source_eid == names.peer_eid && (not p.envelope.tag_owner && p.envelope.tag == n % 8))
+
+-- the answer that a message gives: type 01h, request and datagram bit clear, and the same number, PLDM type and command
+abbrev pub read_in : ℕ → Asked → List ℕ → Option Answered
+read_in n (Pldm from kind command asked) (one ∷ flags ∷ of_kind ∷ of_command ∷ code ∷ body) =
+    if one == 1 && flags / 64 == 0 && flags % 32 == n % circle Smbus && of_kind == kind && of_command == command then Some (record { code = code; body = body }) else None
+read_in n asked bytes = None
+
+-- a frame comes, which is nothing to a manager that heeds no request
+abbrev pub hears : Names → Value → Phase → Manager → Turn
+hears names (Tells r) (Open true task) m =
+    if r.header.requester.address == names.own_address && r.header.responder.address == names.peer_address
+    then told names task (told_in (m.answered Ipmb) (asked_for names task) r) m else rests m
+hears names (Part p) (Open true task) m =
+    let next : Manager = record m { waits = waits_after names.own_eid p m.waits } in
+    if not (is_part names (m.answered Smbus) (asked_for names task) p) then rests m
+    else if is_taken names.own_eid p m.waits && p.end then told names task (read_in (m.answered Smbus) (asked_for names task) (whole p m.waits)) next
+    else rests next
+hears names value phase m = rests m

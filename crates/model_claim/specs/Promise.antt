@@ -1,0 +1,61 @@
+-- What a play promises of what it tells, whatever the board file, the plan and the schedule are, where it tells no event that broke the
+-- premise on packets.
+use Rattle.std.specs.Prelude.{◌≡◌, ◌≢◌, ◌⊎◌, ℕ, suc, List, ◌∷◌, ◌++◌, length, Some, slice_get}
+use Rattle.two_wire.specs.Codes.{success}
+use Rattle.record_base.specs.declared.op.Op.{Op}
+use Rattle.record_base.specs.declared.message.Asked.{Asked}
+use Rattle.record_base.specs.declared.message.Answered.{Answered}
+use Rattle.cfg_records.specs.declared.board_file.BoardFile.{BoardFile}
+use Rattle.cfg_records.specs.Records.{Records}
+use Rattle.record_kinds.specs.Limits.{key_of, get_asked, set_asked, restorable}
+use Rattle.bmc_board.specs.State.{State}
+use Rattle.bmc_board.specs.Decode.{sent_by}
+use Rattle.bmc_board.specs.Row.{Row}
+use Rattle.text_schedule.specs.declared.event.Call.TheVariants as call
+use Rattle.text_schedule.specs.declared.event.Event.{Event}
+use Rattle.text_schedule.specs.declared.event.Event.TheVariants.{Calls}
+use Rattle.model_undo.specs.declared.phase.Why.{Why}
+use Rattle.model_undo.specs.declared.phase.Why.TheVariants.{Stop, Refused, NotRestorable, GetRefused}
+use Rattle.model_undo.specs.declared.phase.Phase.{Phase}
+use Rattle.model_undo.specs.declared.phase.Phase.TheVariants.{Fresh, Getting, Setting, Done, Halted, Unsettled, Undoing, Undone, UndoRefused}
+use Rattle.model_lab.specs.Played.{Told}
+use Rattle.model_claim.specs.Claim.{IsAfter}
+
+module _ (file : BoardFile) (plan : List Op) (start : Records) where
+  -- what the phase says of the records: those after so many of the plan's steps, which count from 0
+  abbrev pub Says : Phase → Records → Type 0
+  Says Fresh now = now ≡ start
+  Says (Getting k) now = IsAfter file plan start k now
+  Says (Setting k) now = IsAfter file plan start k now ⊎ IsAfter file plan start (suc k) now
+  Says Done now = IsAfter file plan start (length plan) now
+  Says (Halted k why) now = IsAfter file plan start k now
+  Says (Unsettled k) now = IsAfter file plan start k now ⊎ IsAfter file plan start (suc k) now
+  Says (Undoing k) now = IsAfter file plan start k now ⊎ IsAfter file plan start (suc k) now
+  Says Undone now = now ≡ start
+  Says (UndoRefused k code) now = ⊥
+
+  -- with the records after the plan's first k steps, the board answered the request so
+  pub record Gave (k : ℕ) (asked : Asked) (a : Answered) : Type 0 where
+    pub before : State
+    pub after : State
+    pub from : ℕ
+    pub at : IsAfter file plan start k before.records
+    pub row : Row file before (sent_by from asked) a after
+
+  -- why a plan halted at step k: the schedule has a call of `stop`, or the board refused the step's Get or Set, or answered its Get with data
+  -- from which the step can't be undone
+  abbrev pub IsWhy : List Event → ℕ → Why → Type 0
+  IsWhy events k Stop = (before : List Event) × (later : List Event) × (events ≡ before ++ Calls call.Stop ∷ later)
+  IsWhy events k (GetRefused code) =
+      (op : Op) × (body : List ℕ) × (slice_get plan k ≡ Some op) × Gave k (get_asked (key_of op)) (record { code = code; body = body }) × (code ≢ success)
+  IsWhy events k (Refused code) =
+      (op : Op) × (body : List ℕ) × (slice_get plan k ≡ Some op) × Gave k (set_asked op) (record { code = code; body = body }) × (code ≢ success)
+  IsWhy events k NotRestorable =
+      (op : Op) × (body : List ℕ) × (slice_get plan k ≡ Some op) × Gave k (get_asked (key_of op)) (record { code = success; body = body }) × (¬ restorable op body)
+
+-- In each phase, that says what the records are. Where the plan is undone, every record is what it was at the start. Where it halted, there is
+-- a reason.
+pub record Promise (file : BoardFile) (plan : List Op) (events : List Event) (told : Told) : Type 0 where
+  pub says : Says file plan told.start told.phase told.records
+  pub undone : told.phase ≡ Undone → told.records ≡ told.start
+  pub why : (k : ℕ) (why : Why) → told.phase ≡ Halted k why → IsWhy file plan told.start events k why

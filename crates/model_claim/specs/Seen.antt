@@ -1,0 +1,184 @@
+-- The lab of the machinery that a lab of the statement is. This is no part of the statement: it says in which words the statement was proved.
+use Rattle.std.specs.Prelude.{ℕ, Bool, List, [], length, filter, map}
+use Rattle.two_wire.specs.declared.Bus.{Bus}
+use Rattle.two_wire.specs.declared.Bus.TheVariants.{Ipmb, Smbus}
+use Rattle.mctp_net.specs.declared.packet.Name.{Name}
+use Rattle.mctp_net.specs.declared.packet.Packet.{Packet}
+use Rattle.mctp_net.specs.Cut.{piece}
+use Rattle.mctp_net.specs.Assembly.{Assemblies, name_of, is_name}
+use Rattle.record_base.specs.declared.op.Op.{Op}
+use Rattle.record_base.specs.declared.message.Asked.{Asked}
+use Rattle.record_base.specs.declared.message.Answered.{Answered}
+use Rattle.record_kinds.specs.Limits.{set_asked}
+use Rattle.undo_plans.specs.declared.names.Names.{Names}
+use Rattle.model_bus.specs.Request as bus
+use Rattle.model_undo.specs.Words as undo
+use Rattle.model_undo.specs.Words.{Words}
+use Rattle.model_undo.specs.Machine as machine
+use Rattle.model_ports.specs.Wires.{reply_to}
+use Rattle.model_ports.specs.Values as values
+use Rattle.model_ports.specs.PortSteps as port
+use Rattle.model_lab.specs.ManagerSteps as manager
+use Rattle.model_lab.specs.ManagerSteps.{Plans, board_plans}
+use Rattle.model_lab.specs.Lab as lab
+use Rattle.model_claim.specs.Frames.{Value, Asks, Tells, Part}
+use Rattle.model_claim.specs.Manager.{Call, Start, Quiet, Stop, Again, Undo, Why, Stopped, GetRefused, SetRefused, NotRestorable, Task, Gets, Sets, Undoes, Phase, Fresh, Open, Done, Halted, Undone, UndoRefused, Manager, by_manager, asked_for}
+use Rattle.model_claim.specs.Lab.{Heard, Entry, Carried, Idled, Port, Deed, Way, ToPort, ToManager, ToOthers, Frame, Event, Calls, ToBmc, ToMgr, OtherIpmb, OtherSmbus, Noise, Idles, OnBench, Lab}
+use Rattle.model_lab.specs.declared.way.Way.TheVariants as lab_way
+use Rattle.model_lab.specs.declared.way.Way.{Way as LabWay}
+use Rattle.text_schedule.specs.declared.event.Call.TheVariants as lab_call
+use Rattle.text_schedule.specs.declared.event.Call.{Call as LabCall}
+use Rattle.model_undo.specs.declared.phase.Why.{Why as UndoWhy}
+use Rattle.model_undo.specs.declared.phase.Why.TheVariants as undo_why
+
+-- ---- packets that wait
+
+-- the packet has the name
+abbrev pub has : Name → Packet → Bool
+has n q = is_name (name_of q.envelope) n
+
+-- what waits under a name
+abbrev pub under : Name → List Packet → List Packet
+under n waits = filter (has n) waits
+
+-- how many starts there are
+abbrev pub starts : List Packet → ℕ
+starts waits = length (filter (λ q. q.start) waits)
+
+-- what waits, as the assembler keeps it, with the bytes of the message that it made last
+abbrev pub seen_as : List Packet → List ℕ → Assemblies
+seen_as waits made = record { under = λ n. map piece (under n waits); open_count = starts waits; made = made }
+
+-- ---- what a port did
+
+-- a request in the words of the model
+abbrev pub bare : Heard → bus.Request
+bare r = record { requester = r.requester; number = r.number; bytes = r.bytes }
+
+-- an answer, in the words of the undo model
+abbrev pub words_of : Answered → undo.Answered
+words_of a = record { code = a.code; body = a.body }
+
+module _ (spelled : List ℕ → Answered → List ℕ) where
+  -- what a port did, where replies are spelled so
+  abbrev pub seen_entry : Entry → bus.Entry
+  seen_entry (Carried r a) = bus.Carried (record { request = bare r; reply = spelled r.bytes a })
+  seen_entry (Idled q) = bus.Idled q
+
+  abbrev pub seen_log : List Entry → List bus.Entry
+  seen_log log = map seen_entry log
+
+-- ---- frames and events
+
+abbrev pub seen_value : Value → values.Value
+seen_value (Asks r) = values.Asks r
+seen_value (Tells r) = values.Tells r
+seen_value (Part p) = values.Part p
+
+abbrev pub seen_way : Way → LabWay
+seen_way ToPort = lab_way.ToPort
+seen_way ToManager = lab_way.ToManager
+seen_way ToOthers = lab_way.ToOthers
+
+abbrev pub seen_frame : Frame → lab.LabFrame
+seen_frame f = record { on = f.on; way = seen_way f.way; request = f.request; idles = f.idles; value = seen_value f.value }
+
+abbrev pub seen_call : Call → LabCall
+seen_call Start = lab_call.Start
+seen_call Quiet = lab_call.Quiet
+seen_call Stop = lab_call.Stop
+seen_call Again = lab_call.Again
+seen_call Undo = lab_call.Undo
+
+abbrev pub seen_event : Event → lab.Event
+seen_event (Calls call) = lab.Calls (seen_call call)
+seen_event (ToBmc place) = lab.ToBmc place
+seen_event (ToMgr place) = lab.ToMgr place
+seen_event (OtherIpmb r) = lab.OtherIpmb r
+seen_event (OtherSmbus m) = lab.OtherSmbus m
+seen_event (Noise on bytes) = lab.Noise on bytes
+seen_event (Idles on requester) = lab.Idles on requester
+seen_event (OnBench activity) = lab.OnBench activity
+
+-- ---- a port
+
+-- how a reply is spelled there
+abbrev pub spell : Bus → List ℕ → Answered → List ℕ
+spell on bytes a = reply_to on bytes (words_of a)
+
+abbrev pub seen_port : Bus → (made : List ℕ) → Port → port.PortState
+seen_port on made p = record { wire = p.wire; eid = p.eid; kept = seen_as p.waits made; log = seen_log (spell on) p.log }
+
+abbrev pub seen_deed : Bus → (made : List ℕ) → Deed → port.Deed
+seen_deed on made d = record { port = seen_port on made d.port; board = d.board; sent = map seen_value d.sent }
+
+-- the bytes that an assembler made last, at both ports and at the manager
+pub record Made : Type 0 where
+  pub ipmb : List ℕ
+  pub smbus : List ℕ
+  pub manager : List ℕ
+
+module _ (names : Names) where
+  abbrev pub P : Plans
+  P = board_plans names
+
+  abbrev pub W : Words
+  W = P.words
+
+  -- ---- the manager
+
+  abbrev pub seen_why : Why → UndoWhy
+  seen_why Stopped = undo_why.Stop
+  seen_why (GetRefused code) = undo_why.GetRefused code
+  seen_why (SetRefused code) = undo_why.Refused code
+  seen_why NotRestorable = undo_why.NotRestorable
+
+  -- the request that carries an operation out
+  abbrev pub series : Op → Asked
+  series op = by_manager names (set_asked op)
+
+  abbrev pub seen_task : Task → machine.Task W
+  seen_task (Gets k op) = machine.Gets k op
+  seen_task (Sets k op back) = machine.Sets k op back
+  seen_task (Undoes back rest) = machine.Undoes (series back) (map series rest)
+
+  -- its request
+  abbrev pub part_of : Asked → machine.Part W
+  part_of asked = record { asked = asked; before = [] }
+
+  abbrev pub stage_of : Phase → machine.Stage W
+  stage_of Fresh = machine.AtStart
+  stage_of (Open heeded task) = machine.Opened heeded (seen_task task) (part_of (asked_for names task))
+  stage_of Done = machine.AtEnd
+  stage_of (Halted k why) = machine.AtHalt k (seen_why why)
+  stage_of Undone = machine.AtUndone
+  stage_of (UndoRefused k code) = machine.AtRefused k code
+
+  abbrev pub counts_of : (Bus → ℕ) → machine.Counts
+  counts_of answered = record { ipmb = answered Ipmb; smbus = answered Smbus }
+
+  abbrev pub machine_of : Manager → machine.Machine W
+  machine_of m = record {
+    plan = m.plan;
+    retries = m.retries;
+    stage = stage_of m.phase;
+    stopped = m.stopped;
+    resent = m.resent;
+    undo = map series m.undo;
+    counts = counts_of m.answered;
+  }
+
+  abbrev pub seen_manager : (made : List ℕ) → Manager → manager.ManagerState P
+  seen_manager made m = record { machine = machine_of m; names = names; joined = seen_as m.waits made }
+
+  -- ---- the lab
+
+  abbrev pub seen_lab : Made → Lab → lab.Lab P
+  seen_lab made x = record {
+    board = x.board;
+    ipmb = seen_port Ipmb made.ipmb x.ipmb;
+    smbus = seen_port Smbus made.smbus x.smbus;
+    manager = seen_manager made.manager x.manager;
+    frames = map seen_frame x.frames;
+    opened = x.opened;
+  }
