@@ -8,7 +8,7 @@ use Rattle.ipmb_frame.specs.Grammar.{packed}
 use Rattle.record_base.specs.declared.message.Asked.TheVariants.{Ipmi, Pldm}
 use Rattle.record_base.specs.declared.message.Answered.{Answered}
 use Rattle.model_bus.specs.Bytes.{ipmb_answers, pldm_answers}
-use Rattle.model_undo.specs.Words as undo
+use Rattle.model_bus.specs.Answered.{Answered as UndoAnswered}
 use Rattle.model_claim.specs.Manager.{told_in, read_in}
 use Rattle.model_claim.specs.Seen.{words_of}
 
@@ -16,7 +16,7 @@ use Rattle.model_claim.specs.Seen.{words_of}
 abbrev pub is_busy : ℕ → Bool
 is_busy code = code == node_busy || code == pldm_not_ready
 
-module _ {X : Type 0} (taken : undo.Answered → X) (ignored : X) where
+module _ {X : Type 0} (taken : UndoAnswered → X) (ignored : X) where
   -- what comes of an answer, if there is one
   abbrev pub of_answer : Option Answered → X
   of_answer None = ignored

@@ -12,7 +12,7 @@ use Rattle.bmc_board.specs.Row.{Row}
 use Rattle.undo_plans.specs.declared.names.Names.{Names}
 use Rattle.model_bus.specs.Request as bus
 use Rattle.model_bus.specs.Repeat.{In}
-use Rattle.model_undo.specs.Words as undo
+use Rattle.model_bus.specs.Answered.{Answered as UndoAnswered}
 use Rattle.model_undo.specs.Plan as plans
 use Rattle.model_undo.specs.Machine as machine
 use Rattle.model_undo.specs.Headline as undo_headline
@@ -149,7 +149,7 @@ has_stop (e ∷ es) (inr is) = let more = has_stop es is in record { earlier = e
 -- ---- the claim
 
 -- an answer of the undo model, in the words of the board
-abbrev pub board_of : undo.Answered → Answered
+abbrev pub board_of : UndoAnswered → Answered
 board_of a = record { code = a.code; body = a.body }
 
 -- nothing was put together yet
@@ -220,7 +220,7 @@ module _ (setup : BoardFile) (names : Names) (plan : List Op) (retries : ℕ) wh
     one = step_so setup names f.made_then z f.holds here (later_honest setup names earlier (here ∷ rest) start all).0
 
     -- what the board answered at the event, as this lab has it
-    record Given (asked : Asked) (a : undo.Answered) : Type 0 where
+    record Given (asked : Asked) (a : UndoAnswered) : Type 0 where
       pub on : Bus
       pub heard : Heard
       pub from_manager : heard.requester ≡ own_on on names
@@ -228,7 +228,7 @@ module _ (setup : BoardFile) (names : Names) (plan : List Op) (retries : ℕ) wh
       pub carried : (port_on on (step setup names z here)).log ≡ Carried heard (board_of a) ∷ (port_on on z).log
       pub row : Row setup z.board asked (board_of a) (step setup names z here).board
 
-    given : (asked : Asked) (a : undo.Answered) → answers.Answers setup names (seen_lab names f.made_then z) (seen_lab names one.made (step setup names z here)) asked a → Given asked a
+    given : (asked : Asked) (a : UndoAnswered) → answers.Answers setup names (seen_lab names f.made_then z) (seen_lab names one.made (step setup names z here)) asked a → Given asked a
     given asked a was =
         let on = was.bus in
         let grown = step_grows setup names on z here in
@@ -250,7 +250,7 @@ module _ (setup : BoardFile) (names : Names) (plan : List Op) (retries : ℕ) wh
         }
 
   -- an answer that was given in the model was given here
-  gave : (events : List Event) (k : ℕ) (asked : Asked) (a : undo.Answered) → AllHonest setup names events start
+  gave : (events : List Event) (k : ℕ) (asked : Asked) (a : UndoAnswered) → AllHonest setup names events start
       → law.GaveIn setup names plan retries (map seen_event events) k (by_manager names asked) a → GaveIn setup names plan retries events k asked (board_of a)
   gave events k asked a all g =
       let s = split events g.before g.later g.event g.all in

@@ -10,7 +10,7 @@ use Rattle.text_schedule.specs.declared.event.Event.{Event}
 use Rattle.text_schedule.specs.declared.event.Event.TheVariants.{Calls}
 use Rattle.bmc_board.specs.Decode.{sent_by}
 use Rattle.model_bus.specs.Repeat.{In}
-use Rattle.model_undo.specs.Words as undo
+use Rattle.model_bus.specs.Answered.{Answered as UndoAnswered}
 use Rattle.model_undo.specs.declared.phase.Why.{Why}
 use Rattle.model_undo.specs.declared.phase.Why.TheVariants.{Stop, Refused, NotRestorable, GetRefused}
 use Rattle.model_undo.specs.declared.phase.Phase.{Phase}
@@ -67,7 +67,7 @@ module _ (file : BoardFile) (plan : List Op) (retries : ℕ) where
   first_records = (lab_after file plan retries []).board.records
 
   module _ (taken : List Event) (start : Records) (same : first_records ≡ start) where
-    gave : (k : ℕ) (asked : Asked) (from : ℕ) (a : undo.Answered) → plays.GaveIn file plan retries taken k (sent_by from asked) a → Gave file plan start k asked (record { code = a.code; body = a.body })
+    gave : (k : ℕ) (asked : Asked) (from : ℕ) (a : UndoAnswered) → plays.GaveIn file plan retries taken k (sent_by from asked) a → Gave file plan start k asked (record { code = a.code; body = a.body })
     gave k asked from a g =
         let x = lab_after file plan retries g.before in
         record {

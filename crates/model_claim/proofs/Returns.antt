@@ -13,7 +13,7 @@ use Rattle.record_base.specs.declared.message.Asked.TheVariants.{Ipmi, Pldm}
 use Rattle.record_base.specs.declared.message.Answered.{Answered}
 use Rattle.record_kinds.specs.Limits.{key_of}
 use Rattle.undo_plans.specs.declared.names.Names.{Names}
-use Rattle.model_undo.specs.Words as undo
+use Rattle.model_bus.specs.Answered.{Answered as UndoAnswered}
 use Rattle.model_undo.specs.Machine as machine
 use Rattle.model_ports.specs.Bytes.{response_bytes}
 use Rattle.model_lab.specs.WireLaws.{IsManagers, managers}
@@ -54,7 +54,7 @@ module _ (names : Names) (x : Lab) (made : Made) where
     there = seen_manager names made_then opened
 
     -- the machine takes an answer, or not
-    abbrev taken : undo.Answered → manager.ManagerDeed (P names)
+    abbrev taken : UndoAnswered → manager.ManagerDeed (P names)
     taken a = manager.taken_or (P names) there (machine.reply_of (W names) a there.machine)
 
     goes_there : (t : Turn) → opened.waits ≡ t.manager.waits → manager.goes_on (P names) there (seen_turn names t) ≡ seen_deed names made_then t

@@ -13,7 +13,7 @@ use Rattle.bmc_board.specs.Row.{Row}
 use Rattle.undo_plans.specs.declared.names.Names.{Names}
 use Rattle.model_bus.specs.Request as bus
 use Rattle.model_bus.specs.Repeat.{In}
-use Rattle.model_undo.specs.Words as undo
+use Rattle.model_bus.specs.Answered.{Answered as UndoAnswered}
 use Rattle.model_undo.specs.Family as undo_family
 use Rattle.model_undo.specs.Plan as plans
 use Rattle.model_undo.specs.Machine as machine
@@ -95,7 +95,7 @@ module _ (setup : BoardFile) (names : Names) (plan : List Op) (retries : ℕ) wh
   abbrev start : Lab
   start = first setup names plan retries
 
-  gave_back : (events : List Event) (k : ℕ) (asked : Asked) (a : undo.Answered) → AllHonest setup names events start
+  gave_back : (events : List Event) (k : ℕ) (asked : Asked) (a : UndoAnswered) → AllHonest setup names events start
       → GaveIn setup names plan retries events k asked (board_of a) → law.GaveIn setup names plan retries (map seen_event events) k (by_manager names asked) a
   gave_back events k asked a all g =
       let all_here : AllHonest setup names (g.before ++ g.event ∷ g.later) start = subst (λ (es : List Event). AllHonest setup names es start) g.all all in

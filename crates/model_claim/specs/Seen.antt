@@ -12,7 +12,7 @@ use Rattle.record_base.specs.declared.message.Answered.{Answered}
 use Rattle.record_kinds.specs.Limits.{set_asked}
 use Rattle.undo_plans.specs.declared.names.Names.{Names}
 use Rattle.model_bus.specs.Request as bus
-use Rattle.model_undo.specs.Words as undo
+use Rattle.model_bus.specs.Answered.{Answered as UndoAnswered}
 use Rattle.model_undo.specs.Words.{Words}
 use Rattle.model_undo.specs.Machine as machine
 use Rattle.model_ports.specs.Wires.{reply_to}
@@ -56,7 +56,7 @@ abbrev pub bare : Heard → bus.Request
 bare r = record { requester = r.requester; number = r.number; bytes = r.bytes }
 
 -- an answer, in the words of the undo model
-abbrev pub words_of : Answered → undo.Answered
+abbrev pub words_of : Answered → UndoAnswered
 words_of a = record { code = a.code; body = a.body }
 
 module _ (spelled : List ℕ → Answered → List ℕ) where
