@@ -78,7 +78,8 @@ module _ (file : BoardFile) (steps : List Op) (retries : ℕ) where
         premise = premise;
         stands = (plays_stand file steps retries events (Stops why place told) is).0;
         unbroken = λ none. (plays_stand file steps retries events (Stops why place told) is).0
-        promise = λ none. keeps_promise file steps retries events (Stops (fault_of why) place told) is
+            (subst (TellsPremise file (take (place - 1) events) first) none premise);
+        promise = λ none. keeps_promise file steps retries events (Stops why place told) is
             (subst (TellsPremise file (take (place - 1) events) first) none premise);
         clean = ends_clean file steps retries few events (Stops why place told) is;
       }

@@ -11,7 +11,6 @@ use Rattle.record_base.specs.declared.op.Op.{Op}
 use Rattle.cfg_records.specs.declared.board_file.BoardFile.{BoardFile}
 use Rattle.undo_plans.specs.declared.names.Names.{Names}
 use Rattle.model_undo.specs.Machine as machine
-use Rattle.model_lab.specs.ManagerSteps as manager
 use Rattle.model_lab.specs.Lab as lab
 use Rattle.model_lab.specs.Faults.{begun_on}
 use Rattle.model_lab.specs.Honest as honest

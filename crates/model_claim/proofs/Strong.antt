@@ -18,7 +18,6 @@ use Rattle.model_undo.specs.Family as undo_family
 use Rattle.model_undo.specs.Plan as plans
 use Rattle.model_undo.specs.Machine as machine
 use Rattle.model_undo.specs.Headline as undo_headline
-use Rattle.model_lab.specs.ManagerSteps as manager
 use Rattle.model_lab.specs.Lab as lab
 use Rattle.model_family.specs.Family.{SetsWithin, conf_within}
 use Rattle.model_headline.specs.Each.{Each}
