@@ -5,19 +5,19 @@ use std::process::Abort;
 use std::test::Fail;
 use two_wire::Bus;
 
-/// A frame is live while fewer than `span` newer requests are begun, and so is the reply to it.
-fn expect_span(rt: &impl Abort, on: Bus, span: usize) -> Result<(), Fail> {
+/// The frame of request 3 is live until so many requests are begun, and no longer, and so is the reply to it.
+fn expect_last(rt: &impl Abort, on: Bus, last: usize, later: usize) -> Result<(), Fail> {
     let frame = Mark {
         on,
         request: 3,
         idles: 0,
     };
     let last = Known {
-        begun: 3 + span,
+        begun: last,
         idles: 0,
     };
     let later = Known {
-        begun: 4 + span,
+        begun: later,
         idles: 0,
     };
     assert!(rt; frame.is_live(last) && frame.reply(0).is_live(last));
@@ -27,12 +27,12 @@ fn expect_span(rt: &impl Abort, on: Bus, span: usize) -> Result<(), Fail> {
 
 #[test]
 fn a_frame_is_live_for_eight_requests_on_smbus(rt: HostRuntime) -> Result<(), Fail> {
-    expect_span(&rt, Bus::Smbus, 8)
+    expect_last(&rt, Bus::Smbus, 11, 12)
 }
 
 #[test]
 fn a_frame_is_live_for_thirty_two_requests_on_ipmb(rt: HostRuntime) -> Result<(), Fail> {
-    expect_span(&rt, Bus::Ipmb, 32)
+    expect_last(&rt, Bus::Ipmb, 35, 36)
 }
 
 #[test]

@@ -2,7 +2,7 @@
 use super::runs::{new_paper, words_of};
 use super::scene::Scene;
 use bmc_host::words::read;
-use bmc_host::{Cause, FrameWords, HostFiles, PlayWords, TellsCause, Words, run_line};
+use bmc_host::{FrameWords, HostFiles, PlayWords, Words, run_line};
 use bmc_lab::{Status, TextFiles, Unreadable, asked_frame, frame_of_file, frame_run};
 use bmc_play::{PlayFiles, Shown, chart_run, play_of_files, play_run, show};
 use std::fs;
@@ -201,21 +201,5 @@ fn a_file_of_the_host_without_a_text_is_not_read(rt: HostRuntime) -> Result<(), 
     fs::write(&rt, "no_text.toml", &[0xFF, 0x0A][..])?;
     assert_eq!(rt; fault_of(&rt, "no_text.toml"), Some(Unreadable::NoText));
     assert_eq!(rt; fault_of(&rt, "none.toml"), Some(Unreadable::NoText));
-    Ok(())
-}
-
-/// Why the host's file of this name gives no text.
-fn cause_of(rt: &HostRuntime, word: &str) -> Cause {
-    HostFiles { rt }.cause(word)
-}
-
-#[test]
-fn a_file_of_the_host_without_a_text_has_a_cause(rt: HostRuntime) -> Result<(), Fail> {
-    fs::write(&rt, "bytes.toml", &[0xFF, 0x0A][..])?;
-    fs::create_dir(&rt, "folder")?;
-    assert_eq!(rt; cause_of(&rt, "bytes.toml"), Cause::NotUtf8);
-    assert_eq!(rt; cause_of(&rt, "none.toml"), Cause::Missing);
-    assert_eq!(rt; cause_of(&rt, "bytes.toml/a"), Cause::Missing);
-    assert_eq!(rt; cause_of(&rt, "folder"), Cause::Folder);
     Ok(())
 }
