@@ -86,13 +86,13 @@ module _ (setup : BoardFile) where
         at Ipmb false phase = same_log x.ipmb.log
         at Smbus false phase = same_log x.smbus.log
         at Ipmb true Fresh = same_log x.ipmb.log
-        at Ipmb true (Open heeded task) = same_log x.ipmb.log
+        at Ipmb true (Open heeded task bodies) = same_log x.ipmb.log
         at Ipmb true Done = same_log x.ipmb.log
         at Ipmb true (Halted k why) = same_log x.ipmb.log
         at Ipmb true Undone = same_log x.ipmb.log
         at Ipmb true (UndoRefused k code) = same_log x.ipmb.log
         at Smbus true Fresh = same_log x.smbus.log
-        at Smbus true (Open heeded task) = same_log x.smbus.log
+        at Smbus true (Open heeded task bodies) = same_log x.smbus.log
         at Smbus true Done = same_log x.smbus.log
         at Smbus true (Halted k why) = same_log x.smbus.log
         at Smbus true Undone = same_log x.smbus.log

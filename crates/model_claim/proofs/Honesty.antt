@@ -31,11 +31,11 @@ none_same asked e = none-some asked (sym e)
 module _ (setup : BoardFile) (names : Names) where
   -- ---- how many requests were begun
 
-  open_asked : (on : Bus) (asked : Asked) → cond (machine.same_bus on (machine.bus_at (W names) (part_of names asked))) 1 0 ≡ open_on on (Some asked)
-  open_asked Ipmb (Ipmi from net_fn lun command body) = refl
-  open_asked Ipmb (Pldm from kind command body) = refl
-  open_asked Smbus (Ipmi from net_fn lun command body) = refl
-  open_asked Smbus (Pldm from kind command body) = refl
+  open_asked : (on : Bus) (asked : Asked) (bodies : List (List ℕ)) → cond (machine.same_bus on (machine.bus_at (W names) (part_of names asked bodies))) 1 0 ≡ open_on on (Some asked)
+  open_asked Ipmb (Ipmi from net_fn lun command body) bodies = refl
+  open_asked Ipmb (Pldm from kind command body) bodies = refl
+  open_asked Smbus (Ipmi from net_fn lun command body) bodies = refl
+  open_asked Smbus (Pldm from kind command body) bodies = refl
 
   open_none : (on : Bus) → 0 ≡ open_on on None
   open_none Ipmb = refl
@@ -43,7 +43,7 @@ module _ (setup : BoardFile) (names : Names) where
 
   open_so : (on : Bus) (phase : Phase) → cond (is_open_bus on (machine.open_bus_at (W names) (stage_of names phase))) 1 0 ≡ open_on on (open_in names phase)
   open_so on Fresh = open_none on
-  open_so on (Open heeded task) = open_asked on (asked_for names task)
+  open_so on (Open heeded task bodies) = open_asked on (asked_for names task bodies) bodies
   open_so on Done = open_none on
   open_so on (Halted k why) = open_none on
   open_so on Undone = open_none on
@@ -62,7 +62,7 @@ module _ (setup : BoardFile) (names : Names) where
 
   none_open : (phase : Phase) → open_in names phase ≡ None → machine.open_bus_at (W names) (stage_of names phase) ≡ None
   none_open Fresh e = refl
-  none_open (Open heeded task) e = absurd (none_same (asked_for names task) e)
+  none_open (Open heeded task bodies) e = absurd (none_same (asked_for names task bodies) e)
   none_open Done e = refl
   none_open (Halted k why) e = refl
   none_open Undone e = refl

@@ -1,5 +1,5 @@
 -- What a lab does at an honest event is what the model's does.
-use Rattle.std.proofs.Common.{◌≡◌, ℕ, ◌+◌, ◌%◌, Bool, true, false, not, ◌&&◌, cond, List, [], ◌∷◌, map, Option, Some, None, refl, sym, ◌∙◌, ap, subst, arith, inl, inr}
+use Rattle.std.proofs.Common.{◌≡◌, ℕ, ◌+◌, ◌%◌, Bool, true, false, not, ◌&&◌, cond, List, [], ◌∷◌, ◌++◌, map, Option, Some, None, refl, sym, ◌∙◌, ap, subst, arith, inl, inr}
 use Rattle.std.specs.Prelude.{◌==◌, nat_lt, slice_get}
 use Rattle.std.specs.Option.{option_map}
 use Rattle.std.proofs.lemmas.Option.{slice_get-map}
@@ -24,7 +24,7 @@ use Rattle.model_lab.specs.Lab as lab
 use Rattle.model_headline.specs.Each.{Each}
 use Rattle.model_headline.proofs.Each.{each_at, each_append, each_map}
 use Rattle.model_claim.specs.Frames.{Value, Asks, Tells, Part, circle, envelope, packets_of, is_meant, is_taken, waits_after, whole}
-use Rattle.model_claim.specs.Manager.{Call, Start, Quiet, Stop, Again, Undo, Task, Gets, Sets, Undoes, Phase, Fresh, Open, Done, Halted, Undone, UndoRefused, Manager, Turn, rests, called, bus_of, asked_for, open_in, frames_of, carried_out, refused, told, told_in, is_part, read_in}
+use Rattle.model_claim.specs.Manager.{Call, Start, Quiet, Stop, Again, Undo, Task, Gets, Sets, Undoes, Phase, Fresh, Open, Done, Halted, Undone, UndoRefused, Manager, Turn, rests, called, bus_of, asked_for, are_all, open_in, frames_of, carried_out, refused, told, told_in, is_part, read_in}
 use Rattle.model_claim.specs.Manager as the_manager
 use Rattle.model_claim.specs.Lab.{Deed, stays, hears, hears_packets, Way, ToPort, ToManager, ToOthers, Frame, Event, Calls, ToBmc, ToMgr, OtherIpmb, OtherSmbus, Noise, Idles, OnBench, Lab, port_on, idles_on, with_frames, sends, goes_on, port_does, opens, delivered, returned, hears_all, step}
 use Rattle.model_claim.specs.Claim.{IsDelivered, IsHonest}
@@ -49,77 +49,80 @@ picks false s t left right = right
 
 call_orderly : (call : Call) (phase : Phase) (m : Manager) → IsOrderly m.waits → IsOrderly (called call phase m).manager.waits
 call_orderly Start Fresh m h = h
-call_orderly Start (Open heeded task) m h = h
+call_orderly Start (Open heeded task bodies) m h = h
 call_orderly Start Done m h = h
 call_orderly Start (Halted k why) m h = h
 call_orderly Start Undone m h = h
 call_orderly Start (UndoRefused k code) m h = h
 call_orderly Quiet Fresh m h = h
-call_orderly Quiet (Open true task) m h =
-    picks (nat_lt m.resent m.retries) (let t : Turn = record { manager = record m { resent = m.resent + 1 }; sends = true } in t) (rests (record m { phase = Open false task })) h h
-call_orderly Quiet (Open false task) m h = h
+call_orderly Quiet (Open true task bodies) m h =
+    picks (nat_lt m.resent m.retries) (let t : Turn = record { manager = record m { resent = m.resent + 1 }; sends = true } in t) (rests (record m { phase = Open false task bodies })) h h
+call_orderly Quiet (Open false task bodies) m h = h
 call_orderly Quiet Done m h = h
 call_orderly Quiet (Halted k why) m h = h
 call_orderly Quiet Undone m h = h
 call_orderly Quiet (UndoRefused k code) m h = h
 call_orderly Stop Fresh m h = h
-call_orderly Stop (Open true (Gets k op)) m h = h
-call_orderly Stop (Open true (Sets k op back)) m h = h
-call_orderly Stop (Open true (Undoes back rest)) m h = h
-call_orderly Stop (Open false task) m h = h
+call_orderly Stop (Open true (Gets k op) bodies) m h = h
+call_orderly Stop (Open true (Sets k op back) bodies) m h = h
+call_orderly Stop (Open true (Undoes back rest) bodies) m h = h
+call_orderly Stop (Open false task bodies) m h = h
 call_orderly Stop Done m h = h
 call_orderly Stop (Halted k why) m h = h
 call_orderly Stop Undone m h = h
 call_orderly Stop (UndoRefused k code) m h = h
 call_orderly Again Fresh m h = h
-call_orderly Again (Open true task) m h = h
-call_orderly Again (Open false task) m h = h
+call_orderly Again (Open true task bodies) m h = h
+call_orderly Again (Open false task bodies) m h = h
 call_orderly Again Done m h = h
 call_orderly Again (Halted k why) m h = h
 call_orderly Again Undone m h = h
 call_orderly Again (UndoRefused k code) m h = h
 call_orderly Undo Fresh m h = h
-call_orderly Undo (Open heeded task) m h = h
+call_orderly Undo (Open heeded task bodies) m h = h
 call_orderly Undo Done m h = none_orderly
 call_orderly Undo (Halted k why) m h = none_orderly
 call_orderly Undo Undone m h = h
 call_orderly Undo (UndoRefused k code) m h = h
 
-carried_orderly : (task : Task) (body : List ℕ) (m : Manager) → IsOrderly m.waits → IsOrderly (carried_out task body m).manager.waits
-carried_orderly (Gets k op) body m h = h
-carried_orderly (Sets k op back) body m h = h
-carried_orderly (Undoes back rest) body m h = h
+carried_orderly : (all : Bool) (task : Task) (bodies : List (List ℕ)) (m : Manager) → IsOrderly m.waits → IsOrderly (carried_out all task bodies m).manager.waits
+carried_orderly false task bodies m h = h
+carried_orderly true (Gets k op) bodies m h = h
+carried_orderly true (Sets k op back) bodies m h = h
+carried_orderly true (Undoes back rest) bodies m h = h
 
 refused_orderly : (task : Task) (code : ℕ) (m : Manager) → IsOrderly m.waits → IsOrderly (refused task code m).manager.waits
 refused_orderly (Gets k op) code m h = h
 refused_orderly (Sets k op back) code m h = h
 refused_orderly (Undoes back rest) code m h = h
 
-told_orderly : (names : Names) (task : Task) (o : Option Answered) (m : Manager) → IsOrderly m.waits → IsOrderly (told names task o m).manager.waits
-told_orderly names task None m h = h
-told_orderly names task (Some a) m h =
-    let next : Manager = record m { answered = the_manager.one_more (bus_of (asked_for names task)) m.answered } in
-    picks (is_busy a.code) (rests m) (cond (a.code == success) (carried_out task a.body next) (refused task a.code next)) h
-    (picks (a.code == success) (carried_out task a.body next) (refused task a.code next) (carried_orderly task a.body next h) (refused_orderly task a.code next h))
+told_orderly : (names : Names) (task : Task) (bodies : List (List ℕ)) (o : Option Answered) (m : Manager) → IsOrderly m.waits → IsOrderly (told names task bodies o m).manager.waits
+told_orderly names task bodies None m h = h
+told_orderly names task bodies (Some a) m h =
+    let next : Manager = record m { answered = the_manager.one_more (bus_of (asked_for names task bodies)) m.answered } in
+    let with_it = bodies ++ a.body ∷ [] in
+    let done = carried_out (are_all task with_it) task with_it next in
+    picks (is_busy a.code) (rests m) (cond (a.code == success) done (refused task a.code next)) h
+    (picks (a.code == success) done (refused task a.code next) (carried_orderly (are_all task with_it) task with_it next h) (refused_orderly task a.code next h))
 
 hears_orderly : (names : Names) (v : Value) (phase : Phase) (m : Manager) → IsOrderly m.waits → IsOrderly (the_manager.hears names v phase m).manager.waits
 hears_orderly names (Asks r) phase m h = h
 hears_orderly names (Tells r) Fresh m h = h
-hears_orderly names (Tells r) (Open true task) m h =
-    picks ((r.header.requester.address == names.own_address && r.header.responder.address == names.peer_address)) (told names task (told_in (m.answered Ipmb) (asked_for names task) r) m) (rests m) (told_orderly names task (told_in (m.answered Ipmb) (asked_for names task) r) m h) h
-hears_orderly names (Tells r) (Open false task) m h = h
+hears_orderly names (Tells r) (Open true task bodies) m h =
+    picks ((r.header.requester.address == names.own_address && r.header.responder.address == names.peer_address)) (told names task bodies (told_in (m.answered Ipmb) (asked_for names task bodies) r) m) (rests m) (told_orderly names task bodies (told_in (m.answered Ipmb) (asked_for names task bodies) r) m h) h
+hears_orderly names (Tells r) (Open false task bodies) m h = h
 hears_orderly names (Tells r) Done m h = h
 hears_orderly names (Tells r) (Halted k why) m h = h
 hears_orderly names (Tells r) Undone m h = h
 hears_orderly names (Tells r) (UndoRefused k code) m h = h
 hears_orderly names (Part p) Fresh m h = h
-hears_orderly names (Part p) (Open true task) m h =
+hears_orderly names (Part p) (Open true task bodies) m h =
     let next : Manager = record m { waits = waits_after names.own_eid p m.waits } in
-    let message = read_in (m.answered Smbus) (asked_for names task) (whole p m.waits) in
+    let message = read_in (m.answered Smbus) (asked_for names task bodies) (whole p m.waits) in
     let more = (is_kept p m.waits [] h names.own_eid).orderly_then in
-    picks (not (is_part names (m.answered Smbus) (asked_for names task) p)) (rests m) (cond (is_taken names.own_eid p m.waits && p.end) (told names task message next) (rests next)) h
-    (picks (is_taken names.own_eid p m.waits && p.end) (told names task message next) (rests next) (told_orderly names task message next more) more)
-hears_orderly names (Part p) (Open false task) m h = h
+    picks (not (is_part names (m.answered Smbus) (asked_for names task bodies) p)) (rests m) (cond (is_taken names.own_eid p m.waits && p.end) (told names task bodies message next) (rests next)) h
+    (picks (is_taken names.own_eid p m.waits && p.end) (told names task bodies message next) (rests next) (told_orderly names task bodies message next more) more)
+hears_orderly names (Part p) (Open false task bodies) m h = h
 hears_orderly names (Part p) Done m h = h
 hears_orderly names (Part p) (Halted k why) m h = h
 hears_orderly names (Part p) Undone m h = h
@@ -138,10 +141,10 @@ module _ (setup : BoardFile) (names : Names) where
   asked_suits n (Pldm from kind command body) is =
       parts_suit names setup ToPort (packets_of (envelope names.peer_wire names.own_wire names.peer_eid names.own_eid true (n % 8)) (1 ∷ request_bytes (record { header = record { instance = n % circle Smbus; pldm_type = kind; command = command }; body = body })))
 
-  task_managers : (task : Task) → IsManagers (addresses names) (asked_for names task)
-  task_managers (Gets k op) = managers (addresses names) (asked_for names (Gets k op)) (asked_for names (Gets k op), inl (key_of op, refl), inl refl)
-  task_managers (Sets k op back) = managers (addresses names) (asked_for names (Sets k op back)) (asked_for names (Sets k op back), inr (op, refl), inl refl)
-  task_managers (Undoes back rest) = managers (addresses names) (asked_for names (Undoes back rest)) (asked_for names (Undoes back rest), inr (back, refl), inl refl)
+  task_managers : (task : Task) (bodies : List (List ℕ)) → IsManagers (addresses names) (asked_for names task bodies)
+  task_managers (Gets k op) bodies = managers (addresses names) (asked_for names (Gets k op) bodies) (asked_for names (Gets k op) bodies, inl (key_of op, refl), inl refl)
+  task_managers (Sets k op back) bodies = managers (addresses names) (asked_for names (Sets k op back) bodies) (asked_for names (Sets k op back) bodies, inr (op, refl), inl refl)
+  task_managers (Undoes back rest) bodies = managers (addresses names) (asked_for names (Undoes back rest) bodies) (asked_for names (Undoes back rest) bodies, inr (back, refl), inl refl)
 
   turn_holds : (t : Turn) (x : Lab) → Holds names x → IsOrderly t.manager.waits → Holds names (goes_on names t x)
   turn_holds t x h orderly = at t.sends t.manager.phase
@@ -156,9 +159,9 @@ module _ (setup : BoardFile) (names : Names) where
         frames = h.frames;
       }
 
-      sent : (task : Task) → Holds names (sends names (Some (asked_for names task)) (record x { manager = t.manager }))
-      sent task =
-          let asked = asked_for names task in
+      sent : (task : Task) (bodies : List (List ℕ)) → Holds names (sends names (Some (asked_for names task bodies)) (record x { manager = t.manager }))
+      sent task bodies =
+          let asked = asked_for names task bodies in
           let n = t.manager.answered (bus_of asked) in
           record {
             ipmb_orderly = h.ipmb_orderly;
@@ -166,13 +169,13 @@ module _ (setup : BoardFile) (names : Names) where
             manager_orderly = orderly;
             ipmb_reads = h.ipmb_reads;
             smbus_reads = h.smbus_reads;
-            frames = frames_sound (bus_of asked) ToPort n (frames_of names n asked) (record x { manager = t.manager }) h.frames (asked_suits n asked (task_managers task));
+            frames = frames_sound (bus_of asked) ToPort n (frames_of names n asked) (record x { manager = t.manager }) h.frames (asked_suits n asked (task_managers task bodies));
           }
 
       at : (b : Bool) (phase : Phase) → Holds names (cond b (sends names (open_in names phase) (record x { manager = t.manager })) (record x { manager = t.manager }))
       at false phase = there
       at true Fresh = there
-      at true (Open heeded task) = sent task
+      at true (Open heeded task bodies) = sent task bodies
       at true Done = there
       at true (Halted k why) = there
       at true Undone = there

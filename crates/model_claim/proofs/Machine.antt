@@ -1,18 +1,19 @@
 -- The manager's table is the machine of the undo model.
-use Rattle.std.proofs.Common.{◌≡◌, ℕ, suc, ◌+◌, Bool, true, false, cond, List, [], ◌∷◌, length, map, Option, Some, None, refl, ◌∙◌, ap}
+use Rattle.std.proofs.Common.{◌≡◌, ℕ, suc, ◌+◌, Bool, true, false, cond, List, [], ◌∷◌, ◌++◌, length, map, Option, Some, None, refl, ◌∙◌, ap}
 use Rattle.std.specs.Prelude.{◌==◌, nat_lt, slice_get}
 use Rattle.std.proofs.lemmas.List.{length-map}
 use Rattle.two_wire.specs.Codes.{success}
 use Rattle.two_wire.specs.declared.Bus.{Bus}
 use Rattle.two_wire.specs.declared.Bus.TheVariants.{Ipmb, Smbus}
 use Rattle.record_base.specs.declared.op.Op.{Op}
+use Rattle.record_base.specs.declared.message.Asked.{Asked}
 use Rattle.record_base.specs.declared.message.Answered.{Answered}
 use Rattle.record_kinds.specs.Limits.{inverse}
 use Rattle.undo_plans.specs.declared.names.Names.{Names}
 use Rattle.model_undo.specs.Words.{Words}
 use Rattle.model_undo.specs.Machine as machine
 use Rattle.model_lab.specs.ManagerSteps as manager
-use Rattle.model_claim.specs.Manager.{Call, Start, Quiet, Stop, Again, Undo, Task, Gets, Sets, Undoes, Phase, Fresh, Open, Done, Halted, Undone, UndoRefused, Manager, Turn, enters, rests, next_step, set_step, undo_step, called, carried_out, refused, one_more, bus_of, asked_for}
+use Rattle.model_claim.specs.Manager.{Call, Start, Quiet, Stop, Again, Undo, Task, Gets, Sets, Undoes, Phase, Fresh, Open, Done, Halted, Undone, UndoRefused, Manager, Turn, enters, rests, next_step, set_step, undo_step, next_part, called, carried_out, refused, one_more, bus_of, asked_for, are_all, shown_by}
 use Rattle.model_claim.specs.Seen.{seen_as, words_of, P, W, series, seen_call, seen_task, part_of, stage_of, counts_of, machine_of}
 use Rattle.model_undo.specs.declared.phase.Why.TheVariants as undo_why
 
@@ -75,48 +76,48 @@ module _ (names : Names) where
       where
         waits_same : (phase : Phase) → seen_as m.waits made ≡ seen_as (enters phase (at_phase Fresh m)).manager.waits made
         waits_same phase = refl
-    call_turn Start (Open true task) = refl
-    call_turn Start (Open false task) = refl
+    call_turn Start (Open true task bodies) = refl
+    call_turn Start (Open false task bodies) = refl
     call_turn Start Done = refl
     call_turn Start (Halted k why) = refl
     call_turn Start Undone = refl
     call_turn Start (UndoRefused k code) = refl
     call_turn Quiet Fresh = refl
-    call_turn Quiet (Open true task) = at (nat_lt m.resent m.retries)
+    call_turn Quiet (Open true task bodies) = at (nat_lt m.resent m.retries)
       where
         again : Turn
-        again = record { manager = record (at_phase (Open true task) m) { resent = m.resent + 1 }; sends = true }
+        again = record { manager = record (at_phase (Open true task bodies) m) { resent = m.resent + 1 }; sends = true }
 
         stays : Turn
-        stays = rests (record (at_phase (Open true task) m) { phase = Open false task })
+        stays = rests (record (at_phase (Open true task bodies) m) { phase = Open false task bodies })
 
-        at : (b : Bool) → IsTurn Quiet made (cond b (Some (seen_turn again)) (Some (seen_turn stays))) (at_phase (Open true task) m) (cond b again stays)
+        at : (b : Bool) → IsTurn Quiet made (cond b (Some (seen_turn again)) (Some (seen_turn stays))) (at_phase (Open true task bodies) m) (cond b again stays)
         at true = (refl, record { made_then = made; is = refl })
         at false = (refl, record { made_then = made; is = refl })
-    call_turn Quiet (Open false task) = refl
+    call_turn Quiet (Open false task bodies) = refl
     call_turn Quiet Done = refl
     call_turn Quiet (Halted k why) = refl
     call_turn Quiet Undone = refl
     call_turn Quiet (UndoRefused k code) = refl
     call_turn Stop Fresh = refl
-    call_turn Stop (Open true (Gets k op)) = (refl, record { made_then = made; is = refl })
-    call_turn Stop (Open true (Sets k op back)) = (refl, record { made_then = made; is = refl })
-    call_turn Stop (Open true (Undoes back rest)) = refl
-    call_turn Stop (Open false task) = refl
+    call_turn Stop (Open true (Gets k op) bodies) = (refl, record { made_then = made; is = refl })
+    call_turn Stop (Open true (Sets k op back) bodies) = (refl, record { made_then = made; is = refl })
+    call_turn Stop (Open true (Undoes back rest) bodies) = refl
+    call_turn Stop (Open false task bodies) = refl
     call_turn Stop Done = refl
     call_turn Stop (Halted k why) = refl
     call_turn Stop Undone = refl
     call_turn Stop (UndoRefused k code) = refl
     call_turn Again Fresh = refl
-    call_turn Again (Open true task) = refl
-    call_turn Again (Open false task) = (refl, record { made_then = made; is = refl })
+    call_turn Again (Open true task bodies) = refl
+    call_turn Again (Open false task bodies) = (refl, record { made_then = made; is = refl })
     call_turn Again Done = refl
     call_turn Again (Halted k why) = refl
     call_turn Again Undone = refl
     call_turn Again (UndoRefused k code) = refl
     call_turn Undo Fresh = refl
-    call_turn Undo (Open true task) = refl
-    call_turn Undo (Open false task) = refl
+    call_turn Undo (Open true task bodies) = refl
+    call_turn Undo (Open false task bodies) = refl
     call_turn Undo Done = (goes_back m.undo (record (at_phase Done m) { waits = [] }), record { made_then = []; is = refl })
     call_turn Undo (Halted k why) = (goes_back m.undo (record (at_phase (Halted k why) m) { waits = [] }), record { made_then = []; is = refl })
     call_turn Undo Undone = refl
@@ -138,39 +139,64 @@ module _ (names : Names) where
   gets_then true k (Some op) m = refl
   gets_then false k (Some op) m = refl
 
-  -- the manager once the request was answered
-  abbrev pub answered : Task → Manager → Manager
-  answered task m = record m { answered = one_more (bus_of (asked_for names task)) m.answered }
+  -- the task's next request
+  more_gets : (stopped : Bool) (k : ℕ) (op : Op) (bodies : List (List ℕ)) (m : Manager)
+      → machine.enters M (machine.goes_on M stopped (machine.Gets k op) (part_of names (asked_for names (Gets k op) bodies) bodies)) (machine_of names m)
+      ≡ seen_turn (enters (next_part (Gets k op) stopped bodies) m)
+  more_gets true k op bodies m = refl
+  more_gets false k op bodies m = refl
 
-  module _ (a : Answered) (m : Manager) where
+  -- the manager once the request was answered
+  abbrev pub answered : Task → List (List ℕ) → Manager → Manager
+  answered task bodies m = record m { answered = one_more (bus_of (asked_for names task bodies)) m.answered }
+
+  module _ (a : Answered) (m : Manager) (bodies : List (List ℕ)) where
+    -- the data of the replies, with those of this one
+    abbrev pub bodies_then : List (List ℕ)
+    bodies_then = bodies ++ a.body ∷ []
+
+    -- the turn that the answer makes
+    abbrev pub turn_told : Task → Turn
+    turn_told task = cond (a.code == success) (carried_out (are_all task bodies_then) task bodies_then (answered task bodies m)) (refused task a.code (answered task bodies m))
+
     -- the machine takes the reply to the request of a task, with these counts
     abbrev takes_with : Task → machine.Counts → machine.Turn M
     takes_with task counts =
-        machine.enters M (machine.stage_after M m.stopped m.plan (words_of a) (seen_task names task) (part_of names (asked_for names task)))
-        (record (machine_of names m) { undo = machine.undo_after M (words_of a) (seen_task names task) (part_of names (asked_for names task)) (map (series names) m.undo); counts = counts })
+        machine.enters M (machine.stage_after M m.stopped m.plan (words_of a) (seen_task names task) (part_of names (asked_for names task bodies) bodies))
+        (record (machine_of names m) { undo = machine.undo_after M (words_of a) (seen_task names task) (part_of names (asked_for names task bodies) bodies) (map (series names) m.undo); counts = counts })
 
-    counted : (task : Task) → takes_with task (machine.one_answered (bus_of (asked_for names task)) (counts_of names m.answered)) ≡ takes_with task (counts_of names (answered task m).answered)
-    counted task = ap (takes_with task) (counts_alike (bus_of (asked_for names task)) m.answered)
+    counted : (task : Task) → takes_with task (machine.one_answered (bus_of (asked_for names task bodies)) (counts_of names m.answered)) ≡ takes_with task (counts_of names (answered task bodies m).answered)
+    counted task = ap (takes_with task) (counts_alike (bus_of (asked_for names task bodies)) m.answered)
 
-    pub takes_turn : (task : Task) → machine.takes M (words_of a) (seen_task names task) (part_of names (asked_for names task)) (machine_of names m)
-        ≡ seen_turn (cond (a.code == success) (carried_out task a.body (answered task m)) (refused task a.code (answered task m)))
-    takes_turn (Gets k op) = counted (Gets k op) ∙ at (a.code == success)
+    -- the task's next request, unless these replies are all
+    abbrev next : Task → Bool → Option Asked
+    next task true = None
+    next task false = Some (asked_for names task bodies_then)
+
+    pub takes_turn : (task : Task) → machine.takes M (words_of a) (seen_task names task) (part_of names (asked_for names task bodies) bodies) (machine_of names m) ≡ seen_turn (turn_told task)
+    takes_turn (Gets k op) = counted (Gets k op) ∙ at (a.code == success) (are_all (Gets k op) bodies_then)
       where
-        at : (b : Bool) → machine.enters M (cond b (machine.set_stage M m.stopped k op (inverse op a.body)) (machine.AtHalt k (undo_why.GetRefused a.code))) (machine_of names (answered (Gets k op) m))
-            ≡ seen_turn (cond b (carried_out (Gets k op) a.body (answered (Gets k op) m)) (refused (Gets k op) a.code (answered (Gets k op) m)))
-        at true = sets_then m.stopped k op (inverse op a.body) (answered (Gets k op) m)
-        at false = refl
-    takes_turn (Sets k op back) = counted (Sets k op back) ∙ at (a.code == success)
+        at : (ok all : Bool)
+            → machine.enters M (cond ok (machine.told_stage M m.stopped m.plan (machine.Gets k op) bodies_then (next (Gets k op) all)) (machine.AtHalt k (undo_why.GetRefused a.code))) (machine_of names (answered (Gets k op) bodies m))
+            ≡ seen_turn (cond ok (carried_out all (Gets k op) bodies_then (answered (Gets k op) bodies m)) (refused (Gets k op) a.code (answered (Gets k op) bodies m)))
+        at true true = sets_then m.stopped k op (inverse op (shown_by bodies_then)) (answered (Gets k op) bodies m)
+        at true false = more_gets m.stopped k op bodies_then (answered (Gets k op) bodies m)
+        at false all = refl
+    takes_turn (Sets k op back) = counted (Sets k op back) ∙ at (a.code == success) (are_all (Sets k op back) bodies_then)
       where
-        at : (b : Bool)
-            → machine.enters M (cond b (machine.next_stage M m.stopped (suc k) (slice_get m.plan (suc k))) (machine.AtHalt k (undo_why.Refused a.code)))
-            (record (machine_of names (answered (Sets k op back) m)) { undo = cond b (series names back ∷ map (series names) m.undo) (map (series names) m.undo) })
-            ≡ seen_turn (cond b (carried_out (Sets k op back) a.body (answered (Sets k op back) m)) (refused (Sets k op back) a.code (answered (Sets k op back) m)))
-        at true = gets_then m.stopped (suc k) (slice_get m.plan (suc k)) (record (answered (Sets k op back) m) { undo = back ∷ m.undo })
-        at false = refl
-    takes_turn (Undoes back rest) = counted (Undoes back rest) ∙ at (a.code == success)
+        at : (ok all : Bool)
+            → machine.enters M (cond ok (machine.told_stage M m.stopped m.plan (machine.Sets k op back) bodies_then (next (Sets k op back) all)) (machine.AtHalt k (undo_why.Refused a.code)))
+            (record (machine_of names (answered (Sets k op back) bodies m)) { undo = cond ok (machine.undo_with M back (next (Sets k op back) all) (map (series names) m.undo)) (map (series names) m.undo) })
+            ≡ seen_turn (cond ok (carried_out all (Sets k op back) bodies_then (answered (Sets k op back) bodies m)) (refused (Sets k op back) a.code (answered (Sets k op back) bodies m)))
+        at true true = gets_then m.stopped (suc k) (slice_get m.plan (suc k)) (record (answered (Sets k op back) bodies m) { undo = back ∷ m.undo })
+        at true false = refl
+        at false all = refl
+    takes_turn (Undoes back rest) = counted (Undoes back rest) ∙ at (a.code == success) (are_all (Undoes back rest) bodies_then)
       where
-        at : (b : Bool) → machine.enters M (cond b (machine.undo_stage M (map (series names) rest)) (machine.AtRefused (length (map (series names) rest)) a.code)) (machine_of names (answered (Undoes back rest) m))
-            ≡ seen_turn (cond b (carried_out (Undoes back rest) a.body (answered (Undoes back rest) m)) (refused (Undoes back rest) a.code (answered (Undoes back rest) m)))
-        at true = goes_back rest (answered (Undoes back rest) m)
-        at false = ap (λ (n : ℕ). machine.enters M (machine.AtRefused n a.code) (machine_of names (answered (Undoes back rest) m))) (length-map rest (series names))
+        at : (ok all : Bool)
+            → machine.enters M (cond ok (machine.told_stage M m.stopped m.plan (seen_task names (Undoes back rest)) bodies_then (next (Undoes back rest) all)) (machine.AtRefused (length (map (series names) rest)) a.code))
+            (machine_of names (answered (Undoes back rest) bodies m))
+            ≡ seen_turn (cond ok (carried_out all (Undoes back rest) bodies_then (answered (Undoes back rest) bodies m)) (refused (Undoes back rest) a.code (answered (Undoes back rest) bodies m)))
+        at true true = goes_back rest (answered (Undoes back rest) bodies m)
+        at true false = refl
+        at false all = ap (λ (n : ℕ). machine.enters M (machine.AtRefused n a.code) (machine_of names (answered (Undoes back rest) bodies m))) (length-map rest (series names))

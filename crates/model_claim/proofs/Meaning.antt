@@ -45,13 +45,13 @@ module _ (setup : BoardFile) (names : Names) where
 
     pub stands_so : (phase : Phase) (r : Records) → plans.Stands family plan start (machine.phase_at (W names) (stage_of names phase)) r → Stands setup plan start phase r
     stands_so Fresh r is = is
-    stands_so (Open true (Gets k op)) r is = after_so k r is
-    stands_so (Open false (Gets k op)) r is = both k (suc k) r is
-    stands_so (Open true (Sets k op back)) r is = both k (suc k) r is
-    stands_so (Open false (Sets k op back)) r is = both k (suc k) r is
-    stands_so (Open true (Undoes back rest)) r is =
+    stands_so (Open true (Gets k op) bodies) r is = after_so k r is
+    stands_so (Open false (Gets k op) bodies) r is = both k (suc k) r is
+    stands_so (Open true (Sets k op back) bodies) r is = both k (suc k) r is
+    stands_so (Open false (Sets k op back) bodies) r is = both k (suc k) r is
+    stands_so (Open true (Undoes back rest) bodies) r is =
         swapped (suc (length rest)) (length rest) r (subst (λ n. plans.IsAfter family plan start (suc n) r ⊎ plans.IsAfter family plan start n r) (length-map rest (series names)) is)
-    stands_so (Open false (Undoes back rest)) r is =
+    stands_so (Open false (Undoes back rest) bodies) r is =
         both (length rest) (suc (length rest)) r (subst (λ n. plans.IsAfter family plan start n r ⊎ plans.IsAfter family plan start (suc n) r) (length-map rest (series names)) is)
     stands_so Done r is = after_so (length plan) r is
     stands_so (Halted k why) r is = after_so k r is

@@ -109,7 +109,7 @@ module _ (setup : BoardFile) (names : Names) where
 
     none_here : (phase : Phase) → machine.open_bus_at (W names) (stage_of names phase) ≡ None → open_in names phase ≡ None
     none_here Fresh e = refl
-    none_here (Open heeded task) e = absurd (none-some (machine.bus_at (W names) (part_of names (asked_for names task))) (sym e))
+    none_here (Open heeded task bodies) e = absurd (none-some (machine.bus_at (W names) (part_of names (asked_for names task bodies) bodies)) (sym e))
     none_here Done e = refl
     none_here (Halted k why) e = refl
     none_here Undone e = refl

@@ -21,11 +21,11 @@ use Rattle.model_lab.specs.ManagerSteps.{addresses}
 use Rattle.model_lab.specs.ManagerSteps as manager
 use Rattle.model_lab.specs.Lab as lab
 use Rattle.model_claim.specs.Frames.{Value, Asks, Tells, Part, is_taken, waits_after, whole}
-use Rattle.model_claim.specs.Manager.{Task, Gets, Sets, Undoes, Phase, Fresh, Open, Done, Halted, Undone, UndoRefused, Manager, Turn, rests, asked_for, told, told_in, is_part, read_in, hears, carried_out, refused}
+use Rattle.model_claim.specs.Manager.{Task, Gets, Sets, Undoes, Phase, Fresh, Open, Done, Halted, Undone, UndoRefused, Manager, Turn, rests, asked_for, told, told_in, is_part, read_in, hears, are_all, carried_out, refused}
 use Rattle.model_claim.specs.Lab.{Lab, goes_on}
 use Rattle.model_claim.proofs.Packets.{Agrees, IsKept, is_kept}
 use Rattle.model_claim.proofs.Answers.{is_busy, of_answer, responses_alike, messages_alike}
-use Rattle.model_claim.proofs.Machine.{seen_turn, at_phase, answered, takes_turn}
+use Rattle.model_claim.proofs.Machine.{seen_turn, at_phase, answered, bodies_then, turn_told, takes_turn}
 use Rattle.model_claim.proofs.Sends.{seen_deed, turn_lands, IsSeen}
 use Rattle.model_claim.specs.Seen.{seen_as, words_of, P, W, seen_value, seen_task, part_of, stage_of, machine_of, seen_manager, seen_lab, Made}
 use Rattle.model_claim.proofs.Holds.{IsOrderly, IsLow}
@@ -45,10 +45,10 @@ module _ (names : Names) (x : Lab) (made : Made) where
       let then : Made = record made { manager = made_then } in
       record { made = then; is = ap (λ (d : manager.ManagerDeed (P names)). lab.manager_does (P names) d (seen_lab names made x)) e ∙ turn_lands names t then x }
 
-  module _ (task : Task) (m : Manager) (made_then : List ℕ) where
+  module _ (task : Task) (bodies : List (List ℕ)) (m : Manager) (made_then : List ℕ) where
     -- the manager, while the task's request is open
     abbrev opened : Manager
-    opened = at_phase names (Open true task) m
+    opened = at_phase names (Open true task bodies) m
 
     abbrev there : manager.ManagerState (P names)
     there = seen_manager names made_then opened
@@ -60,37 +60,44 @@ module _ (names : Names) (x : Lab) (made : Made) where
     goes_there : (t : Turn) → opened.waits ≡ t.manager.waits → manager.goes_on (P names) there (seen_turn names t) ≡ seen_deed names made_then t
     goes_there t e = λ i. record { manager = record { machine = machine_of names t.manager; names = names; joined = seen_as (e i) made_then }; sent = (seen_deed names made_then t).sent }
 
-    carried_waits : (task : Task) (body : List ℕ) (m : Manager) → m.waits ≡ (carried_out task body m).manager.waits
-    carried_waits (Gets k op) body m = refl
-    carried_waits (Sets k op back) body m = refl
-    carried_waits (Undoes back rest) body m = refl
+    carried_waits : (all : Bool) (task : Task) (bodies : List (List ℕ)) (m : Manager) → m.waits ≡ (carried_out all task bodies m).manager.waits
+    carried_waits false task bodies m = refl
+    carried_waits true (Gets k op) bodies m = refl
+    carried_waits true (Sets k op back) bodies m = refl
+    carried_waits true (Undoes back rest) bodies m = refl
 
     refused_waits : (task : Task) (code : ℕ) (m : Manager) → m.waits ≡ (refused task code m).manager.waits
     refused_waits (Gets k op) code m = refl
     refused_waits (Sets k op back) code m = refl
     refused_waits (Undoes back rest) code m = refl
 
-    waits_so : (a : Answered) (b : Bool) → opened.waits ≡ (cond b (carried_out task a.body (answered names task opened)) (refused task a.code (answered names task opened))).manager.waits
-    waits_so a true = carried_waits task a.body (answered names task opened)
-    waits_so a false = refused_waits task a.code (answered names task opened)
+    -- the turn that an answer makes
+    abbrev turn_so : Answered → Turn
+    turn_so a = turn_told names a opened bodies task
+
+    waits_so : (a : Answered) → opened.waits ≡ (turn_so a).manager.waits
+    waits_so a = at (a.code == success) (are_all task (bodies_then names a opened bodies))
+      where
+        at : (ok all : Bool) → opened.waits ≡ (cond ok (carried_out all task (bodies_then names a opened bodies) (answered names task bodies opened)) (refused task a.code (answered names task bodies opened))).manager.waits
+        at true all = carried_waits all task (bodies_then names a opened bodies) (answered names task bodies opened)
+        at false all = refused_waits task a.code (answered names task bodies opened)
 
     answer_so : (a : Answered) (busy : Bool) → is_busy a.code ≡ busy
-        → cond busy (manager.rests (P names) there) (taken (words_of a))
-        ≡ seen_deed names made_then (cond busy (rests opened) (cond (a.code == success) (carried_out task a.body (answered names task opened)) (refused task a.code (answered names task opened))))
+        → cond busy (manager.rests (P names) there) (taken (words_of a)) ≡ seen_deed names made_then (cond busy (rests opened) (turn_so a))
     answer_so a true e = refl
     answer_so a false e =
-        ap (λ (b : Bool). manager.taken_or (P names) there (let none : Option (machine.Turn (W names)) = None in cond b none (Some (machine.takes (W names) (words_of a) (seen_task names task) (part_of names (asked_for names task)) there.machine)))) e
-        ∙ ap (λ (t : machine.Turn (W names)). manager.goes_on (P names) there t) (takes_turn names a opened task)
-        ∙ goes_there (cond (a.code == success) (carried_out task a.body (answered names task opened)) (refused task a.code (answered names task opened))) (waits_so a (a.code == success))
+        ap (λ (b : Bool). manager.taken_or (P names) there (let none : Option (machine.Turn (W names)) = None in cond b none (Some (machine.takes (W names) (words_of a) (seen_task names task) (part_of names (asked_for names task bodies) bodies) there.machine)))) e
+        ∙ ap (λ (t : machine.Turn (W names)). manager.goes_on (P names) there t) (takes_turn names a opened bodies task)
+        ∙ goes_there (turn_so a) (waits_so a)
 
     -- what comes of an answer
-    pub answer_told : (o : Option Answered) → of_answer taken (manager.rests (P names) there) o ≡ seen_deed names made_then (told names task o opened)
+    pub answer_told : (o : Option Answered) → of_answer taken (manager.rests (P names) there) o ≡ seen_deed names made_then (told names task bodies o opened)
     answer_told None = refl
     answer_told (Some a) = answer_so a (is_busy a.code) refl
 
     -- the request, where it is heeded on the bus
     abbrev heeds : Bus → Asked → Option (machine.Part (W names))
-    heeds on asked = let none : Option (machine.Part (W names)) = None in cond (machine.same_bus on (machine.bus_at (W names) (part_of names asked))) (Some (part_of names asked)) none
+    heeds on asked = let none : Option (machine.Part (W names)) = None in cond (machine.same_bus on (machine.bus_at (W names) (part_of names asked bodies))) (Some (part_of names asked bodies)) none
 
     -- ---- whole messages
 
@@ -108,25 +115,25 @@ module _ (names : Names) (x : Lab) (made : Made) where
     managers_low (Ipmi from net_fn lun command body) is = omega (arith, is.1)
     managers_low (Pldm from kind command body) is = tt
 
-    task_low : (task : Task) → LowAsked (asked_for names task)
-    task_low (Gets k op) = managers_low (asked_for names (Gets k op)) (managers (addresses names) (asked_for names (Gets k op)) (asked_for names (Gets k op), inl (key_of op, refl), inl refl))
-    task_low (Sets k op back) = managers_low (asked_for names (Sets k op back)) (managers (addresses names) (asked_for names (Sets k op back)) (asked_for names (Sets k op back), inr (op, refl), inl refl))
-    task_low (Undoes back rest) = managers_low (asked_for names (Undoes back rest)) (managers (addresses names) (asked_for names (Undoes back rest)) (asked_for names (Undoes back rest), inr (back, refl), inl refl))
+    task_low : (task : Task) → LowAsked (asked_for names task bodies)
+    task_low (Gets k op) = managers_low (asked_for names (Gets k op) bodies) (managers (addresses names) (asked_for names (Gets k op) bodies) (asked_for names (Gets k op) bodies, inl (key_of op, refl), inl refl))
+    task_low (Sets k op back) = managers_low (asked_for names (Sets k op back) bodies) (managers (addresses names) (asked_for names (Sets k op back) bodies) (asked_for names (Sets k op back) bodies, inr (op, refl), inl refl))
+    task_low (Undoes back rest) = managers_low (asked_for names (Undoes back rest) bodies) (managers (addresses names) (asked_for names (Undoes back rest) bodies) (asked_for names (Undoes back rest) bodies, inr (back, refl), inl refl))
 
-    pub response_told : (r : Response) → IsLow names r.header → manager.hears_reply (P names) Ipmb (response_bytes r) there ≡ seen_deed names made_then (told names task (told_in (m.answered Ipmb) (asked_for names task) r) opened)
-    response_told r low = by_response r low (asked_for names task) (task_low task) ∙ answer_told (told_in (m.answered Ipmb) (asked_for names task) r)
+    pub response_told : (r : Response) → IsLow names r.header → manager.hears_reply (P names) Ipmb (response_bytes r) there ≡ seen_deed names made_then (told names task bodies (told_in (m.answered Ipmb) (asked_for names task bodies) r) opened)
+    response_told r low = by_response r low (asked_for names task bodies) (task_low task) ∙ answer_told (told_in (m.answered Ipmb) (asked_for names task bodies) r)
 
     by_message : (reply : List ℕ) (asked : Asked)
         → manager.tested (P names) Smbus reply there (heeds Smbus asked) ≡ of_answer taken (manager.rests (P names) there) (read_in (m.answered Smbus) asked reply)
     by_message reply (Ipmi from net_fn lun command body) = refl
     by_message reply (Pldm from kind command body) = messages_alike taken (manager.rests (P names) there) (m.answered Smbus) from kind command body reply
 
-    pub message_told : (reply : List ℕ) → manager.hears_reply (P names) Smbus reply there ≡ seen_deed names made_then (told names task (read_in (m.answered Smbus) (asked_for names task) reply) opened)
-    message_told reply = by_message reply (asked_for names task) ∙ answer_told (read_in (m.answered Smbus) (asked_for names task) reply)
+    pub message_told : (reply : List ℕ) → manager.hears_reply (P names) Smbus reply there ≡ seen_deed names made_then (told names task bodies (read_in (m.answered Smbus) (asked_for names task bodies) reply) opened)
+    message_told reply = by_message reply (asked_for names task bodies) ∙ answer_told (read_in (m.answered Smbus) (asked_for names task bodies) reply)
 
   -- ---- packets
 
-  module _ (task : Task) (m : Manager) (p : Packet) (orderly : IsOrderly m.waits) where
+  module _ (task : Task) (bodies : List (List ℕ)) (m : Manager) (p : Packet) (orderly : IsOrderly m.waits) where
     abbrev kept : IsKept p m.waits made.manager orderly names.own_eid
     kept = is_kept p m.waits made.manager orderly names.own_eid
 
@@ -135,18 +142,18 @@ module _ (names : Names) (x : Lab) (made : Made) where
     joined_manager = record m { waits = waits_after names.own_eid p m.waits }
 
     abbrev before_it : Manager
-    before_it = opened task m made.manager
+    before_it = opened task bodies m made.manager
 
     abbrev with_it : manager.ManagerState (P names)
-    with_it = there task joined_manager kept.made_then
+    with_it = there task bodies joined_manager kept.made_then
 
     -- the turn that the packet makes
     abbrev turn_then : Bool → Turn
-    turn_then ends = cond ends (told names task (read_in (m.answered Smbus) (asked_for names task) (whole p m.waits)) (opened task joined_manager kept.made_then)) (rests (opened task joined_manager kept.made_then))
+    turn_then ends = cond ends (told names task bodies (read_in (m.answered Smbus) (asked_for names task bodies) (whole p m.waits)) (opened task bodies joined_manager kept.made_then)) (rests (opened task bodies joined_manager kept.made_then))
 
     message_is : (ends : Bool) → p.end ≡ ends → is_taken names.own_eid p m.waits ≡ true
         → cond ends (manager.hears_reply (P names) Smbus (cond p.start p.payload kept.made_then) with_it) (manager.rests (P names) with_it) ≡ seen_deed names kept.made_then (turn_then ends)
-    message_is true e sure = ap (λ (reply : List ℕ). manager.hears_reply (P names) Smbus reply with_it) (kept.ends sure e) ∙ message_told task joined_manager kept.made_then (whole p m.waits)
+    message_is true e sure = ap (λ (reply : List ℕ). manager.hears_reply (P names) Smbus reply with_it) (kept.ends sure e) ∙ message_told task bodies joined_manager kept.made_then (whole p m.waits)
     message_is false e sure = refl
 
     by_cause : (cause : Option DropCause) (yes : Bool) → Agrees p m.waits made.manager orderly yes cause → is_taken names.own_eid p m.waits ≡ yes → manager.ends_reply (P names) p cause with_it ≡ seen_deed names kept.made_then (turn_then (yes && p.end))
@@ -155,22 +162,22 @@ module _ (names : Names) (x : Lab) (made : Made) where
     by_cause None true agrees e = message_is p.end refl e
     by_cause None false agrees e = absurd agrees
 
-    joins_so : manager.joins (P names) p (there task m made.manager) ≡ seen_deed names kept.made_then (turn_then (is_taken names.own_eid p m.waits && p.end))
+    joins_so : manager.joins (P names) p (there task bodies m made.manager) ≡ seen_deed names kept.made_then (turn_then (is_taken names.own_eid p m.waits && p.end))
     joins_so =
-        ap (λ (a : Assemblies). manager.ends_reply (P names) p (drop_cause names.own_eid (seen_as m.waits made.manager) p) (record (there task m made.manager) { joined = a })) kept.is
+        ap (λ (a : Assemblies). manager.ends_reply (P names) p (drop_cause names.own_eid (seen_as m.waits made.manager) p) (record (there task bodies m made.manager) { joined = a })) kept.is
         ∙ by_cause (drop_cause names.own_eid (seen_as m.waits made.manager) p) (is_taken names.own_eid p m.waits) kept.agrees refl
 
-    by_part : (b : Bool) → Lands (cond b (manager.joins (P names) p (there task m made.manager)) (manager.rests (P names) (there task m made.manager))) (cond (not b) (rests before_it) (turn_then (is_taken names.own_eid p m.waits && p.end)))
-    by_part true = lands (manager.joins (P names) p (there task m made.manager)) (turn_then (is_taken names.own_eid p m.waits && p.end)) kept.made_then joins_so
-    by_part false = lands (manager.rests (P names) (there task m made.manager)) (rests before_it) made.manager refl
+    by_part : (b : Bool) → Lands (cond b (manager.joins (P names) p (there task bodies m made.manager)) (manager.rests (P names) (there task bodies m made.manager))) (cond (not b) (rests before_it) (turn_then (is_taken names.own_eid p m.waits && p.end)))
+    by_part true = lands (manager.joins (P names) p (there task bodies m made.manager)) (turn_then (is_taken names.own_eid p m.waits && p.end)) kept.made_then joins_so
+    by_part false = lands (manager.rests (P names) (there task bodies m made.manager)) (rests before_it) made.manager refl
 
-    by_asked : (asked : Asked) → Lands (manager.joins_for (P names) p (there task m made.manager) (heeds task m made.manager Smbus asked)) (cond (not (is_part names (m.answered Smbus) asked p)) (rests before_it) (turn_then (is_taken names.own_eid p m.waits && p.end)))
-    by_asked (Ipmi from net_fn lun command body) = lands (manager.rests (P names) (there task m made.manager)) (rests before_it) made.manager refl
+    by_asked : (asked : Asked) → Lands (manager.joins_for (P names) p (there task bodies m made.manager) (heeds task bodies m made.manager Smbus asked)) (cond (not (is_part names (m.answered Smbus) asked p)) (rests before_it) (turn_then (is_taken names.own_eid p m.waits && p.end)))
+    by_asked (Ipmi from net_fn lun command body) = lands (manager.rests (P names) (there task bodies m made.manager)) (rests before_it) made.manager refl
     by_asked (Pldm from kind command body) = by_part (is_part names (m.answered Smbus) (Pldm from kind command body) p)
 
-    pub packet_lands : Lands (manager.hears_packet (P names) p (there task m made.manager)) (hears names (Part p) (Open true task) before_it)
+    pub packet_lands : Lands (manager.hears_packet (P names) p (there task bodies m made.manager)) (hears names (Part p) (Open true task bodies) before_it)
     unfolding manager.hears_packet
-    packet_lands = by_asked (asked_for names task)
+    packet_lands = by_asked (asked_for names task bodies)
 
   -- ---- any frame
 
@@ -196,13 +203,13 @@ module _ (names : Names) (x : Lab) (made : Made) where
         (λ i. cond ((r.header.requester.address == names.own_address && r.header.responder.address == names.peer_address)) (manager.tested (P names) Ipmb (response_bytes r) (seen_manager names made.manager (at_phase names phase m)) (e i)) (manager.rests (P names) (seen_manager names made.manager (at_phase names phase m))))
         ∙ sym (cond_same ((r.header.requester.address == names.own_address && r.header.responder.address == names.peer_address)) (manager.rests (P names) (seen_manager names made.manager (at_phase names phase m))))
 
-    response_comes : (r : Response) (task : Task) → IsLow names r.header → Comes (Tells r) (Open true task)
+    response_comes : (r : Response) (task : Task) (bodies : List (List ℕ)) → IsLow names r.header → Comes (Tells r) (Open true task bodies)
     unfolding manager.hears_response
-    response_comes r task low = at ((r.header.requester.address == names.own_address && r.header.responder.address == names.peer_address))
+    response_comes r task bodies low = at ((r.header.requester.address == names.own_address && r.header.responder.address == names.peer_address))
       where
-        at : (b : Bool) → Lands (cond b (manager.hears_reply (P names) Ipmb (response_bytes r) (there task m made.manager)) (manager.rests (P names) (there task m made.manager))) (cond b (told names task (told_in (m.answered Ipmb) (asked_for names task) r) (opened task m made.manager)) (rests (opened task m made.manager)))
-        at true = lands (manager.hears_reply (P names) Ipmb (response_bytes r) (there task m made.manager)) (told names task (told_in (m.answered Ipmb) (asked_for names task) r) (opened task m made.manager)) made.manager (response_told task m made.manager r low)
-        at false = lands (manager.rests (P names) (there task m made.manager)) (rests (opened task m made.manager)) made.manager refl
+        at : (b : Bool) → Lands (cond b (manager.hears_reply (P names) Ipmb (response_bytes r) (there task bodies m made.manager)) (manager.rests (P names) (there task bodies m made.manager))) (cond b (told names task bodies (told_in (m.answered Ipmb) (asked_for names task bodies) r) (opened task bodies m made.manager)) (rests (opened task bodies m made.manager)))
+        at true = lands (manager.hears_reply (P names) Ipmb (response_bytes r) (there task bodies m made.manager)) (told names task bodies (told_in (m.answered Ipmb) (asked_for names task bodies) r) (opened task bodies m made.manager)) made.manager (response_told task bodies m made.manager r low)
+        at false = lands (manager.rests (P names) (there task bodies m made.manager)) (rests (opened task bodies m made.manager)) made.manager refl
 
     unheard : (p : Packet) (phase : Phase) → manager.heeded_on (P names) Smbus (stage_of names phase) ≡ None
         → manager.hears_packet (P names) p (seen_manager names made.manager (at_phase names phase m)) ≡ manager.rests (P names) (seen_manager names made.manager (at_phase names phase m))
@@ -212,15 +219,15 @@ module _ (names : Names) (x : Lab) (made : Made) where
     pub comes : (v : Value) → LowValue v → (phase : Phase) → Comes v phase
     comes (Asks r) low phase = nothing (Asks r) phase refl refl
     comes (Tells r) low Fresh = nothing (Tells r) Fresh (ignored r Fresh refl) refl
-    comes (Tells r) low (Open true task) = response_comes r task low
-    comes (Tells r) low (Open false task) = nothing (Tells r) (Open false task) (ignored r (Open false task) refl) refl
+    comes (Tells r) low (Open true task bodies) = response_comes r task bodies low
+    comes (Tells r) low (Open false task bodies) = nothing (Tells r) (Open false task bodies) (ignored r (Open false task bodies) refl) refl
     comes (Tells r) low Done = nothing (Tells r) Done (ignored r Done refl) refl
     comes (Tells r) low (Halted k why) = nothing (Tells r) (Halted k why) (ignored r (Halted k why) refl) refl
     comes (Tells r) low Undone = nothing (Tells r) Undone (ignored r Undone refl) refl
     comes (Tells r) low (UndoRefused k code) = nothing (Tells r) (UndoRefused k code) (ignored r (UndoRefused k code) refl) refl
     comes (Part p) low Fresh = nothing (Part p) Fresh (unheard p Fresh refl) refl
-    comes (Part p) low (Open true task) = packet_lands task m p orderly
-    comes (Part p) low (Open false task) = nothing (Part p) (Open false task) (unheard p (Open false task) refl) refl
+    comes (Part p) low (Open true task bodies) = packet_lands task bodies m p orderly
+    comes (Part p) low (Open false task bodies) = nothing (Part p) (Open false task bodies) (unheard p (Open false task bodies) refl) refl
     comes (Part p) low Done = nothing (Part p) Done (unheard p Done refl) refl
     comes (Part p) low (Halted k why) = nothing (Part p) (Halted k why) (unheard p (Halted k why) refl) refl
     comes (Part p) low Undone = nothing (Part p) Undone (unheard p Undone refl) refl

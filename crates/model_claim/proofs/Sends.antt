@@ -91,7 +91,7 @@ module _ (names : Names) where
           ≡ seen_lab names made (cond b (sends names (open_in names phase) (record x { manager = t.manager })) (record x { manager = t.manager }))
       at false phase = refl
       at true Fresh = refl
-      at true (Open heeded task) = sent (asked_for names task) (machine.count_of (bus_of (asked_for names task)) (counts_of names t.manager.answered)) (count_so (bus_of (asked_for names task)) t.manager.answered)
+      at true (Open heeded task bodies) = sent (asked_for names task bodies) (machine.count_of (bus_of (asked_for names task bodies)) (counts_of names t.manager.answered)) (count_so (bus_of (asked_for names task bodies)) t.manager.answered)
       at true Done = refl
       at true (Halted k why) = refl
       at true Undone = refl

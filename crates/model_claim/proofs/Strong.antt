@@ -63,13 +63,13 @@ module _ (setup : BoardFile) (names : Names) where
 
     stands_back : (phase : Phase) (r : Records) → Stands setup plan start phase r → plans.Stands (F setup names) plan start (machine.phase_at (W names) (stage_of names phase)) r
     stands_back Fresh r is = is
-    stands_back (Open true (Gets k op)) r is = after_back k r is
-    stands_back (Open false (Gets k op)) r is = both k (suc k) r is
-    stands_back (Open true (Sets k op back)) r is = both k (suc k) r is
-    stands_back (Open false (Sets k op back)) r is = both k (suc k) r is
-    stands_back (Open true (Undoes back rest)) r is =
+    stands_back (Open true (Gets k op) bodies) r is = after_back k r is
+    stands_back (Open false (Gets k op) bodies) r is = both k (suc k) r is
+    stands_back (Open true (Sets k op back) bodies) r is = both k (suc k) r is
+    stands_back (Open false (Sets k op back) bodies) r is = both k (suc k) r is
+    stands_back (Open true (Undoes back rest) bodies) r is =
         subst (λ n. plans.IsAfter (F setup names) plan start (suc n) r ⊎ plans.IsAfter (F setup names) plan start n r) (sym (length-map rest (series names))) (swapped (length rest) (suc (length rest)) r is)
-    stands_back (Open false (Undoes back rest)) r is =
+    stands_back (Open false (Undoes back rest) bodies) r is =
         subst (λ n. plans.IsAfter (F setup names) plan start n r ⊎ plans.IsAfter (F setup names) plan start (suc n) r) (sym (length-map rest (series names))) (both (length rest) (suc (length rest)) r is)
     stands_back Done r is = after_back (length plan) r is
     stands_back (Halted k why) r is = after_back k r is
@@ -143,10 +143,10 @@ module _ (setup : BoardFile) (names : Names) (plan : List Op) (retries : ℕ) wh
 
     caused : (events : List Event) → AllHonest setup names events start → (phase : Phase) → ((k : ℕ) (why : Why) → phase ≡ Halted k why → IsCause setup names plan retries events k why) → Caused events (machine.phase_at (W names) (stage_of names phase))
     caused events all Fresh c = tt
-    caused events all (Open true (Gets k op)) c = tt
-    caused events all (Open true (Sets k op back)) c = tt
-    caused events all (Open true (Undoes back rest)) c = tt
-    caused events all (Open false task) c = tt
+    caused events all (Open true (Gets k op) bodies) c = tt
+    caused events all (Open true (Sets k op back) bodies) c = tt
+    caused events all (Open true (Undoes back rest) bodies) c = tt
+    caused events all (Open false task bodies) c = tt
     caused events all Done c = tt
     caused events all Undone c = tt
     caused events all (UndoRefused k code) c = tt
@@ -171,10 +171,10 @@ module _ (setup : BoardFile) (names : Names) (plan : List Op) (retries : ℕ) wh
 
     undone_phase : (phase : Phase) → machine.phase_at (W names) (stage_of names phase) ≡ undo_phase.Undone → phase ≡ Undone
     undone_phase Fresh e = absurd cc
-    undone_phase (Open true (Gets k op)) e = absurd cc
-    undone_phase (Open true (Sets k op back)) e = absurd cc
-    undone_phase (Open true (Undoes back rest)) e = absurd cc
-    undone_phase (Open false task) e = absurd cc
+    undone_phase (Open true (Gets k op) bodies) e = absurd cc
+    undone_phase (Open true (Sets k op back) bodies) e = absurd cc
+    undone_phase (Open true (Undoes back rest) bodies) e = absurd cc
+    undone_phase (Open false task bodies) e = absurd cc
     undone_phase Done e = absurd cc
     undone_phase Undone e = refl
     undone_phase (UndoRefused k code) e = absurd cc

@@ -48,10 +48,10 @@ module _ (setup : BoardFile) where
   -- what the phase says of the records
   abbrev pub Stands : List Op → (start : Records) → Phase → Records → Type 0
   Stands plan start Fresh r = r ≡ start
-  Stands plan start (Open true (Gets k op)) r = IsAfter plan start k r
-  Stands plan start (Open false (Gets k op)) r = IsAfter plan start k r ⊎ IsAfter plan start (suc k) r
-  Stands plan start (Open heeded (Sets k op back)) r = IsAfter plan start k r ⊎ IsAfter plan start (suc k) r
-  Stands plan start (Open heeded (Undoes back rest)) r = IsAfter plan start (length rest) r ⊎ IsAfter plan start (suc (length rest)) r
+  Stands plan start (Open true (Gets k op) bodies) r = IsAfter plan start k r
+  Stands plan start (Open false (Gets k op) bodies) r = IsAfter plan start k r ⊎ IsAfter plan start (suc k) r
+  Stands plan start (Open heeded (Sets k op back) bodies) r = IsAfter plan start k r ⊎ IsAfter plan start (suc k) r
+  Stands plan start (Open heeded (Undoes back rest) bodies) r = IsAfter plan start (length rest) r ⊎ IsAfter plan start (suc (length rest)) r
   Stands plan start Done r = IsAfter plan start (length plan) r
   Stands plan start (Halted k why) r = IsAfter plan start k r
   Stands plan start Undone r = r ≡ start

@@ -1,5 +1,5 @@
 -- A manager: what each call and each frame makes of it, and when it sends the frames of its open request.
-use Rattle.std.specs.Prelude.{ℕ, suc, ◌+◌, ◌==◌, ◌&&◌, ◌||◌, not, ◌/◌, ◌%◌, nat_lt, Bool, true, false, List, [], ◌∷◌, length, map, Option, Some, None, if◌then◌else◌, slice_get}
+use Rattle.std.specs.Prelude.{ℕ, suc, ◌+◌, ◌==◌, ◌&&◌, ◌||◌, not, ◌/◌, ◌%◌, nat_lt, Bool, true, false, List, [], ◌∷◌, ◌++◌, length, map, Option, Some, None, if◌then◌else◌, slice_get, unwrap_or}
 use Rattle.two_wire.specs.Codes.{success, node_busy, pldm_not_ready}
 use Rattle.two_wire.specs.declared.Bus.{Bus}
 use Rattle.two_wire.specs.declared.Bus.TheVariants.{Ipmb, Smbus}
@@ -24,7 +24,7 @@ pub data Why : Type 0 where
   Stopped NotRestorable : Why
   GetRefused SetRefused : (code : ℕ) → Why
 
--- what a manager is at; each is one request, and steps count from 0
+-- What a manager is at; steps count from 0. Each task is a series of requests, of which one is sent once the one before it was answered.
 pub data Task : Type 0 where
   -- it gets the record that step k of the plan changes
   Gets : (k : ℕ) (op : Op) → Task
@@ -33,11 +33,11 @@ pub data Task : Type 0 where
   -- it undoes a step by the first operation, and those before it by the rest
   Undoes : (back : Op) (rest : List Op) → Task
 
--- Where it is with its plan. A task's request is open: heeded, or unsettled, since it was sent as often as is allowed, and then no reply is
--- taken. A plan halted after k steps.
+-- Where it is with its plan. A task's request is open, after replies with these data to those before it: heeded, or unsettled, since it was
+-- sent as often as is allowed, and then no reply is taken. A plan halted after k steps.
 pub data Phase : Type 0 where
   Fresh Done Undone : Phase
-  Open : (heeded : Bool) (task : Task) → Phase
+  Open : (heeded : Bool) (task : Task) (bodies : List (List ℕ)) → Phase
   Halted : (k : ℕ) (why : Why) → Phase
   UndoRefused : (k code : ℕ) → Phase
 
@@ -72,15 +72,22 @@ bus_of (Pldm from kind command body) = Smbus
 abbrev pub by_manager : Names → Asked → Asked
 by_manager names asked = sent_by (own_on (bus_of asked) names) asked
 
--- the request of a task
-abbrev pub asked_for : Names → Task → Asked
-asked_for names (Gets k op) = by_manager names (get_asked (key_of op))
-asked_for names (Sets k op back) = by_manager names (set_asked op)
-asked_for names (Undoes back rest) = by_manager names (set_asked back)
+-- A task's series, which is one request today: the request after replies with these data; whether such replies are all of the series; and what
+-- they show together.
+abbrev pub asked_for : Names → Task → (bodies : List (List ℕ)) → Asked
+asked_for names (Gets k op) bodies = by_manager names (get_asked (key_of op))
+asked_for names (Sets k op back) bodies = by_manager names (set_asked op)
+asked_for names (Undoes back rest) bodies = by_manager names (set_asked back)
+
+abbrev pub are_all : Task → (bodies : List (List ℕ)) → Bool
+are_all task bodies = true
+
+abbrev pub shown_by : (bodies : List (List ℕ)) → List ℕ
+shown_by bodies = unwrap_or (slice_get bodies 0) []
 
 -- the open request
 abbrev pub open_in : Names → Phase → Option Asked
-open_in names (Open heeded task) = Some (asked_for names task)
+open_in names (Open heeded task bodies) = Some (asked_for names task bodies)
 open_in names phase = None
 
 -- the frames of the manager's request of this number: one on IPMB, and on SMBus the packets of a message, whose tag is the number's
@@ -109,38 +116,44 @@ rests m = record { manager = m; sends = false }
 abbrev pub next_step : Bool → ℕ → Option Op → Phase
 next_step stopped k None = Done
 next_step true k (Some op) = Halted k Stopped
-next_step false k (Some op) = Open true (Gets k op)
+next_step false k (Some op) = Open true (Gets k op) []
 
 -- the step's Set, unless it can't be undone or the plan is to stop
 abbrev pub set_step : Bool → ℕ → Op → Option Op → Phase
 set_step stopped k op None = Halted k NotRestorable
 set_step true k op (Some back) = Halted k Stopped
-set_step false k op (Some back) = Open true (Sets k op back)
+set_step false k op (Some back) = Open true (Sets k op back) []
 
 -- what undoes is gone through, or nothing is left
 abbrev pub undo_step : List Op → Phase
 undo_step [] = Undone
-undo_step (back ∷ rest) = Open true (Undoes back rest)
+undo_step (back ∷ rest) = Open true (Undoes back rest) []
+
+-- the task's next request; a plan that is to stop gets no more of a record
+abbrev pub next_part : Task → Bool → (bodies : List (List ℕ)) → Phase
+next_part (Gets k op) true bodies = Halted k Stopped
+next_part task stopped bodies = Open true task bodies
 
 -- a call; in a phase that isn't one for the call nothing changes
 abbrev pub called : Call → Phase → Manager → Turn
 called Start Fresh m = enters (next_step false 0 (slice_get m.plan 0)) m
-called Quiet (Open true task) m =
+called Quiet (Open true task bodies) m =
     if nat_lt m.resent m.retries
     then record { manager = record m { resent = m.resent + 1 }; sends = true }
-    else rests (record m { phase = Open false task })
-called Again (Open false task) m = enters (Open true task) m
-called Stop (Open true (Gets k op)) m = rests (record m { stopped = true })
-called Stop (Open true (Sets k op back)) m = rests (record m { stopped = true })
+    else rests (record m { phase = Open false task bodies })
+called Again (Open false task bodies) m = enters (Open true task bodies) m
+called Stop (Open true (Gets k op) bodies) m = rests (record m { stopped = true })
+called Stop (Open true (Sets k op back) bodies) m = rests (record m { stopped = true })
 called Undo Done m = enters (undo_step m.undo) (record m { waits = [] })
 called Undo (Halted k why) m = enters (undo_step m.undo) (record m { waits = [] })
 called call phase m = rests m
 
--- the task's request was carried out, and its reply shows these data
-abbrev pub carried_out : Task → List ℕ → Manager → Turn
-carried_out (Gets k op) body m = enters (set_step m.stopped k op (inverse op body)) m
-carried_out (Sets k op back) body m = enters (next_step m.stopped (suc k) (slice_get m.plan (suc k))) (record m { undo = back ∷ m.undo })
-carried_out (Undoes back rest) body m = enters (undo_step rest) m
+-- requests of the task were carried out, all or not, and their replies have these data
+abbrev pub carried_out : (all : Bool) → Task → (bodies : List (List ℕ)) → Manager → Turn
+carried_out false task bodies m = enters (next_part task m.stopped bodies) m
+carried_out true (Gets k op) bodies m = enters (set_step m.stopped k op (inverse op (shown_by bodies))) m
+carried_out true (Sets k op back) bodies m = enters (next_step m.stopped (suc k) (slice_get m.plan (suc k))) (record m { undo = back ∷ m.undo })
+carried_out true (Undoes back rest) bodies m = enters (undo_step rest) m
 
 -- it was refused
 abbrev pub refused : Task → ℕ → Manager → Turn
@@ -154,13 +167,14 @@ one_more Ipmb answered Ipmb = suc (answered Ipmb)
 one_more Smbus answered Smbus = suc (answered Smbus)
 one_more bus answered on = answered on
 
--- the answer to the task's request comes, if one does; that of a busy port is none
-abbrev pub told : Names → Task → Option Answered → Manager → Turn
-told names task None m = rests m
-told names task (Some a) m =
-    let next : Manager = record m { answered = one_more (bus_of (asked_for names task)) m.answered } in
+-- the answer to the task's open request comes, if one does; that of a busy port is none
+abbrev pub told : Names → Task → (bodies : List (List ℕ)) → Option Answered → Manager → Turn
+told names task bodies None m = rests m
+told names task bodies (Some a) m =
+    let next : Manager = record m { answered = one_more (bus_of (asked_for names task bodies)) m.answered } in
+    let with_it = bodies ++ a.body ∷ [] in
     if a.code == node_busy || a.code == pldm_not_ready then rests m
-    else if a.code == success then carried_out task a.body next
+    else if a.code == success then carried_out (are_all task with_it) task with_it next
     else refused task a.code next
 
 -- ---- frames
@@ -186,12 +200,13 @@ read_in n asked bytes = None
 
 -- a frame comes, which is nothing to a manager that heeds no request
 abbrev pub hears : Names → Value → Phase → Manager → Turn
-hears names (Tells r) (Open true task) m =
+hears names (Tells r) (Open true task bodies) m =
     if r.header.requester.address == names.own_address && r.header.responder.address == names.peer_address
-    then told names task (told_in (m.answered Ipmb) (asked_for names task) r) m else rests m
-hears names (Part p) (Open true task) m =
+    then told names task bodies (told_in (m.answered Ipmb) (asked_for names task bodies) r) m else rests m
+hears names (Part p) (Open true task bodies) m =
+    let asked = asked_for names task bodies in
     let next : Manager = record m { waits = waits_after names.own_eid p m.waits } in
-    if not (is_part names (m.answered Smbus) (asked_for names task) p) then rests m
-    else if is_taken names.own_eid p m.waits && p.end then told names task (read_in (m.answered Smbus) (asked_for names task) (whole p m.waits)) next
+    if not (is_part names (m.answered Smbus) asked p) then rests m
+    else if is_taken names.own_eid p m.waits && p.end then told names task bodies (read_in (m.answered Smbus) asked (whole p m.waits)) next
     else rests next
 hears names value phase m = rests m

@@ -1,5 +1,5 @@
 -- The lab of the machinery that a lab of the statement is. This is no part of the statement: it says in which words the statement was proved.
-use Rattle.std.specs.Prelude.{ℕ, Bool, List, [], length, filter, map}
+use Rattle.std.specs.Prelude.{ℕ, Bool, List, length, filter, map}
 use Rattle.two_wire.specs.declared.Bus.{Bus}
 use Rattle.two_wire.specs.declared.Bus.TheVariants.{Ipmb, Smbus}
 use Rattle.mctp_net.specs.declared.packet.Name.{Name}
@@ -142,13 +142,13 @@ module _ (names : Names) where
   seen_task (Sets k op back) = machine.Sets k op back
   seen_task (Undoes back rest) = machine.Undoes (series back) (map series rest)
 
-  -- its request
-  abbrev pub part_of : Asked → machine.Part W
-  part_of asked = record { asked = asked; before = [] }
+  -- its open request, after replies with these data
+  abbrev pub part_of : Asked → List (List ℕ) → machine.Part W
+  part_of asked bodies = record { asked = asked; before = bodies }
 
   abbrev pub stage_of : Phase → machine.Stage W
   stage_of Fresh = machine.AtStart
-  stage_of (Open heeded task) = machine.Opened heeded (seen_task task) (part_of (asked_for names task))
+  stage_of (Open heeded task bodies) = machine.Opened heeded (seen_task task) (part_of (asked_for names task bodies) bodies)
   stage_of Done = machine.AtEnd
   stage_of (Halted k why) = machine.AtHalt k (seen_why why)
   stage_of Undone = machine.AtUndone
