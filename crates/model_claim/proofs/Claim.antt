@@ -9,6 +9,7 @@ use Rattle.record_base.specs.declared.message.Answered.{Answered}
 use Rattle.cfg_records.specs.declared.board_file.BoardFile.{BoardFile}
 use Rattle.record_kinds.specs.Limits.{key_of, get_asked, set_asked}
 use Rattle.bmc_board.specs.Row.{Row}
+use Rattle.bmc_board.proofs.OneAnswer.{has_one_answer}
 use Rattle.undo_plans.specs.declared.names.Names.{Names}
 use Rattle.model_bus.specs.Request as bus
 use Rattle.model_bus.specs.Repeat.{In}
@@ -27,7 +28,7 @@ use Rattle.model_headline.specs.Theorem as law
 use Rattle.model_headline.proofs.Theorem.{headline}
 use Rattle.model_claim.specs.Manager.{Call, Start, Quiet, Stop, Again, Undo, Why, Stopped, GetRefused, SetRefused, NotRestorable, Phase, Halted, Undone, own_on, by_manager}
 use Rattle.model_claim.specs.Lab.{Heard, Entry, Carried, Idled, Event, Calls, ToBmc, ToMgr, OtherIpmb, OtherSmbus, Noise, Idles, OnBench, Lab, port_on, step}
-use Rattle.model_claim.specs.Claim.{AllHonest, first, after, GaveIn, IsCause, Claim}
+use Rattle.model_claim.specs.Claim.{ours, AllHonest, first, after, GaveIn, IsCause, Claim}
 use Rattle.model_claim.proofs.Labs.{none_orderly, Steps, step_so}
 use Rattle.model_claim.proofs.Honesty.{Runs, runs_so, first_honest, later_honest}
 use Rattle.model_claim.proofs.Grows.{step_grows}
@@ -157,12 +158,12 @@ nothing_made = record { ipmb = []; smbus = []; manager = [] }
 
 module _ (setup : BoardFile) (names : Names) (plan : List Op) (retries : ℕ) where
   abbrev start : Lab
-  start = first setup names plan retries
+  start = first setup (ours setup) names plan retries
 
   pub start_holds : Holds names start
   start_holds = record { ipmb_orderly = none_orderly; smbus_orderly = none_orderly; manager_orderly = none_orderly; ipmb_reads = tt; smbus_reads = tt; frames = tt }
 
-  pub ran : (events : List Event) → AllHonest setup names events start → Runs setup names events nothing_made start
+  pub ran : (events : List Event) → AllHonest (ours setup) names events start → Runs setup names events nothing_made start
   ran events all = runs_so setup names events nothing_made start start_holds all
 
   abbrev Trusted : List lab.Event → Type 0
@@ -171,8 +172,8 @@ module _ (setup : BoardFile) (names : Names) (plan : List Op) (retries : ℕ) wh
   theorem : law.Headline setup names plan retries Trusted
   theorem = headline setup names plan retries
 
-  stands : (events : List Event) (all : AllHonest setup names events start)
-      → plans.Stands (F setup names) plan start.board.records (machine.phase_at (W names) (stage_of names (after setup names plan retries events).manager.phase)) (after setup names plan retries events).board.records
+  stands : (events : List Event) (all : AllHonest (ours setup) names events start)
+      → plans.Stands (F setup names) plan start.board.records (machine.phase_at (W names) (stage_of names (after setup (ours setup) names plan retries events).manager.phase)) (after setup (ours setup) names plan retries events).board.records
   stands events all =
       let g = ran events all in
       subst (λ (y : lab.Lab (P names)). plans.Stands (F setup names) plan start.board.records (machine.phase_of (W names) y.manager.machine) y.board.records) g.is
@@ -182,7 +183,7 @@ module _ (setup : BoardFile) (names : Names) (plan : List Op) (retries : ℕ) wh
     pub records : x.board.records ≡ start.board.records
     pub shows : undo_headline.ShowsSame (F setup names) start.board x.board
 
-  undone : (events later : List Event) → AllHonest setup names (events ++ later) start → (after setup names plan retries events).manager.phase ≡ Undone → Same (after setup names plan retries (events ++ later))
+  undone : (events later : List Event) → AllHonest (ours setup) names (events ++ later) start → (after setup (ours setup) names plan retries events).manager.phase ≡ Undone → Same (after setup (ours setup) names plan retries (events ++ later))
   undone events later all at_undone =
       let g = ran (events ++ later) all in
       let f = ran events (first_honest setup names events later start all) in
@@ -190,7 +191,7 @@ module _ (setup : BoardFile) (names : Names) (plan : List Op) (retries : ℕ) wh
       let trusted : Trusted (map seen_event events ++ map seen_event later) = subst Trusted split_map (g.honest, g.live) in
       let phase_undone : law.phase_after setup names plan retries (map seen_event events) ≡ undo_phase.Undone =
       ap (λ (y : lab.Lab (P names)). machine.phase_of (W names) y.manager.machine) f.is ∙ ap (λ (p : Phase). machine.phase_at (W names) (stage_of names p)) at_undone in
-      let end : law.after setup names plan retries (map seen_event events ++ map seen_event later) ≡ seen_lab names g.made_then (after setup names plan retries (events ++ later)) =
+      let end : law.after setup names plan retries (map seen_event events ++ map seen_event later) ≡ seen_lab names g.made_then (after setup (ours setup) names plan retries (events ++ later)) =
       ap (law.after setup names plan retries) (sym split_map) ∙ g.is in
       let told = theorem.undone (map seen_event events) (map seen_event later) trusted phase_undone in
       record {
@@ -208,14 +209,14 @@ module _ (setup : BoardFile) (names : Names) (plan : List Op) (retries : ℕ) wh
   holds_reads Ipmb x h = h.ipmb_reads
   holds_reads Smbus x h = h.smbus_reads
 
-  module _ (earlier : List Event) (here : Event) (rest : List Event) (all : AllHonest setup names (earlier ++ here ∷ rest) start) where
+  module _ (earlier : List Event) (here : Event) (rest : List Event) (all : AllHonest (ours setup) names (earlier ++ here ∷ rest) start) where
     abbrev z : Lab
-    z = after setup names plan retries earlier
+    z = after setup (ours setup) names plan retries earlier
 
     f : Runs setup names earlier nothing_made start
     f = ran earlier (first_honest setup names earlier (here ∷ rest) start all)
 
-    one : Steps setup names (lab.step (P names) setup (seen_lab names f.made_then z) (seen_event here)) (step setup names z here)
+    one : Steps setup names (lab.step (P names) setup (seen_lab names f.made_then z) (seen_event here)) (step (ours setup) names z here)
     one = step_so setup names f.made_then z f.holds here (later_honest setup names earlier (here ∷ rest) start all).0
 
     -- what the board answered at the event, as this lab has it
@@ -224,19 +225,19 @@ module _ (setup : BoardFile) (names : Names) (plan : List Op) (retries : ℕ) wh
       pub heard : Heard
       pub from_manager : heard.requester ≡ own_on on names
       pub asks : heard.asked ≡ asked
-      pub carried : (port_on on (step setup names z here)).log ≡ Carried heard (board_of a) ∷ (port_on on z).log
-      pub row : Row setup z.board asked (board_of a) (step setup names z here).board
+      pub carried : (port_on on (step (ours setup) names z here)).log ≡ Carried heard (board_of a) ∷ (port_on on z).log
+      pub row : Row setup z.board asked (board_of a) (step (ours setup) names z here).board
 
-    given : (asked : Asked) (a : UndoAnswered) → answers.Answers setup names (seen_lab names f.made_then z) (seen_lab names one.made (step setup names z here)) asked a → Given asked a
+    given : (asked : Asked) (a : UndoAnswered) → answers.Answers setup names (seen_lab names f.made_then z) (seen_lab names one.made (step (ours setup) names z here)) asked a → Given asked a
     given asked a was =
         let on = was.bus in
-        let grown = step_grows setup names on z here in
-        let carried_so : seen_log (spell on) (port_on on (step setup names z here)).log ≡ bus.Carried was.kept ∷ seen_log (spell on) (port_on on z).log =
-        sym (port_log on one.made (step setup names z here)) ∙ was.carried ∙ ap (λ (log : List bus.Entry). bus.Carried was.kept ∷ log) (port_log on f.made_then z) in
-        let put = added on was.kept grown.more (port_on on z).log (port_on on (step setup names z here)).log grown.is carried_so in
+        let grown = step_grows (ours setup) names on z here in
+        let carried_so : seen_log (spell on) (port_on on (step (ours setup) names z here)).log ≡ bus.Carried was.kept ∷ seen_log (spell on) (port_on on z).log =
+        sym (port_log on one.made (step (ours setup) names z here)) ∙ was.carried ∙ ap (λ (log : List bus.Entry). bus.Carried was.kept ∷ log) (port_log on f.made_then z) in
+        let put = added on was.kept grown.more (port_on on z).log (port_on on (step (ours setup) names z here)).log grown.is carried_so in
         let bytes_same : put.heard.bytes ≡ was.kept.request.bytes = ap (λ (r : bus.Request). r.bytes) put.request in
         let asker : put.heard.requester ≡ own_on on names = ap (λ (r : bus.Request). r.requester) put.request ∙ was.from_manager in
-        let reads : Each (Reads names on) (Carried put.heard put.answer ∷ (port_on on z).log) = subst (Each (Reads names on)) put.is (holds_reads on (step setup names z here) one.holds) in
+        let reads : Each (Reads names on) (Carried put.heard put.answer ∷ (port_on on z).log) = subst (Each (Reads names on)) put.is (holds_reads on (step (ours setup) names z here) one.holds) in
         let answer_same : put.answer ≡ board_of a =
         ap board_of (sym (reply_read on put.heard.bytes (words_of put.answer)) ∙ ap (answered_from on) (put.reply ∙ was.replies) ∙ reply_read on was.kept.request.bytes a) in
         record {
@@ -249,18 +250,18 @@ module _ (setup : BoardFile) (names : Names) (plan : List Op) (retries : ℕ) wh
         }
 
   -- an answer that was given in the model was given here
-  gave : (events : List Event) (k : ℕ) (asked : Asked) (a : UndoAnswered) → AllHonest setup names events start
-      → law.GaveIn setup names plan retries (map seen_event events) k (by_manager names asked) a → GaveIn setup names plan retries events k asked (board_of a)
+  gave : (events : List Event) (k : ℕ) (asked : Asked) (a : UndoAnswered) → AllHonest (ours setup) names events start
+      → law.GaveIn setup names plan retries (map seen_event events) k (by_manager names asked) a → GaveIn setup (ours setup) names plan retries events k asked (board_of a)
   gave events k asked a all g =
       let s = split events g.before g.later g.event g.all in
-      let all_here : AllHonest setup names (s.earlier ++ s.here ∷ s.rest) start = subst (λ (es : List Event). AllHonest setup names es start) s.all all in
+      let all_here : AllHonest (ours setup) names (s.earlier ++ s.here ∷ s.rest) start = subst (λ (es : List Event). AllHonest (ours setup) names es start) s.all all in
       let ran_so = f s.earlier s.here s.rest all_here in
       let stepped = one s.earlier s.here s.rest all_here in
-      let x : Lab = after setup names plan retries s.earlier in
+      let x : Lab = after setup (ours setup) names plan retries s.earlier in
       let before_is : law.after setup names plan retries g.before ≡ seen_lab names ran_so.made_then x = ap (law.after setup names plan retries) s.same_before ∙ ran_so.is in
-      let after_is : lab.step (P names) setup (law.after setup names plan retries g.before) g.event ≡ seen_lab names stepped.made (step setup names x s.here) =
+      let after_is : lab.step (P names) setup (law.after setup names plan retries g.before) g.event ≡ seen_lab names stepped.made (step (ours setup) names x s.here) =
       (λ i. lab.step (P names) setup (before_is i) (s.same_event i)) ∙ stepped.is in
-      let was : answers.Answers setup names (seen_lab names ran_so.made_then x) (seen_lab names stepped.made (step setup names x s.here)) (by_manager names asked) a =
+      let was : answers.Answers setup names (seen_lab names ran_so.made_then x) (seen_lab names stepped.made (step (ours setup) names x s.here)) (by_manager names asked) a =
       subst (λ (y : lab.Lab (P names)). answers.Answers setup names (seen_lab names ran_so.made_then x) y (by_manager names asked) a) after_is
       (subst (λ (y : lab.Lab (P names)). answers.Answers setup names y (lab.step (P names) setup (law.after setup names plan retries g.before) g.event) (by_manager names asked) a) before_is g.answers) in
       let is = given s.earlier s.here s.rest all_here (by_manager names asked) a was in
@@ -275,27 +276,28 @@ module _ (setup : BoardFile) (names : Names) (plan : List Op) (retries : ℕ) wh
         from_manager = is.from_manager;
         asks = is.asks;
         carried = is.carried;
-        row = subst (λ (q : Asked). Row setup x.board q (board_of a) (step setup names x s.here).board) (sym is.asks) is.row;
+        answered = sym (has_one_answer setup x.board is.heard.asked (board_of a) (step (ours setup) names x s.here).board
+            (subst (λ (q : Asked). Row setup x.board q (board_of a) (step (ours setup) names x s.here).board) (sym is.asks) is.row));
       }
 
-  halts : (events : List Event) (k : ℕ) (why : Why) → AllHonest setup names events start → (after setup names plan retries events).manager.phase ≡ Halted k why → IsCause setup names plan retries events k why
+  halts : (events : List Event) (k : ℕ) (why : Why) → AllHonest (ours setup) names events start → (after setup (ours setup) names plan retries events).manager.phase ≡ Halted k why → IsCause setup (ours setup) names plan retries events k why
   halts events k why all at_halt =
       let g = ran events all in
       let phase_is : law.phase_after setup names plan retries (map seen_event events) ≡ undo_phase.Halted k (seen_why names why) =
       ap (λ (y : lab.Lab (P names)). machine.phase_of (W names) y.manager.machine) g.is ∙ ap (λ (p : Phase). machine.phase_at (W names) (stage_of names p)) at_halt in
       by_why why (subst (answers.CausedBy setup names (law.GaveIn setup names plan retries (map seen_event events)) (In (lab.Calls lab_call.Stop) (map seen_event events)) plan) phase_is (theorem.halts (map seen_event events) (g.honest, g.live)))
     where
-      by_why : (why : Why) → answers.CausedBy setup names (law.GaveIn setup names plan retries (map seen_event events)) (In (lab.Calls lab_call.Stop) (map seen_event events)) plan (undo_phase.Halted k (seen_why names why)) → IsCause setup names plan retries events k why
+      by_why : (why : Why) → answers.CausedBy setup names (law.GaveIn setup names plan retries (map seen_event events)) (In (lab.Calls lab_call.Stop) (map seen_event events)) plan (undo_phase.Halted k (seen_why names why)) → IsCause setup (ours setup) names plan retries events k why
       by_why Stopped was = let is = has_stop events was in (is.earlier, is.rest, is.all)
       by_why (GetRefused code) was = (was.0, was.1, was.2, gave events k (get_asked (key_of was.0)) (record { code = code; body = was.1 }) all was.3, was.4)
       by_why (SetRefused code) was = (was.0, was.1, was.2, gave events k (set_asked was.0) (record { code = code; body = was.1 }) all was.3, was.4)
       by_why NotRestorable was = (was.0, was.1, was.2, gave events k (get_asked (key_of was.0)) (record { code = 0; body = was.1 }) all was.3, was.4)
 
-  pub claim : Claim setup names plan retries
+  pub claim : Claim setup (ours setup) names plan retries
   claim = record {
-    stands = λ events all. stands_so setup names plan start.board.records (after setup names plan retries events).manager.phase (after setup names plan retries events).board.records (stands events all);
+    stands = λ events all. stands_so setup names plan start.board.records (after setup (ours setup) names plan retries events).manager.phase (after setup (ours setup) names plan retries events).board.records (stands events all);
     undone = λ events later all at_undone.
         let same = undone events later all at_undone in
-        (same.records, shows_so setup names start.board (after setup names plan retries (events ++ later)).board same.shows);
+        (same.records, shows_so setup names start.board (after setup (ours setup) names plan retries (events ++ later)).board same.shows);
     halts = halts;
   }

@@ -8,17 +8,14 @@ use Rattle.ipmb_frame.specs.declared.message.Request.{Request}
 use Rattle.mctp_net.specs.declared.message.Message.{Message}
 use Rattle.mctp_net.specs.declared.packet.Envelope.{Envelope}
 use Rattle.mctp_net.specs.declared.packet.Packet.{Packet}
-use Rattle.mctp_net.specs.Control.{Request as ControlRequest, request_of as control_in}
 use Rattle.pldm_base.specs.declared.message.PldmRequest.{PldmRequest}
 use Rattle.pldm_base.specs.Message.{request_in as pldm_in}
 use Rattle.record_base.specs.declared.message.Answered.{Answered}
-use Rattle.cfg_records.specs.declared.board_file.BoardFile.{BoardFile}
 use Rattle.bmc_board.specs.State.{State}
-use Rattle.bmc_board.specs.Answer.{answer_of}
 use Rattle.undo_plans.specs.declared.names.Names.{Names}
 use Rattle.model_claim.specs.Frames.{Value, Asks, Tells, Part, packets_of, is_meant, is_taken, waits_after, whole}
 use Rattle.model_claim.specs.Manager.{Phase, Fresh, Open, Done, Halted, Undone, UndoRefused, Turn, called, hears as manager_hears, open_in}
-use Rattle.model_claim.specs.Lab.{Heard, Entry, Carried, Idled, Port, repeated, requesters, is_ninth, turn_where, turn, stays, heard_in, hears_request, pldm_heard, hears_control, hears_pldm, hears_typed, hears_packet, hears_packets, hears, Way, ToManager, ToOthers, Frame, Event, Calls, ToBmc, ToMgr, OtherIpmb, OtherSmbus, Noise, Idles, OnBench, Lab, port_on, sends, goes_on, port_does, opens, delivered, returned, hears_all, step}
+use Rattle.model_claim.specs.Lab.{Controller, Heard, Entry, Carried, Idled, Port, repeated, requesters, is_ninth, turn_where, turn, stays, heard_in, hears_request, pldm_heard, hears_control, hears_pldm, hears_typed, hears_packet, hears_packets, hears, Way, ToManager, ToOthers, Frame, Event, Calls, ToBmc, ToMgr, OtherIpmb, OtherSmbus, Noise, Idles, OnBench, Lab, port_on, sends, goes_on, port_does, opens, delivered, returned, hears_all, step}
 
 -- a log is another with newer entries
 pub record Grows (newer log : List Entry) : Type 0 where
@@ -28,53 +25,53 @@ pub record Grows (newer log : List Entry) : Type 0 where
 same_log : (log : List Entry) → Grows log log
 same_log log = record { more = []; is = refl }
 
-turn_grows : (on : Bus) (r : Heard) (setup : BoardFile) (log : List Entry) (before : State) → Grows (turn on r setup log before).log log
+turn_grows : (on : Bus) (r : Heard) (c : Controller) (log : List Entry) (before : State) → Grows (turn on r c log before).log log
 unfolding turn
-turn_grows on r setup log before = at (repeated on r [] log) (is_ninth r.requester (requesters log))
+turn_grows on r c log before = at (repeated on r [] log) (is_ninth r.requester (requesters log))
   where
-    at : (o : Option Answered) (ninth : Bool) → Grows (turn_where o ninth on r setup log before).log log
+    at : (o : Option Answered) (ninth : Bool) → Grows (turn_where o ninth on r c log before).log log
     at (Some a) ninth = same_log log
     at None true = same_log log
-    at None false = record { more = Carried r (answer_of setup before r.asked).0 ∷ []; is = refl }
+    at None false = record { more = Carried r (c.answer before r.asked).0 ∷ []; is = refl }
 
-module _ (setup : BoardFile) where
-  typed_grows : (p : Port) (before : State) (e : Envelope) (body : List ℕ) → Grows (hears_typed setup p before e body).port.log p.log
+module _ (c : Controller) where
+  typed_grows : (p : Port) (before : State) (e : Envelope) (body : List ℕ) → Grows (hears_typed c p before e body).port.log p.log
   typed_grows p before e [] = same_log p.log
-  typed_grows p before e (kind ∷ rest) = at (kind == 0) (kind == 1) (control_in (kind ∷ rest)) (pldm_in rest)
+  typed_grows p before e (kind ∷ rest) = at (kind == 0) (kind == 1) (c.control p.eid (kind ∷ rest)) (pldm_in rest)
     where
-      at : (zero one : Bool) (c : Option ControlRequest) (o : Option PldmRequest) → Grows (cond zero (hears_control p before e c) (cond one (hears_pldm setup p before e o) (stays p before))).port.log p.log
+      at : (zero one : Bool) (told : Option (ℕ × List ℕ)) (o : Option PldmRequest) → Grows (cond zero (hears_control p before e told) (cond one (hears_pldm c p before e o) (stays p before))).port.log p.log
       at true one None o = same_log p.log
       at true one (Some r) o = same_log p.log
-      at false true c None = same_log p.log
-      at false true c (Some r) = turn_grows Smbus (pldm_heard e.source_eid r) setup p.log before
-      at false false c o = same_log p.log
+      at false true told None = same_log p.log
+      at false true told (Some r) = turn_grows Smbus (pldm_heard e.source_eid r) c p.log before
+      at false false told o = same_log p.log
 
-  packet_grows : (p : Port) (before : State) (q : Packet) → Grows (hears_packet setup p before q).port.log p.log
+  packet_grows : (p : Port) (before : State) (q : Packet) → Grows (hears_packet c p before q).port.log p.log
   unfolding hears_packet
   packet_grows p before q = at (is_taken p.eid q p.waits && (q.end && q.envelope.tag_owner))
     where
-      at : (b : Bool) → Grows (cond b (hears_typed setup (record p { waits = waits_after p.eid q p.waits }) before q.envelope (whole q p.waits)) (stays (record p { waits = waits_after p.eid q p.waits }) before)).port.log p.log
+      at : (b : Bool) → Grows (cond b (hears_typed c (record p { waits = waits_after p.eid q p.waits }) before q.envelope (whole q p.waits)) (stays (record p { waits = waits_after p.eid q p.waits }) before)).port.log p.log
       at true = typed_grows (record p { waits = waits_after p.eid q p.waits }) before q.envelope (whole q p.waits)
       at false = same_log p.log
 
-  packets_grow : (p : Port) (before : State) (qs : List Packet) → Grows (hears_packets setup p before qs).port.log p.log
+  packets_grow : (p : Port) (before : State) (qs : List Packet) → Grows (hears_packets c p before qs).port.log p.log
   packets_grow p before [] = same_log p.log
   packets_grow p before (q ∷ qs) =
-      let first = hears_packet setup p before q in
+      let first = hears_packet c p before q in
       let one = packet_grows p before q in
       let rest = packets_grow first.port first.board qs in
       record { more = rest.more ++ one.more; is = rest.is ∙ ap (λ (log : List Entry). rest.more ++ log) one.is ∙ sym (append_assoc rest.more one.more p.log) }
 
-  hears_grows : (p : Port) (before : State) (v : Value) → Grows (hears setup p before v).port.log p.log
+  hears_grows : (p : Port) (before : State) (v : Value) → Grows (hears c p before v).port.log p.log
   hears_grows p before (Asks r) = at (r.header.responder.address == p.wire)
     where
-      at : (b : Bool) → Grows (cond b (hears_request setup p before r) (stays p before)).port.log p.log
-      at true = turn_grows Ipmb (heard_in r) setup p.log before
+      at : (b : Bool) → Grows (cond b (hears_request c p before r) (stays p before)).port.log p.log
+      at true = turn_grows Ipmb (heard_in r) c p.log before
       at false = same_log p.log
   hears_grows p before (Tells r) = same_log p.log
   hears_grows p before (Part q) = at (q.envelope.destination == p.wire)
     where
-      at : (b : Bool) → Grows (cond b (hears_packet setup p before q) (stays p before)).port.log p.log
+      at : (b : Bool) → Grows (cond b (hears_packet c p before q) (stays p before)).port.log p.log
       at true = packet_grows p before q
       at false = same_log p.log
 
@@ -109,33 +106,33 @@ module _ (setup : BoardFile) where
         at Smbus true = refl
         at Smbus false = refl
 
-    delivered_grows : (bus on : Bus) (v : Value) (way : Way) (request : ℕ) (x : Lab) → Grows (port_on bus (port_does names on way request (hears setup (port_on on x) x.board v) (opens v request x))).log (port_on bus x).log
+    delivered_grows : (bus on : Bus) (v : Value) (way : Way) (request : ℕ) (x : Lab) → Grows (port_on bus (port_does names on way request (hears c (port_on on x) x.board v) (opens v request x))).log (port_on bus x).log
     delivered_grows Ipmb Ipmb v way request x = hears_grows x.ipmb x.board v
     delivered_grows Smbus Smbus v way request x = hears_grows x.smbus x.board v
     delivered_grows Ipmb Smbus v way request x = record { more = []; is = ap (λ (p : Port). p.log) (opens_same Ipmb v request x) }
     delivered_grows Smbus Ipmb v way request x = record { more = []; is = ap (λ (p : Port). p.log) (opens_same Smbus v request x) }
 
-    all_grows : (bus : Bus) (m : Message) (x : Lab) → Grows (port_on bus (port_does names Smbus ToOthers 0 (hears_all setup names m x.smbus x.board) x)).log (port_on bus x).log
+    all_grows : (bus : Bus) (m : Message) (x : Lab) → Grows (port_on bus (port_does names Smbus ToOthers 0 (hears_all c names m x.smbus x.board) x)).log (port_on bus x).log
     all_grows Ipmb m x = same_log x.ipmb.log
     all_grows Smbus m x = at (m.envelope.destination == x.smbus.wire)
       where
-        at : (b : Bool) → Grows (cond b (hears_packets setup x.smbus x.board (packets_of m.envelope m.body)) (stays x.smbus x.board)).port.log x.smbus.log
+        at : (b : Bool) → Grows (cond b (hears_packets c x.smbus x.board (packets_of m.envelope m.body)) (stays x.smbus x.board)).port.log x.smbus.log
         at true = packets_grow x.smbus x.board (packets_of m.envelope m.body)
         at false = same_log x.smbus.log
 
-    request_grows : (bus : Bus) (r : Request) (x : Lab) → Grows (port_on bus (port_does names Ipmb ToOthers 0 (hears setup x.ipmb x.board (Asks r)) x)).log (port_on bus x).log
+    request_grows : (bus : Bus) (r : Request) (x : Lab) → Grows (port_on bus (port_does names Ipmb ToOthers 0 (hears c x.ipmb x.board (Asks r)) x)).log (port_on bus x).log
     request_grows Ipmb r x = hears_grows x.ipmb x.board (Asks r)
     request_grows Smbus r x = same_log x.smbus.log
 
-    to_port : (bus : Bus) (x : Lab) (o : Option Frame) → Grows (port_on bus (delivered setup names o x)).log (port_on bus x).log
+    to_port : (bus : Bus) (x : Lab) (o : Option Frame) → Grows (port_on bus (delivered c names o x)).log (port_on bus x).log
     to_port bus x None = same_log (port_on bus x).log
     to_port bus x (Some f) = delivered_grows bus f.on f.value ToManager f.request x
 
-    to_manager : (bus : Bus) (x : Lab) (o : Option Frame) → Grows (port_on bus (returned setup names o x)).log (port_on bus x).log
+    to_manager : (bus : Bus) (x : Lab) (o : Option Frame) → Grows (port_on bus (returned c names o x)).log (port_on bus x).log
     to_manager bus x None = same_log (port_on bus x).log
     to_manager bus x (Some f) = goes_on_grows bus (manager_hears names f.value x.manager.phase x.manager) x
 
-    pub step_grows : (bus : Bus) (x : Lab) (e : Event) → Grows (port_on bus (step setup names x e)).log (port_on bus x).log
+    pub step_grows : (bus : Bus) (x : Lab) (e : Event) → Grows (port_on bus (step c names x e)).log (port_on bus x).log
     unfolding step
     step_grows bus x (Calls call) = goes_on_grows bus (called call x.manager.phase x.manager) x
     step_grows bus x (ToBmc place) = to_port bus x (slice_get x.frames place)

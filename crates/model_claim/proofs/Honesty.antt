@@ -18,7 +18,7 @@ use Rattle.model_lab.specs.Joins as joins
 use Rattle.model_claim.specs.Frames.{Value, Asks, Tells, Part, span, is_taken}
 use Rattle.model_claim.specs.Manager.{Phase, Fresh, Open, Done, Halted, Undone, UndoRefused, asked_for, open_in}
 use Rattle.model_claim.specs.Lab.{Way, ToPort, ToManager, Event, Calls, ToBmc, ToMgr, OtherIpmb, OtherSmbus, Noise, Idles, OnBench, Lab, step, run}
-use Rattle.model_claim.specs.Claim.{open_on, begun, IsDelivered, JoinsLive, IsHonest, AllHonest}
+use Rattle.model_claim.specs.Claim.{ours, open_on, begun, IsDelivered, JoinsLive, IsHonest, AllHonest}
 use Rattle.model_claim.proofs.Packets.{Agrees, is_kept}
 use Rattle.model_claim.proofs.Sends.{idles_on_alike}
 use Rattle.model_claim.proofs.Labs.{there, step_so}
@@ -82,7 +82,7 @@ module _ (setup : BoardFile) (names : Names) where
       };
     }
 
-    pub honest_so : (e : Event) → IsHonest setup names x e → honest.HasBytes (P names) (seen_event e) → honest.IsHonest (P names) (seen_lab names made x) (seen_event e)
+    pub honest_so : (e : Event) → IsHonest (ours setup) names x e → honest.HasBytes (P names) (seen_event e) → honest.IsHonest (P names) (seen_lab names made x) (seen_event e)
     honest_so (Calls call) is bytes = tt
     honest_so (ToBmc place) is bytes = delivered_so ToPort place is.0
     honest_so (ToMgr place) is bytes = delivered_so ToManager place is
@@ -96,15 +96,15 @@ module _ (setup : BoardFile) (names : Names) where
     taken_so true p agrees = refl
     taken_so false p agrees = absurd agrees
 
-    joins_value : (v : Value) → JoinsLive setup names x v → joins.JoinsLive (P names) (seen_lab names made x) (seen_value v)
+    joins_value : (v : Value) → JoinsLive (ours setup) names x v → joins.JoinsLive (P names) (seen_lab names made x) (seen_value v)
     joins_value (Asks r) live = tt
     joins_value (Tells r) live = tt
-    joins_value (Part p) live = λ no_start ours none.
+    joins_value (Part p) live = λ no_start goes_there none.
         subst (λ n. n ≤ x.opened p.envelope.tag + 8) (sym (begun_so Smbus x))
-        (live no_start ours (taken_so (is_taken x.smbus.eid p x.smbus.waits) p
+        (live no_start goes_there (taken_so (is_taken x.smbus.eid p x.smbus.waits) p
         (subst (Agrees p x.smbus.waits made.smbus h.smbus_orderly (is_taken x.smbus.eid p x.smbus.waits)) none (is_kept p x.smbus.waits made.smbus h.smbus_orderly x.smbus.eid).agrees)))
 
-    pub joins_so : (e : Event) → IsHonest setup names x e → joins.IsJoinLive (P names) (seen_lab names made x) (seen_event e)
+    pub joins_so : (e : Event) → IsHonest (ours setup) names x e → joins.IsJoinLive (P names) (seen_lab names made x) (seen_event e)
     joins_so (ToBmc place) is =
         subst (λ (o : Option lab.LabFrame). IfSome o (λ f. joins.JoinsLive (P names) (seen_lab names made x) f.value)) (sym (there setup names x place is.0.frame is.0.sent)) (joins_value is.0.frame.value is.1)
     joins_so (Calls call) is = tt
@@ -120,17 +120,17 @@ module _ (setup : BoardFile) (names : Names) where
   -- the model's lab runs as this one does, by honest events whose packets join live ones
   pub record Runs (events : List Event) (made : Made) (x : Lab) : Type 0 where
     pub made_then : Made
-    pub is : lab.run (P names) setup (map seen_event events) (seen_lab names made x) ≡ seen_lab names made_then (run setup names events x)
-    pub holds : Holds names (run setup names events x)
+    pub is : lab.run (P names) setup (map seen_event events) (seen_lab names made x) ≡ seen_lab names made_then (run (ours setup) names events x)
+    pub holds : Holds names (run (ours setup) names events x)
     pub honest : honest.AllHonest (P names) setup (map seen_event events) (seen_lab names made x)
     pub live : joins.AllJoinLive (P names) setup (map seen_event events) (seen_lab names made x)
 
-  pub runs_so : (events : List Event) (made : Made) (x : Lab) → Holds names x → AllHonest setup names events x → Runs events made x
+  pub runs_so : (events : List Event) (made : Made) (x : Lab) → Holds names x → AllHonest (ours setup) names events x → Runs events made x
   unfolding lab.run run
   runs_so [] made x h all = record { made_then = made; is = refl; holds = h; honest = tt; live = tt }
   runs_so (e ∷ es) made x h all =
       let one = step_so setup names made x h e all.0 in
-      let rest = runs_so es one.made (step setup names x e) one.holds all.1 in
+      let rest = runs_so es one.made (step (ours setup) names x e) one.holds all.1 in
       record {
         made_then = rest.made_then;
         is = ap (lab.run (P names) setup (map seen_event es)) one.is ∙ rest.is;
@@ -141,11 +141,11 @@ module _ (setup : BoardFile) (names : Names) where
 
   -- ---- parts of a schedule
 
-  pub first_honest : (events later : List Event) (x : Lab) → AllHonest setup names (events ++ later) x → AllHonest setup names events x
+  pub first_honest : (events later : List Event) (x : Lab) → AllHonest (ours setup) names (events ++ later) x → AllHonest (ours setup) names events x
   first_honest [] later x all = tt
-  first_honest (e ∷ es) later x all = (all.0, first_honest es later (step setup names x e) all.1)
+  first_honest (e ∷ es) later x all = (all.0, first_honest es later (step (ours setup) names x e) all.1)
 
-  pub later_honest : (events later : List Event) (x : Lab) → AllHonest setup names (events ++ later) x → AllHonest setup names later (run setup names events x)
+  pub later_honest : (events later : List Event) (x : Lab) → AllHonest (ours setup) names (events ++ later) x → AllHonest (ours setup) names later (run (ours setup) names events x)
   unfolding run
   later_honest [] later x all = all
-  later_honest (e ∷ es) later x all = later_honest es later (step setup names x e) all.1
+  later_honest (e ∷ es) later x all = later_honest es later (step (ours setup) names x e) all.1

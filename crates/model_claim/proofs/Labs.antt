@@ -27,7 +27,7 @@ use Rattle.model_claim.specs.Frames.{Value, Asks, Tells, Part, circle, envelope,
 use Rattle.model_claim.specs.Manager.{Call, Start, Quiet, Stop, Again, Undo, Task, Gets, Sets, Undoes, Phase, Fresh, Open, Done, Halted, Undone, UndoRefused, Manager, Turn, rests, called, bus_of, asked_for, are_all, open_in, frames_of, carried_out, refused, told, told_in, is_part, read_in}
 use Rattle.model_claim.specs.Manager as the_manager
 use Rattle.model_claim.specs.Lab.{Deed, stays, hears, hears_packets, Way, ToPort, ToManager, ToOthers, Frame, Event, Calls, ToBmc, ToMgr, OtherIpmb, OtherSmbus, Noise, Idles, OnBench, Lab, port_on, idles_on, with_frames, sends, goes_on, port_does, opens, delivered, returned, hears_all, step}
-use Rattle.model_claim.specs.Claim.{IsDelivered, IsHonest}
+use Rattle.model_claim.specs.Claim.{ours, IsDelivered, IsHonest}
 use Rattle.model_claim.proofs.Packets.{is_kept}
 use Rattle.model_claim.proofs.Cuts.{cuts_alike}
 use Rattle.model_claim.proofs.Answers.{is_busy}
@@ -265,16 +265,16 @@ module _ (setup : BoardFile) (names : Names) where
 
   delivered_on : (on : Bus) (v : Value) (request : ℕ) (made : Made) (x : Lab) → Holds names x → MayCome names setup on ToManager v
       → Steps (lab.port_does (P names) on lab_way.ToManager request (port.hears setup (lab.port_on (P names) on (seen_lab names made x)) x.board (seen_value v)) (lab.opens (P names) (seen_value v) request (seen_lab names made x)))
-      (port_does names on ToManager request (hears setup (port_on on x) x.board v) (opens v request x))
+      (port_does names on ToManager request (hears (ours setup) (port_on on x) x.board v) (opens v request x))
   delivered_on Ipmb v request made x h may =
-      subst (λ (y : lab.Lab (P names)). Steps (lab.port_does (P names) Ipmb lab_way.ToManager request (port.hears setup (seen_port Ipmb made.ipmb x.ipmb) x.board (seen_value v)) y) (port_does names Ipmb ToManager request (hears setup x.ipmb x.board v) (opens v request x)))
+      subst (λ (y : lab.Lab (P names)). Steps (lab.port_does (P names) Ipmb lab_way.ToManager request (port.hears setup (seen_port Ipmb made.ipmb x.ipmb) x.board (seen_value v)) y) (port_does names Ipmb ToManager request (hears (ours setup) x.ipmb x.board v) (opens v request x)))
       (sym (opens_alike v request made x))
-      (port_steps Ipmb ToManager request made (opens v request x) (port.hears setup (seen_port Ipmb made.ipmb x.ipmb) x.board (seen_value v)) (hears setup x.ipmb x.board v)
+      (port_steps Ipmb ToManager request made (opens v request x) (port.hears setup (seen_port Ipmb made.ipmb x.ipmb) x.board (seen_value v)) (hears (ours setup) x.ipmb x.board v)
       (does names setup Ipmb ToManager made.ipmb x.ipmb x.board v h.ipmb_orderly h.ipmb_reads may) (opens_hold v request x h))
   delivered_on Smbus v request made x h may =
-      subst (λ (y : lab.Lab (P names)). Steps (lab.port_does (P names) Smbus lab_way.ToManager request (port.hears setup (seen_port Smbus made.smbus x.smbus) x.board (seen_value v)) y) (port_does names Smbus ToManager request (hears setup x.smbus x.board v) (opens v request x)))
+      subst (λ (y : lab.Lab (P names)). Steps (lab.port_does (P names) Smbus lab_way.ToManager request (port.hears setup (seen_port Smbus made.smbus x.smbus) x.board (seen_value v)) y) (port_does names Smbus ToManager request (hears (ours setup) x.smbus x.board v) (opens v request x)))
       (sym (opens_alike v request made x))
-      (port_steps Smbus ToManager request made (opens v request x) (port.hears setup (seen_port Smbus made.smbus x.smbus) x.board (seen_value v)) (hears setup x.smbus x.board v)
+      (port_steps Smbus ToManager request made (opens v request x) (port.hears setup (seen_port Smbus made.smbus x.smbus) x.board (seen_value v)) (hears (ours setup) x.smbus x.board v)
       (does names setup Smbus ToManager made.smbus x.smbus x.board v h.smbus_orderly h.smbus_reads may) (opens_hold v request x h))
 
   -- a frame that was sent is there in the model
@@ -295,45 +295,45 @@ module _ (setup : BoardFile) (names : Names) where
   -- ---- each event
 
   module _ (made : Made) (x : Lab) (h : Holds names x) where
-    to_port : (place : ℕ) → IsDelivered names ToPort x place → Steps (lab.delivered (P names) setup (slice_get (map seen_frame x.frames) place) (seen_lab names made x)) (delivered setup names (slice_get x.frames place) x)
+    to_port : (place : ℕ) → IsDelivered names ToPort x place → Steps (lab.delivered (P names) setup (slice_get (map seen_frame x.frames) place) (seen_lab names made x)) (delivered (ours setup) names (slice_get x.frames place) x)
     to_port place is =
         let f = is.frame in
         let sound = each_at (IsSound names) x.frames place f h.frames is.sent in
-        subst (λ (o : Option lab.LabFrame). Steps (lab.delivered (P names) setup o (seen_lab names made x)) (delivered setup names (slice_get x.frames place) x)) (sym (there x place f is.sent))
-        (subst (λ (o : Option Frame). Steps (lab.delivered (P names) setup (Some (seen_frame f)) (seen_lab names made x)) (delivered setup names o x)) (sym is.sent)
+        subst (λ (o : Option lab.LabFrame). Steps (lab.delivered (P names) setup o (seen_lab names made x)) (delivered (ours setup) names (slice_get x.frames place) x)) (sym (there x place f is.sent))
+        (subst (λ (o : Option Frame). Steps (lab.delivered (P names) setup (Some (seen_frame f)) (seen_lab names made x)) (delivered (ours setup) names o x)) (sym is.sent)
         (delivered_on f.on f.value f.request made x h (may_come f.on f.value (sound_way f ToPort sound is.meant))))
 
-    to_manager : (place : ℕ) → IsDelivered names ToManager x place → Steps (lab.returned (P names) setup (slice_get (map seen_frame x.frames) place) (seen_lab names made x)) (returned setup names (slice_get x.frames place) x)
+    to_manager : (place : ℕ) → IsDelivered names ToManager x place → Steps (lab.returned (P names) setup (slice_get (map seen_frame x.frames) place) (seen_lab names made x)) (returned (ours setup) names (slice_get x.frames place) x)
     to_manager place is =
         let f = is.frame in
         let sound = each_at (IsSound names) x.frames place f h.frames is.sent in
         let t = the_manager.hears names f.value x.manager.phase x.manager in
-        subst (λ (o : Option lab.LabFrame). Steps (lab.returned (P names) setup o (seen_lab names made x)) (returned setup names (slice_get x.frames place) x)) (sym (there x place f is.sent))
-        (subst (λ (o : Option Frame). Steps (lab.returned (P names) setup (Some (seen_frame f)) (seen_lab names made x)) (returned setup names o x)) (sym is.sent)
+        subst (λ (o : Option lab.LabFrame). Steps (lab.returned (P names) setup o (seen_lab names made x)) (returned (ours setup) names (slice_get x.frames place) x)) (sym (there x place f is.sent))
+        (subst (λ (o : Option Frame). Steps (lab.returned (P names) setup (Some (seen_frame f)) (seen_lab names made x)) (returned (ours setup) names o x)) (sym is.sent)
         (turn_steps (lab.returned (P names) setup (Some (seen_frame f)) (seen_lab names made x)) t x h (hears_orderly names f.value x.manager.phase x.manager h.manager_orderly)
         (comes names x made x.manager h.manager_orderly f.value (low_value x made f.on f.value (sound_way f ToManager sound is.meant)) x.manager.phase)))
 
-    all_come : (m : Message) → Does names setup Smbus ToOthers (port.hears_all setup (seen_port Smbus made.smbus x.smbus) x.board m) (hears_all setup names m x.smbus x.board)
+    all_come : (m : Message) → Does names setup Smbus ToOthers (port.hears_all setup (seen_port Smbus made.smbus x.smbus) x.board m) (hears_all (ours setup) names m x.smbus x.board)
     all_come m = at (m.envelope.destination == x.smbus.wire)
       where
-        packets : Does names setup Smbus ToOthers (port.hears_parts setup (seen_port Smbus made.smbus x.smbus) x.board (values.parts_of m)) (hears_packets setup x.smbus x.board (packets_of m.envelope m.body))
-        packets = subst (λ (ps : List Packet). Does names setup Smbus ToOthers (port.hears_parts setup (seen_port Smbus made.smbus x.smbus) x.board ps) (hears_packets setup x.smbus x.board (packets_of m.envelope m.body)))
+        packets : Does names setup Smbus ToOthers (port.hears_parts setup (seen_port Smbus made.smbus x.smbus) x.board (values.parts_of m)) (hears_packets (ours setup) x.smbus x.board (packets_of m.envelope m.body))
+        packets = subst (λ (ps : List Packet). Does names setup Smbus ToOthers (port.hears_parts setup (seen_port Smbus made.smbus x.smbus) x.board ps) (hears_packets (ours setup) x.smbus x.board (packets_of m.envelope m.body)))
             (sym (cuts_alike m.envelope m.body)) (packets_do names setup ToOthers (packets_of m.envelope m.body) made.smbus x.smbus x.board h.smbus_orderly h.smbus_reads)
 
         at : (b : Bool) → Does names setup Smbus ToOthers (cond b (port.hears_parts setup (seen_port Smbus made.smbus x.smbus) x.board (values.parts_of m)) (port.stays (seen_port Smbus made.smbus x.smbus) x.board))
-            (cond b (hears_packets setup x.smbus x.board (packets_of m.envelope m.body)) (stays x.smbus x.board))
+            (cond b (hears_packets (ours setup) x.smbus x.board (packets_of m.envelope m.body)) (stays x.smbus x.board))
         at true = packets
         at false = record { made = made.smbus; is = refl; orderly = h.smbus_orderly; reads = h.smbus_reads; sent = tt }
 
-    pub step_so : (e : Event) → IsHonest setup names x e → Steps (lab.step (P names) setup (seen_lab names made x) (seen_event e)) (step setup names x e)
+    pub step_so : (e : Event) → IsHonest (ours setup) names x e → Steps (lab.step (P names) setup (seen_lab names made x) (seen_event e)) (step (ours setup) names x e)
     unfolding lab.step step
     step_so (Calls call) honest = turn_steps (lab.call_does (P names) (manager.called (P names) (seen_call call) (seen_manager names made.manager x.manager)) (seen_lab names made x)) (called call x.manager.phase x.manager) x h (call_orderly call x.manager.phase x.manager h.manager_orderly) (call_lands names call made x)
     step_so (ToBmc place) honest = to_port place honest.0
     step_so (ToMgr place) honest = to_manager place honest
     step_so (OtherIpmb r) honest =
-        port_steps Ipmb ToOthers 0 made x (port.hears setup (seen_port Ipmb made.ipmb x.ipmb) x.board (values.Asks r)) (hears setup x.ipmb x.board (Asks r))
+        port_steps Ipmb ToOthers 0 made x (port.hears setup (seen_port Ipmb made.ipmb x.ipmb) x.board (values.Asks r)) (hears (ours setup) x.ipmb x.board (Asks r))
         (does names setup Ipmb ToOthers made.ipmb x.ipmb x.board (Asks r) h.ipmb_orderly h.ipmb_reads (λ own. absurd (honest.1.0 own), λ code body. tt)) h
-    step_so (OtherSmbus m) honest = port_steps Smbus ToOthers 0 made x (port.hears_all setup (seen_port Smbus made.smbus x.smbus) x.board m) (hears_all setup names m x.smbus x.board) (all_come m) h
+    step_so (OtherSmbus m) honest = port_steps Smbus ToOthers 0 made x (port.hears_all setup (seen_port Smbus made.smbus x.smbus) x.board m) (hears_all (ours setup) names m x.smbus x.board) (all_come m) h
     step_so (Noise on bytes) honest = record { made = made; is = refl; holds = h }
     step_so (Idles Ipmb requester) honest = record {
       made = made;

@@ -12,6 +12,7 @@ mod Honesty
 mod Grows
 mod Meaning
 mod Claim
+mod Controller
 mod Refined
 mod Strong
 pub mod Promised

@@ -7,6 +7,8 @@ use Rattle.cfg_records.specs.Records.{Records}
 use Rattle.record_kinds.specs.declared.limits.Limits.{Limits}
 use Rattle.record_kinds.specs.Limits.{key_of, limits_at}
 use Rattle.bmc_board.specs.State.{State}
+use Rattle.bmc_board.specs.Answer.{answer_of}
+use Rattle.bmc_board.proofs.OneAnswer.{has_answer}
 use Rattle.undo_plans.specs.declared.names.Names.{Names}
 use Rattle.model_undo.specs.Family.{Family}
 use Rattle.model_undo.specs.Family as undo_family
@@ -16,7 +18,7 @@ use Rattle.model_undo.specs.Headline as undo_headline
 use Rattle.model_family.specs.Family.{SetsWithin, conf_within}
 use Rattle.model_headline.specs.Tied.{F}
 use Rattle.model_claim.specs.Manager.{Gets, Sets, Undoes, Phase, Fresh, Open, Done, Halted, Undone, UndoRefused}
-use Rattle.model_claim.specs.Claim.{SetsTo, IsAfter, Stands, ShowsSame}
+use Rattle.model_claim.specs.Claim.{ours, SetsTo, IsAfter, Stands, ShowsSame}
 use Rattle.model_claim.specs.Seen.{words_of, W, series, stage_of}
 
 module _ (setup : BoardFile) (names : Names) where
@@ -58,7 +60,9 @@ module _ (setup : BoardFile) (names : Names) where
     stands_so Undone r is = is
     stands_so (UndoRefused k code) r is = is
 
-  pub shows_so : (b c : State) → undo_headline.ShowsSame family b c → ShowsSame setup b c
-  shows_so b c same key one other gets again_gets shown again left left_again row again_row =
-      let told = same key one other gets again_gets (words_of shown) (words_of again) left left_again row again_row in
-      (told.0, λ ok limits e. subst (λ (o : Option Limits). conf_within o again.body ≡ conf_within o shown.body) e (told.1 ok))
+  pub shows_so : (b c : State) → undo_headline.ShowsSame family b c → ShowsSame setup (ours setup) b c
+  shows_so b c same key one other gets again_gets =
+      let shown = answer_of setup b one in
+      let again = answer_of setup c other in
+      let told = same key one other gets again_gets (words_of shown.0) (words_of again.0) shown.1 again.1 (has_answer setup b one) (has_answer setup c other) in
+      (told.0, λ ok limits e. subst (λ (o : Option Limits). conf_within o again.0.body ≡ conf_within o shown.0.body) e (told.1 ok))

@@ -31,6 +31,7 @@ use Rattle.model_headline.proofs.Each.{each_append}
 use Rattle.model_claim.specs.Frames.{Value, Asks, Tells, Part, envelope, packets_of, is_taken, waits_after, whole}
 use Rattle.model_claim.specs.Manager.{own_on}
 use Rattle.model_claim.specs.Lab.{Heard, Entry, Port, Outcome, Deed, is_above, repeated, requesters, is_ninth, busy_on, turn_where, turn, stays, heard_in, hears_request, hears_control, pldm_heard, hears_pldm, hears_typed, hears_packet, hears_packets, hears, Way, ToPort, ToManager, ToOthers}
+use Rattle.model_claim.specs.Claim.{ours}
 use Rattle.model_claim.proofs.Packets.{Agrees, IsKept, is_kept}
 use Rattle.model_claim.proofs.Repeats.{repeats_alike, busy_alike}
 use Rattle.model_claim.proofs.Sends.{sent_parts}
@@ -56,7 +57,7 @@ module _ (names : Names) (setup : BoardFile) where
     abbrev turn_by : bus_rule.Outcome → port.Turn
     turn_by o = record { outcome = o; log = bus_rule.log_after o kept_now (seen_log (spell on) log); left = port.left_by o given.1 before; replied = bus_rule.reply_after o kept_now }
 
-    by_rule : (o : Option Answered) (ninth : Bool) → SameTurn on r (turn_by (bus_rule.outcome_of (option_map (spell on r.bytes) o) ninth)) (turn_where o ninth on r setup log before)
+    by_rule : (o : Option Answered) (ninth : Bool) → SameTurn on r (turn_by (bus_rule.outcome_of (option_map (spell on r.bytes) o) ninth)) (turn_where o ninth on r (ours setup) log before)
     by_rule (Some a) ninth = record { logged = refl; left = refl; told = refl }
     by_rule None true = record { logged = refl; left = refl; told = busy on }
       where
@@ -65,20 +66,20 @@ module _ (names : Names) (setup : BoardFile) where
         busy Smbus = refl
     by_rule None false = record { logged = refl; left = refl; told = refl }
 
-    pub same_turn : SameTurn on r (port.turn (is_above on) (bare r) (port.spelled on (bare r)) setup r.asked (seen_log (spell on) log) before) (turn on r setup log before)
+    pub same_turn : SameTurn on r (port.turn (is_above on) (bare r) (port.spelled on (bare r)) setup r.asked (seen_log (spell on) log) before) (turn on r (ours setup) log before)
     unfolding port.turn turn
     same_turn =
         let e : bus_rule.outcome (is_above on) (bare r) (seen_log (spell on) log) ≡ bus_rule.outcome_of (option_map (spell on r.bytes) (repeated on r [] log)) (is_ninth r.requester (requesters log)) =
         λ i. bus_rule.outcome_of (repeats_alike (spell on) on r [] log i) (busy_alike (spell on) r.requester log i) in
-        subst (λ (o : bus_rule.Outcome). SameTurn on r (turn_by o) (turn_where (repeated on r [] log) (is_ninth r.requester (requesters log)) on r setup log before)) (sym e)
+        subst (λ (o : bus_rule.Outcome). SameTurn on r (turn_by o) (turn_where (repeated on r [] log) (is_ninth r.requester (requesters log)) on r (ours setup) log before)) (sym e)
         (by_rule (repeated on r [] log) (is_ninth r.requester (requesters log)))
 
-    reads_where : (o : Option Answered) (ninth : Bool) → Each (Reads names on) log → (r.requester ≡ own_on on names → asked_from (addresses names) on r.bytes ≡ r.asked) → Each (Reads names on) (turn_where o ninth on r setup log before).log
+    reads_where : (o : Option Answered) (ninth : Bool) → Each (Reads names on) log → (r.requester ≡ own_on on names → asked_from (addresses names) on r.bytes ≡ r.asked) → Each (Reads names on) (turn_where o ninth on r (ours setup) log before).log
     reads_where (Some a) ninth all is = all
     reads_where None true all is = all
     reads_where None false all is = (is, all)
 
-    pub still_reads : Each (Reads names on) log → (r.requester ≡ own_on on names → asked_from (addresses names) on r.bytes ≡ r.asked) → Each (Reads names on) (turn on r setup log before).log
+    pub still_reads : Each (Reads names on) log → (r.requester ≡ own_on on names → asked_from (addresses names) on r.bytes ≡ r.asked) → Each (Reads names on) (turn on r (ours setup) log before).log
     unfolding turn
     still_reads all is = reads_where (repeated on r [] log) (is_ninth r.requester (requesters log)) all is
 
@@ -107,11 +108,11 @@ module _ (names : Names) (setup : BoardFile) where
 
   request_does : (way : Way) (made : List ℕ) (p : Port) (before : State) (r : Request) → IsOrderly p.waits → Each (Reads names Ipmb) p.log
       → (r.header.requester.address ≡ names.own_address → r.header.responder.lun < 4) → ((code : ℕ) (body : List ℕ) → Suits names Ipmb way (Tells (record { header = r.header; code = code; body = body })))
-      → Does Ipmb way (port.hears_request setup (seen_port Ipmb made p) before r) (hears_request setup p before r)
+      → Does Ipmb way (port.hears_request setup (seen_port Ipmb made p) before r) (hears_request (ours setup) p before r)
   unfolding port.hears_request
   request_does way made p before r orderly reads low suits =
       let same = same_turn Ipmb (heard_in r) p.log before in
-      let t = turn Ipmb (heard_in r) setup p.log before in
+      let t = turn Ipmb (heard_in r) (ours setup) p.log before in
       record {
         made = made;
         is = λ i. record {
@@ -136,7 +137,7 @@ module _ (names : Names) (setup : BoardFile) where
       suits ToOthers = tt
 
   module _ (way : Way) (made : List ℕ) (p : Port) (before : State) (e : Envelope) (orderly : IsOrderly p.waits) (reads : Each (Reads names Smbus) p.log) where
-    control_does : (body : List ℕ) (o : Option ControlRequest) → Does Smbus way (port.hears_control (seen_port Smbus made p) before (record { envelope = e; body = body }) o) (hears_control p before e o)
+    control_does : (body : List ℕ) (o : Option ControlRequest) → Does Smbus way (port.hears_control (seen_port Smbus made p) before (record { envelope = e; body = body }) o) (hears_control p before e (option_map (λ r. (eid_after p.eid r.command r.content, control_reply p.eid r)) o))
     control_does body None = stays_so Smbus way made p before orderly reads
     control_does body (Some r) =
         let next : Port = record p { eid = eid_after p.eid r.command r.content } in
@@ -163,12 +164,12 @@ module _ (names : Names) (setup : BoardFile) where
         at true = omega arith
         at false = tt
 
-    pldm_does : (body : List ℕ) (o : Option PldmRequest) → Small o → Does Smbus way (port.hears_pldm setup (seen_port Smbus made p) before (record { envelope = e; body = body }) o) (hears_pldm setup p before e o)
+    pldm_does : (body : List ℕ) (o : Option PldmRequest) → Small o → Does Smbus way (port.hears_pldm setup (seen_port Smbus made p) before (record { envelope = e; body = body }) o) (hears_pldm (ours setup) p before e o)
     pldm_does body None small = stays_so Smbus way made p before orderly reads
     pldm_does body (Some r) small =
         let h = pldm_heard e.source_eid r in
         let same = same_turn Smbus h p.log before in
-        let t = turn Smbus h setup p.log before in
+        let t = turn Smbus h (ours setup) p.log before in
         let number : (128 * 1 + 32 * 0 + r.header.instance) % 32 ≡ 128 * 0 + 32 * 0 + r.header.instance = omega (arith, small) in
         let spelled : spell Smbus h.bytes t.answer ≡ 1 ∷ pldm_reply (record { header = r.header; code = t.answer.code; body = t.answer.body }) =
         ap (λ n. 1 ∷ n ∷ r.header.pldm_type ∷ r.header.command ∷ t.answer.code ∷ t.answer.body) number in
@@ -186,13 +187,13 @@ module _ (names : Names) (setup : BoardFile) where
           sent = parts_suit way (packets_of to (1 ∷ pldm_reply (record { header = r.header; code = t.answer.code; body = t.answer.body })));
         }
 
-    typed_does : (body : List ℕ) → Does Smbus way (port.hears_typed setup (seen_port Smbus made p) before (record { envelope = e; body = body }) body) (hears_typed setup p before e body)
+    typed_does : (body : List ℕ) → Does Smbus way (port.hears_typed setup (seen_port Smbus made p) before (record { envelope = e; body = body }) body) (hears_typed (ours setup) p before e body)
     typed_does [] = stays_so Smbus way made p before orderly reads
     typed_does (kind ∷ rest) = at (kind == 0) (kind == 1)
       where
         at : (zero one : Bool)
             → Does Smbus way (cond zero (port.hears_control (seen_port Smbus made p) before (record { envelope = e; body = kind ∷ rest }) (control_in (kind ∷ rest))) (cond one (port.hears_pldm setup (seen_port Smbus made p) before (record { envelope = e; body = kind ∷ rest }) (pldm_in rest)) (port.stays (seen_port Smbus made p) before)))
-            (cond zero (hears_control p before e (control_in (kind ∷ rest))) (cond one (hears_pldm setup p before e (pldm_in rest)) (stays p before)))
+            (cond zero (hears_control p before e ((ours setup).control p.eid (kind ∷ rest))) (cond one (hears_pldm (ours setup) p before e (pldm_in rest)) (stays p before)))
         at true one = control_does (kind ∷ rest) (control_in (kind ∷ rest))
         at false true = pldm_does (kind ∷ rest) (pldm_in rest) (small_in rest)
         at false false = stays_so Smbus way made p before orderly reads
@@ -208,7 +209,7 @@ module _ (names : Names) (setup : BoardFile) where
 
     -- what the packet does
     abbrev does_then : Bool → Bool → Deed
-    does_then ends owner = cond (ends && owner) (hears_typed setup next before q.envelope (whole q p.waits)) (stays next before)
+    does_then ends owner = cond (ends && owner) (hears_typed (ours setup) next before q.envelope (whole q p.waits)) (stays next before)
 
     by_owner : (body : List ℕ) → body ≡ whole q p.waits → (owner : Bool)
         → Does Smbus way (cond owner (port.hears_typed setup (seen_port Smbus kept.made_then next) before (record { envelope = q.envelope; body = body }) body) (port.stays (seen_port Smbus kept.made_then next) before)) (does_then true owner)
@@ -224,27 +225,27 @@ module _ (names : Names) (setup : BoardFile) where
     by_end false e sure = stays_so Smbus way kept.made_then next before kept.orderly_then reads
 
     by_cause : (cause : Option DropCause) (yes : Bool) → Agrees q p.waits made orderly yes cause → is_taken p.eid q p.waits ≡ yes
-        → Does Smbus way (port.ends_message setup (seen_port Smbus kept.made_then next) before q cause) (cond (yes && (q.end && q.envelope.tag_owner)) (hears_typed setup next before q.envelope (whole q p.waits)) (stays next before))
+        → Does Smbus way (port.ends_message setup (seen_port Smbus kept.made_then next) before q cause) (cond (yes && (q.end && q.envelope.tag_owner)) (hears_typed (ours setup) next before q.envelope (whole q p.waits)) (stays next before))
     by_cause (Some cause) true agrees e = absurd agrees
     by_cause (Some cause) false agrees e = stays_so Smbus way kept.made_then next before kept.orderly_then reads
     by_cause None true agrees e = by_end q.end refl e
     by_cause None false agrees e = absurd agrees
 
-    pub packet_does : Does Smbus way (port.hears_part setup (seen_port Smbus made p) before q) (hears_packet setup p before q)
+    pub packet_does : Does Smbus way (port.hears_part setup (seen_port Smbus made p) before q) (hears_packet (ours setup) p before q)
     unfolding port.hears_part hears_packet
     packet_does =
-        subst (λ (a : Assemblies). Does Smbus way (port.ends_message setup (record (seen_port Smbus made p) { kept = a }) before q (drop_cause p.eid (seen_as p.waits made) q)) (hears_packet setup p before q)) (sym kept.is)
+        subst (λ (a : Assemblies). Does Smbus way (port.ends_message setup (record (seen_port Smbus made p) { kept = a }) before q (drop_cause p.eid (seen_as p.waits made) q)) (hears_packet (ours setup) p before q)) (sym kept.is)
         (by_cause (drop_cause p.eid (seen_as p.waits made) q) (is_taken p.eid q p.waits) kept.agrees refl)
 
   pub packets_do : (way : Way) (qs : List Packet) (made : List ℕ) (p : Port) (before : State) → IsOrderly p.waits → Each (Reads names Smbus) p.log
-      → Does Smbus way (port.hears_parts setup (seen_port Smbus made p) before qs) (hears_packets setup p before qs)
+      → Does Smbus way (port.hears_parts setup (seen_port Smbus made p) before qs) (hears_packets (ours setup) p before qs)
   unfolding port.hears_parts
   packets_do way [] made p before orderly reads = stays_so Smbus way made p before orderly reads
   packets_do way (q ∷ qs) made p before orderly reads =
       let one = packet_does way made p before q orderly reads in
-      let first = hears_packet setup p before q in
+      let first = hears_packet (ours setup) p before q in
       let more = packets_do way qs one.made first.port first.board one.orderly one.reads in
-      let rest = hears_packets setup first.port first.board qs in
+      let rest = hears_packets (ours setup) first.port first.board qs in
       record {
         made = more.made;
         is = ap (λ (d : port.Deed). let r = port.hears_parts setup d.port d.board qs in let both : port.Deed = record { port = r.port; board = r.board; sent = d.sent ++ r.sent } in both) one.is
@@ -264,10 +265,10 @@ module _ (names : Names) (setup : BoardFile) where
   MayCome on way value = ⊥
 
   pub does : (on : Bus) (way : Way) (made : List ℕ) (p : Port) (before : State) (v : Value) → IsOrderly p.waits → Each (Reads names on) p.log → MayCome on way v
-      → Does on way (port.hears setup (seen_port on made p) before (seen_value v)) (hears setup p before v)
+      → Does on way (port.hears setup (seen_port on made p) before (seen_value v)) (hears (ours setup) p before v)
   does Ipmb way made p before (Asks r) orderly reads may = at (r.header.responder.address == p.wire)
     where
-      at : (b : Bool) → Does Ipmb way (cond b (port.hears_request setup (seen_port Ipmb made p) before r) (port.stays (seen_port Ipmb made p) before)) (cond b (hears_request setup p before r) (stays p before))
+      at : (b : Bool) → Does Ipmb way (cond b (port.hears_request setup (seen_port Ipmb made p) before r) (port.stays (seen_port Ipmb made p) before)) (cond b (hears_request (ours setup) p before r) (stays p before))
       at true = request_does way made p before r orderly reads may.0 may.1
       at false = stays_so Ipmb way made p before orderly reads
   does Ipmb way made p before (Tells r) orderly reads may = absurd may
@@ -276,6 +277,6 @@ module _ (names : Names) (setup : BoardFile) where
   does Smbus way made p before (Tells r) orderly reads may = absurd may
   does Smbus way made p before (Part q) orderly reads may = at (q.envelope.destination == p.wire)
     where
-      at : (b : Bool) → Does Smbus way (cond b (port.hears_part setup (seen_port Smbus made p) before q) (port.stays (seen_port Smbus made p) before)) (cond b (hears_packet setup p before q) (stays p before))
+      at : (b : Bool) → Does Smbus way (cond b (port.hears_part setup (seen_port Smbus made p) before q) (port.stays (seen_port Smbus made p) before)) (cond b (hears_packet (ours setup) p before q) (stays p before))
       at true = packet_does way made p before q orderly reads
       at false = stays_so Smbus way made p before orderly reads

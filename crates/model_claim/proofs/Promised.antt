@@ -9,6 +9,8 @@ use Rattle.text_schedule.specs.declared.event.Call.TheVariants as call
 use Rattle.text_schedule.specs.declared.event.Event.{Event}
 use Rattle.text_schedule.specs.declared.event.Event.TheVariants.{Calls}
 use Rattle.bmc_board.specs.Decode.{sent_by}
+use Rattle.bmc_board.specs.Answer.{Given}
+use Rattle.bmc_board.proofs.OneAnswer.{has_one_answer}
 use Rattle.model_bus.specs.Repeat.{In}
 use Rattle.model_bus.specs.Answered.{Answered as UndoAnswered}
 use Rattle.model_undo.specs.declared.phase.Why.{Why}
@@ -72,10 +74,9 @@ module _ (file : BoardFile) (plan : List Op) (retries : ℕ) where
         let x = lab_after file plan retries g.before in
         record {
           before = x.board;
-          after = (happens file g.event x).board;
           from = from;
           at = subst (λ (r : Records). IsAfter file plan r k x.board.records) same (after_k file plan first_records k x.board.records g.at);
-          row = g.answers.row;
+          answers = ap (λ (given : Given). given.0) (sym (has_one_answer file x.board (sent_by from asked) (record { code = a.code; body = a.body }) (happens file g.event x).board g.answers.row));
         }
 
     -- by which the manager asks

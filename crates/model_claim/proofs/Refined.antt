@@ -19,7 +19,7 @@ use Rattle.model_headline.specs.Theorem as law
 use Rattle.model_claim.specs.Frames.{Value, Asks, Tells, Part, span}
 use Rattle.model_claim.specs.Manager.{Start, Quiet, Stop, Again, Undo, Phase, Fresh, Open, Done, Halted, Undone, UndoRefused, asked_for, open_in}
 use Rattle.model_claim.specs.Lab.{Way, ToPort, ToManager, ToOthers, Frame, Event, Calls, ToBmc, ToMgr, OtherIpmb, OtherSmbus, Noise, Idles, OnBench, Lab, step}
-use Rattle.model_claim.specs.Claim.{IsDelivered, JoinsLive, IsHonest, AllHonest, first}
+use Rattle.model_claim.specs.Claim.{ours, IsDelivered, JoinsLive, IsHonest, AllHonest, first}
 use Rattle.model_claim.specs.Seen.{P, W, part_of, stage_of, machine_of, seen_as, seen_value, seen_way, seen_frame, seen_event, seen_lab, Made}
 use Rattle.model_claim.proofs.Holds.{Holds}
 use Rattle.model_claim.proofs.Packets.{Agrees, is_kept}
@@ -99,12 +99,12 @@ module _ (setup : BoardFile) (names : Names) where
     none_dropped None p agrees = refl
     none_dropped (Some cause) p agrees = absurd agrees
 
-    joins_here : (v : Value) → joins.JoinsLive (P names) (seen_lab names made x) (seen_value v) → JoinsLive setup names x v
+    joins_here : (v : Value) → joins.JoinsLive (P names) (seen_lab names made x) (seen_value v) → JoinsLive (ours setup) names x v
     joins_here (Asks r) live = tt
     joins_here (Tells r) live = tt
-    joins_here (Part p) live = λ no_start ours taken.
+    joins_here (Part p) live = λ no_start goes_there taken.
         subst (λ n. n ≤ x.opened p.envelope.tag + 8) (begun_so setup names Smbus x)
-        (live no_start ours (none_dropped (drop_cause x.smbus.eid (seen_as x.smbus.waits made.smbus) p) p
+        (live no_start goes_there (none_dropped (drop_cause x.smbus.eid (seen_as x.smbus.waits made.smbus) p) p
         (subst (λ (b : Bool). Agrees p x.smbus.waits made.smbus h.smbus_orderly b (drop_cause x.smbus.eid (seen_as x.smbus.waits made.smbus) p)) taken (is_kept p x.smbus.waits made.smbus h.smbus_orderly x.smbus.eid).agrees)))
 
     none_here : (phase : Phase) → machine.open_bus_at (W names) (stage_of names phase) ≡ None → open_in names phase ≡ None
@@ -115,13 +115,13 @@ module _ (setup : BoardFile) (names : Names) where
     none_here Undone e = refl
     none_here (UndoRefused k code) e = refl
 
-    to_port_here : (place : ℕ) → honest.IsDelivered (P names) lab_way.ToPort (seen_lab names made x) place → joins.IsJoinLive (P names) (seen_lab names made x) (lab.ToBmc place) → IsHonest setup names x (ToBmc place)
+    to_port_here : (place : ℕ) → honest.IsDelivered (P names) lab_way.ToPort (seen_lab names made x) place → joins.IsJoinLive (P names) (seen_lab names made x) (lab.ToBmc place) → IsHonest (ours setup) names x (ToBmc place)
     to_port_here place is live =
         let d = delivered_here ToPort place is in
         let there : slice_get (map seen_frame x.frames) place ≡ Some (seen_frame d.frame) = slice_get-map seen_frame x.frames place ∙ ap (option_map seen_frame) d.sent in
         (d, joins_here d.frame.value (subst (λ (o : Option lab.LabFrame). IfSome o (λ f. joins.JoinsLive (P names) (seen_lab names made x) f.value)) there live))
 
-    honest_here : (e : Event) → (honest.HasBytes (P names) (seen_event e) → honest.IsHonest (P names) (seen_lab names made x) (seen_event e)) → joins.IsJoinLive (P names) (seen_lab names made x) (seen_event e) → IsHonest setup names x e
+    honest_here : (e : Event) → (honest.HasBytes (P names) (seen_event e) → honest.IsHonest (P names) (seen_lab names made x) (seen_event e)) → joins.IsJoinLive (P names) (seen_lab names made x) (seen_event e) → IsHonest (ours setup) names x e
     honest_here (Calls call) is live = tt
     honest_here (ToBmc place) is live = to_port_here place (is tt) live
     honest_here (ToMgr place) is live = delivered_here ToManager place (is tt)
@@ -131,14 +131,14 @@ module _ (setup : BoardFile) (names : Names) where
     honest_here (Idles on requester) is live = λ own. none_here x.manager.phase (is tt own)
     honest_here (OnBench activity) is live = tt
 
-  all_honest : (events : List Event) (made : Made) (x : Lab) → Holds names x → honest.AllHonest (P names) setup (map seen_event events) (seen_lab names made x) → joins.AllJoinLive (P names) setup (map seen_event events) (seen_lab names made x) → AllHonest setup names events x
+  all_honest : (events : List Event) (made : Made) (x : Lab) → Holds names x → honest.AllHonest (P names) setup (map seen_event events) (seen_lab names made x) → joins.AllJoinLive (P names) setup (map seen_event events) (seen_lab names made x) → AllHonest (ours setup) names events x
   all_honest [] made x h all live = tt
   all_honest (e ∷ es) made x h all live =
       let is = honest_here made x h e all.0 live.0 in
       let one = step_so setup names made x h e is in
-      (is, all_honest es one.made (step setup names x e) one.holds (subst (honest.AllHonest (P names) setup (map seen_event es)) one.is all.1) (subst (joins.AllJoinLive (P names) setup (map seen_event es)) one.is live.1))
+      (is, all_honest es one.made (step (ours setup) names x e) one.holds (subst (honest.AllHonest (P names) setup (map seen_event es)) one.is all.1) (subst (joins.AllJoinLive (P names) setup (map seen_event es)) one.is live.1))
 
 pub honest_alike : (setup : BoardFile) (names : Names) (plan : List Op) (retries : ℕ) (events : List Event)
-    → AllHonest setup names events (first setup names plan retries) ↔ law.IsTrusted setup names plan retries (map seen_event events)
+    → AllHonest (ours setup) names events (first setup (ours setup) names plan retries) ↔ law.IsTrusted setup names plan retries (map seen_event events)
 honest_alike setup names plan retries events =
-    ((λ all. let g = ran setup names plan retries events all in (g.honest, g.live)), (λ trusted. all_honest setup names events nothing_made (first setup names plan retries) (start_holds setup names plan retries) trusted.0 trusted.1))
+    ((λ all. let g = ran setup names plan retries events all in (g.honest, g.live)), (λ trusted. all_honest setup names events nothing_made (first setup (ours setup) names plan retries) (start_holds setup names plan retries) trusted.0 trusted.1))

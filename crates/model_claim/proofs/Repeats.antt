@@ -1,15 +1,16 @@
 -- What a port did decides here what comes of a request as it does in the model of a bus.
-use Rattle.std.proofs.Common.{◌≡◌, ℕ, Bool, true, false, not, ◌&&◌, cond, List, [], ◌∷◌, Option, Some, None, refl, sym, ap}
+use Rattle.std.proofs.Common.{◌≡◌, ℕ, Bool, true, false, not, ◌&&◌, cond, List, [], ◌∷◌, Option, Some, None, refl, sym, ◌∙◌, ap, arith}
 use Rattle.std.specs.Prelude.{◌==◌, filter}
 use Rattle.std.specs.Option.{option_map}
 use Rattle.std.specs.List.{list_all, list_any}
 use Rattle.std.specs.Str.{bytes_eq}
+use Rattle.std.proofs.lemmas.Bool.Decides.{nat_tests}
 use Rattle.std.proofs.lemmas.Slice.Eq.{bytes_eq-Decides}
 use Rattle.two_wire.specs.declared.Bus.{Bus}
 use Rattle.record_base.specs.declared.message.Answered.{Answered}
 use Rattle.model_bus.specs.Request as bus
 use Rattle.model_bus.specs.Carried as bus_rule
-use Rattle.model_claim.specs.Lab.{Heard, Entry, Carried, Idled, is_above, is_same, repeated, requesters, is_ninth}
+use Rattle.model_claim.specs.Lab.{Heard, Entry, Carried, Idled, is_above, repeated, requesters, is_ninth}
 use Rattle.model_claim.specs.Seen.{bare, seen_log}
 
 module _ (spell : List ℕ → Answered → List ℕ) where
@@ -17,24 +18,31 @@ module _ (spell : List ℕ → Answered → List ℕ) where
   pub repeats_alike : (on : Bus) (r : Heard) (newer : List ℕ) (log : List Entry)
       → bus_rule.kept_for (is_above on) (bare r) newer (bus.carried_since r.requester (seen_log spell log)) ≡ option_map (spell r.bytes) (repeated on r newer log)
   repeats_alike on r newer [] = refl
-  repeats_alike on r newer (Carried s a ∷ log) = at (s.requester == r.requester) (λ more. repeats_alike on r more log)
+  repeats_alike on r newer (Carried s a ∷ log) = at (s.requester == r.requester) refl (λ more. repeats_alike on r more log)
     where
-      same_bytes : (b : Bool) → (b && bytes_eq r.bytes s.bytes) ≡ true → s.bytes ≡ r.bytes
-      same_bytes true h = sym ((bytes_eq-Decides r.bytes s.bytes).0 h)
-      same_bytes false h = absurd cc
+      kept : bus.Kept
+      kept = record { request = bare s; reply = spell s.bytes a }
 
-      found : (b c : Bool) → is_same r s ≡ b → bus_rule.kept_for (is_above on) (bare r) (s.number ∷ newer) (bus.carried_since r.requester (seen_log spell log)) ≡ option_map (spell r.bytes) (repeated on r (s.number ∷ newer) log)
-          → (let k : bus.Kept = record { request = bare s; reply = spell s.bytes a } in
-          cond (b && c) (Some k.reply) (bus_rule.kept_for (is_above on) (bare r) (s.number ∷ newer) (bus.carried_since r.requester (seen_log spell log)))) ≡ option_map (spell r.bytes) (cond (b && c) (Some a) (repeated on r (s.number ∷ newer) log))
-      found true true e rest = ap (λ (bytes : List ℕ). Some (spell bytes a)) (same_bytes (r.requester == s.requester && r.number == s.number) e)
-      found true false e rest = rest
-      found false c e rest = rest
+      older : List bus.Kept
+      older = bus.carried_since r.requester (seen_log spell log)
 
-      at : (b : Bool) → ((more : List ℕ) → bus_rule.kept_for (is_above on) (bare r) more (bus.carried_since r.requester (seen_log spell log)) ≡ option_map (spell r.bytes) (repeated on r more log))
-          → bus_rule.kept_for (is_above on) (bare r) newer (let k : bus.Kept = record { request = bare s; reply = spell s.bytes a } in cond b (k ∷ bus.carried_since r.requester (seen_log spell log)) (bus.carried_since r.requester (seen_log spell log)))
-          ≡ option_map (spell r.bytes) (cond (not b) (repeated on r newer log) (cond (is_same r s && list_all (is_above on s.number) newer) (Some a) (repeated on r (s.number ∷ newer) log)))
-      at true rest = found (is_same r s) (list_all (is_above on s.number) newer) refl (rest (s.number ∷ newer))
-      at false rest = rest newer
+      same_asker : (r.requester == s.requester) ≡ (s.requester == r.requester)
+      same_asker = grind (arith, nat_tests)
+
+      found : (p q c : Bool) → (q ≡ true → s.bytes ≡ r.bytes) → bus_rule.kept_for (is_above on) (bare r) (s.number ∷ newer) older ≡ option_map (spell r.bytes) (repeated on r (s.number ∷ newer) log)
+          → cond (((true && p) && q) && c) (Some kept.reply) (bus_rule.kept_for (is_above on) (bare r) (s.number ∷ newer) older) ≡ option_map (spell r.bytes) (cond (p && q && c) (Some a) (repeated on r (s.number ∷ newer) log))
+      found true true true same rest = ap (λ (bytes : List ℕ). Some (spell bytes a)) (same refl)
+      found true true false same rest = rest
+      found true false c same rest = rest
+      found false q c same rest = rest
+
+      at : (b : Bool) → (s.requester == r.requester) ≡ b → ((more : List ℕ) → bus_rule.kept_for (is_above on) (bare r) more older ≡ option_map (spell r.bytes) (repeated on r more log))
+          → bus_rule.kept_for (is_above on) (bare r) newer (cond b (kept ∷ older) older)
+          ≡ option_map (spell r.bytes) (cond (not b) (repeated on r newer log) (cond (r.number == s.number && bytes_eq r.bytes s.bytes && list_all (is_above on s.number) newer) (Some a) (repeated on r (s.number ∷ newer) log)))
+      at true e rest =
+          (λ i. cond ((((same_asker ∙ e) i && (r.number == s.number)) && bytes_eq r.bytes s.bytes) && list_all (is_above on s.number) newer) (Some kept.reply) (bus_rule.kept_for (is_above on) (bare r) (s.number ∷ newer) older))
+          ∙ found (r.number == s.number) (bytes_eq r.bytes s.bytes) (list_all (is_above on s.number) newer) (λ h. sym ((bytes_eq-Decides r.bytes s.bytes).0 h)) (rest (s.number ∷ newer))
+      at false e rest = rest newer
   repeats_alike on r newer (Idled q ∷ log) = at (q == r.requester) (repeats_alike on r newer log)
     where
       at : (b : Bool) → bus_rule.kept_for (is_above on) (bare r) newer (bus.carried_since r.requester (seen_log spell log)) ≡ option_map (spell r.bytes) (repeated on r newer log)

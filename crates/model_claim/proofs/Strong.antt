@@ -3,13 +3,18 @@ use Rattle.std.proofs.Common.{◌≡◌, ◌⊎◌, ℕ, zero, suc, true, false,
 use Rattle.std.proofs.lemmas.List.{length-map, map-append}
 use Rattle.two_wire.specs.Codes.{success}
 use Rattle.record_base.specs.declared.op.Op.{Op}
+use Rattle.record_base.specs.declared.key.Key.{Key}
 use Rattle.record_base.specs.declared.message.Asked.{Asked}
+use Rattle.record_base.specs.declared.message.Answered.{Answered}
 use Rattle.cfg_records.specs.declared.board_file.BoardFile.{BoardFile}
 use Rattle.cfg_records.specs.Records.{Records}
 use Rattle.record_kinds.specs.declared.limits.Limits.{Limits}
 use Rattle.record_kinds.specs.Limits.{key_of, limits_at, get_asked, set_asked, conf}
+use Rattle.bmc_board.specs.Request.{asked_by}
 use Rattle.bmc_board.specs.State.{State}
 use Rattle.bmc_board.specs.Row.{Row}
+use Rattle.bmc_board.specs.Answer.{Given, answer_of}
+use Rattle.bmc_board.proofs.OneAnswer.{has_answer, has_one_answer}
 use Rattle.undo_plans.specs.declared.names.Names.{Names}
 use Rattle.model_bus.specs.Request as bus
 use Rattle.model_bus.specs.Repeat.{In}
@@ -26,13 +31,14 @@ use Rattle.model_headline.specs.Answers as answers
 use Rattle.model_headline.specs.Theorem as law
 use Rattle.model_claim.specs.Manager.{Stop, Why, Stopped, GetRefused, SetRefused, NotRestorable, Gets, Sets, Undoes, Phase, Fresh, Open, Done, Halted, Undone, UndoRefused, by_manager}
 use Rattle.model_claim.specs.Lab.{Event, Calls, Carried, Lab, port_on, step}
-use Rattle.model_claim.specs.Claim.{SetsTo, IsAfter, Stands, ShowsSame, AllHonest, first, after, GaveIn, IsCause, Claim}
+use Rattle.model_claim.specs.Claim.{ours, SetsTo, IsAfter, Stands, ShowsSame, AllHonest, first, after, GaveIn, IsCause, Claim}
 use Rattle.model_claim.specs.Seen.{P, W, spell, seen_log, series, bare, seen_event, seen_lab, stage_of}
 use Rattle.model_claim.proofs.Holds.{Reads}
 use Rattle.model_claim.proofs.Labs.{step_so}
 use Rattle.model_claim.proofs.Honesty.{first_honest, later_honest}
 use Rattle.model_claim.proofs.Claim.{ran, port_log, holds_reads, board_of}
 use Rattle.model_claim.specs.Refines.{Refines}
+use Rattle.model_claim.proofs.Controller.{row_served}
 use Rattle.model_claim.proofs.Refined.{all_here, honest_alike}
 use Rattle.text_schedule.specs.declared.event.Call.TheVariants as lab_call
 use Rattle.model_undo.specs.declared.phase.Phase.{Phase as UndoPhase}
@@ -76,9 +82,19 @@ module _ (setup : BoardFile) (names : Names) where
     stands_back Undone r is = is
     stands_back (UndoRefused k code) r is = is
 
-  shows_back : (b c : State) → ShowsSame setup b c → undo_headline.ShowsSame (F setup names) b c
+  -- two answers to Gets of a record have the same code, and where that is 00h show the same configuration
+  abbrev Alike : Key → Answered → Answered → Type 0
+  Alike key shown again = (again.code ≡ shown.code) × (shown.code ≡ success → (limits : Limits) → limits_at setup key ≡ Some limits → conf limits again.body ≡ conf limits shown.body)
+
+  -- an answer of the relation is that of the function
+  is_given : (before : State) (asked : Asked) (a : Answered) (after : State) → Row setup before asked a after → (answer_of setup before asked).0 ≡ a
+  is_given before asked a after row = ap (λ (g : Given). g.0) (sym (has_one_answer setup before asked a after row))
+
+  shows_back : (b c : State) → ShowsSame setup (ours setup) b c → undo_headline.ShowsSame (F setup names) b c
   shows_back b c same key one other gets again_gets shown again left left_again row again_row =
-      let told = same key one other gets again_gets (board_of shown) (board_of again) left left_again row again_row in
+      let told : Alike key (board_of shown) (board_of again) =
+      subst (λ (s : Answered). Alike key s (board_of again)) (is_given b one (board_of shown) left row)
+      (subst (λ (s : Answered). Alike key (answer_of setup b one).0 s) (is_given c other (board_of again) left_again again_row) (same key one other gets again_gets)) in
       (told.0, λ ok. at (limits_at setup key) refl (told.1 ok))
     where
       at : (o : Option Limits) → limits_at setup key ≡ o → ((limits : Limits) → limits_at setup key ≡ Some limits → conf limits again.body ≡ conf limits shown.body) → conf_within (limits_at setup key) again.body ≡ conf_within (limits_at setup key) shown.body
@@ -92,16 +108,16 @@ stop_in (e ∷ es) later = inr (stop_in es later)
 
 module _ (setup : BoardFile) (names : Names) (plan : List Op) (retries : ℕ) where
   abbrev start : Lab
-  start = first setup names plan retries
+  start = first setup (ours setup) names plan retries
 
-  gave_back : (events : List Event) (k : ℕ) (asked : Asked) (a : UndoAnswered) → AllHonest setup names events start
-      → GaveIn setup names plan retries events k asked (board_of a) → law.GaveIn setup names plan retries (map seen_event events) k (by_manager names asked) a
+  gave_back : (events : List Event) (k : ℕ) (asked : Asked) (a : UndoAnswered) → AllHonest (ours setup) names events start
+      → GaveIn setup (ours setup) names plan retries events k asked (board_of a) → law.GaveIn setup names plan retries (map seen_event events) k (by_manager names asked) a
   gave_back events k asked a all g =
-      let all_here : AllHonest setup names (g.before ++ g.event ∷ g.later) start = subst (λ (es : List Event). AllHonest setup names es start) g.all all in
-      let x : Lab = after setup names plan retries g.before in
+      let all_here : AllHonest (ours setup) names (g.before ++ g.event ∷ g.later) start = subst (λ (es : List Event). AllHonest (ours setup) names es start) g.all all in
+      let x : Lab = after setup (ours setup) names plan retries g.before in
       let f = ran setup names plan retries g.before (first_honest setup names g.before (g.event ∷ g.later) start all_here) in
       let one = step_so setup names f.made_then x f.holds g.event (later_honest setup names g.before (g.event ∷ g.later) start all_here).0 in
-      let y : Lab = step setup names x g.event in
+      let y : Lab = step (ours setup) names x g.event in
       let after_is : lab.step (P names) setup (law.after setup names plan retries (map seen_event g.before)) (seen_event g.event) ≡ seen_lab names one.made y =
       ap (λ (l : lab.Lab (P names)). lab.step (P names) setup l (seen_event g.event)) f.is ∙ one.is in
       let reads : Each (Reads names g.bus) (Carried g.heard (board_of a) ∷ (port_on g.bus x).log) = subst (Each (Reads names g.bus)) g.carried (holds_reads setup names plan retries g.bus y one.holds) in
@@ -113,7 +129,8 @@ module _ (setup : BoardFile) (names : Names) (plan : List Op) (retries : ℕ) wh
         from_manager = g.from_manager;
         asks = reads.0 g.from_manager ∙ g.asks;
         replies = refl;
-        row = subst (λ (q : Asked). Row setup x.board q (board_of a) y.board) g.asks g.row;
+        row = subst (λ (q : Asked). Row setup x.board q (board_of a) y.board) g.asks
+            (subst (λ (given : Given). Row setup x.board g.heard.asked given.0 given.1) g.answered (has_answer setup x.board g.heard.asked));
       } in
       record {
         before = map seen_event g.before;
@@ -125,23 +142,23 @@ module _ (setup : BoardFile) (names : Names) (plan : List Op) (retries : ℕ) wh
         at = subst (λ (l : lab.Lab (P names)). plans.IsAfter (F setup names) plan start.board.records k l.board.records) (sym f.is) (after_back setup names plan start.board.records k x.board.records g.at);
       }
 
-  module _ (claim : Claim setup names plan retries) where
+  module _ (claim : Claim setup (ours setup) names plan retries) where
     abbrev Trusted : List lab.Event → Type 0
     Trusted = law.IsTrusted setup names plan retries
 
     abbrev Caused : List Event → UndoPhase → Type 0
     Caused events = answers.CausedBy setup names (law.GaveIn setup names plan retries (map seen_event events)) (In (lab.Calls lab_call.Stop) (map seen_event events)) plan
 
-    honest_of : (events : List Event) → Trusted (map seen_event events) → AllHonest setup names events start
+    honest_of : (events : List Event) → Trusted (map seen_event events) → AllHonest (ours setup) names events start
     honest_of events trusted = (honest_alike setup names plan retries events).1 trusted
 
     stands_there : (events : List Event) → Trusted (map seen_event events) → law.StandsAfter setup names plan retries (map seen_event events)
     stands_there events trusted =
         let all = honest_of events trusted in
         subst (λ (l : lab.Lab (P names)). plans.Stands (F setup names) plan start.board.records (machine.phase_of (W names) l.manager.machine) l.board.records) (sym (ran setup names plan retries events all).is)
-        (stands_back setup names plan start.board.records (after setup names plan retries events).manager.phase (after setup names plan retries events).board.records (claim.stands events all))
+        (stands_back setup names plan start.board.records (after setup (ours setup) names plan retries events).manager.phase (after setup (ours setup) names plan retries events).board.records (claim.stands events all))
 
-    caused : (events : List Event) → AllHonest setup names events start → (phase : Phase) → ((k : ℕ) (why : Why) → phase ≡ Halted k why → IsCause setup names plan retries events k why) → Caused events (machine.phase_at (W names) (stage_of names phase))
+    caused : (events : List Event) → AllHonest (ours setup) names events start → (phase : Phase) → ((k : ℕ) (why : Why) → phase ≡ Halted k why → IsCause setup (ours setup) names plan retries events k why) → Caused events (machine.phase_at (W names) (stage_of names phase))
     caused events all Fresh c = tt
     caused events all (Open true (Gets k op) bodies) c = tt
     caused events all (Open true (Sets k op back) bodies) c = tt
@@ -167,7 +184,7 @@ module _ (setup : BoardFile) (names : Names) (plan : List Op) (retries : ℕ) wh
     halts_there events trusted =
         let all = honest_of events trusted in
         subst (Caused events) (sym (ap (λ (l : lab.Lab (P names)). machine.phase_of (W names) l.manager.machine) (ran setup names plan retries events all).is))
-        (caused events all (after setup names plan retries events).manager.phase (λ k why at_halt. claim.halts events k why all at_halt))
+        (caused events all (after setup (ours setup) names plan retries events).manager.phase (λ k why at_halt. claim.halts events k why all at_halt))
 
     undone_phase : (phase : Phase) → machine.phase_at (W names) (stage_of names phase) ≡ undo_phase.Undone → phase ≡ Undone
     undone_phase Fresh e = absurd cc
@@ -187,11 +204,11 @@ module _ (setup : BoardFile) (names : Names) (plan : List Op) (retries : ℕ) wh
         let all = honest_of (events ++ later) (subst Trusted (sym split_map) trusted) in
         let f = ran setup names plan retries events (first_honest setup names events later start all) in
         let g = ran setup names plan retries (events ++ later) all in
-        let here : (after setup names plan retries events).manager.phase ≡ Undone = undone_phase (after setup names plan retries events).manager.phase (ap (λ (l : lab.Lab (P names)). machine.phase_of (W names) l.manager.machine) (sym f.is) ∙ at_undone) in
+        let here : (after setup (ours setup) names plan retries events).manager.phase ≡ Undone = undone_phase (after setup (ours setup) names plan retries events).manager.phase (ap (λ (l : lab.Lab (P names)). machine.phase_of (W names) l.manager.machine) (sym f.is) ∙ at_undone) in
         let told = claim.undone events later all here in
-        let end : seen_lab names g.made_then (after setup names plan retries (events ++ later)) ≡ law.after setup names plan retries (map seen_event events ++ map seen_event later) = sym g.is ∙ ap (law.after setup names plan retries) split_map in (
+        let end : seen_lab names g.made_then (after setup (ours setup) names plan retries (events ++ later)) ≡ law.after setup names plan retries (map seen_event events ++ map seen_event later) = sym g.is ∙ ap (law.after setup names plan retries) split_map in (
           ap (λ (l : lab.Lab (P names)). l.board.records) (sym end) ∙ told.0,
-          subst (λ (l : lab.Lab (P names)). undo_headline.ShowsSame (F setup names) start.board l.board) end (shows_back setup names start.board (after setup names plan retries (events ++ later)).board told.1),
+          subst (λ (l : lab.Lab (P names)). undo_headline.ShowsSame (F setup names) start.board l.board) end (shows_back setup names start.board (after setup (ours setup) names plan retries (events ++ later)).board told.1),
         )
 
     abbrev UndoneThere : List lab.Event → List lab.Event → Type 0
@@ -220,5 +237,6 @@ refines setup names plan retries = record {
   every = all_here;
   honest = honest_alike setup names plan retries;
   alike = λ events all. let g = ran setup names plan retries events all in (g.made_then, g.is);
+  rows = λ before asked a after. row_served setup (asked_by asked) before a after;
   strong = headline_back setup names plan retries;
 }

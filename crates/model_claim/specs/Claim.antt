@@ -1,33 +1,27 @@
 -- The claim: after every honest schedule the manager's phase says what the records are, and undone means that each is what it was.
-use Rattle.std.specs.Prelude.{◌≡◌, ◌≢◌, ◌⊎◌, ℕ, zero, suc, ◌+◌, ◌<◌, ◌≤◌, true, false, List, [], ◌∷◌, ◌++◌, length, All, Option, Some, None, Ok, slice_get}
+use Rattle.std.specs.Prelude.{◌≡◌, ◌≢◌, ◌⊎◌, ℕ, zero, suc, ◌+◌, ◌<◌, ◌≤◌, true, false, List, [], ◌∷◌, ◌++◌, length, All, Option, Some, None, Result, Ok, slice_get}
+use Rattle.std.specs.Option.{option_map}
 use Rattle.two_wire.specs.Codes.{success}
-use Rattle.two_wire.specs.declared.Bus.{Bus}
-use Rattle.two_wire.specs.declared.Bus.TheVariants.{Ipmb, Smbus}
 use Rattle.ipmb_frame.specs.declared.message.Msg.{Msg}
 use Rattle.ipmb_frame.specs.Grammar.{IsMessage}
-use Rattle.mctp_net.specs.declared.packet.Packet.{Packet}
 use Rattle.mctp_net.specs.Grammar.{IsPacket}
-use Rattle.pldm_base.specs.declared.message.PldmRequest.{PldmRequest}
+use Rattle.mctp_net.specs.Control.{request_of, reply_to, eid_after}
 use Rattle.pldm_base.specs.Message.{IsRequest}
 use Rattle.record_base.specs.declared.key.Key.{Key}
-use Rattle.record_base.specs.declared.op.Op.{Op}
-use Rattle.record_base.specs.declared.message.Asked.{Asked}
-use Rattle.record_base.specs.declared.message.Asked.TheVariants.{Ipmi, Pldm}
-use Rattle.record_base.specs.declared.message.Answered.{Answered}
 use Rattle.cfg_records.specs.declared.board_file.BoardFile.{BoardFile}
-use Rattle.cfg_records.specs.Records.{Records, with_record}
+use Rattle.cfg_records.specs.Boards.{pairs_of}
+use Rattle.cfg_records.specs.Records.{Records, records_of, with_record}
 use Rattle.record_kinds.specs.declared.limits.Limits.{Limits}
-use Rattle.record_kinds.specs.Limits.{key_of, get_asked, set_asked, restorable, limits_at, sets, conf}
-use Rattle.bmc_board.specs.State.{State}
-use Rattle.bmc_board.specs.Request.{Get, asked_by}
+use Rattle.record_kinds.specs.Limits.{key_of, get_asked, set_asked, restorable, limits_at, sets, view, conf}
+use Rattle.bmc_board.specs.State.{State, opened}
+use Rattle.bmc_board.specs.Request.{Request, Get, Set, SetStores, asked_by}
 use Rattle.bmc_board.specs.Table.{is_changing}
-use Rattle.bmc_board.specs.Row.{Row}
-use Rattle.undo_plans.specs.declared.names.Names.{Names}
-use Rattle.model_claim.specs.Frames.{Value, Part, span, is_taken}
-use Rattle.model_claim.specs.Manager.{Stop, Why, Stopped, GetRefused, SetRefused, NotRestorable, Gets, Sets, Undoes, Phase, Fresh, Open, Done, Halted, Undone, UndoRefused, own_on, by_manager, open_in}
-use Rattle.model_claim.specs.Lab.{Heard, Carried, heard_in, pldm_heard, Way, ToPort, ToManager, Frame, Event, Calls, ToBmc, ToMgr, OtherIpmb, OtherSmbus, Noise, Idles, OnBench, Lab, port_on, idles_on, step, run, opening}
+use Rattle.bmc_board.specs.Answer.{answer_of}
+use Rattle.model_claim.specs.Frames.{Bus, Ipmb, Smbus, Packet, Value, Part, span, is_taken}
+use Rattle.model_claim.specs.Manager.{Op, Asked, Ipmi, Pldm, Answered, Names, Stop, Why, Stopped, GetRefused, SetRefused, NotRestorable, Gets, Sets, Undoes, Phase, Fresh, Open, Done, Halted, Undone, UndoRefused, own_on, by_manager, open_in}
+use Rattle.model_claim.specs.Lab.{PldmRequest, Controller, Heard, Carried, heard_in, pldm_heard, Way, ToPort, ToManager, Frame, Event, Calls, ToBmc, ToMgr, OtherIpmb, OtherSmbus, Noise, Idles, OnBench, Lab, port_on, idles_on, step, run, opening}
 
--- ---- what a phase says of the records
+-- ---- what commands do to records
 
 module _ (setup : BoardFile) where
   -- the operation is accepted at these records, and leaves those: its own record is changed, and no other
@@ -39,6 +33,31 @@ module _ (setup : BoardFile) where
     pub found : old (key_of op) ≡ Some before
     pub accepted : sets limits op before after
     pub changed : new ≡ with_record old (key_of op) after
+
+  -- a Get is answered with 00h and a view of its record's value, or refused where there is none
+  abbrev pub Shows : Option Limits → Option (List ℕ) → State → Answered → Type 0
+  Shows (Some limits) (Some value) before a = a ≡ record { code = success; body = view limits value before.activity.live }
+  Shows limits value before a = a.code ≢ success
+
+  -- What is asked for is answered so, and leaves such a board. A Set changes its own record alone, or is refused since it can't be accepted. No honest
+  -- event has a request that sets two. Any other, as that of a live command, leaves every record, whatever it is answered.
+  abbrev pub IsServed : Result Request ℕ → (before : State) → Answered → (after : State) → Type 0
+  IsServed (Ok (Get key)) before a after = (after.records ≡ before.records) × Shows (limits_at setup key) (before.records key) before a
+  IsServed (Ok (Set op)) before a after = ((a.code ≡ success) × SetsTo op before.records after.records)
+      ⊎ ((a.code ≢ success) × (after.records ≡ before.records) × ((other : Records) → ¬ SetsTo op before.records other))
+  IsServed (Ok (SetStores first second)) before a after = a.code ≢ success → after.records ≡ before.records
+  IsServed request before a after = after.records ≡ before.records
+
+  -- it begins with the file's records, and serves each request so
+  pub record IsController (c : Controller) : Type 0 where
+    pub begins : c.begins.records ≡ records_of (pairs_of setup)
+    pub serves : (before : State) (asked : Asked) → IsServed (asked_by asked) before (c.answer before asked).0 (c.answer before asked).1
+
+  -- The controller that the claim is of. Its board is as above, which is all that needs to be known of its answers.
+  abbrev pub ours : Controller
+  ours = record { begins = opened setup; answer = answer_of setup; control = λ eid body. option_map (λ r. (eid_after eid r.command r.content, reply_to eid r)) (request_of body) }
+
+  -- ---- what a phase says of the records
 
   -- the records are those at the start with the first steps of the plan done, in order
   abbrev pub IsAfter : List Op → (start : Records) → (steps : ℕ) → Records → Type 0
@@ -57,12 +76,12 @@ module _ (setup : BoardFile) where
   Stands plan start Undone r = r ≡ start
   Stands plan start (UndoRefused k code) r = ⊥
 
-  -- Any two Gets of a record, whoever asks them, one at the first board and one at the second, are answered with the same code, and where
+  -- Any two Gets of a record, whoever asks them, one of the first board and one of the second, are answered with the same code, and where
   -- that is 00h they show the same configuration.
-  abbrev pub ShowsSame : State → State → Type 0
-  ShowsSame b c = (key : Key) (one other : Asked) → asked_by one ≡ Ok (Get key) → asked_by other ≡ Ok (Get key)
-      → (shown again : Answered) (left left_again : State) → Row setup b one shown left → Row setup c other again left_again
-      → (again.code ≡ shown.code) × (shown.code ≡ success → (limits : Limits) → limits_at setup key ≡ Some limits → conf limits again.body ≡ conf limits shown.body)
+  abbrev pub ShowsSame : Controller → (first second : State) → Type 0
+  ShowsSame c first second = (key : Key) (one other : Asked) → asked_by one ≡ Ok (Get key) → asked_by other ≡ Ok (Get key)
+      → let shown = (c.answer first one).0 in let again = (c.answer second other).0 in
+      (again.code ≡ shown.code) × (shown.code ≡ success → (limits : Limits) → limits_at setup key ≡ Some limits → conf limits again.body ≡ conf limits shown.body)
 
 -- ---- honest events
 
@@ -94,7 +113,7 @@ abbrev pub IsNoFrame : Bus → List ℕ → Type 0
 IsNoFrame Ipmb bytes = (m : Msg) → ¬ IsMessage m bytes
 IsNoFrame Smbus bytes = (p : Packet) → ¬ IsPacket p bytes
 
-module _ (setup : BoardFile) (names : Names) where
+module _ (c : Controller) (names : Names) where
   -- A packet that isn't the first of its message, and that the port takes, joins others of the request whose first packet came last under
   -- its tag. Fewer than eight newer requests of the manager than that one were begun on SMBus.
   abbrev pub JoinsLive : Lab → Value → Type 0
@@ -119,17 +138,17 @@ module _ (setup : BoardFile) (names : Names) where
   -- every event of a schedule is honest, where it happens
   abbrev pub AllHonest : List Event → Lab → Type 0
   AllHonest [] x = Unit {0}
-  AllHonest (e ∷ es) x = IsHonest x e × AllHonest es (step setup names x e)
+  AllHonest (e ∷ es) x = IsHonest x e × AllHonest es (step c names x e)
 
 -- ---- the claim
 
-module _ (setup : BoardFile) (names : Names) (plan : List Op) (retries : ℕ) where
+module _ (setup : BoardFile) (c : Controller) (names : Names) (plan : List Op) (retries : ℕ) where
   -- the lab as it begins, and after events
   abbrev pub first : Lab
-  first = opening setup names plan retries
+  first = opening c names plan retries
 
   abbrev pub after : List Event → Lab
-  after events = run setup names events first
+  after events = run c names events first
 
   -- At an event of the schedule, where the records were those after the plan's first k steps, a port carried out a request of the manager that
   -- asks this, and the board answered it so.
@@ -143,8 +162,8 @@ module _ (setup : BoardFile) (names : Names) (plan : List Op) (retries : ℕ) wh
     pub heard : Heard
     pub from_manager : heard.requester ≡ own_on bus names
     pub asks : heard.asked ≡ by_manager names asked
-    pub carried : (port_on bus (step setup names (after before) event)).log ≡ Carried heard a ∷ (port_on bus (after before)).log
-    pub row : Row setup (after before).board heard.asked a (step setup names (after before) event).board
+    pub carried : (port_on bus (step c names (after before) event)).log ≡ Carried heard a ∷ (port_on bus (after before)).log
+    pub answered : c.answer (after before).board heard.asked ≡ (a, (step c names (after before) event).board)
 
   -- what made a plan halt at step k: a call of `stop`, or the answer to the step's Get or Set
   abbrev pub IsCause : List Event → ℕ → Why → Type 0
@@ -160,7 +179,7 @@ module _ (setup : BoardFile) (names : Names) (plan : List Op) (retries : ℕ) wh
   -- that comes then, every record is what it was, and each Get is answered with the same code and shows the same configuration. A plan that
   -- halted has its cause in the schedule.
   pub record Claim : Type 0 where
-    pub stands : (events : List Event) → AllHonest setup names events first → Stands setup plan first.board.records (after events).manager.phase (after events).board.records
-    pub undone : (events later : List Event) → AllHonest setup names (events ++ later) first → (after events).manager.phase ≡ Undone
-        → ((after (events ++ later)).board.records ≡ first.board.records) × ShowsSame setup first.board (after (events ++ later)).board
-    pub halts : (events : List Event) (k : ℕ) (why : Why) → AllHonest setup names events first → (after events).manager.phase ≡ Halted k why → IsCause events k why
+    pub stands : (events : List Event) → AllHonest c names events first → Stands setup plan first.board.records (after events).manager.phase (after events).board.records
+    pub undone : (events later : List Event) → AllHonest c names (events ++ later) first → (after events).manager.phase ≡ Undone
+        → ((after (events ++ later)).board.records ≡ first.board.records) × ShowsSame setup c first.board (after (events ++ later)).board
+    pub halts : (events : List Event) (k : ℕ) (why : Why) → AllHonest c names events first → (after events).manager.phase ≡ Halted k why → IsCause events k why

@@ -1,12 +1,12 @@
 -- What is on the buses, how a message is packets, and how packets are put together.
 use Rattle.std.specs.Prelude.{ℕ, zero, suc, ◌==◌, ◌&&◌, ◌||◌, not, nat_lt, nat_le, Bool, true, false, List, [], ◌∷◌, ◌++◌, length, take, drop, filter, if◌then◌else◌}
 use Rattle.std.specs.List.{flat_map}
-use Rattle.two_wire.specs.declared.Bus.{Bus}
-use Rattle.two_wire.specs.declared.Bus.TheVariants.{Ipmb, Smbus}
-use Rattle.ipmb_frame.specs.declared.message.Request.{Request}
-use Rattle.ipmb_frame.specs.declared.message.Response.{Response}
-use Rattle.mctp_net.specs.declared.packet.Envelope.{Envelope}
-use Rattle.mctp_net.specs.declared.packet.Packet.{Packet}
+pub use Rattle.two_wire.specs.declared.Bus.{Bus}
+pub use Rattle.two_wire.specs.declared.Bus.TheVariants.{Ipmb, Smbus}
+pub use Rattle.ipmb_frame.specs.declared.message.Request.{Request}
+pub use Rattle.ipmb_frame.specs.declared.message.Response.{Response}
+pub use Rattle.mctp_net.specs.declared.packet.Envelope.{Envelope}
+pub use Rattle.mctp_net.specs.declared.packet.Packet.{Packet}
 use Rattle.mctp_net.specs.Grammar.{bit}
 
 -- what one frame is: a request or a response on IPMB, or a packet on SMBus

@@ -3,27 +3,21 @@ use Rattle.std.specs.Prelude.{ℕ, ◌+◌, ◌-◌, ◌/◌, ◌%◌, ◌==◌,
 use Rattle.std.specs.List.{list_all, list_any}
 use Rattle.std.specs.Str.{bytes_eq}
 use Rattle.two_wire.specs.Codes.{node_busy, pldm_not_ready}
-use Rattle.two_wire.specs.declared.Bus.{Bus}
-use Rattle.two_wire.specs.declared.Bus.TheVariants.{Ipmb, Smbus}
-use Rattle.ipmb_frame.specs.declared.message.Request.{Request}
 use Rattle.ipmb_frame.specs.Grammar.{request_bytes}
-use Rattle.mctp_net.specs.declared.packet.Envelope.{Envelope}
-use Rattle.mctp_net.specs.declared.packet.Packet.{Packet}
 use Rattle.mctp_net.specs.declared.message.Message.{Message}
-use Rattle.mctp_net.specs.Control.{Request as ControlRequest, request_of as control_in, reply_to as control_reply, eid_after}
-use Rattle.pldm_base.specs.declared.message.PldmRequest.{PldmRequest}
+pub use Rattle.pldm_base.specs.declared.message.PldmRequest.{PldmRequest}
 use Rattle.pldm_base.specs.Message.{request_in as pldm_in, request_bytes as pldm_bytes, reply_bytes as pldm_reply}
-use Rattle.record_base.specs.declared.op.Op.{Op}
-use Rattle.record_base.specs.declared.message.Asked.{Asked}
-use Rattle.record_base.specs.declared.message.Asked.TheVariants.{Ipmi, Pldm}
-use Rattle.record_base.specs.declared.message.Answered.{Answered}
-use Rattle.cfg_records.specs.declared.board_file.BoardFile.{BoardFile}
 use Rattle.bmc_board.specs.declared.activity.Activity.{Activity}
-use Rattle.bmc_board.specs.State.{State, state, opened}
-use Rattle.bmc_board.specs.Answer.{answer_of}
-use Rattle.undo_plans.specs.declared.names.Names.{Names}
-use Rattle.model_claim.specs.Frames.{Value, Asks, Tells, Part, circle, envelope, packets_of, is_meant, is_taken, whole, waits_after}
-use Rattle.model_claim.specs.Manager.{Call, Fresh, Manager, Turn, called, hears as manager_hears, own_on, bus_of, open_in, frames_of}
+use Rattle.bmc_board.specs.State.{State, state}
+use Rattle.model_claim.specs.Frames.{Bus, Ipmb, Smbus, Request, Envelope, Packet, Value, Asks, Tells, Part, circle, envelope, packets_of, is_meant, is_taken, whole, waits_after}
+use Rattle.model_claim.specs.Manager.{Op, Asked, Ipmi, Pldm, Answered, Names, Call, Fresh, Manager, Turn, called, hears as manager_hears, own_on, bus_of, open_in, frames_of}
+
+-- A controller, but for its ports: its board as it begins, the board's answer to each request with the state that it leaves, and its endpoint's
+-- identifier after each control message with the reply, if it replies.
+pub record Controller : Type 0 where
+  pub begins : State
+  pub answer : State → Asked → Answered × State
+  pub control : (eid : ℕ) → List ℕ → Option (ℕ × List ℕ)
 
 -- ---- the controller's ports: which requests they carry out, which repeat one, and what they send
 
@@ -50,17 +44,13 @@ pub record Port : Type 0 where
 abbrev pub is_above : Bus → ℕ → ℕ → Bool
 is_above on low high = let distance = (high + circle on - low) % circle on in nat_lt 0 distance && nat_lt distance (circle on / 2)
 
--- two requests have equal requester, number and bytes
-abbrev pub is_same : Heard → Heard → Bool
-is_same r s = (r.requester == s.requester && r.number == s.number) && bytes_eq r.bytes s.bytes
-
--- The answer to the request that this one repeats. That is the same one, carried out since the requester was last forgotten; and each number
--- of the requester that was carried out in between (`newer`) is above its number.
+-- The answer to the request that this one repeats. That has the same requester, number and bytes, and was carried out since the requester was
+-- last forgotten; and each number of the requester that was carried out in between (`newer`) is above its number.
 abbrev pub repeated : Bus → Heard → (newer : List ℕ) → List Entry → Option Answered
 repeated on r newer [] = None
 repeated on r newer (Carried s a ∷ log) =
     if not (s.requester == r.requester) then repeated on r newer log
-    else if is_same r s && list_all (is_above on s.number) newer then Some a
+    else if r.number == s.number && bytes_eq r.bytes s.bytes && list_all (is_above on s.number) newer then Some a
     else repeated on r (s.number ∷ newer) log
 repeated on r newer (Idled q ∷ log) = if q == r.requester then None else repeated on r newer log
 
@@ -86,14 +76,14 @@ pub record Outcome : Type 0 where
   pub answer : Answered
 
 -- A repeat gets the answer that was given. Who would be a ninth is told that the port is busy. Any other request is carried out.
-abbrev pub turn_where : Option Answered → (ninth : Bool) → Bus → Heard → BoardFile → List Entry → State → Outcome
-turn_where (Some a) ninth on r setup log before = record { log = log; board = before; answer = a }
-turn_where None true on r setup log before = record { log = log; board = before; answer = record { code = busy_on on; body = [] } }
-turn_where None false on r setup log before =
-    let given = answer_of setup before r.asked in record { log = Carried r given.0 ∷ log; board = given.1; answer = given.0 }
+abbrev pub turn_where : Option Answered → (ninth : Bool) → Bus → Heard → Controller → List Entry → State → Outcome
+turn_where (Some a) ninth on r c log before = record { log = log; board = before; answer = a }
+turn_where None true on r c log before = record { log = log; board = before; answer = record { code = busy_on on; body = [] } }
+turn_where None false on r c log before =
+    let given = c.answer before r.asked in record { log = Carried r given.0 ∷ log; board = given.1; answer = given.0 }
 
-unfoldable pub turn : Bus → Heard → BoardFile → List Entry → State → Outcome
-turn on r setup log before = turn_where (repeated on r [] log) (is_ninth r.requester (requesters log)) on r setup log before
+unfoldable pub turn : Bus → Heard → Controller → List Entry → State → Outcome
+turn on r c log before = turn_where (repeated on r [] log) (is_ninth r.requester (requesters log)) on r c log before
 
 -- the port and the board after something came, and what is sent
 pub record Deed : Type 0 where
@@ -111,62 +101,61 @@ heard_in r =
     let asked = Ipmi r.header.requester.address r.header.net_fn r.header.responder.lun r.header.command r.body in
     record { requester = r.header.requester.address; number = r.header.sequence; bytes = request_bytes r; asked = asked }
 
-abbrev pub hears_request : BoardFile → Port → State → Request → Deed
-hears_request setup port before r =
-    let t = turn Ipmb (heard_in r) setup port.log before in
+abbrev pub hears_request : Controller → Port → State → Request → Deed
+hears_request c port before r =
+    let t = turn Ipmb (heard_in r) c port.log before in
     record { port = record port { log = t.log }; board = t.board; sent = Tells (record { header = r.header; code = t.answer.code; body = t.answer.body }) ∷ [] }
 
 -- the packets of the reply to a message
 abbrev pub replies : Port → Envelope → List ℕ → List Value
 replies port e body = map Part (packets_of (envelope e.source port.wire e.source_eid port.eid false e.tag) body)
 
--- a control message: the endpoint replies, from the identifier that it has then
-abbrev pub hears_control : Port → State → Envelope → Option ControlRequest → Deed
+-- a control message: the endpoint has this identifier then, from which it replies so
+abbrev pub hears_control : Port → State → Envelope → Option (ℕ × List ℕ) → Deed
 hears_control port before e None = stays port before
-hears_control port before e (Some r) =
-    let next : Port = record port { eid = eid_after port.eid r.command r.content } in
-    record { port = next; board = before; sent = replies next e (control_reply port.eid r) }
+hears_control port before e (Some told) =
+    let next : Port = record port { eid = told.0 } in record { port = next; board = before; sent = replies next e told.1 }
 
 -- a PLDM request from an endpoint
 abbrev pub pldm_heard : ℕ → PldmRequest → Heard
 pldm_heard from r =
     record { requester = from; number = r.header.instance; bytes = 1 ∷ pldm_bytes r; asked = Pldm from r.header.pldm_type r.header.command r.body }
 
-abbrev pub hears_pldm : BoardFile → Port → State → Envelope → Option PldmRequest → Deed
-hears_pldm setup port before e None = stays port before
-hears_pldm setup port before e (Some r) =
-    let t = turn Smbus (pldm_heard e.source_eid r) setup port.log before in
+abbrev pub hears_pldm : Controller → Port → State → Envelope → Option PldmRequest → Deed
+hears_pldm c port before e None = stays port before
+hears_pldm c port before e (Some r) =
+    let t = turn Smbus (pldm_heard e.source_eid r) c port.log before in
     let sent = replies port e (1 ∷ pldm_reply (record { header = r.header; code = t.answer.code; body = t.answer.body })) in
     record { port = record port { log = t.log }; board = t.board; sent = sent }
 
 -- a whole message, by its type: 00h control, 01h PLDM
-abbrev pub hears_typed : BoardFile → Port → State → Envelope → List ℕ → Deed
-hears_typed setup port before e [] = stays port before
-hears_typed setup port before e (kind ∷ rest) =
-    if kind == 0 then hears_control port before e (control_in (kind ∷ rest))
-    else if kind == 1 then hears_pldm setup port before e (pldm_in rest)
+abbrev pub hears_typed : Controller → Port → State → Envelope → List ℕ → Deed
+hears_typed c port before e [] = stays port before
+hears_typed c port before e (kind ∷ rest) =
+    if kind == 0 then hears_control port before e (c.control port.eid (kind ∷ rest))
+    else if kind == 1 then hears_pldm c port before e (pldm_in rest)
     else stays port before
 
 -- a packet; a message whose sender doesn't own its tag is a reply, and nothing to a port
-unfoldable pub hears_packet : BoardFile → Port → State → Packet → Deed
-hears_packet setup port before p =
+unfoldable pub hears_packet : Controller → Port → State → Packet → Deed
+hears_packet c port before p =
     let next : Port = record port { waits = waits_after port.eid p port.waits } in
-    if is_taken port.eid p port.waits && (p.end && p.envelope.tag_owner) then hears_typed setup next before p.envelope (whole p port.waits)
+    if is_taken port.eid p port.waits && (p.end && p.envelope.tag_owner) then hears_typed c next before p.envelope (whole p port.waits)
     else stays next before
 
 -- packets, one after another
-abbrev pub hears_packets : BoardFile → Port → State → List Packet → Deed
-hears_packets setup port before [] = stays port before
-hears_packets setup port before (p ∷ ps) =
-    let first = hears_packet setup port before p in
-    let rest = hears_packets setup first.port first.board ps in
+abbrev pub hears_packets : Controller → Port → State → List Packet → Deed
+hears_packets c port before [] = stays port before
+hears_packets c port before (p ∷ ps) =
+    let first = hears_packet c port before p in
+    let rest = hears_packets c first.port first.board ps in
     record { port = rest.port; board = rest.board; sent = first.sent ++ rest.sent }
 
 -- any frame, if it goes to the port's address; a response is nothing to it
-abbrev pub hears : BoardFile → Port → State → Value → Deed
-hears setup port before (Asks r) = if r.header.responder.address == port.wire then hears_request setup port before r else stays port before
-hears setup port before (Tells r) = stays port before
-hears setup port before (Part p) = if p.envelope.destination == port.wire then hears_packet setup port before p else stays port before
+abbrev pub hears : Controller → Port → State → Value → Deed
+hears c port before (Asks r) = if r.header.responder.address == port.wire then hears_request c port before r else stays port before
+hears c port before (Tells r) = stays port before
+hears c port before (Part p) = if p.envelope.destination == port.wire then hears_packet c port before p else stays port before
 
 -- ---- the lab
 
@@ -253,11 +242,11 @@ opens (Part p) request x =
     if p.start && is_meant x.smbus.eid p then record x { opened = λ tag. if tag == p.envelope.tag then request else x.opened tag } else x
 opens value request x = x
 
-module _ (setup : BoardFile) (names : Names) where
+module _ (c : Controller) (names : Names) where
   -- a frame comes to the port, or to the manager, if there is such a frame
   abbrev pub delivered : Option Frame → Lab → Lab
   delivered None x = x
-  delivered (Some f) x = port_does names f.on ToManager f.request (hears setup (port_on f.on x) x.board f.value) (opens f.value f.request x)
+  delivered (Some f) x = port_does names f.on ToManager f.request (hears c (port_on f.on x) x.board f.value) (opens f.value f.request x)
 
   abbrev pub returned : Option Frame → Lab → Lab
   returned None x = x
@@ -265,14 +254,14 @@ module _ (setup : BoardFile) (names : Names) where
 
   -- all packets of a message come, if it goes to the port's address
   abbrev pub hears_all : Message → Port → State → Deed
-  hears_all m port before = if m.envelope.destination == port.wire then hears_packets setup port before (packets_of m.envelope m.body) else stays port before
+  hears_all m port before = if m.envelope.destination == port.wire then hears_packets c port before (packets_of m.envelope m.body) else stays port before
 
   -- the lab after an event
   unfoldable pub step : Lab → Event → Lab
   step x (Calls call) = goes_on names (called call x.manager.phase x.manager) x
   step x (ToBmc place) = delivered (slice_get x.frames place) x
   step x (ToMgr place) = returned (slice_get x.frames place) x
-  step x (OtherIpmb r) = port_does names Ipmb ToOthers 0 (hears setup x.ipmb x.board (Asks r)) x
+  step x (OtherIpmb r) = port_does names Ipmb ToOthers 0 (hears c x.ipmb x.board (Asks r)) x
   step x (OtherSmbus m) = port_does names Smbus ToOthers 0 (hears_all m x.smbus x.board) x
   step x (Noise on bytes) = x
   step x (Idles on requester) = with_port on (record (port_on on x) { log = Idled requester ∷ (port_on on x).log }) x
@@ -286,7 +275,7 @@ module _ (setup : BoardFile) (names : Names) where
   -- a lab as it begins
   abbrev pub opening : List Op → (retries : ℕ) → Lab
   opening plan retries = record {
-    board = opened setup;
+    board = c.begins;
     ipmb = record { wire = names.peer_address; eid = names.peer_eid; waits = []; log = [] };
     smbus = record { wire = names.peer_wire; eid = names.peer_eid; waits = []; log = [] };
     manager = record { plan = plan; retries = retries; resent = 0; phase = Fresh; stopped = false; undo = []; answered = λ on. 0; waits = [] };

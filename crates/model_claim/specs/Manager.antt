@@ -1,19 +1,15 @@
 -- A manager: what each call and each frame makes of it, and when it sends the frames of its open request.
 use Rattle.std.specs.Prelude.{ℕ, suc, ◌+◌, ◌==◌, ◌&&◌, ◌||◌, not, ◌/◌, ◌%◌, nat_lt, Bool, true, false, List, [], ◌∷◌, ◌++◌, length, map, Option, Some, None, if◌then◌else◌, slice_get, unwrap_or}
 use Rattle.two_wire.specs.Codes.{success, node_busy, pldm_not_ready}
-use Rattle.two_wire.specs.declared.Bus.{Bus}
-use Rattle.two_wire.specs.declared.Bus.TheVariants.{Ipmb, Smbus}
-use Rattle.ipmb_frame.specs.declared.message.Response.{Response}
-use Rattle.mctp_net.specs.declared.packet.Packet.{Packet}
 use Rattle.pldm_base.specs.Message.{request_bytes}
-use Rattle.record_base.specs.declared.op.Op.{Op}
-use Rattle.record_base.specs.declared.message.Asked.{Asked}
-use Rattle.record_base.specs.declared.message.Asked.TheVariants.{Ipmi, Pldm}
-use Rattle.record_base.specs.declared.message.Answered.{Answered}
+pub use Rattle.record_base.specs.declared.op.Op.{Op}
+pub use Rattle.record_base.specs.declared.message.Asked.{Asked}
+pub use Rattle.record_base.specs.declared.message.Asked.TheVariants.{Ipmi, Pldm}
+pub use Rattle.record_base.specs.declared.message.Answered.{Answered}
 use Rattle.record_kinds.specs.Limits.{key_of, get_asked, set_asked, inverse}
 use Rattle.bmc_board.specs.Decode.{sent_by}
-use Rattle.undo_plans.specs.declared.names.Names.{Names}
-use Rattle.model_claim.specs.Frames.{Value, Asks, Tells, Part, circle, envelope, packets_of, is_taken, whole, waits_after}
+pub use Rattle.undo_plans.specs.declared.names.Names.{Names}
+use Rattle.model_claim.specs.Frames.{Bus, Ipmb, Smbus, Response, Packet, Value, Asks, Tells, Part, circle, envelope, packets_of, is_taken, whole, waits_after}
 
 -- the calls
 pub data Call : Type 0 where

@@ -10,7 +10,7 @@ use Rattle.cfg_records.specs.Records.{Records}
 use Rattle.record_kinds.specs.Limits.{key_of, get_asked, set_asked, restorable}
 use Rattle.bmc_board.specs.State.{State}
 use Rattle.bmc_board.specs.Decode.{sent_by}
-use Rattle.bmc_board.specs.Row.{Row}
+use Rattle.bmc_board.specs.Answer.{answer_of}
 use Rattle.text_schedule.specs.declared.event.Call.TheVariants as call
 use Rattle.text_schedule.specs.declared.event.Event.{Event}
 use Rattle.text_schedule.specs.declared.event.Event.TheVariants.{Calls}
@@ -34,16 +34,16 @@ module _ (file : BoardFile) (plan : List Op) (start : Records) where
   Says Undone now = now ≡ start
   Says (UndoRefused k code) now = ⊥
 
-  -- with the records after the plan's first k steps, the board answered the request so
+  -- with the records after the plan's first k steps, the board answered the request so, whoever asked it
   pub record Gave (k : ℕ) (asked : Asked) (a : Answered) : Type 0 where
     pub before : State
-    pub after : State
     pub from : ℕ
     pub at : IsAfter file plan start k before.records
-    pub row : Row file before (sent_by from asked) a after
+    pub answers : (answer_of file before (sent_by from asked)).0 ≡ a
 
   -- why a plan halted at step k: the schedule has a call of `stop`, or the board refused the step's Get or Set, or answered its Get with data
-  -- from which the step can't be undone
+  -- from which the step can't be undone. A watchdog's step can't while its timer runs, which isn't configuration: so of that step this says little,
+  -- and the second tier says which answer it was.
   abbrev pub IsWhy : List Event → ℕ → Why → Type 0
   IsWhy events k Stop = (before : List Event) × (later : List Event) × (events ≡ before ++ Calls call.Stop ∷ later)
   IsWhy events k (GetRefused code) =
