@@ -1,1 +1,2 @@
 pub mod LongScripts
+pub mod Counting

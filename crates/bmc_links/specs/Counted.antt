@@ -1,5 +1,5 @@
 -- What a link counts.
-use Rattle.std.specs.Prelude.{ℕ, ◌+◌, ◌%◌, ◌^◌, Result, Ok, Err}
+use Rattle.std.specs.Prelude.{ℕ, zero, suc, ◌+◌, ◌%◌, ◌^◌, Result, Ok, Err}
 use Rattle.bmc_links.specs.declared.link.Counts.{Counts}
 use Rattle.bmc_links.specs.declared.link.Heard.{Heard}
 use Rattle.bmc_links.specs.declared.link.Heard.TheVariants.{Frame, Quiet}
@@ -12,6 +12,11 @@ none_counted = record { failures = 0; calls = 0; heard = 0 }
 -- one more, and 0 after the last value of 64 bits
 abbrev pub one_more : ℕ → ℕ
 one_more count = (count + 1) % 2 ^ 64
+
+-- a link's count, so many later
+abbrev pub counted_on : ℕ → ℕ → ℕ
+counted_on count zero = count
+counted_on count (suc more) = one_more (counted_on count more)
 
 -- `next` counts its call, and the frame that it heard or its failure
 abbrev pub after_next : Result Heard LinkFault → Counts → Counts

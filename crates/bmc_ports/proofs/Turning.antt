@@ -1,6 +1,6 @@
 -- A worker's turns, one after another.
 use Rattle.std.specs.Prelude.{Result, Ok, Err, OnOk, OnErr}
-use Rattle.std.proofs.Common.{◌≡◌, refl, ◌+◌, ◌++◌, ℕ, zero, suc, List, [], ◌∷◌, length, ap, sym, ◌∙◌, subst, arith}
+use Rattle.std.proofs.Common.{◌≡◌, refl, ◌+◌, ◌++◌, ℕ, suc, List, [], ◌∷◌, length, ap, sym, ◌∙◌, subst, arith}
 use Rattle.std.proofs.lemmas.List.{append_assoc, length-append, append-nil}
 use Rattle.bmc_core.specs.declared.out.Out.{Out}
 use Rattle.bmc_core.specs.declared.step.Step.TheVariants.{Ask, Done}
@@ -8,19 +8,13 @@ use Rattle.bmc_core.specs.declared.port.Port.{Port}
 use Rattle.bmc_core.specs.declared.port.Pending.{Pending}
 use Rattle.bmc_core.specs.Port.{IsStep}
 use Rattle.bmc_links.specs.declared.link.Counts.{Counts}
-use Rattle.bmc_links.specs.Counted.{one_more}
+use Rattle.bmc_links.specs.Counted.{one_more, counted_on}
+use Rattle.bmc_links.proofs.Counting.{counted_twice}
 use Rattle.bmc_history.specs.declared.event.Call.{Call}
 use Rattle.bmc_history.specs.declared.held.PeriodFull.{PeriodFull}
-use Rattle.bmc_ports.specs.Serving.{counted_on, CallsNext, Carries, Serves, ServesTo, MadeAll, Worked, end_of}
+use Rattle.bmc_ports.specs.Serving.{CallsNext, Carries, Serves, ServesTo, MadeAll, Worked, end_of}
 use Rattle.bmc_ports.specs.declared.worker.End.{End}
 use Rattle.bmc_ports.specs.declared.worker.End.TheVariants.{Turns, Full}
-
--- more on a count, and then more
-pub counted_twice : (count first later : ℕ) → counted_on (counted_on count first) later ≡ counted_on count (later + first)
-counted_twice count first zero = let same : first ≡ 0 + first = omega arith in ap (counted_on count) same
-counted_twice count first (suc later) =
-    let same : suc (later + first) ≡ suc later + first = omega arith in
-    ap one_more (counted_twice count first later) ∙ ap (counted_on count) same
 
 -- frames that are heard, and then others
 pub serves_both : (first later : List (List ℕ)) (before mid after : Port) (calls rest : List Call)

@@ -1,5 +1,5 @@
 -- What a worker's port hears, and what its seat calls.
-use Rattle.std.specs.Prelude.{◌≡◌, ◌++◌, ℕ, zero, suc, List, [], ◌∷◌, length, Option, Some, None, Result, Ok, Err}
+use Rattle.std.specs.Prelude.{◌≡◌, ◌++◌, ℕ, List, [], ◌∷◌, length, Option, Some, None, Result, Ok, Err}
 use Rattle.record_base.specs.declared.message.Answered.{Answered}
 use Rattle.bmc_core.specs.declared.out.Out.{Out}
 use Rattle.bmc_core.specs.declared.step.Step.{Step}
@@ -8,17 +8,12 @@ use Rattle.bmc_core.specs.declared.port.Port.{Port}
 use Rattle.bmc_core.specs.declared.port.Pending.{Pending}
 use Rattle.bmc_core.specs.Port.{asked_of, IsStep, IsTold}
 use Rattle.bmc_links.specs.declared.link.Counts.{Counts}
-use Rattle.bmc_links.specs.Counted.{one_more}
+use Rattle.bmc_links.specs.Counted.{counted_on}
 use Rattle.bmc_history.specs.declared.event.Call.{Call}
 use Rattle.bmc_history.specs.declared.event.Call.TheVariants.{Exchanged}
 use Rattle.bmc_history.specs.declared.held.PeriodFull.{PeriodFull}
 use Rattle.bmc_ports.specs.declared.worker.End.{End}
 use Rattle.bmc_ports.specs.declared.worker.End.TheVariants.{Turns, Full}
-
--- a link's count, so many later
-abbrev pub counted_on : ℕ → ℕ → ℕ
-counted_on count zero = count
-counted_on count (suc more) = one_more (counted_on count more)
 
 -- one call of `next` was counted, and what it heard
 pub record CallsNext (frames : List (List ℕ)) (before after : Counts) : Type 0 where

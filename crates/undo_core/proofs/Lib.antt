@@ -5,3 +5,4 @@ pub mod Replies
 pub mod Heard
 pub mod Exchange
 pub mod Course
+pub mod Coming

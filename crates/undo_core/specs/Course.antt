@@ -10,7 +10,9 @@ use Rattle.model_ports.specs.Values.{Value, written, IsFrameOn}
 use Rattle.text_schedule.specs.declared.event.Call.{Call}
 use Rattle.text_schedule.specs.declared.event.Call.TheVariants.{Undo}
 use Rattle.model_lab.specs.ManagerSteps.{Sent, ManagerState, ManagerDeed, board_plans, called, rests, manager_hears}
-use Rattle.undo_core.specs.Shown.{words_of}
+use Rattle.undo_core.specs.declared.manager.Manager.{Manager}
+use Rattle.undo_core.specs.declared.sending.Sent.{Sent as SentFrames}
+use Rattle.undo_core.specs.Shown.{words_of, Does}
 
 -- what comes to a manager: a call, or bytes over a bus
 pub data Input : Type 0 where
@@ -47,6 +49,12 @@ module _ (names : Names) where
   abbrev pub IsDeed : Input → ManagerState (board_plans names) → ManagerDeed (board_plans names) → Type 0
   IsDeed (Calls call) s d = d ≡ or_rests (called (board_plans names) call s) s
   IsDeed (Hears on bytes) s d = HearsBytes on bytes s d
+
+  -- the manager is then as what comes of it, and sends that
+  pub record Comes (i : Input) (s : ManagerState (board_plans names)) (m : Manager) (sent : Option SentFrames) : Type 0 where
+    pub deed : ManagerDeed (board_plans names)
+    pub is : IsDeed i s deed
+    pub does : Does names m sent deed
 
   abbrev pub frames_of : Sent → Frames
   frames_of sent = record { on = sent.on; frames = map written sent.values }

@@ -13,6 +13,7 @@ ghost use Rattle.undo_core.specs.Shown.{words_of, own, backs, IsTask, IsStage};
 ghost use Rattle.undo_core.specs.Bounds.{task_steps, steps_needed, task_undone, undone_needed, task_backs, most_backs, task_left, replies_left, done_by, with_done};
 ghost use Rattle.model_undo.specs.Words.{is_busy as is_busy_code};
 ghost use Rattle.undo_core.specs.Shown.{Shows, Does, Takes, taken_if};
+ghost use Rattle.undo_core.specs.Course.{Hears, Comes};
 ghost use Rattle.two_wire.specs.declared.Bus.TheVariants.{Ipmb as IsIpmb, Smbus as IsSmbus};
 ghost use Rattle.model_bus.specs.Bytes.{ipmb_answers, pldm_answers};
 ghost use Rattle.ipmb_frame.specs.declared.message.Response.{Response as AnyResponse};
@@ -51,6 +52,9 @@ impl Manager {
             → Does names self.new result (hears_response (board_plans names) r s) }
         ensures packet { (p : AnyPacket) → bus ≡ IsSmbus → IsPacket p bytes.now → (names : Names) (s : ManagerState (board_plans names)) → Shows names self.old s
             → Does names self.new result (hears_packet (board_plans names) p s) }
+        // Of all bytes one thing comes: of a frame what comes of its value, and of others nothing.
+        ensures heard { (names : Names) (s : ManagerState (board_plans names)) → Shows names self.old s
+            → Comes names (Hears bus bytes.now) s self.new result }
         // Nothing else changes the manager, and it sends nothing then.
         ensures no_response { bus ≡ IsIpmb → ((r : AnyResponse) → IsResponse r bytes.now → ⊥) → (self.new ≡ self.old) × (result ≡ None) }
         ensures no_packet { bus ≡ IsSmbus → ((p : AnyPacket) → IsPacket p bytes.now → ⊥) → (self.new ≡ self.old) × (result ≡ None) }

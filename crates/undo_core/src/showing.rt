@@ -54,6 +54,13 @@ impl Manager {
         }
     }
 
+    /// How often the open request's frames were sent again, since it was opened or heeded again.
+    pub fn resent(&self) -> u8
+        ensures { (names : AnyNames) (s : ManagerState (board_plans names)) → Shows names self.now s → result ≡ s.machine.resent }
+    {
+        self.resent
+    }
+
     /// The requests that undo the steps that were done, and the numbers of the next requests.
     pub fn undo_list(&self) -> &UndoList
         ensures requests { (names : AnyNames) (s : ManagerState (board_plans names)) → Shows names self.now s → backs names result.now.requests ≡ s.machine.undo }

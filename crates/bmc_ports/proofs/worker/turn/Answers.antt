@@ -1,5 +1,6 @@
 use Rattle.std.proofs.Common.{ℕ, List, Option, length, ap, ◌∙◌}
-use Rattle.bmc_ports.specs.Serving.{counted_on, frames_in}
+use Rattle.bmc_links.specs.Counted.{counted_on}
+use Rattle.bmc_ports.specs.Serving.{frames_in}
 use Rattle.bmc_ports.proofs.Turning.{settled, asked}
 use Rattle.bmc_ports.proofs.worker.turn.Goals as goal
 

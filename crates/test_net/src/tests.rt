@@ -1,0 +1,5 @@
+//! Links that fail, under a manager and under a worker, and links over UDP.
+mod driven;
+mod served;
+mod udp;
+mod wired;
