@@ -21,7 +21,7 @@ use Rattle.model_history.specs.Histories.{IsExchange}
 use Rattle.model_history.proofs.Carrying.{DidAt, did_nothing, did_both, did_if, did_turn}
 
 exchanged : (r : Request) (a : Answered) → (let k : Kept = record { request = heard_in r; reply = spelled Ipmb (heard_in r) a } in IsExchange k (asked_in r) a)
-exchanged r a = record { from = refl; request = (r.header.sequence, r.header.requester.lun, refl); reply = refl }
+exchanged r a = record { from = refl; request = (r.header.requester.lun, refl); reply = refl }
 
 begun : (n : ℕ) → 128 * 1 + 32 * 0 + n ≡ 128 + n
 begun n = omega arith
@@ -29,7 +29,7 @@ begun n = omega arith
 pldm_exchanged : (from : ℕ) (r : PldmRequest) (a : Answered) → (let k : Kept = record { request = pldm_heard_in from r; reply = spelled Smbus (pldm_heard_in from r) a } in IsExchange k (pldm_asked from r) a)
 pldm_exchanged from r a = record {
   from = refl;
-  request = (r.header.instance, ap (λ (b : ℕ). 1 ∷ b ∷ r.header.pldm_type ∷ r.header.command ∷ r.body) (begun r.header.instance));
+  request = ap (λ (b : ℕ). 1 ∷ b ∷ r.header.pldm_type ∷ r.header.command ∷ r.body) (begun r.header.instance);
   reply = refl;
 }
 

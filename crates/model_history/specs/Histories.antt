@@ -30,17 +30,16 @@ all_carried [] = []
 all_carried (Carried k ∷ log) = all_carried log ++ k ∷ []
 all_carried (Idled requester ∷ log) = all_carried log
 
--- the bytes are those of the request, under some number, and on IPMB from some logical unit of the requester
-abbrev pub Spells : List ℕ → Asked → Type 0
-Spells bytes (Ipmi from net_fn lun command body) =
-    (number : ℕ) × (own_lun : ℕ)
-    × (bytes ≡ ipmb_request (record { net_fn = net_fn; responder_lun = lun; requester_lun = own_lun; command = command }) number body)
-Spells bytes (Pldm from kind command body) = (number : ℕ) × (bytes ≡ pldm_request (record { pldm_type = kind; command = command }) number body)
+-- the bytes are those of the request under this number, on IPMB from some logical unit of the requester
+abbrev pub Spells : (number : ℕ) → List ℕ → Asked → Type 0
+Spells number bytes (Ipmi from net_fn lun command body) =
+    (own_lun : ℕ) × (bytes ≡ ipmb_request (record { net_fn = net_fn; responder_lun = lun; requester_lun = own_lun; command = command }) number body)
+Spells number bytes (Pldm from kind command body) = bytes ≡ pldm_request (record { pldm_type = kind; command = command }) number body
 
--- what is kept is the exchange: its requester asked this, in its bytes, and its reply gives this answer
+-- what is kept is the exchange: its requester asked this, in its bytes under its number, and its reply gives this answer
 pub record IsExchange (k : Kept) (asked : Asked) (answered : Answered) : Type 0 where
   pub from : sent_by k.request.requester asked ≡ asked
-  pub request : Spells k.request.bytes asked
+  pub request : Spells k.request.number k.request.bytes asked
   pub reply : k.reply ≡ reply_to (bus_of asked) k.request.bytes (family_answer answered)
 
 -- what is kept is the call of the board
