@@ -1,0 +1,4 @@
+pub mod Lists
+pub mod Carrying
+pub mod Hearing
+pub mod Running

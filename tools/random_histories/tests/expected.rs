@@ -1,0 +1,97 @@
+//! What is expected of each run.
+use super::scripts::Script;
+use super::sharing::{Told, open_sample};
+use bmc_board::{Board, Records};
+use bmc_ports::{Call, End, History, Link};
+use record_base::Asked;
+use std::alloc::Global;
+use std::process::Abort;
+use std::test::Fail;
+use two_wire::{Below, NetFn};
+
+/// Whether a board that is told the history's calls in their order answers each so.
+fn replays(board: &mut Board<Records>, history: &History) -> bool {
+    for event in history.as_slice() {
+        let same = match &event.call {
+            Call::Exchanged { asked, answered } => board.answer(asked).is(answered),
+            Call::Benched { bench, answered } => board.bench(*bench) == *answered,
+        };
+        if !same {
+            return false;
+        }
+    }
+    true
+}
+
+/// The boot flags, the boot device's sensor, the log with its newest record, and an enumeration: what the scripts change.
+fn questions() -> [Asked; 5] {
+    [
+        Asked::ipmi(NetFn::new(0x00), 0x09, &[0x05, 0x00, 0x00]),
+        Asked::ipmi(NetFn::new(0x04), 0x2D, &[0x05]),
+        Asked::ipmi(NetFn::new(0x0A), 0x40, &[]),
+        Asked::ipmi(NetFn::new(0x0A), 0x43, &[0, 0, 0xFF, 0xFF, 0, 0xFF]),
+        Asked::pldm(Below::new(3), 0x08, &[0, 0, 0, 0, 0x01, 0, 0]),
+    ]
+}
+
+/// Both boards answer each question alike.
+fn are_alike(one: &mut Board<Records>, other: &mut Board<Records>) -> bool {
+    for asked in &questions() {
+        if !one.answer(asked).is(&other.answer(asked)) {
+            return false;
+        }
+    }
+    true
+}
+
+/// How many events the history has of a seat.
+pub(super) fn events_of(history: &History, seat: u8) -> u64 {
+    let mut many = 0u64;
+    for event in history.as_slice() {
+        if event.seat == seat {
+            many = many.wrapping_add(1);
+        }
+    }
+    many
+}
+
+/// Who ended full did so at the history's room, and who ended by turns made all of them.
+fn ends_are_right(script: &Script, told: &Told) -> bool {
+    let turns = script.turns as u64;
+    let is_full = told.history.len() == script.room;
+    let [first, second, scanner] = told.ends;
+    let made = [
+        (first, told.first.counts().calls == turns),
+        (second, told.second.counts().calls == turns),
+        (
+            scanner,
+            events_of(&told.history, 2) == turns.min(script.bench.len() as u64),
+        ),
+    ];
+    for (end, has_made_all) in made {
+        let is_right = match end {
+            End::Turns => has_made_all,
+            End::Full => is_full,
+        };
+        if !is_right {
+            return false;
+        }
+    }
+    true
+}
+
+/// The history fits its room, a second board answers it so, and is then as the first; and each ended as it was to.
+pub(super) fn expect_told(
+    rt: &impl Abort,
+    alloc: Global,
+    seed: u64,
+    script: &Script,
+    told: &mut Told,
+) -> Result<(), Fail> {
+    assert!(rt; told.history.len() <= script.room, "seed {seed}: over its room");
+    assert!(rt; ends_are_right(script, told), "seed {seed}: an end");
+    let mut other = open_sample(alloc)?;
+    assert!(rt; replays(&mut other, &told.history), "seed {seed}: an answer");
+    assert!(rt; are_alike(&mut told.board, &mut other), "seed {seed}: the board");
+    Ok(())
+}
