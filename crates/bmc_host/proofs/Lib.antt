@@ -1,3 +1,2 @@
-pub mod Builders
 pub mod Readings
 pub mod Checks

@@ -1,13 +1,10 @@
 -- What the words of the command line ask for.
 use Rattle.std.specs.Prelude.{◌≡◌, Bool, true, false, List, [], Option, None, Some, codes, map, option_map, string_bytes}
-use Rattle.std.specs.Option.{option_map_or}
-use Rattle.std.specs.Str.{bytes_eq}
-use Rattle.clap.specs.Words.{Row, Text, all_of, fault_of, first_of, one_of, subcommand_of}
+use Rattle.clap.specs.Words.{Row, Text, all_of, fault_of, first_of, subcommand_of}
 use Rattle.bmc_lab.specs.Asked.{Asks}
 use Rattle.bmc_play.specs.declared.run.Shown.{Shown}
 use Rattle.bmc_play.specs.declared.run.Shown.TheVariants.{Lines, Chart}
-use Rattle.bmc_host.specs.declared.refusal.Refusal.{Refusal}
-use Rattle.bmc_host.specs.declared.refusal.Refusal.TheVariants.{Memory, Words as Refused}
+use Rattle.host_base.specs.Asked.{is_given}
 use Rattle.bmc_host.specs.declared.words.Words.{Words}
 use Rattle.bmc_host.specs.declared.words.Words.TheVariants.{Frame, Play, Check}
 use Rattle.bmc_host.specs.declared.words.FrameWords.{FrameWords}
@@ -22,14 +19,6 @@ shown_of frames premises false = Some (Lines frames premises)
 shown_of false false true = Some Chart
 shown_of true premises true = None
 shown_of false true true = None
-
--- the text says that a flag is given
-abbrev pub says_yes : Option Text → Bool
-says_yes text = option_map_or (λ t. bytes_eq t (codes "true")) text false
-
--- the flag of this name is given
-abbrev pub is_given : Text → List Row → Bool
-is_given name rows = says_yes (one_of name rows)
 
 -- what was matched behind `frame` asks for this
 pub record AsksFrame (rows : List Row) (asked : FrameWords) : Type 0 where
@@ -59,8 +48,3 @@ AsksBy met (Check asked) = (rows : List Row) × (met ≡ Some (codes "check", ro
 pub record AsksFor (words : List Text) (asked : Words) : Type 0 where
   pub taken : fault_of program words ≡ []
   pub asks : AsksBy (subcommand_of program words) asked
-
--- why words aren't read: memory was refused, or they ask for nothing
-abbrev pub Refuses : {A : Type 0} → (A → Type 0) → Refusal → Type 0
-Refuses Asked Memory = Unit {0}
-Refuses {A} Asked (Refused why) = (asked : A) → Asked asked → ⊥

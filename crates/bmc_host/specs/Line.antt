@@ -1,27 +1,7 @@
 -- The program's command line, as clap has it.
-use Rattle.std.specs.Prelude.{◌≡◌, true, false, [], ◌∷◌, Some, codes, fold}
-use Rattle.clap.specs.Lexer.{usize_max}
-use Rattle.clap.specs.Words.{App, Rule, Text, app_of, new_app, new_rule, rule_of, with_rule, with_subcommand}
-use Rattle.clap.specs.declared.builder.ArgAction.TheVariants.{SetTrue}
-use Rattle.clap.specs.declared.builder.arg.Arg.{Arg}
-use Rattle.clap.specs.declared.builder.command.Command.{Command}
-use Rattle.clap.specs.declared.builder.command.Command.TheViews.{out-Command}
-
--- an option of this name, whose value has one name
-abbrev pub option_rule : Text → Rule
-option_rule name = record (new_rule name) { long = Some name; value_names = 1 }
-
--- a flag of this name
-abbrev pub flag_rule : Text → Rule
-flag_rule name = record (new_rule name) { long = Some name; action = Some SetTrue }
-
--- a word that must be there
-abbrev pub needed_rule : Text → Rule
-needed_rule name = record (new_rule name) { required = true }
-
--- words of which at least one must be there
-abbrev pub several_rule : Text → Rule
-several_rule name = record (new_rule name) { required = true; range = Some (record { start_inclusive = 1; end_inclusive = usize_max }) }
+use Rattle.std.specs.Prelude.{[], ◌∷◌, codes, fold}
+use Rattle.clap.specs.Words.{App, new_app, with_rule, with_subcommand}
+use Rattle.host_base.specs.Line.{flag_rule, needed_rule, needing_subcommand, option_rule, several_rule}
 
 -- `frame [--bus ipmb|smbus] [--board FILE] HEX`
 abbrev pub frame_app : App
@@ -36,10 +16,6 @@ play_app = fold with_rule (new_app (codes "play"))
 abbrev pub check_app : App
 check_app = with_rule (new_app (codes "check")) (several_rule (codes "FILE"))
 
--- one of the command's subcommands must be used
-abbrev pub needing_subcommand : App → App
-needing_subcommand app = record app { top = record app.top { subcommand_required = true } }
-
 -- `bmclab`, and what it can do with a board
 abbrev pub runs : App
 runs = with_subcommand (with_subcommand (needing_subcommand (new_app (codes "bmclab"))) frame_app.top) play_app.top
@@ -47,11 +23,3 @@ runs = with_subcommand (with_subcommand (needing_subcommand (new_app (codes "bmc
 -- `bmclab`, and what it can do
 abbrev pub program : App
 program = with_subcommand runs check_app.top
-
--- the argument is of this rule, and of one command alone
-abbrev pub IsArg : Rule → Arg → Type 0
-IsArg rule arg = (rule_of arg ≡ rule) × (arg.global ≡ false)
-
--- the command is this one, and none of its arguments goes to others
-abbrev pub IsCommand : App → Command → Type 0
-IsCommand app command = (app_of command ≡ app) × ((out-Command command).has_globals ≡ false)

@@ -7,8 +7,6 @@ use Rattle.bmc_lab.specs.Ending.{Saying}
 use Rattle.bmc_lab.specs.Files.{Readings, SaysOfFile}
 use Rattle.bmc_play.specs.Files.{SaysOfFiles}
 use Rattle.bmc_play.specs.Run.{tells_of}
-use Rattle.bmc_host.specs.declared.refusal.Refusal.{Refusal}
-use Rattle.bmc_host.specs.declared.refusal.Refusal.TheVariants.{Memory as Lacking, Words as Refused}
 use Rattle.bmc_host.specs.declared.words.Words.{Words}
 use Rattle.bmc_host.specs.declared.words.Words.TheVariants.{Frame, Play, Check}
 use Rattle.bmc_host.specs.Asked.{AsksFor}
@@ -20,11 +18,6 @@ abbrev pub SaysOfWords : Readings → Words → Saying
 SaysOfWords gives (Frame asked) = SaysOfFile gives (option_map string_bytes asked.board) asked.frame.bus asked.frame.bytes.items
 SaysOfWords gives (Play asked) = SaysOfFiles gives (tells_of asked.shown) (string_bytes asked.board ∷ string_bytes asked.plan ∷ string_bytes asked.schedule ∷ [])
 SaysOfWords gives (Check asked) = SaysOfChecks gives (map string_bytes asked.files.items)
-
--- what a run says of words that it doesn't read, unless memory was refused: standard error says why
-abbrev pub SaysWhy : Refusal → Saying
-SaysWhy Lacking stream text status = ⊥
-SaysWhy (Refused why) stream text status = (stream ≡ Error) × (text ≡ string_bytes why) × (status ≡ RefusedWords)
 
 -- What a run says of a command line's words: what it says of what they ask for; or, where they ask for nothing, any text on standard error,
 -- with the status of refused words.

@@ -1,15 +1,8 @@
-//! The files of the host.
+//! Why a file of the host gives no text.
 use crate::check::{Cause, TellsCause};
-use bmc_lab::{TextFiles, Unreadable};
+use host_base::HostFiles;
 use std::rt::Files;
 use std::{fs, io};
-
-/// The files of the host, by their paths.
-#[derive(Drop)]
-pub struct HostFiles<'a, R: Files + AllocGlobal> {
-    /// What gives them.
-    pub rt: &'a R,
-}
 
 /// Why a file gives no text where its reading ends so.
 fn cause_of(kind: io::ErrorKind) -> Cause {
@@ -19,19 +12,6 @@ fn cause_of(kind: io::ErrorKind) -> Cause {
         io::ErrorKind::PermissionDenied => Cause::Forbidden,
         io::ErrorKind::InvalidData => Cause::NotUtf8,
         _ => Cause::Other,
-    }
-}
-
-impl<R: Files + AllocGlobal> TextFiles for HostFiles<'_, R> {
-    // Nothing is promised of what the host's files hold.
-    ghost gives = { λ files word given. Unit {0} };
-
-    fn text(&self, word: &str) -> Result<String, Unreadable> {
-        match fs::read_to_string(self.rt, word) {
-            Ok(text) => Ok(text),
-            Err(error) if error.kind() == io::ErrorKind::OutOfMemory => Err(Unreadable::Memory),
-            Err(_) => Err(Unreadable::NoText),
-        }
     }
 }
 

@@ -1,14 +1,11 @@
-//! The program but its `main`: the words of its command line, the files of the host, and what it does with both.
+//! `bmclab` but its `main`: the words of its command line, why a file of the host gives no text, and what it does with both.
 #![tactic(auto)]
 
 pub mod check;
-pub mod file;
-pub mod refusal;
+mod file;
 pub mod run;
 pub mod words;
 
 pub use check::{Cause, TellsCause, check_files};
-pub use file::HostFiles;
-pub use refusal::Refusal;
-pub use run::{refuse, run_line};
-pub use words::{CheckWords, FrameWords, PlayWords, Words, words_of_process};
+pub use run::run_line;
+pub use words::{CheckWords, FrameWords, PlayWords, Words};

@@ -1,13 +1,13 @@
 //! What the program does: what its words ask for, with its files.
 ghost use Rattle.std.specs.Prelude.{map, string_bytes};
 ghost use Rattle.bmc_lab.specs.Ending.{RunEnds};
-ghost use Rattle.bmc_host.specs.Run.{SaysOfLine, SaysOfWords, SaysWhy};
+ghost use Rattle.bmc_host.specs.Run.{SaysOfLine, SaysOfWords};
 
 use crate::check::{TellsCause, check_files};
-use crate::refusal::Refusal;
 use crate::words::{CheckWords, FrameWords, PlayWords, Words, read};
-use bmc_lab::{Console, Ending, Status, Stream, TextFiles, frame_of_file};
+use bmc_lab::{Console, TextFiles, frame_of_file};
 use bmc_play::{PlayFiles, play_of_files};
+use host_base::refuse;
 use std::alloc::Global;
 use std::io;
 
@@ -74,21 +74,6 @@ fn carry_out<F: TextFiles + TellsCause, W: io::Write, E: io::Write>(
         Words::Play(words) => play(alloc, files, words, console),
         Words::Check(words) => check(alloc, files, words, console),
     }
-}
-
-/// Says on standard error why words aren't read, or that memory was refused, and gives the status: 2, or 5.
-pub fn refuse<W: io::Write, E: io::Write>(refusal: &Refusal, console: &mut Console<W, E>) -> u8
-    ensures { RunEnds W.contents E.contents (SaysWhy refusal.now) console.old console.new result }
-{
-    let ending = match refusal {
-        Refusal::Memory => Ending::without_report(Status::Memory),
-        Refusal::Words(text) => Ending {
-            stream: Stream::Error,
-            text: text.as_bytes(),
-            status: Status::RefusedWords,
-        },
-    };
-    u8::from(ending.write(console))
 }
 
 /// Does what the words of a command line ask for, the program's own name first among them, with these files: what `frame_of_file`,

@@ -1,17 +1,20 @@
 //! The words of the command line.
-ghost use Rattle.std.specs.Prelude.{◌≡◌, IfOk, IfErr, Some, map, option_map, string_bytes};
-ghost use Rattle.clap.specs.Words.{all_of, app_of, first_value, new_app, found_of, one_text, rows_of, subcommand_rows_of};
-ghost use Rattle.bmc_host.specs.Line.{IsArg, IsCommand, check_app, flag_rule, frame_app, needed_rule, option_rule, play_app, program, runs, several_rule};
-ghost use Rattle.bmc_host.specs.Asked.{AsksBy, AsksCheck, AsksFor, AsksFrame, AsksPlay, Refuses, says_yes, shown_of};
+ghost use Rattle.std.specs.Prelude.{◌≡◌, IfOk, IfErr, map, string_bytes};
+ghost use Rattle.clap.specs.Words.{app_of, found_of, rows_of, subcommand_rows_of};
+ghost use Rattle.host_base.specs.Line.{IsCommand};
+ghost use Rattle.host_base.specs.Asked.{Refuses};
+ghost use Rattle.bmc_host.specs.Line.{check_app, frame_app, play_app, program, runs};
+ghost use Rattle.bmc_host.specs.Asked.{AsksBy, AsksCheck, AsksFor, AsksFrame, AsksPlay, shown_of};
 
-use crate::refusal::{Refusal, refusal_by, refusal_of};
 use bmc_lab::{AskedFrame, Status, asked_frame};
 use bmc_play::Shown;
 use clap::error::ErrorKind;
-use clap::{Arg, ArgAction, ArgMatches, Command};
+use clap::{ArgMatches, Command};
+use host_base::{
+    Refusal, all_named, flag, given, has_flag, lacking, named, needed, new_command, option,
+    refusal_by, refusal_of, several,
+};
 use std::alloc::{AllocError, Global};
-use std::rt::Env;
-use std::{env, io};
 
 /// What the words ask for.
 #[derive(Debug, Drop)]
@@ -47,50 +50,6 @@ pub struct PlayWords {
 pub struct CheckWords {
     /// The words of the files, at least one.
     pub files: Vec<String>,
-}
-
-/// A flag of this name.
-fn flag<'a>(alloc: Global, name: &'a str, help: &'a str) -> Arg<'a>
-    ensures { IsArg (flag_rule name.entry.now) result }
-{
-    Arg::new(alloc, name)
-        .long(name)
-        .action(ArgAction::SetTrue)
-        .help(help)
-}
-
-/// An option of this name, with what its value is called.
-fn option<'a>(alloc: Global, name: &'a str, value: &'a str, help: &'a str) -> Arg<'a>
-    ensures { IsArg (option_rule name.entry.now) result }
-{
-    Arg::new(alloc, name)
-        .long(name)
-        .value_name(value)
-        .help(help)
-}
-
-/// A word that must be there.
-fn needed<'a>(alloc: Global, name: &'a str, help: &'a str) -> Arg<'a>
-    ensures { IsArg (needed_rule name.entry.now) result }
-{
-    Arg::new(alloc, name).required(true).help(help)
-}
-
-/// Words of which at least one must be there.
-fn several<'a>(alloc: Global, name: &'a str, help: &'a str) -> Arg<'a>
-    ensures { IsArg (several_rule name.entry.now) result }
-{
-    Arg::new(alloc, name)
-        .required(true)
-        .num_args(1..)
-        .help(help)
-}
-
-/// A command of this name without arguments, with what its help says at its begin and at its end.
-fn new_command<'a>(alloc: Global, name: &'a str, about: &'a str, end: &'a str) -> Command<'a>
-    ensures { IsCommand (new_app name.entry.now) result }
-{
-    Command::new(alloc, name).about(about).after_help(end)
 }
 
 const BUS_HELP: &str = "The bus, as in --bus smbus:
@@ -188,80 +147,6 @@ fn command<'a>(alloc: Global) -> Result<Command<'a>, AllocError>
     ensures { IfOk result (λ command. app_of command ≡ program) }
 {
     run_commands(alloc)?.subcommand(check_command(alloc)?)
-}
-
-/// A word, kept.
-fn kept(alloc: Global, word: &str) -> Result<String, Refusal>
-    ensures word { IfOk result (λ kept. string_bytes kept ≡ word.now) }
-    ensures memory { IfErr result (λ refusal. refusal ≡ Refusal.Memory) }
-{
-    match String::from_str(alloc, word) {
-        Ok(word) => Ok(word),
-        Err(_) => Err(Refusal::Memory),
-    }
-}
-
-/// The refusal of words that lack one that clap wants. Clap refuses them before.
-fn lacking(alloc: Global) -> Refusal {
-    Refusal::Words(String::new(alloc))
-}
-
-/// The word that has this name.
-fn named(alloc: Global, matches: &ArgMatches, name: &str) -> Result<String, Refusal>
-    ensures word { IfOk result (λ word. first_value (found_of matches.now) name.now ≡ Some (string_bytes word)) }
-    ensures refused { IfErr result (Refuses (λ word. first_value (found_of matches.now) name.now ≡ Some word)) }
-{
-    match matches.get_str(name) {
-        Some(word) => kept(alloc, word),
-        None => Err(lacking(alloc)),
-    }
-}
-
-/// The word that has this name, where one is given.
-fn given(alloc: Global, matches: &ArgMatches, name: &str) -> Result<Option<String>, Refusal>
-    ensures word { IfOk result (λ word. option_map string_bytes word ≡ first_value (found_of matches.now) name.now) }
-    ensures memory { IfErr result (λ refusal. refusal ≡ Refusal.Memory) }
-{
-    match matches.get_str(name) {
-        Some(word) => Ok(Some(kept(alloc, word)?)),
-        None => Ok(None),
-    }
-}
-
-/// These words, kept.
-fn all_kept(alloc: Global, words: &[&str]) -> Result<Vec<String>, Refusal>
-    ensures words { IfOk result (λ kept. map string_bytes kept.items ≡ map (λ word. word.now) words.now) }
-    ensures memory { IfErr result (λ refusal. refusal ≡ Refusal.Memory) }
-{
-    let mut all = Vec::new(alloc);
-    for word in words {
-        let word = kept(alloc, word)?;
-        if all.push(word).is_err() {
-            return Err(Refusal::Memory);
-        }
-    }
-    Ok(all)
-}
-
-/// The words that have this name.
-fn all_named(alloc: Global, matches: &ArgMatches, name: &str) -> Result<Vec<String>, Refusal>
-    ensures words { IfOk result
-        (λ words. all_of name.now (rows_of (found_of matches.now)) ≡ Some (map string_bytes words.items)) }
-    ensures refused { IfErr result
-        (Refuses (λ words. all_of name.now (rows_of (found_of matches.now)) ≡ Some words)) }
-{
-    match matches.get_strs(name) {
-        Some(words) => all_kept(alloc, words),
-        None => Err(lacking(alloc)),
-    }
-}
-
-/// Whether the flag of this name is given.
-fn has_flag(matches: &ArgMatches, name: &str) -> bool
-    ensures { result ≡ says_yes (one_text (found_of matches.now) name.now) }
-{
-    // `get_flag` promises nothing of a text that is neither `true` nor `false`.
-    matches.get_one::<bool>(name).unwrap_or(false)
 }
 
 /// What is wrong with the words BUS and HEX that name no frame.
@@ -389,27 +274,5 @@ pub fn read(alloc: Global, words: &[String]) -> Result<Words, Refusal>
     match command.try_get_matches_from(words) {
         Ok(matches) => matched_words(alloc, &matches),
         Err(error) => Err(refusal_of(alloc, &error)),
-    }
-}
-
-/// The refusal of words that aren't UTF-8.
-fn no_text(alloc: Global) -> Refusal {
-    match String::from_str(alloc, "error: a word isn't UTF-8\n") {
-        Ok(text) => Refusal::Words(text),
-        Err(_) => Refusal::Memory,
-    }
-}
-
-/// The words that the process was given, the program's own name first among them.
-pub fn words_of_process<R: Env + AllocGlobal>(rt: &R) -> Result<Vec<String>, Refusal> {
-    let args = match env::args(rt) {
-        Ok(args) => args,
-        Err(error) if error.kind() == io::ErrorKind::OutOfMemory => return Err(Refusal::Memory),
-        Err(_) => return Err(no_text(rt.alloc())),
-    };
-    let words: Result<Vec<String>, AllocError> = args.collect(rt.alloc());
-    match words {
-        Ok(words) => Ok(words),
-        Err(_) => Err(Refusal::Memory),
     }
 }

@@ -1,8 +1,9 @@
 //! The program `bmclab`: words in, lines out.
 #![tactic(auto)]
 
-use bmc_host::{HostFiles, refuse, run_line, words_of_process};
+use bmc_host::run_line;
 use bmc_lab::Console;
+use host_base::{HostFiles, refuse, words_of_process};
 use std::process::ExitCode;
 
 fn main(rt: HostRuntime) -> ExitCode {

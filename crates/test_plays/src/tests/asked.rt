@@ -2,8 +2,9 @@
 use super::runs::words_of;
 use super::trouble::Trouble;
 use bmc_host::words::read;
-use bmc_host::{CheckWords, FrameWords, PlayWords, Refusal, Words};
+use bmc_host::{CheckWords, FrameWords, PlayWords, Words};
 use bmc_play::Shown;
+use host_base::Refusal;
 use std::alloc::Global;
 use two_wire::Bus;
 

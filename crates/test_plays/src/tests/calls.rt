@@ -2,9 +2,10 @@
 use super::runs::{new_paper, words_of};
 use super::scene::Scene;
 use bmc_host::words::read;
-use bmc_host::{FrameWords, HostFiles, PlayWords, Words, run_line};
+use bmc_host::{FrameWords, PlayWords, Words, run_line};
 use bmc_lab::{Status, TextFiles, Unreadable, asked_frame, frame_of_file, frame_run};
 use bmc_play::{PlayFiles, Shown, chart_run, play_of_files, play_run, show};
+use host_base::HostFiles;
 use std::fs;
 use std::test::Fail;
 use two_wire::Bus;

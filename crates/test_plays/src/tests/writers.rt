@@ -1,7 +1,7 @@
 //! Writers that fail.
-use bmc_host::{Refusal, refuse};
 use bmc_lab::{Console, Ending, Report, Status, Stream, frame_run};
 use bmc_play::play_run;
+use host_base::{Refusal, refuse};
 use std::alloc::{AllocError, Global};
 use std::io;
 use std::process::Abort;

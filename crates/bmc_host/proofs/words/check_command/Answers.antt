@@ -1,5 +1,5 @@
 use Rattle.std.proofs.lemmas.Result.{IfOk-weaker}
-use Rattle.bmc_host.proofs.Builders.{adds_rule}
+use Rattle.host_base.proofs.Builders.{adds_rule}
 use Rattle.bmc_host.proofs.words.check_command.Goals as goal
 
 pub returns : goal.returns

@@ -2,13 +2,14 @@ use Rattle.std.proofs.Common.{◌∙◌, Err, sym, ap, subst, codes, option_map}
 use Rattle.clap.specs.Words.{found_of}
 use Rattle.clap.proofs.WalkLemmas.{first_value-rows}
 use Rattle.bmc_lab.specs.Asked.{Asks}
-use Rattle.bmc_host.proofs.Readings.{first_by_rows, frame_asked, frame_refuses, not_there, refuses_more, refuses_none}
+use Rattle.host_base.proofs.Readings.{first_by_rows, none_there, refuses_more, refuses_none}
+use Rattle.bmc_host.proofs.Readings.{frame_asked, frame_refuses}
 use Rattle.bmc_host.proofs.words.frame_words.Goals as goal
 
 pub returns-in_default-clause-refused : goal.returns-in_default-clause-refused
 returns-in_default-clause-refused c =
     let missing = first_by_rows (found_of c.args.matches.now) (codes "HEX") _ (sym c.get_str.ensures ∙ ap (option_map (λ s. s.now)) c.in_default.is) in
-    refuses_none _ c.lacking.result (λ asked asks. not_there _ _ missing asks.given)
+    refuses_none _ c.lacking.result (λ asked asks. none_there _ _ missing asks.given)
 
 pub returns-in-Err-clause-refused : goal.returns-in-Err-clause-refused
 returns-in-Err-clause-refused c =

@@ -1,7 +1,8 @@
 use Rattle.std.proofs.Common.{codes, refl}
 use Rattle.std.proofs.lemmas.Result.{err_from_is_err_and}
 use Rattle.clap.specs.Words.{found_of, rows_of}
-use Rattle.bmc_host.proofs.Readings.{frame_behind, met, refuses_more}
+use Rattle.host_base.proofs.Readings.{met, refuses_more}
+use Rattle.bmc_host.proofs.Readings.{frame_behind}
 use Rattle.bmc_host.proofs.words.matched_words.Goals as goal
 
 pub returns-in_err-frame_words-clause-refused : goal.returns-in_err-frame_words-clause-refused

@@ -2,8 +2,9 @@ use Rattle.std.proofs.Common.{◌∙◌, sym, ap, codes, string_bytes}
 use Rattle.std.proofs.lemmas.Result.{err_from_is_err_and}
 use Rattle.clap.specs.Words.{found_of}
 use Rattle.clap.proofs.WalkLemmas.{first_value-rows, one_text-rows}
-use Rattle.bmc_host.specs.Asked.{says_yes}
-use Rattle.bmc_host.proofs.Readings.{first_by_rows, refuses_more, refuses_none, shown_alike, shown_refuses}
+use Rattle.host_base.specs.Asked.{says_yes}
+use Rattle.host_base.proofs.Readings.{first_by_rows, refuses_more, refuses_none}
+use Rattle.bmc_host.proofs.Readings.{shown_alike, shown_refuses}
 use Rattle.bmc_host.proofs.words.play_words.Goals as goal
 
 pub returns-in_default-clause-refused : goal.returns-in_default-clause-refused

@@ -2,8 +2,8 @@ use Rattle.std.proofs.Common.{◌∙◌, Some, map, option_map, sym, ap}
 use Rattle.std.proofs.lemmas.Result.{IfOk-weaker}
 use Rattle.clap.specs.Words.{found_of}
 use Rattle.clap.proofs.WalkLemmas.{raw_values-rows}
-use Rattle.bmc_host.proofs.Readings.{none_there, refuses_none}
-use Rattle.bmc_host.proofs.words.all_named.Goals as goal
+use Rattle.host_base.proofs.Readings.{none_there, refuses_none}
+use Rattle.host_base.proofs.matched.all_named.Goals as goal
 
 pub returns-in-Some-clause-words : goal.returns-in-Some-clause-words
 returns-in-Some-clause-words c =

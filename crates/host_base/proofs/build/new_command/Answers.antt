@@ -1,6 +1,6 @@
 use Rattle.std.proofs.Common.{◌∙◌, ap}
 use Rattle.clap.specs.Simple.{app_of_fields}
-use Rattle.bmc_host.proofs.words.new_command.Goals as goal
+use Rattle.host_base.proofs.build.new_command.Goals as goal
 
 pub returns : goal.returns
 returns c = (

@@ -2,10 +2,14 @@
 ghost use Rattle.std.specs.Prelude.{◌≡◌};
 ghost use Rattle.clap.specs.Words.{kind_of};
 ghost use Rattle.clap.specs.declared.error.kind.ErrorKind.TheVariants.{OutOfMemory};
+ghost use Rattle.bmc_lab.specs.Ending.{RunEnds};
+ghost use Rattle.host_base.specs.Asked.{SaysWhy};
 
+use bmc_lab::{Console, Ending, Status, Stream};
 use clap::Command;
 use clap::error::{Error, ErrorKind};
 use std::alloc::{AllocError, Global};
+use std::io;
 
 /// Why the words of a command line aren't read.
 #[derive(Debug, Drop)]
@@ -54,4 +58,19 @@ pub fn refusal_by(
         Ok(error) => refusal_of(alloc, &error),
         Err(_) => Refusal::Memory,
     }
+}
+
+/// Says on standard error why words aren't read, or that memory was refused, and gives the status: 2, or 5.
+pub fn refuse<W: io::Write, E: io::Write>(refusal: &Refusal, console: &mut Console<W, E>) -> u8
+    ensures { RunEnds W.contents E.contents (SaysWhy refusal.now) console.old console.new result }
+{
+    let ending = match refusal {
+        Refusal::Memory => Ending::without_report(Status::Memory),
+        Refusal::Words(text) => Ending {
+            stream: Stream::Error,
+            text: text.as_bytes(),
+            status: Status::RefusedWords,
+        },
+    };
+    u8::from(ending.write(console))
 }

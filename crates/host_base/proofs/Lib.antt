@@ -1,0 +1,2 @@
+pub mod Builders
+pub mod Readings

@@ -1,0 +1,28 @@
+-- What the words of a command line ask for, and what a run says of those that ask for nothing.
+use Rattle.std.specs.Prelude.{◌≡◌, Bool, false, List, Option, codes, string_bytes}
+use Rattle.std.specs.Option.{option_map_or}
+use Rattle.std.specs.Str.{bytes_eq}
+use Rattle.clap.specs.Words.{Row, Text, one_of}
+use Rattle.bmc_lab.specs.declared.console.Stream.TheVariants.{Error}
+use Rattle.bmc_lab.specs.declared.status.Status.TheVariants.{RefusedWords}
+use Rattle.bmc_lab.specs.Ending.{Saying}
+use Rattle.host_base.specs.declared.refusal.Refusal.{Refusal}
+use Rattle.host_base.specs.declared.refusal.Refusal.TheVariants.{Memory, Words as Refused}
+
+-- the text says that a flag is given
+abbrev pub says_yes : Option Text → Bool
+says_yes text = option_map_or (λ t. bytes_eq t (codes "true")) text false
+
+-- the flag of this name is given
+abbrev pub is_given : Text → List Row → Bool
+is_given name rows = says_yes (one_of name rows)
+
+-- why words aren't read: memory was refused, or they ask for nothing
+abbrev pub Refuses : {A : Type 0} → (A → Type 0) → Refusal → Type 0
+Refuses Asked Memory = Unit {0}
+Refuses {A} Asked (Refused why) = (asked : A) → Asked asked → ⊥
+
+-- what a run says of words that it doesn't read, unless memory was refused: standard error says why
+abbrev pub SaysWhy : Refusal → Saying
+SaysWhy Memory stream text status = ⊥
+SaysWhy (Refused why) stream text status = (stream ≡ Error) × (text ≡ string_bytes why) × (status ≡ RefusedWords)

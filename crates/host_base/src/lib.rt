@@ -1,0 +1,15 @@
+//! What the programs' command lines have in common: how one is built of the kit's `clap`, what was matched, why words are refused, the words of
+//! the process, and the files of the host.
+#![tactic(auto)]
+
+pub mod build;
+pub mod file;
+pub mod matched;
+pub mod process;
+pub mod refusal;
+
+pub use build::{flag, needed, new_command, option, several};
+pub use file::HostFiles;
+pub use matched::{all_named, given, has_flag, lacking, named};
+pub use process::words_of_process;
+pub use refusal::{Refusal, refusal_by, refusal_of, refuse};
