@@ -109,6 +109,7 @@ impl<J: Opening, S: Store> Held<J, S> {
         ensures history { result.1 ≡ self.history.items }
         ensures setup { result.0.setup ≡ J.setup }
         ensures replays { Replays J.setup J.opening result.1 (state_of S.records result.0) }
+        ensures within { length result.1 ≤ J.room }
     {
         let Held {
             board,

@@ -225,6 +225,7 @@ impl<J: Opening, S: Store + Drop> Shared<J, S> {
         ensures setup { IfOk result (λ closed. closed.0.setup ≡ J.setup) }
         ensures replays { IfOk result (λ closed.
             Replays J.setup J.opening closed.1 (state_of S.records closed.0)) }
+        ensures within { IfOk result (λ closed. length closed.1 ≤ J.room) }
         ensures first { IfOk result (λ closed. SeatMatches J.room closed.1 0 seats.first) }
         ensures second { IfOk result (λ closed. SeatMatches J.room closed.1 1 seats.second) }
         ensures scanner { IfOk result (λ closed. SeatMatches J.room closed.1 2 seats.scanner) }
@@ -247,6 +248,7 @@ impl<J: Opening, S: Store + Drop> Locked<J, S> {
         ensures setup { IfOk result (λ closed. closed.0.setup ≡ J.setup) }
         ensures replays { IfOk result (λ closed.
             Replays J.setup J.opening closed.1 (state_of S.records closed.0)) }
+        ensures within { IfOk result (λ closed. length closed.1 ≤ J.room) }
         ensures counted { length self.held.history.items ≡ calls_made seats }
     {
         let matches = self.matches(&seats);
