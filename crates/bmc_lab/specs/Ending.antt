@@ -6,7 +6,9 @@ use Rattle.bmc_lab.specs.declared.console.Stream.{Stream}
 use Rattle.bmc_lab.specs.declared.console.Stream.TheVariants.{Error}
 use Rattle.bmc_lab.specs.declared.report.Report.{Report}
 use Rattle.bmc_lab.specs.declared.status.Status.{Status}
-use Rattle.bmc_lab.specs.declared.status.Status.TheVariants.{Memory}
+use Rattle.bmc_lab.specs.declared.status.Status.TheVariants.{Memory, Stopped}
+use Rattle.bmc_lab.specs.declared.ending.Untold.{Untold}
+use Rattle.bmc_lab.specs.declared.ending.Untold.TheVariants as untold
 use Rattle.bmc_lab.specs.Console.{HasFailed, Written}
 use Rattle.bmc_lab.specs.Report.{byte_of}
 
@@ -32,3 +34,22 @@ RunEnds out err says old new result =
     ⊎ (((result ≡ 5) × Appends (err old.err) (err new.err) (codes "memory\n") × Keeps (out old.out) (out new.out))
     ⊎ ((stream : Stream) × (text : List ℕ) × (status : Status) × says stream text status × (result ≡ byte_of status)
     × Written stream text (out old.out) (out new.out) (err old.err) (err new.err)))
+
+-- ---- a run that has a report, or none
+
+-- the status of a run that says nothing of what it did
+abbrev pub untold_status : Untold → Status
+untold_status untold.Memory = Memory
+untold_status untold.Stopped = Stopped
+
+-- what a run says by its report. Where it came to no end it says nothing, and where memory was refused the report doesn't matter
+abbrev pub SaysReport : Result Report Untold → Saying
+SaysReport (Ok report) stream text status = (stream ≡ report.stream) × (text ≡ string_bytes report.text) × (status ≡ report.status)
+SaysReport (Err untold.Memory) stream text status = ⊥
+SaysReport (Err untold.Stopped) stream text status = (stream ≡ Error) × (text ≡ []) × (status ≡ Stopped)
+
+-- what a run says by its report may be said so
+abbrev pub Tells : Saying → Result Report Untold → Type 0
+Tells says (Ok report) = says report.stream (string_bytes report.text) report.status
+Tells says (Err untold.Memory) = Unit {0}
+Tells says (Err untold.Stopped) = says Error [] Stopped

@@ -1,7 +1,7 @@
 //! What a run writes, where it writes it, and how it ends.
-ghost use Rattle.std.specs.Prelude.{◌≡◌, ◌⊎◌};
+ghost use Rattle.std.specs.Prelude.{◌≡◌, ◌⊎◌, string_bytes};
 ghost use Rattle.bmc_lab.specs.Console.{HasFailed, Written};
-ghost use Rattle.bmc_lab.specs.Ending.{Ends, complaint_of};
+ghost use Rattle.bmc_lab.specs.Ending.{Ends, RunEnds, SaysReport, complaint_of};
 
 use crate::console::{Console, Stream};
 use crate::report::Report;
@@ -33,12 +33,21 @@ impl<'a> Ending<'a> {
         ensures { Ends report.now result.stream result.text.now result.status }
     {
         match report {
-            Ok(report) => Ending {
-                stream: report.stream,
-                text: report.text.as_bytes(),
-                status: report.status,
-            },
+            Ok(report) => Ending::of_report(report),
             Err(_) => Ending::without_report(Status::Memory),
+        }
+    }
+
+    /// The ending of a run that made this report.
+    pub fn of_report(report: &'a Report) -> Ending<'a>
+        ensures stream { result.stream ≡ report.now.stream }
+        ensures text { result.text.now ≡ string_bytes report.now.text }
+        ensures status { result.status ≡ report.now.status }
+    {
+        Ending {
+            stream: report.stream,
+            text: report.text.as_bytes(),
+            status: report.status,
         }
     }
 
@@ -66,4 +75,52 @@ impl<'a> Ending<'a> {
             _ => Status::Output,
         }
     }
+}
+
+/// Why nothing is said of what a run did.
+#[derive(Clone, Copy, Debug, PartialEq, Eq)]
+pub enum Untold {
+    /// Memory was refused.
+    Memory,
+    /// It came to no end: a link or a thread couldn't be had, or a board wasn't closed.
+    Stopped,
+}
+
+impl From<Untold> for Status {
+    ghost use Rattle.std.specs.Prelude.{◌≡◌};
+    ghost use Rattle.bmc_lab.specs.Ending.{untold_status};
+
+    ghost from_gives = { λ why status. status ≡ untold_status why };
+
+    fn from(why: Untold) -> Status {
+        match why {
+            Untold::Memory => Status::Memory,
+            Untold::Stopped => Status::Stopped,
+        }
+    }
+}
+
+impl From<AllocError> for Untold {
+    ghost use Rattle.std.specs.Prelude.{◌≡◌};
+    ghost use Rattle.bmc_lab.specs.declared.ending.Untold.TheVariants.{Memory};
+
+    ghost from_gives = { λ refused why. why ≡ Memory };
+
+    fn from(_refused: AllocError) -> Untold {
+        Untold::Memory
+    }
+}
+
+/// Writes the report of a run, and gives its status. Where there is none, nothing is said but that memory was refused.
+pub fn end_run<W: io::Write, E: io::Write>(
+    report: &Result<Report, Untold>,
+    console: &mut Console<W, E>,
+) -> u8
+    ensures { RunEnds W.contents E.contents (SaysReport report.now) console.old console.new result }
+{
+    let ending = match report {
+        Ok(report) => Ending::of_report(report),
+        Err(why) => Ending::without_report(Status::from(*why)),
+    };
+    u8::from(ending.write(console))
 }

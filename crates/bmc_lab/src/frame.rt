@@ -23,7 +23,7 @@ const WIRE: u8 = 0x20;
 const EID: u8 = 0x0A;
 
 /// Where the controller is.
-fn controller_place() -> At
+pub fn controller_place() -> At
     ensures { result ≡ controller }
 {
     At {

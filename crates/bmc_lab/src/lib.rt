@@ -11,8 +11,8 @@ pub mod status;
 
 pub use asked::{AskedFrame, asked_frame};
 pub use console::{Console, Stream};
-pub use ending::Ending;
+pub use ending::{Ending, Untold, end_run};
 pub use files::{TextFiles, Unread, Unreadable, frame_of_file, refuse, text_of};
-pub use frame::frame_run;
+pub use frame::{controller_place, frame_run};
 pub use report::Report;
 pub use status::Status;

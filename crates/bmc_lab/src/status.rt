@@ -11,7 +11,7 @@ pub enum Status {
     RefusedWords = 2,
     /// A file was refused.
     RefusedFile = 3,
-    /// An event of a schedule has a fault, and isn't played.
+    /// What was begun came to no end: an event of a schedule has a fault and isn't played, a link or a thread can't be had, or a board isn't closed.
     Stopped = 4,
     /// Memory was refused.
     Memory = 5,
