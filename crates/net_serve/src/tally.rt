@@ -1,0 +1,73 @@
+//! What is told of a board that was served.
+ghost use Rattle.std.specs.Prelude.{◌≡◌, IfOk, length, string_bytes};
+ghost use Rattle.cfg_records.specs.Boards.{pairs_of};
+ghost use Rattle.bmc_board.specs.State.{state_of, opened};
+ghost use Rattle.bmc_board.specs.OwnStore.{own_records};
+ghost use Rattle.bmc_lab.specs.declared.console.Stream.TheVariants.{Output};
+ghost use Rattle.bmc_lab.specs.declared.status.Status.TheVariants.{Success};
+ghost use Rattle.changed_records.specs.Changed.{changed_in};
+ghost use Rattle.net_serve.specs.Served.{Tallies, most_events, text_of, IsServed};
+
+use crate::board::Served;
+use bmc_board::{Board, Records};
+use bmc_lab::{Report, Status, Stream};
+use cfg_records::{BoardFile, Key, Value};
+use changed_records::{changed_count, push_records};
+use std::alloc::{AllocError, Global};
+
+/// A board that is to be served, and the records that it begins with.
+#[derive(Drop)]
+pub struct Begun {
+    pub start: Vec<(Key, Value)>,
+    pub board: Board<Records>,
+}
+
+/// The board of a file, as it begins.
+pub fn begin(alloc: Global, file: BoardFile) -> Result<Begun, AllocError>
+    ensures start { IfOk result (λ begun. begun.start.items ≡ pairs_of file) }
+    ensures setup { IfOk result (λ begun. begun.board.setup ≡ file) }
+    ensures state { IfOk result (λ begun. state_of own_records begun.board ≡ opened file) }
+{
+    match file.records(alloc) {
+        Ok(start) => match Board::of_file(alloc, file) {
+            Ok(board) => Ok(Begun { start, board }),
+            Err(why) => Err(why),
+        },
+        Err(why) => Err(why),
+    }
+}
+
+/// How many events a board's history has, and how many records are no longer what they were at its start.
+#[derive(Clone, Copy, Debug, PartialEq, Eq)]
+pub struct Tally {
+    pub events: usize,
+    pub changed: usize,
+}
+
+/// What is counted of a board that was served, by the records that it began with.
+pub fn tally_of(start: &[(Key, Value)], served: &Served) -> Tally
+    ensures events { result.events ≡ length served.now.history }
+    ensures changed { result.changed ≡ changed_in (state_of own_records served.now.board).records start.now }
+{
+    Tally {
+        events: served.history.len(),
+        changed: changed_count(served.board.store(), start),
+    }
+}
+
+/// The lines that tell of it.
+pub(crate) fn report(alloc: Global, tally: Tally) -> Result<Report, AllocError>
+    ensures stream { IfOk result (λ report. report.stream ≡ Output) }
+    ensures text { IfOk result (λ report. string_bytes report.text ≡ text_of tally.events tally.changed) }
+    ensures status { IfOk result (λ report. report.status ≡ Success) }
+{
+    let mut text = String::new(alloc);
+    let events = tally.events;
+    writeln!(text, "served {events}")?;
+    push_records(&mut text, tally.changed)?;
+    Ok(Report {
+        stream: Stream::Output,
+        text,
+        status: Status::Success,
+    })
+}
