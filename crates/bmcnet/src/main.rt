@@ -1,0 +1,18 @@
+//! The program `bmcnet`: words in, datagrams and lines out.
+#![tactic(auto)]
+
+use bmc_lab::Console;
+use host_base::{HostFiles, refuse, words_of_process};
+use net_host::{NetFiles, run_line};
+use std::process::ExitCode;
+
+fn main(rt: HostRuntime) -> ExitCode {
+    let mut console = Console::new(rt.stdout(), rt.stderr());
+    let mut files = NetFiles {
+        read: HostFiles { rt: &rt },
+    };
+    ExitCode::from(match words_of_process(&rt) {
+        Ok(words) => run_line(&rt, rt.alloc(), &mut files, words.as_slice(), &mut console),
+        Err(refusal) => refuse(&refusal, &mut console),
+    })
+}

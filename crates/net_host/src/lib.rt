@@ -1,0 +1,11 @@
+//! `bmcnet` but its `main`: the words of its command line, the files of the host that it reads and writes, and what it does with both.
+#![tactic(auto)]
+
+pub mod file;
+pub mod number;
+pub mod run;
+pub mod words;
+
+pub use file::NetFiles;
+pub use run::run_line;
+pub use words::Words;

@@ -1,0 +1,34 @@
+//! Numbers among the words.
+ghost use Rattle.std.specs.Prelude.{◌==◌, slice_index, ◌≡◌, ◌<◌, ◌^◌};
+ghost use Rattle.std.specs.Option.{SomeIff};
+ghost use Rattle.std.specs.Str.Parse.{IsNumeral, digits_value};
+
+/// Whether the word begins with the sign that Rust's numbers may have and a decimal number here has not.
+fn has_plus(word: &str) -> bool
+    ensures { result ≡ (slice_index word.now 0 == 43) }
+{
+    match word.as_bytes() {
+        [byte, ..] => *byte == b'+',
+        [] => false,
+    }
+}
+
+/// The port that the word is in decimal digits.
+pub fn port_of(word: &str) -> Option<u16>
+    ensures { SomeIff result (IsNumeral 10 word.now × (digits_value 10 word.now < 2 ^ 16)) (digits_value 10 word.now) }
+{
+    if has_plus(word) {
+        return None;
+    }
+    word.parse().ok()
+}
+
+/// The number of turns that the word is in decimal digits.
+pub fn turns_of(word: &str) -> Option<u32>
+    ensures { SomeIff result (IsNumeral 10 word.now × (digits_value 10 word.now < 2 ^ 32)) (digits_value 10 word.now) }
+{
+    if has_plus(word) {
+        return None;
+    }
+    word.parse().ok()
+}

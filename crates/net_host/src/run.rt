@@ -1,0 +1,47 @@
+//! What the program does: what its words ask for, with its files.
+ghost use Rattle.std.specs.Prelude.{map, string_bytes};
+ghost use Rattle.net_host.specs.Run.{EndsAsAsked, LineEnds};
+
+use crate::words::{Words, read};
+use bmc_lab::{Console, TextFiles};
+use bmc_net::{WritesFiles, pair, run, serve, undo};
+use host_base::refuse;
+use std::alloc::Global;
+use std::io;
+use std::net::Net;
+use std::sync::Wait;
+use std::thread::Threads;
+
+/// Does what the words ask for.
+fn carry_out<
+    F: TextFiles + WritesFiles,
+    W: io::Write,
+    E: io::Write,
+    R: Net + Threads + Wait + Sync,
+>(rt: &R, alloc: Global, files: &mut F, words: &Words, console: &mut Console<W, E>) -> u8
+    ensures { EndsAsAsked W.contents E.contents (F.gives files.old) F.takes words.now files.old files.new console.old console.new result }
+{
+    match words {
+        Words::Serve(words) => serve(rt, alloc, &*files, words, console),
+        Words::Run(words) => run(rt, alloc, files, words, console),
+        Words::Undo(words) => undo(rt, alloc, &*files, words, console),
+        Words::Pair(words) => pair(rt, alloc, &*files, words, console),
+    }
+}
+
+/// Does what the words of a command line ask for, the program's own name first among them, with these files: what `serve`, `run`, `undo` or
+/// `pair` does. Where they ask for nothing it reads no file and opens no link, standard error gets why or the help that is asked for, and the
+/// status is 2.
+pub fn run_line<
+    F: TextFiles + WritesFiles,
+    W: io::Write,
+    E: io::Write,
+    R: Net + Threads + Wait + Sync,
+>(rt: &R, alloc: Global, files: &mut F, words: &[String], console: &mut Console<W, E>) -> u8
+    ensures { LineEnds W.contents E.contents (F.gives files.old) F.takes (map string_bytes words.now) files.old files.new console.old console.new result }
+{
+    match read(alloc, words) {
+        Ok(asked) => carry_out(rt, alloc, files, &asked, console),
+        Err(refusal) => refuse(&refusal, console),
+    }
+}

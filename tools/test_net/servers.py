@@ -1,0 +1,202 @@
+"""A served controller: the program `bmcnet serve`, what is asked of it, and calls of `bmcnet` beside it."""
+import random
+import socket
+import subprocess
+import threading
+import time
+
+import frames
+
+HOST = "127.0.0.1"
+# How long a call, the start of a server and its end may take, in seconds.
+CALL = 120
+START = 20
+END = 60
+# How long one quiet turn of the program lasts.
+QUIET = 0.2
+
+
+class Failed(Exception):
+    """What came otherwise than it must."""
+
+
+def expect(what, found, wanted):
+    if found != wanted:
+        raise Failed(f"{what}: {found!r} in place of {wanted!r}")
+
+
+def call(program, *words):
+    """Returns the status, standard output and standard error of a call."""
+    try:
+        ran = subprocess.run([program, *map(str, words)], stdin=subprocess.DEVNULL, capture_output=True, text=True, timeout=CALL, check=False)
+    except subprocess.TimeoutExpired as late:
+        raise Failed(f"{' '.join(map(str, words))} didn't end in {CALL} s") from late
+    return ran.returncode, ran.stdout, ran.stderr
+
+
+class Ports:
+    """Ports of this host that nobody has, below those that the kernel hands out, each given once."""
+
+    LEAST, MOST = 20000, 32000
+
+    def __init__(self):
+        self.lock = threading.Lock()
+        self.given = set()
+
+    def take(self):
+        with self.lock:
+            while True:
+                port = random.randrange(self.LEAST, self.MOST)
+                if port in self.given:
+                    continue
+                self.given.add(port)
+                with socket.socket(socket.AF_INET, socket.SOCK_DGRAM) as probe:
+                    try:
+                        probe.bind((HOST, port))
+                    except OSError:
+                        continue
+                return port
+
+
+PORTS = Ports()
+
+
+def bound_ports():
+    """Returns the UDP ports that are bound on the loopback address."""
+    with open("/proc/net/udp", encoding="ascii") as file:
+        addresses = [line.split()[1] for line in file.readlines()[1:]]
+    return {int(address[9:], 16) for address in addresses if address.startswith("0100007F:")}
+
+
+class Server:
+    """A controller that is served. At the end of a `with` it has ended, by itself or by its process id."""
+
+    def __init__(self, program, board, turns):
+        self.ports = PORTS.take(), PORTS.take()
+        words = [program, "serve", board, *map(str, self.ports), str(turns)]
+        self.process = subprocess.Popen(words, stdin=subprocess.DEVNULL, stdout=subprocess.PIPE, stderr=subprocess.PIPE, text=True)
+
+    def __enter__(self):
+        until = time.monotonic() + START
+        while not set(self.ports) <= bound_ports():
+            if self.process.poll() is not None or time.monotonic() > until:
+                self.stop()
+                raise Failed(f"serve isn't there, status {self.process.returncode}: {self.process.stderr.read()!r}")
+            time.sleep(0.01)
+        return self
+
+    def __exit__(self, *_):
+        self.stop()
+
+    def stop(self):
+        if self.process.poll() is None:
+            self.process.kill()
+        self.process.wait()
+
+    def told(self):
+        """Waits until it ends by itself, and returns the status, standard output and standard error."""
+        try:
+            out, err = self.process.communicate(timeout=END)
+        except subprocess.TimeoutExpired as late:
+            raise Failed(f"serve didn't end in {END} s") from late
+        return self.process.returncode, out, err
+
+    def ended(self):
+        """The same, once empty datagrams have used up its turns."""
+        with socket.socket(socket.AF_INET, socket.SOCK_DGRAM) as stranger:
+            until = time.monotonic() + END
+            while self.process.poll() is None and time.monotonic() < until:
+                for port in self.ports * 16:
+                    stranger.sendto(b"", (HOST, port))
+                time.sleep(0.0005)
+        return self.told()
+
+
+def number_of(bus, frame):
+    """Returns the number of the request that these bytes begin, or None where they don't begin one."""
+    if bus == 0:
+        return frame[4] >> 2 if len(frame) > 4 else None
+    return frame[9] & 0x1F if len(frame) > 9 and frame[7] & 0x80 else None
+
+
+class Asker:
+    """Another requester, on both ports of a server, under an address of its own."""
+
+    def __init__(self, ports, source=0x42, eid=0x0C):
+        self.source, self.eid = source, eid
+        self.links = [socket.socket(socket.AF_INET, socket.SOCK_DGRAM) for _ in ports]
+        for link, port in zip(self.links, ports):
+            link.connect((HOST, port))
+            link.settimeout(QUIET)
+        self.asked = [0, 0]
+
+    def __enter__(self):
+        return self
+
+    def __exit__(self, *_):
+        for link in self.links:
+            link.close()
+
+    def next_number(self, bus, numbers):
+        number = self.asked[bus] % numbers
+        self.asked[bus] += 1
+        return number
+
+    def ipmb(self, net_fn, command, data=b""):
+        """Returns the frame of a new request on IPMB."""
+        number = self.next_number(0, frames.NUMBERS)
+        return frames.write_ipmb(frames.Request(frames.CONTROLLER, net_fn, 0, self.source, 0, number, command, bytes(data)))
+
+    def smbus(self, kind, command, data=b""):
+        """Returns the one packet of a new request of PLDM."""
+        message = bytes([0x01, 0x80 | self.next_number(1, 32), kind, command]) + bytes(data)
+        return frames.split(message, frames.CONTROLLER, self.source, frames.CONTROLLER_EID, self.eid, 1, 0)[0]
+
+    def heard(self, bus, number):
+        """Returns the reply of this number, the code and the data, or None where it stays quiet."""
+        whole = b""
+        try:
+            while True:
+                frame = self.links[bus].recv(2048)
+                if bus == 0:
+                    reply = frames.read_ipmb(frame)
+                    if reply.number == number:
+                        return reply.data
+                    continue
+                packet = frames.read_packet(frame)
+                whole = (b"" if packet.start else whole) + packet.payload
+                if packet.end and whole[1] & 0x1F == number:
+                    return whole[4:]
+        except (TimeoutError, ConnectionRefusedError):
+            return None
+
+    def ask(self, bus, frame):
+        """Returns what the controller answers to a request, which is sent again where it stays quiet."""
+        for _ in range(25):
+            self.links[bus].send(frame)
+            reply = self.heard(bus, number_of(bus, frame))
+            if reply is not None:
+                return reply
+        raise Failed(f"no answer to {frame.hex()}")
+
+    def get(self, bus, words):
+        """Returns what a Get answers, whose code must be 00h."""
+        reply = self.ask(bus, self.ipmb(*words) if bus == 0 else self.smbus(*words))
+        if reply[:1] != b"\0":
+            raise Failed(f"the Get {words} is answered by {reply.hex()}")
+        return reply
+
+    def get_all(self, gets):
+        """Returns what each Get answers, by the Get."""
+        return {get: self.get(*get).hex() for get in gets}
+
+
+def read(path):
+    with open(path, encoding="utf-8") as file:
+        return file.read()
+
+
+def write(path, text):
+    with open(path, "w", encoding="utf-8") as file:
+        file.write(text)
+    return path
