@@ -26,7 +26,7 @@ class Words(argparse.ArgumentParser):
         sys.exit(REFUSED_WORDS)
 
     def error(self, message):
-        print(f"error: {message}\n\n{self.format_usage().rstrip()}\n\nFor more information, try '--help'.", file=sys.stderr)
+        print(f"error: {message}\n\n{self.format_usage().rstrip().replace("usage:", "Usage:", 1)}\n\nFor more information, try '--help'.", file=sys.stderr)
         sys.exit(REFUSED_WORDS)
 
 
