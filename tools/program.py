@@ -26,7 +26,8 @@ class Words(argparse.ArgumentParser):
         sys.exit(REFUSED_WORDS)
 
     def error(self, message):
-        print(f"error: {message}\n\n{self.format_usage().rstrip().replace("usage:", "Usage:", 1)}\n\nFor more information, try '--help'.", file=sys.stderr)
+        usage = self.format_usage().rstrip().replace("usage:", "Usage:", 1)
+        print(f"error: {message}\n\n{usage}\n\nFor more information, try '--help'.", file=sys.stderr)
         sys.exit(REFUSED_WORDS)
 
 
