@@ -39,31 +39,36 @@ TAKES_NONE = 0x01
 STATUS = 0x1F
 
 MOST_SESSIONS = 8
-MOST_CHALLENGES = 16
+# Those that wait, or are closed; the oldest goes first.
+MOST_OTHERS = 16
 LONGEST_SILENCE = 60.0
 # How far a packet's sequence number may be from the highest that was heard.
 REACH = 16
 WRAP = 1 << 32
+
+WAITING = "waiting"
+OPEN = "open"
+CLOSED = "closed"
 
 Ask = collections.namedtuple("Ask", "session entry message")
 Ask.__doc__ = "A request for the controller: `entry.reply` is None until `Lan.told` has it."
 
 
 class Session:
-    """A session, from its challenge on."""
+    """A session, from its challenge on: it waits, is open, and is closed, when repeats alone are heard."""
 
     def __init__(self, identifier, now):
         self.identifier = identifier
         self.challenge = secrets.token_bytes(16)
         self.begin_inbound = 1 + secrets.randbelow(WRAP - 1)
         self.heard_at = now
-        self.is_active = False
+        self.state = WAITING
         self.window = Window()
 
     def activate(self, limit, outbound):
         """Opens the session; doing so again changes nothing."""
-        if not self.is_active:
-            self.is_active = True
+        if self.state == WAITING:
+            self.state = OPEN
             self.limit = limit
             self.level = min(limit, USER)
             self.highest = self.begin_inbound
@@ -132,7 +137,7 @@ class Lan:
         session = self.sessions.get(identifier)
         if session and command == (APP, ACTIVATE):
             return self.activated(session, message, now)
-        if not session or not session.is_active or not session.is_near(sequence):
+        if not session or session.state == WAITING or not session.is_near(sequence):
             return None
         session.heard_at = now
         return self.hear_in(session, message)
@@ -147,9 +152,9 @@ class Lan:
             return frames.LENGTH, b""
         if data[0] != NO_AUTHENTICATION:
             return BAD_DATA, b""
-        waiting = [it for it, session in self.sessions.items() if not session.is_active]
-        if len(waiting) >= MOST_CHALLENGES:
-            del self.sessions[waiting[0]]
+        others = [it for it, session in self.sessions.items() if session.state != OPEN]
+        if len(others) >= MOST_OTHERS:
+            del self.sessions[others[0]]
         identifier = 0
         while identifier == 0 or identifier in self.sessions:
             identifier = secrets.randbelow(WRAP)
@@ -170,7 +175,9 @@ class Lan:
         kind, limit, outbound = data[0], data[1] & 0x0F, struct.unpack_from("<I", data, 18)[0]
         if kind != NO_AUTHENTICATION or data[2:18] != session.challenge or not USER <= limit <= ADMINISTRATOR:
             return BAD_DATA, b""
-        if not session.is_active and sum(it.is_active for it in self.sessions.values()) >= MOST_SESSIONS:
+        if session.state == CLOSED:
+            return BAD_DATA, b""
+        if session.state == WAITING and sum(it.state == OPEN for it in self.sessions.values()) >= MOST_SESSIONS:
             return NO_SLOT, b""
         session.activate(limit, outbound or 1)
         return frames.OK, struct.pack("<BIIB", kind, session.identifier, session.begin_inbound, session.limit)
@@ -181,6 +188,8 @@ class Lan:
         entry = session.window.find(message.number, asked)
         if entry and entry.reply:
             return write_packet(answer(message, entry.reply[0], entry.reply[1:]), session.identifier, session.next_outbound())
+        if session.state == CLOSED:
+            return None
         entry = entry or session.window.keep(message.number, Entry(asked))
         own = self.own_answer(session, message)
         return self.told(Ask(session, entry, message), own) if own else Ask(session, entry, message)
@@ -201,11 +210,14 @@ class Lan:
         return bytes([code]) + data
 
     def close(self, data):
-        """Returns the answer to Close Session, which ends the session that it names."""
+        """Returns the answer to Close Session, which closes the session that it names."""
         if len(data) != 4:
             return frames.LENGTH, b""
-        named = self.sessions.pop(struct.unpack("<I", data)[0], None)
-        return (frames.OK if named else NO_SESSION), b""
+        named = self.sessions.get(struct.unpack("<I", data)[0])
+        if not named or named.state != OPEN:
+            return NO_SESSION, b""
+        named.state = CLOSED
+        return frames.OK, b""
 
     def told(self, ask, reply):
         """Returns the datagram with the reply to what was asked: the completion code, and the data."""

@@ -9,16 +9,15 @@ import time
 import program
 
 # Of a hundred datagrams each way, how many are lost, come twice, and come late; and the longest delay in seconds.
-LOST = 8
-TWICE = 15
-LATE = 15
+HARSH = {"lost": 8, "twice": 15, "late": 15}
+LOSING = {"lost": 5, "twice": 0, "late": 0}
 LONGEST = 0.15
 
 
 class LossyLink(threading.Thread):
     """Passes datagrams between the last client that was heard and the server, until `close`."""
 
-    def __init__(self, server, seed):
+    def __init__(self, server, seed, rates=HARSH):
         super().__init__(daemon=True)
         self.clients = socket.socket(socket.AF_INET, socket.SOCK_DGRAM)
         self.clients.bind((program.LOOPBACK, 0))
@@ -26,10 +25,11 @@ class LossyLink(threading.Thread):
         self.server = socket.socket(socket.AF_INET, socket.SOCK_DGRAM)
         self.server.connect((program.LOOPBACK, server))
         self.draw = random.Random(seed)
+        self.rates = rates
         self.client = None
         self.waiting = []
         self.taken = 0
-        self.counts = {"lost": 0, "twice": 0, "late": 0}
+        self.counts = dict.fromkeys(rates, 0)
         self.is_open = True
         self.start()
 
@@ -49,15 +49,15 @@ class LossyLink(threading.Thread):
             return
         if link is self.clients:
             self.client = whence
-        is_lost, is_twice = self.is_drawn("lost", LOST), self.is_drawn("twice", TWICE)
+        is_lost, is_twice = self.is_drawn("lost"), self.is_drawn("twice")
         for _ in range(0 if is_lost else 2 if is_twice else 1):
-            delay = self.draw.random() * LONGEST if self.is_drawn("late", LATE) else 0.0
+            delay = self.draw.random() * LONGEST if self.is_drawn("late") else 0.0
             self.taken += 1
             heapq.heappush(self.waiting, (time.monotonic() + delay, self.taken, link is self.clients, data))
 
-    def is_drawn(self, what, of_hundred):
+    def is_drawn(self, what):
         """Draws whether this happens, and counts it."""
-        drawn = self.draw.random() * 100 < of_hundred
+        drawn = self.draw.random() * 100 < self.rates[what]
         self.counts[what] += drawn
         return drawn
 
