@@ -42,12 +42,12 @@ class Once(argparse.Action):
         setattr(space, self.dest, value)
 
 
-def number_to(most):
-    """Returns a reader of decimal numbers up to this one."""
+def number_to(most, least=0):
+    """Returns a reader of decimal numbers in this range."""
 
     def read(word):
-        if not re.fullmatch(r"[0-9]{1,18}", word) or int(word) > most:
-            raise argparse.ArgumentTypeError(f"{word!r} is no number up to {most}")
+        if not re.fullmatch(r"[0-9]{1,18}", word) or not least <= int(word) <= most:
+            raise argparse.ArgumentTypeError(f"{word!r} is no number from {least} to {most}")
         return int(word)
 
     return read
