@@ -21,6 +21,10 @@ class Words(argparse.ArgumentParser):
     def __init__(self, **given):
         super().__init__(formatter_class=argparse.RawDescriptionHelpFormatter, allow_abbrev=False, **given)
 
+    def option(self, word, metavar, about, **given):
+        """Adds an option that comes at most once."""
+        self.add_argument(word, metavar=metavar, help=about, action=Once, **given)
+
     def print_help(self, file=None):
         super().print_help(sys.stderr)
         sys.exit(REFUSED_WORDS)
