@@ -220,8 +220,11 @@ class Lan:
         return frames.OK, b""
 
     def told(self, ask, reply):
-        """Returns the datagram with the reply to what was asked: the completion code, and the data."""
+        """Returns the datagram with the reply to what was asked: the completion code, and the data. A busy controller carried nothing out, so a
+        repeat is a new request then."""
         ask.entry.reply = reply
+        if reply[0] == frames.BUSY and ask.session.window.find(ask.message.number, ask.entry.asked) is ask.entry:
+            ask.session.window.forget(ask.message.number)
         return write_packet(answer(ask.message, reply[0], reply[1:]), ask.session.identifier, ask.session.next_outbound())
 
 

@@ -26,9 +26,13 @@ class Window:
     def keep(self, number, entry):
         """Keeps a new request."""
         for step in range(1, FORGOTTEN + 1):
-            self.kept.pop((number + step) % NUMBERS, None)
+            self.forget((number + step) % NUMBERS)
         self.kept[number] = entry
         return entry
+
+    def forget(self, number):
+        """Forgets what is kept at this number."""
+        self.kept.pop(number, None)
 
 
 class Windows:
