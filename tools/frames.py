@@ -94,8 +94,9 @@ def message_in(frame):
 
 def reply_to(request, code, data=b""):
     """Returns the reply to a request: its addresses exchanged, under its number."""
-    return Request(
-        request.source, request.net_fn | 1, request.source_lun, request.to, request.to_lun, request.number, request.command, bytes([code]) + bytes(data)
+    told = bytes([code]) + bytes(data)
+    return request._replace(
+        to=request.source, to_lun=request.source_lun, net_fn=request.net_fn | 1, source=request.to, source_lun=request.to_lun, data=told
     )
 
 

@@ -1,0 +1,31 @@
+"""What docs/CLIENTS.md shows: tables of commands, and calls with what they print."""
+import re
+import shlex
+
+from .programs import TOP
+
+
+def below(heading):
+    """Returns the text below a heading, up to the next one."""
+    with open(f"{TOP}/docs/CLIENTS.md", encoding="utf-8") as file:
+        return file.read().split(f"### {heading}\n")[1].split("\n#")[0]
+
+
+def rows_of(heading):
+    """Returns the rows of the table below a heading whose first cell is code, as lists of cells."""
+    return [re.split(r"\s*[|]\s*", line)[1:-1] for line in below(heading).splitlines() if line.startswith("| `")]
+
+
+def code_in(cell):
+    """Returns the words of a cell that are code."""
+    return re.findall(r"`([^`]*)`", cell)
+
+
+def calls_of(heading):
+    """Returns the calls that are shown below a heading, as lists of words, each with the lines below it."""
+    return [(shlex.split(call), lines) for call, lines in re.findall(r"^    \$ (.*)\n((?:    (?!\$ ).*\n)*)", below(heading), re.M)]
+
+
+def squeezed(text):
+    """Returns a text whose blanks, line ends and bars are single blanks."""
+    return re.sub(r"[\s|]+", " ", text).strip()
