@@ -11,7 +11,7 @@ use crate::tally::{Begun, Tally, begin, report, tally_of};
 use bmc_lab::{Console, Report, TextFiles, Untold, end_run, refuse, text_of};
 use bmc_links::{Link, UdpLink};
 use cfg_records::BoardFile;
-use std::alloc::{AllocError, Global};
+use std::alloc::Global;
 use std::io;
 use std::net::Net;
 use std::sync::Wait;

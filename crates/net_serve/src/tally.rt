@@ -6,7 +6,7 @@ ghost use Rattle.bmc_board.specs.OwnStore.{own_records};
 ghost use Rattle.bmc_lab.specs.declared.console.Stream.TheVariants.{Output};
 ghost use Rattle.bmc_lab.specs.declared.status.Status.TheVariants.{Success};
 ghost use Rattle.changed_records.specs.Changed.{changed_in};
-ghost use Rattle.net_serve.specs.Served.{Tallies, most_events, text_of, IsServed};
+ghost use Rattle.net_serve.specs.Served.{text_of};
 
 use crate::board::Served;
 use bmc_board::{Board, Records};
