@@ -18,9 +18,9 @@ use Rattle.model_lab.specs.Meaning.{lab_names}
 use Rattle.model_lab.specs.Played.{Told, Ending, Whole, Stops}
 use Rattle.lab_run.specs.Shown.{IsSentFrame}
 use Rattle.model_headline.specs.Plays.{taken_by, TellsPremise}
-use Rattle.lab_play.specs.Ends.{is_value}
+use Rattle.changed_records.specs.Changed.{is_value, records_line}
 use Rattle.bmc_play.specs.declared.account.Account.{Account}
-use Rattle.bmc_play.specs.Lines.{said, records_line, undo_lines, shown, premised, ending, text_of}
+use Rattle.bmc_play.specs.Lines.{said, undo_lines, shown, premised, ending, text_of}
 use Rattle.bmc_play.specs.Account.{AreChanged, Accounts, IsAccountOf, status_of}
 use Rattle.bmc_play.specs.Determined.{OneText}
 use Rattle.bmc_play.specs.Run.{begun_with, Recounts}

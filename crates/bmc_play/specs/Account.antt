@@ -6,7 +6,7 @@ use Rattle.undo_core.specs.Shown.{backs}
 use Rattle.model_lab.specs.Meaning.{lab_names}
 use Rattle.model_lab.specs.Played.{Told, Ending, Whole, Stops}
 use Rattle.lab_run.specs.Shown.{IsSentFrame}
-use Rattle.lab_play.specs.Ends.{changed_in}
+use Rattle.changed_records.specs.Changed.{changed_in}
 use Rattle.bmc_play.specs.declared.account.Account.{Account}
 use Rattle.lab_play.specs.declared.run.Stopped.{Stopped}
 use Rattle.bmc_lab.specs.declared.status.Status.{Status}

@@ -1,5 +1,5 @@
 -- What is said of a play, line by line.
-use Rattle.std.specs.Prelude.{ℕ, zero, suc, Bool, true, false, List, [], ◌∷◌, ◌++◌, length, map, reverse, Option, Some, None, codes}
+use Rattle.std.specs.Prelude.{ℕ, Bool, true, false, List, [], ◌∷◌, ◌++◌, length, map, reverse, Option, Some, None, codes}
 use Rattle.std.specs.List.{flat_map, enumerate_from}
 use Rattle.std.specs.Fmt.{decimal}
 use Rattle.hex.specs.Hex.{encode_upper}
@@ -12,6 +12,7 @@ use Rattle.model_undo.specs.PhaseNames.{phase_name}
 use Rattle.model_lab.specs.declared.way.Way.{Way}
 use Rattle.model_lab.specs.declared.way.Way.TheVariants.{ToPort, ToManager, ToOthers}
 use Rattle.lab_run.specs.declared.frames.SentFrame.{SentFrame}
+use Rattle.changed_records.specs.Changed.{records_line}
 use Rattle.model_lab.specs.FaultNames.{fault_name}
 use Rattle.bmc_play.specs.declared.account.Account.{Account}
 use Rattle.lab_play.specs.declared.run.Stopped.{Stopped}
@@ -21,11 +22,6 @@ abbrev pub said : List ℕ → List ℕ → List ℕ
 said word rest = word ++ codes " " ++ rest
 
 -- ---- the lines
-
--- whether records are changed, and how many
-abbrev pub records_line : ℕ → List ℕ
-records_line zero = codes "records same"
-records_line (suc n) = said (codes "records changed") (decimal (suc n))
 
 -- the requests that undo the plan, how many and each, that of the last step first
 abbrev pub undo_lines : List Asked → List (List ℕ)

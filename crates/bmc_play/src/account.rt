@@ -4,7 +4,8 @@ ghost use Rattle.std.specs.List.{flat_map};
 ghost use Rattle.text_lines.specs.Cuts.{ended};
 ghost use Rattle.bmc_play.specs.Lines.{ending, premised, text_of};
 
-use crate::lines::{push_frames, push_premise, push_records, push_stopped};
+use crate::lines::{push_frames, push_premise, push_stopped};
+use changed_records::push_records;
 use lab_play::Stopped;
 use lab_run::SentFrame;
 use std::alloc::{AllocError, Global};

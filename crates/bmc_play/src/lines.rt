@@ -3,22 +3,12 @@ ghost use Rattle.std.specs.Prelude.{◌≡◌, ◌++◌, OnOk, codes, string_byt
 ghost use Rattle.std.specs.Fmt.{decimal};
 ghost use Rattle.std.specs.List.{flat_map};
 ghost use Rattle.text_lines.specs.Cuts.{ended};
-ghost use Rattle.bmc_play.specs.Lines.{end_name, bus_name, frame_line, frame_lines, premise_lines, records_line, said, stopped_line};
+ghost use Rattle.bmc_play.specs.Lines.{end_name, bus_name, frame_line, frame_lines, premise_lines, said, stopped_line};
 
 use lab_play::Stopped;
 use lab_run::{SentFrame, Way};
 use std::alloc::{AllocError, Global};
 use two_wire::Bus;
-
-/// Adds the line that says whether records are changed, and how many.
-pub fn push_records(text: &mut String, changed: usize) -> Result<(), AllocError>
-    ensures { OnOk result (string_bytes text.new ≡ string_bytes text.old ++ ended (records_line changed)) }
-{
-    match changed {
-        0 => text.push_str("records same\n"),
-        _ => writeln!(text, "records changed {changed}"),
-    }
-}
 
 /// Which end sends what goes this way.
 fn end_of(way: Way) -> &'static str

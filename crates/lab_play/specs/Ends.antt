@@ -1,9 +1,8 @@
 -- What a play gives.
-use Rattle.std.specs.Prelude.{◌≡◌, ◌≤◌, ℕ, Bool, false, not, List, length, filter, Option, Some, None, Result, Ok, Err}
-use Rattle.std.specs.Str.{bytes_eq}
+use Rattle.std.specs.Prelude.{◌≡◌, ◌≤◌, ℕ, List, length, Option, Some, None, Result, Ok, Err}
 use Rattle.cfg_records.specs.declared.board_file.BoardFile.{BoardFile}
 use Rattle.record_base.specs.declared.op.Op.{Op}
-use Rattle.cfg_records.specs.Records.{Records, Pair, KeysDiffer, records_of}
+use Rattle.cfg_records.specs.Records.{KeysDiffer, records_of}
 use Rattle.cfg_records.specs.Boards.{pairs_of}
 use Rattle.undo_plans.specs.Steps.{most_steps}
 use Rattle.model_lab.specs.Lab.{Lab as LabModel, opening}
@@ -61,15 +60,6 @@ pub record Ends (file : BoardFile) (steps : List Op) (retries : ℕ) (events : L
   pub unbroken : broken_in given ≡ None → ToldStands file steps retries (taken_by events ending) (told_by ending)
   pub promise : broken_in given ≡ None → Promise file steps (taken_by events ending) (told_by ending)
   pub clean : EndsClean file steps retries events ending
-
--- what a record has is this value
-abbrev pub is_value : List ℕ → Option (List ℕ) → Bool
-is_value value None = false
-is_value value (Some other) = bytes_eq other value
-
--- how many of the records that a board began with have another value in these
-abbrev pub changed_in : Records → List Pair → ℕ
-changed_in records start = length (filter (λ pair. not (is_value pair.1 (records pair.0))) start)
 
 -- so it ends, unless memory is refused
 abbrev pub Plays : BoardFile → List Op → (retries : ℕ) → List Event → Result Played LabFault → Type 0

@@ -1,21 +1,22 @@
 //! A plan played by a schedule.
-ghost use Rattle.std.specs.Prelude.{◌≡◌, [], not, None, IfOk};
+ghost use Rattle.std.specs.Prelude.{◌≡◌, [], None, IfOk};
 ghost use Rattle.std.specs.List.{AllZip};
 ghost use Rattle.two_wire.specs.declared.Bus.{Bus as AnyBus};
 ghost use Rattle.cfg_records.specs.Records.{records_of};
 ghost use Rattle.undo_core.specs.Shown.{backs};
 ghost use Rattle.model_lab.specs.Meaning.{lab_names};
 ghost use Rattle.model_lab.specs.Played.{Told};
-ghost use Rattle.bmc_board.specs.OwnStore.{own_records};
 ghost use Rattle.lab_run.specs.Shown.{IsSentFrame, idles_in};
 ghost use Rattle.lab_play.specs.Noted.{NotesPlay};
-ghost use Rattle.lab_play.specs.Ends.{Tells, Plays, Begins, given, changed_in, is_value};
+ghost use Rattle.changed_records.specs.Changed.{changed_in};
+ghost use Rattle.lab_play.specs.Ends.{Tells, Plays, Begins, given};
 
 use crate::noted::run_noted;
 use crate::run::{Stopped, run};
 use crate::watch::Watch;
 use bmc_board::Records;
 use cfg_records::{BoardFile, Key, Store, Value};
+use changed_records::changed_count;
 use lab_run::{Fault, Lab, Note, SentFrame};
 use std::alloc::{AllocError, Global};
 use text_schedule::Event;
@@ -78,18 +79,7 @@ impl Played {
     pub fn changed(&self) -> usize
         ensures { (told : Told) → Tells self.now told → result ≡ changed_in told.records self.now.start.items }
     {
-        let store = self.records();
-        self.start.iter().filter(|r| is_changed(store, r)).count()
-    }
-}
-
-/// Whether the store has another value at the key of this record.
-fn is_changed(store: &Records, first: &(Key, Value)) -> bool
-    ensures { result ≡ not (is_value first.now.1 (own_records store.now first.now.0)) }
-{
-    match store.get(&first.0) {
-        Some(value) => value != first.1.as_slice(),
-        None => true,
+        changed_count(self.records(), self.start.as_slice())
     }
 }
 
