@@ -1,0 +1,23 @@
+-- How a run ends that says one thing, or two.
+use Rattle.std.specs.Prelude.{◌≡◌, ℕ, List, Option}
+use Rattle.std.specs.Io.KnownBytes.{Appends}
+use Rattle.model_undo.specs.declared.phase.Phase.{Phase}
+use Rattle.bmc_lab.specs.declared.console.Console.{Console}
+use Rattle.bmc_lab.specs.declared.console.Stream.TheVariants.{Output}
+use Rattle.bmc_lab.specs.declared.status.Status.TheVariants.{Success}
+use Rattle.bmc_lab.specs.Ending.{Saying}
+use Rattle.net_run.specs.Lines.{phase_line}
+
+-- nothing is said: a run that ends so was refused memory, or couldn't write
+abbrev pub Nothing : Saying
+Nothing stream text status = ⊥
+
+-- standard output has the phase's line
+abbrev pub SaysPhase : Phase → Saying
+SaysPhase phase stream text status = (stream ≡ Output) × (text ≡ phase_line phase) × (status ≡ Success)
+
+-- standard output has one text, standard error the other, and the status is 3
+pub record TellsBoth {W E : Type 0} (out : W → Option (List ℕ)) (err : E → Option (List ℕ)) (line complaint : List ℕ) (old new : Console W E) (result : ℕ) : Type 0 where
+  pub said : Appends (out old.out) (out new.out) line
+  pub complained : Appends (err old.err) (err new.err) complaint
+  pub status : result ≡ 3

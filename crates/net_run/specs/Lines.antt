@@ -1,0 +1,21 @@
+-- The lines of `bmcnet run` and `bmcnet undo`.
+use Rattle.std.specs.Prelude.{List, ℕ, ◌++◌, codes}
+use Rattle.text_lines.specs.Cuts.{ended}
+use Rattle.model_undo.specs.declared.phase.Phase.{Phase}
+use Rattle.model_undo.specs.PhaseNames.{phase_name}
+use Rattle.plan_file.specs.declared.plan_fault.PlanFault.{PlanFault}
+use Rattle.plan_file.specs.PlanNames.{plan_fault_name}
+use Rattle.text_undo.specs.declared.text.UndoFault.{UndoFault}
+use Rattle.text_undo.specs.UndoNames.{undo_fault_name}
+
+-- the manager's phase
+abbrev pub phase_line : Phase → List ℕ
+phase_line phase = ended (codes "phase " ++ phase_name phase)
+
+-- what is said of a plan that is refused
+abbrev pub plan_line : PlanFault → List ℕ
+plan_line why = ended (codes "plan " ++ plan_fault_name why)
+
+-- what is said of an undo text that is refused
+abbrev pub undo_line : UndoFault → List ℕ
+undo_line why = ended (codes "undo " ++ undo_fault_name why)

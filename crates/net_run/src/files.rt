@@ -1,0 +1,18 @@
+//! Files that texts are written to.
+
+/// A file isn't written: it can't be opened, or not all of its text was taken.
+#[derive(Clone, Copy, Debug, PartialEq, Eq)]
+pub struct Unwritten;
+
+/// Files that take texts, by the words that name them.
+pub trait WritesFiles {
+    ghost use Rattle.std.specs.Prelude.{ℕ, List, Result};
+    ghost use Rattle.net_run.specs.declared.files.Unwritten.{Unwritten};
+
+    /// What a writing of this text to the file that this word names may answer, and what it may leave of the files.
+    ghost takes: { Self → (word text : List ℕ) → Result (Unit {0}) Unwritten → Self → Type 0 };
+
+    /// Writes the text to the file that the word names. What the file had before is gone.
+    fn write(&mut self, word: &str, text: &str) -> Result<(), Unwritten>
+        ensures { takes self.old word.now text.now result self.new };
+}

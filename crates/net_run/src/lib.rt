@@ -1,0 +1,18 @@
+//! What `bmcnet run` and `bmcnet undo` do, over files and writers of any kind: a manager runs a plan on a controller over UDP, and another takes
+//! it back.
+#![tactic(auto)]
+
+pub mod driven;
+pub mod files;
+mod lines;
+mod links;
+mod names;
+pub mod running;
+pub mod undoing;
+
+pub use driven::{open_manager, resume_manager, run_plan, undo_plan};
+pub use files::{Unwritten, WritesFiles};
+pub use lines::push_phase;
+pub use links::WAIT_MS;
+pub use running::{RunWords, run};
+pub use undoing::{UndoWords, undo};
