@@ -1,0 +1,278 @@
+-- What is written of an event says it.
+use Rattle.std.proofs.Common.{◌≡◌, ◌≢◌, ℕ, zero, suc, ◌+◌, ◌<◌, ◌≤◌, ◌%◌, ◌^◌, ◌==◌, inl, inr, Bool, true, false, cond, List, [], ◌∷◌, ◌++◌, length, take, get_or, arith, refl, sym, ◌∙◌, ap, subst, Ok, codes, not, append_assoc, append-nil}
+use Rattle.std.specs.Prelude.{nat_lt}
+use Rattle.std.specs.List.{AllByRecursion, AllZip, slice_split}
+use Rattle.std.specs.Fmt.{decimal}
+use Rattle.std.specs.Str.Parse.{AllDigits, digits_value}
+use Rattle.std.specs.List.{onto_first}
+use Rattle.std.proofs.lemmas.Bool.Decides.{eqb_tells, nat_tests}
+use Rattle.std.proofs.lemmas.List.Elements.{All-get_or}
+use Rattle.std.proofs.lemmas.List.Splits.{slice_split-cons_yes, slice_split-cons_no}
+use Rattle.std.proofs.lemmas.List.{take_more, take_all}
+use Rattle.std.proofs.lemmas.Str.Parse.{IsNumeralModel, numerals_by_value, tells_digits, not_in_digits}
+use Rattle.std.proofs.lemmas.Fmt.{decimal_is_IsNumeral, length-decimal-le}
+use Rattle.hex.specs.Hex.{IsBytes, decode_of, encode_upper, is_hex_digit}
+use Rattle.hex.proofs.HexLemmas.{decode_of-ok, decode_of-encode_upper}
+use Rattle.text_lines.specs.Cuts.{Lacks, ended}
+use Rattle.text_lines.proofs.Cuts.{lacks_by_index}
+use Rattle.two_wire.specs.declared.Bus.{Bus}
+use Rattle.two_wire.specs.declared.Bus.TheVariants.{Ipmb, Smbus}
+use Rattle.text_schedule.specs.declared.event.Call.{Call as Called}
+use Rattle.text_schedule.specs.declared.event.Call.TheVariants.{Start, Quiet, Stop, Again, Undo}
+use Rattle.text_schedule.specs.declared.event.OtherRequest.{OtherRequest}
+use Rattle.text_schedule.specs.declared.event.OtherMessage.{OtherMessage}
+use Rattle.text_schedule.specs.declared.event.Event.{Event}
+use Rattle.text_schedule.specs.declared.event.Event.TheVariants.{Calls, ToBmc, ToMgr, OtherIpmb, OtherSmbus, Noise, Idle, Scan, Tick}
+use Rattle.text_schedule.specs.Text.{lines_of, words_of, IsNumber, IsByte}
+use Rattle.text_schedule.specs.Line.{bus_name, AreSome, IsRequest, Says}
+use Rattle.text_schedule.specs.Schedule.{spoken, Say}
+use Rattle.schedule_writer.specs.Written.{said, byte_digits, bytes_of, has_line, line_of, text_of, Stands}
+
+-- ---- where a text is cut
+
+own_mark : (mark : ℕ) → (mark == mark) ≡ true
+own_mark mark = elim (eqb_tells mark mark) [
+  | inl p ↦ p.0
+  | inr p ↦ absurd (p.1 refl)
+]
+
+other_mark : (b mark : ℕ) → b ≢ mark → (b == mark) ≡ false
+other_mark b mark differs = elim (eqb_tells b mark) [
+  | inl p ↦ absurd (differs p.1)
+  | inr p ↦ p.0
+]
+
+split_none : (mark : ℕ) (xs : List ℕ) → Lacks mark xs → slice_split (λ b. b == mark) xs ≡ xs ∷ []
+split_none mark [] l = refl
+split_none mark (x ∷ xs) l = slice_split-cons_no (λ b. b == mark) x xs (other_mark x mark l.0) ∙ ap (onto_first x) (split_none mark xs l.1)
+
+split_at : (mark : ℕ) (xs ys : List ℕ) → Lacks mark xs → slice_split (λ b. b == mark) (xs ++ mark ∷ ys) ≡ xs ∷ slice_split (λ b. b == mark) ys
+split_at mark [] ys l = slice_split-cons_yes (λ b. b == mark) mark ys (own_mark mark)
+split_at mark (x ∷ xs) ys l = slice_split-cons_no (λ b. b == mark) x (xs ++ mark ∷ ys) (other_mark x mark l.0) ∙ ap (onto_first x) (split_at mark xs ys l.1)
+
+-- a test for the mark
+abbrev has : ℕ → List ℕ → Bool
+has mark [] = false
+has mark (b ∷ bytes) = cond (b == mark) true (has mark bytes)
+
+lacks_by_test : (mark : ℕ) (bytes : List ℕ) → has mark bytes ≡ false → Lacks mark bytes
+lacks_by_test mark [] h = tt
+lacks_by_test mark (b ∷ bytes) h =
+    elim (eqb_tells b mark) [
+      | inl p ↦ (let k : cond true true (has mark bytes) ≡ false = rw p.0 at h in cc k)
+      | inr p ↦ (p.1, lacks_by_test mark bytes (rw p.0 at h))
+    ]
+
+lacks_both : (mark : ℕ) (front back : List ℕ) → Lacks mark front → Lacks mark back → Lacks mark (front ++ back)
+lacks_both mark [] back f b = b
+lacks_both mark (x ∷ front) back f b = (f.0, lacks_both mark front back f.1 b)
+
+own : IsNumeralModel (AllDigits 10) (digits_value 10)
+own = numerals_by_value (AllDigits 10) tells_digits
+
+-- what has neither spaces nor line feeds
+record IsWord (word : List ℕ) : Type 0 where
+  spaces : Lacks 32 word
+  feeds : Lacks 10 word
+
+decimal_word : (n : ℕ) → n < 2 ^ 32 → IsWord (decimal n)
+decimal_word n small = let all : AllDigits 10 (decimal n) = (decimal_is_IsNumeral n (omega (arith, small))).0.1 in record {
+  spaces = lacks_by_index 32 (decimal n) (not_in_digits own (decimal n) 32 all (λ r. omega (arith, r.0)));
+  feeds = lacks_by_index 10 (decimal n) (not_in_digits own (decimal n) 10 all (λ r. omega (arith, r.0)));
+}
+
+digits_lack : (mark : ℕ) (digits bytes : List ℕ) → decode_of digits ≡ Ok bytes → is_hex_digit mark ≢ true → Lacks mark digits
+digits_lack mark digits bytes h no_digit =
+    let all = (decode_of-ok digits bytes h).1 in
+    lacks_by_index mark digits (λ i l e.
+    let one : is_hex_digit (get_or digits i 0) ≡ true = All-get_or (λ d. is_hex_digit d ≡ true) digits i 0 l all in
+    no_digit (subst (λ (d : ℕ). is_hex_digit d ≡ true) e one))
+
+digits_word : (bytes : List ℕ) → IsBytes bytes → IsWord (encode_upper bytes)
+digits_word bytes small = let read = decode_of-encode_upper bytes small in record {
+  spaces = digits_lack 32 (encode_upper bytes) bytes read (λ h. cc h);
+  feeds = digits_lack 10 (encode_upper bytes) bytes read (λ h. cc h);
+}
+
+bus_word : (on : Bus) → IsWord (bus_name on)
+bus_word Ipmb = record { spaces = lacks_by_test 32 (codes "ipmb") refl; feeds = lacks_by_test 10 (codes "ipmb") refl }
+bus_word Smbus = record { spaces = lacks_by_test 32 (codes "smbus") refl; feeds = lacks_by_test 10 (codes "smbus") refl }
+
+one_word : (word : List ℕ) → has 32 word ≡ false → has 10 word ≡ false → IsWord word
+one_word word spaces feeds = record { spaces = lacks_by_test 32 word spaces; feeds = lacks_by_test 10 word feeds }
+
+-- ---- the words of a line
+
+-- the line's words are these, and no line feed is in it
+record HasWords (line : List ℕ) (words : List (List ℕ)) : Type 0 where
+  are : words_of line ≡ words
+  feeds : Lacks 10 line
+
+last_word : (word : List ℕ) → IsWord word → HasWords word (word ∷ [])
+last_word word is = record { are = split_none 32 word is.spaces; feeds = is.feeds }
+
+word_before : (word rest : List ℕ) (words : List (List ℕ)) → IsWord word → HasWords rest words → HasWords (said word rest) (word ∷ words)
+word_before word rest words is has_words = record {
+  are = split_at 32 word rest is.spaces ∙ ap (λ (ws : List (List ℕ)). word ∷ ws) has_words.are;
+  feeds = lacks_both 10 word (32 ∷ rest) is.feeds ((λ (e : 32 ≡ 10). cc e), has_words.feeds);
+}
+
+small_byte : (byte : ℕ) → byte < 256 → IsBytes (byte ∷ [])
+small_byte byte small zero = small
+small_byte byte small (suc i) = omega arith
+
+byte_read : (byte : ℕ) → byte < 256 → IsByte (byte_digits byte) byte
+byte_read byte small = decode_of-encode_upper (byte ∷ []) (small_byte byte small)
+
+byte_word : (byte : ℕ) → byte < 256 → IsWord (byte_digits byte)
+byte_word byte small = digits_word (byte ∷ []) (small_byte byte small)
+
+-- ---- the lines
+
+pub call_stands : (call : Called) → Stands (line_of (Calls call)) (Calls call)
+call_stands Start = let w = last_word (codes "start") (one_word (codes "start") refl refl) in record { says = w.are; spoken = refl; whole = w.feeds }
+call_stands Quiet = let w = last_word (codes "quiet") (one_word (codes "quiet") refl refl) in record { says = w.are; spoken = refl; whole = w.feeds }
+call_stands Stop = let w = last_word (codes "stop") (one_word (codes "stop") refl refl) in record { says = w.are; spoken = refl; whole = w.feeds }
+call_stands Again = let w = last_word (codes "again") (one_word (codes "again") refl refl) in record { says = w.are; spoken = refl; whole = w.feeds }
+call_stands Undo = let w = last_word (codes "undo") (one_word (codes "undo") refl refl) in record { says = w.are; spoken = refl; whole = w.feeds }
+
+pub tick_stands : Stands (line_of Tick) Tick
+tick_stands = let w = last_word (codes "tick") (one_word (codes "tick") refl refl) in record { says = w.are; spoken = refl; whole = w.feeds }
+
+number_read : (n : ℕ) → nat_lt n 1000000000 ≡ true → (n < 2 ^ 32) × IsNumber 9 (decimal n) n
+number_read n low =
+    let small : n < 1000000000 = grind (arith, nat_tests) in
+    let is = decimal_is_IsNumeral n (omega (arith, small)) in
+    (omega (arith, small), record { decimal = is.0; few = length-decimal-le 9 n (omega arith) (omega (arith, small)) (omega (arith, small)); value = is.1 })
+
+pub to_bmc_stands : (n : ℕ) → nat_lt n 1000000000 ≡ true → Stands (line_of (ToBmc n)) (ToBmc n)
+to_bmc_stands n low =
+    let read = number_read n low in
+    let w = word_before (codes "to-bmc") (decimal n) (decimal n ∷ []) (one_word (codes "to-bmc") refl refl) (last_word (decimal n) (decimal_word n read.0)) in
+    record { says = (decimal n, w.are, read.1); spoken = refl; whole = w.feeds }
+
+pub to_mgr_stands : (n : ℕ) → nat_lt n 1000000000 ≡ true → Stands (line_of (ToMgr n)) (ToMgr n)
+to_mgr_stands n low =
+    let read = number_read n low in
+    let w = word_before (codes "to-mgr") (decimal n) (decimal n ∷ []) (one_word (codes "to-mgr") refl refl) (last_word (decimal n) (decimal_word n read.0)) in
+    record { says = (decimal n, w.are, read.1); spoken = refl; whole = w.feeds }
+
+other_stands : (r : OtherRequest) → r.requester.address < 256 → IsBytes (bytes_of r) → IsRequest r (bytes_of r) → Stands (line_of (OtherIpmb r)) (OtherIpmb r)
+other_stands r from small is =
+    let digits = encode_upper (bytes_of r) in
+    let address = byte_digits r.requester.address in
+    let w = word_before (codes "other") _ (codes "ipmb" ∷ address ∷ digits ∷ []) (one_word (codes "other") refl refl)
+    (word_before (codes "ipmb") _ (address ∷ digits ∷ []) (bus_word Ipmb)
+    (word_before address digits (digits ∷ []) (byte_word r.requester.address from) (last_word digits (digits_word (bytes_of r) small)))) in
+    record {
+      says = (address, digits, bytes_of r, w.are, byte_read r.requester.address from, decode_of-encode_upper (bytes_of r) small, is);
+      spoken = refl;
+      whole = w.feeds;
+    }
+
+message_stands : (m : OtherMessage) → m.from < 256 → IsBytes m.body → AreSome 256 m.body → Stands (line_of (OtherSmbus m)) (OtherSmbus m)
+message_stands m from small some =
+    let digits = encode_upper m.body in
+    let endpoint = byte_digits m.from in
+    let w = word_before (codes "other") _ (codes "smbus" ∷ endpoint ∷ digits ∷ []) (one_word (codes "other") refl refl)
+    (word_before (codes "smbus") _ (endpoint ∷ digits ∷ []) (bus_word Smbus)
+    (word_before endpoint digits (digits ∷ []) (byte_word m.from from) (last_word digits (digits_word m.body small)))) in
+    record {
+      says = (endpoint, digits, w.are, byte_read m.from from, decode_of-encode_upper m.body small, some);
+      spoken = refl;
+      whole = w.feeds;
+    }
+
+-- by what the code has of the message
+pub message_by : (m : OtherMessage) (body : List ℕ) → body ≡ m.body → m.from < 256 → IsBytes body → 0 < length body → length body ≤ 256 → Stands (line_of (OtherSmbus m)) (OtherSmbus m)
+message_by m body same from small some few = message_stands m from (subst IsBytes same small) (subst (AreSome 256) same (record { some = some; few = few }))
+
+-- and of the request
+pub request_by : (r : OtherRequest) (address : ℕ) (bytes : List ℕ) → address ≡ r.requester.address → address < 256 → bytes ≡ bytes_of r → IsBytes bytes → IsRequest r (bytes_of r) → Stands (line_of (OtherIpmb r)) (OtherIpmb r)
+request_by r address bytes same small are all is = other_stands r (subst (λ (a : ℕ). a < 256) same small) (subst IsBytes are all) is
+
+pub request_is : (r : OtherRequest) (net_fn responder lun : ℕ) (body : List ℕ) (address : ℕ)
+    → net_fn ≡ r.net_fn → responder ≡ r.responder → lun ≡ r.requester.lun → body ≡ r.body → address ≡ r.requester.address
+    → net_fn % 2 ≡ 0 → responder < 4 → lun < 4 → length body ≤ 25 → address % 2 ≡ 0 → IsRequest r (bytes_of r)
+request_is r net_fn responder lun body address f p l b a even low under few plain = record {
+  all = refl;
+  net_fn = subst (λ (n : ℕ). n % 2 ≡ 0) f even;
+  responder = subst (λ (n : ℕ). n < 4) p low;
+  requester = subst (λ (n : ℕ). n < 4) l under;
+  few = subst (λ (bytes : List ℕ). length bytes ≤ 25) b few;
+  address = subst (λ (n : ℕ). n % 2 ≡ 0) a plain;
+}
+
+pub noise_stands : (on : Bus) (bytes : List ℕ) → IsBytes bytes → AreSome 80 bytes → Stands (line_of (Noise on bytes)) (Noise on bytes)
+noise_stands on bytes small some =
+    let digits = encode_upper bytes in
+    let w = word_before (codes "noise") _ (bus_name on ∷ digits ∷ []) (one_word (codes "noise") refl refl)
+    (word_before (bus_name on) digits (digits ∷ []) (bus_word on) (last_word digits (digits_word bytes small))) in
+    record { says = (digits, w.are, decode_of-encode_upper bytes small, some); spoken = refl; whole = w.feeds }
+
+pub idle_stands : (on : Bus) (requester : ℕ) → requester < 256 → Stands (line_of (Idle on requester)) (Idle on requester)
+idle_stands on requester small =
+    let digits = byte_digits requester in
+    let w = word_before (codes "idle") _ (bus_name on ∷ digits ∷ []) (one_word (codes "idle") refl refl)
+    (word_before (bus_name on) digits (digits ∷ []) (bus_word on) (last_word digits (byte_word requester small))) in
+    record { says = (digits, w.are, byte_read requester small); spoken = refl; whole = w.feeds }
+
+pub scan_stands : (sensor reading : ℕ) → sensor < 256 → reading < 256 → Stands (line_of (Scan sensor reading)) (Scan sensor reading)
+scan_stands sensor reading one two =
+    let first = byte_digits sensor in
+    let second = byte_digits reading in
+    let w = word_before (codes "scan") _ (first ∷ second ∷ []) (one_word (codes "scan") refl refl)
+    (word_before first second (second ∷ []) (byte_word sensor one) (last_word second (byte_word reading two))) in
+    record { says = (first, second, w.are, byte_read sensor one, byte_read reading two); spoken = refl; whole = w.feeds }
+
+-- ---- the text
+
+-- each of the events stands on its line
+abbrev pub AllStand : List Event → Type 0
+AllStand events = AllByRecursion (λ e. Stands (line_of e) e) events
+
+pub stand_more : (es : List Event) (e : Event) → AllStand es → Stands (line_of e) e → AllStand (es ++ e ∷ [])
+stand_more [] e all one = (one, tt)
+stand_more (d ∷ es) e all one = (all.0, stand_more es e all.1 one)
+
+-- reading the lines gives the events back
+pub lines_said : (es : List Event) → AllStand es → Say (lines_of (text_of es)) es
+lines_said [] all = tt
+lines_said (e ∷ es) all = subst (λ (ls : List (List ℕ)). AllZip Says ls (e ∷ es)) (sym whole) (all.0.says, lines_said es all.1)
+  where
+    cut : lines_of (text_of (e ∷ es)) ≡ line_of e ∷ lines_of (text_of es)
+    cut = ap lines_of (append_assoc (line_of e) (10 ∷ []) (text_of es)) ∙ split_at 10 (line_of e) (text_of es) all.0.whole
+
+    whole : spoken (lines_of (text_of (e ∷ es))) ≡ line_of e ∷ spoken (lines_of (text_of es))
+    whole = ap spoken cut ∙ ap (λ (t : Bool). cond (not t) (line_of e ∷ spoken (lines_of (text_of es))) (spoken (lines_of (text_of es)))) all.0.spoken
+
+-- the text of one event more
+pub text_more : (es : List Event) (e : Event) → text_of (es ++ e ∷ []) ≡ text_of es ++ ended (line_of e)
+text_more [] e = append-nil (ended (line_of e))
+text_more (d ∷ es) e = ap (λ (rest : List ℕ). ended (line_of d) ++ rest) (text_more es e) ∙ sym (append_assoc (ended (line_of d)) (text_of es) (ended (line_of e)))
+
+-- the place of an event among others
+pub line_at : (es : List Event) (i : ℕ) (d : Event) → AllByRecursion (λ e. has_line e ≡ true) es → i < length es → has_line (get_or es i d) ≡ true
+line_at [] i d all within = absurd (omega (arith, within))
+line_at (e ∷ es) zero d all within = all.0
+line_at (e ∷ es) (suc i) d all within = line_at es i d all.1 (omega (arith, within))
+
+-- what is written is the text of the events so far
+pub record IsWritten (es : List Event) (text : List ℕ) : Type 0 where
+  pub are : text ≡ text_of es
+  pub stand : AllStand es
+
+pub written_more : (es : List Event) (i : ℕ) (e : Event) (old new : List ℕ) → AllByRecursion (λ e. has_line e ≡ true) es → i < length es → e ≡ get_or es i e
+    → IsWritten (take i es) old → new ≡ old ++ ended (line_of e) → (has_line e ≡ true → Stands (line_of e) e) → IsWritten (take (i + 1) es) new
+written_more es i e old new all within is before pushed stands =
+    let next : take i es ++ e ∷ [] ≡ take (i + 1) es = ap (λ (d : Event). take i es ++ d ∷ []) is ∙ sym (take_more es i e within) in
+    let said = ap has_line is ∙ line_at es i e all within in
+    subst (λ (l : List Event). IsWritten l new) next (record {
+      are = pushed ∙ ap (λ (t : List ℕ). t ++ ended (line_of e)) before.are ∙ sym (text_more (take i es) e);
+      stand = stand_more (take i es) e before.stand (stands said);
+    })
+
+pub written_all : (es : List Event) (i : ℕ) (text : List ℕ) → length es ≤ i → IsWritten (take i es) text → (text ≡ text_of es) × Say (lines_of text) es
+written_all es i text all is =
+    let whole : IsWritten es text = subst (λ (l : List Event). IsWritten l text) (take_all i es all) is in
+    (whole.are, subst (λ (t : List ℕ). Say (lines_of t) es) (sym whole.are) (lines_said es whole.stand))

@@ -1,0 +1,182 @@
+//! Schedules, written.
+ghost use Rattle.std.specs.Prelude.{◌≡◌, ◌<◌, ◌≤◌, length, ◌++◌, ◌∷◌, [], true, IfOk, OnOk, string_bytes};
+ghost use Rattle.std.specs.List.{AllByRecursion};
+ghost use Rattle.hex.specs.Hex.{IsBytes, encode_upper};
+ghost use Rattle.text_lines.specs.Cuts.{ended};
+ghost use Rattle.text_schedule.specs.Text.{lines_of};
+ghost use Rattle.text_schedule.specs.Line.{AreSome, IsRequest, call_name, bus_name};
+ghost use Rattle.text_schedule.specs.Schedule.{Say};
+ghost use Rattle.schedule_writer.specs.Written.{Stands, byte_digits, bytes_of, has_line, line_of, text_of};
+
+use std::alloc::{AllocError, Global};
+use text_schedule::{Call, Event, OtherMessage, OtherRequest};
+use two_wire::{Bus, Bytes};
+
+/// The first number of a frame that has more than nine digits.
+const NUMBERS_END: u32 = 1_000_000_000;
+
+/// The most bytes of a request without addresses and check bytes.
+const MOST_REQUEST: usize = 28;
+
+/// The call's name in a schedule.
+fn call_word(call: Call) -> &'static str
+    ensures { result.now ≡ call_name call }
+{
+    match call {
+        Call::Start => "start",
+        Call::Quiet => "quiet",
+        Call::Stop => "stop",
+        Call::Again => "again",
+        Call::Undo => "undo",
+    }
+}
+
+/// The bus's name in a schedule.
+fn bus_word(bus: Bus) -> &'static str
+    ensures { result.now ≡ bus_name bus }
+{
+    match bus {
+        Bus::Ipmb => "ipmb",
+        Bus::Smbus => "smbus",
+    }
+}
+
+/// Whether a line can say the event: the number of a frame has at most nine digits.
+pub fn has_line(event: &Event) -> bool
+    ensures { result ≡ has_line event.now }
+{
+    match event {
+        Event::ToBmc(number) | Event::ToMgr(number) => *number < NUMBERS_END,
+        _ => true,
+    }
+}
+
+/// The digits of a byte.
+fn byte_digits(alloc: Global, byte: u8) -> Result<String, AllocError>
+    ensures digits { IfOk result (λ digits. string_bytes digits ≡ byte_digits byte) }
+    ensures small { byte < 256 }
+{
+    hex::encode_upper(alloc, [byte])
+}
+
+/// The digits of bytes.
+fn digits_of(alloc: Global, bytes: &[u8]) -> Result<String, AllocError>
+    ensures digits { IfOk result (λ digits. string_bytes digits ≡ encode_upper bytes.now) }
+    ensures small { IsBytes bytes.now }
+{
+    hex::encode_upper(alloc, bytes)
+}
+
+/// The bytes of a request: two bytes of numbers, the command and the data.
+fn joined(function: u8, sequence: u8, command: u8, body: &[u8]) -> Bytes<MOST_REQUEST>
+    requires { length body.now ≤ 25 }
+    ensures { result ≡ function ∷ sequence ∷ command ∷ body.now }
+{
+    let mut bytes = Bytes::new();
+    bytes.push(function);
+    bytes.push(sequence);
+    bytes.push(command);
+    bytes.extend_from_slice(body);
+    bytes
+}
+
+/// The bytes of a request without addresses and check bytes.
+fn bytes_of(request: &OtherRequest) -> Bytes<MOST_REQUEST>
+    ensures value { result ≡ bytes_of request.now }
+    ensures is { IsRequest request.now (bytes_of request.now) }
+{
+    let function = request.net_fn.number() * 4 + request.responder.number();
+    let sequence = request.sequence.number() * 4 + request.requester.lun.number();
+    let body = request.body.as_slice();
+    let _ = request.requester.address.byte();
+    joined(function, sequence, request.command, body)
+}
+
+/// Adds the line of somebody else's request.
+fn push_request(alloc: Global, text: &mut String, request: &OtherRequest) -> Result<(), AllocError>
+    ensures text { OnOk result (string_bytes text.new ≡ string_bytes text.old ++ ended (line_of (Event.OtherIpmb request.now))) }
+    ensures stands { Stands (line_of (Event.OtherIpmb request.now)) (Event.OtherIpmb request.now) }
+{
+    let bytes = bytes_of(request);
+    let digits = digits_of(alloc, bytes.as_slice());
+    let from = byte_digits(alloc, request.requester.address.byte());
+    let (digits, from) = (digits?, from?);
+    writeln!(text, "other ipmb {from} {digits}")
+}
+
+/// Adds the line of somebody else's message.
+fn push_message(alloc: Global, text: &mut String, message: &OtherMessage) -> Result<(), AllocError>
+    ensures text { OnOk result (string_bytes text.new ≡ string_bytes text.old ++ ended (line_of (Event.OtherSmbus message.now))) }
+    ensures stands { Stands (line_of (Event.OtherSmbus message.now)) (Event.OtherSmbus message.now) }
+{
+    let body = message.body.as_slice();
+    let digits = digits_of(alloc, body);
+    let from = byte_digits(alloc, message.from);
+    let (digits, from) = (digits?, from?);
+    writeln!(text, "other smbus {from} {digits}")
+}
+
+/// Adds the line of noise.
+fn push_noise(alloc: Global, text: &mut String, on: Bus, bytes: &[u8]) -> Result<(), AllocError>
+    requires { AreSome 80 bytes.now }
+    ensures text { OnOk result (string_bytes text.new ≡ string_bytes text.old ++ ended (line_of (Event.Noise on bytes.now))) }
+    ensures stands { Stands (line_of (Event.Noise on bytes.now)) (Event.Noise on bytes.now) }
+{
+    let bus = bus_word(on);
+    let digits = digits_of(alloc, bytes)?;
+    writeln!(text, "noise {bus} {digits}")
+}
+
+/// Adds the line of a window that is forgotten.
+fn push_idle(alloc: Global, text: &mut String, on: Bus, requester: u8) -> Result<(), AllocError>
+    ensures text { OnOk result (string_bytes text.new ≡ string_bytes text.old ++ ended (line_of (Event.Idle on requester))) }
+    ensures stands { Stands (line_of (Event.Idle on requester)) (Event.Idle on requester) }
+{
+    let bus = bus_word(on);
+    let from = byte_digits(alloc, requester)?;
+    writeln!(text, "idle {bus} {from}")
+}
+
+/// Adds the line of a reading.
+fn push_scan(alloc: Global, text: &mut String, sensor: u8, reading: u8) -> Result<(), AllocError>
+    ensures text { OnOk result (string_bytes text.new ≡ string_bytes text.old ++ ended (line_of (Event.Scan sensor reading))) }
+    ensures stands { Stands (line_of (Event.Scan sensor reading)) (Event.Scan sensor reading) }
+{
+    let sensor = byte_digits(alloc, sensor)?;
+    let reading = byte_digits(alloc, reading)?;
+    writeln!(text, "scan {sensor} {reading}")
+}
+
+/// Adds the line of an event.
+pub fn push_event(alloc: Global, text: &mut String, event: &Event) -> Result<(), AllocError>
+    ensures text { OnOk result (string_bytes text.new ≡ string_bytes text.old ++ ended (line_of event.now)) }
+    ensures stands { has_line event.now ≡ true → Stands (line_of event.now) event.now }
+{
+    match event {
+        Event::Calls(call) => {
+            let call = call_word(*call);
+            writeln!(text, "{call}")
+        }
+        Event::ToBmc(number) => writeln!(text, "to-bmc {number}"),
+        Event::ToMgr(number) => writeln!(text, "to-mgr {number}"),
+        Event::OtherIpmb(request) => push_request(alloc, text, request),
+        Event::OtherSmbus(message) => push_message(alloc, text, message),
+        Event::Noise(on, bytes) => push_noise(alloc, text, *on, bytes.as_slice()),
+        Event::Idle(on, requester) => push_idle(alloc, text, *on, *requester),
+        Event::Scan { sensor, reading } => push_scan(alloc, text, *sensor, *reading),
+        Event::Tick => text.push_str("tick\n"),
+    }
+}
+
+/// The text of a schedule in which this happens: a line an event. Reading it gives the events back.
+pub fn write_schedule(alloc: Global, events: &[Event]) -> Result<String, AllocError>
+    requires { AllByRecursion (λ event. has_line event ≡ true) events.now }
+    ensures text { IfOk result (λ text. string_bytes text ≡ text_of events.now) }
+    ensures said { IfOk result (λ text. Say (lines_of (string_bytes text)) events.now) }
+{
+    let mut text = String::new(alloc);
+    for event in events {
+        push_event(alloc, &mut text, event)?;
+    }
+    Ok(text)
+}
