@@ -1,5 +1,5 @@
 -- What is written of an event says it.
-use Rattle.std.proofs.Common.{◌≡◌, ◌≢◌, ℕ, zero, suc, ◌+◌, ◌<◌, ◌≤◌, ◌%◌, ◌^◌, ◌==◌, inl, inr, Bool, true, false, cond, List, [], ◌∷◌, ◌++◌, length, take, get_or, arith, refl, sym, ◌∙◌, ap, subst, Ok, codes, not, append_assoc, append-nil}
+use Rattle.std.proofs.Common.{◌≡◌, ◌≢◌, ℕ, zero, suc, ◌<◌, ◌≤◌, ◌%◌, ◌^◌, ◌==◌, inl, inr, Bool, true, false, cond, List, [], ◌∷◌, ◌++◌, length, take, get_or, arith, refl, sym, ◌∙◌, ap, subst, Ok, codes, not, append_assoc}
 use Rattle.std.specs.Prelude.{nat_lt}
 use Rattle.std.specs.List.{AllByRecursion, AllZip, slice_split}
 use Rattle.std.specs.Fmt.{decimal}
@@ -8,25 +8,23 @@ use Rattle.std.specs.List.{onto_first}
 use Rattle.std.proofs.lemmas.Bool.Decides.{eqb_tells, nat_tests}
 use Rattle.std.proofs.lemmas.List.Elements.{All-get_or}
 use Rattle.std.proofs.lemmas.List.Splits.{slice_split-cons_yes, slice_split-cons_no}
-use Rattle.std.proofs.lemmas.List.{take_more, take_all}
+use Rattle.std.proofs.lemmas.List.{take_all}
 use Rattle.std.proofs.lemmas.Str.Parse.{IsNumeralModel, numerals_by_value, tells_digits, not_in_digits}
 use Rattle.std.proofs.lemmas.Fmt.{decimal_is_IsNumeral, length-decimal-le}
 use Rattle.hex.specs.Hex.{IsBytes, decode_of, encode_upper, is_hex_digit}
 use Rattle.hex.proofs.HexLemmas.{decode_of-ok, decode_of-encode_upper}
-use Rattle.text_lines.specs.Cuts.{Lacks, ended}
+use Rattle.text_lines.specs.Cuts.{Lacks}
 use Rattle.text_lines.proofs.Cuts.{lacks_by_index}
 use Rattle.two_wire.specs.declared.Bus.{Bus}
 use Rattle.two_wire.specs.declared.Bus.TheVariants.{Ipmb, Smbus}
-use Rattle.text_schedule.specs.declared.event.Call.{Call as Called}
-use Rattle.text_schedule.specs.declared.event.Call.TheVariants.{Start, Quiet, Stop, Again, Undo}
 use Rattle.text_schedule.specs.declared.event.OtherRequest.{OtherRequest}
 use Rattle.text_schedule.specs.declared.event.OtherMessage.{OtherMessage}
 use Rattle.text_schedule.specs.declared.event.Event.{Event}
-use Rattle.text_schedule.specs.declared.event.Event.TheVariants.{Calls, ToBmc, ToMgr, OtherIpmb, OtherSmbus, Noise, Idle, Scan, Tick}
+use Rattle.text_schedule.specs.declared.event.Event.TheVariants.{ToBmc, ToMgr, OtherIpmb, OtherSmbus, Noise, Idle, Scan}
 use Rattle.text_schedule.specs.Text.{lines_of, words_of, IsNumber, IsByte}
 use Rattle.text_schedule.specs.Line.{bus_name, AreSome, IsRequest, Says}
 use Rattle.text_schedule.specs.Schedule.{spoken, Say}
-use Rattle.schedule_writer.specs.Written.{said, byte_digits, bytes_of, has_line, line_of, text_of, Stands}
+use Rattle.schedule_writer.specs.Written.{said, byte_digits, bytes_of, line_of, text_of, Stands}
 
 -- ---- where a text is cut
 
@@ -129,16 +127,6 @@ byte_word byte small = digits_word (byte ∷ []) (small_byte byte small)
 
 -- ---- the lines
 
-pub call_stands : (call : Called) → Stands (line_of (Calls call)) (Calls call)
-call_stands Start = let w = last_word (codes "start") (one_word (codes "start") refl refl) in record { says = w.are; spoken = refl; whole = w.feeds }
-call_stands Quiet = let w = last_word (codes "quiet") (one_word (codes "quiet") refl refl) in record { says = w.are; spoken = refl; whole = w.feeds }
-call_stands Stop = let w = last_word (codes "stop") (one_word (codes "stop") refl refl) in record { says = w.are; spoken = refl; whole = w.feeds }
-call_stands Again = let w = last_word (codes "again") (one_word (codes "again") refl refl) in record { says = w.are; spoken = refl; whole = w.feeds }
-call_stands Undo = let w = last_word (codes "undo") (one_word (codes "undo") refl refl) in record { says = w.are; spoken = refl; whole = w.feeds }
-
-pub tick_stands : Stands (line_of Tick) Tick
-tick_stands = let w = last_word (codes "tick") (one_word (codes "tick") refl refl) in record { says = w.are; spoken = refl; whole = w.feeds }
-
 number_read : (n : ℕ) → nat_lt n 1000000000 ≡ true → (n < 2 ^ 32) × IsNumber 9 (decimal n) n
 number_read n low =
     let small : n < 1000000000 = grind (arith, nat_tests) in
@@ -231,10 +219,6 @@ scan_stands sensor reading one two =
 abbrev pub AllStand : List Event → Type 0
 AllStand events = AllByRecursion (λ e. Stands (line_of e) e) events
 
-pub stand_more : (es : List Event) (e : Event) → AllStand es → Stands (line_of e) e → AllStand (es ++ e ∷ [])
-stand_more [] e all one = (one, tt)
-stand_more (d ∷ es) e all one = (all.0, stand_more es e all.1 one)
-
 -- reading the lines gives the events back
 pub lines_said : (es : List Event) → AllStand es → Say (lines_of (text_of es)) es
 lines_said [] all = tt
@@ -246,31 +230,10 @@ lines_said (e ∷ es) all = subst (λ (ls : List (List ℕ)). AllZip Says ls (e 
     whole : spoken (lines_of (text_of (e ∷ es))) ≡ line_of e ∷ spoken (lines_of (text_of es))
     whole = ap spoken cut ∙ ap (λ (t : Bool). cond (not t) (line_of e ∷ spoken (lines_of (text_of es))) (spoken (lines_of (text_of es)))) all.0.spoken
 
--- the text of one event more
-pub text_more : (es : List Event) (e : Event) → text_of (es ++ e ∷ []) ≡ text_of es ++ ended (line_of e)
-text_more [] e = append-nil (ended (line_of e))
-text_more (d ∷ es) e = ap (λ (rest : List ℕ). ended (line_of d) ++ rest) (text_more es e) ∙ sym (append_assoc (ended (line_of d)) (text_of es) (ended (line_of e)))
-
--- the place of an event among others
-pub line_at : (es : List Event) (i : ℕ) (d : Event) → AllByRecursion (λ e. has_line e ≡ true) es → i < length es → has_line (get_or es i d) ≡ true
-line_at [] i d all within = absurd (omega (arith, within))
-line_at (e ∷ es) zero d all within = all.0
-line_at (e ∷ es) (suc i) d all within = line_at es i d all.1 (omega (arith, within))
-
 -- what is written is the text of the events so far
 pub record IsWritten (es : List Event) (text : List ℕ) : Type 0 where
   pub are : text ≡ text_of es
   pub stand : AllStand es
-
-pub written_more : (es : List Event) (i : ℕ) (e : Event) (old new : List ℕ) → AllByRecursion (λ e. has_line e ≡ true) es → i < length es → e ≡ get_or es i e
-    → IsWritten (take i es) old → new ≡ old ++ ended (line_of e) → (has_line e ≡ true → Stands (line_of e) e) → IsWritten (take (i + 1) es) new
-written_more es i e old new all within is before pushed stands =
-    let next : take i es ++ e ∷ [] ≡ take (i + 1) es = ap (λ (d : Event). take i es ++ d ∷ []) is ∙ sym (take_more es i e within) in
-    let said = ap has_line is ∙ line_at es i e all within in
-    subst (λ (l : List Event). IsWritten l new) next (record {
-      are = pushed ∙ ap (λ (t : List ℕ). t ++ ended (line_of e)) before.are ∙ sym (text_more (take i es) e);
-      stand = stand_more (take i es) e before.stand (stands said);
-    })
 
 pub written_all : (es : List Event) (i : ℕ) (text : List ℕ) → length es ≤ i → IsWritten (take i es) text → (text ≡ text_of es) × Say (lines_of text) es
 written_all es i text all is =
