@@ -8,3 +8,4 @@ mod watch;
 
 pub use played::{LabFault, Played, play, play_noted};
 pub use run::Stopped;
+pub use watch::{Watch, step_watched};

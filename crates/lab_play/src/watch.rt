@@ -15,7 +15,7 @@ const MOST_NEWER: usize = 8;
 
 /// What is known of the packets of the manager that wait at the controller's port.
 #[derive(Clone, Copy, Debug, PartialEq, Eq)]
-pub(crate) struct Watch {
+pub struct Watch {
     /// Under each tag, the request whose start came last to the port.
     opened: [usize; 8],
     /// The place of the first event at which a packet joined one that had waited too long, counted from 1.
@@ -45,7 +45,7 @@ impl Watch {
     }
 
     /// Whether what waits under the tag of a packet that comes is of a request than which too many newer ones were begun.
-    fn waits_long(&self, part: &ManagerPart, begun: usize) -> bool
+    pub fn waits_long(&self, part: &ManagerPart, begun: usize) -> bool
         ensures { result ≡ waits_long self.now.opened part.now.tag begun }
     {
         let opened = self.opened[usize::from(part.tag.number())];
@@ -80,7 +80,7 @@ impl Watch {
 }
 
 /// One event happens in a lab, and the premise is watched. On a fault nothing changes.
-pub(crate) fn step_watched(
+pub fn step_watched(
     lab: &mut Lab,
     watch: &mut Watch,
     event: &Event,

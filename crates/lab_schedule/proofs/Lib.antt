@@ -1,0 +1,4 @@
+pub mod Cleanly
+pub mod Offers
+pub mod Deliveries
+pub mod Carried

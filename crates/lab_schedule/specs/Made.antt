@@ -1,0 +1,36 @@
+-- A schedule that is made of a plan on a board.
+use Rattle.std.specs.Prelude.{◌≡◌, ℕ, Bool, true, false, List}
+use Rattle.std.specs.List.{AllByRecursion}
+use Rattle.cfg_records.specs.declared.board_file.BoardFile.{BoardFile}
+use Rattle.record_base.specs.declared.op.Op.{Op}
+use Rattle.text_schedule.specs.declared.event.Event.{Event}
+use Rattle.schedule_writer.specs.Written.{has_line}
+use Rattle.model_lab.specs.Lab.{opening}
+use Rattle.model_lab.specs.Meaning.{lab_names}
+use Rattle.model_lab.specs.Played.{plans, Told, Whole, IsPlayed}
+use Rattle.model_headline.specs.Plays.{AllKeepPremise}
+use Rattle.model_headline.specs.CleanPlays.{StartsClean, UndoesClean}
+use Rattle.lab_schedule.specs.declared.make.Links.{Links}
+use Rattle.lab_schedule.specs.declared.make.Links.TheVariants.{Clean, Drawn}
+use Rattle.lab_schedule.specs.declared.make.Wanted.{Wanted}
+
+-- over clean links a schedule starts the plan, and undoes it where that is wanted, and each frame is delivered once, in the order of their numbers,
+-- until none is left
+abbrev pub IsCleanFor : BoardFile → List Op → (retries : ℕ) → Links → (undo : Bool) → List Event → Type 0
+IsCleanFor file steps retries Clean false events = StartsClean file steps retries events
+IsCleanFor file steps retries Clean true events = UndoesClean file steps retries events
+IsCleanFor file steps retries (Drawn chances) undo events = Unit {0}
+
+-- where links are drawn and no packet may join one that waits too long, no event breaks the premise on packets
+abbrev pub KeepsFor : BoardFile → List Op → (retries : ℕ) → Links → List Event → Type 0
+KeepsFor file steps retries Clean events = Unit {0}
+KeepsFor file steps retries (Drawn chances) events =
+    chances.late_joins ≡ false → AllKeepPremise file events (opening plans file lab_names steps retries)
+
+-- The schedule that was wanted of the plan on the board of the file. A play of it takes each event, and a line can say each.
+pub record IsMade (file : BoardFile) (steps : List Op) (retries : ℕ) (wanted : Wanted) (events : List Event) : Type 0 where
+  pub told : Told
+  pub played : IsPlayed file steps retries events (Whole told)
+  pub lines : AllByRecursion (λ e. has_line e ≡ true) events
+  pub kept : KeepsFor file steps retries wanted.links events
+  pub clean : IsCleanFor file steps retries wanted.links wanted.undo events

@@ -1,0 +1,76 @@
+//! Clean schedules: each frame is delivered once, as soon as it was sent.
+ghost use Rattle.std.specs.Prelude.{◌≤◌, ◌<◌, ◌+◌, length, IfOk, OnOk};
+ghost use Rattle.lab_schedule.specs.Drawn.{Carries, DeliversAll, HasFew};
+ghost use Rattle.lab_schedule.specs.Made.{IsMade};
+ghost use Rattle.lab_schedule.specs.declared.make.Links.TheVariants as links;
+
+use crate::drawing::{Drawing, Offer, delivery};
+use cfg_records::BoardFile;
+use std::alloc::{AllocError, Global};
+use text_schedule::{Call, Event};
+use undo_plans::Plan;
+
+/// No lab sends so many frames.
+const MOST_NUMBER: u32 = 65_536;
+
+impl Drawing {
+    /// The frames from this number on are delivered, each once and in their order, until none is left.
+    fn deliver_from(&mut self, first: u32) -> Result<(), AllocError>
+        requires few { HasFew self.old }
+        requires short { length self.old.events.items < 1000000 }
+        ensures delivers { OnOk result (DeliversAll first self.old self.new) }
+        ensures few { OnOk result (HasFew self.new) }
+        ensures short { OnOk result (length self.new.events.items ≤ length self.old.events.items + 65536) }
+    {
+        for number in first..MOST_NUMBER {
+            let Some(event) = delivery(self.lab.frames(), number) else {
+                return Ok(());
+            };
+            match self.offer(event)? {
+                Offer::Taken => {}
+                // No event of a clean schedule has a fault, or no line.
+                Offer::Faulty(_) => return Ok(()),
+                Offer::LeftOut => return Ok(()),
+            }
+        }
+        Ok(())
+    }
+
+    /// The manager is called, and all frames that are sent from then on are delivered.
+    fn carry_out(&mut self, call: Call) -> Result<(), AllocError>
+        requires few { HasFew self.old }
+        requires short { length self.old.events.items < 100000 }
+        ensures carries { OnOk result (Carries call self.old self.new) }
+        ensures few { OnOk result (HasFew self.new) }
+        ensures short { OnOk result (length self.new.events.items ≤ length self.old.events.items + 65537) }
+    {
+        // No lab sends so many frames.
+        let Ok(first) = u32::try_from(self.lab.frames().len()) else {
+            return Ok(());
+        };
+        match self.offer(Event::Calls(call))? {
+            Offer::Taken => self.deliver_from(first),
+            // A clean schedule's call has no fault, and a line.
+            Offer::Faulty(_) => Ok(()),
+            Offer::LeftOut => Ok(()),
+        }
+    }
+}
+
+/// The events of a clean schedule.
+pub(crate) fn clean_events(
+    alloc: Global,
+    file: BoardFile,
+    plan: Plan,
+    undo: bool,
+) -> Result<Vec<Event>, AllocError>
+    ensures { IfOk result (λ events. IsMade file plan.steps plan.retries (record { links = links.Clean; undo = undo }) events.items) }
+{
+    let _steps = plan.steps.as_slice();
+    let mut drawing = Drawing::open(alloc, file, plan, true)?;
+    drawing.carry_out(Call::Start)?;
+    if undo {
+        drawing.carry_out(Call::Undo)?;
+    }
+    Ok(drawing.events)
+}

@@ -1,0 +1,90 @@
+//! Schedules that a lab makes of itself.
+ghost use Rattle.std.specs.Prelude.{◌≡◌, [], IfOk, OnOk};
+ghost use Rattle.lab_schedule.specs.Drawn.{HasFew, StaysDrawn};
+ghost use Rattle.lab_schedule.specs.Made.{IsMade};
+
+use crate::chance::Chances;
+use crate::clean::clean_events;
+use crate::drawing::{Drawing, Offer};
+use crate::traffic::Traffic;
+use cfg_records::BoardFile;
+use lab_run::Fault;
+use std::alloc::{AllocError, Global};
+use text_schedule::Event;
+use undo_plans::Plan;
+
+/// So often something is offered to a lab at most.
+const MOST_OFFERS: usize = 1_000_000;
+
+/// What the buses of a schedule do.
+#[derive(Clone, Copy, Debug, PartialEq, Eq)]
+pub enum Links {
+    /// Nothing is lost, repeated or delayed, and nobody else asks.
+    Clean,
+    /// What is drawn, of these chances.
+    Drawn(Chances),
+}
+
+/// The schedule that is wanted.
+#[derive(Clone, Copy, Debug, PartialEq, Eq)]
+pub struct Wanted {
+    pub links: Links,
+    /// Whether the plan is undone once it is done or halted.
+    pub undo: bool,
+}
+
+/// Whether the lab has no room for what was offered.
+fn is_full(offer: Offer) -> bool {
+    matches!(offer, Offer::Faulty(Fault::Room))
+}
+
+/// What is drawn is offered to the lab, until nothing is open or the lab has no more room.
+fn draw(alloc: Global, drawing: &mut Drawing, traffic: &mut Traffic) -> Result<(), AllocError>
+    requires few { HasFew drawing.old }
+    requires empty { drawing.old.events.items ≡ [] }
+    ensures stays { OnOk result (StaysDrawn drawing.old drawing.new) }
+    ensures late { OnOk result (drawing.new.late ≡ drawing.old.late) }
+{
+    for _offered in 0..MOST_OFFERS {
+        let Some(event) = traffic.next(alloc, &drawing.lab)? else {
+            return Ok(());
+        };
+        if is_full(drawing.offer(event)?) {
+            return Ok(());
+        }
+    }
+    Ok(())
+}
+
+/// The events that are drawn, until nothing is open or the lab has no more room.
+fn drawn_events(
+    alloc: Global,
+    file: BoardFile,
+    plan: Plan,
+    undo: bool,
+    chances: Chances,
+) -> Result<Vec<Event>, AllocError>
+    ensures { IfOk result (λ events. IsMade file plan.steps plan.retries (record { links = Links.Drawn chances; undo = undo }) events.items) }
+{
+    let mut drawing = Drawing::open(alloc, file, plan, chances.late_joins)?;
+    let mut traffic = Traffic::new(alloc, undo, chances);
+    draw(alloc, &mut drawing, &mut traffic)?;
+    Ok(drawing.events)
+}
+
+/// The schedule that is wanted of a plan on a board. A play takes each of its events. No packet joins one that waits too long, unless that is
+/// allowed. Over clean links each frame is delivered as soon as it was sent, and else it ends once nothing is open.
+pub fn make_schedule(
+    alloc: Global,
+    file: BoardFile,
+    plan: Plan,
+    wanted: Wanted,
+) -> Result<Vec<Event>, AllocError>
+    ensures { IfOk result (λ events. IsMade file plan.steps plan.retries wanted events.items) }
+{
+    let Wanted { links, undo } = wanted;
+    match links {
+        Links::Clean => clean_events(alloc, file, plan, undo),
+        Links::Drawn(chances) => drawn_events(alloc, file, plan, undo, chances),
+    }
+}
