@@ -1,6 +1,7 @@
 """A plan on OpenIPMI's simulator, through tools/controller-bridge and a lossy link."""
 import contextlib
 import shlex
+import subprocess
 import tempfile
 import time
 
@@ -90,7 +91,7 @@ def simulator(ipmi_sim, room):
 
 def expect_phase(tests, words, room, wanted):
     """Runs `bmcnet`, and tests that its phase line begins so."""
-    status, text = called(words, room, LONGEST_RUN)
+    status, text = called(words, room, LONGEST_RUN, subprocess.DEVNULL)
     is_right = status == 0 and text.startswith(f"phase {wanted}")
     tests.expect(is_right, f"{shlex.join(words)} ends with {status} and prints {text!r}, and not phase {wanted}")
 
