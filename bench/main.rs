@@ -5,11 +5,13 @@ mod frames;
 mod plain;
 mod proved;
 mod serve;
+mod slots;
 mod smbus;
 mod windows;
 
 use boards::Board;
 use frames::Work;
+use slots::{Bus, Kind, Slot};
 use std::process::ExitCode;
 use std::time::Instant;
 
@@ -21,45 +23,6 @@ const TURNS: usize = 1000;
 
 /// About how many requests one measure takes: few, so that many a turn is over before the machine turns to other work.
 const REQUESTS: u64 = 1 << 14;
-
-/// The bytes of a frame, of which the first `length` count. None stand for no frame.
-#[repr(C)]
-#[derive(Clone, Copy)]
-pub struct Slot {
-    pub length: u8,
-    pub bytes: [u8; 80],
-}
-
-impl Slot {
-    pub fn new(frame: &[u8]) -> Slot {
-        let mut bytes = [0; 80];
-        bytes[..frame.len()].copy_from_slice(frame);
-        Slot {
-            length: frame.len() as u8,
-            bytes,
-        }
-    }
-
-    /// The frame. A length above 80 counts as 80.
-    pub fn as_slice(&self) -> &[u8] {
-        &self.bytes[..80.min(self.length as usize)]
-    }
-}
-
-/// Which bus the frames go over.
-#[derive(Clone, Copy, Debug, PartialEq, Eq)]
-pub enum Bus {
-    Ipmb,
-    /// The System Management Bus.
-    Smbus,
-}
-
-/// Which bus the frames go over, and which board serves them.
-#[derive(Clone, Copy, Debug, PartialEq, Eq)]
-pub struct Kind {
-    pub bus: Bus,
-    pub board: Board,
-}
 
 /// A controller: hands it the frames in turn, so many times over and once more, and leaves what it sent at last to each.
 type Serve = fn(Kind, &[Slot], u64, &mut [Slot]);
