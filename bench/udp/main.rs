@@ -3,10 +3,12 @@
 #[allow(dead_code, reason = "bench/run uses more of it")]
 #[path = "../boards.rs"]
 mod boards;
+mod calls;
 mod client;
 #[allow(dead_code, reason = "bench/run uses more of it")]
 #[path = "../frames.rs"]
 mod frames;
+mod measures;
 #[allow(dead_code, reason = "bench/run uses more of it")]
 #[path = "../plain.rs"]
 mod plain;
@@ -20,6 +22,7 @@ mod slots;
 #[allow(dead_code, reason = "bench/run uses more of it")]
 #[path = "../smbus.rs"]
 mod smbus;
+#[path = "../table.rs"]
 mod table;
 #[allow(dead_code, reason = "bench/run uses more of it")]
 #[path = "../windows.rs"]
@@ -27,13 +30,13 @@ mod windows;
 mod words;
 
 use client::{Client, Talk, Took};
+use measures::Measure;
 use servers::{Programs, Running, SERVERS, Server};
 use shared::{Ipmb, MOST_EVENTS, Port, Shared, Smbus};
 use std::io;
 use std::process::ExitCode;
 use std::sync::Barrier;
 use std::time::Instant;
-use table::Measure;
 use words::{Asked, Words};
 
 /// So many requests each port gets of a server: together as many as a board's history has room for.
@@ -206,15 +209,30 @@ fn measure(words: &Words, sides: &[Side; 2]) -> io::Result<Vec<[[Measure; 3]; 3]
 }
 
 fn run(asked: Asked) -> io::Result<()> {
+    let sides = || {
+        [
+            Side::of::<Ipmb>("Set and Get of thresholds"),
+            Side::of::<Smbus>("Set and Get of an attribute"),
+        ]
+    };
     match asked {
         Asked::Serve { ports, turns } => plain_server::serve(ports, turns),
+        Asked::Calls {
+            bmcnet,
+            board,
+            is_page,
+        } => {
+            let programs = Programs {
+                bmcnet,
+                board,
+                echo: String::new(),
+                sizes: [String::new(), String::new()],
+            };
+            calls::show(&programs, &sides(), is_page)
+        }
         Asked::Measure(words) => {
-            let sides = [
-                Side::of::<Ipmb>("Set and Get of thresholds"),
-                Side::of::<Smbus>("Set and Get of an attribute"),
-            ];
-            let rounds = measure(&words, &sides)?;
-            table::print(&rounds, words.is_page);
+            let rounds = measure(&words, &sides())?;
+            measures::show(&rounds, words.is_page);
             Ok(())
         }
     }

@@ -31,16 +31,31 @@ pub struct Programs {
 }
 
 impl Programs {
-    fn command(&self, server: Server, ports: [u16; 2], turns: usize) -> io::Result<Command> {
+    /// A server's command, run by a watcher where there is one.
+    fn command(
+        &self,
+        watcher: &[&str],
+        server: Server,
+        ports: [u16; 2],
+        turns: usize,
+    ) -> io::Result<Command> {
         let numbers = [
             ports[0].to_string(),
             ports[1].to_string(),
             turns.to_string(),
         ];
-        let mut command = match server {
-            Server::Serve => Command::new(&self.bmcnet),
-            Server::Echo => Command::new(&self.echo),
-            Server::Plain => Command::new(std::env::current_exe()?),
+        let program = match server {
+            Server::Serve => self.bmcnet.clone(),
+            Server::Echo => self.echo.clone(),
+            Server::Plain => std::env::current_exe()?.to_string_lossy().into_owned(),
+        };
+        let mut command = match watcher {
+            [] => Command::new(program),
+            [watcher, words @ ..] => {
+                let mut command = Command::new(watcher);
+                command.args(words).arg(program);
+                command
+            }
         };
         match server {
             Server::Serve => command.args(["serve", &self.board]).args(numbers),
@@ -76,9 +91,19 @@ fn are_bound(ports: [u16; 2]) -> io::Result<bool> {
 impl Running {
     /// Starts a server that listens so many times at each port, and waits until it's there.
     pub fn start(programs: &Programs, server: Server, turns: usize) -> io::Result<Running> {
+        Running::watched(programs, &[], server, turns)
+    }
+
+    /// The same, by a command that watches it.
+    pub fn watched(
+        programs: &Programs,
+        watcher: &[&str],
+        server: Server,
+        turns: usize,
+    ) -> io::Result<Running> {
         let ports = free_ports()?;
         let child = programs
-            .command(server, ports, turns)?
+            .command(watcher, server, ports, turns)?
             .stdin(Stdio::null())
             .stdout(Stdio::piped())
             .spawn()?;

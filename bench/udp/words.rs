@@ -2,8 +2,7 @@
 
 use std::time::Duration;
 
-pub const USAGE: &str =
-    "BMCNET BOARD ECHO ROUNDS SECONDS [--page] are wanted, or serve P0 P1 TURNS";
+pub const USAGE: &str = "BMCNET BOARD ECHO ROUNDS SECONDS [--page] are wanted, calls BMCNET BOARD [--page], or serve P0 P1 TURNS";
 
 /// What is measured, for how long, and how it is shown.
 pub struct Words {
@@ -23,6 +22,12 @@ pub enum Asked {
         ports: [u16; 2],
         turns: u32,
     },
+    /// What `serve` does beside its work.
+    Calls {
+        bmcnet: String,
+        board: String,
+        is_page: bool,
+    },
     Measure(Words),
 }
 
@@ -37,6 +42,11 @@ impl Asked {
             ["serve", first, second, turns] => Some(Asked::Serve {
                 ports: [first.parse().ok()?, second.parse().ok()?],
                 turns: turns.parse().ok()?,
+            }),
+            ["calls", bmcnet, board] => Some(Asked::Calls {
+                bmcnet: bmcnet.to_string(),
+                board: board.to_string(),
+                is_page,
             }),
             [bmcnet, board, echo, rounds, seconds] => Some(Asked::Measure(Words {
                 bmcnet: bmcnet.to_string(),

@@ -1,4 +1,6 @@
-//! What was measured, as a table.
+//! What was measured of the three servers, as a table.
+
+use crate::table::{Table, median};
 
 /// What one round measured: nanoseconds a request, and how much of the time the clients were at work.
 #[derive(Clone, Copy, Debug, Default)]
@@ -25,16 +27,6 @@ const HEADS: [&str; 8] = [
     "clients at work",
 ];
 
-fn median(values: impl Iterator<Item = f64>) -> f64 {
-    let mut values: Vec<f64> = values.collect();
-    values.sort_by(f64::total_cmp);
-    let middle = values.len() / 2;
-    match values.len() % 2 {
-        0 => (values[middle - 1] + values[middle]) / 2.0,
-        _ => values[middle],
-    }
-}
-
 /// A row of the table: medians of requests a second, and of the ratios of each round.
 fn row(rounds: &[[[Measure; 3]; 3]], load: usize) -> [String; 8] {
     let time = |server: usize| move |it: &[[Measure; 3]; 3]| it[server][load].nanoseconds;
@@ -60,25 +52,11 @@ fn row(rounds: &[[[Measure; 3]; 3]], load: usize) -> [String; 8] {
     ]
 }
 
-/// Prints the table, in Markdown or in columns.
-pub fn print(rounds: &[[[Measure; 3]; 3]], is_page: bool) {
-    let rows: Vec<[String; 8]> = (0..LOADS.len()).map(|load| row(rounds, load)).collect();
-    println!(
-        "{} rounds; requests a second, by their medians",
-        rounds.len()
-    );
-    if is_page {
-        println!(
-            "\n| {} |\n|---|---:|---:|---:|---:|---:|---:|---:|",
-            HEADS.join(" | ")
-        );
-        rows.iter()
-            .for_each(|row| println!("| {} |", row.join(" | ")));
-        return;
-    }
-    for row in std::iter::once(HEADS.map(str::to_string)).chain(rows) {
-        let [name, rest @ ..] = row;
-        let rest: Vec<String> = rest.iter().map(|word| format!("{word:>14}")).collect();
-        println!("{name:<24}{}", rest.join(""));
+/// Shows the table, in Markdown or in columns.
+pub fn show(rounds: &[[[Measure; 3]; 3]], is_page: bool) {
+    println!("{} rounds, medians; requests a second\n", rounds.len());
+    let mut table = Table::new(is_page, HEADS);
+    for load in 0..LOADS.len() {
+        table.row(row(rounds, load));
     }
 }
