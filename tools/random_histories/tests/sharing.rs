@@ -1,4 +1,5 @@
 //! One run: two workers and a scanner share a board, which is closed then.
+use super::fault::NotMade;
 use super::gate::Mixed;
 use super::scripts::Script;
 use bmc_board::{Board, Records};
@@ -10,7 +11,6 @@ use std::alloc::{AllocError, Global};
 use std::marker::Brand;
 use std::sync::Wait;
 use std::sync::ledger::Blank;
-use std::test::Fail;
 use std::thread::Threads;
 use two_wire::{Address, Bus, Frame};
 
@@ -30,7 +30,7 @@ pub(super) fn open_sample(alloc: Global) -> Result<Board<Records>, AllocError> {
 }
 
 /// A port of the controller at its address on this bus.
-fn port_on(alloc: Global, bus: Bus) -> Result<Port, Fail> {
+pub(super) fn port_on(alloc: Global, bus: Bus) -> Result<Port, NotMade> {
     let at = At {
         wire: Address::new(0x20).ok_or("address")?,
         eid: EndpointId::new(0x0A).ok_or("endpoint")?,
@@ -39,7 +39,7 @@ fn port_on(alloc: Global, bus: Bus) -> Result<Port, Fail> {
 }
 
 /// A link that hears these frames.
-fn link_of(alloc: Global, frames: &[Frame]) -> Result<MemLink, Fail> {
+fn link_of(alloc: Global, frames: &[Frame]) -> Result<MemLink, NotMade> {
     let mut script: Vec<&[u8]> = Vec::new(alloc);
     for frame in frames {
         script.push(frame.as_slice())?;
@@ -54,7 +54,7 @@ fn share<J: Opening + Send + Sync, R: Threads + Wait + Sync>(
     board: Board<Records>,
     script: &Script,
     seed: u64,
-) -> Result<Told, Fail> {
+) -> Result<Told, NotMade> {
     let ports = [port_on(alloc, Bus::Ipmb)?, port_on(alloc, Bus::Smbus)?];
     let mut first = link_of(alloc, script.first.as_slice())?;
     let mut second = link_of(alloc, script.second.as_slice())?;
@@ -92,7 +92,7 @@ pub(super) fn share_sample<R: Threads + Wait + Sync>(
     alloc: Global,
     script: &Script,
     seed: u64,
-) -> Result<Told, Fail> {
+) -> Result<Told, NotMade> {
     let board = open_sample(alloc)?;
     share::<Brand, R>(rt, alloc, board, script, seed)
 }
