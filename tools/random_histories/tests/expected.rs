@@ -1,14 +1,14 @@
 //! What is expected of each run.
 use super::fault::NotMade;
 use super::scripts::Script;
-use super::sharing::{Told, open_sample, port_on};
+use super::sharing::{Ports, Told, open_sample};
 use bmc_board::{Board, Records};
-use bmc_core::{Out, Step};
+use bmc_core::{Out, Port, Step};
 use bmc_ports::{Call, End, Event, History, Link, MOST_KEPT, MemLink};
 use record_base::{Answered, Asked};
 use std::alloc::Global;
 use std::process::Abort;
-use two_wire::{Below, Bus, Frame, NetFn};
+use two_wire::{Below, Frame, NetFn};
 
 /// Whether a board that is told the history's calls in their order answers each so.
 fn replays(board: &mut Board<Records>, history: &History) -> bool {
@@ -108,16 +108,15 @@ fn next_reply<'a>(events: &mut &'a [Event], seat: u8, wanted: &Asked) -> Option<
     }
 }
 
-/// Whether a port of its own that hears what this link heard, and is told what the history has of this seat, sends what this link sent.
+/// Whether a port that hears what this link heard, and is told what the history has of this seat, sends what this link sent.
 fn is_sent(
     alloc: Global,
-    bus: Bus,
+    port: &mut Port,
     seat: u8,
     frames: &[Frame],
     link: &MemLink,
     history: &History,
 ) -> Result<bool, NotMade> {
-    let mut port = port_on(alloc, bus)?;
     let mut out = Out::new();
     let mut events = history.as_slice();
     let mut sent: Vec<Frame> = Vec::new(alloc);
@@ -141,19 +140,21 @@ fn is_sent(
     Ok(is_all && &sent.as_slice()[..most] == link.sent())
 }
 
-/// Each worker sent what its port sends that is told what the history has of its seat.
+/// Each worker sent what one of these ports sends that is told what the history has of its seat.
 pub(super) fn expect_sent(
     rt: &impl Abort,
     alloc: Global,
+    ports: &mut Ports,
     seed: u64,
     script: &Script,
     told: &Told,
 ) -> Result<(), NotMade> {
-    let first = script.first.as_slice();
-    let second = script.second.as_slice();
-    let is_first = is_sent(alloc, Bus::Ipmb, 0, first, &told.first, &told.history)?;
+    let Ports { first, second } = ports;
+    let frames = script.first.as_slice();
+    let is_first = is_sent(alloc, first, 0, frames, &told.first, &told.history)?;
     assert!(rt; is_first, "seed {seed}: a frame of port 0");
-    let is_second = is_sent(alloc, Bus::Smbus, 1, second, &told.second, &told.history)?;
+    let frames = script.second.as_slice();
+    let is_second = is_sent(alloc, second, 1, frames, &told.second, &told.history)?;
     assert!(rt; is_second, "seed {seed}: a frame of port 1");
     Ok(())
 }

@@ -5,6 +5,10 @@ use bmc_board::Bench;
 use std::alloc::Global;
 use two_wire::{Below, Frame, check_byte, pec};
 
+/// The IPMB address and the endpoint of those who ask.
+pub(super) const REQUESTER: u8 = 0x2C;
+pub(super) const ENDPOINT: u8 = 0x08;
+
 /// How many frames a worker hears at most, those that come twice counted once, and how many events the scanner has. So many frames ask for
 /// few things, under other numbers each: what a Get is replied changes between two of them.
 const MOST_FRAMES: u64 = 24;
@@ -31,19 +35,19 @@ fn with_check(mut frame: Frame, from: usize) -> Frame {
     frame
 }
 
-/// A request on IPMB from 2Ch to the controller's logical unit 0.
+/// A request on IPMB to the controller's logical unit 0.
 fn ipmb(sequence: u8, net_fn: u8, command: u8, data: &[u8]) -> Frame {
     let mut frame = with_check(Frame::from_slice(&[0x20, net_fn << 2]), 0);
-    frame.extend_from_slice(&[0x2C, sequence << 2, command]);
+    frame.extend_from_slice(&[REQUESTER, sequence << 2, command]);
     frame.extend_from_slice(data);
     with_check(frame, 3)
 }
 
-/// A PLDM request in one packet, from the endpoint 08h at the wire address 18h to the controller's 0Ah.
+/// A PLDM request in one packet, from the wire address 18h to the controller's endpoint 0Ah.
 fn smbus(instance: u8, kind: u8, command: u8, data: &[u8]) -> Frame {
     let count = (data.len() as u8).wrapping_add(9);
     let tag = 0xC8 | (instance & 7);
-    let mut frame = Frame::from_slice(&[0x20, 0x0F, count, 0x31, 0x01, 0x0A, 0x08, tag]);
+    let mut frame = Frame::from_slice(&[0x20, 0x0F, count, 0x31, 0x01, 0x0A, ENDPOINT, tag]);
     frame.extend_from_slice(&[0x01, 0x80 | instance, kind, command]);
     frame.extend_from_slice(data);
     let check = pec(frame.as_slice());

@@ -17,7 +17,7 @@ pub(super) struct Tally {
     pub second_first: u64,
     pub first_first: u64,
     pub mixed: u64,
-    pub sent: u64,
+    pub own: u64,
 }
 
 /// How often an event is of another seat than the one before it.
@@ -55,7 +55,7 @@ impl Tally {
         second_first: 0,
         first_first: 0,
         mixed: 0,
-        sent: 0,
+        own: 0,
     };
 
     /// Counts a run.
@@ -91,7 +91,7 @@ impl Tally {
         self.second_first += other.second_first;
         self.first_first += other.first_first;
         self.mixed += other.mixed;
-        self.sent += other.sent;
+        self.own += other.own;
     }
 
     /// What is counted, how often it was shown, and how often a thousand runs show it at least.
@@ -107,7 +107,7 @@ impl Tally {
             ("runs with port 1 before port 0", self.second_first, 80),
             ("runs with port 0 before port 1", self.first_first, 80),
             ("runs in which one seat came amid another's events", self.mixed, 100),
-            ("runs whose frames were compared", self.sent, 100),
+            ("runs over ports of their own", self.own, 100),
         ]
     }
 }
