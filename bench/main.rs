@@ -5,11 +5,10 @@ mod frames;
 mod plain;
 mod proved;
 mod serve;
-mod shared;
 mod slots;
 mod smbus;
+#[allow(dead_code, reason = "bench/net uses more of it")]
 mod table;
-mod two;
 mod windows;
 
 use boards::Board;
@@ -172,25 +171,15 @@ fn measure_lists(works: &[Work], is_page: bool) {
     works.iter().for_each(|work| measure(&mut table, work));
 }
 
-fn measure_two(is_page: bool) -> io::Result<()> {
-    let mut table = Table::new(is_page, ["Two workers, one board", "ns an event"]);
-    two::measure(&mut table)
-}
-
 /// Measures what the word asks for, or all. It gives whether all controllers send the same.
 fn run(word: Option<&str>, is_page: bool) -> io::Result<bool> {
     let works = frames::works();
-    if word != Some("two") && !all_agree(&works) || !two::agree()? {
+    if !all_agree(&works) {
         return Ok(false);
     }
     match word {
-        None => {
-            measure_lists(&works, is_page);
-            println!();
-            measure_two(is_page)?;
-        }
+        None => measure_lists(&works, is_page),
         Some("same") => println!("the controllers send the same bytes"),
-        Some("two") => measure_two(is_page)?,
         // One list with the proved controller alone, for a profiler.
         Some(place) => {
             let place: usize = place.parse().map_err(io::Error::other)?;
