@@ -1,8 +1,8 @@
 //! The frames that both controllers get.
 
 use crate::boards::Board;
+use crate::slots::{Bus, Kind, Slot};
 use crate::smbus::pec;
-use crate::{Bus, Kind, Slot};
 
 const WIRE: u8 = 0x20;
 const REQUESTER: u8 = 0x2C;

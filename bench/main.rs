@@ -5,13 +5,19 @@ mod frames;
 mod plain;
 mod proved;
 mod serve;
+mod slots;
 mod smbus;
+#[allow(dead_code, reason = "bench/net uses more of it")]
+mod table;
 mod windows;
 
 use boards::Board;
 use frames::Work;
+use slots::{Bus, Kind, Slot};
+use std::io;
 use std::process::ExitCode;
 use std::time::Instant;
+use table::Table;
 
 /// How many frames that look random both controllers get, of each kind.
 const RANDOM: usize = 4000;
@@ -21,45 +27,6 @@ const TURNS: usize = 1000;
 
 /// About how many requests one measure takes: few, so that many a turn is over before the machine turns to other work.
 const REQUESTS: u64 = 1 << 14;
-
-/// The bytes of a frame, of which the first `length` count. None stand for no frame.
-#[repr(C)]
-#[derive(Clone, Copy)]
-pub struct Slot {
-    pub length: u8,
-    pub bytes: [u8; 80],
-}
-
-impl Slot {
-    pub fn new(frame: &[u8]) -> Slot {
-        let mut bytes = [0; 80];
-        bytes[..frame.len()].copy_from_slice(frame);
-        Slot {
-            length: frame.len() as u8,
-            bytes,
-        }
-    }
-
-    /// The frame. A length above 80 counts as 80.
-    pub fn as_slice(&self) -> &[u8] {
-        &self.bytes[..80.min(self.length as usize)]
-    }
-}
-
-/// Which bus the frames go over.
-#[derive(Clone, Copy, Debug, PartialEq, Eq)]
-pub enum Bus {
-    Ipmb,
-    /// The System Management Bus.
-    Smbus,
-}
-
-/// Which bus the frames go over, and which board serves them.
-#[derive(Clone, Copy, Debug, PartialEq, Eq)]
-pub struct Kind {
-    pub bus: Bus,
-    pub board: Board,
-}
 
 /// A controller: hands it the frames in turn, so many times over and once more, and leaves what it sent at last to each.
 type Serve = fn(Kind, &[Slot], u64, &mut [Slot]);
@@ -157,24 +124,25 @@ fn fastest<const N: usize>(serves: [Serve; N], work: &Work) -> [f64; N] {
     std::array::from_fn(|place| frames / (served[place] - opened[place]))
 }
 
-fn measure(work: &Work) {
+/// Measures a list, and adds its row: millions of frames a second.
+fn measure(table: &mut Table, work: &Work) {
     let [options, words] = PLAIN;
     let [proved, list, options, words] =
         fastest([proved::serve, proved::over_list, options, words], work);
-    println!(
-        "{:<32} {:>11.0} {:>11.0} {:>11.0} {:>11.0} {:>7.2} {:>7.2}",
-        work.name,
-        proved,
-        list,
-        options,
-        words,
-        proved / list,
-        proved / f64::max(options, words)
-    );
+    let millions = |speed: f64| format!("{:.1}", speed / 1e6);
+    table.row([
+        work.name.to_string(),
+        millions(proved),
+        millions(list),
+        millions(options),
+        millions(words),
+        format!("{:.2}", proved / list),
+        format!("{:.2}", proved / f64::max(options, words)),
+    ]);
 }
 
-fn main() -> ExitCode {
-    let works = frames::works();
+/// Whether all controllers send the same to each list, and to frames that look random.
+fn all_agree(works: &[Work]) -> bool {
     let mut same = true;
     for (bus, board) in [
         (Bus::Ipmb, Board::Sample),
@@ -183,30 +151,60 @@ fn main() -> ExitCode {
     ] {
         same &= random_agree(Kind { bus, board });
     }
-    for work in &works {
+    for work in works {
         same &= agree(work.name, work.kind, &work.frames);
     }
-    if !same {
-        eprintln!("bench: the controllers differ");
-        return ExitCode::FAILURE;
+    same
+}
+
+fn measure_lists(works: &[Work], is_page: bool) {
+    let heads = [
+        "List",
+        "proved",
+        "over list",
+        "plain, windows as options",
+        "plain, windows as words",
+        "stores",
+        "ratio",
+    ];
+    let mut table = Table::new(is_page, heads);
+    works.iter().for_each(|work| measure(&mut table, work));
+}
+
+/// Measures what the word asks for, or all. It gives whether all controllers send the same.
+fn run(word: Option<&str>, is_page: bool) -> io::Result<bool> {
+    let works = frames::works();
+    if !all_agree(&works) {
+        return Ok(false);
     }
-    match std::env::args().nth(1).as_deref() {
-        None => {
-            println!(
-                "{:<32} {:>11} {:>11} {:>11} {:>11} {:>7} {:>7}",
-                "frames a second", "proved", "over list", "options", "words", "stores", "ratio"
-            );
-            works.iter().for_each(measure);
-        }
+    match word {
+        None => measure_lists(&works, is_page),
         Some("same") => println!("the controllers send the same bytes"),
         // One list with the proved controller alone, for a profiler.
         Some(place) => {
-            let work = &works[place
-                .parse::<usize>()
-                .expect("same, or a number of 0 to 10")];
+            let place: usize = place.parse().map_err(io::Error::other)?;
+            let work = works.get(place).ok_or(io::Error::other("no such list"))?;
             let [speed] = fastest([proved::serve], work);
             println!("{:<28} {:>14.0}", work.name, speed);
         }
     }
-    ExitCode::SUCCESS
+    Ok(true)
+}
+
+fn main() -> ExitCode {
+    let mut words: Vec<String> = std::env::args().skip(1).collect();
+    let count = words.len();
+    words.retain(|word| word != "--page");
+    let is_page = words.len() < count;
+    match run(words.first().map(String::as_str), is_page) {
+        Ok(true) => ExitCode::SUCCESS,
+        Ok(false) => {
+            eprintln!("bench: the controllers differ");
+            ExitCode::FAILURE
+        }
+        Err(why) => {
+            eprintln!("bench: {why}");
+            ExitCode::FAILURE
+        }
+    }
 }

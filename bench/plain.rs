@@ -344,7 +344,7 @@ impl Board {
     }
 
     /// Carries a request out, puts its data into the reply and gives its code.
-    fn serve(&mut self, frame: &[u8], reply: &mut Reply) -> u8 {
+    pub fn serve(&mut self, frame: &[u8], reply: &mut Reply) -> u8 {
         let data = &frame[6..frame.len() - 1];
         if frame[1] & 3 != 0 {
             return INVALID_FOR_LUN;
@@ -396,6 +396,17 @@ impl<W: Windows> Port<W> {
 
     /// Takes a frame that was heard, writes the reply's frame and gives its length, 0 where none is sent.
     pub fn on_frame(&mut self, board: &mut Board, frame: &[u8], bytes: &mut [u8; 80]) -> usize {
+        self.on_frame_by(frame, bytes, |frame, reply| board.serve(frame, reply))
+    }
+
+    /// The same, where `serve` carries a request out, puts its data into the reply and gives its code.
+    #[inline(always)]
+    pub fn on_frame_by(
+        &mut self,
+        frame: &[u8],
+        bytes: &mut [u8; 80],
+        serve: impl FnOnce(&[u8], &mut Reply) -> u8,
+    ) -> usize {
         if !is_frame(frame) || frame[0] != WIRE || frame[1] >> 2 & 1 == 1 {
             return 0;
         }
@@ -417,7 +428,7 @@ impl<W: Windows> Port<W> {
         let code = if is_busy {
             NODE_BUSY
         } else {
-            board.serve(frame, &mut reply)
+            serve(frame, &mut reply)
         };
         reply.code(code);
         let check = 0u8.wrapping_sub(sum(&reply.bytes[3..reply.length]));

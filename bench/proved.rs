@@ -1,6 +1,6 @@
 //! The proved controllers, which `crates/bench_port` and `crates/bench_list` put into a static library each.
 
-use crate::{Bus, Kind, Slot};
+use crate::slots::{Bus, Kind, Slot};
 
 /// Hands the frames in turn, so many times over and once more, to a fresh controller of the board, and leaves what it sent at last to each.
 /// The parameter `alloc: Global` of the libraries' functions takes no bytes.

@@ -1,8 +1,9 @@
 //! The plain controller, handed frames as the proved one is.
 
 use crate::boards::Board;
+use crate::slots::{Bus, Kind, Slot};
 use crate::windows::{Options, Windows, Words};
-use crate::{Bus, Kind, Slot, plain, smbus};
+use crate::{plain, smbus};
 
 /// Hands the frames in turn, so many times over and once more, and leaves what was sent at last to each.
 #[inline(always)]
@@ -44,8 +45,10 @@ fn serve_with<I: Windows, P: Windows>(
         }
         // Of any board it has the first three attributes.
         Bus::Smbus => {
+            let mut attributes = smbus::Attributes::sample();
             let mut port = smbus::Port::<P>::new();
-            let on_frame = |frame: &[u8], out: &mut [u8; 80]| port.on_frame(frame, out);
+            let on_frame =
+                |frame: &[u8], out: &mut [u8; 80]| port.on_frame(&mut attributes, frame, out);
             serve(on_frame, frames, rounds, replies);
         }
     }

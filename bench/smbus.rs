@@ -123,7 +123,7 @@ impl Assembler {
 }
 
 /// The values of the sample board's attributes: an enumeration of two values, a text of at most 200 bytes, and a number.
-struct Attributes {
+pub struct Attributes {
     quiet: Vec<u8>,
     asset: [u8; 200],
     length: usize,
@@ -131,7 +131,7 @@ struct Attributes {
 }
 
 impl Attributes {
-    fn sample() -> Self {
+    pub fn sample() -> Self {
         let mut asset = [0; 200];
         asset[..6].copy_from_slice(b"rack-1");
         Attributes {
@@ -222,6 +222,27 @@ impl Attributes {
         }
         0
     }
+
+    /// What a PLDM request is replied, behind its completion code.
+    pub fn serve(&mut self, message: &[u8], reply: &mut Reply) -> u8 {
+        let (kind, command, data) = (message[2], message[3], &message[4..]);
+        match (kind, command) {
+            (0, 2 | 4) if !data.is_empty() => return INVALID_LENGTH,
+            (0, 2) => reply.push(TID),
+            (0, 4) => reply.extend(&TYPES),
+            (3, 7) => {
+                let code = self.set(data);
+                if code == 0 {
+                    reply.extend(&[0; 4]);
+                }
+                return code;
+            }
+            (3, 8) => return self.get(data, reply),
+            (0 | 2 | 3, _) => return UNSUPPORTED_COMMAND,
+            _ => return INVALID_TYPE,
+        }
+        0
+    }
 }
 
 /// A reply in one packet, from its start to the packet error code.
@@ -238,7 +259,6 @@ fn send(bytes: &mut [u8; 80], packet: &[u8], own: u8, body: &[u8]) -> usize {
 /// A port, which keeps the messages of requests and of their replies.
 pub struct Port<W> {
     own: u8,
-    attributes: Attributes,
     assembler: Assembler,
     windows: W,
 }
@@ -247,7 +267,6 @@ impl<W: Windows> Port<W> {
     pub fn new() -> Self {
         Port {
             own: 0x0A,
-            attributes: Attributes::sample(),
             assembler: Assembler::new(),
             windows: W::new(),
         }
@@ -271,29 +290,26 @@ impl<W: Windows> Port<W> {
         0
     }
 
-    /// What a PLDM request is replied, behind its completion code.
-    fn serve(&mut self, message: &[u8], reply: &mut Reply) -> u8 {
-        let (kind, command, data) = (message[2], message[3], &message[4..]);
-        match (kind, command) {
-            (0, 2 | 4) if !data.is_empty() => return INVALID_LENGTH,
-            (0, 2) => reply.push(TID),
-            (0, 4) => reply.extend(&TYPES),
-            (3, 7) => {
-                let code = self.attributes.set(data);
-                if code == 0 {
-                    reply.extend(&[0; 4]);
-                }
-                return code;
-            }
-            (3, 8) => return self.attributes.get(data, reply),
-            (0 | 2 | 3, _) => return UNSUPPORTED_COMMAND,
-            _ => return INVALID_TYPE,
-        }
-        0
+    /// Takes a frame that was heard, writes the reply's frame and gives its length, 0 where none is sent.
+    pub fn on_frame(
+        &mut self,
+        attributes: &mut Attributes,
+        frame: &[u8],
+        bytes: &mut [u8; 80],
+    ) -> usize {
+        self.on_frame_by(frame, bytes, |message, reply| {
+            attributes.serve(message, reply)
+        })
     }
 
-    /// Takes a frame that was heard, writes the reply's frame and gives its length, 0 where none is sent.
-    pub fn on_frame(&mut self, frame: &[u8], bytes: &mut [u8; 80]) -> usize {
+    /// The same, where `serve` carries a PLDM request out, puts its data into the reply and gives its code.
+    #[inline(always)]
+    pub fn on_frame_by(
+        &mut self,
+        frame: &[u8],
+        bytes: &mut [u8; 80],
+        serve: impl FnOnce(&[u8], &mut Reply) -> u8,
+    ) -> usize {
         let length = frame.len();
         if length < 10 || frame[1] != 0x0F || frame[0] & 1 == 1 || frame[3] & 1 == 0 {
             return 0;
@@ -311,24 +327,30 @@ impl<W: Windows> Port<W> {
         let name = (frame[6], frame[7] & 15);
         match self.assembler.take(name, frame[7], payload) {
             None => 0,
-            Some(Whole::InPacket) => self.on_message(frame, payload, bytes),
+            Some(Whole::InPacket) => self.on_message(frame, payload, bytes, serve),
             Some(Whole::At(place)) => {
                 // The port replies beside the message.
                 let assembly = &self.assembler.assemblies[place];
                 let (message, length) = (assembly.bytes, assembly.length);
-                self.on_message(frame, &message[..length], bytes)
+                self.on_message(frame, &message[..length], bytes, serve)
             }
         }
     }
 
     /// Takes a message that this packet ended.
-    fn on_message(&mut self, packet: &[u8], message: &[u8], bytes: &mut [u8; 80]) -> usize {
+    fn on_message(
+        &mut self,
+        packet: &[u8],
+        message: &[u8],
+        bytes: &mut [u8; 80],
+        serve: impl FnOnce(&[u8], &mut Reply) -> u8,
+    ) -> usize {
         if packet[7] & 8 == 0 {
             return 0;
         }
         match message[0] {
             CONTROL => self.on_control(packet, message, bytes),
-            PLDM => self.on_pldm(packet, message, bytes),
+            PLDM => self.on_pldm(packet, message, bytes, serve),
             _ => 0,
         }
     }
@@ -349,7 +371,13 @@ impl<W: Windows> Port<W> {
         send(bytes, packet, self.own, &body[..length])
     }
 
-    fn on_pldm(&mut self, packet: &[u8], message: &[u8], bytes: &mut [u8; 80]) -> usize {
+    fn on_pldm(
+        &mut self,
+        packet: &[u8],
+        message: &[u8],
+        bytes: &mut [u8; 80],
+        serve: impl FnOnce(&[u8], &mut Reply) -> u8,
+    ) -> usize {
         if message.len() < 4 || message[2] >> 6 != 0 || message[1] >> 6 != 2 {
             return 0;
         }
@@ -367,7 +395,7 @@ impl<W: Windows> Port<W> {
         };
         reply.extend(&[PLDM, number, message[2], message[3], NOT_READY]);
         if !is_busy {
-            let code = self.serve(message, &mut reply);
+            let code = serve(message, &mut reply);
             reply.bytes[4] = code;
         }
         let length = reply.length;

@@ -28,11 +28,25 @@ def portions_of(first, many, whole):
     return [(seed, min(whole, end - seed)) for seed in range(first, end, whole)]
 
 
-class Generator:
-    """A generator: its name, the crates that it stands on, and files of other generators that it has beside its own."""
+def edit_of(path):
+    """Returns an edit of a crate: the file that it changes, from the top, and pairs of what stands there and what stands there then."""
+    folder = os.path.dirname(os.path.dirname(os.path.realpath(path)))
+    try:
+        with open(path, encoding="utf-8") as file:
+            lines = [line.rstrip("\n").partition(": ") for line in file if line.strip()]
+    except OSError as fault:
+        raise argparse.ArgumentTypeError(f"{path}: {fault.strerror}") from fault
+    if not lines or lines[0][0] != "file" or [head for head, _, _ in lines[1:]] != ["old", "new"] * (len(lines) // 2):
+        raise argparse.ArgumentTypeError(f"{path} is no edit")
+    texts = [text for _, _, text in lines[1:]]
+    return os.path.relpath(f"{folder}/{lines[0][2]}", TOP), list(zip(texts[::2], texts[1::2]))
 
-    def __init__(self, name, below, shared=()):
-        self.name, self.below, self.shared = name, below, shared
+
+class Generator:
+    """A generator: its name, the crates that it stands on, files of other generators that it has beside its own, and an edit of a crate or none."""
+
+    def __init__(self, name, below, shared=(), edit=None):
+        self.name, self.below, self.shared, self.edit = name, below, shared, edit
 
     def copy_tree(self, to):
         """Copies what `rt` reads of the crates below."""
@@ -40,7 +54,21 @@ class Generator:
         shutil.copy(f"{TOP}/HANDLES", to)
         for name in taken:
             shutil.copytree(f"{TOP}/crates/{name}", f"{to}/crates/{name}", ignore=shutil.ignore_patterns("out", "must-fail", "wrong-bodies"))
+        if self.edit:
+            self.apply(to)
         return lines_of(TOP, taken)
+
+    def apply(self, to):
+        """Applies the edit to the copy."""
+        path, pairs = self.edit
+        with open(f"{to}/{path}", encoding="utf-8") as file:
+            text = file.read()
+        for old, new in pairs:
+            if text.count(old) != 1:
+                raise SystemExit(f"{path} doesn't have this once: {old}")
+            text = text.replace(old, new)
+        with open(f"{to}/{path}", "w", encoding="utf-8") as file:
+            file.write(text)
 
     def write_crate(self, to, name, calls):
         """Writes a crate of the generator's, with a test for each of these calls."""

@@ -2,70 +2,107 @@
 mod asked;
 mod dice;
 mod expected;
+mod fault;
 mod gate;
 mod scripts;
 mod sharing;
 mod tally;
 
 use dice::Dice;
-use expected::expect_told;
+use expected::{expect_sent, expect_told};
+use fault::NotMade;
 use scripts::any_script;
-use sharing::share_sample;
+use sharing::{Ports, share_sample};
 use std::alloc::Global;
 use std::io::Print;
 use std::process::Abort;
 use std::sync::Wait;
 use std::test::Fail;
+use std::thread;
 use std::thread::Threads;
-use tally::Tally;
+use tally::{Tally, expect_often};
 
-/// How many runs a whole portion has. A smaller one may show less than what is counted below.
-const WHOLE: u64 = 2_500;
+/// Of so many runs one is made by `run_two`, over ports of its own.
+const OWN_OF: u64 = 8;
 
-/// What is counted, how often it was shown, and how often a whole portion shows it at least.
-fn counts(tally: &Tally) -> [(&'static str, u64, u64); 10] {
-    [
-        ("runs", tally.runs, WHOLE),
-        ("events", tally.events, 5_000),
-        ("requests carried out at port 0", tally.first, 1_500),
-        ("requests carried out at port 1", tally.second, 1_500),
-        ("events of the scanner", tally.scanner, 1_500),
-        ("frames heard that made no event", tally.no_event, 500),
-        ("runs that ended full", tally.full, 200),
-        ("runs with port 1 before port 0", tally.second_first, 200),
-        ("runs with port 0 before port 1", tally.first_first, 200),
-        ("runs in which one seat came amid another's events", tally.mixed, 200),
-    ]
+/// Ports that are lent to runs: those of the workers, and those that are told what the history has.
+#[derive(Drop)]
+struct Lent {
+    worked: Ports,
+    told: Ports,
 }
 
-/// Each of what runs are to show was shown often enough for a whole portion.
-fn expect_often(rt: &impl Abort, tally: &Tally) {
-    for (name, count, least) in counts(tally) {
-        assert!(rt; count >= least, "{name}: {count}");
-    }
+/// Makes the run of this seed, and counts what it showed.
+fn expect_run<R: Abort + Threads + Wait + Sync>(
+    rt: &R,
+    alloc: Global,
+    lent: &mut Lent,
+    seed: u64,
+    tally: &mut Tally,
+) -> Result<(), NotMade> {
+    let mut dice = Dice::new(seed);
+    let script = any_script(alloc, &mut dice)?;
+    let is_own = seed % OWN_OF == 0;
+    let worked = if is_own {
+        None
+    } else {
+        Some(&mut lent.worked)
+    };
+    let mut told = share_sample(rt, alloc, worked, &script, seed)?;
+    expect_told(rt, alloc, seed, &script, &mut told)?;
+    expect_sent(rt, alloc, &mut lent.told, seed, &script, &told)?;
+    lent.worked.forget();
+    lent.told.forget();
+    tally.own += u64::from(is_own);
+    tally.count(&told);
+    Ok(())
 }
 
-/// Makes so many runs, the first from this seed, and says how often each thing was shown.
-fn expect_portion<R: Abort + Print + Threads + Wait + Sync>(
+/// Makes so many runs, of each `step`th seed from this one on.
+fn make_share<R: Abort + Threads + Wait + Sync>(
     rt: &R,
     alloc: Global,
     first: u64,
     many: u64,
-) -> Result<(), Fail> {
+    step: u64,
+) -> Result<Tally, NotMade> {
+    let mut lent = Lent {
+        worked: Ports::new(alloc)?,
+        told: Ports::new(alloc)?,
+    };
     let mut tally = Tally::NOTHING;
     for place in 0..many {
-        let seed = first.wrapping_add(place);
-        let mut dice = Dice::new(seed);
-        let script = any_script(alloc, &mut dice)?;
-        let mut told = share_sample(rt, alloc, &script, seed)?;
-        expect_told(rt, alloc, seed, &script, &mut told)?;
-        tally.count(&told);
+        let seed = first.wrapping_add(place.wrapping_mul(step));
+        if let Err(NotMade(what)) = expect_run(rt, alloc, &mut lent, seed, &mut tally) {
+            assert!(rt; false, "seed {seed}: {what}");
+        }
     }
-    for (name, count, _) in counts(&tally) {
+    Ok(tally)
+}
+
+/// Makes so many runs, the first of this seed, so many at a time, and says how often each thing was shown.
+fn expect_runs<R: Abort + Print + Threads + Wait + Sync>(
+    rt: &R,
+    alloc: Global,
+    first: u64,
+    many: u64,
+    jobs: u64,
+) -> Result<(), Fail> {
+    let share = |job: usize| -> Result<Tally, NotMade> {
+        let job = job as u64;
+        let mine = many / jobs + u64::from(job < many % jobs);
+        make_share(rt, alloc, first.wrapping_add(job), mine, jobs)
+    };
+    let mut all = Tally::NOTHING;
+    for tally in thread::map_indices(rt, alloc, jobs as usize, &share)? {
+        match tally {
+            Ok(tally) => all.add(&tally),
+            Err(NotMade(what)) => return Err(what.into()),
+        }
+    }
+    for (name, count, _) in all.counts() {
         println!(rt; "counted {count} {name}")?;
     }
-    if many == WHOLE {
-        expect_often(rt, &tally);
-    }
+    expect_often(rt, &all);
     Ok(())
 }

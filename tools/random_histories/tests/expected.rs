@@ -1,13 +1,14 @@
 //! What is expected of each run.
+use super::fault::NotMade;
 use super::scripts::Script;
-use super::sharing::{Told, open_sample};
+use super::sharing::{Ports, Told, open_sample};
 use bmc_board::{Board, Records};
-use bmc_ports::{Call, End, History, Link};
-use record_base::Asked;
+use bmc_core::{Out, Port, Step};
+use bmc_ports::{Call, End, Event, History, Link, MOST_KEPT, MemLink};
+use record_base::{Answered, Asked};
 use std::alloc::Global;
 use std::process::Abort;
-use std::test::Fail;
-use two_wire::{Below, NetFn};
+use two_wire::{Below, Frame, NetFn};
 
 /// Whether a board that is told the history's calls in their order answers each so.
 fn replays(board: &mut Board<Records>, history: &History) -> bool {
@@ -87,11 +88,73 @@ pub(super) fn expect_told(
     seed: u64,
     script: &Script,
     told: &mut Told,
-) -> Result<(), Fail> {
+) -> Result<(), NotMade> {
     assert!(rt; told.history.len() <= script.room, "seed {seed}: over its room");
     assert!(rt; ends_are_right(script, told), "seed {seed}: an end");
     let mut other = open_sample(alloc)?;
     assert!(rt; replays(&mut other, &told.history), "seed {seed}: an answer");
     assert!(rt; are_alike(&mut told.board, &mut other), "seed {seed}: the board");
+    Ok(())
+}
+
+/// The reply to this request, where it is the next that the seat asked among these events, of which what is behind it is left.
+fn next_reply<'a>(events: &mut &'a [Event], seat: u8, wanted: &Asked) -> Option<&'a Answered> {
+    let place = events.iter().position(|event| event.seat == seat)?;
+    let event = &events[place];
+    *events = &events[place + 1..];
+    match &event.call {
+        Call::Exchanged { asked, answered } if asked.is(wanted) => Some(answered),
+        _ => None,
+    }
+}
+
+/// Whether a port that hears what this link heard, and is told what the history has of this seat, sends what this link sent.
+fn is_sent(
+    alloc: Global,
+    port: &mut Port,
+    seat: u8,
+    frames: &[Frame],
+    link: &MemLink,
+    history: &History,
+) -> Result<bool, NotMade> {
+    let mut out = Out::new();
+    let mut events = history.as_slice();
+    let mut sent: Vec<Frame> = Vec::new(alloc);
+    let heard = link.counts().calls.min(frames.len() as u64) as usize;
+    for frame in &frames[..heard] {
+        if frame.is_empty() {
+            continue;
+        }
+        if let Step::Ask(pending) = port.hear(frame.as_slice(), &mut out) {
+            let Some(answered) = next_reply(&mut events, seat, &pending.asked()) else {
+                break;
+            };
+            port.told(pending, answered, &mut out);
+        }
+        for frame in out.frames.as_slice() {
+            sent.push(frame.copy())?;
+        }
+    }
+    let is_all = !events.iter().any(|event| event.seat == seat);
+    let most = sent.len().min(MOST_KEPT);
+    Ok(is_all && &sent.as_slice()[..most] == link.sent())
+}
+
+/// Each worker sent what one of these ports sends that is told what the history has of its seat.
+pub(super) fn expect_sent(
+    rt: &impl Abort,
+    alloc: Global,
+    ports: &mut Ports,
+    seed: u64,
+    script: &Script,
+    told: &Told,
+) -> Result<(), NotMade> {
+    let Ports { first, second } = ports;
+    let frames = script.first.as_slice();
+    let is_first = is_sent(alloc, first, 0, frames, &told.first, &told.history)?;
+    assert!(rt; is_first, "seed {seed}: a frame of port 0");
+    let frames = script.second.as_slice();
+    let is_second = is_sent(alloc, second, 1, frames, &told.second, &told.history)?;
+    assert!(rt; is_second, "seed {seed}: a frame of port 1");
     Ok(())
 }

@@ -1,13 +1,21 @@
 //! What two workers hear, and what the scanner has happen.
+use super::fault::NotMade;
 use super::dice::Dice;
 use bmc_board::Bench;
 use std::alloc::Global;
-use std::test::Fail;
 use two_wire::{Below, Frame, check_byte, pec};
 
-/// How many frames a worker hears at most, and how many events the scanner has.
-const MOST_FRAMES: u64 = 5;
-const MOST_BENCH: u64 = 4;
+/// The IPMB address and the endpoint of those who ask.
+pub(super) const REQUESTER: u8 = 0x2C;
+pub(super) const ENDPOINT: u8 = 0x08;
+
+/// How many frames a worker hears at most, those that come twice counted once, and how many events the scanner has. So many frames ask for
+/// few things, under other numbers each: what a Get is replied changes between two of them.
+const MOST_FRAMES: u64 = 24;
+const MOST_BENCH: u64 = 8;
+
+/// A history has room for at most so many events, and a worker makes fewer turns than that. Both are mostly above what the scripts need.
+const MOST_ROOM: u64 = 96;
 
 /// What a run is of: the frames of both links, of which an empty one stands for a call of `next` that hears none, what happens on the bench, how many
 /// turns each makes, and how many events the history has room for.
@@ -27,19 +35,19 @@ fn with_check(mut frame: Frame, from: usize) -> Frame {
     frame
 }
 
-/// A request on IPMB from 2Ch to the controller's logical unit 0.
+/// A request on IPMB to the controller's logical unit 0.
 fn ipmb(sequence: u8, net_fn: u8, command: u8, data: &[u8]) -> Frame {
     let mut frame = with_check(Frame::from_slice(&[0x20, net_fn << 2]), 0);
-    frame.extend_from_slice(&[0x2C, sequence << 2, command]);
+    frame.extend_from_slice(&[REQUESTER, sequence << 2, command]);
     frame.extend_from_slice(data);
     with_check(frame, 3)
 }
 
-/// A PLDM request in one packet, from the endpoint 08h at the wire address 18h to the controller's 0Ah.
+/// A PLDM request in one packet, from the wire address 18h to the controller's endpoint 0Ah.
 fn smbus(instance: u8, kind: u8, command: u8, data: &[u8]) -> Frame {
     let count = (data.len() as u8).wrapping_add(9);
     let tag = 0xC8 | (instance & 7);
-    let mut frame = Frame::from_slice(&[0x20, 0x0F, count, 0x31, 0x01, 0x0A, 0x08, tag]);
+    let mut frame = Frame::from_slice(&[0x20, 0x0F, count, 0x31, 0x01, 0x0A, ENDPOINT, tag]);
     frame.extend_from_slice(&[0x01, 0x80 | instance, kind, command]);
     frame.extend_from_slice(data);
     let check = pec(frame.as_slice());
@@ -74,12 +82,12 @@ fn any_smbus(dice: &mut Dice, instance: u8) -> Frame {
     }
 }
 
-/// Up to five frames of a bus: requests under numbers that go up, some of them twice, some with a byte changed, and pauses.
+/// Frames of a bus: requests under numbers that go up, some of them twice, some with a byte changed, and pauses.
 fn any_frames(
     alloc: Global,
     dice: &mut Dice,
     any: fn(&mut Dice, u8) -> Frame,
-) -> Result<Vec<Frame>, Fail> {
+) -> Result<Vec<Frame>, NotMade> {
     let mut frames: Vec<Frame> = Vec::new(alloc);
     for place in 0..dice.below(MOST_FRAMES + 1) {
         let frame = any(dice, place as u8);
@@ -115,7 +123,7 @@ fn any_bench(dice: &mut Dice) -> Bench {
 }
 
 /// A script.
-pub(super) fn any_script(alloc: Global, dice: &mut Dice) -> Result<Script, Fail> {
+pub(super) fn any_script(alloc: Global, dice: &mut Dice) -> Result<Script, NotMade> {
     let first = any_frames(alloc, dice, any_ipmb)?;
     let second = any_frames(alloc, dice, any_smbus)?;
     let mut bench = Vec::new(alloc);
@@ -126,7 +134,7 @@ pub(super) fn any_script(alloc: Global, dice: &mut Dice) -> Result<Script, Fail>
         first,
         second,
         bench,
-        turns: dice.below(11) as u32,
-        room: 1 + dice.below(16) as usize,
+        turns: dice.below(MOST_ROOM) as u32,
+        room: 1 + dice.below(MOST_ROOM) as usize,
     })
 }

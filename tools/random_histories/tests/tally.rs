@@ -2,6 +2,7 @@
 use super::expected::events_of;
 use super::sharing::Told;
 use bmc_ports::{End, History, Link};
+use std::process::Abort;
 
 /// Counts of runs and of their events.
 #[derive(Clone, Copy, Debug)]
@@ -16,6 +17,7 @@ pub(super) struct Tally {
     pub second_first: u64,
     pub first_first: u64,
     pub mixed: u64,
+    pub own: u64,
 }
 
 /// How often an event is of another seat than the one before it.
@@ -53,6 +55,7 @@ impl Tally {
         second_first: 0,
         first_first: 0,
         mixed: 0,
+        own: 0,
     };
 
     /// Counts a run.
@@ -74,5 +77,50 @@ impl Tally {
             self.first_first += u64::from(of_first < of_second);
         }
         self.mixed += u64::from(changes(history) >= seats(history).max(1));
+    }
+
+    /// Adds what others counted.
+    pub fn add(&mut self, other: &Tally) {
+        self.runs += other.runs;
+        self.events += other.events;
+        self.first += other.first;
+        self.second += other.second;
+        self.scanner += other.scanner;
+        self.no_event += other.no_event;
+        self.full += other.full;
+        self.second_first += other.second_first;
+        self.first_first += other.first_first;
+        self.mixed += other.mixed;
+        self.own += other.own;
+    }
+
+    /// What is counted, how often it was shown, and how often a thousand runs show it at least.
+    pub fn counts(&self) -> [(&'static str, u64, u64); 11] {
+        [
+            ("runs", self.runs, 1_000),
+            ("events", self.events, 8_000),
+            ("requests carried out at port 0", self.first, 3_000),
+            ("requests carried out at port 1", self.second, 3_000),
+            ("events of the scanner", self.scanner, 1_000),
+            ("frames heard that made no event", self.no_event, 1_000),
+            ("runs that ended full", self.full, 100),
+            ("runs with port 1 before port 0", self.second_first, 80),
+            ("runs with port 0 before port 1", self.first_first, 80),
+            ("runs in which one seat came amid another's events", self.mixed, 100),
+            ("runs over ports of their own", self.own, 100),
+        ]
+    }
+}
+
+/// So many runs at least show each of what they are to show.
+const ENOUGH: u64 = 1_000;
+
+/// Each of what so many runs are to show was shown often enough.
+pub(super) fn expect_often(rt: &impl Abort, tally: &Tally) {
+    if tally.runs < ENOUGH {
+        return;
+    }
+    for (name, count, least) in tally.counts() {
+        assert!(rt; count >= tally.runs / ENOUGH * least, "{name}: {count}");
     }
 }
