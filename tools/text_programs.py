@@ -1,0 +1,54 @@
+"""The program of tools/text_reads, compiled, and the texts that it has."""
+import os
+
+from trial import compiled, copied_program, literal
+
+TOP = os.path.dirname(os.path.dirname(os.path.realpath(__file__)))
+BELOW = "record_base cfg_records undo_plans text_board plan_file text_schedule text_undo toml".split()
+FORMS = ("board", "plan", "undo", "schedule")
+
+STEPS = 40
+PLAN = "".join(f'[[step]]\nkind = "hysteresis"\nsensor = 5\npositive = {step + 1}\nnegative = 2\n\n' for step in range(STEPS))
+UNDO = "undo 1\nnext ipmb 4 smbus 0\nipmb 10260530000000005A6E\nipmb 10260518000000505F00\n"
+# A Set in four packets, of which one comes too late and is sent again, while others ask.
+SCHEDULE = """\
+start
+to-bmc 0
+to-mgr 1
+to-bmc 2
+to-bmc 3
+to-bmc 5
+quiet
+to-bmc 6
+other smbus 0B 01800002
+to-bmc 7
+other smbus 0C 01800002
+to-bmc 8
+to-bmc 5
+to-bmc 9
+to-mgr 12
+undo
+to-bmc 13
+to-mgr 14
+"""
+
+
+def texts():
+    with open(f"{TOP}/sample.toml", encoding="utf-8") as file:
+        board = file.read()
+    return {"Board": board, "Plan": PLAN, "Undo": UNDO, "Schedule": SCHEDULE}
+
+
+def readers_program(room):
+    """Returns the program, compiled, in a folder of this one."""
+    arms = "".join(f"        Form::{form} => {literal(text)},\n" for form, text in texts().items())
+    files = (
+        "//! The texts that are cut off and edited.\nuse super::reading::Form;\n\n/// The text of this form.\npub fn text_of(form: Form) -> &'static str {\n"
+        f'    match form {{\n{arms}        Form::Tree => "",\n    }}\n}}\n'
+    )
+    with open(f"{TOP}/tools/random_plays/tests/dice.rs", encoding="utf-8") as file:
+        dice = file.read()
+    os.mkdir(f"{room}/tree")
+    crate = copied_program(f"{room}/tree", "text_reads", BELOW, [("files.rt", files), ("dice.rt", dice)])
+    compiled(crate, f"{room}/reads", ["prefixes", "undo"])
+    return f"{room}/reads"
