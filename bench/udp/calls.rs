@@ -4,42 +4,50 @@
 use crate::client::{Client, Talk};
 use crate::servers::{Programs, Running, Server};
 use crate::table::Table;
-use crate::{REQUESTS, SPARE_TURNS, Side};
+use crate::{REQUESTS, Side};
 use std::collections::BTreeMap;
 use std::io;
 
-/// So many requests at each port, in two runs.
-const FEW: usize = 512;
-const MANY: usize = REQUESTS;
-
-/// The files that the watchers write, in the folder of the bench.
-const CALLS_FILE: &str = "out/strace.log";
-const MEMORY_FILE: &str = "out/valgrind.log";
-
-/// Asks a server that is watched so many requests at both ports at once.
-fn ask(
-    programs: &Programs,
-    watcher: &[&str],
-    sides: &[Side; 2],
-    requests: usize,
-) -> io::Result<()> {
-    let running = Running::watched(programs, watcher, Server::Serve, requests + SPARE_TURNS)?;
-    let mut clients = [Client::to(running.ports[0])?, Client::to(running.ports[1])?];
-    let talk = |place: usize| -> Talk { sides[place].talk(Server::Serve).split_at(requests).0 };
-    let [first, second] = &mut clients;
-    std::thread::scope(|scope| {
-        let first = scope.spawn(|| first.sixteen_at_once(talk(0)));
-        second.sixteen_at_once(talk(1))?;
-        first.join().expect("no thread panicked")
-    })?;
-    running.end(2 * requests, || {
-        clients.iter().for_each(|it| it.send_nothing(64))
-    })
+/// What watches a server, and how many requests it gets at each port, in two runs.
+struct Watcher {
+    words: &'static [&'static str],
+    few: usize,
+    many: usize,
+    spare_turns: usize,
+    /// What it counted.
+    counted: fn() -> io::Result<BTreeMap<String, usize>>,
 }
 
-/// How often each call of the system was made, by the table of `strace -c`: the fourth column, and the last.
-fn counted_calls() -> io::Result<BTreeMap<String, usize>> {
-    let text = std::fs::read_to_string(CALLS_FILE)?;
+/// It counts calls of the system.
+const STRACE: Watcher = Watcher {
+    words: &["strace", "-f", "-c", "-o", "out/strace.log"],
+    few: 512,
+    many: REQUESTS,
+    spare_turns: 400,
+    counted: counted_by_strace,
+};
+
+/// It counts how often memory is taken, of a program that is compiled without checks.
+const VALGRIND: Watcher = Watcher {
+    words: &["valgrind", "--leak-check=no", "--log-file=out/valgrind.log"],
+    few: 512,
+    many: REQUESTS,
+    spare_turns: 400,
+    counted: counted_by_valgrind,
+};
+
+/// It counts how often memory is taken, and looks which calls of the system are made under the lock, of a program whose calls aren't inlined.
+const GDB: Watcher = Watcher {
+    words: &["gdb", "-batch", "-x", "udp/watch.py", "--args"],
+    few: 32,
+    many: 128,
+    spare_turns: 20,
+    counted: counted_by_gdb,
+};
+
+/// By the table of `strace -c`: the fourth column, and the last.
+fn counted_by_strace() -> io::Result<BTreeMap<String, usize>> {
+    let text = std::fs::read_to_string("out/strace.log")?;
     let mut counts = BTreeMap::new();
     for line in text.lines() {
         let words: Vec<&str> = line.split_whitespace().collect();
@@ -53,48 +61,87 @@ fn counted_calls() -> io::Result<BTreeMap<String, usize>> {
     Ok(counts)
 }
 
-/// How often memory was taken, by valgrind's summary.
-fn counted_allocations() -> io::Result<usize> {
-    let text = std::fs::read_to_string(MEMORY_FILE)?;
+/// By valgrind's summary.
+fn counted_by_valgrind() -> io::Result<BTreeMap<String, usize>> {
+    let text = std::fs::read_to_string("out/valgrind.log")?;
     let of = |line: &str| {
         let (_, rest) = line.split_once("total heap usage: ")?;
         rest.split_once(" allocs")?.0.replace(',', "").parse().ok()
     };
-    (text.lines().find_map(of)).ok_or(io::Error::other("valgrind counted nothing"))
+    let count = text.lines().find_map(of);
+    let count = count.ok_or(io::Error::other("valgrind counted nothing"))?;
+    Ok(BTreeMap::from([("memory taken".to_string(), count)]))
 }
 
-/// Shows the counts of both runs, and how many there are for each request more.
-pub fn show(programs: &Programs, sides: &[Side; 2], is_page: bool) -> io::Result<()> {
-    let strace = ["strace", "-f", "-c", "-o", CALLS_FILE];
-    ask(programs, &strace, sides, FEW)?;
-    let few = counted_calls()?;
-    ask(programs, &strace, sides, MANY)?;
-    let many = counted_calls()?;
-    let log = format!("--log-file={MEMORY_FILE}");
-    let valgrind = ["valgrind", "--tool=memcheck", "--leak-check=no", &log];
-    ask(programs, &valgrind, sides, FEW)?;
-    let few_allocations = counted_allocations()?;
-    ask(programs, &valgrind, sides, MANY)?;
-    let many_allocations = counted_allocations()?;
-    let heads = [
-        "Of serve",
-        &format!("{} requests", 2 * FEW),
-        &format!("{} requests", 2 * MANY),
-        "for each more",
-    ];
-    let mut table = Table::new(is_page, heads);
-    let mut row = |name: &str, few: usize, many: usize| {
-        let each = (many as f64 - few as f64) / (2 * (MANY - FEW)) as f64;
-        table.row([
-            name.to_string(),
-            few.to_string(),
-            many.to_string(),
-            format!("{each:.3}"),
-        ]);
+/// By the lines that udp/watch.py writes.
+fn counted_by_gdb() -> io::Result<BTreeMap<String, usize>> {
+    let text = std::fs::read_to_string("out/gdb.log")?;
+    let of = |line: &str| {
+        let (count, name) = line.split_once(' ')?;
+        Some((name.to_string(), count.parse().ok()?))
     };
-    for (name, count) in &many {
-        row(name, few.get(name).copied().unwrap_or(0), *count);
+    Ok(text.lines().filter_map(of).collect())
+}
+
+impl Watcher {
+    /// Asks a server so many requests at both ports at once, and gives what was counted.
+    fn watch(
+        &self,
+        programs: &Programs,
+        sides: &[Side; 2],
+        requests: usize,
+    ) -> io::Result<BTreeMap<String, usize>> {
+        let turns = requests + self.spare_turns;
+        let running = Running::watched(programs, self.words, Server::Serve, turns)?;
+        let mut clients = [Client::to(running.ports[0])?, Client::to(running.ports[1])?];
+        let talk = |place: usize| -> Talk { sides[place].talk(Server::Serve).split_at(requests).0 };
+        let [first, second] = &mut clients;
+        std::thread::scope(|scope| {
+            let first = scope.spawn(|| first.sixteen_at_once(talk(0)));
+            second.sixteen_at_once(talk(1))?;
+            first.join().expect("no thread panicked")
+        })?;
+        running.end(2 * requests, || {
+            clients.iter().for_each(|it| it.send_nothing(8))
+        })?;
+        (self.counted)()
     }
-    row("memory taken (valgrind)", few_allocations, many_allocations);
-    Ok(())
+
+    /// Adds what was counted in both runs, and how much that is for each request more.
+    fn rows(&self, programs: &Programs, sides: &[Side; 2], table: &mut Table) -> io::Result<()> {
+        let few = self.watch(programs, sides, self.few)?;
+        let many = self.watch(programs, sides, self.many)?;
+        for (name, count) in &many {
+            let before = few.get(name).copied().unwrap_or(0);
+            // Of the many calls of the system those that both runs make as often say nothing.
+            if self.words[0] == "strace" && before == *count {
+                continue;
+            }
+            let each = (*count as f64 - before as f64) / (2 * (self.many - self.few)) as f64;
+            table.row([
+                format!("{}: {name}", self.words[0]),
+                format!("{before} ({})", 2 * self.few),
+                format!("{count} ({})", 2 * self.many),
+                format!("{each:.3}"),
+            ]);
+        }
+        Ok(())
+    }
+}
+
+/// Shows what is counted of a server, which is compiled with checks or without.
+pub fn show(
+    programs: &Programs,
+    sides: &[Side; 2],
+    has_checks: bool,
+    is_page: bool,
+) -> io::Result<()> {
+    let heads = ["Who counts what", "of requests", "of more", "for each more"];
+    let mut table = Table::new(is_page, heads);
+    let watchers = if has_checks {
+        [STRACE, GDB]
+    } else {
+        [STRACE, VALGRIND]
+    };
+    (watchers.iter()).try_for_each(|watcher| watcher.rows(programs, sides, &mut table))
 }

@@ -222,13 +222,14 @@ fn run(asked: Asked) -> io::Result<()> {
             board,
             is_page,
         } => {
+            let has_checks = bmcnet.ends_with(".unproved");
             let programs = Programs {
                 bmcnet,
                 board,
                 echo: String::new(),
                 sizes: [String::new(), String::new()],
             };
-            calls::show(&programs, &sides(), is_page)
+            calls::show(&programs, &sides(), has_checks, is_page)
         }
         Asked::Measure(words) => {
             let rounds = measure(&words, &sides())?;

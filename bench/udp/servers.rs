@@ -139,8 +139,10 @@ impl Running {
         let is_well = self.child.wait()?.success()
             && match self.server {
                 Server::Echo => said.is_empty(),
+                // A debugger speaks, too.
                 Server::Serve | Server::Plain => {
-                    said.lines().next() == Some(&format!("served {requests}"))
+                    let wanted = format!("served {requests}");
+                    said.lines().any(|line| line == wanted)
                 }
             };
         if !is_well {
