@@ -9,6 +9,10 @@ const LONG: usize = 10_000_000;
 /// How deep brackets are nested.
 const DEEP: usize = 10_000;
 
+/// Of how many seeds one gets such a line, and of how many one gets such brackets.
+const A_LINE: u64 = 25_000;
+const BRACKETS: u64 = 200;
+
 /// A place in the bytes, or behind them.
 fn place_in(dice: &mut Dice, bytes: &[u8]) -> usize {
     dice.below(bytes.len() as u64 + 1) as usize
@@ -134,15 +138,13 @@ fn put_character(alloc: Global, dice: &mut Dice, bytes: &mut Vec<u8>) -> Result<
     insert(alloc, bytes, place, more.as_bytes())
 }
 
-/// One edit. A line of ten megabytes comes once in five thousand, and ten thousand brackets once in two hundred.
+/// A small edit.
 fn edit(alloc: Global, dice: &mut Dice, bytes: &mut Vec<u8>) -> Result<(), AllocError> {
-    match dice.below(5_000) {
-        0 => lengthen_line(alloc, dice, bytes),
-        1..=25 => nest(alloc, dice, bytes),
-        26..=600 => lengthen_number(alloc, dice, bytes),
-        601..=1_000 => put_character(alloc, dice, bytes),
-        1_001..=2_200 => swap_lines(alloc, dice, bytes),
-        2_201..=2_900 => remove_bytes(alloc, dice, bytes),
+    match dice.below(100) {
+        0..=11 => lengthen_number(alloc, dice, bytes),
+        12..=19 => put_character(alloc, dice, bytes),
+        20..=43 => swap_lines(alloc, dice, bytes),
+        44..=57 => remove_bytes(alloc, dice, bytes),
         _ => {
             change_bytes(dice, bytes);
             Ok(())
@@ -150,7 +152,18 @@ fn edit(alloc: Global, dice: &mut Dice, bytes: &mut Vec<u8>) -> Result<(), Alloc
     }
 }
 
-/// The text with one to three edits, which this seed picks. A character that an edit cut in two becomes `?`.
+/// A large edit, where the seed's turn has come: a line of ten megabytes, or ten thousand brackets.
+fn edit_much(alloc: Global, dice: &mut Dice, bytes: &mut Vec<u8>, seed: u64) -> Result<(), AllocError> {
+    if seed % A_LINE == 0 {
+        return lengthen_line(alloc, dice, bytes);
+    }
+    if seed % BRACKETS == 1 {
+        return nest(alloc, dice, bytes);
+    }
+    Ok(())
+}
+
+/// The text with one to three small edits, which this seed picks, and now and then a large one. A character that an edit cut in two becomes `?`.
 pub fn edited(alloc: Global, text: &str, seed: u64) -> Result<String, Unwell> {
     let mut dice = Dice::new(seed);
     let mut bytes = Vec::new(alloc);
@@ -158,6 +171,7 @@ pub fn edited(alloc: Global, text: &str, seed: u64) -> Result<String, Unwell> {
     for _ in 0..=dice.below(3) {
         edit(alloc, &mut dice, &mut bytes)?;
     }
+    edit_much(alloc, &mut dice, &mut bytes, seed)?;
     if std::str::from_utf8(bytes.as_slice()).is_err() {
         for byte in bytes.iter_mut() {
             if !byte.is_ascii() {
