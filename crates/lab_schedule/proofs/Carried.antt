@@ -25,6 +25,7 @@ use Rattle.lab_schedule.specs.declared.drawing.Offer.TheVariants.{Taken}
 use Rattle.lab_schedule.specs.declared.make.Links.TheVariants as links
 use Rattle.lab_schedule.specs.Drawn.{Drawn, Offered, CanDeliver, DeliversAll, CanCarry, HasCarried, Carries}
 use Rattle.lab_schedule.specs.Made.{IsCleanFor, IsMade}
+use Rattle.lab_schedule.proofs.CleanKeeps.{clean_keeps}
 use Rattle.lab_schedule.proofs.Cleanly.{runs_so, events_append, taken_behind, one_delivery, room_to_call}
 
 -- ---- the call, and what is delivered after it
@@ -151,7 +152,7 @@ module _ (file : BoardFile) (plan : List Op) (retries : ℕ) where
     told = told_of file x0 (after file d.events.items x0);
     played = (drawn.taken, refl);
     lines = drawn.lines;
-    kept = tt;
+    kept = λ never. clean_keeps file plan retries undo d.events.items clean drawn.taken;
     clean = clean;
   }
 

@@ -46,7 +46,7 @@ module _ (file : BoardFile) where
 
 -- ---- what the lab takes has room
 
-no_check : (fault : Fault) (holds : Bool) (rest : Option Fault) → cond holds (Some fault) rest ≡ None → (holds ≡ false) × (rest ≡ None)
+pub no_check : (fault : Fault) (holds : Bool) (rest : Option Fault) → cond holds (Some fault) rest ≡ None → (holds ≡ false) × (rest ≡ None)
 no_check fault true rest is = absurd (none-some fault (sym is))
 no_check fault false rest is = (refl, is)
 

@@ -1,4 +1,5 @@
 pub mod Cleanly
 pub mod Offers
 pub mod Deliveries
+pub mod CleanKeeps
 pub mod Carried

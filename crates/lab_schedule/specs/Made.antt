@@ -21,16 +21,16 @@ IsCleanFor file steps retries Clean false events = StartsClean file steps retrie
 IsCleanFor file steps retries Clean true events = UndoesClean file steps retries events
 IsCleanFor file steps retries (Drawn chances) undo events = Unit {0}
 
--- where links are drawn and no packet may join one that waits too long, no event breaks the premise on packets
-abbrev pub KeepsFor : BoardFile → List Op → (retries : ℕ) → Links → List Event → Type 0
-KeepsFor file steps retries Clean events = Unit {0}
-KeepsFor file steps retries (Drawn chances) events =
-    chances.late_joins ≡ false → AllKeepPremise file events (opening plans file lab_names steps retries)
+-- a packet may join one that waits too long
+abbrev pub joins_late : Links → Bool
+joins_late Clean = false
+joins_late (Drawn chances) = chances.late_joins
 
--- The schedule that was wanted of the plan on the board of the file. A play of it takes each event, and a line can say each.
+-- The schedule that was wanted of the plan on the board of the file. A play of it takes each event, and a line can say each. Unless packets may join
+-- such as wait too long, each event keeps the premise on packets.
 pub record IsMade (file : BoardFile) (steps : List Op) (retries : ℕ) (wanted : Wanted) (events : List Event) : Type 0 where
   pub told : Told
   pub played : IsPlayed file steps retries events (Whole told)
   pub lines : AllByRecursion (λ e. has_line e ≡ true) events
-  pub kept : KeepsFor file steps retries wanted.links events
+  pub kept : joins_late wanted.links ≡ false → AllKeepPremise file events (opening plans file lab_names steps retries)
   pub clean : IsCleanFor file steps retries wanted.links wanted.undo events

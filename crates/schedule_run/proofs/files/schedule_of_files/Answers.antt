@@ -1,0 +1,13 @@
+use Rattle.std.proofs.Common.{inr}
+use Rattle.bmc_lab.specs.EndingLaws.{run_ends_as}
+use Rattle.bmc_lab.specs.Files.{Refuses}
+use Rattle.schedule_run.specs.Files.{words_of, SaysOfFiles}
+use Rattle.schedule_run.proofs.files.schedule_of_files.Goals as goal
+
+pub returns-in-Err : goal.returns-in-Err
+returns-in-Err g c =
+    run_ends_as g.W.Write.contents g.E.Write.contents (Refuses c.in-Err.unread.why c.in-Err.unread.word.now)
+    (SaysOfFiles (g.F.TextFiles.gives c.args.files.now) c.args.wanted (words_of c.args.words))
+    c.args.console.now c.refuse.new.console c.refuse.result
+    (λ stream text status said. inr (c.in-Err.unread.word.now, c.in-Err.unread.why, c.in-Err.ensures.unread, said))
+    c.refuse.ensures
