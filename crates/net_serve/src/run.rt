@@ -18,7 +18,7 @@ use std::sync::Wait;
 use std::thread::Threads;
 use text_board::{FileFault, read_board};
 
-/// How many milliseconds a link waits for a frame.
+/// How many milliseconds a link waits for a frame, where the words don't say.
 pub const WAIT_MS: u32 = 200;
 
 /// What the words of `bmcnet serve` ask for.
@@ -32,6 +32,16 @@ pub struct ServeWords {
     pub smbus_port: u16,
     /// How many turns each worker makes.
     pub turns: u32,
+    /// How many milliseconds a link waits for a frame.
+    pub wait_ms: u32,
+    /// Serving ends once both ports heard nothing for so many turns in a row, at least 1.
+    pub quiet: Option<u32>,
+    /// A requester's window is forgotten after so many turns in a row, at least 1, in which its port heard nothing of it.
+    pub forget: Option<u32>,
+    /// Whether a history that is full is closed, and the next one opened.
+    pub periods: bool,
+    /// The word of the file of what happens on the board beside requests.
+    pub readings: Option<String>,
 }
 
 /// The controller's ends of both buses.
@@ -43,8 +53,8 @@ struct Ends {
 
 /// The links at the ports that the words name, or nothing where one can't be had.
 fn open_ends<R: Net>(rt: &R, words: &ServeWords) -> Option<Ends> {
-    let ipmb = UdpLink::bind(rt, words.ipmb_port, WAIT_MS).ok()?;
-    let smbus = UdpLink::bind(rt, words.smbus_port, WAIT_MS).ok()?;
+    let ipmb = UdpLink::bind(rt, words.ipmb_port, words.wait_ms).ok()?;
+    let smbus = UdpLink::bind(rt, words.smbus_port, words.wait_ms).ok()?;
     Some(Ends { ipmb, smbus })
 }
 
