@@ -48,7 +48,8 @@ where
     A: Link + Send + Drop,
     B: Link + Send + Drop,
     R: Threads + Wait + Sync,
-    ensures { (file : AnyFile) → IsBegun file begun → IfOk result (λ tally. Tallies false file tally.events tally.changed) }
+    ensures { (file : AnyFile) → IsBegun file begun
+        → IfOk result (λ tally. Tallies false file tally.events tally.changed) }
 {
     let Begun { start, board } = begun;
     match serve_over(rt, alloc, board, ports, &mut ipmb, &mut smbus, turns) {
@@ -68,7 +69,8 @@ where
     A: Link + Send + Drop,
     B: Link + Send + Drop,
     R: Threads + Wait + Sync,
-    ensures { (file : AnyFile) → IsBegun file begun → IfOk result (λ tally. Tallies true file tally.events tally.changed) }
+    ensures { (file : AnyFile) → IsBegun file begun
+        → IfOk result (λ tally. Tallies true file tally.events tally.changed) }
 {
     let Begun { start, board } = begun;
     match serve_periods(rt, alloc, board, lanes) {

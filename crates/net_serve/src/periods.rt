@@ -174,7 +174,8 @@ where
     A: Link + Send + Drop,
     B: Link + Send + Drop,
     R: Threads + Wait + Sync,
-    ensures runs { IfOk result (RunsTo A.counts_of B.counts_of board.setup (state_of own_records board) lanes) }
+    ensures runs { IfOk result
+        (RunsTo A.counts_of B.counts_of board.setup (state_of own_records board) lanes) }
     ensures over { IfOk result (λ course. AreOver course.lanes) }
 {
     let most = u64::from(lanes.first.turns) + u64::from(lanes.second.turns);

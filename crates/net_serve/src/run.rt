@@ -108,7 +108,8 @@ fn serve_board<W: io::Write, E: io::Write, R: Net + Threads + Wait + Sync>(
 
 /// What is said of a text that holds no board.
 fn refusal(alloc: Global, why: FileFault) -> Result<Report, Untold>
-    ensures { (board : List ℕ) → (why ≡ Memory) ⊎ Reads board (Err why) → Tells (SaysUnserved board) result }
+    ensures { (board : List ℕ) → (why ≡ Memory) ⊎ Reads board (Err why)
+        → Tells (SaysUnserved board) result }
 {
     match why {
         FileFault::Memory => Err(Untold::Memory),
@@ -147,7 +148,8 @@ pub fn serve<F: TextFiles, W: io::Write, E: io::Write, R: Net + Threads + Wait +
     words: &ServeWords,
     console: &mut Console<W, E>,
 ) -> u8
-    ensures { ServeEnds W.contents E.contents (F.gives files.now) words.now console.old console.new result }
+    ensures { ServeEnds W.contents E.contents (F.gives files.now) words.now
+        console.old console.new result }
 {
     match text_of(files, words.board.as_str()) {
         Ok(text) => serve_text(rt, alloc, text.as_str(), words, console),
