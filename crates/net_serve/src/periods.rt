@@ -8,9 +8,7 @@ ghost use Rattle.net_serve.specs.Periods.{IsPeriod, IsClosed, GoesToNext, RunsTo
 use crate::board::OpenGate;
 use bmc_board::{Board, Records};
 use bmc_lab::Untold;
-use bmc_ports::{
-    History, Lanes, Link, MOST_EVENTS, NoThread, Opening, Seats, Shared, Sliced, run_slices,
-};
+use bmc_ports::{History, Lanes, Link, MOST_EVENTS, NoThread, Opening, Shared, Sliced, run_slices};
 use std::alloc::Global;
 use std::marker::Brand;
 use std::sync::Wait;
