@@ -68,12 +68,17 @@ def bound_ports():
     return {int(address[9:], 16) for address in addresses if address.startswith("0100007F:")}
 
 
+def ports_line(ipmb, smbus):
+    """Returns what a server tells on standard error once both of its ports are bound."""
+    return f"bmcnet: ipmb on {HOST}:{ipmb}, smbus on {HOST}:{smbus}\n"
+
+
 class Server:
     """A controller that is served. At the end of a `with` it has ended, by itself or by its process id."""
 
-    def __init__(self, program, board, turns):
+    def __init__(self, program, board, turns, *options):
         self.ports = PORTS.take(), PORTS.take()
-        words = [program, "serve", board, *map(str, self.ports), str(turns)]
+        words = [program, "serve", *map(str, options), board, *map(str, self.ports), str(turns)]
         self.process = subprocess.Popen(words, stdin=subprocess.DEVNULL, stdout=subprocess.PIPE, stderr=subprocess.PIPE, text=True)
 
     def __enter__(self):
@@ -94,12 +99,14 @@ class Server:
         self.process.wait()
 
     def told(self):
-        """Waits until it ends by itself, and returns the status, standard output and standard error."""
+        """Waits until it ends by itself, and returns the status, standard output, and standard error behind the line of its ports."""
         try:
             out, err = self.process.communicate(timeout=END)
         except subprocess.TimeoutExpired as late:
             raise Failed(f"serve didn't end in {END} s") from late
-        return self.process.returncode, out, err
+        line = ports_line(*self.ports)
+        expect("the line of the ports", err[: len(line)], line)
+        return self.process.returncode, out, err[len(line) :]
 
     def ended(self):
         """The same, once empty datagrams have used up its turns."""

@@ -1,6 +1,6 @@
 -- A worker's turns, one after another.
 use Rattle.std.specs.Prelude.{Result, Ok, Err, OnOk, OnErr}
-use Rattle.std.proofs.Common.{◌≡◌, refl, ◌+◌, ◌++◌, ℕ, suc, List, [], ◌∷◌, length, ap, sym, ◌∙◌, subst, arith}
+use Rattle.std.proofs.Common.{◌≡◌, ◌≤◌, refl, ◌+◌, ◌++◌, ℕ, suc, List, [], ◌∷◌, length, ap, sym, ◌∙◌, subst, arith, lit≤}
 use Rattle.std.proofs.lemmas.List.{append_assoc, length-append, append-nil}
 use Rattle.bmc_core.specs.declared.out.Out.{Out}
 use Rattle.bmc_core.specs.declared.step.Step.TheVariants.{Ask, Done}
@@ -60,7 +60,12 @@ made_on : (end : End) (turns : ℕ) (first counted counts : Counts) → MadeAll 
     → MadeAll end (turns + 1) first counts
 made_on Turns turns first counted counts begins then =
     let same : suc turns ≡ turns + 1 = omega arith in then ∙ ap one_more begins ∙ ap (counted_on first.calls) same
-made_on Full turns first counted counts begins then = tt
+made_on Full turns first counted counts begins (made, least, most, then) = (
+  made + turns,
+  omega (arith, least),
+  omega (arith, most),
+  then ∙ ap (λ (calls : ℕ). counted_on calls made) begins ∙ counted_twice first.calls turns made,
+)
 
 -- a worker that made turns makes one more
 pub works_on : (end : End) (turns : ℕ) (before mid after : Port) (held kept more : List Call) (first counted counts : Counts)
@@ -80,12 +85,12 @@ works_on end turns before mid after held kept more first counted counts begins t
     }
 
 -- a worker that found no room needn't have made all its turns
-pub full_early : (made turns : ℕ) (before after : Port) (held kept : List Call) (counted counts : Counts)
+pub full_early : (made turns : ℕ) (before after : Port) (held kept : List Call) (counted counts : Counts) → made ≤ turns
     → Worked Full made before after held kept counted counts → Worked Full turns before after held kept counted counts
-full_early made turns before after held kept counted counts worked = record {
+full_early made turns before after held kept counted counts within worked = record {
   frames = worked.frames;
   gained = worked.gained;
-  calls = tt;
+  calls = (worked.calls.0, worked.calls.1, (let most = worked.calls.2 in omega (arith, most, within)), worked.calls.3);
   heard = worked.heard;
   list = worked.list;
   serves = worked.serves;
@@ -123,7 +128,7 @@ module _ (before : Port) (frame : List ℕ) (counted mid counts : Counts) (next 
   asked between after out pending held kept (Err full) step carries list port = record {
     frames = frame ∷ [];
     gained = [];
-    calls = tt;
+    calls = (1, lit≤ tt, lit≤ tt, calls ∙ next.calls);
     heard = heard ∙ next.heard;
     list = list ∙ sym (append-nil held);
     serves = record {

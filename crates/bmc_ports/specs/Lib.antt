@@ -1,3 +1,4 @@
 pub mod Serving
 pub mod Scanning
 pub mod Seated
+pub mod Slices

@@ -1,5 +1,5 @@
 -- What a worker's port hears, and what its seat calls.
-use Rattle.std.specs.Prelude.{◌≡◌, ◌++◌, ℕ, List, [], ◌∷◌, length, Option, Some, None, Result, Ok, Err}
+use Rattle.std.specs.Prelude.{◌≡◌, ◌≤◌, ◌++◌, ℕ, List, [], ◌∷◌, length, Option, Some, None, Result, Ok, Err}
 use Rattle.record_base.specs.declared.message.Answered.{Answered}
 use Rattle.bmc_core.specs.declared.out.Out.{Out}
 use Rattle.bmc_core.specs.declared.step.Step.{Step}
@@ -80,10 +80,10 @@ abbrev pub end_of : Result (Unit {0}) PeriodFull → End
 end_of (Ok done) = Turns
 end_of (Err full) = Full
 
--- a worker that found room to its end made all its turns
+-- a worker that found room to its end made all its turns, and another one at least the turn in which it found none
 abbrev pub MadeAll : End → ℕ → Counts → Counts → Type 0
 MadeAll Turns turns before after = after.calls ≡ counted_on before.calls turns
-MadeAll Full turns before after = Unit {0}
+MadeAll Full turns before after = (made : ℕ) × (1 ≤ made) × (made ≤ turns) × (after.calls ≡ counted_on before.calls made)
 
 -- A worker made turns and ended so. Its port heard as many frames as its link counted, and was told the replies that its seat's list
 -- gained, in their order.

@@ -4,6 +4,7 @@
 pub mod gate;
 pub mod run;
 pub mod scanner;
+pub mod slices;
 pub mod worker;
 
 pub use bmc_history::{
@@ -13,4 +14,5 @@ pub use bmc_history::{
 pub use bmc_links::{Counts, Heard, Link, LinkFault, MOST_KEPT, MemFault, MemLink};
 pub use gate::Gate;
 pub use run::{NoThread, run_two};
+pub use slices::{Lane, Lanes, Sliced, run_slices};
 pub use worker::{End, serve_port};

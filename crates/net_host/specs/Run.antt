@@ -6,7 +6,7 @@ use Rattle.bmc_lab.specs.declared.console.Stream.TheVariants.{Error}
 use Rattle.bmc_lab.specs.declared.status.Status.TheVariants.{RefusedWords}
 use Rattle.bmc_lab.specs.Ending.{RunEnds, Saying}
 use Rattle.bmc_lab.specs.Files.{Readings}
-use Rattle.net_serve.specs.Run.{SaysOfBoard}
+use Rattle.net_serve.specs.Run.{ServeEnds}
 use Rattle.net_run.specs.Run.{RunEndsOf, Writings}
 use Rattle.net_run.specs.Undo.{SaysOfList}
 use Rattle.bmc_net.specs.Run.{SaysOfFiles, words_of}
@@ -18,7 +18,7 @@ use Rattle.net_host.specs.Asked.{AsksFor}
 abbrev pub EndsAsAsked : {Files W E : Type 0} → (out : W → Option (List ℕ)) → (err : E → Option (List ℕ)) → Readings → Writings Files → Words → (before after : Files)
     → (old new : Console W E) → ℕ → Type 0
 EndsAsAsked out err gives takes (Serve asked) before after old new result =
-    (after ≡ before) × RunEnds out err (SaysOfBoard gives (string_bytes asked.board)) old new result
+    (after ≡ before) × ServeEnds out err gives asked old new result
 EndsAsAsked out err gives takes (Run asked) before after old new result =
     RunEndsOf out err gives takes (string_bytes asked.plan) asked.turns (string_bytes asked.undo) before after old new result
 EndsAsAsked out err gives takes (Undo asked) before after old new result =

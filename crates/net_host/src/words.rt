@@ -224,6 +224,11 @@ fn serve_words(alloc: Global, matches: &ArgMatches) -> Result<ServeWords, Refusa
         ipmb_port: port(alloc, matches, Task::Serve, "P0")?,
         smbus_port: port(alloc, matches, Task::Serve, "P1")?,
         turns: turns(alloc, matches, Task::Serve)?,
+        wait_ms: 200,
+        quiet: None,
+        forget: None,
+        periods: false,
+        readings: None,
     })
 }
 

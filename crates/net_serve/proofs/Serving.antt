@@ -1,48 +1,114 @@
 -- What a served board is told of, and what is said of that.
 use Rattle.std.specs.Prelude.{IfOk}
-use Rattle.std.proofs.Common.{◌≡◌, ◌∙◌, ◌⊎◌, refl, inl, inr, ap, sym, subst, ℕ, List, length, Result, Ok, Err, string_bytes}
+use Rattle.std.proofs.Common.{◌≡◌, ◌∙◌, ◌⊎◌, refl, inl, inr, ap, sym, subst, ℕ, List, [], ◌∷◌, length, Option, Result, Ok, Err, string_bytes, false, true, arith}
+use Rattle.std.specs.List.{sum_by}
 use Rattle.cfg_records.specs.declared.board_file.BoardFile.{BoardFile}
 use Rattle.cfg_records.specs.Records.{Pair}
-use Rattle.cfg_records.specs.Boards.{pairs_of}
 use Rattle.bmc_board.specs.State.{State, state_of, opened}
 use Rattle.bmc_board.specs.OwnStore.{own_records}
-use Rattle.bmc_history.specs.Replay.{Replays}
+use Rattle.bmc_links.specs.declared.link.Counts.{Counts}
+use Rattle.bmc_history.specs.declared.event.Event.{Event}
+use Rattle.bmc_ports.specs.declared.slices.Lanes.{Lanes}
 use Rattle.changed_records.specs.Changed.{changed_in}
 use Rattle.text_board.specs.Holds.{Reads}
+use Rattle.bmc_lab.specs.declared.console.Console.{Console}
 use Rattle.bmc_lab.specs.declared.report.Report.{Report}
 use Rattle.bmc_lab.specs.declared.console.Stream.{Stream}
-use Rattle.bmc_lab.specs.declared.console.Stream.TheVariants.{Output}
+use Rattle.bmc_lab.specs.declared.console.Stream.TheVariants.{Output, Error}
 use Rattle.bmc_lab.specs.declared.status.Status.TheVariants.{Success}
 use Rattle.bmc_lab.specs.declared.ending.Untold.{Untold}
 use Rattle.bmc_lab.specs.declared.ending.Untold.TheVariants as untold
-use Rattle.bmc_lab.specs.Ending.{Tells}
+use Rattle.bmc_lab.specs.Console.{Written}
+use Rattle.bmc_lab.specs.Ending.{RunEnds, SaysReport, Tells}
+use Rattle.bmc_lab.specs.EndingLaws.{run_reports}
 use Rattle.net_serve.specs.declared.board.Served.{Served}
-use Rattle.net_serve.specs.Served.{IsServed, Tallies, TellsServed, most_events}
-use Rattle.net_serve.specs.Run.{Says}
+use Rattle.net_serve.specs.declared.periods.Course.{Course}
+use Rattle.net_serve.specs.declared.run.ServeWords.{ServeWords}
+use Rattle.net_serve.specs.declared.tally.Begun.{Begun}
+use Rattle.net_serve.specs.Served.{IsBegun, IsServed, Lead, Tallies, TellsServed, most_events}
+use Rattle.net_serve.specs.Periods.{RunsTo}
+use Rattle.net_serve.specs.Run.{IsTaken, SaysServed, SaysUnserved, TextEnds, ports_line}
+use Rattle.net_serve.proofs.Following.{follow_leads}
 
--- what is counted of a file's board that was served
-pub tallied : (file setup : BoardFile) (opening : State) (served : Served) (start : List Pair) (events changed : ℕ)
-    → setup ≡ file → opening ≡ opened file → start ≡ pairs_of file → IsServed setup opening most_events served
-    → events ≡ length served.history → changed ≡ changed_in (state_of own_records served.board).records start → Tallies file events changed
-tallied file setup opening served start events changed is_setup is_opening is_start is counted differ = record {
-  history = served.history;
-  after = state_of own_records served.board;
-  few = is.few;
-  replays = subst (λ (s : BoardFile). Replays s (opened file) served.history (state_of own_records served.board)) is_setup
-      (subst (λ (o : State). Replays setup o served.history (state_of own_records served.board)) is_opening is.replays);
-  counted = counted;
-  differ = differ ∙ ap (changed_in (state_of own_records served.board).records) is_start;
-}
+-- ---- what is counted
+
+-- what leads from a board as it begins leads from the file's
+from_file : (file : BoardFile) (begun : Begun) (histories : List (List Event)) (after : State) → IsBegun file begun
+    → Lead begun.board.setup (state_of own_records begun.board) histories after → Lead file (opened file) histories after
+from_file file begun histories after begins lead =
+    subst (λ (s : BoardFile). Lead s (opened file) histories after) begins.setup
+    (subst (λ (o : State). Lead begun.board.setup o histories after) begins.opens lead)
+
+-- what is counted of a file's board that was served with one history
+pub tallies_once : (file : BoardFile) (begun : Begun) (served : Served) (start : List Pair) (events changed : ℕ) → IsBegun file begun → start ≡ begun.start.items
+    → IsServed begun.board.setup (state_of own_records begun.board) most_events served
+    → events ≡ length served.history → changed ≡ changed_in (state_of own_records served.board).records start → Tallies false file events changed
+tallies_once file begun served start events changed begins is_start is counted differ =
+    let after : State = state_of own_records served.board in
+    let one : length served.history ≡ sum_by length (served.history ∷ []) = omega arith in record {
+      histories = served.history ∷ [];
+      after = after;
+      count = refl;
+      lead = from_file file begun (served.history ∷ []) after begins (after, is.few, is.replays, refl);
+      counted = counted ∙ one;
+      differ = differ ∙ ap (changed_in after.records) (is_start ∙ begins.start);
+    }
+
+-- what is counted of one that was served period by period
+pub tallies_all : {A B : Type 0} (first_counts : A → Counts) (second_counts : B → Counts) (file : BoardFile) (begun : Begun) (lanes : Lanes A B) (course : Course A B)
+    (start : List Pair) (events changed : ℕ) → IsBegun file begun → start ≡ begun.start.items
+    → RunsTo first_counts second_counts begun.board.setup (state_of own_records begun.board) lanes course
+    → events ≡ course.events → changed ≡ changed_in (state_of own_records course.board).records start → Tallies true file events changed
+tallies_all first_counts second_counts file begun lanes course start events changed begins is_start runs counted differ =
+    let after : State = state_of own_records course.board in record {
+      histories = runs.histories;
+      after = after;
+      count = tt;
+      lead = from_file file begun runs.histories after begins
+          (follow_leads first_counts second_counts begun.board.setup (state_of own_records begun.board) after lanes course.lanes runs.histories runs.follow);
+      counted = counted ∙ runs.events;
+      differ = differ ∙ ap (changed_in after.records) (is_start ∙ begins.start);
+    }
+
+-- ---- what is said
 
 -- the report of a board that was served, or the want of one
-pub serves_told : (board : List ℕ) (file : BoardFile) (report : Result Report Untold) → Reads board (Ok file)
-    → IfOk report (λ r. r.stream ≡ Output) → IfOk report (λ r. TellsServed file (string_bytes r.text)) → IfOk report (λ r. r.status ≡ Success) → Tells (Says board) report
-serves_told board file (Ok report) reads stream told status =
-    subst (λ (s : Stream). Says board s (string_bytes report.text) report.status) (sym stream) (file, reads, told, status)
-serves_told board file (Err untold.Memory) reads stream told status = tt
-serves_told board file (Err untold.Stopped) reads stream told status = inr ((file, reads), refl, refl)
+pub serves_told : (words : ServeWords) (board : List ℕ) (file : BoardFile) (report : Result Report Untold) → Reads board (Ok file)
+    → IfOk report (λ r. r.stream ≡ Output) → IfOk report (λ r. TellsServed words.periods file (string_bytes r.text)) → IfOk report (λ r. r.status ≡ Success)
+    → Tells (SaysServed words board) report
+serves_told words board file (Ok report) reads stream told status =
+    subst (λ (s : Stream). SaysServed words board s (string_bytes report.text) report.status) (sym stream) (file, reads, told, status)
+serves_told words board file (Err untold.Memory) reads stream told status = tt
+serves_told words board file (Err untold.Stopped) reads stream told status = ((file, reads), refl, refl)
 
 -- a reader that answers a value wasn't refused memory
 pub was_read : {A E R : Type 0} (a : A) (why : E) → (Ok a ≡ Err why) ⊎ R → R
 was_read a why (inl e) = cc e
 was_read a why (inr r) = r
+
+-- a reader that answers a fault was refused memory, or says what is wrong
+pub was_refused : {A E R : Type 0} (why memory : E) → (let here : Result A E = Err why in here ≡ Err memory) ⊎ R → (why ≡ memory) ⊎ R
+was_refused why memory (inl e) = inl (cc e)
+was_refused why memory (inr r) = inr r
+
+module _ {W E : Type 0} (out : W → Option (List ℕ)) (err : E → Option (List ℕ)) (words : ServeWords) (board : List ℕ) (file : BoardFile) (reads : Reads board (Ok file))
+    (old new : Console W E) (result : ℕ) where
+  -- nothing is told of the ports, for want of memory
+  pub ends_without_memory : RunEnds out err (SaysReport (Err untold.Memory)) old new result → TextEnds out err words board old new result
+  ends_without_memory ends = inl (run_reports out err (SaysUnserved board) (Err untold.Memory) old new result tt ends)
+
+  -- a link can't be had
+  pub ends_without_links : RunEnds out err (SaysReport (Err untold.Stopped)) old new result → TextEnds out err words board old new result
+  ends_without_links ends = inl (run_reports out err (SaysUnserved board) (Err untold.Stopped) old new result (inr ((file, reads), refl, refl)) ends)
+
+  -- the ports are told of, and then what came of the board
+  pub ends_told : (told : Console W E) (ipmb smbus : ℕ) (report : Result Report Untold) → IsTaken words.ipmb_port ipmb → IsTaken words.smbus_port smbus
+      → Written Error (ports_line ipmb smbus) (out old.out) (out told.out) (err old.err) (err told.err)
+      → IfOk report (λ r. r.stream ≡ Output) → IfOk report (λ r. TellsServed words.periods file (string_bytes r.text)) → IfOk report (λ r. r.status ≡ Success)
+      → RunEnds out err (SaysReport report) told new result → TextEnds out err words board old new result
+  ends_told told ipmb smbus report is_ipmb is_smbus written stream says status ends =
+      inr (
+        told,
+        (ipmb, smbus, is_ipmb, is_smbus, written),
+        run_reports out err (SaysServed words board) report told new result (serves_told words board file report reads stream says status) ends,
+      )

@@ -1,7 +1,7 @@
 -- What a board was served, and what is said of it.
-use Rattle.std.specs.Prelude.{◌≡◌, ◌≤◌, ℕ, List, [], ◌∷◌, ◌++◌, length, codes}
+use Rattle.std.specs.Prelude.{◌≡◌, ◌≤◌, ℕ, Bool, true, false, List, [], ◌∷◌, ◌++◌, length, codes}
 use Rattle.std.specs.Fmt.{decimal}
-use Rattle.std.specs.List.{flat_map}
+use Rattle.std.specs.List.{flat_map, sum_by}
 use Rattle.text_lines.specs.Cuts.{ended}
 use Rattle.cfg_records.specs.declared.board_file.BoardFile.{BoardFile}
 use Rattle.cfg_records.specs.Boards.{pairs_of}
@@ -11,10 +11,17 @@ use Rattle.bmc_history.specs.declared.event.Event.{Event}
 use Rattle.bmc_history.specs.Replay.{Replays}
 use Rattle.changed_records.specs.Changed.{changed_in, records_line}
 use Rattle.net_serve.specs.declared.board.Served.{Served}
+use Rattle.net_serve.specs.declared.tally.Begun.{Begun}
 
 -- the most events of a history
 abbrev pub most_events : ℕ
 most_events = 4096
+
+-- a board begins as the file has it, beside its records
+pub record IsBegun (file : BoardFile) (begun : Begun) : Type 0 where
+  pub start : begun.start.items ≡ pairs_of file
+  pub setup : begun.board.setup ≡ file
+  pub opens : state_of own_records begun.board ≡ opened file
 
 -- A board that was served has a history, with no more events than there was room for. It leads from the state that the board opened in
 -- to the board as it is.
@@ -22,13 +29,25 @@ pub record IsServed (setup : BoardFile) (opening : State) (room : ℕ) (served :
   pub few : length served.history ≤ room
   pub replays : Replays setup opening served.history (state_of own_records served.board)
 
--- Some history of the file's board has so many events, and leads to a state in which so many of the file's records have another value.
-pub record Tallies (file : BoardFile) (events changed : ℕ) : Type 0 where
-  pub history : List Event
+-- Histories lead, one after another, from the first state to the last, and none has more events than there is room for.
+abbrev pub Lead : BoardFile → (first : State) → List (List Event) → (last : State) → Type 0
+Lead setup first [] last = first ≡ last
+Lead setup first (history ∷ later) last =
+    (mid : State) × (length history ≤ most_events) × Replays setup first history mid × Lead setup mid later last
+
+-- there is one period, unless there may be several
+abbrev pub IsCount : (several : Bool) → ℕ → Type 0
+IsCount true count = Unit {0}
+IsCount false count = count ≡ 1
+
+-- Some histories of the file's board, one unless there may be several, have so many events in all, and lead to a state in which so many of
+-- the file's records have another value.
+pub record Tallies (several : Bool) (file : BoardFile) (events changed : ℕ) : Type 0 where
+  pub histories : List (List Event)
   pub after : State
-  pub few : length history ≤ most_events
-  pub replays : Replays file (opened file) history after
-  pub counted : events ≡ length history
+  pub count : IsCount several (length histories)
+  pub lead : Lead file (opened file) histories after
+  pub counted : events ≡ sum_by length histories
   pub differ : changed ≡ changed_in after.records (pairs_of file)
 
 -- how many events there were
@@ -39,9 +58,9 @@ served_line events = codes "served " ++ decimal events
 abbrev pub text_of : (events changed : ℕ) → List ℕ
 text_of events changed = flat_map ended (served_line events ∷ records_line changed ∷ [])
 
--- the text tells of such a history
-pub record TellsServed (file : BoardFile) (text : List ℕ) : Type 0 where
+-- the text tells of such histories
+pub record TellsServed (several : Bool) (file : BoardFile) (text : List ℕ) : Type 0 where
   pub events : ℕ
   pub changed : ℕ
-  pub tallies : Tallies file events changed
+  pub tallies : Tallies several file events changed
   pub said : text ≡ text_of events changed

@@ -20,7 +20,7 @@ use std::thread::Threads;
 use two_wire::Bus;
 
 /// A gate that holds nobody.
-struct OpenGate;
+pub(crate) struct OpenGate;
 
 impl Gate for OpenGate {
     fn pass(&self, _port: u8, _n: u64) {}

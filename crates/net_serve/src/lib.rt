@@ -2,9 +2,13 @@
 #![tactic(auto)]
 
 pub mod board;
+mod counting;
+mod ends;
+pub mod periods;
 pub mod run;
 pub mod tally;
 
 pub use board::{MOST_EVENTS, Served, close_board, controller_ports, work};
+pub use periods::{Course, serve_periods};
 pub use run::{ServeWords, WAIT_MS, serve};
 pub use tally::{Begun, Tally, begin, tally_of};

@@ -1,15 +1,17 @@
 //! `bmcnet serve`: a board's ports over UDP.
-ghost use Rattle.std.specs.Prelude.{◌≡◌, IfOk, string_bytes};
+ghost use Rattle.std.specs.Prelude.{◌≡◌, ◌⊎◌, ℕ, List, IfOk, Ok, Err, string_bytes};
 ghost use Rattle.bmc_lab.specs.declared.console.Stream.TheVariants.{Output};
 ghost use Rattle.bmc_lab.specs.declared.status.Status.TheVariants.{Success};
-ghost use Rattle.bmc_lab.specs.Ending.{RunEnds, Tells};
-ghost use Rattle.net_serve.specs.Run.{Says, SaysOfBoard};
-ghost use Rattle.net_serve.specs.Served.{Tallies, TellsServed};
+ghost use Rattle.bmc_lab.specs.Ending.{Tells};
+ghost use Rattle.text_board.specs.declared.fault.FileFault.TheVariants.{Memory};
+ghost use Rattle.text_board.specs.Holds.{Reads};
+ghost use Rattle.net_serve.specs.Run.{IsTaken, SaysUnserved, ServeEnds, TextEnds};
+ghost use Rattle.net_serve.specs.Served.{TellsServed};
 
-use crate::board::{controller_ports, serve_over};
-use crate::tally::{Begun, Tally, begin, report, tally_of};
-use bmc_lab::{Console, Report, TextFiles, Untold, end_run, refuse, text_of};
-use bmc_links::{Link, UdpLink};
+use crate::counting::served;
+use crate::ends::{Ends, open_ends, ports_text};
+use crate::tally::report;
+use bmc_lab::{Console, Report, Status, Stream, TextFiles, Untold, end_run, refuse, text_of};
 use cfg_records::BoardFile;
 use std::alloc::Global;
 use std::io;
@@ -18,7 +20,7 @@ use std::sync::Wait;
 use std::thread::Threads;
 use text_board::{FileFault, read_board};
 
-/// How many milliseconds a link waits for a frame.
+/// How many milliseconds a link waits for a frame, where the words don't say.
 pub const WAIT_MS: u32 = 200;
 
 /// What the words of `bmcnet serve` ask for.
@@ -32,84 +34,86 @@ pub struct ServeWords {
     pub smbus_port: u16,
     /// How many turns each worker makes.
     pub turns: u32,
+    /// How many milliseconds a link waits for a frame.
+    pub wait_ms: u32,
+    /// Serving ends once both ports heard nothing for so many turns in a row, at least 1.
+    pub quiet: Option<u32>,
+    /// A requester's window is forgotten after so many turns in a row, at least 1, in which its port heard nothing of it.
+    pub forget: Option<u32>,
+    /// Whether a history that is full is closed, and the next one opened.
+    pub periods: bool,
+    /// The word of the file of what happens on the board beside requests.
+    pub readings: Option<String>,
 }
 
-/// The controller's ends of both buses.
-#[derive(Drop)]
-struct Ends {
-    ipmb: UdpLink,
-    smbus: UdpLink,
-}
-
-/// The links at the ports that the words name, or nothing where one can't be had.
-fn open_ends<R: Net>(rt: &R, words: &ServeWords) -> Option<Ends> {
-    let ipmb = UdpLink::bind(rt, words.ipmb_port, WAIT_MS).ok()?;
-    let smbus = UdpLink::bind(rt, words.smbus_port, WAIT_MS).ok()?;
-    Some(Ends { ipmb, smbus })
-}
-
-/// Serves the board of a file over two links, and counts what came of it.
-fn served<A: Link + Send, B: Link + Send, R: Threads + Wait + Sync>(
+/// What is told of the board of a file that is served at these ends.
+fn served_report<R: Threads + Wait + Sync>(
     rt: &R,
     alloc: Global,
     file: BoardFile,
-    ipmb: &mut A,
-    smbus: &mut B,
-    turns: u32,
-) -> Result<Tally, Untold>
-    ensures { IfOk result (λ tally. Tallies file tally.events tally.changed) }
-{
-    let Ok(ports) = controller_ports(alloc) else {
-        return Err(Untold::Memory);
-    };
-    let Ok(begun) = begin(alloc, file) else {
-        return Err(Untold::Memory);
-    };
-    let Begun { start, board } = begun;
-    match serve_over(rt, alloc, board, ports, ipmb, smbus, turns) {
-        Ok(served) => Ok(tally_of(start.as_slice(), &served)),
-        Err(why) => Err(why),
-    }
-}
-
-/// What is told of the board of a file that is served at the ports that the words name.
-fn served_report<R: Net + Threads + Wait + Sync>(
-    rt: &R,
-    alloc: Global,
-    file: BoardFile,
+    ends: Ends,
     words: &ServeWords,
 ) -> Result<Report, Untold>
     ensures stream { IfOk result (λ report. report.stream ≡ Output) }
-    ensures told { IfOk result (λ report. TellsServed file (string_bytes report.text)) }
+    ensures told { IfOk result (λ report. TellsServed words.now.periods file (string_bytes report.text)) }
     ensures status { IfOk result (λ report. report.status ≡ Success) }
 {
-    let Some(mut ends) = open_ends(rt, words) else {
-        return Err(Untold::Stopped);
-    };
-    let tally = served(
-        rt,
-        alloc,
-        file,
-        &mut ends.ipmb,
-        &mut ends.smbus,
-        words.turns,
-    )?;
+    let Ends { ipmb, smbus } = ends;
+    let tally = served(rt, alloc, file, ipmb.link, smbus.link, words)?;
     Ok(report(alloc, tally)?)
 }
 
-/// What is said of the board file's text.
-fn board_report<R: Net + Threads + Wait + Sync>(
+/// Tells of the ports of these ends, and serves the board of a file there. Where nothing can be told, nothing is served.
+fn serve_ends<W: io::Write, E: io::Write, R: Threads + Wait + Sync>(
     rt: &R,
     alloc: Global,
-    board: &str,
+    file: BoardFile,
+    ends: Ends,
     words: &ServeWords,
-) -> Result<Report, Untold>
-    ensures { Tells (Says board.now) result }
+    console: &mut Console<W, E>,
+) -> u8
+    requires ipmb { IsTaken words.now.ipmb_port ends.ipmb.port }
+    requires smbus { IsTaken words.now.smbus_port ends.smbus.port }
+    ensures { (board : List ℕ) → Reads board (Ok file)
+        → TextEnds W.contents E.contents words.now board console.old console.new result }
 {
-    match read_board(alloc, board) {
-        Ok(file) => served_report(rt, alloc, file, words),
-        Err(FileFault::Memory) => Err(Untold::Memory),
-        Err(why) => Ok(Report::of_board(alloc, why)?),
+    let Ok(text) = ports_text(alloc, ends.ipmb.port, ends.smbus.port) else {
+        return end_run(&Err(Untold::Memory), console);
+    };
+    match console.write(Stream::Error, text.as_bytes()) {
+        Ok(()) => {
+            let report = served_report(rt, alloc, file, ends, words);
+            end_run(&report, console)
+        }
+        Err(_) => u8::from(Status::Output),
+    }
+}
+
+/// Serves the board of a file at the ports that the words name.
+fn serve_board<W: io::Write, E: io::Write, R: Net + Threads + Wait + Sync>(
+    rt: &R,
+    alloc: Global,
+    file: BoardFile,
+    words: &ServeWords,
+    console: &mut Console<W, E>,
+) -> u8
+    ensures { (board : List ℕ) → Reads board (Ok file)
+        → TextEnds W.contents E.contents words.now board console.old console.new result }
+{
+    match open_ends(rt, words) {
+        Some(ends) => serve_ends(rt, alloc, file, ends, words, console),
+        None => end_run(&Err(Untold::Stopped), console),
+    }
+}
+
+/// What is said of a text that holds no board.
+fn refusal(alloc: Global, why: FileFault) -> Result<Report, Untold>
+    ensures { (board : List ℕ) → (why ≡ Memory) ⊎ Reads board (Err why)
+        → Tells (SaysUnserved board) result }
+{
+    match why {
+        FileFault::Memory => Err(Untold::Memory),
+        why => Ok(Report::of_board(alloc, why)?),
     }
 }
 
@@ -121,33 +125,22 @@ fn serve_text<W: io::Write, E: io::Write, R: Net + Threads + Wait + Sync>(
     words: &ServeWords,
     console: &mut Console<W, E>,
 ) -> u8
-    ensures { RunEnds W.contents E.contents (Says board.now) console.old console.new result }
+    ensures { TextEnds W.contents E.contents words.now board.now console.old console.new result }
 {
-    let report = board_report(rt, alloc, board, words);
-    end_run(&report, console)
-}
-
-/// Serves the board of the file that this word names, and says what came of it.
-fn serve_file<F: TextFiles, W: io::Write, E: io::Write, R: Net + Threads + Wait + Sync>(
-    rt: &R,
-    alloc: Global,
-    files: &F,
-    word: &str,
-    words: &ServeWords,
-    console: &mut Console<W, E>,
-) -> u8
-    ensures { RunEnds W.contents E.contents (SaysOfBoard (F.gives files.now) word.now) console.old console.new result }
-{
-    match text_of(files, word) {
-        Ok(text) => serve_text(rt, alloc, text.as_str(), words, console),
-        Err(unread) => refuse(alloc, &unread, console),
+    match read_board(alloc, board) {
+        Ok(file) => serve_board(rt, alloc, file, words, console),
+        Err(why) => {
+            let report = refusal(alloc, why);
+            end_run(&report, console)
+        }
     }
 }
 
-/// Serves the board of the file that the words name at their two ports, and writes to standard output how many events the board's history
-/// has, and whether records are changed. It gives the status: 0, or 3 with `file` or `board` and the fault on standard error where the
-/// file can't be read or holds no board, 4 and no line where a link or a thread can't be had or the board isn't closed, 5 with `memory` on
-/// standard error where memory was refused, and 6 where a write failed.
+/// Serves the board of the file that the words name at their two ports. Once both are bound, standard error gets their line: with the port
+/// that was taken where the words say 0. At the end it writes to standard output how many events the board's history has, and whether
+/// records are changed. It gives the status: 0, or 3 with `file` or `board` and the fault on standard error where the file can't be read or
+/// holds no board, 4 where a link or a thread can't be had or the board isn't closed, 5 with `memory` on standard error where memory was
+/// refused, and 6 where a write failed; where that of the ports' line fails, nothing is served.
 pub fn serve<F: TextFiles, W: io::Write, E: io::Write, R: Net + Threads + Wait + Sync>(
     rt: &R,
     alloc: Global,
@@ -155,7 +148,11 @@ pub fn serve<F: TextFiles, W: io::Write, E: io::Write, R: Net + Threads + Wait +
     words: &ServeWords,
     console: &mut Console<W, E>,
 ) -> u8
-    ensures { RunEnds W.contents E.contents (SaysOfBoard (F.gives files.now) (string_bytes words.now.board)) console.old console.new result }
+    ensures { ServeEnds W.contents E.contents (F.gives files.now) words.now
+        console.old console.new result }
 {
-    serve_file(rt, alloc, files, words.board.as_str(), words, console)
+    match text_of(files, words.board.as_str()) {
+        Ok(text) => serve_text(rt, alloc, text.as_str(), words, console),
+        Err(unread) => refuse(alloc, &unread, console),
+    }
 }

@@ -37,22 +37,30 @@ pub fn begin(alloc: Global, file: BoardFile) -> Result<Begun, AllocError>
     }
 }
 
-/// How many events a board's history has, and how many records are no longer what they were at its start.
+/// How many events the histories of a board have, and how many records are no longer what they were at its start.
 #[derive(Clone, Copy, Debug, PartialEq, Eq)]
 pub struct Tally {
     pub events: usize,
     pub changed: usize,
 }
 
-/// What is counted of a board that was served, by the records that it began with.
+/// What is counted of a board that was served so many events, by the records that it began with.
+pub(crate) fn count(start: &[(Key, Value)], board: &Board<Records>, events: usize) -> Tally
+    ensures events { result.events ≡ events }
+    ensures changed { result.changed ≡ changed_in (state_of own_records board.now).records start.now }
+{
+    Tally {
+        events,
+        changed: changed_count(board.store(), start),
+    }
+}
+
+/// What is counted of a board that was served with one history.
 pub fn tally_of(start: &[(Key, Value)], served: &Served) -> Tally
     ensures events { result.events ≡ length served.now.history }
     ensures changed { result.changed ≡ changed_in (state_of own_records served.now.board).records start.now }
 {
-    Tally {
-        events: served.history.len(),
-        changed: changed_count(served.board.store(), start),
-    }
+    count(start, &served.board, served.history.len())
 }
 
 /// The lines that tell of it.

@@ -74,7 +74,7 @@ impl Link for Faulty {
 
 /// A gate that holds nobody.
 #[derive(Drop)]
-struct Open;
+pub(super) struct Open;
 
 impl Gate for Open {
     fn pass(&self, _port: u8, _n: u64) {}

@@ -20,6 +20,11 @@ fn serve_words(alloc: Global, board: &str, port: u16) -> Result<ServeWords, Allo
         ipmb_port: port,
         smbus_port: 0,
         turns: 1,
+        wait_ms: 200,
+        quiet: None,
+        forget: None,
+        periods: false,
+        readings: None,
     })
 }
 

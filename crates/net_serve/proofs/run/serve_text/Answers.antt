@@ -1,8 +1,14 @@
+use Rattle.std.proofs.Common.{inl}
 use Rattle.bmc_lab.specs.EndingLaws.{run_reports}
-use Rattle.net_serve.specs.Run.{Says}
+use Rattle.text_board.specs.declared.fault.FileFault.TheVariants.{Memory}
+use Rattle.net_serve.specs.Run.{SaysUnserved}
+use Rattle.net_serve.proofs.Serving.{was_read, was_refused}
 use Rattle.net_serve.proofs.run.serve_text.Goals as goal
 
-pub returns : goal.returns
-returns g c =
-    run_reports g.W.Write.contents g.E.Write.contents (Says c.args.board.now) c.board_report-report.result c.args.console.now c.end_run.new.console c.end_run.result
-    c.board_report-report.ensures c.end_run.ensures
+pub returns-in-Ok : goal.returns-in-Ok
+returns-in-Ok g c = c.serve_board.ensures c.args.board.now (was_read c.in-Ok.file Memory c.in-Ok.ensures)
+
+pub returns-in-Err : goal.returns-in-Err
+returns-in-Err g c =
+    inl (run_reports g.W.Write.contents g.E.Write.contents (SaysUnserved c.args.board.now) c.refusal-report.result c.args.console.now c.end_run.new.console
+    c.end_run.result (c.refusal-report.ensures c.args.board.now (was_refused c.in-Err.why Memory c.in-Err.ensures)) c.end_run.ensures)

@@ -1,0 +1,50 @@
+-- What a closed history makes a period.
+use Rattle.std.proofs.Common.{◌≡◌, ◌≤◌, ◌∙◌, ◌⊎◌, inl, inr, sym, subst, ℕ, List, [], length}
+use Rattle.cfg_records.specs.declared.board_file.BoardFile.{BoardFile}
+use Rattle.bmc_board.specs.State.{State}
+use Rattle.bmc_links.specs.declared.link.Counts.{Counts}
+use Rattle.bmc_history.specs.declared.event.Call.{Call}
+use Rattle.bmc_history.specs.declared.event.Event.{Event}
+use Rattle.bmc_history.specs.declared.seat.Seats.{Seats}
+use Rattle.bmc_history.specs.Replay.{calls_of}
+use Rattle.bmc_history.specs.Seated.{IsFresh}
+use Rattle.bmc_ports.specs.declared.slices.Lane.{Lane}
+use Rattle.bmc_ports.specs.declared.slices.Lanes.{Lanes}
+use Rattle.bmc_ports.specs.declared.worker.End.{End}
+use Rattle.bmc_ports.specs.declared.worker.End.TheVariants.{Full}
+use Rattle.bmc_ports.specs.Slices.{GoesOn, IsBack}
+use Rattle.net_serve.specs.Served.{most_events}
+use Rattle.net_serve.specs.Periods.{IsClosed, IsPeriod}
+
+-- a worker whose seat was fresh has called what the history has of it
+called : {L : Type 0} (counts_of : L → Counts) (end : End) (held kept calls : List Call) (before after : Lane L) → held ≡ [] → kept ≡ calls
+    → GoesOn counts_of end held kept before after → GoesOn counts_of end [] calls before after
+called counts_of end held kept calls before after none are goes =
+    subst (λ (xs : List Call). GoesOn counts_of end xs calls before after) none (subst (λ (xs : List Call). GoesOn counts_of end held xs before after) are goes)
+
+-- where one of two workers found no room, the history is full
+is_full : (one two : End) (count room : ℕ) → (one ≡ Full → count ≡ room) → (two ≡ Full → count ≡ room) → room ≡ most_events
+    → (one ≡ Full) ⊎ (two ≡ Full) → count ≡ most_events
+is_full one two count room first second most (inl full) = first full ∙ most
+is_full one two count room first second most (inr full) = second full ∙ most
+
+-- a history that is closed once its workers are back is a period
+pub is_period : {J : Type 0} {g h : _} {A B : Type 0} (first_counts : A → Counts) (second_counts : B → Counts) (setup : BoardFile) (opening ending : State) (room : ℕ)
+    (fresh : Seats J g) (before : Lanes A B) (seats : Seats J h) (after : Lanes A B) (first_end second_end : End) (history : List Event)
+    → room ≡ most_events → IsFresh fresh.first → IsFresh fresh.second
+    → IsBack first_counts fresh.first before.first seats.first after.first first_end
+    → IsBack second_counts fresh.second before.second seats.second after.second second_end
+    → IsClosed setup opening ending room seats history → IsPeriod first_counts second_counts setup opening ending before after history
+is_period first_counts second_counts setup opening ending room fresh before seats after first_end second_end history most none_first none_second first second closed =
+    record {
+      few = subst (λ (n : ℕ). length history ≤ n) most closed.few;
+      replays = closed.replays;
+      first_end = first_end;
+      second_end = second_end;
+      first = called first_counts first_end fresh.first.calls.items seats.first.calls.items (calls_of 0 history) before.first after.first
+          none_first.0 (sym closed.first.calls_are) first.goes;
+      second = called second_counts second_end fresh.second.calls.items seats.second.calls.items (calls_of 1 history) before.second after.second
+          none_second.0 (sym closed.second.calls_are) second.goes;
+      full = is_full first_end second_end (length history) room
+          (λ full. closed.first.is_full (first.marked full)) (λ full. closed.second.is_full (second.marked full)) most;
+    }

@@ -1,0 +1,34 @@
+use Rattle.std.proofs.Common.{length, arith}
+use Rattle.bmc_board.specs.State.{state_of}
+use Rattle.bmc_board.specs.OwnStore.{own_records}
+use Rattle.net_serve.proofs.Following.{clash, fewer, has_turns, more_events, runs_from, runs_more, runs_none, takes_turns, turns_left}
+use Rattle.net_serve.proofs.periods.serve_periods.Goals as goal
+
+pub loop-init : goal.loop-init
+loop-init g c = (
+  runs_none g.A.Link.counts_of g.B.Link.counts_of c.new-course.result c.new-course.ensures.events,
+  omega arith,
+  (let none = c.new-course.ensures.events in omega (arith, none)),
+)
+
+pub returns-then-is_over-clause-runs : goal.returns-then-is_over-clause-runs
+returns-then-is_over-clause-runs g c =
+    runs_from g.A.Link.counts_of g.B.Link.counts_of c.new-course.result.board.setup c.args.board.setup (state_of own_records c.new-course.result.board) (state_of own_records c.args.board)
+    c.new-course.result.lanes c.args.lanes c.loop.course c.new-course.ensures.setup c.new-course.ensures.state c.new-course.ensures.lanes c.loop.invariant.0
+
+pub loop-preserved : goal.loop-preserved
+loop-preserved g c =
+    let inv = c.loop.invariant in
+    let goes = c.in-Ok.ensures in
+    let some = has_turns c.loop.course.lanes.first.turns c.loop.course.lanes.second.turns (λ over. clash c.is_over.result c.if-is_over.false (c.is_over.ensures.1 over)) in
+    let takes = takes_turns g.A.Link.counts_of g.B.Link.counts_of c.loop.course.board.setup (state_of own_records c.loop.course.board) (state_of own_records c.in-Ok.next.board)
+    c.loop.course.lanes c.in-Ok.next.lanes goes.history goes.period some in (
+      runs_more g.A.Link.counts_of g.B.Link.counts_of c.new-course.result.board.setup (state_of own_records c.new-course.result.board) c.new-course.result.lanes c.loop.course c.in-Ok.next inv.0 goes,
+      fewer (turns_left c.loop.course.lanes) (turns_left c.in-Ok.next.lanes) c.loop.counter (turns_left c.new-course.result.lanes) inv.1 takes,
+      more_events c.loop.course.events (length goes.history) c.loop.counter c.in-Ok.next.events goes.events goes.period.few inv.2,
+    )
+
+pub returns-clause-runs : goal.returns-clause-runs
+returns-clause-runs g c =
+    runs_from g.A.Link.counts_of g.B.Link.counts_of c.new-course.result.board.setup c.args.board.setup (state_of own_records c.new-course.result.board) (state_of own_records c.args.board)
+    c.new-course.result.lanes c.args.lanes c.loop.course c.new-course.ensures.setup c.new-course.ensures.state c.new-course.ensures.lanes c.loop.invariant.0

@@ -1,0 +1,64 @@
+-- A board that is served period by period.
+use Rattle.std.specs.Prelude.{◌≡◌, ◌≤◌, ◌+◌, ◌⊎◌, ℕ, List, [], ◌∷◌, length}
+use Rattle.std.specs.List.{sum_by}
+use Rattle.cfg_records.specs.declared.board_file.BoardFile.{BoardFile}
+use Rattle.bmc_board.specs.State.{State, state_of}
+use Rattle.bmc_board.specs.OwnStore.{own_records}
+use Rattle.bmc_links.specs.declared.link.Counts.{Counts}
+use Rattle.bmc_history.specs.declared.event.Event.{Event}
+use Rattle.bmc_history.specs.declared.seat.Seats.{Seats}
+use Rattle.bmc_history.specs.Seated.{SeatMatches}
+use Rattle.bmc_history.specs.Replay.{Replays, calls_of}
+use Rattle.bmc_ports.specs.declared.slices.Lanes.{Lanes}
+use Rattle.bmc_ports.specs.declared.worker.End.{End}
+use Rattle.bmc_ports.specs.declared.worker.End.TheVariants.{Full}
+use Rattle.bmc_ports.specs.Slices.{GoesOn}
+use Rattle.net_serve.specs.declared.periods.Course.{Course}
+use Rattle.net_serve.specs.Served.{most_events}
+
+-- A period has a history, which leads from the one state to the other. What the history has of each port's seat is what that port was told,
+-- and where a worker found no room the history is full.
+pub record IsPeriod {A B : Type 0} (first_counts : A → Counts) (second_counts : B → Counts) (setup : BoardFile) (opening ending : State)
+    (before after : Lanes A B) (history : List Event) : Type 0 where
+  pub few : length history ≤ most_events
+  pub replays : Replays setup opening history ending
+  pub first_end : End
+  pub second_end : End
+  pub first : GoesOn first_counts first_end [] (calls_of 0 history) before.first after.first
+  pub second : GoesOn second_counts second_end [] (calls_of 1 history) before.second after.second
+  pub full : (first_end ≡ Full) ⊎ (second_end ≡ Full) → length history ≡ most_events
+
+-- A board is closed with its history: that leads to it, has no more events than there was room for, and has the calls of the ports' seats.
+pub record IsClosed {J : Type 0} {g : _} (setup : BoardFile) (opening ending : State) (room : ℕ) (seats : Seats J g) (history : List Event) : Type 0 where
+  pub few : length history ≤ room
+  pub replays : Replays setup opening history ending
+  pub first : SeatMatches room history 0 seats.first
+  pub second : SeatMatches room history 1 seats.second
+
+-- Periods with these histories follow one another: each begins with the state, the ports, the links and the turns with which the last ended.
+abbrev pub Follow : {A B : Type 0} → (first_counts : A → Counts) → (second_counts : B → Counts) → BoardFile → (opening : State) → (before : Lanes A B)
+    → List (List Event) → (ending : State) → (after : Lanes A B) → Type 0
+Follow {A} {B} first_counts second_counts setup opening before [] ending after = (opening ≡ ending) × (before ≡ after)
+Follow {A} {B} first_counts second_counts setup opening before (history ∷ later) ending after =
+    (mid : State) × (lanes : Lanes A B) × IsPeriod first_counts second_counts setup opening mid before lanes history
+    × Follow first_counts second_counts setup mid lanes later ending after
+
+-- A board was served for such periods, with so many events in all.
+pub record RunsTo {A B : Type 0} (first_counts : A → Counts) (second_counts : B → Counts) (setup : BoardFile) (opening : State) (before : Lanes A B)
+    (course : Course A B) : Type 0 where
+  pub histories : List (List Event)
+  pub follow : Follow first_counts second_counts setup opening before histories (state_of own_records course.board) course.lanes
+  pub events : course.events ≡ sum_by length histories
+  pub setup_is : course.board.setup ≡ setup
+
+-- the board was served for one period more
+pub record GoesToNext {A B : Type 0} (first_counts : A → Counts) (second_counts : B → Counts) (before next : Course A B) : Type 0 where
+  pub history : List Event
+  pub period : IsPeriod first_counts second_counts before.board.setup (state_of own_records before.board) (state_of own_records next.board)
+      before.lanes next.lanes history
+  pub events : next.events ≡ before.events + length history
+  pub setup_is : next.board.setup ≡ before.board.setup
+
+-- both workers made all their turns
+abbrev pub AreOver : {A B : Type 0} → Lanes A B → Type 0
+AreOver lanes = (lanes.first.turns ≡ 0) × (lanes.second.turns ≡ 0)

@@ -1,0 +1,109 @@
+//! The board of a file, served over two links, and what is counted of it.
+ghost use Rattle.std.specs.Prelude.{◌≡◌, false, true, IfOk};
+ghost use Rattle.cfg_records.specs.declared.board_file.BoardFile.{BoardFile as AnyFile};
+ghost use Rattle.net_serve.specs.Served.{IsBegun, Tallies};
+
+use crate::board::{controller_ports, serve_over};
+use crate::periods::serve_periods;
+use crate::run::ServeWords;
+use crate::tally::{Begun, Tally, begin, count, tally_of};
+use bmc_core::Port;
+use bmc_lab::Untold;
+use bmc_ports::{Lane, Lanes, Link};
+use cfg_records::BoardFile;
+use std::alloc::Global;
+use std::sync::Wait;
+use std::thread::Threads;
+
+/// Both ports with their links, and so many turns each.
+fn lanes_of<A, B>(ports: [Port; 2], ipmb: A, smbus: B, turns: u32) -> Lanes<A, B>
+    ensures { (result.first.turns ≡ turns) × (result.second.turns ≡ turns) }
+{
+    let [first, second] = ports;
+    Lanes {
+        first: Lane {
+            port: first,
+            link: ipmb,
+            turns,
+        },
+        second: Lane {
+            port: second,
+            link: smbus,
+            turns,
+        },
+    }
+}
+
+/// Serves a board with one history, and counts what came of it.
+fn served_once<A, B, R>(
+    rt: &R,
+    alloc: Global,
+    begun: Begun,
+    ports: [Port; 2],
+    mut ipmb: A,
+    mut smbus: B,
+    turns: u32,
+) -> Result<Tally, Untold>
+where
+    A: Link + Send + Drop,
+    B: Link + Send + Drop,
+    R: Threads + Wait + Sync,
+    ensures { (file : AnyFile) → IsBegun file begun
+        → IfOk result (λ tally. Tallies false file tally.events tally.changed) }
+{
+    let Begun { start, board } = begun;
+    match serve_over(rt, alloc, board, ports, &mut ipmb, &mut smbus, turns) {
+        Ok(served) => Ok(tally_of(start.as_slice(), &served)),
+        Err(why) => Err(why),
+    }
+}
+
+/// Serves a board period by period, and counts what came of it.
+fn served_in_periods<A, B, R>(
+    rt: &R,
+    alloc: Global,
+    begun: Begun,
+    lanes: Lanes<A, B>,
+) -> Result<Tally, Untold>
+where
+    A: Link + Send + Drop,
+    B: Link + Send + Drop,
+    R: Threads + Wait + Sync,
+    ensures { (file : AnyFile) → IsBegun file begun
+        → IfOk result (λ tally. Tallies true file tally.events tally.changed) }
+{
+    let Begun { start, board } = begun;
+    match serve_periods(rt, alloc, board, lanes) {
+        Ok(course) => Ok(count(start.as_slice(), &course.board, course.events)),
+        Err(why) => Err(why),
+    }
+}
+
+/// Serves the board of a file over two links as the words say, and counts what came of it.
+pub(crate) fn served<A, B, R>(
+    rt: &R,
+    alloc: Global,
+    file: BoardFile,
+    ipmb: A,
+    smbus: B,
+    words: &ServeWords,
+) -> Result<Tally, Untold>
+where
+    A: Link + Send + Drop,
+    B: Link + Send + Drop,
+    R: Threads + Wait + Sync,
+    ensures { IfOk result (λ tally. Tallies words.now.periods file tally.events tally.changed) }
+{
+    let Ok(ports) = controller_ports(alloc) else {
+        return Err(Untold::Memory);
+    };
+    let Ok(begun) = begin(alloc, file) else {
+        return Err(Untold::Memory);
+    };
+    if words.periods {
+        let lanes = lanes_of(ports, ipmb, smbus, words.turns);
+        served_in_periods(rt, alloc, begun, lanes)
+    } else {
+        served_once(rt, alloc, begun, ports, ipmb, smbus, words.turns)
+    }
+}

@@ -1,0 +1,191 @@
+//! A board that is served period by period, each with a history of its own, over the same ports and links.
+ghost use Rattle.std.specs.Prelude.{◌≡◌, ◌<◌, ◌+◌, ◌^◌, ◌↔◌, IfOk, IsTrue};
+ghost use Rattle.bmc_board.specs.State.{state_of};
+ghost use Rattle.bmc_board.specs.OwnStore.{own_records};
+ghost use Rattle.net_serve.specs.Served.{most_events};
+ghost use Rattle.net_serve.specs.Periods.{IsPeriod, IsClosed, GoesToNext, RunsTo, AreOver};
+
+use crate::board::OpenGate;
+use bmc_board::{Board, Records};
+use bmc_lab::Untold;
+use bmc_ports::{History, Lanes, Link, MOST_EVENTS, NoThread, Opening, Shared, Sliced, run_slices};
+use std::alloc::Global;
+use std::marker::Brand;
+use std::sync::Wait;
+use std::sync::ledger::Blank;
+use std::thread::Threads;
+
+/// A board that was served so far: with which ports, links and turns it's served on, and how many events its histories have in all.
+#[derive(Drop)]
+pub struct Course<A, B> {
+    pub board: Board<Records>,
+    pub lanes: Lanes<A, B>,
+    pub events: usize,
+}
+
+/// What a period left, and its history.
+#[derive(Drop)]
+struct Period<A, B> {
+    board: Board<Records>,
+    lanes: Lanes<A, B>,
+    history: History,
+}
+
+/// The board and the history of a period that is over, where the seats' lists are the history's.
+fn close_period<J: Opening, A: Drop, B: Drop>(
+    shared: Shared<J, Records>,
+    sliced: Sliced<J, A, B>,
+) -> Result<Period<A, B>, Untold>
+    requires three { J.parts ≡ 3 }
+    ensures closed { IfOk result (λ period. IsClosed J.setup J.opening
+        (state_of own_records period.board) J.room sliced.seats period.history) }
+    ensures setup { IfOk result (λ period. period.board.setup ≡ J.setup) }
+    ensures lanes { IfOk result (λ period. period.lanes ≡ sliced.lanes) }
+{
+    let Sliced {
+        seats,
+        lanes,
+        first_end: _,
+        second_end: _,
+    } = sliced;
+    match shared.close(seats) {
+        Ok((board, history)) => Ok(Period {
+            board,
+            lanes,
+            history,
+        }),
+        Err(_) => Err(Untold::Stopped),
+    }
+}
+
+/// Serves a board for a period, with room for so many events.
+fn serve_opened<J, A, B, R>(
+    rt: &R,
+    alloc: Global,
+    blank: Blank,
+    board: Board<Records>,
+    room: usize,
+    lanes: Lanes<A, B>,
+) -> Result<Period<A, B>, Untold>
+where
+    J: Opening + Send + Sync,
+    A: Link + Send + Drop,
+    B: Link + Send + Drop,
+    R: Threads + Wait + Sync,
+    requires name { blank.name ≡ J.name }
+    requires parts { blank.parts ≡ J.parts }
+    requires three { blank.parts ≡ 3 }
+    requires setup { board.setup ≡ J.setup }
+    requires opening { state_of own_records board ≡ J.opening }
+    requires room { room ≡ J.room }
+    requires most { room ≡ most_events }
+    ensures period { IfOk result (λ period. IsPeriod A.counts_of B.counts_of J.setup J.opening
+        (state_of own_records period.board) lanes period.lanes period.history) }
+    ensures setup { IfOk result (λ period. period.board.setup ≡ J.setup) }
+{
+    let Ok((shared, seats)) = Shared::<J, Records>::open(alloc, blank, board, room) else {
+        return Err(Untold::Memory);
+    };
+    match run_slices(rt, &shared, seats, lanes, &OpenGate) {
+        Ok(sliced) => close_period(shared, sliced),
+        Err(NoThread) => Err(Untold::Stopped),
+    }
+}
+
+/// Serves a board for a period: until both workers made their turns, or until its history is full.
+fn serve_period<A, B, R>(
+    rt: &R,
+    alloc: Global,
+    board: Board<Records>,
+    lanes: Lanes<A, B>,
+) -> Result<Period<A, B>, Untold>
+where
+    A: Link + Send + Drop,
+    B: Link + Send + Drop,
+    R: Threads + Wait + Sync,
+    ensures period { IfOk result (λ period. IsPeriod A.counts_of B.counts_of board.setup
+        (state_of own_records board) (state_of own_records period.board) lanes period.lanes period.history) }
+    ensures setup { IfOk result (λ period. period.board.setup ≡ board.setup) }
+{
+    serve_opened::<Brand, A, B, R>(rt, alloc, Blank::new(3), board, MOST_EVENTS, lanes)
+}
+
+impl<A: Link + Send + Drop, B: Link + Send + Drop> Course<A, B> {
+    /// A board that is to be served.
+    pub fn new(board: Board<Records>, lanes: Lanes<A, B>) -> Self
+        ensures setup { result.board.setup ≡ board.setup }
+        ensures state { state_of own_records result.board ≡ state_of own_records board }
+        ensures lanes { result.lanes ≡ lanes }
+        ensures events { result.events ≡ 0 }
+    {
+        Course {
+            board,
+            lanes,
+            events: 0,
+        }
+    }
+
+    /// Whether both workers made all their turns.
+    pub fn is_over(&self) -> bool
+        ensures { IsTrue result ↔ AreOver self.now.lanes }
+    {
+        self.lanes.first.turns == 0 && self.lanes.second.turns == 0
+    }
+
+    /// Serves the board for a period more, and counts its history. A period's room is taken anew.
+    pub fn go_on<R: Threads + Wait + Sync>(self, rt: &R, alloc: Global) -> Result<Self, Untold>
+        requires { self.events + most_events < 2 ^ 64 }
+        ensures { IfOk result (λ next. GoesToNext A.counts_of B.counts_of self next) }
+    {
+        let Course {
+            board,
+            lanes,
+            events,
+        } = self;
+        match serve_period(rt, alloc, board, lanes) {
+            Ok(
+                Period {
+                    board,
+                    lanes,
+                    history,
+                },
+            ) => Ok(Course {
+                board,
+                lanes,
+                events: events + history.len(),
+            }),
+            Err(why) => Err(why),
+        }
+    }
+}
+
+/// Serves a board over two lanes until both workers made all their turns. Each history that is full is closed, which checks that its seats'
+/// lists are the history's; then the next period begins with the same board, ports and links, and the turns that are left. What comes
+/// meanwhile waits in the links.
+pub fn serve_periods<A, B, R>(
+    rt: &R,
+    alloc: Global,
+    board: Board<Records>,
+    lanes: Lanes<A, B>,
+) -> Result<Course<A, B>, Untold>
+where
+    A: Link + Send + Drop,
+    B: Link + Send + Drop,
+    R: Threads + Wait + Sync,
+    ensures runs { IfOk result
+        (RunsTo A.counts_of B.counts_of board.setup (state_of own_records board) lanes) }
+    ensures over { IfOk result (λ course. AreOver course.lanes) }
+{
+    let most = u64::from(lanes.first.turns) + u64::from(lanes.second.turns);
+    let mut course = Course::new(board, lanes);
+    for _ in 0..most {
+        if course.is_over() {
+            return Ok(course);
+        }
+        match course.go_on(rt, alloc) {
+            Ok(next) => course = next,
+            Err(why) => return Err(why),
+        }
+    }
+    Ok(course)
+}

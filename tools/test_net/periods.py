@@ -1,0 +1,39 @@
+"""Servers whose histories go over several periods."""
+from test_net.plans import IPMB, SMBUS
+from test_net.servers import Asker, Server, call, expect
+
+# The most events of a history.
+ROOM = 4096
+# A Get of the power restore policy on IPMB (Get Chassis Status), and one of a BIOS attribute on SMBus.
+POLICY = (IPMB, (0x00, 0x01))
+ATTRIBUTE = (SMBUS, (0x03, 0x08, bytes([0, 0, 0, 0, 1, 1, 0])))
+# How often a run and its undo listen, and a server.
+TURNS = 300
+SERVED_TURNS = 12000
+
+
+def drive(asker, gets, count):
+    """Asks so many Gets, each a request of its own, which all show the same."""
+    shown = {get: asker.get(*get) for get in gets}
+    for place in range(count - len(gets)):
+        get = gets[place % len(gets)]
+        expect(f"the Get {get}", asker.get(*get), shown[get])
+
+
+def three_periods(program, folder, board, plan, requests):
+    """A plan runs while one period ends, and is undone while the next one does. What was answered before both changes is repeated behind them, and
+    is answered from what is kept. Each request is one event, of all periods."""
+    undo = f"{folder}/undo.txt"
+    with Server(program, board, SERVED_TURNS, "--periods") as server:
+        with Asker(server.ports, 0x42, 0x0C) as first, Asker(server.ports, 0x44, 0x0D) as other:
+            early = [(IPMB, first.ipmb(*POLICY[1])), (SMBUS, first.smbus(*ATTRIBUTE[1]))]
+            replies = [first.ask(*frame) for frame in early]
+            expect("the codes of the first requests", [reply[:1] for reply in replies], [b"\0", b"\0"])
+            drive(other, [POLICY, ATTRIBUTE], ROOM - len(early) - requests // 2)
+            expect("run", call(program, "run", plan, *server.ports, TURNS, undo), (0, "phase Done\n", ""))
+            expect("repeats in the second period", [first.ask(*frame) for frame in early], replies)
+            # The undo has half as many requests: the second period ends in its midst.
+            drive(other, [POLICY, ATTRIBUTE], ROOM - requests // 2 - requests // 4)
+            expect("undo", call(program, "undo", undo, *server.ports, TURNS), (0, "phase Undone\n", ""))
+            expect("repeats in the third period", [first.ask(*frame) for frame in early], replies)
+        expect("serve", server.ended(), (0, f"served {2 * ROOM + requests // 4}\nrecords same\n", ""))
