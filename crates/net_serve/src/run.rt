@@ -32,6 +32,16 @@ pub struct ServeWords {
     pub smbus_port: u16,
     /// How many turns each worker makes.
     pub turns: u32,
+    /// How many milliseconds of quiet end a turn.
+    pub wait_ms: u32,
+    /// After how many turns in a row in which neither port heard something the serving ends.
+    pub quiet: Option<u32>,
+    /// After how many turns in a row in which nothing came from a requester its port forgets it.
+    pub forget: Option<u32>,
+    /// Whether a history that is full is closed, and another begun.
+    pub periods: bool,
+    /// The word of the file of readings.
+    pub readings: Option<String>,
 }
 
 /// The controller's ends of both buses.
