@@ -16,7 +16,7 @@ use Rattle.bmc_lab.specs.declared.status.Status.TheVariants.{Stopped}
 use Rattle.bmc_lab.specs.declared.ending.Untold.{Untold}
 use Rattle.bmc_lab.specs.declared.ending.Untold.TheVariants as untold
 use Rattle.bmc_lab.specs.Ending.{Tells}
-use Rattle.net_run.specs.Driven.{State, DrivesFrom, Goes, opened_with, fresh_links}
+use Rattle.net_run.specs.Driven.{State, DrivesAgain, From, Goes, opened_with, fresh_links}
 use Rattle.bmc_net.specs.declared.inputs.Inputs.{Inputs}
 use Rattle.bmc_net.specs.Inputs.{AreRead}
 use Rattle.bmc_net.specs.Paired.{RunsAndUndoes, TellsPair}
@@ -31,7 +31,7 @@ is_fault A why memory (inr r) = inr r
 
 -- whatever comes of a call, the manager shows some machine then
 pub shown_then : (called : Option (ManagerDeed (board_plans lab_names))) (turns : ℕ) (before : State) (m : Manager) (phase : Phase) (counted counts : Links)
-    → DrivesFrom called turns before m phase counted counts → (s : State) × Shows lab_names m s
+    → From (DrivesAgain 0 turns) called before m phase counted counts → (s : State) × Shows lab_names m s
 shown_then (Some deed) turns before m phase counted counts drives = (drives.after, drives.shown)
 shown_then None turns before m phase counted counts rests = (before, rests.shown)
 

@@ -3,7 +3,7 @@ ghost use Rattle.std.specs.Prelude.{◌≡◌, IfOk};
 ghost use Rattle.bmc_links.specs.Counted.{none_counted};
 
 use bmc_links::{LinkFault, UdpLink};
-use net_serve::WAIT_MS;
+use net_run::WAIT_MS;
 use std::net::Net;
 
 /// One side's ends of both buses.

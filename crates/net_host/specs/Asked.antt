@@ -1,7 +1,8 @@
 -- What the words of the command line ask for.
-use Rattle.std.specs.Prelude.{◌≡◌, ◌<◌, ◌^◌, ℕ, List, [], Option, Some, codes, string_bytes}
+use Rattle.std.specs.Prelude.{◌≡◌, ◌≤◌, ◌<◌, ◌^◌, ◌⊎◌, ℕ, List, [], Option, None, Some, codes, string_bytes}
 use Rattle.std.specs.Net.Grammar.{IsNumber}
 use Rattle.clap.specs.Words.{Row, Text, fault_of, first_of, subcommand_of}
+use Rattle.host_base.specs.Asked.{is_given}
 use Rattle.net_serve.specs.declared.run.ServeWords.{ServeWords}
 use Rattle.net_run.specs.declared.running.RunWords.{RunWords}
 use Rattle.net_run.specs.declared.undoing.UndoWords.{UndoWords}
@@ -22,12 +23,27 @@ NamesPort rows name port = NamesNumber 16 rows name port
 abbrev pub NamesTurns : List Row → (turns : ℕ) → Type 0
 NamesTurns rows turns = NamesNumber 32 rows (codes "TURNS") turns
 
+-- the option of this name is this number of 32 bits, in decimal digits, from the least one on; or it isn't given, and there is none
+abbrev pub NamesOption : (least : ℕ) → List Row → (name : Text) → Option ℕ → Type 0
+NamesOption least rows name None = first_of name rows ≡ None
+NamesOption least rows name (Some number) = NamesNumber 32 rows name number × (least ≤ number)
+
+-- it is this number, which is the usual one where the option isn't given
+abbrev pub NamesOr : (least usual : ℕ) → List Row → (name : Text) → (number : ℕ) → Type 0
+NamesOr least usual rows name number = NamesOption least rows name (Some number) ⊎ (NamesOption least rows name None × (number ≡ usual))
+
+-- so many milliseconds of quiet end a turn: 200, unless the option `--wait` says otherwise
+abbrev pub NamesWait : List Row → (wait : ℕ) → Type 0
+NamesWait rows wait = NamesOr 1 200 rows (codes "wait") wait
+
 -- what was matched behind `serve` asks for this
 pub record AsksServe (rows : List Row) (asked : ServeWords) : Type 0 where
   pub board : first_of (codes "BOARD") rows ≡ Some (string_bytes asked.board)
   pub ipmb : NamesPort rows (codes "P0") asked.ipmb_port
   pub smbus : NamesPort rows (codes "P1") asked.smbus_port
   pub turns : NamesTurns rows asked.turns
+  pub wait : NamesWait rows asked.wait_ms
+  pub periods : is_given (codes "periods") rows ≡ asked.periods
 
 -- what was matched behind `run` asks for this
 pub record AsksRun (rows : List Row) (asked : RunWords) : Type 0 where
@@ -36,6 +52,9 @@ pub record AsksRun (rows : List Row) (asked : RunWords) : Type 0 where
   pub smbus : NamesPort rows (codes "P1") asked.smbus_port
   pub turns : NamesTurns rows asked.turns
   pub undo : first_of (codes "UNDO") rows ≡ Some (string_bytes asked.undo)
+  pub wait : NamesWait rows asked.wait_ms
+  pub again : NamesOr 0 0 rows (codes "again") asked.again
+  pub forget : NamesOption 1 rows (codes "forget") asked.forget
 
 -- what was matched behind `undo` asks for this
 pub record AsksUndo (rows : List Row) (asked : UndoWords) : Type 0 where
@@ -43,6 +62,7 @@ pub record AsksUndo (rows : List Row) (asked : UndoWords) : Type 0 where
   pub ipmb : NamesPort rows (codes "P0") asked.ipmb_port
   pub smbus : NamesPort rows (codes "P1") asked.smbus_port
   pub turns : NamesTurns rows asked.turns
+  pub wait : NamesWait rows asked.wait_ms
 
 -- what was matched behind `pair` asks for this
 pub record AsksPair (rows : List Row) (asked : PairWords) : Type 0 where

@@ -20,7 +20,7 @@ abbrev pub EndsAsAsked : {Files W E : Type 0} → (out : W → Option (List ℕ)
 EndsAsAsked out err gives takes (Serve asked) before after old new result =
     (after ≡ before) × ServeEnds out err gives asked old new result
 EndsAsAsked out err gives takes (Run asked) before after old new result =
-    RunEndsOf out err gives takes (string_bytes asked.plan) asked.turns (string_bytes asked.undo) before after old new result
+    RunEndsOf out err gives takes (string_bytes asked.plan) asked before after old new result
 EndsAsAsked out err gives takes (Undo asked) before after old new result =
     (after ≡ before) × RunEnds out err (SaysOfList gives (string_bytes asked.undo) asked.turns) old new result
 EndsAsAsked out err gives takes (Pair asked) before after old new result =

@@ -4,6 +4,7 @@
 pub mod file;
 pub mod number;
 pub mod run;
+mod tasks;
 pub mod words;
 
 pub use file::NetFiles;

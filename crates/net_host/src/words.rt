@@ -1,16 +1,16 @@
 //! The words of the command line.
 ghost use Rattle.std.specs.Prelude.{◌≡◌, IfOk, IfErr, map, string_bytes};
-ghost use Rattle.clap.specs.Words.{app_of, found_of, rows_of, subcommand_rows_of};
-ghost use Rattle.host_base.specs.Line.{IsCommand};
+ghost use Rattle.clap.specs.Words.{found_of, rows_of, subcommand_rows_of};
 ghost use Rattle.host_base.specs.Asked.{Refuses};
-ghost use Rattle.net_host.specs.Line.{app_named, program, serves};
-ghost use Rattle.net_host.specs.Asked.{AsksBy, AsksFor, AsksPair, AsksRun, AsksServe, AsksUndo, NamesPort, NamesTurns};
+ghost use Rattle.net_host.specs.Asked.{AsksBy, AsksFor, AsksPair, AsksRun, AsksServe, AsksUndo};
+ghost use Rattle.net_host.specs.Asked.{NamesOption, NamesOr, NamesPort, NamesTurns, NamesWait};
 
-use crate::number::{port_of, turns_of};
-use bmc_net::{PairWords, RunWords, ServeWords, UndoWords};
+use crate::number::{number_from, number_of, port_of};
+use crate::tasks::{Task, command};
+use bmc_net::{PairWords, RunWords, ServeWords, UndoWords, WAIT_MS};
+use clap::ArgMatches;
 use clap::error::ErrorKind;
-use clap::{ArgMatches, Command};
-use host_base::{Refusal, lacking, named, needed, new_command, refusal_by, refusal_of};
+use host_base::{Refusal, has_flag, lacking, named, refusal_by, refusal_of};
 use std::alloc::{AllocError, Global};
 
 /// What the words ask for.
@@ -22,148 +22,18 @@ pub enum Words {
     Pair(PairWords),
 }
 
-/// What `bmcnet` can do.
-#[derive(Clone, Copy, Debug, PartialEq, Eq)]
-enum Task {
-    Serve,
-    Run,
-    Undo,
-    Pair,
-}
-
-const BOARD_HELP: &str = "The board file, as sample.toml";
-
-const PLAN_HELP: &str = "The plan, as examples/clean/plan.toml";
-
-const P0_HELP: &str = "The UDP port of IPMB on 127.0.0.1, as 9620: a decimal number up to 65535";
-
-const P1_HELP: &str = "The UDP port of SMBus on 127.0.0.1, as 9621: a decimal number up to 65535";
-
-const TURNS_HELP: &str =
-    "How often to listen, each time for a datagram or 200 ms of quiet, as 1000: \
-a decimal number up to 4294967295";
-
-const SERVE_ABOUT: &str =
-    "Serves a board's two ports over UDP, and prints how many requests it carried out and which records differ";
-
-const SERVE_EXAMPLES: &str = "Examples:
-  bmcnet serve sample.toml 9620 9621 1000";
-
-/// `serve BOARD P0 P1 TURNS`.
-fn serve_command<'a>(alloc: Global) -> Result<Command<'a>, AllocError>
-    ensures { IfOk result (IsCommand (app_named Task.Serve)) }
-{
-    new_command(alloc, "serve", SERVE_ABOUT, SERVE_EXAMPLES)
-        .arg(needed(alloc, "BOARD", BOARD_HELP))?
-        .arg(needed(alloc, "P0", P0_HELP))?
-        .arg(needed(alloc, "P1", P1_HELP))?
-        .arg(needed(alloc, "TURNS", TURNS_HELP))
-}
-
-const RUN_ABOUT: &str = "Runs a plan on a controller that is served, and writes the undo text";
-
-const UNDO_FILE_HELP: &str = "The file that gets the undo text, as undo.txt";
-
-const RUN_EXAMPLES: &str = "Examples:
-  bmcnet run examples/clean/plan.toml 9620 9621 1000 undo.txt";
-
-/// `run PLAN P0 P1 TURNS UNDO`.
-fn run_command<'a>(alloc: Global) -> Result<Command<'a>, AllocError>
-    ensures { IfOk result (IsCommand (app_named Task.Run)) }
-{
-    new_command(alloc, "run", RUN_ABOUT, RUN_EXAMPLES)
-        .arg(needed(alloc, "PLAN", PLAN_HELP))?
-        .arg(needed(alloc, "P0", P0_HELP))?
-        .arg(needed(alloc, "P1", P1_HELP))?
-        .arg(needed(alloc, "TURNS", TURNS_HELP))?
-        .arg(needed(alloc, "UNDO", UNDO_FILE_HELP))
-}
-
-const UNDO_ABOUT: &str = "Takes back what a run did on a controller that is served";
-
-const UNDO_TEXT_HELP: &str = "The undo text that the run wrote, as undo.txt";
-
-const UNDO_EXAMPLES: &str = "Examples:
-  bmcnet undo undo.txt 9620 9621 1000";
-
-/// `undo UNDO P0 P1 TURNS`.
-fn undo_command<'a>(alloc: Global) -> Result<Command<'a>, AllocError>
-    ensures { IfOk result (IsCommand (app_named Task.Undo)) }
-{
-    new_command(alloc, "undo", UNDO_ABOUT, UNDO_EXAMPLES)
-        .arg(needed(alloc, "UNDO", UNDO_TEXT_HELP))?
-        .arg(needed(alloc, "P0", P0_HELP))?
-        .arg(needed(alloc, "P1", P1_HELP))?
-        .arg(needed(alloc, "TURNS", TURNS_HELP))
-}
-
-const PAIR_ABOUT: &str =
-    "Serves a board, runs a plan on it and takes the plan back, in one process over UDP";
-
-const PAIR_EXAMPLES: &str = "Examples:
-  bmcnet pair sample.toml examples/reply_lost/plan.toml 20";
-
-/// `pair BOARD PLAN TURNS`.
-fn pair_command<'a>(alloc: Global) -> Result<Command<'a>, AllocError>
-    ensures { IfOk result (IsCommand (app_named Task.Pair)) }
-{
-    new_command(alloc, "pair", PAIR_ABOUT, PAIR_EXAMPLES)
-        .arg(needed(alloc, "BOARD", BOARD_HELP))?
-        .arg(needed(alloc, "PLAN", PLAN_HELP))?
-        .arg(needed(alloc, "TURNS", TURNS_HELP))
-}
-
-impl Task {
-    /// The command that does it.
-    fn command<'a>(self, alloc: Global) -> Result<Command<'a>, AllocError>
-        ensures { IfOk result (IsCommand (app_named self)) }
-    {
-        match self {
-            Task::Serve => serve_command(alloc),
-            Task::Run => run_command(alloc),
-            Task::Undo => undo_command(alloc),
-            Task::Pair => pair_command(alloc),
-        }
+/// The refusal of a word that isn't such a number, for the reason that the message gives.
+fn value_refusal(alloc: Global, task: Task, message: Result<String, AllocError>) -> Refusal {
+    match message {
+        Ok(message) => refusal_by(
+            alloc,
+            task.command(alloc),
+            task.name(),
+            ErrorKind::ValueValidation,
+            message.as_str(),
+        ),
+        Err(_) => Refusal::Memory,
     }
-
-    /// What its usage calls it.
-    fn name(self) -> &'static str {
-        match self {
-            Task::Serve => "bmcnet serve",
-            Task::Run => "bmcnet run",
-            Task::Undo => "bmcnet undo",
-            Task::Pair => "bmcnet pair",
-        }
-    }
-}
-
-const ABOUT: &str =
-    "Serves a modelled board controller over UDP on this machine, and runs plans on one and takes them back";
-
-const EXAMPLES: &str = "Examples:
-  bmcnet serve sample.toml 9620 9621 1000
-  bmcnet run examples/clean/plan.toml 9620 9621 1000 undo.txt
-  bmcnet undo undo.txt 9620 9621 1000
-  bmcnet pair sample.toml examples/reply_lost/plan.toml 20";
-
-/// `bmcnet`, and what it does with one side.
-fn side_commands<'a>(alloc: Global) -> Result<Command<'a>, AllocError>
-    ensures { IfOk result (λ command. app_of command ≡ serves) }
-{
-    new_command(alloc, "bmcnet", ABOUT, EXAMPLES)
-        .bin_name("bmcnet")?
-        .subcommand_required(true)
-        .subcommand(serve_command(alloc)?)?
-        .subcommand(run_command(alloc)?)
-}
-
-/// `bmcnet`, and what it can do.
-fn command<'a>(alloc: Global) -> Result<Command<'a>, AllocError>
-    ensures { IfOk result (λ command. app_of command ≡ program) }
-{
-    side_commands(alloc)?
-        .subcommand(undo_command(alloc)?)?
-        .subcommand(pair_command(alloc)?)
 }
 
 /// The refusal of a word that isn't a decimal number up to this one.
@@ -171,19 +41,23 @@ fn number_refusal(alloc: Global, task: Task, name: &str, word: &str, most: u32) 
     let message = format!(in alloc;
         "invalid value '{word}' for '<{name}>': a decimal number from 0 to {most}"
     );
-    match message {
-        Ok(message) => {
-            let kind = ErrorKind::ValueValidation;
-            refusal_by(
-                alloc,
-                task.command(alloc),
-                task.name(),
-                kind,
-                message.as_str(),
-            )
-        }
-        Err(_) => Refusal::Memory,
-    }
+    value_refusal(alloc, task, message)
+}
+
+/// The refusal of an option's word that isn't a decimal number of 32 bits from the least one on.
+fn option_refusal(
+    alloc: Global,
+    task: Task,
+    name: &str,
+    value: &str,
+    least: u32,
+    word: &str,
+) -> Refusal {
+    let most = u32::MAX;
+    let message = format!(in alloc;
+        "invalid value '{word}' for '--{name} <{value}>': a decimal number from {least} to {most}"
+    );
+    value_refusal(alloc, task, message)
 }
 
 /// The port that the word of this name is.
@@ -208,10 +82,59 @@ fn turns(alloc: Global, matches: &ArgMatches, task: Task) -> Result<u32, Refusal
     let Some(word) = matches.get_str("TURNS") else {
         return Err(lacking(alloc));
     };
-    match turns_of(word) {
+    match number_of(word) {
         Some(turns) => Ok(turns),
         None => Err(number_refusal(alloc, task, "TURNS", word, u32::MAX)),
     }
+}
+
+/// The number, from the least one on, that the option of this name is, where it is given. Its usage calls the number `value`.
+fn number_given(
+    alloc: Global,
+    matches: &ArgMatches,
+    task: Task,
+    name: &str,
+    value: &str,
+    least: u32,
+) -> Result<Option<u32>, Refusal>
+    ensures number { IfOk result (NamesOption least (rows_of (found_of matches.now)) name.now) }
+    ensures refused { IfErr result (Refuses (NamesOption least (rows_of (found_of matches.now)) name.now)) }
+{
+    let Some(word) = matches.get_str(name) else {
+        return Ok(None);
+    };
+    match number_from(least, word) {
+        Some(number) => Ok(Some(number)),
+        None => Err(option_refusal(alloc, task, name, value, least, word)),
+    }
+}
+
+/// The same, or the usual number where the option isn't given.
+fn number_or(
+    alloc: Global,
+    matches: &ArgMatches,
+    task: Task,
+    name: &str,
+    value: &str,
+    least: u32,
+    usual: u32,
+) -> Result<u32, Refusal>
+    ensures number { IfOk result (NamesOr least usual (rows_of (found_of matches.now)) name.now) }
+    ensures refused { IfErr result (Refuses (NamesOr least usual (rows_of (found_of matches.now)) name.now)) }
+{
+    match number_given(alloc, matches, task, name, value, least) {
+        Ok(Some(number)) => Ok(number),
+        Ok(None) => Ok(usual),
+        Err(refusal) => Err(refusal),
+    }
+}
+
+/// How many milliseconds of quiet end a turn, by the option `--wait`.
+fn wait(alloc: Global, matches: &ArgMatches, task: Task) -> Result<u32, Refusal>
+    ensures wait { IfOk result (NamesWait (rows_of (found_of matches.now))) }
+    ensures refused { IfErr result (Refuses (NamesWait (rows_of (found_of matches.now)))) }
+{
+    number_or(alloc, matches, task, "wait", "MS", 1, WAIT_MS)
 }
 
 /// What the words behind `serve` ask for.
@@ -224,11 +147,8 @@ fn serve_words(alloc: Global, matches: &ArgMatches) -> Result<ServeWords, Refusa
         ipmb_port: port(alloc, matches, Task::Serve, "P0")?,
         smbus_port: port(alloc, matches, Task::Serve, "P1")?,
         turns: turns(alloc, matches, Task::Serve)?,
-        wait_ms: 200,
-        quiet: None,
-        forget: None,
-        periods: false,
-        readings: None,
+        wait_ms: wait(alloc, matches, Task::Serve)?,
+        periods: has_flag(matches, "periods"),
     })
 }
 
@@ -243,6 +163,9 @@ fn run_words(alloc: Global, matches: &ArgMatches) -> Result<RunWords, Refusal>
         smbus_port: port(alloc, matches, Task::Run, "P1")?,
         turns: turns(alloc, matches, Task::Run)?,
         undo: named(alloc, matches, "UNDO")?,
+        wait_ms: wait(alloc, matches, Task::Run)?,
+        again: number_or(alloc, matches, Task::Run, "again", "N", 0, 0)?,
+        forget: number_given(alloc, matches, Task::Run, "forget", "N", 1)?,
     })
 }
 
@@ -256,6 +179,7 @@ fn undo_words(alloc: Global, matches: &ArgMatches) -> Result<UndoWords, Refusal>
         ipmb_port: port(alloc, matches, Task::Undo, "P0")?,
         smbus_port: port(alloc, matches, Task::Undo, "P1")?,
         turns: turns(alloc, matches, Task::Undo)?,
+        wait_ms: wait(alloc, matches, Task::Undo)?,
     })
 }
 

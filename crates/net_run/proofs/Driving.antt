@@ -1,6 +1,6 @@
 -- A manager that is called, and then driven.
 use Rattle.std.specs.Prelude.{Option, Some, None}
-use Rattle.std.proofs.Common.{◌≡◌, refl, ℕ, Ok, Err}
+use Rattle.std.proofs.Common.{◌≡◌, refl, Ok, Err}
 use Rattle.model_undo.specs.declared.phase.Phase.{Phase}
 use Rattle.model_undo.specs.Machine.{phase_of}
 use Rattle.model_lab.specs.Meaning.{lab_names}
@@ -11,24 +11,24 @@ use Rattle.undo_core.specs.declared.sending.Sent.{Sent}
 use Rattle.undo_core.specs.Shown.{words_of, Shows, IsCalled}
 use Rattle.bmc_links.specs.declared.link.Counts.{Counts}
 use Rattle.bmc_links.specs.Counted.{none_counted}
-use Rattle.bmc_drive.specs.Driving.{Links, Drives, both}
-use Rattle.net_run.specs.Driven.{State, DrivesFrom, fresh_links}
+use Rattle.bmc_drive.specs.Driving.{Links, both}
+use Rattle.net_run.specs.Driven.{State, From, fresh_links}
 
--- the call was taken, and the manager was driven from then on
-pub goes_on : (turns : ℕ) (before : State) (mid last : Manager) (first : Option Sent) (phase : Phase) (counted counts : Links) (called : Option (ManagerDeed (board_plans lab_names)))
-    → IsCalled lab_names before mid (Ok first) called
-    → ((s : State) → Shows lab_names mid s → Drives lab_names turns s last phase counted counts)
-    → DrivesFrom called turns before last phase counted counts
-goes_on turns before mid last first phase counted counts (Some deed) is drives = drives deed.manager is.0
-goes_on turns before mid last first phase counted counts None is drives = absurd is
+-- the call was taken, and that became of the manager from then on
+pub goes_on : (Becomes : State → Manager → Phase → Links → Links → Type 0) (before : State) (mid last : Manager) (first : Option Sent) (phase : Phase) (counted counts : Links)
+    → (called : Option (ManagerDeed (board_plans lab_names))) → IsCalled lab_names before mid (Ok first) called
+    → ((s : State) → Shows lab_names mid s → Becomes s last phase counted counts)
+    → From Becomes called before last phase counted counts
+goes_on Becomes before mid last first phase counted counts (Some deed) is becomes = becomes deed.manager is.0
+goes_on Becomes before mid last first phase counted counts None is becomes = absurd is
 
 -- the call was refused
-pub rests : (turns : ℕ) (before : State) (m : Manager) (wrong : WrongPhase) (phase : Phase) (counts : Links) (called : Option (ManagerDeed (board_plans lab_names)))
-    → IsCalled lab_names before m (Err wrong) called
+pub rests : (Becomes : State → Manager → Phase → Links → Links → Type 0) (before : State) (m : Manager) (wrong : WrongPhase) (phase : Phase) (counts : Links)
+    → (called : Option (ManagerDeed (board_plans lab_names))) → IsCalled lab_names before m (Err wrong) called
     → ((s : State) → Shows lab_names m s → phase ≡ phase_of (words_of lab_names) s.machine)
-    → DrivesFrom called turns before m phase counts counts
-rests turns before m wrong phase counts (Some deed) is named = absurd is
-rests turns before m wrong phase counts None is named = record { shown = is; phase_is = named before is; same = refl }
+    → From Becomes called before m phase counts counts
+rests Becomes before m wrong phase counts (Some deed) is named = absurd is
+rests Becomes before m wrong phase counts None is named = record { shown = is; phase_is = named before is; same = refl }
 
 -- links that have counted nothing
 pub fresh : (ipmb smbus : Counts) → ipmb ≡ none_counted → smbus ≡ none_counted → both ipmb smbus ≡ fresh_links

@@ -1,16 +1,16 @@
 -- A manager that is called, and then driven over two links.
-use Rattle.std.specs.Prelude.{◌≡◌, ◌%◌, ℕ, Bool, true, false, Option, Some, None}
+use Rattle.std.specs.Prelude.{◌≡◌, ◌⊎◌, ◌+◌, ◌<◌, ◌%◌, ℕ, zero, suc, Bool, true, false, Option, Some, None}
 use Rattle.undo_plans.specs.declared.plan.Plan.{Plan}
 use Rattle.undo_plans.specs.declared.undo_list.UndoList.{UndoList}
 use Rattle.mctp_net.specs.Assembly.{nothing}
 use Rattle.model_undo.specs.declared.phase.Phase.{Phase}
-use Rattle.model_undo.specs.declared.phase.Phase.TheVariants.{Done, Halted}
+use Rattle.model_undo.specs.declared.phase.Phase.TheVariants.{Done, Halted, Unsettled}
 use Rattle.model_undo.specs.Machine.{opened, phase_of}
 use Rattle.model_undo.specs.Resume.{resumed}
 use Rattle.model_lab.specs.Meaning.{lab_names}
 use Rattle.model_lab.specs.ManagerSteps.{ManagerState, ManagerDeed, board_plans, called}
 use Rattle.text_schedule.specs.declared.event.Call.{Call}
-use Rattle.text_schedule.specs.declared.event.Call.TheVariants.{Start, Undo}
+use Rattle.text_schedule.specs.declared.event.Call.TheVariants.{Start, Undo, Again}
 use Rattle.undo_core.specs.declared.manager.Manager.{Manager}
 use Rattle.undo_core.specs.Shown.{words_of, backs, Shows}
 use Rattle.bmc_links.specs.Counted.{none_counted}
@@ -46,19 +46,68 @@ pub record Rests (before : State) (m : Manager) (phase : Phase) (counted counts 
   pub phase_is : phase ≡ phase_of (words_of lab_names) before.machine
   pub same : counts ≡ counted
 
--- what comes of a call: what driving the manager for at most so many turns gives, or nothing, where the phase isn't one for the call
-abbrev pub DrivesFrom : Option (ManagerDeed (board_plans lab_names)) → (turns : ℕ) → State → Manager → Phase → (counted counts : Links) → Type 0
-DrivesFrom (Some deed) turns before m phase counted counts = Drives lab_names turns deed.manager m phase counted counts
-DrivesFrom None turns before m phase counted counts = Rests before m phase counted counts
+-- what comes of a call: what then becomes of the manager, or nothing, where the phase isn't one for the call
+abbrev pub From : (State → Manager → Phase → Links → Links → Type 0) → Option (ManagerDeed (board_plans lab_names)) → State → Manager → Phase → (counted counts : Links) → Type 0
+From Becomes (Some deed) before = Becomes deed.manager
+From Becomes None before = Rests before
 
--- A manager was called, and driven from then on. It is this one, in this phase.
+-- ---- a manager that is called again where it is unsettled
+
+-- a request is open, and isn't heeded
+abbrev pub is_unsettled : Phase → Bool
+is_unsettled (Unsettled k) = true
+is_unsettled _ = false
+
+-- The manager was driven for so many turns, and not before the last of them was it unsettled by one.
+pub record UpToLast (turns : ℕ) (before : State) (m : Manager) (phase : Phase) (counted counts : Links) : Type 0 where
+  pub fewer : ℕ
+  pub one_more : suc fewer ≡ turns
+  pub mid : Manager
+  pub heeded : Phase
+  pub met : Links
+  pub first : Drives lab_names fewer before mid heeded counted met
+  pub is_heeded : (fewer ≡ 0) ⊎ (is_unsettled heeded ≡ false)
+  pub last : Drives lab_names 1 first.after m phase met counts
+
+-- The manager was driven for at most so many turns, and wasn't unsettled while some of them were left: it need not be called again.
+abbrev pub Stays : (turns : ℕ) → State → Manager → Phase → (counted counts : Links) → Type 0
+Stays turns before m phase counted counts =
+    (Drives lab_names turns before m phase counted counts × ((is_unsettled phase ≡ false) ⊎ (turns ≡ 0)))
+    ⊎ UpToLast turns before m phase counted counts
+
+-- A turn left the manager unsettled while others were left. It was called again, and that became of it in the turns that were left.
+pub record Retakes (Becomes : (left : ℕ) → State → Manager → Phase → Links → Links → Type 0) (turns : ℕ) (before : State) (m : Manager) (phase : Phase) (counted counts : Links) : Type 0 where
+  pub made : ℕ
+  pub left : ℕ
+  pub all : made + left ≡ turns
+  pub some_left : 0 < left
+  pub mid : Manager
+  pub stopped : Phase
+  pub met : Links
+  pub drives : UpToLast made before mid stopped counted met
+  pub unsettled : is_unsettled stopped ≡ true
+  pub again : From (Becomes left) (called (board_plans lab_names) Again drives.last.after) drives.last.after m phase met counts
+
+-- the manager was driven for at most so many turns, and called again, where a turn left it unsettled, up to so many times
+abbrev pub DrivesAgain : (agains turns : ℕ) → State → Manager → Phase → (counted counts : Links) → Type 0
+DrivesAgain zero turns before m phase counted counts = Drives lab_names turns before m phase counted counts
+DrivesAgain (suc more) turns before m phase counted counts =
+    Stays turns before m phase counted counts ⊎ Retakes (DrivesAgain more) turns before m phase counted counts
+
+-- ---- a manager that is called, and driven from then on
+
+-- it is this one, in this phase, after at most so many turns and as many calls to try again
+abbrev pub GoesAgain : (agains : ℕ) → Call → (turns : ℕ) → State → Manager → Phase → (counted counts : Links) → Type 0
+GoesAgain agains call turns before = From (DrivesAgain agains turns) (called (board_plans lab_names) call before) before
+
+-- likewise, and it was never called again
 abbrev pub Goes : Call → (turns : ℕ) → State → Manager → Phase → (counted counts : Links) → Type 0
-Goes call turns before = DrivesFrom (called (board_plans lab_names) call before) turns before
+Goes = GoesAgain 0
 
--- a manager ran the plan over links of its own, for at most so many turns
-pub record Runs (plan : Plan) (turns : ℕ) (m : Manager) (phase : Phase) : Type 0 where
+-- a manager ran the plan over links of its own, for at most so many turns, and was called again up to so many times
+pub record Runs (plan : Plan) (turns agains : ℕ) (m : Manager) (phase : Phase) : Type 0 where
   pub counts : Links
-  pub goes : Goes Start turns (opened_with plan) m phase fresh_links counts
+  pub goes : GoesAgain agains Start turns (opened_with plan) m phase fresh_links counts
 
 -- a manager went on from the list over links of its own, for at most so many turns, and undid it as far as it came
 pub record Undoes (list : UndoList) (turns : ℕ) (m : Manager) (phase : Phase) : Type 0 where

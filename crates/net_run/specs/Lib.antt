@@ -1,4 +1,5 @@
 pub mod Driven
+pub mod Stops
 pub mod Lines
 pub mod Ends
 pub mod Run

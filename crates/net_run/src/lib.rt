@@ -8,6 +8,7 @@ mod lines;
 mod links;
 mod names;
 pub mod running;
+mod trying;
 pub mod undoing;
 
 pub use driven::{open_manager, resume_manager, run_plan, undo_plan};
@@ -15,4 +16,5 @@ pub use files::{Unwritten, WritesFiles};
 pub use lines::push_phase;
 pub use links::WAIT_MS;
 pub use running::{RunWords, run};
+pub use trying::try_plan;
 pub use undoing::{UndoWords, undo};

@@ -10,11 +10,13 @@ ghost use Rattle.net_run.specs.Driven.{Runs, State, is_over};
 ghost use Rattle.net_run.specs.Ends.{Nothing, SaysPhase, TellsBoth};
 ghost use Rattle.net_run.specs.Run.{EndsUnkept, Keeps, RunEndsOf, RunEndsOn, RunEndsOver, SaysFault};
 
-use crate::driven::{open_manager, run_plan};
+use crate::driven::open_manager;
 use crate::files::{Unwritten, WritesFiles};
 use crate::lines::{phase_report, plan_refusal};
-use crate::links::{Ends, open_ends};
+use crate::links::{Ends, open_ends, sit_out};
+use crate::trying::try_plan;
 use bmc_lab::{Console, Ending, Report, Status, TextFiles, Untold, end_run, refuse, text_of};
+use bmc_links::LinkFault;
 use plan_file::{PlanFault, read_plan};
 use std::alloc::{AllocError, Global};
 use std::io;
@@ -36,6 +38,12 @@ pub struct RunWords {
     pub turns: u32,
     /// The word of the file that gets the undo text.
     pub undo: String,
+    /// How many milliseconds of quiet end a turn.
+    pub wait_ms: u32,
+    /// How often the manager is called again that is unsettled.
+    pub again: u32,
+    /// How many turns to wait before the run begins.
+    pub forget: Option<u32>,
 }
 
 /// A manager that ran a plan, and its phase.
@@ -45,11 +53,24 @@ struct Ran {
     phase: Phase,
 }
 
-/// Runs a plan over links to these ports.
+/// Lets go by the turns that the words ask for before a run.
+fn wait_first<R: Net>(rt: &R, words: &RunWords) -> Result<(), Untold> {
+    let Some(turns) = words.forget else {
+        return Ok(());
+    };
+    match sit_out(rt, words.wait_ms, turns) {
+        Ok(()) => Ok(()),
+        Err(LinkFault) => Err(Untold::Stopped),
+    }
+}
+
+/// Runs a plan over links to these ports, once the turns are over that it is to wait.
 fn run_on<R: Net>(rt: &R, alloc: Global, plan: Plan, words: &RunWords) -> Result<Ran, Untold>
-    ensures { IfOk result (λ ran. Runs plan words.now.turns ran.manager ran.phase) }
+    ensures { IfOk result (λ ran. Runs plan words.now.turns words.now.again ran.manager ran.phase) }
 {
-    let Some(ends) = open_ends(rt, words.ipmb_port, words.smbus_port) else {
+    wait_first(rt, words)?;
+    let ends = open_ends(rt, words.ipmb_port, words.smbus_port, words.wait_ms);
+    let Some(ends) = ends else {
         return Err(Untold::Stopped);
     };
     let Ends {
@@ -59,7 +80,13 @@ fn run_on<R: Net>(rt: &R, alloc: Global, plan: Plan, words: &RunWords) -> Result
     let Ok(mut manager) = open_manager(alloc, plan) else {
         return Err(Untold::Memory);
     };
-    let phase = run_plan(&mut manager, &mut ipmb, &mut smbus, words.turns);
+    let phase = try_plan(
+        &mut manager,
+        &mut ipmb,
+        &mut smbus,
+        words.turns,
+        words.again,
+    );
     Ok(Ran { manager, phase })
 }
 
@@ -138,7 +165,7 @@ fn run_over<F: WritesFiles, W: io::Write, E: io::Write, R: Net>(
     words: &RunWords,
     console: &mut Console<W, E>,
 ) -> u8
-    ensures { RunEndsOver W.contents E.contents F.takes plan words.now.turns (string_bytes words.now.undo) files.old files.new console.old console.new result }
+    ensures { RunEndsOver W.contents E.contents F.takes plan words.now files.old files.new console.old console.new result }
 {
     let word = words.undo.as_str();
     let ran = match run_on(rt, alloc, plan, words) {
@@ -168,7 +195,7 @@ fn run_text<F: WritesFiles, W: io::Write, E: io::Write, R: Net>(
     words: &RunWords,
     console: &mut Console<W, E>,
 ) -> u8
-    ensures { RunEndsOn W.contents E.contents F.takes text.now words.now.turns (string_bytes words.now.undo) files.old files.new console.old console.new result }
+    ensures { RunEndsOn W.contents E.contents F.takes text.now words.now files.old files.new console.old console.new result }
 {
     match read_plan(alloc, text) {
         Ok(plan) => run_over(rt, alloc, files, plan, words, console),
@@ -186,7 +213,7 @@ fn run_file<F: TextFiles + WritesFiles, W: io::Write, E: io::Write, R: Net>(
     words: &RunWords,
     console: &mut Console<W, E>,
 ) -> u8
-    ensures { RunEndsOf W.contents E.contents (F.gives files.old) F.takes word.now words.now.turns (string_bytes words.now.undo)
+    ensures { RunEndsOf W.contents E.contents (F.gives files.old) F.takes word.now words.now
         files.old files.new console.old console.new result }
 {
     match text_of(&*files, word) {
@@ -208,7 +235,7 @@ pub fn run<F: TextFiles + WritesFiles, W: io::Write, E: io::Write, R: Net>(
     words: &RunWords,
     console: &mut Console<W, E>,
 ) -> u8
-    ensures { RunEndsOf W.contents E.contents (F.gives files.old) F.takes (string_bytes words.now.plan) words.now.turns (string_bytes words.now.undo)
+    ensures { RunEndsOf W.contents E.contents (F.gives files.old) F.takes (string_bytes words.now.plan) words.now
         files.old files.new console.old console.new result }
 {
     run_file(rt, alloc, files, words.plan.as_str(), words, console)

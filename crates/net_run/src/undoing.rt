@@ -26,6 +26,8 @@ pub struct UndoWords {
     pub smbus_port: u16,
     /// How many turns the manager makes.
     pub turns: u32,
+    /// How many milliseconds of quiet end a turn.
+    pub wait_ms: u32,
 }
 
 /// A manager that undid its list as far as it came, and its phase.
@@ -44,7 +46,8 @@ fn undo_on<R: Net>(
 ) -> Result<Undone, Untold>
     ensures { IfOk result (λ undone. Undoes list words.now.turns undone.manager undone.phase) }
 {
-    let Some(ends) = open_ends(rt, words.ipmb_port, words.smbus_port) else {
+    let ends = open_ends(rt, words.ipmb_port, words.smbus_port, words.wait_ms);
+    let Some(ends) = ends else {
         return Err(Untold::Stopped);
     };
     let Ends {

@@ -36,14 +36,8 @@ pub struct ServeWords {
     pub turns: u32,
     /// How many milliseconds a link waits for a frame.
     pub wait_ms: u32,
-    /// Serving ends once both ports heard nothing for so many turns in a row, at least 1.
-    pub quiet: Option<u32>,
-    /// A requester's window is forgotten after so many turns in a row, at least 1, in which its port heard nothing of it.
-    pub forget: Option<u32>,
     /// Whether a history that is full is closed, and the next one opened.
     pub periods: bool,
-    /// The word of the file of what happens on the board beside requests.
-    pub readings: Option<String>,
 }
 
 /// What is told of the board of a file that is served at these ends.

@@ -21,10 +21,7 @@ fn serve_words(alloc: Global, board: &str, port: u16) -> Result<ServeWords, Allo
         smbus_port: 0,
         turns: 1,
         wait_ms: 200,
-        quiet: None,
-        forget: None,
         periods: false,
-        readings: None,
     })
 }
 
@@ -36,6 +33,9 @@ fn run_words(alloc: Global, plan: &str) -> Result<RunWords, AllocError> {
         smbus_port: 9,
         turns: 0,
         undo: word(alloc, "out.txt")?,
+        wait_ms: 200,
+        again: 0,
+        forget: None,
     })
 }
 
@@ -46,6 +46,7 @@ fn undo_words(alloc: Global, undo: &str) -> Result<UndoWords, AllocError> {
         ipmb_port: 9,
         smbus_port: 9,
         turns: 0,
+        wait_ms: 200,
     })
 }
 

@@ -30,6 +30,21 @@ returns-in_err-named-2-clause-refused c =
     let p = err_from_is_err_and c.from_residual-in_err-named-2.result c.from_residual-in_err-named-2.ensures.1 in
     rw (p.1, p.2) (refuses_more _ _ _ (λ asked asks. (string_bytes asked.undo, first_value-rows (found_of c.args.matches.now) (codes "UNDO") ∙ asks.undo)) c.in_err-named-2.ensures.refused)
 
+pub returns-in_err-wait-clause-refused : goal.returns-in_err-wait-clause-refused
+returns-in_err-wait-clause-refused c =
+    let p = err_from_is_err_and c.from_residual-in_err-wait.result c.from_residual-in_err-wait.ensures.1 in
+    rw (p.1, p.2) (refuses_more _ _ _ (λ asked asks. (asked.wait_ms, asks.wait)) c.in_err-wait.ensures.refused)
+
+pub returns-in_err-number_or-clause-refused : goal.returns-in_err-number_or-clause-refused
+returns-in_err-number_or-clause-refused c =
+    let p = err_from_is_err_and c.from_residual-in_err-number_or.result c.from_residual-in_err-number_or.ensures.1 in
+    rw (p.1, p.2) (refuses_more _ _ _ (λ asked asks. (asked.again, asks.again)) c.in_err-number_or.ensures.refused)
+
+pub returns-in_err-number_given-clause-refused : goal.returns-in_err-number_given-clause-refused
+returns-in_err-number_given-clause-refused c =
+    let p = err_from_is_err_and c.from_residual-in_err-number_given.result c.from_residual-in_err-number_given.ensures.1 in
+    rw (p.1, p.2) (refuses_more _ _ _ (λ asked asks. (asked.forget, asks.forget)) c.in_err-number_given.ensures.refused)
+
 pub returns-clause-asked : goal.returns-clause-asked
 returns-clause-asked c = record {
   plan = first_by_rows (found_of c.args.matches.now) (codes "PLAN") _ c.in_ok-named.ensures.word;
@@ -37,4 +52,7 @@ returns-clause-asked c = record {
   smbus = c.in_ok-port-2.ensures.port;
   turns = c.in_ok-turns.ensures.turns;
   undo = first_by_rows (found_of c.args.matches.now) (codes "UNDO") _ c.in_ok-named-2.ensures.word;
+  wait = c.in_ok-wait.ensures.wait;
+  again = c.in_ok-number_or.ensures.number;
+  forget = c.in_ok-number_given.ensures.number;
 }

@@ -1,7 +1,8 @@
-use Rattle.std.proofs.Common.{◌∙◌, codes, string_bytes}
+use Rattle.std.proofs.Common.{◌∙◌, sym, ap, codes, string_bytes}
 use Rattle.std.proofs.lemmas.Result.{err_from_is_err_and}
 use Rattle.clap.specs.Words.{found_of}
-use Rattle.clap.proofs.WalkLemmas.{first_value-rows}
+use Rattle.clap.proofs.WalkLemmas.{first_value-rows, one_text-rows}
+use Rattle.host_base.specs.Asked.{says_yes}
 use Rattle.host_base.proofs.Readings.{first_by_rows, refuses_more}
 use Rattle.net_host.proofs.words.serve_words.Goals as goal
 
@@ -25,10 +26,17 @@ returns-in_err-turns-clause-refused c =
     let p = err_from_is_err_and c.from_residual-in_err-turns.result c.from_residual-in_err-turns.ensures.1 in
     rw (p.1, p.2) (refuses_more _ _ _ (λ asked asks. (asked.turns, asks.turns)) c.in_err-turns.ensures.refused)
 
+pub returns-in_err-wait-clause-refused : goal.returns-in_err-wait-clause-refused
+returns-in_err-wait-clause-refused c =
+    let p = err_from_is_err_and c.from_residual-in_err-wait.result c.from_residual-in_err-wait.ensures.1 in
+    rw (p.1, p.2) (refuses_more _ _ _ (λ asked asks. (asked.wait_ms, asks.wait)) c.in_err-wait.ensures.refused)
+
 pub returns-clause-asked : goal.returns-clause-asked
 returns-clause-asked c = record {
   board = first_by_rows (found_of c.args.matches.now) (codes "BOARD") _ c.in_ok-named.ensures.word;
   ipmb = c.in_ok-port.ensures.port;
   smbus = c.in_ok-port-2.ensures.port;
   turns = c.in_ok-turns.ensures.turns;
+  wait = c.in_ok-wait.ensures.wait;
+  periods = sym (c.has_flag.ensures ∙ ap says_yes (one_text-rows (found_of c.args.matches.now) (codes "periods")));
 }

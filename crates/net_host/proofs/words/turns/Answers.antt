@@ -14,11 +14,11 @@ returns-in_default-clause-refused c =
 pub returns-in-None-clause-refused : goal.returns-in-None-clause-refused
 returns-in-None-clause-refused c =
     let word = first_by_rows (found_of c.args.matches.now) (codes "TURNS") _ (sym c.get_str.ensures ∙ ap (option_map (λ s. s.now)) c.in-Some.is) in
-    let none = subst (λ (o : Option ℕ). SomeIff o (Fits 32 c.in-Some.word.now) (digits_value 10 c.in-Some.word.now)) c.in-None.is c.turns_of.ensures in
+    let none = subst (λ (o : Option ℕ). SomeIff o (Fits 32 c.in-Some.word.now) (digits_value 10 c.in-Some.word.now)) c.in-None.is c.number_of.ensures in
     refuses_none _ c.number_refusal.result (no_number 32 (rows_of (found_of c.args.matches.now)) (codes "TURNS") c.in-Some.word.now word none)
 
-pub returns-in-Some-turns_of-clause-turns : goal.returns-in-Some-turns_of-clause-turns
-returns-in-Some-turns_of-clause-turns c =
+pub returns-in-Some-number_of-clause-turns : goal.returns-in-Some-number_of-clause-turns
+returns-in-Some-number_of-clause-turns c =
     let word = first_by_rows (found_of c.args.matches.now) (codes "TURNS") _ (sym c.get_str.ensures ∙ ap (option_map (λ s. s.now)) c.in-Some.is) in
-    let some = subst (λ (o : Option ℕ). SomeIff o (Fits 32 c.in-Some.word.now) (digits_value 10 c.in-Some.word.now)) c.in-Some-turns_of.is c.turns_of.ensures in
-    number_named 32 (rows_of (found_of c.args.matches.now)) (codes "TURNS") c.in-Some.word.now c.in-Some-turns_of.turns word some
+    let some = subst (λ (o : Option ℕ). SomeIff o (Fits 32 c.in-Some.word.now) (digits_value 10 c.in-Some.word.now)) c.in-Some-number_of.is c.number_of.ensures in
+    number_named 32 (rows_of (found_of c.args.matches.now)) (codes "TURNS") c.in-Some.word.now c.in-Some-number_of.turns word some

@@ -25,10 +25,16 @@ returns-in_err-turns-clause-refused c =
     let p = err_from_is_err_and c.from_residual-in_err-turns.result c.from_residual-in_err-turns.ensures.1 in
     rw (p.1, p.2) (refuses_more _ _ _ (λ asked asks. (asked.turns, asks.turns)) c.in_err-turns.ensures.refused)
 
+pub returns-in_err-wait-clause-refused : goal.returns-in_err-wait-clause-refused
+returns-in_err-wait-clause-refused c =
+    let p = err_from_is_err_and c.from_residual-in_err-wait.result c.from_residual-in_err-wait.ensures.1 in
+    rw (p.1, p.2) (refuses_more _ _ _ (λ asked asks. (asked.wait_ms, asks.wait)) c.in_err-wait.ensures.refused)
+
 pub returns-clause-asked : goal.returns-clause-asked
 returns-clause-asked c = record {
   undo = first_by_rows (found_of c.args.matches.now) (codes "UNDO") _ c.in_ok-named.ensures.word;
   ipmb = c.in_ok-port.ensures.port;
   smbus = c.in_ok-port-2.ensures.port;
   turns = c.in_ok-turns.ensures.turns;
+  wait = c.in_ok-wait.ensures.wait;
 }

@@ -1,8 +1,8 @@
-use Rattle.std.proofs.Common.{List, ℕ, subst, string_bytes}
+use Rattle.std.proofs.Common.{List, ℕ, subst}
 use Rattle.net_run.specs.Run.{RunEndsOf}
 use Rattle.net_run.proofs.running.run.Goals as goal
 
 pub returns : goal.returns
 returns g c =
-    subst (λ (named : List ℕ). RunEndsOf g.W.Write.contents g.E.Write.contents (g.F.TextFiles.gives c.args.files.now) g.F.WritesFiles.takes named c.args.words.now.turns (string_bytes c.args.words.now.undo)
+    subst (λ (named : List ℕ). RunEndsOf g.W.Write.contents g.E.Write.contents (g.F.TextFiles.gives c.args.files.now) g.F.WritesFiles.takes named c.args.words.now
     c.args.files.now c.run_file.new.files c.args.console.now c.run_file.new.console c.run_file.result) c.as_str.ensures.value c.run_file.ensures

@@ -1,0 +1,11 @@
+use Rattle.std.proofs.lemmas.Result.{IfOk-weaker}
+use Rattle.host_base.proofs.Builders.{adds_rule}
+use Rattle.net_host.proofs.tasks.undo_command.Goals as goal
+
+pub returns : goal.returns
+returns c =
+    let one = adds_rule _ _ _ _ _ c.new_command.ensures c.option.ensures c.in_ok-arg.ensures in
+    let two = adds_rule _ _ _ _ _ one c.needed.ensures c.in_ok-arg-2.ensures in
+    let three = adds_rule _ _ _ _ _ two c.needed-2.ensures c.in_ok-arg-3.ensures in
+    let four = adds_rule _ _ _ _ _ three c.needed-3.ensures c.in_ok-arg-4.ensures in
+    IfOk-weaker c.arg-5.result _ _ (λ command added. adds_rule _ _ _ _ _ four c.needed-4.ensures added) c.arg-5.ensures

@@ -1,0 +1,178 @@
+//! What the program can do, and its command line.
+ghost use Rattle.std.specs.Prelude.{◌≡◌, IfOk};
+ghost use Rattle.clap.specs.Words.{app_of};
+ghost use Rattle.host_base.specs.Line.{IsCommand};
+ghost use Rattle.net_host.specs.Line.{app_named, program, serves};
+
+use clap::Command;
+use host_base::{flag, needed, new_command, option};
+use std::alloc::{AllocError, Global};
+
+/// What `bmcnet` can do.
+#[derive(Clone, Copy, Debug, PartialEq, Eq)]
+pub enum Task {
+    Serve,
+    Run,
+    Undo,
+    Pair,
+}
+
+const BOARD_HELP: &str = "The board file, as sample.toml";
+
+const PLAN_HELP: &str = "The plan, as examples/clean/plan.toml";
+
+const P0_HELP: &str = "The UDP port of IPMB on 127.0.0.1, as 9620: a decimal number up to 65535";
+
+const P1_HELP: &str = "The UDP port of SMBus on 127.0.0.1, as 9621: a decimal number up to 65535";
+
+const TURNS_HELP: &str =
+    "How often to listen, each time for a datagram or 200 ms of quiet, as 1000: \
+a decimal number up to 4294967295";
+
+const WAIT_HELP: &str =
+    "How many milliseconds of quiet end a turn, as in --wait 500; 200 where none are given: \
+a decimal number from 1 to 4294967295";
+
+const SERVE_ABOUT: &str =
+    "Serves a board's two ports over UDP, and prints how many requests it carried out and which records differ";
+
+const PERIODS_HELP: &str =
+    "Goes on where the room for 4096 requests is full, with a new room, as in --periods";
+
+const SERVE_EXAMPLES: &str = "Examples:
+  bmcnet serve sample.toml 9620 9621 1000
+  bmcnet serve --wait 500 --periods sample.toml 9620 9621 1000";
+
+/// `serve [--wait MS] [--periods] BOARD P0 P1 TURNS`.
+fn serve_command<'a>(alloc: Global) -> Result<Command<'a>, AllocError>
+    ensures { IfOk result (IsCommand (app_named Task.Serve)) }
+{
+    new_command(alloc, "serve", SERVE_ABOUT, SERVE_EXAMPLES)
+        .arg(option(alloc, "wait", "MS", WAIT_HELP))?
+        .arg(flag(alloc, "periods", PERIODS_HELP))?
+        .arg(needed(alloc, "BOARD", BOARD_HELP))?
+        .arg(needed(alloc, "P0", P0_HELP))?
+        .arg(needed(alloc, "P1", P1_HELP))?
+        .arg(needed(alloc, "TURNS", TURNS_HELP))
+}
+
+const RUN_ABOUT: &str = "Runs a plan on a controller that is served, and writes the undo text";
+
+const UNDO_FILE_HELP: &str = "The file that gets the undo text, as undo.txt";
+
+const AGAIN_HELP: &str =
+    "How often to begin anew with a request that no retry brought a reply to, as in --again 3; \
+0 where none is given: a decimal number from 0 to 4294967295";
+
+const FORGETTING_HELP: &str =
+    "How many turns to wait first, so that a server with the same --forget has forgotten an earlier run, \
+as in --forget 50: a decimal number from 1 to 4294967295";
+
+const RUN_EXAMPLES: &str = "Examples:
+  bmcnet run examples/clean/plan.toml 9620 9621 1000 undo.txt
+  bmcnet run --wait 500 --again 3 examples/clean/plan.toml 9620 9621 1000 undo.txt
+  bmcnet run --forget 50 examples/clean/plan.toml 9620 9621 1000 undo.txt";
+
+/// `run [--wait MS] [--again N] [--forget N] PLAN P0 P1 TURNS UNDO`.
+fn run_command<'a>(alloc: Global) -> Result<Command<'a>, AllocError>
+    ensures { IfOk result (IsCommand (app_named Task.Run)) }
+{
+    new_command(alloc, "run", RUN_ABOUT, RUN_EXAMPLES)
+        .arg(option(alloc, "wait", "MS", WAIT_HELP))?
+        .arg(option(alloc, "again", "N", AGAIN_HELP))?
+        .arg(option(alloc, "forget", "N", FORGETTING_HELP))?
+        .arg(needed(alloc, "PLAN", PLAN_HELP))?
+        .arg(needed(alloc, "P0", P0_HELP))?
+        .arg(needed(alloc, "P1", P1_HELP))?
+        .arg(needed(alloc, "TURNS", TURNS_HELP))?
+        .arg(needed(alloc, "UNDO", UNDO_FILE_HELP))
+}
+
+const UNDO_ABOUT: &str = "Takes back what a run did on a controller that is served";
+
+const UNDO_TEXT_HELP: &str = "The undo text that the run wrote, as undo.txt";
+
+const UNDO_EXAMPLES: &str = "Examples:
+  bmcnet undo undo.txt 9620 9621 1000
+  bmcnet undo --wait 500 undo.txt 9620 9621 1000";
+
+/// `undo [--wait MS] UNDO P0 P1 TURNS`.
+fn undo_command<'a>(alloc: Global) -> Result<Command<'a>, AllocError>
+    ensures { IfOk result (IsCommand (app_named Task.Undo)) }
+{
+    new_command(alloc, "undo", UNDO_ABOUT, UNDO_EXAMPLES)
+        .arg(option(alloc, "wait", "MS", WAIT_HELP))?
+        .arg(needed(alloc, "UNDO", UNDO_TEXT_HELP))?
+        .arg(needed(alloc, "P0", P0_HELP))?
+        .arg(needed(alloc, "P1", P1_HELP))?
+        .arg(needed(alloc, "TURNS", TURNS_HELP))
+}
+
+const PAIR_ABOUT: &str =
+    "Serves a board, runs a plan on it and takes the plan back, in one process over UDP";
+
+const PAIR_EXAMPLES: &str = "Examples:
+  bmcnet pair sample.toml examples/reply_lost/plan.toml 20";
+
+/// `pair BOARD PLAN TURNS`.
+fn pair_command<'a>(alloc: Global) -> Result<Command<'a>, AllocError>
+    ensures { IfOk result (IsCommand (app_named Task.Pair)) }
+{
+    new_command(alloc, "pair", PAIR_ABOUT, PAIR_EXAMPLES)
+        .arg(needed(alloc, "BOARD", BOARD_HELP))?
+        .arg(needed(alloc, "PLAN", PLAN_HELP))?
+        .arg(needed(alloc, "TURNS", TURNS_HELP))
+}
+
+impl Task {
+    /// The command that does it.
+    pub fn command<'a>(self, alloc: Global) -> Result<Command<'a>, AllocError>
+        ensures { IfOk result (IsCommand (app_named self)) }
+    {
+        match self {
+            Task::Serve => serve_command(alloc),
+            Task::Run => run_command(alloc),
+            Task::Undo => undo_command(alloc),
+            Task::Pair => pair_command(alloc),
+        }
+    }
+
+    /// What its usage calls it.
+    pub fn name(self) -> &'static str {
+        match self {
+            Task::Serve => "bmcnet serve",
+            Task::Run => "bmcnet run",
+            Task::Undo => "bmcnet undo",
+            Task::Pair => "bmcnet pair",
+        }
+    }
+}
+
+const ABOUT: &str =
+    "Serves a modelled board controller over UDP on this machine, and runs plans on one and takes them back";
+
+const EXAMPLES: &str = "Examples:
+  bmcnet serve sample.toml 9620 9621 1000
+  bmcnet run examples/clean/plan.toml 9620 9621 1000 undo.txt
+  bmcnet undo undo.txt 9620 9621 1000
+  bmcnet pair sample.toml examples/reply_lost/plan.toml 20";
+
+/// `bmcnet`, and what it does with one side.
+fn side_commands<'a>(alloc: Global) -> Result<Command<'a>, AllocError>
+    ensures { IfOk result (λ command. app_of command ≡ serves) }
+{
+    new_command(alloc, "bmcnet", ABOUT, EXAMPLES)
+        .bin_name("bmcnet")?
+        .subcommand_required(true)
+        .subcommand(serve_command(alloc)?)?
+        .subcommand(run_command(alloc)?)
+}
+
+/// `bmcnet`, and what it can do.
+pub fn command<'a>(alloc: Global) -> Result<Command<'a>, AllocError>
+    ensures { IfOk result (λ command. app_of command ≡ program) }
+{
+    side_commands(alloc)?
+        .subcommand(undo_command(alloc)?)?
+        .subcommand(pair_command(alloc)?)
+}
