@@ -11,7 +11,7 @@ use Rattle.host_base.specs.declared.refusal.Refusal.TheVariants.{Memory as Lacki
 use Rattle.host_base.specs.Asked.{Refuses}
 use Rattle.host_base.proofs.Readings.{refuses_none, refuses_unless, some_same}
 use Rattle.bmc_host.specs.declared.words.Words.{Words}
-use Rattle.bmc_host.specs.declared.words.Words.TheVariants.{Frame, Play, Check}
+use Rattle.bmc_host.specs.declared.words.Words.TheVariants.{Frame, Play, Schedule, Check}
 use Rattle.bmc_host.specs.declared.words.FrameWords.{FrameWords}
 use Rattle.bmc_host.specs.Asked.{AsksBy, AsksFrame, shown_of}
 
@@ -52,6 +52,11 @@ not_check same =
     let bad : ◌≡◌ {A = ℕ} 102 99 = ap (λ (t : Text). slice_index t 0) same in
     absurd (omega arith)
 
+not_schedule : codes "frame" ≡ codes "schedule" → ⊥
+not_schedule same =
+    let bad : ◌≡◌ {A = ℕ} 102 115 = ap (λ (t : Text). slice_index t 0) same in
+    absurd (omega arith)
+
 -- what asks for anything behind `frame` asks for a frame
 pub frame_behind : (met : Option (Text × List Row)) (rows : List Row) → met ≡ Some (codes "frame", rows) → (asked : Words) → AsksBy met asked → (words : FrameWords) × AsksFrame rows words
 frame_behind met rows is (Frame words) asks =
@@ -60,6 +65,9 @@ frame_behind met rows is (Frame words) asks =
 frame_behind met rows is (Play words) asks =
     let same : (codes "frame", rows) ≡ (codes "play", asks.0) = some_same met (codes "frame", rows) (codes "play", asks.0) is asks.1 in
     absurd (not_play (ap (λ (p : Text × List Row). p.0) same))
+frame_behind met rows is (Schedule words) asks =
+    let same : (codes "frame", rows) ≡ (codes "schedule", asks.0) = some_same met (codes "frame", rows) (codes "schedule", asks.0) is asks.1 in
+    absurd (not_schedule (ap (λ (p : Text × List Row). p.0) same))
 frame_behind met rows is (Check words) asks =
     let same : (codes "frame", rows) ≡ (codes "check", asks.0) = some_same met (codes "frame", rows) (codes "check", asks.0) is asks.1 in
     absurd (not_check (ap (λ (p : Text × List Row). p.0) same))
