@@ -1,2 +1,4 @@
 pub mod Readings
 pub mod Checks
+pub mod Numbers
+pub mod CommandLine

@@ -11,9 +11,11 @@ use Rattle.host_base.specs.declared.refusal.Refusal.TheVariants.{Memory as Lacki
 use Rattle.host_base.specs.Asked.{Refuses}
 use Rattle.host_base.proofs.Readings.{refuses_none, refuses_unless, some_same}
 use Rattle.bmc_host.specs.declared.words.Words.{Words}
-use Rattle.bmc_host.specs.declared.words.Words.TheVariants.{Frame, Play, Check}
+use Rattle.bmc_host.specs.declared.words.Words.TheVariants.{Frame, Play, Schedule, Check}
 use Rattle.bmc_host.specs.declared.words.FrameWords.{FrameWords}
+use Rattle.bmc_host.specs.declared.schedule_words.ScheduleWords.{ScheduleWords}
 use Rattle.bmc_host.specs.Asked.{AsksBy, AsksFrame, shown_of}
+use Rattle.bmc_host.specs.Drawn.{AsksSchedule}
 
 -- the promises of `asked_frame` and of the refusal of what it refuses, as one
 pub frame_refuses : (word : Option Text) (digits : Text) (status : Status) (refusal : Refusal) → (status ≡ RefusedWords) ⊎ (status ≡ Memory)
@@ -52,6 +54,11 @@ not_check same =
     let bad : ◌≡◌ {A = ℕ} 102 99 = ap (λ (t : Text). slice_index t 0) same in
     absurd (omega arith)
 
+not_schedule : codes "frame" ≡ codes "schedule" → ⊥
+not_schedule same =
+    let bad : ◌≡◌ {A = ℕ} 102 115 = ap (λ (t : Text). slice_index t 0) same in
+    absurd (omega arith)
+
 -- what asks for anything behind `frame` asks for a frame
 pub frame_behind : (met : Option (Text × List Row)) (rows : List Row) → met ≡ Some (codes "frame", rows) → (asked : Words) → AsksBy met asked → (words : FrameWords) × AsksFrame rows words
 frame_behind met rows is (Frame words) asks =
@@ -60,6 +67,39 @@ frame_behind met rows is (Frame words) asks =
 frame_behind met rows is (Play words) asks =
     let same : (codes "frame", rows) ≡ (codes "play", asks.0) = some_same met (codes "frame", rows) (codes "play", asks.0) is asks.1 in
     absurd (not_play (ap (λ (p : Text × List Row). p.0) same))
+frame_behind met rows is (Schedule words) asks =
+    let same : (codes "frame", rows) ≡ (codes "schedule", asks.0) = some_same met (codes "frame", rows) (codes "schedule", asks.0) is asks.1 in
+    absurd (not_schedule (ap (λ (p : Text × List Row). p.0) same))
 frame_behind met rows is (Check words) asks =
     let same : (codes "frame", rows) ≡ (codes "check", asks.0) = some_same met (codes "frame", rows) (codes "check", asks.0) is asks.1 in
     absurd (not_check (ap (λ (p : Text × List Row). p.0) same))
+
+schedule_not_frame : codes "schedule" ≡ codes "frame" → ⊥
+schedule_not_frame same =
+    let bad : ◌≡◌ {A = ℕ} 115 102 = ap (λ (t : Text). slice_index t 0) same in
+    absurd (omega arith)
+
+schedule_not_play : codes "schedule" ≡ codes "play" → ⊥
+schedule_not_play same =
+    let bad : ◌≡◌ {A = ℕ} 115 112 = ap (λ (t : Text). slice_index t 0) same in
+    absurd (omega arith)
+
+schedule_not_check : codes "schedule" ≡ codes "check" → ⊥
+schedule_not_check same =
+    let bad : ◌≡◌ {A = ℕ} 115 99 = ap (λ (t : Text). slice_index t 0) same in
+    absurd (omega arith)
+
+-- what asks for anything behind `schedule` asks for a schedule
+pub schedule_behind : (met : Option (Text × List Row)) (rows : List Row) → met ≡ Some (codes "schedule", rows) → (asked : Words) → AsksBy met asked → (words : ScheduleWords) × AsksSchedule rows words
+schedule_behind met rows is (Schedule words) asks =
+    let same : (codes "schedule", asks.0) ≡ (codes "schedule", rows) = some_same met (codes "schedule", asks.0) (codes "schedule", rows) asks.1 is in
+    (words, subst (λ (r : List Row). AsksSchedule r words) (ap (λ (p : Text × List Row). p.1) same) asks.2)
+schedule_behind met rows is (Frame words) asks =
+    let same : (codes "schedule", rows) ≡ (codes "frame", asks.0) = some_same met (codes "schedule", rows) (codes "frame", asks.0) is asks.1 in
+    absurd (schedule_not_frame (ap (λ (p : Text × List Row). p.0) same))
+schedule_behind met rows is (Play words) asks =
+    let same : (codes "schedule", rows) ≡ (codes "play", asks.0) = some_same met (codes "schedule", rows) (codes "play", asks.0) is asks.1 in
+    absurd (schedule_not_play (ap (λ (p : Text × List Row). p.0) same))
+schedule_behind met rows is (Check words) asks =
+    let same : (codes "schedule", rows) ≡ (codes "check", asks.0) = some_same met (codes "schedule", rows) (codes "check", asks.0) is asks.1 in
+    absurd (schedule_not_check (ap (λ (p : Text × List Row). p.0) same))

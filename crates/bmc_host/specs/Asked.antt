@@ -6,10 +6,11 @@ use Rattle.bmc_play.specs.declared.run.Shown.{Shown}
 use Rattle.bmc_play.specs.declared.run.Shown.TheVariants.{Lines, Chart}
 use Rattle.host_base.specs.Asked.{is_given}
 use Rattle.bmc_host.specs.declared.words.Words.{Words}
-use Rattle.bmc_host.specs.declared.words.Words.TheVariants.{Frame, Play, Check}
+use Rattle.bmc_host.specs.declared.words.Words.TheVariants.{Frame, Play, Schedule, Check}
 use Rattle.bmc_host.specs.declared.words.FrameWords.{FrameWords}
 use Rattle.bmc_host.specs.declared.words.PlayWords.{PlayWords}
 use Rattle.bmc_host.specs.declared.words.CheckWords.{CheckWords}
+use Rattle.bmc_host.specs.Drawn.{AsksSchedule}
 use Rattle.bmc_host.specs.Line.{program}
 
 -- how a play is shown where the flags `--frames`, `--premises` and `--chart` are given or not: a chart has no lines of frames, and none of
@@ -42,6 +43,7 @@ pub record AsksCheck (rows : List Row) (asked : CheckWords) : Type 0 where
 abbrev pub AsksBy : Option (Text × List Row) → Words → Type 0
 AsksBy met (Frame asked) = (rows : List Row) × (met ≡ Some (codes "frame", rows)) × AsksFrame rows asked
 AsksBy met (Play asked) = (rows : List Row) × (met ≡ Some (codes "play", rows)) × AsksPlay rows asked
+AsksBy met (Schedule asked) = (rows : List Row) × (met ≡ Some (codes "schedule", rows)) × AsksSchedule rows asked
 AsksBy met (Check asked) = (rows : List Row) × (met ≡ Some (codes "check", rows)) × AsksCheck rows asked
 
 -- the words, the program's own name first among them, are of its command line, and ask for this

@@ -1,4 +1,5 @@
 pub mod Line
 pub mod Asked
 pub mod Checks
+pub mod Drawn
 pub mod Run

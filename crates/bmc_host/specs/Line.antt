@@ -12,6 +12,12 @@ abbrev pub play_app : App
 play_app = fold with_rule (new_app (codes "play"))
     (flag_rule (codes "frames") ∷ flag_rule (codes "premises") ∷ flag_rule (codes "chart") ∷ needed_rule (codes "BOARD") ∷ needed_rule (codes "PLAN") ∷ needed_rule (codes "SCHEDULE") ∷ [])
 
+-- `schedule [--lose N] [--repeat N] [--delay N] [--others N] [--seed S] [--undo] BOARD PLAN`
+abbrev pub schedule_app : App
+schedule_app = fold with_rule (new_app (codes "schedule"))
+    (option_rule (codes "lose") ∷ option_rule (codes "repeat") ∷ option_rule (codes "delay") ∷ option_rule (codes "others") ∷ option_rule (codes "seed") ∷ flag_rule (codes "undo")
+    ∷ needed_rule (codes "BOARD") ∷ needed_rule (codes "PLAN") ∷ [])
+
 -- `check FILE..`
 abbrev pub check_app : App
 check_app = with_rule (new_app (codes "check")) (several_rule (codes "FILE"))
@@ -22,4 +28,4 @@ runs = with_subcommand (with_subcommand (needing_subcommand (new_app (codes "bmc
 
 -- `bmclab`, and what it can do
 abbrev pub program : App
-program = with_subcommand runs check_app.top
+program = with_subcommand (with_subcommand runs schedule_app.top) check_app.top

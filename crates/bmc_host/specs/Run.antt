@@ -7,16 +7,18 @@ use Rattle.bmc_lab.specs.Ending.{Saying}
 use Rattle.bmc_lab.specs.Files.{Readings, SaysOfFile}
 use Rattle.bmc_play.specs.Files.{SaysOfFiles}
 use Rattle.bmc_play.specs.Run.{tells_of}
+use Rattle.schedule_run.specs.Files.{SaysOfFiles as SaysOfScheduled}
 use Rattle.bmc_host.specs.declared.words.Words.{Words}
-use Rattle.bmc_host.specs.declared.words.Words.TheVariants.{Frame, Play, Check}
+use Rattle.bmc_host.specs.declared.words.Words.TheVariants.{Frame, Play, Schedule, Check}
 use Rattle.bmc_host.specs.Asked.{AsksFor}
 use Rattle.bmc_host.specs.Checks.{SaysOfChecks}
 
--- what a run says that does what words ask for: what it says of the frame, with the board file that is named, of the three files of the play, or
--- of the files that it checks
+-- what a run says that does what words ask for: what it says of the frame, with the board file that is named, of the three files of the play, of
+-- the two of the schedule that is made, or of the files that it checks
 abbrev pub SaysOfWords : Readings → Words → Saying
 SaysOfWords gives (Frame asked) = SaysOfFile gives (option_map string_bytes asked.board) asked.frame.bus asked.frame.bytes.items
 SaysOfWords gives (Play asked) = SaysOfFiles gives (tells_of asked.shown) (string_bytes asked.board ∷ string_bytes asked.plan ∷ string_bytes asked.schedule ∷ [])
+SaysOfWords gives (Schedule asked) = SaysOfScheduled gives asked.wanted (string_bytes asked.board ∷ string_bytes asked.plan ∷ [])
 SaysOfWords gives (Check asked) = SaysOfChecks gives (map string_bytes asked.files.items)
 
 -- What a run says of a command line's words: what it says of what they ask for; or, where they ask for nothing, any text on standard error,

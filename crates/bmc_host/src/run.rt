@@ -4,10 +4,12 @@ ghost use Rattle.bmc_lab.specs.Ending.{RunEnds};
 ghost use Rattle.bmc_host.specs.Run.{SaysOfLine, SaysOfWords};
 
 use crate::check::{TellsCause, check_files};
+use crate::schedule_words::ScheduleWords;
 use crate::words::{CheckWords, FrameWords, PlayWords, Words, read};
 use bmc_lab::{Console, TextFiles, frame_of_file};
 use bmc_play::{PlayFiles, play_of_files};
 use host_base::refuse;
+use schedule_run::{ScheduleFiles, schedule_of_files};
 use std::alloc::Global;
 use std::io;
 
@@ -48,6 +50,22 @@ fn play<F: TextFiles, W: io::Write, E: io::Write>(
     play_of_files(alloc, files, words.shown, named, console)
 }
 
+/// Writes the schedule that the words ask for.
+fn write<F: TextFiles, W: io::Write, E: io::Write>(
+    alloc: Global,
+    files: &F,
+    words: &ScheduleWords,
+    console: &mut Console<W, E>,
+) -> u8
+    ensures { RunEnds W.contents E.contents (SaysOfWords (F.gives files.now) (Words.Schedule words.now)) console.old console.new result }
+{
+    let named = ScheduleFiles {
+        board: words.board.as_str(),
+        plan: words.plan.as_str(),
+    };
+    schedule_of_files(alloc, files, words.wanted, named, console)
+}
+
 /// Checks the files that the words name.
 fn check<F: TextFiles + TellsCause, W: io::Write, E: io::Write>(
     alloc: Global,
@@ -72,12 +90,13 @@ fn carry_out<F: TextFiles + TellsCause, W: io::Write, E: io::Write>(
     match words {
         Words::Frame(words) => send(alloc, files, words, console),
         Words::Play(words) => play(alloc, files, words, console),
+        Words::Schedule(words) => write(alloc, files, words, console),
         Words::Check(words) => check(alloc, files, words, console),
     }
 }
 
 /// Does what the words of a command line ask for, the program's own name first among them, with these files: what `frame_of_file`,
-/// `play_of_files` or `check_files` does. Where they ask for nothing it reads no file, standard error gets why or the help that is asked for, and the status
+/// `play_of_files`, `schedule_of_files` or `check_files` does. Where they ask for nothing it reads no file, standard error gets why or the help that is asked for, and the status
 /// is 2.
 pub fn run_line<F: TextFiles + TellsCause, W: io::Write, E: io::Write>(
     alloc: Global,

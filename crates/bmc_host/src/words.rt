@@ -6,6 +6,7 @@ ghost use Rattle.host_base.specs.Asked.{Refuses};
 ghost use Rattle.bmc_host.specs.Line.{check_app, frame_app, play_app, program, runs};
 ghost use Rattle.bmc_host.specs.Asked.{AsksBy, AsksCheck, AsksFor, AsksFrame, AsksPlay, shown_of};
 
+use crate::schedule_words::{ScheduleWords, schedule_command, schedule_words};
 use bmc_lab::{AskedFrame, Status, asked_frame};
 use bmc_play::Shown;
 use clap::error::ErrorKind;
@@ -21,6 +22,7 @@ use std::alloc::{AllocError, Global};
 pub enum Words {
     Frame(FrameWords),
     Play(PlayWords),
+    Schedule(ScheduleWords),
     Check(CheckWords),
 }
 
@@ -124,11 +126,12 @@ fn check_command<'a>(alloc: Global) -> Result<Command<'a>, AllocError>
 }
 
 const ABOUT: &str =
-    "Sends frames to a modelled board controller, plays plans on it and takes them back, and checks files";
+    "Sends frames to a modelled board controller, plays plans on it and takes them back, writes schedules, and checks files";
 
 const EXAMPLES: &str = "Examples:
   bmclab frame 2018C82C0001D3
   bmclab play sample.toml examples/clean/plan.toml examples/clean/schedule.txt
+  bmclab schedule --undo sample.toml examples/clean/plan.toml
   bmclab check sample.toml examples/clean/plan.toml examples/clean/schedule.txt";
 
 /// `bmclab`, and what it can do with a board.
@@ -146,7 +149,9 @@ fn run_commands<'a>(alloc: Global) -> Result<Command<'a>, AllocError>
 fn command<'a>(alloc: Global) -> Result<Command<'a>, AllocError>
     ensures { IfOk result (λ command. app_of command ≡ program) }
 {
-    run_commands(alloc)?.subcommand(check_command(alloc)?)
+    run_commands(alloc)?
+        .subcommand(schedule_command(alloc)?)?
+        .subcommand(check_command(alloc)?)
 }
 
 /// What is wrong with the words BUS and HEX that name no frame.
@@ -256,6 +261,9 @@ fn matched_words(alloc: Global, matches: &ArgMatches) -> Result<Words, Refusal>
     }
     if let Some(play) = matches.subcommand_matches("play") {
         return Ok(Words::Play(play_words(alloc, play)?));
+    }
+    if let Some(schedule) = matches.subcommand_matches("schedule") {
+        return Ok(Words::Schedule(schedule_words(alloc, schedule)?));
     }
     let Some(check) = matches.subcommand_matches("check") else {
         return Err(lacking(alloc));

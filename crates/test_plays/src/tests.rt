@@ -14,6 +14,7 @@ mod ports;
 mod random;
 mod runs;
 mod scene;
+mod schedules;
 mod steps;
 mod text;
 mod told_wrong;

@@ -2,9 +2,10 @@
 use super::runs::words_of;
 use super::trouble::Trouble;
 use bmc_host::words::read;
-use bmc_host::{CheckWords, FrameWords, PlayWords, Words};
+use bmc_host::{CheckWords, FrameWords, PlayWords, ScheduleWords, Words};
 use bmc_play::Shown;
 use host_base::Refusal;
+use schedule_run::{Chances, Links};
 use std::alloc::Global;
 use two_wire::Bus;
 
@@ -55,6 +56,27 @@ fn play_text(alloc: Global, words: &PlayWords) -> Result<String, Trouble> {
     Ok(format!(in alloc; "{shown} {} {} {}", words.board, words.plan, words.schedule)?)
 }
 
+/// What is drawn, of which chances.
+fn drawn_text(alloc: Global, chances: Chances) -> Result<String, Trouble> {
+    let (lose, repeat) = (chances.lose.number(), chances.repeat.number());
+    let (delay, others) = (chances.delay.number(), chances.others.number());
+    let late = if chances.late_joins { " late" } else { "" };
+    Ok(format!(in alloc;
+        "lose {lose} repeat {repeat} delay {delay} others {others} seed {}{late}",
+        chances.seed
+    )?)
+}
+
+/// A schedule: what the buses do, whether the plan is undone, and its files' words.
+fn schedule_text(alloc: Global, words: &ScheduleWords) -> Result<String, Trouble> {
+    let undo = if words.wanted.undo { " undo" } else { "" };
+    let links = match words.wanted.links {
+        Links::Clean => String::from_str(alloc, "clean")?,
+        Links::Drawn(chances) => drawn_text(alloc, chances)?,
+    };
+    Ok(format!(in alloc; "{links}{undo} {} {}", words.board, words.plan)?)
+}
+
 /// Files to check: their words.
 fn check_text(alloc: Global, words: &CheckWords) -> Result<String, Trouble> {
     let mut text = String::from_str(alloc, "check")?;
@@ -70,6 +92,7 @@ pub fn asked_text(alloc: Global, line: &str) -> Result<String, Trouble> {
     match read(alloc, words.as_slice()) {
         Ok(Words::Frame(frame)) => frame_text(alloc, &frame),
         Ok(Words::Play(play)) => play_text(alloc, &play),
+        Ok(Words::Schedule(schedule)) => schedule_text(alloc, &schedule),
         Ok(Words::Check(check)) => check_text(alloc, &check),
         Err(Refusal::Words(_)) => Ok(String::from_str(alloc, "refused")?),
         Err(Refusal::Memory) => Ok(String::from_str(alloc, "memory")?),

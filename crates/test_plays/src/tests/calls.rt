@@ -2,10 +2,11 @@
 use super::runs::{new_paper, words_of};
 use super::scene::Scene;
 use bmc_host::words::read;
-use bmc_host::{FrameWords, PlayWords, Words, run_line};
+use bmc_host::{Cause, FrameWords, PlayWords, TellsCause, Words, run_line};
 use bmc_lab::{Status, TextFiles, Unreadable, asked_frame, frame_of_file, frame_run};
 use bmc_play::{PlayFiles, Shown, chart_run, play_of_files, play_run, show};
 use host_base::HostFiles;
+use schedule_run::{Links, ScheduleFiles, Wanted, schedule_of_files, schedule_run};
 use std::fs;
 use std::test::Fail;
 use two_wire::Bus;
@@ -135,6 +136,36 @@ fn the_plan_of_a_file_is_drawn(rt: HostRuntime) -> Result<(), Fail> {
     Ok(())
 }
 
+/// The clean schedule of a plan that is undone.
+const UNDONE: Wanted = Wanted {
+    links: Links::Clean,
+    undo: true,
+};
+
+#[test]
+fn a_schedule_is_written(rt: HostRuntime) {
+    let mut paper = new_paper(rt.alloc());
+    let ended = schedule_run(rt.alloc(), UNDONE, BOARD, "", &mut paper);
+    assert_eq!(rt; ended, 0);
+    assert_eq!(rt; paper.out.as_slice(), b"start\nundo\n".as_slice());
+    assert!(rt; paper.err.is_empty());
+}
+
+#[test]
+fn the_schedule_of_a_file_is_written(rt: HostRuntime) -> Result<(), Fail> {
+    let mut files = Scene::new(rt.alloc());
+    files.put("board", Ok(String::from_str(rt.alloc(), BOARD)?))?;
+    let words = ScheduleFiles {
+        board: "board.toml",
+        plan: "plan.toml",
+    };
+    let mut paper = new_paper(rt.alloc());
+    let ended = schedule_of_files(rt.alloc(), &files, UNDONE, words, &mut paper);
+    assert_eq!(rt; ended, 0);
+    assert_eq!(rt; paper.out.as_slice(), b"start\nundo\n".as_slice());
+    Ok(())
+}
+
 #[test]
 fn a_line_is_run(rt: HostRuntime) -> Result<(), Fail> {
     let words = words_of(rt.alloc(), "bmclab frame 2018C82C0001D3")?;
@@ -202,5 +233,19 @@ fn a_file_of_the_host_without_a_text_is_not_read(rt: HostRuntime) -> Result<(), 
     fs::write(&rt, "no_text.toml", &[0xFF, 0x0A][..])?;
     assert_eq!(rt; fault_of(&rt, "no_text.toml"), Some(Unreadable::NoText));
     assert_eq!(rt; fault_of(&rt, "none.toml"), Some(Unreadable::NoText));
+    Ok(())
+}
+
+/// Whether this is why the host's file of this name gives no text.
+fn is_cause(rt: &HostRuntime, word: &str, cause: Cause) -> bool {
+    (HostFiles { rt }).cause(word) == cause
+}
+
+#[test]
+fn it_is_told_why_a_file_of_the_host_is_not_read(rt: HostRuntime) -> Result<(), Fail> {
+    fs::write(&rt, "bytes.toml", &[0xFF, 0x0A][..])?;
+    assert!(rt; is_cause(&rt, "bytes.toml", Cause::NotUtf8));
+    assert!(rt; is_cause(&rt, "none.toml", Cause::Missing));
+    assert!(rt; is_cause(&rt, ".", Cause::Folder));
     Ok(())
 }

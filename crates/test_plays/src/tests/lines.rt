@@ -93,7 +93,7 @@ bmclab check plan.toml plan.toml -> 0 out
 story a line that asks for nothing says why
 bmclab -> 2 err
   error: 'bmclab' requires a subcommand but one was not provided
-    [subcommands: frame, play, check, help] /  / Usage: bmclab <COMMAND> /  / For more information, try '--help'.
+    [subcommands: frame, play, schedule, check, help] /  / Usage: bmclab <COMMAND> /  / For more information, try '--help'.
 bmclab frmae 20 -> 2 err
   error: unrecognized subcommand 'frmae' /  /   tip: a similar subcommand exists: 'frame' /  / Usage: bmclab <COMMAND> /  / For more information, try '--help'.
 bmclab --version -> 2 err
@@ -142,34 +142,40 @@ bmclab check --all a -> 2 err
 
 story a request for help is refused, and helped
 bmclab --help -> 2 err
-  Sends frames to a modelled board controller, plays plans on it and takes them back, and checks files /  / Usage: bmclab <COMMAND> /  / Commands:
-    frame  Sends one frame to a fresh controller, and prints what it sends back
-    play   Plays a plan on a board, over buses that lose, repeat and delay frames
-    check  Tells what files hold, where a fault is, and which keys nothing reads
-    help   Print this message or the help of the given subcommand(s) /  / Options:
+  Sends frames to a modelled board controller, plays plans on it and takes them back, writes schedules, and checks files /  / Usage: bmclab <COMMAND> /  / Commands:
+    frame     Sends one frame to a fresh controller, and prints what it sends back
+    play      Plays a plan on a board, over buses that lose, repeat and delay frames
+    schedule  Writes a schedule of a plan on a board: a clean one, or one that is drawn
+    check     Tells what files hold, where a fault is, and which keys nothing reads
+    help      Print this message or the help of the given subcommand(s) /  / Options:
     -h, --help  Print help /  / Examples:
     bmclab frame 2018C82C0001D3
     bmclab play sample.toml examples/clean/plan.toml examples/clean/schedule.txt
+    bmclab schedule --undo sample.toml examples/clean/plan.toml
     bmclab check sample.toml examples/clean/plan.toml examples/clean/schedule.txt
 bmclab -h -> 2 err
-  Sends frames to a modelled board controller, plays plans on it and takes them back, and checks files /  / Usage: bmclab <COMMAND> /  / Commands:
-    frame  Sends one frame to a fresh controller, and prints what it sends back
-    play   Plays a plan on a board, over buses that lose, repeat and delay frames
-    check  Tells what files hold, where a fault is, and which keys nothing reads
-    help   Print this message or the help of the given subcommand(s) /  / Options:
+  Sends frames to a modelled board controller, plays plans on it and takes them back, writes schedules, and checks files /  / Usage: bmclab <COMMAND> /  / Commands:
+    frame     Sends one frame to a fresh controller, and prints what it sends back
+    play      Plays a plan on a board, over buses that lose, repeat and delay frames
+    schedule  Writes a schedule of a plan on a board: a clean one, or one that is drawn
+    check     Tells what files hold, where a fault is, and which keys nothing reads
+    help      Print this message or the help of the given subcommand(s) /  / Options:
     -h, --help  Print help /  / Examples:
     bmclab frame 2018C82C0001D3
     bmclab play sample.toml examples/clean/plan.toml examples/clean/schedule.txt
+    bmclab schedule --undo sample.toml examples/clean/plan.toml
     bmclab check sample.toml examples/clean/plan.toml examples/clean/schedule.txt
 bmclab help -> 2 err
-  Sends frames to a modelled board controller, plays plans on it and takes them back, and checks files /  / Usage: bmclab <COMMAND> /  / Commands:
-    frame  Sends one frame to a fresh controller, and prints what it sends back
-    play   Plays a plan on a board, over buses that lose, repeat and delay frames
-    check  Tells what files hold, where a fault is, and which keys nothing reads
-    help   Print this message or the help of the given subcommand(s) /  / Options:
+  Sends frames to a modelled board controller, plays plans on it and takes them back, writes schedules, and checks files /  / Usage: bmclab <COMMAND> /  / Commands:
+    frame     Sends one frame to a fresh controller, and prints what it sends back
+    play      Plays a plan on a board, over buses that lose, repeat and delay frames
+    schedule  Writes a schedule of a plan on a board: a clean one, or one that is drawn
+    check     Tells what files hold, where a fault is, and which keys nothing reads
+    help      Print this message or the help of the given subcommand(s) /  / Options:
     -h, --help  Print help /  / Examples:
     bmclab frame 2018C82C0001D3
     bmclab play sample.toml examples/clean/plan.toml examples/clean/schedule.txt
+    bmclab schedule --undo sample.toml examples/clean/plan.toml
     bmclab check sample.toml examples/clean/plan.toml examples/clean/schedule.txt
 bmclab frame --help -> 2 err
   Sends one frame to a fresh controller, and prints what it sends back /  / Usage: bmclab frame [OPTIONS] <HEX> /  / Arguments:

@@ -17,6 +17,7 @@ use std::alloc::Global;
 /// - `story NAME`: a story begins, with no board, an empty plan and an empty schedule;
 /// - `board`, `plan`, `schedule`: the lines are this text of the story;
 /// - `then`: with these lines the schedule goes on;
+/// - `make WORDS`: the schedule is what `bmclab schedule WORDS` writes, which ends with 0;
 /// - `swap OLD => NEW`: in the board NEW stands in the place of the first OLD;
 /// - `unreadable plan`, `memory plan`: the file of the plan can't be read, or memory for it is refused;
 /// - `lines -> 0 out`: a play of the three texts ends with this status, and writes the lines to this stream (`out` or `err`) and nothing to
@@ -85,7 +86,7 @@ fn is_on(paper: &[u8], name: &str, stream: &str, body: &str) -> Result<bool, Tro
 fn takes_lines(word: &str) -> bool {
     !matches!(
         word,
-        "" | "#" | "story" | "swap" | "unreadable" | "memory" | "same" | "asks"
+        "" | "#" | "story" | "make" | "swap" | "unreadable" | "memory" | "same" | "asks"
     )
 }
 
@@ -189,6 +190,18 @@ impl Player {
         std::mem::replace(&mut self.body, body)
     }
 
+    /// The schedule is the one that these words ask for.
+    fn make(&mut self, words: &str) -> Result<(), Trouble> {
+        let line = format!(in self.alloc; "bmclab schedule {words}")?;
+        let mut paper = new_paper(self.alloc);
+        let ended = run(self.alloc, &self.scene, line.as_str(), &mut paper)?;
+        if ended != 0 {
+            return self.tell_run(&paper, ended);
+        }
+        let text = String::from_str(self.alloc, text_of(paper.out.as_slice())?)?;
+        self.scene.put("schedule", Ok(text))
+    }
+
     /// In the board the second of these words stands in the place of the first.
     fn swap(&mut self, words: &str) -> Result<(), Trouble> {
         let (old, new) = words.split_once(" => ").ok_or(Trouble::Unread)?;
@@ -214,6 +227,7 @@ impl Player {
                 self.scene.put(word, Ok(body))
             }
             "then" => self.scene.go_on(self.body.as_str()),
+            "make" => self.make(rest),
             "swap" => self.swap(rest),
             "unreadable" => self.scene.put(name, Err(Unreadable::NoText)),
             "memory" => self.scene.put(name, Err(Unreadable::Memory)),
