@@ -11,7 +11,7 @@ use std::alloc::{AllocError, Global};
 use two_wire::Bus;
 
 /// The bus and the bytes that the words tell, as `ipmb 2018C82C0001D3`.
-fn heard_in(alloc: Global, words: &str) -> Result<Option<(Bus, Vec<u8>)>, AllocError> {
+pub fn heard_in(alloc: Global, words: &str) -> Result<Option<(Bus, Vec<u8>)>, AllocError> {
     let (bus, digits) = words.split_once(' ').unwrap_or((words, ""));
     let Some(bus) = named_bus(bus) else {
         return Ok(None);

@@ -7,6 +7,7 @@ mod board_lines;
 mod boards;
 mod bytes;
 mod change_lines;
+mod damage_lines;
 mod heard_lines;
 mod line;
 mod port_lines;

@@ -27,6 +27,10 @@ pub enum Word {
     /// A port hears a frame.
     Ipmb,
     Smbus,
+    /// A port hears a frame that is cut off, at each place.
+    Cuts,
+    /// A port hears a frame with each other byte at each place.
+    Changed,
     /// A port forgets a requester.
     Idle,
     /// A request that a port hears, and that is dropped.
@@ -54,6 +58,8 @@ impl Word {
             "undo" => Word::Undo,
             "ipmb" => Word::Ipmb,
             "smbus" => Word::Smbus,
+            "cuts" => Word::Cuts,
+            "changed" => Word::Changed,
             "idle" => Word::Idle,
             "dropped" => Word::Dropped,
             "told" => Word::Told,

@@ -19,7 +19,7 @@ pub fn done_text(alloc: Global, out: &Out) -> Result<String, AllocError> {
 }
 
 /// The port hears the bytes.
-fn hear(board: &mut Board<Records>, port: &mut Port, bytes: &[u8], out: &mut Out) {
+pub fn hear(board: &mut Board<Records>, port: &mut Port, bytes: &[u8], out: &mut Out) {
     port.on_frame(board, bytes, out);
 }
 

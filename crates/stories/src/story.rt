@@ -4,6 +4,7 @@ use crate::board_lines::{asks, chassis, comes_from, kept, marked, reads, ticks};
 use crate::boards::{board_of, is_of_board};
 use crate::bytes::is_told;
 use crate::change_lines::{change, undo};
+use crate::damage_lines::{changed, cuts};
 use crate::heard_lines::{dropped, told};
 use crate::line::Word;
 use crate::port_lines::{hears, idle};
@@ -50,6 +51,8 @@ fn found(
         Word::Undo => undo(alloc, rest),
         Word::Ipmb => hears(alloc, board, around, Bus::Ipmb, rest),
         Word::Smbus => hears(alloc, board, around, Bus::Smbus, rest),
+        Word::Cuts => cuts(alloc, board, around, rest),
+        Word::Changed => changed(alloc, board, around, rest),
         Word::Idle => idle(alloc, around, rest),
         Word::Dropped => dropped(alloc, around, rest),
         Word::Told => told(alloc, board, around, rest),

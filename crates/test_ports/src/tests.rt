@@ -1,5 +1,7 @@
-//! What ports do with requests that come again, on the sample board.
+//! What ports do with requests that come again, with damage and with floods, on the sample board.
+mod damage;
 mod either;
+mod floods;
 mod ipmb;
 mod smbus;
 mod told_wrong;

@@ -9,6 +9,10 @@ dropped ipmb 2010D0400C270588 -> Answered
 dropped ipmb 2010D0400C270589 -> asked
 dropped ipmb 2 -> asked
 dropped i2c 20 -> asked
+cuts ipmb 2010D0400C270588 -> 8 Ignored(Frame(Short))
+cuts i2c 20 -> 1 Ignored(Frame(Short))
+changed ipmb 2010D0400C270588 -> 2040 Ignored(Frame(BodySum))
+changed smbus 2 -> 255 Ignored(Packet(Short))
 told ipmb 2010D0400C270588 -> Repeated 4014AC200C27003F140A05505F6E2E
 told ipmb 2010D0400C270588 -> Answered 4014AC200C27003F140A05505F6E2E
 dropped ipmb 2010D0400C270588 -> asked
@@ -36,6 +40,10 @@ wrong: dropped ipmb 2010D0400C270588 -> Answered | came asked
 wrong: dropped ipmb 2010D0400C270589 -> asked | came Ignored(Frame(BodySum))
 wrong: dropped ipmb 2 -> asked | came no bytes
 wrong: dropped i2c 20 -> asked | came no bytes
+wrong: cuts ipmb 2010D0400C270588 -> 8 Ignored(Frame(Short)) | came 7 Ignored(Frame(Short)) 1 Ignored(Frame(BodySum))
+wrong: cuts i2c 20 -> 1 Ignored(Frame(Short)) | came no bytes
+wrong: changed ipmb 2010D0400C270588 -> 2040 Ignored(Frame(BodySum)) | came 765 Ignored(Frame(HeadSum)) 1275 Ignored(Frame(BodySum))
+wrong: changed smbus 2 -> 255 Ignored(Packet(Short)) | came no bytes
 wrong: told ipmb 2010D0400C270588 -> Repeated 4014AC200C27003F140A05505F6E2E | came Answered 4014AC200C27003F140A05505F6E2E
 wrong: told ipmb 2010D0400C270588 -> Answered 4014AC200C27003F140A05505F6E2E | came Repeated 4014AC200C27003F140A05505F6E2E
 wrong: dropped ipmb 2010D0400C270588 -> asked | came Repeated 4014AC200C27003F140A05505F6E2E
