@@ -1,4 +1,3 @@
-use Rattle.std.proofs.Common.{map, string_bytes}
 use Rattle.std.proofs.lemmas.Result.{IfOk-weaker, IfErr-weaker}
 use Rattle.clap.specs.Words.{app_of, subcommand_rows_of}
 use Rattle.host_base.proofs.Readings.{refuses_more, refuses_unless}
