@@ -1,5 +1,5 @@
 -- What a board and a manager came to that ran side by side, and what is said of it.
-use Rattle.std.specs.Prelude.{◌≡◌, ℕ, List, [], ◌++◌, Option, Some, None}
+use Rattle.std.specs.Prelude.{◌≡◌, ℕ, false, List, [], ◌++◌, Option, Some, None}
 use Rattle.text_lines.specs.Cuts.{ended}
 use Rattle.cfg_records.specs.declared.board_file.BoardFile.{BoardFile}
 use Rattle.undo_plans.specs.declared.plan.Plan.{Plan}
@@ -38,7 +38,7 @@ pub record RunsAndUndoes (plan : Plan) (turns : ℕ) (run undone : Phase) : Type
 -- what became of the records: so many have changed in some history of the board; nothing is known where the serving came to no end
 abbrev pub IsChanged : BoardFile → Option ℕ → Type 0
 IsChanged file None = Unit {0}
-IsChanged file (Some changed) = (events : ℕ) × Tallies file events changed
+IsChanged file (Some changed) = (events : ℕ) × Tallies false file events changed
 
 -- the line of the records, where it is known
 abbrev pub last_line : Option ℕ → List ℕ

@@ -1,3 +1,5 @@
 pub mod Numbers
 pub mod Readings
 pub mod Endings
+pub mod CommandLine
+pub mod Behind

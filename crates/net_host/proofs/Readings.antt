@@ -49,7 +49,7 @@ no_option least rows name word is none (Some number) (named, enough) =
     least_of : (least : ℕ) (rows : List Row) (name word : Text) (number : ℕ) → first_of name rows ≡ Some word → NamesNumber 32 rows name number → least ≤ number → least ≤ digits_value 10 word
     least_of least rows name word number is (other, given, (numeral, value), low) enough =
         let same : other ≡ word = some_same (first_of name rows) other word given is in
-        subst (λ (t : Text). least ≤ digits_value 10 t) same (subst (λ (n : ℕ). least ≤ n) value enough)
+        subst (λ (t : Text). least ≤ digits_value 10 t) same (subst (λ (n : ℕ). least ≤ n) (sym value) enough)
 
 -- what names a number, or the usual one, is given as that number, or not at all
 pub given_or : (least usual : ℕ) (rows : List Row) (name : Text) (number : ℕ) → NamesOr least usual rows name number → (given : Option ℕ) × NamesOption least rows name given

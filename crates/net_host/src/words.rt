@@ -1,5 +1,5 @@
 //! The words of the command line.
-ghost use Rattle.std.specs.Prelude.{◌≡◌, IfOk, IfErr, map, string_bytes};
+ghost use Rattle.std.specs.Prelude.{IfOk, IfErr, map, string_bytes};
 ghost use Rattle.clap.specs.Words.{found_of, rows_of, subcommand_rows_of};
 ghost use Rattle.host_base.specs.Asked.{Refuses};
 ghost use Rattle.net_host.specs.Asked.{AsksBy, AsksFor, AsksPair, AsksRun, AsksServe, AsksUndo};
