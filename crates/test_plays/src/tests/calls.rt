@@ -2,7 +2,7 @@
 use super::runs::{new_paper, words_of};
 use super::scene::Scene;
 use bmc_host::words::read;
-use bmc_host::{Cause, FrameWords, PlayWords, TellsCause, Words, run_line};
+use bmc_host::{FrameWords, PlayWords, Words, run_line};
 use bmc_lab::{Status, TextFiles, Unreadable, asked_frame, frame_of_file, frame_run};
 use bmc_play::{PlayFiles, Shown, chart_run, play_of_files, play_run, show};
 use host_base::HostFiles;
@@ -233,19 +233,5 @@ fn a_file_of_the_host_without_a_text_is_not_read(rt: HostRuntime) -> Result<(), 
     fs::write(&rt, "no_text.toml", &[0xFF, 0x0A][..])?;
     assert_eq!(rt; fault_of(&rt, "no_text.toml"), Some(Unreadable::NoText));
     assert_eq!(rt; fault_of(&rt, "none.toml"), Some(Unreadable::NoText));
-    Ok(())
-}
-
-/// Whether this is why the host's file of this name gives no text.
-fn is_cause(rt: &HostRuntime, word: &str, cause: Cause) -> bool {
-    (HostFiles { rt }).cause(word) == cause
-}
-
-#[test]
-fn it_is_told_why_a_file_of_the_host_is_not_read(rt: HostRuntime) -> Result<(), Fail> {
-    fs::write(&rt, "bytes.toml", &[0xFF, 0x0A][..])?;
-    assert!(rt; is_cause(&rt, "bytes.toml", Cause::NotUtf8));
-    assert!(rt; is_cause(&rt, "none.toml", Cause::Missing));
-    assert!(rt; is_cause(&rt, ".", Cause::Folder));
     Ok(())
 }
