@@ -12,6 +12,7 @@ ghost use Rattle.bmc_history.specs.declared.held.OpenFault.TheVariants.{Room};
 use crate::event::{Call, Event};
 use crate::history::{History, are_calls};
 use crate::opening::Opening;
+use crate::room::written_room;
 use bmc_board::{Bench, Board, NoSensor};
 use cfg_records::{Answered, Asked, Store};
 use std::alloc::Global;
@@ -63,7 +64,7 @@ impl<J: Opening, S: Store> Held<J, S> {
         if room < 1 || room > MOST_EVENTS {
             return Err((OpenFault::Room, board));
         }
-        match Vec::with_capacity(alloc, room) {
+        match written_room(alloc, room) {
             Ok(history) => Ok(Held {
                 board,
                 history,

@@ -6,6 +6,7 @@ pub mod held;
 pub mod history;
 pub mod laws;
 pub mod opening;
+mod room;
 pub mod seat;
 pub mod shared;
 

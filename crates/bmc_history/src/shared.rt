@@ -13,6 +13,7 @@ use crate::event::Call;
 use crate::held::{Held, OpenFault, PeriodFull};
 use crate::history::History;
 use crate::opening::Opening;
+use crate::room::written_room;
 use crate::seat::{Seat, Seats};
 use bmc_board::{Bench, Board, NoSensor};
 use cfg_records::{Answered, Asked, Store};
@@ -136,9 +137,9 @@ fn lists(alloc: Global, room: usize) -> Option<(Vec<Call>, Vec<Call>, Vec<Call>)
     ensures scanner { IfSome result (λ lists. IsBlank room lists.2) }
 {
     Some((
-        Vec::with_capacity(alloc, room).ok()?,
-        Vec::with_capacity(alloc, room).ok()?,
-        Vec::with_capacity(alloc, room).ok()?,
+        written_room(alloc, room).ok()?,
+        written_room(alloc, room).ok()?,
+        written_room(alloc, room).ok()?,
     ))
 }
 
