@@ -1,4 +1,3 @@
 pub mod Readings
 pub mod Checks
 pub mod Numbers
-pub mod CommandLine

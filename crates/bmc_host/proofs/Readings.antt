@@ -1,5 +1,5 @@
 -- What is read off the words that clap matched.
-use Rattle.std.proofs.Common.{◌≡◌, ◌∙◌, ◌⊎◌, ℕ, List, Bool, Option, Some, None, inl, inr, sym, ap, subst, codes, slice_index, arith}
+use Rattle.std.proofs.Common.{◌≡◌, ◌∙◌, ◌⊎◌, ℕ, List, Bool, Option, Some, None, inl, inr, refl, sym, subst, codes}
 use Rattle.clap.specs.Words.{Row, Text, first_of}
 use Rattle.two_wire.specs.declared.Bus.{Bus}
 use Rattle.bmc_lab.specs.Asked.{Asks}
@@ -9,7 +9,7 @@ use Rattle.bmc_play.specs.declared.run.Shown.{Shown}
 use Rattle.host_base.specs.declared.refusal.Refusal.{Refusal}
 use Rattle.host_base.specs.declared.refusal.Refusal.TheVariants.{Memory as Lacking}
 use Rattle.host_base.specs.Asked.{Refuses}
-use Rattle.host_base.proofs.Readings.{refuses_none, refuses_unless, some_same}
+use Rattle.host_base.proofs.Readings.{alike, apart, refuses_none, refuses_unless, some_same}
 use Rattle.bmc_host.specs.declared.words.Words.{Words}
 use Rattle.bmc_host.specs.declared.words.Words.TheVariants.{Frame, Play, Schedule, Check}
 use Rattle.bmc_host.specs.declared.words.FrameWords.{FrameWords}
@@ -44,62 +44,18 @@ shown_refuses frames premises chart none shown is =
     let bad : None ≡ Some shown = sym none ∙ is in
     cc
 
-not_play : codes "frame" ≡ codes "play" → ⊥
-not_play same =
-    let bad : ◌≡◌ {A = ℕ} 102 112 = ap (λ (t : Text). slice_index t 0) same in
-    absurd (omega arith)
-
-not_check : codes "frame" ≡ codes "check" → ⊥
-not_check same =
-    let bad : ◌≡◌ {A = ℕ} 102 99 = ap (λ (t : Text). slice_index t 0) same in
-    absurd (omega arith)
-
-not_schedule : codes "frame" ≡ codes "schedule" → ⊥
-not_schedule same =
-    let bad : ◌≡◌ {A = ℕ} 102 115 = ap (λ (t : Text). slice_index t 0) same in
-    absurd (omega arith)
-
 -- what asks for anything behind `frame` asks for a frame
-pub frame_behind : (met : Option (Text × List Row)) (rows : List Row) → met ≡ Some (codes "frame", rows) → (asked : Words) → AsksBy met asked → (words : FrameWords) × AsksFrame rows words
-frame_behind met rows is (Frame words) asks =
-    let same : (codes "frame", asks.0) ≡ (codes "frame", rows) = some_same met (codes "frame", asks.0) (codes "frame", rows) asks.1 is in
-    (words, subst (λ (r : List Row). AsksFrame r words) (ap (λ (p : Text × List Row). p.1) same) asks.2)
-frame_behind met rows is (Play words) asks =
-    let same : (codes "frame", rows) ≡ (codes "play", asks.0) = some_same met (codes "frame", rows) (codes "play", asks.0) is asks.1 in
-    absurd (not_play (ap (λ (p : Text × List Row). p.0) same))
-frame_behind met rows is (Schedule words) asks =
-    let same : (codes "frame", rows) ≡ (codes "schedule", asks.0) = some_same met (codes "frame", rows) (codes "schedule", asks.0) is asks.1 in
-    absurd (not_schedule (ap (λ (p : Text × List Row). p.0) same))
-frame_behind met rows is (Check words) asks =
-    let same : (codes "frame", rows) ≡ (codes "check", asks.0) = some_same met (codes "frame", rows) (codes "check", asks.0) is asks.1 in
-    absurd (not_check (ap (λ (p : Text × List Row). p.0) same))
-
-schedule_not_frame : codes "schedule" ≡ codes "frame" → ⊥
-schedule_not_frame same =
-    let bad : ◌≡◌ {A = ℕ} 115 102 = ap (λ (t : Text). slice_index t 0) same in
-    absurd (omega arith)
-
-schedule_not_play : codes "schedule" ≡ codes "play" → ⊥
-schedule_not_play same =
-    let bad : ◌≡◌ {A = ℕ} 115 112 = ap (λ (t : Text). slice_index t 0) same in
-    absurd (omega arith)
-
-schedule_not_check : codes "schedule" ≡ codes "check" → ⊥
-schedule_not_check same =
-    let bad : ◌≡◌ {A = ℕ} 115 99 = ap (λ (t : Text). slice_index t 0) same in
-    absurd (omega arith)
+pub frame_behind : (met : Option (Text × List Row)) (rows : List Row) → met ≡ Some (codes "frame", rows) → (asked : Words) → AsksBy met asked
+    → (words : FrameWords) × AsksFrame rows words
+frame_behind met rows is (Frame words) asks = (words, subst (λ (r : List Row). AsksFrame r words) (alike met (codes "frame") asks.0 rows asks.1 is) asks.2)
+frame_behind met rows is (Play words) asks = absurd (apart met (codes "frame") (codes "play") rows asks.0 refl is asks.1)
+frame_behind met rows is (Schedule words) asks = absurd (apart met (codes "frame") (codes "schedule") rows asks.0 refl is asks.1)
+frame_behind met rows is (Check words) asks = absurd (apart met (codes "frame") (codes "check") rows asks.0 refl is asks.1)
 
 -- what asks for anything behind `schedule` asks for a schedule
-pub schedule_behind : (met : Option (Text × List Row)) (rows : List Row) → met ≡ Some (codes "schedule", rows) → (asked : Words) → AsksBy met asked → (words : ScheduleWords) × AsksSchedule rows words
-schedule_behind met rows is (Schedule words) asks =
-    let same : (codes "schedule", asks.0) ≡ (codes "schedule", rows) = some_same met (codes "schedule", asks.0) (codes "schedule", rows) asks.1 is in
-    (words, subst (λ (r : List Row). AsksSchedule r words) (ap (λ (p : Text × List Row). p.1) same) asks.2)
-schedule_behind met rows is (Frame words) asks =
-    let same : (codes "schedule", rows) ≡ (codes "frame", asks.0) = some_same met (codes "schedule", rows) (codes "frame", asks.0) is asks.1 in
-    absurd (schedule_not_frame (ap (λ (p : Text × List Row). p.0) same))
-schedule_behind met rows is (Play words) asks =
-    let same : (codes "schedule", rows) ≡ (codes "play", asks.0) = some_same met (codes "schedule", rows) (codes "play", asks.0) is asks.1 in
-    absurd (schedule_not_play (ap (λ (p : Text × List Row). p.0) same))
-schedule_behind met rows is (Check words) asks =
-    let same : (codes "schedule", rows) ≡ (codes "check", asks.0) = some_same met (codes "schedule", rows) (codes "check", asks.0) is asks.1 in
-    absurd (schedule_not_check (ap (λ (p : Text × List Row). p.0) same))
+pub schedule_behind : (met : Option (Text × List Row)) (rows : List Row) → met ≡ Some (codes "schedule", rows) → (asked : Words) → AsksBy met asked
+    → (words : ScheduleWords) × AsksSchedule rows words
+schedule_behind met rows is (Schedule words) asks = (words, subst (λ (r : List Row). AsksSchedule r words) (alike met (codes "schedule") asks.0 rows asks.1 is) asks.2)
+schedule_behind met rows is (Frame words) asks = absurd (apart met (codes "schedule") (codes "frame") rows asks.0 refl is asks.1)
+schedule_behind met rows is (Play words) asks = absurd (apart met (codes "schedule") (codes "play") rows asks.0 refl is asks.1)
+schedule_behind met rows is (Check words) asks = absurd (apart met (codes "schedule") (codes "check") rows asks.0 refl is asks.1)

@@ -1,10 +1,10 @@
 -- What the words of the command line ask for.
-use Rattle.std.specs.Prelude.{◌≡◌, Bool, true, false, List, [], Option, None, Some, codes, map, option_map, string_bytes}
-use Rattle.clap.specs.Words.{Row, Text, all_of, fault_of, first_of, subcommand_of}
+use Rattle.std.specs.Prelude.{◌≡◌, Bool, true, false, List, Option, None, Some, codes, map, option_map, string_bytes}
+use Rattle.clap.specs.Words.{Row, Text, all_of, first_of}
 use Rattle.bmc_lab.specs.Asked.{Asks}
 use Rattle.bmc_play.specs.declared.run.Shown.{Shown}
 use Rattle.bmc_play.specs.declared.run.Shown.TheVariants.{Lines, Chart}
-use Rattle.host_base.specs.Asked.{is_given}
+use Rattle.host_base.specs.Asked.{AsksOf, is_given}
 use Rattle.bmc_host.specs.declared.words.Words.{Words}
 use Rattle.bmc_host.specs.declared.words.Words.TheVariants.{Frame, Play, Schedule, Check}
 use Rattle.bmc_host.specs.declared.words.FrameWords.{FrameWords}
@@ -47,6 +47,5 @@ AsksBy met (Schedule asked) = (rows : List Row) × (met ≡ Some (codes "schedul
 AsksBy met (Check asked) = (rows : List Row) × (met ≡ Some (codes "check", rows)) × AsksCheck rows asked
 
 -- the words, the program's own name first among them, are of its command line, and ask for this
-pub record AsksFor (words : List Text) (asked : Words) : Type 0 where
-  pub taken : fault_of program words ≡ []
-  pub asks : AsksBy (subcommand_of program words) asked
+abbrev pub AsksFor : (words : List Text) → (asked : Words) → Type 0
+AsksFor words asked = AsksOf program AsksBy words asked

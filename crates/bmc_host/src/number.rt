@@ -1,22 +1,13 @@
 //! Numbers among the words.
-ghost use Rattle.std.specs.Prelude.{◌==◌, slice_index, ◌≡◌, ◌≤◌, ◌<◌, ◌^◌};
+ghost use Rattle.std.specs.Prelude.{◌≤◌, ◌<◌, ◌^◌};
 ghost use Rattle.std.specs.Option.{SomeIff};
 ghost use Rattle.std.specs.Str.Parse.{IsNumeral, digits_value};
 
+use host_base::has_plus;
 use lab_schedule::Percent;
 
 /// The most of a hundred.
 pub const MOST_PERCENT: u64 = 100;
-
-/// Whether the word begins with the sign that Rust's numbers may have and a decimal number here has not.
-fn has_plus(word: &str) -> bool
-    ensures { result ≡ (slice_index word.now 0 == 43) }
-{
-    match word.as_bytes() {
-        [byte, ..] => *byte == b'+',
-        [] => false,
-    }
-}
 
 /// The number that the word is in decimal digits.
 pub fn number_of(word: &str) -> Option<u64>

@@ -1,2 +1,4 @@
 pub mod Builders
+pub mod CommandLine
+pub mod Numbers
 pub mod Readings

@@ -1,6 +1,8 @@
 -- What is read off the words that clap matched.
-use Rattle.std.proofs.Common.{◌≡◌, ◌∙◌, List, Option, Some, None, sym, option_map}
+use Rattle.std.proofs.Common.{◌≡◌, ◌∙◌, List, true, false, Option, Some, None, sym, ap, option_map}
 use Rattle.std.specs.Prelude.{Box}
+use Rattle.std.specs.Str.{bytes_eq}
+use Rattle.std.proofs.lemmas.Slice.Eq.{bytes_eq-Decides}
 use Rattle.std.specs.Box.{box_value}
 use Rattle.clap.specs.Words.{Row, Text, first_of, first_value, rows_of, subcommand_name_of, subcommand_rows, subcommand_rows_of}
 use Rattle.clap.specs.declared.parser.matches.ArgMatches.{ArgMatches}
@@ -54,3 +56,14 @@ pub none_there : {A : Type 0} (found : Option A) (thing : A) → found ≡ None 
 none_there found thing none some =
     let bad : None ≡ Some thing = sym none ∙ some in
     cc
+
+-- what was met under one name wasn't met under another
+pub apart : {A : Type 0} (met : Option (Text × A)) (name other : Text) (a b : A) → bytes_eq name other ≡ false → met ≡ Some (name, a) → met ≡ Some (other, b) → ⊥
+apart {A} met name other a b differ one two =
+    let same : name ≡ other = ap (λ (p : Text × A). p.0) (some_same met (name, a) (other, b) one two) in
+    let bad : true ≡ false = sym ((bytes_eq-Decides name other).1 same) ∙ differ in
+    cc
+
+-- and under its name it's one thing
+pub alike : {A : Type 0} (met : Option (Text × A)) (name : Text) (a b : A) → met ≡ Some (name, a) → met ≡ Some (name, b) → a ≡ b
+alike {A} met name a b one two = ap (λ (p : Text × A). p.1) (some_same met (name, a) (name, b) one two)

@@ -5,11 +5,13 @@
 pub mod build;
 pub mod file;
 pub mod matched;
+pub mod number;
 pub mod process;
 pub mod refusal;
 
 pub use build::{flag, needed, new_command, option, several};
 pub use file::HostFiles;
 pub use matched::{all_named, given, has_flag, lacking, named};
+pub use number::has_plus;
 pub use process::words_of_process;
 pub use refusal::{Refusal, refusal_by, refusal_of, refuse};
