@@ -1,3 +1,5 @@
 pub mod Turning
 pub mod Scanning
 pub mod Slicing
+pub mod Rounds
+pub mod Timing

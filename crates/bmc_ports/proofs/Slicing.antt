@@ -1,73 +1,164 @@
--- A worker's slices, one after another.
-use Rattle.std.proofs.Common.{◌≡◌, ◌+◌, ◌∙◌, refl, ℕ, List, ap, subst, arith}
-use Rattle.bmc_core.specs.Port.{bus_of}
+-- A worker's turns, one after another.
+use Rattle.std.proofs.Common.{◌≡◌, ◌≤◌, ◌+◌, ◌++◌, ◌∙◌, refl, inl, inr, sym, ap, subst, ℕ, List, [], ◌∷◌, length, min, None, Some, arith}
+use Rattle.std.proofs.lemmas.List.{append_assoc, length-append}
 use Rattle.bmc_links.specs.declared.link.Counts.{Counts}
 use Rattle.bmc_links.specs.Counted.{counted_on}
 use Rattle.bmc_links.proofs.Counting.{counted_twice}
 use Rattle.bmc_history.specs.declared.event.Call.{Call}
-use Rattle.bmc_ports.specs.declared.slices.Lane.{Lane}
+use Rattle.bmc_history.specs.declared.seat.Seat.{Seat}
+use Rattle.bmc_ports.specs.declared.lane.Lane.{Lane}
 use Rattle.bmc_ports.specs.declared.worker.End.{End}
 use Rattle.bmc_ports.specs.declared.worker.End.TheVariants.{Turns, Full}
-use Rattle.bmc_ports.specs.Serving.{MadeAll, Worked}
-use Rattle.bmc_ports.specs.Slices.{GoesOn}
-use Rattle.bmc_ports.proofs.Turning.{idle, works_on}
+use Rattle.bmc_ports.specs.Slices.{AreSilent, AreTurns, FindRoom, GoesOn, Hearing, IsBack, IsQuiet, IsTurn, Makes, most_quiet}
 
--- a worker made so many turns, and found room for what it asked
-pub record Makes {L : Type 0} (counts_of : L → Counts) (made : ℕ) (held kept : List Call) (before after : Lane L) : Type 0 where
-  pub turns : made + after.turns ≡ before.turns
-  pub bus : bus_of after.port ≡ bus_of before.port
-  pub worked : Worked Turns made before.port after.port held kept (counts_of before.link) (counts_of after.link)
+-- ---- quiet
 
--- a turn is one call, however it ends
-one_call : (end : End) (before after : Counts) → MadeAll end 1 before after → after.calls ≡ counted_on before.calls 1
-one_call Turns before after made = made
-one_call Full before after (made, least, most, are) =
-    let one : made ≡ 1 = omega (arith, least, most) in
-    subst (λ (n : ℕ). after.calls ≡ counted_on before.calls n) one are
+silent_both : (first later : List Hearing) → AreSilent first → AreSilent later → AreSilent (first ++ later)
+silent_both [] later none then = then
+silent_both (None ∷ first) later none then = silent_both first later none then
+silent_both (Some frame ∷ first) later none then = absurd none
 
+counts_both : (many more total first last : ℕ) → total ≡ many + more → first ≡ min many most_quiet → last ≡ min (first + more) most_quiet → last ≡ min total most_quiet
+counts_both many more total first last is one two = grind arith
+
+-- a frame was heard
+pub loud : (quiet : ℕ) (frame : List ℕ) → IsQuiet quiet (Some frame ∷ []) 0
+unfolding IsQuiet
+loud quiet frame = inr ([], frame, [], refl, tt, refl)
+
+-- none was heard
+pub quiet_once : (quiet count : ℕ) → count ≡ min (quiet + 1) most_quiet → IsQuiet quiet (None ∷ []) count
+unfolding IsQuiet
+quiet_once quiet count is = inl (tt, is)
+
+-- no turn was made
+quiet_still : (quiet : ℕ) → quiet ≤ most_quiet → IsQuiet quiet [] quiet
+unfolding IsQuiet
+quiet_still quiet most = inl (tt, grind arith)
+
+-- turns, and then others
+quiet_both : (before mid after : ℕ) (first later : List Hearing) → IsQuiet before first mid → IsQuiet mid later after → IsQuiet before (first ++ later) after
+unfolding IsQuiet
+quiet_both before mid after first later begins (inr (front, frame, back, is, silent, count)) =
+    inr (first ++ front, frame, back, ap (λ xs. first ++ xs) is ∙ sym (append_assoc first front (Some frame ∷ back)), silent, count)
+quiet_both before mid after first later (inl (none, one)) (inl (silent, two)) =
+    let both : before + length (first ++ later) ≡ (before + length first) + length later = omega (arith, length-append first later) in
+    inl (silent_both first later none silent, counts_both (before + length first) (length later) (before + length (first ++ later)) mid after both one two)
+quiet_both before mid after first later (inr (front, frame, back, is, none, one)) (inl (silent, two)) =
+    inr (
+      front,
+      frame,
+      back ++ later,
+      ap (λ xs. xs ++ later) is ∙ append_assoc front (Some frame ∷ back) later,
+      silent_both back later none silent,
+      counts_both (length back) (length later) (length (back ++ later)) mid after (length-append back later) one two,
+    )
+
+-- ---- turns
 module _ {L : Type 0} (counts_of : L → Counts) where
-  -- no turn was made
-  pub makes_none : (held : List Call) (lane : Lane L) → Makes counts_of 0 held held lane lane
-  makes_none held lane = record { turns = omega arith; bus = refl; worked = idle lane.port held (counts_of lane.link) }
+  found_both : (first later : List Hearing) (held list kept : List Call) (before mid after : Lane L)
+      → FindRoom counts_of first held list before mid → FindRoom counts_of later list kept mid after → FindRoom counts_of (first ++ later) held kept before after
+  found_both [] later held list kept before mid after (same, still) then =
+      subst (λ (xs : List Call). FindRoom counts_of later xs kept before after) (sym same)
+      (subst (λ (lane : Lane L). FindRoom counts_of later list kept lane after) (sym still) then)
+  found_both (heard ∷ first) later held list kept before mid after (next, lane, turn, found) then =
+      (next, lane, turn, found_both first later next list kept lane mid after found then)
 
-  -- turns, and one more
-  pub makes_more : (made : ℕ) (held kept more : List Call) (before mid after : Lane L) → Makes counts_of made held kept before mid
-      → Worked Turns 1 mid.port after.port kept more (counts_of mid.link) (counts_of after.link)
-      → after.turns + 1 ≡ mid.turns → bus_of after.port ≡ bus_of mid.port
-      → Makes counts_of (made + 1) held more before after
-  makes_more made held kept more before mid after makes slice turns bus = record {
-    turns = omega (arith, makes.turns, turns);
-    bus = bus ∙ makes.bus;
-    worked = works_on Turns made before.port mid.port after.port held kept more (counts_of before.link) (counts_of mid.link) (counts_of after.link) makes.worked slice;
+  turns_both : (end : End) (first later : List Hearing) (held list kept : List Call) (before mid after : Lane L)
+      → FindRoom counts_of first held list before mid → AreTurns counts_of end later list kept mid after → AreTurns counts_of end (first ++ later) held kept before after
+  turns_both Turns first later held list kept before mid after found then = found_both first later held list kept before mid after found then
+  turns_both Full first later held list kept before mid after found then = record {
+    first = first ++ then.first;
+    last = then.last;
+    list = then.list;
+    mid = then.mid;
+    all = ap (λ xs. first ++ xs) then.all ∙ sym (append_assoc first then.first (then.last ∷ []));
+    found = found_both first then.first held list then.list before mid then.mid found then.found;
+    full = then.full;
   }
 
-  -- turns, and the last one
-  pub ends_so : (end : End) (made : ℕ) (held kept more : List Call) (before mid after : Lane L) → Makes counts_of made held kept before mid
-      → Worked end 1 mid.port after.port kept more (counts_of mid.link) (counts_of after.link)
-      → after.turns + 1 ≡ mid.turns → bus_of after.port ≡ bus_of mid.port
-      → GoesOn counts_of end held more before after
-  ends_so end made held kept more before mid after makes slice turns bus =
-      let first : ℕ = (counts_of before.link).calls in
-      let same : 1 + made ≡ made + 1 = omega arith in record {
-        made = made + 1;
-        turns = omega (arith, makes.turns, turns);
-        least = λ some. omega arith;
-        calls = one_call end (counts_of mid.link) (counts_of after.link) slice.calls
-            ∙ ap (λ (calls : ℕ). counted_on calls 1) makes.worked.calls
-            ∙ counted_twice first made 1
-            ∙ ap (counted_on first) same;
-        bus = bus ∙ makes.bus;
-        worked = works_on end made before.port mid.port after.port held kept more (counts_of before.link) (counts_of mid.link) (counts_of after.link) makes.worked slice;
+  one_turn : (end : End) (heard : Hearing) (held kept : List Call) (before after : Lane L)
+      → IsTurn counts_of end heard held kept before after → AreTurns counts_of end (heard ∷ []) held kept before after
+  one_turn Turns heard held kept before after turn = (kept, after, turn, (refl, refl))
+  one_turn Full heard held kept before after turn =
+      record { first = []; last = heard; list = held; mid = before; all = refl; found = (refl, refl); full = turn }
+
+  -- none was made
+  pub makes_still : (held : List Call) (lane : Lane L) → lane.quiet ≤ most_quiet → Makes counts_of Turns [] held held lane lane
+  makes_still held lane most =
+      record { turns = omega arith; calls = refl; quiet = quiet_still lane.quiet most; bus = refl; made = (refl, refl) }
+
+  -- one was made
+  makes_one : (end : End) (heard : Hearing) (held kept : List Call) (before after : Lane L)
+      → IsTurn counts_of end heard held kept before after → Makes counts_of end (heard ∷ []) held kept before after
+  makes_one end heard held kept before after turn = record {
+    turns = omega (arith, turn.turns);
+    calls = turn.made.next.calls;
+    quiet = turn.quiet;
+    bus = turn.bus;
+    made = one_turn end heard held kept before after turn;
+  }
+
+  -- some were made, and then others
+  makes_both : (end : End) (first later : List Hearing) (held list kept : List Call) (before mid after : Lane L)
+      → Makes counts_of Turns first held list before mid → Makes counts_of end later list kept mid after → Makes counts_of end (first ++ later) held kept before after
+  makes_both end first later held list kept before mid after begins then =
+      let count : ℕ = (counts_of before.link).calls in
+      let both : length later + length first ≡ length (first ++ later) = omega (arith, length-append first later) in record {
+        turns = omega (arith, length-append first later, begins.turns, then.turns);
+        calls = then.calls ∙ ap (λ (calls : ℕ). counted_on calls (length later)) begins.calls ∙ counted_twice count (length first) (length later) ∙ ap (counted_on count) both;
+        quiet = quiet_both before.quiet mid.quiet after.quiet first later begins.quiet then.quiet;
+        bus = then.bus ∙ begins.bus;
+        made = turns_both end first later held list kept before mid after begins.made then.made;
       }
 
-  -- all its turns
-  pub ends_with_turns : (made : ℕ) (held kept : List Call) (before after : Lane L) → made ≡ before.turns → Makes counts_of made held kept before after
-      → GoesOn counts_of Turns held kept before after
-  ends_with_turns made held kept before after all makes = record {
-    made = made;
-    turns = makes.turns;
-    least = λ some. omega (arith, all, some);
-    calls = makes.worked.calls;
-    bus = makes.bus;
-    worked = makes.worked;
+  -- some were made, and then one
+  pub makes_more : (end : End) (first : List Hearing) (heard : Hearing) (held list kept : List Call) (before mid after : Lane L)
+      → Makes counts_of Turns first held list before mid → IsTurn counts_of end heard list kept mid after → Makes counts_of end (first ++ heard ∷ []) held kept before after
+  makes_more end first heard held list kept before mid after begins turn =
+      makes_both end first (heard ∷ []) held list kept before mid after begins (makes_one end heard list kept mid after turn)
+
+  -- the last one was made
+  pub ends_so : (end : End) (first : List Hearing) (heard : Hearing) (held list kept : List Call) (before mid after : Lane L)
+      → Makes counts_of Turns first held list before mid → IsTurn counts_of end heard list kept mid after → GoesOn counts_of end held kept before after
+  ends_so end first heard held list kept before mid after begins turn = record {
+    heard = first ++ heard ∷ [];
+    least = λ some. omega (arith, length-append first (heard ∷ []));
+    makes = makes_more end first heard held list kept before mid after begins turn;
   }
+
+  -- all were made
+  pub ends_with_all : (heard : List Hearing) (held kept : List Call) (before after : Lane L) → length heard ≡ before.turns
+      → Makes counts_of Turns heard held kept before after → GoesOn counts_of Turns held kept before after
+  ends_with_all heard held kept before after all makes = record { heard = heard; least = λ some. omega (arith, all, some); makes = makes }
+
+  -- a worker that went on goes on once more
+  goes_both : (end : End) (held list kept : List Call) (before mid after : Lane L)
+      → GoesOn counts_of Turns held list before mid → GoesOn counts_of end list kept mid after → GoesOn counts_of end held kept before after
+  goes_both end held list kept before mid after begins then = record {
+    heard = begins.heard ++ then.heard;
+    least = λ some. omega (arith, length-append begins.heard then.heard, begins.least some);
+    makes = makes_both end begins.heard then.heard held list kept before mid after begins.makes then.makes;
+  }
+
+  -- and its seat comes back
+  pub back_again : {J : Type 0} {f g h : _} (seat : Seat J f) (lane : Lane L) (next : Seat J g) (mid : Lane L) (one : End) (after : Seat J h) (left : Lane L) (end : End) → one ≡ Turns
+      → IsBack counts_of seat lane next mid one → IsBack counts_of next mid after left end → IsBack counts_of seat lane after left end
+  back_again seat lane next mid one after left end room begins then = record {
+    number = then.number ∙ begins.number;
+    marked = then.marked;
+    mark = λ same. then.mark same ∙ begins.mark room;
+    goes = goes_both end seat.calls.items next.calls.items after.calls.items lane mid left
+        (subst (λ (e : End). GoesOn counts_of e seat.calls.items next.calls.items lane mid) room begins.goes) then.goes;
+  }
+
+  -- the same, where the seat, the lane and the end are the same
+  pub same_back : {J : Type 0} {g h : _} (seat other : Seat J g) (lane that : Lane L) (after back : Seat J h) (left given : Lane L) (end same : End)
+      → seat ≡ other → lane ≡ that → back ≡ after → given ≡ left → same ≡ end
+      → IsBack counts_of seat lane after left end → IsBack counts_of other that back given same
+  same_back seat other lane that after back left given end same seats lanes afters lefts ends is =
+      subst (λ s. IsBack counts_of s that back given same) seats
+      (subst (λ l. IsBack counts_of seat l back given same) lanes
+      (subst (λ s. IsBack counts_of seat lane s given same) (sym afters)
+      (subst (λ l. IsBack counts_of seat lane after l same) (sym lefts)
+      (subst (λ e. IsBack counts_of seat lane after left e) (sym ends) is))))

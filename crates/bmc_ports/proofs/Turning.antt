@@ -1,5 +1,5 @@
 -- A worker's turns, one after another.
-use Rattle.std.specs.Prelude.{Result, Ok, Err, OnOk, OnErr}
+use Rattle.std.specs.Prelude.{Result, Ok, Err, OnOk, OnErr, Option, Some}
 use Rattle.std.proofs.Common.{◌≡◌, ◌≤◌, refl, ◌+◌, ◌++◌, ℕ, suc, List, [], ◌∷◌, length, ap, sym, ◌∙◌, subst, arith, lit≤}
 use Rattle.std.proofs.lemmas.List.{append_assoc, length-append, append-nil}
 use Rattle.bmc_core.specs.declared.out.Out.{Out}
@@ -12,7 +12,7 @@ use Rattle.bmc_links.specs.Counted.{one_more, counted_on}
 use Rattle.bmc_links.proofs.Counting.{counted_twice}
 use Rattle.bmc_history.specs.declared.event.Call.{Call}
 use Rattle.bmc_history.specs.declared.held.PeriodFull.{PeriodFull}
-use Rattle.bmc_ports.specs.Serving.{CallsNext, Carries, Serves, ServesTo, MadeAll, Worked, end_of}
+use Rattle.bmc_ports.specs.Serving.{CallsNext, Carries, MakesTurn, Serves, ServesTo, MadeAll, Takes, Worked, end_of, frames_in}
 use Rattle.bmc_ports.specs.declared.worker.End.{End}
 use Rattle.bmc_ports.specs.declared.worker.End.TheVariants.{Turns, Full}
 
@@ -96,16 +96,12 @@ full_early made turns before after held kept counted counts within worked = reco
   serves = worked.serves;
 }
 
--- ---- one turn, of which this is known: one call of `next` heard a frame, and what came of it left the link's counts alone
-module _ (before : Port) (frame : List ℕ) (counted mid counts : Counts) (next : CallsNext (frame ∷ []) counted mid)
-    (calls : counts.calls ≡ mid.calls) (heard : counts.heard ≡ mid.heard) where
+-- ---- one frame that a port took
+module _ (before : Port) (frame : List ℕ) where
   -- nothing was asked
-  pub settled : (after : Port) (out : Out) (held : List Call) → IsStep before frame after out Done → Worked Turns 1 before after held held counted counts
+  pub settled : (after : Port) (out : Out) (held : List Call) → IsStep before frame after out Done → Takes Turns (frame ∷ []) before after held held
   settled after out held step = record {
-    frames = frame ∷ [];
     gained = [];
-    calls = calls ∙ next.calls;
-    heard = heard ∙ next.heard;
     list = sym (append-nil held);
     serves = (after, [], [], refl, record { between = after; out = out; step = Done; heard = step; settles = (refl, refl) }, (refl, refl));
   }
@@ -116,20 +112,14 @@ module _ (before : Port) (frame : List ℕ) (counted mid counts : Counts) (next 
       → OnOk result (Carries pending between held kept after)
       → OnErr result (kept ≡ held)
       → OnErr result (after ≡ between)
-      → Worked (end_of result) 1 before after held kept counted counts
+      → Takes (end_of result) (frame ∷ []) before after held kept
   asked between after out pending held kept (Ok done) step carries list port = record {
-    frames = frame ∷ [];
     gained = carries.0;
-    calls = calls ∙ next.calls;
-    heard = heard ∙ next.heard;
     list = carries.1;
     serves = (after, carries.0, [], sym (append-nil carries.0), record { between = between; out = out; step = Ask pending; heard = step; settles = carries.2 }, (refl, refl));
   }
   asked between after out pending held kept (Err full) step carries list port = record {
-    frames = frame ∷ [];
     gained = [];
-    calls = (1, lit≤ tt, lit≤ tt, calls ∙ next.calls);
-    heard = heard ∙ next.heard;
     list = list ∙ sym (append-nil held);
     serves = record {
       served = [];
@@ -140,3 +130,29 @@ module _ (before : Port) (frame : List ℕ) (counted mid counts : Counts) (next 
       drops = record { out = out; pending = pending; asks = subst (λ (port : Port). IsStep before frame port out (Ask pending)) (sym port) step };
     };
   }
+
+-- ---- one turn
+
+-- a frame was heard and taken, and what came of it left the link's counts alone
+pub taken : (end : End) (frame : List ℕ) (before after : Port) (held kept : List Call) (counted mid counts : Counts)
+    → CallsNext (frame ∷ []) counted mid → counts.calls ≡ mid.calls → counts.heard ≡ mid.heard
+    → Takes end (frame ∷ []) before after held kept → MakesTurn end (Some frame) before after held kept counted counts
+taken end frame before after held kept counted mid counts next calls heard takes =
+    record { next = record { calls = calls ∙ next.calls; heard = heard ∙ next.heard }; takes = takes }
+
+-- one call of `next` was counted, however the turn ends
+one_call : (end : End) (before after : Counts) → after.calls ≡ counted_on before.calls 1 → MadeAll end 1 before after
+one_call Turns before after counted = counted
+one_call Full before after counted = (1, lit≤ tt, lit≤ tt, counted)
+
+-- a turn is a worker's whole work, where it's to make one
+pub works : (end : End) (heard : Option (List ℕ)) (before after : Port) (held kept : List Call) (counted counts : Counts)
+    → MakesTurn end heard before after held kept counted counts → Worked end 1 before after held kept counted counts
+works end heard before after held kept counted counts made = record {
+  frames = frames_in heard;
+  gained = made.takes.gained;
+  calls = one_call end counted counts made.next.calls;
+  heard = made.next.heard;
+  list = made.takes.list;
+  serves = made.takes.serves;
+}

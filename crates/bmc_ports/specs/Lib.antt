@@ -2,3 +2,4 @@ pub mod Serving
 pub mod Scanning
 pub mod Seated
 pub mod Slices
+pub mod Timing

@@ -85,6 +85,17 @@ abbrev pub MadeAll : End → ℕ → Counts → Counts → Type 0
 MadeAll Turns turns before after = after.calls ≡ counted_on before.calls turns
 MadeAll Full turns before after = (made : ℕ) × (1 ≤ made) × (made ≤ turns) × (after.calls ≡ counted_on before.calls made)
 
+-- A port took frames, and its worker ends so by the last of them, or would. The seat's list gained the replies that the port was told.
+pub record Takes (end : End) (frames : List (List ℕ)) (before after : Port) (held kept : List Call) : Type 0 where
+  pub gained : List Call
+  pub list : kept ≡ held ++ gained
+  pub serves : ServesTo end frames before gained after
+
+-- A worker made one turn and heard this in it, and the port took the frame, if one was heard.
+pub record MakesTurn (end : End) (heard : Option (List ℕ)) (before after : Port) (held kept : List Call) (counted counts : Counts) : Type 0 where
+  pub next : CallsNext (frames_in heard) counted counts
+  pub takes : Takes end (frames_in heard) before after held kept
+
 -- A worker made turns and ended so. Its port heard as many frames as its link counted, and was told the replies that its seat's list
 -- gained, in their order.
 pub record Worked (end : End) (turns : ℕ) (before after : Port) (held kept : List Call) (counted counts : Counts) : Type 0 where

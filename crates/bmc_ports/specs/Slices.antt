@@ -1,24 +1,108 @@
 -- Ports and links that workers are lent for some of their turns, and give back.
-use Rattle.std.specs.Prelude.{◌≡◌, ◌+◌, ◌≤◌, ℕ, List, true}
+use Rattle.std.specs.Prelude.{◌≡◌, ◌⊎◌, ◌+◌, ◌^◌, ◌-◌, ◌≤◌, ◌++◌, ◌∷◌, ℕ, List, [], length, min, Option, Some, None, true}
 use Rattle.bmc_core.specs.Port.{bus_of}
 use Rattle.bmc_links.specs.declared.link.Counts.{Counts}
 use Rattle.bmc_links.specs.Counted.{counted_on}
 use Rattle.bmc_history.specs.declared.event.Call.{Call}
 use Rattle.bmc_history.specs.declared.seat.Seat.{Seat}
-use Rattle.bmc_ports.specs.declared.slices.Lane.{Lane}
+use Rattle.bmc_ports.specs.declared.lane.Lane.{Lane}
+use Rattle.bmc_ports.specs.declared.lane.Lanes.{Lanes}
 use Rattle.bmc_ports.specs.declared.worker.End.{End}
 use Rattle.bmc_ports.specs.declared.worker.End.TheVariants.{Turns, Full}
-use Rattle.bmc_ports.specs.Serving.{Worked}
+use Rattle.bmc_ports.specs.Serving.{MakesTurn}
 
--- A worker of a port ended so. It made so many of the turns that it had, each one call of the link's `next`, and at least one where it had
--- any; the others are left. The port heard what the link did, and was told the replies that the seat's list gained.
-pub record GoesOn {L : Type 0} (counts_of : L → Counts) (end : End) (held kept : List Call) (before after : Lane L) : Type 0 where
-  pub made : ℕ
-  pub turns : made + after.turns ≡ before.turns
-  pub least : 1 ≤ before.turns → 1 ≤ made
-  pub calls : (counts_of after.link).calls ≡ counted_on (counts_of before.link).calls made
+-- what a turn heard: a frame, or none
+abbrev pub Hearing : Type 0
+Hearing = Option (List ℕ)
+
+-- ---- quiet
+
+-- the largest number that a count of quiet turns comes to
+abbrev pub most_quiet : ℕ
+most_quiet = 2 ^ 32 - 1
+
+-- nothing was heard in any of these turns
+abbrev pub AreSilent : List Hearing → Type 0
+AreSilent [] = Unit {0}
+AreSilent (None ∷ later) = AreSilent later
+AreSilent (Some frame ∷ later) = ⊥
+
+-- nothing was heard in these turns, so as many more are quiet; or a frame was heard, and those behind the last one are
+unfoldable pub IsQuiet : (before : ℕ) → List Hearing → (after : ℕ) → Type 0
+IsQuiet before heard after =
+    (AreSilent heard × (after ≡ min (before + length heard) most_quiet))
+    ⊎ ((first : List Hearing) × (frame : List ℕ) × (later : List Hearing) × (heard ≡ first ++ Some frame ∷ later) × AreSilent later
+    × (after ≡ min (length later) most_quiet))
+
+-- a link was quiet for the least number of turns, where there is one
+abbrev pub IsQuietFor : (least : Option ℕ) → (quiet : ℕ) → Type 0
+IsQuietFor None quiet = ⊥
+IsQuietFor (Some least) quiet = least ≤ quiet
+
+-- both links were quiet for it
+abbrev pub AreQuiet : {A B : Type 0} → (least : Option ℕ) → Lanes A B → Type 0
+AreQuiet least lanes = IsQuietFor least lanes.first.quiet × IsQuietFor least lanes.second.quiet
+
+-- both workers made all their turns
+abbrev pub AreOver : {A B : Type 0} → Lanes A B → Type 0
+AreOver lanes = (lanes.first.turns ≡ 0) × (lanes.second.turns ≡ 0)
+
+-- the serving is over, however much room a history has
+abbrev pub EndsAt : {A B : Type 0} → (least : Option ℕ) → Lanes A B → Type 0
+EndsAt least lanes = AreOver lanes ⊎ AreQuiet least lanes
+
+-- the serving of a history is over: a worker found no room in it, or all is over
+abbrev pub IsDone : {A B : Type 0} → (least : Option ℕ) → (one two : End) → Lanes A B → Type 0
+IsDone least one two lanes = ((one ≡ Full) ⊎ (two ≡ Full)) ⊎ EndsAt least lanes
+
+-- ---- turns
+
+-- a worker made one of a lane's turns, heard this in it, and ended so by it, or would
+pub record IsTurn {L : Type 0} (counts_of : L → Counts) (end : End) (heard : Hearing) (held kept : List Call) (before after : Lane L) : Type 0 where
+  pub made : MakesTurn end heard before.port after.port held kept (counts_of before.link) (counts_of after.link)
+  pub turns : after.turns + 1 ≡ before.turns
+  pub quiet : IsQuiet before.quiet (heard ∷ []) after.quiet
   pub bus : bus_of after.port ≡ bus_of before.port
-  pub worked : Worked end made before.port after.port held kept (counts_of before.link) (counts_of after.link)
+
+-- a worker made a turn that ended so
+abbrev pub SomeTurn : {L : Type 0} → (counts_of : L → Counts) → End → (held kept : List Call) → (before after : Lane L) → Type 0
+SomeTurn counts_of end held kept before after = (heard : Hearing) × IsTurn counts_of end heard held kept before after
+
+-- turns, one after another, in each of which the worker found room
+abbrev pub FindRoom : {L : Type 0} → (counts_of : L → Counts) → List Hearing → (held kept : List Call) → (before after : Lane L) → Type 0
+FindRoom {L} counts_of [] held kept before after = (held ≡ kept) × (before ≡ after)
+FindRoom {L} counts_of (heard ∷ later) held kept before after =
+    (list : List Call) × (mid : Lane L) × IsTurn counts_of Turns heard held list before mid × FindRoom counts_of later list kept mid after
+
+-- turns, in the last of which the worker found no room
+pub record FindRoomButLast {L : Type 0} (counts_of : L → Counts) (heard : List Hearing) (held kept : List Call) (before after : Lane L) : Type 0 where
+  pub first : List Hearing
+  pub last : Hearing
+  pub list : List Call
+  pub mid : Lane L
+  pub all : heard ≡ first ++ last ∷ []
+  pub found : FindRoom counts_of first held list before mid
+  pub full : IsTurn counts_of Full last list kept mid after
+
+-- turns of a worker that ended so
+abbrev pub AreTurns : {L : Type 0} → (counts_of : L → Counts) → End → List Hearing → (held kept : List Call) → (before after : Lane L) → Type 0
+AreTurns counts_of Turns = FindRoom counts_of
+AreTurns counts_of Full = FindRoomButLast counts_of
+
+-- A worker made these turns of a lane, each one call of the link's `next`, and ended so; the others are left. In each turn the port took what
+-- the link heard, and was told the replies that the seat's list gained.
+pub record Makes {L : Type 0} (counts_of : L → Counts) (end : End) (heard : List Hearing) (held kept : List Call) (before after : Lane L) : Type 0 where
+  pub turns : length heard + after.turns ≡ before.turns
+  pub calls : (counts_of after.link).calls ≡ counted_on (counts_of before.link).calls (length heard)
+  pub quiet : IsQuiet before.quiet heard after.quiet
+  pub bus : bus_of after.port ≡ bus_of before.port
+  pub made : AreTurns counts_of end heard held kept before after
+
+-- A worker of a port ended so. It made some of the turns that it had, and at least one where it had any.
+pub record GoesOn {L : Type 0} (counts_of : L → Counts) (end : End) (held kept : List Call) (before after : Lane L) : Type 0 where
+  pub heard : List Hearing
+  pub least : 1 ≤ before.turns → 1 ≤ length heard
+  pub makes : Makes counts_of end heard held kept before after
 
 -- The seat comes back from its worker, marked where that found no room and else as it was, and so do the port and its link.
 pub record IsBack {J : Type 0} {g h : _} {L : Type 0} (counts_of : L → Counts) (seat : Seat J g) (lane : Lane L) (after : Seat J h) (left : Lane L) (end : End) : Type 0 where

@@ -1,10 +1,13 @@
 //! Workers that serve a board's ports in threads of their own, under one lock, and the links and the gate that they use.
 #![tactic(auto)]
 
+mod bell;
 pub mod gate;
+pub mod lane;
 pub mod run;
 pub mod scanner;
 pub mod slices;
+pub mod timed;
 pub mod worker;
 
 pub use bmc_history::{
@@ -13,6 +16,8 @@ pub use bmc_history::{
 };
 pub use bmc_links::{Counts, Heard, Link, LinkFault, MOST_KEPT, MemFault, MemLink};
 pub use gate::Gate;
+pub use lane::{Lane, Lanes};
 pub use run::{NoThread, run_two};
-pub use slices::{Lane, Lanes, Sliced, run_slices};
+pub use slices::{Sliced, run_slices};
+pub use timed::{Stops, Timed, TimedEnd, Timetable, happen_in_time};
 pub use worker::{End, serve_port};

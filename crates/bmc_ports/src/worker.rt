@@ -1,7 +1,7 @@
 //! A worker of one port: it hears frames over a link, has the board answer what they ask, and sends the replies.
-ghost use Rattle.std.specs.Prelude.{◌≡◌, true, OnOk, OnErr};
+ghost use Rattle.std.specs.Prelude.{◌≡◌, true, [], ◌∷◌, OnOk, OnErr};
 ghost use Rattle.bmc_core.specs.Port.{bus_of, bus_asked};
-ghost use Rattle.bmc_ports.specs.Serving.{CallsNext, frames_in, Carries, Worked, end_of};
+ghost use Rattle.bmc_ports.specs.Serving.{CallsNext, frames_in, Carries, Takes, MakesTurn, Worked, end_of};
 ghost use Rattle.bmc_ports.specs.declared.worker.End.TheVariants.{Turns, Full};
 
 use crate::gate::Gate;
@@ -43,7 +43,7 @@ fn send_all<L: Link>(link: &mut L, frames: &[Frame])
 
 /// What a worker keeps from turn to turn: the gate, how often it passed it, and the place for what its port sends.
 #[derive(Drop)]
-struct Desk<'a, G: Gate> {
+pub(crate) struct Desk<'a, G: Gate> {
     gate: &'a G,
     passed: u64,
     out: Out,
@@ -51,7 +51,7 @@ struct Desk<'a, G: Gate> {
 
 impl<'a, G: Gate> Desk<'a, G> {
     /// A worker's, that passed no gate yet.
-    fn new(gate: &'a G) -> Self {
+    pub fn new(gate: &'a G) -> Self {
         Desk {
             gate,
             passed: 0,
@@ -96,32 +96,93 @@ fn carry_out<J: Opening, S: Store + Drop, L: Link, G: Gate, R: Wait>(
     Ok(())
 }
 
-/// One turn: one call of the link's `next`, and all that a frame heard asks for.
-fn turn<J: Opening, S: Store + Drop, L: Link, G: Gate, R: Wait>(
+/// Has a port take a frame, and does all that the frame asks for.
+fn take_frame<J: Opening, S: Store + Drop, L: Link, G: Gate, R: Wait>(
     rt: &R,
     shared: &Shared<J, S>,
     seat: &mut Seat<J>,
     port: &mut Port,
     link: &mut L,
     desk: &mut Desk<'_, G>,
+    frame: &[u8],
 ) -> Result<(), PeriodFull>
-    ensures worked { Worked (end_of result) 1 port.old port.new seat.old.calls.items
-        seat.new.calls.items (L.counts_of link.old) (L.counts_of link.new) }
+    ensures takes { Takes (end_of result) (frame.now ∷ []) port.old port.new
+        seat.old.calls.items seat.new.calls.items }
     ensures marked { OnErr result (seat.new.refused ≡ true) }
     ensures mark { OnOk result (seat.new.refused ≡ seat.old.refused) }
     ensures number { seat.new.number ≡ seat.old.number }
     ensures bus { bus_of port.new ≡ bus_of port.old }
+    ensures calls { (L.counts_of link.new).calls ≡ (L.counts_of link.old).calls }
+    ensures heard { (L.counts_of link.new).heard ≡ (L.counts_of link.old).heard }
 {
-    let Some(frame) = hear_next(link) else {
-        return Ok(());
-    };
-    match port.hear(frame.as_slice(), &mut desk.out) {
+    match port.hear(frame, &mut desk.out) {
         Step::Ask(pending) => carry_out(rt, shared, seat, port, link, desk, pending),
         Step::Done => {
             send_all(link, desk.out.frames.as_slice());
             Ok(())
         }
     }
+}
+
+/// What one turn came to: the frame that the link's `next` heard, if one, and how its worker ends by it, or would.
+#[derive(Drop)]
+pub(crate) struct Turned {
+    pub heard: Option<Frame>,
+    pub end: End,
+}
+
+/// One turn: one call of the link's `next`, and all that a frame heard asks for.
+pub(crate) fn turn<J: Opening, S: Store + Drop, L: Link, G: Gate, R: Wait>(
+    rt: &R,
+    shared: &Shared<J, S>,
+    seat: &mut Seat<J>,
+    port: &mut Port,
+    link: &mut L,
+    desk: &mut Desk<'_, G>,
+) -> Turned
+    ensures made { MakesTurn result.end result.heard port.old port.new seat.old.calls.items
+        seat.new.calls.items (L.counts_of link.old) (L.counts_of link.new) }
+    ensures marked { result.end ≡ Full → seat.new.refused ≡ true }
+    ensures mark { result.end ≡ Turns → seat.new.refused ≡ seat.old.refused }
+    ensures number { seat.new.number ≡ seat.old.number }
+    ensures bus { bus_of port.new ≡ bus_of port.old }
+{
+    let Some(frame) = hear_next(link) else {
+        return Turned {
+            heard: None,
+            end: End::Turns,
+        };
+    };
+    match take_frame(rt, shared, seat, port, link, desk, frame.as_slice()) {
+        Ok(()) => Turned {
+            heard: Some(frame),
+            end: End::Turns,
+        },
+        Err(PeriodFull) => Turned {
+            heard: Some(frame),
+            end: End::Full,
+        },
+    }
+}
+
+/// Makes one turn, and says how its worker ends by it, or would.
+fn work_once<J: Opening, S: Store + Drop, L: Link, G: Gate, R: Wait>(
+    rt: &R,
+    shared: &Shared<J, S>,
+    seat: &mut Seat<J>,
+    port: &mut Port,
+    link: &mut L,
+    desk: &mut Desk<'_, G>,
+) -> End
+    ensures worked { Worked result 1 port.old port.new seat.old.calls.items
+        seat.new.calls.items (L.counts_of link.old) (L.counts_of link.new) }
+    ensures marked { result ≡ Full → seat.new.refused ≡ true }
+    ensures mark { result ≡ Turns → seat.new.refused ≡ seat.old.refused }
+    ensures number { seat.new.number ≡ seat.old.number }
+    ensures bus { bus_of port.new ≡ bus_of port.old }
+{
+    let turned = turn(rt, shared, seat, port, link, desk);
+    turned.end
 }
 
 /// Serves a port over a link for so many turns, or until the board's history is full. A repeat, a control message and what the port
@@ -144,9 +205,9 @@ pub fn serve_port<J: Opening, S: Store + Drop, L: Link, G: Gate, R: Wait>(
 {
     let mut desk = Desk::new(gate);
     for _ in 0..turns {
-        match turn(rt, shared, seat, port, link, &mut desk) {
-            Ok(()) => {}
-            Err(PeriodFull) => return End::Full,
+        match work_once(rt, shared, seat, port, link, &mut desk) {
+            End::Turns => {}
+            End::Full => return End::Full,
         }
     }
     End::Turns
