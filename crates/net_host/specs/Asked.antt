@@ -1,8 +1,8 @@
 -- What the words of the command line ask for.
-use Rattle.std.specs.Prelude.{◌≡◌, ◌≤◌, ◌<◌, ◌^◌, ◌⊎◌, ℕ, List, [], Option, None, Some, codes, string_bytes}
+use Rattle.std.specs.Prelude.{◌≡◌, ◌≤◌, ◌<◌, ◌^◌, ◌⊎◌, ℕ, List, Option, None, Some, codes, string_bytes}
 use Rattle.std.specs.Net.Grammar.{IsNumber}
-use Rattle.clap.specs.Words.{Row, Text, fault_of, first_of, subcommand_of}
-use Rattle.host_base.specs.Asked.{is_given}
+use Rattle.clap.specs.Words.{Row, Text, first_of}
+use Rattle.host_base.specs.Asked.{AsksOf, is_given}
 use Rattle.net_serve.specs.declared.run.ServeWords.{ServeWords}
 use Rattle.net_run.specs.declared.running.RunWords.{RunWords}
 use Rattle.net_run.specs.declared.undoing.UndoWords.{UndoWords}
@@ -44,6 +44,7 @@ pub record AsksServe (rows : List Row) (asked : ServeWords) : Type 0 where
   pub turns : NamesTurns rows asked.turns
   pub wait : NamesWait rows asked.wait_ms
   pub periods : is_given (codes "periods") rows ≡ asked.periods
+  pub quiet : NamesOption 1 rows (codes "quiet") asked.quiet
 
 -- what was matched behind `run` asks for this
 pub record AsksRun (rows : List Row) (asked : RunWords) : Type 0 where
@@ -78,6 +79,5 @@ AsksBy met (Undo asked) = (rows : List Row) × (met ≡ Some (codes "undo", rows
 AsksBy met (Pair asked) = (rows : List Row) × (met ≡ Some (codes "pair", rows)) × AsksPair rows asked
 
 -- the words, the program's own name first among them, are of its command line, and ask for this
-pub record AsksFor (words : List Text) (asked : Words) : Type 0 where
-  pub taken : fault_of program words ≡ []
-  pub asks : AsksBy (subcommand_of program words) asked
+abbrev pub AsksFor : (words : List Text) → (asked : Words) → Type 0
+AsksFor words asked = AsksOf program AsksBy words asked

@@ -7,7 +7,8 @@ use Rattle.bmc_lab.specs.declared.status.Status.TheVariants.{RefusedWords}
 use Rattle.bmc_lab.specs.Ending.{RunEnds, Saying}
 use Rattle.bmc_lab.specs.Files.{Readings}
 use Rattle.net_serve.specs.Run.{ServeEnds}
-use Rattle.net_run.specs.Run.{RunEndsOf, Writings}
+use Rattle.net_run.specs.Beside.{Renamings, Writings}
+use Rattle.net_run.specs.Run.{RunEndsOf}
 use Rattle.net_run.specs.Undo.{SaysOfList}
 use Rattle.bmc_net.specs.Run.{SaysOfFiles, words_of}
 use Rattle.net_host.specs.declared.words.Words.{Words}
@@ -15,15 +16,15 @@ use Rattle.net_host.specs.declared.words.Words.TheVariants.{Serve, Run, Undo, Pa
 use Rattle.net_host.specs.Asked.{AsksFor}
 
 -- So a run ends that does what words ask for: as `serve`, `run`, `undo` or `pair` does with the files that they name. Only `run` writes files.
-abbrev pub EndsAsAsked : {Files W E : Type 0} → (out : W → Option (List ℕ)) → (err : E → Option (List ℕ)) → Readings → Writings Files → Words → (before after : Files)
+abbrev pub EndsAsAsked : {Files W E : Type 0} → (out : W → Option (List ℕ)) → (err : E → Option (List ℕ)) → Readings → Writings Files → Renamings Files → Words → (before after : Files)
     → (old new : Console W E) → ℕ → Type 0
-EndsAsAsked out err gives takes (Serve asked) before after old new result =
+EndsAsAsked out err gives takes renames (Serve asked) before after old new result =
     (after ≡ before) × ServeEnds out err gives asked old new result
-EndsAsAsked out err gives takes (Run asked) before after old new result =
-    RunEndsOf out err gives takes (string_bytes asked.plan) asked before after old new result
-EndsAsAsked out err gives takes (Undo asked) before after old new result =
+EndsAsAsked out err gives takes renames (Run asked) before after old new result =
+    RunEndsOf out err gives takes renames (string_bytes asked.plan) asked before after old new result
+EndsAsAsked out err gives takes renames (Undo asked) before after old new result =
     (after ≡ before) × RunEnds out err (SaysOfList gives (string_bytes asked.undo) asked.turns) old new result
-EndsAsAsked out err gives takes (Pair asked) before after old new result =
+EndsAsAsked out err gives takes renames (Pair asked) before after old new result =
     (after ≡ before) × RunEnds out err (SaysOfFiles gives (words_of asked) asked.turns) old new result
 
 -- what a run says of words that ask for nothing: any text on standard error, with the status of refused words
@@ -31,8 +32,8 @@ abbrev pub SaysNothingAsked : (words : List Text) → Saying
 SaysNothingAsked words stream text status = ((asked : Words) → AsksFor words asked → ⊥) × (stream ≡ Error) × (status ≡ RefusedWords)
 
 -- So a run of a command line's words ends: as what they ask for, or, where they ask for nothing, with the status of refused words.
-abbrev pub LineEnds : {Files W E : Type 0} → (out : W → Option (List ℕ)) → (err : E → Option (List ℕ)) → Readings → Writings Files → (words : List Text) → (before after : Files)
+abbrev pub LineEnds : {Files W E : Type 0} → (out : W → Option (List ℕ)) → (err : E → Option (List ℕ)) → Readings → Writings Files → Renamings Files → (words : List Text) → (before after : Files)
     → (old new : Console W E) → ℕ → Type 0
-LineEnds out err gives takes words before after old new result =
-    ((asked : Words) × AsksFor words asked × EndsAsAsked out err gives takes asked before after old new result)
+LineEnds out err gives takes renames words before after old new result =
+    ((asked : Words) × AsksFor words asked × EndsAsAsked out err gives takes renames asked before after old new result)
     ⊎ ((after ≡ before) × RunEnds out err (SaysNothingAsked words) old new result)

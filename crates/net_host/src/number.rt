@@ -1,17 +1,9 @@
 //! Numbers among the words.
-ghost use Rattle.std.specs.Prelude.{◌==◌, slice_index, ◌≡◌, ◌<◌, ◌≤◌, ◌^◌};
+ghost use Rattle.std.specs.Prelude.{◌<◌, ◌≤◌, ◌^◌};
 ghost use Rattle.std.specs.Option.{SomeIff};
 ghost use Rattle.std.specs.Str.Parse.{IsNumeral, digits_value};
 
-/// Whether the word begins with the sign that Rust's numbers may have and a decimal number here has not.
-fn has_plus(word: &str) -> bool
-    ensures { result ≡ (slice_index word.now 0 == 43) }
-{
-    match word.as_bytes() {
-        [byte, ..] => *byte == b'+',
-        [] => false,
-    }
-}
+use host_base::has_plus;
 
 /// The port that the word is in decimal digits.
 pub fn port_of(word: &str) -> Option<u16>

@@ -149,6 +149,7 @@ fn serve_words(alloc: Global, matches: &ArgMatches) -> Result<ServeWords, Refusa
         turns: turns(alloc, matches, Task::Serve)?,
         wait_ms: wait(alloc, matches, Task::Serve)?,
         periods: has_flag(matches, "periods"),
+        quiet: number_given(alloc, matches, Task::Serve, "quiet", "N", 1)?,
     })
 }
 

@@ -1,15 +1,19 @@
 -- What a closed history makes a period.
+use Rattle.std.specs.Prelude.{IfOk, Result, Ok, Err}
 use Rattle.std.proofs.Common.{◌≡◌, ◌≤◌, ◌∙◌, ◌⊎◌, inl, inr, sym, subst, ℕ, List, [], length}
 use Rattle.cfg_records.specs.declared.board_file.BoardFile.{BoardFile}
-use Rattle.bmc_board.specs.State.{State}
+use Rattle.bmc_board.specs.State.{State, state_of}
+use Rattle.bmc_board.specs.OwnStore.{own_records}
+use Rattle.bmc_lab.specs.declared.ending.Untold.{Untold}
+use Rattle.net_serve.specs.declared.periods.Period.{Period}
 use Rattle.bmc_links.specs.declared.link.Counts.{Counts}
 use Rattle.bmc_history.specs.declared.event.Call.{Call}
 use Rattle.bmc_history.specs.declared.event.Event.{Event}
 use Rattle.bmc_history.specs.declared.seat.Seats.{Seats}
 use Rattle.bmc_history.specs.Replay.{calls_of}
 use Rattle.bmc_history.specs.Seated.{IsFresh}
-use Rattle.bmc_ports.specs.declared.slices.Lane.{Lane}
-use Rattle.bmc_ports.specs.declared.slices.Lanes.{Lanes}
+use Rattle.bmc_ports.specs.declared.lane.Lane.{Lane}
+use Rattle.bmc_ports.specs.declared.lane.Lanes.{Lanes}
 use Rattle.bmc_ports.specs.declared.worker.End.{End}
 use Rattle.bmc_ports.specs.declared.worker.End.TheVariants.{Full}
 use Rattle.bmc_ports.specs.Slices.{GoesOn, IsBack}
@@ -29,7 +33,7 @@ is_full one two count room first second most (inl full) = first full ∙ most
 is_full one two count room first second most (inr full) = second full ∙ most
 
 -- a history that is closed once its workers are back is a period
-pub is_period : {J : Type 0} {g h : _} {A B : Type 0} (first_counts : A → Counts) (second_counts : B → Counts) (setup : BoardFile) (opening ending : State) (room : ℕ)
+is_period : {J : Type 0} {g h : _} {A B : Type 0} (first_counts : A → Counts) (second_counts : B → Counts) (setup : BoardFile) (opening ending : State) (room : ℕ)
     (fresh : Seats J g) (before : Lanes A B) (seats : Seats J h) (after : Lanes A B) (first_end second_end : End) (history : List Event)
     → room ≡ most_events → IsFresh fresh.first → IsFresh fresh.second
     → IsBack first_counts fresh.first before.first seats.first after.first first_end
@@ -48,3 +52,18 @@ is_period first_counts second_counts setup opening ending room fresh before seat
       full = is_full first_end second_end (length history) room
           (λ full. closed.first.is_full (first.marked full)) (λ full. closed.second.is_full (second.marked full)) most;
     }
+
+-- the same of what closing came to
+pub closes_period : {J : Type 0} {g h : _} {A B : Type 0} (first_counts : A → Counts) (second_counts : B → Counts) (setup : BoardFile) (opening : State) (room : ℕ)
+    (fresh : Seats J g) (before : Lanes A B) (seats : Seats J h) (after : Lanes A B) (first_end second_end : End) (result : Result (Period A B) Untold)
+    → room ≡ most_events → IsFresh fresh.first → IsFresh fresh.second
+    → IsBack first_counts fresh.first before.first seats.first after.first first_end
+    → IsBack second_counts fresh.second before.second seats.second after.second second_end
+    → IfOk result (λ period. IsClosed setup opening (state_of own_records period.board) room seats period.history)
+    → IfOk result (λ period. period.lanes ≡ after)
+    → IfOk result (λ period. IsPeriod first_counts second_counts setup opening (state_of own_records period.board) before period.lanes period.history)
+closes_period first_counts second_counts setup opening room fresh before seats after first_end second_end (Ok period) most none_first none_second first second closed lanes =
+    let ending : State = state_of own_records period.board in
+    subst (λ (l : Lanes _ _). IsPeriod first_counts second_counts setup opening ending before l period.history) (sym lanes)
+    (is_period first_counts second_counts setup opening ending room fresh before seats after first_end second_end period.history most none_first none_second first second closed)
+closes_period first_counts second_counts setup opening room fresh before seats after first_end second_end (Err why) most none_first none_second first second closed lanes = tt

@@ -8,7 +8,7 @@ use Rattle.bmc_board.specs.State.{State, state_of, opened}
 use Rattle.bmc_board.specs.OwnStore.{own_records}
 use Rattle.bmc_links.specs.declared.link.Counts.{Counts}
 use Rattle.bmc_history.specs.declared.event.Event.{Event}
-use Rattle.bmc_ports.specs.declared.slices.Lanes.{Lanes}
+use Rattle.bmc_ports.specs.declared.lane.Lanes.{Lanes}
 use Rattle.changed_records.specs.Changed.{changed_in}
 use Rattle.text_board.specs.Holds.{Reads}
 use Rattle.bmc_lab.specs.declared.console.Console.{Console}
@@ -26,7 +26,7 @@ use Rattle.net_serve.specs.declared.periods.Course.{Course}
 use Rattle.net_serve.specs.declared.run.ServeWords.{ServeWords}
 use Rattle.net_serve.specs.declared.tally.Begun.{Begun}
 use Rattle.net_serve.specs.Served.{IsBegun, IsServed, Lead, Tallies, TellsServed, most_events}
-use Rattle.net_serve.specs.Periods.{RunsTo}
+use Rattle.net_serve.specs.Periods.{GoesToNext, RunsTo}
 use Rattle.net_serve.specs.Run.{IsTaken, SaysServed, SaysUnserved, TextEnds, ports_line}
 use Rattle.net_serve.proofs.Following.{follow_leads}
 
@@ -50,6 +50,26 @@ tallies_once file begun served start events changed begins is_start is counted d
       after = after;
       count = refl;
       lead = from_file file begun (served.history ∷ []) after begins (after, is.few, is.replays, refl);
+      counted = counted ∙ one;
+      differ = differ ∙ ap (changed_in after.records) (is_start ∙ begins.start);
+    }
+
+-- what is counted of one that was served for one period
+pub tallies_period : {A B : Type 0} (first_counts : A → Counts) (second_counts : B → Counts) (file : BoardFile) (begun : Begun) (course next : Course A B)
+    (start : List Pair) (events changed : ℕ) → IsBegun file begun → start ≡ begun.start.items
+    → course.board.setup ≡ begun.board.setup → state_of own_records course.board ≡ state_of own_records begun.board → course.events ≡ 0
+    → GoesToNext first_counts second_counts course next
+    → events ≡ next.events → changed ≡ changed_in (state_of own_records next.board).records start → Tallies false file events changed
+tallies_period first_counts second_counts file begun course next start events changed begins is_start is_setup is_state none goes counted differ =
+    let after : State = state_of own_records next.board in
+    let one : next.events ≡ sum_by length (goes.history ∷ []) = (let more = goes.events in omega (arith, more, none)) in
+    let lead : Lead course.board.setup (state_of own_records course.board) (goes.history ∷ []) after = (after, goes.period.few, goes.period.replays, refl) in record {
+      histories = goes.history ∷ [];
+      after = after;
+      count = refl;
+      lead = from_file file begun (goes.history ∷ []) after begins
+          (subst (λ (s : BoardFile). Lead s (state_of own_records begun.board) (goes.history ∷ []) after) is_setup
+          (subst (λ (o : State). Lead course.board.setup o (goes.history ∷ []) after) is_state lead));
       counted = counted ∙ one;
       differ = differ ∙ ap (changed_in after.records) (is_start ∙ begins.start);
     }
@@ -93,10 +113,6 @@ was_refused why memory (inr r) = inr r
 
 module _ {W E : Type 0} (out : W → Option (List ℕ)) (err : E → Option (List ℕ)) (words : ServeWords) (board : List ℕ) (file : BoardFile) (reads : Reads board (Ok file))
     (old new : Console W E) (result : ℕ) where
-  -- nothing is told of the ports, for want of memory
-  pub ends_without_memory : RunEnds out err (SaysReport (Err untold.Memory)) old new result → TextEnds out err words board old new result
-  ends_without_memory ends = inl (run_reports out err (SaysUnserved board) (Err untold.Memory) old new result tt ends)
-
   -- a link can't be had
   pub ends_without_links : RunEnds out err (SaysReport (Err untold.Stopped)) old new result → TextEnds out err words board old new result
   ends_without_links ends = inl (run_reports out err (SaysUnserved board) (Err untold.Stopped) old new result (inr ((file, reads), refl, refl)) ends)

@@ -9,7 +9,7 @@ use Rattle.bmc_history.specs.declared.event.Event.{Event}
 use Rattle.bmc_history.specs.declared.seat.Seats.{Seats}
 use Rattle.bmc_history.specs.Seated.{SeatMatches}
 use Rattle.bmc_history.specs.Replay.{Replays, calls_of}
-use Rattle.bmc_ports.specs.declared.slices.Lanes.{Lanes}
+use Rattle.bmc_ports.specs.declared.lane.Lanes.{Lanes}
 use Rattle.bmc_ports.specs.declared.worker.End.{End}
 use Rattle.bmc_ports.specs.declared.worker.End.TheVariants.{Full}
 use Rattle.bmc_ports.specs.Slices.{GoesOn}
@@ -58,7 +58,3 @@ pub record GoesToNext {A B : Type 0} (first_counts : A → Counts) (second_count
       before.lanes next.lanes history
   pub events : next.events ≡ before.events + length history
   pub setup_is : next.board.setup ≡ before.board.setup
-
--- both workers made all their turns
-abbrev pub AreOver : {A B : Type 0} → Lanes A B → Type 0
-AreOver lanes = (lanes.first.turns ≡ 0) × (lanes.second.turns ≡ 0)

@@ -4,7 +4,7 @@ ghost use Rattle.cfg_records.specs.declared.board_file.BoardFile.{BoardFile as A
 ghost use Rattle.net_serve.specs.Served.{IsBegun, Tallies};
 
 use crate::board::{controller_ports, serve_over};
-use crate::periods::serve_periods;
+use crate::periods::{Course, serve_periods};
 use crate::run::ServeWords;
 use crate::tally::{Begun, Tally, begin, count, tally_of};
 use bmc_core::Port;
@@ -16,21 +16,13 @@ use std::sync::Wait;
 use std::thread::Threads;
 
 /// Both ports with their links, and so many turns each.
-fn lanes_of<A, B>(ports: [Port; 2], ipmb: A, smbus: B, turns: u32) -> Lanes<A, B>
+fn lanes_of<A: Drop, B: Drop>(ports: [Port; 2], ipmb: A, smbus: B, turns: u32) -> Lanes<A, B>
     ensures { (result.first.turns ≡ turns) × (result.second.turns ≡ turns) }
 {
     let [first, second] = ports;
     Lanes {
-        first: Lane {
-            port: first,
-            link: ipmb,
-            turns,
-        },
-        second: Lane {
-            port: second,
-            link: smbus,
-            turns,
-        },
+        first: Lane::new(first, ipmb, turns),
+        second: Lane::new(second, smbus, turns),
     }
 }
 
@@ -58,12 +50,36 @@ where
     }
 }
 
+/// Serves a board for one period, and counts what came of it.
+fn served_in_one<A, B, R>(
+    rt: &R,
+    alloc: Global,
+    begun: Begun,
+    lanes: Lanes<A, B>,
+    quiet: Option<u32>,
+) -> Result<Tally, Untold>
+where
+    A: Link + Send + Drop,
+    B: Link + Send + Drop,
+    R: Threads + Wait + Sync,
+    ensures { (file : AnyFile) → IsBegun file begun
+        → IfOk result (λ tally. Tallies false file tally.events tally.changed) }
+{
+    let Begun { start, board } = begun;
+    let course = Course::new(board, lanes);
+    match course.go_on(rt, alloc, quiet) {
+        Ok(next) => Ok(count(start.as_slice(), &next.board, next.events)),
+        Err(why) => Err(why),
+    }
+}
+
 /// Serves a board period by period, and counts what came of it.
 fn served_in_periods<A, B, R>(
     rt: &R,
     alloc: Global,
     begun: Begun,
     lanes: Lanes<A, B>,
+    quiet: Option<u32>,
 ) -> Result<Tally, Untold>
 where
     A: Link + Send + Drop,
@@ -73,7 +89,7 @@ where
         → IfOk result (λ tally. Tallies true file tally.events tally.changed) }
 {
     let Begun { start, board } = begun;
-    match serve_periods(rt, alloc, board, lanes) {
+    match serve_periods(rt, alloc, board, lanes, quiet) {
         Ok(course) => Ok(count(start.as_slice(), &course.board, course.events)),
         Err(why) => Err(why),
     }
@@ -102,7 +118,10 @@ where
     };
     if words.periods {
         let lanes = lanes_of(ports, ipmb, smbus, words.turns);
-        served_in_periods(rt, alloc, begun, lanes)
+        served_in_periods(rt, alloc, begun, lanes, words.quiet)
+    } else if words.quiet.is_some() {
+        let lanes = lanes_of(ports, ipmb, smbus, words.turns);
+        served_in_one(rt, alloc, begun, lanes, words.quiet)
     } else {
         served_once(rt, alloc, begun, ports, ipmb, smbus, words.turns)
     }

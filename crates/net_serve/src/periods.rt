@@ -1,9 +1,10 @@
 //! A board that is served period by period, each with a history of its own, over the same ports and links.
 ghost use Rattle.std.specs.Prelude.{◌≡◌, ◌<◌, ◌+◌, ◌^◌, ◌↔◌, IfOk, IsTrue};
+ghost use Rattle.bmc_ports.specs.Slices.{EndsAt};
 ghost use Rattle.bmc_board.specs.State.{state_of};
 ghost use Rattle.bmc_board.specs.OwnStore.{own_records};
 ghost use Rattle.net_serve.specs.Served.{most_events};
-ghost use Rattle.net_serve.specs.Periods.{IsPeriod, IsClosed, GoesToNext, RunsTo, AreOver};
+ghost use Rattle.net_serve.specs.Periods.{IsPeriod, IsClosed, GoesToNext, RunsTo};
 
 use crate::board::OpenGate;
 use bmc_board::{Board, Records};
@@ -66,6 +67,7 @@ fn serve_opened<J, A, B, R>(
     board: Board<Records>,
     room: usize,
     lanes: Lanes<A, B>,
+    quiet: Option<u32>,
 ) -> Result<Period<A, B>, Untold>
 where
     J: Opening + Send + Sync,
@@ -86,18 +88,20 @@ where
     let Ok((shared, seats)) = Shared::<J, Records>::open(alloc, blank, board, room) else {
         return Err(Untold::Memory);
     };
-    match run_slices(rt, &shared, seats, lanes, &OpenGate) {
+    match run_slices(rt, &shared, seats, lanes, &OpenGate, quiet) {
         Ok(sliced) => close_period(shared, sliced),
         Err(NoThread) => Err(Untold::Stopped),
     }
 }
 
-/// Serves a board for a period: until both workers made their turns, or until its history is full.
+/// Serves a board for a period: until both workers made their turns, until both links were quiet for so many turns in a row, where a number
+/// is given, or until its history is full.
 fn serve_period<A, B, R>(
     rt: &R,
     alloc: Global,
     board: Board<Records>,
     lanes: Lanes<A, B>,
+    quiet: Option<u32>,
 ) -> Result<Period<A, B>, Untold>
 where
     A: Link + Send + Drop,
@@ -107,7 +111,7 @@ where
         (state_of own_records board) (state_of own_records period.board) lanes period.lanes period.history) }
     ensures setup { IfOk result (λ period. period.board.setup ≡ board.setup) }
 {
-    serve_opened::<Brand, A, B, R>(rt, alloc, Blank::new(3), board, MOST_EVENTS, lanes)
+    serve_opened::<Brand, A, B, R>(rt, alloc, Blank::new(3), board, MOST_EVENTS, lanes, quiet)
 }
 
 impl<A: Link + Send + Drop, B: Link + Send + Drop> Course<A, B> {
@@ -125,15 +129,20 @@ impl<A: Link + Send + Drop, B: Link + Send + Drop> Course<A, B> {
         }
     }
 
-    /// Whether both workers made all their turns.
-    pub fn is_over(&self) -> bool
-        ensures { IsTrue result ↔ AreOver self.now.lanes }
+    /// Whether both workers made all their turns, or both links were quiet for so many turns in a row, where a number is given.
+    pub fn is_over(&self, quiet: Option<u32>) -> bool
+        ensures { IsTrue result ↔ EndsAt quiet self.now.lanes }
     {
-        self.lanes.first.turns == 0 && self.lanes.second.turns == 0
+        self.lanes.are_over(quiet)
     }
 
     /// Serves the board for a period more, and counts its history. A period's room is taken anew.
-    pub fn go_on<R: Threads + Wait + Sync>(self, rt: &R, alloc: Global) -> Result<Self, Untold>
+    pub fn go_on<R: Threads + Wait + Sync>(
+        self,
+        rt: &R,
+        alloc: Global,
+        quiet: Option<u32>,
+    ) -> Result<Self, Untold>
         requires { self.events + most_events < 2 ^ 64 }
         ensures { IfOk result (λ next. GoesToNext A.counts_of B.counts_of self next) }
     {
@@ -142,7 +151,7 @@ impl<A: Link + Send + Drop, B: Link + Send + Drop> Course<A, B> {
             lanes,
             events,
         } = self;
-        match serve_period(rt, alloc, board, lanes) {
+        match serve_period(rt, alloc, board, lanes, quiet) {
             Ok(
                 Period {
                     board,
@@ -159,7 +168,8 @@ impl<A: Link + Send + Drop, B: Link + Send + Drop> Course<A, B> {
     }
 }
 
-/// Serves a board over two lanes until both workers made all their turns. Each history that is full is closed, which checks that its seats'
+/// Serves a board over two lanes until both workers made all their turns, or until nothing was heard over either link for so many turns in a
+/// row, where a number is given. Each history that is full is closed, which checks that its seats'
 /// lists are the history's; then the next period begins with the same board, ports and links, and the turns that are left. What comes
 /// meanwhile waits in the links.
 pub fn serve_periods<A, B, R>(
@@ -167,6 +177,7 @@ pub fn serve_periods<A, B, R>(
     alloc: Global,
     board: Board<Records>,
     lanes: Lanes<A, B>,
+    quiet: Option<u32>,
 ) -> Result<Course<A, B>, Untold>
 where
     A: Link + Send + Drop,
@@ -174,15 +185,15 @@ where
     R: Threads + Wait + Sync,
     ensures runs { IfOk result
         (RunsTo A.counts_of B.counts_of board.setup (state_of own_records board) lanes) }
-    ensures over { IfOk result (λ course. AreOver course.lanes) }
+    ensures over { IfOk result (λ course. EndsAt quiet course.lanes) }
 {
     let most = u64::from(lanes.first.turns) + u64::from(lanes.second.turns);
     let mut course = Course::new(board, lanes);
     for _ in 0..most {
-        if course.is_over() {
+        if course.is_over(quiet) {
             return Ok(course);
         }
-        match course.go_on(rt, alloc) {
+        match course.go_on(rt, alloc, quiet) {
             Ok(next) => course = next,
             Err(why) => return Err(why),
         }

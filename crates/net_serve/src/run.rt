@@ -38,6 +38,8 @@ pub struct ServeWords {
     pub wait_ms: u32,
     /// Whether a history that is full is closed, and the next one opened.
     pub periods: bool,
+    /// For how many turns in a row both ports hear nothing before the serving ends, where their turns alone don't end it.
+    pub quiet: Option<u32>,
 }
 
 /// What is told of the board of a file that is served at these ends.

@@ -1,7 +1,7 @@
 use Rattle.std.proofs.Common.{◌<◌, ◌^◌, ℕ, Option, sym, subst}
 use Rattle.std.specs.Option.{SomeIff}
 use Rattle.std.specs.Str.Parse.{IsNumeral, digits_value}
-use Rattle.net_host.proofs.Numbers.{parsed}
+use Rattle.host_base.proofs.Numbers.{parsed}
 use Rattle.net_host.proofs.number.number_of.Goals as goal
 
 pub returns : goal.returns

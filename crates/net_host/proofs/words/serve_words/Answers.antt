@@ -31,6 +31,11 @@ returns-in_err-wait-clause-refused c =
     let p = err_from_is_err_and c.from_residual-in_err-wait.result c.from_residual-in_err-wait.ensures.1 in
     rw (p.1, p.2) (refuses_more _ _ _ (λ asked asks. (asked.wait_ms, asks.wait)) c.in_err-wait.ensures.refused)
 
+pub returns-in_err-number_given-clause-refused : goal.returns-in_err-number_given-clause-refused
+returns-in_err-number_given-clause-refused c =
+    let p = err_from_is_err_and c.from_residual-in_err-number_given.result c.from_residual-in_err-number_given.ensures.1 in
+    rw (p.1, p.2) (refuses_more _ _ _ (λ asked asks. (asked.quiet, asks.quiet)) c.in_err-number_given.ensures.refused)
+
 pub returns-clause-asked : goal.returns-clause-asked
 returns-clause-asked c = record {
   board = first_by_rows (found_of c.args.matches.now) (codes "BOARD") _ c.in_ok-named.ensures.word;
@@ -39,4 +44,5 @@ returns-clause-asked c = record {
   turns = c.in_ok-turns.ensures.turns;
   wait = c.in_ok-wait.ensures.wait;
   periods = sym (c.has_flag.ensures ∙ ap says_yes (one_text-rows (found_of c.args.matches.now) (codes "periods")));
+  quiet = c.in_ok-number_given.ensures.number;
 }

@@ -3,7 +3,7 @@ use Rattle.bmc_board.specs.State.{state_of}
 use Rattle.bmc_board.specs.OwnStore.{own_records}
 use Rattle.net_serve.specs.Served.{most_events}
 use Rattle.net_serve.specs.Periods.{RunsTo}
-use Rattle.net_serve.proofs.Following.{turns_left}
+use Rattle.bmc_ports.proofs.Rounds.{turns_left}
 use Rattle.net_serve.proofs.periods.serve_periods.Given as goal
 
 -- so many periods took a turn each at least, and have so many events at most
