@@ -1,3 +1,5 @@
 pub mod Driving
 pub mod Tries
+pub mod Looks
+pub mod Keeping
 pub mod Telling

@@ -57,7 +57,7 @@ goes_one_more fewer turns s mid last phase had met has more going then heeded = 
 }
 
 -- where no request is open, all turns might as well be made
-closed : (made turns : ℕ) (s : State) (m : Manager) (phase : Phase) (had has : Links) → made ≤ turns → (drives : Drives lab_names made s m phase had has)
+pub closed : (made turns : ℕ) (s : State) (m : Manager) (phase : Phase) (had has : Links) → made ≤ turns → (drives : Drives lab_names made s m phase had has)
     → open_at lab_names drives.after ≡ None → Drives lab_names turns s m phase had has
 closed made turns s m phase had has few drives none = record {
   after = drives.after;
@@ -123,12 +123,6 @@ pub ends_over : (agains turns : ℕ) (s : State) (had : Links) (more less left :
 ends_over agains turns s had more less left m last named met has some on (phase, stays) is =
     let same : phase ≡ named = sym (stays_in left on.state last named phase met has is stays) in
     on.rest last named has (subst (λ (n : ℕ). DrivesAgain n left on.state last named met has) (sym some) (inl (subst (λ (p : Phase). Stays left on.state last p met has) same stays)))
-
--- the last drive of all
-pub ends_all : (agains turns : ℕ) (s : State) (had : Links) (more left : ℕ) (m last : Manager) (phase : Phase) (met has : Links) → more ≡ 0
-    → (on : Continues agains turns s had more left m met) → Drives lab_names left on.state last phase met has → DrivesAgain agains turns s last phase had has
-ends_all agains turns s had more left m last phase met has none on drives =
-    on.rest last phase has (subst (λ (n : ℕ). DrivesAgain n left on.state last phase met has) (sym none) drives)
 
 -- a turn left the manager unsettled, and this became of the call to try again
 pub record Stopped (left rest : ℕ) (s : State) (m : Manager) (met has : Links) : Type 0 where

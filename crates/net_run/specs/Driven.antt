@@ -10,7 +10,7 @@ use Rattle.model_undo.specs.Resume.{resumed}
 use Rattle.model_lab.specs.Meaning.{lab_names}
 use Rattle.model_lab.specs.ManagerSteps.{ManagerState, ManagerDeed, board_plans, called}
 use Rattle.text_schedule.specs.declared.event.Call.{Call}
-use Rattle.text_schedule.specs.declared.event.Call.TheVariants.{Start, Undo, Again}
+use Rattle.text_schedule.specs.declared.event.Call.TheVariants.{Undo, Again}
 use Rattle.undo_core.specs.declared.manager.Manager.{Manager}
 use Rattle.undo_core.specs.Shown.{words_of, backs, Shows}
 use Rattle.bmc_links.specs.Counted.{none_counted}
@@ -103,11 +103,6 @@ GoesAgain agains call turns before = From (DrivesAgain agains turns) (called (bo
 -- likewise, and it was never called again
 abbrev pub Goes : Call → (turns : ℕ) → State → Manager → Phase → (counted counts : Links) → Type 0
 Goes = GoesAgain 0
-
--- a manager ran the plan over links of its own, for at most so many turns, and was called again up to so many times
-pub record Runs (plan : Plan) (turns agains : ℕ) (m : Manager) (phase : Phase) : Type 0 where
-  pub counts : Links
-  pub goes : GoesAgain agains Start turns (opened_with plan) m phase fresh_links counts
 
 -- a manager went on from the list over links of its own, for at most so many turns, and undid it as far as it came
 pub record Undoes (list : UndoList) (turns : ℕ) (m : Manager) (phase : Phase) : Type 0 where

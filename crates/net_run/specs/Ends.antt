@@ -3,9 +3,10 @@ use Rattle.std.specs.Prelude.{◌≡◌, ℕ, List, Option}
 use Rattle.std.specs.Io.KnownBytes.{Appends}
 use Rattle.model_undo.specs.declared.phase.Phase.{Phase}
 use Rattle.bmc_lab.specs.declared.console.Console.{Console}
-use Rattle.bmc_lab.specs.declared.console.Stream.TheVariants.{Output}
-use Rattle.bmc_lab.specs.declared.status.Status.TheVariants.{Success}
+use Rattle.bmc_lab.specs.declared.console.Stream.TheVariants.{Output, Error}
+use Rattle.bmc_lab.specs.declared.status.Status.TheVariants.{Success, RefusedFile}
 use Rattle.bmc_lab.specs.Ending.{Saying}
+use Rattle.bmc_lab.specs.Report.{file_line}
 use Rattle.net_run.specs.Lines.{phase_line}
 
 -- nothing is said: a run that ends so was refused memory, or couldn't write
@@ -15,6 +16,10 @@ Nothing stream text status = ⊥
 -- standard output has the phase's line
 abbrev pub SaysPhase : Phase → Saying
 SaysPhase phase stream text status = (stream ≡ Output) × (text ≡ phase_line phase) × (status ≡ Success)
+
+-- standard error names the file of this word
+abbrev pub SaysFile : (word : List ℕ) → Saying
+SaysFile word stream text status = (stream ≡ Error) × (text ≡ file_line word) × (status ≡ RefusedFile)
 
 -- standard output has one text, standard error the other, and the status is 3
 pub record TellsBoth {W E : Type 0} (out : W → Option (List ℕ)) (err : E → Option (List ℕ)) (line complaint : List ℕ) (old new : Console W E) (result : ℕ) : Type 0 where

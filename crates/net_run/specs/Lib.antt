@@ -1,6 +1,9 @@
 pub mod Driven
+pub mod Beside
+pub mod Moments
 pub mod Stops
 pub mod Lines
 pub mod Ends
+pub mod Outcome
 pub mod Run
 pub mod Undo

@@ -2,6 +2,7 @@
 //! it back.
 #![tactic(auto)]
 
+mod beside;
 pub mod driven;
 pub mod files;
 mod lines;
@@ -10,6 +11,7 @@ mod names;
 pub mod running;
 mod trying;
 pub mod undoing;
+pub mod watching;
 
 pub use driven::{open_manager, resume_manager, run_plan, undo_plan};
 pub use files::{Unwritten, WritesFiles};
@@ -18,3 +20,4 @@ pub use links::WAIT_MS;
 pub use running::{RunWords, run};
 pub use trying::try_plan;
 pub use undoing::{UndoWords, undo};
+pub use watching::Watches;

@@ -1,27 +1,32 @@
 //! `bmcnet run`: a plan on a controller over UDP.
-ghost use Rattle.std.specs.Prelude.{◌≡◌, ◌⊎◌, ℕ, List, IfOk, Err, string_bytes};
+ghost use Rattle.std.specs.Prelude.{◌≡◌, ◌⊎◌, ℕ, List, true, IfOk, IfSome, OnErr, Ok, Err, string_bytes};
 ghost use Rattle.plan_file.specs.PlanHolds.{ReadsPlan};
 ghost use Rattle.model_lab.specs.Meaning.{lab_names};
 ghost use Rattle.undo_core.specs.Shown.{Shows};
 ghost use Rattle.bmc_lab.specs.declared.console.Stream.TheVariants.{Output, Error};
 ghost use Rattle.bmc_lab.specs.declared.status.Status.TheVariants.{Success, RefusedFile};
 ghost use Rattle.bmc_lab.specs.Ending.{RunEnds, Tells};
-ghost use Rattle.net_run.specs.Driven.{Runs, State, is_over};
-ghost use Rattle.net_run.specs.Ends.{Nothing, SaysPhase, TellsBoth};
-ghost use Rattle.net_run.specs.Run.{EndsUnkept, Keeps, RunEndsOf, RunEndsOn, RunEndsOver, SaysFault};
+ghost use Rattle.bmc_links.specs.Counted.{none_counted};
+ghost use Rattle.net_run.specs.declared.running.Outcome.TheVariants.{Ran as HasRun};
+ghost use Rattle.net_run.specs.Beside.{IsBeside};
+ghost use Rattle.net_run.specs.Driven.{State, is_over};
+ghost use Rattle.net_run.specs.Ends.{Nothing, SaysFile, SaysPhase, TellsBoth};
+ghost use Rattle.net_run.specs.Outcome.{Comes, ComesFrom, Keeps, RunsFrom};
+ghost use Rattle.net_run.specs.Run.{EndsBy, EndsUnkept, RunEndsOf, RunEndsOn, RunEndsOver, SaysFault};
 
+use crate::beside::Beside;
 use crate::driven::open_manager;
 use crate::files::{Unwritten, WritesFiles};
 use crate::lines::{phase_report, plan_refusal};
 use crate::links::{Ends, open_ends, sit_out};
 use crate::trying::try_plan;
+use crate::watching::Keeper;
 use bmc_lab::{Console, Ending, Report, Status, TextFiles, Untold, end_run, refuse, text_of};
 use bmc_links::LinkFault;
 use plan_file::{PlanFault, read_plan};
 use std::alloc::{AllocError, Global};
 use std::io;
 use std::net::Net;
-use text_undo::write_undo;
 use undo_core::{Manager, Phase};
 use undo_plans::Plan;
 
@@ -46,6 +51,15 @@ pub struct RunWords {
     pub forget: Option<u32>,
 }
 
+/// What came of a run.
+#[derive(Clone, Copy, Debug, PartialEq, Eq)]
+pub enum Outcome {
+    /// It left the manager in this phase. The list is kept where the plan ended or halted, or the file can't be written or get its name.
+    Ran(Phase, Result<(), Unwritten>),
+    /// The file beside the one of the undo text can't be made.
+    Unmade,
+}
+
 /// A manager that ran a plan, and its phase.
 #[derive(Drop)]
 struct Ran {
@@ -53,41 +67,79 @@ struct Ran {
     phase: Phase,
 }
 
-/// Lets go by the turns that the words ask for before a run.
-fn wait_first<R: Net>(rt: &R, words: &RunWords) -> Result<(), Untold> {
+/// Lets go by the turns that the words ask for before a run. It gives whether it could.
+fn wait_first<R: Net>(rt: &R, words: &RunWords) -> bool {
     let Some(turns) = words.forget else {
-        return Ok(());
+        return true;
     };
     match sit_out(rt, words.wait_ms, turns) {
-        Ok(()) => Ok(()),
-        Err(LinkFault) => Err(Untold::Stopped),
+        Ok(()) => true,
+        Err(LinkFault) => false,
     }
 }
 
-/// Runs a plan over links to these ports, once the turns are over that it is to wait.
-fn run_on<R: Net>(rt: &R, alloc: Global, plan: Plan, words: &RunWords) -> Result<Ran, Untold>
-    ensures { IfOk result (λ ran. Runs plan words.now.turns words.now.again ran.manager ran.phase) }
+/// Links to the ports that the words name, once the turns are over that the run is to wait; or nothing where one can't be had.
+fn ready_ends<R: Net>(rt: &R, words: &RunWords) -> Option<Ends>
+    ensures ipmb { IfSome result (λ ends. ends.ipmb.counts ≡ none_counted) }
+    ensures smbus { IfSome result (λ ends. ends.smbus.counts ≡ none_counted) }
 {
-    wait_first(rt, words)?;
-    let ends = open_ends(rt, words.ipmb_port, words.smbus_port, words.wait_ms);
-    let Some(ends) = ends else {
-        return Err(Untold::Stopped);
-    };
+    if !wait_first(rt, words) {
+        return None;
+    }
+    open_ends(rt, words.ipmb_port, words.smbus_port, words.wait_ms)
+}
+
+/// Has a manager run its plan over these links, while a keeper looks at it that has seen no list yet.
+fn try_kept<F: WritesFiles>(
+    manager: &mut Manager,
+    ends: Ends,
+    words: &RunWords,
+    keeper: &mut Keeper<F>,
+) -> Phase
+    requires ipmb { ends.ipmb.counts ≡ none_counted }
+    requires smbus { ends.smbus.counts ≡ none_counted }
+    requires unseen { keeper.old.seen ≡ 0 }
+    ensures runs { (word : List ℕ) (before : State) → IsBeside word keeper.old.beside.now → Shows lab_names manager.old before
+        → RunsFrom F.takes F.renames word before words.now manager.new result keeper.old.files.now keeper.new.files.now }
+    ensures same_files { keeper.new.files.ghost_name ≡ keeper.old.files.ghost_name }
+{
     let Ends {
         mut ipmb,
         mut smbus,
     } = ends;
-    let Ok(mut manager) = open_manager(alloc, plan) else {
-        return Err(Untold::Memory);
-    };
-    let phase = try_plan(
-        &mut manager,
+    try_plan(
+        manager,
         &mut ipmb,
         &mut smbus,
         words.turns,
         words.again,
-    );
-    Ok(Ran { manager, phase })
+        keeper,
+    )
+}
+
+/// Has a manager run its plan over these links. The file beside the one of the undo text gets the list so far.
+fn run_on<F: WritesFiles>(
+    alloc: Global,
+    files: &mut F,
+    beside: &Beside,
+    manager: Manager,
+    ends: Ends,
+    words: &RunWords,
+) -> Ran
+    requires ipmb { ends.ipmb.counts ≡ none_counted }
+    requires smbus { ends.smbus.counts ≡ none_counted }
+    ensures { (word : List ℕ) (before : State) → IsBeside word beside.now → Shows lab_names manager before
+        → RunsFrom F.takes F.renames word before words.now result.manager result.phase files.old files.new }
+{
+    let mut manager = manager;
+    let mut keeper = Keeper {
+        alloc,
+        files,
+        beside,
+        seen: 0,
+    };
+    let phase = try_kept(&mut manager, ends, words, &mut keeper);
+    Ran { manager, phase }
 }
 
 /// Whether the plan ended or halted, so that there is a list to keep.
@@ -97,20 +149,66 @@ fn is_over(phase: Phase) -> bool
     matches!(phase, Phase::Done | Phase::Halted(_, _))
 }
 
-/// Writes the manager's undo text to the file of this word, where the plan ended or halted. Else it writes nothing.
+/// Keeps the manager's undo text in its file, where the plan ended or halted. Else it writes nothing.
 fn keep<F: WritesFiles>(
     alloc: Global,
     files: &mut F,
+    beside: &Beside,
     ran: &Ran,
-    word: &str,
 ) -> Result<Result<(), Unwritten>, AllocError>
-    ensures { IfOk result (λ answer. (s : State) → Shows lab_names ran.now.manager s → Keeps F.takes (is_over ran.now.phase) word.now s answer files.old files.new) }
+    ensures kept { IfOk result (λ answer. (word : List ℕ) → IsBeside word beside.now
+        → Keeps F.takes F.renames (is_over ran.now.phase) word ran.now.manager files.old answer files.new) }
+    ensures memory { OnErr result ((is_over ran.now.phase ≡ true) × (files.new ≡ files.old)) }
 {
-    if !is_over(ran.phase) {
-        return Ok(Ok(()));
+    if is_over(ran.phase) {
+        return beside.put_last(alloc, files, ran.manager.undo_list());
     }
-    let text = write_undo(alloc, ran.manager.undo_list())?;
-    Ok(files.write(word, text.as_str()))
+    Ok(Ok(()))
+}
+
+/// Has a manager run its plan, once the file of the list so far is made, and keeps its list.
+fn run_made<F: WritesFiles, R: Net>(
+    rt: &R,
+    alloc: Global,
+    files: &mut F,
+    beside: &Beside,
+    manager: Manager,
+    words: &RunWords,
+) -> Result<Outcome, Untold>
+    ensures { (word : List ℕ) (before : State) → IsBeside word beside.now → Shows lab_names manager before
+        → ComesFrom F.takes F.renames word before words.now result files.old files.new }
+{
+    let Some(ends) = ready_ends(rt, words) else {
+        return Err(Untold::Stopped);
+    };
+    let ran = run_on(alloc, files, beside, manager, ends, words);
+    match keep(alloc, files, beside, &ran) {
+        Ok(kept) => Ok(Outcome::Ran(ran.phase, kept)),
+        Err(_) => Err(Untold::Memory),
+    }
+}
+
+/// Makes the file of the list so far, with the list of a manager that did nothing. Then the manager runs the plan, and its list is kept.
+fn carry_out<F: WritesFiles, R: Net>(
+    rt: &R,
+    alloc: Global,
+    files: &mut F,
+    plan: Plan,
+    words: &RunWords,
+) -> Result<Outcome, Untold>
+    ensures { Comes F.takes F.renames plan words.now result files.old files.new }
+{
+    let Ok(beside) = Beside::of(alloc, words.undo.as_str()) else {
+        return Err(Untold::Memory);
+    };
+    let Ok(manager) = open_manager(alloc, plan) else {
+        return Err(Untold::Memory);
+    };
+    match beside.put_list(alloc, files, manager.undo_list()) {
+        Ok(Ok(())) => run_made(rt, alloc, files, &beside, manager, words),
+        Ok(Err(Unwritten)) => Ok(Outcome::Unmade),
+        Err(AllocError) => Err(Untold::Memory),
+    }
 }
 
 /// Writes one report behind the other, unless the first can't be written, and gives the status of the last.
@@ -156,6 +254,44 @@ fn told(alloc: Global, phase: Phase) -> Result<Report, Untold>
     Ok(phase_report(alloc, phase)?)
 }
 
+/// What is said of a file that can't be made, by the word that names the one beside it.
+fn unmade(alloc: Global, word: &str) -> Result<Report, Untold>
+    ensures { Tells (SaysFile word.now) result }
+{
+    Ok(Report::of_file(alloc, word)?)
+}
+
+/// Says in which phase a run left the manager, and of its list where that isn't kept, and gives the status.
+fn say_ran<W: io::Write, E: io::Write>(
+    alloc: Global,
+    word: &str,
+    phase: Phase,
+    kept: Result<(), Unwritten>,
+    console: &mut Console<W, E>,
+) -> u8
+    ensures { EndsBy W.contents E.contents word.now (Ok (HasRun phase kept)) console.old console.new result }
+{
+    match kept {
+        Ok(()) => end_run(&told(alloc, phase), console),
+        Err(Unwritten) => tell_unkept(alloc, phase, word, console),
+    }
+}
+
+/// Says what came of a run, and gives the status.
+fn say<W: io::Write, E: io::Write>(
+    alloc: Global,
+    word: &str,
+    outcome: Outcome,
+    console: &mut Console<W, E>,
+) -> u8
+    ensures { EndsBy W.contents E.contents word.now (Ok outcome) console.old console.new result }
+{
+    match outcome {
+        Outcome::Ran(phase, kept) => say_ran(alloc, word, phase, kept, console),
+        Outcome::Unmade => end_run(&unmade(alloc, word), console),
+    }
+}
+
 /// Runs the plan, keeps the manager's list, and says what came of both.
 fn run_over<F: WritesFiles, W: io::Write, E: io::Write, R: Net>(
     rt: &R,
@@ -165,17 +301,11 @@ fn run_over<F: WritesFiles, W: io::Write, E: io::Write, R: Net>(
     words: &RunWords,
     console: &mut Console<W, E>,
 ) -> u8
-    ensures { RunEndsOver W.contents E.contents F.takes plan words.now files.old files.new console.old console.new result }
+    ensures { RunEndsOver W.contents E.contents F.takes F.renames plan words.now files.old files.new console.old console.new result }
 {
-    let word = words.undo.as_str();
-    let ran = match run_on(rt, alloc, plan, words) {
-        Ok(ran) => ran,
-        Err(why) => return end_run(&Err(why), console),
-    };
-    match keep(alloc, files, &ran, word) {
-        Ok(Ok(())) => end_run(&told(alloc, ran.phase), console),
-        Ok(Err(Unwritten)) => tell_unkept(alloc, ran.phase, word, console),
-        Err(AllocError) => end_run(&Err(Untold::Memory), console),
+    match carry_out(rt, alloc, files, plan, words) {
+        Ok(outcome) => say(alloc, words.undo.as_str(), outcome, console),
+        Err(why) => end_run(&Err(why), console),
     }
 }
 
@@ -195,7 +325,7 @@ fn run_text<F: WritesFiles, W: io::Write, E: io::Write, R: Net>(
     words: &RunWords,
     console: &mut Console<W, E>,
 ) -> u8
-    ensures { RunEndsOn W.contents E.contents F.takes text.now words.now files.old files.new console.old console.new result }
+    ensures { RunEndsOn W.contents E.contents F.takes F.renames text.now words.now files.old files.new console.old console.new result }
 {
     match read_plan(alloc, text) {
         Ok(plan) => run_over(rt, alloc, files, plan, words, console),
@@ -213,7 +343,7 @@ fn run_file<F: TextFiles + WritesFiles, W: io::Write, E: io::Write, R: Net>(
     words: &RunWords,
     console: &mut Console<W, E>,
 ) -> u8
-    ensures { RunEndsOf W.contents E.contents (F.gives files.old) F.takes word.now words.now
+    ensures { RunEndsOf W.contents E.contents (F.gives files.old) F.takes F.renames word.now words.now
         files.old files.new console.old console.new result }
 {
     match text_of(&*files, word) {
@@ -223,11 +353,14 @@ fn run_file<F: TextFiles + WritesFiles, W: io::Write, E: io::Write, R: Net>(
 }
 
 /// Runs the plan of the file that the words name, on the controller at their two ports, and writes to standard output in which phase the
-/// manager is then. Where the plan ended or halted, the file of the word UNDO gets its undo text first, so that no failed output costs it.
+/// manager is then. Before a link is had, a file beside that of the word UNDO is made, `.part`. It gets the list so far wherever that has grown,
+/// by a writing of `.next` and a renaming. Where the plan ended or halted, it gets the last list and then the name UNDO. The phase is said
+/// behind that, so that no failed output costs the list.
 ///
 /// It gives the status: 0, or 3 with `file` or `plan` and the fault on standard error where the plan's file can't be read or holds no plan,
-/// also 3 with `file` and the word on standard error, behind the phase on standard output, where the undo text can't be written, 4 and no
-/// line where a link can't be had, 5 with `memory` on standard error where memory was refused, and 6 where a write to either stream failed.
+/// also 3 with `file` and the word UNDO on standard error where `.part` can't be made, and behind the phase on standard output where the undo
+/// text can't be written or get its name, 4 and no line where a link can't be had, 5 with `memory` on standard error where memory was refused,
+/// and 6 where a write to either stream failed.
 pub fn run<F: TextFiles + WritesFiles, W: io::Write, E: io::Write, R: Net>(
     rt: &R,
     alloc: Global,
@@ -235,7 +368,7 @@ pub fn run<F: TextFiles + WritesFiles, W: io::Write, E: io::Write, R: Net>(
     words: &RunWords,
     console: &mut Console<W, E>,
 ) -> u8
-    ensures { RunEndsOf W.contents E.contents (F.gives files.old) F.takes (string_bytes words.now.plan) words.now
+    ensures { RunEndsOf W.contents E.contents (F.gives files.old) F.takes F.renames (string_bytes words.now.plan) words.now
         files.old files.new console.old console.new result }
 {
     run_file(rt, alloc, files, words.plan.as_str(), words, console)

@@ -1,14 +1,16 @@
-use Rattle.std.proofs.Common.{◌∙◌, refl, inl, inr, ap}
+use Rattle.std.proofs.Common.{◌∙◌, refl, inr, ap}
 use Rattle.bmc_lab.specs.EndingLaws.{run_ends_as}
 use Rattle.bmc_lab.specs.Files.{Refuses}
 use Rattle.bmc_lab.specs.Report.{file_line}
-use Rattle.net_run.specs.Run.{SaysOfPlan}
+use Rattle.net_run.specs.Run.{SaysUnread}
 use Rattle.net_run.proofs.running.run_file.Goals as goal
 
 pub returns-in-Err : goal.returns-in-Err
 returns-in-Err g c =
-    inl (run_ends_as g.W.Write.contents g.E.Write.contents (Refuses c.in-Err.unread.why c.in-Err.unread.word.now)
-    (SaysOfPlan (g.F.TextFiles.gives c.args.files.now) g.F.WritesFiles.takes c.args.word.now c.args.words.now c.args.files.now c.args.files.now)
-    c.args.console.now c.refuse.new.console c.refuse.result
-    (λ stream said status told. inr (refl, (c.in-Err.unread.why, c.in-Err.ensures.unread, (told.0, told.1, told.2 ∙ ap file_line c.in-Err.ensures.word, told.3))))
-    c.refuse.ensures)
+    inr (
+      refl,
+      run_ends_as g.W.Write.contents g.E.Write.contents (Refuses c.in-Err.unread.why c.in-Err.unread.word.now) (SaysUnread (g.F.TextFiles.gives c.args.files.now) c.args.word.now)
+          c.args.console.now c.refuse.new.console c.refuse.result
+          (λ stream said status told. (c.in-Err.unread.why, c.in-Err.ensures.unread, (told.0, told.1, told.2 ∙ ap file_line c.in-Err.ensures.word, told.3)))
+          c.refuse.ensures,
+    )

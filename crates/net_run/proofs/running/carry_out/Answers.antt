@@ -1,0 +1,50 @@
+use Rattle.std.specs.Prelude.{Result}
+use Rattle.std.proofs.Common.{List, ℕ, inl, inr, refl, subst, string_bytes}
+use Rattle.text_undo.specs.UndoText.{text_of}
+use Rattle.model_lab.specs.Meaning.{lab_names}
+use Rattle.net_run.specs.declared.files.Unwritten.{Unwritten}
+use Rattle.net_run.specs.Beside.{IsBeside, Puts}
+use Rattle.net_run.specs.Driven.{opened_with}
+use Rattle.net_run.proofs.running.carry_out.Goals as goal
+
+pub returns-in-Ok-Ok : goal.returns-in-Ok-Ok
+returns-in-Ok-Ok g c =
+    let word : List ℕ = string_bytes c.args.words.now.undo in
+    let shown = c.in-Ok-open_manager.ensures in
+    let opened = opened_with c.args.plan in
+    let is = subst (λ (word : List ℕ). IsBeside word c.in-Ok.beside) c.as_str.ensures.value c.in-Ok.ensures in
+    inl (
+      c.put_list.new.files,
+      (
+        c.undo_list.result.now,
+        record {
+          requests = c.undo_list.ensures.requests lab_names opened shown;
+          sequence = c.undo_list.ensures.sequence lab_names opened shown;
+          instance = c.undo_list.ensures.instance lab_names opened shown;
+        },
+        subst (λ (a : Result (Unit {0}) Unwritten). Puts g.F.WritesFiles.takes g.F.WritesFiles.renames word (text_of c.undo_list.result.now) c.args.files.now a c.put_list.new.files)
+            c.in-Ok-Ok.field-0-is (c.in-Ok-Ok.ensures.put word is),
+      ),
+      c.run_made.ensures word opened is shown,
+    )
+
+pub returns-in-Ok-Err : goal.returns-in-Ok-Err
+returns-in-Ok-Err g c =
+    let word : List ℕ = string_bytes c.args.words.now.undo in
+    let shown = c.in-Ok-open_manager.ensures in
+    let opened = opened_with c.args.plan in
+    let is = subst (λ (word : List ℕ). IsBeside word c.in-Ok.beside) c.as_str.ensures.value c.in-Ok.ensures in
+    inr (inl (
+      c.in-Ok-Err.field-0-0,
+      refl,
+      (
+        c.undo_list.result.now,
+        record {
+          requests = c.undo_list.ensures.requests lab_names opened shown;
+          sequence = c.undo_list.ensures.sequence lab_names opened shown;
+          instance = c.undo_list.ensures.instance lab_names opened shown;
+        },
+        subst (λ (a : Result (Unit {0}) Unwritten). Puts g.F.WritesFiles.takes g.F.WritesFiles.renames word (text_of c.undo_list.result.now) c.args.files.now a c.put_list.new.files)
+            c.in-Ok-Err.field-0-is (c.in-Ok-Err.ensures.put word is),
+      ),
+    ))
