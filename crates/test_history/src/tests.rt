@@ -3,6 +3,7 @@ mod gates;
 mod links;
 mod rooms;
 mod seats;
+mod times;
 mod workers;
 
 use bmc_board::{Board, Records};

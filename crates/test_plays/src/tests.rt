@@ -3,6 +3,7 @@ mod ages;
 mod asked;
 mod calls;
 mod charts;
+mod drawn;
 mod faults;
 mod frames;
 mod lines;

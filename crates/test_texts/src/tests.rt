@@ -11,6 +11,7 @@ mod numeric;
 mod order;
 mod plan;
 mod play;
+mod readings;
 mod schedule;
 mod states;
 mod story;

@@ -1,100 +1,123 @@
 //! Links over UDP, on the loopback address.
+ghost use Rattle.std.specs.Prelude.{◌≤◌, length};
+
 use bmc_links::{Counts, Heard, Link, LinkFault, UdpLink};
 use std::net::{Net, UdpSocket};
-use std::test::Fail;
+use std::process::Abort;
 use two_wire::Frame;
 
 /// So long a link waits for a datagram that was sent.
 const WAIT_MS: u32 = 5_000;
 
-/// A link that is bound to a free port, and one to it.
-fn pair<R: Net>(rt: &R) -> Result<(UdpLink, UdpLink), Fail> {
-    let bound = UdpLink::bind(rt, 0, WAIT_MS).ok().ok_or("not bound")?;
-    let port = bound.port().ok().ok_or("no port")?;
-    let client = UdpLink::to(rt, port, WAIT_MS).ok().ok_or("not bound")?;
-    Ok((bound, client))
+/// A link that is bound to a free port, and that port.
+fn bind<R: Net + Abort>(rt: &R, wait_ms: u32) -> (UdpLink, u16) {
+    let bound = UdpLink::bind(rt, 0, wait_ms).ok().expect(rt, "a link");
+    let port = bound.port().ok().expect(rt, "a port");
+    (bound, port)
 }
 
-#[test]
-fn a_bound_link_answers_the_one_that_it_heard(rt: HostRuntime) -> Result<(), Fail> {
-    let (mut bound, mut client) = pair(&rt)?;
-    let asked = Frame::from_slice(&[0x20, 0x10, 0xD0]);
-    let replied = Frame::from_slice(&[0x2C; 80]);
-    assert_eq!(rt; client.send(&asked), Ok(()));
-    assert_eq!(rt; bound.next(), Ok(Heard::Frame(asked)));
-    assert_eq!(rt; bound.send(&replied), Ok(()));
-    assert_eq!(rt; client.next(), Ok(Heard::Frame(replied)));
+/// A link that sends to this port.
+fn link_to<R: Net + Abort>(rt: &R, port: u16, wait_ms: u32) -> UdpLink {
+    UdpLink::to(rt, port, wait_ms).ok().expect(rt, "a link")
+}
+
+/// The link sends these bytes.
+fn expect_sent(rt: &impl Abort, link: &mut UdpLink, bytes: &[u8])
+    requires { length bytes.now ≤ 80 }
+{
+    let sent = link.send(&Frame::from_slice(bytes));
+    assert!(rt; sent == Ok(()));
+}
+
+/// The link hears these bytes.
+fn expect_heard(rt: &impl Abort, link: &mut UdpLink, bytes: &[u8]) {
+    match link.next() {
+        Ok(Heard::Frame(frame)) => assert!(rt; frame.is(bytes)),
+        _ => panic!(rt; "no frame"),
+    }
+}
+
+/// The link hears nothing.
+fn expect_quiet(rt: &impl Abort, link: &mut UdpLink) {
+    let heard = link.next();
+    assert!(rt; heard == Ok(Heard::Quiet));
+}
+
+/// The link counted so many calls of it that failed, calls of `next`, and frames.
+fn expect_counts(rt: &impl Abort, link: &UdpLink, failures: u64, calls: u64, heard: u64) {
     let counts = Counts {
-        failures: 0,
-        calls: 1,
-        heard: 1,
+        failures,
+        calls,
+        heard,
     };
-    assert_eq!(rt; bound.counts(), counts);
-    assert_eq!(rt; client.counts(), counts);
-    Ok(())
+    assert_eq!(rt; link.counts(), counts);
 }
 
 #[test]
-fn a_bound_link_that_heard_nobody_fails_to_send(rt: HostRuntime) -> Result<(), Fail> {
-    let mut bound = UdpLink::bind(&rt, 0, 0).ok().ok_or("not bound")?;
-    assert_eq!(rt; bound.send(&Frame::from_slice(&[1])), Err(LinkFault));
-    assert_eq!(rt; bound.next(), Ok(Heard::Quiet));
-    let counts = Counts {
-        failures: 1,
-        calls: 1,
-        heard: 0,
-    };
-    assert_eq!(rt; bound.counts(), counts);
-    Ok(())
+fn a_bound_link_answers_the_one_that_it_heard(rt: HostRuntime) {
+    let (mut bound, port) = bind(&rt, WAIT_MS);
+    let mut client = link_to(&rt, port, WAIT_MS);
+    expect_sent(&rt, &mut client, &[0x20, 0x10, 0xD0]);
+    expect_heard(&rt, &mut bound, &[0x20, 0x10, 0xD0]);
+    expect_sent(&rt, &mut bound, &[0x2C; 80]);
+    expect_heard(&rt, &mut client, &[0x2C; 80]);
+    expect_counts(&rt, &bound, 0, 1, 1);
+    expect_counts(&rt, &client, 0, 1, 1);
 }
 
 #[test]
-fn a_datagram_of_81_bytes_is_heard_as_an_empty_frame(rt: HostRuntime) -> Result<(), Fail> {
-    let mut bound = UdpLink::bind(&rt, 0, WAIT_MS).ok().ok_or("not bound")?;
-    let port = bound.port().ok().ok_or("no port")?;
-    let stranger = UdpSocket::bind(&rt, "127.0.0.1:0")?;
-    let to = ("127.0.0.1", port);
-    assert_eq!(rt; stranger.send_to(&[7; 81], to)?, 81);
-    assert_eq!(rt; stranger.send_to(&[], to)?, 0);
-    assert_eq!(rt; stranger.send_to(&[7; 80], to)?, 80);
-    assert_eq!(rt; stranger.send_to(&[9; 1000], to)?, 1000);
-    assert_eq!(rt; bound.next(), Ok(Heard::Frame(Frame::new())));
-    assert_eq!(rt; bound.next(), Ok(Heard::Frame(Frame::new())));
-    assert_eq!(rt; bound.next(), Ok(Heard::Frame(Frame::from_slice(&[7; 80]))));
-    assert_eq!(rt; bound.next(), Ok(Heard::Frame(Frame::new())));
-    assert_eq!(rt; bound.counts().heard, 4);
-    Ok(())
+fn a_bound_link_that_heard_nobody_fails_to_send(rt: HostRuntime) {
+    let (mut bound, _) = bind(&rt, 0);
+    let sent = bound.send(&Frame::from_slice(&[1]));
+    assert!(rt; sent == Err(LinkFault));
+    expect_quiet(&rt, &mut bound);
+    expect_counts(&rt, &bound, 1, 1, 0);
+}
+
+/// The socket sends the bytes to this port.
+fn send_by(rt: &impl Abort, socket: &UdpSocket, port: u16, bytes: &[u8]) {
+    let sent = socket.send_to(bytes, ("127.0.0.1", port)).ok();
+    assert!(rt; sent == Some(bytes.len()));
 }
 
 #[test]
-fn the_last_that_was_heard_is_answered(rt: HostRuntime) -> Result<(), Fail> {
-    let (mut bound, mut client) = pair(&rt)?;
-    let port = bound.port().ok().ok_or("no port")?;
-    let mut other = UdpLink::to(&rt, port, WAIT_MS).ok().ok_or("not bound")?;
-    assert_eq!(rt; client.send(&Frame::from_slice(&[1])), Ok(()));
-    assert_eq!(rt; bound.next(), Ok(Heard::Frame(Frame::from_slice(&[1]))));
-    assert_eq!(rt; other.send(&Frame::from_slice(&[2])), Ok(()));
-    assert_eq!(rt; bound.next(), Ok(Heard::Frame(Frame::from_slice(&[2]))));
-    assert_eq!(rt; bound.send(&Frame::from_slice(&[3])), Ok(()));
-    assert_eq!(rt; other.next(), Ok(Heard::Frame(Frame::from_slice(&[3]))));
-    Ok(())
+fn a_datagram_of_81_bytes_is_heard_as_an_empty_frame(rt: HostRuntime) {
+    let (mut bound, port) = bind(&rt, WAIT_MS);
+    let stranger = UdpSocket::bind(&rt, "127.0.0.1:0").ok();
+    let stranger = stranger.expect(&rt, "a socket");
+    send_by(&rt, &stranger, port, &[7; 81]);
+    send_by(&rt, &stranger, port, &[]);
+    send_by(&rt, &stranger, port, &[7; 80]);
+    send_by(&rt, &stranger, port, &[9; 1000]);
+    expect_heard(&rt, &mut bound, &[]);
+    expect_heard(&rt, &mut bound, &[]);
+    expect_heard(&rt, &mut bound, &[7; 80]);
+    expect_heard(&rt, &mut bound, &[]);
+    expect_counts(&rt, &bound, 0, 4, 4);
 }
 
 #[test]
-fn a_port_that_is_taken_is_not_bound_again(rt: HostRuntime) -> Result<(), Fail> {
-    let bound = UdpLink::bind(&rt, 0, 1).ok().ok_or("not bound")?;
-    let port = bound.port().ok().ok_or("no port")?;
+fn the_last_that_was_heard_is_answered(rt: HostRuntime) {
+    let (mut bound, port) = bind(&rt, WAIT_MS);
+    let mut client = link_to(&rt, port, WAIT_MS);
+    let mut other = link_to(&rt, port, WAIT_MS);
+    expect_sent(&rt, &mut client, &[1]);
+    expect_heard(&rt, &mut bound, &[1]);
+    expect_sent(&rt, &mut other, &[2]);
+    expect_heard(&rt, &mut bound, &[2]);
+    expect_sent(&rt, &mut bound, &[3]);
+    expect_heard(&rt, &mut other, &[3]);
+}
+
+#[test]
+fn a_port_that_is_taken_is_not_bound_again(rt: HostRuntime) {
+    let (_bound, port) = bind(&rt, 1);
     assert!(rt; UdpLink::bind(&rt, port, 1).is_err());
-    Ok(())
 }
 
 #[test]
-fn a_link_waits_no_longer_than_it_is_told(rt: HostRuntime) -> Result<(), Fail> {
-    let mut bound = UdpLink::bind(&rt, 0, 1).ok().ok_or("not bound")?;
-    assert_eq!(rt; bound.next(), Ok(Heard::Quiet));
-    let mut client = UdpLink::to(&rt, bound.port().ok().ok_or("no port")?, 0)
-        .ok()
-        .ok_or("not bound")?;
-    assert_eq!(rt; client.next(), Ok(Heard::Quiet));
-    Ok(())
+fn a_link_waits_no_longer_than_it_is_told(rt: HostRuntime) {
+    let (mut bound, port) = bind(&rt, 1);
+    expect_quiet(&rt, &mut bound);
+    expect_quiet(&rt, &mut link_to(&rt, port, 0));
 }

@@ -6,8 +6,8 @@ use bmc_core::{At, Out, Port};
 use bmc_links::{Counts, Heard, Link, LinkFault};
 use cfg_records::sample_board;
 use mctp_net::EndpointId;
-use std::alloc::{AllocError, Global};
-use std::test::Fail;
+use std::alloc::Global;
+use std::process::Abort;
 use two_wire::{Address, Bus, Frame};
 
 /// The call of a link that fails, counted from 1.
@@ -31,17 +31,18 @@ impl Failing {
 }
 
 /// The sample board.
-pub(crate) fn open_sample(alloc: Global) -> Result<Board<Records>, AllocError> {
-    Board::of_file(alloc, sample_board(alloc)?)
+pub(crate) fn open_sample(rt: &impl Abort, alloc: Global) -> Board<Records> {
+    let file = sample_board(alloc).expect(rt, "memory");
+    Board::of_file(alloc, file).expect(rt, "memory")
 }
 
 /// A port of the controller at its address on this bus.
-pub(crate) fn port_on(alloc: Global, bus: Bus) -> Result<Port, Fail> {
+pub(crate) fn port_on(rt: &impl Abort, alloc: Global, bus: Bus) -> Port {
     let at = At {
-        wire: Address::new(0x20).ok_or("address")?,
-        eid: EndpointId::new(0x0A).ok_or("endpoint")?,
+        wire: Address::new(0x20).unwrap(),
+        eid: EndpointId::new(0x0A).unwrap(),
     };
-    Ok(Port::new(alloc, bus, at)?)
+    Port::new(alloc, bus, at).expect(rt, "memory")
 }
 
 /// A link that gives each frame that is sent to a port over a board, and hands out the replies in their order. One call of it fails, and

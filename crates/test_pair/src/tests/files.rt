@@ -3,14 +3,17 @@ use bmc_lab::{TextFiles, Unreadable};
 use bmc_net::{Unwritten, WritesFiles};
 use std::alloc::{AllocError, Global};
 
-/// Files that hold these texts, each by its word, and take one more text, unless they are locked.
+/// Files that hold these texts, each by its word, and take others, unless they are locked.
 #[derive(Drop)]
 pub(crate) struct FakeFiles<'a> {
     alloc: Global,
     texts: &'a [(&'a str, &'a str)],
-    pub locked: bool,
-    /// The word and the text that were written last.
-    pub written: Option<(String, String)>,
+    /// So many changes are left until no file is written or renamed any more.
+    pub changes_left: usize,
+    /// The words of the files that were written, and their texts.
+    written: Vec<(String, String)>,
+    /// Each text that a file of this word got, by its name alone.
+    pub renamed: Vec<(String, String)>,
 }
 
 impl<'a> FakeFiles<'a> {
@@ -18,23 +21,58 @@ impl<'a> FakeFiles<'a> {
         FakeFiles {
             alloc,
             texts,
-            locked: false,
-            written: None,
+            changes_left: usize::MAX,
+            written: Vec::new(alloc),
+            renamed: Vec::new(alloc),
         }
     }
 
-    /// The text that was written to the file of this word.
+    /// The text that is in the file of this word, of those that were written.
     pub fn text_at(&self, word: &str) -> Option<&str> {
-        match &self.written {
-            Some((name, text)) if name.as_str() == word => Some(text.as_str()),
-            _ => None,
+        for (name, text) in &self.written {
+            if name.as_str() == word {
+                return Some(text.as_str());
+            }
         }
+        None
+    }
+
+    /// How many files were written and are there.
+    pub fn count(&self) -> usize {
+        self.written.len()
+    }
+
+    /// One change less is left. Where none is, it fails.
+    fn change(&mut self) -> Result<(), Unwritten> {
+        if self.changes_left == 0 {
+            return Err(Unwritten);
+        }
+        self.changes_left -= 1;
+        Ok(())
+    }
+
+    /// Takes the file of this word away.
+    fn remove(&mut self, word: &str) -> Option<String> {
+        for place in 0..self.written.len() {
+            if self.written[place].0.as_str() == word {
+                return Some(self.written.remove(place).1);
+            }
+        }
+        None
     }
 
     fn keep(&mut self, word: &str, text: &str) -> Result<(), AllocError> {
+        let _old = self.remove(word);
         let word = String::from_str(self.alloc, word)?;
         let text = String::from_str(self.alloc, text)?;
-        self.written = Some((word, text));
+        self.written.push((word, text))?;
+        Ok(())
+    }
+
+    fn note(&mut self, word: &str, text: &str) -> Result<(), AllocError> {
+        let word = String::from_str(self.alloc, word)?;
+        let text = String::from_str(self.alloc, text)?;
+        self.renamed.push((word, text))?;
         Ok(())
     }
 }
@@ -57,10 +95,19 @@ impl WritesFiles for FakeFiles<'_> {
     // Nor of what they take.
     ghost takes = { λ before word text answer after. Unit {0} };
 
+    ghost renames = { λ before from to answer after. Unit {0} };
+
     fn write(&mut self, word: &str, text: &str) -> Result<(), Unwritten> {
-        if self.locked {
-            return Err(Unwritten);
-        }
+        self.change()?;
         self.keep(word, text).map_err(|_| Unwritten)
+    }
+
+    fn rename(&mut self, from: &str, to: &str) -> Result<(), Unwritten> {
+        self.change()?;
+        let Some(text) = self.remove(from) else {
+            return Err(Unwritten);
+        };
+        self.keep(to, text.as_str()).map_err(|_| Unwritten)?;
+        self.note(to, text.as_str()).map_err(|_| Unwritten)
     }
 }

@@ -22,6 +22,7 @@ fn serve_words(alloc: Global, board: &str, port: u16) -> Result<ServeWords, Allo
         turns: 1,
         wait_ms: 200,
         periods: false,
+        quiet: None,
     })
 }
 
@@ -105,7 +106,7 @@ fn expect_refused_plan(
     let words = run_words(alloc, "plan.toml")?;
     assert_eq!(rt; run(rt, alloc, &mut files, &words, &mut paper), 3);
     assert_eq!(rt; paper.err.as_slice(), told);
-    assert!(rt; paper.out.is_empty() && files.written.is_none());
+    assert!(rt; paper.out.is_empty() && files.count() == 0);
     Ok(())
 }
 
@@ -173,7 +174,8 @@ fn nobody_answers_a_manager_without_turns(rt: HostRuntime) -> Result<(), Fail> {
     let words = run_words(rt.alloc(), "plan.toml")?;
     assert_eq!(rt; run(&rt, rt.alloc(), &mut files, &words, &mut paper), 0);
     assert_eq!(rt; paper.out.as_slice(), b"phase Getting 0\n".as_slice());
-    assert!(rt; paper.err.is_empty() && files.written.is_none());
+    assert!(rt; paper.err.is_empty() && files.count() == 1);
+    assert_eq!(rt; files.text_at("out.txt.part"), Some(NOTHING_DONE));
     let mut paper = new_paper(rt.alloc());
     let words = undo_words(rt.alloc(), "list.txt")?;
     assert_eq!(rt; undo(&rt, rt.alloc(), &files, &words, &mut paper), 0);
@@ -181,23 +183,67 @@ fn nobody_answers_a_manager_without_turns(rt: HostRuntime) -> Result<(), Fail> {
     Ok(())
 }
 
+/// The undo text of a manager that did nothing.
+const NOTHING_DONE: &str = "undo 1\nnext ipmb 0 smbus 0\n";
+
+/// A run of a plan without steps, over files that so many changes are made of, ends with this status, says this, and leaves these texts in the
+/// file of the undo text and in that of the list so far.
+fn expect_run(
+    rt: &(impl Abort + std::net::Net),
+    alloc: Global,
+    changes: usize,
+    status: u8,
+    out: &[u8],
+    err: &[u8],
+) -> Result<(Option<String>, Option<String>), Fail> {
+    let mut files = FakeFiles::new(alloc, &[("empty.toml", "")]);
+    files.changes_left = changes;
+    let mut paper = new_paper(alloc);
+    let words = run_words(alloc, "empty.toml")?;
+    assert_eq!(rt; run(rt, alloc, &mut files, &words, &mut paper), status);
+    assert_eq!(rt; paper.out.as_slice(), out);
+    assert_eq!(rt; paper.err.as_slice(), err);
+    Ok((
+        kept(alloc, &files, "out.txt")?,
+        kept(alloc, &files, "out.txt.part")?,
+    ))
+}
+
+/// A copy of the text in the file of this word.
+fn kept(alloc: Global, files: &FakeFiles, word: &str) -> Result<Option<String>, AllocError> {
+    match files.text_at(word) {
+        Some(text) => Ok(Some(String::from_str(alloc, text)?)),
+        None => Ok(None),
+    }
+}
+
+#[test]
+fn a_file_that_can_not_be_made_is_told_before_a_link_is_had(rt: HostRuntime) -> Result<(), Fail> {
+    for changes in 0..2 {
+        let left = expect_run(&rt, rt.alloc(), changes, 3, b"", b"file out.txt\n")?;
+        assert!(&rt; left.0.is_none() && left.1.is_none());
+    }
+    Ok(())
+}
+
 #[test]
 fn an_undo_text_that_can_not_be_written_is_told_behind_the_phase(
     rt: HostRuntime,
 ) -> Result<(), Fail> {
-    let mut files = FakeFiles::new(rt.alloc(), &[("empty.toml", "")]);
-    files.locked = true;
-    let mut paper = new_paper(rt.alloc());
-    let words = run_words(rt.alloc(), "empty.toml")?;
-    assert_eq!(rt; run(&rt, rt.alloc(), &mut files, &words, &mut paper), 3);
-    assert_eq!(rt; paper.out.as_slice(), b"phase Done\n".as_slice());
-    assert_eq!(rt; paper.err.as_slice(), b"file out.txt\n".as_slice());
-    files.locked = false;
-    let mut paper = new_paper(rt.alloc());
-    assert_eq!(rt; run(&rt, rt.alloc(), &mut files, &words, &mut paper), 0);
-    assert_eq!(rt; paper.out.as_slice(), b"phase Done\n".as_slice());
-    assert!(rt; paper.err.is_empty());
-    let list = files.text_at("out.txt");
-    assert_eq!(rt; list, Some("undo 1\nnext ipmb 0 smbus 0\n"));
+    for changes in 2..5 {
+        let left = expect_run(
+            &rt,
+            rt.alloc(),
+            changes,
+            3,
+            b"phase Done\n",
+            b"file out.txt\n",
+        )?;
+        assert!(&rt; left.0.is_none());
+        assert_eq!(&rt; left.1.as_deref(), Some(NOTHING_DONE));
+    }
+    let left = expect_run(&rt, rt.alloc(), 5, 0, b"phase Done\n", b"")?;
+    assert_eq!(&rt; left.0.as_deref(), Some(NOTHING_DONE));
+    assert!(&rt; left.1.is_none());
     Ok(())
 }

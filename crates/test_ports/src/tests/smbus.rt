@@ -1,6 +1,6 @@
 //! Requests to a port on the System Management Bus, and what it keeps of them.
 use super::expect_told;
-use bmc_core::{At, Done, Out, SmbusPort, Step};
+use bmc_core::{At, Done, Out, SmbusPending, SmbusPort, Step};
 use mctp_net::EndpointId;
 use record_base::{Answered, Asked};
 use std::test::Fail;
@@ -122,6 +122,86 @@ fn a_request_is_heard_and_told(rt: HostRuntime) -> Result<(), Fail> {
     assert!(rt; matches!(port.hear(GET_TID, &mut out), Step::Done));
     assert_eq!(rt; out.done, Done::Repeated);
     assert!(rt; port.idle(0x08));
+    Ok(())
+}
+
+/// The same request under instances 1 and 16, and their replies.
+const GET_TID_1: &[u8] = &[
+    0x20, 0x0F, 0x09, 0x31, 0x01, 0x00, 0x08, 0xC8, 0x01, 0x81, 0x00, 0x02, 0x86,
+];
+
+const GOT_TID_1: &[u8] = &[
+    0x30, 0x0F, 0x0B, 0x21, 0x01, 0x08, 0x0A, 0xC0, 0x01, 0x01, 0x00, 0x02, 0x00, 0x05, 0x7E,
+];
+
+const GET_TID_16: &[u8] = &[
+    0x20, 0x0F, 0x09, 0x31, 0x01, 0x00, 0x08, 0xC8, 0x01, 0x90, 0x00, 0x02, 0x4F,
+];
+
+const GOT_TID_16: &[u8] = &[
+    0x30, 0x0F, 0x0B, 0x21, 0x01, 0x08, 0x0A, 0xC0, 0x01, 0x10, 0x00, 0x02, 0x00, 0x05, 0x2E,
+];
+
+/// The reply to the first, where the terminus identifier is another.
+const GOT_OTHER_TID: &[u8] = &[
+    0x30, 0x0F, 0x0B, 0x21, 0x01, 0x08, 0x0A, 0xC0, 0x01, 0x00, 0x00, 0x02, 0x00, 0x06, 0x15,
+];
+
+/// The request that the port asks for.
+fn asked(port: &mut SmbusPort, frame: &[u8], out: &mut Out) -> Result<SmbusPending, Fail> {
+    match port.hear(frame, out) {
+        Step::Ask(pending) => Ok(pending),
+        Step::Done => Err("nothing is asked".into()),
+    }
+}
+
+/// This terminus identifier.
+fn tid(number: u8) -> Answered {
+    Answered {
+        code: 0x00,
+        body: Bytes::from_slice(&[number]),
+    }
+}
+
+/// A request is heard twice before it's told. The first answer is kept, and the second goes nowhere, also where another request of the
+/// endpoint came between.
+#[test]
+fn of_a_request_that_is_told_twice_the_first_answer_is_kept(rt: HostRuntime) -> Result<(), Fail> {
+    let mut port = SmbusPort::new(rt.alloc(), at())?;
+    let mut out = Out::new();
+    let first = asked(&mut port, GET_TID, &mut out)?;
+    let second = asked(&mut port, GET_TID, &mut out)?;
+    let third = asked(&mut port, GET_TID, &mut out)?;
+    port.told(first, &tid(0x05), &mut out);
+    assert_eq!(rt; (out.done, sent(&out)), (Done::Answered, GOT_TID));
+    port.told(second, &tid(0x06), &mut out);
+    assert_eq!(rt; (out.done, sent(&out)), (Done::Repeated, GOT_TID));
+    let other = asked(&mut port, GET_TID_1, &mut out)?;
+    port.told(other, &tid(0x05), &mut out);
+    assert_eq!(rt; (out.done, sent(&out)), (Done::Answered, GOT_TID_1));
+    port.told(third, &tid(0x06), &mut out);
+    assert_eq!(rt; (out.done, sent(&out)), (Done::Repeated, GOT_TID));
+    assert!(rt; matches!(port.hear(GET_TID, &mut out), Step::Done));
+    assert_eq!(rt; (out.done, sent(&out)), (Done::Repeated, GOT_TID));
+    Ok(())
+}
+
+/// A request is heard twice before it's told, and a request sixteen instances above it comes between: the first answer is forgotten
+/// then, and the second is kept.
+#[test]
+fn an_answer_that_is_forgotten_makes_room_for_the_second(rt: HostRuntime) -> Result<(), Fail> {
+    let mut port = SmbusPort::new(rt.alloc(), at())?;
+    let mut out = Out::new();
+    let first = asked(&mut port, GET_TID, &mut out)?;
+    let second = asked(&mut port, GET_TID, &mut out)?;
+    port.told(first, &tid(0x05), &mut out);
+    let newer = asked(&mut port, GET_TID_16, &mut out)?;
+    port.told(newer, &tid(0x05), &mut out);
+    assert_eq!(rt; (out.done, sent(&out)), (Done::Answered, GOT_TID_16));
+    port.told(second, &tid(0x06), &mut out);
+    assert_eq!(rt; (out.done, sent(&out)), (Done::Answered, GOT_OTHER_TID));
+    assert!(rt; matches!(port.hear(GET_TID, &mut out), Step::Done));
+    assert_eq!(rt; (out.done, sent(&out)), (Done::Repeated, GOT_OTHER_TID));
     Ok(())
 }
 

@@ -245,6 +245,23 @@ window pldm keeps 09 14 0114 : 01 -> Repeats 01
 window pldm idles 09 -> yes
 window pldm keeps 08 14 0114 : 63 -> Repeats 01
 window pldm keeps 09 14 0114 : 02 -> New
+
+story a slot that another takes over has nothing of the first
+window ipmb keeps 40 05 4205 : 00 -> New
+window ipmb keeps 40 06 4306 : 01 -> New
+window ipmb idles 40 -> yes
+window ipmb finds 50 06 4306 -> New
+window ipmb keeps 50 05 4205 : 0A -> New
+window ipmb finds 50 06 4306 -> New
+window ipmb keeps 50 06 4306 : 0B -> New
+window ipmb keeps 50 05 4205 : 63 -> Repeats 0A
+window ipmb keeps 50 06 4306 : 63 -> Repeats 0B
+window pldm keeps 08 14 0114 : 00 -> New
+window pldm keeps 08 15 0215 : 01 -> New
+window pldm idles 08 -> yes
+window pldm keeps 09 14 0114 : 0A -> New
+window pldm finds 09 15 0215 -> New
+window pldm keeps 09 14 0114 : 63 -> Repeats 0A
 ";
 
 #[test]

@@ -2,7 +2,6 @@
 use bios_attr::AttributeLimits;
 use bios_attr::bios_attribute::attribute_in;
 use cfg_records::{AttributeRange, RecordData, RecordKind, SetBiosAttribute, TextLengths, Value};
-use std::test::Fail;
 use two_wire::code::PLDM_INVALID_ATTRIBUTE;
 
 /// The entry of the sample board's string.
@@ -11,17 +10,17 @@ const SHOWN: [u8; 16] = [
 ];
 
 #[test]
-fn a_reply_shows_the_entry_and_is_undone_whole(rt: HostRuntime) -> Result<(), Fail> {
+fn a_reply_shows_the_entry_and_is_undone_whole(rt: HostRuntime) {
     let asset = AttributeLimits {
         handle: 1,
         read_only: false,
-        range: AttributeRange::Text(TextLengths::new(0, 200).ok_or("lengths")?),
+        range: AttributeRange::Text(TextLengths::new(0, 200).expect(&rt, "lengths")),
     };
     let mut reply = RecordData::new();
     asset.show(&SHOWN[8..], &mut reply);
     assert_eq!(rt; reply.as_slice(), SHOWN.as_slice());
     let any_op = SetBiosAttribute::of(0, 0, &[]);
-    let undo = AttributeLimits::inverse(&any_op, reply.as_slice()).ok_or("a reply")?;
+    let undo = AttributeLimits::inverse(&any_op, reply.as_slice()).expect(&rt, "a reply");
     assert_eq!(rt;
         AttributeLimits::set_data(&undo).as_slice(),
         SHOWN.as_slice()
@@ -30,13 +29,11 @@ fn a_reply_shows_the_entry_and_is_undone_whole(rt: HostRuntime) -> Result<(), Fa
     assert_eq!(rt; asset.set(&any_op, &mut new), Err(PLDM_INVALID_ATTRIBUTE));
     assert_eq!(rt; asset.set(&undo, &mut new), Ok(()));
     assert_eq!(rt; new.as_slice(), &SHOWN[8..]);
-    Ok(())
 }
 
 #[test]
-fn the_data_of_a_request_are_read(rt: HostRuntime) -> Result<(), Fail> {
-    let op = attribute_in(&SHOWN).map_err(|_| "a request")?;
+fn the_data_of_a_request_are_read(rt: HostRuntime) {
+    let op = attribute_in(&SHOWN).ok().expect(&rt, "a request");
     assert_eq!(rt; (op.attribute, op.attribute_type), (1, 1));
     assert_eq!(rt; op.value.as_slice(), &SHOWN[8..]);
-    Ok(())
 }

@@ -10,7 +10,6 @@ use cfg_records::{
 use record_kinds::{Limits, PlainKind};
 use std::alloc::{AllocError, Global};
 use std::process::Abort;
-use std::test::Fail;
 use two_wire::{Bytes, Lun, NetFn};
 
 /// Upper critical of sensor 5 becomes 5Ah.
@@ -21,9 +20,9 @@ const UPPER_CRITICAL: Op = Op::Thresholds(SetThresholds {
 });
 
 #[test]
-fn a_board_answers_a_set_and_a_get_and_keeps_the_record(rt: HostRuntime) -> Result<(), Fail> {
-    let file = sample_board(rt.alloc())?;
-    let mut board = Board::of_file(rt.alloc(), file)?;
+fn a_board_answers_a_set_and_a_get_and_keeps_the_record(rt: HostRuntime) {
+    let file = sample_board(rt.alloc()).expect(&rt, "memory");
+    let mut board = Board::of_file(rt.alloc(), file).expect(&rt, "memory");
     let reply = board.answer(&Limits::set_asked(&UPPER_CRITICAL));
     assert_eq!(rt; (reply.code, reply.body.as_slice().len()), (0, 0));
     let reply = board.answer(&Limits::get_asked(&Key::Thresholds(5)));
@@ -42,11 +41,10 @@ fn a_board_answers_a_set_and_a_get_and_keeps_the_record(rt: HostRuntime) -> Resu
         Err(NoSensor)
     );
     assert_eq!(rt; board.bench(Bench::Tick), Ok(()));
-    Ok(())
 }
 
 #[test]
-fn a_change_is_asked_and_undone(rt: HostRuntime) -> Result<(), Fail> {
+fn a_change_is_asked_and_undone(rt: HostRuntime) {
     assert!(rt; Limits::key(&UPPER_CRITICAL) == Key::Thresholds(5));
     let set = Limits::set_asked(&UPPER_CRITICAL);
     let asked = Asked::Ipmi {
@@ -62,10 +60,9 @@ fn a_change_is_asked_and_undone(rt: HostRuntime) -> Result<(), Fail> {
     assert_eq!(rt; command, Ok(Command::Set(PlainKind::Thresholds)));
     assert_eq!(rt; body, [5, 0x10, 0, 0, 0, 0, 0x5A, 0].as_slice());
     let reply = [0x3F, 0x14, 0x0A, 0x05, 0x50, 0x5F, 0x6E];
-    let undo = Limits::inverse(&UPPER_CRITICAL, &reply).ok_or("an undo")?;
+    let undo = Limits::inverse(&UPPER_CRITICAL, &reply).expect(&rt, "an undo");
     let data = Limits::set_data(&undo);
     assert_eq!(rt; data.as_slice(), [5, 0x10, 0, 0, 0, 0, 0x5F, 0].as_slice());
-    Ok(())
 }
 
 /// Of the lengths from 0 on, those that the command takes: `+` for each, and `.` for each other.
@@ -79,40 +76,65 @@ fn allowed(alloc: Global, lengths: Lengths) -> Result<String, AllocError> {
     Ok(text)
 }
 
+/// The command takes these lengths.
+fn expect_allowed(rt: &impl Abort, alloc: Global, lengths: Lengths, want: &str) {
+    let allowed = allowed(alloc, lengths).expect(rt, "memory");
+    assert_eq!(rt; allowed.as_str(), want);
+}
+
 #[test]
-fn a_command_takes_the_lengths_of_its_line(rt: HostRuntime) -> Result<(), Fail> {
-    let exactly = allowed(rt.alloc(), Lengths::Exactly(4))?;
-    assert_eq!(rt; exactly.as_str(), "....+.........................");
-    let between = allowed(rt.alloc(), Lengths::Between(2, 6))?;
-    assert_eq!(rt; between.as_str(), "..+++++.......................");
-    let at_least = allowed(rt.alloc(), Lengths::AtLeast(1))?;
-    assert_eq!(rt; at_least.as_str(), ".+++++++++++++++++++++++++++++");
+fn a_command_takes_the_lengths_of_its_line(rt: HostRuntime) {
+    let alloc = rt.alloc();
+    expect_allowed(
+        &rt,
+        alloc,
+        Lengths::Exactly(4),
+        "....+.........................",
+    );
+    expect_allowed(
+        &rt,
+        alloc,
+        Lengths::Between(2, 6),
+        "..+++++.......................",
+    );
+    expect_allowed(
+        &rt,
+        alloc,
+        Lengths::AtLeast(1),
+        ".+++++++++++++++++++++++++++++",
+    );
     // Set User Password.
-    let one_of = allowed(rt.alloc(), Lengths::OneOf(2, 18, 22))?;
-    assert_eq!(rt; one_of.as_str(), "..+...............+...+.......");
+    expect_allowed(
+        &rt,
+        alloc,
+        Lengths::OneOf(2, 18, 22),
+        "..+...............+...+.......",
+    );
     // Set State Effecter States, with three fields.
-    let pairs = allowed(rt.alloc(), Lengths::PairsCountedAt(2))?;
-    assert_eq!(rt; pairs.as_str(), ".........+....................");
-    Ok(())
+    expect_allowed(
+        &rt,
+        alloc,
+        Lengths::PairsCountedAt(2),
+        ".........+....................",
+    );
 }
 
 /// The request of the change has these data, in hexadecimal.
-fn expect_data(rt: &impl Abort, alloc: Global, op: &Op, want: &str) -> Result<(), Fail> {
-    let data = Limits::set_data(op);
-    let digits = hex::encode_upper(alloc, data.as_slice())?;
+fn expect_data(rt: &impl Abort, alloc: Global, op: Op, want: &str) {
+    let data = Limits::set_data(&op);
+    let digits = hex::encode_upper(alloc, data.as_slice()).expect(rt, "memory");
     assert_eq!(rt; digits.as_str(), want);
-    Ok(())
 }
 
 #[test]
-fn changes_of_sensors_and_the_watchdog_have_their_data(rt: HostRuntime) -> Result<(), Fail> {
-    expect_data(&rt, rt.alloc(), &UPPER_CRITICAL, "0510000000005A00")?;
+fn changes_of_sensors_and_the_watchdog_have_their_data(rt: HostRuntime) {
+    expect_data(&rt, rt.alloc(), UPPER_CRITICAL, "0510000000005A00");
     let op = Op::Hysteresis(SetHysteresis {
         sensor: 5,
         positive: 3,
         negative: 1,
     });
-    expect_data(&rt, rt.alloc(), &op, "05FF0301")?;
+    expect_data(&rt, rt.alloc(), op, "05FF0301");
     // The events of offsets 7 and 9, asserted, and of offset 0, deasserted.
     let masks = EventMasks {
         assertions: 0x280,
@@ -124,7 +146,7 @@ fn changes_of_sensors_and_the_watchdog_have_their_data(rt: HostRuntime) -> Resul
         scanning: true,
         change: EventChange::Enable(masks),
     });
-    expect_data(&rt, rt.alloc(), &op, "055080020100")?;
+    expect_data(&rt, rt.alloc(), op, "055080020100");
     let op = Op::Watchdog(SetWatchdog {
         timer_use: 0xC4,
         actions: 0x11,
@@ -132,15 +154,15 @@ fn changes_of_sensors_and_the_watchdog_have_their_data(rt: HostRuntime) -> Resul
         flags_to_clear: 0x10,
         initial: 6000,
     });
-    expect_data(&rt, rt.alloc(), &op, "C41105107017")
+    expect_data(&rt, rt.alloc(), op, "C41105107017");
 }
 
 #[test]
-fn changes_of_a_board_have_their_data(rt: HostRuntime) -> Result<(), Fail> {
+fn changes_of_a_board_have_their_data(rt: HostRuntime) {
     let op = Op::PowerPolicy(SetPowerPolicy { policy: 2 });
-    expect_data(&rt, rt.alloc(), &op, "02")?;
+    expect_data(&rt, rt.alloc(), op, "02");
     let op = Op::GlobalEnables(SetGlobalEnables { byte: 0xE7 });
-    expect_data(&rt, rt.alloc(), &op, "E7")?;
+    expect_data(&rt, rt.alloc(), op, "E7");
     let masked = MaskedBits {
         mask: 0x0F,
         bits: 0x5A,
@@ -149,7 +171,7 @@ fn changes_of_a_board_have_their_data(rt: HostRuntime) -> Result<(), Fail> {
         invalid: true,
         change: BootChange::InfoAcknowledge(masked),
     });
-    expect_data(&rt, rt.alloc(), &op, "840F5A")?;
+    expect_data(&rt, rt.alloc(), op, "840F5A");
     let flags = BootFlags {
         validity: 0x80,
         device: 0x04,
@@ -161,48 +183,48 @@ fn changes_of_a_board_have_their_data(rt: HostRuntime) -> Result<(), Fail> {
         invalid: false,
         change: BootChange::Flags(flags),
     });
-    expect_data(&rt, rt.alloc(), &op, "058004010203")?;
+    expect_data(&rt, rt.alloc(), op, "058004010203");
     let op = Op::BootParam(SetBootParam {
         invalid: true,
         change: BootChange::MarkAlone(BootParameter::Flags),
     });
-    expect_data(&rt, rt.alloc(), &op, "85")
+    expect_data(&rt, rt.alloc(), op, "85");
 }
 
 #[test]
-fn changes_of_users_and_a_channel_have_their_data(rt: HostRuntime) -> Result<(), Fail> {
+fn changes_of_users_and_a_channel_have_their_data(rt: HostRuntime) {
     let op = Op::UserAccess(SetUserAccess {
         first: 0x52,
         user: 2,
         limit: 5,
         session_limit: Some(7),
     });
-    expect_data(&rt, rt.alloc(), &op, "52020507")?;
+    expect_data(&rt, rt.alloc(), op, "52020507");
     let op = Op::UserName(SetUserName {
         user: 0xC2,
         name: [
             0x72, 0x6F, 0x6F, 0x74, 0, 0, 0, 0, 0, 0, 0, 0, 0, 0, 0, 0xFF,
         ],
     });
-    expect_data(&rt, rt.alloc(), &op, "C2726F6F740000000000000000000000FF")?;
+    expect_data(&rt, rt.alloc(), op, "C2726F6F740000000000000000000000FF");
     let op = Op::ChannelAccess(SetChannelAccess {
         channel: ChannelNumber::of(2),
         store: AccessStore::Volatile,
         change: ChannelChange::Both(SixBits::of(0x33), SixBits::of(1)),
     });
-    expect_data(&rt, rt.alloc(), &op, "02B381")
+    expect_data(&rt, rt.alloc(), op, "02B381");
 }
 
 #[test]
-fn changes_over_pldm_have_their_data(rt: HostRuntime) -> Result<(), Fail> {
+fn changes_over_pldm_have_their_data(rt: HostRuntime) {
     let op = Op::BiosAttribute(SetBiosAttribute::of(1, 1, &[2, 0, 0x61, 0x62]));
-    expect_data(&rt, rt.alloc(), &op, "000000000501000102006162")?;
+    expect_data(&rt, rt.alloc(), op, "000000000501000102006162");
     let op = Op::NumericEffecter(SetNumericEffecter {
         effecter: 261,
         size: 5,
         value: NumericBytes::Four(0x00, 0x00, 0xFF, 0xFF),
     });
-    expect_data(&rt, rt.alloc(), &op, "0501050000FFFF")?;
+    expect_data(&rt, rt.alloc(), op, "0501050000FFFF");
     let mut changes = FieldChanges::new();
     changes.push(FieldChange {
         choice: 0,
@@ -216,5 +238,5 @@ fn changes_over_pldm_have_their_data(rt: HostRuntime) -> Result<(), Fail> {
         effecter: 9,
         changes,
     });
-    expect_data(&rt, rt.alloc(), &op, "09000200000103")
+    expect_data(&rt, rt.alloc(), op, "09000200000103");
 }

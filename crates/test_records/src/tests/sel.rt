@@ -1,6 +1,5 @@
 //! Calls of a System Event Log.
 use sel_log::{FIRST_RECORD, LAST_RECORD, LogRecord, Sel, SelFault};
-use std::test::Fail;
 use two_wire::code;
 
 /// Sensor 5 goes above its upper critical threshold of 5Fh, with a reading of 60h.
@@ -22,14 +21,14 @@ fn a_log_has_1_to_1_024_records(rt: HostRuntime) {
 }
 
 #[test]
-fn an_event_is_added_shown_and_cleared(rt: HostRuntime) -> Result<(), Fail> {
-    let mut log = Sel::new(rt.alloc(), 2).map_err(|_| "memory")?;
+fn an_event_is_added_shown_and_cleared(rt: HostRuntime) {
+    let mut log = Sel::new(rt.alloc(), 2).ok().expect(&rt, "memory");
     assert!(rt; log.entry(FIRST_RECORD).is_none());
     log.set_time(0x0403_0201);
     log.tick();
     assert_eq!(rt; log.time(), 0x0403_0201);
     assert_eq!(rt; log.add(&LogRecord::from_slice(&EVENT)), Ok(1));
-    let entry = log.entry(LAST_RECORD).ok_or("an entry")?;
+    let entry = log.entry(LAST_RECORD).expect(&rt, "an entry");
     assert_eq!(rt; entry.kept.as_slice(), FIRST_EVENT.as_slice());
     assert_eq!(rt; entry.next, 0xFFFF);
     let info = log.info();
@@ -42,19 +41,17 @@ fn an_event_is_added_shown_and_cleared(rt: HostRuntime) -> Result<(), Fail> {
     assert_eq!(rt; log.reserve(), 1);
     assert_eq!(rt; log.clear(1), Ok(()));
     assert_eq!(rt; log.info().count, 0);
-    Ok(())
 }
 
 #[test]
-fn reservations_pass_over_0000h(rt: HostRuntime) -> Result<(), Fail> {
-    let mut log = Sel::new(rt.alloc(), 2).map_err(|_| "memory")?;
+fn reservations_pass_over_0000h(rt: HostRuntime) {
+    let mut log = Sel::new(rt.alloc(), 2).ok().expect(&rt, "memory");
     for _ in 0..0xFFFE {
         let _ = log.reserve();
     }
     assert_eq!(rt; log.reserve(), 0xFFFF);
     assert_eq!(rt; log.reserve(), 1);
     assert!(rt; log.is_reserved(1) && !log.is_reserved(0xFFFF));
-    Ok(())
 }
 
 #[test]

@@ -143,23 +143,30 @@ const STRINGS: [u8; 18] = [
 const ATTRIBUTE: [u8; 13] = [0, 0, 0, 0, 0, 2, 1, 0, 2, 0, 1, 0, 1];
 
 #[test]
-fn entries_are_shown_where_they_lie(rt: HostRuntime) -> Result<(), Fail> {
-    let (entry, rest) = string_at(&STRINGS).ok_or("a string")?;
+fn a_string_is_shown_where_it_lies(rt: HostRuntime) {
+    let (entry, rest) = string_at(&STRINGS).expect(&rt, "a string");
     assert_eq!(rt; entry.handle, 0);
-    assert_eq!(rt; entry.text.as_slice(), b"Quiet".as_slice());
-    assert_eq!(rt; rest.as_slice(), &STRINGS[9..]);
-    let (entry, rest) = attribute_at(&ATTRIBUTE).ok_or("an attribute")?;
-    assert_eq!(rt;
-        (entry.attribute, entry.name, entry.read_only),
-        (0, 0, false)
-    );
-    assert_eq!(rt; rest.as_slice(), [1].as_slice());
-    let KindFields::Enumeration(fields) = &entry.kind else {
-        return Err("an enumeration".into());
-    };
-    assert_eq!(rt; fields.values.as_slice(), [1, 0, 2, 0].as_slice());
-    assert_eq!(rt; fields.default.as_slice(), [0].as_slice());
-    Ok(())
+    assert!(rt; entry.text.as_slice() == b"Quiet".as_slice());
+    assert!(rt; rest.as_slice() == &STRINGS[9..]);
+}
+
+/// An enumeration of two values, of which the first is its default.
+fn expect_enumeration(rt: &impl Abort, kind: &KindFields<'_>) {
+    match kind {
+        KindFields::Enumeration(fields) => {
+            assert!(rt; fields.values.as_slice() == [1, 0, 2, 0].as_slice());
+            assert!(rt; fields.default.as_slice() == [0].as_slice());
+        }
+        _ => panic!(rt; "an enumeration"),
+    }
+}
+
+#[test]
+fn an_attribute_is_shown_where_it_lies(rt: HostRuntime) {
+    let (entry, rest) = attribute_at(&ATTRIBUTE).expect(&rt, "an attribute");
+    assert!(rt; entry.attribute == 0 && entry.name == 0 && !entry.read_only);
+    assert!(rt; rest.as_slice() == [1].as_slice());
+    expect_enumeration(&rt, &entry.kind);
 }
 
 /// The values of three attributes.
@@ -193,25 +200,32 @@ fn sample_values() -> Three {
     }
 }
 
+/// The tables of the sample board.
+fn sample_tables(rt: &impl Abort, alloc: Global) -> Tables {
+    let file = sample_board(alloc).expect(rt, "memory");
+    let mut tables = Tables::open(alloc, &file.attributes).expect(rt, "memory");
+    tables.show(&sample_values());
+    tables
+}
+
 /// The table is given in one part, as long as this, and has so many entries.
 fn expect_whole(rt: &impl Abort, tables: &Tables, table: BiosTable, sizes: (usize, usize)) {
     let (length, entries) = sizes;
-    let part = tables.part(table, GET_FIRST_PART, 9).expect(rt, "a part");
-    assert_eq!(rt; part.next, 0);
-    assert_eq!(rt; part.flag, TransferFlag::StartAndEnd);
+    let part = tables
+        .part(table, GET_FIRST_PART, 9)
+        .ok()
+        .expect(rt, "a part");
+    assert!(rt; part.next == 0 && part.flag == TransferFlag::StartAndEnd);
     assert_eq!(rt; part.bytes.len(), length);
-    assert_eq!(rt; part.bytes, tables.table(table));
+    assert!(rt; part.bytes == tables.table(table));
     assert!(rt; tables.part(table, GET_NEXT_PART, 192).is_err());
-    assert_eq!(rt; count_table(table, part.bytes), Ok(entries));
+    assert!(rt; count_table(table, part.bytes) == Ok(entries));
 }
 
 #[test]
-fn the_tables_of_the_sample_board_are_whole(rt: HostRuntime) -> Result<(), Fail> {
-    let file = sample_board(rt.alloc())?;
-    let mut tables = Tables::open(rt.alloc(), &file.attributes)?;
-    tables.show(&sample_values());
+fn the_tables_of_the_sample_board_are_whole(rt: HostRuntime) {
+    let tables = sample_tables(&rt, rt.alloc());
     expect_whole(&rt, &tables, BiosTable::Strings, (44, 5));
     expect_whole(&rt, &tables, BiosTable::Attributes, (64, 3));
     expect_whole(&rt, &tables, BiosTable::Values, (32, 3));
-    Ok(())
 }

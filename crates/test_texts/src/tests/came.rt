@@ -8,6 +8,7 @@ use std::alloc::{AllocError, Global};
 use std::fmt::{Debug, Display};
 use text_board::read_board;
 use text_lines::{behind, byte, bytes, first_line, first_word, number, plain_number};
+use text_readings::read_readings;
 use text_schedule::read_schedule;
 use text_undo::{push_requests, read_undo, write_undo};
 use undo_plans::{Plan, Requests};
@@ -21,6 +22,7 @@ pub enum Form {
     /// An undo text, whose list is shown.
     List,
     Schedule,
+    Readings,
     /// A board file, a plan and a schedule, with a line `---` before the second and the third.
     Play,
     /// A text whose first line is cut off.
@@ -57,6 +59,7 @@ impl Form {
             "undo" => Form::Undo,
             "list" => Form::List,
             "schedule" => Form::Schedule,
+            "readings" => Form::Readings,
             "play" => Form::Play,
             "first line" => Form::FirstLine,
             "first word" => Form::FirstWord,
@@ -168,6 +171,7 @@ pub fn came_of(alloc: Global, form: Form, text: &str) -> Result<Came, AllocError
         Form::Undo => came_of_undo(alloc, text),
         Form::List => shown(alloc, read_undo(alloc, text)),
         Form::Schedule => shown(alloc, read_schedule(alloc, text)),
+        Form::Readings => shown(alloc, read_readings(alloc, text)),
         Form::Play => came_of_play(alloc, text),
         Form::FirstLine => cut(alloc, first_line(text)),
         Form::FirstWord => cut(alloc, first_word(text)),

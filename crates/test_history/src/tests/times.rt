@@ -1,0 +1,263 @@
+//! A scanner that waits for the times of what happens.
+ghost use Rattle.std.specs.Prelude.{◌≡◌};
+ghost use Rattle.bmc_board.specs.State.{state_of};
+ghost use Rattle.bmc_board.specs.OwnStore.{own_records};
+
+use super::open_sample;
+use bmc_board::{Bench, Board, Records};
+use bmc_ports::{
+    Call, History, Opening, Seats, Shared, Stops, Timed, TimedEnd, Timetable, happen_in_time,
+};
+use std::alloc::Global;
+use std::io;
+use std::marker::Brand;
+use std::sync::Wait;
+use std::sync::atomic::{AtomicBool, AtomicU64, Ordering};
+use std::sync::ledger::Blank;
+use std::test::Fail;
+use std::time::{Clock, Duration, Instant};
+
+/// A sensor's reading, and two ticks.
+const WARMS_UP: [Timed; 3] = [
+    Timed {
+        at_ms: 0,
+        event: Bench::Reading {
+            sensor: 5,
+            raw: 0x55,
+        },
+    },
+    Timed {
+        at_ms: 100,
+        event: Bench::Tick,
+    },
+    Timed {
+        at_ms: 145,
+        event: Bench::Tick,
+    },
+];
+
+/// A clock that goes on by what is slept, and not by itself.
+#[derive(Drop)]
+struct Slept<'a, R> {
+    rt: &'a R,
+    /// How many milliseconds were slept.
+    ms: AtomicU64,
+    /// The longest sleep, in milliseconds.
+    longest_ms: AtomicU64,
+    /// Once so many milliseconds were slept, the bell rings.
+    rings_at: u64,
+    bell: AtomicBool,
+    over: AtomicBool,
+    /// Whether the clock can be read.
+    is_whole: AtomicBool,
+}
+
+impl<'a, R> Slept<'a, R> {
+    /// A clock that can be read, whose bell rings once so many milliseconds were slept.
+    fn new(rt: &'a R, rings_at: u64) -> Self {
+        Slept {
+            rt,
+            ms: AtomicU64::new(0),
+            longest_ms: AtomicU64::new(0),
+            rings_at,
+            bell: AtomicBool::new(false),
+            over: AtomicBool::new(false),
+            is_whole: AtomicBool::new(true),
+        }
+    }
+
+    /// How many milliseconds were slept.
+    fn slept(&self) -> u64 {
+        self.ms.load(Ordering::SeqCst)
+    }
+}
+
+impl<'a, R: Wait> Wait for Slept<'a, R> {}
+
+impl<'a, R> Clock for Slept<'a, R> {
+    fn monotonic(&self) -> io::Result<Duration> {
+        if !self.is_whole.load(Ordering::SeqCst) {
+            return Err(io::Error::from(io::ErrorKind::Unsupported));
+        }
+        Ok(Duration::from_millis(self.slept()))
+    }
+
+    fn since_1970(&self) -> io::Result<Duration> {
+        self.monotonic()
+    }
+
+    fn sleep(&self, duration: Duration) {
+        let ms = u64::from(duration.subsec_millis());
+        let now = self.slept().wrapping_add(ms);
+        self.ms.store(now, Ordering::SeqCst);
+        if ms > self.longest_ms.load(Ordering::SeqCst) {
+            self.longest_ms.store(ms, Ordering::SeqCst);
+        }
+        if now >= self.rings_at {
+            self.bell.store(true, Ordering::SeqCst);
+        }
+    }
+}
+
+/// Why a scanner ended, what is next, and the history.
+#[derive(Drop)]
+struct Told {
+    end: TimedEnd,
+    next: usize,
+    history: History,
+}
+
+/// Has the scanner of a board go through a timetable from one place on.
+fn scan<J: Opening, R: Wait>(
+    rt: &Slept<'_, R>,
+    alloc: Global,
+    blank: Blank,
+    board: Board<Records>,
+    room: usize,
+    table: Timetable<'_>,
+) -> Result<Told, Fail>
+    requires name { blank.name ≡ J.name }
+    requires parts { blank.parts ≡ J.parts }
+    requires three { blank.parts ≡ 3 }
+    requires setup { board.setup ≡ J.setup }
+    requires opening { state_of own_records board ≡ J.opening }
+    requires room { room ≡ J.room }
+{
+    let Ok((shared, seats)) = Shared::<J, Records>::open(alloc, blank, board, room) else {
+        return Err("not opened".into());
+    };
+    let Seats {
+        first,
+        second,
+        mut scanner,
+    } = seats;
+    let mut table = table;
+    let stops = Stops {
+        bell: &rt.bell,
+        over: &rt.over,
+    };
+    let end = happen_in_time(rt, &shared, &mut scanner, &mut table, stops);
+    let seats = Seats {
+        first,
+        second,
+        scanner,
+    };
+    let (_, history) = shared.close(seats).ok().ok_or("not closed")?;
+    Ok(Told {
+        end,
+        next: table.next,
+        history,
+    })
+}
+
+/// The same, with a ledger of its own.
+fn scan_at<R: Wait>(
+    rt: &Slept<'_, R>,
+    alloc: Global,
+    board: Board<Records>,
+    room: usize,
+    table: Timetable<'_>,
+) -> Result<Told, Fail> {
+    scan::<Brand, R>(rt, alloc, Blank::new(3), board, room, table)
+}
+
+/// The same, of the sample board and the list above, from one of its places on.
+fn scan_sample<R: Wait>(
+    rt: &Slept<'_, R>,
+    alloc: Global,
+    room: usize,
+    next: usize,
+    start: Option<Instant>,
+) -> Result<Told, Fail> {
+    let board = open_sample(alloc)?;
+    let table = Timetable {
+        list: &WARMS_UP,
+        next,
+        start,
+    };
+    scan_at(rt, alloc, board, room, table)
+}
+
+/// Whether these happened, in their order, and nothing else.
+fn are_all(history: &History, list: &[Timed]) -> bool {
+    if history.len() != list.len() {
+        return false;
+    }
+    for (event, timed) in history.as_slice().iter().zip(list) {
+        match &event.call {
+            Call::Benched { bench, answered: _ } if *bench == timed.event => {}
+            _ => return false,
+        }
+    }
+    true
+}
+
+#[test]
+fn each_happens_at_its_time_in_naps(rt: HostRuntime) -> Result<(), Fail> {
+    let clock = Slept::new(&rt, u64::MAX);
+    let start = Instant::now(&clock).ok();
+    let told = scan_sample(&clock, rt.alloc(), 8, 0, start)?;
+    assert_eq!(rt; (told.end, told.next), (TimedEnd::Over, 3));
+    assert!(rt; are_all(&told.history, &WARMS_UP));
+    assert_eq!(rt; clock.slept(), 145);
+    assert_eq!(rt; clock.longest_ms.load(Ordering::SeqCst), 20);
+    Ok(())
+}
+
+#[test]
+fn what_happened_before_does_not_happen_again(rt: HostRuntime) -> Result<(), Fail> {
+    for next in 1..5usize {
+        let clock = Slept::new(&rt, u64::MAX);
+        let start = Instant::now(&clock).ok();
+        let told = scan_sample(&clock, rt.alloc(), 8, next, start)?;
+        assert_eq!(rt; (told.end, told.next), (TimedEnd::Over, next.max(3)));
+        assert!(rt;
+            are_all(&told.history, WARMS_UP.get(next..).unwrap_or(&[])),
+            "from {next}"
+        );
+    }
+    Ok(())
+}
+
+#[test]
+fn either_stop_ends_it(rt: HostRuntime) -> Result<(), Fail> {
+    let clock = Slept::new(&rt, 60);
+    let start = Instant::now(&clock).ok();
+    let told = scan_sample(&clock, rt.alloc(), 8, 0, start)?;
+    assert_eq!(rt; (told.end, told.next), (TimedEnd::Stopped, 1));
+    assert!(rt; are_all(&told.history, &WARMS_UP[..1]));
+    assert_eq!(rt; clock.slept(), 60);
+    let clock = Slept::new(&rt, u64::MAX);
+    clock.over.store(true, Ordering::SeqCst);
+    let start = Instant::now(&clock).ok();
+    let told = scan_sample(&clock, rt.alloc(), 8, 0, start)?;
+    assert_eq!(rt; (told.end, told.next), (TimedEnd::Stopped, 0));
+    assert_eq!(rt; (told.history.len(), clock.slept()), (0, 0));
+    Ok(())
+}
+
+#[test]
+fn a_full_history_keeps_the_place(rt: HostRuntime) -> Result<(), Fail> {
+    let clock = Slept::new(&rt, u64::MAX);
+    let start = Instant::now(&clock).ok();
+    let told = scan_sample(&clock, rt.alloc(), 1, 0, start)?;
+    assert_eq!(rt; (told.end, told.next), (TimedEnd::Full, 1));
+    assert!(rt; are_all(&told.history, &WARMS_UP[..1]));
+    assert_eq!(rt; clock.slept(), 100);
+    Ok(())
+}
+
+#[test]
+fn nothing_waits_for_a_clock_that_cannot_be_read(rt: HostRuntime) -> Result<(), Fail> {
+    let clock = Slept::new(&rt, u64::MAX);
+    let start = Instant::now(&clock).ok();
+    assert!(rt; start.is_some());
+    clock.is_whole.store(false, Ordering::SeqCst);
+    for start in [start, Instant::now(&clock).ok()] {
+        let told = scan_sample(&clock, rt.alloc(), 8, 0, start)?;
+        assert_eq!(rt; (told.end, told.next), (TimedEnd::Over, 3));
+        assert!(rt; are_all(&told.history, &WARMS_UP));
+    }
+    assert_eq!(rt; clock.slept(), 0);
+    Ok(())
+}
