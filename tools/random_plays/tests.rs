@@ -2,6 +2,7 @@
 mod asked;
 mod course;
 mod dice;
+mod drawn;
 mod others;
 mod premise;
 mod settings;
@@ -21,7 +22,7 @@ use tally::Tally;
 const WHOLE: u64 = 250;
 
 /// What is counted, how often it was shown, and how often a whole portion shows it at least.
-fn counts(tally: &Tally) -> [(&'static str, u64, u64); 26] {
+fn counts(tally: &Tally) -> [(&'static str, u64, u64); 28] {
     [
         ("schedules", tally.schedules, WHOLE),
         ("events", tally.events, 6000),
@@ -49,6 +50,8 @@ fn counts(tally: &Tally) -> [(&'static str, u64, u64); 26] {
         ("NotRestorable", tally.not_restorable, 4),
         ("packets of the manager that joined others", tally.joined, 200),
         ("schedules that broke the premise on packets", tally.broken, 1),
+        ("schedules that make_schedule drew", tally.drawn, WHOLE / 4),
+        ("packets that joined others in these", tally.drawn_joined, 100),
     ]
 }
 

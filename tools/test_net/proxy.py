@@ -11,9 +11,10 @@ from .servers import HOST, call, number_of
 Held = collections.namedtuple("Held", "until begun to_server datagram")
 Held.__doc__ = "A datagram that waits until this time, or until so many requests have begun."
 
-Troubles = collections.namedtuple("Troubles", "lose repeat hold most_tries slow silent_from late", defaults=(0, 0, 0, 0, 0.0, None, None))
+Troubles = collections.namedtuple("Troubles", "lose repeat hold most_tries slow silent_from late mute_from", defaults=(0, 0, 0, 0, 0.0, None, None, None))
 Troubles.__doc__ = """What becomes of datagrams: how many in a hundred are lost, repeated and held; how many tries of a request may meet with that; how long
-each waits anyhow; from which request on all are lost; and behind how many newer requests a copy of the second request, a plan's first Set, comes once more."""
+each waits anyhow; from which request on all are lost; behind how many newer requests a copy of the second request, a plan's first Set, comes once more; and
+from which request on no reply comes."""
 
 # How many newer requests may have begun on the bus before a datagram that is held is let go: eight would be too many.
 MOST_NEWER = 6
@@ -87,6 +88,9 @@ class Proxy(threading.Thread):
             self.hold(to_server, datagram, 3600, asked.late)
         if asked.silent_from and self.begun >= asked.silent_from:
             self.counts["lost"] += 1
+            return
+        if asked.mute_from and not to_server and self.begun >= asked.mute_from:
+            self.counts["muted"] += 1
             return
         place = self.draw.uniform(0, 100)
         if self.tries > asked.most_tries or place >= asked.lose + asked.repeat + asked.hold:

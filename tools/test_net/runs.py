@@ -123,10 +123,72 @@ def waits_first(program, folder):
             expect("run", run.ended(), (0, "phase Unsettled 0\n", ""))
 
 
+def distinct_steps(seed, number):
+    """Returns so many steps over IPMB, each of which sets another record."""
+    return list({step.get: step for step in steps_by(seed, 100, 100) if step.get[0] == IPMB}.values())[:number]
+
+
+def killed(program, folder, board, place):
+    """A run that is killed once the controller set the record of the step of this place, and before the run heard of that: the list so far, undone, leaves every
+    record but that one as it was, and the file UNDO is as it was."""
+    steps = distinct_steps("killed", STEPS)
+    gets = [step.get for step in steps]
+    plan, undo = servers.write(f"{folder}/plan.toml", text_of(steps, 15)), servers.write(f"{folder}/undo.txt", "what was there\n")
+    with Server(program, board, 3000) as server, Asker(server.ports) as asker, Proxies(server.ports, 1) as proxies:
+        before = asker.get_all(gets)
+        proxies.each[IPMB].troubles = Troubles(mute_from=2 * place + 2)
+        words = [plan, *(proxy.port for proxy in proxies.each), TURNS, undo]
+        with Run(program, *words) as run:
+            wait_until("the reply that is held", lambda: proxies.each[IPMB].counts["muted"] > 0)
+            run.stop()
+        expect("UNDO behind the kill", servers.read(undo), "what was there\n")
+        lines = servers.read(f"{undo}.part").split("\n")
+        expect("the list so far", (lines[0], len(lines)), ("undo 1", place + 3))
+        behind = asker.get_all(gets)
+        expect("the records that the run left", [behind[get] != before[get] for get in gets], [at <= place for at in range(STEPS)])
+        expect("undo", proxies.call(Troubles(), program, "undo", f"{undo}.part", TURNS), (0, "phase Undone\n", ""))
+        undone = asker.get_all(gets)
+        expect("the records behind the undo", [undone[get] == before[get] for get in gets], [at != place for at in range(STEPS)])
+        expect("the record in doubt", undone[gets[place]], behind[gets[place]])
+        server.ended()
+
+
+def unnamed(program, folder, board):
+    """A run whose undo text can't get its name, since that is a folder's: it says so behind the phase, and the file beside it has the text."""
+    steps = distinct_steps("unnamed", STEPS)
+    plan, undo = servers.write(f"{folder}/plan.toml", text_of(steps, 3)), f"{folder}/undo.txt"
+    os.mkdir(undo)
+    with Server(program, board, 400) as server:
+        expect("run", servers.call(program, "run", plan, *server.ports, TURNS, undo), (3, "phase Done\n", f"file {undo}\n"))
+        expect("the files", sorted(os.listdir(folder)), ["plan.toml", "undo.txt", "undo.txt.part"])
+        expect("undo", servers.call(program, "undo", f"{undo}.part", *server.ports, TURNS), (0, "phase Undone\n", ""))
+        expect("serve", server.ended(), (0, f"served {3 * STEPS}\nrecords same\n", ""))
+
+
+def unmade(program, folder):
+    """A run that can't make the file of the list so far says so, and sends nothing."""
+    plan = servers.write(f"{folder}/plan.toml", text_of(distinct_steps("unmade", 1), 0))
+    os.mkdir(f"{folder}/taken.part")
+    with socket.socket(socket.AF_INET, socket.SOCK_DGRAM) as nobody:
+        nobody.bind((HOST, 0))
+        nobody.settimeout(0)
+        port = nobody.getsockname()[1]
+        for undo in [f"{folder}/none/undo.txt", f"{folder}/taken"]:
+            expect(undo, servers.call(program, "run", "--wait", WAIT, plan, port, port, 3, undo), (3, "", f"file {undo}\n"))
+            try:
+                raise Failed(f"{undo}: a request came: {nobody.recv(100).hex()}")
+            except BlockingIOError:
+                pass
+    expect("the files", sorted(os.listdir(folder)), ["plan.toml", "taken.next", "taken.part"])
+
+
 def tests(board):
     """Returns the tests of this file: the name, the function and its words."""
     return [
         ("a run that tries again", tries_again, (board,)),
         ("a run that tries again in its turns", stays_in_its_turns, ()),
         ("a run that waits first", waits_first, ()),
+        *((f"a run that is killed in step {place}", killed, (board, place)) for place in range(STEPS)),
+        ("a run whose undo text gets no name", unnamed, (board,)),
+        ("a run that can't make its list", unmade, ()),
     ]

@@ -1,6 +1,7 @@
 //! One schedule after another, each made event by event: what comes next depends on the frames that were sent and on the phase.
 use super::course::{Course, are_after, changed_by, course_of};
 use super::dice::Dice;
+use super::drawn::{any_wanted, is_drawn};
 use super::others::{idle, noise_of, other_message, other_request, scan};
 use super::premise::{Waiting, is_first_of_several};
 use super::steps::{Step, any_step, board_with_effecters, text_of_packets};
@@ -10,6 +11,7 @@ use bmc_board::Records;
 use cfg_records::{BoardFile, Key, Value, sample_board};
 use lab_run::{Lab, SentFrame, Way};
 use lab_play::{LabFault, Played, play};
+use lab_schedule::make_schedule;
 use undo_plans::{Plan, Steps};
 use text_schedule::{Call, Event};
 use std::alloc::Global;
@@ -469,6 +471,37 @@ fn offer_events(
     Ok(())
 }
 
+/// Offers the events of a schedule that is drawn, until something is wrong after one. The lab takes each, and the plan ends undone.
+fn offer_drawn(
+    alloc: Global,
+    dice: &mut Dice,
+    scene: &Scene,
+    course: &Course,
+    made: &mut Made,
+    tally: &mut Tally,
+) -> Result<(), Fail> {
+    let wanted = any_wanted(dice);
+    let file = board_of(alloc, scene)?;
+    for event in make_schedule(alloc, file, plan_of(alloc, scene)?, wanted)? {
+        if made.wrong.is_none() {
+            let before = made.events.len();
+            offer(alloc, scene, made, event, tally)?;
+            if made.wrong.is_none() {
+                made.wrong = made.fallen(scene, course, &made.lab.phase(), made.lab.store());
+            }
+            if made.events.len() == before {
+                made.wrong = Some("the lab doesn't take an event that is drawn");
+            }
+        }
+    }
+    let is_undone = matches!(made.lab.phase(), Phase::Undone);
+    if made.wrong.is_none() && !made.waiting.is_broken && !is_undone {
+        made.wrong = Some("a schedule that is drawn doesn't end undone");
+    }
+    tally.drawn_end(made.waiting.joined);
+    Ok(())
+}
+
 /// What a play of all events tells otherwise than they happened, if it does.
 fn told_otherwise(
     alloc: Global,
@@ -506,7 +539,11 @@ fn made_of(alloc: Global, seed: u64, tally: &mut Tally) -> Result<Whole, Fail> {
     let scene = any_scene(alloc, &mut dice)?;
     let mut made = begun(alloc, &scene)?;
     let course = course_of(alloc, made.start.as_slice(), scene.steps.as_slice())?;
-    offer_events(alloc, &mut dice, &scene, &course, &mut made, tally)?;
+    if is_drawn(seed) {
+        offer_drawn(alloc, &mut dice, &scene, &course, &mut made, tally)?;
+    } else {
+        offer_events(alloc, &mut dice, &scene, &course, &mut made, tally)?;
+    }
     if made.wrong.is_none() {
         made.wrong = told_otherwise(alloc, &scene, &course, &made)?;
     }

@@ -32,6 +32,8 @@ pub(super) struct Tally {
     pub not_restorable: u64,
     pub joined: u64,
     pub broken: u64,
+    pub drawn: u64,
+    pub drawn_joined: u64,
 }
 
 /// Counts one more.
@@ -68,6 +70,8 @@ impl Tally {
         not_restorable: 0,
         joined: 0,
         broken: 0,
+        drawn: 0,
+        drawn_joined: 0,
     };
 
     /// An event was taken.
@@ -84,6 +88,12 @@ impl Tally {
             Event::Idle(..) => one_more(&mut self.idles),
             Event::Scan { .. } | Event::Tick => one_more(&mut self.benches),
         }
+    }
+
+    /// A schedule that was drawn ended, in which so many packets joined others.
+    pub fn drawn_end(&mut self, joined: u64) {
+        one_more(&mut self.drawn);
+        self.drawn_joined = self.drawn_joined.wrapping_add(joined);
     }
 
     /// A phase was entered from another.
