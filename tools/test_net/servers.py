@@ -1,5 +1,8 @@
 """A served controller: the program `bmcnet serve`, what is asked of it, and calls of `bmcnet` beside it."""
+import os
 import random
+import re
+import select
 import socket
 import subprocess
 import threading
@@ -61,34 +64,36 @@ class Ports:
 PORTS = Ports()
 
 
-def bound_ports():
-    """Returns the UDP ports that are bound on the loopback address."""
-    with open("/proc/net/udp", encoding="ascii") as file:
-        addresses = [line.split()[1] for line in file.readlines()[1:]]
-    return {int(address[9:], 16) for address in addresses if address.startswith("0100007F:")}
-
-
-def ports_line(ipmb, smbus):
-    """Returns what a server tells on standard error once both of its ports are bound."""
-    return f"bmcnet: ipmb on {HOST}:{ipmb}, smbus on {HOST}:{smbus}\n"
+# What a server tells on standard error once both of its ports are bound.
+PORTS_LINE = re.compile(rf"bmcnet: ipmb on {re.escape(HOST)}:(\d+), smbus on {re.escape(HOST)}:(\d+)\n")
 
 
 class Server:
-    """A controller that is served. At the end of a `with` it has ended, by itself or by its process id."""
+    """A controller that is served, at ports that the kernel chooses unless they are named. At the end of a `with` it has ended, by itself or by its
+    process id."""
 
-    def __init__(self, program, board, turns, *options):
-        self.ports = PORTS.take(), PORTS.take()
-        words = [program, "serve", *map(str, options), board, *map(str, self.ports), str(turns)]
-        self.process = subprocess.Popen(words, stdin=subprocess.DEVNULL, stdout=subprocess.PIPE, stderr=subprocess.PIPE, text=True)
+    def __init__(self, program, board, turns, *options, ports=(0, 0), env=None):
+        words = [program, "serve", *map(str, options), board, *map(str, ports), str(turns)]
+        self.process = subprocess.Popen(words, stdin=subprocess.DEVNULL, stdout=subprocess.PIPE, stderr=subprocess.PIPE, text=True, env=env)
 
     def __enter__(self):
-        until = time.monotonic() + START
-        while not set(self.ports) <= bound_ports():
-            if self.process.poll() is not None or time.monotonic() > until:
-                self.stop()
-                raise Failed(f"serve isn't there, status {self.process.returncode}: {self.process.stderr.read()!r}")
-            time.sleep(0.01)
+        self.line = self.first_line()
+        told = PORTS_LINE.fullmatch(self.line)
+        if told is None:
+            self.stop()
+            raise Failed(f"serve isn't there, status {self.process.returncode}: {self.line + self.process.stderr.read()!r}")
+        self.ports = int(told[1]), int(told[2])
         return self
+
+    def first_line(self):
+        """Returns the first line on standard error, or what there is of it once that ends or has stayed quiet for too long. Nothing behind it is read."""
+        line, until, errors = b"", time.monotonic() + START, self.process.stderr.fileno()
+        while not line.endswith(b"\n") and select.select([errors], [], [], max(0, until - time.monotonic()))[0]:
+            byte = os.read(errors, 1)
+            if not byte:
+                break
+            line += byte
+        return line.decode()
 
     def __exit__(self, *_):
         self.stop()
@@ -104,9 +109,7 @@ class Server:
             out, err = self.process.communicate(timeout=END)
         except subprocess.TimeoutExpired as late:
             raise Failed(f"serve didn't end in {END} s") from late
-        line = ports_line(*self.ports)
-        expect("the line of the ports", err[: len(line)], line)
-        return self.process.returncode, out, err[len(line) :]
+        return self.process.returncode, out, err
 
     def ended(self):
         """The same, once empty datagrams have used up its turns."""
