@@ -6,8 +6,8 @@ from .plans import IPMB, SMBUS
 from .servers import Asker, Failed, Server, call, expect
 
 # How long one quiet turn of these servers lasts, in milliseconds, and how many in a row end them.
-WAIT = 50
-QUIET_TURNS = 20
+WAIT = 100
+QUIET_TURNS = 30
 # More turns than any of these servers makes.
 MOST_TURNS = 4294967295
 # How often a run and its undo listen.
