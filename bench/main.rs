@@ -5,10 +5,12 @@ mod frames;
 mod plain;
 mod proved;
 mod serve;
+mod shared;
 mod slots;
 mod smbus;
 #[allow(dead_code, reason = "bench/net uses more of it")]
 mod table;
+mod two;
 mod windows;
 
 use boards::Board;
@@ -18,6 +20,7 @@ use std::io;
 use std::process::ExitCode;
 use std::time::Instant;
 use table::Table;
+use two::Two;
 
 /// How many frames that look random both controllers get, of each kind.
 const RANDOM: usize = 4000;
@@ -171,6 +174,17 @@ fn measure_lists(works: &[Work], is_page: bool) {
     works.iter().for_each(|work| measure(&mut table, work));
 }
 
+/// The lists that two workers share a board for.
+fn two_of(works: &[Work]) -> io::Result<Two<'_>> {
+    let named = |name| works.iter().find(|work| work.name == name);
+    let ipmb = named("Set and Get of thresholds");
+    let smbus = named("Set and Get of an attribute");
+    match (ipmb, smbus) {
+        (Some(ipmb), Some(smbus)) => Ok(Two::new(ipmb, smbus)),
+        _ => Err(io::Error::other("no such list")),
+    }
+}
+
 /// Measures what the word asks for, or all. It gives whether all controllers send the same.
 fn run(word: Option<&str>, is_page: bool) -> io::Result<bool> {
     let works = frames::works();
@@ -178,7 +192,11 @@ fn run(word: Option<&str>, is_page: bool) -> io::Result<bool> {
         return Ok(false);
     }
     match word {
-        None => measure_lists(&works, is_page),
+        None => {
+            measure_lists(&works, is_page);
+            two_of(&works)?.measure(is_page)?;
+        }
+        Some("two") => two_of(&works)?.measure(is_page)?,
         Some("same") => println!("the controllers send the same bytes"),
         // One list with the proved controller alone, for a profiler.
         Some(place) => {

@@ -1,0 +1,43 @@
+//! Frames that are served one after another, with no lock and no history.
+use crate::asked::Asked;
+use bmc_board::{Board, Records};
+use bmc_core::{Out, Port};
+use cfg_records::sample_board;
+use net_serve::controller_ports;
+use std::alloc::Global;
+use std::time::{Clock, Duration, Instant};
+
+/// Hands each frame to the port.
+fn serve_round(port: &mut Port, board: &mut Board<Records>, frames: &[Vec<u8>], out: &mut Out) {
+    for frame in frames {
+        port.on_frame(board, frame.as_slice(), out);
+    }
+}
+
+/// Hands the frames to the port, so many times over.
+fn serve_all(port: &mut Port, board: &mut Board<Records>, frames: &[Vec<u8>], times: u32) {
+    let mut out = Out::new();
+    for _ in 0..times {
+        serve_round(port, board, frames, &mut out);
+    }
+}
+
+/// The sample board.
+pub fn open_sample(alloc: Global) -> Option<Board<Records>> {
+    match sample_board(alloc) {
+        Ok(file) => Board::of_file(alloc, file).ok(),
+        Err(_) => None,
+    }
+}
+
+/// How long the frames of both ports take on the sample board.
+pub fn time_alone<R: Clock>(rt: &R, alloc: Global, asked: &Asked) -> Option<Duration> {
+    let Ok([mut ipmb, mut smbus]) = controller_ports(alloc) else {
+        return None;
+    };
+    let mut board = open_sample(alloc)?;
+    let start = Instant::now(rt).ok();
+    serve_all(&mut ipmb, &mut board, asked.ipmb.as_slice(), asked.times);
+    serve_all(&mut smbus, &mut board, asked.smbus.as_slice(), asked.times);
+    start?.elapsed(rt).ok()
+}

@@ -1,0 +1,176 @@
+//! Two workers on one board under a lock, with its history: each in a thread of its own, or one after the other in this one.
+ghost use Rattle.std.specs.Prelude.{◌≡◌};
+ghost use Rattle.bmc_board.specs.State.{state_of};
+ghost use Rattle.bmc_board.specs.OwnStore.{own_records};
+
+use crate::asked::Asked;
+use crate::alone::open_sample;
+use crate::frames::link_of;
+use bmc_board::{Board, Records};
+use bmc_core::Port;
+use bmc_ports::{Gate, MOST_EVENTS, MemLink, Opening, Seats, Shared, serve_port};
+use net_serve::{close_board, controller_ports, work};
+use std::alloc::Global;
+use std::marker::Brand;
+use std::sync::Wait;
+use std::sync::ledger::Blank;
+use std::thread::Threads;
+use std::time::{Clock, Duration, Instant};
+
+/// How the workers serve.
+#[derive(Clone, Copy)]
+pub enum Way {
+    Together,
+    /// The second once the first has ended.
+    InTurn,
+}
+
+/// A gate that holds nobody.
+struct Open;
+
+impl Gate for Open {
+    fn pass(&self, _port: u8, _n: u64) {}
+}
+
+/// What one run of the workers came to.
+#[derive(Clone, Copy)]
+pub struct Run {
+    pub events: usize,
+    pub took: Duration,
+}
+
+/// Both ports' links, and how often each worker listens.
+#[derive(Drop)]
+struct Sides {
+    ports: [Port; 2],
+    ipmb: MemLink,
+    smbus: MemLink,
+    turns: u32,
+}
+
+/// Both ports, which hear the frames that are asked for.
+fn sides_of(alloc: Global, asked: &Asked) -> Option<Sides> {
+    let ipmb = link_of(alloc, asked.ipmb.as_slice(), asked.times)?;
+    let smbus = link_of(alloc, asked.smbus.as_slice(), asked.times)?;
+    let frames = u32::try_from(asked.ipmb.len().max(asked.smbus.len())).ok()?;
+    match controller_ports(alloc) {
+        Ok(ports) => Some(Sides {
+            ports,
+            ipmb,
+            smbus,
+            turns: frames.saturating_mul(asked.times),
+        }),
+        Err(_) => None,
+    }
+}
+
+/// Serves the one port and then the other.
+fn serve_in_turn<J: Opening, R: Wait>(
+    rt: &R,
+    shared: &Shared<J, Records>,
+    mut seats: Seats<J>,
+    sides: &mut Sides,
+) -> Seats<J> {
+    let Sides {
+        ports: [ipmb_port, smbus_port],
+        ipmb,
+        smbus,
+        turns,
+    } = sides;
+    serve_port(rt, shared, &mut seats.first, ipmb_port, ipmb, &Open, *turns);
+    serve_port(rt, shared, &mut seats.second, smbus_port, smbus, &Open, *turns);
+    seats
+}
+
+/// Serves both ports at once.
+fn serve_together<J: Opening + Send + Sync, R: Threads + Wait + Sync>(
+    rt: &R,
+    shared: &Shared<J, Records>,
+    seats: Seats<J>,
+    sides: Sides,
+) -> Option<Seats<J>> {
+    let Sides {
+        ports,
+        mut ipmb,
+        mut smbus,
+        turns,
+    } = sides;
+    work(rt, shared, seats, ports, &mut ipmb, &mut smbus, turns).ok()
+}
+
+/// The workers' seats and how long they worked.
+fn time_work<J: Opening + Send + Sync, R: Threads + Wait + Clock + Sync>(
+    rt: &R,
+    shared: &Shared<J, Records>,
+    seats: Seats<J>,
+    mut sides: Sides,
+    way: Way,
+) -> Option<(Seats<J>, Duration)> {
+    let start = Instant::now(rt).ok();
+    let seats = match way {
+        Way::Together => serve_together(rt, shared, seats, sides),
+        Way::InTurn => Some(serve_in_turn(rt, shared, seats, &mut sides)),
+    };
+    let took = start.and_then(|start| start.elapsed(rt).ok());
+    match (seats, took) {
+        (Some(seats), Some(took)) => Some((seats, took)),
+        _ => None,
+    }
+}
+
+/// Has the workers serve a board, with room for so many events.
+fn time_opened<J: Opening + Send + Sync, R: Threads + Wait + Clock + Sync>(
+    rt: &R,
+    alloc: Global,
+    blank: Blank,
+    board: Board<Records>,
+    room: usize,
+    sides: Sides,
+    way: Way,
+) -> Option<Run>
+    requires name { blank.name ≡ J.name }
+    requires parts { blank.parts ≡ J.parts }
+    requires three { blank.parts ≡ 3 }
+    requires setup { board.setup ≡ J.setup }
+    requires opening { state_of own_records board ≡ J.opening }
+    requires room { room ≡ J.room }
+{
+    let Ok((shared, seats)) = Shared::<J, Records>::open(alloc, blank, board, room) else {
+        return None;
+    };
+    match time_work(rt, &shared, seats, sides, way) {
+        Some((seats, took)) => match close_board(shared, seats) {
+            Some(served) => Some(Run {
+                events: served.history.len(),
+                took,
+            }),
+            None => None,
+        },
+        None => None,
+    }
+}
+
+/// Has the workers serve this board.
+fn time_shared<R: Threads + Wait + Clock + Sync>(
+    rt: &R,
+    alloc: Global,
+    board: Board<Records>,
+    sides: Sides,
+    way: Way,
+) -> Option<Run> {
+    time_opened::<Brand, R>(rt, alloc, Blank::new(3), board, MOST_EVENTS, sides, way)
+}
+
+/// How long the workers take on the sample board, and how many events there are then.
+pub fn time_workers<R: Threads + Wait + Clock + Sync>(
+    rt: &R,
+    alloc: Global,
+    asked: &Asked,
+    way: Way,
+) -> Option<Run> {
+    let sides = sides_of(alloc, asked)?;
+    match open_sample(alloc) {
+        Some(board) => time_shared(rt, alloc, board, sides, way),
+        None => None,
+    }
+}
