@@ -1,5 +1,8 @@
 pub mod Turning
 pub mod Scanning
+pub mod Since
+pub mod Senders
+pub mod Silent
 pub mod Slicing
 pub mod Rounds
 pub mod Timing

@@ -1,6 +1,8 @@
 -- A worker's turns, one after another.
-use Rattle.std.proofs.Common.{◌≡◌, ◌≤◌, ◌+◌, ◌++◌, ◌∙◌, refl, inl, inr, sym, ap, subst, ℕ, List, [], ◌∷◌, length, min, None, Some, arith}
+use Rattle.std.proofs.Common.{◌≡◌, ◌+◌, ◌++◌, ◌∙◌, refl, sym, ap, subst, ℕ, List, [], ◌∷◌, length, Option, None, Some, arith}
 use Rattle.std.proofs.lemmas.List.{append_assoc, length-append}
+use Rattle.two_wire.specs.declared.Bus.{Bus}
+use Rattle.bmc_core.specs.Port.{bus_of}
 use Rattle.bmc_links.specs.declared.link.Counts.{Counts}
 use Rattle.bmc_links.specs.Counted.{counted_on}
 use Rattle.bmc_links.proofs.Counting.{counted_twice}
@@ -9,50 +11,30 @@ use Rattle.bmc_history.specs.declared.seat.Seat.{Seat}
 use Rattle.bmc_ports.specs.declared.lane.Lane.{Lane}
 use Rattle.bmc_ports.specs.declared.worker.End.{End}
 use Rattle.bmc_ports.specs.declared.worker.End.TheVariants.{Turns, Full}
-use Rattle.bmc_ports.specs.Slices.{AreSilent, AreTurns, FindRoom, GoesOn, Hearing, IsBack, IsQuiet, IsTurn, Makes, most_quiet}
-
--- ---- quiet
-
-silent_both : (first later : List Hearing) → AreSilent first → AreSilent later → AreSilent (first ++ later)
-silent_both [] later none then = then
-silent_both (None ∷ first) later none then = silent_both first later none then
-silent_both (Some frame ∷ first) later none then = absurd none
-
-counts_both : (many more total first last : ℕ) → total ≡ many + more → first ≡ min many most_quiet → last ≡ min (first + more) most_quiet → last ≡ min total most_quiet
-counts_both many more total first last is one two = grind arith
-
--- a frame was heard
-pub loud : (quiet : ℕ) (frame : List ℕ) → IsQuiet quiet (Some frame ∷ []) 0
-unfolding IsQuiet
-loud quiet frame = inr ([], frame, [], refl, tt, refl)
-
--- none was heard
-pub quiet_once : (quiet count : ℕ) → count ≡ min (quiet + 1) most_quiet → IsQuiet quiet (None ∷ []) count
-unfolding IsQuiet
-quiet_once quiet count is = inl (tt, is)
+use Rattle.bmc_ports.specs.declared.silence.Silence.{Silence}
+use Rattle.bmc_ports.specs.Since.{Hearing}
+use Rattle.bmc_ports.specs.Senders.{IsFrom}
+use Rattle.bmc_ports.specs.Silence.{AreCounted, silent_turns}
+use Rattle.bmc_ports.specs.Slices.{AreTurns, FindRoom, GoesOn, IsBack, IsTurn, Makes}
+use Rattle.bmc_ports.proofs.Since.{counts_both, counts_still}
 
 -- no turn was made
-quiet_still : (quiet : ℕ) → quiet ≤ most_quiet → IsQuiet quiet [] quiet
-unfolding IsQuiet
-quiet_still quiet most = inl (tt, grind arith)
+counted_still : (least : Option ℕ) (on : Bus) (silence : Silence) → AreCounted least on silence [] silence
+counted_still None on silence = refl
+counted_still (Some least) on silence = λ who within. counts_still (IsFrom on who) (silent_turns silence who)
 
--- turns, and then others
-quiet_both : (before mid after : ℕ) (first later : List Hearing) → IsQuiet before first mid → IsQuiet mid later after → IsQuiet before (first ++ later) after
-unfolding IsQuiet
-quiet_both before mid after first later begins (inr (front, frame, back, is, silent, count)) =
-    inr (first ++ front, frame, back, ap (λ xs. first ++ xs) is ∙ sym (append_assoc first front (Some frame ∷ back)), silent, count)
-quiet_both before mid after first later (inl (none, one)) (inl (silent, two)) =
-    let both : before + length (first ++ later) ≡ (before + length first) + length later = omega (arith, length-append first later) in
-    inl (silent_both first later none silent, counts_both (before + length first) (length later) (before + length (first ++ later)) mid after both one two)
-quiet_both before mid after first later (inr (front, frame, back, is, none, one)) (inl (silent, two)) =
-    inr (
-      front,
-      frame,
-      back ++ later,
-      ap (λ xs. xs ++ later) is ∙ append_assoc front (Some frame ∷ back) later,
-      silent_both back later none silent,
-      counts_both (length back) (length later) (length (back ++ later)) mid after (length-append back later) one two,
-    )
+-- turns, and then others of the same lane
+counted_both : (least same : Option ℕ) (on that : Bus) (before mid after : Silence) (first later : List Hearing) → same ≡ least → that ≡ on
+    → AreCounted least on before first mid → AreCounted same that mid later after → AreCounted least on before (first ++ later) after
+counted_both None same on that before mid after first later is are begins then =
+    let still : AreCounted None that mid later after = subst (λ (least : Option ℕ). AreCounted least that mid later after) is then in
+    still ∙ begins
+counted_both (Some least) same on that before mid after first later is are begins then =
+    let counted : AreCounted (Some least) on mid later after = subst (λ (b : Bus). AreCounted (Some least) b mid later after) are
+    (subst (λ (o : Option ℕ). AreCounted o that mid later after) is then) in
+    λ who within.
+    counts_both (IsFrom on who) (silent_turns before who) (silent_turns mid who) (silent_turns after who) first later (begins who within)
+    (counted who within)
 
 -- ---- turns
 module _ {L : Type 0} (counts_of : L → Counts) where
@@ -84,9 +66,16 @@ module _ {L : Type 0} (counts_of : L → Counts) where
       record { first = []; last = heard; list = held; mid = before; all = refl; found = (refl, refl); full = turn }
 
   -- none was made
-  pub makes_still : (held : List Call) (lane : Lane L) → lane.quiet ≤ most_quiet → Makes counts_of Turns [] held held lane lane
-  makes_still held lane most =
-      record { turns = omega arith; calls = refl; quiet = quiet_still lane.quiet most; bus = refl; made = (refl, refl) }
+  pub makes_still : (held : List Call) (lane : Lane L) → Makes counts_of Turns [] held held lane lane
+  makes_still held lane = record {
+    turns = omega arith;
+    calls = refl;
+    quiet = counts_still (λ frame. Unit {0}) lane.quiet;
+    silence = counted_still lane.forget (bus_of lane.port) lane.silence;
+    forget = refl;
+    bus = refl;
+    made = (refl, refl);
+  }
 
   -- one was made
   makes_one : (end : End) (heard : Hearing) (held kept : List Call) (before after : Lane L)
@@ -95,6 +84,8 @@ module _ {L : Type 0} (counts_of : L → Counts) where
     turns = omega (arith, turn.turns);
     calls = turn.made.next.calls;
     quiet = turn.quiet;
+    silence = turn.silence;
+    forget = turn.forget;
     bus = turn.bus;
     made = one_turn end heard held kept before after turn;
   }
@@ -107,7 +98,10 @@ module _ {L : Type 0} (counts_of : L → Counts) where
       let both : length later + length first ≡ length (first ++ later) = omega (arith, length-append first later) in record {
         turns = omega (arith, length-append first later, begins.turns, then.turns);
         calls = then.calls ∙ ap (λ (calls : ℕ). counted_on calls (length later)) begins.calls ∙ counted_twice count (length first) (length later) ∙ ap (counted_on count) both;
-        quiet = quiet_both before.quiet mid.quiet after.quiet first later begins.quiet then.quiet;
+        quiet = counts_both (λ frame. Unit {0}) before.quiet mid.quiet after.quiet first later begins.quiet then.quiet;
+        silence = counted_both before.forget mid.forget (bus_of before.port) (bus_of mid.port) before.silence mid.silence after.silence first later
+            begins.forget begins.bus begins.silence then.silence;
+        forget = then.forget ∙ begins.forget;
         bus = then.bus ∙ begins.bus;
         made = turns_both end first later held list kept before mid after begins.made then.made;
       }

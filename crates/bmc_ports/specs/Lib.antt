@@ -1,5 +1,8 @@
 pub mod Serving
 pub mod Scanning
 pub mod Seated
+pub mod Since
+pub mod Senders
+pub mod Silence
 pub mod Slices
 pub mod Timing

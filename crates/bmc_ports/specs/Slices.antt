@@ -1,6 +1,7 @@
 -- Ports and links that workers are lent for some of their turns, and give back.
-use Rattle.std.specs.Prelude.{◌≡◌, ◌⊎◌, ◌+◌, ◌^◌, ◌-◌, ◌≤◌, ◌++◌, ◌∷◌, ℕ, List, [], length, min, Option, Some, None, true}
+use Rattle.std.specs.Prelude.{◌≡◌, ◌⊎◌, ◌+◌, ◌≤◌, ◌++◌, ◌∷◌, ℕ, List, [], length, Option, Some, None, true}
 use Rattle.bmc_core.specs.Port.{bus_of}
+use Rattle.bmc_core.specs.declared.port.Port.{Port}
 use Rattle.bmc_links.specs.declared.link.Counts.{Counts}
 use Rattle.bmc_links.specs.Counted.{counted_on}
 use Rattle.bmc_history.specs.declared.event.Call.{Call}
@@ -10,29 +11,14 @@ use Rattle.bmc_ports.specs.declared.lane.Lanes.{Lanes}
 use Rattle.bmc_ports.specs.declared.worker.End.{End}
 use Rattle.bmc_ports.specs.declared.worker.End.TheVariants.{Turns, Full}
 use Rattle.bmc_ports.specs.Serving.{MakesTurn}
-
--- what a turn heard: a frame, or none
-abbrev pub Hearing : Type 0
-Hearing = Option (List ℕ)
+use Rattle.bmc_ports.specs.Since.{CountsOn, Hearing}
+use Rattle.bmc_ports.specs.Silence.{AreCounted, Forgets}
 
 -- ---- quiet
 
--- the largest number that a count of quiet turns comes to
-abbrev pub most_quiet : ℕ
-most_quiet = 2 ^ 32 - 1
-
--- nothing was heard in any of these turns
-abbrev pub AreSilent : List Hearing → Type 0
-AreSilent [] = Unit {0}
-AreSilent (None ∷ later) = AreSilent later
-AreSilent (Some frame ∷ later) = ⊥
-
--- nothing was heard in these turns, so as many more are quiet; or a frame was heard, and those behind the last one are
-unfoldable pub IsQuiet : (before : ℕ) → List Hearing → (after : ℕ) → Type 0
-IsQuiet before heard after =
-    (AreSilent heard × (after ≡ min (before + length heard) most_quiet))
-    ⊎ ((first : List Hearing) × (frame : List ℕ) × (later : List Hearing) × (heard ≡ first ++ Some frame ∷ later) × AreSilent later
-    × (after ≡ min (length later) most_quiet))
+-- for so many turns in a row, up to now, nothing was heard over a link
+abbrev pub IsQuiet : (before : ℕ) → List Hearing → (after : ℕ) → Type 0
+IsQuiet = CountsOn (λ frame. Unit {0})
 
 -- a link was quiet for the least number of turns, where there is one
 abbrev pub IsQuietFor : (least : Option ℕ) → (quiet : ℕ) → Type 0
@@ -57,9 +43,14 @@ IsDone least one two lanes = ((one ≡ Full) ⊎ (two ≡ Full)) ⊎ EndsAt leas
 
 -- ---- turns
 
--- a worker made one of a lane's turns, heard this in it, and ended so by it, or would
+-- A worker made one of a lane's turns, heard this in it, and ended so by it, or would; then the port forgot those that were silent for just as
+-- many turns as the lane says, if it does.
 pub record IsTurn {L : Type 0} (counts_of : L → Counts) (end : End) (heard : Hearing) (held kept : List Call) (before after : Lane L) : Type 0 where
-  pub made : MakesTurn end heard before.port after.port held kept (counts_of before.link) (counts_of after.link)
+  pub between : Port
+  pub made : MakesTurn end heard before.port between held kept (counts_of before.link) (counts_of after.link)
+  pub forgets : Forgets before.forget after.silence between after.port
+  pub silence : AreCounted before.forget (bus_of before.port) before.silence (heard ∷ []) after.silence
+  pub forget : after.forget ≡ before.forget
   pub turns : after.turns + 1 ≡ before.turns
   pub quiet : IsQuiet before.quiet (heard ∷ []) after.quiet
   pub bus : bus_of after.port ≡ bus_of before.port
@@ -90,11 +81,13 @@ AreTurns counts_of Turns = FindRoom counts_of
 AreTurns counts_of Full = FindRoomButLast counts_of
 
 -- A worker made these turns of a lane, each one call of the link's `next`, and ended so; the others are left. In each turn the port took what
--- the link heard, and was told the replies that the seat's list gained.
+-- the link heard, and was told the replies that the seat's list gained. Where the port forgets requesters, each one's silence is counted.
 pub record Makes {L : Type 0} (counts_of : L → Counts) (end : End) (heard : List Hearing) (held kept : List Call) (before after : Lane L) : Type 0 where
   pub turns : length heard + after.turns ≡ before.turns
   pub calls : (counts_of after.link).calls ≡ counted_on (counts_of before.link).calls (length heard)
   pub quiet : IsQuiet before.quiet heard after.quiet
+  pub silence : AreCounted before.forget (bus_of before.port) before.silence heard after.silence
+  pub forget : after.forget ≡ before.forget
   pub bus : bus_of after.port ≡ bus_of before.port
   pub made : AreTurns counts_of end heard held kept before after
 

@@ -1,7 +1,9 @@
 //! Ports that workers are lent, each with its link and its turns.
-ghost use Rattle.std.specs.Prelude.{◌≡◌, ◌↔◌, IsTrue};
+ghost use Rattle.std.specs.Prelude.{◌≡◌, ◌<◌, ◌↔◌, ℕ, IsTrue};
+ghost use Rattle.bmc_ports.specs.Silence.{requesters, silent_turns};
 ghost use Rattle.bmc_ports.specs.Slices.{IsQuietFor, EndsAt};
 
+use crate::silence::Silence;
 use bmc_core::Port;
 
 /// A port, the link over which it's served, and its worker's turns.
@@ -13,6 +15,10 @@ pub struct Lane<L> {
     pub turns: u32,
     /// In how many turns in a row, up to now, nothing was heard over the link. The largest number stands for itself and all above it.
     pub quiet: u32,
+    /// In how many turns in a row nothing comes from a requester before the port forgets it, where it forgets any.
+    pub forget: Option<u32>,
+    /// In how many nothing came from each, up to now, where the port forgets any.
+    pub silence: Silence,
 }
 
 /// Both ports with their links and turns.
@@ -34,15 +40,20 @@ pub(crate) fn is_quiet_for(least: Option<u32>, quiet: u32) -> bool
 
 impl<L: Drop> Lane<L> {
     /// A lane on which no turn was made yet.
-    pub fn new(port: Port, link: L, turns: u32) -> Self
+    pub fn new(port: Port, link: L, turns: u32, forget: Option<u32>) -> Self
+        ensures lent { (result.port ≡ port) × (result.link ≡ link) }
         ensures turns { result.turns ≡ turns }
         ensures quiet { result.quiet ≡ 0 }
+        ensures forget { result.forget ≡ forget }
+        ensures silence { (who : ℕ) → who < requesters → silent_turns result.silence who ≡ 0 }
     {
         Lane {
             port,
             link,
             turns,
             quiet: 0,
+            forget,
+            silence: Silence::new(),
         }
     }
 }

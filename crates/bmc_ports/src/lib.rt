@@ -6,6 +6,8 @@ pub mod gate;
 pub mod lane;
 pub mod run;
 pub mod scanner;
+mod sender;
+pub mod silence;
 pub mod slices;
 pub mod timed;
 pub mod worker;
@@ -18,6 +20,7 @@ pub use bmc_links::{Counts, Heard, Link, LinkFault, MOST_KEPT, MemFault, MemLink
 pub use gate::Gate;
 pub use lane::{Lane, Lanes};
 pub use run::{NoThread, run_two};
+pub use silence::Silence;
 pub use slices::{Sliced, run_slices};
 pub use timed::{Stops, Timed, TimedEnd, Timetable, happen_in_time};
 pub use worker::{End, serve_port};

@@ -7,6 +7,7 @@ use crate::bell::{Bell, Rope};
 use crate::gate::Gate;
 use crate::lane::{Lane, Lanes};
 use crate::run::NoThread;
+use crate::silence::forget_silent;
 use crate::worker::{Desk, End, turn};
 use bmc_board::Records;
 use bmc_history::{Opening, Seat, Seats, Shared};
@@ -72,10 +73,13 @@ fn make_turn<J: Opening, S: Store + Drop, L: Link, G: Gate, R: Wait>(
         link,
         turns,
         quiet,
+        forget,
+        silence,
     } = lane;
     let turned = turn(rt, shared, seat, port, link, desk);
     *turns -= 1;
     *quiet = quiet_behind(&turned.heard, *quiet);
+    forget_silent(port, silence, *forget, &turned.heard);
     turned.end
 }
 

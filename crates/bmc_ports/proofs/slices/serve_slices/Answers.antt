@@ -5,7 +5,7 @@ use Rattle.bmc_ports.proofs.Slicing.{makes_still, makes_more, ends_so, ends_with
 use Rattle.bmc_ports.proofs.slices.serve_slices.Goals as goal
 
 pub loop-init : goal.loop-init
-loop-init g c = (([], refl, makes_still g.L.Link.counts_of c.args.seat.now.calls.items c.args.lane.now (omega arith)), refl, refl)
+loop-init g c = (([], refl, makes_still g.L.Link.counts_of c.args.seat.now.calls.items c.args.lane.now), refl, refl)
 
 pub returns-in-Full-clause-goes : goal.returns-in-Full-clause-goes
 returns-in-Full-clause-goes g c =

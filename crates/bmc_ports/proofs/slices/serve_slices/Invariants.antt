@@ -1,6 +1,7 @@
 use Rattle.std.proofs.Common.{◌≡◌, List, length}
 use Rattle.bmc_ports.specs.declared.worker.End.TheVariants.{Turns}
-use Rattle.bmc_ports.specs.Slices.{Hearing, Makes}
+use Rattle.bmc_ports.specs.Since.{Hearing}
+use Rattle.bmc_ports.specs.Slices.{Makes}
 use Rattle.bmc_ports.proofs.slices.serve_slices.Given as goal
 
 -- it made as many turns as rounds
