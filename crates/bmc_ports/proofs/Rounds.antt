@@ -1,10 +1,12 @@
 -- Workers that go on, round by round, as long as turns are left.
-use Rattle.std.proofs.Common.{◌≡◌, ◌≤◌, ◌+◌, ◌∙◌, ◌⊎◌, inl, inr, refl, sym, ℕ, zero, suc, Bool, true, false, List, Option, length, arith}
+use Rattle.std.proofs.Common.{◌≡◌, ◌≢◌, ◌≤◌, ◌+◌, ◌∙◌, ◌⊎◌, inl, inr, refl, sym, ℕ, zero, suc, Bool, true, false, List, Option, length, arith}
 use Rattle.bmc_links.specs.declared.link.Counts.{Counts}
 use Rattle.bmc_history.specs.declared.event.Call.{Call}
 use Rattle.bmc_ports.specs.declared.lane.Lanes.{Lanes}
 use Rattle.bmc_ports.specs.declared.worker.End.{End}
 use Rattle.bmc_ports.specs.declared.worker.End.TheVariants.{Turns, Full}
+use Rattle.bmc_ports.specs.declared.timed.TimedEnd.{TimedEnd}
+use Rattle.bmc_ports.specs.declared.timed.TimedEnd.TheVariants as timed
 use Rattle.bmc_ports.specs.Slices.{GoesOn, IsDone}
 
 -- the turns that both workers have left
@@ -57,11 +59,12 @@ module _ {A B : Type 0} (first_counts : A → Counts) (second_counts : B → Cou
       fewer_left made after.first.turns before.first.turns others after.second.turns before.second.turns first.makes.turns second.makes.turns
       (makes_one before.first.turns made before.second.turns others first.least second.least (one_has before.first.turns before.second.turns some))
 
--- workers that aren't done have turns left, and found room
-pub not_done : {A B : Type 0} (least : Option ℕ) (one two : End) (lanes : Lanes A B) → (IsDone least one two lanes → ⊥)
-    → (one ≡ Turns) × (two ≡ Turns) × (1 ≤ turns_left lanes)
-not_done least one two lanes on = (
-  found_room one (λ full. on (inl (inl full))),
-  found_room two (λ full. on (inl (inr full))),
+-- workers that aren't done have turns left, and found room, as the scanner did
+pub not_done : {A B : Type 0} (least : Option ℕ) (one two : End) (scanner : TimedEnd) (lanes : Lanes A B) → (IsDone least one two scanner lanes → ⊥)
+    → (one ≡ Turns) × (two ≡ Turns) × (scanner ≢ timed.Full) × (1 ≤ turns_left lanes)
+not_done least one two scanner lanes on = (
+  found_room one (λ full. on (inl (inl (inl full)))),
+  found_room two (λ full. on (inl (inl (inr full)))),
+  (λ full. on (inl (inr full))),
   has_turns lanes.first.turns lanes.second.turns (λ over. on (inr (inl over))),
 )

@@ -145,14 +145,3 @@ module _ {L : Type 0} (counts_of : L → Counts) where
     goes = goes_both end seat.calls.items next.calls.items after.calls.items lane mid left
         (subst (λ (e : End). GoesOn counts_of e seat.calls.items next.calls.items lane mid) room begins.goes) then.goes;
   }
-
-  -- the same, where the seat, the lane and the end are the same
-  pub same_back : {J : Type 0} {g h : _} (seat other : Seat J g) (lane that : Lane L) (after back : Seat J h) (left given : Lane L) (end same : End)
-      → seat ≡ other → lane ≡ that → back ≡ after → given ≡ left → same ≡ end
-      → IsBack counts_of seat lane after left end → IsBack counts_of other that back given same
-  same_back seat other lane that after back left given end same seats lanes afters lefts ends is =
-      subst (λ s. IsBack counts_of s that back given same) seats
-      (subst (λ l. IsBack counts_of seat l back given same) lanes
-      (subst (λ s. IsBack counts_of seat lane s given same) (sym afters)
-      (subst (λ l. IsBack counts_of seat lane after l same) (sym lefts)
-      (subst (λ e. IsBack counts_of seat lane after left e) (sym ends) is))))

@@ -1,11 +1,16 @@
 -- Events of a timetable, one after another.
-use Rattle.std.proofs.Common.{◌≡◌, ◌+◌, ◌++◌, ◌<◌, ℕ, List, [], ◌∷◌, length, take, drop, get_or, sym, ◌∙◌, ap, subst, arith}
-use Rattle.std.proofs.lemmas.List.{take_more, append_assoc, length-append, length-drop, get_or-drop}
+use Rattle.std.proofs.Common.{◌≡◌, ◌≢◌, ◌+◌, ◌++◌, ◌<◌, ◌≤◌, ℕ, List, [], ◌∷◌, length, take, drop, get_or, refl, sym, ◌∙◌, ap, subst, arith}
+use Rattle.std.proofs.Math.Seq.{take-add}
+use Rattle.std.proofs.lemmas.List.{take_more, append_assoc, append-nil, length-append, length-drop, drop-drop, get_or-drop}
 use Rattle.std.proofs.lemmas.Slice.Zip.{all_zipped_more}
+use Rattle.std.specs.List.{AllZip}
 use Rattle.bmc_history.specs.declared.event.Call.{Call}
+use Rattle.bmc_history.specs.declared.seat.Seat.{Seat}
 use Rattle.bmc_ports.specs.declared.timed.Timed.{Timed}
+use Rattle.bmc_ports.specs.declared.timed.TimedEnd.{TimedEnd}
+use Rattle.bmc_ports.specs.declared.timed.TimedEnd.TheVariants.{Over, Full}
 use Rattle.bmc_ports.specs.Scanning.{Happens}
-use Rattle.bmc_ports.specs.Timing.{Gains}
+use Rattle.bmc_ports.specs.Timing.{Gains, IsPlayed}
 
 -- the next of the list happens
 pub gains_more : (list : List Timed) (from to : ℕ) (held kept more : List Call) (call : Call) (d : Timed) → Gains list from to held kept → to < length list
@@ -22,3 +27,59 @@ gains_more list from to held kept more call d gains within put happens =
       far = omega (arith, gains.far, longer);
       happened = rw one_more (all_zipped_more (λ timed. Happens timed.event) (take n rest) gains.gained (get_or rest n d) call gains.happened (subst (λ t. Happens t.event call) (sym is) happens));
     }
+
+-- nothing of the list happened
+pub gains_none : (list : List Timed) (from : ℕ) (held : List Call) → Gains list from from held held
+gains_none list from held = record { gained = []; calls = sym (append-nil held); far = omega arith; happened = tt }
+
+-- events side by side with calls, and then others
+all_both : (R : Timed → Call → Type 0) (xs us : List Timed) (ys vs : List Call) → AllZip R xs ys → AllZip R us vs → AllZip R (xs ++ us) (ys ++ vs)
+all_both R [] us [] vs all then = then
+all_both R [] us (y ∷ ys) vs all then = absurd all
+all_both R (x ∷ xs) us [] vs all then = absurd all
+all_both R (x ∷ xs) us (y ∷ ys) vs (one, all) then = (one, all_both R xs us ys vs all then)
+
+-- some of the list happened, and then what stands behind it
+pub gains_both : (list : List Timed) (from mid to : ℕ) (held between kept : List Call) → Gains list from mid held between → Gains list mid to between kept → Gains list from to held kept
+gains_both list from mid to held between kept begins then =
+    let R : Timed → Call → Type 0 = λ timed. Happens timed.event in
+    let first : List Call = begins.gained in
+    let later : List Call = then.gained in
+    let rest : List Timed = drop from list in
+    let both : length (first ++ later) ≡ length first + length later = length-append first later in
+    let behind : drop (length first) rest ≡ drop mid list = drop-drop (length first) from list ∙ ap (λ n. drop n list) (sym begins.far) in
+    let all : take (length (first ++ later)) rest ≡ take (length first) rest ++ take (length later) (drop mid list) =
+    ap (λ n. take n rest) both ∙ take-add (length first) (length later) rest ∙ ap (λ (l : List Timed). take (length first) rest ++ take (length later) l) behind in record {
+      gained = first ++ later;
+      calls = then.calls ∙ ap (λ (calls : List Call). calls ++ later) begins.calls ∙ append_assoc held first later;
+      far = omega (arith, begins.far, then.far, both);
+      happened = subst (λ (l : List Timed). AllZip R l (first ++ later)) (sym all)
+          (all_both R (take (length first) rest) (take (length later) (drop mid list)) first later begins.happened then.happened);
+    }
+
+-- a scanner that found room goes on, and its seat comes back
+pub played_again : {J : Type 0} {f g h : _} (list : List Timed) (from mid to : ℕ) (seat : Seat J f) (next : Seat J g) (after : Seat J h) (one end : TimedEnd) → one ≢ Full
+    → IsPlayed list from mid seat next one → IsPlayed list mid to next after end → IsPlayed list from to seat after end
+played_again list from mid to seat next after one end room begins then = record {
+  number = then.number ∙ begins.number;
+  marked = then.marked;
+  mark = λ found. then.mark found ∙ begins.mark room;
+  over = then.over;
+  gains = gains_both list from mid to seat.calls.items next.calls.items after.calls.items begins.gains then.gains;
+}
+
+-- where nothing is left, nothing happens
+pub played_none : {J : Type 0} {g : _} (list : List Timed) (from : ℕ) (seat : Seat J g) → length list ≤ from → IsPlayed list from from seat seat Over
+played_none list from seat over = record {
+  number = refl;
+  marked = λ full. cc full;
+  mark = λ room. refl;
+  over = (λ is. over, λ is. refl);
+  gains = gains_none list from seat.calls.items;
+}
+
+-- the same, where the list and the place are the same
+pub same_played : {J : Type 0} {g h : _} (list these : List Timed) (from place to : ℕ) (seat : Seat J g) (after : Seat J h) (end : TimedEnd) → list ≡ these → from ≡ place
+    → IsPlayed list from to seat after end → IsPlayed these place to seat after end
+same_played list these from place to seat after end same at played =
+    subst (λ (l : List Timed). IsPlayed l place to seat after end) same (subst (λ (n : ℕ). IsPlayed list n to seat after end) at played)

@@ -10,6 +10,8 @@ use Rattle.bmc_ports.specs.declared.lane.Lane.{Lane}
 use Rattle.bmc_ports.specs.declared.lane.Lanes.{Lanes}
 use Rattle.bmc_ports.specs.declared.worker.End.{End}
 use Rattle.bmc_ports.specs.declared.worker.End.TheVariants.{Turns, Full}
+use Rattle.bmc_ports.specs.declared.timed.TimedEnd.{TimedEnd}
+use Rattle.bmc_ports.specs.declared.timed.TimedEnd.TheVariants as timed
 use Rattle.bmc_ports.specs.Serving.{MakesTurn}
 use Rattle.bmc_ports.specs.Since.{CountsOn, Hearing}
 use Rattle.bmc_ports.specs.Silence.{AreCounted, Forgets}
@@ -37,9 +39,13 @@ AreOver lanes = (lanes.first.turns ≡ 0) × (lanes.second.turns ≡ 0)
 abbrev pub EndsAt : {A B : Type 0} → (least : Option ℕ) → Lanes A B → Type 0
 EndsAt least lanes = AreOver lanes ⊎ AreQuiet least lanes
 
--- the serving of a history is over: a worker found no room in it, or all is over
-abbrev pub IsDone : {A B : Type 0} → (least : Option ℕ) → (one two : End) → Lanes A B → Type 0
-IsDone least one two lanes = ((one ≡ Full) ⊎ (two ≡ Full)) ⊎ EndsAt least lanes
+-- a worker found no room in a history, or the scanner didn't
+abbrev pub NoRoom : (one two : End) → (scanner : TimedEnd) → Type 0
+NoRoom one two scanner = ((one ≡ Full) ⊎ (two ≡ Full)) ⊎ (scanner ≡ timed.Full)
+
+-- the serving of a history is over: there was no room in it, or all is over
+abbrev pub IsDone : {A B : Type 0} → (least : Option ℕ) → (one two : End) → (scanner : TimedEnd) → Lanes A B → Type 0
+IsDone least one two scanner lanes = NoRoom one two scanner ⊎ EndsAt least lanes
 
 -- ---- turns
 

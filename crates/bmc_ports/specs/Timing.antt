@@ -1,9 +1,12 @@
 -- What the scanner has happen on a board at times.
-use Rattle.std.specs.Prelude.{◌≡◌, ◌+◌, ◌++◌, ℕ, List, length, take, drop}
+use Rattle.std.specs.Prelude.{◌≡◌, ◌≢◌, ◌≤◌, ◌↔◌, ◌+◌, ◌++◌, ℕ, List, length, take, drop, true}
 use Rattle.std.specs.List.{AllZip}
 use Rattle.bmc_history.specs.declared.event.Call.{Call}
+use Rattle.bmc_history.specs.declared.seat.Seat.{Seat}
 use Rattle.bmc_ports.specs.Scanning.{Happens}
 use Rattle.bmc_ports.specs.declared.timed.Timed.{Timed}
+use Rattle.bmc_ports.specs.declared.timed.TimedEnd.{TimedEnd}
+use Rattle.bmc_ports.specs.declared.timed.TimedEnd.TheVariants.{Over, Full}
 
 -- The scanner came so far in the list, from one place to another. Its seat's list gained what stands between them, in its order.
 pub record Gains (list : List Timed) (from to : ℕ) (held kept : List Call) : Type 0 where
@@ -11,3 +14,12 @@ pub record Gains (list : List Timed) (from to : ℕ) (held kept : List Call) : T
   pub calls : kept ≡ held ++ gained
   pub far : to ≡ from + length gained
   pub happened : AllZip (λ timed. Happens timed.event) (take (length gained) (drop from list)) gained
+
+-- The scanner's seat comes back, marked where it found no room and else as it was. The scanner came so far in the list, and ended so: to the
+-- list's end, or not.
+pub record IsPlayed {J : Type 0} {g h : _} (list : List Timed) (from to : ℕ) (seat : Seat J g) (after : Seat J h) (end : TimedEnd) : Type 0 where
+  pub number : after.number ≡ seat.number
+  pub marked : end ≡ Full → after.refused ≡ true
+  pub mark : end ≢ Full → after.refused ≡ seat.refused
+  pub over : (end ≡ Over) ↔ (length list ≤ to)
+  pub gains : Gains list from to seat.calls.items after.calls.items

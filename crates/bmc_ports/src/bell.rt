@@ -1,11 +1,14 @@
-//! What workers tell each other while they serve.
+//! What workers and a scanner tell each other while they serve.
 use crate::lane::is_quiet_for;
+use crate::timed::Stops;
 use std::sync::atomic::{AtomicBool, Ordering};
 
-/// A bell that both workers hear, and whether each one's link has been quiet for the least number of turns.
+/// A bell that both workers and the scanner hear, whether both workers ended, and whether each one's link has been quiet for the least number
+/// of turns.
 #[derive(Drop)]
 pub(crate) struct Bell {
     rung: AtomicBool,
+    over: AtomicBool,
     first_quiet: AtomicBool,
     second_quiet: AtomicBool,
     least: Option<u32>,
@@ -25,6 +28,7 @@ impl Bell {
     pub fn new(least: Option<u32>, first_quiet: u32, second_quiet: u32) -> Self {
         Bell {
             rung: AtomicBool::new(false),
+            over: AtomicBool::new(false),
             first_quiet: AtomicBool::new(is_quiet_for(least, first_quiet)),
             second_quiet: AtomicBool::new(is_quiet_for(least, second_quiet)),
             least,
@@ -49,6 +53,24 @@ impl Bell {
             others: &self.first_quiet,
             least: self.least,
         }
+    }
+
+    /// What tells the scanner to stop.
+    pub fn stops(&self) -> Stops<'_> {
+        Stops {
+            bell: &self.rung,
+            over: &self.over,
+        }
+    }
+
+    /// Rings it.
+    pub fn ring(&self) {
+        self.rung.store(true, Ordering::SeqCst);
+    }
+
+    /// Tells the scanner that both workers ended.
+    pub fn end(&self) {
+        self.over.store(true, Ordering::SeqCst);
     }
 }
 

@@ -4,7 +4,9 @@
 mod bell;
 pub mod gate;
 pub mod lane;
+pub mod lending;
 pub mod run;
+pub mod scanned;
 pub mod scanner;
 mod sender;
 pub mod silence;
@@ -19,8 +21,8 @@ pub use bmc_history::{
 pub use bmc_links::{Counts, Heard, Link, LinkFault, MOST_KEPT, MemFault, MemLink};
 pub use gate::Gate;
 pub use lane::{Lane, Lanes};
+pub use lending::{Sliced, run_slices};
 pub use run::{NoThread, run_two};
 pub use silence::Silence;
-pub use slices::{Sliced, run_slices};
 pub use timed::{Stops, Timed, TimedEnd, Timetable, happen_in_time};
 pub use worker::{End, serve_port};

@@ -1,16 +1,16 @@
 //! Two port workers that are lent ports and links, and give them back after some of their turns.
-ghost use Rattle.std.specs.Prelude.{◌≡◌, ◌≤◌, ◌↔◌, true, [], ◌∷◌, IsTrue, IfOk};
-ghost use Rattle.bmc_ports.specs.Slices.{IsQuiet, SomeTurn, GoesOn, IsBack, IsDone};
+ghost use Rattle.std.specs.Prelude.{◌≡◌, ◌≤◌, true, [], ◌∷◌, IfOk};
+ghost use Rattle.bmc_ports.specs.Slices.{IsQuiet, SomeTurn, GoesOn, IsBack};
 ghost use Rattle.bmc_ports.specs.declared.worker.End.TheVariants.{Turns, Full};
 
 use crate::bell::{Bell, Rope};
 use crate::gate::Gate;
-use crate::lane::{Lane, Lanes};
+use crate::lane::Lane;
 use crate::run::NoThread;
 use crate::silence::forget_silent;
 use crate::worker::{Desk, End, turn};
 use bmc_board::Records;
-use bmc_history::{Opening, Seat, Seats, Shared};
+use bmc_history::{Opening, Seat, Shared};
 use bmc_links::Link;
 use cfg_records::Store;
 use std::snapshot::Snapshot;
@@ -19,20 +19,20 @@ use std::thread;
 use std::thread::{Promise, Threads};
 use two_wire::Frame;
 
-/// What two workers give back, and why each ended.
-#[derive(Drop)]
-pub struct Sliced<J: Opening, A, B> {
-    pub seats: Seats<J>,
-    pub lanes: Lanes<A, B>,
-    pub first_end: End,
-    pub second_end: End,
-}
-
 /// What a worker is lent.
 #[derive(Drop)]
-struct Lent<J: Opening, L> {
-    seat: Seat<J>,
-    lane: Lane<L>,
+pub(crate) struct Lent<J: Opening, L> {
+    pub seat: Seat<J>,
+    pub lane: Lane<L>,
+}
+
+/// What two workers give back, and why each ended.
+#[derive(Drop)]
+pub(crate) struct Both<J: Opening, A, B> {
+    pub first: Lent<J, A>,
+    pub second: Lent<J, B>,
+    pub first_end: End,
+    pub second_end: End,
 }
 
 /// What a thread gives back: what it was lent, once it worked with it, and why it ended.
@@ -130,38 +130,33 @@ fn serve_lent<J: Opening, L: Link + Drop, G: Gate, R: Wait>(
 }
 
 /// Runs both threads.
-fn run_lent<J, A, B, G, R>(
+pub(crate) fn run_lent<J, A, B, G, R>(
     rt: &R,
     shared: &Shared<J, Records>,
     first: Lent<J, A>,
     second: Lent<J, B>,
-    scanner: Seat<J>,
     gate: &G,
     bell: &Bell,
-) -> Result<Sliced<J, A, B>, NoThread>
+) -> Result<Both<J, A, B>, NoThread>
 where
     J: Opening + Send + Sync,
     A: Link + Send + Drop,
     B: Link + Send + Drop,
     G: Gate + Sync,
     R: Threads + Wait + Sync,
-    requires numbers { (first.seat.number ≡ 0) × (second.seat.number ≡ 1) × (scanner.number ≡ 2) }
     ensures first { IfOk result (λ run. IsBack A.counts_of first.seat first.lane
-        run.seats.first run.lanes.first run.first_end) }
+        run.first.seat run.first.lane run.first_end) }
     ensures second { IfOk result (λ run. IsBack B.counts_of second.seat second.lane
-        run.seats.second run.lanes.second run.second_end) }
-    ensures scanner { IfOk result (λ run. run.seats.scanner ≡ scanner) }
+        run.second.seat run.second.lane run.second_end) }
 {
     thread::scope(
         thread::scope_env(),
         rt,
-        |scope| -> Result<Sliced<J, A, B>, NoThread>
-            requires { (first.seat.number ≡ 0) × (second.seat.number ≡ 1) × (scanner.number ≡ 2) }
+        |scope| -> Result<Both<J, A, B>, NoThread>
             ensures first { IfOk result (λ run. IsBack A.counts_of first.seat first.lane
-                run.seats.first run.lanes.first run.first_end) }
+                run.first.seat run.first.lane run.first_end) }
             ensures second { IfOk result (λ run. IsBack B.counts_of second.seat second.lane
-                run.seats.second run.lanes.second run.second_end) }
-            ensures scanner { IfOk result (λ run. run.seats.scanner ≡ scanner) }
+                run.second.seat run.second.lane run.second_end) }
         {
             let first = scope
                 .spawn_with(
@@ -185,136 +180,12 @@ where
                 .ok_or(NoThread)?;
             let (first, first_end) = first.join(rt);
             let (second, second_end) = second.join(rt);
-            Ok(give_back(first, second, scanner, first_end, second_end))
+            Ok(Both {
+                first,
+                second,
+                first_end,
+                second_end,
+            })
         },
     )
-}
-
-/// What two workers gave back.
-fn give_back<J: Opening, A: Drop, B: Drop>(
-    first: Lent<J, A>,
-    second: Lent<J, B>,
-    scanner: Seat<J>,
-    first_end: End,
-    second_end: End,
-) -> Sliced<J, A, B>
-    requires numbers { (first.seat.number ≡ 0) × (second.seat.number ≡ 1) × (scanner.number ≡ 2) }
-    ensures first { (result.seats.first ≡ first.seat) × (result.lanes.first ≡ first.lane) }
-    ensures second { (result.seats.second ≡ second.seat) × (result.lanes.second ≡ second.lane) }
-    ensures scanner { result.seats.scanner ≡ scanner }
-    ensures ends { (result.first_end ≡ first_end) × (result.second_end ≡ second_end) }
-{
-    Sliced {
-        seats: Seats {
-            first: first.seat,
-            second: second.seat,
-            scanner,
-        },
-        lanes: Lanes {
-            first: first.lane,
-            second: second.lane,
-        },
-        first_end,
-        second_end,
-    }
-}
-
-/// Lends both workers their ports once, until both end.
-fn run_once<J, A, B, G, R>(
-    rt: &R,
-    shared: &Shared<J, Records>,
-    seats: Seats<J>,
-    lanes: Lanes<A, B>,
-    gate: &G,
-    least: Option<u32>,
-) -> Result<Sliced<J, A, B>, NoThread>
-where
-    J: Opening + Send + Sync,
-    A: Link + Send + Drop,
-    B: Link + Send + Drop,
-    G: Gate + Sync,
-    R: Threads + Wait + Sync,
-    ensures first { IfOk result (λ run. IsBack A.counts_of seats.first lanes.first
-        run.seats.first run.lanes.first run.first_end) }
-    ensures second { IfOk result (λ run. IsBack B.counts_of seats.second lanes.second
-        run.seats.second run.lanes.second run.second_end) }
-    ensures scanner { IfOk result (λ run. run.seats.scanner ≡ seats.scanner) }
-{
-    let Seats {
-        first: first_seat,
-        second: second_seat,
-        scanner,
-    } = seats;
-    let Lanes {
-        first: first_lane,
-        second: second_lane,
-    } = lanes;
-    let bell = Bell::new(least, first_lane.quiet, second_lane.quiet);
-    let first = Lent {
-        seat: first_seat,
-        lane: first_lane,
-    };
-    let second = Lent {
-        seat: second_seat,
-        lane: second_lane,
-    };
-    run_lent(rt, shared, first, second, scanner, gate, &bell)
-}
-
-impl<J: Opening, A: Drop, B: Drop> Sliced<J, A, B> {
-    /// Whether a worker found no room, or the serving is over.
-    fn is_done(&self, least: Option<u32>) -> bool
-        ensures { IsTrue result ↔ IsDone least self.now.first_end self.now.second_end self.now.lanes }
-    {
-        self.first_end == End::Full || self.second_end == End::Full || self.lanes.are_over(least)
-    }
-}
-
-/// Serves both ports of a board, each in a thread of its own, as `run_two` does but without a scanner, and gives back what it was lent. Each
-/// worker makes its turns in slices of one. It ends once a worker finds the history full, once both made all their turns, or once both links
-/// were quiet for the least number of turns in a row, where there is one. Where one worker ends so, the other ends with its slice, and both
-/// have the turns that they didn't make. So a caller can go on with the same ports and links on another history. Where the other one heard a
-/// frame in that slice, neither was quiet, and both go on.
-pub fn run_slices<J, A, B, G, R>(
-    rt: &R,
-    shared: &Shared<J, Records>,
-    seats: Seats<J>,
-    lanes: Lanes<A, B>,
-    gate: &G,
-    least: Option<u32>,
-) -> Result<Sliced<J, A, B>, NoThread>
-where
-    J: Opening + Send + Sync,
-    A: Link + Send + Drop,
-    B: Link + Send + Drop,
-    G: Gate + Sync,
-    R: Threads + Wait + Sync,
-    ensures first { IfOk result (λ run. IsBack A.counts_of seats.first lanes.first
-        run.seats.first run.lanes.first run.first_end) }
-    ensures second { IfOk result (λ run. IsBack B.counts_of seats.second lanes.second
-        run.seats.second run.lanes.second run.second_end) }
-    ensures scanner { IfOk result (λ run. run.seats.scanner ≡ seats.scanner) }
-    ensures done { IfOk result (λ run. IsDone least run.first_end run.second_end run.lanes) }
-{
-    let most = u64::from(lanes.first.turns) + u64::from(lanes.second.turns);
-    let mut sliced = match run_once(rt, shared, seats, lanes, gate, least) {
-        Ok(sliced) => sliced,
-        Err(why) => return Err(why),
-    };
-    for _ in 0..most {
-        if sliced.is_done(least) {
-            return Ok(sliced);
-        }
-        let Sliced {
-            seats,
-            lanes,
-            first_end: _,
-            second_end: _,
-        } = sliced;
-        match run_once(rt, shared, seats, lanes, gate, least) {
-            Ok(next) => sliced = next,
-            Err(why) => return Err(why),
-        }
-    }
-    Ok(sliced)
 }

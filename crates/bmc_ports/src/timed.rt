@@ -1,5 +1,5 @@
 //! What happens on a board at times of its own: the scanner that waits for each.
-ghost use Rattle.std.specs.Prelude.{◌≡◌, ◌≢◌, ◌≤◌, ◌↔◌, true, length};
+ghost use Rattle.std.specs.Prelude.{◌≡◌, ◌≢◌, ◌≤◌, ◌↔◌, true, length, IsTrue};
 ghost use Rattle.bmc_ports.specs.Timing.{Gains};
 ghost use Rattle.bmc_ports.specs.declared.timed.TimedEnd.TheVariants.{Over, Full};
 
@@ -29,6 +29,41 @@ pub struct Timetable<'a> {
     pub next: usize,
     /// The start, from which the times count. Without one nothing waits for its time.
     pub start: Option<Instant>,
+}
+
+impl<'a> Timetable<'a> {
+    /// A list of which nothing has happened.
+    pub fn new(list: &'a [Timed], start: Option<Instant>) -> Self
+        ensures list { result.list ≡ list.entry }
+        ensures next { result.next ≡ 0 }
+        ensures start { result.start ≡ start }
+    {
+        Timetable {
+            list,
+            next: 0,
+            start,
+        }
+    }
+
+    /// Whether nothing of it is left.
+    pub fn is_over(&self) -> bool
+        ensures { IsTrue result ↔ (length self.now.list.now ≤ self.now.next) }
+    {
+        self.list.len() <= self.next
+    }
+
+    /// The same list and start, with this place for the first that hasn't happened.
+    pub fn from(&self, next: usize) -> Self
+        ensures list { result.list ≡ self.now.list }
+        ensures next { result.next ≡ next }
+        ensures start { result.start ≡ self.now.start }
+    {
+        Timetable {
+            list: self.list,
+            next,
+            start: self.start,
+        }
+    }
 }
 
 /// What tells a scanner to stop: either of these, once it's true.

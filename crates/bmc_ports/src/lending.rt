@@ -1,0 +1,205 @@
+//! Two port workers and a scanner that are lent what they work with, round by round, and give it back.
+ghost use Rattle.std.specs.Prelude.{◌≡◌, ◌↔◌, IsTrue, IfOk};
+ghost use Rattle.bmc_ports.specs.Slices.{IsBack, IsDone, NoRoom};
+ghost use Rattle.bmc_ports.specs.Timing.{IsPlayed};
+
+use crate::bell::Bell;
+use crate::gate::Gate;
+use crate::lane::Lanes;
+use crate::run::NoThread;
+use crate::scanned::{Played, Script, run_beside};
+use crate::slices::{Both, Lent};
+use crate::timed::{TimedEnd, Timetable};
+use crate::worker::End;
+use bmc_board::Records;
+use bmc_history::{Opening, Seats, Shared};
+use bmc_links::Link;
+use std::sync::Wait;
+use std::thread::Threads;
+use std::time::Clock;
+
+/// What two workers and a scanner give back, and why each ended.
+#[derive(Drop)]
+pub struct Sliced<J: Opening, A, B> {
+    pub seats: Seats<J>,
+    pub lanes: Lanes<A, B>,
+    /// The place of the first of the timetable that hasn't happened.
+    pub next: usize,
+    pub first_end: End,
+    pub second_end: End,
+    pub scanner_end: TimedEnd,
+}
+
+/// What two workers and a scanner gave back.
+fn give_back<J: Opening, A: Drop, B: Drop>(
+    workers: Both<J, A, B>,
+    played: Played<J>,
+) -> Sliced<J, A, B>
+    requires first { workers.first.seat.number ≡ 0 }
+    requires second { workers.second.seat.number ≡ 1 }
+    requires third { played.seat.number ≡ 2 }
+    ensures first { (result.seats.first ≡ workers.first.seat)
+        × (result.lanes.first ≡ workers.first.lane) }
+    ensures second { (result.seats.second ≡ workers.second.seat)
+        × (result.lanes.second ≡ workers.second.lane) }
+    ensures scanner { (result.seats.scanner ≡ played.seat) × (result.next ≡ played.next) }
+    ensures ends { (result.first_end ≡ workers.first_end)
+        × (result.second_end ≡ workers.second_end) × (result.scanner_end ≡ played.end) }
+{
+    let Both {
+        first,
+        second,
+        first_end,
+        second_end,
+    } = workers;
+    Sliced {
+        seats: Seats {
+            first: first.seat,
+            second: second.seat,
+            scanner: played.seat,
+        },
+        lanes: Lanes {
+            first: first.lane,
+            second: second.lane,
+        },
+        next: played.next,
+        first_end,
+        second_end,
+        scanner_end: played.end,
+    }
+}
+
+/// Lends both workers their ports, and the scanner what is left of the timetable, once, until all three end.
+fn run_once<J, A, B, G, R>(
+    rt: &R,
+    shared: &Shared<J, Records>,
+    seats: Seats<J>,
+    lanes: Lanes<A, B>,
+    table: Timetable<'_>,
+    gate: &G,
+    least: Option<u32>,
+) -> Result<Sliced<J, A, B>, NoThread>
+where
+    J: Opening + Send + Sync,
+    A: Link + Send + Drop,
+    B: Link + Send + Drop,
+    G: Gate + Sync,
+    R: Threads + Wait + Clock + Sync,
+    ensures first { IfOk result (λ run. IsBack A.counts_of seats.first lanes.first
+        run.seats.first run.lanes.first run.first_end) }
+    ensures second { IfOk result (λ run. IsBack B.counts_of seats.second lanes.second
+        run.seats.second run.lanes.second run.second_end) }
+    ensures scanner { IfOk result (λ run. IsPlayed table.entry.list.now table.entry.next run.next
+        seats.scanner run.seats.scanner run.scanner_end) }
+{
+    let Seats {
+        first: first_seat,
+        second: second_seat,
+        scanner,
+    } = seats;
+    let Lanes {
+        first: first_lane,
+        second: second_lane,
+    } = lanes;
+    let bell = Bell::new(least, first_lane.quiet, second_lane.quiet);
+    let first = Lent {
+        seat: first_seat,
+        lane: first_lane,
+    };
+    let second = Lent {
+        seat: second_seat,
+        lane: second_lane,
+    };
+    let script = Script {
+        seat: scanner,
+        table,
+    };
+    match run_beside(rt, shared, first, second, script, gate, &bell) {
+        Ok((workers, played)) => Ok(give_back(workers, played)),
+        Err(why) => Err(why),
+    }
+}
+
+impl<J: Opening, A: Drop, B: Drop> Sliced<J, A, B> {
+    /// Whether a worker or the scanner found no room.
+    fn is_full(&self) -> bool
+        ensures { IsTrue result ↔ NoRoom self.now.first_end self.now.second_end
+            self.now.scanner_end }
+    {
+        self.first_end == End::Full
+            || self.second_end == End::Full
+            || self.scanner_end == TimedEnd::Full
+    }
+
+    /// Whether there was no room, or the serving is over.
+    fn is_done(&self, least: Option<u32>) -> bool
+        ensures { IsTrue result ↔ IsDone least self.now.first_end self.now.second_end
+            self.now.scanner_end self.now.lanes }
+    {
+        self.is_full() || self.lanes.are_over(least)
+    }
+}
+
+/// Serves both ports of a board, each in a thread of its own, and gives back what it was lent. Each worker makes its turns in slices of one.
+/// While both serve, what is left of the timetable happens, each at its time, in a third thread where something is left. It ends once a
+/// worker or the scanner finds the history full, once both workers made all their turns, or once both links were quiet for the least number of
+/// turns in a row, where there is one; what happens on the board by the timetable is not heard over a link. Where one of the three ends so, the
+/// workers end with their slices, and have the turns that they didn't make, and of the timetable the rest is left. So a caller can go on
+/// with the same ports, links and timetable on another history. Where the other worker heard a frame in that slice, neither was quiet, and all
+/// go on. Nothing waits for a timetable whose times come later than that.
+pub fn run_slices<J, A, B, G, R>(
+    rt: &R,
+    shared: &Shared<J, Records>,
+    seats: Seats<J>,
+    lanes: Lanes<A, B>,
+    table: Timetable<'_>,
+    gate: &G,
+    least: Option<u32>,
+) -> Result<Sliced<J, A, B>, NoThread>
+where
+    J: Opening + Send + Sync,
+    A: Link + Send + Drop,
+    B: Link + Send + Drop,
+    G: Gate + Sync,
+    R: Threads + Wait + Clock + Sync,
+    ensures first { IfOk result (λ run. IsBack A.counts_of seats.first lanes.first
+        run.seats.first run.lanes.first run.first_end) }
+    ensures second { IfOk result (λ run. IsBack B.counts_of seats.second lanes.second
+        run.seats.second run.lanes.second run.second_end) }
+    ensures scanner { IfOk result (λ run. IsPlayed table.entry.list.now table.entry.next run.next
+        seats.scanner run.seats.scanner run.scanner_end) }
+    ensures done { IfOk result (λ run. IsDone least run.first_end run.second_end
+        run.scanner_end run.lanes) }
+{
+    let most = u64::from(lanes.first.turns) + u64::from(lanes.second.turns);
+    let mut sliced = match run_once(
+        rt,
+        shared,
+        seats,
+        lanes,
+        table.from(table.next),
+        gate,
+        least,
+    ) {
+        Ok(sliced) => sliced,
+        Err(why) => return Err(why),
+    };
+    for _ in 0..most {
+        if sliced.is_done(least) {
+            return Ok(sliced);
+        }
+        let Sliced {
+            seats,
+            lanes,
+            next,
+            first_end: _,
+            second_end: _,
+            scanner_end: _,
+        } = sliced;
+        match run_once(rt, shared, seats, lanes, table.from(next), gate, least) {
+            Ok(next) => sliced = next,
+            Err(why) => return Err(why),
+        }
+    }
+    Ok(sliced)
+}

@@ -1,0 +1,161 @@
+//! A scanner beside two workers, in a thread of its own: it has happen what is left of a timetable, and gives its seat back.
+ghost use Rattle.std.specs.Prelude.{IfOk};
+ghost use Rattle.bmc_ports.specs.Slices.{IsBack};
+ghost use Rattle.bmc_ports.specs.Timing.{IsPlayed};
+
+use crate::bell::Bell;
+use crate::gate::Gate;
+use crate::run::NoThread;
+use crate::slices::{Both, Lent, run_lent};
+use crate::timed::{TimedEnd, Timetable, happen_in_time};
+use bmc_board::Records;
+use bmc_history::{Opening, Seat, Shared};
+use bmc_links::Link;
+use std::snapshot::Snapshot;
+use std::sync::Wait;
+use std::thread;
+use std::thread::{Promise, Threads};
+use std::time::Clock;
+
+/// What a scanner is lent: its seat, and what is to happen.
+#[derive(Drop)]
+pub(crate) struct Script<'a, J: Opening> {
+    pub seat: Seat<J>,
+    pub table: Timetable<'a>,
+}
+
+/// What it gives back: its seat, the place of what is next, and why it ended.
+#[derive(Drop)]
+pub(crate) struct Played<J: Opening> {
+    pub seat: Seat<J>,
+    pub next: usize,
+    pub end: TimedEnd,
+}
+
+/// What its thread gives back: what becomes of what it was lent.
+#[derive(Drop)]
+struct PlayedOf<'a, J: Opening>(Snapshot<Script<'a, J>>);
+
+impl<'a, J: Opening> Promise<Played<J>> for PlayedOf<'a, J> {
+    ghost kept_by = { λ promise played.
+        IsPlayed promise.0.value.table.list.now promise.0.value.table.next played.next
+        promise.0.value.seat played.seat played.end };
+}
+
+/// Has all happen that is left, until the workers end. Where there is no room for what is next, it rings the bell.
+fn play<J: Opening, R: Wait + Clock>(
+    rt: &R,
+    shared: &Shared<J, Records>,
+    script: Script<'_, J>,
+    bell: &Bell,
+) -> Played<J>
+    ensures { IsPlayed script.entry.table.list.now script.entry.table.next result.next
+        script.entry.seat result.seat result.end }
+{
+    let Script {
+        mut seat,
+        mut table,
+    } = script;
+    let end = happen_in_time(rt, shared, &mut seat, &mut table, bell.stops());
+    if end == TimedEnd::Full {
+        bell.ring();
+    }
+    Played {
+        seat,
+        next: table.next,
+        end,
+    }
+}
+
+/// Runs both workers, and the scanner beside them until they end.
+pub(crate) fn run_scanned<J, A, B, G, R>(
+    rt: &R,
+    shared: &Shared<J, Records>,
+    first: Lent<J, A>,
+    second: Lent<J, B>,
+    script: Script<'_, J>,
+    gate: &G,
+    bell: &Bell,
+) -> Result<(Both<J, A, B>, Played<J>), NoThread>
+where
+    J: Opening + Send + Sync,
+    A: Link + Send + Drop,
+    B: Link + Send + Drop,
+    G: Gate + Sync,
+    R: Threads + Wait + Clock + Sync,
+    ensures first { IfOk result (λ run. IsBack A.counts_of first.seat first.lane
+        run.0.first.seat run.0.first.lane run.0.first_end) }
+    ensures second { IfOk result (λ run. IsBack B.counts_of second.seat second.lane
+        run.0.second.seat run.0.second.lane run.0.second_end) }
+    ensures scanner { IfOk result (λ run. IsPlayed script.entry.table.list.now
+        script.entry.table.next run.1.next script.entry.seat run.1.seat run.1.end) }
+{
+    thread::scope(
+        thread::scope_env(),
+        rt,
+        |scope| -> Result<(Both<J, A, B>, Played<J>), NoThread>
+            ensures first { IfOk result (λ run. IsBack A.counts_of first.seat first.lane
+                run.0.first.seat run.0.first.lane run.0.first_end) }
+            ensures second { IfOk result (λ run. IsBack B.counts_of second.seat second.lane
+                run.0.second.seat run.0.second.lane run.0.second_end) }
+            ensures scanner { IfOk result (λ run. IsPlayed script.entry.table.list.now
+                script.entry.table.next run.1.next script.entry.seat run.1.seat run.1.end) }
+        {
+            let scanner = scope
+                .spawn_with(
+                    PlayedOf(Snapshot::of(&script)),
+                    move || -> Played<J>
+                        ensures { IsPlayed script.entry.table.list.now
+                            script.entry.table.next result.next
+                            script.entry.seat result.seat result.end }
+                    { play(rt, shared, script, bell) },
+                )
+                .ok()
+                .ok_or(NoThread)?;
+            let workers = run_lent(rt, shared, first, second, gate, bell);
+            bell.end();
+            let played = scanner.join(rt);
+            match workers {
+                Ok(workers) => Ok((workers, played)),
+                Err(why) => Err(why),
+            }
+        },
+    )
+}
+
+/// Runs both workers, and the scanner beside them where something is left for it.
+pub(crate) fn run_beside<J, A, B, G, R>(
+    rt: &R,
+    shared: &Shared<J, Records>,
+    first: Lent<J, A>,
+    second: Lent<J, B>,
+    script: Script<'_, J>,
+    gate: &G,
+    bell: &Bell,
+) -> Result<(Both<J, A, B>, Played<J>), NoThread>
+where
+    J: Opening + Send + Sync,
+    A: Link + Send + Drop,
+    B: Link + Send + Drop,
+    G: Gate + Sync,
+    R: Threads + Wait + Clock + Sync,
+    ensures first { IfOk result (λ run. IsBack A.counts_of first.seat first.lane
+        run.0.first.seat run.0.first.lane run.0.first_end) }
+    ensures second { IfOk result (λ run. IsBack B.counts_of second.seat second.lane
+        run.0.second.seat run.0.second.lane run.0.second_end) }
+    ensures scanner { IfOk result (λ run. IsPlayed script.entry.table.list.now
+        script.entry.table.next run.1.next script.entry.seat run.1.seat run.1.end) }
+{
+    if !script.table.is_over() {
+        return run_scanned(rt, shared, first, second, script, gate, bell);
+    }
+    let played = Played {
+        seat: script.seat,
+        next: script.table.next,
+        end: TimedEnd::Over,
+    };
+    match run_lent(rt, shared, first, second, gate, bell) {
+        Ok(workers) => Ok((workers, played)),
+        Err(why) => Err(why),
+    }
+}
