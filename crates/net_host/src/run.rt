@@ -19,7 +19,8 @@ fn carry_out<
     E: io::Write,
     R: Net + Threads + Wait + Sync,
 >(rt: &R, alloc: Global, files: &mut F, words: &Words, console: &mut Console<W, E>) -> u8
-    ensures { EndsAsAsked W.contents E.contents (F.gives files.old) F.takes F.renames words.now files.old files.new console.old console.new result }
+    ensures { EndsAsAsked W.contents E.contents (F.gives files.old) F.takes F.renames words.now
+        files.old files.new console.old console.new result }
 {
     match words {
         Words::Serve(words) => serve(rt, alloc, &*files, words, console),
@@ -38,7 +39,8 @@ pub fn run_line<
     E: io::Write,
     R: Net + Threads + Wait + Sync,
 >(rt: &R, alloc: Global, files: &mut F, words: &[String], console: &mut Console<W, E>) -> u8
-    ensures { LineEnds W.contents E.contents (F.gives files.old) F.takes F.renames (map string_bytes words.now) files.old files.new console.old console.new result }
+    ensures { LineEnds W.contents E.contents (F.gives files.old) F.takes F.renames
+        (map string_bytes words.now) files.old files.new console.old console.new result }
 {
     match read(alloc, words) {
         Ok(asked) => carry_out(rt, alloc, files, &asked, console),

@@ -1,17 +1,14 @@
 //! `bmcnet run`: a plan on a controller over UDP.
 ghost use Rattle.std.specs.Prelude.{◌≡◌, ◌⊎◌, ℕ, List, true, IfOk, IfSome, OnErr, Ok, Err, string_bytes};
 ghost use Rattle.plan_file.specs.PlanHolds.{ReadsPlan};
-ghost use Rattle.model_lab.specs.Meaning.{lab_names};
-ghost use Rattle.undo_core.specs.Shown.{Shows};
 ghost use Rattle.bmc_lab.specs.declared.console.Stream.TheVariants.{Output, Error};
 ghost use Rattle.bmc_lab.specs.declared.status.Status.TheVariants.{Success, RefusedFile};
 ghost use Rattle.bmc_lab.specs.Ending.{RunEnds, Tells};
 ghost use Rattle.bmc_links.specs.Counted.{none_counted};
 ghost use Rattle.net_run.specs.declared.running.Outcome.TheVariants.{Ran as HasRun};
-ghost use Rattle.net_run.specs.Beside.{IsBeside};
-ghost use Rattle.net_run.specs.Driven.{State, is_over};
+ghost use Rattle.net_run.specs.Driven.{is_over};
 ghost use Rattle.net_run.specs.Ends.{Nothing, SaysFile, SaysPhase, TellsBoth};
-ghost use Rattle.net_run.specs.Outcome.{Comes, ComesFrom, Keeps, RunsFrom};
+ghost use Rattle.net_run.specs.Outcome.{Comes, ComesBeside, KeepsBeside, RunsBeside};
 ghost use Rattle.net_run.specs.Run.{EndsBy, EndsUnkept, RunEndsOf, RunEndsOn, RunEndsOver, SaysFault};
 
 use crate::beside::Beside;
@@ -99,8 +96,8 @@ fn try_kept<F: WritesFiles>(
     requires ipmb { ends.ipmb.counts ≡ none_counted }
     requires smbus { ends.smbus.counts ≡ none_counted }
     requires unseen { keeper.old.seen ≡ 0 }
-    ensures runs { (word : List ℕ) (before : State) → IsBeside word keeper.old.beside.now → Shows lab_names manager.old before
-        → RunsFrom F.takes F.renames word before words.now manager.new result keeper.old.files.now keeper.new.files.now }
+    ensures runs { RunsBeside F.takes F.renames keeper.old.beside.now manager.old words.now
+        manager.new result keeper.old.files.now keeper.new.files.now }
     ensures same_files { keeper.new.files.ghost_name ≡ keeper.old.files.ghost_name }
 {
     let Ends {
@@ -128,8 +125,8 @@ fn run_on<F: WritesFiles>(
 ) -> Ran
     requires ipmb { ends.ipmb.counts ≡ none_counted }
     requires smbus { ends.smbus.counts ≡ none_counted }
-    ensures { (word : List ℕ) (before : State) → IsBeside word beside.now → Shows lab_names manager before
-        → RunsFrom F.takes F.renames word before words.now result.manager result.phase files.old files.new }
+    ensures { RunsBeside F.takes F.renames beside.now manager words.now
+        result.manager result.phase files.old files.new }
 {
     let mut manager = manager;
     let mut keeper = Keeper {
@@ -156,8 +153,8 @@ fn keep<F: WritesFiles>(
     beside: &Beside,
     ran: &Ran,
 ) -> Result<Result<(), Unwritten>, AllocError>
-    ensures kept { IfOk result (λ answer. (word : List ℕ) → IsBeside word beside.now
-        → Keeps F.takes F.renames (is_over ran.now.phase) word ran.now.manager files.old answer files.new) }
+    ensures kept { IfOk result (λ answer. KeepsBeside F.takes F.renames beside.now
+        (is_over ran.now.phase) ran.now.manager files.old answer files.new) }
     ensures memory { OnErr result ((is_over ran.now.phase ≡ true) × (files.new ≡ files.old)) }
 {
     if is_over(ran.phase) {
@@ -175,8 +172,7 @@ fn run_made<F: WritesFiles, R: Net>(
     manager: Manager,
     words: &RunWords,
 ) -> Result<Outcome, Untold>
-    ensures { (word : List ℕ) (before : State) → IsBeside word beside.now → Shows lab_names manager before
-        → ComesFrom F.takes F.renames word before words.now result files.old files.new }
+    ensures { ComesBeside F.takes F.renames beside.now manager words.now result files.old files.new }
 {
     let Some(ends) = ready_ends(rt, words) else {
         return Err(Untold::Stopped);
@@ -269,7 +265,8 @@ fn say_ran<W: io::Write, E: io::Write>(
     kept: Result<(), Unwritten>,
     console: &mut Console<W, E>,
 ) -> u8
-    ensures { EndsBy W.contents E.contents word.now (Ok (HasRun phase kept)) console.old console.new result }
+    ensures { EndsBy W.contents E.contents word.now (Ok (HasRun phase kept))
+        console.old console.new result }
 {
     match kept {
         Ok(()) => end_run(&told(alloc, phase), console),
@@ -301,7 +298,8 @@ fn run_over<F: WritesFiles, W: io::Write, E: io::Write, R: Net>(
     words: &RunWords,
     console: &mut Console<W, E>,
 ) -> u8
-    ensures { RunEndsOver W.contents E.contents F.takes F.renames plan words.now files.old files.new console.old console.new result }
+    ensures { RunEndsOver W.contents E.contents F.takes F.renames plan words.now
+        files.old files.new console.old console.new result }
 {
     match carry_out(rt, alloc, files, plan, words) {
         Ok(outcome) => say(alloc, words.undo.as_str(), outcome, console),
@@ -325,7 +323,8 @@ fn run_text<F: WritesFiles, W: io::Write, E: io::Write, R: Net>(
     words: &RunWords,
     console: &mut Console<W, E>,
 ) -> u8
-    ensures { RunEndsOn W.contents E.contents F.takes F.renames text.now words.now files.old files.new console.old console.new result }
+    ensures { RunEndsOn W.contents E.contents F.takes F.renames text.now words.now
+        files.old files.new console.old console.new result }
 {
     match read_plan(alloc, text) {
         Ok(plan) => run_over(rt, alloc, files, plan, words, console),
@@ -343,8 +342,8 @@ fn run_file<F: TextFiles + WritesFiles, W: io::Write, E: io::Write, R: Net>(
     words: &RunWords,
     console: &mut Console<W, E>,
 ) -> u8
-    ensures { RunEndsOf W.contents E.contents (F.gives files.old) F.takes F.renames word.now words.now
-        files.old files.new console.old console.new result }
+    ensures { RunEndsOf W.contents E.contents (F.gives files.old) F.takes F.renames
+        word.now words.now files.old files.new console.old console.new result }
 {
     match text_of(&*files, word) {
         Ok(text) => run_text(rt, alloc, files, text.as_str(), words, console),
@@ -368,8 +367,8 @@ pub fn run<F: TextFiles + WritesFiles, W: io::Write, E: io::Write, R: Net>(
     words: &RunWords,
     console: &mut Console<W, E>,
 ) -> u8
-    ensures { RunEndsOf W.contents E.contents (F.gives files.old) F.takes F.renames (string_bytes words.now.plan) words.now
-        files.old files.new console.old console.new result }
+    ensures { RunEndsOf W.contents E.contents (F.gives files.old) F.takes F.renames
+        (string_bytes words.now.plan) words.now files.old files.new console.old console.new result }
 {
     run_file(rt, alloc, files, words.plan.as_str(), words, console)
 }

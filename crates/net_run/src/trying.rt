@@ -54,7 +54,8 @@ fn drive_watched<A: Link, B: Link, T: Watches>(
         → Drives the_names turns s manager.new result
         (both (A.counts_of ipmb.old) (B.counts_of smbus.old))
         (both (A.counts_of ipmb.new) (B.counts_of smbus.new)) }
-    ensures watched { Watched T.sees manager.old manager.new (both (A.counts_of ipmb.old) (B.counts_of smbus.old))
+    ensures watched { Watched T.sees manager.old manager.new
+        (both (A.counts_of ipmb.old) (B.counts_of smbus.old))
         (both (A.counts_of ipmb.new) (B.counts_of smbus.new)) watch.old watch.new }
 {
     let mut phase = drive_on(manager, first, ipmb, smbus, 0, watch);
@@ -80,7 +81,8 @@ fn drive_heeded<A: Link, B: Link, T: Watches>(
     ensures stops { (s : State) → Shows the_names manager.old s
         → Stops turns s manager.new result (both (A.counts_of ipmb.old) (B.counts_of smbus.old))
         (both (A.counts_of ipmb.new) (B.counts_of smbus.new)) }
-    ensures watched { Watched T.sees manager.old manager.new (both (A.counts_of ipmb.old) (B.counts_of smbus.old))
+    ensures watched { Watched T.sees manager.old manager.new
+        (both (A.counts_of ipmb.old) (B.counts_of smbus.old))
         (both (A.counts_of ipmb.new) (B.counts_of smbus.new)) watch.old watch.new }
 {
     let _begun = drive_on(manager, first, ipmb, smbus, 0, watch);
@@ -113,7 +115,8 @@ fn drive_again<A: Link, B: Link, T: Watches>(
     ensures drives { (s : State) → Shows the_names manager.old s
         → DrivesAgain agains turns s manager.new result (both (A.counts_of ipmb.old) (B.counts_of smbus.old))
         (both (A.counts_of ipmb.new) (B.counts_of smbus.new)) }
-    ensures watched { Watched T.sees manager.old manager.new (both (A.counts_of ipmb.old) (B.counts_of smbus.old))
+    ensures watched { Watched T.sees manager.old manager.new
+        (both (A.counts_of ipmb.old) (B.counts_of smbus.old))
         (both (A.counts_of ipmb.new) (B.counts_of smbus.new)) watch.old watch.new }
 {
     let mut sent = first;
@@ -146,7 +149,8 @@ pub fn try_plan<A: Link, B: Link, T: Watches>(
         → GoesAgain agains Start turns before manager.new result
         (both (A.counts_of ipmb.old) (B.counts_of smbus.old))
         (both (A.counts_of ipmb.new) (B.counts_of smbus.new)) }
-    ensures watched { Watched T.sees manager.old manager.new (both (A.counts_of ipmb.old) (B.counts_of smbus.old))
+    ensures watched { Watched T.sees manager.old manager.new
+        (both (A.counts_of ipmb.old) (B.counts_of smbus.old))
         (both (A.counts_of ipmb.new) (B.counts_of smbus.new)) watch.old watch.new }
 {
     match manager.start() {

@@ -98,7 +98,8 @@ fn undo_text<W: io::Write, E: io::Write, R: Net>(
     words: &UndoWords,
     console: &mut Console<W, E>,
 ) -> u8
-    ensures { RunEnds W.contents E.contents (Says text.now words.now.turns) console.old console.new result }
+    ensures { RunEnds W.contents E.contents (Says text.now words.now.turns)
+        console.old console.new result }
 {
     let report = text_report(rt, alloc, text, words);
     end_run(&report, console)
@@ -113,7 +114,8 @@ fn undo_file<F: TextFiles, W: io::Write, E: io::Write, R: Net>(
     words: &UndoWords,
     console: &mut Console<W, E>,
 ) -> u8
-    ensures { RunEnds W.contents E.contents (SaysOfList (F.gives files.now) word.now words.now.turns) console.old console.new result }
+    ensures { RunEnds W.contents E.contents
+        (SaysOfList (F.gives files.now) word.now words.now.turns) console.old console.new result }
 {
     match text_of(files, word) {
         Ok(text) => undo_text(rt, alloc, text.as_str(), words, console),
@@ -132,7 +134,9 @@ pub fn undo<F: TextFiles, W: io::Write, E: io::Write, R: Net>(
     words: &UndoWords,
     console: &mut Console<W, E>,
 ) -> u8
-    ensures { RunEnds W.contents E.contents (SaysOfList (F.gives files.now) (string_bytes words.now.undo) words.now.turns) console.old console.new result }
+    ensures { RunEnds W.contents E.contents
+        (SaysOfList (F.gives files.now) (string_bytes words.now.undo) words.now.turns)
+        console.old console.new result }
 {
     undo_file(rt, alloc, files, words.undo.as_str(), words, console)
 }
