@@ -37,9 +37,13 @@ fn a_run_that_nobody_answers_tells_its_retries(rt: HostRuntime) -> Result<(), Fa
     let mut paper = new_paper(rt.alloc());
     let mut line = new_line(rt.alloc(), true);
     let words = run_words(rt.alloc(), "plan.toml", 9)?;
-    let told = "\rstep 1 of 2: get power-policy\u{1b}[K\rstep 1 of 2: get power-policy, retry 1\u{1b}[K\
+    let told =
+        "\rstep 1 of 2: get power-policy\u{1b}[K\rstep 1 of 2: get power-policy, retry 1\u{1b}[K\
 \rstep 1 of 2: no reply, retry 1\u{1b}[K\n";
-    assert_eq!(rt; run(&rt, rt.alloc(), &mut files, &words, &mut line, &mut paper), 0);
+    assert_eq!(rt;
+        run(&rt, rt.alloc(), &mut files, &words, &mut line, &mut paper),
+        0
+    );
     assert_eq!(rt; line.writer.as_slice(), told.as_bytes());
     assert_eq!(rt; paper.out.as_slice(), b"phase Unsettled 0\n".as_slice());
     assert!(rt; paper.err.is_empty());
@@ -53,7 +57,10 @@ fn an_undo_that_has_no_turns_tells_its_first_step(rt: HostRuntime) -> Result<(),
     let mut line = new_line(rt.alloc(), true);
     let words = undo_words(rt.alloc(), "list.txt", 0)?;
     let told = "\rundoing step 1 of 1\u{1b}[K\n";
-    assert_eq!(rt; undo(&rt, rt.alloc(), &files, &words, &mut line, &mut paper), 0);
+    assert_eq!(rt;
+        undo(&rt, rt.alloc(), &files, &words, &mut line, &mut paper),
+        0
+    );
     assert_eq!(rt; line.writer.as_slice(), told.as_bytes());
     assert_eq!(rt; paper.out.as_slice(), b"phase Undoing 0\n".as_slice());
     assert!(rt; paper.err.is_empty());
