@@ -7,6 +7,6 @@ pub mod pairing;
 mod side;
 
 pub use inputs::{InputFault, Inputs, read_inputs};
-pub use net_run::{RunWords, UndoWords, Unwritten, WAIT_MS, WritesFiles, run, undo};
+pub use net_run::{Progress, RunWords, UndoWords, Unwritten, WAIT_MS, WritesFiles, run, undo};
 pub use net_serve::{ServeWords, serve};
 pub use pairing::{PairWords, pair};

@@ -3,16 +3,24 @@
 
 use bmc_lab::Console;
 use host_base::{HostFiles, refuse, words_of_process};
-use net_host::{NetFiles, run_line};
+use net_host::{NetFiles, line_on, run_line};
 use std::process::ExitCode;
 
 fn main(rt: HostRuntime) -> ExitCode {
     let mut console = Console::new(rt.stdout(), rt.stderr());
+    let mut progress = line_on(rt.stderr());
     let mut files = NetFiles {
         read: HostFiles { rt: &rt },
     };
     ExitCode::from(match words_of_process(&rt) {
-        Ok(words) => run_line(&rt, rt.alloc(), &mut files, words.as_slice(), &mut console),
+        Ok(words) => run_line(
+            &rt,
+            rt.alloc(),
+            &mut files,
+            words.as_slice(),
+            &mut progress,
+            &mut console,
+        ),
         Err(refusal) => refuse(&refusal, &mut console),
     })
 }

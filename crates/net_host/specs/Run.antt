@@ -10,6 +10,8 @@ use Rattle.net_serve.specs.Run.{ServeEnds}
 use Rattle.net_run.specs.Beside.{Renamings, Writings}
 use Rattle.net_run.specs.Run.{RunEndsOf}
 use Rattle.net_run.specs.Undo.{SaysOfList}
+use Rattle.net_run.specs.declared.progress.Progress.{Progress}
+use Rattle.net_run.specs.Told.{TellsFile, TellsUndoFile}
 use Rattle.bmc_net.specs.Run.{SaysOfFiles, words_of}
 use Rattle.net_host.specs.declared.words.Words.{Words}
 use Rattle.net_host.specs.declared.words.Words.TheVariants.{Serve, Run, Undo, Pair}
@@ -27,6 +29,12 @@ EndsAsAsked out err gives takes renames (Undo asked) before after old new result
 EndsAsAsked out err gives takes renames (Pair asked) before after old new result =
     (after ≡ before) × RunEnds out err (SaysOfFiles gives (words_of asked) asked.turns) old new result
 
+-- so is told of how far that is: `run` and `undo` tell it alone
+abbrev pub MayTellAsAsked : {P : Type 0} → (out : P → Option (List ℕ)) → Readings → Words → (old new : Progress P) → Type 0
+MayTellAsAsked out gives (Run asked) old new = TellsFile out gives (string_bytes asked.plan) old new
+MayTellAsAsked out gives (Undo asked) old new = TellsUndoFile out gives (string_bytes asked.undo) old new
+MayTellAsAsked out gives asked old new = new ≡ old
+
 -- what a run says of words that ask for nothing: any text on standard error, with the status of refused words
 abbrev pub SaysNothingAsked : (words : List Text) → Saying
 SaysNothingAsked words stream text status = ((asked : Words) → AsksFor words asked → ⊥) × (stream ≡ Error) × (status ≡ RefusedWords)
@@ -37,3 +45,9 @@ abbrev pub LineEnds : {Files W E : Type 0} → (out : W → Option (List ℕ)) �
 LineEnds out err gives takes renames words before after old new result =
     ((asked : Words) × AsksFor words asked × EndsAsAsked out err gives takes renames asked before after old new result)
     ⊎ ((after ≡ before) × RunEnds out err (SaysNothingAsked words) old new result)
+
+-- So a run of a command line's words tells how far it is: as what they ask for, or, where they ask for nothing, not at all.
+abbrev pub LineTells : {P : Type 0} → (out : P → Option (List ℕ)) → Readings → (words : List Text) → (old new : Progress P) → Type 0
+LineTells out gives words old new =
+    ((asked : Words) × AsksFor words asked × MayTellAsAsked out gives asked old new)
+    ⊎ (new ≡ old)

@@ -5,8 +5,10 @@ pub mod file;
 pub mod number;
 pub mod run;
 mod tasks;
+pub mod terminal;
 pub mod words;
 
 pub use file::NetFiles;
 pub use run::run_line;
+pub use terminal::line_on;
 pub use words::Words;

@@ -3,3 +3,4 @@ pub mod Tries
 pub mod Looks
 pub mod Keeping
 pub mod Telling
+pub mod Ways

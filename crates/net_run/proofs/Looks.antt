@@ -26,6 +26,26 @@ goes_by : (call : Call) (s t : State) (had : Links) → (call ≡ Start) ⊎ (ca
 goes_by call s t had (inl start) takes = inl (inl (subst (λ (c : Call). Takes c s t) start takes), refl)
 goes_by call s t had (inr again) takes = inl (inr (subst (λ (c : Call). Takes c s t) again takes), refl)
 
+-- a call that was taken
+pub was_taken : (call : Call) (s : State) (last : Manager) (sent : Option Sent) → IsCalled lab_names s last (Ok sent) (called (board_plans lab_names) call s)
+    → (t : State) × Takes call s t × Shows lab_names last t
+was_taken call s last sent is = go (called (board_plans lab_names) call s) refl is
+  where
+    go : (deed : Option (ManagerDeed (board_plans lab_names))) → called (board_plans lab_names) call s ≡ deed → IsCalled lab_names s last (Ok sent) deed
+        → (t : State) × Takes call s t × Shows lab_names last t
+    go (Some deed) same does = (deed.manager, (deed, same, refl), does.0)
+    go None same does = absurd does
+
+-- a call that was refused isn't one for the phase
+pub was_none : (call : Call) (s : State) (last : Manager) (wrong : WrongPhase) → IsCalled lab_names s last (Err wrong) (called (board_plans lab_names) call s)
+    → called (board_plans lab_names) call s ≡ None
+was_none call s last wrong is = go (called (board_plans lab_names) call s) refl is
+  where
+    go : (deed : Option (ManagerDeed (board_plans lab_names))) → called (board_plans lab_names) call s ≡ deed → IsCalled lab_names s last (Err wrong) deed
+        → called (board_plans lab_names) call s ≡ None
+    go (Some deed) same does = absurd does
+    go None same does = same
+
 module _ {Watch : Type 0} (sees : Watch → Manager → Watch → Type 0) where
   sees_both : (moments later : List Manager) (old mid new : Watch) → Sees sees moments old mid → Sees sees later mid new → Sees sees (moments ++ later) old new
   sees_both [] later old mid new same then = subst (λ (w : Watch). Sees sees later w new) same then

@@ -47,3 +47,11 @@ module _ {Files : Type 0} (takes : Writings Files) (renames : Renamings Files) (
   -- And then so does the file of the word: `.part` is renamed to it.
   abbrev pub Replaces : (text : List ℕ) → Change Files
   Replaces text = Then (Puts text) (λ old. renames old (part_of word) word)
+
+-- the same, whatever the word that the words are beside
+module _ {Files : Type 0} (takes : Writings Files) (renames : Renamings Files) (beside : Beside) (text : List ℕ) where
+  abbrev pub PutsBeside : Change Files
+  PutsBeside old answer new = (word : List ℕ) → IsBeside word beside → Puts takes renames word text old answer new
+
+  abbrev pub ReplacesBeside : Change Files
+  ReplacesBeside old answer new = (word : List ℕ) → IsBeside word beside → Replaces takes renames word text old answer new

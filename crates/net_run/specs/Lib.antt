@@ -7,3 +7,5 @@ pub mod Ends
 pub mod Outcome
 pub mod Run
 pub mod Undo
+pub mod Progress
+pub mod Told

@@ -1,5 +1,5 @@
 -- A manager at moments of its way, and what is kept of its list then.
-use Rattle.std.specs.Prelude.{◌≡◌, ◌<◌, ◌≤◌, ◌⊎◌, ℕ, List, [], ◌∷◌, length, Some, Result}
+use Rattle.std.specs.Prelude.{◌≡◌, ◌<◌, ◌≤◌, ◌⊎◌, ℕ, List, [], ◌∷◌, length, None, Some, Result}
 use Rattle.text_undo.specs.UndoText.{text_of}
 use Rattle.undo_plans.specs.declared.undo_list.UndoList.{UndoList}
 use Rattle.model_lab.specs.Meaning.{lab_names}
@@ -47,6 +47,14 @@ pub record Watched {Watch : Type 0} (sees : Watch → Manager → Watch → Type
   pub moments : List Manager
   pub way : (s : State) → Shows lab_names before s → PassesTo moments s after had has
   pub seen : Sees sees moments old new
+
+-- It was called, and looked at then; from there it went on to be the other, and was looked at at each moment of its way. Or the phase wasn't
+-- one for the call, and it wasn't looked at.
+abbrev pub WatchedFrom : {Watch : Type 0} → (sees : Watch → Manager → Watch → Type 0) → Call → (before : State) → (after : Manager) → (had has : Links) → (old new : Watch) → Type 0
+WatchedFrom sees call before after had has old new =
+    ((called (board_plans lab_names) call before ≡ None) × (new ≡ old))
+    ⊎ ((first : Manager) × (start : State) × (mid : _) × Takes call before start × Shows lab_names first start × sees old first mid
+    × Watched sees first after had has mid new)
 
 -- ---- the list
 

@@ -5,7 +5,9 @@ use Rattle.undo_plans.specs.declared.undo_list.UndoList.{UndoList}
 use Rattle.text_undo.specs.UndoText.{text_of}
 use Rattle.text_schedule.specs.declared.event.Call.TheVariants.{Start}
 use Rattle.model_undo.specs.declared.phase.Phase.{Phase}
+use Rattle.model_lab.specs.Meaning.{lab_names}
 use Rattle.undo_core.specs.declared.manager.Manager.{Manager}
+use Rattle.undo_core.specs.Shown.{Shows}
 use Rattle.bmc_drive.specs.Driving.{Links}
 use Rattle.bmc_lab.specs.declared.ending.Untold.{Untold}
 use Rattle.bmc_lab.specs.declared.ending.Untold.TheVariants.{Memory, Stopped}
@@ -13,7 +15,8 @@ use Rattle.net_run.specs.declared.files.Unwritten.{Unwritten}
 use Rattle.net_run.specs.declared.running.RunWords.{RunWords}
 use Rattle.net_run.specs.declared.running.Outcome.{Outcome}
 use Rattle.net_run.specs.declared.running.Outcome.TheVariants.{Ran, Unmade}
-use Rattle.net_run.specs.Beside.{Writings, Renamings, Change, Puts, Replaces}
+use Rattle.net_run.specs.declared.beside.Beside.{Beside}
+use Rattle.net_run.specs.Beside.{Writings, Renamings, Change, IsBeside, Puts, Replaces}
 use Rattle.net_run.specs.Driven.{State, GoesAgain, IsListOf, fresh_links, is_over, opened_with}
 use Rattle.net_run.specs.Moments.{HasList, KeepsSoFar, PassesTo}
 
@@ -42,6 +45,18 @@ module _ {Files : Type 0} (takes : Writings Files) (renames : Renamings Files) w
   ComesFrom word before words (Err Stopped) old new = new ≡ old
   ComesFrom word before words (Err Memory) old new =
       (m : Manager) × (phase : Phase) × (is_over phase ≡ true) × RunsFrom word before words m phase old new
+
+  -- the same, whatever the word that the words are beside, and whatever machine the manager showed before
+  abbrev pub RunsBeside : Beside → (manager : Manager) → RunWords → (m : Manager) → Phase → (old new : Files) → Type 0
+  RunsBeside beside manager words m phase old new =
+      (word : List ℕ) (before : State) → IsBeside word beside → Shows lab_names manager before → RunsFrom word before words m phase old new
+
+  abbrev pub KeepsBeside : Beside → (over : Bool) → Manager → Change Files
+  KeepsBeside beside over m old answer new = (word : List ℕ) → IsBeside word beside → Keeps over word m old answer new
+
+  abbrev pub ComesBeside : Beside → (manager : Manager) → RunWords → Result Outcome Untold → (old new : Files) → Type 0
+  ComesBeside beside manager words outcome old new =
+      (word : List ℕ) (before : State) → IsBeside word beside → Shows lab_names manager before → ComesFrom word before words outcome old new
 
   -- `.part` is made, with the list of a manager that did nothing, and this is answered
   abbrev pub Makes : Plan → (word : List ℕ) → Change Files

@@ -1,7 +1,7 @@
 //! The file that gets an undo text, and the two files beside it.
-ghost use Rattle.std.specs.Prelude.{ℕ, List, IfOk, OnErr, ◌≡◌};
+ghost use Rattle.std.specs.Prelude.{IfOk, OnErr, ◌≡◌};
 ghost use Rattle.text_undo.specs.UndoText.{text_of};
-ghost use Rattle.net_run.specs.Beside.{IsBeside, Puts, Replaces};
+ghost use Rattle.net_run.specs.Beside.{IsBeside, PutsBeside, ReplacesBeside};
 
 use crate::files::{Unwritten, WritesFiles};
 use std::alloc::{AllocError, Global};
@@ -31,7 +31,7 @@ impl<'a> Beside<'a> {
 
     /// Has the file of the list so far get this text, by its name alone.
     fn put<F: WritesFiles>(&self, files: &mut F, text: &str) -> Result<(), Unwritten>
-        ensures { (word : List ℕ) → IsBeside word self.entry.now → Puts F.takes F.renames word text.now files.old result files.new }
+        ensures { PutsBeside F.takes F.renames self.entry.now text.now files.old result files.new }
     {
         let next = self.next.as_str();
         match files.write(next, text) {
@@ -47,7 +47,8 @@ impl<'a> Beside<'a> {
         files: &mut F,
         list: &UndoList,
     ) -> Result<Result<(), Unwritten>, AllocError>
-        ensures put { IfOk result (λ answer. (word : List ℕ) → IsBeside word self.entry.now → Puts F.takes F.renames word (text_of list.now) files.old answer files.new) }
+        ensures put { IfOk result
+            (λ answer. PutsBeside F.takes F.renames self.entry.now (text_of list.now) files.old answer files.new) }
         ensures memory { OnErr result (files.new ≡ files.old) }
     {
         let text = write_undo(alloc, list)?;
@@ -61,7 +62,8 @@ impl<'a> Beside<'a> {
         files: &mut F,
         list: &UndoList,
     ) -> Result<Result<(), Unwritten>, AllocError>
-        ensures put { IfOk result (λ answer. (word : List ℕ) → IsBeside word self.entry.now → Replaces F.takes F.renames word (text_of list.now) files.old answer files.new) }
+        ensures put { IfOk result
+            (λ answer. ReplacesBeside F.takes F.renames self.entry.now (text_of list.now) files.old answer files.new) }
         ensures memory { OnErr result (files.new ≡ files.old) }
     {
         match self.put_list(alloc, files, list) {

@@ -1,5 +1,5 @@
 //! `bmcnet run`: a plan on a controller over UDP.
-ghost use Rattle.std.specs.Prelude.{◌≡◌, ◌⊎◌, ℕ, List, true, IfOk, IfSome, OnErr, Ok, Err, string_bytes};
+ghost use Rattle.std.specs.Prelude.{◌≡◌, ◌⊎◌, ℕ, List, true, false, IfOk, IfSome, OnErr, Ok, Err, map, string_bytes};
 ghost use Rattle.plan_file.specs.PlanHolds.{ReadsPlan};
 ghost use Rattle.model_lab.specs.Meaning.{lab_names};
 ghost use Rattle.undo_core.specs.Shown.{Shows};
@@ -8,10 +8,11 @@ ghost use Rattle.bmc_lab.specs.declared.status.Status.TheVariants.{Success, Refu
 ghost use Rattle.bmc_lab.specs.Ending.{RunEnds, Tells};
 ghost use Rattle.bmc_links.specs.Counted.{none_counted};
 ghost use Rattle.net_run.specs.declared.running.Outcome.TheVariants.{Ran as HasRun};
-ghost use Rattle.net_run.specs.Beside.{IsBeside};
-ghost use Rattle.net_run.specs.Driven.{State, is_over};
+ghost use Rattle.net_run.specs.Driven.{is_over, opened_with};
 ghost use Rattle.net_run.specs.Ends.{Nothing, SaysFile, SaysPhase, TellsBoth};
-ghost use Rattle.net_run.specs.Outcome.{Comes, ComesFrom, Keeps, RunsFrom};
+ghost use Rattle.net_run.specs.Outcome.{Comes, ComesBeside, KeepsBeside, RunsBeside};
+ghost use Rattle.net_run.specs.Progress.{kind_of};
+ghost use Rattle.net_run.specs.Told.{MayTellWay, TellsBeside, TellsFile, TellsPlan, TellsText};
 ghost use Rattle.net_run.specs.Run.{EndsBy, EndsUnkept, RunEndsOf, RunEndsOn, RunEndsOver, SaysFault};
 
 use crate::beside::Beside;
@@ -19,11 +20,12 @@ use crate::driven::open_manager;
 use crate::files::{Unwritten, WritesFiles};
 use crate::lines::{phase_report, plan_refusal};
 use crate::links::{Ends, open_ends, sit_out};
+use crate::progress::{Course, Progress, kinds_of};
 use crate::trying::try_plan;
-use crate::watching::Keeper;
+use crate::watching::{Both, Keeper, Teller};
 use bmc_lab::{Console, Ending, Report, Status, TextFiles, Untold, end_run, refuse, text_of};
 use bmc_links::LinkFault;
-use plan_file::{PlanFault, read_plan};
+use plan_file::{Kind, PlanFault, read_plan};
 use std::alloc::{AllocError, Global};
 use std::io;
 use std::net::Net;
@@ -60,6 +62,13 @@ pub enum Outcome {
     Unmade,
 }
 
+/// A manager of a plan, and the kinds of the plan's steps.
+#[derive(Drop)]
+struct Ready {
+    manager: Manager,
+    kinds: Vec<Kind>,
+}
+
 /// A manager that ran a plan, and its phase.
 #[derive(Drop)]
 struct Ran {
@@ -89,56 +98,75 @@ fn ready_ends<R: Net>(rt: &R, words: &RunWords) -> Option<Ends>
     open_ends(rt, words.ipmb_port, words.smbus_port, words.wait_ms)
 }
 
-/// Has a manager run its plan over these links, while a keeper looks at it that has seen no list yet.
-fn try_kept<F: WritesFiles>(
+/// Has a manager run its plan over these links, while a keeper looks at it that has seen no list yet, and a teller, whose line is ended then.
+fn try_kept<F: WritesFiles, P: io::Write>(
     manager: &mut Manager,
     ends: Ends,
     words: &RunWords,
-    keeper: &mut Keeper<F>,
+    watch: &mut Both<Keeper<F>, Teller<P>>,
 ) -> Phase
     requires ipmb { ends.ipmb.counts ≡ none_counted }
     requires smbus { ends.smbus.counts ≡ none_counted }
-    requires unseen { keeper.old.seen ≡ 0 }
-    ensures runs { (word : List ℕ) (before : State) → IsBeside word keeper.old.beside.now → Shows lab_names manager.old before
-        → RunsFrom F.takes F.renames word before words.now manager.new result keeper.old.files.now keeper.new.files.now }
-    ensures same_files { keeper.new.files.ghost_name ≡ keeper.old.files.ghost_name }
+    requires unseen { watch.old.first.seen ≡ 0 }
+    ensures runs { RunsBeside F.takes F.renames watch.old.first.beside.now manager.old words.now
+        manager.new result watch.old.first.files.now watch.new.first.files.now }
+    ensures told { TellsBeside P.contents watch.old.second.course.kinds.now
+        watch.old.second.course.steps manager.old
+        watch.old.second.progress.now watch.new.second.progress.now }
+    ensures same_files { watch.new.first.files.ghost_name ≡ watch.old.first.files.ghost_name }
+    ensures same_line { watch.new.second.progress.ghost_name ≡ watch.old.second.progress.ghost_name }
 {
     let Ends {
         mut ipmb,
         mut smbus,
     } = ends;
-    try_plan(
+    let phase = try_plan(
         manager,
         &mut ipmb,
         &mut smbus,
         words.turns,
         words.again,
-        keeper,
-    )
+        watch,
+    );
+    watch.second.end();
+    phase
 }
 
-/// Has a manager run its plan over these links. The file beside the one of the undo text gets the list so far.
-fn run_on<F: WritesFiles>(
+/// Has a manager run its plan over these links. The file beside the one of the undo text gets the list so far, and the line of its progress is
+/// written and ended.
+fn run_on<F: WritesFiles, P: io::Write>(
     alloc: Global,
     files: &mut F,
     beside: &Beside,
-    manager: Manager,
+    ready: Ready,
     ends: Ends,
     words: &RunWords,
+    progress: &mut Progress<P>,
 ) -> Ran
     requires ipmb { ends.ipmb.counts ≡ none_counted }
     requires smbus { ends.smbus.counts ≡ none_counted }
-    ensures { (word : List ℕ) (before : State) → IsBeside word beside.now → Shows lab_names manager before
-        → RunsFrom F.takes F.renames word before words.now result.manager result.phase files.old files.new }
+    ensures runs { RunsBeside F.takes F.renames beside.now ready.manager words.now
+        result.manager result.phase files.old files.new }
+    ensures told { MayTellWay P.contents ready.kinds.items ready.manager progress.old progress.new }
 {
-    let mut manager = manager;
-    let mut keeper = Keeper {
+    let Ready { mut manager, kinds } = ready;
+    let first = Keeper {
         alloc,
         files,
         beside,
         seen: 0,
     };
-    let phase = try_kept(&mut manager, ends, words, &mut keeper);
+    let course = Course {
+        steps: kinds.len(),
+        kinds: kinds.as_slice(),
+    };
+    let second = Teller {
+        alloc,
+        progress,
+        course,
+    };
+    let mut watch = Both { first, second };
+    let phase = try_kept(&mut manager, ends, words, &mut watch);
     Ran { manager, phase }
 }
 
@@ -156,8 +184,8 @@ fn keep<F: WritesFiles>(
     beside: &Beside,
     ran: &Ran,
 ) -> Result<Result<(), Unwritten>, AllocError>
-    ensures kept { IfOk result (λ answer. (word : List ℕ) → IsBeside word beside.now
-        → Keeps F.takes F.renames (is_over ran.now.phase) word ran.now.manager files.old answer files.new) }
+    ensures kept { IfOk result (λ answer. KeepsBeside F.takes F.renames beside.now
+        (is_over ran.now.phase) ran.now.manager files.old answer files.new) }
     ensures memory { OnErr result ((is_over ran.now.phase ≡ true) × (files.new ≡ files.old)) }
 {
     if is_over(ran.phase) {
@@ -167,45 +195,59 @@ fn keep<F: WritesFiles>(
 }
 
 /// Has a manager run its plan, once the file of the list so far is made, and keeps its list.
-fn run_made<F: WritesFiles, R: Net>(
+fn run_made<F: WritesFiles, P: io::Write, R: Net>(
     rt: &R,
     alloc: Global,
     files: &mut F,
     beside: &Beside,
-    manager: Manager,
+    ready: Ready,
     words: &RunWords,
+    progress: &mut Progress<P>,
 ) -> Result<Outcome, Untold>
-    ensures { (word : List ℕ) (before : State) → IsBeside word beside.now → Shows lab_names manager before
-        → ComesFrom F.takes F.renames word before words.now result files.old files.new }
+    ensures comes { ComesBeside F.takes F.renames beside.now ready.manager words.now
+        result files.old files.new }
+    ensures told { MayTellWay P.contents ready.kinds.items ready.manager progress.old progress.new }
 {
     let Some(ends) = ready_ends(rt, words) else {
         return Err(Untold::Stopped);
     };
-    let ran = run_on(alloc, files, beside, manager, ends, words);
+    let ran = run_on(alloc, files, beside, ready, ends, words, progress);
     match keep(alloc, files, beside, &ran) {
         Ok(kept) => Ok(Outcome::Ran(ran.phase, kept)),
         Err(_) => Err(Untold::Memory),
     }
 }
 
+/// A manager of this plan, that is ready to begin.
+fn make_ready(alloc: Global, plan: Plan) -> Result<Ready, AllocError>
+    ensures manager { IfOk result (λ ready. Shows lab_names ready.manager (opened_with plan)) }
+    ensures kinds { IfOk result (λ ready. ready.kinds.items ≡ map kind_of plan.steps) }
+{
+    let kinds = kinds_of(alloc, plan.steps.as_slice())?;
+    let manager = open_manager(alloc, plan)?;
+    Ok(Ready { manager, kinds })
+}
+
 /// Makes the file of the list so far, with the list of a manager that did nothing. Then the manager runs the plan, and its list is kept.
-fn carry_out<F: WritesFiles, R: Net>(
+fn carry_out<F: WritesFiles, P: io::Write, R: Net>(
     rt: &R,
     alloc: Global,
     files: &mut F,
     plan: Plan,
     words: &RunWords,
+    progress: &mut Progress<P>,
 ) -> Result<Outcome, Untold>
-    ensures { Comes F.takes F.renames plan words.now result files.old files.new }
+    ensures comes { Comes F.takes F.renames plan words.now result files.old files.new }
+    ensures told { TellsPlan P.contents plan progress.old progress.new }
 {
     let Ok(beside) = Beside::of(alloc, words.undo.as_str()) else {
         return Err(Untold::Memory);
     };
-    let Ok(manager) = open_manager(alloc, plan) else {
+    let Ok(ready) = make_ready(alloc, plan) else {
         return Err(Untold::Memory);
     };
-    match beside.put_list(alloc, files, manager.undo_list()) {
-        Ok(Ok(())) => run_made(rt, alloc, files, &beside, manager, words),
+    match beside.put_list(alloc, files, ready.manager.undo_list()) {
+        Ok(Ok(())) => run_made(rt, alloc, files, &beside, ready, words, progress),
         Ok(Err(Unwritten)) => Ok(Outcome::Unmade),
         Err(AllocError) => Err(Untold::Memory),
     }
@@ -269,7 +311,8 @@ fn say_ran<W: io::Write, E: io::Write>(
     kept: Result<(), Unwritten>,
     console: &mut Console<W, E>,
 ) -> u8
-    ensures { EndsBy W.contents E.contents word.now (Ok (HasRun phase kept)) console.old console.new result }
+    ensures { EndsBy W.contents E.contents word.now (Ok (HasRun phase kept))
+        console.old console.new result }
 {
     match kept {
         Ok(()) => end_run(&told(alloc, phase), console),
@@ -293,17 +336,20 @@ fn say<W: io::Write, E: io::Write>(
 }
 
 /// Runs the plan, keeps the manager's list, and says what came of both.
-fn run_over<F: WritesFiles, W: io::Write, E: io::Write, R: Net>(
+fn run_over<F: WritesFiles, W: io::Write, E: io::Write, P: io::Write, R: Net>(
     rt: &R,
     alloc: Global,
     files: &mut F,
     plan: Plan,
     words: &RunWords,
+    progress: &mut Progress<P>,
     console: &mut Console<W, E>,
 ) -> u8
-    ensures { RunEndsOver W.contents E.contents F.takes F.renames plan words.now files.old files.new console.old console.new result }
+    ensures ends { RunEndsOver W.contents E.contents F.takes F.renames plan words.now
+        files.old files.new console.old console.new result }
+    ensures told { TellsPlan P.contents plan progress.old progress.new }
 {
-    match carry_out(rt, alloc, files, plan, words) {
+    match carry_out(rt, alloc, files, plan, words, progress) {
         Ok(outcome) => say(alloc, words.undo.as_str(), outcome, console),
         Err(why) => end_run(&Err(why), console),
     }
@@ -317,37 +363,42 @@ fn refusal(alloc: Global, why: PlanFault) -> Result<Report, Untold>
 }
 
 /// Runs the plan of this text.
-fn run_text<F: WritesFiles, W: io::Write, E: io::Write, R: Net>(
+fn run_text<F: WritesFiles, W: io::Write, E: io::Write, P: io::Write, R: Net>(
     rt: &R,
     alloc: Global,
     files: &mut F,
     text: &str,
     words: &RunWords,
+    progress: &mut Progress<P>,
     console: &mut Console<W, E>,
 ) -> u8
-    ensures { RunEndsOn W.contents E.contents F.takes F.renames text.now words.now files.old files.new console.old console.new result }
+    ensures ends { RunEndsOn W.contents E.contents F.takes F.renames text.now words.now
+        files.old files.new console.old console.new result }
+    ensures told { TellsText P.contents text.now progress.old progress.new }
 {
     match read_plan(alloc, text) {
-        Ok(plan) => run_over(rt, alloc, files, plan, words, console),
+        Ok(plan) => run_over(rt, alloc, files, plan, words, progress, console),
         Err(PlanFault::Memory) => end_run(&Err(Untold::Memory), console),
         Err(why) => end_run(&refusal(alloc, why), console),
     }
 }
 
 /// Runs the plan of the file that this word names, keeps the manager's list, and says what came of both.
-fn run_file<F: TextFiles + WritesFiles, W: io::Write, E: io::Write, R: Net>(
+fn run_file<F: TextFiles + WritesFiles, W: io::Write, E: io::Write, P: io::Write, R: Net>(
     rt: &R,
     alloc: Global,
     files: &mut F,
     word: &str,
     words: &RunWords,
+    progress: &mut Progress<P>,
     console: &mut Console<W, E>,
 ) -> u8
-    ensures { RunEndsOf W.contents E.contents (F.gives files.old) F.takes F.renames word.now words.now
-        files.old files.new console.old console.new result }
+    ensures ends { RunEndsOf W.contents E.contents (F.gives files.old) F.takes F.renames
+        word.now words.now files.old files.new console.old console.new result }
+    ensures told { TellsFile P.contents (F.gives files.old) word.now progress.old progress.new }
 {
     match text_of(&*files, word) {
-        Ok(text) => run_text(rt, alloc, files, text.as_str(), words, console),
+        Ok(text) => run_text(rt, alloc, files, text.as_str(), words, progress, console),
         Err(unread) => refuse(alloc, &unread, console),
     }
 }
@@ -355,21 +406,27 @@ fn run_file<F: TextFiles + WritesFiles, W: io::Write, E: io::Write, R: Net>(
 /// Runs the plan of the file that the words name, on the controller at their two ports, and writes to standard output in which phase the
 /// manager is then. Before a link is had, a file beside that of the word UNDO is made, `.part`. It gets the list so far wherever that has grown,
 /// by a writing of `.next` and a renaming. Where the plan ended or halted, it gets the last list and then the name UNDO. The phase is said
-/// behind that, so that no failed output costs the list.
+/// behind that, so that no failed output costs the list. Where the line of its progress is written, that tells of each step and is ended before
+/// the phase is said. A write of it that fails costs nothing but the rest of it.
 ///
 /// It gives the status: 0, or 3 with `file` or `plan` and the fault on standard error where the plan's file can't be read or holds no plan,
 /// also 3 with `file` and the word UNDO on standard error where `.part` can't be made, and behind the phase on standard output where the undo
 /// text can't be written or get its name, 4 and no line where a link can't be had, 5 with `memory` on standard error where memory was refused,
 /// and 6 where a write to either stream failed.
-pub fn run<F: TextFiles + WritesFiles, W: io::Write, E: io::Write, R: Net>(
+pub fn run<F: TextFiles + WritesFiles, W: io::Write, E: io::Write, P: io::Write, R: Net>(
     rt: &R,
     alloc: Global,
     files: &mut F,
     words: &RunWords,
+    progress: &mut Progress<P>,
     console: &mut Console<W, E>,
 ) -> u8
-    ensures { RunEndsOf W.contents E.contents (F.gives files.old) F.takes F.renames (string_bytes words.now.plan) words.now
-        files.old files.new console.old console.new result }
+    ensures ends { RunEndsOf W.contents E.contents (F.gives files.old) F.takes F.renames
+        (string_bytes words.now.plan) words.now files.old files.new console.old console.new result }
+    ensures told { TellsFile P.contents (F.gives files.old) (string_bytes words.now.plan)
+        progress.old progress.new }
+    ensures untold { progress.old.on ≡ false → progress.new ≡ progress.old }
 {
-    run_file(rt, alloc, files, words.plan.as_str(), words, console)
+    let plan = words.plan.as_str();
+    run_file(rt, alloc, files, plan, words, progress, console)
 }

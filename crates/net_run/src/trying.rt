@@ -1,11 +1,12 @@
 //! A manager that is driven while something looks at it, and called again where it is unsettled.
-ghost use Rattle.std.specs.Prelude.{◌≡◌, ◌≤◌};
-ghost use Rattle.text_schedule.specs.declared.event.Call.TheVariants.{Start};
+ghost use Rattle.std.specs.Prelude.{◌≡◌, ◌≤◌, List};
+ghost use Rattle.text_schedule.specs.declared.event.Call.TheVariants.{Start, Undo};
 ghost use Rattle.model_lab.specs.Meaning.{lab_names as the_names};
+ghost use Rattle.undo_core.specs.declared.manager.Manager.{Manager as AnyManager};
 ghost use Rattle.undo_core.specs.Shown.{Shows};
 ghost use Rattle.bmc_drive.specs.Driving.{both, Drives};
-ghost use Rattle.net_run.specs.Driven.{State, DrivesAgain, GoesAgain, is_unsettled};
-ghost use Rattle.net_run.specs.Moments.{Watched};
+ghost use Rattle.net_run.specs.Driven.{State, DrivesAgain, Goes, GoesAgain, is_unsettled};
+ghost use Rattle.net_run.specs.Moments.{Sees, Watched, WatchedFrom};
 ghost use Rattle.net_run.specs.Stops.{Stops};
 
 use crate::watching::Watches;
@@ -54,7 +55,8 @@ fn drive_watched<A: Link, B: Link, T: Watches>(
         → Drives the_names turns s manager.new result
         (both (A.counts_of ipmb.old) (B.counts_of smbus.old))
         (both (A.counts_of ipmb.new) (B.counts_of smbus.new)) }
-    ensures watched { Watched T.sees manager.old manager.new (both (A.counts_of ipmb.old) (B.counts_of smbus.old))
+    ensures watched { Watched T.sees manager.old manager.new
+        (both (A.counts_of ipmb.old) (B.counts_of smbus.old))
         (both (A.counts_of ipmb.new) (B.counts_of smbus.new)) watch.old watch.new }
 {
     let mut phase = drive_on(manager, first, ipmb, smbus, 0, watch);
@@ -80,7 +82,8 @@ fn drive_heeded<A: Link, B: Link, T: Watches>(
     ensures stops { (s : State) → Shows the_names manager.old s
         → Stops turns s manager.new result (both (A.counts_of ipmb.old) (B.counts_of smbus.old))
         (both (A.counts_of ipmb.new) (B.counts_of smbus.new)) }
-    ensures watched { Watched T.sees manager.old manager.new (both (A.counts_of ipmb.old) (B.counts_of smbus.old))
+    ensures watched { Watched T.sees manager.old manager.new
+        (both (A.counts_of ipmb.old) (B.counts_of smbus.old))
         (both (A.counts_of ipmb.new) (B.counts_of smbus.new)) watch.old watch.new }
 {
     let _begun = drive_on(manager, first, ipmb, smbus, 0, watch);
@@ -113,7 +116,8 @@ fn drive_again<A: Link, B: Link, T: Watches>(
     ensures drives { (s : State) → Shows the_names manager.old s
         → DrivesAgain agains turns s manager.new result (both (A.counts_of ipmb.old) (B.counts_of smbus.old))
         (both (A.counts_of ipmb.new) (B.counts_of smbus.new)) }
-    ensures watched { Watched T.sees manager.old manager.new (both (A.counts_of ipmb.old) (B.counts_of smbus.old))
+    ensures watched { Watched T.sees manager.old manager.new
+        (both (A.counts_of ipmb.old) (B.counts_of smbus.old))
         (both (A.counts_of ipmb.new) (B.counts_of smbus.new)) watch.old watch.new }
 {
     let mut sent = first;
@@ -146,13 +150,42 @@ pub fn try_plan<A: Link, B: Link, T: Watches>(
         → GoesAgain agains Start turns before manager.new result
         (both (A.counts_of ipmb.old) (B.counts_of smbus.old))
         (both (A.counts_of ipmb.new) (B.counts_of smbus.new)) }
-    ensures watched { Watched T.sees manager.old manager.new (both (A.counts_of ipmb.old) (B.counts_of smbus.old))
+    ensures watched { Watched T.sees manager.old manager.new
+        (both (A.counts_of ipmb.old) (B.counts_of smbus.old))
         (both (A.counts_of ipmb.new) (B.counts_of smbus.new)) watch.old watch.new }
 {
     match manager.start() {
         Ok(first) => {
             watch.look(manager);
             drive_again(manager, first, ipmb, smbus, turns, agains, watch)
+        }
+        Err(WrongPhase) => manager.phase(),
+    }
+}
+
+/// Begins a manager's undo, and drives it as `undo_plan` does. The watch looks at it after the call, once what that gave is sent, and after each
+/// turn.
+pub(crate) fn undo_watched<A: Link, B: Link, T: Watches>(
+    manager: &mut Manager,
+    ipmb: &mut A,
+    smbus: &mut B,
+    turns: u32,
+    watch: &mut T,
+) -> Phase
+    ensures goes { (before : State) → Shows the_names manager.old before
+        → Goes Undo turns before manager.new result
+        (both (A.counts_of ipmb.old) (B.counts_of smbus.old))
+        (both (A.counts_of ipmb.new) (B.counts_of smbus.new)) }
+    ensures watched { (before : State) → Shows the_names manager.old before
+        → WatchedFrom T.sees Undo before manager.new
+        (both (A.counts_of ipmb.old) (B.counts_of smbus.old))
+        (both (A.counts_of ipmb.new) (B.counts_of smbus.new)) watch.old watch.new }
+    ensures seen { (moments : List AnyManager) × Sees T.sees moments watch.old watch.new }
+{
+    match manager.undo() {
+        Ok(first) => {
+            watch.look(manager);
+            drive_watched(manager, first, ipmb, smbus, turns, watch)
         }
         Err(WrongPhase) => manager.phase(),
     }

@@ -1,12 +1,20 @@
 //! `bmcnet undo`: what a plan did to a controller is taken back over UDP.
-ghost use Rattle.std.specs.Prelude.{IfOk, string_bytes};
+ghost use Rattle.std.specs.Prelude.{◌≡◌, [], false, IfOk, length, string_bytes};
+ghost use Rattle.undo_plans.specs.declared.undo_list.UndoList.{UndoList as AnyList};
+ghost use Rattle.model_lab.specs.Meaning.{lab_names};
+ghost use Rattle.undo_core.specs.Shown.{Shows};
+ghost use Rattle.bmc_links.specs.Counted.{none_counted};
 ghost use Rattle.bmc_lab.specs.Ending.{RunEnds, Tells};
-ghost use Rattle.net_run.specs.Driven.{Undoes};
+ghost use Rattle.net_run.specs.Driven.{Undoes, resumed_from};
+ghost use Rattle.net_run.specs.Told.{MayTellUndo, TellsUndo, TellsUndoFile, TellsUndoText};
 ghost use Rattle.net_run.specs.Undo.{Says, SaysOfList, SaysUndone};
 
-use crate::driven::{resume_manager, undo_plan};
+use crate::driven::resume_manager;
 use crate::lines::{phase_report, undo_refusal};
 use crate::links::{Ends, open_ends};
+use crate::progress::{Course, Progress};
+use crate::trying::undo_watched;
+use crate::watching::Teller;
 use bmc_lab::{Console, Report, TextFiles, Untold, end_run, refuse, text_of};
 use std::alloc::Global;
 use std::io;
@@ -37,102 +45,171 @@ struct Undone {
     phase: Phase,
 }
 
+/// Has a manager undo its list over these links, while a teller looks at it, whose line is ended then.
+fn undo_seen<P: io::Write>(
+    manager: &mut Manager,
+    ends: Ends,
+    turns: u32,
+    teller: &mut Teller<P>,
+) -> Phase
+    requires ipmb { ends.ipmb.counts ≡ none_counted }
+    requires smbus { ends.smbus.counts ≡ none_counted }
+    ensures undoes { (list : AnyList) → Shows lab_names manager.old (resumed_from list)
+        → Undoes list turns manager.new result }
+    ensures told { (list : AnyList) → teller.old.course.kinds.now ≡ []
+        → teller.old.course.steps ≡ length list.requests
+        → Shows lab_names manager.old (resumed_from list)
+        → TellsUndo P.contents list teller.old.progress.now teller.new.progress.now }
+    ensures same_line { teller.new.progress.ghost_name ≡ teller.old.progress.ghost_name }
+{
+    let Ends {
+        mut ipmb,
+        mut smbus,
+    } = ends;
+    let phase = undo_watched(manager, &mut ipmb, &mut smbus, turns, teller);
+    teller.end();
+    phase
+}
+
+/// Has a manager undo its list over these links, while the line of its progress is written.
+fn undo_told<P: io::Write>(
+    alloc: Global,
+    manager: &mut Manager,
+    steps: usize,
+    ends: Ends,
+    turns: u32,
+    progress: &mut Progress<P>,
+) -> Phase
+    requires ipmb { ends.ipmb.counts ≡ none_counted }
+    requires smbus { ends.smbus.counts ≡ none_counted }
+    ensures undoes { (list : AnyList) → Shows lab_names manager.old (resumed_from list)
+        → Undoes list turns manager.new result }
+    ensures told { (list : AnyList) → length list.requests ≡ steps
+        → Shows lab_names manager.old (resumed_from list)
+        → MayTellUndo P.contents list progress.old progress.new }
+{
+    let course = Course { steps, kinds: &[] };
+    let mut teller = Teller {
+        alloc,
+        progress,
+        course,
+    };
+    undo_seen(manager, ends, turns, &mut teller)
+}
+
 /// Undoes a list over links to the ports that the words name.
-fn undo_on<R: Net>(
+fn undo_on<P: io::Write, R: Net>(
     rt: &R,
     alloc: Global,
     list: UndoList,
     words: &UndoWords,
+    progress: &mut Progress<P>,
 ) -> Result<Undone, Untold>
-    ensures { IfOk result (λ undone. Undoes list words.now.turns undone.manager undone.phase) }
+    ensures undoes { IfOk result (λ undone. Undoes list words.now.turns undone.manager undone.phase) }
+    ensures told { MayTellUndo P.contents list progress.old progress.new }
 {
     let ends = open_ends(rt, words.ipmb_port, words.smbus_port, words.wait_ms);
     let Some(ends) = ends else {
         return Err(Untold::Stopped);
     };
-    let Ends {
-        mut ipmb,
-        mut smbus,
-    } = ends;
+    let steps = list.requests.len();
     let Ok(mut manager) = resume_manager(alloc, list) else {
         return Err(Untold::Memory);
     };
-    let phase = undo_plan(&mut manager, &mut ipmb, &mut smbus, words.turns);
+    let phase = undo_told(alloc, &mut manager, steps, ends, words.turns, progress);
     Ok(Undone { manager, phase })
 }
 
 /// What is said of a list that is undone.
-fn undone_report<R: Net>(
+fn undone_report<P: io::Write, R: Net>(
     rt: &R,
     alloc: Global,
     list: UndoList,
     words: &UndoWords,
+    progress: &mut Progress<P>,
 ) -> Result<Report, Untold>
-    ensures { Tells (SaysUndone list words.now.turns) result }
+    ensures says { Tells (SaysUndone list words.now.turns) result }
+    ensures told { MayTellUndo P.contents list progress.old progress.new }
 {
-    let undone = undo_on(rt, alloc, list, words)?;
+    let undone = undo_on(rt, alloc, list, words, progress)?;
     Ok(phase_report(alloc, undone.phase)?)
 }
 
 /// What is said of an undo text.
-fn text_report<R: Net>(
+fn text_report<P: io::Write, R: Net>(
     rt: &R,
     alloc: Global,
     text: &str,
     words: &UndoWords,
+    progress: &mut Progress<P>,
 ) -> Result<Report, Untold>
-    ensures { Tells (Says text.now words.now.turns) result }
+    ensures says { Tells (Says text.now words.now.turns) result }
+    ensures told { TellsUndoText P.contents text.now progress.old progress.new }
 {
     match read_undo(alloc, text) {
-        Ok(list) => undone_report(rt, alloc, list, words),
+        Ok(list) => undone_report(rt, alloc, list, words, progress),
         Err(UndoFault::Memory) => Err(Untold::Memory),
         Err(why) => Ok(undo_refusal(alloc, why)?),
     }
 }
 
 /// Undoes the list of this text, and says what came of it.
-fn undo_text<W: io::Write, E: io::Write, R: Net>(
+fn undo_text<W: io::Write, E: io::Write, P: io::Write, R: Net>(
     rt: &R,
     alloc: Global,
     text: &str,
     words: &UndoWords,
+    progress: &mut Progress<P>,
     console: &mut Console<W, E>,
 ) -> u8
-    ensures { RunEnds W.contents E.contents (Says text.now words.now.turns) console.old console.new result }
+    ensures ends { RunEnds W.contents E.contents (Says text.now words.now.turns)
+        console.old console.new result }
+    ensures told { TellsUndoText P.contents text.now progress.old progress.new }
 {
-    let report = text_report(rt, alloc, text, words);
+    let report = text_report(rt, alloc, text, words, progress);
     end_run(&report, console)
 }
 
 /// Undoes the list of the file that this word names, and says what came of it.
-fn undo_file<F: TextFiles, W: io::Write, E: io::Write, R: Net>(
+fn undo_file<F: TextFiles, W: io::Write, E: io::Write, P: io::Write, R: Net>(
     rt: &R,
     alloc: Global,
     files: &F,
     word: &str,
     words: &UndoWords,
+    progress: &mut Progress<P>,
     console: &mut Console<W, E>,
 ) -> u8
-    ensures { RunEnds W.contents E.contents (SaysOfList (F.gives files.now) word.now words.now.turns) console.old console.new result }
+    ensures ends { RunEnds W.contents E.contents
+        (SaysOfList (F.gives files.now) word.now words.now.turns) console.old console.new result }
+    ensures told { TellsUndoFile P.contents (F.gives files.now) word.now progress.old progress.new }
 {
     match text_of(files, word) {
-        Ok(text) => undo_text(rt, alloc, text.as_str(), words, console),
+        Ok(text) => undo_text(rt, alloc, text.as_str(), words, progress, console),
         Err(unread) => refuse(alloc, &unread, console),
     }
 }
 
 /// Undoes the list of the file that the words name, on the controller at their two ports, and writes to standard output in which phase the
-/// manager is then. It sends a request again up to three times. It gives the status: 0, or 3 with `file` or `undo` and the fault on standard
-/// error where the file can't be read or is no undo text, 4 and no line where a link can't be had, 5 with `memory` on standard error where
-/// memory was refused, and 6 where a write failed.
-pub fn undo<F: TextFiles, W: io::Write, E: io::Write, R: Net>(
+/// manager is then. It sends a request again up to three times. Where the line of its progress is written, that tells of each step and is ended
+/// before the phase is said. It gives the status: 0, or 3 with `file` or `undo` and the fault on standard error where the file can't be read or
+/// is no undo text, 4 and no line where a link can't be had, 5 with `memory` on standard error where memory was refused, and 6 where a write
+/// of these failed.
+pub fn undo<F: TextFiles, W: io::Write, E: io::Write, P: io::Write, R: Net>(
     rt: &R,
     alloc: Global,
     files: &F,
     words: &UndoWords,
+    progress: &mut Progress<P>,
     console: &mut Console<W, E>,
 ) -> u8
-    ensures { RunEnds W.contents E.contents (SaysOfList (F.gives files.now) (string_bytes words.now.undo) words.now.turns) console.old console.new result }
+    ensures ends { RunEnds W.contents E.contents
+        (SaysOfList (F.gives files.now) (string_bytes words.now.undo) words.now.turns)
+        console.old console.new result }
+    ensures told { TellsUndoFile P.contents (F.gives files.now) (string_bytes words.now.undo)
+        progress.old progress.new }
+    ensures untold { progress.old.on ≡ false → progress.new ≡ progress.old }
 {
-    undo_file(rt, alloc, files, words.undo.as_str(), words, console)
+    let list = words.undo.as_str();
+    undo_file(rt, alloc, files, list, words, progress, console)
 }

@@ -1,7 +1,12 @@
 //! What looks at a manager while it is driven.
+ghost use Rattle.std.specs.Prelude.{◌≡◌};
+ghost use Rattle.net_run.specs.Progress.{EndsLine};
+
 use crate::beside::Beside;
 use crate::files::WritesFiles;
+use crate::progress::{Course, Moment, Progress};
 use std::alloc::Global;
+use std::io;
 use undo_core::Manager;
 
 /// Looks at a manager once in a while.
@@ -42,5 +47,55 @@ impl<F: WritesFiles> Watches for Keeper<'_, F> {
         }
         // A list that isn't kept in the middle doesn't end the run: the one before it stays.
         let _kept = self.beside.put_list(self.alloc, self.files, list);
+    }
+}
+
+/// Tells where a manager is, on a line of its own.
+#[derive(Drop)]
+pub(crate) struct Teller<'a, P: io::Write> {
+    pub alloc: Global,
+    pub progress: &'a mut Progress<P>,
+    pub course: Course<'a>,
+}
+
+impl<P: io::Write> Teller<'_, P> {
+    /// Ends the line, where one was written.
+    pub fn end(&mut self)
+        ensures ends { EndsLine P.contents self.old.progress.now self.new.progress.now }
+        ensures same_line { self.new.progress.ghost_name ≡ self.old.progress.ghost_name }
+    {
+        self.progress.end_line();
+    }
+}
+
+impl<P: io::Write> Watches for Teller<'_, P> {
+    ghost use Rattle.std.specs.Prelude.{◌≡◌};
+    ghost use Rattle.net_run.specs.Told.{LooksOn};
+
+    ghost sees = { λ old manager new. LooksOn P.contents old.course.kinds.now old.course.steps old.progress.now manager new.progress.now
+        × (new.course ≡ old.course) × (new.progress.ghost_name ≡ old.progress.ghost_name) };
+
+    fn look(&mut self, manager: &Manager) {
+        let now = Moment {
+            phase: manager.phase(),
+            resent: manager.resent(),
+        };
+        self.progress.show(self.alloc, self.course, now);
+    }
+}
+
+/// Two that look, one after the other.
+#[derive(Drop)]
+pub(crate) struct Both<A: Watches, B: Watches> {
+    pub first: A,
+    pub second: B,
+}
+
+impl<A: Watches, B: Watches> Watches for Both<A, B> {
+    ghost sees = { λ old manager new. A.sees old.first manager new.first × B.sees old.second manager new.second };
+
+    fn look(&mut self, manager: &Manager) {
+        self.first.look(manager);
+        self.second.look(manager);
     }
 }

@@ -5,7 +5,10 @@ ghost use Rattle.text_readings.specs.Text.{Stands, IsFirstBad};
 
 /// A text stands for one list at most, has one first bad line at most, and never both.
 pub fn one_readings_list()
-    ensures same { (text : List ℕ) (a b : List AnyTimed) → Stands text a → Stands text b → a ≡ b }
-    ensures apart { (text : List ℕ) (list : List AnyTimed) (n : ℕ) → Stands text list → ¬ IsFirstBad text n }
-    ensures first { (text : List ℕ) (m n : ℕ) → IsFirstBad text m → IsFirstBad text n → m ≡ n }
+    ensures same { (text : List ℕ) (a b : List AnyTimed)
+        → Stands text a → Stands text b → a ≡ b }
+    ensures apart { (text : List ℕ) (list : List AnyTimed) (n : ℕ)
+        → Stands text list → ¬ IsFirstBad text n }
+    ensures first { (text : List ℕ) (m n : ℕ)
+        → IsFirstBad text m → IsFirstBad text n → m ≡ n }
 {}

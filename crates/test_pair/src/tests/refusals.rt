@@ -1,7 +1,7 @@
 //! Files that are refused, and links that can't be had.
 use super::files::FakeFiles;
-use super::new_paper;
 use super::texts::{BOARD, PLAN, UNDO};
+use super::{new_line, new_paper};
 use bmc_net::{PairWords, RunWords, ServeWords, UndoWords, pair, run, serve, undo};
 use std::alloc::{AllocError, Global};
 use std::net::UdpSocket;
@@ -103,8 +103,13 @@ fn expect_refused_plan(
 ) -> Result<(), Fail> {
     let mut files = FakeFiles::new(alloc, texts);
     let mut paper = new_paper(alloc);
+    let mut line = new_line(alloc, true);
     let words = run_words(alloc, "plan.toml")?;
-    assert_eq!(rt; run(rt, alloc, &mut files, &words, &mut paper), 3);
+    assert_eq!(rt;
+        run(rt, alloc, &mut files, &words, &mut line, &mut paper),
+        3
+    );
+    assert!(rt; line.writer.is_empty());
     assert_eq!(rt; paper.err.as_slice(), told);
     assert!(rt; paper.out.is_empty() && files.count() == 0);
     Ok(())
@@ -127,8 +132,10 @@ fn expect_refused_list(
 ) -> Result<(), Fail> {
     let files = FakeFiles::new(alloc, texts);
     let mut paper = new_paper(alloc);
+    let mut line = new_line(alloc, true);
     let words = undo_words(alloc, "list.txt")?;
-    assert_eq!(rt; undo(rt, alloc, &files, &words, &mut paper), 3);
+    assert_eq!(rt; undo(rt, alloc, &files, &words, &mut line, &mut paper), 3);
+    assert!(rt; line.writer.is_empty());
     assert_eq!(rt; paper.err.as_slice(), told);
     assert!(rt; paper.out.is_empty());
     Ok(())
@@ -171,15 +178,23 @@ fn all_files_are_read_before_a_text_is_refused(rt: HostRuntime) -> Result<(), Fa
 fn nobody_answers_a_manager_without_turns(rt: HostRuntime) -> Result<(), Fail> {
     let mut files = FakeFiles::new(rt.alloc(), &[("plan.toml", PLAN), ("list.txt", UNDO)]);
     let mut paper = new_paper(rt.alloc());
+    let mut line = new_line(rt.alloc(), false);
     let words = run_words(rt.alloc(), "plan.toml")?;
-    assert_eq!(rt; run(&rt, rt.alloc(), &mut files, &words, &mut paper), 0);
+    assert_eq!(rt;
+        run(&rt, rt.alloc(), &mut files, &words, &mut line, &mut paper),
+        0
+    );
     assert_eq!(rt; paper.out.as_slice(), b"phase Getting 0\n".as_slice());
     assert!(rt; paper.err.is_empty() && files.count() == 1);
     assert_eq!(rt; files.text_at("out.txt.part"), Some(NOTHING_DONE));
     let mut paper = new_paper(rt.alloc());
     let words = undo_words(rt.alloc(), "list.txt")?;
-    assert_eq!(rt; undo(&rt, rt.alloc(), &files, &words, &mut paper), 0);
+    assert_eq!(rt;
+        undo(&rt, rt.alloc(), &files, &words, &mut line, &mut paper),
+        0
+    );
     assert_eq!(rt; paper.out.as_slice(), b"phase Undoing 0\n".as_slice());
+    assert!(rt; line.writer.is_empty());
     Ok(())
 }
 
@@ -199,8 +214,13 @@ fn expect_run(
     let mut files = FakeFiles::new(alloc, &[("empty.toml", "")]);
     files.changes_left = changes;
     let mut paper = new_paper(alloc);
+    let mut line = new_line(alloc, true);
     let words = run_words(alloc, "empty.toml")?;
-    assert_eq!(rt; run(rt, alloc, &mut files, &words, &mut paper), status);
+    assert_eq!(rt;
+        run(rt, alloc, &mut files, &words, &mut line, &mut paper),
+        status
+    );
+    assert!(rt; line.writer.is_empty());
     assert_eq!(rt; paper.out.as_slice(), out);
     assert_eq!(rt; paper.err.as_slice(), err);
     Ok((

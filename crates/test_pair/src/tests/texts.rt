@@ -58,6 +58,20 @@ assert = [7, 9]
 deassert = []
 ";
 
+/// A plan of two steps, whose requests are sent again once.
+pub(crate) const TWO_STEPS: &str = "retries = 1
+
+[[step]]
+kind = \"power-policy\"
+policy = 2
+
+[[step]]
+kind = \"hysteresis\"
+sensor = 5
+positive = 1
+negative = 1
+";
+
 /// A plan that halts before its Set: what sensor 7's upper non-recoverable threshold was can't be read.
 pub(crate) const UNREADABLE: &str = "[[step]]
 kind = \"thresholds\"

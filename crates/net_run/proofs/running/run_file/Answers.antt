@@ -5,8 +5,8 @@ use Rattle.bmc_lab.specs.Report.{file_line}
 use Rattle.net_run.specs.Run.{SaysUnread}
 use Rattle.net_run.proofs.running.run_file.Goals as goal
 
-pub returns-in-Err : goal.returns-in-Err
-returns-in-Err g c =
+pub returns-in-Err-clause-ends : goal.returns-in-Err-clause-ends
+returns-in-Err-clause-ends g c =
     inr (
       refl,
       run_ends_as g.W.Write.contents g.E.Write.contents (Refuses c.in-Err.unread.why c.in-Err.unread.word.now) (SaysUnread (g.F.TextFiles.gives c.args.files.now) c.args.word.now)

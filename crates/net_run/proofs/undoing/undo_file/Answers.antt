@@ -5,8 +5,8 @@ use Rattle.bmc_lab.specs.Report.{file_line}
 use Rattle.net_run.specs.Undo.{SaysOfList}
 use Rattle.net_run.proofs.undoing.undo_file.Goals as goal
 
-pub returns-in-Err : goal.returns-in-Err
-returns-in-Err g c =
+pub returns-in-Err-clause-ends : goal.returns-in-Err-clause-ends
+returns-in-Err-clause-ends g c =
     run_ends_as g.W.Write.contents g.E.Write.contents (Refuses c.in-Err.unread.why c.in-Err.unread.word.now)
     (SaysOfList (g.F.TextFiles.gives c.args.files.now) c.args.word.now c.args.words.now.turns) c.args.console.now c.refuse.new.console c.refuse.result
     (λ stream said status told. inr (c.in-Err.unread.why, c.in-Err.ensures.unread, (told.0, told.1, told.2 ∙ ap file_line c.in-Err.ensures.word, told.3)))
