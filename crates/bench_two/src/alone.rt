@@ -15,10 +15,10 @@ fn serve_round(port: &mut Port, board: &mut Board<Records>, frames: &[Vec<u8>], 
 }
 
 /// Hands the frames to the port, so many times over.
-fn serve_all(port: &mut Port, board: &mut Board<Records>, frames: &[Vec<u8>], times: u32) {
+fn serve_all(mut port: Port, board: &mut Board<Records>, frames: &[Vec<u8>], times: u32) {
     let mut out = Out::new();
     for _ in 0..times {
-        serve_round(port, board, frames, &mut out);
+        serve_round(&mut port, board, frames, &mut out);
     }
 }
 
@@ -30,14 +30,27 @@ pub fn open_sample(alloc: Global) -> Option<Board<Records>> {
     }
 }
 
+/// How long the frames of both ports take on this board.
+fn time_ports<R: Clock>(
+    rt: &R,
+    board: &mut Board<Records>,
+    ports: [Port; 2],
+    asked: &Asked,
+) -> Option<Duration> {
+    let [ipmb, smbus] = ports;
+    let start = Instant::now(rt).ok();
+    serve_all(ipmb, board, asked.ipmb.as_slice(), asked.times);
+    serve_all(smbus, board, asked.smbus.as_slice(), asked.times);
+    start.and_then(|start| start.elapsed(rt).ok())
+}
+
 /// How long the frames of both ports take on the sample board.
 pub fn time_alone<R: Clock>(rt: &R, alloc: Global, asked: &Asked) -> Option<Duration> {
-    let Ok([mut ipmb, mut smbus]) = controller_ports(alloc) else {
+    let Ok(ports) = controller_ports(alloc) else {
         return None;
     };
-    let mut board = open_sample(alloc)?;
-    let start = Instant::now(rt).ok();
-    serve_all(&mut ipmb, &mut board, asked.ipmb.as_slice(), asked.times);
-    serve_all(&mut smbus, &mut board, asked.smbus.as_slice(), asked.times);
-    start?.elapsed(rt).ok()
+    match open_sample(alloc) {
+        Some(mut board) => time_ports(rt, &mut board, ports, asked),
+        None => None,
+    }
 }

@@ -48,13 +48,13 @@ fn serve_round<J: Opening>(
 fn serve_all<J: Opening>(
     held: &mut Held<J, Records>,
     seat: u8,
-    port: &mut Port,
+    mut port: Port,
     frames: &[Vec<u8>],
     times: u32,
 ) {
     let mut out = Out::new();
     for _ in 0..times {
-        serve_round(held, seat, port, frames, &mut out);
+        serve_round(held, seat, &mut port, frames, &mut out);
     }
 }
 
@@ -65,10 +65,10 @@ fn time_ports<J: Opening, R: Clock>(
     ports: [Port; 2],
     asked: &Asked,
 ) -> Option<Duration> {
-    let [mut ipmb, mut smbus] = ports;
+    let [ipmb, smbus] = ports;
     let start = Instant::now(rt).ok();
-    serve_all(held, 0, &mut ipmb, asked.ipmb.as_slice(), asked.times);
-    serve_all(held, 1, &mut smbus, asked.smbus.as_slice(), asked.times);
+    serve_all(held, 0, ipmb, asked.ipmb.as_slice(), asked.times);
+    serve_all(held, 1, smbus, asked.smbus.as_slice(), asked.times);
     start.and_then(|start| start.elapsed(rt).ok())
 }
 

@@ -8,7 +8,7 @@ use crate::alone::open_sample;
 use crate::frames::link_of;
 use bmc_board::{Board, Records};
 use bmc_core::Port;
-use bmc_ports::{Gate, MOST_EVENTS, MemLink, Opening, Seats, Shared, serve_port};
+use bmc_ports::{Gate, MOST_EVENTS, MemLink, Opening, Seat, Seats, Shared, serve_port};
 use net_serve::{close_board, controller_ports, work};
 use std::alloc::Global;
 use std::marker::Brand;
@@ -64,21 +64,36 @@ fn sides_of(alloc: Global, asked: &Asked) -> Option<Sides> {
     }
 }
 
+/// Serves a port in this thread.
+fn serve_one<J: Opening, R: Wait>(
+    rt: &R,
+    shared: &Shared<J, Records>,
+    seat: &mut Seat<J>,
+    mut port: Port,
+    mut link: MemLink,
+    turns: u32,
+)
+    ensures { seat.new.number ≡ seat.old.number }
+{
+    serve_port(rt, shared, seat, &mut port, &mut link, &Open, turns);
+}
+
 /// Serves the one port and then the other.
 fn serve_in_turn<J: Opening, R: Wait>(
     rt: &R,
     shared: &Shared<J, Records>,
     mut seats: Seats<J>,
-    sides: &mut Sides,
+    sides: Sides,
 ) -> Seats<J> {
     let Sides {
-        ports: [ipmb_port, smbus_port],
+        ports,
         ipmb,
         smbus,
         turns,
     } = sides;
-    serve_port(rt, shared, &mut seats.first, ipmb_port, ipmb, &Open, *turns);
-    serve_port(rt, shared, &mut seats.second, smbus_port, smbus, &Open, *turns);
+    let [first, second] = ports;
+    serve_one(rt, shared, &mut seats.first, first, ipmb, turns);
+    serve_one(rt, shared, &mut seats.second, second, smbus, turns);
     seats
 }
 
@@ -103,13 +118,13 @@ fn time_work<J: Opening + Send + Sync, R: Threads + Wait + Clock + Sync>(
     rt: &R,
     shared: &Shared<J, Records>,
     seats: Seats<J>,
-    mut sides: Sides,
+    sides: Sides,
     way: Way,
 ) -> Option<(Seats<J>, Duration)> {
     let start = Instant::now(rt).ok();
     let seats = match way {
         Way::Together => serve_together(rt, shared, seats, sides),
-        Way::InTurn => Some(serve_in_turn(rt, shared, seats, &mut sides)),
+        Way::InTurn => Some(serve_in_turn(rt, shared, seats, sides)),
     };
     let took = start.and_then(|start| start.elapsed(rt).ok());
     match (seats, took) {
