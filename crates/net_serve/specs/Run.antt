@@ -1,9 +1,15 @@
 -- What a run of `bmcnet serve` says.
-use Rattle.std.specs.Prelude.{◌≡◌, ◌⊎◌, ◌++◌, ◌∷◌, ℕ, List, [], Option, Ok, Err, codes, string_bytes}
+use Rattle.std.specs.Prelude.{◌≡◌, ◌⊎◌, ◌++◌, ◌∷◌, ℕ, List, [], Option, None, Some, option_map, Ok, Err, codes, string_bytes}
 use Rattle.std.specs.Fmt.{decimal}
 use Rattle.cfg_records.specs.declared.board_file.BoardFile.{BoardFile}
 use Rattle.text_board.specs.declared.fault.FileFault.{FileFault}
 use Rattle.text_board.specs.Holds.{Reads}
+use Rattle.text_lines.specs.Cuts.{ended}
+use Rattle.text_readings.specs.declared.text.ReadingsFault.{ReadingsFault}
+use Rattle.text_readings.specs.declared.text.ReadingsFault.TheVariants.{Memory, Line}
+use Rattle.text_readings.specs.Names.{readings_fault_name}
+use Rattle.text_readings.specs.Text.{IsFirstBad, Stands}
+use Rattle.bmc_ports.specs.declared.timed.Timed.{Timed}
 use Rattle.bmc_lab.specs.declared.console.Console.{Console}
 use Rattle.bmc_lab.specs.declared.console.Stream.TheVariants.{Output, Error}
 use Rattle.bmc_lab.specs.declared.status.Status.TheVariants.{Success, RefusedFile, Stopped}
@@ -18,6 +24,32 @@ use Rattle.net_serve.specs.Served.{TellsServed}
 -- the text is a board file
 abbrev pub IsBoard : List ℕ → Type 0
 IsBoard text = (file : BoardFile) × Reads text (Ok file)
+
+-- ---- the readings
+
+-- a text of readings, where there is one, stands for this list
+abbrev pub StandsFor : Option (List ℕ) → Option (List Timed) → Type 0
+StandsFor None None = Unit {0}
+StandsFor (Some text) (Some list) = Stands text list
+StandsFor given list = ⊥
+
+-- it stands for a list, or there is none
+abbrev pub AreReadings : Option (List ℕ) → Type 0
+AreReadings given = (list : Option (List Timed)) × StandsFor given list
+
+-- there is one, and this is its first bad line
+abbrev pub IsBadAt : Option (List ℕ) → ℕ → Type 0
+IsBadAt None line = ⊥
+IsBadAt (Some text) line = IsFirstBad text line
+
+-- why a text of readings, where there is one, stands for no list: memory was refused, or this is its first bad line
+abbrev pub IsRefused : Option (List ℕ) → ReadingsFault → Type 0
+IsRefused given Memory = Unit {0}
+IsRefused given (Line line) = IsBadAt given line
+
+-- what is said of a text of readings that is refused
+abbrev pub readings_line : ReadingsFault → List ℕ
+readings_line why = ended (codes "readings " ++ readings_fault_name why)
 
 -- ---- the ports
 
@@ -37,26 +69,39 @@ TellsPorts out err words old new =
 
 -- ---- the board
 
--- what is said of a board file's text that isn't served: why it holds no board, or nothing, where a link can't be had
-abbrev pub SaysUnserved : (board : List ℕ) → Saying
-SaysUnserved board Output text status = ⊥
-SaysUnserved board Error text status =
+-- What is said of a board file's text, and of a text of readings, where there is one, that aren't served: why the first holds no board, or the
+-- first bad line of the second; or nothing, where a link can't be had.
+abbrev pub SaysUnserved : (board : List ℕ) → (given : Option (List ℕ)) → Saying
+SaysUnserved board given Output text status = ⊥
+SaysUnserved board given Error text status =
     ((why : FileFault) × Reads board (Err why) × (text ≡ board_line why) × (status ≡ RefusedFile))
-    ⊎ (IsBoard board × (text ≡ []) × (status ≡ Stopped))
+    ⊎ ((IsBoard board × (line : ℕ) × IsBadAt given line × (text ≡ readings_line (Line line)) × (status ≡ RefusedFile))
+    ⊎ (IsBoard board × AreReadings given × (text ≡ []) × (status ≡ Stopped)))
 
 -- what is said of a board that is served: on standard output how it was served, or nothing, where the serving came to no end
-abbrev pub SaysServed : ServeWords → (board : List ℕ) → Saying
-SaysServed words board Output text status = (file : BoardFile) × Reads board (Ok file) × TellsServed words.periods file text × (status ≡ Success)
-SaysServed words board Error text status = IsBoard board × (text ≡ []) × (status ≡ Stopped)
+abbrev pub SaysServed : ServeWords → (board : List ℕ) → (given : Option (List ℕ)) → Saying
+SaysServed words board given Output text status =
+    (file : BoardFile) × Reads board (Ok file) × (list : Option (List Timed)) × StandsFor given list
+    × TellsServed words.periods list file text × (status ≡ Success)
+SaysServed words board given Error text status = IsBoard board × AreReadings given × (text ≡ []) × (status ≡ Stopped)
 
--- So a run ends that serves the board of a text: it isn't served, or both ports are told of first.
-abbrev pub TextEnds : {W E : Type 0} → (out : W → Option (List ℕ)) → (err : E → Option (List ℕ)) → ServeWords → (board : List ℕ) → (old new : Console W E) → ℕ → Type 0
-TextEnds {W} {E} out err words board old new result =
-    RunEnds out err (SaysUnserved board) old new result
-    ⊎ ((told : Console W E) × TellsPorts out err words old told × RunEnds out err (SaysServed words board) told new result)
+-- So a run ends that serves the board of a text, with a text of readings, where there is one: it isn't served, or both ports are told of first.
+abbrev pub TextEnds : {W E : Type 0} → (out : W → Option (List ℕ)) → (err : E → Option (List ℕ)) → ServeWords → (board : List ℕ) → (given : Option (List ℕ))
+    → (old new : Console W E) → ℕ → Type 0
+TextEnds {W} {E} out err words board given old new result =
+    RunEnds out err (SaysUnserved board given) old new result
+    ⊎ ((told : Console W E) × TellsPorts out err words old told × RunEnds out err (SaysServed words board given) told new result)
+
+-- So it ends where the board file was read: as it does with its text and that of the readings, where a word names them, or that file isn't read.
+abbrev pub BesideEnds : {W E : Type 0} → (out : W → Option (List ℕ)) → (err : E → Option (List ℕ)) → Readings → ServeWords → (word : Option (List ℕ)) → (board : List ℕ)
+    → (old new : Console W E) → ℕ → Type 0
+BesideEnds out err gives words None board old new result = TextEnds out err words board None old new result
+BesideEnds out err gives words (Some word) board old new result =
+    ((text : List ℕ) × gives word (Ok text) × TextEnds out err words board (Some text) old new result)
+    ⊎ ((why : Unreadable) × gives word (Err why) × RunEnds out err (Refuses why word) old new result)
 
 -- So a run of `serve` ends: as it does with the text of the board file, or that file isn't read.
 abbrev pub ServeEnds : {W E : Type 0} → (out : W → Option (List ℕ)) → (err : E → Option (List ℕ)) → Readings → ServeWords → (old new : Console W E) → ℕ → Type 0
 ServeEnds out err gives words old new result =
-    ((board : List ℕ) × gives (string_bytes words.board) (Ok board) × TextEnds out err words board old new result)
+    ((board : List ℕ) × gives (string_bytes words.board) (Ok board) × BesideEnds out err gives words (option_map string_bytes words.readings) board old new result)
     ⊎ ((why : Unreadable) × gives (string_bytes words.board) (Err why) × RunEnds out err (Refuses why (string_bytes words.board)) old new result)

@@ -1,5 +1,5 @@
 -- What a board was served, and what is said of it.
-use Rattle.std.specs.Prelude.{◌≡◌, ◌≤◌, ℕ, Bool, true, false, List, [], ◌∷◌, ◌++◌, length, codes}
+use Rattle.std.specs.Prelude.{◌≡◌, ◌≤◌, ℕ, Bool, true, false, List, [], ◌∷◌, ◌++◌, Option, None, Some, Vec, option_map, length, codes}
 use Rattle.std.specs.Fmt.{decimal}
 use Rattle.std.specs.List.{flat_map, sum_by}
 use Rattle.text_lines.specs.Cuts.{ended}
@@ -8,7 +8,10 @@ use Rattle.cfg_records.specs.Boards.{pairs_of}
 use Rattle.bmc_board.specs.State.{State, state_of, opened}
 use Rattle.bmc_board.specs.OwnStore.{own_records}
 use Rattle.bmc_history.specs.declared.event.Event.{Event}
-use Rattle.bmc_history.specs.Replay.{Replays}
+use Rattle.bmc_history.specs.Replay.{Replays, calls_of}
+use Rattle.bmc_ports.specs.declared.timed.Timed.{Timed}
+use Rattle.bmc_ports.specs.declared.timed.Timetable.{Timetable}
+use Rattle.bmc_ports.specs.Timing.{Gains}
 use Rattle.changed_records.specs.Changed.{changed_in, records_line}
 use Rattle.net_serve.specs.declared.board.Served.{Served}
 use Rattle.net_serve.specs.declared.tally.Begun.{Begun}
@@ -40,11 +43,31 @@ abbrev pub IsCount : (several : Bool) → ℕ → Type 0
 IsCount true count = Unit {0}
 IsCount false count = count ≡ 1
 
--- Some histories of the file's board, one unless there may be several, have so many events in all, and lead to a state in which so many of
--- the file's records have another value.
-pub record Tallies (several : Bool) (file : BoardFile) (events changed : ℕ) : Type 0 where
+-- the list that there is, of what is to happen on the board
+abbrev pub list_in : {A : Type 0} → Option (Vec Timed A) → Option (List Timed)
+list_in given = option_map (λ list. list.items) given
+
+-- all that is to happen
+abbrev pub all_of : Option (List Timed) → List Timed
+all_of None = []
+all_of (Some list) = list
+
+-- the timetable is this list, of which nothing has happened
+pub record IsAll (given : Option (List Timed)) (table : Timetable) : Type 0 where
+  pub list : table.list.now ≡ all_of given
+  pub next : table.next ≡ 0
+
+-- Where there is a list of what is to happen on the board, what the histories have of the scanner's seat is its first events, in their order.
+abbrev pub Plays : Option (List Timed) → List (List Event) → Type 0
+Plays None histories = Unit {0}
+Plays (Some list) histories = (place : ℕ) × Gains list 0 place [] (flat_map (calls_of 2) histories)
+
+-- Some histories of the file's board, one unless there may be several, play the list, where there is one. They have so many events in all, and lead
+-- to a state in which so many of the file's records have another value.
+pub record Tallies (several : Bool) (list : Option (List Timed)) (file : BoardFile) (events changed : ℕ) : Type 0 where
   pub histories : List (List Event)
   pub after : State
+  pub plays : Plays list histories
   pub count : IsCount several (length histories)
   pub lead : Lead file (opened file) histories after
   pub counted : events ≡ sum_by length histories
@@ -59,8 +82,8 @@ abbrev pub text_of : (events changed : ℕ) → List ℕ
 text_of events changed = flat_map ended (served_line events ∷ records_line changed ∷ [])
 
 -- the text tells of such histories
-pub record TellsServed (several : Bool) (file : BoardFile) (text : List ℕ) : Type 0 where
+pub record TellsServed (several : Bool) (list : Option (List Timed)) (file : BoardFile) (text : List ℕ) : Type 0 where
   pub events : ℕ
   pub changed : ℕ
-  pub tallies : Tallies several file events changed
+  pub tallies : Tallies several list file events changed
   pub said : text ≡ text_of events changed

@@ -1,19 +1,22 @@
 //! The board of a file, served over two links, and what is counted of it.
-ghost use Rattle.std.specs.Prelude.{◌≡◌, false, true, IfOk};
+ghost use Rattle.std.specs.Prelude.{◌≡◌, false, true, List, Option, None, IfOk};
 ghost use Rattle.cfg_records.specs.declared.board_file.BoardFile.{BoardFile as AnyFile};
-ghost use Rattle.net_serve.specs.Served.{IsBegun, Tallies};
+ghost use Rattle.bmc_ports.specs.declared.timed.Timed.{Timed as AnyTimed};
+ghost use Rattle.net_serve.specs.Served.{IsAll, IsBegun, Tallies, list_in};
 
 use crate::board::{controller_ports, serve_over};
 use crate::periods::{Course, serve_periods};
+use crate::readings::table_of;
 use crate::run::ServeWords;
 use crate::tally::{Begun, Tally, begin, count, tally_of};
 use bmc_core::Port;
 use bmc_lab::Untold;
-use bmc_ports::{Lane, Lanes, Link};
+use bmc_ports::{Lane, Lanes, Link, Timed, Timetable};
 use cfg_records::BoardFile;
 use std::alloc::Global;
 use std::sync::Wait;
 use std::thread::Threads;
+use std::time::Clock;
 
 /// Both ports with their links, and so many turns each.
 fn lanes_of<A: Drop, B: Drop>(ports: [Port; 2], ipmb: A, smbus: B, turns: u32) -> Lanes<A, B>
@@ -41,7 +44,7 @@ where
     B: Link + Send + Drop,
     R: Threads + Wait + Sync,
     ensures { (file : AnyFile) → IsBegun file begun
-        → IfOk result (λ tally. Tallies false file tally.events tally.changed) }
+        → IfOk result (λ tally. Tallies false None file tally.events tally.changed) }
 {
     let Begun { start, board } = begun;
     match serve_over(rt, alloc, board, ports, &mut ipmb, &mut smbus, turns) {
@@ -56,17 +59,19 @@ fn served_in_one<A, B, R>(
     alloc: Global,
     begun: Begun,
     lanes: Lanes<A, B>,
+    table: Timetable<'_>,
     quiet: Option<u32>,
 ) -> Result<Tally, Untold>
 where
     A: Link + Send + Drop,
     B: Link + Send + Drop,
-    R: Threads + Wait + Sync,
-    ensures { (file : AnyFile) → IsBegun file begun
-        → IfOk result (λ tally. Tallies false file tally.events tally.changed) }
+    R: Threads + Wait + Clock + Sync,
+    ensures { (file : AnyFile) (given : Option (List AnyTimed)) → IsBegun file begun
+        → IsAll given table.entry
+        → IfOk result (λ tally. Tallies false given file tally.events tally.changed) }
 {
     let Begun { start, board } = begun;
-    let course = Course::new(board, lanes);
+    let course = Course::new(board, lanes, table);
     match course.go_on(rt, alloc, quiet) {
         Ok(next) => Ok(count(start.as_slice(), &next.board, next.events)),
         Err(why) => Err(why),
@@ -79,27 +84,31 @@ fn served_in_periods<A, B, R>(
     alloc: Global,
     begun: Begun,
     lanes: Lanes<A, B>,
+    table: Timetable<'_>,
     quiet: Option<u32>,
 ) -> Result<Tally, Untold>
 where
     A: Link + Send + Drop,
     B: Link + Send + Drop,
-    R: Threads + Wait + Sync,
-    ensures { (file : AnyFile) → IsBegun file begun
-        → IfOk result (λ tally. Tallies true file tally.events tally.changed) }
+    R: Threads + Wait + Clock + Sync,
+    ensures { (file : AnyFile) (given : Option (List AnyTimed)) → IsBegun file begun
+        → IsAll given table.entry
+        → IfOk result (λ tally. Tallies true given file tally.events tally.changed) }
 {
     let Begun { start, board } = begun;
-    match serve_periods(rt, alloc, board, lanes, quiet) {
+    match serve_periods(rt, alloc, board, lanes, table, quiet) {
         Ok(course) => Ok(count(start.as_slice(), &course.board, course.events)),
         Err(why) => Err(why),
     }
 }
 
-/// Serves the board of a file over two links as the words say, and counts what came of it.
+/// Serves the board of a file over two links as the words say, while what is on the list happens, where there is one, and counts what came of
+/// it.
 pub(crate) fn served<A, B, R>(
     rt: &R,
     alloc: Global,
     file: BoardFile,
+    readings: &Option<Vec<Timed>>,
     ipmb: A,
     smbus: B,
     words: &ServeWords,
@@ -107,8 +116,9 @@ pub(crate) fn served<A, B, R>(
 where
     A: Link + Send + Drop,
     B: Link + Send + Drop,
-    R: Threads + Wait + Sync,
-    ensures { IfOk result (λ tally. Tallies words.now.periods file tally.events tally.changed) }
+    R: Threads + Wait + Clock + Sync,
+    ensures { IfOk result (λ tally. Tallies words.now.periods (list_in readings.now) file
+        tally.events tally.changed) }
 {
     let Ok(ports) = controller_ports(alloc) else {
         return Err(Untold::Memory);
@@ -118,10 +128,10 @@ where
     };
     if words.periods {
         let lanes = lanes_of(ports, ipmb, smbus, words.turns);
-        served_in_periods(rt, alloc, begun, lanes, words.quiet)
-    } else if words.quiet.is_some() {
+        served_in_periods(rt, alloc, begun, lanes, table_of(rt, readings), words.quiet)
+    } else if words.quiet.is_some() || readings.is_some() {
         let lanes = lanes_of(ports, ipmb, smbus, words.turns);
-        served_in_one(rt, alloc, begun, lanes, words.quiet)
+        served_in_one(rt, alloc, begun, lanes, table_of(rt, readings), words.quiet)
     } else {
         served_once(rt, alloc, begun, ports, ipmb, smbus, words.turns)
     }

@@ -5,6 +5,7 @@ pub mod board;
 mod counting;
 mod ends;
 pub mod periods;
+mod readings;
 pub mod run;
 pub mod tally;
 

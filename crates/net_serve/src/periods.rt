@@ -1,4 +1,4 @@
-//! A board that is served period by period, each with a history of its own, over the same ports and links.
+//! A board that is served period by period, each with a history of its own, over the same ports and links, while a timetable goes on.
 ghost use Rattle.std.specs.Prelude.{◌≡◌, ◌<◌, ◌+◌, ◌^◌, ◌↔◌, IfOk, IsTrue};
 ghost use Rattle.bmc_ports.specs.Slices.{EndsAt};
 ghost use Rattle.bmc_board.specs.State.{state_of};
@@ -9,18 +9,23 @@ ghost use Rattle.net_serve.specs.Periods.{IsPeriod, IsClosed, GoesToNext, RunsTo
 use crate::board::OpenGate;
 use bmc_board::{Board, Records};
 use bmc_lab::Untold;
-use bmc_ports::{History, Lanes, Link, MOST_EVENTS, NoThread, Opening, Shared, Sliced, run_slices};
+use bmc_ports::{
+    History, Lanes, Link, MOST_EVENTS, NoThread, Opening, Shared, Sliced, Timetable, run_slices,
+};
 use std::alloc::Global;
 use std::marker::Brand;
 use std::sync::Wait;
 use std::sync::ledger::Blank;
 use std::thread::Threads;
+use std::time::Clock;
 
-/// A board that was served so far: with which ports, links and turns it's served on, and how many events its histories have in all.
+/// A board that was served so far: with which ports, links and turns it's served on, what is to happen on it, and how many events its
+/// histories have in all.
 #[derive(Drop)]
-pub struct Course<A, B> {
+pub struct Course<'a, A, B> {
     pub board: Board<Records>,
     pub lanes: Lanes<A, B>,
+    pub table: Timetable<'a>,
     pub events: usize,
 }
 
@@ -29,6 +34,8 @@ pub struct Course<A, B> {
 struct Period<A, B> {
     board: Board<Records>,
     lanes: Lanes<A, B>,
+    /// The place of the first of the timetable that hasn't happened.
+    next: usize,
     history: History,
 }
 
@@ -42,17 +49,21 @@ fn close_period<J: Opening, A: Drop, B: Drop>(
         (state_of own_records period.board) J.room sliced.seats period.history) }
     ensures setup { IfOk result (λ period. period.board.setup ≡ J.setup) }
     ensures lanes { IfOk result (λ period. period.lanes ≡ sliced.lanes) }
+    ensures next { IfOk result (λ period. period.next ≡ sliced.next) }
 {
     let Sliced {
         seats,
         lanes,
+        next,
         first_end: _,
         second_end: _,
+        scanner_end: _,
     } = sliced;
     match shared.close(seats) {
         Ok((board, history)) => Ok(Period {
             board,
             lanes,
+            next,
             history,
         }),
         Err(_) => Err(Untold::Stopped),
@@ -67,13 +78,14 @@ fn serve_opened<J, A, B, R>(
     board: Board<Records>,
     room: usize,
     lanes: Lanes<A, B>,
+    table: Timetable<'_>,
     quiet: Option<u32>,
 ) -> Result<Period<A, B>, Untold>
 where
     J: Opening + Send + Sync,
     A: Link + Send + Drop,
     B: Link + Send + Drop,
-    R: Threads + Wait + Sync,
+    R: Threads + Wait + Clock + Sync,
     requires name { blank.name ≡ J.name }
     requires parts { blank.parts ≡ J.parts }
     requires three { blank.parts ≡ 3 }
@@ -82,49 +94,64 @@ where
     requires room { room ≡ J.room }
     requires most { room ≡ most_events }
     ensures period { IfOk result (λ period. IsPeriod A.counts_of B.counts_of J.setup J.opening
-        (state_of own_records period.board) lanes period.lanes period.history) }
+        (state_of own_records period.board) lanes period.lanes
+        table.entry.list.now table.entry.next period.next period.history) }
     ensures setup { IfOk result (λ period. period.board.setup ≡ J.setup) }
 {
     let Ok((shared, seats)) = Shared::<J, Records>::open(alloc, blank, board, room) else {
         return Err(Untold::Memory);
     };
-    match run_slices(rt, &shared, seats, lanes, &OpenGate, quiet) {
+    match run_slices(rt, &shared, seats, lanes, table, &OpenGate, quiet) {
         Ok(sliced) => close_period(shared, sliced),
         Err(NoThread) => Err(Untold::Stopped),
     }
 }
 
-/// Serves a board for a period: until both workers made their turns, until both links were quiet for so many turns in a row, where a number
-/// is given, or until its history is full.
+/// Serves a board for a period, while what is left of the timetable happens on it: until both workers made their turns, until both links were
+/// quiet for so many turns in a row, where a number is given, or until its history is full.
 fn serve_period<A, B, R>(
     rt: &R,
     alloc: Global,
     board: Board<Records>,
     lanes: Lanes<A, B>,
+    table: Timetable<'_>,
     quiet: Option<u32>,
 ) -> Result<Period<A, B>, Untold>
 where
     A: Link + Send + Drop,
     B: Link + Send + Drop,
-    R: Threads + Wait + Sync,
+    R: Threads + Wait + Clock + Sync,
     ensures period { IfOk result (λ period. IsPeriod A.counts_of B.counts_of board.setup
-        (state_of own_records board) (state_of own_records period.board) lanes period.lanes period.history) }
+        (state_of own_records board) (state_of own_records period.board) lanes period.lanes
+        table.entry.list.now table.entry.next period.next period.history) }
     ensures setup { IfOk result (λ period. period.board.setup ≡ board.setup) }
 {
-    serve_opened::<Brand, A, B, R>(rt, alloc, Blank::new(3), board, MOST_EVENTS, lanes, quiet)
+    serve_opened::<Brand, A, B, R>(
+        rt,
+        alloc,
+        Blank::new(3),
+        board,
+        MOST_EVENTS,
+        lanes,
+        table,
+        quiet,
+    )
 }
 
-impl<A: Link + Send + Drop, B: Link + Send + Drop> Course<A, B> {
+impl<'a, A: Link + Send + Drop, B: Link + Send + Drop> Course<'a, A, B> {
     /// A board that is to be served.
-    pub fn new(board: Board<Records>, lanes: Lanes<A, B>) -> Self
+    pub fn new(board: Board<Records>, lanes: Lanes<A, B>, table: Timetable<'a>) -> Self
         ensures setup { result.board.setup ≡ board.setup }
         ensures state { state_of own_records result.board ≡ state_of own_records board }
         ensures lanes { result.lanes ≡ lanes }
+        ensures list { result.table.list ≡ table.entry.list }
+        ensures next { result.table.next ≡ table.entry.next }
         ensures events { result.events ≡ 0 }
     {
         Course {
             board,
             lanes,
+            table,
             events: 0,
         }
     }
@@ -136,31 +163,34 @@ impl<A: Link + Send + Drop, B: Link + Send + Drop> Course<A, B> {
         self.lanes.are_over(quiet)
     }
 
-    /// Serves the board for a period more, and counts its history. A period's room is taken anew.
-    pub fn go_on<R: Threads + Wait + Sync>(
+    /// Serves the board for a period more, and counts its history. A period's room is taken anew, and the timetable goes on where it was.
+    pub fn go_on<R: Threads + Wait + Clock + Sync>(
         self,
         rt: &R,
         alloc: Global,
         quiet: Option<u32>,
     ) -> Result<Self, Untold>
         requires { self.events + most_events < 2 ^ 64 }
-        ensures { IfOk result (λ next. GoesToNext A.counts_of B.counts_of self next) }
+        ensures { IfOk result (λ next. GoesToNext A.counts_of B.counts_of self.entry next) }
     {
         let Course {
             board,
             lanes,
+            table,
             events,
         } = self;
-        match serve_period(rt, alloc, board, lanes, quiet) {
+        match serve_period(rt, alloc, board, lanes, table.from(table.next), quiet) {
             Ok(
                 Period {
                     board,
                     lanes,
+                    next,
                     history,
                 },
             ) => Ok(Course {
                 board,
                 lanes,
+                table: table.from(next),
                 events: events + history.len(),
             }),
             Err(why) => Err(why),
@@ -169,26 +199,27 @@ impl<A: Link + Send + Drop, B: Link + Send + Drop> Course<A, B> {
 }
 
 /// Serves a board over two lanes until both workers made all their turns, or until nothing was heard over either link for so many turns in a
-/// row, where a number is given. Each history that is full is closed, which checks that its seats'
-/// lists are the history's; then the next period begins with the same board, ports and links, and the turns that are left. What comes
-/// meanwhile waits in the links.
-pub fn serve_periods<A, B, R>(
+/// row, where a number is given. Meanwhile what the timetable has happens on the board. Each history that is full is closed, which checks that
+/// its seats' lists are the history's; then the next period begins with the same board, ports and links, the turns that are left, and what is
+/// left of the timetable. What comes meanwhile waits in the links.
+pub fn serve_periods<'a, A, B, R>(
     rt: &R,
     alloc: Global,
     board: Board<Records>,
     lanes: Lanes<A, B>,
+    table: Timetable<'a>,
     quiet: Option<u32>,
-) -> Result<Course<A, B>, Untold>
+) -> Result<Course<'a, A, B>, Untold>
 where
     A: Link + Send + Drop,
     B: Link + Send + Drop,
-    R: Threads + Wait + Sync,
-    ensures runs { IfOk result
-        (RunsTo A.counts_of B.counts_of board.setup (state_of own_records board) lanes) }
+    R: Threads + Wait + Clock + Sync,
+    ensures runs { IfOk result (RunsTo A.counts_of B.counts_of board.setup
+        (state_of own_records board) lanes table.entry.list.now table.entry.next) }
     ensures over { IfOk result (λ course. EndsAt quiet course.lanes) }
 {
     let most = u64::from(lanes.first.turns) + u64::from(lanes.second.turns);
-    let mut course = Course::new(board, lanes);
+    let mut course = Course::new(board, lanes, table);
     for _ in 0..most {
         if course.is_over(quiet) {
             return Ok(course);

@@ -2,6 +2,6 @@ use Rattle.net_serve.proofs.Serving.{tallies_all}
 use Rattle.net_serve.proofs.counting.served_in_periods.Goals as goal
 
 pub returns-in-Ok : goal.returns-in-Ok
-returns-in-Ok g c = λ file begins.
-    tallies_all g.A.Link.counts_of g.B.Link.counts_of file c.args.begun c.args.lanes c.in-Ok.course c.as_slice.result.now c.count.result.events c.count.result.changed
-    begins c.as_slice.ensures.value c.in-Ok.ensures.runs c.count.ensures.events c.count.ensures.changed
+returns-in-Ok g c = λ file given begins all.
+    tallies_all g.A.Link.counts_of g.B.Link.counts_of file given c.args.begun c.args.table c.args.lanes c.in-Ok.course c.as_slice.result.now c.count.result.events c.count.result.changed
+    begins all c.as_slice.ensures.value c.in-Ok.ensures.runs c.count.ensures.events c.count.ensures.changed

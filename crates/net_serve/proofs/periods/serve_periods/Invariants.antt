@@ -9,6 +9,7 @@ use Rattle.net_serve.proofs.periods.serve_periods.Given as goal
 -- so many periods took a turn each at least, and have so many events at most
 abbrev pub invariant-loop : goal.invariant-loop
 invariant-loop g l =
-    RunsTo g.A.Link.counts_of g.B.Link.counts_of l.initial.course.board.setup (state_of own_records l.initial.course.board) l.initial.course.lanes l.course
+    RunsTo g.A.Link.counts_of g.B.Link.counts_of l.initial.course.board.setup (state_of own_records l.initial.course.board) l.initial.course.lanes
+    l.initial.course.table.list.now l.initial.course.table.next l.course
     × (turns_left l.course.lanes + l.counter ≤ turns_left l.initial.course.lanes)
     × (l.course.events ≤ most_events * l.counter)

@@ -1,7 +1,8 @@
+use Rattle.net_serve.specs.Served.{list_in}
 use Rattle.net_serve.proofs.Serving.{ends_without_links}
 use Rattle.net_serve.proofs.run.serve_board.Goals as goal
 
 pub returns-in-None : goal.returns-in-None
-returns-in-None g c = λ board reads.
-    ends_without_links g.W.Write.contents g.E.Write.contents c.args.words.now board c.args.file reads c.args.console.now c.end_run.new.console c.end_run.result
-    c.end_run.ensures
+returns-in-None g c = λ board given reads stands.
+    ends_without_links g.W.Write.contents g.E.Write.contents c.args.words.now board given c.args.file (list_in c.args.readings.now) reads stands c.args.console.now c.end_run.new.console
+    c.end_run.result c.end_run.ensures

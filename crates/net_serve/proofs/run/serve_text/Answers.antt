@@ -1,4 +1,5 @@
 use Rattle.std.proofs.Common.{inl}
+use Rattle.std.specs.Option.{option_copied}
 use Rattle.bmc_lab.specs.EndingLaws.{run_reports}
 use Rattle.text_board.specs.declared.fault.FileFault.TheVariants.{Memory}
 use Rattle.net_serve.specs.Run.{SaysUnserved}
@@ -6,9 +7,10 @@ use Rattle.net_serve.proofs.Serving.{was_read, was_refused}
 use Rattle.net_serve.proofs.run.serve_text.Goals as goal
 
 pub returns-in-Ok : goal.returns-in-Ok
-returns-in-Ok g c = c.serve_board.ensures c.args.board.now (was_read c.in-Ok.file Memory c.in-Ok.ensures)
+returns-in-Ok g c = c.serve_file.ensures c.args.board.now (was_read c.in-Ok.file Memory c.in-Ok.ensures)
 
 pub returns-in-Err : goal.returns-in-Err
 returns-in-Err g c =
-    inl (run_reports g.W.Write.contents g.E.Write.contents (SaysUnserved c.args.board.now) c.refusal-report.result c.args.console.now c.end_run.new.console
-    c.end_run.result (c.refusal-report.ensures c.args.board.now (was_refused c.in-Err.why Memory c.in-Err.ensures)) c.end_run.ensures)
+    let given = option_copied c.args.readings in
+    inl (run_reports g.W.Write.contents g.E.Write.contents (SaysUnserved c.args.board.now given) c.refusal-report.result c.args.console.now c.end_run.new.console
+    c.end_run.result (c.refusal-report.ensures c.args.board.now given (was_refused c.in-Err.why Memory c.in-Err.ensures)) c.end_run.ensures)
