@@ -18,14 +18,22 @@ use std::sync::Wait;
 use std::thread::Threads;
 use std::time::Clock;
 
-/// Both ports with their links, and so many turns each.
-fn lanes_of<A: Drop, B: Drop>(ports: [Port; 2], ipmb: A, smbus: B, turns: u32) -> Lanes<A, B>
-    ensures { (result.first.turns ≡ turns) × (result.second.turns ≡ turns) }
+/// Both ports with their links, with so many turns each, and with so many in which nothing comes from a requester before it's forgotten.
+fn lanes_of<A: Drop, B: Drop>(
+    ports: [Port; 2],
+    ipmb: A,
+    smbus: B,
+    words: &ServeWords,
+) -> Lanes<A, B>
+    ensures turns { (result.first.turns ≡ words.now.turns)
+        × (result.second.turns ≡ words.now.turns) }
+    ensures forget { (result.first.forget ≡ words.now.forget)
+        × (result.second.forget ≡ words.now.forget) }
 {
     let [first, second] = ports;
     Lanes {
-        first: Lane::new(first, ipmb, turns),
-        second: Lane::new(second, smbus, turns),
+        first: Lane::new(first, ipmb, words.turns, words.forget),
+        second: Lane::new(second, smbus, words.turns, words.forget),
     }
 }
 
@@ -127,10 +135,10 @@ where
         return Err(Untold::Memory);
     };
     if words.periods {
-        let lanes = lanes_of(ports, ipmb, smbus, words.turns);
+        let lanes = lanes_of(ports, ipmb, smbus, words);
         served_in_periods(rt, alloc, begun, lanes, table_of(rt, readings), words.quiet)
-    } else if words.quiet.is_some() || readings.is_some() {
-        let lanes = lanes_of(ports, ipmb, smbus, words.turns);
+    } else if words.quiet.is_some() || words.forget.is_some() || readings.is_some() {
+        let lanes = lanes_of(ports, ipmb, smbus, words);
         served_in_one(rt, alloc, begun, lanes, table_of(rt, readings), words.quiet)
     } else {
         served_once(rt, alloc, begun, ports, ipmb, smbus, words.turns)

@@ -44,6 +44,8 @@ pub struct ServeWords {
     pub periods: bool,
     /// For how many turns in a row both ports hear nothing before the serving ends, where their turns alone don't end it.
     pub quiet: Option<u32>,
+    /// In how many turns of a port in a row nothing comes from a requester before the port forgets it, where it forgets any.
+    pub forget: Option<u32>,
     /// The word of the file of readings, where there is one.
     pub readings: Option<String>,
 }
