@@ -38,7 +38,7 @@ pub record RunsAndUndoes (plan : Plan) (turns : ℕ) (run undone : Phase) : Type
 -- what became of the records: so many have changed in some history of the board; nothing is known where the serving came to no end
 abbrev pub IsChanged : BoardFile → Option ℕ → Type 0
 IsChanged file None = Unit {0}
-IsChanged file (Some changed) = (events : ℕ) × Tallies false file events changed
+IsChanged file (Some changed) = (events : ℕ) × Tallies false None file events changed
 
 -- the line of the records, where it is known
 abbrev pub last_line : Option ℕ → List ℕ
