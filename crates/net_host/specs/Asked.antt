@@ -45,6 +45,7 @@ pub record AsksServe (rows : List Row) (asked : ServeWords) : Type 0 where
   pub wait : NamesWait rows asked.wait_ms
   pub periods : is_given (codes "periods") rows ≡ asked.periods
   pub quiet : NamesOption 1 rows (codes "quiet") asked.quiet
+  pub forget : NamesOption 1 rows (codes "forget") asked.forget
 
 -- what was matched behind `run` asks for this
 pub record AsksRun (rows : List Row) (asked : RunWords) : Type 0 where

@@ -150,6 +150,7 @@ fn serve_words(alloc: Global, matches: &ArgMatches) -> Result<ServeWords, Refusa
         wait_ms: wait(alloc, matches, Task::Serve)?,
         periods: has_flag(matches, "periods"),
         quiet: number_given(alloc, matches, Task::Serve, "quiet", "N", 1)?,
+        forget: number_given(alloc, matches, Task::Serve, "forget", "N", 1)?,
     })
 }
 

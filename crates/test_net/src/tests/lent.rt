@@ -20,7 +20,7 @@ use two_wire::{Bus, Frame};
 const LATER_GET: [u8; 10] = [0x20, 0x00, 0xE0, 0x2C, 0x08, 0x09, 0x05, 0x00, 0x00, 0xBE];
 
 /// The reply to the Set.
-const SET_REPLY: [u8; 8] = [0x2C, 0x04, 0xD0, 0x20, 0x00, 0x08, 0x00, 0xD8];
+pub(super) const SET_REPLY: [u8; 8] = [0x2C, 0x04, 0xD0, 0x20, 0x00, 0x08, 0x00, 0xD8];
 
 /// The reply to the first Get, and to the one that first found no room.
 const GET_REPLY: [u8; 15] = [
@@ -36,15 +36,15 @@ const TURNS: u32 = 6;
 
 /// What a history left.
 #[derive(Drop)]
-struct Left {
+pub(super) struct Left {
     board: Board<Records>,
-    lanes: Lanes<MemLink, MemLink>,
+    pub lanes: Lanes<MemLink, MemLink>,
     events: usize,
     end: End,
 }
 
 /// Serves a board with one history.
-fn serve_opened<J: Opening + Send + Sync, R: Threads + Wait + Abort + Sync>(
+pub(super) fn serve_opened<J: Opening + Send + Sync, R: Threads + Wait + Abort + Sync>(
     rt: &R,
     alloc: Global,
     blank: Blank,
@@ -88,10 +88,17 @@ fn serve_two<R: Threads + Wait + Abort + Sync>(
     serve_opened::<Brand, R>(rt, alloc, Blank::new(3), board, 2, lanes)
 }
 
-/// A port on this bus that hears the script, and has so many turns.
-fn lane(rt: &impl Abort, alloc: Global, bus: Bus, script: &[&[u8]], turns: u32) -> Lane<MemLink> {
+/// A port on this bus that hears the script, has so many turns, and forgets those that are silent for so many, where a number is given.
+pub(super) fn lane(
+    rt: &impl Abort,
+    alloc: Global,
+    bus: Bus,
+    script: &[&[u8]],
+    turns: u32,
+    forget: Option<u32>,
+) -> Lane<MemLink> {
     let link = MemLink::new(alloc, script).ok().expect(rt, "a link");
-    Lane::new(port_on(rt, alloc, bus), link, turns)
+    Lane::new(port_on(rt, alloc, bus), link, turns, forget)
 }
 
 /// The port on IPMB hears a Set of boot parameter 5, a Get of it, and the Get under another number, for which there is no room. Then it hears
@@ -99,13 +106,13 @@ fn lane(rt: &impl Abort, alloc: Global, bus: Bus, script: &[&[u8]], turns: u32) 
 fn new_lanes(rt: &impl Abort, alloc: Global) -> Lanes<MemLink, MemLink> {
     let script: [&[u8]; 5] = [&SET, &GET, &LATER_GET, &SET, &LATER_GET];
     Lanes {
-        first: lane(rt, alloc, Bus::Ipmb, &script, TURNS),
-        second: lane(rt, alloc, Bus::Smbus, &[], 1),
+        first: lane(rt, alloc, Bus::Ipmb, &script, TURNS, None),
+        second: lane(rt, alloc, Bus::Smbus, &[], 1, None),
     }
 }
 
 /// So many events are in the history, the worker on IPMB ended so and has so many turns left, and that on SMBus has none.
-fn expect_left(rt: &impl Abort, left: &Left, events: usize, end: End, turns: u32) {
+pub(super) fn expect_left(rt: &impl Abort, left: &Left, events: usize, end: End, turns: u32) {
     assert_eq!(rt; left.events, events);
     assert!(rt; left.end == end);
     assert_eq!(rt; left.lanes.first.turns, turns);

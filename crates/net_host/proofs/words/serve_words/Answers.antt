@@ -36,6 +36,11 @@ returns-in_err-number_given-clause-refused c =
     let p = err_from_is_err_and c.from_residual-in_err-number_given.result c.from_residual-in_err-number_given.ensures.1 in
     rw (p.1, p.2) (refuses_more _ _ _ (λ asked asks. (asked.quiet, asks.quiet)) c.in_err-number_given.ensures.refused)
 
+pub returns-in_err-number_given-2-clause-refused : goal.returns-in_err-number_given-2-clause-refused
+returns-in_err-number_given-2-clause-refused c =
+    let p = err_from_is_err_and c.from_residual-in_err-number_given-2.result c.from_residual-in_err-number_given-2.ensures.1 in
+    rw (p.1, p.2) (refuses_more _ _ _ (λ asked asks. (asked.forget, asks.forget)) c.in_err-number_given-2.ensures.refused)
+
 pub returns-clause-asked : goal.returns-clause-asked
 returns-clause-asked c = record {
   board = first_by_rows (found_of c.args.matches.now) (codes "BOARD") _ c.in_ok-named.ensures.word;
@@ -45,4 +50,5 @@ returns-clause-asked c = record {
   wait = c.in_ok-wait.ensures.wait;
   periods = sym (c.has_flag.ensures ∙ ap says_yes (one_text-rows (found_of c.args.matches.now) (codes "periods")));
   quiet = c.in_ok-number_given.ensures.number;
+  forget = c.in_ok-number_given-2.ensures.number;
 }
