@@ -11,13 +11,14 @@ use std::io;
 use std::net::Net;
 use std::sync::Wait;
 use std::thread::Threads;
+use std::time::Clock;
 
 /// Does what the words ask for.
 fn carry_out<
     F: TextFiles + WritesFiles,
     W: io::Write,
     E: io::Write,
-    R: Net + Threads + Wait + Sync,
+    R: Net + Threads + Wait + Clock + Sync,
 >(rt: &R, alloc: Global, files: &mut F, words: &Words, console: &mut Console<W, E>) -> u8
     ensures { EndsAsAsked W.contents E.contents (F.gives files.old) F.takes F.renames words.now files.old files.new console.old console.new result }
 {
@@ -36,7 +37,7 @@ pub fn run_line<
     F: TextFiles + WritesFiles,
     W: io::Write,
     E: io::Write,
-    R: Net + Threads + Wait + Sync,
+    R: Net + Threads + Wait + Clock + Sync,
 >(rt: &R, alloc: Global, files: &mut F, words: &[String], console: &mut Console<W, E>) -> u8
     ensures { LineEnds W.contents E.contents (F.gives files.old) F.takes F.renames (map string_bytes words.now) files.old files.new console.old console.new result }
 {

@@ -45,4 +45,5 @@ returns-clause-asked c = record {
   wait = c.in_ok-wait.ensures.wait;
   periods = sym (c.has_flag.ensures ∙ ap says_yes (one_text-rows (found_of c.args.matches.now) (codes "periods")));
   quiet = c.in_ok-number_given.ensures.number;
+  readings = c.in_ok-given.ensures.word ∙ first_value-rows (found_of c.args.matches.now) (codes "readings");
 }
