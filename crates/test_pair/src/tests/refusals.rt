@@ -23,6 +23,7 @@ fn serve_words(alloc: Global, board: &str, port: u16) -> Result<ServeWords, Allo
         wait_ms: 200,
         periods: false,
         quiet: None,
+        readings: None,
     })
 }
 
