@@ -1,5 +1,5 @@
 -- What the words of the command line ask for.
-use Rattle.std.specs.Prelude.{◌≡◌, ◌≤◌, ◌<◌, ◌^◌, ◌⊎◌, ℕ, List, Option, None, Some, codes, string_bytes}
+use Rattle.std.specs.Prelude.{◌≡◌, ◌≤◌, ◌<◌, ◌^◌, ◌⊎◌, ℕ, List, Option, None, Some, option_map, codes, string_bytes}
 use Rattle.std.specs.Net.Grammar.{IsNumber}
 use Rattle.clap.specs.Words.{Row, Text, first_of}
 use Rattle.host_base.specs.Asked.{AsksOf, is_given}
@@ -46,6 +46,7 @@ pub record AsksServe (rows : List Row) (asked : ServeWords) : Type 0 where
   pub periods : is_given (codes "periods") rows ≡ asked.periods
   pub quiet : NamesOption 1 rows (codes "quiet") asked.quiet
   pub forget : NamesOption 1 rows (codes "forget") asked.forget
+  pub readings : option_map string_bytes asked.readings ≡ first_of (codes "readings") rows
 
 -- what was matched behind `run` asks for this
 pub record AsksRun (rows : List Row) (asked : RunWords) : Type 0 where

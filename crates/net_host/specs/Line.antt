@@ -9,9 +9,11 @@ use Rattle.net_host.specs.declared.tasks.Task.TheVariants.{Serve, Run, Undo, Pai
 abbrev pub taking : (name : Text) → (options : List Rule) → (words : List Text) → App
 taking name options words = fold with_rule (new_app name) (options ++ map needed_rule words)
 
--- the options of `serve`: `[--wait MS] [--periods] [--quiet N] [--forget N]`
+-- the options of `serve`: `[--wait MS] [--periods] [--quiet N] [--forget N] [--readings FILE]`
 abbrev pub serve_options : List Rule
-serve_options = option_rule (codes "wait") ∷ flag_rule (codes "periods") ∷ option_rule (codes "quiet") ∷ option_rule (codes "forget") ∷ []
+serve_options =
+    option_rule (codes "wait") ∷ flag_rule (codes "periods") ∷ option_rule (codes "quiet") ∷ option_rule (codes "forget")
+    ∷ option_rule (codes "readings") ∷ []
 
 -- those of `run`: `[--wait MS] [--again N] [--forget N]`
 abbrev pub run_options : List Rule

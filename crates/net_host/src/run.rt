@@ -11,6 +11,7 @@ use std::io;
 use std::net::Net;
 use std::sync::Wait;
 use std::thread::Threads;
+use std::time::Clock;
 
 /// Does what the words ask for.
 fn carry_out<
@@ -18,7 +19,7 @@ fn carry_out<
     W: io::Write,
     E: io::Write,
     P: io::Write,
-    R: Net + Threads + Wait + Sync,
+    R: Net + Threads + Wait + Clock + Sync,
 >(
     rt: &R,
     alloc: Global,
@@ -47,7 +48,7 @@ pub fn run_line<
     W: io::Write,
     E: io::Write,
     P: io::Write,
-    R: Net + Threads + Wait + Sync,
+    R: Net + Threads + Wait + Clock + Sync,
 >(
     rt: &R,
     alloc: Global,

@@ -46,14 +46,17 @@ a decimal number from 1 to 4294967295";
 const FORGET_HELP: &str =
     "Forgets a requester once nothing came from it for so many turns of a port in a row, as in --forget 50: \
 a decimal number from 1 to 4294967295";
+const READINGS_HELP: &str =
+    "The file of what happens on the board meanwhile, a line each, as in --readings examples/readings.txt";
 
 const SERVE_EXAMPLES: &str = "Examples:
   bmcnet serve sample.toml 9620 9621 1000
   bmcnet serve --wait 500 --periods sample.toml 9620 9621 1000
   bmcnet serve --quiet 50 sample.toml 9620 9621 100000
-  bmcnet serve --forget 50 sample.toml 9620 9621 1000";
+  bmcnet serve --forget 50 sample.toml 9620 9621 1000
+  bmcnet serve --readings examples/readings.txt sample.toml 9620 9621 1000";
 
-/// `serve [--wait MS] [--periods] [--quiet N] [--forget N] BOARD P0 P1 TURNS`.
+/// `serve [--wait MS] [--periods] [--quiet N] [--forget N] [--readings FILE] BOARD P0 P1 TURNS`.
 fn serve_command<'a>(alloc: Global) -> Result<Command<'a>, AllocError>
     ensures { IfOk result (IsCommand (app_named Task.Serve)) }
 {
@@ -62,6 +65,7 @@ fn serve_command<'a>(alloc: Global) -> Result<Command<'a>, AllocError>
         .arg(flag(alloc, "periods", PERIODS_HELP))?
         .arg(option(alloc, "quiet", "N", QUIET_HELP))?
         .arg(option(alloc, "forget", "N", FORGET_HELP))?
+        .arg(option(alloc, "readings", "FILE", READINGS_HELP))?
         .arg(needed(alloc, "BOARD", BOARD_HELP))?
         .arg(needed(alloc, "P0", P0_HELP))?
         .arg(needed(alloc, "P1", P1_HELP))?

@@ -10,7 +10,7 @@ use crate::tasks::{Task, command};
 use bmc_net::{PairWords, RunWords, ServeWords, UndoWords, WAIT_MS};
 use clap::ArgMatches;
 use clap::error::ErrorKind;
-use host_base::{Refusal, has_flag, lacking, named, refusal_by, refusal_of};
+use host_base::{Refusal, given, has_flag, lacking, named, refusal_by, refusal_of};
 use std::alloc::{AllocError, Global};
 
 /// What the words ask for.
@@ -151,6 +151,7 @@ fn serve_words(alloc: Global, matches: &ArgMatches) -> Result<ServeWords, Refusa
         periods: has_flag(matches, "periods"),
         quiet: number_given(alloc, matches, Task::Serve, "quiet", "N", 1)?,
         forget: number_given(alloc, matches, Task::Serve, "forget", "N", 1)?,
+        readings: given(alloc, matches, "readings")?,
     })
 }
 

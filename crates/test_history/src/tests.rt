@@ -1,6 +1,7 @@
 //! A board with its history, on the sample board, and a link in memory.
 mod gates;
 mod links;
+mod played;
 mod rooms;
 mod seats;
 mod times;

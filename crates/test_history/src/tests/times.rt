@@ -15,33 +15,39 @@ use std::sync::Wait;
 use std::sync::atomic::{AtomicBool, AtomicU64, Ordering};
 use std::sync::ledger::Blank;
 use std::test::Fail;
+use std::thread::Threads;
 use std::time::{Clock, Duration, Instant};
 
-/// A sensor's reading, and two ticks.
-const WARMS_UP: [Timed; 3] = [
-    Timed {
-        at_ms: 0,
-        event: Bench::Reading {
-            sensor: 5,
-            raw: 0x55,
-        },
+/// A sensor's reading.
+pub(super) const READING: Timed = Timed {
+    at_ms: 0,
+    event: Bench::Reading {
+        sensor: 5,
+        raw: 0x55,
     },
-    Timed {
-        at_ms: 100,
-        event: Bench::Tick,
-    },
-    Timed {
-        at_ms: 145,
-        event: Bench::Tick,
-    },
-];
+};
+
+/// A tick behind it.
+pub(super) const TICK: Timed = Timed {
+    at_ms: 100,
+    event: Bench::Tick,
+};
+
+/// Another one.
+pub(super) const LATER_TICK: Timed = Timed {
+    at_ms: 145,
+    event: Bench::Tick,
+};
+
+/// The reading, and both ticks.
+pub(super) const WARMS_UP: [Timed; 3] = [READING, TICK, LATER_TICK];
 
 /// A clock that goes on by what is slept, and not by itself.
 #[derive(Drop)]
-struct Slept<'a, R> {
-    rt: &'a R,
+pub(super) struct Slept<'a, R> {
+    pub rt: &'a R,
     /// How many milliseconds were slept.
-    ms: AtomicU64,
+    pub ms: AtomicU64,
     /// The longest sleep, in milliseconds.
     longest_ms: AtomicU64,
     /// Once so many milliseconds were slept, the bell rings.
@@ -54,7 +60,7 @@ struct Slept<'a, R> {
 
 impl<'a, R> Slept<'a, R> {
     /// A clock that can be read, whose bell rings once so many milliseconds were slept.
-    fn new(rt: &'a R, rings_at: u64) -> Self {
+    pub fn new(rt: &'a R, rings_at: u64) -> Self {
         Slept {
             rt,
             ms: AtomicU64::new(0),
@@ -67,12 +73,14 @@ impl<'a, R> Slept<'a, R> {
     }
 
     /// How many milliseconds were slept.
-    fn slept(&self) -> u64 {
+    pub fn slept(&self) -> u64 {
         self.ms.load(Ordering::SeqCst)
     }
 }
 
 impl<'a, R: Wait> Wait for Slept<'a, R> {}
+
+impl<'a, R: Threads> Threads for Slept<'a, R> {}
 
 impl<'a, R> Clock for Slept<'a, R> {
     fn monotonic(&self) -> io::Result<Duration> {
@@ -179,7 +187,7 @@ fn scan_sample<R: Wait>(
 }
 
 /// Whether these happened, in their order, and nothing else.
-fn are_all(history: &History, list: &[Timed]) -> bool {
+pub(super) fn are_all(history: &History, list: &[Timed]) -> bool {
     if history.len() != list.len() {
         return false;
     }

@@ -7,13 +7,14 @@ use super::served::{GET, Open, SET};
 use super::wired::{open_sample, port_on};
 use bmc_board::{Board, Records};
 use bmc_links::MemLink;
-use bmc_ports::{End, Lane, Lanes, Opening, Shared, Sliced, run_slices};
+use bmc_ports::{End, Lane, Lanes, Opening, Shared, Sliced, Timetable, run_slices};
 use std::alloc::Global;
 use std::marker::Brand;
 use std::process::Abort;
 use std::sync::Wait;
 use std::sync::ledger::Blank;
 use std::thread::Threads;
+use std::time::Clock;
 use two_wire::{Bus, Frame};
 
 /// The Get under another number.
@@ -44,7 +45,7 @@ pub(super) struct Left {
 }
 
 /// Serves a board with one history.
-pub(super) fn serve_opened<J: Opening + Send + Sync, R: Threads + Wait + Abort + Sync>(
+pub(super) fn serve_opened<J: Opening + Send + Sync, R: Threads + Wait + Clock + Abort + Sync>(
     rt: &R,
     alloc: Global,
     blank: Blank,
@@ -61,12 +62,15 @@ pub(super) fn serve_opened<J: Opening + Send + Sync, R: Threads + Wait + Abort +
 {
     let opened = Shared::<J, Records>::open(alloc, blank, board, room);
     let (shared, seats) = opened.ok().expect(rt, "a board that is shared");
-    let sliced = run_slices(rt, &shared, seats, lanes, &Open, None);
+    let table = Timetable::new(&[], None);
+    let sliced = run_slices(rt, &shared, seats, lanes, table, &Open, None);
     let Sliced {
         seats,
         lanes,
+        next: _,
         first_end: end,
         second_end: _,
+        scanner_end: _,
     } = sliced.ok().expect(rt, "two threads");
     let closed = shared.close(seats).ok();
     let (board, history) = closed.expect(rt, "a board that is closed");
@@ -79,7 +83,7 @@ pub(super) fn serve_opened<J: Opening + Send + Sync, R: Threads + Wait + Abort +
 }
 
 /// The same with a ledger of its own, and room for two events.
-fn serve_two<R: Threads + Wait + Abort + Sync>(
+fn serve_two<R: Threads + Wait + Clock + Abort + Sync>(
     rt: &R,
     alloc: Global,
     board: Board<Records>,

@@ -24,6 +24,7 @@ fn serve_words(alloc: Global, board: &str, port: u16) -> Result<ServeWords, Allo
         periods: false,
         quiet: None,
         forget: None,
+        readings: None,
     })
 }
 

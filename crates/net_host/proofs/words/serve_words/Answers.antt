@@ -51,4 +51,5 @@ returns-clause-asked c = record {
   periods = sym (c.has_flag.ensures ∙ ap says_yes (one_text-rows (found_of c.args.matches.now) (codes "periods")));
   quiet = c.in_ok-number_given.ensures.number;
   forget = c.in_ok-number_given-2.ensures.number;
+  readings = c.in_ok-given.ensures.word ∙ first_value-rows (found_of c.args.matches.now) (codes "readings");
 }
