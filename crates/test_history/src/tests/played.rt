@@ -103,7 +103,7 @@ fn lane<'a>(
         until,
         counts,
     };
-    Lane::new(port, link, turns)
+    Lane::new(port, link, turns, None)
 }
 
 /// Both lanes, with so many turns each.
