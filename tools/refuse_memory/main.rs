@@ -33,6 +33,7 @@ fn call<R: Print>(rt: &R, alloc: Global, name: &str) -> Result<(), Unwell> {
         "read_board" => texts::board(rt, alloc),
         "read_plan" => texts::plan(rt, alloc),
         "read_schedule" => texts::schedule(rt, alloc),
+        "read_readings" => texts::readings(rt, alloc),
         "read_undo" => texts::undo(rt, alloc),
         "write_undo" => texts::written_undo(rt, alloc),
         "Manager::open" => manager::opened(rt, alloc),

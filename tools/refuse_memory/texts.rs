@@ -9,6 +9,7 @@ use plan_file::read_plan;
 use std::alloc::{AllocError, Global};
 use std::io::{self, Print};
 use text_board::read_board;
+use text_readings::read_readings;
 use text_schedule::read_schedule;
 use text_undo::{read_undo, write_undo};
 use two_wire::Bus;
@@ -40,6 +41,17 @@ pub fn schedule<R: Print>(rt: &R, alloc: Global) -> Result<(), Unwell> {
         rt,
         || read_schedule(alloc, SCHEDULE),
         |events| Ok(format!(in alloc; "events {}", events.as_slice().len())?),
+    )
+}
+
+/// Three readings, one a line.
+const READINGS: &str = "0 scan 05 55\n20 tick\n40 chassis 01\n";
+
+pub fn readings<R: Print>(rt: &R, alloc: Global) -> Result<(), Unwell> {
+    call_twice(
+        rt,
+        || read_readings(alloc, READINGS),
+        |list| Ok(format!(in alloc; "events {}", list.as_slice().len())?),
     )
 }
 
