@@ -11,6 +11,7 @@ use std::process::Abort;
 use std::sync::Wait;
 use std::sync::ledger::Blank;
 use std::thread::Threads;
+use std::time::Clock;
 use two_wire::{Bus, Frame};
 
 /// A Get of boot parameter 5 by another requester.
@@ -20,7 +21,7 @@ const OTHER_GET: [u8; 10] = [0x20, 0x00, 0xE0, 0x2E, 0x04, 0x09, 0x05, 0x00, 0x0
 const TURNS: u32 = 7;
 
 /// Serves a board with a ledger of its own, and with room for eight events.
-fn serve_eight<R: Threads + Wait + Abort + Sync>(
+fn serve_eight<R: Threads + Wait + Clock + Abort + Sync>(
     rt: &R,
     alloc: Global,
     board: Board<Records>,
@@ -51,7 +52,7 @@ fn expect_replies(rt: &impl Abort, sent: &[Frame]) {
 }
 
 /// So many requests are carried out where the port forgets those that are silent for so many turns.
-fn expect_events<R: Threads + Wait + Abort + Sync>(
+fn expect_events<R: Threads + Wait + Clock + Abort + Sync>(
     rt: &R,
     alloc: Global,
     forget: Option<u32>,
