@@ -3,8 +3,8 @@ ghost use Rattle.std.specs.Prelude.{◌≡◌};
 ghost use Rattle.bmc_board.specs.State.{state_of};
 ghost use Rattle.bmc_board.specs.OwnStore.{own_records};
 
-use crate::asked::Asked;
 use crate::alone::open_sample;
+use crate::asked::Asked;
 use crate::frames::link_of;
 use bmc_board::{Board, Records};
 use bmc_core::Port;

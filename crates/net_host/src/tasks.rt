@@ -46,6 +46,7 @@ a decimal number from 1 to 4294967295";
 const FORGET_HELP: &str =
     "Forgets a requester once nothing came from it for so many turns of a port in a row, as in --forget 50: \
 a decimal number from 1 to 4294967295";
+
 const READINGS_HELP: &str =
     "The file of what happens on the board meanwhile, a line each, as in --readings examples/readings.txt";
 
