@@ -202,13 +202,14 @@ fn what_comes_while_workers_serve_happens(rt: HostRuntime) {
 fn what_finds_no_room_happens_in_the_next_history(rt: HostRuntime) {
     let clock = Slept::new(&rt, u64::MAX);
     let board = open_sample(rt.alloc()).expect(&rt, "memory");
+    let warms_up = &WARMS_UP[..];
     // Only the bell ends these workers.
     let many = lanes(&clock, rt.alloc(), u32::MAX, 0);
     let left = serve(&clock, rt.alloc(), board, 2, many, 0);
-    expect_left(&rt, &left, &WARMS_UP[..2], 2, TimedEnd::Full);
+    expect_left(&rt, &left, &warms_up[..2], 2, TimedEnd::Full);
     let one = lanes(&clock, rt.alloc(), 1, clock.slept() + LATER_MS);
     let last = serve(&clock, rt.alloc(), left.board, 2, one, left.next);
-    expect_left(&rt, &last, &WARMS_UP[2..], 3, TimedEnd::Stopped);
+    expect_left(&rt, &last, &warms_up[2..], 3, TimedEnd::Stopped);
 }
 
 #[test]
