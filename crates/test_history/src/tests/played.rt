@@ -207,7 +207,12 @@ fn what_finds_no_room_happens_in_the_next_history(rt: HostRuntime) {
     let many = lanes(&clock, rt.alloc(), u32::MAX, 0);
     let left = serve(&clock, rt.alloc(), board, 2, many, 0);
     expect_left(&rt, &left, &warms_up[..2], 2, TimedEnd::Full);
-    let one = lanes(&clock, rt.alloc(), 1, clock.slept() + LATER_MS);
+    let one = lanes(
+        &clock,
+        rt.alloc(),
+        1,
+        clock.slept().saturating_add(LATER_MS),
+    );
     let last = serve(&clock, rt.alloc(), left.board, 2, one, left.next);
     expect_left(&rt, &last, &warms_up[2..], 3, TimedEnd::Stopped);
 }
