@@ -188,6 +188,10 @@ fn two_of(works: &[Work]) -> io::Result<Two<'_>> {
 /// Measures what the word asks for, or all. It gives whether all controllers send the same.
 fn run(word: Option<&str>, is_page: bool) -> io::Result<bool> {
     let works = frames::works();
+    if word == Some("two") {
+        two_of(&works)?.measure(is_page)?;
+        return Ok(true);
+    }
     if !all_agree(&works) {
         return Ok(false);
     }
@@ -196,7 +200,6 @@ fn run(word: Option<&str>, is_page: bool) -> io::Result<bool> {
             measure_lists(&works, is_page);
             two_of(&works)?.measure(is_page)?;
         }
-        Some("two") => two_of(&works)?.measure(is_page)?,
         Some("same") => println!("the controllers send the same bytes"),
         // One list with the proved controller alone, for a profiler.
         Some(place) => {
