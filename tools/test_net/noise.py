@@ -11,8 +11,9 @@ from .servers import Asker, number_of
 # The addresses and endpoint identifiers of six requesters: a port has windows for eight, and the manager and an `Asker` have one each.
 STRANGERS = [(0x50 + 2 * place, 0x10 + place) for place in range(6)]
 AT_A_TIME = 16
-# How many datagrams they send at most. A served history has room for 4,096 requests.
-MOST = 8000
+# How many datagrams they send at most while one call goes on. A served history has room for 4,096 requests, and of sixteen datagrams at most four
+# are one.
+MOST = 4000
 # How long the answer to the last datagram of sixteen may take, in seconds, before the next sixteen.
 PATIENCE = 5
 
@@ -44,7 +45,7 @@ class Stranger(Asker):
 
 
 class Noise(threading.Thread):
-    """Strangers on one port of a server. Within a `with` they send; `gets` and `others` count what they sent."""
+    """Strangers on one port of a server. Within a `with` they send what they are allowed to; `gets` and `others` count what they sent."""
 
     def __init__(self, bus, ports, seed):
         super().__init__(daemon=True)
@@ -52,6 +53,7 @@ class Noise(threading.Thread):
         self.draw = random.Random(f"noise {seed} {bus}")
         self.strangers = [Stranger(ports, *names) for names in STRANGERS]
         self.gets = self.others = self.unanswered = 0
+        self.allowed = 0
         self.is_over = False
 
     def __enter__(self):
@@ -66,6 +68,12 @@ class Noise(threading.Thread):
 
     def sent(self):
         return self.gets + self.others
+
+    def go_on(self):
+        """Allows as many datagrams more as one call may meet with. Returns how many were sent before."""
+        sent = self.sent()
+        self.allowed = sent + MOST
+        return sent
 
     def disturbance(self, stranger):
         """Returns bytes that no port takes for a request."""
@@ -107,6 +115,7 @@ class Noise(threading.Thread):
                 self.unanswered += 1
 
     def run(self):
-        while not self.is_over and self.sent() < MOST:
-            self.round()
+        while not self.is_over:
+            if self.sent() < self.allowed:
+                self.round()
             time.sleep(0.001)
