@@ -17,6 +17,7 @@ use Rattle.record_base.specs.declared.channel.AccessStore.{AccessStore}
 use Rattle.record_base.specs.declared.channel.AccessStore.TheVariants.{NonVolatile, Volatile, Neither}
 use Rattle.record_base.specs.contracts.channel.AccessStoreOrd.TheImpl as store_ord
 use Rattle.record_base.specs.NumberLaws.{same_channel, same_user}
+use Rattle.record_base.specs.LanLaws.{exact_on}
 use Rattle.record_base.specs.Keys.{key_cmp, same_key}
 
 -- the order of stores
@@ -78,6 +79,7 @@ exact_key (key.BootParam Flags) (key.BootParam Flags) h = refl
 exact_key (key.UserName a) (key.UserName b) h = ap key.UserName (exact_user a b h)
 exact_key (key.UserAccess a) (key.UserAccess b) h = ap key.UserAccess (exact_user_on a b h)
 exact_key (key.ChannelAccess a) (key.ChannelAccess b) h = ap key.ChannelAccess (exact_stored a b h)
+exact_key (key.LanParam a) (key.LanParam b) h = ap key.LanParam (exact_on exact_channel a b h)
 exact_key key.PowerPolicy key.PowerPolicy h = refl
 exact_key key.Watchdog key.Watchdog h = refl
 exact_key key.GlobalEnables key.GlobalEnables h = refl

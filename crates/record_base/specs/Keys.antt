@@ -6,6 +6,7 @@ use Rattle.record_base.specs.declared.key.Key.{Key}
 use Rattle.record_base.specs.declared.key.Key.TheVariants as key
 use Rattle.record_base.specs.AttributeSizes.{least_value, most_value}
 use Rattle.record_base.specs.BootParam.{boot_length}
+use Rattle.record_base.specs.Lan.{lan_length}
 use Rattle.record_base.specs.contracts.key.KeyOrd.TheImpl as key_ord
 
 -- a value of the key's kind may have this length
@@ -23,6 +24,7 @@ is_length (key.UserName user) n = n == 16
 is_length (key.UserAccess on) n = n == 1
 is_length (key.ChannelAccess stored) n = n == 2
 is_length (key.BiosAttribute handle) n = nat_le least_value n && nat_le n most_value
+is_length (key.LanParam on) n = n == lan_length on.parameter
 
 -- the table and the number under which a sensor's record is found: a line for each kind
 abbrev pub slot : Key → Option (ℕ × ℕ)

@@ -17,6 +17,10 @@ pub mod StateEffecter
 pub mod StateLaws
 pub mod UserAccess
 pub mod ChannelAccess
+pub mod Vlan
+pub mod Lan
+pub mod LanLaws
+pub mod LanItems
 pub mod NumberLaws
 pub mod Numbers
 pub mod PartLaws

@@ -13,6 +13,9 @@ sensor_event = 0x04
 abbrev pub application : ℕ
 application = 0x06
 
+abbrev pub transport : ℕ
+transport = 0x0C
+
 -- the IPMI request of this network function, command and data: from nobody, to logical unit 0
 abbrev pub ipmi_request : ℕ → ℕ → List ℕ → Asked
 ipmi_request net_fn command body = Ipmi 0 net_fn 0 command body

@@ -5,6 +5,7 @@ ghost use Rattle.record_base.specs.Keys.{is_length, slot};
 use crate::attribute_sizes::{LEAST_VALUE, MOST_VALUE};
 use crate::boot_param::BootParameter;
 use crate::channel::StoredAccess;
+use crate::lan::ParameterOnChannel;
 use crate::user::{UserNumber, UserOnChannel};
 
 /// How many kinds of record a sensor has.
@@ -39,6 +40,8 @@ pub enum Key {
     ChannelAccess(StoredAccess),
     /// The value of the BIOS attribute of this handle.
     BiosAttribute(u16),
+    /// A LAN parameter of a channel.
+    LanParam(ParameterOnChannel),
 }
 
 impl Key {
@@ -60,6 +63,7 @@ impl Key {
             Key::UserAccess(_) => length == 1,
             Key::ChannelAccess(_) => length == 2,
             Key::BiosAttribute(_) => LEAST_VALUE <= length && length <= MOST_VALUE,
+            Key::LanParam(on) => length == on.parameter.length(),
         }
     }
     /// The table and the number under which a sensor's record is found.

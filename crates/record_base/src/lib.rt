@@ -19,6 +19,8 @@ pub mod hysteresis;
 pub mod items;
 pub mod key;
 pub mod kind;
+pub mod lan;
+pub mod lan_item;
 pub mod live;
 pub mod log_capacity;
 pub mod mask;
@@ -60,6 +62,10 @@ pub use hysteresis::{Hysteresis, SetHysteresis};
 pub use items::Items;
 pub use key::Key;
 pub use kind::{RecordKind, there_and_back};
+pub use lan::{
+    Ipv4Address, LanAddress, LanChange, LanParameter, ParameterOnChannel, SetLanParam, VlanBytes,
+};
+pub use lan_item::{Lan, Lans};
 pub use live::Live;
 pub use log_capacity::LogCapacity;
 pub use message::{Answered, Asked, byte_at};

@@ -8,3 +8,6 @@ pub const SENSOR_EVENT: u8 = 0x04;
 
 /// That of applications.
 pub const APPLICATION: u8 = 0x06;
+
+/// That of transport.
+pub const TRANSPORT: u8 = 0x0C;

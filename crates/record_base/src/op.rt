@@ -5,6 +5,7 @@ use crate::channel::SetChannelAccess;
 use crate::event_enable::SetEventEnable;
 use crate::global_enables::SetGlobalEnables;
 use crate::hysteresis::SetHysteresis;
+use crate::lan::SetLanParam;
 use crate::numeric_effecter::SetNumericEffecter;
 use crate::power_policy::SetPowerPolicy;
 use crate::sensor_thresholds::SetThresholds;
@@ -29,4 +30,5 @@ pub enum Op {
     UserAccess(SetUserAccess),
     ChannelAccess(SetChannelAccess),
     BiosAttribute(SetBiosAttribute),
+    LanParam(SetLanParam),
 }

@@ -1,0 +1,26 @@
+-- The records of a channel's LAN parameters.
+use Rattle.std.specs.Prelude.{ℕ, List, [], ◌∷◌}
+use Rattle.record_base.specs.declared.key.Key.{Key}
+use Rattle.record_base.specs.declared.key.Key.TheVariants as key
+use Rattle.record_base.specs.declared.channel.ChannelNumber.{ChannelNumber}
+use Rattle.record_base.specs.declared.lan.LanAddress.TheVariants.{Ip, SubnetMask, DefaultGateway}
+use Rattle.record_base.specs.declared.lan.LanParameter.{LanParameter}
+use Rattle.record_base.specs.declared.lan.LanParameter.TheVariants.{Address, AddressSource, Vlan}
+use Rattle.record_base.specs.declared.lan.ParameterOnChannel.{ParameterOnChannel}
+use Rattle.record_base.specs.declared.lan_item.Lan.{Lan}
+use Rattle.record_base.specs.Lan.{address_bytes, vlan_bytes}
+
+-- a parameter of a channel, and the name of its record
+abbrev pub parameter_on : ChannelNumber → LanParameter → ParameterOnChannel
+parameter_on channel parameter = record { channel = channel; parameter = parameter }
+
+abbrev pub lan_key : ChannelNumber → LanParameter → Key
+lan_key channel parameter = key.LanParam (parameter_on channel parameter)
+
+-- the value that a parameter begins with
+abbrev pub lan_value : Lan → LanParameter → List ℕ
+lan_value lan (Address Ip) = address_bytes lan.ip
+lan_value lan (Address SubnetMask) = address_bytes lan.mask
+lan_value lan (Address DefaultGateway) = address_bytes lan.gateway
+lan_value lan AddressSource = lan.source ∷ []
+lan_value lan Vlan = vlan_bytes lan.vlan
