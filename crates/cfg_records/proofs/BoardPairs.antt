@@ -22,12 +22,18 @@ use Rattle.record_base.specs.AttributeLaws.{begins_long}
 use Rattle.record_base.specs.Keys.{is_length, slot}
 use Rattle.record_base.specs.KeyLaws.{exact_key}
 use Rattle.record_base.specs.Distinct.{NamesDiffer}
+use Rattle.record_base.specs.LanItems.{lan_key, lan_value}
+use Rattle.record_base.specs.declared.lan.LanAddress.TheVariants.{Ip, SubnetMask, DefaultGateway}
+use Rattle.record_base.specs.declared.lan.LanParameter.{LanParameter}
+use Rattle.record_base.specs.declared.lan.LanParameter.TheVariants.{Address, AddressSource, Vlan}
 use Rattle.cfg_records.specs.Records.{Pair, key_in, value_of, records_of, KeysDiffer, LengthsFit}
 use Rattle.record_base.specs.declared.channel.AccessStore.{AccessStore}
 use Rattle.record_base.specs.declared.channel.AccessStore.TheVariants.{NonVolatile, Volatile, Neither}
 use Rattle.record_base.specs.Numbers.{number_on}
 use Rattle.record_base.specs.Values.{policy_value, settings_value, enables_value, boot_value, number_value, stored, access_value}
 use Rattle.cfg_records.specs.Boards.{kinds_of, pairs_of}
+use Rattle.cfg_records.specs.LanBoards.{lan_pairs}
+use Rattle.cfg_records.proofs.LanPlaces.{lan_place, lan_has_place, lan_channel, lan_fits}
 use Rattle.record_base.proofs.Names.{NamesDiffer-map, NamesDiffer-append}
 use Rattle.cfg_records.proofs.Searches.{find_some}
 use Rattle.cfg_records.proofs.Pairs.{has_key}
@@ -57,6 +63,7 @@ place_of (key.BootParam ValidBitClearing) = 12
 place_of (key.BootParam InfoAcknowledge) = 13
 place_of (key.BootParam Flags) = 14
 place_of (key.BiosAttribute handle) = 15
+place_of (key.LanParam on) = lan_place on.parameter
 place_of sensors = sensor_place (slot sensors)
 
 -- the pairs of the kind at a place
@@ -201,8 +208,13 @@ of_fields fields some few = let long : length (state_value fields) ≡ length fi
 of_attribute : (attribute : Attribute) → IsTrue (is_length (key.BiosAttribute attribute.handle) (length (attribute_value attribute)))
 of_attribute attribute = begins_long attribute
 
+of_lans : (file : BoardFile) (parameter : LanParameter) → AreOf (lan_place parameter) (lan_pairs file parameter)
+of_lans file parameter =
+    of_items (λ l. l.number.number) (λ l. lan_key l.number parameter) (λ l. lan_value l parameter) (lan_place parameter) file.lans.items file.lans.differ
+    (λ a b same. lan_channel same) (λ l. refl) (λ l. lan_fits l parameter)
+
 -- the pairs of a file: a step for each kind
-pub pairs_are : (file : BoardFile) → AreBefore file 16 (pairs_of file)
+pub pairs_are : (file : BoardFile) → AreBefore file 21 (pairs_of file)
 pairs_are file =
     let before_1 = and_then file 0 [] (none_before file) (of_sensors file key.Thresholds _ 0 (λ m n same. cc) (λ n. refl) (λ s. six _ s.thresholds.valid.six)) in
     let before_2 = and_then file 1 _ before_1 (of_sensors file key.Hysteresis _ 1 (λ m n same. cc) (λ n. refl) (λ s. refl)) in
@@ -225,14 +237,20 @@ pairs_are file =
     let before_13 = and_then file 12 _ before_12 (one_of 12 (key.BootParam ValidBitClearing, boot_value file.boot ValidBitClearing) refl refl) in
     let before_14 = and_then file 13 _ before_13 (one_of 13 (key.BootParam InfoAcknowledge, boot_value file.boot InfoAcknowledge) refl refl) in
     let before_15 = and_then file 14 _ before_14 (one_of 14 (key.BootParam Flags, boot_value file.boot Flags) refl refl) in
-    and_then file 15 _ before_15 (of_numbered (λ a. a.handle) key.BiosAttribute attribute_value 15 file.attributes.items file.attributes.differ (λ m n same. cc) (λ n. refl) of_attribute)
+    let before_16 = and_then file 15 _ before_15 (of_numbered (λ a. a.handle) key.BiosAttribute attribute_value 15 file.attributes.items file.attributes.differ (λ m n same. cc) (λ n. refl) of_attribute) in
+    let before_17 = and_then file 16 _ before_16 (of_lans file (Address Ip)) in
+    let before_18 = and_then file 17 _ before_17 (of_lans file AddressSource) in
+    let before_19 = and_then file 18 _ before_18 (of_lans file (Address SubnetMask)) in
+    let before_20 = and_then file 19 _ before_19 (of_lans file (Address DefaultGateway)) in
+    and_then file 20 _ before_20 (of_lans file Vlan)
 
-store_has_place : (s : AccessStore) → store_place s < 16
+store_has_place : (s : AccessStore) → store_place s < 21
 store_has_place NonVolatile = omega arith
 store_has_place Volatile = omega arith
 store_has_place Neither = omega arith
 
-has_place : (k : Key) → place_of k < 16
+has_place : (k : Key) → place_of k < 21
+has_place (key.LanParam on) = lan_has_place on.parameter
 has_place (key.Thresholds sensor) = omega arith
 has_place (key.ChannelAccess stored) = store_has_place stored.store
 has_place (key.BootParam ValidBitClearing) = omega arith

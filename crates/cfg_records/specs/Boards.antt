@@ -7,6 +7,7 @@ use Rattle.record_base.specs.declared.boot_param.BootParameter.TheVariants.{Vali
 use Rattle.record_base.specs.StateEffecter.{state_value}
 use Rattle.record_base.specs.Attribute.{attribute_value}
 use Rattle.cfg_records.specs.Records.{Pair}
+use Rattle.cfg_records.specs.LanBoards.{lan_kinds}
 use Rattle.record_base.specs.declared.sensor.Sensor.{Sensor}
 use Rattle.record_base.specs.Sensor.Hysteresis.{hysteresis_value}
 use Rattle.record_base.specs.Sensor.EventEnable.{event_value}
@@ -49,7 +50,7 @@ item_kinds file = sensor_kinds file.sensors.items ++ effecter_kinds file ++ acce
 abbrev pub attribute_pairs : BoardFile → List Pair
 attribute_pairs file = map (λ a. (key.BiosAttribute a.handle, attribute_value a)) file.attributes.items
 
--- the keys of each kind with their values: a line for each record that a board has once, and one for its attributes
+-- the keys of each kind with their values: a line for each record that a board has once, and one for its attributes; behind them those of LAN parameters
 abbrev pub kinds_of : BoardFile → List (List Pair)
 kinds_of file =
     item_kinds file
@@ -60,7 +61,7 @@ kinds_of file =
     ∷ ((key.BootParam InfoAcknowledge, boot_value file.boot InfoAcknowledge) ∷ [])
     ∷ ((key.BootParam Flags, boot_value file.boot Flags) ∷ [])
     ∷ attribute_pairs file
-    ∷ []
+    ∷ lan_kinds file
 
 -- the file's pairs, kind after kind
 abbrev pub pairs_of : BoardFile → List Pair

@@ -3,5 +3,6 @@ pub mod Places
 pub mod Index
 pub mod PlacesLaws
 pub mod RecordLaws
+pub mod LanBoards
 pub mod Boards
 pub mod Sample

@@ -164,3 +164,4 @@ pub record IsSampleBoard (file : BoardFile) : Type 0 where
   pub no_sessionless : file.sessionless.items ≡ []
   pub accesses : AreSampleAccesses file.user_accesses.items
   pub attributes : AreSampleAttributes file.attributes.items
+  pub no_lans : file.lans.items ≡ []

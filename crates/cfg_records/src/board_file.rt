@@ -1,8 +1,8 @@
 //! What a board begins with.
 use record_base::{
-    Attributes, BootOptions, BootParameter, Channels, Device, GlobalEnables, Key, LogCapacity,
-    NumericEffecters, PowerPolicy, SdrRecords, Sensors, SessionlessChannels, StateEffecters,
-    UserAccesses, Users, Value, Watchdog,
+    Attributes, BootOptions, BootParameter, Channels, Device, GlobalEnables, Key, Lans,
+    LogCapacity, NumericEffecters, PowerPolicy, SdrRecords, Sensors, SessionlessChannels,
+    StateEffecters, UserAccesses, Users, Value, Watchdog,
 };
 use std::alloc::{AllocError, Global};
 
@@ -31,6 +31,8 @@ pub struct BoardFile {
     pub user_accesses: UserAccesses,
     /// The attributes of its BIOS.
     pub attributes: Attributes,
+    /// The LAN parameters of its channels.
+    pub lans: Lans,
 }
 
 impl BoardFile {
@@ -113,6 +115,7 @@ impl BoardFile {
         pairs.push(self.boot.pair(BootParameter::Flags))?;
         let mut more = self.attribute_records(alloc)?;
         pairs.append(&mut more)?;
+        self.push_lans(alloc, &mut pairs)?;
         Ok(pairs)
     }
 }

@@ -4,6 +4,7 @@
 
 pub mod board_file;
 pub mod index;
+pub mod lan_records;
 pub mod plain_store;
 pub mod sample;
 pub mod store;
@@ -23,7 +24,7 @@ pub use record_base::{
     SetStateEffecter, SetThresholds, SetUserAccess, SetUserName, SetWatchdog, SixBits,
     StateEffecter, StateEffecters, StateField, StoredAccess, StringAttribute, Text, TextLengths,
     ThresholdMasks, Thresholds, User, UserAccess, UserAccesses, UserNumber, UserOnChannel, Users,
-    Value, Watchdog, attribute_sizes, byte_at, event_enable, mask, there_and_back,
+    Value, Watchdog, attribute_sizes, byte_at, event_enable, lan, lan_item, mask, there_and_back,
 };
 pub use sample::sample_board;
 pub use store::{NoKey, Store};

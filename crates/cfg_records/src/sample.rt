@@ -263,5 +263,6 @@ pub fn sample_board(alloc: Global) -> Result<BoardFile, AllocError>
         sessionless: Distinct::new(Vec::new(alloc)).unwrap(),
         user_accesses: user_accesses(alloc)?,
         attributes: attributes(alloc)?,
+        lans: Distinct::new(Vec::new(alloc)).unwrap(),
     })
 }
