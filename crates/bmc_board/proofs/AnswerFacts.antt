@@ -113,6 +113,8 @@ limits_are_of file key.GlobalEnables limits e = of_alone (kinds.GlobalEnables (r
 limits_are_of file (key.BootParam parameter) limits e = of_alone (kinds.BootParam (record { parameter = parameter })) limits (key.BootParam parameter) e (same_self parameter)
 limits_are_of file (key.BiosAttribute handle) limits e =
     of_item (attribute_at file.attributes.items handle) (λ x. kinds.BiosAttribute (record { handle = handle; read_only = x.read_only; range = range_of x.kind })) limits (key.BiosAttribute handle) e (λ x. refl)
+limits_are_of file (key.LanParam on) limits e =
+    of_item (lan_at file.lans.items on.channel.number) (λ x. kinds.LanParam (record { parameter = on.parameter })) limits (key.LanParam on) e (λ x. same_lan_parameter on.parameter)
 limits_are_of file other limits e = of_item _ _ limits other e (λ x. tt)
 
 -- ---- its data fits the frame or message that carries it, and each record keeps a valid value

@@ -16,6 +16,11 @@ use Rattle.watch_boot.specs.BootRequests.{progress_in, change_in, with_mark, par
 use Rattle.user_chan.specs.declared.channel_request.ChannelRequest.{ChannelRequest}
 use Rattle.user_chan.specs.declared.channel_request.ChannelRequest.TheVariants.{Leave, One, Two}
 use Rattle.user_chan.specs.ChannelRequests.{channel_request_in}
+use Rattle.user_chan.specs.declared.lan_request.LanRequest.{LanRequest}
+use Rattle.user_chan.specs.declared.lan_request.LanRequest.TheVariants as lan
+use Rattle.user_chan.specs.declared.lan_request.LanShown.{LanShown}
+use Rattle.user_chan.specs.declared.lan_request.LanShown.TheVariants as lan_shown
+use Rattle.user_chan.specs.LanRequests.{lan_request_in, lan_shown_in}
 use Rattle.record_base.specs.declared.bios_attribute.SetBiosAttribute.{SetBiosAttribute}
 use Rattle.record_base.specs.AttributeValue.{number_of}
 use Rattle.record_base.specs.BiosAttribute.{setting}
@@ -26,7 +31,7 @@ use Rattle.bmc_board.specs.declared.request.Refusals.{Refusals}
 use Rattle.bmc_board.specs.Request.{Request}
 use Rattle.bmc_board.specs.Request.{Live, Get, Set, SetStores}
 use Rattle.bmc_board.specs.Table.{Listed, table, pldm_table, line_in, line_under, line_of, pldm_line_of, allow, is_pldm_type, changes, is_changing}
-use Rattle.bmc_board.specs.Request.{boot_set, boot_get, channel_asked, attribute_set, attribute_get, request_of, asked_at, asked_by, ipmi_refusals, pldm_refusals}
+use Rattle.bmc_board.specs.Request.{boot_set, boot_get, channel_asked, attribute_set, attribute_get, lan_set, lan_get, request_of, asked_at, asked_by, ipmi_refusals, pldm_refusals}
 use Rattle.bmc_board.specs.Room.{longest_reply}
 use Rattle.bmc_board.specs.AnyAnswer.{IsCode}
 
@@ -135,9 +140,24 @@ attribute_get_where false handle = refl
 attribute_get_right : (body : List ℕ) → is_right 251 false (request_of command.GetBiosAttribute body) ≡ true
 attribute_get_right body = attribute_get_where (byte_at body 4 == get_first_part) (number_of (byte_at body 5) (byte_at body 6))
 
+-- and the commands of LAN parameters
+lan_set_of : (asked : LanRequest) → is_right 24 true (let r : Result Request ℕ = Ok (lan_set asked) in r) ≡ true
+lan_set_of (lan.Param change) = refl
+lan_set_of (lan.Other channel answer) = refl
+
+lan_set_right : (body : List ℕ) → is_right 24 true (request_of command.SetLanParam body) ≡ true
+lan_set_right body = lan_set_of (lan_request_in body)
+
+lan_get_of : (asked : LanShown) → is_right 24 false (let r : Result Request ℕ = Ok (lan_get asked) in r) ≡ true
+lan_get_of (lan_shown.Param on) = refl
+lan_get_of (lan_shown.Other channel answer) = refl
+
+lan_get_right : (body : List ℕ) → is_right 24 false (request_of command.GetLanParam body) ≡ true
+lan_get_right body = lan_get_of (lan_shown_in body)
+
 -- whatever the data is, each line of the tables passes it
 all_right : (body : List ℕ) → list_all (λ (l : Listed). asks_rightly 24 body l.line) table ≡ true
-all_right body = both_right _ _ (set_right body) (both_right _ _ (get_right body) (both_right _ _ (channel_right body) refl))
+all_right body = both_right _ _ (set_right body) (both_right _ _ (get_right body) (both_right _ _ (channel_right body) (both_right _ _ (lan_set_right body) (both_right _ _ (lan_get_right body) refl))))
 
 all_pldm_right : (body : List ℕ) → list_all (λ (l : Listed). asks_rightly 251 body l.line) pldm_table ≡ true
 all_pldm_right body = both_right _ _ (attribute_set_right body) (both_right _ _ (attribute_get_right body) refl)

@@ -52,6 +52,7 @@ use Rattle.record_kinds.specs.Limits.{set_asked}
 use Rattle.bmc_board.specs.Request as request
 use Rattle.bmc_board.specs.Request.{Request, channel_asked, asked_by, attribute_set}
 use Rattle.bmc_board.specs.Decode.{IsReadFromAll, GetsAreRead, SetsAreRead}
+use Rattle.bmc_board.proofs.LanDecoded as lan
 
 -- what holds of all lists of six holds of a list of length six
 six : (P : List ℕ → Type 0) → ((a b c d e f : ℕ) → P (a ∷ b ∷ c ∷ d ∷ e ∷ f ∷ [])) → (xs : List ℕ) → length xs ≡ 6 → P xs
@@ -280,6 +281,7 @@ gets_are_read (key.Thresholds sensor) = record { is_read = refl; from_nobody = (
 gets_are_read (key.NumericEffecter id) = record { is_read = ap (λ (n : ℕ). Ok (request.Get (key.NumericEffecter n))) (two_bytes id); from_nobody = refl }
 gets_are_read (key.StateEffecter id) = record { is_read = ap (λ (n : ℕ). Ok (request.Get (key.StateEffecter n))) (two_bytes id); from_nobody = refl }
 gets_are_read (key.BiosAttribute handle) = record { is_read = ap (λ (n : ℕ). Ok (request.Get (key.BiosAttribute n))) (two_bytes handle); from_nobody = refl }
+gets_are_read (key.LanParam on) = record { is_read = lan.get_read channel_read on.channel on.parameter; from_nobody = (refl, refl) }
 gets_are_read _ = record { is_read = refl; from_nobody = (refl, refl) }
 
 pub sets_are_read : SetsAreRead
@@ -293,6 +295,7 @@ sets_are_read (op.UserName o) = record { is_read = name_read o; from_nobody = (r
 sets_are_read (op.UserAccess o) = record { is_read = access_read o.first o.user o.limit o.session_limit; from_nobody = (refl, refl) }
 sets_are_read (op.ChannelAccess o) = record { is_read = store_read o.channel o.store o.change; from_nobody = (refl, refl) }
 sets_are_read (op.BiosAttribute o) = record { is_read = attribute_read o; from_nobody = refl }
+sets_are_read (op.LanParam o) = record { is_read = lan.set_read channel_read o.channel o.change; from_nobody = (refl, refl) }
 sets_are_read _ = record { is_read = refl; from_nobody = (refl, refl) }
 
 pub is_read_from_all : IsReadFromAll

@@ -6,6 +6,7 @@ pub mod BothFacts
 pub mod StoresFacts
 pub mod AnswerFacts
 pub mod OneAnswer
+pub mod LanDecoded
 pub mod Decoded
 pub mod Quiet
 pub mod ShownAgain

@@ -14,6 +14,11 @@ use Rattle.sel_log.specs.Reservations.{is_present}
 use Rattle.sel_log.specs.Log.{Log, after_clear, is_full, next_id}
 use Rattle.sensor_recs.specs.declared.compared.Taken.{Taken}
 use Rattle.watch_boot.specs.Watchdog.{was_set, live_after_reset}
+use Rattle.record_base.specs.declared.lan_item.Lan.{Lan}
+use Rattle.user_chan.specs.declared.lan_request.LanAnswer.{LanAnswer}
+use Rattle.user_chan.specs.declared.lan_request.LanAnswer.TheVariants.{Revision, Unsupported, WrongLength}
+use Rattle.record_kinds.specs.Lans.{lan_at}
+use Rattle.bmc_board.specs.LanLive.{unsupported_parameter, lan_where}
 use Rattle.bmc_board.specs.declared.activity.Activity.{Activity}
 use Rattle.bmc_board.specs.declared.storage.PartAsked.{PartAsked}
 use Rattle.bmc_board.specs.declared.live.LiveCommand.{LiveCommand}
@@ -95,6 +100,7 @@ unknown_is_refused setup (key.UserName user) = invalid_field
 unknown_is_refused setup (key.UserAccess on) = invalid_field
 unknown_is_refused setup (key.ChannelAccess at) = channel_refuses (is_sessionless setup at.channel.number)
 unknown_is_refused setup (key.BiosAttribute handle) = no_attribute_refuses
+unknown_is_refused setup (key.LanParam on) = invalid_field
 unknown_is_refused setup _ = not_present_refuses
 
 -- ---- live commands
@@ -264,6 +270,13 @@ code_where false false table code e = cc
 asked_code : (attributes : List Attribute) (number : ℕ) (code : ℕ) → table_asked attributes number ≡ Err code → IsCode code
 asked_code attributes number code e = code_where (nat_lt 3 number) ((number == 3) || (length attributes == 0)) (table_numbered number) code e
 
+answers_lan : (command : LiveCommand) (asked : List ℕ) (records : Records) (before : Activity) (lan : Option Lan) (answer : LanAnswer) → Stays command asked (state records before)
+    → IsLive command asked records before (lan_where lan answer, before)
+answers_lan command asked records before (Some lan) Revision stays = is_done command asked records before before _ (lit≤ tt)
+answers_lan command asked records before (Some lan) Unsupported stays = is_refused command asked records before _ (code_of unsupported_parameter refl) stays
+answers_lan command asked records before (Some lan) WrongLength stays = is_refused command asked records before _ (code_of invalid_length refl) stays
+answers_lan command asked records before None answer stays = is_refused command asked records before _ (code_of invalid_data_field refl) stays
+
 pub are_live : AreLive
 are_live setup records before live.GetDeviceId asked = is_done live.GetDeviceId asked records before before _ (lit≤ tt)
 are_live setup records before live.GetSelfTestResults asked = is_done live.GetSelfTestResults asked records before before _ (lit≤ tt)
@@ -287,3 +300,4 @@ are_live setup records before live.SetUserPassword asked = passwords live.SetUse
 are_live setup records before live.GetTid asked = is_done live.GetTid asked records before before _ (lit≤ tt)
 are_live setup records before live.GetPldmTypes asked = is_done live.GetPldmTypes asked records before before _ (lit≤ tt)
 are_live setup records before live.GetBiosTable asked = shows_table asked records before (table_asked setup.attributes.items (byte_at asked 5)) (table_bytes setup.attributes.items (values_in records)) (asked_code setup.attributes.items (byte_at asked 5))
+are_live setup records before (live.AnswerLan channel answer) asked = answers_lan (live.AnswerLan channel answer) asked records before (lan_at setup.lans.items channel.number) answer (λ code. refl)

@@ -4,6 +4,7 @@ pub mod State
 pub mod Replies
 pub mod Storage
 pub mod Sensing
+pub mod LanLive
 pub mod Live
 pub mod Answer
 pub mod Row

@@ -30,6 +30,7 @@ use Rattle.sel_log.specs.Log.{info_of}
 use Rattle.bmc_board.specs.Storage.{sdr_info, sel_info, part_in, sdr_part, sel_part, LogGiven, added, cleared, time_in}
 use Rattle.bmc_board.specs.Sensing.{reading_answer}
 use Rattle.bmc_board.specs.Replies.{done, refused, unknown_code}
+use Rattle.bmc_board.specs.LanLive.{lan_answer}
 use Rattle.bmc_board.specs.BiosTables.{table_answer, longest_part}
 
 -- what Get Device ID replies: three bytes of the device, its revisions, IPMI 2.0, what it supports, and whose it is, the lowest
@@ -140,6 +141,7 @@ live_answer setup records before live.SetUserPassword body = password_answer (us
 live_answer setup records before live.GetTid body = (done (setup.tid ∷ []), before)
 live_answer setup records before live.GetPldmTypes body = (done pldm_types, before)
 live_answer setup records before live.GetBiosTable body = (table_answer setup records body, before)
+live_answer setup records before (live.AnswerLan channel answer) body = (lan_answer setup channel answer, before)
 
 -- the reply to a live command has at most so many bytes of data, which fit any frame; but a part of a table, which fits a message of PLDM
 abbrev pub longest_live_reply : ℕ

@@ -28,4 +28,5 @@ unknown_code setup (key.UserName user) = invalid_data_field
 unknown_code setup (key.UserAccess on) = invalid_data_field
 unknown_code setup (key.ChannelAccess at) = if is_sessionless setup at.channel.number then sessionless_channel else invalid_data_field
 unknown_code setup (key.BiosAttribute handle) = pldm_invalid_attribute
+unknown_code setup (key.LanParam on) = invalid_data_field
 unknown_code setup _ = not_present

@@ -16,6 +16,11 @@ use Rattle.record_base.specs.declared.channel.SetChannelAccess.{SetChannelAccess
 use Rattle.user_chan.specs.declared.channel_request.ChannelRequest.{ChannelRequest}
 use Rattle.user_chan.specs.declared.channel_request.ChannelRequest.TheVariants.{Leave, One, Two}
 use Rattle.user_chan.specs.ChannelRequests.{stored_in, channel_request_in}
+use Rattle.user_chan.specs.declared.lan_request.LanRequest.{LanRequest}
+use Rattle.user_chan.specs.declared.lan_request.LanRequest.TheVariants as lan
+use Rattle.user_chan.specs.declared.lan_request.LanShown.{LanShown}
+use Rattle.user_chan.specs.declared.lan_request.LanShown.TheVariants as lan_shown
+use Rattle.user_chan.specs.LanRequests.{lan_request_in, lan_shown_in}
 use Rattle.record_base.specs.declared.bios_attribute.SetBiosAttribute.{SetBiosAttribute}
 use Rattle.bios_attr.specs.BiosAttribute.{attribute_in, attribute_shown_in}
 use Rattle.record_kinds.specs.Limits.{reader_of}
@@ -61,6 +66,15 @@ abbrev pub attribute_get : Result ℕ ℕ → Result Request ℕ
 attribute_get (Ok handle) = Ok (Get (key.BiosAttribute handle))
 attribute_get (Err code) = Err code
 
+-- what the commands of LAN parameters ask for: a live command has no further data
+abbrev pub lan_set : LanRequest → Request
+lan_set (lan.Param change) = Set (op.LanParam change)
+lan_set (lan.Other channel answer) = Live (live.AnswerLan channel answer) []
+
+abbrev pub lan_get : LanShown → Request
+lan_get (lan_shown.Param on) = Get (key.LanParam on)
+lan_get (lan_shown.Other channel answer) = Live (live.AnswerLan channel answer) []
+
 -- what a command asks for with data of a length that it takes, or the code that refuses the data
 abbrev pub request_of : Command → List ℕ → Result Request ℕ
 request_of (command.Live command) body = Ok (Live command body)
@@ -72,6 +86,8 @@ request_of command.SetChannelAccess body = Ok (channel_asked (channel_request_in
 request_of command.GetChannelAccess body = Ok (Get (key.ChannelAccess (stored_in body)))
 request_of command.SetBiosAttribute body = attribute_set (attribute_in body)
 request_of command.GetBiosAttribute body = attribute_get (attribute_shown_in body)
+request_of command.SetLanParam body = Ok (lan_set (lan_request_in body))
+request_of command.GetLanParam body = Ok (lan_get (lan_shown_in body))
 
 -- the same of a command that was read, or the code that refused the request
 abbrev pub asked_of : Result Command ℕ → List ℕ → Result Request ℕ

@@ -60,6 +60,8 @@ table =
     listed 0x0A 0x47 (Exactly 6) false (command.Live live.ClearSel) ∷
     listed 0x0A 0x48 (Exactly 0) false (command.Live live.GetSelTime) ∷
     listed 0x0A 0x49 (Exactly 4) false (command.Live live.SetSelTime) ∷
+    listed 0x0C 0x01 (AtLeast 3) true command.SetLanParam ∷
+    listed 0x0C 0x02 (Exactly 4) false command.GetLanParam ∷
     []
 
 -- PLDM: type, number, lengths, whether it sets the configuration, command

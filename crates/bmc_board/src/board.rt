@@ -6,6 +6,7 @@ ghost use Rattle.bmc_board.specs.BiosTableLaws.{Tells-prop};
 
 mod bios;
 mod happen;
+mod lan;
 mod opening;
 mod serve;
 

@@ -27,6 +27,10 @@ pub enum Command {
     SetBiosAttribute,
     /// GetBIOSAttributeCurrentValueByHandle: it shows a record, where its first part is asked for.
     GetBiosAttribute,
+    /// Set LAN Configuration Parameters: it sets a record, where it names one.
+    SetLanParam,
+    /// Get LAN Configuration Parameters: it shows a record, where it names one.
+    GetLanParam,
 }
 
 /// How many bytes of data a command takes.
@@ -124,6 +128,8 @@ pub fn line_of(net_fn: u8, number: u8) -> Option<Line>
         (0x0A, 0x47) => entry(Live(ClearSel), Exactly(6), false),
         (0x0A, 0x48) => entry(Live(GetSelTime), Exactly(0), false),
         (0x0A, 0x49) => entry(Live(SetSelTime), Exactly(4), false),
+        (0x0C, 0x01) => entry(SetLanParam, AtLeast(3), true),
+        (0x0C, 0x02) => entry(GetLanParam, Exactly(4), false),
         _ => return None,
     })
 }

@@ -5,6 +5,7 @@ ghost use Rattle.bmc_board.specs.Replies.{sessionless_channel};
 
 use cfg_records::{ChannelNumber, Device};
 use two_wire::Code;
+use user_chan::lan_request::LanAnswer;
 
 /// A command that asks for no record, and leaves all of them.
 #[derive(Clone, Copy, Debug, PartialEq, Eq)]
@@ -33,6 +34,8 @@ pub enum LiveCommand {
     GetTid,
     GetPldmTypes,
     GetBiosTable,
+    /// A command of LAN parameters that names no record, on this channel.
+    AnswerLan(ChannelNumber, LanAnswer),
 }
 
 /// What Get Self Test Results replies (IPMI 2.0): no error was found.

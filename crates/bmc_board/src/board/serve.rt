@@ -53,6 +53,7 @@ fn unknown_code(setup: &Setup, key: &Key) -> Code
         Key::NumericEffecter(_) | Key::StateEffecter(_) => code::PLDM_INVALID_EFFECTER,
         Key::BiosAttribute(_) => code::PLDM_INVALID_ATTRIBUTE,
         Key::UserName(_) | Key::UserAccess(_) => code::INVALID_DATA_FIELD,
+        Key::LanParam(_) => code::INVALID_DATA_FIELD,
         Key::ChannelAccess(at) => {
             if setup.is_sessionless(at.channel) {
                 sessionless_channel()
@@ -83,7 +84,7 @@ pub(super) fn value_at<'a, S: Store>(store: &'a S, key: &Key) -> &'a [u8]
 }
 
 /// Appends the data of a reply that is always given.
-fn show<B: Buffer>(shown: &[u8], to: &mut B) -> Result<(), Code>
+pub(super) fn show<B: Buffer>(shown: &[u8], to: &mut B) -> Result<(), Code>
     requires { length (B.bytes to.old) + length shown.now ≤ B.capacity }
     ensures { Gives result (B.bytes to.old) (B.bytes to.new) (done shown.now) }
 {
@@ -253,7 +254,12 @@ impl<S: Store> Board<S> {
 
     /// Carries out a live command with this data, and appends the data of the reply.
     #[tactic(auto, using(crate::proofs::LiveFacts::as_long))]
-    fn live<B: Buffer>(&mut self, command: LiveCommand, body: &[u8], to: &mut B) -> Result<(), Code>
+    pub(super) fn live<B: Buffer>(
+        &mut self,
+        command: LiveCommand,
+        body: &[u8],
+        to: &mut B,
+    ) -> Result<(), Code>
         requires room { length (B.bytes to.old) + longest_live command ≤ B.capacity }
         ensures { Serves S.records self.old self.new (Ok (request.Live command body.now))
             result (B.bytes to.old) (B.bytes to.new) }
@@ -285,11 +291,12 @@ impl<S: Store> Board<S> {
             LiveCommand::GetTid => show(&[self.setup.tid()], to),
             LiveCommand::GetPldmTypes => show(&PLDM_TYPES, to),
             LiveCommand::GetBiosTable => self.show_table(body, to),
+            LiveCommand::AnswerLan(channel, answer) => self.answer_lan(channel, answer, to),
         }
     }
 
     /// Appends what a Get of the key's record replies.
-    fn get<B: Buffer>(&self, key: &Key, to: &mut B) -> Result<(), Code>
+    pub(super) fn get<B: Buffer>(&self, key: &Key, to: &mut B) -> Result<(), Code>
         requires room { length (B.bytes to.old) + longest_reply (request.Get key.now) ≤ B.capacity }
         ensures { Gives result (B.bytes to.old) (B.bytes to.new)
             (serve_by S.records self.now (request.Get key.now)).0 }
@@ -305,7 +312,7 @@ impl<S: Store> Board<S> {
 
     /// Carries out the operation, where its record takes it, and appends what the Set replies.
     #[inline(always)]
-    fn set<B: Buffer>(&mut self, op: &Op, to: &mut B) -> Result<(), Code>
+    pub(super) fn set<B: Buffer>(&mut self, op: &Op, to: &mut B) -> Result<(), Code>
         requires room { length (B.bytes to.old) + longest_reply (request.Set op.now) ≤ B.capacity }
         ensures { Serves S.records self.old self.new (Ok (request.Set op.now))
             result (B.bytes to.old) (B.bytes to.new) }
@@ -464,6 +471,8 @@ impl<S: Store> Board<S> {
             Command::GetChannelAccess => self.get(&Key::ChannelAccess(stored_in(body)), to),
             Command::SetBiosAttribute => self.set_attribute(body, to),
             Command::GetBiosAttribute => self.get_attribute(body, to),
+            Command::SetLanParam => self.set_lan_param(body, to),
+            Command::GetLanParam => self.get_lan_param(body, to),
         }
     }
 
