@@ -10,3 +10,7 @@ pub mod ChannelAccess
 pub mod ChannelRequests
 pub mod ChannelAccessLaws
 pub mod ChannelAccessKind
+pub mod LanParam
+pub mod LanRequests
+pub mod LanParamLaws
+pub mod LanParamKind
