@@ -56,8 +56,10 @@ impl Lan {
         vlan: VlanBytes,
     ) -> Option<Lan>
         ensures made { IsSome result ↔ ((source ≤ 4) × (vlan_high vlan.high ≡ vlan.high)) }
-        ensures parts { IfSome result (λ made. (made.number ≡ number) × (made.ip ≡ ip) × (made.mask ≡ mask)) }
-        ensures others { IfSome result (λ made. (made.gateway ≡ gateway) × (made.source ≡ source) × (made.vlan ≡ vlan)) }
+        ensures parts { IfSome result
+            (λ made. (made.number ≡ number) × (made.ip ≡ ip) × (made.mask ≡ mask)) }
+        ensures others { IfSome result
+            (λ made. (made.gateway ≡ gateway) × (made.source ≡ source) × (made.vlan ≡ vlan)) }
     {
         if source > MOST_SOURCE || vlan_high(vlan.high) != vlan.high {
             return None;

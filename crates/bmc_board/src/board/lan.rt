@@ -45,11 +45,7 @@ impl<S: Store> Board<S> {
     }
 
     /// Carries out Set LAN Configuration Parameters.
-    pub(super) fn set_lan_param<B: Buffer>(
-        &mut self,
-        body: &[u8],
-        to: &mut B,
-    ) -> Result<(), Code>
+    pub(super) fn set_lan_param<B: Buffer>(&mut self, body: &[u8], to: &mut B) -> Result<(), Code>
         requires { Fits (request_of Command.SetLanParam body.now) (B.bytes to.old) B.capacity }
         ensures { Serves S.records self.old self.new (request_of Command.SetLanParam body.now)
             result (B.bytes to.old) (B.bytes to.new) }
@@ -63,11 +59,7 @@ impl<S: Store> Board<S> {
     }
 
     /// Carries out Get LAN Configuration Parameters.
-    pub(super) fn get_lan_param<B: Buffer>(
-        &mut self,
-        body: &[u8],
-        to: &mut B,
-    ) -> Result<(), Code>
+    pub(super) fn get_lan_param<B: Buffer>(&mut self, body: &[u8], to: &mut B) -> Result<(), Code>
         requires { Fits (request_of Command.GetLanParam body.now) (B.bytes to.old) B.capacity }
         ensures { Serves S.records self.old self.new (request_of Command.GetLanParam body.now)
             result (B.bytes to.old) (B.bytes to.new) }
