@@ -59,7 +59,8 @@ impl Lan {
         ensures parts { IfSome result
             (λ made. (made.number ≡ number) × (made.ip ≡ ip) × (made.mask ≡ mask)) }
         ensures others { IfSome result
-            (λ made. (made.gateway ≡ gateway) × (made.source ≡ source) × (made.vlan ≡ vlan)) }
+            (λ made. (made.gateway ≡ gateway) × (made.source ≡ source)) }
+        ensures vlan { IfSome result (λ made. made.vlan ≡ vlan) }
     {
         if source > MOST_SOURCE || vlan_high(vlan.high) != vlan.high {
             return None;
