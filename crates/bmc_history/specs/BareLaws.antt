@@ -8,6 +8,7 @@ use Rattle.record_base.specs.declared.state_effecter.StateEffecter.{StateEffecte
 use Rattle.record_base.specs.declared.attribute.Attribute.{Attribute}
 use Rattle.record_base.specs.declared.user.User.{User}
 use Rattle.record_base.specs.declared.user.UserAccess.{UserAccess}
+use Rattle.record_base.specs.declared.lan_item.Lan.{Lan}
 use Rattle.record_base.specs.declared.channel.Channel.{Channel}
 use Rattle.record_base.specs.declared.channel.ChannelNumber.{ChannelNumber}
 use Rattle.record_base.specs.Numbers.{number_on}
@@ -58,4 +59,5 @@ bare_file = record {
   sessionless = record { items = []; differ = none_differ (λ (c : ChannelNumber). c.number); few = lit≤ tt };
   user_accesses = record { items = []; differ = none_differ (λ (a : UserAccess). number_on a.on); few = lit≤ tt };
   attributes = record { items = []; differ = none_differ (λ (a : Attribute). a.handle); few = lit≤ tt };
+  lans = record { items = []; differ = none_differ (λ (l : Lan). l.number.number); few = lit≤ tt };
 }

@@ -15,6 +15,7 @@ use Rattle.record_base.specs.declared.state_effecter.StateEffecter.{StateEffecte
 use Rattle.record_base.specs.declared.attribute.Attribute.{Attribute}
 use Rattle.record_base.specs.declared.user.User.{User}
 use Rattle.record_base.specs.declared.user.UserAccess.{UserAccess}
+use Rattle.record_base.specs.declared.lan_item.Lan.{Lan}
 use Rattle.record_base.specs.declared.channel.Channel.{Channel}
 use Rattle.record_base.specs.declared.channel.ChannelNumber.{ChannelNumber}
 use Rattle.record_base.specs.Numbers.{number_on}
@@ -91,6 +92,9 @@ no_channels i j d below within = absurd (omega (arith, below, within))
 pub no_sessionless : NamesDiffer (λ (c : ChannelNumber). c.number) []
 no_sessionless i j d below within = absurd (omega (arith, below, within))
 
+pub no_lans : NamesDiffer (λ (l : Lan). l.number.number) []
+no_lans i j d below within = absurd (omega (arith, below, within))
+
 pub no_accesses : NamesDiffer (λ (a : UserAccess). number_on a.on) []
 no_accesses i j d below within = absurd (omega (arith, below, within))
 
@@ -137,6 +141,7 @@ board_file = record {
   sessionless = record { items = []; differ = no_sessionless; few = lit≤ tt };
   user_accesses = record { items = []; differ = no_accesses; few = lit≤ tt };
   attributes = record { items = []; differ = no_attributes; few = lit≤ tt };
+  lans = record { items = []; differ = no_lans; few = lit≤ tt };
 }
 
 -- ---- the runs

@@ -9,6 +9,7 @@ mod bytes;
 mod change_lines;
 mod damage_lines;
 mod heard_lines;
+mod lan;
 mod line;
 mod port_lines;
 mod request;

@@ -1,5 +1,6 @@
 //! Requests to a board, and the records and changes that their data name.
 use crate::bytes::bytes_of;
+use crate::lan::{lan_key, lan_op};
 use bios_attr::bios_attribute::{attribute_in, attribute_shown_in};
 use bmc_board::{Command, read_request};
 use cfg_records::{Asked, CommandReader, Key, Op};
@@ -129,6 +130,7 @@ pub fn op_of(asked: &Asked) -> Option<Op> {
         Ok(Command::SetBootOptions) => boot_op(body),
         Ok(Command::SetChannelAccess) => channel_op(body),
         Ok(Command::SetBiosAttribute) => attribute_op(body),
+        Ok(Command::SetLanParam) => lan_op(body),
         _ => None,
     }
 }
@@ -157,6 +159,7 @@ pub fn key_of(asked: &Asked) -> Option<Key> {
         Ok(Command::GetBootOptions) => boot_key(body),
         Ok(Command::GetChannelAccess) => Some(Key::ChannelAccess(stored_in(body))),
         Ok(Command::GetBiosAttribute) => attribute_key(body),
+        Ok(Command::GetLanParam) => lan_key(body),
         _ => None,
     }
 }
