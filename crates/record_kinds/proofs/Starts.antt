@@ -31,6 +31,7 @@ use Rattle.record_kinds.specs.declared.limits.Limits.TheVariants as limits
 use Rattle.record_kinds.specs.Limits.{valid, of_sensor, limits_at}
 use Rattle.record_kinds.specs.Boards.{is_on}
 use Rattle.record_kinds.specs.Sound.{IsSoundAt, StartsSound}
+use Rattle.record_kinds.proofs.LanStarts.{lan_pair, lan_pairs_at, same_lan_key, lan_begins}
 
 -- ---- pairs of one kind of item
 
@@ -158,6 +159,9 @@ sound_in_kind file (key.ChannelAccess at) = sound_in_store file at.channel at.st
 sound_in_kind file (key.BiosAttribute handle) =
     sound_of (λ a. (key.BiosAttribute a.handle, attribute_value a)) (λ a. limits.BiosAttribute (record { handle = handle; read_only = a.read_only; range = range_of a.kind })) (λ a. a.handle == handle) file.attributes.items (key.BiosAttribute handle)
     (λ a. same_numbered key.BiosAttribute (λ m n same. cc) a.handle handle) begins_valid
+sound_in_kind file (key.LanParam on) = subst (λ (pairs : List Pair). IsSoundAt (limits_at file (key.LanParam on)) (records_of pairs (key.LanParam on))) (lan_pairs_at file on.parameter)
+    (sound_of (lan_pair on.parameter) (λ l. limits.LanParam (record { parameter = on.parameter })) (λ l. l.number.number == on.channel.number) file.lans.items (key.LanParam on)
+    (λ l. same_lan_key on.parameter l.number on.channel) (lan_begins on.parameter))
 
 pub starts_sound : StartsSound
 starts_sound file k = subst (IsSoundAt (limits_at file k)) (sym (record_of_kind file k)) (sound_in_kind file k)

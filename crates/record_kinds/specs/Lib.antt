@@ -4,6 +4,7 @@ pub mod Limits
 pub mod LimitsLaws
 pub mod LimitsKind
 pub mod Boards
+pub mod Lans
 pub mod Places
 pub mod Sound
 pub mod SoundLaws

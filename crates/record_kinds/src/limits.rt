@@ -64,6 +64,7 @@ pub enum Limits<'f> {
     UserAccess(UserAccessLimits),
     ChannelAccess(ChannelAccessLimits),
     BiosAttribute(AttributeLimits),
+    LanParam(user_chan::LanParamLimits),
 }
 
 /// The plain kinds, and a line for each other kind.
@@ -74,6 +75,7 @@ macro_rules! of_all_kinds {
             BootParam watch_boot::BootParamLimits {Key::BootParam(parameter) => parameter}
             ChannelAccess user_chan::ChannelAccessLimits {Key::ChannelAccess(at) => at}
             BiosAttribute bios_attr::AttributeLimits {Key::BiosAttribute(handle) => handle}
+            LanParam user_chan::LanParamLimits {Key::LanParam(on) => on}
         }
     };
 }
@@ -205,6 +207,7 @@ impl Setup {
                 let attribute = self.attribute(*handle)?;
                 Limits::BiosAttribute(AttributeLimits::of(*handle, attribute))
             }
+            Key::LanParam(on) => self.lan_limits(on)?,
         })
     }
 }

@@ -11,6 +11,8 @@ use cfg_records::{
 use std::alloc::{AllocError, Global};
 use std::marker::Model;
 
+pub mod lans;
+
 /// The place of a sensor that isn't there.
 const NOWHERE: u8 = 255;
 

@@ -90,3 +90,12 @@ apply-requires-in-BiosAttribute-op c = (
 
 pub returns-in-BiosAttribute-op : goal.returns-in-BiosAttribute-op
 returns-in-BiosAttribute-op c = rw (c.in-BiosAttribute.is, c.in-BiosAttribute-op.is) c.apply-in-BiosAttribute-op.ensures
+
+pub apply-requires-in-LanParam-op : goal.apply-requires-in-LanParam-op
+apply-requires-in-LanParam-op c = (
+  moved _ _ _ _ c.in-LanParam.is c.in-LanParam-op.is c.requires.of_record,
+  subst (λ (s : Limits). valid s c.args.value.now) c.in-LanParam.is c.requires.is_valid,
+)
+
+pub returns-in-LanParam-op : goal.returns-in-LanParam-op
+returns-in-LanParam-op c = rw (c.in-LanParam.is, c.in-LanParam-op.is) c.apply-in-LanParam-op.ensures
