@@ -63,7 +63,12 @@ pub struct Lab {
 
 /// A manager of a plan, with the plan's retries.
 fn opened_manager(alloc: Global, plan: Plan, names: Names) -> Result<Manager, AllocError>
-    ensures { IfOk result (λ m. manager.Shows names m (record { machine = opened (words_of names) plan.steps plan.retries; names = names; listed = Some names; joined = nothing })) }
+    ensures { IfOk result (λ m. manager.Shows names m (record {
+      machine = opened (words_of names) plan.steps plan.retries;
+      names = names;
+      listed = Some names;
+      joined = nothing;
+    })) }
 {
     let Plan { steps, retries } = plan;
     match Manager::open(alloc, Plan { steps, retries }, names, retries.number()) {

@@ -47,7 +47,8 @@ fn first_byte(text: &str) -> Option<(u8, &str)>
 
 /// The two addresses of the text's first two words, and what stands behind the space that ends the second.
 fn first_places(text: &str) -> Option<(Places, &str)>
-    ensures some { IfSome result (λ found. (words : List ℕ) × (text.now ≡ words ++ space ∷ found.1.now)
+    ensures some { IfSome result
+        (λ found. (words : List ℕ) × (text.now ≡ words ++ space ∷ found.1.now)
         × IsPair words found.0.own found.0.peer × AreEven found.0.own found.0.peer) }
     ensures none { IfNone result ((words : List ℕ) (own peer : ℕ) (rest : List ℕ)
         → IsPair words own peer → AreEven own peer → text.now ≢ words ++ space ∷ rest) }
@@ -116,7 +117,8 @@ fn names(line: &str) -> Option<Names>
 
 /// The names on the first line of the text, and the text behind that line.
 fn first_names(text: &str) -> Option<(Names, &str)>
-    ensures some { IfSome result (λ found. BeginsWith (λ line. IsNamesLine line found.0) text.now found.1.now) }
+    ensures some { IfSome result
+        (λ found. BeginsWith (λ line. IsNamesLine line found.0) text.now found.1.now) }
     ensures none { IfNone result ((more : List ℕ) (names : AnyNames)
         → ¬ BeginsWith (λ line. IsNamesLine line names) text.now more) }
 {
@@ -154,7 +156,8 @@ fn push_pair(
     own: u8,
     peer: u8,
 ) -> Result<(), AllocError>
-    ensures text { OnOk result (string_bytes text.new ≡ string_bytes text.old ++ (words.now ++ pair_of own peer)) }
+    ensures text { OnOk result (string_bytes text.new
+        ≡ string_bytes text.old ++ (words.now ++ pair_of own peer)) }
     ensures told { OnOk result (IsPair (pair_of own peer) own peer) }
 {
     let own_digits = hex::encode_upper(alloc, [own])?;
@@ -164,7 +167,8 @@ fn push_pair(
 
 /// Adds the line of the names.
 fn push_names(alloc: Global, text: &mut String, names: &Names) -> Result<(), AllocError>
-    ensures text { OnOk result (string_bytes text.new ≡ string_bytes text.old ++ ended (names_line names.now)) }
+    ensures text { OnOk result (string_bytes text.new
+        ≡ string_bytes text.old ++ ended (names_line names.now)) }
     ensures told { OnOk result (IsNamesLine (names_line names.now) names.now) }
 {
     let own = names.own_address.byte();
@@ -181,7 +185,8 @@ pub fn push_names_line(
     text: &mut String,
     names: &Option<Names>,
 ) -> Result<(), AllocError>
-    ensures text { OnOk result (string_bytes text.new ≡ string_bytes text.old ++ flat_map ended (names_lines names.now)) }
+    ensures text { OnOk result (string_bytes text.new
+        ≡ string_bytes text.old ++ flat_map ended (names_lines names.now)) }
     ensures told { OnOk result (AreNamesLines (names_lines names.now) names.now) }
 {
     match names {

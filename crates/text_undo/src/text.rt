@@ -63,7 +63,8 @@ pub fn push_requests(
 /// The requests of these lines, in their order, or the number of the first bad line, in a text of this version.
 fn read_requests(alloc: Global, version: Version, text: &str) -> Result<Vec<Asked>, UndoFault>
     ensures told { IfOk result (λ told. (vec_len told ≤ most_steps) × AreLinesOf text.now told.items) }
-    ensures fault { IfErr result (λ why. (why ≡ UndoFault.Memory) ⊎ ((n : ℕ) × (why ≡ UndoFault.Line n)
+    ensures fault { IfErr result
+        (λ why. (why ≡ UndoFault.Memory) ⊎ ((n : ℕ) × (why ≡ UndoFault.Line n)
         × IsFirstBadFrom version (head_length version + 1) text.now n)) }
 {
     let first = head_lines(version) + 1;
@@ -109,7 +110,8 @@ fn listed(
     told: Vec<Asked>,
 ) -> Result<UndoList, UndoFault>
     requires { vec_len told ≤ most_steps }
-    ensures list { IfOk result (λ list. (list.next ≡ next) × (list.names ≡ names) × (list.requests ≡ reverse told.items)) }
+    ensures list { IfOk result (λ list. (list.next ≡ next)
+        × (list.names ≡ names) × (list.requests ≡ reverse told.items)) }
     ensures fault { IfErr result (λ why. why ≡ UndoFault.Memory) }
 {
     match in_order(alloc, told) {

@@ -25,7 +25,8 @@ const SECOND: &str = "undo 2\n";
 
 /// The version on the first line of the text, and the text behind that line.
 pub fn first_version(text: &str) -> Option<(Version, &str)>
-    ensures some { IfSome result (λ found. text.now ≡ ended (version_line found.0) ++ found.1.now) }
+    ensures some { IfSome result
+        (λ found. text.now ≡ ended (version_line found.0) ++ found.1.now) }
     ensures none { IfNone result ((version : AnyVersion) (rest : List ℕ)
         → text.now ≢ ended (version_line version) ++ rest) }
 {

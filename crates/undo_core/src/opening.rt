@@ -19,7 +19,12 @@ impl Manager {
     /// A manager of a plan, which it hasn't begun.
     pub fn open(alloc: Global, plan: Plan, names: Names, retries: u8) -> Result<Self, OpenFault>
         ensures refused { (result ≡ Err OpenFault.Retries) ↔ (most_retries < retries) }
-        ensures opened { IfOk result (λ m. Shows names m (record { machine = machine.opened (words_of names) plan.steps retries; names = names; listed = Some names; joined = nothing })) }
+        ensures opened { IfOk result (λ m. Shows names m (record {
+          machine = machine.opened (words_of names) plan.steps retries;
+          names = names;
+          listed = Some names;
+          joined = nothing;
+        })) }
     {
         let next = NextNumbers {
             ipmb: Below::new(0),

@@ -67,7 +67,8 @@ impl Manager {
         ensures requests { (names : AnyNames) (s : ManagerState (board_plans names)) → Shows names self.now s → backs names result.now.requests ≡ s.machine.undo }
         ensures sequence { (names : AnyNames) (s : ManagerState (board_plans names)) → Shows names self.now s → result.now.next.ipmb ≡ s.machine.counts.ipmb % 64 }
         ensures instance { (names : AnyNames) (s : ManagerState (board_plans names)) → Shows names self.now s → result.now.next.smbus ≡ s.machine.counts.smbus % 32 }
-        ensures names { (names : AnyNames) (s : ManagerState (board_plans names)) → Shows names self.now s → result.now.names ≡ s.listed }
+        ensures names { (names : AnyNames) (s : ManagerState (board_plans names))
+            → Shows names self.now s → result.now.names ≡ s.listed }
     {
         &self.undo
     }
