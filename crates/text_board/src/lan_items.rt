@@ -127,10 +127,13 @@ fn is_taken(lans: &[Lan], channel: u8) -> bool
 /// The LAN parameters that the value is, behind those before it.
 fn next_lan(listed: [bool; 16], before: &[Lan], value: &Value) -> Result<Lan, FileFault>
     requires { is_table (view value.now) ≡ true }
-    ensures sound { IfOk result (λ _. field_faults (lan_rows listed) (table_of (view value.now)) ≡ []) }
+    ensures sound { IfOk result
+        (λ _. field_faults (lan_rows listed) (table_of (view value.now)) ≡ []) }
     ensures held { IfOk result (IsLanIn (view value.now)) }
-    ensures fresh { IfOk result (λ l. list_any (λ other. other.number.number == l.number.number) before.now ≡ false) }
-    ensures err { IfErr result (IsNextAmong IsLanIn Item.Lan (λ _. lan_rows listed) Field.Channel before.now (view value.now)) }
+    ensures fresh { IfOk result
+        (λ l. list_any (λ other. other.number.number == l.number.number) before.now ≡ false) }
+    ensures err { IfErr result (IsNextAmong IsLanIn Item.Lan (λ _. lan_rows listed)
+        Field.Channel before.now (view value.now)) }
 {
     let item = Item::Lan(before.len());
     let table = value.as_table().unwrap();
@@ -148,10 +151,13 @@ fn next_lan(listed: [bool; 16], before: &[Lan], value: &Value) -> Result<Lan, Fi
 /// The LAN parameters that these tables are, up to the first fault.
 fn lans_of(alloc: Global, listed: [bool; 16], values: &[Value]) -> Result<Vec<Lan>, FileFault>
     requires { list_all (λ value. is_table (view value)) values.now ≡ true }
-    ensures sound { IfOk result (λ _. item_faults Item.Lan (λ _. lan_rows listed) Field.Channel [] (map view values.now) ≡ []) }
+    ensures sound { IfOk result (λ _.
+        item_faults Item.Lan (λ _. lan_rows listed) Field.Channel [] (map view values.now) ≡ []) }
     ensures held { IfOk result (λ lans. AllZip IsLanIn (map view values.now) lans.items) }
     ensures differ { IfOk result (λ lans. NamesDiffer channel_of lans.items) }
-    ensures err { IfErr result (λ why. (why ≡ FileFault.Memory) ⊎ (first (item_faults Item.Lan (λ _. lan_rows listed) Field.Channel [] (map view values.now)) ≡ Some why)) }
+    ensures err { IfErr result (λ why. (why ≡ FileFault.Memory)
+        ⊎ (first (item_faults Item.Lan (λ _. lan_rows listed) Field.Channel []
+            (map view values.now)) ≡ Some why)) }
 {
     let mut lans = Vec::new(alloc);
     for value in values {
@@ -167,8 +173,10 @@ fn lans_of(alloc: Global, listed: [bool; 16], values: &[Value]) -> Result<Vec<La
 /// The LAN parameters of the file.
 pub fn lans(alloc: Global, top: &Checked<'_, TopFields>) -> Result<Lans, FileFault>
     ensures sound { IfOk result (λ _. lan_faults (table_view top.now.table.now) ≡ []) }
-    ensures held { IfOk result (λ lans. AllZip IsLanIn (lans_in (table_view top.now.table.now)) lans.items) }
-    ensures err { IfErr result (λ why. (why ≡ FileFault.Memory) ⊎ (first (lan_faults (table_view top.now.table.now)) ≡ Some why)) }
+    ensures held { IfOk result
+        (λ lans. AllZip IsLanIn (lans_in (table_view top.now.table.now)) lans.items) }
+    ensures err { IfErr result (λ why. (why ≡ FileFault.Memory)
+        ⊎ (first (lan_faults (table_view top.now.table.now)) ≡ Some why)) }
 {
     let listed = listed_channels(top.tables(Field::Channel));
     let lans = lans_of(alloc, listed, top.tables(Field::Lan(LanField::Lan)))?;

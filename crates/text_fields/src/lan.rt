@@ -29,7 +29,8 @@ pub enum LanShape {
 /// The address that the value is.
 pub fn address(value: &Value) -> Option<Ipv4Address>
     ensures made { is_some result ≡ is_some (bytes_in 4 (view value.now)) }
-    ensures held { IfSome result (λ address. bytes_in 4 (view value.now) ≡ Some (address_bytes address)) }
+    ensures held { IfSome result
+        (λ address. bytes_in 4 (view value.now) ≡ Some (address_bytes address)) }
 {
     let Some(bytes) = bytes::<4>(value) else {
         return None;
@@ -78,7 +79,8 @@ pub fn vlan(value: &Value) -> Option<VlanBytes>
 pub fn lan_change(parameter: LanParameter, value: &Value) -> Option<LanChange>
     ensures made { is_some result ≡ are_lan_data parameter (view value.now) }
     ensures changed { IfSome result (λ change. changed_parameter change ≡ parameter) }
-    ensures held { IfSome result (λ change. bytes_in (length (lan_data change)) (view value.now) ≡ Some (lan_data change)) }
+    ensures held { IfSome result
+        (λ change. bytes_in (length (lan_data change)) (view value.now) ≡ Some (lan_data change)) }
 {
     match parameter {
         LanParameter::Address(which) => match address(value) {
@@ -141,7 +143,8 @@ fn is_listed(listed: &[bool], number: u64) -> bool
 
 /// Whether the value is the number of a channel that is listed.
 fn is_listed_channel(listed: &[bool], value: &Value) -> bool
-    ensures { result ≡ option_map_or (λ n. get_or listed.now n false) (natural (view value.now)) false }
+    ensures { result
+        ≡ option_map_or (λ n. get_or listed.now n false) (natural (view value.now)) false }
 {
     match natural(value) {
         Some(number) => is_listed(listed, number),
