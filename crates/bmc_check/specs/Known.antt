@@ -6,11 +6,13 @@ use Rattle.std.specs.Str.{bytes_eq}
 use Rattle.toml.specs.Data.{Data, Members, no_members, member, as_table}
 use Rattle.text_fields.specs.declared.field.Field.{Field}
 use Rattle.text_fields.specs.declared.field.Field.TheVariants as field
+use Rattle.text_fields.specs.declared.lan_field.LanField.TheVariants as lan
 use Rattle.text_fields.specs.declared.row.Row.{Row}
 use Rattle.text_fields.specs.Words.{word}
 use Rattle.text_fields.specs.Ranges.{has_text}
 use Rattle.text_fields.specs.Trees.{in_field, members_in}
 use Rattle.text_board.specs.declared.tables.TheConstants.{TOP, DEVICE, SENSOR, STATE, NUMERIC}
+use Rattle.text_board.specs.declared.lan_items.TheConstants.{LAN}
 use Rattle.text_board.specs.Faults.{attribute_rows, has_sessions, session_rows}
 use Rattle.plan_file.specs.declared.kind.Kind.{Kind}
 use Rattle.plan_file.specs.declared.kind.TheConstants.{KIND}
@@ -30,6 +32,7 @@ known group.Top tree = TOP
 known group.Device tree = DEVICE
 known group.Sensor tree = SENSOR
 known group.Channel tree = session_rows 0
+known group.Lan tree = LAN
 known group.Attribute tree = attribute_rows tree
 known group.State tree = STATE
 known group.Numeric tree = NUMERIC
@@ -84,8 +87,9 @@ abbrev pub is_told_board : Members → Bool
 is_told_board tree =
     is_told group.Top tree || (is_told_device tree
     || (is_told_in group.Sensor field.Sensor tree || (is_told_in group.Channel field.Channel tree
+    || (is_told_in group.Lan (field.Lan lan.Lan) tree
     || (is_told_in group.Attribute field.Attribute tree || (is_told_in group.State field.State tree
-    || is_told_in group.Numeric field.Numeric tree)))))
+    || is_told_in group.Numeric field.Numeric tree))))))
 
 -- something is told of a plan
 abbrev pub is_told_plan : Members → Bool

@@ -20,6 +20,7 @@ fn push_item(text: &mut String, item: Item) -> Result<(), AllocError> {
         Item::Device => text.push_str("table device"),
         Item::Sensor(place) => write!(text, "table sensor, item {place}"),
         Item::Channel(place) => write!(text, "table channel, item {place}"),
+        Item::Lan(place) => write!(text, "table lan, item {place}"),
         Item::Attribute(place) => write!(text, "table attribute, item {place}"),
         Item::State(place) => write!(text, "table state, item {place}"),
         Item::Numeric(place) => write!(text, "table numeric, item {place}"),

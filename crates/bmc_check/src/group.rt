@@ -8,7 +8,7 @@ ghost use Rattle.bmc_check.specs.Known.{step_rows, known};
 use plan_file::{Kind, PLAN};
 use std::alloc::{AllocError, Global};
 use text_board::{
-    ATTRIBUTE, DEVICE, ENUMERATION, INTEGER, NUMERIC, SENSOR, SESSIONS, STATE, STRING, TOP,
+    ATTRIBUTE, DEVICE, ENUMERATION, INTEGER, LAN, NUMERIC, SENSOR, SESSIONS, STATE, STRING, TOP,
 };
 use text_fields::tree::{has_text, in_field};
 use text_fields::{Field, Need, Row, Shape};
@@ -25,6 +25,8 @@ pub enum Group {
     Sensor,
     /// The `[[channel]]`s.
     Channel,
+    /// The `[[lan]]`s.
+    Lan,
     /// The `[[attribute]]`s.
     Attribute,
     /// The `[[state]]`s.
@@ -41,7 +43,7 @@ pub enum Group {
 const KIND: [Row; 1] = [Row(Field::Kind, Shape::Text, Need::Always)];
 
 /// All kinds of step.
-const KINDS: [Kind; 13] = [
+const KINDS: [Kind; 14] = [
     Kind::Thresholds,
     Kind::Hysteresis,
     Kind::EventEnable,
@@ -55,6 +57,7 @@ const KINDS: [Kind; 13] = [
     Kind::UserName,
     Kind::UserAccess,
     Kind::ChannelAccess,
+    Kind::LanParam,
 ];
 
 /// The last field of a channel with sessions, whatever the number of users.
@@ -130,6 +133,7 @@ pub fn known_rows(alloc: Global, group: Group, table: &Table) -> Result<Vec<Row>
         Group::Device => Vec::from_slice(alloc, &DEVICE),
         Group::Sensor => Vec::from_slice(alloc, &SENSOR),
         Group::Channel => session_rows(alloc),
+        Group::Lan => Vec::from_slice(alloc, &LAN),
         Group::Attribute => Vec::from_slice(alloc, attribute_rows(table)),
         Group::State => Vec::from_slice(alloc, &STATE),
         Group::Numeric => Vec::from_slice(alloc, &NUMERIC),

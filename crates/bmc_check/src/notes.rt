@@ -10,7 +10,7 @@ use crate::near::nearest;
 use std::alloc::{AllocError, Global};
 use std::fmt;
 use text_fields::tree::{in_field, members_in};
-use text_fields::{Field, Row};
+use text_fields::{Field, LanField, Row};
 use toml::{Table, Value};
 
 /// A table of a file.
@@ -31,6 +31,7 @@ impl fmt::Display for Spot<'_> {
             Group::Device => write!(f, "{name}: device"),
             Group::Sensor => write!(f, "{name}: sensor {place}"),
             Group::Channel => write!(f, "{name}: channel {place}"),
+            Group::Lan => write!(f, "{name}: lan {place}"),
             Group::Attribute => write!(f, "{name}: attribute {place}"),
             Group::State => write!(f, "{name}: state {place}"),
             Group::Numeric => write!(f, "{name}: numeric {place}"),
@@ -208,10 +209,12 @@ pub(crate) fn tell_board(
     let device = tell_device(alloc, text, name, tree)?;
     let sensors = tell_array(alloc, text, name, Group::Sensor, Field::Sensor, tree)?;
     let channels = tell_array(alloc, text, name, Group::Channel, Field::Channel, tree)?;
+    let lan = Field::Lan(LanField::Lan);
+    let lans = tell_array(alloc, text, name, Group::Lan, lan, tree)?;
     let attributes = tell_array(alloc, text, name, Group::Attribute, Field::Attribute, tree)?;
     let states = tell_array(alloc, text, name, Group::State, Field::State, tree)?;
     let numerics = tell_array(alloc, text, name, Group::Numeric, Field::Numeric, tree)?;
-    Ok(own || device || sensors || channels || attributes || states || numerics)
+    Ok(own || device || sensors || channels || lans || attributes || states || numerics)
 }
 
 /// Tells of the keys of a plan that are unknown or not used, a line each, and whether there is one.

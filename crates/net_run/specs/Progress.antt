@@ -27,6 +27,7 @@ kind_of (op.UserName set) = kind.UserName
 kind_of (op.UserAccess set) = kind.UserAccess
 kind_of (op.ChannelAccess set) = kind.ChannelAccess
 kind_of (op.BiosAttribute set) = kind.BiosAttribute
+kind_of (op.LanParam set) = kind.LanParam
 
 -- ---- the line
 

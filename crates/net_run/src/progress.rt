@@ -54,6 +54,7 @@ fn kind_of(op: &Op) -> Kind
         Op::UserAccess(_) => Kind::UserAccess,
         Op::ChannelAccess(_) => Kind::ChannelAccess,
         Op::BiosAttribute(_) => Kind::BiosAttribute,
+        Op::LanParam(_) => Kind::LanParam,
     }
 }
 

@@ -1,4 +1,5 @@
 pub mod BootSteps
+pub mod LanSteps
 pub mod AttributeSteps
 pub mod UserSteps
 pub mod Changes

@@ -12,6 +12,7 @@ pub mod NumericEffecter
 pub mod UserName
 pub mod UserAccess
 pub mod ChannelAccess
+pub mod LanParam
 use Rattle.std.proofs.Common.{◌≡◌, ◌∙◌, ℕ, List, Option, Some, None, MatchOption, Result, Ok, Err, sym, ap, subst}
 use Rattle.toml.specs.Data.{Members}
 use Rattle.toml.specs.Parse.{parse_document}
@@ -47,6 +48,7 @@ only kind.NumericEffecter = NumericEffecter.only
 only kind.UserName = UserName.only
 only kind.UserAccess = UserAccess.only
 only kind.ChannelAccess = ChannelAccess.only
+only kind.LanParam = LanParam.only
 
 -- a table holds one step
 one_step : (tree : Members) (a b : Op) → HoldsStep tree a → HoldsStep tree b → a ≡ b

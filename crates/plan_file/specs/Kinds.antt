@@ -12,6 +12,7 @@ pub mod NumericEffecter
 pub mod UserName
 pub mod UserAccess
 pub mod ChannelAccess
+pub mod LanParam
 use Rattle.std.specs.Prelude.{Option}
 use Rattle.std.specs.List.{find}
 use Rattle.toml.specs.Data.{Members}
@@ -37,6 +38,7 @@ of_kind kind.NumericEffecter = NumericEffecter.kind
 of_kind kind.UserName = UserName.kind
 of_kind kind.UserAccess = UserAccess.kind
 of_kind kind.ChannelAccess = ChannelAccess.kind
+of_kind kind.LanParam = LanParam.kind
 
 -- the kind that a step names
 unfoldable pub kind_in : Members → Option Kind

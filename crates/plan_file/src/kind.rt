@@ -11,6 +11,7 @@ mod channel_access;
 mod event_enable;
 mod global_enables;
 mod hysteresis;
+mod lan_param;
 mod numeric_effecter;
 mod power_policy;
 mod state_effecter;
@@ -40,6 +41,7 @@ pub enum Kind {
     UserName,
     UserAccess,
     ChannelAccess,
+    LanParam,
 }
 
 /// The kinds, a line for each: its name, its module, and what a step's `kind` calls it.
@@ -59,6 +61,7 @@ macro_rules! of_each_kind {
             UserName user_name "user-name"
             UserAccess user_access "user-access"
             ChannelAccess channel_access "channel-access"
+            LanParam lan_param "lan-param"
         }
     };
 }
@@ -98,7 +101,7 @@ macro_rules! change {
 }
 
 /// All kinds of step.
-pub const KINDS: [Kind; 13] = of_each_kind!(kinds());
+pub const KINDS: [Kind; 14] = of_each_kind!(kinds());
 
 /// The field of a step that names its kind.
 pub const KIND: [Row; 1] = [Row(Field::Kind, Shape::Text, Need::Always)];

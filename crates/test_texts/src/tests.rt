@@ -6,6 +6,7 @@ mod came;
 mod channels;
 mod checks;
 mod files;
+mod lan;
 mod lines;
 mod numeric;
 mod order;

@@ -9,4 +9,6 @@ pub mod UserNames
 pub mod ChannelLists
 pub mod ChannelFields
 pub mod AttributeFields
+pub mod LanFields
+pub mod OneLan
 pub mod OneBoard

@@ -69,6 +69,8 @@ use Rattle.text_board.specs.Holds.{HoldsDevice, HoldsEvents, HoldsSensor, operat
 use Rattle.text_fields.specs.Ranges.{settings}
 use Rattle.text_board.specs.Faults.{board_faults}
 use Rattle.text_fields.specs.Faults.{first}
+use Rattle.text_board.specs.LanItems.{lans_in, channel_of}
+use Rattle.text_board.proofs.OneLan.{one_lan}
 use Rattle.text_fields.proofs.Unique.{one_found, one_list, one_natural, one_number, one_numbers, one_pair, one_word, same_flags}
 
 -- ---- what a number is within
@@ -484,6 +486,9 @@ one_held tree a b p q =
     let attribute_items = one_attributes 0 (members_in field.Attribute tree) a.attributes.items b.attributes.items p.attributes.items q.attributes.items p.attributes.handles q.attributes.handles in
     let attributes : a.attributes ≡ b.attributes =
     λ i. record { items = attribute_items i; differ = differ (λ (t : Attribute). t.handle) attribute_items a.attributes.differ b.attributes.differ i; few = up_to most_attributes (ap length attribute_items) a.attributes.few b.attributes.few i } in
+    let lan_items = one_list (λ d. one_lan (table_of d)) (lans_in tree) a.lans.items b.lans.items p.lans q.lans in
+    let lans : a.lans ≡ b.lans =
+    λ i. record { items = lan_items i; differ = differ channel_of lan_items a.lans.differ b.lans.differ i; few = up_to 8 (ap length lan_items) a.lans.few b.lans.few i } in
     λ i. record {
       tid = tid i;
       device = device i;
@@ -502,6 +507,7 @@ one_held tree a b p q =
       sessionless = sessionless i;
       user_accesses = accesses i;
       attributes = attributes i;
+      lans = lans i;
     }
 
 answered : (tree : Members) (a b : Result BoardFile FileFault) → Answers tree a → Answers tree b → a ≡ b

@@ -17,7 +17,7 @@ use Rattle.text_board.specs.declared.fault.FileFault.{FileFault}
 use Rattle.text_board.specs.declared.fault.Item.TheVariants as item
 use Rattle.text_fields.specs.Trees.{in_field, members, number_in, table_of, table_in, members_in, or_none}
 use Rattle.text_fields.specs.Faults.{field_faults, first}
-use Rattle.text_board.specs.Faults.{fault_at, record_faults, sensor_faults, channel_faults, users_in, attribute_faults, state_faults, numeric_faults, board_faults}
+use Rattle.text_board.specs.Faults.{fault_at, record_faults, sensor_faults, channel_faults, users_in, lan_faults, attribute_faults, state_faults, numeric_faults, board_faults}
 use Rattle.text_board.specs.Holds.{IsSensorIn, number_of}
 
 -- a sensor that a member of an array holds has its number
@@ -60,22 +60,27 @@ module _ (tree : Members) (why : FileFault) where
   unfolding board_faults
   channels_first top records device sensors is = rw (top, records, device, sensors) (first-append _ _ why is)
 
-  pub attributes_first : field_faults TOP tree ≡ [] → record_faults (members_in field.Sdr tree) ≡ [] → field_faults DEVICE (table_in field.Device tree) ≡ [] → sensor_faults (members_in field.Sensor tree) ≡ []
-      → channel_faults (users_in tree) (members_in field.Channel tree) ≡ [] → first (attribute_faults (members_in field.Attribute tree)) ≡ Some why → first (board_faults tree) ≡ Some why
+  pub lans_first : field_faults TOP tree ≡ [] → record_faults (members_in field.Sdr tree) ≡ [] → field_faults DEVICE (table_in field.Device tree) ≡ [] → sensor_faults (members_in field.Sensor tree) ≡ []
+      → channel_faults (users_in tree) (members_in field.Channel tree) ≡ [] → first (lan_faults tree) ≡ Some why → first (board_faults tree) ≡ Some why
   unfolding board_faults
-  attributes_first top records device sensors channels is = rw (top, records, device, sensors, channels) (first-append _ _ why is)
+  lans_first top records device sensors channels is = rw (top, records, device, sensors, channels) (first-append _ _ why is)
+
+  pub attributes_first : field_faults TOP tree ≡ [] → record_faults (members_in field.Sdr tree) ≡ [] → field_faults DEVICE (table_in field.Device tree) ≡ [] → sensor_faults (members_in field.Sensor tree) ≡ []
+      → channel_faults (users_in tree) (members_in field.Channel tree) ≡ [] → lan_faults tree ≡ [] → first (attribute_faults (members_in field.Attribute tree)) ≡ Some why → first (board_faults tree) ≡ Some why
+  unfolding board_faults
+  attributes_first top records device sensors channels lans is = rw (top, records, device, sensors, channels, lans) (first-append _ _ why is)
 
   pub states_first : field_faults TOP tree ≡ [] → record_faults (members_in field.Sdr tree) ≡ [] → field_faults DEVICE (table_in field.Device tree) ≡ [] → sensor_faults (members_in field.Sensor tree) ≡ []
-      → channel_faults (users_in tree) (members_in field.Channel tree) ≡ [] → attribute_faults (members_in field.Attribute tree) ≡ [] → first (state_faults (members_in field.State tree)) ≡ Some why → first (board_faults tree) ≡ Some why
+      → channel_faults (users_in tree) (members_in field.Channel tree) ≡ [] → lan_faults tree ≡ [] → attribute_faults (members_in field.Attribute tree) ≡ [] → first (state_faults (members_in field.State tree)) ≡ Some why → first (board_faults tree) ≡ Some why
   unfolding board_faults
-  states_first top records device sensors channels attributes is = rw (top, records, device, sensors, channels, attributes) (first-append _ _ why is)
+  states_first top records device sensors channels lans attributes is = rw (top, records, device, sensors, channels, lans, attributes) (first-append _ _ why is)
 
   pub effecters_first : field_faults TOP tree ≡ [] → record_faults (members_in field.Sdr tree) ≡ [] → field_faults DEVICE (table_in field.Device tree) ≡ [] → sensor_faults (members_in field.Sensor tree) ≡ []
-      → channel_faults (users_in tree) (members_in field.Channel tree) ≡ [] → attribute_faults (members_in field.Attribute tree) ≡ [] → state_faults (members_in field.State tree) ≡ [] → first (numeric_faults (members_in field.Numeric tree)) ≡ Some why → first (board_faults tree) ≡ Some why
+      → channel_faults (users_in tree) (members_in field.Channel tree) ≡ [] → lan_faults tree ≡ [] → attribute_faults (members_in field.Attribute tree) ≡ [] → state_faults (members_in field.State tree) ≡ [] → first (numeric_faults (members_in field.Numeric tree)) ≡ Some why → first (board_faults tree) ≡ Some why
   unfolding board_faults
-  effecters_first top records device sensors channels attributes states is = rw (top, records, device, sensors, channels, attributes, states) is
+  effecters_first top records device sensors channels lans attributes states is = rw (top, records, device, sensors, channels, lans, attributes, states) is
 
 pub no_faults : (tree : Members) → field_faults TOP tree ≡ [] → record_faults (members_in field.Sdr tree) ≡ [] → field_faults DEVICE (table_in field.Device tree) ≡ [] → sensor_faults (members_in field.Sensor tree) ≡ []
-    → channel_faults (users_in tree) (members_in field.Channel tree) ≡ [] → attribute_faults (members_in field.Attribute tree) ≡ [] → state_faults (members_in field.State tree) ≡ [] → numeric_faults (members_in field.Numeric tree) ≡ [] → board_faults tree ≡ []
+    → channel_faults (users_in tree) (members_in field.Channel tree) ≡ [] → lan_faults tree ≡ [] → attribute_faults (members_in field.Attribute tree) ≡ [] → state_faults (members_in field.State tree) ≡ [] → numeric_faults (members_in field.Numeric tree) ≡ [] → board_faults tree ≡ []
 unfolding board_faults
-no_faults tree top records device sensors channels attributes states effecters = rw (top, records, device, sensors, channels, attributes, states) effecters
+no_faults tree top records device sensors channels lans attributes states effecters = rw (top, records, device, sensors, channels, lans, attributes, states) effecters

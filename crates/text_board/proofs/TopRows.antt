@@ -2,6 +2,7 @@
 use Rattle.std.proofs.Common.{◌≡◌, []}
 use Rattle.toml.specs.Data.{Members}
 use Rattle.text_fields.specs.declared.field.Field.TheVariants as field
+use Rattle.text_fields.specs.declared.lan_field.LanField.TheVariants as lan
 use Rattle.text_fields.specs.declared.row.Shape.TheVariants as shape
 use Rattle.text_fields.specs.declared.row.Need.TheVariants as need
 use Rattle.text_board.specs.declared.tables.TheConstants.{TOP}
@@ -24,6 +25,7 @@ pub record TopSound (tree : Members) : Type 0 where
   pub device : Sound tree (record { 0 = field.Device; 1 = shape.Table; 2 = need.Always })
   pub sensor : Sound tree (record { 0 = field.Sensor; 1 = shape.Tables 32; 2 = need.Never })
   pub channel : Sound tree (record { 0 = field.Channel; 1 = shape.Tables 8; 2 = need.Never })
+  pub lan : Sound tree (record { 0 = field.Lan lan.Lan; 1 = shape.Tables 8; 2 = need.Never })
   pub attribute : Sound tree (record { 0 = field.Attribute; 1 = shape.Tables 64; 2 = need.Never })
   pub state : Sound tree (record { 0 = field.State; 1 = shape.Tables 32; 2 = need.Never })
   pub numeric : Sound tree (record { 0 = field.Numeric; 1 = shape.Tables 32; 2 = need.Never })
@@ -45,7 +47,8 @@ top_sound tree none =
       device = sound.1.1.1.1.1.1.1.1.1.1.1.0;
       sensor = sound.1.1.1.1.1.1.1.1.1.1.1.1.0;
       channel = sound.1.1.1.1.1.1.1.1.1.1.1.1.1.0;
-      attribute = sound.1.1.1.1.1.1.1.1.1.1.1.1.1.1.0;
-      state = sound.1.1.1.1.1.1.1.1.1.1.1.1.1.1.1.0;
-      numeric = sound.1.1.1.1.1.1.1.1.1.1.1.1.1.1.1.1.0;
+      lan = sound.1.1.1.1.1.1.1.1.1.1.1.1.1.1.0;
+      attribute = sound.1.1.1.1.1.1.1.1.1.1.1.1.1.1.1.0;
+      state = sound.1.1.1.1.1.1.1.1.1.1.1.1.1.1.1.1.0;
+      numeric = sound.1.1.1.1.1.1.1.1.1.1.1.1.1.1.1.1.1.0;
     }

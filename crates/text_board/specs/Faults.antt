@@ -18,6 +18,7 @@ use Rattle.text_fields.specs.Trees.{in_field, number_in, table_of, table_in, mem
 use Rattle.record_base.specs.Sdr.{sdr_id}
 use Rattle.text_fields.specs.Ranges.{passes, has_text, record_in}
 use Rattle.text_fields.specs.Faults.{field_faults}
+use Rattle.text_board.specs.LanItems.{listed_in, lan_rows, lans_in}
 
 -- the fault of an item of a board file
 abbrev pub fault_at : Item → FieldFault → FileFault
@@ -65,6 +66,10 @@ channel_faults users ds = item_faults item.Channel (channel_rows users) field.Nu
 -- how many users a file has
 abbrev pub users_in : Members → ℕ
 users_in tree = length (members_in field.Users tree)
+
+-- the faults of the LAN parameters that a file has
+abbrev pub lan_faults : Members → List FileFault
+lan_faults tree = item_faults item.Lan (λ _. lan_rows (listed_in tree)) field.Channel [] (lans_in tree)
 
 -- the fields of an attribute: those of the kind that it names
 abbrev pub attribute_rows : Members → List Row
@@ -115,7 +120,7 @@ abbrev pub record_faults : List Data → List FileFault
 record_faults ds = if has_twice (ids_in ds) then file.Twice (record { item = item.Top; field = field.Sdr }) ∷ [] else []
 
 -- the faults of a board file: those of its own fields, of its sensor data records, of `[device]`, of each `[[sensor]]`, of
--- each `[[channel]]`, of each `[[attribute]]`, of each `[[state]]` and of each `[[numeric]]`
+-- each `[[channel]]`, of each `[[lan]]`, of each `[[attribute]]`, of each `[[state]]` and of each `[[numeric]]`
 unfoldable pub board_faults : Members → List FileFault
 board_faults tree =
     map (fault_at item.Top) (field_faults TOP tree)
@@ -123,6 +128,7 @@ board_faults tree =
     ++ (map (fault_at item.Device) (field_faults DEVICE (table_in field.Device tree))
     ++ (sensor_faults (members_in field.Sensor tree)
     ++ (channel_faults (users_in tree) (members_in field.Channel tree)
+    ++ (lan_faults tree
     ++ (attribute_faults (members_in field.Attribute tree)
     ++ (state_faults (members_in field.State tree)
-    ++ numeric_faults (members_in field.Numeric tree)))))))
+    ++ numeric_faults (members_in field.Numeric tree))))))))

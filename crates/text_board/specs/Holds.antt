@@ -33,6 +33,7 @@ use Rattle.text_fields.specs.Numeric.{sized_in}
 use Rattle.text_fields.specs.Users.{name_of}
 use Rattle.text_fields.specs.Ranges.{record_in, or_zero, settings}
 use Rattle.text_board.specs.AttributeItems.{HoldsAttributes}
+use Rattle.text_board.specs.LanItems.{lans_in, IsLanIn}
 use Rattle.text_board.specs.Faults.{has_sessions, channel_rows, item_faults, board_faults}
 use Rattle.text_fields.specs.Faults.{first}
 
@@ -236,6 +237,7 @@ pub record HoldsBoard (tree : Members) (board : BoardFile) : Type 0 where
   pub sessionless : AllZip IsNumberIn (without_sessions (members_in field.Channel tree)) board.sessionless.items
   pub accesses : map parts_of board.user_accesses.items ≡ accesses_in (with_sessions (members_in field.Channel tree))
   pub attributes : HoldsAttributes (members_in field.Attribute tree) board.attributes.items
+  pub lans : AllZip IsLanIn (lans_in tree) board.lans.items
 
 -- what the reading of a tree answers: the board that it holds where it has no fault, else its first fault
 abbrev pub Answers : Members → Result BoardFile FileFault → Type 0

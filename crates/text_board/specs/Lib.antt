@@ -1,4 +1,5 @@
 pub mod Names
+pub mod LanItems
 pub mod Faults
 pub mod AttributeItems
 pub mod Holds

@@ -17,6 +17,7 @@ item_name (item.Channel place) = codes "channel " ++ decimal place
 item_name (item.Attribute place) = codes "attribute " ++ decimal place
 item_name (item.State place) = codes "state " ++ decimal place
 item_name (item.Numeric place) = codes "numeric " ++ decimal place
+item_name (item.Lan place) = codes "lan " ++ decimal place
 
 -- an item and the key of its field
 abbrev pub place_name : Place → List ℕ

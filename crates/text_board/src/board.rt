@@ -14,6 +14,7 @@ use crate::channel_items::file_channels;
 use crate::check::{check, checked};
 use crate::effecters::numeric_effecters;
 use crate::fault::{FileFault, Item, Place};
+use crate::lan_items::lans;
 use crate::state_items::state_effecters;
 use crate::tables::{DeviceFields, SENSOR, TopFields};
 use crate::users::users;
@@ -211,6 +212,7 @@ fn board_in(alloc: Global, top: &Checked<'_, TopFields>) -> Result<BoardFile, Fi
     let board = checked::<DeviceFields>(Item::Device, top.table(Field::Device))?;
     let sensors = sensors(alloc, top)?;
     let file_channels = file_channels(alloc, top.table)?;
+    let lans = lans(alloc, top)?;
     let attributes = attributes(alloc, top)?;
     let state_effecters = state_effecters(alloc, top)?;
     let numeric_effecters = numeric_effecters(alloc, top)?;
@@ -233,6 +235,7 @@ fn board_in(alloc: Global, top: &Checked<'_, TopFields>) -> Result<BoardFile, Fi
         sessionless: file_channels.sessionless,
         user_accesses: file_channels.accesses,
         attributes,
+        lans,
     })
 }
 
@@ -245,7 +248,7 @@ fn board_of(alloc: Global, tree: &Table) -> Result<BoardFile, FileFault>
 }
 
 /// The board that the text holds, or why it is no board file: its first fault, in the order in which `TOP`, `DEVICE`, `SENSOR`,
-/// `SESSIONS`, `ENUMERATION`, `STRING`, `INTEGER`, `STATE` and `NUMERIC` list fields. Keys that name no field are ignored.
+/// `SESSIONS`, `LAN`, `ENUMERATION`, `STRING`, `INTEGER`, `STATE` and `NUMERIC` list fields. Keys that name no field are ignored.
 pub fn read_board(alloc: Global, text: &str) -> Result<BoardFile, FileFault>
     ensures { (result ≡ Err FileFault.Memory) ⊎ Reads text.now result }
 {

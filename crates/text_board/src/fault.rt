@@ -19,6 +19,8 @@ pub enum Item {
     State(usize),
     /// The `[[numeric]]` of this place in the file, from 0.
     Numeric(usize),
+    /// The `[[lan]]` of this place in the file, from 0.
+    Lan(usize),
 }
 
 /// A field of an item.
@@ -60,6 +62,7 @@ impl fmt::Display for Item {
             Item::Attribute(place) => write!(f, "attribute {place}"),
             Item::State(place) => write!(f, "state {place}"),
             Item::Numeric(place) => write!(f, "numeric {place}"),
+            Item::Lan(place) => write!(f, "lan {place}"),
         }
     }
 }

@@ -7,6 +7,7 @@ mod channel_items;
 mod check;
 mod effecters;
 mod fault;
+mod lan_items;
 mod laws;
 mod state_items;
 mod tables;
@@ -14,6 +15,7 @@ mod users;
 
 pub use board::read_board;
 pub use fault::{FileFault, Item, Place};
+pub use lan_items::LAN;
 pub use laws::one_board;
 pub use tables::{
     ATTRIBUTE, CHANNEL, DEVICE, ENUMERATION, INTEGER, NUMERIC, SENSOR, SESSIONS, STATE, STRING, TOP,

@@ -4,10 +4,10 @@ ghost use Rattle.std.specs.Prelude.{◌≡◌};
 ghost use Rattle.text_board.specs.declared.tables.TheConstants.{TOP, DEVICE};
 ghost use Rattle.text_board.specs.Faults.{session_rows};
 
-use text_fields::{BYTE, Field, Fields, Need, Row, Shape};
+use text_fields::{BYTE, Field, Fields, LanField, Need, Row, Shape};
 
 /// A board file's own fields.
-pub const TOP: [Row; 17] = [
+pub const TOP: [Row; 18] = [
     Row(Field::Tid, BYTE, Need::Always),
     Row(Field::Clock, Shape::Number(0, 0xFFFF_FFFF), Need::Always),
     Row(Field::Log, Shape::Number(1, 1_024), Need::Always),
@@ -22,6 +22,7 @@ pub const TOP: [Row; 17] = [
     Row(Field::Device, Shape::Table, Need::Always),
     Row(Field::Sensor, Shape::Tables(32), Need::Never),
     Row(Field::Channel, Shape::Tables(8), Need::Never),
+    Row(Field::Lan(LanField::Lan), Shape::Tables(8), Need::Never),
     Row(Field::Attribute, Shape::Tables(64), Need::Never),
     Row(Field::State, Shape::Tables(32), Need::Never),
     Row(Field::Numeric, Shape::Tables(32), Need::Never),

@@ -1,3 +1,4 @@
+pub mod LanWords
 pub mod Words
 pub mod Trees
 pub mod Numeric
@@ -5,6 +6,7 @@ pub mod States
 pub mod Users
 pub mod Channels
 pub mod Attributes
+pub mod Lan
 pub mod Ranges
 pub mod Faults
 pub mod FaultNames

@@ -24,6 +24,7 @@ use Rattle.text_fields.specs.Numeric.{size_in, sized, sized_in, in_order}
 use Rattle.text_fields.specs.States.{change_of}
 use Rattle.text_fields.specs.Users.{name_of, are_names}
 use Rattle.text_fields.specs.Channels.{is_access, is_channel, is_user_byte, store_of}
+use Rattle.text_fields.specs.Lan.{is_lan_number, is_lan_value}
 use Rattle.text_fields.specs.Attributes.{text_of, is_kind, are_values, are_indexes, is_as_long, is_stepped}
 use Rattle.record_base.specs.declared.watchdog.Watchdog.{Watchdog}
 
@@ -97,6 +98,7 @@ has_type shape.MostLength d = is_integer d
 has_type shape.SizedText d = is_text d
 has_type shape.UpperNatural d = is_integer d
 has_type shape.Stepped d = is_integer d
+has_type (shape.Lan named) d = if is_lan_number named then is_integer d else is_array_of is_integer d
 
 -- ---- ranges
 
@@ -299,3 +301,4 @@ is_in_range tree shape.MostLength d = passes (is_most tree) (natural d)
 is_in_range tree shape.SizedText d = passes (is_sized_text tree) (as_str d)
 is_in_range tree shape.UpperNatural d = passes (is_upper_natural tree) (natural d)
 is_in_range tree shape.Stepped d = passes (is_step tree) (natural d)
+is_in_range tree (shape.Lan named) d = is_lan_value tree named d

@@ -2,6 +2,7 @@
 use Rattle.std.specs.Prelude.{ℕ, List, codes}
 use Rattle.text_fields.specs.declared.field.Field.{Field}
 use Rattle.text_fields.specs.declared.field.Field.TheVariants as field
+use Rattle.text_fields.specs.LanWords.{lan_word}
 
 -- the key of a field
 abbrev pub word : Field → List ℕ
@@ -91,3 +92,4 @@ word field.Least = codes "least"
 word field.Most = codes "most"
 word field.Increment = codes "increment"
 word field.ReadOnly = codes "readonly"
+word (field.Lan named) = lan_word named

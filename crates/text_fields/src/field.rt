@@ -2,6 +2,7 @@
 ghost use Rattle.std.specs.Prelude.{◌≡◌};
 ghost use Rattle.text_fields.specs.Words.{word};
 
+use crate::lan_field::LanField;
 use std::fmt;
 
 /// A field, by what names it in a file. Fields of several items that have one name are one.
@@ -93,6 +94,7 @@ pub enum Field {
     Most,
     Increment,
     ReadOnly,
+    Lan(LanField),
 }
 
 impl Field {
@@ -187,6 +189,7 @@ impl Field {
             Field::Most => "most",
             Field::Increment => "increment",
             Field::ReadOnly => "readonly",
+            Field::Lan(field) => field.word(),
         }
     }
 }

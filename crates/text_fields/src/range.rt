@@ -442,6 +442,8 @@ impl Shape {
             Shape::Indexes => are_integers(value),
             Shape::MostLength => value.is_integer(),
             Shape::UpperNatural | Shape::Stepped => value.is_integer(),
+            Shape::Lan(shape) if shape.is_number() => value.is_integer(),
+            Shape::Lan(_) => are_integers(value),
         }
     }
 
@@ -492,6 +494,7 @@ impl Shape {
             Shape::SizedText => is_sized_text(item, value),
             Shape::UpperNatural => is_upper_natural(item, value),
             Shape::Stepped => is_step(item, value),
+            Shape::Lan(shape) => shape.is_in_range(item, value),
         }
     }
 }

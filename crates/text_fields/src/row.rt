@@ -5,6 +5,7 @@ ghost use Rattle.toml.specs.View.{table_view};
 ghost use Rattle.text_fields.specs.Faults.{is_needed};
 
 use crate::field::Field;
+use crate::lan::LanShape;
 use crate::tree::{has_text, in_field, lacks};
 use toml::Table;
 
@@ -97,6 +98,8 @@ pub enum Shape {
     UpperNatural,
     /// Such a number within the item's bounds, by steps of its increment from the lower one on where that isn't 0.
     Stepped,
+    /// What has to do with LAN parameters.
+    Lan(LanShape),
 }
 
 /// When an item needs a field.

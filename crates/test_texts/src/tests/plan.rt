@@ -210,7 +210,7 @@ step = [{}, 1] => WrongType step
 retries = 16\nstep = [{}] => Range retries
 step = [{}] => 0 Missing kind
 step = [{kind = 1}] => 0 WrongType kind
-step = [{kind = "Clock"}] | step = [{kind = "lan-param"}] => 0 UnknownKind
+step = [{kind = "Clock"}] | step = [{kind = "lan-params"}] => 0 UnknownKind
 step = [{kind = "power-policy"}, {kind = "log"}] => 0 Missing policy
 step = [{kind = "power-policy", policy = 1}, {kind = "log"}] => 1 OutsidePlan Log
 step = [{kind = "thresholds", lnc = true, lc = 256}] => 0 Missing sensor

@@ -8,7 +8,7 @@ use Rattle.text_fields.specs.Trees.{table_in}
 use Rattle.text_fields.specs.Faults.{field_faults, first}
 use Rattle.text_board.specs.Faults.{fault_at}
 use Rattle.text_board.specs.Holds.{HoldsDevice}
-use Rattle.text_board.proofs.Sensors.{records_first, device_first, sensors_first, channels_first, attributes_first, states_first, effecters_first, no_faults}
+use Rattle.text_board.proofs.Sensors.{records_first, device_first, sensors_first, channels_first, lans_first, attributes_first, states_first, effecters_first, no_faults}
 use Rattle.text_board.proofs.board.board_in.Goals as goal
 
 pub returns-in_err-sdr : goal.returns-in_err-sdr
@@ -46,13 +46,22 @@ returns-in_err-file_channels c =
 pub file_channels-requires : goal.file_channels-requires
 file_channels-requires c = c.args.top.now.sound
 
+pub returns-in_err-lans : goal.returns-in_err-lans
+returns-in_err-lans c =
+    let p = err_from_is_err_and c.from_residual-in_err-lans.result c.from_residual-in_err-lans.ensures.1 in
+    let device : field_faults DEVICE (table_in field.Device (table_view c.args.top.now.table.now)) ≡ [] = ap (field_faults DEVICE) (sym c.table.ensures) ∙ c.in_ok-board.ensures.sound in
+    rw (p.1, p.2) (elim c.in_err-lans.ensures.err [
+      | inl memory ↦ inl (ap Err memory)
+      | inr counts ↦ inr (lans_first (table_view c.args.top.now.table.now) c.in_err-lans.field-0.0 c.args.top.now.sound c.in_ok-sdr.ensures.sound device c.in_ok-sensors.ensures.sound c.in_ok-file_channels.ensures.sound counts)
+    ])
+
 pub returns-in_err-attributes : goal.returns-in_err-attributes
 returns-in_err-attributes c =
     let p = err_from_is_err_and c.from_residual-in_err-attributes.result c.from_residual-in_err-attributes.ensures.1 in
     let device : field_faults DEVICE (table_in field.Device (table_view c.args.top.now.table.now)) ≡ [] = ap (field_faults DEVICE) (sym c.table.ensures) ∙ c.in_ok-board.ensures.sound in
     rw (p.1, p.2) (elim c.in_err-attributes.ensures.err [
       | inl memory ↦ inl (ap Err memory)
-      | inr counts ↦ inr (attributes_first (table_view c.args.top.now.table.now) c.in_err-attributes.field-0.0 c.args.top.now.sound c.in_ok-sdr.ensures.sound device c.in_ok-sensors.ensures.sound c.in_ok-file_channels.ensures.sound counts)
+      | inr counts ↦ inr (attributes_first (table_view c.args.top.now.table.now) c.in_err-attributes.field-0.0 c.args.top.now.sound c.in_ok-sdr.ensures.sound device c.in_ok-sensors.ensures.sound c.in_ok-file_channels.ensures.sound c.in_ok-lans.ensures.sound counts)
     ])
 
 pub returns-in_err-state_effecters : goal.returns-in_err-state_effecters
@@ -61,7 +70,7 @@ returns-in_err-state_effecters c =
     let device : field_faults DEVICE (table_in field.Device (table_view c.args.top.now.table.now)) ≡ [] = ap (field_faults DEVICE) (sym c.table.ensures) ∙ c.in_ok-board.ensures.sound in
     rw (p.1, p.2) (elim c.in_err-state_effecters.ensures.err [
       | inl memory ↦ inl (ap Err memory)
-      | inr counts ↦ inr (states_first (table_view c.args.top.now.table.now) c.in_err-state_effecters.field-0.0 c.args.top.now.sound c.in_ok-sdr.ensures.sound device c.in_ok-sensors.ensures.sound c.in_ok-file_channels.ensures.sound c.in_ok-attributes.ensures.sound counts)
+      | inr counts ↦ inr (states_first (table_view c.args.top.now.table.now) c.in_err-state_effecters.field-0.0 c.args.top.now.sound c.in_ok-sdr.ensures.sound device c.in_ok-sensors.ensures.sound c.in_ok-file_channels.ensures.sound c.in_ok-lans.ensures.sound c.in_ok-attributes.ensures.sound counts)
     ])
 
 pub returns-in_err-numeric_effecters : goal.returns-in_err-numeric_effecters
@@ -70,7 +79,7 @@ returns-in_err-numeric_effecters c =
     let device : field_faults DEVICE (table_in field.Device (table_view c.args.top.now.table.now)) ≡ [] = ap (field_faults DEVICE) (sym c.table.ensures) ∙ c.in_ok-board.ensures.sound in
     rw (p.1, p.2) (elim c.in_err-numeric_effecters.ensures.err [
       | inl memory ↦ inl (ap Err memory)
-      | inr counts ↦ inr (effecters_first (table_view c.args.top.now.table.now) c.in_err-numeric_effecters.field-0.0 c.args.top.now.sound c.in_ok-sdr.ensures.sound device c.in_ok-sensors.ensures.sound c.in_ok-file_channels.ensures.sound c.in_ok-attributes.ensures.sound c.in_ok-state_effecters.ensures.sound counts)
+      | inr counts ↦ inr (effecters_first (table_view c.args.top.now.table.now) c.in_err-numeric_effecters.field-0.0 c.args.top.now.sound c.in_ok-sdr.ensures.sound device c.in_ok-sensors.ensures.sound c.in_ok-file_channels.ensures.sound c.in_ok-lans.ensures.sound c.in_ok-attributes.ensures.sound c.in_ok-state_effecters.ensures.sound counts)
     ])
 
 pub returns-in_err-users : goal.returns-in_err-users
@@ -87,7 +96,7 @@ returns c =
     let device : field_faults DEVICE (table_in field.Device tree) ≡ [] = ap (field_faults DEVICE) (sym c.table.ensures) ∙ c.in_ok-board.ensures.sound in
     let holds : HoldsDevice (table_in field.Device tree) c.device.result = rw (← c.table.ensures, ← c.in_ok-board.ensures.ok) c.device.ensures in
     inr (
-      no_faults tree c.args.top.now.sound c.in_ok-sdr.ensures.sound device c.in_ok-sensors.ensures.sound c.in_ok-file_channels.ensures.sound c.in_ok-attributes.ensures.sound c.in_ok-state_effecters.ensures.sound c.in_ok-numeric_effecters.ensures.sound,
+      no_faults tree c.args.top.now.sound c.in_ok-sdr.ensures.sound device c.in_ok-sensors.ensures.sound c.in_ok-file_channels.ensures.sound c.in_ok-lans.ensures.sound c.in_ok-attributes.ensures.sound c.in_ok-state_effecters.ensures.sound c.in_ok-numeric_effecters.ensures.sound,
       record {
         terminus = c.byte.ensures.held;
         clock = c.number.ensures.held;
@@ -106,5 +115,6 @@ returns c =
         sessionless = c.in_ok-file_channels.ensures.sessionless;
         accesses = c.in_ok-file_channels.ensures.accesses;
         attributes = c.in_ok-attributes.ensures.held;
+        lans = c.in_ok-lans.ensures.held;
       },
     )

@@ -1,0 +1,32 @@
+use Rattle.std.proofs.Common.{◌≡◌, length, map, sym, ◌∙◌, ap, rules}
+use Rattle.std.proofs.lemmas.Result.{err_from_is_err_and}
+use Rattle.toml.specs.View.{view, table_view}
+use Rattle.text_fields.specs.declared.field.Field.TheVariants as field
+use Rattle.text_board.specs.declared.fault.Item.TheVariants as item
+use Rattle.text_fields.specs.Trees.{number_in, table_of}
+use Rattle.text_fields.specs.Faults.{first, field_faults}
+use Rattle.text_board.specs.Faults.{fault_at}
+use Rattle.text_board.specs.LanItems.{lan_rows, IsLanIn, channel_of}
+use Rattle.text_board.proofs.Items.{field_first, taken_first}
+use Rattle.text_board.proofs.LanFields.{lan_numbered}
+use Rattle.text_board.proofs.lan_items.next_lan.Goals as goal
+
+pub returns-in_err-check-clause-err : goal.returns-in_err-check-clause-err
+returns-in_err-check-clause-err c =
+    let p = err_from_is_err_and c.from_residual.result c.from_residual.ensures.1 in
+    let table : table_of (view c.args.value.now) ≡ table_view c.unwrap-table.result.now = search rules in
+    let at = map (fault_at (item.Lan (length c.args.before.now))) in
+    rw (p.1, p.2) (λ seen ds zip.
+    field_first IsLanIn item.Lan (λ _. lan_rows c.args.listed) field.Channel channel_of lan_numbered seen ds (view c.args.value.now) c.args.before.now c.in_err-check.field-0.0 zip
+    (ap (λ t. first (at (field_faults (lan_rows c.args.listed) t))) table
+    ∙ ap (λ rows. first (at (field_faults rows (table_view c.unwrap-table.result.now)))) (sym c.lan_rows.ensures)
+    ∙ c.in_err-check.ensures.err))
+
+pub returns-then-is_taken-clause-err : goal.returns-then-is_taken-clause-err
+returns-then-is_taken-clause-err c =
+    let table : table_of (view c.args.value.now) ≡ table_view c.unwrap-table.result.now = search rules in
+    λ seen ds zip.
+    taken_first IsLanIn item.Lan (λ _. lan_rows c.args.listed) field.Channel channel_of lan_numbered seen ds (view c.args.value.now) c.args.before.now (channel_of c.lan-lan.result) zip
+    (ap (field_faults (lan_rows c.args.listed)) table ∙ ap (λ rows. field_faults rows (table_view c.unwrap-table.result.now)) (sym c.lan_rows.ensures) ∙ c.in_ok-check.ensures.ok)
+    (ap (number_in field.Channel) table ∙ c.lan-lan.ensures.numbered)
+    (sym c.is_taken.ensures ∙ c.if-is_taken.true)
