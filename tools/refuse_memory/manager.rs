@@ -10,7 +10,7 @@ use std::alloc::{AllocError, Global};
 use std::io::Print;
 use text_schedule::read_schedule;
 use text_undo::read_undo;
-use undo_core::{Manager, OpenFault, Sent};
+use undo_core::{Manager, OpenFault, ResumeFault, Sent};
 use undo_plans::{Plan, UndoList};
 
 /// The plan of the file.
@@ -56,7 +56,7 @@ pub fn resumed<R: Print>(rt: &R, alloc: Global) -> Result<(), Unwell> {
         rt,
         || match lists.pop() {
             Some(list) => Manager::resume(alloc, list, lab_names(), 3),
-            None => Err(OpenFault::Retries),
+            None => Err(ResumeFault::Retries),
         },
         |mut manager| show_sent(alloc, some(manager.undo().ok())?),
     )

@@ -143,7 +143,7 @@ def killed(program, folder, board, place):
             run.stop()
         expect("UNDO behind the kill", servers.read(undo), "what was there\n")
         lines = servers.read(f"{undo}.part").split("\n")
-        expect("the list so far", (lines[0], len(lines)), ("undo 1", place + 3))
+        expect("the list so far", (lines[0], len(lines)), ("undo 2", place + 4))
         behind = asker.get_all(gets)
         expect("the records that the run left", [behind[get] != before[get] for get in gets], [at <= place for at in range(STEPS)])
         expect("undo", proxies.call(Troubles(), program, "undo", f"{undo}.part", TURNS), (0, "phase Undone\n", ""))

@@ -1,6 +1,5 @@
 -- Each request for a LAN parameter, and each that sets one, is read as what it asks for.
-use Rattle.std.proofs.Common.{◌≡◌, ℕ, ◌/◌, ◌%◌, ◌<◌, ◌==◌, ap, ◌∙◌, List, [], ◌∷◌, Bool, false, if◌then◌else◌, Result, Ok, Option, Some, arith}
-use Rattle.record_base.specs.declared.key.Key.TheVariants as key
+use Rattle.std.proofs.Common.{◌≡◌, ℕ, ◌/◌, ◌%◌, ◌<◌, ◌==◌, ap, Bool, false, if◌then◌else◌, Result, Ok, Some, arith}
 use Rattle.record_base.specs.declared.op.Op.TheVariants as op
 use Rattle.record_base.specs.declared.channel.ChannelNumber.{ChannelNumber}
 use Rattle.record_base.specs.declared.lan.LanAddress.TheVariants.{Ip, SubnetMask, DefaultGateway}
@@ -8,8 +7,7 @@ use Rattle.record_base.specs.declared.lan.LanParameter.{LanParameter}
 use Rattle.record_base.specs.declared.lan.LanParameter.TheVariants as parameter
 use Rattle.record_base.specs.declared.lan.LanChange.{LanChange}
 use Rattle.record_base.specs.declared.lan.LanChange.TheVariants.{Address, AddressSource, Vlan}
-use Rattle.record_base.specs.declared.lan.SetLanParam.{SetLanParam}
-use Rattle.record_base.specs.LanItems.{parameter_on, lan_key}
+use Rattle.record_base.specs.LanItems.{lan_key}
 use Rattle.record_base.specs.Masks.{has}
 use Rattle.record_base.specs.Numbers.{channel_in}
 use Rattle.user_chan.specs.LanRequests.{shown_in}

@@ -15,7 +15,7 @@ use Rattle.bmc_core.specs.IpmbRuns.{IsHeardThenTold, Coming, Comes, IsTold, IsId
 
 -- ---- one request
 
--- what comes of a request with which this is done, where this is kept of a new one, and leaves this board
+-- the deed of a request with this outcome, which keeps this of a new request, and leaves this board
 abbrev deed_by : PortState → Request → Outcome → Kept → State → State → Deed
 deed_by p r o k new before = record { port = record p { log = log_after o k p.log }; board = left_by o new before; sent = response_after r (reply_after o k) ∷ [] }
 

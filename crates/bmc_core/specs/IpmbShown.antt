@@ -105,7 +105,8 @@ pub record Does (deed : Deed) (what : Done) (next : IpmbPort) (after : State) (o
   pub sent : out ≡ sends (map written deed.sent) what
   pub read : AreRead Ipmb deed.sent
 
--- A port of a board with this setup hears the bytes: whatever port of the lab it shows, it and the board go on as that one's deed.
+-- A port of a board with this setup hears the bytes: for each port of the lab that it shows, the port and the board become those of the lab's
+-- deed.
 abbrev pub Hears : BoardFile → IpmbPort → State → List ℕ → Out → IpmbPort → State → Type 0
 Hears setup port before bytes out next after = (p : PortState) → Shows port p → (heard : Result Request Reason) → IsHeard p.wire bytes heard
     → Does (deed_of setup p before heard) (done_of p heard) next after out
@@ -146,8 +147,8 @@ abbrev pub IsHeardAt : ℕ → Held → List ℕ → Option Request → Out → 
 IsHeardAt wire windows bytes given out = (p : PortState) → AreOf windows p.log → (heard : Result Request Reason) → IsHeard wire bytes heard
     → Steps p heard (step_of given) out
 
--- A port hears the bytes up to where the board is to be asked, and stays as it was: whatever port of the lab it shows, what is heard
--- there is settled, or is to be carried out.
+-- A port hears the bytes up to where the board is to be asked, and stays as it was: for each port of the lab that it shows, what the lab's port
+-- hears is settled, or is to be carried out.
 pub record IsStep (port : IpmbPort) (bytes : List ℕ) (next : IpmbPort) (out : Out) (given : Step Request) : Type 0 where
   pub steps : (p : PortState) → Shows port p → (heard : Result Request Reason) → IsHeard p.wire bytes heard → Steps p heard given out
   pub stays : next ≡ port
@@ -183,8 +184,8 @@ first_answer r a = sends (written (first_response r a) ∷ []) done.Answered
 abbrev pub IsKept : Held → Request → Answered → Held → Type 0
 IsKept old r a new = (p : PortState) → AreOf old p.log → outcome_at p r ≡ IsNew → IsFresh old r → AreOf new (carries p r a).log
 
--- A port is told this answer: whatever port of the lab it shows, it goes on as the rule has it, and sends what that says, which is read as
--- itself.
+-- A port is told this answer: for each port of the lab that it shows, it becomes the port that the rule leaves, and sends the rule's response,
+-- which is read as itself.
 pub record IsTold (port : IpmbPort) (r : Request) (a : Answered) (next : IpmbPort) (out : Out) : Type 0 where
   pub shows : (p : PortState) → Shows port p → Shows next (after p r a)
   pub sent : (p : PortState) → Shows port p → out ≡ answers p r a

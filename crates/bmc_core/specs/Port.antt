@@ -29,8 +29,8 @@ abbrev pub Shows : Port → PortState → Type 0
 Shows (Ipmb port) p = ipmb.Shows port p
 Shows (Smbus port) p = smbus.Shows port p
 
--- A port of a board with this setup hears the bytes: whatever port of the lab it shows, it and the board go on as that one and its board
--- do, and it sends what that one sends.
+-- A port of a board with this setup hears the bytes. For each port of the lab that it shows, the port and the board become what the lab's port
+-- and board become, and the port sends what the lab's port sends.
 abbrev pub Hears : BoardFile → Port → State → List ℕ → Out → Port → State → Type 0
 Hears setup (Ipmb port) before bytes out (Ipmb next) after = ipmb.Hears setup port before bytes out next after
 Hears setup (Smbus port) before bytes out (Smbus next) after = (p : PortState) → smbus.Shows port p → smbus.HearsBytes setup p before bytes next out after

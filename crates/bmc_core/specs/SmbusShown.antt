@@ -56,7 +56,7 @@ pub record Shows (port : SmbusPort) (p : PortState) : Type 0 where
 
 -- ---- what it does with the bytes that it hears
 
--- Bytes have a fault, or else are one packet: this holds of the port that has taken it, and of what that hears in it.
+-- Bytes have a fault, or else are one packet: the relation holds of the port that has taken the packet, and of what this port hears in it.
 pub record Hearing (port : PortState) (bytes : List ℕ) (Holds : PortState → Heard → Type 0) : Type 0 where
   pub faulty : (fault : PacketFault) → find (has_fault bytes) faults ≡ Some fault → Holds port (Ignored (reason.Packet fault))
   pub packet : (p : Packet) → IsPacket p bytes → Holds (taken port p) (heard_in port p)
@@ -75,7 +75,7 @@ Ends next out port h a = HasEffect next out (effect port h a) (done_of port h)
 abbrev pub request_in : SmbusPending → InMessage
 request_in pending = record { envelope = pending.envelope; request = record { header = pending.header; body = pending.body } }
 
--- the port is told this answer to a request: whatever port of the lab it shows, that comes of it which comes of the request there
+-- the port is told this answer to a request: for each port of the lab that it shows, the effect is that of the request at the lab's port
 abbrev pub IsTold : SmbusPort → SmbusPending → Answered → SmbusPort → Out → Type 0
 IsTold port pending a next out = (p : PortState) → Shows port p → Ends next out p (Asks (request_in pending)) a
 

@@ -1,5 +1,5 @@
 //! A lab.
-ghost use Rattle.std.specs.Prelude.{◌≡◌, IfOk};
+ghost use Rattle.std.specs.Prelude.{◌≡◌, IfOk, Some};
 ghost use Rattle.mctp_net.specs.Assembly.{nothing};
 ghost use Rattle.model_undo.specs.Machine.{opened};
 ghost use Rattle.undo_core.specs.Shown as manager;
@@ -63,7 +63,12 @@ pub struct Lab {
 
 /// A manager of a plan, with the plan's retries.
 fn opened_manager(alloc: Global, plan: Plan, names: Names) -> Result<Manager, AllocError>
-    ensures { IfOk result (λ m. manager.Shows names m (record { machine = opened (words_of names) plan.steps plan.retries; names = names; joined = nothing })) }
+    ensures { IfOk result (λ m. manager.Shows names m (record {
+      machine = opened (words_of names) plan.steps plan.retries;
+      names = names;
+      listed = Some names;
+      joined = nothing;
+    })) }
 {
     let Plan { steps, retries } = plan;
     match Manager::open(alloc, Plan { steps, retries }, names, retries.number()) {

@@ -58,7 +58,7 @@ module _ (names : Names) (x : Lab) (made : Made) where
     taken a = manager.taken_or (P names) there (machine.reply_of (W names) a there.machine)
 
     goes_there : (t : Turn) → opened.waits ≡ t.manager.waits → manager.goes_on (P names) there (seen_turn names t) ≡ seen_deed names made_then t
-    goes_there t e = λ i. record { manager = record { machine = machine_of names t.manager; names = names; joined = seen_as (e i) made_then }; sent = (seen_deed names made_then t).sent }
+    goes_there t e = λ i. record { manager = record { machine = machine_of names t.manager; names = names; listed = Some names; joined = seen_as (e i) made_then }; sent = (seen_deed names made_then t).sent }
 
     carried_waits : (all : Bool) (task : Task) (bodies : List (List ℕ)) (m : Manager) → m.waits ≡ (carried_out all task bodies m).manager.waits
     carried_waits false task bodies m = refl

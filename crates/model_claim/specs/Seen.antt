@@ -1,5 +1,5 @@
 -- The lab of the machinery that a lab of the statement is. This is no part of the statement: it says in which words the statement was proved.
-use Rattle.std.specs.Prelude.{ℕ, Bool, List, length, filter, map}
+use Rattle.std.specs.Prelude.{ℕ, Bool, List, length, filter, map, Some}
 use Rattle.two_wire.specs.declared.Bus.{Bus}
 use Rattle.two_wire.specs.declared.Bus.TheVariants.{Ipmb, Smbus}
 use Rattle.mctp_net.specs.declared.packet.Name.{Name}
@@ -169,7 +169,7 @@ module _ (names : Names) where
   }
 
   abbrev pub seen_manager : (made : List ℕ) → Manager → manager.ManagerState P
-  seen_manager made m = record { machine = machine_of m; names = names; joined = seen_as m.waits made }
+  seen_manager made m = record { machine = machine_of m; names = names; listed = Some names; joined = seen_as m.waits made }
 
   -- ---- the lab
 

@@ -49,7 +49,7 @@ module _ (setup : BoardFile) (names : Names) (plan : List Op) (start : Records) 
 
   -- with this machine, and these packets that wait
   abbrev pub managed : Machine (words setup names) → Assemblies → Lab (P setup names) → Lab (P setup names)
-  managed m joined x = record x { manager = record { machine = m; names = x.manager.names; joined = joined } }
+  managed m joined x = record x { manager = record (x.manager) { machine = m; joined = joined } }
 
   -- the machine's counts stay, and so does what waits
   pub managed_tied : (m : Machine (words setup names)) (x : Lab (P setup names)) (on : States (L setup names)) → m.counts ≡ x.manager.machine.counts → MachineMade (own setup names) m

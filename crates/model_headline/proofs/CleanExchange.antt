@@ -56,7 +56,7 @@ module _ (setup : BoardFile) (names : Names) where
   smbus_port kept log = record { wire = names.peer_wire; eid = names.peer_eid; kept = kept; log = log }
 
   abbrev pub manager_with : Assemblies → Machine (F setup names).words → ManagerState (P setup names)
-  manager_with joined m = record { machine = m; names = names; joined = joined }
+  manager_with joined m = record { machine = m; names = names; listed = Some names; joined = joined }
 
   -- the link, with a request just sent or nothing
   abbrev pub link_at : Turn (F setup names).words → State → Rest → Link (P setup names)

@@ -281,8 +281,8 @@ module _ (setup : BoardFile) (names : Names) where
   undo_begins stage m b r z number g is shows taken =
       let from = (enters M stage m).machine in
       let t = enters M (undo_stage M m.undo) from in
-      let manager : ManagerState (P setup names) = record { machine = t.machine; names = names; joined = nothing } in
-      let before : ManagerState (P setup names) = record { machine = from; names = names; joined = r.joined } in
+      let manager : ManagerState (P setup names) = record { machine = t.machine; names = names; listed = Some names; joined = nothing } in
+      let before : ManagerState (P setup names) = record { machine = from; names = names; listed = Some names; joined = r.joined } in
       let o = option_map (sent_of (P setup names) names) t.sends in
       let manager_is : z.manager ≡ before = ap (λ (l : Link (P setup names)). l.manager) is in
       let c = called_goes (P setup names) setup z number shows manager o in
@@ -389,7 +389,7 @@ module _ (setup : BoardFile) (names : Names) where
     shows0 = record { done = []; waiting = []; frames = refl; count = refl; are = refl }
 
     abbrev manager0 : ManagerState (P setup names)
-    manager0 = record { machine = (enters M stage0 m0).machine; names = names; joined = nothing }
+    manager0 = record { machine = (enters M stage0 m0).machine; names = names; listed = Some names; joined = nothing }
 
     abbrev sent0 : Option Sent
     sent0 = option_map (sent_of (P setup names) names) (sends_at M stage0 m0.counts)
@@ -412,7 +412,7 @@ module _ (setup : BoardFile) (names : Names) where
 
     -- a schedule of the plan delivers all frames, and each that does is taken
     fresh0 : Fresh (P setup names) setup (manager_does (P setup names) (record { manager = manager0; sent = sent0 }) x0) 0 (dues_of (P setup names) sent0)
-    fresh0 = called_fresh (P setup names) setup x0 0 shows0 (λ q. (refl, refl)) manager0 sent0 (sends_newest (P setup names) (let before : ManagerState (P setup names) = record { machine = m0; names = names; joined = nothing } in before) stage0 m0)
+    fresh0 = called_fresh (P setup names) setup x0 0 shows0 (λ q. (refl, refl)) manager0 sent0 (sends_newest (P setup names) (let before : ManagerState (P setup names) = record { machine = m0; names = names; listed = Some names; joined = nothing } in before) stage0 m0)
 
     start_goes : (k : ℕ) (phase : Phase) (n : ℕ) → IsAtRest (F setup names) (answer setup) (clean (F setup names) (answer setup) k (moment stage0 m0 x0.board)) phase n → 8 * k ≤ 65530
         → Goes (P setup names) setup (step (P setup names) setup x0 (Calls StartCall)) 0 (8 * k)

@@ -140,7 +140,7 @@ module _ (P : Plans) (setup : BoardFile) where
     board = opened_board setup;
     ipmb = quiet_port names.peer_address names.peer_eid;
     smbus = quiet_port names.peer_wire names.peer_eid;
-    manager = record { machine = opened_machine P.words plan retries; names = names; joined = nothing };
+    manager = record { machine = opened_machine P.words plan retries; names = names; listed = Some names; joined = nothing };
     frames = [];
     opened = λ tag. 0;
   }

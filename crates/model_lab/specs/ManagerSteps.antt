@@ -89,10 +89,11 @@ is_part names count p =
     && (p.envelope.source_eid == names.peer_eid && (not p.envelope.tag_owner && p.envelope.tag == count % 8))
 
 module _ (P : Plans) where
-  -- a manager: its machine, the names, and the packets that wait at it
+  -- a manager: its machine, the names, those that its list of requests that undo has, and the packets that wait at it
   pub record ManagerState : Type 0 where
     pub machine : Machine P.words
     pub names : Names
+    pub listed : Option Names
     pub joined : Assemblies
 
   -- the manager after a call or a frame, and what it sends then

@@ -26,7 +26,7 @@ fresh_links = both none_counted none_counted
 
 -- the manager of a plan that it hasn't begun
 abbrev pub opened_with : Plan → State
-opened_with plan = record { machine = opened (words_of lab_names) plan.steps plan.retries; names = lab_names; joined = nothing }
+opened_with plan = record { machine = opened (words_of lab_names) plan.steps plan.retries; names = lab_names; listed = Some lab_names; joined = nothing }
 
 -- how often a manager sends a request again that goes on from a list
 abbrev pub undo_retries : ℕ
@@ -37,6 +37,7 @@ abbrev pub resumed_from : UndoList → State
 resumed_from list = record {
   machine = resumed (words_of lab_names) undo_retries (record { series = backs lab_names list.requests; next = record { ipmb = list.next.ipmb; smbus = list.next.smbus } });
   names = lab_names;
+  listed = list.names;
   joined = nothing;
 }
 
@@ -109,11 +110,12 @@ pub record Undoes (list : UndoList) (turns : ℕ) (m : Manager) (phase : Phase) 
   pub counts : Links
   pub goes : Goes Undo turns (resumed_from list) m phase fresh_links counts
 
--- the list is the manager's: what undoes the steps that were done, and the numbers of its next requests
+-- the list is the manager's: what undoes the steps that were done, the numbers of its next requests, and its names
 pub record IsListOf (list : UndoList) (s : State) : Type 0 where
   pub requests : backs lab_names list.requests ≡ s.machine.undo
   pub sequence : list.next.ipmb ≡ s.machine.counts.ipmb % 64
   pub instance : list.next.smbus ≡ s.machine.counts.smbus % 32
+  pub names : list.names ≡ s.listed
 
 -- the plan ended or halted, so its list undoes what was done
 abbrev pub is_over : Phase → Bool

@@ -19,3 +19,7 @@ plan_line why = ended (codes "plan " ++ plan_fault_name why)
 -- what is said of an undo text that is refused
 abbrev pub undo_line : UndoFault → List ℕ
 undo_line why = ended (codes "undo " ++ undo_fault_name why)
+
+-- what is said of one that has other names
+abbrev pub others_line : List ℕ
+others_line = ended (codes "undo OtherNames")

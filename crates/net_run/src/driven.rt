@@ -1,8 +1,8 @@
 //! A manager that runs a plan over two links, or undoes it.
-ghost use Rattle.std.specs.Prelude.{IfOk};
+ghost use Rattle.std.specs.Prelude.{◌≡◌, ◌↔◌, IfOk, Err};
 ghost use Rattle.text_schedule.specs.declared.event.Call.TheVariants.{Start, Undo};
 ghost use Rattle.model_lab.specs.Meaning.{lab_names as the_names};
-ghost use Rattle.undo_core.specs.Shown.{Shows};
+ghost use Rattle.undo_core.specs.Shown.{AreOthers, Shows};
 ghost use Rattle.bmc_drive.specs.Driving.{both};
 ghost use Rattle.net_run.specs.Driven.{State, Goes, opened_with, resumed_from};
 
@@ -10,11 +10,20 @@ use crate::names::lab_names;
 use bmc_drive::drive;
 use bmc_links::Link;
 use std::alloc::{AllocError, Global};
-use undo_core::{Manager, OpenFault, Phase, WrongPhase};
+use undo_core::{Manager, OpenFault, Phase, ResumeFault, WrongPhase};
 use undo_plans::{Plan, UndoList};
 
 /// How often a manager sends a request again that goes on from a list.
 const UNDO_RETRIES: u8 = 3;
+
+/// Why no manager with the lab's names goes on from a list.
+#[derive(Clone, Copy, Debug, PartialEq, Eq)]
+pub enum Unresumed {
+    /// Memory was refused.
+    Memory,
+    /// The list has other names.
+    OtherNames,
+}
 
 /// A manager of a plan, with the plan's retries and the lab's names.
 pub fn open_manager(alloc: Global, plan: Plan) -> Result<Manager, AllocError>
@@ -34,13 +43,15 @@ pub fn open_manager(alloc: Global, plan: Plan) -> Result<Manager, AllocError>
 }
 
 /// A manager that goes on from a list, with the lab's names.
-pub fn resume_manager(alloc: Global, list: UndoList) -> Result<Manager, AllocError>
-    ensures { IfOk result (λ m. Shows the_names m (resumed_from list)) }
+pub fn resume_manager(alloc: Global, list: UndoList) -> Result<Manager, Unresumed>
+    ensures resumed { IfOk result (λ m. Shows the_names m (resumed_from list)) }
+    ensures others { (result ≡ Err Unresumed.OtherNames) ↔ AreOthers the_names list.names }
 {
     match Manager::resume(alloc, list, lab_names(), UNDO_RETRIES) {
         Ok(manager) => Ok(manager),
-        Err(OpenFault::Memory) => Err(AllocError),
-        Err(OpenFault::Retries) => unreachable!(),
+        Err(ResumeFault::Memory) => Err(Unresumed::Memory),
+        Err(ResumeFault::OtherNames) => Err(Unresumed::OtherNames),
+        Err(ResumeFault::Retries) => unreachable!(),
     }
 }
 

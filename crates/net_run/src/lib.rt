@@ -14,7 +14,7 @@ mod trying;
 pub mod undoing;
 pub mod watching;
 
-pub use driven::{open_manager, resume_manager, run_plan, undo_plan};
+pub use driven::{Unresumed, open_manager, resume_manager, run_plan, undo_plan};
 pub use files::{Unwritten, WritesFiles};
 pub use lines::push_phase;
 pub use links::WAIT_MS;

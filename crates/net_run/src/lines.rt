@@ -2,7 +2,7 @@
 ghost use Rattle.std.specs.Prelude.{◌≡◌, ◌++◌, IfOk, OnOk, string_bytes};
 ghost use Rattle.bmc_lab.specs.declared.console.Stream.TheVariants.{Output, Error};
 ghost use Rattle.bmc_lab.specs.declared.status.Status.TheVariants.{Success, RefusedFile};
-ghost use Rattle.net_run.specs.Lines.{phase_line, plan_line, undo_line};
+ghost use Rattle.net_run.specs.Lines.{phase_line, plan_line, undo_line, others_line};
 
 use bmc_lab::{Report, Status, Stream};
 use plan_file::PlanFault;
@@ -58,6 +58,19 @@ pub(crate) fn undo_refusal(alloc: Global, why: UndoFault) -> Result<Report, Allo
     Ok(Report {
         stream: Stream::Error,
         text,
+        status: Status::RefusedFile,
+    })
+}
+
+/// What is said of an undo text that has other names.
+pub(crate) fn names_refusal(alloc: Global) -> Result<Report, AllocError>
+    ensures stream { IfOk result (λ report. report.stream ≡ Error) }
+    ensures text { IfOk result (λ report. string_bytes report.text ≡ others_line) }
+    ensures status { IfOk result (λ report. report.status ≡ RefusedFile) }
+{
+    Ok(Report {
+        stream: Stream::Error,
+        text: String::from_str(alloc, "undo OtherNames\n")?,
         status: Status::RefusedFile,
     })
 }

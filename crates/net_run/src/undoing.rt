@@ -7,10 +7,10 @@ ghost use Rattle.bmc_links.specs.Counted.{none_counted};
 ghost use Rattle.bmc_lab.specs.Ending.{RunEnds, Tells};
 ghost use Rattle.net_run.specs.Driven.{Undoes, resumed_from};
 ghost use Rattle.net_run.specs.Told.{MayTellUndo, TellsUndo, TellsUndoFile, TellsUndoText};
-ghost use Rattle.net_run.specs.Undo.{Says, SaysOfList, SaysUndone};
+ghost use Rattle.net_run.specs.Undo.{Says, SaysOfList, SaysOfNames, SaysUndone};
 
-use crate::driven::resume_manager;
-use crate::lines::{phase_report, undo_refusal};
+use crate::driven::{Unresumed, resume_manager};
+use crate::lines::{names_refusal, phase_report, undo_refusal};
 use crate::links::{Ends, open_ends};
 use crate::progress::{Course, Progress};
 use crate::trying::undo_watched;
@@ -97,42 +97,65 @@ fn undo_told<P: io::Write>(
     undo_seen(manager, ends, turns, &mut teller)
 }
 
-/// Undoes a list over links to the ports that the words name.
+/// Has a manager undo its list of so many requests over links to the ports that the words name.
 fn undo_on<P: io::Write, R: Net>(
     rt: &R,
     alloc: Global,
-    list: UndoList,
+    mut manager: Manager,
+    steps: usize,
     words: &UndoWords,
     progress: &mut Progress<P>,
 ) -> Result<Undone, Untold>
-    ensures undoes { IfOk result (λ undone. Undoes list words.now.turns undone.manager undone.phase) }
-    ensures told { MayTellUndo P.contents list progress.old progress.new }
+    ensures undoes { (list : AnyList) → Shows lab_names manager (resumed_from list)
+        → IfOk result (λ undone. Undoes list words.now.turns undone.manager undone.phase) }
+    ensures told { (list : AnyList) → length list.requests ≡ steps
+        → Shows lab_names manager (resumed_from list)
+        → MayTellUndo P.contents list progress.old progress.new }
 {
     let ends = open_ends(rt, words.ipmb_port, words.smbus_port, words.wait_ms);
     let Some(ends) = ends else {
         return Err(Untold::Stopped);
     };
-    let steps = list.requests.len();
-    let Ok(mut manager) = resume_manager(alloc, list) else {
-        return Err(Untold::Memory);
-    };
     let phase = undo_told(alloc, &mut manager, steps, ends, words.turns, progress);
     Ok(Undone { manager, phase })
 }
 
-/// What is said of a list that is undone.
+/// What is said of a manager that goes on from a list of so many requests.
 fn undone_report<P: io::Write, R: Net>(
+    rt: &R,
+    alloc: Global,
+    manager: Manager,
+    steps: usize,
+    words: &UndoWords,
+    progress: &mut Progress<P>,
+) -> Result<Report, Untold>
+    ensures says { (list : AnyList) → Shows lab_names manager (resumed_from list)
+        → Tells (SaysUndone list words.now.turns) result }
+    ensures told { (list : AnyList) → length list.requests ≡ steps
+        → Shows lab_names manager (resumed_from list)
+        → MayTellUndo P.contents list progress.old progress.new }
+{
+    let undone = undo_on(rt, alloc, manager, steps, words, progress)?;
+    Ok(phase_report(alloc, undone.phase)?)
+}
+
+/// What is said of a list that is undone, or that has other names.
+fn list_report<P: io::Write, R: Net>(
     rt: &R,
     alloc: Global,
     list: UndoList,
     words: &UndoWords,
     progress: &mut Progress<P>,
 ) -> Result<Report, Untold>
-    ensures says { Tells (SaysUndone list words.now.turns) result }
+    ensures says { Tells (SaysOfNames list words.now.turns) result }
     ensures told { MayTellUndo P.contents list progress.old progress.new }
 {
-    let undone = undo_on(rt, alloc, list, words, progress)?;
-    Ok(phase_report(alloc, undone.phase)?)
+    let steps = list.requests.len();
+    match resume_manager(alloc, list) {
+        Ok(manager) => undone_report(rt, alloc, manager, steps, words, progress),
+        Err(Unresumed::OtherNames) => Ok(names_refusal(alloc)?),
+        Err(Unresumed::Memory) => Err(Untold::Memory),
+    }
 }
 
 /// What is said of an undo text.
@@ -147,7 +170,7 @@ fn text_report<P: io::Write, R: Net>(
     ensures told { TellsUndoText P.contents text.now progress.old progress.new }
 {
     match read_undo(alloc, text) {
-        Ok(list) => undone_report(rt, alloc, list, words, progress),
+        Ok(list) => list_report(rt, alloc, list, words, progress),
         Err(UndoFault::Memory) => Err(Untold::Memory),
         Err(why) => Ok(undo_refusal(alloc, why)?),
     }
@@ -193,7 +216,7 @@ fn undo_file<F: TextFiles, W: io::Write, E: io::Write, P: io::Write, R: Net>(
 /// Undoes the list of the file that the words name, on the controller at their two ports, and writes to standard output in which phase the
 /// manager is then. It sends a request again up to three times. Where the line of its progress is written, that tells of each step and is ended
 /// before the phase is said. It gives the status: 0, or 3 with `file` or `undo` and the fault on standard error where the file can't be read or
-/// is no undo text, 4 and no line where a link can't be had, 5 with `memory` on standard error where memory was refused, and 6 where a write
+/// is no undo text, or `undo OtherNames` where its list has names that aren't the lab's, 4 and no line where a link can't be had, 5 with `memory` on standard error where memory was refused, and 6 where a write
 /// of these failed.
 pub fn undo<F: TextFiles, W: io::Write, E: io::Write, P: io::Write, R: Net>(
     rt: &R,

@@ -1,2 +1,3 @@
 pub mod UndoLines
+pub mod NamesLines
 pub mod UndoLists

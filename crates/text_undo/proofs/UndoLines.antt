@@ -1,5 +1,5 @@
 -- What the lines of an undo text say, each in one way.
-use Rattle.std.proofs.Common.{◌≡◌, ◌<◌, ◌≤◌, ◌*◌, ◌%◌, ◌^◌, ◌==◌, inl, inr, ℕ, suc, zero, Bool, true, false, cond, List, [], ◌∷◌, ◌++◌, length, get_or, arith, refl, sym, ◌∙◌, ap, subst, Ok, Result, codes}
+use Rattle.std.proofs.Common.{◌≡◌, ◌≢◌, ◌<◌, ◌≤◌, ◌*◌, ◌%◌, ◌^◌, ◌==◌, inl, inr, ℕ, suc, zero, Bool, true, false, cond, List, [], ◌∷◌, ◌++◌, length, get_or, arith, refl, sym, ◌∙◌, ap, subst, Ok, Result, codes}
 use Rattle.std.specs.Fmt.{decimal}
 use Rattle.std.specs.Str.Parse.{AllDigits, digits_value}
 use Rattle.std.proofs.lemmas.Bool.Decides.{eqb_tells}
@@ -14,8 +14,11 @@ use Rattle.text_lines.specs.Cuts.{Lacks, CutsAt}
 use Rattle.text_lines.proofs.Cuts.{lacks_by_index, same_cut, not_lacking}
 use Rattle.record_base.specs.declared.message.Asked.{Asked}
 use Rattle.record_base.specs.declared.message.Asked.TheVariants.{Ipmi, Pldm}
+use Rattle.undo_plans.specs.declared.names.Names.{Names}
 use Rattle.undo_plans.specs.declared.undo_list.NextNumbers.{NextNumbers}
-use Rattle.text_undo.specs.UndoText.{version_line, numbers_line, IsNumbersLine, bus_of, bytes_of, line_of, IsPlain, Fits, IsRequestLine, BeginsWith, IsGood}
+use Rattle.text_undo.specs.declared.version.Version.{Version}
+use Rattle.text_undo.specs.declared.version.Version.TheVariants.{One, Two}
+use Rattle.text_undo.specs.UndoText.{version_line, numbers_line, IsNumbersLine, IsPair, IsNamesLine, bus_of, bytes_of, line_of, IsPlain, Fits, IsRequestLine, BeginsWith, IsGood}
 
 -- ---- what lacks a mark
 
@@ -45,14 +48,21 @@ decimal_lacks mark n low small =
     let all : AllDigits 10 (decimal n) = digits_decimal own n (omega (arith, low)) in
     lacks_by_index mark (decimal n) (not_in_digits own (decimal n) mark all (λ r. omega (arith, r.0, small)))
 
--- digits in hexadecimal hold no line feed
-digits_lack : (digits bytes : List ℕ) → decode_of digits ≡ Ok bytes → Lacks 10 digits
-digits_lack digits bytes h =
+-- digits in hexadecimal hold no other mark
+mark_lacks : (mark : ℕ) (digits bytes : List ℕ) → decode_of digits ≡ Ok bytes → is_hex_digit mark ≢ true → Lacks mark digits
+mark_lacks mark digits bytes h no_digit =
     let all = (decode_of-ok digits bytes h).1 in
-    lacks_by_index 10 digits (λ i l e.
+    lacks_by_index mark digits (λ i l e.
     let one : is_hex_digit (get_or digits i 0) ≡ true = All-get_or (λ d. is_hex_digit d ≡ true) digits i 0 l all in
-    let feed : is_hex_digit 10 ≡ true = subst (λ (d : ℕ). is_hex_digit d ≡ true) e one in
-    cc feed)
+    no_digit (subst (λ (d : ℕ). is_hex_digit d ≡ true) e one))
+
+-- they hold no line feed
+digits_lack : (digits bytes : List ℕ) → decode_of digits ≡ Ok bytes → Lacks 10 digits
+digits_lack digits bytes h = mark_lacks 10 digits bytes h (λ e. cc e)
+
+-- and no space
+pub spaces_lack : (digits bytes : List ℕ) → decode_of digits ≡ Ok bytes → Lacks 32 digits
+spaces_lack digits bytes h = mark_lacks 32 digits bytes h (λ e. cc e)
 
 bus_lacks : (asked : Asked) → Lacks 10 (bus_of asked)
 bus_lacks (Ipmi from net_fn lun command body) = lacks_by_test 10 (codes "ipmb ") refl
@@ -72,10 +82,39 @@ numbers_lack line next is =
     (lacks_both 10 (codes " smbus ") _ (lacks_by_test 10 (codes " smbus ") refl)
     (decimal_lacks 10 next.smbus (omega (arith, is.smbus)) (omega arith)))))
 
-pub good_lacks : (n : ℕ) (line : List ℕ) → IsGood n line → Lacks 10 line
-good_lacks n line (inl h) = subst (Lacks 10) (sym h.1) (lacks_by_test 10 version_line refl)
-good_lacks n line (inr (inl h)) = numbers_lack line h.1.0 h.1.1
-good_lacks n line (inr (inr h)) = request_lacks line h.2.0 h.2.1
+pair_lacks : (words : List ℕ) (own peer : ℕ) → IsPair words own peer → Lacks 10 words
+pair_lacks words own peer is =
+    subst (Lacks 10) (sym is.spelt)
+    (lacks_both 10 is.own_digits _ (digits_lack is.own_digits (own ∷ []) is.own_read)
+    ((λ (e : 32 ≡ 10). cc e), digits_lack is.peer_digits (peer ∷ []) is.peer_read))
+
+pub names_lack : (line : List ℕ) (names : Names) → IsNamesLine line names → Lacks 10 line
+names_lack line names is =
+    subst (Lacks 10) (sym is.spelt)
+    (lacks_both 10 (codes "names ipmb ") _ (lacks_by_test 10 (codes "names ipmb ") refl)
+    (lacks_both 10 is.ipmb _ (pair_lacks is.ipmb _ _ is.addresses)
+    (lacks_both 10 (codes " smbus ") _ (lacks_by_test 10 (codes " smbus ") refl)
+    (lacks_both 10 is.smbus _ (pair_lacks is.smbus _ _ is.wires)
+    (lacks_both 10 (codes " eid ") _ (lacks_by_test 10 (codes " eid ") refl)
+    (pair_lacks is.eid _ _ is.eids))))))
+
+pub version_lacks : (version : Version) → Lacks 10 (version_line version)
+version_lacks One = lacks_by_test 10 (codes "undo 1") refl
+version_lacks Two = lacks_by_test 10 (codes "undo 2") refl
+
+pub good_lacks : (version : Version) (n : ℕ) (line : List ℕ) → IsGood version n line → Lacks 10 line
+good_lacks version n line (inl h) = numbers_lack line h.1.0 h.1.1
+good_lacks version n line (inr (inl h)) = names_lack line h.2.0 h.2.1
+good_lacks version n line (inr (inr h)) = request_lacks line h.2.0 h.2.1
+
+-- ---- the version's line
+
+-- each version has a line of its own
+pub one_version : (a b : Version) → version_line a ≡ version_line b → a ≡ b
+one_version One One e = refl
+one_version Two Two e = refl
+one_version One Two e = let last : 49 ≡ 50 = ap (λ (x : List ℕ). get_or x 5 0) e in absurd (omega (arith, last))
+one_version Two One e = let last : 50 ≡ 49 = ap (λ (x : List ℕ). get_or x 5 0) e in absurd (omega (arith, last))
 
 -- ---- the numbers' line
 

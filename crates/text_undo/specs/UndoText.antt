@@ -1,23 +1,32 @@
 -- The undo text: what each of its lines says, the list that a text stands for, and the first bad line of one that stands for none.
-use Rattle.std.specs.Prelude.{◌≡◌, ◌≢◌, ◌<◌, ◌≤◌, ◌+◌, ◌*◌, ◌%◌, ◌⊎◌, ℕ, List, [], ◌∷◌, ◌++◌, length, map, reverse, Ok, codes}
+use Rattle.std.specs.Prelude.{◌≡◌, ◌≢◌, ◌<◌, ◌≤◌, ◌+◌, ◌*◌, ◌%◌, ◌⊎◌, ℕ, List, [], ◌∷◌, ◌++◌, length, map, reverse, Option, Some, None, Ok, codes}
 use Rattle.std.specs.List.{AllZip, flat_map}
 use Rattle.std.specs.Fmt.{decimal}
 use Rattle.hex.specs.Hex.{decode_of, encode_upper}
-use Rattle.text_lines.specs.Cuts.{line_feed, ended}
+use Rattle.text_lines.specs.Cuts.{line_feed, space, ended}
 use Rattle.record_base.specs.declared.message.Asked.{Asked}
 use Rattle.record_base.specs.declared.message.Asked.TheVariants.{Ipmi, Pldm}
 use Rattle.two_wire.specs.declared.Bus.{Bus}
 use Rattle.two_wire.specs.declared.Bus.TheVariants.{Ipmb, Smbus}
 use Rattle.two_wire.specs.Sizes.{most_ipmi_request_data, most_pldm_request_data}
 use Rattle.undo_plans.specs.Steps.{most_steps}
+use Rattle.undo_plans.specs.declared.names.Names.{Names}
 use Rattle.undo_plans.specs.declared.undo_list.NextNumbers.{NextNumbers}
 use Rattle.undo_plans.specs.declared.undo_list.UndoList.{UndoList}
+use Rattle.text_undo.specs.declared.version.Version.{Version}
+use Rattle.text_undo.specs.declared.version.Version.TheVariants.{One, Two}
 
 -- ---- the lines
 
 -- line 1 is the version
-abbrev pub version_line : List ℕ
-version_line = codes "undo 1"
+abbrev pub version_line : Version → List ℕ
+version_line One = codes "undo 1"
+version_line Two = codes "undo 2"
+
+-- it is 2 where the list has names
+abbrev pub version_of : Option Names → Version
+version_of None = One
+version_of (Some names) = Two
 
 -- line 2 has the numbers of the next requests, in decimal digits without leading zeros
 abbrev pub numbers_line : NextNumbers → List ℕ
@@ -28,6 +37,34 @@ pub record IsNumbersLine (line : List ℕ) (next : NextNumbers) : Type 0 where
   pub spelt : line ≡ numbers_line next
   pub ipmb : next.ipmb < 64
   pub smbus : next.smbus < 32
+
+-- a number of the manager and that of the controller, of two hexadecimal digits of either case each
+pub record IsPair (words : List ℕ) (own peer : ℕ) : Type 0 where
+  pub own_digits : List ℕ
+  pub peer_digits : List ℕ
+  pub spelt : words ≡ own_digits ++ space ∷ peer_digits
+  pub own_read : decode_of own_digits ≡ Ok (own ∷ [])
+  pub peer_read : decode_of peer_digits ≡ Ok (peer ∷ [])
+
+-- bit 0 of the manager's address and of the controller's is clear
+abbrev pub AreEven : (own peer : ℕ) → Type 0
+AreEven own peer = (own % 2 ≡ 0) × (peer % 2 ≡ 0)
+
+-- line 3 of version 2 has the addresses on IPMB, those on SMBus and the endpoint identifiers
+abbrev pub named_line : (ipmb smbus eid : List ℕ) → List ℕ
+named_line ipmb smbus eid = codes "names ipmb " ++ (ipmb ++ (codes " smbus " ++ (smbus ++ (codes " eid " ++ eid))))
+
+-- the line has these names
+pub record IsNamesLine (line : List ℕ) (names : Names) : Type 0 where
+  pub ipmb : List ℕ
+  pub smbus : List ℕ
+  pub eid : List ℕ
+  pub spelt : line ≡ named_line ipmb smbus eid
+  pub addresses : IsPair ipmb names.own_address names.peer_address
+  pub wires : IsPair smbus names.own_wire names.peer_wire
+  pub eids : IsPair eid names.own_eid names.peer_eid
+  pub even_addresses : AreEven names.own_address names.peer_address
+  pub even_wires : AreEven names.own_wire names.peer_wire
 
 -- a bus's name, and the space behind it
 abbrev pub name_of : Bus → List ℕ
@@ -75,14 +112,36 @@ BeginsWith Sort text rest = (line : List ℕ) × (text ≡ line ++ line_feed ∷
 
 -- ---- the text
 
--- The text stands for the list: its lines, each of which a line feed ends, are the version, the numbers, and a line for each of at
--- most `most_steps` requests, in the order in which they are sent, that of the last step first.
+-- the line of the names, where there are some, and else no line
+abbrev pub AreNamesLines : List (List ℕ) → Option Names → Type 0
+AreNamesLines [] None = Unit {0}
+AreNamesLines (line ∷ []) (Some names) = IsNamesLine line names
+AreNamesLines _ _ = ⊥
+
+-- The text stands for the list: its lines, each of which a line feed ends, are the version, the numbers, that of the names where the list
+-- has some, and a line for each of at most `most_steps` requests, in the order in which they are sent, that of the last step first.
 pub record Stands (text : List ℕ) (list : UndoList) : Type 0 where
+  pub names : List (List ℕ)
   pub lines : List (List ℕ)
-  pub spelt : text ≡ flat_map ended (version_line ∷ numbers_line list.next ∷ lines)
+  pub spelt : text ≡ flat_map ended (version_line (version_of list.names) ∷ numbers_line list.next ∷ (names ++ lines))
   pub next : IsNumbersLine (numbers_line list.next) list.next
+  pub named : AreNamesLines names list.names
   pub told : AllZip IsRequestLine lines (reverse list.requests)
   pub few : length lines ≤ most_steps
+
+-- a pair as it is written, in upper case
+abbrev pub pair_of : (own peer : ℕ) → List ℕ
+pair_of own peer = encode_upper (own ∷ []) ++ space ∷ encode_upper (peer ∷ [])
+
+-- the line that is written for names, in upper case
+abbrev pub names_line : Names → List ℕ
+names_line names =
+    named_line (pair_of names.own_address names.peer_address) (pair_of names.own_wire names.peer_wire) (pair_of names.own_eid names.peer_eid)
+
+-- where there are some
+abbrev pub names_lines : Option Names → List (List ℕ)
+names_lines None = []
+names_lines (Some names) = names_line names ∷ []
 
 -- the line that is written for a request, in upper case
 abbrev pub line_of : Asked → List ℕ
@@ -90,36 +149,45 @@ line_of asked = bus_of asked ++ encode_upper (bytes_of asked)
 
 -- the text that is written for a list
 abbrev pub text_of : UndoList → List ℕ
-text_of list = flat_map ended (version_line ∷ numbers_line list.next ∷ map line_of (reverse list.requests))
+text_of list =
+    flat_map ended (version_line (version_of list.names) ∷ numbers_line list.next ∷ (names_lines list.names ++ map line_of (reverse list.requests)))
 
 -- ---- what is no undo text
 
--- the line can be line n of an undo text, counted from 1: the version, the numbers, and requests in lines 3 to 258
-abbrev pub IsGood : ℕ → List ℕ → Type 0
-IsGood n line =
-    ((n ≡ 1) × (line ≡ version_line))
-    ⊎ (((n ≡ 2) × ((next : NextNumbers) × IsNumbersLine line next))
-    ⊎ ((3 ≤ n) × (n ≤ 258) × ((asked : Asked) × IsRequestLine line asked)))
+-- how many lines stand in front of the requests
+abbrev pub head_length : Version → ℕ
+head_length One = 2
+head_length Two = 3
+
+-- behind line 1 the line can be line n of an undo text of this version, counted from 1: the numbers, in version 2 the names, and then at
+-- most `most_steps` requests
+abbrev pub IsGood : Version → ℕ → List ℕ → Type 0
+IsGood version n line =
+    ((n ≡ 2) × ((next : NextNumbers) × IsNumbersLine line next))
+    ⊎ (((version ≡ Two) × (n ≡ 3) × ((names : Names) × IsNamesLine line names))
+    ⊎ ((head_length version < n) × (n ≤ head_length version + most_steps) × ((asked : Asked) × IsRequestLine line asked)))
 
 -- each of the lines can be the line of its number, the first of them that of line n
-abbrev pub AllGood : ℕ → List (List ℕ) → Type 0
-AllGood n [] = Unit {0}
-AllGood n (line ∷ lines) = IsGood n line × AllGood (n + 1) lines
+abbrev pub AllGood : Version → ℕ → List (List ℕ) → Type 0
+AllGood version n [] = Unit {0}
+AllGood version n (line ∷ lines) = IsGood version n line × AllGood version (n + 1) lines
 
 -- Line n is the first bad one of a text whose first line is the line of this number: those before it are good, and what stands
 -- behind them begins with no good line n. There is something behind them, or a text must have a line n.
-pub record IsFirstBadFrom (first : ℕ) (text : List ℕ) (n : ℕ) : Type 0 where
+pub record IsFirstBadFrom (version : Version) (first : ℕ) (text : List ℕ) (n : ℕ) : Type 0 where
   pub before : List (List ℕ)
   pub rest : List ℕ
   pub spelt : text ≡ flat_map ended before ++ rest
   pub place : n ≡ first + length before
-  pub good : AllGood first before
-  pub bad : (more : List ℕ) → ¬ BeginsWith (IsGood n) rest more
-  pub wanted : (rest ≢ []) ⊎ (n ≤ 2)
+  pub good : AllGood version first before
+  pub bad : (more : List ℕ) → ¬ BeginsWith (IsGood version n) rest more
+  pub wanted : (rest ≢ []) ⊎ (n ≤ head_length version)
 
--- line n of the text, counted from 1, is its first bad one
+-- line n of the text, counted from 1, is its first bad one: line 1, where that is no version, and else one behind it, by that version
 abbrev pub IsFirstBad : List ℕ → ℕ → Type 0
-IsFirstBad text n = IsFirstBadFrom 1 text n
+IsFirstBad text n =
+    ((n ≡ 1) × ((version : Version) (rest : List ℕ) → text ≢ ended (version_line version) ++ rest))
+    ⊎ ((version : Version) × (rest : List ℕ) × (text ≡ ended (version_line version) ++ rest) × IsFirstBadFrom version 2 rest n)
 
 -- the text is the lines of these requests, in their order
 pub record AreLinesOf (text : List ℕ) (told : List Asked) : Type 0 where

@@ -1,17 +1,18 @@
 //! Undo texts: the list of requests that undo a plan, as a file keeps it.
-ghost use Rattle.std.specs.Prelude.{◌≡◌, ◌⊎◌, ◌≤◌, ◌++◌, ℕ, Ok, Err, IfOk, IfErr, OnOk, length, map, reverse, string_bytes};
+ghost use Rattle.std.specs.Prelude.{◌≡◌, ◌⊎◌, ◌≤◌, ◌+◌, ◌++◌, ℕ, Ok, Err, IfOk, IfErr, OnOk, length, map, reverse, string_bytes};
 ghost use Rattle.std.specs.List.{All, AllZip, flat_map};
 ghost use Rattle.text_lines.specs.Cuts.{ended};
 ghost use Rattle.std.specs.Vec.{vec_len};
 ghost use Rattle.undo_plans.specs.Steps.{most_steps};
-ghost use Rattle.text_undo.specs.UndoText.{IsPlain, IsRequestLine, AreLinesOf, Stands, IsFirstBad, IsFirstBadFrom, line_of, text_of};
+ghost use Rattle.text_undo.specs.UndoText.{IsPlain, IsRequestLine, AreLinesOf, Stands, IsFirstBad, IsFirstBadFrom, line_of, head_length, text_of};
 
 use crate::line::{first_numbers, first_request, push_request};
+use crate::names::{push_names_line, version_names};
+use crate::version::{Version, first_version, head_lines, version_text};
 use record_base::Asked;
 use std::alloc::{AllocError, Global};
 use std::fmt;
-use text_lines::behind;
-use undo_plans::{MOST_STEPS, NextNumbers, Requests, UndoList};
+use undo_plans::{MOST_STEPS, Names, NextNumbers, Requests, UndoList};
 
 /// Why a text is no undo text.
 #[derive(Clone, Copy, Debug, PartialEq, Eq)]
@@ -22,24 +23,20 @@ pub enum UndoFault {
     Line(usize),
 }
 
-/// The first line, and the line feed that ends it.
-const VERSION: &str = "undo 1\n";
-
 /// The most requests of a text.
 const MOST_REQUESTS: usize = MOST_STEPS;
 
-/// The number of the line of the first request.
-const FIRST_REQUEST: usize = 3;
-
-/// The text of the list, in upper case: what `read_undo` reads as that list, where each request is from nobody and to logical unit 0.
+/// The text of the list, in upper case: what `read_undo` reads as that list, where each request is from nobody and to logical unit 0. It is
+/// of version 2 where the list has names, and else of version 1.
 pub fn write_undo(alloc: Global, list: &UndoList) -> Result<String, AllocError>
     ensures text { IfOk result (λ text. string_bytes text ≡ text_of list.now) }
     ensures stands { All IsPlain list.now.requests → IfOk result (λ text. Stands (string_bytes text) list.now) }
 {
-    let mut text = String::from_str(alloc, VERSION)?;
+    let mut text = String::from_str(alloc, version_text(&list.names))?;
     let ipmb = list.next.ipmb.number();
     let smbus = list.next.smbus.number();
     writeln!(text, "next ipmb {ipmb} smbus {smbus}")?;
+    push_names_line(alloc, &mut text, &list.names)?;
     push_requests(alloc, &mut text, &list.requests)?;
     Ok(text)
 }
@@ -63,15 +60,18 @@ pub fn push_requests(
     Ok(())
 }
 
-/// The requests of these lines, in their order, or the number of the first bad line.
-fn read_requests(alloc: Global, text: &str) -> Result<Vec<Asked>, UndoFault>
+/// The requests of these lines, in their order, or the number of the first bad line, in a text of this version.
+fn read_requests(alloc: Global, version: Version, text: &str) -> Result<Vec<Asked>, UndoFault>
     ensures told { IfOk result (λ told. (vec_len told ≤ most_steps) × AreLinesOf text.now told.items) }
-    ensures fault { IfErr result (λ why. (why ≡ UndoFault.Memory) ⊎ ((n : ℕ) × (why ≡ UndoFault.Line n) × IsFirstBadFrom 3 text.now n)) }
+    ensures fault { IfErr result
+        (λ why. (why ≡ UndoFault.Memory) ⊎ ((n : ℕ) × (why ≡ UndoFault.Line n)
+        × IsFirstBadFrom version (head_length version + 1) text.now n)) }
 {
+    let first = head_lines(version) + 1;
     let mut told = Vec::new(alloc);
     let mut rest = text;
     while !rest.is_empty() {
-        let line = UndoFault::Line(FIRST_REQUEST + told.len());
+        let line = UndoFault::Line(first + told.len());
         if told.len() == MOST_REQUESTS {
             return Err(line);
         }
@@ -102,32 +102,45 @@ fn in_order(alloc: Global, mut told: Vec<Asked>) -> Result<Requests, AllocError>
     Ok(requests)
 }
 
-/// The list of these next numbers and of the requests that were told.
-fn listed(alloc: Global, next: NextNumbers, told: Vec<Asked>) -> Result<UndoList, UndoFault>
+/// The list of these next numbers, of these names and of the requests that were told.
+fn listed(
+    alloc: Global,
+    next: NextNumbers,
+    names: Option<Names>,
+    told: Vec<Asked>,
+) -> Result<UndoList, UndoFault>
     requires { vec_len told ≤ most_steps }
-    ensures list { IfOk result (λ list. (list.next ≡ next) × (list.requests ≡ reverse told.items)) }
+    ensures list { IfOk result (λ list. (list.next ≡ next)
+        × (list.names ≡ names) × (list.requests ≡ reverse told.items)) }
     ensures fault { IfErr result (λ why. why ≡ UndoFault.Memory) }
 {
     match in_order(alloc, told) {
-        Ok(requests) => Ok(UndoList { requests, next }),
+        Ok(requests) => Ok(UndoList {
+            requests,
+            next,
+            names,
+        }),
         Err(_) => Err(UndoFault::Memory),
     }
 }
 
-/// The list that the text stands for, or its first bad line. A last line without a line feed is bad, and so is a line 1 or 2 that
-/// isn't there.
+/// The list that the text stands for, or its first bad line. A last line without a line feed is bad, and so is a line in front of the
+/// requests that isn't there.
 pub fn read_undo(alloc: Global, text: &str) -> Result<UndoList, UndoFault>
     ensures list { IfOk result (λ list. Stands text.now list) }
     ensures fault { IfErr result (λ why. (why ≡ UndoFault.Memory) ⊎ ((n : ℕ) × (why ≡ UndoFault.Line n) × IsFirstBad text.now n)) }
 {
-    let Some(rest) = behind(VERSION, text) else {
+    let Some(begun) = first_version(text) else {
         return Err(UndoFault::Line(1));
     };
-    let Some(found) = first_numbers(rest) else {
+    let Some(numbered) = first_numbers(begun.1) else {
         return Err(UndoFault::Line(2));
     };
-    match read_requests(alloc, found.1) {
-        Ok(told) => listed(alloc, found.0, told),
+    let Some(named) = version_names(begun.0, numbered.1) else {
+        return Err(UndoFault::Line(3));
+    };
+    match read_requests(alloc, begun.0, named.1) {
+        Ok(told) => listed(alloc, numbered.0, named.0, told),
         Err(why) => Err(why),
     }
 }

@@ -131,6 +131,7 @@ module _ (names : Names) where
   record AreAlikeStates (s t : State) : Type 0 where
     machines : alike_machines s.machine t.machine
     named : t.names ≡ s.names
+    listed : t.listed ≡ s.listed
     joined : t.joined ≡ s.joined
 
   record AreAlikeDeeds (d e : Deed) : Type 0 where
@@ -183,15 +184,15 @@ module _ (names : Names) where
     alike_machine = record { rest = r; is = refl; past = past; numbers = numbers }
 
     alike_rest : AreAlikeDeeds (rests (board_plans names) s) (rests (board_plans names) other)
-    alike_rest = record { states = record { machines = alike_machine; named = refl; joined = refl }; sent = refl }
+    alike_rest = record { states = record { machines = alike_machine; named = refl; listed = refl; joined = refl }; sent = refl }
 
     -- the machine goes on, with these packets waiting
     alike_turns : (joined : Assemblies) (o p : Option (Turn (words_of names))) → AreAlike (words_of names) o p → SendsOnBus (words_of names) o
         → AreAlikeDeeds (taken_or (board_plans names) (record s { joined = joined }) o) (taken_or (board_plans names) (record other { joined = joined }) p)
-    alike_turns joined None None alike on = record { states = record { machines = alike_machine; named = refl; joined = refl }; sent = refl }
+    alike_turns joined None None alike on = record { states = record { machines = alike_machine; named = refl; listed = refl; joined = refl }; sent = refl }
     alike_turns joined None (Some u) alike on = absurd alike
     alike_turns joined (Some t) None alike on = absurd alike
-    alike_turns joined (Some t) (Some u) alike on = record { states = record { machines = alike.0; named = refl; joined = refl }; sent = same_sent t.sends u.sends s.names alike.1 on }
+    alike_turns joined (Some t) (Some u) alike on = record { states = record { machines = alike.0; named = refl; listed = refl; joined = refl }; sent = same_sent t.sends u.sends s.names alike.1 on }
 
     by_machine : (c : MachineCall) (joined : Assemblies)
         → AreAlikeDeeds (taken_or (board_plans names) (record s { joined = joined }) (machine_turn (words_of names) c s.machine))
@@ -207,12 +208,12 @@ module _ (names : Names) where
 
     tested_alike : (on : Bus) (reply : List ℕ) (joined : Assemblies) (o : Option (TaskPart (words_of names)))
         → AreAlikeDeeds (tested (board_plans names) on reply (record s { joined = joined }) o) (tested (board_plans names) on reply (record other { joined = joined }) o)
-    tested_alike on reply joined None = record { states = record { machines = alike_machine; named = refl; joined = refl }; sent = refl }
+    tested_alike on reply joined None = record { states = record { machines = alike_machine; named = refl; listed = refl; joined = refl }; sent = refl }
     tested_alike on reply joined (Some part) =
         either (answers on (open_bytes (board_plans names) on s part) reply) (answers on (open_bytes (board_plans names) on other part) reply) _ _ _ _
         (ap (λ (n : ℕ). answers on (bytes_of n part.asked) reply) (numbers on))
         (by_machine (Replies (answered_from on reply)) joined)
-        (record { states = record { machines = alike_machine; named = refl; joined = refl }; sent = refl })
+        (record { states = record { machines = alike_machine; named = refl; listed = refl; joined = refl }; sent = refl })
 
     reply_alike : (on : Bus) (reply : List ℕ) (joined : Assemblies)
         → AreAlikeDeeds (hears_reply (board_plans names) on reply (record s { joined = joined })) (hears_reply (board_plans names) on reply (record other { joined = joined }))
@@ -224,7 +225,7 @@ module _ (names : Names) where
 
     -- a packet
     rest_with : (joined : Assemblies) → AreAlikeDeeds (rests (board_plans names) (record s { joined = joined })) (rests (board_plans names) (record other { joined = joined }))
-    rest_with joined = record { states = record { machines = alike_machine; named = refl; joined = refl }; sent = refl }
+    rest_with joined = record { states = record { machines = alike_machine; named = refl; listed = refl; joined = refl }; sent = refl }
 
     ends_alike : (p : Packet) (joined : Assemblies) (o : Option DropCause)
         → AreAlikeDeeds (ends_reply (board_plans names) p o (record s { joined = joined })) (ends_reply (board_plans names) p o (record other { joined = joined }))
@@ -261,7 +262,7 @@ module _ (names : Names) where
     deed_alike joined None None alike on = alike_rest
     deed_alike joined None (Some u) alike on = absurd alike
     deed_alike joined (Some t) None alike on = absurd alike
-    deed_alike joined (Some t) (Some u) alike on = record { states = record { machines = alike.0; named = refl; joined = refl }; sent = same_sent t.sends u.sends s.names alike.1 on }
+    deed_alike joined (Some t) (Some u) alike on = record { states = record { machines = alike.0; named = refl; listed = refl; joined = refl }; sent = same_sent t.sends u.sends s.names alike.1 on }
 
     call_by : (c : MachineCall) (joined : Assemblies) → AreAlikeDeeds (or_rests names (option_map (goes_on (board_plans names) (record s { joined = joined })) (machine_turn (words_of names) c s.machine)) s)
         (or_rests names (option_map (goes_on (board_plans names) (record other { joined = joined })) (machine_turn (words_of names) c other.machine)) other)
@@ -294,7 +295,7 @@ module _ (names : Names) where
 
   -- a manager that is alike is the other but for the rest
   as_other : (s t : State) (alike : AreAlikeStates s t) → t ≡ record s { machine = with_rest (words_of names) alike.machines.rest s.machine }
-  as_other s t alike = λ i. record { machine = alike.machines.is i; names = alike.named i; joined = alike.joined i }
+  as_other s t alike = λ i. record { machine = alike.machines.is i; names = alike.named i; listed = alike.listed i; joined = alike.joined i }
 
   any_input : (i : Input) (s t : State) → AreAlikeStates s t → HasBytes i → (d : Deed) → IsDeed names i s d → (e : Deed) × IsDeed names i t e × AreAlikeDeeds d e
   any_input i s t alike small d is =
@@ -317,7 +318,7 @@ module _ (names : Names) where
   begins_alike s None None alike on some = absurd (none-some some.0 some.1)
   begins_alike s None (Some u) alike on some = absurd alike
   begins_alike s (Some t) None alike on some = absurd alike
-  begins_alike s (Some t) (Some u) alike on some = record { states = record { machines = alike.0; named = refl; joined = refl }; sent = same_sent t.sends u.sends s.names alike.1 on }
+  begins_alike s (Some t) (Some u) alike on some = record { states = record { machines = alike.0; named = refl; listed = refl; joined = refl }; sent = same_sent t.sends u.sends s.names alike.1 on }
 
   undo_alike : (s : State) → IsOver (words_of names) (phase_of (words_of names) s.machine)
       → AreAlikeDeeds (or_rests names (called (board_plans names) Undo s) s) (or_rests names (called (board_plans names) Undo (resumes names s)) (resumes names s))

@@ -388,9 +388,9 @@ reply_passes number from kind command body a below =
     let same : ((128 + number) % 32 % 32 == (128 + number) % 32) ≡ true = eq-eqb _ _ (let s : (128 + number) % 32 % 32 ≡ (128 + number) % 32 = omega (arith, below) in s) in
     λ i. ((true && clear i) && same i) && ((eq-eqb kind kind refl i && eq-eqb command command refl i) && not (is_busy_code a.code))
 
-module _ (names : Names) (count from : ℕ) (a : Answered) (at : machine.Machine (words_of names)) (joined : Assemblies) (part : machine.Part (words_of names)) (are : AreNames names) where
+module _ (names : Names) (count from : ℕ) (a : Answered) (at : machine.Machine (words_of names)) (listed : Option Names) (joined : Assemblies) (part : machine.Part (words_of names)) (are : AreNames names) where
   abbrev now : ManagerState (board_plans names)
-  now = record { machine = at; names = names; joined = joined }
+  now = record { machine = at; names = names; listed = listed; joined = joined }
 
   told_on_ipmb : (net_fn lun command : ℕ) (body : List ℕ) → let asked : Asked = Ipmi from net_fn lun command body in
       CanBeAsked asked → CanBeTold Ipmb a → heeded_on (board_plans names) Ipmb at.stage ≡ Some part → part.asked ≡ asked → open_count (board_plans names) Ipmb now ≡ count
@@ -455,12 +455,12 @@ module _ (names : Names) (count from : ℕ) (a : Answered) (at : machine.Machine
       }
 
 told : (names : Names) (count : ℕ) (asked : Asked) (a : Answered) (m : ManagerState (board_plans names)) → AreNames names → CanBeAsked asked → CanBeTold (bus_of asked) a
-    → IsAwaiting names count asked a m → IsTakenAsTold names count asked a (record { machine = m.machine; names = names; joined = m.joined })
+    → IsAwaiting names count asked a m → IsTakenAsTold names count asked a (record { machine = m.machine; names = names; listed = m.listed; joined = m.joined })
 told names count (Ipmi from net_fn lun command body) a m are can fits w =
-    told_on_ipmb names count from a m.machine m.joined w.part are net_fn lun command body can fits w.heeded w.is w.counted
+    told_on_ipmb names count from a m.machine m.listed m.joined w.part are net_fn lun command body can fits w.heeded w.is w.counted
 told names count (Pldm from kind command body) a m are can fits w =
-    told_on_smbus names count from a m.machine m.joined w.part are kind command body can fits w.heeded w.is w.counted w.slot
+    told_on_smbus names count from a m.machine m.listed m.joined w.part are kind command body can fits w.heeded w.is w.counted w.slot
 
 pub replies_are_taken : RepliesAreTaken
 replies_are_taken names count asked a m are can fits w =
-    subst (λ (n : Names). IsTakenAsTold names count asked a (record { machine = m.machine; names = n; joined = m.joined })) (sym w.named) (told names count asked a m are can fits w)
+    subst (λ (n : Names). IsTakenAsTold names count asked a (record { machine = m.machine; names = n; listed = m.listed; joined = m.joined })) (sym w.named) (told names count asked a m are can fits w)

@@ -78,6 +78,7 @@ pub record TookReply (names : Names) (a : Answered) (old new : Manager) (sent : 
   pub was : old.stage ≡ stage.Opened true r asked
   pub free : is_busy a.code ≡ false
   pub named : new.names ≡ old.names
+  pub listed : new.undo.names ≡ old.undo.names
   pub plan : new.steps ≡ old.steps
   pub retries : new.retries ≡ old.retries
   pub stopped : new.stopped ≡ old.stopped
@@ -111,6 +112,7 @@ took_task names s a old new sent r asked shows took of is asks =
     (record {
       named = took.named ∙ shows.named;
       is_named = shows.is_named;
+      listed = shows.listed ∙ sym took.listed;
       plan = shows.plan ∙ sym took.plan;
       retries = shows.retries ∙ sym took.retries;
       stage = at;

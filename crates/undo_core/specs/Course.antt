@@ -70,7 +70,7 @@ module _ (names : Names) where
 
   -- the manager that goes on from the list of another, under its names and with its retries
   abbrev pub resumes : ManagerState (board_plans names) → ManagerState (board_plans names)
-  resumes s = record { machine = resumed (words_of names) s.machine.retries (list_of (words_of names) s.machine); names = s.names; joined = nothing }
+  resumes s = record { machine = resumed (words_of names) s.machine.retries (list_of (words_of names) s.machine); names = s.names; listed = s.listed; joined = nothing }
 
   -- Of each manager one thing is seen, whatever comes to it. Where a list was taken from a manager whose plan ended or halted, the one that
   -- goes on from it is seen alike from `undo` on: in the same phases, and sending the same frames.

@@ -1,5 +1,5 @@
 -- The machine that a manager shows, and the packets that wait at it.
-use Rattle.std.specs.Prelude.{◌≡◌, Result, Ok, Err, suc, ◌%◌, ◌<◌, Bool, List, ◌∷◌, length, map, take, reverse, Option, Some, None, slice_get, if◌then◌else◌}
+use Rattle.std.specs.Prelude.{◌≡◌, ◌≢◌, Result, Ok, Err, suc, ◌%◌, ◌<◌, Bool, List, ◌∷◌, length, map, take, reverse, Option, Some, None, slice_get, if◌then◌else◌}
 use Rattle.std.specs.List.{AllZip}
 use Rattle.record_base.specs.declared.op.Op.{Op}
 use Rattle.record_base.specs.declared.message.Asked.{Asked}
@@ -30,6 +30,11 @@ words_of names = (board_plans names).words
 abbrev pub own : Names → Asked → Asked
 own names asked = from_manager (addresses names) asked
 
+-- a list has names, and they aren't these
+abbrev pub AreOthers : Names → Option Names → Type 0
+AreOthers names None = ⊥
+AreOthers names (Some listed) = listed ≢ names
+
 -- requests that undo, the last first
 abbrev pub backs : Names → List Asked → List Asked
 backs names requests = map (own names) (reverse requests)
@@ -56,6 +61,7 @@ IsStage names plan requests _ _ = ⊥
 pub record Shows (names : Names) (m : Manager) (s : ManagerState (board_plans names)) : Type 0 where
   pub named : m.names ≡ names
   pub is_named : s.names ≡ names
+  pub listed : s.listed ≡ m.undo.names
   pub plan : s.machine.plan ≡ m.steps
   pub retries : s.machine.retries ≡ m.retries
   pub stage : IsStage names m.steps m.undo.requests m.stage s.machine.stage

@@ -11,7 +11,7 @@ mod sending;
 mod showing;
 mod stage;
 
-pub use manager::{Manager, OpenFault};
+pub use manager::{Manager, OpenFault, ResumeFault};
 pub use model_undo::{Phase, Why};
 pub use phase::WrongPhase;
 pub use sending::Sent;

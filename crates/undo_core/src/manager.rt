@@ -8,13 +8,24 @@ use mctp_net::Assembler;
 use two_wire::Retries;
 use undo_plans::{Names, Steps, UndoList};
 
-/// Why no manager is made.
+/// Why no manager of a plan is made.
 #[derive(Clone, Copy, Debug, PartialEq, Eq)]
 pub enum OpenFault {
     /// Memory was refused.
     Memory,
     /// The retries are above `MOST_RETRIES`.
     Retries,
+}
+
+/// Why no manager is made that goes on from a list.
+#[derive(Clone, Copy, Debug, PartialEq, Eq)]
+pub enum ResumeFault {
+    /// Memory was refused.
+    Memory,
+    /// The retries are above `MOST_RETRIES`.
+    Retries,
+    /// The list has names, and they aren't those that were given.
+    OtherNames,
 }
 
 /// A manager that runs a plan on the records of one controller, and takes it back. All its memory is taken when it is made.

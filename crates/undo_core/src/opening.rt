@@ -1,13 +1,13 @@
 //! How a manager begins.
-ghost use Rattle.std.specs.Prelude.{◌≡◌, ◌<◌, ◌≤◌, ◌↔◌, IfOk, SomeIff, Err};
+ghost use Rattle.std.specs.Prelude.{◌≡◌, ◌<◌, ◌≤◌, ◌↔◌, IfOk, SomeIff, true, Some, Err};
 ghost use Rattle.two_wire.specs.Retries.{most_retries};
 ghost use Rattle.mctp_net.specs.Assembly.{nothing};
 ghost use Rattle.model_undo.specs.Machine as machine;
 ghost use Rattle.model_undo.specs.Resume.{resumed};
-ghost use Rattle.undo_core.specs.Shown.{words_of, backs, Shows};
+ghost use Rattle.undo_core.specs.Shown.{words_of, backs, AreOthers, Shows};
 
 use crate::Why;
-use crate::manager::{Manager, OpenFault};
+use crate::manager::{Manager, OpenFault, ResumeFault};
 use crate::sending::Counts;
 use crate::stage::Stage;
 use mctp_net::Assembler;
@@ -19,7 +19,12 @@ impl Manager {
     /// A manager of a plan, which it hasn't begun.
     pub fn open(alloc: Global, plan: Plan, names: Names, retries: u8) -> Result<Self, OpenFault>
         ensures refused { (result ≡ Err OpenFault.Retries) ↔ (most_retries < retries) }
-        ensures opened { IfOk result (λ m. Shows names m (record { machine = machine.opened (words_of names) plan.steps retries; names = names; joined = nothing })) }
+        ensures opened { IfOk result (λ m. Shows names m (record {
+          machine = machine.opened (words_of names) plan.steps retries;
+          names = names;
+          listed = Some names;
+          joined = nothing;
+        })) }
     {
         let next = NextNumbers {
             ipmb: Below::new(0),
@@ -42,33 +47,47 @@ impl Manager {
             stage: Stage::AtStart,
             stopped: false,
             resent: 0,
-            undo: UndoList { requests, next },
+            undo: UndoList {
+                requests,
+                next,
+                names: Some(names.copy()),
+            },
             counts: Counts { ipmb: 0, smbus: 0 },
             joined,
         })
     }
 
-    /// A manager that goes on from a list of requests that undo. It is halted.
+    /// A manager that goes on from a list of requests that undo. It is halted. A list that has other names is refused.
     pub fn resume(
         alloc: Global,
         undo: UndoList,
         names: Names,
         retries: u8,
-    ) -> Result<Self, OpenFault>
-        ensures refused { (result ≡ Err OpenFault.Retries) ↔ (most_retries < retries) }
+    ) -> Result<Self, ResumeFault>
+        ensures refused { (result ≡ Err ResumeFault.Retries) ↔ (most_retries < retries) }
+        ensures others { (result ≡ Err ResumeFault.OtherNames)
+            ↔ ((retries ≤ most_retries) × AreOthers names undo.names) }
         ensures resumed { IfOk result (λ m. Shows names m (record {
           machine = resumed (words_of names) retries (record { series = backs names undo.requests; next = record { ipmb = undo.next.ipmb; smbus = undo.next.smbus } });
           names = names;
+          listed = undo.names;
           joined = nothing;
         })) }
     {
         let Some(retries) = retries_of(retries) else {
-            return Err(OpenFault::Retries);
+            return Err(ResumeFault::Retries);
         };
+        if are_others(&names, &undo.names) {
+            return Err(ResumeFault::OtherNames);
+        }
         let Ok(joined) = Assembler::new(alloc) else {
-            return Err(OpenFault::Memory);
+            return Err(ResumeFault::Memory);
         };
-        let UndoList { requests, next } = undo;
+        let UndoList {
+            requests,
+            next,
+            names: listed,
+        } = undo;
         let counts = Counts {
             ipmb: u16::from(next.ipmb.number()),
             smbus: u16::from(next.smbus.number()),
@@ -81,10 +100,24 @@ impl Manager {
             stage,
             stopped: true,
             resent: 0,
-            undo: UndoList { requests, next },
+            undo: UndoList {
+                requests,
+                next,
+                names: listed,
+            },
             counts,
             joined,
         })
+    }
+}
+
+/// Whether a list has names, and they aren't these.
+fn are_others(names: &Names, listed: &Option<Names>) -> bool
+    ensures { (result ≡ true) ↔ AreOthers names.now listed.now }
+{
+    match listed {
+        Some(listed) => listed != names,
+        None => false,
     }
 }
 

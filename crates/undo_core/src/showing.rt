@@ -61,11 +61,14 @@ impl Manager {
         self.resent
     }
 
-    /// The requests that undo the steps that were done, and the numbers of the next requests.
+    /// The requests that undo the steps that were done, the numbers of the next requests, and the names: those of the manager, or where it went
+    /// on from a list those that this list had.
     pub fn undo_list(&self) -> &UndoList
         ensures requests { (names : AnyNames) (s : ManagerState (board_plans names)) → Shows names self.now s → backs names result.now.requests ≡ s.machine.undo }
         ensures sequence { (names : AnyNames) (s : ManagerState (board_plans names)) → Shows names self.now s → result.now.next.ipmb ≡ s.machine.counts.ipmb % 64 }
         ensures instance { (names : AnyNames) (s : ManagerState (board_plans names)) → Shows names self.now s → result.now.next.smbus ≡ s.machine.counts.smbus % 32 }
+        ensures names { (names : AnyNames) (s : ManagerState (board_plans names))
+            → Shows names self.now s → result.now.names ≡ s.listed }
     {
         &self.undo
     }

@@ -1,4 +1,6 @@
 //! Who talks to whom.
+ghost use Rattle.std.specs.Prelude.{◌≡◌};
+
 use two_wire::Address;
 
 /// The addresses and endpoint identifiers of a manager and of its controller.
@@ -16,4 +18,20 @@ pub struct Names {
     pub own_eid: u8,
     /// The identifier of the controller's endpoint.
     pub peer_eid: u8,
+}
+
+impl Names {
+    /// The same names.
+    pub fn copy(&self) -> Names
+        ensures { result ≡ self.now }
+    {
+        Names {
+            own_address: self.own_address,
+            peer_address: self.peer_address,
+            own_wire: self.own_wire,
+            peer_wire: self.peer_wire,
+            own_eid: self.own_eid,
+            peer_eid: self.peer_eid,
+        }
+    }
 }

@@ -2,6 +2,7 @@
 ghost use Rattle.std.specs.Prelude.{◌≡◌, ◌<◌, ◌≤◌, [], ◌∷◌, ◌++◌, length, slice_get, IfOk, IfSome, IfNone, None, Some};
 ghost use Rattle.undo_plans.specs.Steps.{most_steps};
 
+use crate::names::Names;
 use crate::plan::MOST_STEPS;
 use record_base::Asked;
 use std::alloc::{AllocError, Global};
@@ -70,10 +71,12 @@ pub struct NextNumbers {
     pub smbus: Below<32>,
 }
 
-/// The requests that undo the steps that were done, and the numbers of the next requests.
+/// The requests that undo the steps that were done, the numbers of the next requests, and between whom they go.
 #[derive(Debug, Drop)]
 pub struct UndoList {
     /// They are sent from the last to the first.
     pub requests: Requests,
     pub next: NextNumbers,
+    /// The names of the manager that did the steps, and of its controller, where the list tells them.
+    pub names: Option<Names>,
 }

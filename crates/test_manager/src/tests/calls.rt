@@ -125,6 +125,15 @@ plan 0 -> Fresh
 plan 15 -> Fresh
 plan 16 -> Retries
 plan 255 -> Retries
+list 16 -> Retries
+
+story a list with other names is refused, once the retries are few
+list 0 -> Halted 2 Stop
+named 15 -> Halted 2 Stop
+named 16 -> Retries
+others 15 -> OtherNames
+others 0 -> OtherNames
+others 16 -> Retries
 ";
 
 #[test]
@@ -138,6 +147,7 @@ fn a_manager_is_opened_and_called(rt: HostRuntime) -> Result<(), Fail> {
     assert_eq!(rt; refused.err(), Some(OpenFault::Retries));
     let mut manager = Manager::open(rt.alloc(), plan(rt.alloc())?, names(), 1)?;
     assert_eq!(rt; manager.phase(), Phase::Fresh);
+    assert_eq!(rt; manager.undo_list().names, Some(names()));
     assert_eq!(rt; manager.undo().err(), Some(WrongPhase));
     let sent = manager.start()?.ok_or("a Get")?;
     assert_eq!(rt; (sent.bus, sent.request), (Bus::Ipmb, 0));

@@ -1,8 +1,8 @@
 //! A manager whose requests go over SMBus. It goes on from a list of such requests.
-use super::scene::{expect_told, list, names};
+use super::scene::{expect_told, list, names, other_names};
 use std::test::Fail;
 use two_wire::Bus;
-use undo_core::{Manager, Phase, Why};
+use undo_core::{Manager, Phase, ResumeFault, Why};
 
 const PACKETS: &str = "
 story a reply is joined from its packets
@@ -94,9 +94,26 @@ fn a_manager_goes_on_from_a_list(rt: HostRuntime) -> Result<(), Fail> {
     let mut manager = Manager::resume(rt.alloc(), list(rt.alloc())?, names(), 1)?;
     assert_eq!(rt; manager.phase(), Phase::Halted(2, Why::Stop));
     assert_eq!(rt; manager.undo_list().requests.len(), 2);
+    assert_eq!(rt; manager.undo_list().names, None);
     let sent = manager.undo()?.ok_or("a request")?;
     assert_eq!(rt; (sent.bus, sent.request), (Bus::Smbus, 31));
     assert_eq!(rt; sent.frames.len(), 2);
     assert_eq!(rt; manager.phase(), Phase::Undoing(1));
+    assert_eq!(rt; manager.undo_list().names, None);
+    Ok(())
+}
+
+#[test]
+fn a_manager_goes_on_from_a_list_with_its_names_alone(rt: HostRuntime) -> Result<(), Fail> {
+    let mut named = list(rt.alloc())?;
+    named.names = Some(names());
+    let mut manager = Manager::resume(rt.alloc(), named, names(), 1)?;
+    assert_eq!(rt; manager.undo_list().names, Some(names()));
+    assert!(rt; manager.undo()?.is_some());
+    assert_eq!(rt; manager.undo_list().names, Some(names()));
+    let mut others = list(rt.alloc())?;
+    others.names = Some(other_names());
+    let refused = Manager::resume(rt.alloc(), others, names(), 1);
+    assert_eq!(rt; refused.err(), Some(ResumeFault::OtherNames));
     Ok(())
 }

@@ -4,7 +4,7 @@ use std::alloc::{AllocError, Global};
 use std::process::Abort;
 use story_lines::{NoOutcome, NoScene, Scene, report_of};
 use two_wire::{Address, Below, Bus, Bytes, Retries};
-use undo_core::{Manager, OpenFault, Sent, WrongPhase};
+use undo_core::{Manager, Sent, WrongPhase};
 use undo_plans::{Names, NextNumbers, Plan, Requests, Steps, UndoList};
 
 pub fn names() -> Names {
@@ -16,6 +16,13 @@ pub fn names() -> Names {
         own_eid: 0x0B,
         peer_eid: 0x0A,
     }
+}
+
+/// Those names but for the identifier of the manager's endpoint.
+pub fn other_names() -> Names {
+    let mut other = names();
+    other.own_eid = 0x09;
+    other
 }
 
 /// A plan of two steps, each of which sets thresholds of sensor 5.
@@ -67,7 +74,22 @@ pub fn list(alloc: Global) -> Result<UndoList, AllocError> {
         ipmb: Below::new(4),
         smbus: Below::new(31),
     };
-    Ok(UndoList { requests, next })
+    Ok(UndoList {
+        requests,
+        next,
+        names: None,
+    })
+}
+
+/// That list without names, with the manager's, or with those of a manager with another identifier, by what it is called.
+fn told_list(alloc: Global, kind: &str) -> Result<UndoList, AllocError> {
+    let mut told = list(alloc)?;
+    told.names = match kind {
+        "named" => Some(names()),
+        "others" => Some(other_names()),
+        _ => None,
+    };
+    Ok(told)
 }
 
 /// Appends what the manager sends: its frames, each a word of hexadecimal digits.
@@ -138,20 +160,15 @@ fn show(manager: &Manager, text: &mut String) -> Result<(), AllocError> {
     write!(text, " undo {length} next {ipmb} {smbus}")
 }
 
-/// Appends the phase of the manager that is there now, or why there is none.
+/// Appends the phase of the manager that is there now.
 fn begin(
     manager: &mut Option<Manager>,
-    opened: Result<Manager, OpenFault>,
+    made: Manager,
     text: &mut String,
 ) -> Result<(), AllocError> {
-    match opened {
-        Ok(made) => {
-            let phase = made.phase();
-            *manager = Some(made);
-            write!(text, " {phase}")
-        }
-        Err(fault) => write!(text, " {fault:?}"),
-    }
+    let phase = made.phase();
+    *manager = Some(made);
+    write!(text, " {phase}")
 }
 
 /// A manager, once a line opened one.
@@ -168,7 +185,8 @@ impl Scene for Managed {
     /// Appends what comes of the words. They are those of one of these lines:
     ///
     /// - `plan 3 -> Fresh`: a manager of the plan of two steps with so many retries, and its phase, or the fault;
-    /// - `list 1 -> Halted 2 Stop`: one that goes on from the list of two requests;
+    /// - `list 1 -> Halted 2 Stop`: one that goes on from the list of two requests; `named 1 ..`, from that list with the manager's names;
+    ///   `others 1 -> OtherNames`, with other names;
     /// - `start -> 2010D02C002705A8 Getting 0`, `quiet ..`, `stop ..`, `again ..`, `undo ..`: a call, the frames that the manager sends, and its
     ///   phase then; before the phase stands `refused` where it refuses the call;
     /// - `ipmb 2C14C0200027CBEE -> Halted 0 GetRefused CB`, `smbus ..`: the same of a frame that it hears on this bus;
@@ -178,12 +196,21 @@ impl Scene for Managed {
         let (kind, word) = words.split_once(' ').unwrap_or((words, ""));
         match (kind, self.manager.as_mut()) {
             ("plan", _) => {
-                let opened = Manager::open(alloc, plan(alloc)?, names(), word.parse::<u8>()?);
-                begin(&mut self.manager, opened, text)?;
+                match Manager::open(alloc, plan(alloc)?, names(), word.parse::<u8>()?) {
+                    Ok(made) => begin(&mut self.manager, made, text)?,
+                    Err(fault) => write!(text, " {fault:?}")?,
+                }
             }
-            ("list", _) => {
-                let opened = Manager::resume(alloc, list(alloc)?, names(), word.parse::<u8>()?);
-                begin(&mut self.manager, opened, text)?;
+            ("list" | "named" | "others", _) => {
+                match Manager::resume(
+                    alloc,
+                    told_list(alloc, kind)?,
+                    names(),
+                    word.parse::<u8>()?,
+                ) {
+                    Ok(made) => begin(&mut self.manager, made, text)?,
+                    Err(fault) => write!(text, " {fault:?}")?,
+                }
             }
             ("shows", Some(manager)) => show(manager, text)?,
             (_, Some(manager)) => turn(alloc, manager, (kind, word), text)?,

@@ -1,6 +1,6 @@
 //! Files that are refused, and links that can't be had.
 use super::files::FakeFiles;
-use super::texts::{BOARD, PLAN, UNDO};
+use super::texts::{BOARD, OTHERS, PLAN, UNDO};
 use super::{new_line, new_paper};
 use bmc_net::{PairWords, RunWords, ServeWords, UndoWords, pair, run, serve, undo};
 use std::alloc::{AllocError, Global};
@@ -150,6 +150,12 @@ fn the_first_bad_line_of_an_undo_text_is_told(rt: HostRuntime) -> Result<(), Fai
     expect_refused_list(&rt, rt.alloc(), &texts, b"undo Line 3\n")
 }
 
+#[test]
+fn an_undo_text_with_other_names_is_refused(rt: HostRuntime) -> Result<(), Fail> {
+    let texts = [("list.txt", OTHERS)];
+    expect_refused_list(&rt, rt.alloc(), &texts, b"undo OtherNames\n")
+}
+
 /// A pair of `board.toml` and `plan.toml` ends with status 3 and this on standard error.
 fn expect_refused_pair<R: Abort + std::net::Net + std::thread::Threads + std::sync::Wait + Sync>(
     rt: &R,
@@ -201,7 +207,8 @@ fn nobody_answers_a_manager_without_turns(rt: HostRuntime) -> Result<(), Fail> {
 }
 
 /// The undo text of a manager that did nothing.
-const NOTHING_DONE: &str = "undo 1\nnext ipmb 0 smbus 0\n";
+const NOTHING_DONE: &str =
+    "undo 2\nnext ipmb 0 smbus 0\nnames ipmb 2C 20 smbus 30 20 eid 08 0A\n";
 
 /// A run of a plan without steps, over files that so many changes are made of, ends with this status, says this, and leaves these texts in the
 /// file of the undo text and in that of the list so far.

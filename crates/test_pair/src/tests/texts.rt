@@ -84,3 +84,10 @@ pub(crate) const UNDO: &str = "undo 1
 next ipmb 2 smbus 0
 ipmb 102805E080000000
 ";
+
+/// The same of a manager with the identifier 09h.
+pub(crate) const OTHERS: &str = "undo 2
+next ipmb 2 smbus 0
+names ipmb 2C 20 smbus 30 20 eid 09 0A
+ipmb 102805E080000000
+";

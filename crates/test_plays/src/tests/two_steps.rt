@@ -8,7 +8,7 @@ use std::alloc::{AllocError, Global};
 use std::process::Abort;
 use text_undo::{read_undo, write_undo};
 use two_wire::{Address, Bus};
-use undo_core::{Manager, OpenFault, Phase, Sent, Why};
+use undo_core::{Manager, OpenFault, Phase, ResumeFault, Sent, Why};
 use undo_plans::{Names, Plan};
 
 /// The sample board.
@@ -30,14 +30,13 @@ fn hear(board: &mut Board<Records>, port: &mut Port, bytes: &[u8], out: &mut Out
 }
 
 fn names(rt: &impl Abort) -> Names {
-    let own = Address::new(0x2C).expect(rt, "an address");
     let peer = Address::new(0x20).expect(rt, "an address");
     Names {
-        own_address: own,
+        own_address: Address::new(0x2C).expect(rt, "an address"),
         peer_address: peer,
-        own_wire: own,
+        own_wire: Address::new(0x30).expect(rt, "an address"),
         peer_wire: peer,
-        own_eid: 0x0B,
+        own_eid: 0x08,
         peer_eid: 0x0A,
     }
 }
@@ -56,7 +55,15 @@ unr = 0x64
 ";
 
 /// What undoes both steps, the second first.
-const UNDO: &str = "undo 1
+const UNDO: &str = "undo 2
+next ipmb 4 smbus 0
+names ipmb 2C 20 smbus 30 20 eid 08 0A
+ipmb 10260530000000005A6E
+ipmb 10260518000000505F00
+";
+
+/// The same in a text of version 1, which names nobody.
+const NAMELESS: &str = "undo 1
 next ipmb 4 smbus 0
 ipmb 10260530000000005A6E
 ipmb 10260518000000505F00
@@ -128,11 +135,11 @@ fn drive(
     MOST_REQUESTS
 }
 
-/// The manager is in the phase, and its undo list is that of both steps.
-fn expect_list(rt: &impl Abort, alloc: Global, manager: &Manager, phase: Phase) {
+/// The manager is in the phase, and this is the text of its undo list.
+fn expect_list(rt: &impl Abort, alloc: Global, manager: &Manager, phase: Phase, told: &str) {
     assert_eq!(rt; manager.phase(), phase);
     let text = write_undo(alloc, manager.undo_list()).expect(rt, "memory");
-    assert_eq!(rt; text.as_str(), UNDO);
+    assert_eq!(rt; text.as_str(), told);
 }
 
 /// Whether each record of the board is as in its file.
@@ -160,7 +167,7 @@ fn carry_out(
     let first = manager.start().expect(rt, "the phase of a start");
     assert_eq!(rt; drive(rt, board, port, manager, first), 4);
     assert!(rt; !is_as_in_its_file(rt, alloc, board));
-    expect_list(rt, alloc, manager, Phase::Done);
+    expect_list(rt, alloc, manager, Phase::Done, UNDO);
 }
 
 /// The first frames that the manager sends to undo the plan: this one.
@@ -186,30 +193,39 @@ fn undone(
     assert!(rt; is_as_in_its_file(rt, alloc, board));
 }
 
-/// Another manager takes the place of one that did the plan, by what its undo list says.
-fn another(rt: &impl Abort, alloc: Global) -> Manager {
-    let manager = resumed(rt, alloc, UNDO);
-    expect_list(rt, alloc, &manager, Phase::Halted(2, Why::Stop));
+/// Another manager takes the place of one that did the plan, by what the text of its undo list says.
+fn another(rt: &impl Abort, alloc: Global, text: &str) -> Manager {
+    let manager = resumed(rt, alloc, text);
+    expect_list(rt, alloc, &manager, Phase::Halted(2, Why::Stop), text);
     manager
 }
 
-/// The plan is carried out on a fresh board, and undone by its manager or by another.
-fn expect_undone(rt: &impl Abort, alloc: Global, by_another: bool) {
+/// The plan is carried out on a fresh board, and undone by its manager or by another that goes on from this text.
+fn expect_undone(rt: &impl Abort, alloc: Global, by_another: Option<&str>) {
     let mut board = sample(rt, alloc);
     let mut port = open_port(rt, alloc);
     let mut manager = open_manager(rt, alloc);
     carry_out(rt, alloc, &mut board, &mut port, &mut manager);
-    if by_another {
-        manager = another(rt, alloc);
+    if let Some(text) = by_another {
+        manager = another(rt, alloc, text);
     }
     undone(rt, alloc, &mut board, &mut port, &mut manager);
 }
 
 #[test]
 fn a_plan_is_carried_out_and_undone_by_its_manager_or_by_another(rt: HostRuntime) {
-    for by_another in [false, true] {
+    for by_another in [None, Some(UNDO), Some(NAMELESS)] {
         expect_undone(&rt, rt.alloc(), by_another);
     }
+}
+
+#[test]
+fn a_list_is_undone_under_its_own_names_alone(rt: HostRuntime) {
+    let list = read_undo(rt.alloc(), UNDO).expect(&rt, "an undo list");
+    let mut other = names(&rt);
+    other.own_eid = 0x09;
+    let refused = Manager::resume(rt.alloc(), list, other, 3);
+    assert_eq!(rt; refused.err(), Some(ResumeFault::OtherNames));
 }
 
 /// As many requests as a list can have, of which each sets the power restore policy.

@@ -49,11 +49,21 @@ ipmb 10260530000000005A6E
 ipmb 10260518000000505F00
 "#;
 
+/// That text where it names the machines.
+const NAMED: &str = r#"undo 2
+next ipmb 4 smbus 0
+names ipmb 2C 20 smbus 30 20 eid 08 0A
+ipmb 10260530000000005A6E
+ipmb 10260518000000505F00
+"#;
+
 #[test]
 fn an_undo_text_is_read_and_written(rt: HostRuntime) -> Result<(), Fail> {
-    let list = read_undo(rt.alloc(), UNDO)?;
-    assert_eq!(rt; list.requests.len(), 2);
-    assert_eq!(rt; write_undo(rt.alloc(), &list)?.as_str(), UNDO);
+    for text in [UNDO, NAMED] {
+        let list = read_undo(rt.alloc(), text)?;
+        assert_eq!(rt; list.requests.len(), 2);
+        assert_eq!(rt; write_undo(rt.alloc(), &list)?.as_str(), text);
+    }
     Ok(())
 }
 

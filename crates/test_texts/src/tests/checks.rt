@@ -18,6 +18,8 @@ file check
 \n \n \r\n# undo 1\n  # tid = 5\n => file: empty\nFine
 undo 1\nnext ipmb 4 smbus 0\n => file: undo text, 0 requests\nFine
 undo 1\nnext ipmb 4 smbus 0\nipmb 10260530000000005A6E\n => file: undo text, 1 request\nFine
+undo 2\nnext ipmb 4 smbus 0\nnames ipmb 2C 20 smbus 30 20 eid 08 0A\nipmb 10260530000000005A6E\n => file: undo text, 1 request\nFine
+undo 2\nnext ipmb 4 smbus 0\nipmb 10260530000000005A6E\n => file: undo text refused, line 3\nRefused
 undo 1\n | undo 1\r\n | undo 2\n | undo 1\nnext ipmb 64 smbus 0\n => holds 1 Refused
 # undo 1\nundo 1\n => file: undo text refused, line 1\nRefused
 undo 1\n => file: undo text refused, line 2\nRefused

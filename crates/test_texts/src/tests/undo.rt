@@ -19,13 +19,31 @@ file list
 + next ipmb 4 smbus 0
 + ipmb 10260530000000005A6E
 + ipmb 10260518000000505F00
-=> UndoList { requests: Requests { items: [Ipmi { from: 0, net_fn: NetFn { number: 4 }, lun: Below { number: 0 }, command: 38, body: Bytes { items: [5, 24, 0, 0, 0, 80, 95, 0] } }, Ipmi { from: 0, net_fn: NetFn { number: 4 }, lun: Below { number: 0 }, command: 38, body: Bytes { items: [5, 48, 0, 0, 0, 0, 90, 110] } }] }, next: NextNumbers { ipmb: Below { number: 4 }, smbus: Below { number: 0 } } }
+=> UndoList { requests: Requests { items: [Ipmi { from: 0, net_fn: NetFn { number: 4 }, lun: Below { number: 0 }, command: 38, body: Bytes { items: [5, 24, 0, 0, 0, 80, 95, 0] } }, Ipmi { from: 0, net_fn: NetFn { number: 4 }, lun: Below { number: 0 }, command: 38, body: Bytes { items: [5, 48, 0, 0, 0, 0, 90, 110] } }] }, next: NextNumbers { ipmb: Below { number: 4 }, smbus: Below { number: 0 } }, names: None }
+
+# A text of version 2 has the names in line 3. Of its prefixes those are read that end behind lines 3, 4 and 5.
+file undo
++ undo 2
++ next ipmb 4 smbus 0
++ names ipmb 2C 20 smbus 30 20 eid 08 0A
++ ipmb 10260530000000005A6E
++ ipmb 10260518000000505F00
+ends reads => 66 92 118
+=> undo 2\nnext ipmb 4 smbus 0\nnames ipmb 2C 20 smbus 30 20 eid 08 0A\nipmb 10260530000000005A6E\nipmb 10260518000000505F00\n
+
+file list
++ undo 2
++ next ipmb 4 smbus 0
++ names ipmb 2C 20 smbus 30 22 eid 08 0A
+=> UndoList { requests: Requests { items: [] }, next: NextNumbers { ipmb: Below { number: 4 }, smbus: Below { number: 0 } }, names: Some(Names { own_address: Address { byte: 44 }, peer_address: Address { byte: 32 }, own_wire: Address { byte: 48 }, peer_wire: Address { byte: 34 }, own_eid: 8, peer_eid: 10 }) }
 
 file undo
 # The first bad line is named.
 => Line 1
 undo 1 => Line 1
-undo 2\nnext ipmb 4 smbus 0\n => Line 1
+undo 3\nnext ipmb 4 smbus 0\n => Line 1
+undo 3\nnext ipmb 4 smbus 0\nnames ipmb 2C 20 smbus 30 20 eid 08 0A\n => Line 1
+undo 2 => Line 1
 Undo 1\nnext ipmb 4 smbus 0\n => Line 1
 undo 1\r\nnext ipmb 4 smbus 0\n => Line 1
 undo 1\n => Line 2
@@ -40,6 +58,10 @@ undo 1\nnext ipmb 4  smbus 0\n => Line 2
 undo 1\nnext ipmb 4 smbus 0 \n => Line 2
 undo 1\nnext ipmb  smbus 0\n => Line 2
 undo 1\nnext smbus 0 ipmb 4\n => Line 2
+undo 2\n => Line 2
+undo 2\nnext ipmb 64 smbus 0\nnames ipmb 2C 20 smbus 30 20 eid 08 0A\n => Line 2
+undo 2\nnames ipmb 2C 20 smbus 30 20 eid 08 0A\nnext ipmb 4 smbus 0\n => Line 2
+undo 2\nnext ipmb 4 smbus 0\n => Line 3
 behind undo 1\nnext ipmb 4 smbus 0\n
 usb 10260530000000005A6E\n => Line 3
 \n => Line 3
@@ -56,6 +78,34 @@ smbus 4307\n => Line 3
 ipmb 1026\nsmbus 8307\n => Line 4
 ipmb 1026\n ipmb 1026\n => Line 4
 
+names ipmb 2C 20 smbus 30 20 eid 08 0A\n => Line 3
+
+# In version 2 line 3 has the names: two digits each, and addresses with bit 0 clear.
+behind undo 2\nnext ipmb 4 smbus 0\n
+names ipmb 2C 20 smbus 30 20 eid 08 0A\n | names ipmb 00 FE smbus 00 FE eid 00 FF\n => reads
+names ipmb 2C 20 smbus 30 20 eid 09 0B\n => undo 2\nnext ipmb 4 smbus 0\nnames ipmb 2C 20 smbus 30 20 eid 09 0B\n
+names ipmb 2D 20 smbus 30 20 eid 08 0A\n => Line 3
+names ipmb 2C 21 smbus 30 20 eid 08 0A\n => Line 3
+names ipmb 2C 20 smbus 31 20 eid 08 0A\n => Line 3
+names ipmb 2C 20 smbus 30 21 eid 08 0A\n => Line 3
+names ipmb 2C 20 smbus 30 20 eid 08 0A => Line 3
+names ipmb 2C 20 smbus 30 20 eid 08 0A \n => Line 3
+names ipmb 2C 20 smbus 30 20 eid 8 0A\n => Line 3
+names ipmb 2C 20 smbus 30 20 eid 08 A\n => Line 3
+names ipmb 02C 20 smbus 30 20 eid 08 0A\n => Line 3
+names ipmb 2C 20 smbus 30 20 eid 08 0A0A\n => Line 3
+names ipmb 2C 20 smbus 30 20 eid 0x 0A\n => Line 3
+names ipmb 2C  20 smbus 30 20 eid 08 0A\n => Line 3
+names ipmb 2C20 smbus 30 20 eid 08 0A\n => Line 3
+names ipmb 2C 20 smbus 30 20\n => Line 3
+names smbus 30 20 ipmb 2C 20 eid 08 0A\n => Line 3
+Names ipmb 2C 20 smbus 30 20 eid 08 0A\n => Line 3
+\n => Line 3
+ipmb 10260530000000005A6E\n => Line 3
+names ipmb 2C 20 smbus 30 20 eid 08 0A\nusb 10260530000000005A6E\n => Line 4
+names ipmb 2C 20 smbus 30 20 eid 08 0A\nnames ipmb 2C 20 smbus 30 20 eid 08 0A\n => Line 4
+names ipmb 2C 20 smbus 30 20 eid 08 0A\nipmb 1026\nsmbus 8307\n => Line 5
+
 # The longest requests are read.
 behind undo 1\nnext ipmb 0 smbus 0\n
 ipmb F8<26:00>\n | smbus 3F<253:00>\n => reads
@@ -64,6 +114,9 @@ ipmb F8<27:00>\n | smbus 3F<254:00>\n => Line 3
 # There are at most 256 requests.
 <256:ipmb 1026\n> => holds 256 ipmb 1026
 <257:ipmb 1026\n> => Line 259
+behind undo 2\nnext ipmb 0 smbus 0\nnames ipmb 2C 20 smbus 30 20 eid 08 0A\n
+<256:ipmb 1026\n> => holds 256 ipmb 1026
+<257:ipmb 1026\n> => Line 260
 
 # An empty list and requests of both buses are read, and written as they were.
 behind
@@ -73,7 +126,11 @@ undo 1\nnext ipmb 63 smbus 31\nsmbus 3FFF\nipmb F8FF\n => undo 1\nnext ipmb 63 s
 # The undo of a step on thresholds of sensor 5, and of one on numeric effecter 4 before it.
 undo 1\nnext ipmb 2 smbus 2\nipmb 10260510000000005F00\nsmbus 0231040002F401\n => undo 1\nnext ipmb 2 smbus 2\nipmb 10260510000000005F00\nsmbus 0231040002F401\n
 
+# The undo of a step on an address, in a text that names the machines.
+undo 2\nnext ipmb 2 smbus 0\nnames ipmb 2C 20 smbus 30 20 eid 08 0A\nipmb 30010103C0000201\n => undo 2\nnext ipmb 2 smbus 0\nnames ipmb 2C 20 smbus 30 20 eid 08 0A\nipmb 30010103C0000201\n
+
 # Digits are read in either case.
+undo 2\nnext ipmb 2 smbus 0\nnames ipmb 2c 20 smbus 30 20 eid 08 0a\nipmb 30010103c0000201\n => undo 2\nnext ipmb 2 smbus 0\nnames ipmb 2C 20 smbus 30 20 eid 08 0A\nipmb 30010103C0000201\n
 undo 1\nnext ipmb 4 smbus 0\nipmb 10260530000000005a6e\nipmb 10260518000000505f00\n => undo 1\nnext ipmb 4 smbus 0\nipmb 10260530000000005A6E\nipmb 10260518000000505F00\n
 "#;
 

@@ -12,5 +12,6 @@ returns-then-is_over-clause-kept g c =
       requests = c.undo_list.ensures.requests lab_names s shows;
       sequence = c.undo_list.ensures.sequence lab_names s shows;
       instance = c.undo_list.ensures.instance lab_names s shows;
+      names = c.undo_list.ensures.names lab_names s shows;
     })
     c.put_last.ensures.put

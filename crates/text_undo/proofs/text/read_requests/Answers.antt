@@ -1,29 +1,32 @@
-use Rattle.std.proofs.Common.{◌≡◌, ◌+◌, ◌++◌, ◌∷◌, [], inr, Bool, true, cond, not, List, refl, sym, ◌∙◌, ap, subst, arith, rules, is_ok, vec_len}
+use Rattle.std.proofs.Common.{◌≡◌, ◌+◌, ◌++◌, ◌∷◌, [], inr, Bool, true, cond, not, ℕ, List, refl, sym, ◌∙◌, ap, subst, arith, rules, is_ok, vec_len}
 use Rattle.record_base.specs.declared.message.Asked.{Asked}
+use Rattle.text_undo.specs.UndoText.{head_length}
 use Rattle.text_undo.proofs.UndoLists.{Begun, begun_more, begun_bad, no_request, past, not_empty}
 use Rattle.text_undo.proofs.text.read_requests.Goals as goal
 
 pub returns-then-len-eq-MOST_REQUESTS-clause-fault : goal.returns-then-len-eq-MOST_REQUESTS-clause-fault
 returns-then-len-eq-MOST_REQUESTS-clause-fault c =
-    let n = 3 + c.len.result in
+    let first : c.head_lines-first.result + 1 ≡ head_length c.args.version + 1 = ap (λ (k : ℕ). k + 1) c.head_lines-first.ensures in
+    let n = c.head_lines-first.result + 1 + c.len.result in
     let some = not_empty c.loop-rest.rest.now c.is_empty.result c.loop-rest-test.true c.is_empty.ensures in
     inr (
       n,
       refl,
-      begun_bad c.args.text.now c.loop-rest.told.items c.loop-rest.rest.now n c.loop-rest.invariant.1 (omega (arith, c.len.ensures, c.loop-rest.told.ok)) (omega (arith, c.loop-rest.invariant.2, c.loop-rest.told.ok)) some
-          (past n c.loop-rest.rest.now (omega (arith, c.len.ensures, c.len-in-loop-rest.ensures, c.if-len-eq-MOST_REQUESTS.true))),
+      begun_bad c.args.version c.args.text.now c.loop-rest.told.items c.loop-rest.rest.now n c.loop-rest.invariant.1 (omega (arith, first, c.len.ensures, c.loop-rest.told.ok)) (omega (arith, c.loop-rest.invariant.2, c.loop-rest.told.ok)) some
+          (past c.args.version n c.loop-rest.rest.now (omega (arith, first, c.len.ensures, c.len-in-loop-rest.ensures, c.if-len-eq-MOST_REQUESTS.true))),
     )
 
 pub returns-in_default-found-clause-fault : goal.returns-in_default-found-clause-fault
 returns-in_default-found-clause-fault c =
-    let n = 3 + c.len.result in
+    let first : c.head_lines-first.result + 1 ≡ head_length c.args.version + 1 = ap (λ (k : ℕ). k + 1) c.head_lines-first.ensures in
+    let n = c.head_lines-first.result + 1 + c.len.result in
     let some = not_empty c.loop-rest.rest.now c.is_empty.result c.loop-rest-test.true c.is_empty.ensures in
     let none = rw c.in_default-found.is at c.in-Ok.ensures in
     inr (
       n,
       refl,
-      begun_bad c.args.text.now c.loop-rest.told.items c.loop-rest.rest.now n c.loop-rest.invariant.1 (omega (arith, c.len.ensures, c.loop-rest.told.ok)) (omega (arith, c.loop-rest.invariant.2, c.loop-rest.told.ok)) some
-          (no_request n c.loop-rest.rest.now (omega arith) none),
+      begun_bad c.args.version c.args.text.now c.loop-rest.told.items c.loop-rest.rest.now n c.loop-rest.invariant.1 (omega (arith, first, c.len.ensures, c.loop-rest.told.ok)) (omega (arith, c.loop-rest.invariant.2, c.loop-rest.told.ok)) some
+          (no_request c.args.version n c.loop-rest.rest.now (omega (arith, first)) none),
     )
 
 pub loop-rest-preserved : goal.loop-rest-preserved

@@ -11,6 +11,7 @@ returns-then-self-known g c = (
       requests = c.undo_list-list.ensures.requests lab_names s shows;
       sequence = c.undo_list-list.ensures.sequence lab_names s shows;
       instance = c.undo_list-list.ensures.instance lab_names s shows;
+      names = c.undo_list-list.ensures.names lab_names s shows;
     };
     puts = λ word is. inl refl;
     counted = c.len-self.ensures.value;
@@ -27,6 +28,7 @@ returns g c = (
       requests = c.undo_list-list.ensures.requests lab_names s shows;
       sequence = c.undo_list-list.ensures.sequence lab_names s shows;
       instance = c.undo_list-list.ensures.instance lab_names s shows;
+      names = c.undo_list-list.ensures.names lab_names s shows;
     };
     puts = λ word is.
         put_or_not g.F.WritesFiles.takes g.F.WritesFiles.renames word c.args.self.now.beside.now c.args.self.now.seen c.undo_list-list.result.now c.args.self.now.files.now c.put_list-kept.new.files

@@ -15,6 +15,7 @@ returns-in_default c names s shows =
     (record {
       named = shows.named;
       is_named = shows.is_named;
+      listed = shows.listed;
       plan = shows.plan;
       retries = shows.retries;
       stage = shows.stage;
@@ -37,6 +38,7 @@ returns-then-heeded c names s shows =
     (record {
       named = shows.named;
       is_named = shows.is_named;
+      listed = shows.listed;
       plan = shows.plan;
       retries = shows.retries;
       stage = stays;
@@ -63,6 +65,7 @@ returns c names s shows =
     (record {
       named = shows.named;
       is_named = shows.is_named;
+      listed = shows.listed;
       plan = shows.plan;
       retries = shows.retries;
       stage = at;

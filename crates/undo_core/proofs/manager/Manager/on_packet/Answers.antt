@@ -32,6 +32,7 @@ returns c names s shows =
     subst (Does names c.on_message.new.self c.on_message.result) (sym hears) (c.on_message.ensures names after (record {
       named = shows.named;
       is_named = shows.is_named;
+      listed = shows.listed;
       plan = shows.plan;
       retries = shows.retries;
       stage = shows.stage;

@@ -35,6 +35,10 @@ returns c names s shows =
       was = was;
       free = free;
       named = refl;
+      listed = elim c.match-done.branch [
+        | in-Some w ↦ (λ i. (w.self-is i).1.1.1.1.1.1.1.0.names)
+        | in_default-done w ↦ (λ i. (w.self-is i).1.1.1.1.1.1.1.0.names)
+      ];
       plan = refl;
       retries = refl;
       stopped = refl;

@@ -16,6 +16,7 @@ returns-in_default c names s shows =
     (record {
       named = shows.named;
       is_named = shows.is_named;
+      listed = shows.listed;
       plan = shows.plan;
       retries = shows.retries;
       stage = shows.stage;
@@ -38,6 +39,7 @@ returns-then-not-heeded c names s shows =
     (record {
       named = shows.named;
       is_named = shows.is_named;
+      listed = shows.listed;
       plan = shows.plan;
       retries = shows.retries;
       stage = stays;
@@ -63,6 +65,7 @@ returns-then-self-number c names s shows =
     (record {
       named = shows.named;
       is_named = shows.is_named;
+      listed = shows.listed;
       plan = shows.plan;
       retries = shows.retries;
       stage = (refl, o.task_is, o.part_is, o.asked_is);
@@ -87,6 +90,7 @@ returns c names s shows =
     (record {
       named = shows.named;
       is_named = shows.is_named;
+      listed = shows.listed;
       plan = shows.plan;
       retries = shows.retries;
       stage = stays;

@@ -16,6 +16,7 @@ returns-in-Getting c names s shows =
     (record {
       named = shows.named;
       is_named = shows.is_named;
+      listed = shows.listed;
       plan = shows.plan;
       retries = shows.retries;
       stage = shows.stage;

@@ -26,6 +26,7 @@ returns c names s shows =
     (record {
       named = shows.named;
       is_named = shows.is_named;
+      listed = shows.listed;
       plan = shows.plan;
       retries = shows.retries;
       stage = at;
