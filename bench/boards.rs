@@ -49,6 +49,18 @@ fn channels() -> String {
         .collect()
 }
 
+/// LAN parameters of channels 1 to 8.
+fn lans() -> String {
+    (1..=8)
+        .map(|channel| {
+            format!(
+                "[[lan]]\nchannel = {channel}\nip = [192, 0, 2, {channel}]\nsource = 1\nmask = [255, 255, 255, 0]\n\
+                 gateway = [192, 0, 2, 254]\nvlan = [0, 0]\n\n"
+            )
+        })
+        .collect()
+}
+
 /// Texts of up to 200 bytes beside the three attributes of the sample board, so that there are 64.
 fn attributes() -> String {
     let own = &SAMPLE[SAMPLE.find("[[attribute]]").expect("attributes")..];
@@ -88,13 +100,15 @@ fn of_32() -> String {
     format!("{}{}{}", head(), sensors(), rest())
 }
 
-/// A board with all that the limits allow: 32 sensors, 16 users, 8 channels with sessions, 64 attributes and 64 effecters.
+/// A board with all that the limits allow: 32 sensors, 16 users, 8 channels with sessions and LAN parameters, 64 attributes and 64
+/// effecters.
 fn largest() -> String {
     let head = head().replace("users = [\"\", \"admin\"]", &users());
     format!(
-        "{head}{}{}{}{}",
+        "{head}{}{}{}{}{}",
         sensors(),
         channels(),
+        lans(),
         attributes(),
         effecters()
     )

@@ -337,15 +337,15 @@ impl Random {
     }
 }
 
-/// Whether the frame has a command that the plain controller lacks: of boot options, global enables, users, channels, effecters, and tables of
-/// attributes.
+/// Whether the frame has a command that the plain controller lacks: of boot options, global enables, users, channels, LAN parameters, effecters,
+/// and tables of attributes.
 fn is_lacking(kind: Kind, frame: &[u8]) -> bool {
     match kind.bus {
         Bus::Ipmb => {
             frame.len() > 5
                 && matches!(
                     (frame[1] >> 2, frame[5]),
-                    (0x00, 8 | 9) | (0x06, 0x2E | 0x2F | 0x40 | 0x41 | 0x43..=0x47)
+                    (0x00, 8 | 9) | (0x06, 0x2E | 0x2F | 0x40 | 0x41 | 0x43..=0x47) | (0x0C, 1 | 2)
                 )
         }
         Bus::Smbus => {

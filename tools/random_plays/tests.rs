@@ -3,6 +3,7 @@ mod asked;
 mod course;
 mod dice;
 mod drawn;
+mod lan;
 mod others;
 mod premise;
 mod settings;

@@ -6,6 +6,7 @@ mod both_stores;
 mod calls;
 mod commands;
 mod effecters;
+mod lan;
 mod log;
 mod parts;
 mod records;

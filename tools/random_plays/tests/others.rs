@@ -11,7 +11,7 @@ use two_wire::{Address, Below, Bus, Bytes, Lun, NetFn};
 
 /// A network function, a command and its data, none of which sets the configuration: live commands, commands that get a record, a
 /// password, one of a wrong length, and one that isn't there.
-const ASKED: [(u8, u8, &[u8]); 14] = [
+const ASKED: [(u8, u8, &[u8]); 16] = [
     (0x00, 0x01, &[]),
     (0x00, 0x09, &[0x05, 0x00, 0x00]),
     (0x04, 0x25, &[0x05, 0x00]),
@@ -30,6 +30,8 @@ const ASKED: [(u8, u8, &[u8]); 14] = [
     ),
     (0x0A, 0x49, &[0x10, 0x20, 0x30, 0x40]),
     (0x0A, 0x43, &[0, 0, 0, 0, 0, 0xFF]),
+    (0x0C, 0x02, &[0x01, 0x03, 0x00, 0x00]),
+    (0x0C, 0x02, &[0x81, 0x00, 0x00, 0x00]),
 ];
 
 /// Messages of which none sets the configuration: GetTID, GetPLDMTypes, GetNumericEffecterValue of two effecters, Get Endpoint ID, Get
@@ -80,7 +82,7 @@ fn request(
 
 /// A request of somebody else on IPMB.
 pub(super) fn other_request(dice: &mut Dice, is_crowded: bool) -> Result<Event, Fail> {
-    let place = dice.below(14) as usize;
+    let place = dice.below(16) as usize;
     let asked = *ASKED.get(place).ok_or("a request")?;
     let from = Address::new(0x40 + 2 * requester(dice, is_crowded)).ok_or("an address")?;
     Ok(Event::OtherIpmb(request(dice, from, asked).ok_or("a request")?))

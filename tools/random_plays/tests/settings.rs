@@ -1,12 +1,14 @@
-//! Steps on users, channels, the watchdog, the power policy, boot parameters, global enables, an enumeration and states, and what comes of
-//! them by the tables of commands.
+//! Steps on users, channels, the watchdog, the power policy, boot parameters, LAN parameters, global enables, an enumeration and states,
+//! and what comes of them by the tables of commands.
 use super::dice::Dice;
+use super::lan::{any_lan, lan_key, of_lan, push_lan};
 use cfg_records::{
     AccessStore, BootChange, BootFlags, BootParameter, ChannelChange, ChannelNumber, FieldChange,
     FieldChanges, Key, MaskedBits, Op, SetBiosAttribute, SetBootParam, SetChannelAccess,
     SetGlobalEnables, SetPowerPolicy, SetStateEffecter, SetUserAccess, SetUserName, SetWatchdog,
     SixBits, StoredAccess, UserNumber, UserOnChannel, Value, byte_at,
 };
+use record_base::SetLanParam;
 use std::test::Fail;
 use two_wire::{Code, code};
 use undo_core::Why;
@@ -21,8 +23,8 @@ const ENUMERATION_TYPE: u8 = 0x00;
 pub(super) const STATES: u16 = 9;
 const GREATEST: [u8; 2] = [2, 3];
 
-/// The channel with sessions.
-const CHANNEL: u8 = 1;
+/// The channel with sessions, and with LAN parameters where the board has any.
+pub(super) const CHANNEL: u8 = 1;
 
 /// A step.
 #[derive(Clone, Copy, Debug)]
@@ -33,6 +35,7 @@ pub(super) enum Setting {
     User(SetUserAccess),
     Channel(SetChannelAccess),
     Boot(SetBootParam),
+    Lan(SetLanParam),
     Watchdog(SetWatchdog),
     Quiet(u8),
     /// For each field its new state, or 0 where it's left.
@@ -72,6 +75,7 @@ impl Setting {
             Setting::User(set) => Op::UserAccess(*set),
             Setting::Channel(set) => Op::ChannelAccess(*set),
             Setting::Boot(set) => Op::BootParam(*set),
+            Setting::Lan(set) => Op::LanParam(*set),
             Setting::Watchdog(set) => Op::Watchdog(*set),
             Setting::Quiet(index) => {
                 Op::BiosAttribute(SetBiosAttribute::of(QUIET, ENUMERATION_TYPE, &[1, *index]))
@@ -92,6 +96,7 @@ impl Setting {
                 store: set.store,
             }),
             Setting::Boot(set) => Key::BootParam(parameter(&set.change)),
+            Setting::Lan(set) => lan_key(set),
             Setting::Watchdog(_) => Key::Watchdog,
             Setting::Quiet(_) => Key::BiosAttribute(QUIET),
             Setting::States(_) => Key::StateEffecter(STATES),
@@ -117,6 +122,7 @@ impl Setting {
             Setting::User(set) => of_user(set, byte_at(old, 0)),
             Setting::Channel(set) => of_channel(&set.change, old),
             Setting::Boot(set) => Ok(of_boot(set, old)),
+            Setting::Lan(set) => of_lan(&set.change),
             // It was never set.
             Setting::Watchdog(_) => Err(Why::NotRestorable),
             Setting::Quiet(index) if *index > 1 => {
@@ -129,7 +135,7 @@ impl Setting {
 }
 
 /// The controller refuses a field of the request.
-fn refused() -> Result<Value, Why> {
+pub(super) fn refused() -> Result<Value, Why> {
     Err(Why::Refused(code::INVALID_DATA_FIELD))
 }
 
@@ -272,7 +278,7 @@ fn any_watchdog(dice: &mut Dice) -> Setting {
 
 /// Any of these steps; seldom one on the watchdog.
 pub(super) fn any_setting(dice: &mut Dice) -> Setting {
-    match dice.below(25) {
+    match dice.below(28) {
         0..=2 => Setting::Policy(dice.byte() % 4),
         3..=5 => {
             let reserved = if dice.happens(5) { 0x10 } else { 0 };
@@ -290,6 +296,7 @@ pub(super) fn any_setting(dice: &mut Dice) -> Setting {
             let seldom = if dice.happens(5) { 1 } else { 0 };
             Setting::States([dice.byte() % 3 + seldom, dice.byte() % 4 + seldom])
         }
+        24..=26 => Setting::Lan(any_lan(dice)),
         _ => any_watchdog(dice),
     }
 }
@@ -371,6 +378,7 @@ pub(super) fn push_setting(text: &mut String, setting: &Setting) -> Result<(), F
         Setting::User(set) => push_user(text, set)?,
         Setting::Channel(set) => push_channel(text, set)?,
         Setting::Boot(set) => push_boot(text, set)?,
+        Setting::Lan(set) => push_lan(text, set)?,
         Setting::Watchdog(set) => write!(
             text,
             "kind = \"watchdog\" / use = {} / no_log = false / action = {} / interrupt = {} / pre = {} / initial = {}",

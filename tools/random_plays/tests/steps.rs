@@ -1,5 +1,6 @@
 //! Random plans, and the boards on which they run.
 use super::dice::Dice;
+use super::lan::lans;
 use super::settings::{STATES, Setting, any_setting};
 use cfg_records::{
     BoardFile, Distinct, EventChange, EventMasks, Key, NumericBytes, NumericEffecter, NumericRange,
@@ -99,9 +100,9 @@ fn states(alloc: Global) -> Result<StateEffecter, Fail> {
     Ok(StateEffecter::new(STATES, true, fields).ok_or("states")?)
 }
 
-/// The sample board, with a state effecter, 9 of two fields, and four numeric effecters: 4 of u16 from 0 to 1000, 5 of s8 from -2 to 1, 6 of u32, which is disabled, and 261
-/// of s32 from -70,000 to -1.
-pub(super) fn board_with_effecters(alloc: Global) -> Result<BoardFile, Fail> {
+/// The sample board, with LAN parameters of channel 1, a state effecter, 9 of two fields, and four numeric effecters: 4 of u16 from 0 to 1000, 5
+/// of s8 from -2 to 1, 6 of u32, which is disabled, and 261 of s32 from -70,000 to -1.
+pub(super) fn board_with_more(alloc: Global) -> Result<BoardFile, Fail> {
     let mut effecters = Vec::new(alloc);
     for (id, enabled, size, lower, upper, current) in [
         (4, true, NumericSize::U16, 0, 1000, 500),
@@ -125,6 +126,7 @@ pub(super) fn board_with_effecters(alloc: Global) -> Result<BoardFile, Fail> {
     Ok(BoardFile {
         state_effecters: Distinct::new(state_effecters).ok_or("state effecters")?,
         numeric_effecters: Distinct::new(effecters).ok_or("effecters")?,
+        lans: lans(alloc)?,
         ..sample_board(alloc)?
     })
 }

@@ -4,7 +4,7 @@ use super::dice::Dice;
 use super::drawn::{any_wanted, is_drawn};
 use super::others::{idle, noise_of, other_message, other_request, scan};
 use super::premise::{Waiting, is_first_of_several};
-use super::steps::{Step, any_step, board_with_effecters, text_of_packets};
+use super::steps::{Step, any_step, board_with_more, text_of_packets};
 use super::tally::{Tally, may_be_offered, one_more};
 use super::told::{push_events_of, push_step};
 use bmc_board::Records;
@@ -31,7 +31,7 @@ const MOST_LATER: u64 = 6;
 struct Scene {
     steps: Vec<Step>,
     retries: Retries,
-    has_effecters: bool,
+    has_more: bool,
     is_crowded: bool,
     /// Its steps are long texts, and first packets are late.
     is_late: bool,
@@ -68,15 +68,15 @@ fn any_scene(alloc: Global, dice: &mut Dice) -> Result<Scene, Fail> {
         steps,
         is_late,
         retries: Retries::new(dice.byte() % 4),
-        has_effecters: dice.happens(90),
+        has_more: dice.happens(90),
         is_crowded: dice.happens(20),
     })
 }
 
 /// The board of a scene.
 fn board_of(alloc: Global, scene: &Scene) -> Result<BoardFile, Fail> {
-    Ok(if scene.has_effecters {
-        board_with_effecters(alloc)?
+    Ok(if scene.has_more {
+        board_with_more(alloc)?
     } else {
         sample_board(alloc)?
     })
@@ -605,8 +605,8 @@ fn push_end(text: &mut String, whole: &Whole, phase: &Phase) -> Result<(), Fail>
 /// The scene of a story: its board and its plan.
 fn push_scene(text: &mut String, seed: u64, scene: &Scene) -> Result<(), Fail> {
     writeln!(text, "story schedule {seed}")?;
-    text.push_str(if scene.has_effecters {
-        "board sample effecters\n"
+    text.push_str(if scene.has_more {
+        "board sample effecters lan\n"
     } else {
         "board sample\n"
     })?;

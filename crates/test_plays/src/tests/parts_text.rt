@@ -90,6 +90,10 @@ part effecters
   [[numeric]] / id = 6 / size = 4 / operational = 2 / lower = 0 / upper = 9 / current = 9
   [[numeric]] / id = 261 / size = 5 / operational = 1 / lower = -70000 / upper = -1 / current = -1
 
+# The LAN parameters of channel 1.
+part lan
+  [[lan]] / channel = 1 / ip = [192, 0, 2, 1] / source = 1 / mask = [255, 255, 255, 0] / gateway = [192, 0, 2, 254] / vlan = [0, 0]
+
 # Sensor 5 reports when its upper non-critical threshold (offset 7) and its upper critical one (offset 9) are going high. The sample
 # board has 9 enabled.
 part events

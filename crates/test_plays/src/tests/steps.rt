@@ -1,4 +1,4 @@
-//! Plans by what their steps set: BIOS attributes, numeric effecters, users and channels, and many steps.
+//! Plans by what their steps set: BIOS attributes, numeric effecters, users and channels, LAN parameters, and many steps.
 use super::expect_told;
 use std::test::Fail;
 
@@ -272,6 +272,90 @@ schedule: start / to-bmc 0 / to-mgr 1 / to-bmc 2 / to-mgr 3
 lines -> 0 out: phase Halted 0 Refused CC / frames 4 / undo 0 / records same
 ";
 
+/// LAN parameters.
+const LAN: &str = "story an address on a LAN is undone
+board sample lan
+plan: [[step]] / kind = \"lan-param\" / channel = 1 / param = 3 / data = [192, 0, 2, 10]
+schedule: start / to-bmc 0 / to-mgr 1 / to-bmc 2 / to-mgr 3 / undo / to-bmc 4 / to-mgr 5
+frames -> 0 out
+  phase Undone
+  frames 6
+  undo 1
+  ipmb 30010103C0000201
+  records same
+  frame 0 mgr ipmb 2030B02C000201030000CE
+  frame 1 bmc ipmb 2C34A02000020011C00002010A
+  frame 2 mgr ipmb 2030B02C04010103C000020AFF
+  frame 3 bmc ipmb 2C34A020040100DB
+  frame 4 mgr ipmb 2030B02C08010103C000020104
+  frame 5 bmc ipmb 2C34A020080100D7
+
+# The address comes from a server, and lies in another network.
+story each LAN parameter is undone, the last first
+board sample lan
+plan
+  [[step]] / kind = \"lan-param\" / channel = 1 / param = 4 / data = [2]
+  [[step]] / kind = \"lan-param\" / channel = 1 / param = 3 / data = [198, 51, 100, 7]
+  [[step]] / kind = \"lan-param\" / channel = 1 / param = 6 / data = [255, 255, 254, 0]
+  [[step]] / kind = \"lan-param\" / channel = 1 / param = 12 / data = [198, 51, 100, 1]
+  [[step]] / kind = \"lan-param\" / channel = 1 / param = 20 / data = [100, 131]
+schedule
+  start
+  10 x to-bmc {0+2} / to-mgr {1+2}
+lines -> 0 out
+  phase Done
+  frames 20
+  undo 5
+  ipmb 300101140000
+  ipmb 3001010CC00002FE
+  ipmb 30010106FFFFFF00
+  ipmb 30010103C0000201
+  ipmb 3001010401
+  records changed 5
+then
+  undo
+  5 x to-bmc {20+2} / to-mgr {21+2}
+lines -> 0 out
+  phase Undone
+  frames 30
+  undo 5
+  ipmb 300101140000
+  ipmb 3001010CC00002FE
+  ipmb 30010106FFFFFF00
+  ipmb 30010103C0000201
+  ipmb 3001010401
+  records same
+
+# Twice the same address: the second Get shows what the first Set made.
+story an address that is set twice goes back twice
+board sample lan
+plan
+  2 x [[step]] / kind = \"lan-param\" / channel = 1 / param = 3 / data = [192, 0, 2, {10+10}]
+schedule
+  start
+  4 x to-bmc {0+2} / to-mgr {1+2}
+lines -> 0 out: phase Done / frames 8 / undo 2 / ipmb 30010103C000020A / ipmb 30010103C0000201 / records changed 1
+then: undo / to-bmc 8 / to-mgr 9 / to-bmc 10 / to-mgr 11
+lines -> 0 out: phase Undone / frames 12 / undo 2 / ipmb 30010103C000020A / ipmb 30010103C0000201 / records same
+
+story a step on a channel without LAN parameters halts the plan
+board sample
+plan: [[step]] / kind = \"lan-param\" / channel = 1 / param = 20 / data = [100, 128]
+schedule: start / to-bmc 0 / to-mgr 1
+lines -> 0 out: phase Halted 0 GetRefused CC / frames 2 / undo 0 / records same
+board sample lan
+plan: [[step]] / kind = \"lan-param\" / channel = 2 / param = 20 / data = [100, 128]
+lines -> 0 out: phase Halted 0 GetRefused CC / frames 2 / undo 0 / records same
+
+# It changes the configuration, so no schedule has somebody else send it. A Get may come.
+story others set no LAN parameter and get each
+board sample lan
+schedule: other ipmb 40 300001010402
+lines -> 4 out: phase Fresh / frames 0 / undo 0 / records same / fault 1 Changing
+schedule: other ipmb 40 30000201040000
+frames -> 0 out: phase Fresh / frames 1 / undo 0 / records same / frame 0 bmc ipmb 40348C200002001101CC
+";
+
 /// Long plans, and a copy of a frame that comes late.
 const LATE: &str = "# Step i makes the positive hysteresis i + 1, and the negative one 2.
 story a late copy gets the kept reply, and then is too old
@@ -344,6 +428,11 @@ fn plans_on_effecters_are_undone_or_halt(rt: HostRuntime) -> Result<(), Fail> {
 #[test]
 fn plans_on_users_are_undone_or_halt(rt: HostRuntime) -> Result<(), Fail> {
     expect_told(&rt, rt.alloc(), USERS)
+}
+
+#[test]
+fn plans_on_lan_parameters_are_undone_or_halt(rt: HostRuntime) -> Result<(), Fail> {
+    expect_told(&rt, rt.alloc(), LAN)
 }
 
 #[test]

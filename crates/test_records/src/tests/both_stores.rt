@@ -7,12 +7,15 @@ use std::process::Abort;
 use std::test::Fail;
 use stories::{asks, board_of};
 
-/// The sample board with numeric effecter 4, from 0 to 1000, and state effecter 9, of two fields.
+/// The sample board with numeric effecter 4, from 0 to 1000, state effecter 9, of two fields, and LAN parameters of channel 1.
 const BOARD: &str = "board numeric = [
 board { id = 4, size = 2, operational = 1, lower = 0, upper = 1000, current = 500 },
 board ]
 board state = [
 board { id = 9, operational = 1, states = [[1, 2], [1, 2, 3]], current = [1, 1] },
+board ]
+board lan = [
+board { channel = 1, ip = [192, 0, 2, 1], source = 1, mask = [255, 255, 255, 0], gateway = [192, 0, 2, 254], vlan = [0, 0] },
 board ]
 ";
 
@@ -31,8 +34,8 @@ ipmi 10 26 05 30 000000005A6E -> 00
 ipmi 10 26 05 18 000000505F00 -> 00
 ipmi 10 27 05 -> 00 3F140A05505F6E";
 
-/// A Set of upper critical of sensor 5 and one that is refused, since upper non-recoverable is lower; and Sets of effecters, of which some
-/// are refused.
+/// A Set of upper critical of sensor 5 and one that is refused, since upper non-recoverable is lower; and Sets of effecters and of LAN
+/// parameters, of which some are refused.
 const SETS: &str = "ipmi 10 26 05 10 000000005A00 -> 00
 ipmi 10 27 05 -> 00 3F140A05505A6E
 ipmi 10 26 05 10 000000007000 -> CC
@@ -42,7 +45,16 @@ pldm 02 3A 0900 -> 00 02010202010101
 pldm 02 39 09000200000104 -> 81
 pldm 02 31 040002E803 -> 00
 pldm 02 32 0400 -> 00 0201E803E803
-pldm 02 31 040002E903 -> 02";
+pldm 02 31 040002E903 -> 02
+ipmi 30 01 0103C000020A -> 00
+ipmi 30 01 010402 -> 00
+ipmi 30 01 010405 -> CC
+ipmi 30 01 0114 6483 -> 00
+ipmi 30 02 01030000 -> 00 11C000020A
+ipmi 30 02 01040000 -> 00 1102
+ipmi 30 02 01060000 -> 00 11FFFFFF00
+ipmi 30 02 010C0000 -> 00 11C00002FE
+ipmi 30 02 01140000 -> 00 116483";
 
 /// The sample board with effecters.
 fn file(rt: &impl Abort, alloc: Global) -> BoardFile {
@@ -106,7 +118,7 @@ fn records_are_the_same_over_both_stores(rt: HostRuntime) -> Result<(), Fail> {
     let start = file(&rt, rt.alloc()).records(rt.alloc())?;
     let mut plain = plain(&rt, rt.alloc());
     let mut packed = packed(&rt, rt.alloc());
-    for (lines, differ) in [(PLAN, 3), (UNDO, 0), (SETS, 3)] {
+    for (lines, differ) in [(PLAN, 3), (UNDO, 0), (SETS, 6)] {
         expect_replies(&rt, rt.alloc(), &mut plain, lines)?;
         expect_replies(&rt, rt.alloc(), &mut packed, lines)?;
         let changed = changed(&rt, plain.store(), packed.store(), start.as_slice());

@@ -180,6 +180,8 @@ marked ipmi 18 47 FF*17 -> gets
 marked ipmi 18 47 FF*19 -> gets
 marked ipmi 18 47 FF*21 -> gets
 marked ipmi 18 47 FF*23 -> gets
+marked ipmi 30 01 -> sets
+marked ipmi 30 02 -> gets
 marked pldm 00 02 -> gets
 marked pldm 00 04 -> gets
 marked pldm 02 31 040002E803 -> sets
