@@ -4,3 +4,4 @@ pub mod Looks
 pub mod Keeping
 pub mod Telling
 pub mod Ways
+pub mod Saying

@@ -67,7 +67,7 @@ module _ {P : Type 0} (out : P → Option (List ℕ)) where
   untold_undo_file gives named old new (inl same) off = same
   untold_undo_file gives named old new (inr (text, given, inl same)) off = same
   untold_undo_file gives named old new (inr (text, given, inr (list, reads, inl same))) off = same
-  untold_undo_file gives named old new (inr (text, given, inr (list, reads, inr (mid, undo, ends)))) off =
+  untold_undo_file gives named old new (inr (text, given, inr (list, reads, inr (own, (mid, undo, ends))))) off =
       let same = untold_looks [] _ (undo.first ∷ undo.moments) old mid off undo.looks in
       untold_end mid new (ap (λ (p : Progress P). p.on) same ∙ off) ends ∙ same
 

@@ -9,7 +9,7 @@ use Rattle.text_schedule.specs.declared.event.Call.TheVariants.{Undo}
 use Rattle.model_undo.specs.Machine.{phase_of}
 use Rattle.model_lab.specs.Meaning.{lab_names}
 use Rattle.undo_core.specs.declared.manager.Manager.{Manager}
-use Rattle.undo_core.specs.Shown.{words_of, Shows}
+use Rattle.undo_core.specs.Shown.{words_of, AreOthers, Shows}
 use Rattle.bmc_drive.specs.Driving.{Links}
 use Rattle.bmc_lab.specs.Files.{Readings}
 use Rattle.net_run.specs.declared.progress.Moment.{Moment}
@@ -82,9 +82,13 @@ module _ {P : Type 0} (out : P → Option (List ℕ)) where
   abbrev pub MayTellUndo : UndoList → (old new : Progress P) → Type 0
   MayTellUndo list old new = (new ≡ old) ⊎ TellsUndo list old new
 
+  -- the same of a list that has no other names; of one that has some nothing is told
+  abbrev pub TellsOfNames : UndoList → (old new : Progress P) → Type 0
+  TellsOfNames list old new = (new ≡ old) ⊎ ((¬ AreOthers lab_names list.names) × TellsUndo list old new)
+
   -- so an undo of an undo text tells, and of the file of one
   abbrev pub TellsUndoText : (text : List ℕ) → (old new : Progress P) → Type 0
-  TellsUndoText text old new = (new ≡ old) ⊎ ((list : UndoList) × Stands text list × MayTellUndo list old new)
+  TellsUndoText text old new = (new ≡ old) ⊎ ((list : UndoList) × Stands text list × TellsOfNames list old new)
 
   abbrev pub TellsUndoFile : Readings → (named : List ℕ) → (old new : Progress P) → Type 0
   TellsUndoFile gives named old new = (new ≡ old) ⊎ ((text : List ℕ) × gives named (Ok text) × TellsUndoText text old new)

@@ -6,7 +6,7 @@ ghost use Rattle.undo_core.specs.Shown.{Shows};
 ghost use Rattle.bmc_links.specs.Counted.{none_counted};
 ghost use Rattle.bmc_lab.specs.Ending.{RunEnds, Tells};
 ghost use Rattle.net_run.specs.Driven.{Undoes, resumed_from};
-ghost use Rattle.net_run.specs.Told.{MayTellUndo, TellsUndo, TellsUndoFile, TellsUndoText};
+ghost use Rattle.net_run.specs.Told.{MayTellUndo, TellsOfNames, TellsUndo, TellsUndoFile, TellsUndoText};
 ghost use Rattle.net_run.specs.Undo.{Says, SaysOfList, SaysOfNames, SaysUndone};
 
 use crate::driven::{Unresumed, resume_manager};
@@ -148,7 +148,7 @@ fn list_report<P: io::Write, R: Net>(
     progress: &mut Progress<P>,
 ) -> Result<Report, Untold>
     ensures says { Tells (SaysOfNames list words.now.turns) result }
-    ensures told { MayTellUndo P.contents list progress.old progress.new }
+    ensures told { TellsOfNames P.contents list progress.old progress.new }
 {
     let steps = list.requests.len();
     match resume_manager(alloc, list) {
