@@ -1,21 +1,14 @@
 -- What a step for a LAN parameter has in its fields.
-use Rattle.std.proofs.Common.{◌≡◌, ℕ, true, is_some, Option, Some, None, option_and_then, refl, ap, arith}
-use Rattle.std.proofs.lemmas.Bool.Decides.{nat_tests}
+use Rattle.std.proofs.Common.{◌≡◌, true, is_some, Option, Some, None, refl}
 use Rattle.toml.specs.Data.{Data, Members}
 use Rattle.record_base.specs.declared.lan.LanParameter.{LanParameter}
-use Rattle.record_base.specs.Lan.{lan_selector, lan_parameter_at}
 use Rattle.text_fields.specs.declared.field.Field.TheVariants as field
 use Rattle.text_fields.specs.declared.lan.LanShape.TheVariants as lan_shape
 use Rattle.text_fields.specs.declared.row.Shape.TheVariants as shape
 use Rattle.text_fields.specs.declared.row.Need.TheVariants as need
-use Rattle.text_fields.specs.Trees.{in_field, number_in}
+use Rattle.text_fields.specs.Trees.{in_field}
 use Rattle.text_fields.specs.Lan.{are_lan_data, lan_parameter_in}
 use Rattle.text_fields.proofs.Rows.{Sound, value_of, same_value}
-
--- the number that stands for a parameter is its selector
-module _ (n : ℕ) (parameter : LanParameter) where
-  coded : lan_parameter_at n ≡ Some parameter → n ≡ lan_selector parameter
-  coded is = grind (arith, nat_tests)
 
 -- the LAN parameter that a step names
 pub record Named (tree : Members) : Type 0 where
@@ -30,14 +23,6 @@ pub named_in : (tree : Members) → Sound tree (record { 0 = field.Param; 1 = sh
 named_in tree sound =
     let v = value_of tree (record { 0 = field.Param; 1 = shape.Lan lan_shape.Parameter; 2 = need.Always }) (in_field field.Param tree) refl refl sound in
     some_cases tree (lan_parameter_in tree) refl (rw v.found v.within)
-
-number_cases : (o : Option ℕ) (parameter : LanParameter) → option_and_then lan_parameter_at o ≡ Some parameter → o ≡ Some (lan_selector parameter)
-number_cases (Some n) parameter is = ap Some (coded n parameter is)
-number_cases None parameter is = cc
-
--- the step has the parameter's number
-pub number_named : (tree : Members) (parameter : LanParameter) → lan_parameter_in tree ≡ Some parameter → number_in field.Param tree ≡ Some (lan_selector parameter)
-number_named tree parameter is = number_cases (number_in field.Param tree) parameter is
 
 -- data that the step gives are the parameter's
 pub data_there : (tree : Members) (d : Data) (parameter : LanParameter) → Sound tree (record { 0 = field.BootData; 1 = shape.Lan lan_shape.Named; 2 = need.Always })

@@ -50,7 +50,7 @@ sound_first : {X : Type 0} (pair : X → Pair) (limits : X → Limits) (x : X) (
 sound_first pair limits x true found other is_valid later = is_valid
 sound_first pair limits x false found other is_valid later = later
 
--- items that give a valid pair each, of which the one is found by a test that is found by its key
+-- each item gives a valid pair, and a test finds the item whose pair the key finds
 sound_of : {X : Type 0} (pair : X → Pair) (limits : X → Limits) (test : X → Bool) (items : List X) (k : Key)
     → ((x : X) → same_key (pair x).0 k ≡ test x) → ((x : X) → valid (limits x) (pair x).1) → IsSoundAt (option_map limits (find test items)) (option_map value_of (find (has_key k) (map pair items)))
 sound_of pair limits test [] k same all_valid = tt

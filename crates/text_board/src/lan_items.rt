@@ -157,7 +157,7 @@ fn lans_of(alloc: Global, listed: [bool; 16], values: &[Value]) -> Result<Vec<La
     ensures differ { IfOk result (λ lans. NamesDiffer channel_of lans.items) }
     ensures err { IfErr result (λ why. (why ≡ FileFault.Memory)
         ⊎ (first (item_faults Item.Lan (λ _. lan_rows listed) Field.Channel []
-            (map view values.now)) ≡ Some why)) }
+        (map view values.now)) ≡ Some why)) }
 {
     let mut lans = Vec::new(alloc);
     for value in values {

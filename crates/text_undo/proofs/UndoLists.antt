@@ -1,5 +1,5 @@
 -- Undo texts and their lists: each text stands for one list at most, or has one first bad line.
-use Rattle.std.proofs.Common.{◌≡◌, ◌≢◌, ◌<◌, ◌≤◌, ◌+◌, ◌⊎◌, inl, inr, ℕ, suc, zero, List, [], ◌∷◌, ◌++◌, length, map, reverse, arith, refl, sym, ◌∙◌, ap, subst, append_assoc, codes, drop, drop-cons, add-one, slice_index_or, Option, Some, None, Bool, true, false, ◌==◌, Result, Ok, Err, IfOk}
+use Rattle.std.proofs.Common.{◌≡◌, ◌≢◌, ◌<◌, ◌≤◌, ◌+◌, ◌⊎◌, inl, inr, ℕ, suc, zero, List, [], ◌∷◌, ◌++◌, length, map, reverse, arith, refl, sym, ◌∙◌, ap, subst, append_assoc, drop, drop-cons, add-one, slice_index_or, Option, Some, None, Bool, true, false, ◌==◌, Result, Ok, Err, IfOk}
 use Rattle.std.specs.List.{AllByRecursion, AllZip, All, flat_map, slice_get}
 use Rattle.std.proofs.lemmas.Option.{slice_get_within}
 use Rattle.std.proofs.lemmas.Grind.{flat_map-append}

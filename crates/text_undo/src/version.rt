@@ -1,7 +1,6 @@
 //! The versions of the undo text.
 ghost use Rattle.std.specs.Prelude.{◌≡◌, ◌≢◌, ◌++◌, ℕ, List, IfSome, IfNone};
 ghost use Rattle.text_lines.specs.Cuts.{ended};
-ghost use Rattle.undo_plans.specs.declared.names.Names.{Names as AnyNames};
 ghost use Rattle.text_undo.specs.declared.version.Version.{Version as AnyVersion};
 ghost use Rattle.text_undo.specs.UndoText.{version_line, version_of, head_length};
 

@@ -1,8 +1,8 @@
 //! The LAN parameters of a channel, as a kind of record.
-ghost use Rattle.std.specs.Prelude.{◌≡◌, ◌+◌, ◌≤◌, ◌++◌, OnErr, IsTrue, length};
+ghost use Rattle.std.specs.Prelude.{◌≡◌, ◌≤◌, OnErr, IsTrue, length};
 ghost use Rattle.record_base.specs.Meaning.{told};
 ghost use Rattle.record_base.specs.Lan.{changed_parameter};
-ghost use Rattle.user_chan.specs.LanParam.{same_parameter, is_change, lan_outcome, lan_body, lan_view};
+ghost use Rattle.user_chan.specs.LanParam.{same_parameter, is_change, lan_outcome, lan_body};
 
 use record_base::lan_item::{MOST_SOURCE, vlan_high};
 use record_base::net_fn::TRANSPORT;

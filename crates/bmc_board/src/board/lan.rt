@@ -16,7 +16,6 @@ const REVISION: [u8; 1] = [0x11];
 const UNSUPPORTED_PARAMETER: u8 = 0x80;
 
 impl<S: Store> Board<S> {
-    ghost use Rattle.std.specs.Prelude.{Ok};
     ghost use Rattle.bmc_board.specs.Gives.{Gives};
     ghost use Rattle.bmc_board.specs.Serves.{Fits, Serves};
     ghost use Rattle.bmc_board.specs.Request.{request_of};
