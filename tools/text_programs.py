@@ -9,7 +9,7 @@ FORMS = ("board", "plan", "undo", "schedule")
 
 STEPS = 40
 PLAN = "".join(f'[[step]]\nkind = "hysteresis"\nsensor = 5\npositive = {step + 1}\nnegative = 2\n\n' for step in range(STEPS))
-UNDO = "undo 1\nnext ipmb 4 smbus 0\nipmb 10260530000000005A6E\nipmb 10260518000000505F00\n"
+UNDO = "undo 2\nnext ipmb 4 smbus 0\nnames ipmb 2C 20 smbus 30 20 eid 08 0A\nipmb 10260530000000005A6E\nipmb 10260518000000505F00\n"
 # A Set in four packets, of which one comes too late and is sent again, while others ask.
 SCHEDULE = """\
 start

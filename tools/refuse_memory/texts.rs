@@ -15,7 +15,7 @@ use text_undo::{read_undo, write_undo};
 use two_wire::Bus;
 
 /// The undo text of two steps on one sensor, both of which were taken.
-pub const UNDO: &str = "undo 1\nnext ipmb 4 smbus 0\nipmb 10260530000000005A6E\nipmb 10260518000000505F00\n";
+pub const UNDO: &str = "undo 2\nnext ipmb 4 smbus 0\nnames ipmb 2C 20 smbus 30 20 eid 08 0A\nipmb 10260530000000005A6E\nipmb 10260518000000505F00\n";
 
 pub fn board<R: Print>(rt: &R, alloc: Global) -> Result<(), Unwell> {
     call_twice(
