@@ -6,3 +6,4 @@ pub mod Seated
 pub mod BareLaws
 pub mod Follows
 pub mod Gets
+pub mod Entries

@@ -19,27 +19,6 @@ pub enum Call {
 
 impl Call {
     ghost use Rattle.std.specs.Prelude.{◌≡◌, ◌↔◌, IsTrue};
-    ghost use Rattle.bmc_history.specs.declared.event.Call.TheVariants.{Exchanged, Benched};
-
-    /// The call of this request and this reply.
-    pub fn exchanged(asked: &Asked, answered: &Answered) -> Call
-        ensures { result ≡ Exchanged asked.now answered.now }
-    {
-        Call::Exchanged {
-            asked: asked.copy(),
-            answered: answered.copy(),
-        }
-    }
-
-    /// The call of this that happened, and this answer.
-    pub fn benched(bench: &Bench, answered: Result<(), NoSensor>) -> Call
-        ensures { result ≡ Benched bench.now answered }
-    {
-        Call::Benched {
-            bench: *bench,
-            answered,
-        }
-    }
 
     /// Whether it is that call.
     pub fn is(&self, other: &Call) -> bool

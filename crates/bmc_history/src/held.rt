@@ -1,5 +1,5 @@
 //! A board with its history.
-ghost use Rattle.std.specs.Prelude.{◌≡◌, ◌≤◌, ◌<◌, ◌↔◌, [], IfOk, IfErr, OnOk, OnErr, IsErr, IsTrue, length, vec_len, vec_capacity};
+ghost use Rattle.std.specs.Prelude.{◌≡◌, ◌≤◌, ◌<◌, ◌↔◌, [], IfOk, IfErr, OnOk, OnErr, IsErr, IsTrue, length};
 ghost use Rattle.record_base.specs.Meaning.{room_for};
 ghost use Rattle.bmc_board.specs.State.{state_of};
 ghost use Rattle.bmc_history.specs.Replay.{Replays, IsRoom};
@@ -9,10 +9,9 @@ ghost use Rattle.bmc_history.specs.ReplayLaws.{Replays-prop};
 ghost use Rattle.bmc_history.specs.declared.event.Call.TheVariants.{Exchanged, Benched};
 ghost use Rattle.bmc_history.specs.declared.held.OpenFault.TheVariants.{Room};
 
-use crate::event::{Call, Event};
+use crate::entries::{Calls, Events};
 use crate::history::{History, are_calls};
 use crate::opening::Opening;
-use crate::room::written_room;
 use bmc_board::{Bench, Board, NoSensor};
 use cfg_records::{Answered, Asked, Store};
 use std::alloc::Global;
@@ -37,13 +36,13 @@ pub struct PeriodFull;
 #[derive(Drop)]
 pub struct Held<J: Opening, S: Store> {
     board: Board<S>,
-    history: Vec<Event>,
+    history: Events,
     room: usize,
     of: PhantomData<J>,
     ghost setup: { board.setup ≡ J.setup },
     ghost room_is: { room ≡ J.room },
-    ghost within: { vec_len history ≤ room },
-    ghost roomy: { room ≤ vec_capacity history },
+    ghost within: { length history.items ≤ room },
+    ghost roomy: { history.room ≡ room },
     ghost replays: { Replays J.setup J.opening history.items
         (state_of S.records board) } by { Replays-prop J.setup J.opening history.items
             (state_of S.records board) },
@@ -64,7 +63,7 @@ impl<J: Opening, S: Store> Held<J, S> {
         if room < 1 || room > MOST_EVENTS {
             return Err((OpenFault::Room, board));
         }
-        match written_room(alloc, room) {
+        match Events::open(alloc, room) {
             Ok(history) => Ok(Held {
                 board,
                 history,
@@ -77,31 +76,32 @@ impl<J: Opening, S: Store> Held<J, S> {
 
     /// How many events there are.
     pub fn len(&self) -> usize
-        ensures { result ≡ vec_len self.now.history }
+        ensures { result ≡ length self.now.history.items }
     {
         self.history.len()
     }
 
     /// Whether there is no room for another event.
     pub fn is_full(&self) -> bool
-        ensures { IsTrue result ↔ (vec_len self.now.history ≡ self.now.room) }
+        ensures { IsTrue result ↔ (length self.now.history.items ≡ self.now.room) }
     {
         self.history.len() == self.room
     }
 
     /// The events, in order.
-    pub fn events(&self) -> &[Event]
-        ensures { result.now ≡ self.now.history.items }
+    pub fn events(&self) -> &Events
+        ensures { result.now.items ≡ self.now.history.items }
     {
-        self.history.as_slice()
+        &self.history
     }
 
     /// Whether a seat's list is the history's of that seat, and the history is full where the seat
     /// was refused.
-    pub fn matches(&self, seat: u8, calls: &[Call], refused: bool) -> bool
-        ensures { IsTrue result ↔ Matches J.room self.now.history.items seat calls.now refused }
+    pub fn matches(&self, seat: u8, calls: &Calls, refused: bool) -> bool
+        ensures { IsTrue result ↔
+            Matches J.room self.now.history.items seat calls.now.items refused }
     {
-        (!refused || self.is_full()) && are_calls(self.history.as_slice(), seat, calls)
+        (!refused || self.is_full()) && are_calls(&self.history, seat, calls)
     }
 
     /// The board, and the history that leads to it.
@@ -123,7 +123,7 @@ impl<J: Opening, S: Store> Held<J, S> {
 
     /// Has the board answer, and adds that to the history.
     fn answer(&mut self, port: u8, asked: &Asked) -> Answered
-        requires { vec_len self.old.history < self.old.room }
+        requires { length self.old.history.items < self.old.room }
         ensures row { IsRow J.setup S.records self.old.board self.new.board asked.now result }
         ensures answer { IsReply J.setup S.records self.old.board self.new.board asked.now result }
         ensures fits { length result.body ≤ room_for asked.now }
@@ -137,10 +137,7 @@ impl<J: Opening, S: Store> Held<J, S> {
             of: _,
         } = self;
         let answered = board.answer(asked);
-        history.push_reserved(Event {
-            seat: port,
-            call: Call::exchanged(asked, &answered),
-        });
+        history.gain_exchange(port, asked, &answered);
         answered
     }
 
@@ -155,7 +152,7 @@ impl<J: Opening, S: Store> Held<J, S> {
         ensures history { IfOk result (λ answered.
             GainsEvent self.old.history.items self.new.history.items
             port (Exchanged asked.now answered)) }
-        ensures full { IsErr result ↔ (vec_len self.old.history ≡ J.room) }
+        ensures full { IsErr result ↔ (length self.old.history.items ≡ J.room) }
         ensures same { OnErr result (self.new ≡ self.old) }
     {
         if self.is_full() {
@@ -166,7 +163,7 @@ impl<J: Opening, S: Store> Held<J, S> {
 
     /// Has something happen on the board, and adds that to the history.
     fn happen(&mut self, port: u8, bench: &Bench) -> Result<(), NoSensor>
-        requires { vec_len self.old.history < self.old.room }
+        requires { length self.old.history.items < self.old.room }
         ensures answer { IsHappening J.setup S.records self.old.board self.new.board
             bench.now result }
         ensures history { GainsEvent self.old.history.items self.new.history.items
@@ -179,10 +176,7 @@ impl<J: Opening, S: Store> Held<J, S> {
             of: _,
         } = self;
         let answered = board.bench(*bench);
-        history.push_reserved(Event {
-            seat: port,
-            call: Call::benched(bench, answered),
-        });
+        history.gain_bench(port, bench, answered);
         answered
     }
 
@@ -194,7 +188,7 @@ impl<J: Opening, S: Store> Held<J, S> {
         ensures history { IfOk result (λ answered.
             GainsEvent self.old.history.items self.new.history.items
             port (Benched bench answered)) }
-        ensures full { IsErr result ↔ (vec_len self.old.history ≡ J.room) }
+        ensures full { IsErr result ↔ (length self.old.history.items ≡ J.room) }
         ensures same { OnErr result (self.new ≡ self.old) }
     {
         if self.is_full() {

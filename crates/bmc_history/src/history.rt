@@ -2,13 +2,15 @@
 ghost use Rattle.std.specs.Prelude.{◌≡◌, ◌↔◌, IsTrue};
 ghost use Rattle.bmc_history.specs.Replay.{calls_of};
 
-use crate::event::{Call, Event};
+use crate::entries::{Calls, Events};
+use crate::entry::{Entry, SeatEntry};
+use crate::event::Event;
 use std::marker::Model;
 
 /// What was asked of a board and answered, in order.
 #[derive(Debug, Drop)]
 pub struct History {
-    events: Vec<Event>,
+    events: Events,
 }
 
 impl Model for History {
@@ -21,10 +23,10 @@ impl Model for History {
 }
 
 impl History {
-    ghost use Rattle.std.specs.Prelude.{length};
+    ghost use Rattle.std.specs.Prelude.{length, slice_get};
 
     /// The history of these events.
-    pub fn new(events: Vec<Event>) -> History
+    pub fn new(events: Events) -> History
         ensures { result ≡ events.items }
     {
         History { events }
@@ -37,15 +39,15 @@ impl History {
         self.events.len()
     }
 
-    /// The events.
-    pub fn as_slice(&self) -> &[Event]
-        ensures { result.now ≡ self.now }
+    /// The event at a place, if there is one.
+    pub fn get(&self, place: usize) -> Option<Event>
+        ensures { result ≡ slice_get self.now place }
     {
-        self.events.as_slice()
+        self.events.get(place)
     }
 
     /// The events, given back.
-    pub fn into_vec(self) -> Vec<Event>
+    pub fn into_events(self) -> Events
         ensures { result.items ≡ self }
     {
         let History { events } = self;
@@ -54,14 +56,21 @@ impl History {
 }
 
 /// Whether the calls of that seat are these.
-pub fn are_calls(events: &[Event], seat: u8, calls: &[Call]) -> bool
+pub fn are_calls(events: &Events, seat: u8, calls: &Calls) -> bool
+    ensures { IsTrue result ↔ (calls_of seat events.now.items ≡ calls.now.items) }
+{
+    are_entries(events.entries(), seat, calls.entries())
+}
+
+/// Whether the calls of that seat are these.
+fn are_entries(events: &[SeatEntry], seat: u8, calls: &[Entry]) -> bool
     ensures { IsTrue result ↔ (calls_of seat events.now ≡ calls.now) }
 {
     let mut place = 0;
     for event in events {
-        if event.seat == seat {
+        if event.seat() == seat {
             match calls.get(place) {
-                Some(call) if event.call.is(call) => place += 1,
+                Some(call) if event.call().is(&call.call()) => place += 1,
                 _ => return false,
             }
         }

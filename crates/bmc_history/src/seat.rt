@@ -1,7 +1,7 @@
 //! Those who may call the board.
-ghost use Rattle.std.specs.Prelude.{◌≡◌, ◌≤◌, [], false, vec_len, vec_capacity};
+ghost use Rattle.std.specs.Prelude.{◌≡◌, ◌≤◌, [], false, length};
 
-use crate::event::Call;
+use crate::entries::Calls;
 use crate::opening::Opening;
 use std::sync::ledger::Share;
 
@@ -9,12 +9,12 @@ use std::sync::ledger::Share;
 #[derive(Drop)]
 pub struct Seat<J: Opening> {
     pub(crate) number: u8,
-    pub(crate) calls: Vec<Call>,
+    pub(crate) calls: Calls,
     /// Whether a call of it found the history full.
     pub(crate) refused: bool,
     pub(crate) share: Share<J>,
-    ghost counted: { vec_len calls ≡ share.amount },
-    ghost roomy: { J.room ≤ vec_capacity calls },
+    ghost counted: { length calls.items ≡ share.amount },
+    ghost roomy: { calls.room ≡ J.room },
     ghost one_part: { share.parts ≡ 1 },
 }
 
@@ -29,9 +29,9 @@ pub struct Seats<J: Opening> {
 
 impl<J: Opening> Seat<J> {
     /// A seat that called nothing yet.
-    pub(crate) fn new(number: u8, calls: Vec<Call>, share: Share<J>) -> Self
+    pub(crate) fn new(number: u8, calls: Calls, share: Share<J>) -> Self
         requires empty { calls.items ≡ [] }
-        requires room { J.room ≤ vec_capacity calls }
+        requires room { calls.room ≡ J.room }
         requires part { share.parts ≡ 1 }
         requires none { share.amount ≡ 0 }
         ensures number { result.number ≡ number }
@@ -54,10 +54,10 @@ impl<J: Opening> Seat<J> {
     }
 
     /// What it called and was answered, in order.
-    pub fn calls(&self) -> &[Call]
-        ensures { result.now ≡ self.now.calls.items }
+    pub fn calls(&self) -> &Calls
+        ensures { result.now.items ≡ self.now.calls.items }
     {
-        self.calls.as_slice()
+        &self.calls
     }
 
     /// Whether a call of it found the history full.
@@ -68,9 +68,9 @@ impl<J: Opening> Seat<J> {
     }
 
     /// Its list and its share.
-    pub(crate) fn into_parts(self) -> (Vec<Call>, Share<J>)
+    pub(crate) fn into_parts(self) -> (Calls, Share<J>)
         ensures calls { result.0 ≡ self.calls }
-        ensures counted { vec_len result.0 ≡ result.1.amount }
+        ensures counted { length result.0.items ≡ result.1.amount }
         ensures part { result.1.parts ≡ 1 }
     {
         let Seat {

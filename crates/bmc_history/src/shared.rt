@@ -1,5 +1,5 @@
 //! A board that threads share, and its seats.
-ghost use Rattle.std.specs.Prelude.{◌≡◌, ◌≤◌, ◌<◌, ◌^◌, ◌↔◌, true, IsTrue, IfOk, IfErr, IsOk, IsErr, IfSome, OnOk, OnErr, length, vec_len};
+ghost use Rattle.std.specs.Prelude.{◌≡◌, ◌≤◌, ◌<◌, ◌^◌, ◌↔◌, true, IsTrue, IfOk, IfErr, IsOk, IsErr, IfSome, OnOk, OnErr, length};
 ghost use Rattle.record_base.specs.Meaning.{room_for};
 ghost use Rattle.bmc_board.specs.State.{state_of};
 ghost use Rattle.bmc_history.specs.Replay.{Replays, IsRoom};
@@ -9,11 +9,10 @@ ghost use Rattle.bmc_history.specs.declared.event.Call.TheVariants.{Exchanged, B
 ghost use Rattle.bmc_history.specs.declared.held.OpenFault.TheVariants.{Room};
 ghost use Rattle.bmc_history.specs.declared.shared.CloseFault.TheVariants.{Mismatch};
 
-use crate::event::Call;
+use crate::entries::Calls;
 use crate::held::{Held, OpenFault, PeriodFull};
 use crate::history::History;
 use crate::opening::Opening;
-use crate::room::written_room;
 use crate::seat::{Seat, Seats};
 use bmc_board::{Bench, Board, NoSensor};
 use cfg_records::{Answered, Asked, Store};
@@ -26,7 +25,7 @@ use std::sync::{Mutex, Wait};
 pub struct Locked<J: Opening, S: Store> {
     held: Held<J, S>,
     book: Book<J>,
-    ghost counted: { vec_len held.history ≡ book.total },
+    ghost counted: { length held.history.items ≡ book.total },
 }
 
 /// A board that threads share. Each call of it holds the lock for one event of the board.
@@ -57,7 +56,7 @@ impl<J: Opening, S: Store> Locked<J, S> {
         ensures history { IfOk result (λ answered.
             GainsEvent self.old.held.history.items self.new.held.history.items
             seat.old.number (Exchanged asked.now answered)) }
-        ensures full { IsErr result ↔ (vec_len self.old.held.history ≡ J.room) }
+        ensures full { IsErr result ↔ (length self.old.held.history.items ≡ J.room) }
         ensures same { OnErr result (self.new.held ≡ self.old.held) }
         ensures kept { IfOk result (λ answered.
             GainsCall seat.old.calls.items seat.new.calls.items (Exchanged asked.now answered)) }
@@ -77,7 +76,7 @@ impl<J: Opening, S: Store> Locked<J, S> {
         match held.exchange(*number, asked) {
             Ok(answered) => {
                 book.add(share, 1);
-                calls.push_reserved(Call::exchanged(asked, &answered));
+                calls.gain_exchange(asked, &answered);
                 Ok(answered)
             }
             Err(full) => {
@@ -99,7 +98,7 @@ impl<J: Opening, S: Store> Locked<J, S> {
         ensures history { IfOk result (λ answered.
             GainsEvent self.old.held.history.items self.new.held.history.items
             seat.old.number (Benched bench answered)) }
-        ensures full { IsErr result ↔ (vec_len self.old.held.history ≡ J.room) }
+        ensures full { IsErr result ↔ (length self.old.held.history.items ≡ J.room) }
         ensures same { OnErr result (self.new.held ≡ self.old.held) }
         ensures kept { IfOk result (λ answered.
             GainsCall seat.old.calls.items seat.new.calls.items (Benched bench answered)) }
@@ -119,7 +118,7 @@ impl<J: Opening, S: Store> Locked<J, S> {
         match held.bench(*number, bench) {
             Ok(answered) => {
                 book.add(share, 1);
-                calls.push_reserved(Call::benched(&bench, answered));
+                calls.gain_bench(&bench, answered);
                 Ok(answered)
             }
             Err(full) => {
@@ -131,15 +130,15 @@ impl<J: Opening, S: Store> Locked<J, S> {
 }
 
 /// Room for each seat's list.
-fn lists(alloc: Global, room: usize) -> Option<(Vec<Call>, Vec<Call>, Vec<Call>)>
+fn lists(alloc: Global, room: usize) -> Option<(Calls, Calls, Calls)>
     ensures first { IfSome result (λ lists. IsBlank room lists.0) }
     ensures second { IfSome result (λ lists. IsBlank room lists.1) }
     ensures scanner { IfSome result (λ lists. IsBlank room lists.2) }
 {
     Some((
-        written_room(alloc, room).ok()?,
-        written_room(alloc, room).ok()?,
-        written_room(alloc, room).ok()?,
+        Calls::open(alloc, room).ok()?,
+        Calls::open(alloc, room).ok()?,
+        Calls::open(alloc, room).ok()?,
     ))
 }
 

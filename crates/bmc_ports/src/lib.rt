@@ -15,8 +15,8 @@ pub mod timed;
 pub mod worker;
 
 pub use bmc_history::{
-    Call, CloseFault, Event, Held, History, Locked, MOST_EVENTS, OpenFault, Opening, PeriodFull,
-    Seat, Seats, Shared,
+    Call, Calls, CloseFault, Event, Events, Held, History, Locked, MOST_EVENTS, OpenFault, Opening,
+    PeriodFull, Seat, Seats, Shared,
 };
 pub use bmc_links::{Counts, Heard, Link, LinkFault, MOST_KEPT, MemFault, MemLink};
 pub use gate::Gate;

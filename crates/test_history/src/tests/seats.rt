@@ -135,8 +135,9 @@ fn three_threads_ask_one_board(rt: HostRuntime) -> Result<(), Fail> {
     let board = open_sample(rt.alloc())?;
     let history = share_at(&rt, rt.alloc(), board, 8).ok_or("closed")?;
     assert_eq!(rt; history.len(), 3);
-    for event in history.as_slice() {
-        let Call::Exchanged { asked: _, answered } = &event.call else {
+    for place in 0..3 {
+        let event = history.get(place).ok_or("an event")?;
+        let Call::Exchanged { asked: _, answered } = event.call else {
             return Err("other than an exchange".into());
         };
         assert_eq!(rt; answered.code, 0x00);

@@ -12,7 +12,7 @@ pub invariant_of-self-clause-replays : goal.invariant_of-self-clause-replays
 invariant_of-self-clause-replays g c =
     let old = c.args.self.now in
     let event : Event = record { seat = c.args.port; call = Exchanged c.args.asked.now c.answer-answered.result } in
-    let pushed : c.push_reserved.new.self.items ≡ old.history.items ++ event ∷ [] = search rules in
+    let pushed : c.gain_exchange.new.self.items ≡ old.history.items ++ event ∷ [] = search rules in
     let before : State = state_of g.S.Store.records old.board in
     let after : State = state_of g.S.Store.records c.answer-answered.new.self in
     let is : (let given : Given = (c.answer-answered.result, after) in given) ≡ answer_of g.J.Opening.setup before c.args.asked.now =

@@ -13,7 +13,7 @@ pub invariant_of-self-clause-replays : goal.invariant_of-self-clause-replays
 invariant_of-self-clause-replays g c =
     let old = c.args.self.now in
     let event : Event = record { seat = c.args.port; call = Benched c.args.bench.now c.bench-answered.result } in
-    let pushed : c.push_reserved.new.self.items ≡ old.history.items ++ event ∷ [] = search rules in
+    let pushed : c.gain_bench.new.self.items ≡ old.history.items ++ event ∷ [] = search rules in
     let before : State = state_of g.S.Store.records old.board in
     let after : State = state_of g.S.Store.records c.bench-answered.new.self in
     let is : (let given : Result (Unit {0}) NoSensor × State = (c.bench-answered.result, after) in given) ≡ bench_of g.J.Opening.setup before c.args.bench.now =

@@ -4,7 +4,7 @@ use Rattle.std.proofs.lemmas.List.{drop_all, length-drop}
 use Rattle.bmc_history.specs.declared.event.Call.{Call}
 use Rattle.bmc_history.specs.declared.event.Event.{Event}
 use Rattle.bmc_history.specs.Replay.{calls_of}
-use Rattle.bmc_history.proofs.history.are_calls.Goals as goal
+use Rattle.bmc_history.proofs.history.are_entries.Goals as goal
 
 pub returns : goal.returns
 returns c =

@@ -1,6 +1,6 @@
 use Rattle.std.proofs.Common.{◌≡◌, ◌≤◌, ◌↔◌, drop, length}
 use Rattle.bmc_history.specs.Replay.{calls_of}
-use Rattle.bmc_history.proofs.history.are_calls.Given as goal
+use Rattle.bmc_history.proofs.history.are_entries.Given as goal
 
 -- what is left to compare says the same as all
 abbrev pub invariant-loop-event : goal.invariant-loop-event
