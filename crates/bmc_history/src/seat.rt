@@ -1,5 +1,5 @@
 //! Those who may call the board.
-ghost use Rattle.std.specs.Prelude.{◌≡◌, ◌≤◌, [], false, length};
+ghost use Rattle.std.specs.Prelude.{◌≡◌, [], false, length};
 
 use crate::entries::Calls;
 use crate::opening::Opening;
