@@ -122,6 +122,7 @@ impl<J: Opening, S: Store> Held<J, S> {
     }
 
     /// Has the board answer, and adds that to the history.
+    #[inline(always)]
     fn answer(&mut self, port: u8, asked: &Asked) -> Answered
         requires { length self.old.history.items < self.old.room }
         ensures row { IsRow J.setup S.records self.old.board self.new.board asked.now result }
@@ -143,6 +144,7 @@ impl<J: Opening, S: Store> Held<J, S> {
 
     /// The board's answer to a request, which the history gains. It takes no memory. Where the
     /// history has no room, nothing changes.
+    #[inline(always)]
     pub fn exchange(&mut self, port: u8, asked: &Asked) -> Result<Answered, PeriodFull>
         ensures row { IfOk result
             (IsRow J.setup S.records self.old.board self.new.board asked.now) }

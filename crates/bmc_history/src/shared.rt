@@ -73,17 +73,15 @@ impl<J: Opening, S: Store> Locked<J, S> {
             share,
         } = seat;
         book.audit(share);
-        match held.exchange(*number, asked) {
+        let told = held.exchange(*number, asked);
+        match &told {
             Ok(answered) => {
                 book.add(share, 1);
-                calls.gain_exchange(asked, &answered);
-                Ok(answered)
+                calls.gain_exchange(asked, answered);
             }
-            Err(full) => {
-                *refused = true;
-                Err(full)
-            }
+            Err(_) => *refused = true,
         }
+        told
     }
 
     /// Something happens on the board beside requests, and the history and the seat's list gain it.
