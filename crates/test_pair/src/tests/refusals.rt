@@ -207,8 +207,7 @@ fn nobody_answers_a_manager_without_turns(rt: HostRuntime) -> Result<(), Fail> {
 }
 
 /// The undo text of a manager that did nothing.
-const NOTHING_DONE: &str =
-    "undo 2\nnext ipmb 0 smbus 0\nnames ipmb 2C 20 smbus 30 20 eid 08 0A\n";
+const NOTHING_DONE: &str = "undo 2\nnext ipmb 0 smbus 0\nnames ipmb 2C 20 smbus 30 20 eid 08 0A\n";
 
 /// A run of a plan without steps, over files that so many changes are made of, ends with this status, says this, and leaves these texts in the
 /// file of the undo text and in that of the list so far.
