@@ -1,6 +1,7 @@
 -- What is said of a list.
 use Rattle.std.proofs.Common.{◌≡◌, ◌↔◌, ℕ, List, Ok, Err, Option, Result, inl, inr, string_bytes}
 use Rattle.undo_plans.specs.declared.undo_list.UndoList.{UndoList}
+use Rattle.text_undo.specs.UndoText.{Stands}
 use Rattle.model_lab.specs.Meaning.{lab_names}
 use Rattle.undo_core.specs.declared.manager.Manager.{Manager}
 use Rattle.undo_core.specs.Shown.{AreOthers}
@@ -14,7 +15,7 @@ use Rattle.net_run.specs.declared.driven.Unresumed.{Unresumed}
 use Rattle.net_run.specs.declared.driven.Unresumed.TheVariants.{OtherNames}
 use Rattle.net_run.specs.declared.progress.Progress.{Progress}
 use Rattle.net_run.specs.Told.{MayTellUndo, TellsOfNames}
-use Rattle.net_run.specs.Undo.{SaysUndone, SaysOfNames}
+use Rattle.net_run.specs.Undo.{Says, SaysUndone, SaysOfNames}
 
 -- what may be said of one may be said of another, and so a report may say it
 tells_as : (says other : Saying) (report : Result Report Untold) → ((stream : Stream) (text : List ℕ) (status : Status) → says stream text status → other stream text status)
@@ -36,3 +37,7 @@ tells_of_names list turns report own told = tells_as (SaysUndone list turns) (Sa
 pub told_of_names : {P : Type 0} (out : P → Option (List ℕ)) (list : UndoList) (old new : Progress P) → ¬ AreOthers lab_names list.names → MayTellUndo out list old new → TellsOfNames out list old new
 told_of_names out list old new own (inl same) = inl same
 told_of_names out list old new own (inr told) = inr (own, told)
+
+-- and what is said of a list is said of its text
+pub tells_of_text : (text : List ℕ) (list : UndoList) (turns : ℕ) (report : Result Report Untold) → Stands text list → Tells (SaysOfNames list turns) report → Tells (Says text turns) report
+tells_of_text text list turns report stands told = tells_as (SaysOfNames list turns) (Says text turns) report (λ stream said status s. inl (list, stands, s)) told
