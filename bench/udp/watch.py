@@ -8,7 +8,7 @@ NAMES = {
     "recvfrom": ["__interceptor_recvfrom"],
     "sendto": ["__interceptor_sendto"],
     # It is called under the lock, so it shows that the frames below a call are seen.
-    "an event is made": ["bmc_history::event::Call::exchanged"],
+    "an entry is filled": ["bmc_history::entry::Entry::put_exchange"],
 }
 HOLDS_LOCK = "shared::Locked::exchange"
 counts = {}

@@ -4,7 +4,7 @@ use super::scripts::Script;
 use super::sharing::{Ports, Told, open_sample};
 use bmc_board::{Board, Records};
 use bmc_core::{Out, Port, Step};
-use bmc_ports::{Call, End, Event, History, Link, MOST_KEPT, MemLink};
+use bmc_ports::{Call, End, History, Link, MOST_KEPT, MemLink};
 use record_base::{Answered, Asked};
 use std::alloc::Global;
 use std::process::Abort;
@@ -12,10 +12,11 @@ use two_wire::{Below, Frame, NetFn};
 
 /// Whether a board that is told the history's calls in their order answers each so.
 fn replays(board: &mut Board<Records>, history: &History) -> bool {
-    for event in history.as_slice() {
-        let same = match &event.call {
-            Call::Exchanged { asked, answered } => board.answer(asked).is(answered),
-            Call::Benched { bench, answered } => board.bench(*bench) == *answered,
+    for place in 0..history.len() {
+        let same = match history.get(place).map(|event| event.call) {
+            Some(Call::Exchanged { asked, answered }) => board.answer(&asked).is(&answered),
+            Some(Call::Benched { bench, answered }) => board.bench(bench) == answered,
+            None => false,
         };
         if !same {
             return false;
@@ -45,11 +46,26 @@ fn are_alike(one: &mut Board<Records>, other: &mut Board<Records>) -> bool {
     true
 }
 
+/// The seat of the event at this place.
+pub(super) fn seat_at(history: &History, place: usize) -> Option<u8> {
+    history.get(place).map(|event| event.seat)
+}
+
+/// The first place from this one on that has an event of the seat.
+pub(super) fn place_of(history: &History, seat: u8, from: usize) -> Option<usize> {
+    for place in from..history.len() {
+        if seat_at(history, place) == Some(seat) {
+            return Some(place);
+        }
+    }
+    None
+}
+
 /// How many events the history has of a seat.
 pub(super) fn events_of(history: &History, seat: u8) -> u64 {
     let mut many = 0u64;
-    for event in history.as_slice() {
-        if event.seat == seat {
+    for place in 0..history.len() {
+        if seat_at(history, place) == Some(seat) {
             many = many.wrapping_add(1);
         }
     }
@@ -97,12 +113,11 @@ pub(super) fn expect_told(
     Ok(())
 }
 
-/// The reply to this request, where it is the next that the seat asked among these events, of which what is behind it is left.
-fn next_reply<'a>(events: &mut &'a [Event], seat: u8, wanted: &Asked) -> Option<&'a Answered> {
-    let place = events.iter().position(|event| event.seat == seat)?;
-    let event = &events[place];
-    *events = &events[place + 1..];
-    match &event.call {
+/// The reply to this request, where it is the next that the seat asked from this place on, which is then the one behind it.
+fn next_reply(history: &History, from: &mut usize, seat: u8, wanted: &Asked) -> Option<Answered> {
+    let place = place_of(history, seat, *from)?;
+    *from = place + 1;
+    match history.get(place)?.call {
         Call::Exchanged { asked, answered } if asked.is(wanted) => Some(answered),
         _ => None,
     }
@@ -118,7 +133,7 @@ fn is_sent(
     history: &History,
 ) -> Result<bool, NotMade> {
     let mut out = Out::new();
-    let mut events = history.as_slice();
+    let mut from = 0;
     let mut sent: Vec<Frame> = Vec::new(alloc);
     let heard = link.counts().calls.min(frames.len() as u64) as usize;
     for frame in &frames[..heard] {
@@ -126,16 +141,16 @@ fn is_sent(
             continue;
         }
         if let Step::Ask(pending) = port.hear(frame.as_slice(), &mut out) {
-            let Some(answered) = next_reply(&mut events, seat, &pending.asked()) else {
+            let Some(answered) = next_reply(history, &mut from, seat, &pending.asked()) else {
                 break;
             };
-            port.told(pending, answered, &mut out);
+            port.told(pending, &answered, &mut out);
         }
         for frame in out.frames.as_slice() {
             sent.push(frame.copy())?;
         }
     }
-    let is_all = !events.iter().any(|event| event.seat == seat);
+    let is_all = place_of(history, seat, from).is_none();
     let most = sent.len().min(MOST_KEPT);
     Ok(is_all && &sent.as_slice()[..most] == link.sent())
 }

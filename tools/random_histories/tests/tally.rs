@@ -1,5 +1,5 @@
 //! How often what happened in the runs.
-use super::expected::events_of;
+use super::expected::{events_of, place_of, seat_at};
 use super::sharing::Told;
 use bmc_ports::{End, History, Link};
 use std::process::Abort;
@@ -23,8 +23,8 @@ pub(super) struct Tally {
 /// How often an event is of another seat than the one before it.
 fn changes(history: &History) -> u64 {
     let mut many = 0u64;
-    for pair in history.as_slice().windows(2) {
-        if pair[0].seat != pair[1].seat {
+    for place in 1..history.len() {
+        if seat_at(history, place - 1) != seat_at(history, place) {
             many = many.wrapping_add(1);
         }
     }
@@ -71,8 +71,8 @@ impl Tally {
         self.scanner += events_of(history, 2);
         self.no_event += heard.saturating_sub(first + second);
         self.full += u64::from(told.ends.contains(&End::Full));
-        let seat = |wanted: u8| history.as_slice().iter().position(|event| event.seat == wanted);
-        if let (Some(of_first), Some(of_second)) = (seat(0), seat(1)) {
+        let places = (place_of(history, 0, 0), place_of(history, 1, 0));
+        if let (Some(of_first), Some(of_second)) = places {
             self.second_first += u64::from(of_second < of_first);
             self.first_first += u64::from(of_first < of_second);
         }
