@@ -11,7 +11,6 @@ use Rattle.record_base.specs.declared.message.Asked.{Asked}
 use Rattle.cfg_records.specs.declared.board_file.BoardFile.{BoardFile}
 use Rattle.watch_boot.specs.BootParamLaws.{same_self}
 use Rattle.user_chan.specs.LanParamLaws as lan
-use Rattle.record_kinds.specs.Lans.{lan_at}
 use Rattle.record_kinds.specs.declared.limits.Limits.{Limits}
 use Rattle.record_kinds.specs.declared.limits.Limits.TheVariants as kinds
 use Rattle.record_kinds.specs.Limits.{is_of, sets, outcome, get_asked, set_asked}
@@ -34,7 +33,8 @@ use Rattle.bmc_board.specs.Replies.{done, refused, unknown_code}
 use Rattle.bmc_board.specs.Room.{longest_reply}
 use Rattle.bmc_board.specs.Answer.{Given, get_answer, set_result, set_answer, outcome_at, both_given, serve, reply, answer_of}
 use Rattle.bmc_board.specs.AnyAnswer.{IsCode, NeverBusy, RefusedLeaves, StaysSound, AnswersFit}
-use Rattle.bmc_board.proofs.AskedFacts.{code_of, IsRight, asked_right}
+use Rattle.bmc_board.proofs.Rightly.{code_of}
+use Rattle.bmc_board.proofs.AskedFacts.{IsRight, asked_right}
 use Rattle.bmc_board.proofs.LiveFacts.{refusal_code, unknown_is_refused, are_live}
 use Rattle.bmc_board.proofs.BothFacts.{outcome_code, IsWritten, written}
 
@@ -115,8 +115,7 @@ limits_are_of file key.GlobalEnables limits e = of_alone (kinds.GlobalEnables (r
 limits_are_of file (key.BootParam parameter) limits e = of_alone (kinds.BootParam (record { parameter = parameter })) limits (key.BootParam parameter) e (same_self parameter)
 limits_are_of file (key.BiosAttribute handle) limits e =
     of_item (attribute_at file.attributes.items handle) (λ x. kinds.BiosAttribute (record { handle = handle; read_only = x.read_only; range = range_of x.kind })) limits (key.BiosAttribute handle) e (λ x. refl)
-limits_are_of file (key.LanParam on) limits e =
-    of_item (lan_at file.lans.items on.channel.number) (λ x. kinds.LanParam (record { parameter = on.parameter })) limits (key.LanParam on) e (λ x. lan.same_self on.parameter)
+limits_are_of file (key.LanParam on) limits e = of_item _ _ limits (key.LanParam on) e (λ x. lan.same_self on.parameter)
 limits_are_of file other limits e = of_item _ _ limits other e (λ x. tt)
 
 -- ---- its data fits the frame or message that carries it, and each record keeps a valid value

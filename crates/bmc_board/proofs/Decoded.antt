@@ -50,9 +50,11 @@ use Rattle.std.proofs.Math.Nat.{ℕ_set}
 use Rattle.record_base.proofs.Operations.{set_thresholds, same_thresholds}
 use Rattle.record_kinds.specs.Limits.{set_asked}
 use Rattle.bmc_board.specs.Request as request
-use Rattle.bmc_board.specs.Request.{Request, channel_asked, asked_by, attribute_set}
+use Rattle.bmc_board.specs.Request.{Request, asked_by}
+use Rattle.bmc_board.specs.ChannelCommands.{channel_asked}
+use Rattle.bmc_board.specs.AttributeCommands.{attribute_set}
 use Rattle.bmc_board.specs.Decode.{IsReadFromAll, GetsAreRead, SetsAreRead}
-use Rattle.bmc_board.proofs.LanDecoded as lan
+use Rattle.bmc_board.proofs.LanFacts as lan
 
 -- what holds of all lists of six holds of a list of length six
 six : (P : List ℕ → Type 0) → ((a b c d e f : ℕ) → P (a ∷ b ∷ c ∷ d ∷ e ∷ f ∷ [])) → (xs : List ℕ) → length xs ≡ 6 → P xs

@@ -1,3 +1,9 @@
+pub mod Rightly
+pub mod LiveReplies
+pub mod BootFacts
+pub mod ChannelFacts
+pub mod AttributeFacts
+pub mod LanFacts
 pub mod AskedFacts
 pub mod LiveFacts
 pub mod LogFacts
@@ -6,7 +12,6 @@ pub mod BothFacts
 pub mod StoresFacts
 pub mod AnswerFacts
 pub mod OneAnswer
-pub mod LanDecoded
 pub mod Decoded
 pub mod Quiet
 pub mod ShownAgain

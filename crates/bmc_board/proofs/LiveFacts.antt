@@ -14,18 +14,11 @@ use Rattle.sel_log.specs.Reservations.{is_present}
 use Rattle.sel_log.specs.Log.{Log, after_clear, is_full, next_id}
 use Rattle.sensor_recs.specs.declared.compared.Taken.{Taken}
 use Rattle.watch_boot.specs.Watchdog.{was_set, live_after_reset}
-use Rattle.record_base.specs.declared.lan_item.Lan.{Lan}
-use Rattle.user_chan.specs.declared.lan_request.LanAnswer.{LanAnswer}
-use Rattle.user_chan.specs.declared.lan_request.LanAnswer.TheVariants.{Revision, Unsupported, WrongLength}
-use Rattle.record_kinds.specs.Lans.{lan_at}
-use Rattle.bmc_board.specs.LanLive.{unsupported_parameter, lan_where}
 use Rattle.bmc_board.specs.declared.activity.Activity.{Activity}
 use Rattle.bmc_board.specs.declared.storage.PartAsked.{PartAsked}
 use Rattle.bmc_board.specs.declared.live.LiveCommand.{LiveCommand}
 use Rattle.bmc_board.specs.declared.live.LiveCommand.TheVariants as live
-use Rattle.bmc_board.specs.Request.{Live}
-use Rattle.bmc_board.specs.State.{State, state}
-use Rattle.bmc_board.specs.Leaves.{Leaves}
+use Rattle.bmc_board.specs.State.{state}
 use Rattle.bmc_board.specs.Storage.{most_shown, part_in, part_length, part_shown, record_in, id_reply, erased, says_clear, word_at}
 use Rattle.bmc_board.specs.Sensing.{reading_of}
 use Rattle.bmc_board.specs.Replies.{done, refused, sessionless_channel}
@@ -43,13 +36,15 @@ use Rattle.user_chan.specs.declared.password.PasswordChange.{PasswordChange}
 use Rattle.user_chan.specs.declared.password.PasswordChange.TheVariants.{Disable, Enable, Set as ToSet, Test}
 use Rattle.user_chan.specs.Passwords.{wrong_text, wrong_size, password_in, with_password, change_of, same_password, same_size, password_of}
 use Rattle.bmc_board.specs.AnyAnswer.{IsCode, UnknownIsRefused}
-use Rattle.bmc_board.specs.Live.{reset_answer, already_in_progress, with_progress, begun, progress_answer, leave_where, tested, password_changed, password_answer, with_log, longest_live_reply, longest_live}
+use Rattle.bmc_board.specs.Live.{reset_answer, already_in_progress, with_progress, begun, progress_answer, leave_where, tested, password_changed, password_answer, with_log, longest_live_reply}
 use Rattle.bios_attr.specs.declared.bios_table.BiosTable.{BiosTable}
 use Rattle.record_base.specs.declared.attribute.Attribute.{Attribute}
 use Rattle.pldm_base.specs.Parts.{asked_offset}
 use Rattle.bmc_board.specs.BiosTables.{values_in, table_bytes, table_numbered, table_asked, part_data, part_answer, handle_in, table_where, longest_part}
 use Rattle.bmc_board.specs.AnyLive.{IsLive, AreLive}
-use Rattle.bmc_board.proofs.AskedFacts.{code_of}
+use Rattle.bmc_board.proofs.Rightly.{code_of}
+use Rattle.bmc_board.proofs.LiveReplies.{is_done, Stays, is_refused}
+use Rattle.bmc_board.proofs.LanFacts as lan
 
 -- ---- codes
 
@@ -104,22 +99,6 @@ unknown_is_refused setup (key.LanParam on) = invalid_field
 unknown_is_refused setup _ = not_present_refuses
 
 -- ---- live commands
-
--- any live command's reply may be so long
-pub as_long : (command : LiveCommand) → longest_live_reply ≤ longest_live command
-as_long live.GetBiosTable = lit≤ tt
-as_long _ = lit≤ tt
-
--- a command that is always carried out
-is_done : (command : LiveCommand) (asked : List ℕ) (records : Records) (before after : Activity) (body : List ℕ) → length body ≤ longest_live_reply → IsLive command asked records before (done body, after)
-is_done command asked records before after body short = record { has_code = code_of success refl; short = omega (arith, short, as_long command); left = λ fault. absurd (fault refl) }
-
--- a refusal of the command leaves the state as it was
-abbrev Stays : LiveCommand → List ℕ → State → Type 0
-Stays command asked before = (code : ℕ) → Leaves (Ok (Live command asked)) code before before
-
-is_refused : (command : LiveCommand) (asked : List ℕ) (records : Records) (before : Activity) (fault : ℕ) → IsCode fault → Stays command asked (state records before) → IsLive command asked records before (refused fault, before)
-is_refused command asked records before fault is stays = record { has_code = is; short = omega arith; left = λ _. stays fault }
 
 reset_where : (asked : List ℕ) (records : Records) (value : List ℕ) (before : Activity) (b : Bool)
     → IsLive live.ResetWatchdog asked records before (if b then (done [], record before { live = live_after_reset value before.live }) else (refused uninitialized_watchdog, before))
@@ -270,13 +249,6 @@ code_where false false table code e = cc
 asked_code : (attributes : List Attribute) (number : ℕ) (code : ℕ) → table_asked attributes number ≡ Err code → IsCode code
 asked_code attributes number code e = code_where (nat_lt 3 number) ((number == 3) || (length attributes == 0)) (table_numbered number) code e
 
-answers_lan : (command : LiveCommand) (asked : List ℕ) (records : Records) (before : Activity) (lan : Option Lan) (answer : LanAnswer) → Stays command asked (state records before)
-    → IsLive command asked records before (lan_where lan answer, before)
-answers_lan command asked records before (Some lan) Revision stays = is_done command asked records before before _ (lit≤ tt)
-answers_lan command asked records before (Some lan) Unsupported stays = is_refused command asked records before _ (code_of unsupported_parameter refl) stays
-answers_lan command asked records before (Some lan) WrongLength stays = is_refused command asked records before _ (code_of invalid_length refl) stays
-answers_lan command asked records before None answer stays = is_refused command asked records before _ (code_of invalid_data_field refl) stays
-
 pub are_live : AreLive
 are_live setup records before live.GetDeviceId asked = is_done live.GetDeviceId asked records before before _ (lit≤ tt)
 are_live setup records before live.GetSelfTestResults asked = is_done live.GetSelfTestResults asked records before before _ (lit≤ tt)
@@ -300,4 +272,4 @@ are_live setup records before live.SetUserPassword asked = passwords live.SetUse
 are_live setup records before live.GetTid asked = is_done live.GetTid asked records before before _ (lit≤ tt)
 are_live setup records before live.GetPldmTypes asked = is_done live.GetPldmTypes asked records before before _ (lit≤ tt)
 are_live setup records before live.GetBiosTable asked = shows_table asked records before (table_asked setup.attributes.items (byte_at asked 5)) (table_bytes setup.attributes.items (values_in records)) (asked_code setup.attributes.items (byte_at asked 5))
-are_live setup records before (live.AnswerLan channel answer) asked = answers_lan (live.AnswerLan channel answer) asked records before (lan_at setup.lans.items channel.number) answer (λ code. refl)
+are_live setup records before (live.AnswerLan channel answer) asked = lan.answers setup records before channel answer asked

@@ -1,10 +1,14 @@
 pub mod Table
+pub mod Asks
+pub mod BootCommands
+pub mod ChannelCommands
+pub mod AttributeCommands
 pub mod Request
 pub mod State
 pub mod Replies
 pub mod Storage
 pub mod Sensing
-pub mod LanLive
+pub mod LanCommands
 pub mod Live
 pub mod Answer
 pub mod Row

@@ -30,7 +30,7 @@ use Rattle.sel_log.specs.Log.{info_of}
 use Rattle.bmc_board.specs.Storage.{sdr_info, sel_info, part_in, sdr_part, sel_part, LogGiven, added, cleared, time_in}
 use Rattle.bmc_board.specs.Sensing.{reading_answer}
 use Rattle.bmc_board.specs.Replies.{done, refused, unknown_code}
-use Rattle.bmc_board.specs.LanLive.{lan_answer}
+use Rattle.bmc_board.specs.LanCommands.{lan_answer}
 use Rattle.bmc_board.specs.BiosTables.{table_answer, longest_part}
 
 -- what Get Device ID replies: three bytes of the device, its revisions, IPMI 2.0, what it supports, and whose it is, the lowest

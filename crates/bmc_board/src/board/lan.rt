@@ -20,7 +20,7 @@ impl<S: Store> Board<S> {
     ghost use Rattle.bmc_board.specs.Serves.{Fits, Serves};
     ghost use Rattle.bmc_board.specs.Request.{request_of};
     ghost use Rattle.bmc_board.specs.Live.{longest_live_reply};
-    ghost use Rattle.bmc_board.specs.LanLive.{lan_answer};
+    ghost use Rattle.bmc_board.specs.LanCommands.{lan_answer};
 
     /// Appends what a command that names no record replies, where the channel has LAN parameters.
     pub(super) fn answer_lan<B: Buffer>(

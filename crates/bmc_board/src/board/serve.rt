@@ -253,7 +253,7 @@ impl<S: Store> Board<S> {
     }
 
     /// Carries out a live command with this data, and appends the data of the reply.
-    #[tactic(auto, using(crate::proofs::LiveFacts::as_long))]
+    #[tactic(auto, using(crate::proofs::LiveReplies::as_long))]
     pub(super) fn live<B: Buffer>(
         &mut self,
         command: LiveCommand,

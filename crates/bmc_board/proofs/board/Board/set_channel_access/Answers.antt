@@ -1,6 +1,7 @@
 use Rattle.std.proofs.Common.{ℕ, List, Result, Ok, sym, ◌∙◌, ap, subst}
 use Rattle.user_chan.specs.declared.channel_request.ChannelRequest.{ChannelRequest}
-use Rattle.bmc_board.specs.Request.{Request, channel_asked}
+use Rattle.bmc_board.specs.Request.{Request}
+use Rattle.bmc_board.specs.ChannelCommands.{channel_asked}
 use Rattle.bmc_board.specs.Serves.{Serves}
 use Rattle.bmc_board.proofs.board.Board.set_channel_access.Goals as goal
 

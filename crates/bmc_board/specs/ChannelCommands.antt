@@ -1,0 +1,14 @@
+-- What Set Channel Access asks for.
+use Rattle.std.specs.Prelude.{[]}
+use Rattle.record_base.specs.declared.op.Op.TheVariants as op
+use Rattle.user_chan.specs.declared.channel_request.ChannelRequest.{ChannelRequest}
+use Rattle.user_chan.specs.declared.channel_request.ChannelRequest.TheVariants.{Leave, One, Two}
+use Rattle.bmc_board.specs.declared.live.LiveCommand.TheVariants as live
+use Rattle.bmc_board.specs.Asks.{Request}
+use Rattle.bmc_board.specs.Asks.{Live, Set, SetStores}
+
+-- to leave the channel as it is, to change one store, or two
+abbrev pub channel_asked : ChannelRequest → Request
+channel_asked (Leave channel) = Live (live.LeaveChannelAccess channel) []
+channel_asked (One change) = Set (op.ChannelAccess change)
+channel_asked (Two first second) = SetStores first second
