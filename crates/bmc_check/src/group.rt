@@ -5,7 +5,7 @@ ghost use Rattle.text_board.specs.Faults.{attribute_rows, has_sessions, session_
 ghost use Rattle.plan_file.specs.Kinds.{kind_in};
 ghost use Rattle.bmc_check.specs.Known.{step_rows, known};
 
-use plan_file::{Kind, PLAN};
+use plan_file::{KIND, PLAN, kind_in};
 use std::alloc::{AllocError, Global};
 use text_board::{
     ATTRIBUTE, DEVICE, ENUMERATION, INTEGER, LAN, NUMERIC, SENSOR, SESSIONS, STATE, STRING, TOP,
@@ -38,27 +38,6 @@ pub enum Group {
     /// The `[[step]]`s.
     Step,
 }
-
-/// The field of a step that names its kind.
-const KIND: [Row; 1] = [Row(Field::Kind, Shape::Text, Need::Always)];
-
-/// All kinds of step.
-const KINDS: [Kind; 14] = [
-    Kind::Thresholds,
-    Kind::Hysteresis,
-    Kind::EventEnable,
-    Kind::Watchdog,
-    Kind::PowerPolicy,
-    Kind::GlobalEnables,
-    Kind::BootParam,
-    Kind::BiosAttribute,
-    Kind::StateEffecter,
-    Kind::NumericEffecter,
-    Kind::UserName,
-    Kind::UserAccess,
-    Kind::ChannelAccess,
-    Kind::LanParam,
-];
 
 /// The last field of a channel with sessions, whatever the number of users.
 const USERS: [Row; 1] = [Row(Field::Users, Shape::UserBytes(0), Need::Always)];
@@ -99,17 +78,6 @@ fn attribute_rows(table: &Table) -> &'static [Row]
         return &INTEGER;
     }
     &ATTRIBUTE
-}
-
-/// The kind that the step names.
-#[tactic(auto, unfolding(plan_file::specs::Kinds::kind_in))]
-fn kind_in(step: &Table) -> Option<Kind>
-    ensures { result ≡ kind_in (table_view step.now) }
-{
-    KINDS
-        .iter()
-        .copied()
-        .find(|kind| has_text(step, Field::Kind, kind.word()))
 }
 
 /// The fields of a step: `kind`, and those of the kind that it names.

@@ -7,7 +7,7 @@ mod plan;
 mod plan_fault;
 mod step;
 
-pub use kind::Kind;
+pub use kind::{KIND, Kind, kind_in};
 pub use laws::one_plan;
 pub use plan::{PLAN, read_plan};
 pub use plan_fault::{NoGet, OutsidePlan, PlanFault, StepFault};
