@@ -2,7 +2,7 @@
 use Rattle.std.specs.Prelude.{◌≡◌, ℕ, ◌<◌, ◌≤◌, ◌↔◌, true, length, List, [], ◌∷◌, Option, Some, None, slice_index_or, slice_get}
 use Rattle.std.specs.Option.{option_map, option_and_then}
 use Rattle.std.specs.Str.{bytes_eq}
-use Rattle.model_bus.specs.Request.{Kept, Entry}
+use Rattle.model_bus.specs.Request.{requester_bytes, Kept, Entry}
 use Rattle.model_bus.specs.Carried.{most_windows}
 use Rattle.model_bus.specs.Window.{windows_of, AllOnCircle}
 use Rattle.model_bus.specs.Slots.{AreSlots}
@@ -17,7 +17,7 @@ pub record Held : Type 0 where
 
 -- any byte may have one of the windows; numbers go round one of the two circles, and a place's capacity fits
 pub record AreSound (numbers capacity : ℕ) (held : Held) : Type 0 where
-  pub bytes : length held.slots ≡ 256
+  pub bytes : length held.slots ≡ requester_bytes
   pub owners : length held.owners ≡ most_windows
   pub rooms : length held.rooms ≡ most_windows
   pub circle : is_circle numbers ≡ true

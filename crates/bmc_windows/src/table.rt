@@ -11,6 +11,7 @@ ghost use Rattle.bmc_windows.specs.Heard.{request_of, kept_of, outcome_of_found}
 
 use crate::request::{Found, Request};
 use crate::window::Window;
+use model_bus::REQUESTERS;
 use std::alloc::{AllocError, Global};
 use std::marker::Model;
 use two_wire::Below;
@@ -24,12 +25,12 @@ const COUNT: usize = MOST_WINDOWS as usize;
 /// A window of a port.
 type Slot = Below<{ MOST_WINDOWS }>;
 
-/// The requests that a port carried out, with their replies, for at most `MOST_WINDOWS` requesters. `NUMBERS` is 64 on IPMB and 32 for
-/// PLDM. A reply has at most `CAP` bytes, and so has a request behind its first byte.
+/// The requests that a port carried out, with their replies, for at most `MOST_WINDOWS` requesters. `NUMBERS` is `SEQUENCE_NUMBERS`
+/// on IPMB and `INSTANCES` for PLDM. A reply has at most `CAP` bytes, and so has a request behind its first byte.
 #[derive(Drop)]
 pub struct Windows<const NUMBERS: u8, const CAP: usize> {
     /// The window that each requester has, by its byte.
-    slots: [Option<Slot>; 256],
+    slots: [Option<Slot>; REQUESTERS],
     /// The requester that has each window.
     owners: [Option<u8>; COUNT],
     windows: Vec<Window<NUMBERS, CAP>>,
@@ -57,7 +58,7 @@ impl<const NUMBERS: u8, const CAP: usize> Windows<NUMBERS, CAP> {
             windows.push(Window::new(alloc)?)?;
         }
         Ok(Windows {
-            slots: [None; 256],
+            slots: [None; REQUESTERS],
             owners: [None; COUNT],
             windows,
         })

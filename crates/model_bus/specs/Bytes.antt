@@ -3,6 +3,7 @@ use Rattle.std.specs.Prelude.{◌≡◌, ◌↔◌, ℕ, ◌+◌, ◌*◌, ◌/�
 use Rattle.two_wire.specs.Codes.{node_busy, pldm_not_ready}
 use Rattle.two_wire.specs.declared.Bus.{Bus}
 use Rattle.two_wire.specs.declared.Bus.TheVariants.{Ipmb, Smbus}
+use Rattle.model_bus.specs.Circle.{instances}
 use Rattle.model_bus.specs.Request.{Request}
 
 -- ---- the codes of a busy port
@@ -59,6 +60,10 @@ ipmb_answers _ _ = false
 
 -- ---- PLDM, from the message's type byte, 01h
 
+-- the message type of PLDM (DSP0239)
+abbrev pub pldm_message_type : ℕ
+pldm_message_type = 1
+
 -- what a request and its reply share beside the instance: PLDM type and command
 pub record PldmHeader : Type 0 where
   pub pldm_type : ℕ
@@ -66,16 +71,16 @@ pub record PldmHeader : Type 0 where
 
 -- a request: 01h, the request bit and the instance, type (with version 00b), command, data; the ignored bit is 0
 abbrev pub pldm_request : PldmHeader → ℕ → List ℕ → List ℕ
-pldm_request h number body = 1 ∷ (128 + number) ∷ h.pldm_type ∷ h.command ∷ body
+pldm_request h number body = pldm_message_type ∷ (128 + number) ∷ h.pldm_type ∷ h.command ∷ body
 
 -- a reply: 01h, the instance, type, command, completion code, data
 abbrev pub pldm_reply : PldmHeader → ℕ → ℕ → List ℕ → List ℕ
-pldm_reply h number code body = 1 ∷ number ∷ h.pldm_type ∷ h.command ∷ code ∷ body
+pldm_reply h number code body = pldm_message_type ∷ number ∷ h.pldm_type ∷ h.command ∷ code ∷ body
 
 -- the bytes are a request's with this instance
 pub record IsPldmRequest (number : ℕ) (bytes : List ℕ) : Type 0 where
   pub header : PldmHeader
-  pub instance : number < 32
+  pub instance : number < instances
   pub body : List ℕ
   pub spelled : bytes ≡ pldm_request header number body
 
@@ -83,7 +88,7 @@ pub record IsPldmRequest (number : ℕ) (bytes : List ℕ) : Type 0 where
 pub record IsPldmReply (code : ℕ) (request reply : List ℕ) : Type 0 where
   pub header : PldmHeader
   pub number : ℕ
-  pub instance : number < 32
+  pub instance : number < instances
   pub asked : List ℕ
   pub body : List ℕ
   pub request_spelled : request ≡ pldm_request header number asked
@@ -93,7 +98,7 @@ pub record IsPldmReply (code : ℕ) (request reply : List ℕ) : Type 0 where
 -- isn't one of a busy port
 abbrev pub pldm_answers : List ℕ → List ℕ → Bool
 pldm_answers (asked_kind ∷ asked_flags ∷ asked_type ∷ asked_command ∷ asked) (kind ∷ flags ∷ pldm_type ∷ command ∷ code ∷ body) =
-    (((kind == 1) && (flags / 64 == 0)) && (flags % 32 == asked_flags % 32)) && (((pldm_type == asked_type) && (command == asked_command)) && not (is_busy_code code))
+    (((kind == pldm_message_type) && (flags / 64 == 0)) && (flags % instances == asked_flags % instances)) && (((pldm_type == asked_type) && (command == asked_command)) && not (is_busy_code code))
 pldm_answers _ _ = false
 
 -- The request that a whole message to the port is: with its instance, and the ignored bit 0. None where the message is of another
@@ -101,8 +106,8 @@ pldm_answers _ _ = false
 -- datagram bit other than 10b.
 abbrev pub request_in : ℕ → List ℕ → Option Request
 request_in source (kind ∷ flags ∷ pldm_type ∷ command ∷ body) =
-    if (kind == 1) && ((pldm_type / 64 == 0) && (flags / 64 == 2))
-    then Some (record { requester = source; number = flags % 32; bytes = pldm_request (record { pldm_type = pldm_type; command = command }) (flags % 32) body })
+    if (kind == pldm_message_type) && ((pldm_type / 64 == 0) && (flags / 64 == 2))
+    then Some (record { requester = source; number = flags % instances; bytes = pldm_request (record { pldm_type = pldm_type; command = command }) (flags % instances) body })
     else None
 request_in source _ = None
 
@@ -112,10 +117,10 @@ pub record SpellsRequest (source : ℕ) (r : Request) (bytes : List ℕ) : Type 
   pub number : ℕ
   pub ignored : ℕ
   pub body : List ℕ
-  pub instance : number < 32
+  pub instance : number < instances
   pub bit : ignored < 2
   pub of_type : header.pldm_type < 64
-  pub spelled : bytes ≡ 1 ∷ (128 + 32 * ignored + number) ∷ header.pldm_type ∷ header.command ∷ body
+  pub spelled : bytes ≡ pldm_message_type ∷ (128 + 32 * ignored + number) ∷ header.pldm_type ∷ header.command ∷ body
   pub read : r ≡ record { requester = source; number = number; bytes = pldm_request header number body }
 
 -- a request is read in exactly the messages that spell it

@@ -16,6 +16,10 @@ abbrev pub circle_of : Bus → ℕ
 circle_of Ipmb = sequence_numbers
 circle_of Smbus = instances
 
+-- how many tags tell the messages of one endpoint apart
+abbrev pub tags : ℕ
+tags = 8
+
 -- how many newer requests make a frame too old: 32 on IPMB, 8 on SMBus
 abbrev pub span_of : Bus → ℕ
 span_of Ipmb = 32

@@ -1,7 +1,7 @@
 -- Sequence numbers and instances: how a bus numbers the manager's requests, and which number is above which.
 use Rattle.std.specs.Prelude.{ℕ, ◌+◌, ◌-◌, ◌%◌, ◌/◌, Bool, nat_lt, nat_le, ◌&&◌}
 use Rattle.two_wire.specs.declared.Bus.TheVariants.{Ipmb, Smbus}
-use Rattle.model_bus.specs.Circle.{sequence_numbers, instances, span_of}
+use Rattle.model_bus.specs.Circle.{sequence_numbers, instances, tags, span_of}
 
 -- going up from one number on a circle, how far the other is
 abbrev pub distance : ℕ → ℕ → ℕ → ℕ
@@ -34,4 +34,4 @@ smbus manager controller first = record { manager = manager; controller = contro
 
 -- the tag of the manager's n-th request on SMBus
 abbrev pub tag_of : ℕ → ℕ → ℕ
-tag_of first n = (first + n) % 8
+tag_of first n = (first + n) % tags

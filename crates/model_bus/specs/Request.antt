@@ -2,6 +2,10 @@
 use Rattle.std.specs.Prelude.{ℕ, ◌+◌, Bool, ◌==◌, ◌&&◌, List, [], ◌∷◌, ◌++◌, if◌then◌else◌}
 use Rattle.std.specs.Str.{bytes_eq}
 
+-- requesters are told apart by a byte
+abbrev pub requester_bytes : ℕ
+requester_bytes = 256
+
 -- a request as a port hears it: who asks, the sequence number (IPMB) or instance (PLDM), and the bytes: all but addresses and
 -- check bytes, the number included, with PLDM's ignored bit 0
 pub record Request : Type 0 where

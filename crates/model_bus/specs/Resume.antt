@@ -1,5 +1,6 @@
 -- Another manager in the place of one: by what it knows it does what the bus says of it.
 use Rattle.std.specs.Prelude.{◌≡◌, ℕ, ◌+◌, ◌%◌, false, List, [], ◌∷◌, ◌++◌, length, drop, slice_get}
+use Rattle.model_bus.specs.Circle.{instances}
 use Rattle.model_bus.specs.Numbering.{Rules, tag_of}
 use Rattle.model_bus.specs.BusState.{BusState, Content, Event, Resumes, is_open, taken_content, run}
 use Rattle.model_bus.specs.Schedule.{AllHonest}
@@ -32,7 +33,7 @@ GoesOn bus = (first : ℕ) (start : BusState) (events later : List Event) → No
 
 -- the tags go on as well, from the instance that came next
 abbrev pub TagsGoOn : Type 0
-TagsGoOn = (first n later : ℕ) → tag_of ((first + n) % 32) later ≡ tag_of first (n + later)
+TagsGoOn = (first n later : ℕ) → tag_of ((first + n) % instances) later ≡ tag_of first (n + later)
 
 -- the same in packets, by the rule
 abbrev pub GoesOnInPackets : JoinRule → Type 0

@@ -2,6 +2,7 @@
 
 ghost use Rattle.std.specs.Prelude.{ℕ, Bool, List};
 ghost use Rattle.model_bus.specs.Request.{Entry};
+ghost use Rattle.model_bus.specs.Circle.{sequence_numbers, instances};
 ghost use Rattle.model_bus.specs.Numbering.{ipmb, smbus, is_above};
 ghost use Rattle.model_bus.specs.Repeat.{RuleIsSentence, RequestersOf, EightSuffice};
 ghost use Rattle.model_bus.specs.Window.{RowsAreTheRule, WindowsApart};
@@ -90,8 +91,8 @@ pub fn none_open_is_honest()
 /// The rule for repeated, busy and new requests is its sentence, with numbers modulo 64 and modulo 32, and the requesters
 /// that count for busy are those that had something carried out since their last idle.
 pub fn rule_is_its_sentence()
-    ensures ipmb { RuleIsSentence (is_above 64) }
-    ensures smbus { RuleIsSentence (is_above 32) }
+    ensures ipmb { RuleIsSentence (is_above sequence_numbers) }
+    ensures smbus { RuleIsSentence (is_above instances) }
     ensures requesters { (log : List Entry) → RequestersOf log }
 {}
 
@@ -107,8 +108,8 @@ pub fn slots_decide_who_is_busy()
 
 /// A port that keeps one row for each number of each requester, and looks at no list, does what the rule says.
 pub fn rows_are_the_rule()
-    ensures ipmb { RowsAreTheRule 64 }
-    ensures smbus { RowsAreTheRule 32 }
+    ensures ipmb { RowsAreTheRule sequence_numbers }
+    ensures smbus { RowsAreTheRule instances }
     ensures apart { (circle : ℕ) → WindowsApart circle }
 {}
 

@@ -8,6 +8,7 @@ use Rattle.mctp_net.specs.Grammar.{has_fault as has_packet_fault, faults as pack
 use Rattle.pldm_base.specs.declared.message.PldmRequest.{PldmRequest}
 use Rattle.pldm_base.specs.Message.{request_in as pldm_request_in}
 use Rattle.cfg_records.specs.declared.board_file.BoardFile.{BoardFile}
+use Rattle.model_bus.specs.Bytes.{pldm_message_type}
 use Rattle.model_bus.specs.Circle.{span_of}
 use Rattle.bmc_board.specs.Table.{is_changing}
 use Rattle.model_undo.specs.Words.{Words}
@@ -66,7 +67,11 @@ pldm_changes from (Some r) = is_changing (pldm_asked from r)
 -- a message from this endpoint is such a request
 abbrev pub message_changes : ℕ → List ℕ → Bool
 message_changes from [] = false
-message_changes from (kind ∷ rest) = kind == 1 && pldm_changes from (pldm_request_in rest)
+message_changes from (kind ∷ rest) = kind == pldm_message_type && pldm_changes from (pldm_request_in rest)
+
+-- a lab that sent so many frames takes no event that could send another
+abbrev pub most_frames : ℕ
+most_frames = 65536
 
 -- the bytes read as a frame of the bus
 abbrev pub is_frame : Bus → List ℕ → Bool
@@ -78,9 +83,9 @@ module _ (P : Plans) where
   abbrev pub is_live : Lab P → LabFrame → Bool
   is_live x f = nat_le (begun_on P.words f.on x.manager.machine) (f.request + span_of f.on) && f.idles == idles_on P f.on x
 
-  -- 65,536 frames were sent
+  -- as many frames were sent as a lab sends at most
   abbrev pub is_full : Lab P → Bool
-  is_full x = nat_le 65536 (length x.frames)
+  is_full x = nat_le most_frames (length x.frames)
 
   -- the faults of a delivery to an end, of the frame, if there is one
   abbrev pub delivery : Way → Lab P → Option LabFrame → List Check

@@ -9,6 +9,7 @@ use Rattle.mctp_net.specs.Grammar.{IsPacket}
 use Rattle.pldm_base.specs.declared.message.PldmRequest.{PldmRequest}
 use Rattle.pldm_base.specs.Message.{IsRequest}
 use Rattle.cfg_records.specs.declared.board_file.BoardFile.{BoardFile}
+use Rattle.model_bus.specs.Bytes.{pldm_message_type}
 use Rattle.model_bus.specs.Circle.{span_of}
 use Rattle.bmc_board.specs.Table.{is_changing}
 use Rattle.model_undo.specs.Machine.{open_bus}
@@ -28,7 +29,7 @@ IsAnother on names from = (from ≢ own_on on names) × (from ≢ peer_on on nam
 
 -- a PLDM message from this endpoint is no request whose command sets the configuration
 abbrev pub ChangesNothing : ℕ → List ℕ → Type 0
-ChangesNothing from body = (rest : List ℕ) (r : PldmRequest) → body ≡ 1 ∷ rest → IsRequest r rest → is_changing (pldm_asked from r) ≡ false
+ChangesNothing from body = (rest : List ℕ) (r : PldmRequest) → body ≡ pldm_message_type ∷ rest → IsRequest r rest → is_changing (pldm_asked from r) ≡ false
 
 -- the bytes are no frame of the bus
 abbrev pub IsNoFrame : Bus → List ℕ → Type 0

@@ -7,6 +7,7 @@ use Rattle.mctp_net.specs.declared.packet.Packet.{Packet}
 use Rattle.mctp_net.specs.declared.packet.Name.{Name}
 use Rattle.mctp_net.specs.Cut.{piece}
 use Rattle.mctp_net.specs.Assembly.{Assemblies, open_beside, is_ours}
+use Rattle.model_bus.specs.Circle.{tags}
 use Rattle.model_bus.specs.Numbering.{Rules}
 use Rattle.model_bus.specs.Schedule.{IsLive}
 use Rattle.model_bus.specs.BusState.{BusState, Frame, Content, Ask, Reply, ReachesManager}
@@ -41,7 +42,7 @@ HoldsPart b place p (Reply number None) = (p.start ≡ true) × (p.end ≡ true)
 
 -- under which name the packets come of the reply to the request of this count
 abbrev pub name_awaited : Names → ℕ → Name
-name_awaited names count = record { source_eid = names.peer_eid; tag_owner = false; tag = count % 8 }
+name_awaited names count = record { source_eid = names.peer_eid; tag_owner = false; tag = count % tags }
 
 -- the response is what frame `which` holds, a live one, and comes from the controller to the manager
 pub record IsRepliesResponse (names : Names) (b : Rules) (s : BusState) (which : ℕ) (r : Response) : Type 0 where

@@ -11,6 +11,7 @@ use Rattle.undo_plans.specs.declared.names.Names.{Names}
 use Rattle.record_base.specs.declared.message.Asked.{Asked}
 use Rattle.record_base.specs.declared.message.Asked.TheVariants.{Ipmi, Pldm}
 use Rattle.model_bus.specs.Bytes.{answers}
+use Rattle.model_bus.specs.Circle.{tags}
 use Rattle.model_undo.specs.Words.{Words}
 use Rattle.model_undo.specs.Machine.{count_of, Part as TaskPart, bus_at, Stage, Opened, Machine, Sending, Turn, start_of, quiet_of, stop_of, again_of, undo_of, reply_of, same_bus}
 use Rattle.model_undo.specs.Wires.{number_of}
@@ -67,7 +68,7 @@ values_of names count (Pldm from kind command body) = map Part (parts_of (record
     destination_eid = names.peer_eid;
     source_eid = names.own_eid;
     tag_owner = true;
-    tag = count % 8;
+    tag = count % tags;
   };
   body = bytes_of (number_of Smbus count) (Pldm from kind command body);
 }))
@@ -86,7 +87,7 @@ is_answer names r = r.header.requester.address == names.own_address && r.header.
 abbrev pub is_part : Names → ℕ → Packet → Bool
 is_part names count p =
     (p.envelope.destination == names.own_wire && p.envelope.source == names.peer_wire)
-    && (p.envelope.source_eid == names.peer_eid && (not p.envelope.tag_owner && p.envelope.tag == count % 8))
+    && (p.envelope.source_eid == names.peer_eid && (not p.envelope.tag_owner && p.envelope.tag == count % tags))
 
 module _ (P : Plans) where
   -- a manager: its machine, the names, those that its list of requests that undo has, and the packets that wait at it

@@ -5,6 +5,7 @@ use Rattle.mctp_net.specs.declared.message.Message.{Message}
 use Rattle.cfg_records.specs.declared.board_file.BoardFile.{BoardFile}
 use Rattle.bmc_board.specs.State.{State}
 use Rattle.bmc_board.specs.Sensing.{scan, tick}
+use Rattle.model_ports.specs.Places.{controller_wire, controller_eid}
 use Rattle.undo_plans.specs.declared.names.Names.{Names}
 use Rattle.text_schedule.specs.declared.event.OtherRequest.{OtherRequest}
 use Rattle.text_schedule.specs.declared.event.OtherMessage.{OtherMessage}
@@ -14,7 +15,14 @@ use Rattle.model_lab.specs.Lab.{Event as LabEvent, Calls, ToBmc, ToMgr, OtherIpm
 
 -- the lab's names: the manager, and the controller
 abbrev pub lab_names : Names
-lab_names = record { own_address = 0x2C; peer_address = 0x20; own_wire = 0x30; peer_wire = 0x20; own_eid = 0x08; peer_eid = 0x0A }
+lab_names = record {
+  own_address = 0x2C;
+  peer_address = controller_wire;
+  own_wire = 0x30;
+  peer_wire = controller_wire;
+  own_eid = 0x08;
+  peer_eid = controller_eid;
+}
 
 -- the two-wire address of all others on SMBus
 abbrev pub other_wire : ℕ

@@ -10,8 +10,9 @@ use Rattle.ipmb_frame.specs.declared.message.Response.{Response}
 use Rattle.ipmb_frame.specs.Grammar.{packed, request_bytes}
 use Rattle.pldm_base.specs.declared.message.PldmRequest.{PldmRequest}
 use Rattle.pldm_base.specs.Message.{request_bytes as pldm_request_bytes}
+use Rattle.model_bus.specs.Circle.{circle_of}
 use Rattle.model_bus.specs.Request.{Request as Heard}
-use Rattle.model_bus.specs.Bytes.{busy_code, is_busy_code, answers, IsRequestOn, IsReplyOn}
+use Rattle.model_bus.specs.Bytes.{pldm_message_type, busy_code, is_busy_code, answers, IsRequestOn, IsReplyOn}
 use Rattle.bmc_board.specs.Decode.{sent_by}
 use Rattle.model_bus.specs.Answered.{Answered as Told}
 use Rattle.model_ports.specs.Wires.{bus_of, bytes_of, asked_from, reply_to, answered_from}
@@ -27,10 +28,9 @@ abbrev pub Fits : Asked → Type 0
 Fits (Ipmi from net_fn lun command body) = lun < 4
 Fits (Pldm from kind command body) = Unit {0}
 
--- there is the number on the bus: IPMB has 64, PLDM 32
+-- there is the number on the bus
 abbrev pub IsNumber : Bus → ℕ → Type 0
-IsNumber bus.Ipmb number = number < 64
-IsNumber bus.Smbus number = number < 32
+IsNumber on number = number < circle_of on
 
 -- a request that a port hears on IPMB
 abbrev pub heard_in : Request → Heard
@@ -38,7 +38,7 @@ heard_in r = record { requester = r.header.requester.address; number = r.header.
 
 -- a request that a port hears on SMBus, from this endpoint
 abbrev pub pldm_heard_in : ℕ → PldmRequest → Heard
-pldm_heard_in from r = record { requester = from; number = r.header.instance; bytes = 1 ∷ pldm_request_bytes r }
+pldm_heard_in from r = record { requester = from; number = r.header.instance; bytes = pldm_message_type ∷ pldm_request_bytes r }
 
 -- ---- replies
 

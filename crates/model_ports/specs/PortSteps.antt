@@ -16,6 +16,8 @@ use Rattle.record_base.specs.declared.message.Answered.{Answered}
 use Rattle.cfg_records.specs.declared.board_file.BoardFile.{BoardFile}
 use Rattle.model_bus.specs.Request.{Request as Heard, Kept, Entry, Idled}
 use Rattle.two_wire.specs.declared.Bus.{Bus}
+use Rattle.model_bus.specs.Bytes.{pldm_message_type}
+use Rattle.model_bus.specs.Circle.{sequence_numbers, instances}
 use Rattle.model_bus.specs.Numbering.{is_above}
 use Rattle.model_bus.specs.Carried.{Outcome, Repeats, IsBusy, IsNew, outcome, log_after, reply_after}
 use Rattle.bmc_board.specs.State.{State}
@@ -80,7 +82,7 @@ asked_in r = Ipmi r.header.requester.address r.header.net_fn r.header.responder.
 
 -- what comes of a request on IPMB
 abbrev pub request_turn : BoardFile → PortState → State → Request → Turn
-request_turn setup port before r = turn (is_above 64) (heard_in r) (spelled Ipmb (heard_in r)) setup (asked_in r) port.log before
+request_turn setup port before r = turn (is_above sequence_numbers) (heard_in r) (spelled Ipmb (heard_in r)) setup (asked_in r) port.log before
 
 -- the response to it
 abbrev pub response_after : Request → Option (List ℕ) → Value
@@ -124,7 +126,7 @@ pldm_asked from r = Pldm from r.header.pldm_type r.header.command r.body
 -- what comes of a PLDM request
 abbrev pub pldm_turn : BoardFile → PortState → State → ℕ → PldmRequest → Turn
 pldm_turn setup port before from r =
-    turn (is_above 32) (pldm_heard_in from r) (spelled Smbus (pldm_heard_in from r)) setup (pldm_asked from r) port.log before
+    turn (is_above instances) (pldm_heard_in from r) (spelled Smbus (pldm_heard_in from r)) setup (pldm_asked from r) port.log before
 
 -- a PLDM message
 abbrev pub hears_pldm : BoardFile → PortState → State → Message → Option PldmRequest → Deed
@@ -134,12 +136,12 @@ hears_pldm setup port before m (Some r) =
     let t = pldm_turn setup port before from r in
     record { port = record port { log = t.log }; board = t.left; sent = replies port m (said Smbus (pldm_heard_in from r) t.replied) }
 
--- a message whose sender owns its tag, by its type: 00h control, 01h PLDM
+-- a message whose sender owns its tag, by its type: 00h control, or PLDM
 abbrev pub hears_typed : BoardFile → PortState → State → Message → List ℕ → Deed
 hears_typed setup port before m [] = stays port before
 hears_typed setup port before m (kind ∷ rest) =
     if kind == 0 then hears_control port before m (control_request_of m.body)
-    else if kind == 1 then hears_pldm setup port before m (pldm_request_in rest)
+    else if kind == pldm_message_type then hears_pldm setup port before m (pldm_request_in rest)
     else stays port before
 
 -- a whole message comes; a reply is nothing to a port

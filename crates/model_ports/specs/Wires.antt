@@ -5,6 +5,7 @@ use Rattle.two_wire.specs.declared.Bus.TheVariants.{Ipmb, Smbus}
 use Rattle.record_base.specs.declared.message.Asked.{Asked}
 use Rattle.record_base.specs.declared.message.Asked.TheVariants.{Ipmi, Pldm}
 use Rattle.record_base.specs.declared.message.Answered.{Answered as BoardAnswer}
+use Rattle.model_bus.specs.Circle.{instances}
 use Rattle.model_bus.specs.Bytes.{IpmbHeader, ipmb_request, ipmb_reply, PldmHeader, pldm_request, pldm_reply}
 use Rattle.model_bus.specs.Answered.{Answered}
 use Rattle.model_bus.specs.Addresses.{Addresses}
@@ -47,7 +48,7 @@ pldm_header_in bytes = record { pldm_type = slice_index bytes 2; command = slice
 
 -- and the instance
 abbrev pub instance_in : List ℕ → ℕ
-instance_in bytes = slice_index bytes 1 % 32
+instance_in bytes = slice_index bytes 1 % instances
 
 -- ---- requests and replies
 

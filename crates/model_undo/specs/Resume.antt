@@ -1,7 +1,8 @@
 -- A manager that goes on from a list of what undoes.
-use Rattle.std.specs.Prelude.{◌≡◌, ℕ, ◌%◌, true, List, [], ◌∷◌, length, Option, Some, None}
+use Rattle.std.specs.Prelude.{◌≡◌, ℕ, true, List, [], ◌∷◌, length, Option, Some, None}
 use Rattle.std.specs.Option.{option_map}
 use Rattle.two_wire.specs.declared.Bus.{Bus}
+use Rattle.two_wire.specs.declared.Bus.TheVariants.{Ipmb, Smbus}
 use Rattle.model_bus.specs.Answered.{Answered}
 use Rattle.model_undo.specs.Words.{Words}
 use Rattle.model_undo.specs.declared.phase.Why.TheVariants.{Stop}
@@ -15,9 +16,9 @@ pub record UndoList (M : Words) : Type 0 where
   pub series : List M.Series
   pub next : Counts
 
--- the list of a manager; sequence numbers count modulo 64 and instances modulo 32
+-- the list of a manager
 abbrev pub list_of : (M : Words) → Machine M → UndoList M
-list_of M m = record { series = m.undo; next = record { ipmb = m.counts.ipmb % 64; smbus = m.counts.smbus % 32 } }
+list_of M m = record { series = m.undo; next = record { ipmb = number_of Ipmb m.counts.ipmb; smbus = number_of Smbus m.counts.smbus } }
 
 -- the manager that goes on from it: halted after as many steps as the list undoes, as if it was to stop
 abbrev pub resumed : (M : Words) → ℕ → UndoList M → Machine M

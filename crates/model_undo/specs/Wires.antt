@@ -2,13 +2,14 @@
 use Rattle.std.specs.Prelude.{◌≡◌, ℕ, ◌%◌, List, Some, ◌⊎◌}
 use Rattle.two_wire.specs.declared.Bus.{Bus}
 use Rattle.two_wire.specs.declared.Bus.TheVariants.{Ipmb, Smbus}
+use Rattle.model_bus.specs.Circle.{sequence_numbers, instances}
 use Rattle.model_bus.specs.Answered.{Answered}
 use Rattle.model_undo.specs.Words.{Words}
 
 -- the number of a count: a sequence number on IPMB, an instance on SMBus
 abbrev pub number_of : Bus → ℕ → ℕ
-number_of Ipmb n = n % 64
-number_of Smbus n = n % 32
+number_of Ipmb n = n % sequence_numbers
+number_of Smbus n = n % instances
 
 -- a manager makes the series: it gets a record, or carries an operation out
 abbrev pub IsSeries : (M : Words) → M.Series → Type 0
