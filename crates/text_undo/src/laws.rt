@@ -6,6 +6,7 @@ ghost use Rattle.text_undo.specs.UndoText.{Stands, IsFirstBad};
 /// A text stands for one list at most, has one first bad line at most, and never both: so what is written is read again as the same.
 pub fn one_undo_list()
     ensures same { (text : List ℕ) (a b : AnyList) → Stands text a → Stands text b → a ≡ b }
-    ensures apart { (text : List ℕ) (list : AnyList) (n : ℕ) → Stands text list → ¬ IsFirstBad text n }
+    ensures apart { (text : List ℕ) (list : AnyList) (n : ℕ) → Stands text list
+        → ¬ IsFirstBad text n }
     ensures first { (text : List ℕ) (m n : ℕ) → IsFirstBad text m → IsFirstBad text n → m ≡ n }
 {}

@@ -63,8 +63,10 @@ fn numbers(line: &str) -> Option<NextNumbers>
 
 /// The numbers on the first line of the text, and the text behind that line.
 pub fn first_numbers(text: &str) -> Option<(NextNumbers, &str)>
-    ensures some { IfSome result (λ found. BeginsWith (λ line. IsNumbersLine line found.0) text.now found.1.now) }
-    ensures none { IfNone result ((more : List ℕ) (next : AnyNumbers) → ¬ BeginsWith (λ line. IsNumbersLine line next) text.now more) }
+    ensures some { IfSome result (λ found.
+        BeginsWith (λ line. IsNumbersLine line found.0) text.now found.1.now) }
+    ensures none { IfNone result ((more : List ℕ) (next : AnyNumbers)
+        → ¬ BeginsWith (λ line. IsNumbersLine line next) text.now more) }
 {
     let Some(parts) = first_line(text) else {
         return None;
@@ -116,8 +118,10 @@ fn pldm(bytes: &[u8]) -> Option<Asked>
 
 /// The request of the bus whose bytes are these digits.
 fn spelt(alloc: Global, bus: Bus, digits: &str) -> Result<Option<Asked>, AllocError>
-    ensures { IfOk result (λ found. MatchOption found ((bytes : List ℕ) (asked : AnyAsked) → decode_of digits.now ≡ Ok bytes → ¬ IsOf (name_of bus) bytes asked)
-        (λ asked. (bytes : List ℕ) × (decode_of digits.now ≡ Ok bytes) × IsOf (name_of bus) bytes asked)) }
+    ensures { IfOk result (λ found. MatchOption found ((bytes : List ℕ) (asked : AnyAsked)
+        → decode_of digits.now ≡ Ok bytes → ¬ IsOf (name_of bus) bytes asked)
+        (λ asked. (bytes : List ℕ) × (decode_of digits.now ≡ Ok bytes)
+        × IsOf (name_of bus) bytes asked)) }
 {
     let Some(bytes) = bytes(alloc, digits)? else {
         return Ok(None);
@@ -130,7 +134,9 @@ fn spelt(alloc: Global, bus: Bus, digits: &str) -> Result<Option<Asked>, AllocEr
 
 /// The request that the line is of.
 fn request(alloc: Global, line: &str) -> Result<Option<Asked>, AllocError>
-    ensures { IfOk result (λ found. MatchOption found ((asked : AnyAsked) → ¬ IsRequestLine line.now asked) (λ asked. IsRequestLine line.now asked)) }
+    ensures { IfOk result (λ found. MatchOption found
+        ((asked : AnyAsked) → ¬ IsRequestLine line.now asked)
+        (λ asked. IsRequestLine line.now asked)) }
 {
     if let Some(digits) = behind("ipmb ", line) {
         return spelt(alloc, Bus::Ipmb, digits);
@@ -143,7 +149,8 @@ fn request(alloc: Global, line: &str) -> Result<Option<Asked>, AllocError>
 
 /// The request on the first line of the text, and the text behind that line.
 pub fn first_request(alloc: Global, text: &str) -> Result<Option<(Asked, &str)>, AllocError>
-    ensures { IfOk result (λ found. MatchOption found ((more : List ℕ) (asked : AnyAsked) → ¬ BeginsWith (λ line. IsRequestLine line asked) text.now more)
+    ensures { IfOk result (λ found. MatchOption found ((more : List ℕ) (asked : AnyAsked)
+        → ¬ BeginsWith (λ line. IsRequestLine line asked) text.now more)
         (λ parts. BeginsWith (λ line. IsRequestLine line parts.0) text.now parts.1.now)) }
 {
     let Some(cut) = first_line(text) else {
@@ -165,7 +172,8 @@ fn push_line(
     body: &[u8],
 ) -> Result<(), AllocError>
     requires { length body.now ≤ most_pldm_request_data }
-    ensures text { OnOk result (string_bytes text.new ≡ string_bytes text.old ++ ended (bus.now ++ encode_upper (first ∷ command ∷ body.now))) }
+    ensures text { OnOk result (string_bytes text.new
+        ≡ string_bytes text.old ++ ended (bus.now ++ encode_upper (first ∷ command ∷ body.now))) }
     ensures bytes { IsBytes (first ∷ command ∷ body.now) }
 {
     let mut bytes = Bytes::<MOST_BYTES>::new();
@@ -178,7 +186,8 @@ fn push_line(
 
 /// Adds the line of a request.
 pub fn push_request(alloc: Global, text: &mut String, asked: &Asked) -> Result<(), AllocError>
-    ensures text { OnOk result (string_bytes text.new ≡ string_bytes text.old ++ ended (line_of asked.now)) }
+    ensures text { OnOk result (string_bytes text.new
+        ≡ string_bytes text.old ++ ended (line_of asked.now)) }
     ensures told { IsPlain asked.now → IsRequestLine (line_of asked.now) asked.now }
 {
     match asked {

@@ -30,7 +30,8 @@ const MOST_REQUESTS: usize = MOST_STEPS;
 /// of version 2 where the list has names, and else of version 1.
 pub fn write_undo(alloc: Global, list: &UndoList) -> Result<String, AllocError>
     ensures text { IfOk result (λ text. string_bytes text ≡ text_of list.now) }
-    ensures stands { All IsPlain list.now.requests → IfOk result (λ text. Stands (string_bytes text) list.now) }
+    ensures stands { All IsPlain list.now.requests
+        → IfOk result (λ text. Stands (string_bytes text) list.now) }
 {
     let mut text = String::from_str(alloc, version_text(&list.names))?;
     let ipmb = list.next.ipmb.number();
@@ -47,8 +48,10 @@ pub fn push_requests(
     text: &mut String,
     requests: &Requests,
 ) -> Result<(), AllocError>
-    ensures text { OnOk result (string_bytes text.new ≡ string_bytes text.old ++ flat_map ended (map line_of (reverse requests.now))) }
-    ensures told { OnOk result (All IsPlain requests.now → AllZip IsRequestLine (map line_of (reverse requests.now)) (reverse requests.now)) }
+    ensures text { OnOk result (string_bytes text.new
+        ≡ string_bytes text.old ++ flat_map ended (map line_of (reverse requests.now))) }
+    ensures told { OnOk result (All IsPlain requests.now
+        → AllZip IsRequestLine (map line_of (reverse requests.now)) (reverse requests.now)) }
     ensures few { length requests.now ≤ most_steps }
 {
     let mut place = requests.len();
@@ -62,7 +65,8 @@ pub fn push_requests(
 
 /// The requests of these lines, in their order, or the number of the first bad line, in a text of this version.
 fn read_requests(alloc: Global, version: Version, text: &str) -> Result<Vec<Asked>, UndoFault>
-    ensures told { IfOk result (λ told. (vec_len told ≤ most_steps) × AreLinesOf text.now told.items) }
+    ensures told { IfOk result (λ told. (vec_len told ≤ most_steps)
+        × AreLinesOf text.now told.items) }
     ensures fault { IfErr result
         (λ why. (why ≡ UndoFault.Memory) ⊎ ((n : ℕ) × (why ≡ UndoFault.Line n)
         × IsFirstBadFrom version (head_length version + 1) text.now n)) }
@@ -128,7 +132,8 @@ fn listed(
 /// requests that isn't there.
 pub fn read_undo(alloc: Global, text: &str) -> Result<UndoList, UndoFault>
     ensures list { IfOk result (λ list. Stands text.now list) }
-    ensures fault { IfErr result (λ why. (why ≡ UndoFault.Memory) ⊎ ((n : ℕ) × (why ≡ UndoFault.Line n) × IsFirstBad text.now n)) }
+    ensures fault { IfErr result (λ why. (why ≡ UndoFault.Memory)
+        ⊎ ((n : ℕ) × (why ≡ UndoFault.Line n) × IsFirstBad text.now n)) }
 {
     let Some(begun) = first_version(text) else {
         return Err(UndoFault::Line(1));
