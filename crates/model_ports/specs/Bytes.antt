@@ -2,7 +2,6 @@
 -- byte on, with PLDM's ignored bit 0. `Wires` has those of the manager's requests and of replies.
 use Rattle.std.specs.Prelude.{◌≡◌, ℕ, ◌+◌, ◌<◌, true, false, List, [], ◌∷◌, Option, Some, None}
 use Rattle.two_wire.specs.declared.Bus.{Bus}
-use Rattle.two_wire.specs.declared.Bus.TheVariants as bus
 use Rattle.record_base.specs.declared.message.Asked.{Asked}
 use Rattle.record_base.specs.declared.message.Asked.TheVariants.{Ipmi, Pldm}
 use Rattle.ipmb_frame.specs.declared.message.Request.{Request}

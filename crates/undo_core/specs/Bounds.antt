@@ -50,6 +50,10 @@ most_backs AtStart = 0
 most_backs (Opened heeded task asked) = task_backs task
 most_backs _ = most_steps
 
+-- how many replies a manager takes at most: three for each step, and one for each request that undoes
+abbrev pub most_replies : ℕ
+most_replies = 3 * most_steps + most_steps
+
 -- how many replies may still be taken, of a plan of so many steps, with so many requests that undo
 abbrev pub task_left : ℕ → ℕ → Task → ℕ
 task_left steps backs (Gets k) = 3 * (steps - k) + backs

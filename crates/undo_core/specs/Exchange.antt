@@ -13,7 +13,7 @@ use Rattle.record_base.specs.declared.message.Asked.TheVariants.{Ipmi, Pldm}
 use Rattle.cfg_records.specs.declared.board_file.BoardFile.{BoardFile}
 use Rattle.bmc_board.specs.State.{State}
 use Rattle.undo_plans.specs.declared.names.Names.{Names}
-use Rattle.model_bus.specs.Circle.{circle_of}
+use Rattle.model_bus.specs.Circle.{circle_of, tags}
 use Rattle.model_bus.specs.Numbering.{is_above}
 use Rattle.model_bus.specs.Request.{Request as Heard}
 use Rattle.model_bus.specs.Answered.{Answered}
@@ -65,7 +65,7 @@ CanBeTold Smbus a = length a.body ≤ most_pldm_reply_data
 
 -- the name of the packets of the manager's request of this count
 abbrev pub name_asked : Names → ℕ → Name
-name_asked names count = record { source_eid = names.own_eid; tag_owner = true; tag = count % 8 }
+name_asked names count = record { source_eid = names.own_eid; tag_owner = true; tag = count % tags }
 
 -- where the controller is on the bus
 abbrev pub peer_place : Bus → Names → ℕ
@@ -109,7 +109,7 @@ reply_message names count body = record {
     destination_eid = names.own_eid;
     source_eid = names.peer_eid;
     tag_owner = false;
-    tag = count % 8;
+    tag = count % tags;
   };
   body = body;
 }

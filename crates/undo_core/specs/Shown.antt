@@ -1,6 +1,7 @@
 -- The machine that a manager shows, and the packets that wait at it.
-use Rattle.std.specs.Prelude.{◌≡◌, ◌≢◌, Result, Ok, Err, suc, ◌%◌, ◌<◌, Bool, List, ◌∷◌, length, map, take, reverse, Option, Some, None, slice_get, if◌then◌else◌}
+use Rattle.std.specs.Prelude.{◌≡◌, ◌≢◌, Result, Ok, Err, suc, ◌<◌, Bool, List, ◌∷◌, length, map, take, reverse, Option, Some, None, slice_get, if◌then◌else◌}
 use Rattle.std.specs.List.{AllZip}
+use Rattle.two_wire.specs.declared.Bus.TheVariants.{Ipmb, Smbus}
 use Rattle.record_base.specs.declared.op.Op.{Op}
 use Rattle.record_base.specs.declared.message.Asked.{Asked}
 use Rattle.undo_plans.specs.declared.names.Names.{Names}
@@ -9,6 +10,7 @@ use Rattle.model_bus.specs.Answered.{Answered}
 use Rattle.model_undo.specs.Words.{Words}
 use Rattle.model_undo.specs.Machine as machine
 use Rattle.model_undo.specs.Machine.{reply_of}
+use Rattle.model_undo.specs.Wires.{number_of}
 use Rattle.undo_core.specs.declared.phase.WrongPhase.{WrongPhase}
 use Rattle.model_lab.specs.ManagerWords.{from_manager}
 use Rattle.model_ports.specs.Values.{written, IsFrameOn}
@@ -57,6 +59,14 @@ IsStage names plan requests stage.AtUndone machine.AtUndone = Unit {0}
 IsStage names plan requests (stage.AtRefused k code) (machine.AtRefused j number) = (j ≡ k) × (number ≡ code)
 IsStage names plan requests _ _ = ⊥
 
+-- this holds of each task of the machine that is this one
+abbrev pub ForTask : Task → ((names : Names) → machine.Task (words_of names) → Type 0) → Type 0
+ForTask task Holds = (names : Names) (plan : List Op) (requests : List Asked) (of : machine.Task (words_of names)) → IsTask names plan requests task of → Holds names of
+
+-- this holds of each stage of the machine that is this one
+abbrev pub ForStage : Stage → ((names : Names) → machine.Stage (words_of names) → Type 0) → Type 0
+ForStage stage Holds = (names : Names) (plan : List Op) (requests : List Asked) (at : machine.Stage (words_of names)) → IsStage names plan requests stage at → Holds names at
+
 -- the manager shows this machine, and these packets wait at it
 pub record Shows (names : Names) (m : Manager) (s : ManagerState (board_plans names)) : Type 0 where
   pub named : m.names ≡ names
@@ -69,8 +79,8 @@ pub record Shows (names : Names) (m : Manager) (s : ManagerState (board_plans na
   pub resent : s.machine.resent ≡ m.resent
   pub undo : s.machine.undo ≡ backs names m.undo.requests
   pub counts : s.machine.counts ≡ counts_of m.counts
-  pub sequence : m.undo.next.ipmb ≡ m.counts.ipmb % 64
-  pub instance : m.undo.next.smbus ≡ m.counts.smbus % 32
+  pub sequence : m.undo.next.ipmb ≡ number_of Ipmb m.counts.ipmb
+  pub instance : m.undo.next.smbus ≡ number_of Smbus m.counts.smbus
   pub joined : s.joined ≡ seen m.joined
 
 -- The manager sends what the machine sends: on its bus, as that request, the frames of its values. Each frame is read as its value.
@@ -85,6 +95,14 @@ IsSent _ _ = ⊥
 abbrev pub Does : (names : Names) → Manager → Option Sent → ManagerDeed (board_plans names) → Type 0
 Does names m sent deed = Shows names m deed.manager × IsSent sent deed.sent
 
+-- this holds of each machine that the manager shows
+abbrev pub ForShown : Manager → ((names : Names) → ManagerState (board_plans names) → Type 0) → Type 0
+ForShown m Holds = (names : Names) (s : ManagerState (board_plans names)) → Shows names m s → Holds names s
+
+-- whatever machine the manager showed, the manager is then the deed's, and sends what the deed sends
+abbrev pub DoesAs : ((names : Names) → ManagerState (board_plans names) → ManagerDeed (board_plans names)) → Manager → Manager → Option Sent → Type 0
+DoesAs deed old new sent = ForShown old (λ names s. Does names new sent (deed names s))
+
 -- a call is the deed, or it is refused where there is none, and then nothing changes
 abbrev pub IsCalled : (names : Names) → ManagerState (board_plans names) → Manager → Result (Option Sent) WrongPhase → Option (ManagerDeed (board_plans names)) → Type 0
 IsCalled names before m (Ok sent) (Some deed) = Does names m sent deed
@@ -93,11 +111,11 @@ IsCalled names before m _ _ = ⊥
 
 -- whatever machine the manager showed, the call is the machine's
 abbrev pub Calls : Call → Manager → Manager → Result (Option Sent) WrongPhase → Type 0
-Calls call old new result = (names : Names) (s : ManagerState (board_plans names)) → Shows names old s → IsCalled names s new result (called (board_plans names) call s)
+Calls call old new result = ForShown old (λ names s. IsCalled names s new result (called (board_plans names) call s))
 
 -- whatever machine the manager showed, a reply that passed the test is taken as the machine takes it
 abbrev pub Takes : Answered → Manager → Manager → Option Sent → Type 0
-Takes a old new sent = (names : Names) (s : ManagerState (board_plans names)) → Shows names old s → Does names new sent (taken_or (board_plans names) s (reply_of (words_of names) a s.machine))
+Takes a = DoesAs (λ names s. taken_or (board_plans names) s (reply_of (words_of names) a s.machine))
 
 -- the reply of the controller is taken where it passed the test against the open request
 abbrev pub taken_if : (names : Names) → Bool → Answered → ManagerState (board_plans names) → ManagerDeed (board_plans names)

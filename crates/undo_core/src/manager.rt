@@ -1,6 +1,6 @@
 //! A manager.
 ghost use Rattle.std.specs.Prelude.{◌+◌, ◌≤◌, length};
-ghost use Rattle.undo_core.specs.Bounds.{steps_needed, undone_needed, most_backs, replies_left};
+ghost use Rattle.undo_core.specs.Bounds.{steps_needed, undone_needed, most_backs, replies_left, most_replies};
 
 use crate::sending::Counts;
 use crate::stage::Stage;
@@ -46,5 +46,6 @@ pub struct Manager {
     ghost planned: { steps_needed stage ≤ length steps },
     ghost kept: { undone_needed stage ≤ length undo.requests },
     ghost few: { length undo.requests ≤ most_backs stage },
-    ghost counted: { counts.ipmb + counts.smbus + replies_left (length steps) (length undo.requests) stage ≤ 1024 },
+    ghost counted: { counts.ipmb + counts.smbus
+        + replies_left (length steps) (length undo.requests) stage ≤ most_replies },
 }

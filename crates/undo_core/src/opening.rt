@@ -68,7 +68,10 @@ impl Manager {
         ensures others { (result ≡ Err ResumeFault.OtherNames)
             ↔ ((retries ≤ most_retries) × AreOthers names undo.names) }
         ensures resumed { IfOk result (λ m. Shows names m (record {
-          machine = resumed (words_of names) retries (record { series = backs names undo.requests; next = record { ipmb = undo.next.ipmb; smbus = undo.next.smbus } });
+          machine = resumed (words_of names) retries (record {
+            series = backs names undo.requests;
+            next = record { ipmb = undo.next.ipmb; smbus = undo.next.smbus };
+          });
           names = names;
           listed = undo.names;
           joined = nothing;

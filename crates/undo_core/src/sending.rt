@@ -2,24 +2,25 @@
 ghost use Rattle.std.specs.Prelude.{◌≡◌, ◌+◌, ◌%◌, ◌<◌, suc, true, [], ◌∷◌, ℕ, map};
 ghost use Rattle.model_ports.specs.Values.{written, IsFrameOn};
 ghost use Rattle.model_lab.specs.ManagerSteps.{values_of};
+ghost use Rattle.model_bus.specs.Circle.{tags};
 ghost use Rattle.model_undo.specs.Machine.{count_of, one_answered};
+ghost use Rattle.model_undo.specs.Wires.{number_of};
 ghost use Rattle.model_ports.specs.Wires.{bus_of as bus_of_request};
 ghost use Rattle.record_base.specs.declared.message.Asked.TheVariants as asked_as;
 ghost use Rattle.std.specs.List.{AllZip};
 ghost use Rattle.two_wire.specs.declared.Bus.TheVariants.{Ipmb as IsIpmb, Smbus as IsSmbus};
-ghost use Rattle.undo_core.specs.Counted.{counts_of};
+ghost use Rattle.undo_core.specs.Bounds.{most_replies};
+ghost use Rattle.undo_core.specs.Counted.{counts_of, values_at};
 
 use arrayvec::ArrayVec;
 use cfg_records::Asked;
 use ipmb_frame::{Party, Request, Sequence, write_request};
 use mctp_net::{Envelope, Message, SomeData, Tag, split};
+use model_bus::{INSTANCES, PLDM_MESSAGE_TYPE, SEQUENCE_NUMBERS, TAGS};
 use pldm_base::{Instance, PldmRequest, PldmType, write_pldm};
 use two_wire::size::{MOST_IPMI_REQUEST_DATA, MOST_MESSAGE_BYTES, MOST_PLDM_REQUEST_DATA};
 use two_wire::{Bus, Bytes, Data, Frame, Lun, NetFn};
 use undo_plans::Names;
-
-/// The message type of PLDM (DSP0239).
-pub const PLDM_TYPE: u8 = 0x01;
 
 /// How many of a manager's requests were answered on each bus. Counted from 0, that is the number of the open request, or
 /// of the next where none is open.
@@ -41,7 +42,7 @@ pub struct Sent {
 impl Counts {
     /// The counts once the request that is open on this bus was answered.
     pub fn after(self, bus: Bus) -> Counts
-        requires { self.ipmb + self.smbus < 1024 }
+        requires { self.ipmb + self.smbus < most_replies }
         ensures counts { counts_of result ≡ one_answered bus (counts_of self) }
         ensures sum { result.ipmb + result.smbus ≡ suc (self.ipmb + self.smbus) }
     {
@@ -59,23 +60,23 @@ impl Counts {
 
     /// The sequence number of the request on IPMB.
     pub fn sequence(self) -> Sequence
-        ensures { result ≡ self.ipmb % 64 }
+        ensures { result ≡ number_of IsIpmb self.ipmb }
     {
-        Sequence::new((self.ipmb % 64) as u8)
+        Sequence::new((self.ipmb % u16::from(SEQUENCE_NUMBERS)) as u8)
     }
 
     /// The instance of the request on SMBus.
     pub fn instance(self) -> Instance
-        ensures { result ≡ self.smbus % 32 }
+        ensures { result ≡ number_of IsSmbus self.smbus }
     {
-        Instance::new((self.smbus % 32) as u8)
+        Instance::new((self.smbus % u16::from(INSTANCES)) as u8)
     }
 
     /// The tag of its message.
     pub fn tag(self) -> Tag
-        ensures { result ≡ self.smbus % 8 }
+        ensures { result ≡ self.smbus % tags }
     {
-        Tag::new((self.smbus % 8) as u8)
+        Tag::new((self.smbus % u16::from(TAGS)) as u8)
     }
 }
 
@@ -93,8 +94,9 @@ pub fn bus_of(asked: &Asked) -> Bus
 pub fn frames_of(names: &Names, counts: Counts, asked: &Asked) -> Sent
     ensures bus { result.bus ≡ bus_of_request asked.now }
     ensures request { result.request ≡ count_of (bus_of_request asked.now) (counts_of counts) }
-    ensures frames { result.frames.items ≡ map written (values_of names.now (count_of (bus_of_request asked.now) (counts_of counts)) asked.now) }
-    ensures read { AllZip (IsFrameOn (bus_of_request asked.now)) (values_of names.now (count_of (bus_of_request asked.now) (counts_of counts)) asked.now) result.frames.items }
+    ensures frames { result.frames.items ≡ map written (values_at names.now counts asked.now) }
+    ensures read { AllZip (IsFrameOn (bus_of_request asked.now))
+        (values_at names.now counts asked.now) result.frames.items }
 {
     match asked {
         Asked::Ipmi {
@@ -134,8 +136,11 @@ fn request_frame(
     command: u8,
     body: &Bytes<{ MOST_IPMI_REQUEST_DATA }>,
 ) -> Frame
-    ensures frames { (from : ℕ) → result ∷ [] ≡ map written (values_of names.now counts.ipmb (asked_as.Ipmi from net_fn lun command body.now)) }
-    ensures read { (from : ℕ) → AllZip (IsFrameOn IsIpmb) (values_of names.now counts.ipmb (asked_as.Ipmi from net_fn lun command body.now)) (result ∷ []) }
+    ensures frames { (from : ℕ) → result ∷ [] ≡ map written
+        (values_of names.now counts.ipmb (asked_as.Ipmi from net_fn lun command body.now)) }
+    ensures read { (from : ℕ) → AllZip (IsFrameOn IsIpmb)
+        (values_of names.now counts.ipmb (asked_as.Ipmi from net_fn lun command body.now))
+        (result ∷ []) }
 {
     let header = ipmb_frame::Header {
         responder: Party {
@@ -162,8 +167,11 @@ fn message_frames(
     command: u8,
     body: &Bytes<{ MOST_PLDM_REQUEST_DATA }>,
 ) -> ArrayVec<Frame, 4>
-    ensures frames { (from : ℕ) → result.items ≡ map written (values_of names.now counts.smbus (asked_as.Pldm from kind command body.now)) }
-    ensures read { (from : ℕ) → AllZip (IsFrameOn IsSmbus) (values_of names.now counts.smbus (asked_as.Pldm from kind command body.now)) result.items }
+    ensures frames { (from : ℕ) → result.items ≡ map written
+        (values_of names.now counts.smbus (asked_as.Pldm from kind command body.now)) }
+    ensures read { (from : ℕ) → AllZip (IsFrameOn IsSmbus)
+        (values_of names.now counts.smbus (asked_as.Pldm from kind command body.now))
+        result.items }
 {
     let header = pldm_base::Header {
         instance: counts.instance(),
@@ -171,7 +179,7 @@ fn message_frames(
         command,
     };
     let mut bytes: Bytes<{ MOST_MESSAGE_BYTES }> = Bytes::new();
-    bytes.push(PLDM_TYPE);
+    bytes.push(PLDM_MESSAGE_TYPE);
     let body = Data::new(body.as_slice());
     write_pldm(&PldmRequest { header, body }, &mut bytes);
     split(&Message {
@@ -188,7 +196,7 @@ fn envelope_of(names: &Names, counts: Counts) -> Envelope
       destination_eid = names.now.peer_eid;
       source_eid = names.now.own_eid;
       tag_owner = true;
-      tag = counts.smbus % 8;
+      tag = counts.smbus % tags;
     } }
 {
     Envelope {

@@ -1,15 +1,17 @@
 //! Where a manager is, and the stages that it enters.
-ghost use Rattle.std.specs.Prelude.{◌≡◌, ◌%◌, ◌+◌, ◌-◌, ◌*◌, ◌≤◌, length, Some, ℕ};
+ghost use Rattle.std.specs.Prelude.{◌≡◌, ◌+◌, ◌-◌, ◌*◌, ◌≤◌, length, Some, ℕ};
 ghost use Rattle.std.specs.Prelude.{List, take, slice_get, option_map};
 ghost use Rattle.record_base.specs.declared.op.Op.{Op};
 ghost use Rattle.record_base.specs.declared.message.Asked.{Asked as AnyAsked};
 ghost use Rattle.undo_plans.specs.declared.names.Names.{Names as AnyNames};
 ghost use Rattle.undo_plans.specs.Steps.{most_steps};
+ghost use Rattle.two_wire.specs.declared.Bus.TheVariants.{Ipmb, Smbus};
 ghost use Rattle.model_undo.specs.Machine as machine;
-ghost use Rattle.model_lab.specs.ManagerSteps.{ManagerState, board_plans, sent_of};
+ghost use Rattle.model_undo.specs.Wires.{number_of};
+ghost use Rattle.model_lab.specs.ManagerSteps.{board_plans, sent_of};
 ghost use Rattle.model_lab.specs.Faults.{begun_on};
 ghost use Rattle.undo_core.specs.Counted.{counts_of};
-ghost use Rattle.undo_core.specs.Shown.{words_of, backs, IsStage, Shows, IsSent};
+ghost use Rattle.undo_core.specs.Shown.{words_of, backs, IsStage, ForShown, IsSent};
 ghost use Rattle.undo_core.specs.Bounds.{steps_needed, undone_needed, most_backs, replies_left};
 
 use crate::manager::Manager;
@@ -24,14 +26,16 @@ use undo_plans::UndoList;
 impl Manager {
     /// The phase.
     pub fn phase(&self) -> Phase
-        ensures { (names : AnyNames) (s : ManagerState (board_plans names)) → Shows names self.now s → result ≡ machine.phase_of (words_of names) s.machine }
+        ensures { ForShown self.now (λ names s.
+            result ≡ machine.phase_of (words_of names) s.machine) }
     {
         self.stage.phase()
     }
 
     /// The bus on which a request is open, also one that isn't heeded.
     pub fn open_bus(&self) -> Option<Bus>
-        ensures { (names : AnyNames) (s : ManagerState (board_plans names)) → Shows names self.now s → result ≡ machine.open_bus (words_of names) s.machine }
+        ensures { ForShown self.now (λ names s.
+            result ≡ machine.open_bus (words_of names) s.machine) }
     {
         match self.stage.open() {
             Some(asked) => Some(bus_of(asked)),
@@ -41,7 +45,7 @@ impl Manager {
 
     /// How many requests it began on a bus: those that were answered, and the open one.
     pub fn begun(&self, bus: Bus) -> usize
-        ensures { (names : AnyNames) (s : ManagerState (board_plans names)) → Shows names self.now s → result ≡ begun_on (words_of names) bus s.machine }
+        ensures { ForShown self.now (λ names s. result ≡ begun_on (words_of names) bus s.machine) }
     {
         let answered = match bus {
             Bus::Ipmb => self.counts.ipmb,
@@ -56,7 +60,7 @@ impl Manager {
 
     /// How often the open request's frames were sent again, since it was opened or heeded again.
     pub fn resent(&self) -> u8
-        ensures { (names : AnyNames) (s : ManagerState (board_plans names)) → Shows names self.now s → result ≡ s.machine.resent }
+        ensures { ForShown self.now (λ names s. result ≡ s.machine.resent) }
     {
         self.resent
     }
@@ -64,19 +68,24 @@ impl Manager {
     /// The requests that undo the steps that were done, the numbers of the next requests, and the names: those of the manager, or where it went
     /// on from a list those that this list had.
     pub fn undo_list(&self) -> &UndoList
-        ensures requests { (names : AnyNames) (s : ManagerState (board_plans names)) → Shows names self.now s → backs names result.now.requests ≡ s.machine.undo }
-        ensures sequence { (names : AnyNames) (s : ManagerState (board_plans names)) → Shows names self.now s → result.now.next.ipmb ≡ s.machine.counts.ipmb % 64 }
-        ensures instance { (names : AnyNames) (s : ManagerState (board_plans names)) → Shows names self.now s → result.now.next.smbus ≡ s.machine.counts.smbus % 32 }
-        ensures names { (names : AnyNames) (s : ManagerState (board_plans names))
-            → Shows names self.now s → result.now.names ≡ s.listed }
+        ensures requests { ForShown self.now (λ names s.
+            backs names result.now.requests ≡ s.machine.undo) }
+        ensures sequence { ForShown self.now (λ names s.
+            result.now.next.ipmb ≡ number_of Ipmb s.machine.counts.ipmb) }
+        ensures instance { ForShown self.now (λ names s.
+            result.now.next.smbus ≡ number_of Smbus s.machine.counts.smbus) }
+        ensures names { ForShown self.now (λ names s. result.now.names ≡ s.listed) }
     {
         &self.undo
     }
 
     /// The frames of the open request.
     pub(crate) fn open_frames(&self) -> Option<Sent>
-        ensures { (names : AnyNames) (plan : List Op) (requests : List AnyAsked) (at : machine.Stage (words_of names)) → self.now.names ≡ names → IsStage names plan requests self.now.stage at
-            → IsSent result (option_map (sent_of (board_plans names) names) (machine.sends_at (words_of names) at (counts_of self.now.counts))) }
+        ensures { (names : AnyNames) (plan : List Op) (requests : List AnyAsked)
+            (at : machine.Stage (words_of names)) → self.now.names ≡ names
+            → IsStage names plan requests self.now.stage at
+            → IsSent result (option_map (sent_of (board_plans names) names)
+            (machine.sends_at (words_of names) at (counts_of self.now.counts))) }
     {
         let asked = self.stage.open()?;
         Some(frames_of(&self.names, self.counts, asked))
@@ -85,11 +94,14 @@ impl Manager {
     /// The stage of a step: its Get, or the plan's end, or a halt before it.
     pub(crate) fn step_stage(&self, stopped: bool, step: usize) -> Stage
         requires { step ≤ length self.now.steps }
-        ensures stage { (names : AnyNames) (requests : List AnyAsked) → IsStage names self.now.steps requests result (machine.next_stage (words_of names) stopped step (slice_get self.now.steps step)) }
+        ensures stage { (names : AnyNames) (requests : List AnyAsked)
+            → IsStage names self.now.steps requests result
+            (machine.next_stage (words_of names) stopped step (slice_get self.now.steps step)) }
         ensures planned { steps_needed result ≤ length self.now.steps }
         ensures kept { undone_needed result ≡ 0 }
         ensures few { step ≤ most_backs result }
-        ensures left { (undone : ℕ) → replies_left (length self.now.steps) undone result ≤ 3 * (length self.now.steps - step) + undone }
+        ensures left { (undone : ℕ) → replies_left (length self.now.steps) undone result
+            ≤ 3 * (length self.now.steps - step) + undone }
     {
         match self.steps.as_slice().get(step) {
             None => Stage::AtEnd,
@@ -109,7 +121,9 @@ impl Manager {
     /// The stage in which this many steps are still to be undone.
     pub(crate) fn undo_stage(&self, left: usize) -> Stage
         requires { left ≤ length self.now.undo.requests }
-        ensures stage { (names : AnyNames) (plan : List Op) → IsStage names plan self.now.undo.requests result (machine.undo_stage (words_of names) (backs names (take left self.now.undo.requests))) }
+        ensures stage { (names : AnyNames) (plan : List Op)
+            → IsStage names plan self.now.undo.requests result
+            (machine.undo_stage (words_of names) (backs names (take left self.now.undo.requests))) }
         ensures planned { steps_needed result ≡ 0 }
         ensures kept { undone_needed result ≤ left }
         ensures few { most_backs result ≡ most_steps }

@@ -1,13 +1,11 @@
 //! How far a manager is.
-ghost use Rattle.std.specs.Prelude.{◌≡◌, ◌⊎◌, ℕ, Bool, true, false, List, Option, IfSome, IsSome};
+ghost use Rattle.std.specs.Prelude.{◌≡◌, ◌⊎◌, ℕ, Bool, true, false, Option, IfSome, IsSome};
 ghost use Rattle.model_ports.specs.Wires.{bus_of as bus_of_request};
 ghost use Rattle.undo_core.specs.declared.stage.Stage.TheVariants.{Opened as IsOpened, AtEnd as IsAtEnd, AtHalt as IsAtHalt};
 ghost use Rattle.model_undo.specs.declared.phase.Why.{Why as AnyWhy};
-ghost use Rattle.record_base.specs.declared.op.Op.{Op};
 ghost use Rattle.record_base.specs.declared.message.Asked.{Asked as AnyAsked};
-ghost use Rattle.undo_plans.specs.declared.names.Names.{Names};
 ghost use Rattle.model_undo.specs.Machine as machine;
-ghost use Rattle.undo_core.specs.Shown.{words_of, IsTask, IsStage};
+ghost use Rattle.undo_core.specs.Shown.{words_of, ForTask, ForStage};
 ghost use Rattle.undo_core.specs.Bounds.{done_by};
 
 use crate::sending::bus_of;
@@ -45,8 +43,7 @@ pub enum Stage {
 impl Task {
     /// The step that it is about.
     fn step(&self) -> usize
-        ensures { (names : Names) (plan : List Op) (requests : List AnyAsked) (of : machine.Task (words_of names)) → IsTask names plan requests self.now of
-            → result ≡ machine.task_step (words_of names) of }
+        ensures { ForTask self.now (λ names of. result ≡ machine.task_step (words_of names) of) }
     {
         match self {
             Task::Gets(step) | Task::Sets(step, _) | Task::Undoes(step) => *step,
@@ -65,8 +62,7 @@ impl Task {
 
     /// The phase while its request is heeded.
     fn phase(&self) -> Phase
-        ensures { (names : Names) (plan : List Op) (requests : List AnyAsked) (of : machine.Task (words_of names)) → IsTask names plan requests self.now of
-            → result ≡ machine.task_phase (words_of names) of }
+        ensures { ForTask self.now (λ names of. result ≡ machine.task_phase (words_of names) of) }
     {
         match self {
             Task::Gets(step) => Phase::Getting(*step),
@@ -79,8 +75,7 @@ impl Task {
 impl Stage {
     /// The phase.
     pub fn phase(&self) -> Phase
-        ensures { (names : Names) (plan : List Op) (requests : List AnyAsked) (at : machine.Stage (words_of names)) → IsStage names plan requests self.now at
-            → result ≡ machine.phase_at (words_of names) at }
+        ensures { ForStage self.now (λ names at. result ≡ machine.phase_at (words_of names) at) }
     {
         match self {
             Stage::AtStart => Phase::Fresh,
@@ -103,7 +98,8 @@ impl Stage {
 
     /// Whether the plan ended or halted, so that its undo may begin.
     pub fn is_over(&self) -> bool
-        ensures over { result ≡ true → (self.now ≡ IsAtEnd) ⊎ ((k : ℕ) × (why : AnyWhy) × (self.now ≡ IsAtHalt k why)) }
+        ensures over { result ≡ true
+            → (self.now ≡ IsAtEnd) ⊎ ((k : ℕ) × (why : AnyWhy) × (self.now ≡ IsAtHalt k why)) }
         ensures no_end { result ≡ false → self.now ≡ IsAtEnd → ⊥ }
         ensures no_halt { result ≡ false → (k : ℕ) (why : AnyWhy) → self.now ≡ IsAtHalt k why → ⊥ }
     {
@@ -115,8 +111,10 @@ impl Stage {
 
     /// The open request.
     pub fn open(&self) -> Option<&Asked>
-        ensures some { IfSome result (λ asked. (heeded : Bool) × (task : Task) × (self.now ≡ IsOpened heeded task asked.now)) }
-        ensures none { (heeded : Bool) (task : Task) (asked : AnyAsked) → self.now ≡ IsOpened heeded task asked → IsSome result }
+        ensures some { IfSome result (λ asked.
+            (heeded : Bool) × (task : Task) × (self.now ≡ IsOpened heeded task asked.now)) }
+        ensures none { (heeded : Bool) (task : Task) (asked : AnyAsked)
+            → self.now ≡ IsOpened heeded task asked → IsSome result }
     {
         match self {
             Stage::Opened { asked, .. } => Some(asked),
@@ -126,8 +124,10 @@ impl Stage {
 
     /// The open request, where it is heeded and goes on this bus.
     pub fn heeded_on(&self, bus: Bus) -> Option<&Asked>
-        ensures some { IfSome result (λ asked. (task : Task) × (self.now ≡ IsOpened true task asked.now) × (bus_of_request asked.now ≡ bus)) }
-        ensures none { (task : Task) (asked : AnyAsked) → self.now ≡ IsOpened true task asked → bus_of_request asked ≡ bus → IsSome result }
+        ensures some { IfSome result (λ asked. (task : Task)
+            × (self.now ≡ IsOpened true task asked.now) × (bus_of_request asked.now ≡ bus)) }
+        ensures none { (task : Task) (asked : AnyAsked) → self.now ≡ IsOpened true task asked
+            → bus_of_request asked ≡ bus → IsSome result }
     {
         match self {
             Stage::Opened {
