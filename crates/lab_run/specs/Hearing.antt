@@ -22,7 +22,7 @@ use Rattle.text_schedule.specs.declared.event.Event.{Event}
 use Rattle.text_schedule.specs.declared.event.Event.TheVariants as event
 use Rattle.model_lab.specs.Played.{plans}
 use Rattle.lab_run.specs.declared.lab_state.Lab.{Lab}
-use Rattle.lab_run.specs.Shown.{Shows}
+use Rattle.lab_run.specs.Shown.{Shows, ForShown}
 
 -- what is to be sent are the frames of these values, each of which is read as its value
 pub record HasFrames (on : Bus) (values : List Value) (out : Out) : Type 0 where
@@ -64,6 +64,7 @@ Ignores on bytes what = option_map done.Ignored (fault_in on bytes) ≡ Some wha
 -- what the controller did with the frame that an event delivers stands in what its port sent last, and so does why it ignored noise
 abbrev pub Did : Event → Lab → Lab → Type 0
 Did (event.ToBmc number) old new =
-    (file : BoardFile) (x : LabModel plans) (f : LabFrame) → Shows file old x → slice_get x.frames number ≡ Some f → new.out.done ≡ done_on f.on (port_on plans f.on x) f.value
-Did (event.Noise on bytes) old new = (file : BoardFile) (x : LabModel plans) → Shows file old x → Ignores on bytes new.out.done
+    (file : BoardFile) (x : LabModel plans) (f : LabFrame) → Shows file old x → slice_get x.frames number ≡ Some f
+    → new.out.done ≡ done_on f.on (port_on plans f.on x) f.value
+Did (event.Noise on bytes) old new = ForShown old (λ _ _. Ignores on bytes new.out.done)
 Did _ old new = Unit {0}

@@ -44,14 +44,18 @@ pub record Shows (file : BoardFile) (lab : Lab) (x : LabModel plans) : Type 0 wh
 
 -- ---- what the calls make of a lab
 
+-- this holds of each lab of the model that it shows, on a board of each file
+abbrev pub ForShown : Lab → (BoardFile → LabModel plans → Type 0) → Type 0
+ForShown lab Holds = (file : BoardFile) (x : LabModel plans) → Shows file lab x → Holds file x
+
 -- whatever lab of the model it showed, on a board of whatever file, it goes on to this one
 abbrev pub Becomes : Lab → Lab → (BoardFile → LabModel plans → LabModel plans) → Type 0
-Becomes old new makes = (file : BoardFile) (x : LabModel plans) → Shows file old x → Shows file new (makes file x)
+Becomes old new makes = ForShown old (λ file x. Shows file new (makes file x))
 
 -- An event is asked of a lab. It happens where it has no fault, and else nothing changes. Where memory is refused, nothing is said.
 abbrev pub Steps : Event → Lab → Result (Unit {0}) Refused → Lab → Type 0
 Steps e old (Ok done) new =
-    (file : BoardFile) (x : LabModel plans) → Shows file old x → (fault_at file x e ≡ None) × Shows file new (happens file e x)
+    ForShown old (λ file x. (fault_at file x e ≡ None) × Shows file new (happens file e x))
 Steps e old (Err (refused.Fault fault)) new =
-    (new ≡ old) × ((file : BoardFile) (x : LabModel plans) → Shows file old x → fault_at file x e ≡ Some fault)
+    (new ≡ old) × ForShown old (λ file x. fault_at file x e ≡ Some fault)
 Steps e old (Err refused.Memory) new = Unit {0}

@@ -30,7 +30,8 @@ fn made(manager: &mut Manager, call: Call) -> Result<Option<Sent>, WrongPhase>
 impl Lab {
     /// The manager is called. In a wrong phase nothing changes.
     pub(crate) fn call(&mut self, call: Call) -> Result<(), AllocError>
-        ensures becomes { OnOk result (Becomes self.old self.new (λ file x. call_does plans (called plans call x.manager) x)) }
+        ensures becomes { OnOk result (Becomes self.old self.new (λ _ x.
+            call_does plans (called plans call x.manager) x)) }
         ensures idles { self.new.idles ≡ self.old.idles }
     {
         match made(&mut self.manager, call) {
@@ -41,7 +42,8 @@ impl Lab {
 
     /// The bytes of the frame of this number come to the manager, if there is such a frame.
     pub(crate) fn to_manager(&mut self, number: u32) -> Result<(), AllocError>
-        ensures becomes { OnOk result (Becomes self.old self.new (λ file x. returned plans file (slice_get x.frames number) x)) }
+        ensures becomes { OnOk result (Becomes self.old self.new (λ file x.
+            returned plans file (slice_get x.frames number) x)) }
         ensures idles { self.new.idles ≡ self.old.idles }
     {
         let Some(frame) = self.frames.get(number) else {
@@ -53,7 +55,8 @@ impl Lab {
 
     /// The manager's frames are sent, if it sends some.
     pub(crate) fn send(&mut self, sent: Option<Sent>) -> Result<(), AllocError>
-        ensures becomes { OnOk result ((file : AnyFile) (x : LabModel plans) (s : Option AllSent) → Shows file self.old x → IsSent sent s → Shows file self.new (sends plans s x)) }
+        ensures becomes { OnOk result ((file : AnyFile) (x : LabModel plans) (s : Option AllSent)
+            → Shows file self.old x → IsSent sent s → Shows file self.new (sends plans s x)) }
         ensures out { self.new.out ≡ self.old.out }
         ensures idles { self.new.idles ≡ self.old.idles }
     {

@@ -35,7 +35,8 @@ impl Marks {
 impl Frames {
     /// The first thing that is wrong with the delivery of the frame of this number to this end.
     pub fn delivery_fault(&self, way: Way, number: u32, marks: Marks) -> Option<Fault>
-        ensures { (names : AnyNames) (x : Lab (board_plans names)) → ShowsFrames names self.now marks x
+        ensures { (names : AnyNames) (x : Lab (board_plans names))
+            → ShowsFrames names self.now marks x
             → result ≡ first_of (delivery (board_plans names) way x (slice_get x.frames number)) }
     {
         let Some(frame) = self.get(number) else {
@@ -52,7 +53,8 @@ impl Frames {
 
     /// What is wrong with an event that may send a frame and has nothing else wrong.
     pub fn room_fault(&self) -> Option<Fault>
-        ensures { (names : AnyNames) (marks : AnyMarks) (x : Lab (board_plans names)) → ShowsFrames names self.now marks x
+        ensures { (names : AnyNames) (marks : AnyMarks) (x : Lab (board_plans names))
+            → ShowsFrames names self.now marks x
             → result ≡ first_of (check Room (is_full (board_plans names) x) ∷ []) }
     {
         if self.is_full() {

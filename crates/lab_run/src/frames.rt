@@ -1,5 +1,6 @@
 //! The frames that were sent.
 ghost use Rattle.std.specs.Prelude.{◌≡◌, ◌++◌, ◌∷◌, [], length, nat_le, slice_get, Some, None, IfSome, IfNone, is_ok, if◌then◌else◌, OnOk, map};
+ghost use Rattle.model_lab.specs.Faults.{most_frames};
 ghost use Rattle.lab_run.specs.FramesShown.{sent_as};
 
 use crate::marks::Mark;
@@ -54,7 +55,7 @@ impl Frames {
 
     /// Whether there is no room for more.
     pub fn is_full(&self) -> bool
-        ensures { result ≡ nat_le 65536 (length self.now) }
+        ensures { result ≡ nat_le most_frames (length self.now) }
     {
         self.items.len() >= MOST_FRAMES
     }

@@ -4,25 +4,24 @@ ghost use Rattle.mctp_net.specs.Assembly.{nothing};
 ghost use Rattle.model_undo.specs.Machine.{opened};
 ghost use Rattle.undo_core.specs.Shown as manager;
 ghost use Rattle.undo_core.specs.Shown.{words_of};
-ghost use Rattle.cfg_records.specs.declared.board_file.BoardFile.{BoardFile as AnyFile};
 ghost use Rattle.two_wire.specs.declared.Bus.{Bus as AnyBus};
-ghost use Rattle.model_lab.specs.Lab.{Lab as LabModel, opening};
+ghost use Rattle.model_lab.specs.Lab.{opening};
 ghost use Rattle.model_ports.specs.PortSteps.{quiet_port};
 ghost use Rattle.bmc_core.specs.IpmbShown as ipmb;
 ghost use Rattle.bmc_core.specs.SmbusShown as smbus;
 ghost use Rattle.model_lab.specs.Meaning.{lab_names as the_names};
 ghost use Rattle.model_lab.specs.Played.{plans};
 ghost use Rattle.lab_run.specs.FramesShown.{ShowsFrames};
-ghost use Rattle.lab_run.specs.Shown.{Shows, idles_in};
+ghost use Rattle.lab_run.specs.Shown.{Shows, ForShown, idles_in};
 
 use crate::fault::Marks;
 use crate::frames::Frames;
 use crate::marks::Known;
-use crate::names::lab_names;
 use bmc_board::{Board, Records};
 use bmc_core::{At, IpmbPort, Out, SmbusPort};
 use cfg_records::BoardFile;
 use mctp_net::EndpointId;
+use model_lab::lab_names;
 use std::alloc::{AllocError, Global};
 use two_wire::Bus;
 use undo_core::{Manager, OpenFault};
@@ -80,14 +79,16 @@ fn opened_manager(alloc: Global, plan: Plan, names: Names) -> Result<Manager, Al
 
 /// The controller's port on IPMB.
 fn opened_ipmb(alloc: Global) -> Result<IpmbPort, AllocError>
-    ensures { IfOk result (λ port. ipmb.Shows port (quiet_port the_names.peer_address the_names.peer_eid)) }
+    ensures { IfOk result (λ port.
+        ipmb.Shows port (quiet_port the_names.peer_address the_names.peer_eid)) }
 {
     IpmbPort::new(alloc, lab_names().peer_address)
 }
 
 /// The controller's port on the System Management Bus.
 fn opened_smbus(alloc: Global) -> Result<SmbusPort, AllocError>
-    ensures { IfOk result (λ port. smbus.Shows port (quiet_port the_names.peer_wire the_names.peer_eid)) }
+    ensures { IfOk result (λ port.
+        smbus.Shows port (quiet_port the_names.peer_wire the_names.peer_eid)) }
 {
     let names = lab_names();
     let wire = names.peer_wire;
@@ -98,7 +99,8 @@ fn opened_smbus(alloc: Global) -> Result<SmbusPort, AllocError>
 impl Lab {
     /// A lab as it begins.
     pub fn open(alloc: Global, file: BoardFile, plan: Plan) -> Result<Lab, AllocError>
-        ensures shows { IfOk result (λ lab. Shows file lab (opening plans file the_names plan.steps plan.retries)) }
+        ensures shows { IfOk result (λ lab.
+            Shows file lab (opening plans file the_names plan.steps plan.retries)) }
         ensures never { IfOk result (λ lab. (on : AnyBus) → idles_in on lab.idles ≡ 0) }
     {
         Ok(Lab {
@@ -115,7 +117,7 @@ impl Lab {
 
     /// What tells which frames are too old.
     pub(crate) fn marks(&self) -> Marks
-        ensures { (file : AnyFile) (x : LabModel plans) → Shows file self.now x → ShowsFrames the_names self.now.frames result x }
+        ensures { ForShown self.now (λ _ x. ShowsFrames the_names self.now.frames result x) }
     {
         Marks {
             ipmb: Known {

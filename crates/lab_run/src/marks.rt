@@ -1,12 +1,12 @@
 //! How old the frames of a lab are, and which window may be forgotten.
 
 ghost use Rattle.std.specs.Prelude.{◌≡◌};
-ghost use Rattle.model_bus.specs.Circle.{span_of};
 ghost use Rattle.cfg_records.specs.declared.board_file.BoardFile.{BoardFile};
 ghost use Rattle.undo_plans.specs.declared.names.Names.{Names as NamesValue};
 ghost use Rattle.model_lab.specs.ManagerSteps.{board_plans};
 ghost use Rattle.lab_run.specs.Marks.{TellsLive, MarksReplies, TellsOpen};
 
+use model_bus::span;
 use two_wire::Bus;
 use undo_plans::Names;
 
@@ -29,16 +29,6 @@ pub struct Known {
     pub idles: usize,
 }
 
-/// How many newer requests, once begun, make a frame too old.
-fn span(on: Bus) -> usize
-    ensures { result ≡ span_of on }
-{
-    match on {
-        Bus::Ipmb => 32,
-        Bus::Smbus => 8,
-    }
-}
-
 impl Mark {
     /// Whether the frame may still be delivered.
     pub fn is_live(self, known: Known) -> bool
@@ -50,7 +40,8 @@ impl Mark {
     /// The mark of each frame that the port sends when this one comes.
     pub fn reply(self, idles: usize) -> Mark
         ensures value { result ≡ record { on = self.on; request = self.request; idles = idles } }
-        ensures marks { (names : NamesValue) (setup : BoardFile) → MarksReplies (board_plans names) setup self idles result }
+        ensures marks { (names : NamesValue) (setup : BoardFile)
+            → MarksReplies (board_plans names) setup self idles result }
     {
         Mark {
             on: self.on,

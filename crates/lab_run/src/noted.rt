@@ -1,9 +1,6 @@
 //! What is noted of an event.
 ghost use Rattle.std.specs.Prelude.{◌≡◌, Some, None, IfSome, IfNone, slice_get, option_map};
-ghost use Rattle.cfg_records.specs.declared.board_file.BoardFile.{BoardFile as AnyFile};
-ghost use Rattle.model_lab.specs.Lab.{Lab as LabModel};
-ghost use Rattle.model_lab.specs.Played.{plans};
-ghost use Rattle.lab_run.specs.Shown.{Shows};
+ghost use Rattle.lab_run.specs.Shown.{ForShown};
 ghost use Rattle.lab_run.specs.Coming.{comes, comes_at, done_in};
 
 use crate::frames::SentFrame;
@@ -16,7 +13,8 @@ use two_wire::Bus;
 impl Lab {
     /// The frame of this number, which comes, if there is such a frame.
     fn coming(&self, number: u32) -> Option<Came>
-        ensures { (file : AnyFile) (x : LabModel plans) → Shows file self.now x → result ≡ option_map (comes x) (slice_get x.frames number) }
+        ensures { ForShown self.now (λ _ x.
+            result ≡ option_map (comes x) (slice_get x.frames number)) }
     {
         let Some(frame) = self.frames.get(number) else {
             return None;
@@ -31,7 +29,7 @@ impl Lab {
 
     /// The frame that the event delivers, if there is such a frame.
     pub fn came(&self, event: &Event) -> Option<Came>
-        ensures { (file : AnyFile) (x : LabModel plans) → Shows file self.now x → result ≡ comes_at x event.now }
+        ensures { ForShown self.now (λ _ x. result ≡ comes_at x event.now) }
     {
         match event {
             Event::ToBmc(number) | Event::ToMgr(number) => self.coming(*number),
@@ -49,7 +47,8 @@ impl Lab {
 
     /// The bus of the frame of this number, if there is such a frame.
     pub fn bus_of(&self, number: usize) -> Option<Bus>
-        ensures { (file : AnyFile) (x : LabModel plans) → Shows file self.now x → result ≡ option_map (λ f. f.on) (slice_get x.frames number) }
+        ensures { ForShown self.now (λ _ x.
+            result ≡ option_map (λ f. f.on) (slice_get x.frames number)) }
     {
         let Some(frame) = self.frame_at(number) else {
             return None;

@@ -17,18 +17,17 @@ use bmc_board::is_changing;
 use cfg_records::Asked;
 use ipmb_frame::read_frame;
 use mctp_net::read_packet;
+use model_bus::PLDM_MESSAGE_TYPE;
 use model_lab::Fault;
 use pldm_base::{PldmBytes, read_pldm};
 use text_schedule::{OtherMessage, OtherRequest};
 use two_wire::{Bus, Bytes};
 use undo_plans::Names;
 
-/// The message type of PLDM (DSP0239).
-const PLDM_TYPE: u8 = 0x01;
-
 /// What is wrong with noise.
 pub fn noise_fault(on: Bus, bytes: &[u8]) -> Option<Fault>
-    ensures { (names : AnyNames) (x : Lab (board_plans names)) → result ≡ fault_of_event (board_plans names) x (Noise on bytes.now) }
+    ensures { (names : AnyNames) (x : Lab (board_plans names))
+        → result ≡ fault_of_event (board_plans names) x (Noise on bytes.now) }
 {
     let reads = match on {
         Bus::Ipmb => read_frame(bytes).is_ok(),
@@ -39,7 +38,8 @@ pub fn noise_fault(on: Bus, bytes: &[u8]) -> Option<Fault>
 
 /// What is wrong with forgetting a requester's window, where a request of the manager is open on that bus or on none.
 pub fn idle_fault(names: &Names, on: Bus, requester: u8, opened_on: Option<Bus>) -> Option<Fault>
-    ensures { (x : Lab (board_plans names.now)) → x.manager.names ≡ names.now → open_bus (board_plans names.now).words x.manager.machine ≡ opened_on
+    ensures { (x : Lab (board_plans names.now)) → x.manager.names ≡ names.now
+        → open_bus (board_plans names.now).words x.manager.machine ≡ opened_on
         → result ≡ fault_of_event (board_plans names.now) x (Idles on requester) }
 {
     if is_still_open(names, on, requester, opened_on) {
@@ -74,7 +74,8 @@ fn is_own(on: Bus, names: &Names, from: u8) -> bool
 
 /// What is wrong with another requester's request but for want of room.
 pub fn request_fault(names: &Names, request: &OtherRequest) -> Option<Fault>
-    ensures { result ≡ first_of (check Changing (is_changing (asked_in (request_of names.now request.now)))
+    ensures { result ≡ first_of (
+        check Changing (is_changing (asked_in (request_of names.now request.now)))
         ∷ check Impersonates (is_own Ipmb names.now request.now.requester.address) ∷ []) }
 {
     if is_changing(&asked(request)) {
@@ -94,7 +95,7 @@ fn message_changes(from: u8, bytes: &[u8]) -> bool
     let [kind, rest @ ..] = bytes else {
         return false;
     };
-    if *kind != PLDM_TYPE {
+    if *kind != PLDM_MESSAGE_TYPE {
         return false;
     }
     match read_pldm(&PldmBytes::new(rest)) {

@@ -4,7 +4,7 @@ ghost use Rattle.two_wire.specs.declared.Bus.TheVariants.{Smbus};
 ghost use Rattle.cfg_records.specs.declared.board_file.BoardFile.{BoardFile as AnyFile};
 ghost use Rattle.model_lab.specs.Lab.{LabFrame, Lab as LabModel};
 ghost use Rattle.model_lab.specs.Played.{plans};
-ghost use Rattle.lab_run.specs.Shown.{Shows, IsSentFrame};
+ghost use Rattle.lab_run.specs.Shown.{Shows, ForShown, IsSentFrame};
 ghost use Rattle.lab_run.specs.Parts.{part_of, part_at};
 
 use crate::frames::SentFrame;
@@ -35,7 +35,9 @@ fn goes_to(to: u8, own: u8) -> bool
 impl Lab {
     /// What is looked at of the packet that a frame on the System Management Bus is.
     fn packet_of(&self, frame: &SentFrame) -> Option<ManagerPart>
-        ensures { (file : AnyFile) (x : LabModel plans) (f : LabFrame) → Shows file self.now x → IsSentFrame frame.now f → f.on ≡ Smbus → result ≡ part_of x f.request f.value }
+        ensures { (file : AnyFile) (x : LabModel plans) (f : LabFrame)
+            → Shows file self.now x → IsSentFrame frame.now f → f.on ≡ Smbus
+            → result ≡ part_of x f.request f.value }
     {
         let Ok(packet) = read_packet(frame.bytes.as_slice()) else {
             return None;
@@ -53,7 +55,9 @@ impl Lab {
 
     /// What is looked at of a frame, if it is a packet.
     fn part_of(&self, frame: &SentFrame) -> Option<ManagerPart>
-        ensures { (file : AnyFile) (x : LabModel plans) (f : LabFrame) → Shows file self.now x → IsSentFrame frame.now f → result ≡ part_of x f.request f.value }
+        ensures { (file : AnyFile) (x : LabModel plans) (f : LabFrame)
+            → Shows file self.now x → IsSentFrame frame.now f
+            → result ≡ part_of x f.request f.value }
     {
         match frame.mark.on {
             Bus::Ipmb => None,
@@ -63,7 +67,7 @@ impl Lab {
 
     /// The packet that the event brings to the port, if it brings one.
     pub fn part(&self, event: &Event) -> Option<ManagerPart>
-        ensures { (file : AnyFile) (x : LabModel plans) → Shows file self.now x → result ≡ part_at x event.now }
+        ensures { ForShown self.now (λ _ x. result ≡ part_at x event.now) }
     {
         let Event::ToBmc(number) = event else {
             return None;

@@ -12,7 +12,7 @@ ghost use Rattle.model_lab.specs.Lab.{LabFrame, Lab as LabModel, delivered, port
 ghost use Rattle.model_lab.specs.Meaning.{lab_names as the_names, other_wire, request_of, message_of};
 ghost use Rattle.model_lab.specs.Faults.{is_frame};
 ghost use Rattle.model_lab.specs.Played.{plans};
-ghost use Rattle.lab_run.specs.Shown.{Shows, Becomes, idles_in};
+ghost use Rattle.lab_run.specs.Shown.{Shows, ForShown, Becomes, idles_in};
 ghost use Rattle.lab_run.specs.Hearing.{HasFrames, HasHeard, done_on, Ignores};
 
 use crate::lab_state::Lab;
@@ -56,7 +56,8 @@ fn request_frame(names: &Names, request: &OtherRequest) -> Frame
 
 /// The frames of somebody else's message to the controller.
 fn message_frames(names: &Names, message: &OtherMessage) -> ArrayVec<Frame, 4>
-    ensures { AllZip (IsFrameOn Smbus) (map (λ p. Part p) (parts_of (message_of names.now message.now))) result.items }
+    ensures { AllZip (IsFrameOn Smbus)
+        (map (λ p. Part p) (parts_of (message_of names.now message.now))) result.items }
 {
     let envelope = Envelope {
         destination: names.peer_wire,
@@ -73,8 +74,10 @@ fn message_frames(names: &Names, message: &OtherMessage) -> ArrayVec<Frame, 4>
 impl Lab {
     /// The frame of this number comes to the controller's port on its bus, if there is such a frame.
     pub(crate) fn to_port(&mut self, number: u32) -> Result<(), AllocError>
-        ensures becomes { OnOk result (Becomes self.old self.new (λ file x. delivered plans file (slice_get x.frames number) x)) }
-        ensures done { OnOk result ((file : AnyFile) (x : LabModel plans) (f : LabFrame) → Shows file self.old x → slice_get x.frames number ≡ Some f
+        ensures becomes { OnOk result (Becomes self.old self.new (λ file x.
+            delivered plans file (slice_get x.frames number) x)) }
+        ensures done { OnOk result ((file : AnyFile) (x : LabModel plans) (f : LabFrame)
+            → Shows file self.old x → slice_get x.frames number ≡ Some f
             → self.new.out.done ≡ done_on f.on (port_on plans f.on x) f.value) }
         ensures idles { self.new.idles ≡ self.old.idles }
     {
@@ -90,7 +93,9 @@ impl Lab {
 
     /// Somebody else's request comes to the port on IPMB.
     pub(crate) fn other_request(&mut self, request: &OtherRequest) -> Result<(), AllocError>
-        ensures becomes { OnOk result (Becomes self.old self.new (λ file x. port_does plans Ipmb ToOthers 0 (hears file x.ipmb x.board (Asks (request_of the_names request.now))) x)) }
+        ensures becomes { OnOk result (Becomes self.old self.new (λ file x.
+            port_does plans Ipmb ToOthers 0
+            (hears file x.ipmb x.board (Asks (request_of the_names request.now))) x)) }
         ensures idles { self.new.idles ≡ self.old.idles }
     {
         let frame = request_frame(&self.names, request);
@@ -99,7 +104,9 @@ impl Lab {
 
     /// All packets of somebody else's message come to the port on the System Management Bus.
     pub(crate) fn other_message(&mut self, message: &OtherMessage) -> Result<(), AllocError>
-        ensures becomes { OnOk result (Becomes self.old self.new (λ file x. port_does plans Smbus ToOthers 0 (hears_all file x.smbus x.board (message_of the_names message.now)) x)) }
+        ensures becomes { OnOk result (Becomes self.old self.new (λ file x.
+            port_does plans Smbus ToOthers 0
+            (hears_all file x.smbus x.board (message_of the_names message.now)) x)) }
         ensures idles { self.new.idles ≡ self.old.idles }
     {
         let frames = message_frames(&self.names, message);
@@ -111,10 +118,14 @@ impl Lab {
 
     /// Somebody else's frame comes to the port on its bus, and what the port sends goes to others. Bytes that are no frame change nothing.
     pub(crate) fn hear_other(&mut self, on: Bus, bytes: &[u8]) -> Result<(), AllocError>
-        ensures becomes { OnOk result ((file : AnyFile) (x : LabModel plans) (v : Value) → Shows file self.old x → IsFrameOn on v bytes.now
-            → Shows file self.new (port_does plans on ToOthers 0 (hears file (port_on plans on x) x.board v) x)) }
-        ensures noise { OnOk result ((file : AnyFile) (x : LabModel plans) → Shows file self.old x → is_frame on bytes.now ≡ false → Shows file self.new x) }
-        ensures ignored { OnOk result ((file : AnyFile) (x : LabModel plans) → Shows file self.old x → is_frame on bytes.now ≡ false → Ignores on bytes.now self.new.out.done) }
+        ensures becomes { OnOk result ((file : AnyFile) (x : LabModel plans) (v : Value)
+            → Shows file self.old x → IsFrameOn on v bytes.now
+            → Shows file self.new (port_does plans on ToOthers 0
+            (hears file (port_on plans on x) x.board v) x)) }
+        ensures noise { OnOk result (ForShown self.old (λ file x.
+            is_frame on bytes.now ≡ false → Shows file self.new x)) }
+        ensures ignored { OnOk result (ForShown self.old (λ _ _.
+            is_frame on bytes.now ≡ false → Ignores on bytes.now self.new.out.done)) }
         ensures idles { self.new.idles ≡ self.old.idles }
     {
         self.hear(on, bytes);
@@ -128,13 +139,16 @@ impl Lab {
 
     /// A frame comes to the port on its bus, which fills in what it sends. Of other bytes it says what is wrong with them.
     fn hear(&mut self, on: Bus, bytes: &[u8])
-        ensures heard { (file : AnyFile) (x : LabModel plans) (v : Value) → Shows file self.old x → IsFrameOn on v bytes.now
+        ensures heard { (file : AnyFile) (x : LabModel plans) (v : Value)
+            → Shows file self.old x → IsFrameOn on v bytes.now
             → HasHeard file on x (hears file (port_on plans on x) x.board v) self.new }
-        ensures done { (file : AnyFile) (x : LabModel plans) (v : Value) → Shows file self.old x → IsFrameOn on v bytes.now
+        ensures done { (file : AnyFile) (x : LabModel plans) (v : Value)
+            → Shows file self.old x → IsFrameOn on v bytes.now
             → self.new.out.done ≡ done_on on (port_on plans on x) v }
-        ensures noise { (file : AnyFile) (x : LabModel plans) → Shows file self.old x → is_frame on bytes.now ≡ false
-            → HasHeard file on x (stays (port_on plans on x) x.board) self.new }
-        ensures ignored { (file : AnyFile) (x : LabModel plans) → Shows file self.old x → is_frame on bytes.now ≡ false → Ignores on bytes.now self.new.out.done }
+        ensures noise { ForShown self.old (λ file x. is_frame on bytes.now ≡ false
+            → HasHeard file on x (stays (port_on plans on x) x.board) self.new) }
+        ensures ignored { ForShown self.old (λ _ _.
+            is_frame on bytes.now ≡ false → Ignores on bytes.now self.new.out.done) }
         ensures idles { self.new.idles ≡ self.old.idles }
     {
         match on {
@@ -146,7 +160,8 @@ impl Lab {
     /// The lab sends what a port filled in last, this way and with this mark.
     fn send_out(&mut self, way: Way, mark: Mark) -> Result<(), AllocError>
         requires { mark.idles ≡ idles_in mark.on self.old.idles }
-        ensures sent { OnOk result ((file : AnyFile) (x : LabModel plans) (values : List Value) → Shows file self.old x → HasFrames mark.on values self.old.out
+        ensures sent { OnOk result ((file : AnyFile) (x : LabModel plans) (values : List Value)
+            → Shows file self.old x → HasFrames mark.on values self.old.out
             → Shows file self.new (with_frames plans mark.on way mark.request values x)) }
         ensures out { self.new.out ≡ self.old.out }
         ensures idles { self.new.idles ≡ self.old.idles }
@@ -157,8 +172,10 @@ impl Lab {
     /// The port on a bus forgets a requester's window.
     pub(crate) fn idle(&mut self, on: Bus, requester: u8)
         requires { (bus : AnyBus) → idles_in bus self.now.idles < 9223372036854775807 }
-        ensures becomes { Becomes self.old self.new (λ file x. with_port plans on (idles requester (port_on plans on x)) x) }
-        ensures few { (bus : AnyBus) → idles_in bus self.new.idles ≤ suc (idles_in bus self.old.idles) }
+        ensures becomes { Becomes self.old self.new (λ _ x.
+            with_port plans on (idles requester (port_on plans on x)) x) }
+        ensures few { (bus : AnyBus)
+            → idles_in bus self.new.idles ≤ suc (idles_in bus self.old.idles) }
     {
         match on {
             Bus::Ipmb => {

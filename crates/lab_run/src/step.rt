@@ -1,10 +1,8 @@
 //! Events.
 ghost use Rattle.std.specs.Prelude.{◌≡◌, ◌<◌, ◌≤◌, suc, None, OnOk};
 ghost use Rattle.two_wire.specs.declared.Bus.{Bus as AnyBus};
-ghost use Rattle.cfg_records.specs.declared.board_file.BoardFile.{BoardFile as AnyFile};
-ghost use Rattle.model_lab.specs.Lab.{Lab as LabModel};
-ghost use Rattle.model_lab.specs.Played.{plans, fault_at, happens};
-ghost use Rattle.lab_run.specs.Shown.{Shows, Becomes, Steps, idles_in};
+ghost use Rattle.model_lab.specs.Played.{fault_at, happens};
+ghost use Rattle.lab_run.specs.Shown.{ForShown, Becomes, Steps, idles_in};
 ghost use Rattle.lab_run.specs.Hearing.{Did};
 ghost use Rattle.bmc_board.specs.Sensing.{bench_of};
 
@@ -27,7 +25,7 @@ pub enum Refused {
 impl Lab {
     /// The first thing that is wrong with an event.
     fn fault(&self, event: &Event) -> Option<Fault>
-        ensures { (file : AnyFile) (x : LabModel plans) → Shows file self.now x → result ≡ fault_at file x event.now }
+        ensures { ForShown self.now (λ file x. result ≡ fault_at file x event.now) }
     {
         let marks = self.marks();
         match event {
@@ -52,7 +50,8 @@ impl Lab {
 
     /// The activity of the board changes beside requests. A reading of a sensor that the board doesn't have changes nothing.
     fn bench(&mut self, event: Bench)
-        ensures becomes { Becomes self.old self.new (λ file x. record x { board = (bench_of file x.board event).1 }) }
+        ensures becomes { Becomes self.old self.new (λ file x.
+            record x { board = (bench_of file x.board event).1 }) }
         ensures idles { self.new.idles ≡ self.old.idles }
     {
         let _ = self.board.bench(event);
@@ -60,11 +59,12 @@ impl Lab {
 
     /// An event without a fault happens.
     fn happen(&mut self, event: &Event) -> Result<(), AllocError>
-        requires taken { (file : AnyFile) (x : LabModel plans) → Shows file self.now x → fault_at file x event.now ≡ None }
+        requires taken { ForShown self.now (λ file x. fault_at file x event.now ≡ None) }
         requires few { (on : AnyBus) → idles_in on self.now.idles < 9223372036854775807 }
         ensures becomes { OnOk result (Becomes self.old self.new (λ file. happens file event.now)) }
         ensures done { OnOk result (Did event.now self.old self.new) }
-        ensures few { (on : AnyBus) → idles_in on self.new.idles ≤ suc (idles_in on self.old.idles) }
+        ensures few { (on : AnyBus)
+            → idles_in on self.new.idles ≤ suc (idles_in on self.old.idles) }
     {
         match event {
             Event::Calls(call) => return self.call(*call),
@@ -88,7 +88,8 @@ impl Lab {
         requires { (on : AnyBus) → idles_in on self.now.idles < 9223372036854775807 }
         ensures steps { Steps event.now self.old result self.new }
         ensures done { OnOk result (Did event.now self.old self.new) }
-        ensures few { (on : AnyBus) → idles_in on self.new.idles ≤ suc (idles_in on self.old.idles) }
+        ensures few { (on : AnyBus)
+            → idles_in on self.new.idles ≤ suc (idles_in on self.old.idles) }
     {
         if let Some(fault) = self.fault(event) {
             return Err(Refused::Fault(fault));

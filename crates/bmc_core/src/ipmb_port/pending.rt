@@ -8,12 +8,10 @@ ghost use Rattle.bmc_core.specs.IpmbShown.{reading, HasUnits};
 
 use cfg_records::Asked;
 use ipmb_frame::{Header, Request};
+pub(super) use model_bus::SEQUENCE_NUMBERS;
 use std::marker::Model;
 use two_wire::size::MOST_IPMI_REQUEST_DATA;
 use two_wire::{Bytes, Data};
-
-/// How many sequence numbers IPMB has.
-pub(super) const SEQUENCE_NUMBERS: u8 = 64;
 
 /// A request, where it lies in its frame.
 #[derive(Debug, Drop)]

@@ -8,13 +8,11 @@ ghost use Rattle.bmc_core.specs.SmbusShown.{pldm_reading, request_in};
 
 use cfg_records::Asked;
 use mctp_net::Envelope;
+pub(super) use model_bus::INSTANCES;
 use pldm_base::{Header, PldmRequest, write_pldm};
 use std::marker::Model;
 use two_wire::size::MOST_PLDM_REQUEST_DATA;
 use two_wire::{Bytes, Data};
-
-/// The number of instances that PLDM has.
-pub(super) const INSTANCES: u8 = 32;
 
 /// Request bit 1, datagram bit 0 and the ignored bit 0, with instance 0 (DSP0240).
 const REQUEST: u8 = 0x80;
