@@ -11,6 +11,7 @@ use Rattle.model_undo.specs.Machine.{open_bus}
 use Rattle.model_undo.specs.Clean.{GoAll, EndsIn}
 use Rattle.model_family.specs.Family.{answer}
 use Rattle.undo_plans.specs.declared.names.Names.{Names}
+use Rattle.undo_plans.specs.Steps.{most_steps}
 use Rattle.model_lab.specs.Lab.{Event}
 use Rattle.model_lab.specs.Faults.{begun_on, AllTaken}
 use Rattle.model_lab.specs.Clean.{IsCleanRun, IsCleanUndo}
@@ -40,11 +41,11 @@ module _ (setup : BoardFile) (names : Names) (plan : List Op) (retries : ℕ) wh
     pub phase : Phase
     pub more : ℕ
     pub ends : EndsIn (F setup names) (answer setup) (length steps) rest at phase more
-    -- a clean schedule of a plan of at most 256 steps exists, and a lab takes each event of any
-    pub can_run : length plan ≤ 256 → (events : List Event) × IsCleanRun (P setup names) setup events (first setup names plan retries)
-    pub can_undo : length plan ≤ 256 → (events : List Event) × IsCleanUndo (P setup names) setup events (first setup names plan retries)
-    pub run_taken : length plan ≤ 256 → (events : List Event) → IsCleanRun (P setup names) setup events (first setup names plan retries) → AllTaken (P setup names) setup events (first setup names plan retries)
-    pub undo_taken : length plan ≤ 256 → (events : List Event) → IsCleanUndo (P setup names) setup events (first setup names plan retries) → AllTaken (P setup names) setup events (first setup names plan retries)
+    -- a clean schedule of a plan of at most `most_steps` exists, and a lab takes each event of any
+    pub can_run : length plan ≤ most_steps → (events : List Event) × IsCleanRun (P setup names) setup events (first setup names plan retries)
+    pub can_undo : length plan ≤ most_steps → (events : List Event) × IsCleanUndo (P setup names) setup events (first setup names plan retries)
+    pub run_taken : length plan ≤ most_steps → (events : List Event) → IsCleanRun (P setup names) setup events (first setup names plan retries) → AllTaken (P setup names) setup events (first setup names plan retries)
+    pub undo_taken : length plan ≤ most_steps → (events : List Event) → IsCleanUndo (P setup names) setup events (first setup names plan retries) → AllTaken (P setup names) setup events (first setup names plan retries)
     pub ran : (events : List Event) → IsCleanRun (P setup names) setup events (first setup names plan retries)
         → HasEnded events phase (length steps + length steps + more)
         × IsAfter (F setup names) plan (first setup names plan retries).board.records (length steps) (after setup names plan retries events).board.records

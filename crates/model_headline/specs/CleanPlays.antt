@@ -54,7 +54,7 @@ module _ (file : BoardFile) (plan : List Op) (retries : ℕ) where
     pub ran : StartsClean events → TellsRun runs events ending
     pub undone : UndoesClean events → TellsUndo runs events ending
 
-  -- A plan of at most 256 steps has clean schedules, one that starts it and one that undoes it too; and every play of one ends so.
+  -- A plan of at most `most_steps` has clean schedules, one that starts it and one that undoes it too; and every play of one ends so.
   pub record PlaysRunClean : Type 0 where
     pub can_run : (events : List Event) × StartsClean events
     pub can_undo : (events : List Event) × UndoesClean events

@@ -8,6 +8,7 @@ use Rattle.mctp_net.specs.declared.packet.Packet.{Packet}
 use Rattle.mctp_net.specs.Sizes.{unit_size}
 use Rattle.mctp_net.specs.Assembly.{open_beside, is_ours}
 use Rattle.cfg_records.specs.declared.board_file.BoardFile.{BoardFile}
+use Rattle.model_bus.specs.Circle.{tags}
 use Rattle.model_bus.specs.Numbering.{Rules, ipmb}
 use Rattle.model_bus.specs.Repeat.{In}
 use Rattle.model_bus.specs.Packet.{packets_of}
@@ -189,7 +190,7 @@ module _ (setup : BoardFile) (names : Names) where
     pub made : MachineMade (addresses names) x.manager.machine
     pub frames : Each (IsHeld on) x.frames
     -- what waits of the manager's at the port is of the request whose start came last under its tag
-    pub opened : (n : ℕ) (t : Sent) → In t ((on Smbus).port (request_name smbus_bus n)) → t.request ≡ x.opened (n % 8)
+    pub opened : (n : ℕ) (t : Sent) → In t ((on Smbus).port (request_name smbus_bus n)) → t.request ≡ x.opened (n % tags)
 
   -- the model's world of a lab
   abbrev pub world_of : Lab P → States L → World F L

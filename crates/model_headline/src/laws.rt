@@ -5,6 +5,7 @@ ghost use Rattle.record_base.specs.declared.op.Op.{Op};
 ghost use Rattle.cfg_records.specs.declared.board_file.BoardFile.{BoardFile};
 ghost use Rattle.cfg_records.specs.Records.{Records};
 ghost use Rattle.undo_plans.specs.declared.names.Names.{Names};
+ghost use Rattle.undo_plans.specs.Steps.{most_steps};
 ghost use Rattle.model_headline.specs.Follows.{CallsAreFollowed, RepliesAreFollowed, RequestsAreFollowed, OthersAreFollowed};
 ghost use Rattle.model_headline.specs.Theorem.{Headline, IsTrusted, IsTakenAndOwn, PremisesAgree};
 ghost use Rattle.model_headline.specs.Plays.{PlaysStand};
@@ -67,5 +68,5 @@ pub fn clean_links_run_plans()
 
 /// A plan of at most 256 steps has clean schedules. A play of one takes it whole, and tells it: so the plan ran, and so it was undone.
 pub fn clean_plays_run_plans()
-    ensures { (file : BoardFile) (plan : List Op) (retries : ℕ) → length plan ≤ 256 → PlaysRunClean file plan retries }
+    ensures { (file : BoardFile) (plan : List Op) (retries : ℕ) → length plan ≤ most_steps → PlaysRunClean file plan retries }
 {}
