@@ -1,6 +1,8 @@
 -- What is watched of the premise on packets.
 use Rattle.std.specs.Prelude.{◌≡◌, ℕ, ◌-◌, ◌<◌, Bool, true, false, not, ◌&&◌, nat_lt, List, take, Option, Some, None, Result, Ok, Err, if◌then◌else◌, slice_get, slice_index, slice_set}
 use Rattle.std.specs.Option.{is_none}
+use Rattle.two_wire.specs.declared.Bus.TheVariants.{Smbus}
+use Rattle.model_bus.specs.Circle.{tags, span_of}
 use Rattle.cfg_records.specs.declared.board_file.BoardFile.{BoardFile}
 use Rattle.bmc_core.specs.declared.out.Done.{Done}
 use Rattle.bmc_core.specs.declared.out.Done.TheVariants as done
@@ -27,9 +29,9 @@ abbrev pub took_by : Option Done → Bool
 took_by None = false
 took_by (Some d) = took d
 
--- more than eight requests were begun from the one on that was opened under the tag
+-- more requests were begun from the one on that was opened under the tag than the span
 abbrev pub waits_long : List ℕ → (tag begun : ℕ) → Bool
-waits_long opened tag begun = nat_lt 8 (begun - slice_index opened tag)
+waits_long opened tag begun = nat_lt (span_of Smbus) (begun - slice_index opened tag)
 
 -- what is opened under each tag, once a packet came
 abbrev pub opened_in : ManagerPart → List ℕ → List ℕ
@@ -43,7 +45,7 @@ broken_at watch part begun taken place = if is_none watch.broken && not part.sta
 
 -- under each tag, the request whose start came last
 abbrev pub Watches : Watch → LabModel plans → Type 0
-Watches watch x = (tag : ℕ) → tag < 8 → slice_get watch.opened tag ≡ Some (x.opened tag)
+Watches watch x = (tag : ℕ) → tag < tags → slice_get watch.opened tag ≡ Some (x.opened tag)
 
 -- the first event to break the premise is the same after one more, of this place, unless it's that
 abbrev pub TellsNext : Option ℕ → Option ℕ → (place : ℕ) → Type 0 → Type 0

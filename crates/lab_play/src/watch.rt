@@ -1,23 +1,25 @@
 //! The premise on packets, watched while a schedule is played.
 ghost use Rattle.std.specs.Prelude.{◌≡◌, ◌<◌, ◌≤◌, ℕ, suc, slice_get, Some, None, OnOk};
 ghost use Rattle.two_wire.specs.declared.Bus.{Bus as AnyBus};
+ghost use Rattle.model_bus.specs.Circle.{tags};
 ghost use Rattle.lab_run.specs.Shown.{Steps, idles_in};
 ghost use Rattle.lab_run.specs.Hearing.{Did};
 ghost use Rattle.lab_play.specs.Watched.{took_by, waits_long, opened_in, broken_at, WatchesStep};
 
 use bmc_core::{Done, Reason};
 use lab_run::{Lab, ManagerPart, Refused};
+use model_bus::{TAGS, span};
 use text_schedule::Event;
 use two_wire::Bus;
 
-/// So many newer requests of the manager may not be begun when a packet is joined.
-const MOST_NEWER: usize = 8;
+/// The number of tags, as a length.
+const COUNT: usize = TAGS as usize;
 
 /// What is known of the packets of the manager that wait at the controller's port.
 #[derive(Clone, Copy, Debug, PartialEq, Eq)]
 pub struct Watch {
     /// Under each tag, the request whose start came last to the port.
-    opened: [usize; 8],
+    opened: [usize; COUNT],
     /// The place of the first event at which a packet joined one that had waited too long, counted from 1.
     pub broken: Option<usize>,
 }
@@ -36,10 +38,10 @@ impl Watch {
     /// Nothing waits.
     pub fn new() -> Watch
         ensures none { result.broken ≡ None }
-        ensures opened { (tag : ℕ) → tag < 8 → slice_get result.opened tag ≡ Some 0 }
+        ensures opened { (tag : ℕ) → tag < tags → slice_get result.opened tag ≡ Some 0 }
     {
         Watch {
-            opened: [0; 8],
+            opened: [0; COUNT],
             broken: None,
         }
     }
@@ -49,14 +51,14 @@ impl Watch {
         ensures { result ≡ waits_long self.now.opened part.now.tag begun }
     {
         let opened = self.opened[usize::from(part.tag.number())];
-        begun.saturating_sub(opened) > MOST_NEWER
+        begun.saturating_sub(opened) > span(Bus::Smbus)
     }
 
     /// A packet came to the port.
     fn opens(&mut self, part: &ManagerPart)
         ensures opened { self.new.opened ≡ opened_in part.now self.old.opened }
         ensures broken { self.new.broken ≡ self.old.broken }
-        ensures low { part.now.tag < 8 }
+        ensures low { part.now.tag < tags }
     {
         let tag = usize::from(part.tag.number());
         if part.start && part.ours {
@@ -68,7 +70,7 @@ impl Watch {
     fn hears(&mut self, part: ManagerPart, begun: usize, taken: bool, place: usize)
         ensures opened { self.new.opened ≡ opened_in part self.old.opened }
         ensures broken { self.new.broken ≡ broken_at self.old part begun taken place }
-        ensures low { part.tag < 8 }
+        ensures low { part.tag < tags }
     {
         let starts = part.start;
         let is_late = self.waits_long(&part, begun);
