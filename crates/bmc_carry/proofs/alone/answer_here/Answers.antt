@@ -1,0 +1,34 @@
+use Rattle.std.specs.Prelude.{Result}
+use Rattle.std.proofs.Common.{◌≡◌, ℕ, sym, ◌∙◌, ap, subst}
+use Rattle.record_base.specs.Meaning.{room_for}
+use Rattle.bmc_board.specs.Gives.{Gives}
+use Rattle.bmc_board.specs.Request.{Request, asked_by, asked_of}
+use Rattle.bmc_board.specs.Serves.{Fits, reply_by}
+use Rattle.bmc_board.specs.State.{state_of}
+use Rattle.bmc_board.specs.Table.{is_changing}
+use Rattle.bmc_board.proofs.AskedFacts.{asked_right}
+use Rattle.bmc_board.proofs.AnswerFacts.{answers_fit}
+use Rattle.bmc_carry.specs.Asking.{meant}
+use Rattle.bmc_carry.proofs.Fitting.{fits_behind}
+use Rattle.bmc_carry.proofs.alone.answer_here.Goals as goal
+
+pub reply-requires : goal.reply-requires
+reply-requires g c =
+    let asked = meant c.args.asked.now in
+    let bytes = g.B.Buffer.bytes c.args.reply.now in
+    let read : asked_of c.command.result c.body.result.now ≡ asked_by asked = ap (asked_of c.command.result) c.body.ensures ∙ c.command.ensures in
+    record { room = subst (λ (r : Result Request ℕ). Fits r bytes g.B.Buffer.capacity) (sym read) (fits_behind (asked_by asked) (room_for asked) (is_changing asked) bytes g.B.Buffer.capacity (asked_right asked) c.requires.room) }
+
+pub returns-clause-given : goal.returns-clause-given
+returns-clause-given g c =
+    let read : asked_of c.command.result c.body.result.now ≡ asked_by (meant c.args.asked.now) = ap (asked_of c.command.result) c.body.ensures ∙ c.command.ensures in
+    subst (λ (r : Result Request ℕ). Gives c.reply.result (g.B.Buffer.bytes c.args.reply.now) (g.B.Buffer.bytes c.reply.new.to) (reply_by g.S.Store.records c.args.board.now r).0) read
+    c.reply.ensures.answer
+
+pub returns-clause-left : goal.returns-clause-left
+returns-clause-left g c =
+    let read : asked_of c.command.result c.body.result.now ≡ asked_by (meant c.args.asked.now) = ap (asked_of c.command.result) c.body.ensures ∙ c.command.ensures in
+    c.reply.ensures.left ∙ ap (λ (r : Result Request ℕ). (reply_by g.S.Store.records c.args.board.now r).1) read
+
+pub returns-clause-fits : goal.returns-clause-fits
+returns-clause-fits g c = answers_fit c.args.board.now.setup (state_of g.S.Store.records c.args.board.now) (meant c.args.asked.now) c.args.board.now.sound

@@ -1,0 +1,73 @@
+//! A board that carries requests out itself.
+ghost use Rattle.std.specs.Prelude.{◌≡◌, ◌+◌, ◌≤◌, length};
+ghost use Rattle.record_base.specs.Meaning.{room_for};
+ghost use Rattle.bmc_board.specs.Gives.{Gives};
+ghost use Rattle.bmc_board.specs.Serves.{given_by};
+ghost use Rattle.bmc_board.specs.State.{state_of};
+ghost use Rattle.bmc_carry.specs.Asking.{meant};
+
+use crate::asked::AskedHere;
+use crate::carrier::Carrier;
+use crate::reply::Reply;
+use bmc_board::Board;
+use cfg_records::Store;
+use std::marker::PhantomData;
+use two_wire::Code;
+
+/// Has the board answer a request, and appends the data of the reply. It takes no memory.
+#[inline(always)]
+pub fn answer_here<S: Store, B: Reply>(
+    board: &mut Board<S>,
+    asked: &AskedHere<'_>,
+    reply: &mut B,
+) -> Result<(), Code>
+    requires room { length (B.bytes reply.old) + room_for (meant asked.now) ≤ B.capacity }
+    ensures given { Gives result (B.bytes reply.old) (B.bytes reply.new)
+        (given_by S.records board.old (meant asked.now)).0 }
+    ensures left { state_of S.records board.new
+        ≡ (given_by S.records board.old (meant asked.now)).1 }
+    ensures setup { board.new.setup ≡ board.old.setup }
+    ensures fits { length (given_by S.records board.old (meant asked.now)).0.body
+        ≤ room_for (meant asked.now) }
+{
+    board.reply(asked.command(), asked.body(), reply)
+}
+
+/// What never comes.
+#[derive(Clone, Copy, Debug, PartialEq, Eq)]
+pub enum Never {}
+
+/// Has a board carry out whatever it is asked, with no history.
+#[derive(Clone, Copy, Debug)]
+pub struct Alone<S> {
+    of: PhantomData<S>,
+}
+
+impl<S> Alone<S> {
+    /// The one that there is.
+    pub fn new() -> Self {
+        Alone { of: PhantomData }
+    }
+}
+
+impl<S: Store> Carrier for Alone<S> {
+    ghost use Rattle.bmc_carry.specs.Carrying.{IsAnswered};
+
+    type Kept = Board<S>;
+
+    type Refusal = Never;
+
+    ghost carries = { λ alone before asked answered after. IsAnswered S.records before asked answered after };
+
+    ghost refuses = { λ alone before why after. ⊥ };
+
+    #[inline(always)]
+    fn carry<B: Reply>(
+        &self,
+        kept: &mut Board<S>,
+        asked: &AskedHere<'_>,
+        reply: &mut B,
+    ) -> Result<Result<(), Code>, Never> {
+        Ok(answer_here(kept, asked, reply))
+    }
+}
