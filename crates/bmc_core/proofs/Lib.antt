@@ -8,3 +8,6 @@ pub mod SmbusReplies
 pub mod SmbusPorts
 pub mod SmbusLists
 pub mod PortSteps
+pub mod IpmbServing
+pub mod SmbusServing
+pub mod PortServing

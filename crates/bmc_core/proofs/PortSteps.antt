@@ -31,7 +31,7 @@ use Rattle.bmc_core.proofs.SmbusPorts.{answer_for, left_after, deed_of, hears_by
 -- ---- on IPMB
 
 module _ (setup : BoardFile) (before : State) where
-  ipmb_settled : (port next : IpmbPort) (bytes : List ℕ) (out : Out) → ipmb.IsStep port bytes next out step.Done → ipmb.Hears setup port before bytes out next before
+  pub ipmb_settled : (port next : IpmbPort) (bytes : List ℕ) (out : Out) → ipmb.IsStep port bytes next out step.Done → ipmb.Hears setup port before bytes out next before
   ipmb_settled port next bytes out is p shows heard at =
       settled_heard setup before p heard next out (is.steps p shows heard at) (subst (λ (x : IpmbPort). ipmb.Shows x p) (sym is.stays) shows)
 
@@ -50,7 +50,7 @@ module _ (setup : BoardFile) (before : State) where
       subst (λ (h : Result Request Reason). ipmb.Does (ipmb.deed_of setup p before h) (ipmb.done_of p h) next (answer_of setup before (asked_in q)).1 out) (sym so.0)
       (told_request p q next out so.1 shows sent read)
 
-  ipmb_asked : (port between next : IpmbPort) (bytes : List ℕ) (first out : Out) (q : Request) → let given = answer_of setup before (asked_in q) in
+  pub ipmb_asked : (port between next : IpmbPort) (bytes : List ℕ) (first out : Out) (q : Request) → let given = answer_of setup before (asked_in q) in
       ipmb.IsStep port bytes between first (step.Ask q) → ipmb.IsTold between q given.0 next out → ipmb.Hears setup port before bytes out next given.1
   ipmb_asked port between next bytes first out q is told p shows heard at =
       let shown : ipmb.Shows between p = subst (λ (x : IpmbPort). ipmb.Shows x p) (sym is.stays) shows in
@@ -84,7 +84,7 @@ module _ (setup : BoardFile) (before : State) where
       → smbus.Does next out before (deed_of setup before port h) (done_of port h)
   done_step next out port h is = does setup before next out before port h (is.1 (answer_for setup before h)) (left_none port h is.0)
 
-  smbus_settled : (port next : SmbusPort) (bytes : List ℕ) (out : Out) → ((p : PortState) → smbus.Shows port p → smbus.Hearing p bytes (smbus.IsStep next out step.Done))
+  pub smbus_settled : (port next : SmbusPort) (bytes : List ℕ) (out : Out) → ((p : PortState) → smbus.Shows port p → smbus.Hearing p bytes (smbus.IsStep next out step.Done))
       → (p : PortState) → smbus.Shows port p → smbus.HearsBytes setup p before bytes next out before
   smbus_settled port next bytes out hears p shows =
       let h = hears p shows in
@@ -102,7 +102,7 @@ module _ (setup : BoardFile) (before : State) where
       subst (λ (x : Heard). smbus.Does next out (answer_of setup before (message_asked m)).1 (deed_of setup before port x) (done_of port x)) (sym so.0)
       (does setup before next out (answer_of setup before (message_asked m)).1 port (Asks m) (told port is.1) (left_new setup before port m so.1))
 
-  smbus_asked : (port between next : SmbusPort) (bytes : List ℕ) (first out : Out) (asked : SmbusPending) → let given = answer_of setup before (message_asked (smbus.request_in asked)) in
+  pub smbus_asked : (port between next : SmbusPort) (bytes : List ℕ) (first out : Out) (asked : SmbusPending) → let given = answer_of setup before (message_asked (smbus.request_in asked)) in
       ((p : PortState) → smbus.Shows port p → smbus.Hearing p bytes (smbus.IsStep between first (step.Ask asked)))
       → ((p : PortState) → smbus.Shows between p → smbus.Ends next out p (Asks (smbus.request_in asked)) given.0)
       → (p : PortState) → smbus.Shows port p → smbus.HearsBytes setup p before bytes next out given.1

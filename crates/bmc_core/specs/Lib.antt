@@ -9,3 +9,6 @@ pub mod SmbusShown
 pub mod SmbusRuns
 pub mod Port
 pub mod Names
+pub mod Served
+pub mod IpmbServed
+pub mod SmbusServed

@@ -1,5 +1,5 @@
 -- The port of either bus.
-use Rattle.std.specs.Prelude.{◌≡◌, ℕ, List}
+use Rattle.std.specs.Prelude.{◌≡◌, ℕ, List, Bool, Result}
 use Rattle.two_wire.specs.declared.Bus.{Bus}
 use Rattle.two_wire.specs.declared.Bus.TheVariants as bus
 use Rattle.cfg_records.specs.declared.board_file.BoardFile.{BoardFile}
@@ -18,6 +18,7 @@ use Rattle.bmc_core.specs.declared.port.Pending.TheVariants as pending
 use Rattle.bmc_core.specs.SmbusHeard as smbus_heard
 use Rattle.bmc_core.specs.IpmbShown as ipmb
 use Rattle.bmc_core.specs.SmbusShown as smbus
+use Rattle.bmc_core.specs.Served.{ServesBy}
 
 -- the bus that a port is on
 abbrev pub bus_of : Port → Bus
@@ -74,3 +75,11 @@ pub record IsHeardThenTold (setup : BoardFile) (port : Port) (before : State) (b
   pub asked : (between next : Port) (first out : Out) (asked : Pending) → IsStep port bytes between first (Ask asked)
       → let given = answer_of setup before (asked_of asked) in IsTold between asked given.0 next out → Hears setup port before bytes out next given.1
   pub settled : (next : Port) (out : Out) → IsStep port bytes next out Done → Hears setup port before bytes out next before
+
+-- ---- in one step, with something beside it that carries requests out
+
+-- A port took the bytes. It asked nothing; or what carries requests out carried out what the bytes ask, and the port was told the answer; or
+-- that was refused, and the port was told no answer.
+abbrev pub Serves : {K E : Type 0} → (Asked → Answered → K → Type 0) → (E → K → Type 0) → Port → List ℕ → K → Result Bool E → Port → Out → K → Type 0
+Serves carries refuses port bytes before result next out after =
+    ServesBy (λ between heard step. IsStep port bytes between heard step) IsTold asked_of carries refuses before result next out after

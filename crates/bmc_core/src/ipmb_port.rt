@@ -6,7 +6,9 @@ ghost use Rattle.bmc_board.specs.State.{state_of};
 ghost use Rattle.model_ports.specs.PortSteps.{PortState, quiet_port, idles};
 ghost use Rattle.bmc_core.specs.Rule.{has_window};
 ghost use Rattle.bmc_core.specs.IpmbHeard.{IsHeard};
-ghost use Rattle.bmc_core.specs.IpmbShown.{Shows, Hears, IsFresh, IsHeardAt, IsStep, IsTold};
+ghost use Rattle.bmc_core.specs.IpmbShown.{AreOf, Shows, Hears, IsHeardAt, IsFresh, IsStep, IsTold, outcome_at};
+ghost use Rattle.bmc_core.specs.IpmbServed.{Serves};
+ghost use Rattle.model_bus.specs.Carried.{IsNew};
 
 pub mod laws;
 mod pending;
@@ -15,6 +17,7 @@ mod replying;
 use crate::out::{Out, Reason};
 use crate::step::Step;
 use bmc_board::Board;
+use bmc_carry::{Alone, Carrier};
 use cfg_records::{Answered, Store};
 use ipmb_frame::{Msg, Request, read_frame};
 pub use pending::IpmbPending;
@@ -65,6 +68,8 @@ fn heard<'a>(
 ) -> Option<RequestInFrame<'a>>
     ensures heard { IsHeardAt wire windows.now bytes.now result out.new }
     ensures fresh { IfSome result (λ request. IsFresh windows.now request) }
+    ensures new { IfSome result (λ request. (p : PortState) → AreOf windows.now p.log
+        → outcome_at p request ≡ IsNew) }
 {
     let request = match read(wire, bytes) {
         Ok(request) => request,
@@ -90,16 +95,35 @@ impl IpmbPort {
         })
     }
 
-    /// Takes what is heard on the bus, has a new request carried out, and fills in what is to be sent. It takes no memory.
+    /// Takes what is heard on the bus, has a new request carried out by the carrier, and fills in what is to be sent. It says whether
+    /// a request was carried out. A request that the carrier refuses to carry out counts as not heard, and nothing is to be sent.
+    /// It takes no memory.
+    pub fn serve<C: Carrier>(
+        &mut self,
+        carrier: &C,
+        kept: &mut C::Kept,
+        bytes: &[u8],
+        out: &mut Out,
+    ) -> Result<bool, C::Refusal>
+        ensures { Serves (C.carries carrier.now kept.old) (C.refuses carrier.now kept.old)
+            self.old bytes.now kept.old result self.new out.new kept.new }
+    {
+        let Some(request) = heard(self.wire, &self.windows, bytes, out) else {
+            return Ok(false);
+        };
+        match carry_out(&mut self.windows, carrier, kept, &request, out) {
+            Ok(()) => Ok(true),
+            Err(why) => Err(why),
+        }
+    }
+
+    /// Takes what is heard on the bus, has the board carry a new request out, and fills in what is to be sent. It takes no memory.
     pub fn on_frame<S: Store>(&mut self, board: &mut Board<S>, bytes: &[u8], out: &mut Out)
         ensures heard { Hears board.old.setup self.old (state_of S.records board.old) bytes.now
             out.new self.new (state_of S.records board.new) }
         ensures setup { board.new.setup ≡ board.old.setup }
     {
-        let Some(request) = heard(self.wire, &self.windows, bytes, out) else {
-            return;
-        };
-        carry_out(&mut self.windows, board, &request, out);
+        let _ = self.serve(&Alone::new(), board, bytes, out);
     }
 
     /// Takes what is heard on the bus: asks what a new request asks of the board, or fills in what is to be sent. It takes no memory.

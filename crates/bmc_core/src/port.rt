@@ -4,7 +4,7 @@ ghost use Rattle.record_base.specs.Meaning.{room_for};
 ghost use Rattle.bmc_board.specs.State.{state_of};
 ghost use Rattle.model_ports.specs.PortSteps.{PortState, quiet_port, idles};
 ghost use Rattle.bmc_core.specs.Rule.{has_window};
-ghost use Rattle.bmc_core.specs.Port.{bus_of, bus_asked, asked_of, Shows, Hears, IsStep, IsOn, IsTold};
+ghost use Rattle.bmc_core.specs.Port.{bus_of, bus_asked, asked_of, Shows, Hears, IsStep, IsOn, IsTold, Serves};
 
 pub mod laws;
 
@@ -13,6 +13,7 @@ use crate::out::Out;
 use crate::smbus_port::{SmbusPending, SmbusPort};
 use crate::step::Step;
 use bmc_board::Board;
+use bmc_carry::Carrier;
 use cfg_records::{Answered, Asked, Store};
 use mctp_net::EndpointId;
 use std::alloc::{AllocError, Global};
@@ -60,6 +61,26 @@ impl Port {
         match bus {
             Bus::Ipmb => Ok(Port::Ipmb(IpmbPort::new(alloc, at.wire)?)),
             Bus::Smbus => Ok(Port::Smbus(SmbusPort::new(alloc, at)?)),
+        }
+    }
+
+    /// Takes what is heard on the bus, has a new request carried out by the carrier, and fills in what is to be sent. It says whether
+    /// a request was carried out. A request that the carrier refuses to carry out counts as not heard, and nothing is to be sent.
+    /// It takes no memory: the carrier looks at the request where it lies, and appends the reply's data where they are sent from.
+    pub fn serve<C: Carrier>(
+        &mut self,
+        carrier: &C,
+        kept: &mut C::Kept,
+        bytes: &[u8],
+        out: &mut Out,
+    ) -> Result<bool, C::Refusal>
+        ensures served { Serves (C.carries carrier.now kept.old) (C.refuses carrier.now kept.old)
+            self.old bytes.now kept.old result self.new out.new kept.new }
+        ensures bus { bus_of self.new ≡ bus_of self.old }
+    {
+        match self {
+            Port::Ipmb(port) => port.serve(carrier, kept, bytes, out),
+            Port::Smbus(port) => port.serve(carrier, kept, bytes, out),
         }
     }
 

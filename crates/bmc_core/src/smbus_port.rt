@@ -8,6 +8,7 @@ ghost use Rattle.bmc_core.specs.declared.smbus_port.SmbusPort.{SmbusPort as AnyP
 ghost use Rattle.bmc_core.specs.Rule.{has_window};
 ghost use Rattle.bmc_core.specs.SmbusHeard.{message_heard};
 ghost use Rattle.bmc_core.specs.SmbusShown.{AreOf, Shows, Hearing, IsGiven, IsStep, IsTold, IsRead, HearsBytes};
+ghost use Rattle.bmc_core.specs.SmbusServed.{Serves};
 
 mod hearing;
 pub mod laws;
@@ -18,6 +19,7 @@ use crate::out::{Out, Reason};
 use crate::port::At;
 use crate::step::Step;
 use bmc_board::Board;
+use bmc_carry::{Alone, Carrier};
 use cfg_records::{Answered, Store};
 use hearing::{hear, take};
 use mctp_net::{Assembler, Endpoint, Envelope, Packet, read_packet};
@@ -161,15 +163,21 @@ impl SmbusPort {
         );
     }
 
-    /// Takes what is heard on the bus, has a new request carried out, and fills in what is to be sent. It takes no memory.
-    pub fn on_frame<S: Store>(&mut self, board: &mut Board<S>, bytes: &[u8], out: &mut Out)
-        ensures heard { (p : PortState) → Shows self.old p
-            → HearsBytes board.old.setup p (state_of S.records board.old) bytes.now
-            self.new out.new (state_of S.records board.new) }
-        ensures setup { board.new.setup ≡ board.old.setup }
+    /// Takes what is heard on the bus, has a new request carried out by the carrier, and fills in what is to be sent. It says whether
+    /// a request was carried out. A request that the carrier refuses to carry out counts as not heard, and nothing is to be sent.
+    /// It takes no memory.
+    pub fn serve<C: Carrier>(
+        &mut self,
+        carrier: &C,
+        kept: &mut C::Kept,
+        bytes: &[u8],
+        out: &mut Out,
+    ) -> Result<bool, C::Refusal>
+        ensures { Serves (C.carries carrier.now kept.old) (C.refuses carrier.now kept.old)
+            self.old bytes.now kept.old result self.new out.new kept.new }
     {
         let Some(packet) = read(self.wire, &self.endpoint, &mut self.assembler, bytes, out) else {
-            return;
+            return Ok(false);
         };
         let Some(request) = heard(
             self.wire,
@@ -179,13 +187,34 @@ impl SmbusPort {
             self.assembler.body(&packet),
             out,
         ) else {
-            return;
+            return Ok(false);
         };
         let at = At {
             wire: self.wire,
             eid: self.endpoint.eid(),
         };
-        carry_out(&mut self.windows, &mut self.made, board, &at, &request, out);
+        match carry_out(
+            &mut self.windows,
+            &mut self.made,
+            carrier,
+            kept,
+            &at,
+            &request,
+            out,
+        ) {
+            Ok(()) => Ok(true),
+            Err(why) => Err(why),
+        }
+    }
+
+    /// Takes what is heard on the bus, has the board carry a new request out, and fills in what is to be sent. It takes no memory.
+    pub fn on_frame<S: Store>(&mut self, board: &mut Board<S>, bytes: &[u8], out: &mut Out)
+        ensures heard { (p : PortState) → Shows self.old p
+            → HearsBytes board.old.setup p (state_of S.records board.old) bytes.now
+            self.new out.new (state_of S.records board.new) }
+        ensures setup { board.new.setup ≡ board.old.setup }
+    {
+        let _ = self.serve(&Alone::new(), board, bytes, out);
     }
 
     /// Forgets a requester's window, and says whether there was one.

@@ -2,10 +2,12 @@
 ghost use Rattle.std.specs.Prelude.{◌≡◌, ◌≤◌, length, drop};
 ghost use Rattle.ipmb_frame.specs.Grammar.{request_bytes};
 ghost use Rattle.bmc_windows.specs.Heard.{request_of};
+ghost use Rattle.bmc_carry.specs.Asking.{meant};
 ghost use Rattle.model_ports.specs.Bytes.{heard_in};
 ghost use Rattle.model_ports.specs.PortSteps.{asked_in};
 ghost use Rattle.bmc_core.specs.IpmbShown.{reading, HasUnits};
 
+use bmc_carry::AskedHere;
 use cfg_records::Asked;
 use ipmb_frame::{Header, Request};
 pub(super) use model_bus::SEQUENCE_NUMBERS;
@@ -48,11 +50,19 @@ impl<'a> RequestInFrame<'a> {
         &self.request.header
     }
 
-    /// The command's data.
-    pub fn body(&self) -> &[u8]
-        ensures { result.now ≡ self.now.body }
+    /// What it asks of the board.
+    #[inline(always)]
+    pub fn asked(&self) -> AskedHere<'_>
+        ensures { meant result ≡ asked_in self.now }
     {
-        self.request.body.as_slice()
+        let header = &self.request.header;
+        AskedHere::Ipmi {
+            from: header.requester.address.byte(),
+            net_fn: header.net_fn,
+            lun: header.responder.lun,
+            command: header.command,
+            body: Data::new(self.request.body.as_slice()),
+        }
     }
 
     /// The request as the windows keep it.

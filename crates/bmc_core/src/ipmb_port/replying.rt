@@ -1,24 +1,22 @@
 //! What a port replies to requests, and what it keeps of them.
-ghost use Rattle.std.specs.Prelude.{◌≡◌, ◌≤◌, ◌-◌, ◌∷◌, [], length, drop, slice_index, true, false, Some};
+ghost use Rattle.std.specs.Prelude.{◌≡◌, ◌≤◌, ◌-◌, ◌∷◌, [], length, drop, slice_index, true, false, Some, IfOk, IfErr, OnErr};
 ghost use Rattle.two_wire.specs.Sizes.{most_ipmi_reply_data};
 ghost use Rattle.two_wire.specs.declared.Bus.TheVariants.{Ipmb};
 ghost use Rattle.ipmb_frame.specs.declared.message.Request.{Request as AnyRequest};
-ghost use Rattle.ipmb_frame.specs.Grammar.{IsResponse};
-ghost use Rattle.bmc_board.specs.Request.{asked_by, asked_of};
-ghost use Rattle.bmc_board.specs.State.{state_of};
-ghost use Rattle.bmc_board.specs.Serves.{given_by};
+ghost use Rattle.ipmb_frame.specs.Grammar.{IsResponse, response_start};
+ghost use Rattle.record_base.specs.declared.message.Answered.{Answered as AnyAnswer};
+ghost use Rattle.bmc_board.specs.Gives.{Gives};
 ghost use Rattle.model_ports.specs.Bytes.{heard_in};
-ghost use Rattle.model_ports.specs.PortSteps.{PortState, asked_in, response_after};
+ghost use Rattle.model_ports.specs.PortSteps.{PortState, response_after};
 ghost use Rattle.bmc_core.specs.Outs.{sends, AreRead};
-ghost use Rattle.bmc_core.specs.Boards.{answer_to};
-ghost use Rattle.bmc_core.specs.IpmbShown.{reading, HasUnits, IsAnswered, AreOf, IsFresh, IsSent, IsSettled, IsKept, outcome_at, response, response_frame, response_giving, first_answer, first_response};
+ghost use Rattle.bmc_core.specs.IpmbShown.{reading, HasUnits, IsAnswered, AreOf, IsFresh, IsSent, IsSettled, IsKept, outcome_at, response, response_frame, first_answer, first_response};
+ghost use Rattle.bmc_core.specs.IpmbServed.{IsBegun, IsAnsweredBy, IsCarriedOut};
 
 use super::pending::{RequestInFrame, SEQUENCE_NUMBERS};
 use crate::out::{Done, Out};
-use bmc_board::request::read_ipmi;
-use bmc_board::{Board, Command};
+use bmc_carry::Carrier;
 use bmc_windows::{Found, Windows};
-use cfg_records::{Answered, Store, byte_at};
+use cfg_records::{Answered, byte_at};
 use ipmb_frame::{Header, begin_response, end_response, write_response_into};
 use two_wire::{Code, Frame, code};
 
@@ -26,34 +24,43 @@ use two_wire::{Code, Frame, code};
 /// behind the first that is kept.
 pub(super) type Kept = Windows<{ SEQUENCE_NUMBERS }, 32>;
 
-/// The command of a request to the board, or the first code that refuses it.
-fn command_in(request: &RequestInFrame<'_>) -> Result<Command, Code>
-    ensures { asked_of result request.now.body ≡ asked_by (asked_in request.now) }
-{
-    let header = request.header();
-    read_ipmi(
-        header.responder.lun,
-        header.net_fn,
-        header.command,
-        request.body(),
-    )
-}
-
 /// Has a request carried out, and makes the frame its response.
-fn respond<S: Store>(board: &mut Board<S>, request: &RequestInFrame<'_>, frame: &mut Frame)
-    ensures answer { IsResponse
-        (response_giving request.now (answer_to S.records board.old request.now)) frame.new }
-    ensures left { state_of S.records board.new
-        ≡ (given_by S.records board.old (asked_in request.now)).1 }
-    ensures setup { board.new.setup ≡ board.old.setup }
+fn respond<C: Carrier>(
+    carrier: &C,
+    kept: &mut C::Kept,
+    request: &RequestInFrame<'_>,
+    frame: &mut Frame,
+) -> Result<(), C::Refusal>
+    ensures answered { IfOk result (λ done. IsAnsweredBy (C.carries carrier.now kept.old)
+        request.now frame.new kept.new) }
+    ensures refused { IfErr result (λ why. C.refuses carrier.now kept.old why kept.new) }
 {
     let header = request.header();
     begin_response(frame, header, 0);
-    match board.reply(command_in(request), request.body(), frame) {
-        Ok(()) => {}
-        Err(code) => begin_response(frame, header, code.value()),
+    match carrier.carry(kept, &request.asked(), frame) {
+        Ok(given) => {
+            finish(frame, header, given);
+            Ok(())
+        }
+        Err(why) => Err(why),
     }
-    end_response(frame);
+}
+
+/// Ends a response to which data were appended, or makes it that of a refusal.
+#[inline(always)]
+fn finish(frame: &mut Frame, header: &Header, given: Result<(), Code>)
+    requires { IsBegun header.now given frame.old }
+    ensures { (a : AnyAnswer) → Gives given (response_start header.now 0) frame.old a
+        → length a.body ≤ most_ipmi_reply_data
+        → IsResponse (response header.now a.code a.body) frame.new }
+{
+    match given {
+        Ok(()) => end_response(frame),
+        Err(code) => {
+            begin_response(frame, header, code.value());
+            end_response(frame);
+        }
+    }
 }
 
 /// Sends the response of this header, code and data, to a request that isn't carried out. The caller has noted in `out` what was done.
@@ -158,30 +165,29 @@ pub(super) fn keep_answer(
     }
 }
 
-/// Has a new request carried out, keeps it with its response, and sends that.
-pub(super) fn carry_out<S: Store>(
+/// Has a new request carried out, keeps it with its response, and sends that. Where it isn't carried out, nothing is kept.
+pub(super) fn carry_out<C: Carrier>(
     windows: &mut Kept,
-    board: &mut Board<S>,
+    carrier: &C,
+    kept: &mut C::Kept,
     request: &RequestInFrame<'_>,
     out: &mut Out,
-)
-    ensures kept { IsKept windows.old request.now (answer_to S.records board.old request.now)
-        windows.new }
-    ensures sent { out.new
-        ≡ first_answer request.now (answer_to S.records board.old request.now) }
-    ensures read { AreRead Ipmb
-        (first_response request.now (answer_to S.records board.old request.now) ∷ []) }
-    ensures left { state_of S.records board.new
-        ≡ (given_by S.records board.old (asked_in request.now)).1 }
-    ensures setup { board.new.setup ≡ board.old.setup }
+) -> Result<(), C::Refusal>
+    ensures carried { IfOk result (λ done. IsCarriedOut (C.carries carrier.now kept.old)
+        windows.old request.now kept.new windows.new out.new) }
+    ensures refused { IfErr result (λ why. C.refuses carrier.now kept.old why kept.new) }
+    ensures same { OnErr result (windows.new ≡ windows.old) }
 {
     out.done = Done::Answered;
     out.frames.keep_one();
     match out.frames.list.as_mut_slice() {
-        [frame] => {
-            respond(board, request, frame);
-            windows.keep(&request.kept(), frame.as_slice());
-        }
+        [frame] => match respond(carrier, kept, request, frame) {
+            Ok(()) => {
+                windows.keep(&request.kept(), frame.as_slice());
+                Ok(())
+            }
+            Err(why) => Err(why),
+        },
         _ => unreachable!(),
     }
 }

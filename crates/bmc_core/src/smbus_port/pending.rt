@@ -3,9 +3,11 @@ ghost use Rattle.std.specs.Prelude.{◌≡◌, ◌≤◌, length};
 ghost use Rattle.two_wire.specs.Sizes.{most_message_bytes};
 ghost use Rattle.pldm_base.specs.Message.{request_bytes};
 ghost use Rattle.bmc_windows.specs.Heard.{request_of};
+ghost use Rattle.bmc_carry.specs.Asking.{meant};
 ghost use Rattle.bmc_core.specs.SmbusHeard.{asking, asked_of};
 ghost use Rattle.bmc_core.specs.SmbusShown.{pldm_reading, request_in};
 
+use bmc_carry::AskedHere;
 use cfg_records::Asked;
 use mctp_net::Envelope;
 pub(super) use model_bus::INSTANCES;
@@ -65,6 +67,25 @@ impl<'a> RequestInMessage<'a> {
             number: header.instance,
             first: REQUEST + header.instance.number(),
             rest: self.rest,
+        }
+    }
+
+    /// What it asks of the board.
+    #[inline(always)]
+    pub fn asked(&self) -> AskedHere<'_>
+        ensures { meant result ≡ asked_of self.now }
+    {
+        let Header {
+            pldm_type,
+            command,
+            ..
+        } = self.request.header;
+        let from = self.envelope.source_eid;
+        AskedHere::Pldm {
+            from,
+            kind: pldm_type,
+            command,
+            body: Data::new(self.request.body.as_slice()),
         }
     }
 

@@ -1,27 +1,26 @@
 //! What a port replies to requests, and what it keeps of them.
-ghost use Rattle.std.specs.Prelude.{◌≡◌, ◌<◌, ◌≤◌, ◌∷◌, length, List};
+ghost use Rattle.std.specs.Prelude.{◌≡◌, ◌<◌, ◌≤◌, ◌∷◌, ◌++◌, length, List, IfOk, IfErr, OnErr};
 ghost use Rattle.two_wire.specs.Sizes.{most_message_bytes};
 ghost use Rattle.pldm_base.specs.Message.{IsHeader, reply_start};
 ghost use Rattle.model_bus.specs.Request.{Entry};
-ghost use Rattle.bmc_board.specs.State.{state_of};
-ghost use Rattle.bmc_board.specs.Serves.{given_by};
+ghost use Rattle.record_base.specs.declared.message.Answered.{Answered as AnyAnswer};
+ghost use Rattle.bmc_board.specs.Gives.{Gives};
 ghost use Rattle.bmc_core.specs.declared.out.Done.TheVariants as done_as;
-ghost use Rattle.bmc_core.specs.Boards.{kept_at};
-ghost use Rattle.bmc_core.specs.SmbusHeard.{asking, asked_of, found_in, busy_reply, kept_with};
+ghost use Rattle.bmc_core.specs.SmbusHeard.{asking, found_in, busy_reply, kept_with};
 ghost use Rattle.bmc_core.specs.SmbusShown.{AreOf, parts_from, IsSettled, IsKept, Replies};
+ghost use Rattle.bmc_core.specs.SmbusServed.{IsAnsweredBy, IsCarriedOut};
 
 use super::hearing::PLDM;
 use super::pending::{INSTANCES, RequestInMessage};
 use crate::out::{Done, Out};
 use crate::port::At;
-use bmc_board::Board;
-use bmc_board::request::read_pldm;
+use bmc_carry::Carrier;
 use bmc_windows::{Found, Windows};
-use cfg_records::{Answered, Store};
+use cfg_records::Answered;
 use mctp_net::{Envelope, Message, SomeData, split_into};
 use pldm_base::{Header, begin_pldm_reply};
 use two_wire::size::MOST_MESSAGE_BYTES;
-use two_wire::{Bytes, code};
+use two_wire::{Bytes, Code, code};
 
 /// The requests that a port carried out, with their replies.
 pub(super) type Kept = Windows<{ INSTANCES }, { MOST_MESSAGE_BYTES }>;
@@ -125,41 +124,59 @@ pub(super) fn keep_answer(
     keep(windows, at, request, made.as_slice(), out);
 }
 
-/// Has a new request carried out, keeps it with its reply, and sends that.
-pub(super) fn carry_out<S: Store>(
+/// Has a new request carried out, keeps it with its reply, and sends that. Where it isn't carried out, nothing is kept.
+pub(super) fn carry_out<C: Carrier>(
     windows: &mut Kept,
     made: &mut Reply,
-    board: &mut Board<S>,
+    carrier: &C,
+    kept: &mut C::Kept,
     at: &At,
     request: &RequestInMessage<'_>,
     out: &mut Out,
-)
-    ensures kept { IsKept windows.old (kept_at S.records board.old request.now) windows.new }
-    ensures sent { Replies at.now request.now.envelope
-        (kept_at S.records board.old request.now).reply done_as.Answered out.new }
-    ensures left { state_of S.records board.new
-        ≡ (given_by S.records board.old (asked_of request.now)).1 }
-    ensures setup { board.new.setup ≡ board.old.setup }
+) -> Result<(), C::Refusal>
+    ensures carried { IfOk result (λ done. IsCarriedOut (C.carries carrier.now kept.old)
+        at.now windows.old request.now kept.new windows.new out.new) }
+    ensures refused { IfErr result (λ why. C.refuses carrier.now kept.old why kept.new) }
+    ensures same { OnErr result (windows.new ≡ windows.old) }
 {
-    respond(board, request, made);
-    keep(windows, at, request, made.as_slice(), out);
+    match respond(carrier, kept, request, made) {
+        Ok(()) => {
+            keep(windows, at, request, made.as_slice(), out);
+            Ok(())
+        }
+        Err(why) => Err(why),
+    }
 }
 
 /// Has a request carried out, and makes its reply.
-fn respond<S: Store>(board: &mut Board<S>, request: &RequestInMessage<'_>, reply: &mut Reply)
-    ensures reply { reply.new ≡ (kept_at S.records board.old request.now).reply }
-    ensures left { state_of S.records board.new
-        ≡ (given_by S.records board.old (asked_of request.now)).1 }
-    ensures setup { board.new.setup ≡ board.old.setup }
+fn respond<C: Carrier>(
+    carrier: &C,
+    kept: &mut C::Kept,
+    request: &RequestInMessage<'_>,
+    reply: &mut Reply,
+) -> Result<(), C::Refusal>
+    ensures answered { IfOk result (λ done. IsAnsweredBy (C.carries carrier.now kept.old)
+        request.now reply.new kept.new) }
+    ensures refused { IfErr result (λ why. C.refuses carrier.now kept.old why kept.new) }
 {
     let header = &request.request.header;
-    let body = request.request.body.as_slice();
     begin(header, 0, reply);
-    match board.reply(
-        read_pldm(header.pldm_type, header.command, body),
-        body,
-        reply,
-    ) {
+    match carrier.carry(kept, &request.asked(), reply) {
+        Ok(given) => {
+            finish(header, given, reply);
+            Ok(())
+        }
+        Err(why) => Err(why),
+    }
+}
+
+/// Leaves the reply to which data were appended, or makes it that of a refusal.
+#[inline(always)]
+fn finish(header: &Header, given: Result<(), Code>, reply: &mut Reply)
+    ensures { (a : AnyAnswer) → Gives given (1 ∷ reply_start header.now 0) reply.old a
+        → reply.new ≡ (1 ∷ reply_start header.now a.code) ++ a.body }
+{
+    match given {
         Ok(()) => {}
         Err(code) => begin(header, code.value(), reply),
     }

@@ -1,4 +1,4 @@
-use Rattle.std.proofs.Common.{◌≡◌, Bool, true, false, subst}
+use Rattle.std.proofs.Common.{◌≡◌, Bool, true, subst}
 use Rattle.ipmb_frame.specs.declared.message.Request.{Request}
 use Rattle.model_bus.specs.Carried.{IsNew}
 use Rattle.model_ports.specs.PortSteps.{PortState}

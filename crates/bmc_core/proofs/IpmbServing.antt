@@ -1,0 +1,87 @@
+-- A port on IPMB that has a request carried out hears it, and then is told the answer.
+use Rattle.std.proofs.Common.{◌≡◌, ℕ, Bool, true, false, List, Option, Some, Result, Ok, Err, refl, sym, ap, subst}
+use Rattle.ipmb_frame.specs.declared.message.Request.{Request}
+use Rattle.record_base.specs.declared.message.Asked.{Asked}
+use Rattle.record_base.specs.declared.message.Answered.{Answered}
+use Rattle.cfg_records.specs.Records.{Records}
+use Rattle.model_bus.specs.Carried.{Outcome, IsNew}
+use Rattle.bmc_board.specs.declared.board.Board.{Board}
+use Rattle.bmc_board.specs.State.{State, state_of}
+use Rattle.bmc_board.specs.Answer.{Given}
+use Rattle.bmc_board.specs.Serves.{given_by}
+use Rattle.bmc_carry.specs.Carrying.{IsAnswered}
+use Rattle.bmc_windows.specs.Keeps.{Held}
+use Rattle.model_ports.specs.PortSteps.{PortState, asked_in}
+use Rattle.bmc_core.specs.declared.out.Out.{Out}
+use Rattle.bmc_core.specs.declared.out.Reason.{Reason}
+use Rattle.bmc_core.specs.declared.step.Step.TheVariants as step
+use Rattle.bmc_core.specs.declared.ipmb_port.IpmbPort.{IpmbPort}
+use Rattle.bmc_core.specs.IpmbHeard.{IsHeard}
+use Rattle.bmc_core.specs.IpmbShown.{AreOf, Shows, Hears, IsFresh, IsHeardAt, IsStep, IsTold, IsSettled, Steps, step_of, outcome_at}
+use Rattle.bmc_core.specs.Served.{HasCarried}
+use Rattle.bmc_core.specs.IpmbServed.{IsCarriedOut, Serves}
+use Rattle.bmc_core.proofs.IpmbDeeds.{told_new, step_new}
+use Rattle.bmc_core.proofs.PortSteps.{ipmb_settled, ipmb_asked}
+
+-- what is to be carried out is that, whatever is sent
+asked_step : (p : PortState) (heard : Result Request Reason) (r : Request) (first out : Out) → Steps p heard (step.Ask r) first → Steps p heard (step.Ask r) out
+asked_step p heard r first out is =
+    let so = step_new p heard r first is in
+    subst (λ (h : Result Request Reason). Steps p h (step.Ask r) out) (sym so.0) (false, subst (λ (o : Outcome). IsSettled r o out false) (sym so.1) refl, refl)
+
+module _ (port : IpmbPort) (bytes : List ℕ) where
+  -- the port hears what is heard at its address
+  pub heard_so : (given : Option Request) (out : Out) → IsHeardAt port.wire port.windows bytes given out → IsStep port bytes port out (step_of given)
+  heard_so given out at = record {
+    steps = λ p shows heard is. at p shows.log heard (subst (λ (w : ℕ). IsHeard w bytes heard) (sym shows.wire) is);
+    stays = refl;
+  }
+
+  -- a new request that wasn't carried out was heard
+  pub refused_so : (r : Request) (first out : Out) (new : Held) → IsHeardAt port.wire port.windows bytes (Some r) first → new ≡ port.windows
+      → IsStep port bytes (record { wire = port.wire; windows = new }) out (step.Ask r)
+  refused_so r first out new at same = record {
+    steps = λ p shows heard is. asked_step p heard r first out ((heard_so (Some r) first at).steps p shows heard is);
+    stays = λ i. record { wire = port.wire; windows = same i };
+  }
+
+  -- a new request that was carried out was heard, and then told the answer
+  pub carried_so : {K : Type 0} (carries : Asked → Answered → K → Type 0) (r : Request) (first out : Out) (new : Held) (after : K)
+      → IsHeardAt port.wire port.windows bytes (Some r) first
+      → IsFresh port.windows r
+      → ((p : PortState) → AreOf port.windows p.log → outcome_at p r ≡ IsNew)
+      → IsCarriedOut carries port.windows r after new out
+      → HasCarried (λ between heard step. IsStep port bytes between heard step) IsTold asked_in carries (record { wire = port.wire; windows = new }) out after
+  carried_so carries r first out new after at fresh is_new done =
+      let next : IpmbPort = record { wire = port.wire; windows = new } in
+      let told = λ (p : PortState) (shows : Shows port p).
+      told_new p r done.answered next out (is_new p shows.log) (record { wire = shows.wire; log = done.kept p shows.log (is_new p shows.log) fresh }) done.sent done.read in
+      record {
+        between = port;
+        heard = first;
+        pending = r;
+        answered = done.answered;
+        asks = heard_so (Some r) first at;
+        carried = done.carried;
+        told = record { shows = λ p shows. (told p shows).0; sent = λ p shows. (told p shows).1; read = λ p shows. (told p shows).2 };
+      }
+
+-- a port that has a board alone carry requests out hears as one of that board
+pub alone_hears : {S E : Type 0} {g h : _} (records : S → Records) (port next : IpmbPort) (bytes : List ℕ) (before after : Board S g h) (out : Out) (result : Result Bool E)
+    → Serves (λ asked answered now. IsAnswered records before asked answered now) (λ (why : E) (now : Board S g h). ⊥) port bytes before result next out after
+    → Hears before.setup port (state_of records before) bytes out next (state_of records after) × (after.setup ≡ before.setup)
+alone_hears records port next bytes before after out (Ok true) done =
+    let given : Given = given_by records before (asked_in done.pending) in
+    let reply : done.answered ≡ given.0 = ap (λ (g : Given). g.0) done.carried.answer in
+    let left : state_of records after ≡ given.1 = ap (λ (g : Given). g.1) done.carried.answer in
+    let told : IsTold done.between done.pending given.0 next out = subst (λ (a : Answered). IsTold done.between done.pending a next out) reply done.told in (
+      subst (λ (now : State). Hears before.setup port (state_of records before) bytes out next now) (sym left)
+          (ipmb_asked before.setup (state_of records before) port done.between next bytes done.heard out done.pending done.asks told),
+      done.carried.setup,
+    )
+alone_hears {S} {E} {g} {h} records port next bytes before after out (Ok false) done = (
+  subst (λ (now : Board S g h). Hears before.setup port (state_of records before) bytes out next (state_of records now)) (sym done.1)
+      (ipmb_settled before.setup (state_of records before) port next bytes out done.0),
+  ap (λ (now : Board S g h). now.setup) done.1,
+)
+alone_hears records port next bytes before after out (Err why) done = absurd done.1
