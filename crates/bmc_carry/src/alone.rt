@@ -57,7 +57,8 @@ impl<S: Store> Carrier for Alone<S> {
 
     type Refusal = Never;
 
-    ghost carries = { λ alone before asked answered after. IsAnswered S.records before asked answered after };
+    ghost carries = { λ alone before asked answered after.
+        IsAnswered S.records before asked answered after };
 
     ghost refuses = { λ alone before why after. ⊥ };
 

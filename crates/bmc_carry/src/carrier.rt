@@ -5,7 +5,7 @@ use two_wire::Code;
 
 /// What carries requests out, or refuses to. A port asks one, and knows no more of it.
 pub trait Carrier {
-    ghost use Rattle.std.specs.Prelude.{◌≡◌, ◌+◌, ◌≤◌, length, IfOk, IfErr};
+    ghost use Rattle.std.specs.Prelude.{◌+◌, ◌≤◌, length, IfOk, IfErr};
     ghost use Rattle.record_base.specs.declared.message.Asked.{Asked};
     ghost use Rattle.record_base.specs.declared.message.Answered.{Answered};
     ghost use Rattle.record_base.specs.Meaning.{room_for};
@@ -33,6 +33,7 @@ pub trait Carrier {
     ) -> Result<Result<(), Code>, Self::Refusal>
         requires room { length (B.bytes reply.old) + room_for (meant asked.now) ≤ B.capacity }
         ensures carried { IfOk result (λ given.
-            IsCarried (carries self.now kept.old) (meant asked.now) given (B.bytes reply.old) (B.bytes reply.new) kept.new) }
+            IsCarried (carries self.now kept.old) (meant asked.now)
+            given (B.bytes reply.old) (B.bytes reply.new) kept.new) }
         ensures refused { IfErr result (λ why. refuses self.now kept.old why kept.new) };
 }

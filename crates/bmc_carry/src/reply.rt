@@ -1,5 +1,5 @@
 //! Where a reply is made.
-ghost use Rattle.std.specs.Prelude.{◌≡◌, [], List, ℕ};
+ghost use Rattle.std.specs.Prelude.{◌≡◌, []};
 ghost use Rattle.record_base.specs.declared.message.Answered.{Answered as AnyAnswer};
 ghost use Rattle.bmc_board.specs.Gives.{Gives};
 ghost use Rattle.bmc_carry.specs.Carrying.{code_given};

@@ -8,7 +8,6 @@ use Rattle.two_wire.specs.declared.Bus.TheVariants.{Ipmb}
 use Rattle.model_bus.specs.Numbering.{is_above}
 use Rattle.model_bus.specs.Carried.{Outcome, Repeats, IsBusy, IsNew, log_after, reply_after}
 use Rattle.bmc_board.specs.State.{State}
-use Rattle.bmc_board.specs.Answer.{answer_of}
 use Rattle.model_ports.specs.Bytes.{heard_in}
 use Rattle.model_ports.specs.PortSteps.{PortState, Deed, Turn, spelled, asked_in, response_after, hears_request}
 use Rattle.model_ports.specs.Values.{Value, written}
@@ -34,11 +33,6 @@ module _ (setup : BoardFile) (p : PortState) (before : State) (r : Request) wher
   unfolding hears_request
   busy_deed is = ap (deed_by p r) ((turns_by (is_above 64) (heard_in r) (spelled Ipmb (heard_in r)) setup (asked_in r) p.log before).busy is)
 
-  new_deed : outcome_at p r ≡ IsNew → let given = answer_of setup before (asked_in r) in
-      hears_request setup p before r ≡ record { port = carries p r given.0; board = given.1; sent = response_after r (Some (kept_of r given.0).reply) ∷ [] }
-  unfolding hears_request
-  new_deed is = ap (deed_by p r) ((turns_by (is_above 64) (heard_in r) (spelled Ipmb (heard_in r)) setup (asked_in r) p.log before).new is)
-
   settled : (port : IpmbPort) (out : Out) (o : Outcome) → outcome_at p r ≡ o → IsSettled r o out true → Shows port p → Does (hears_request setup p before r) (done_by o) port before out
   settled port out (Repeats reply) is settles shows =
       subst (λ (d : Deed). Does d (done_by (Repeats reply)) port before out) (sym (repeat_deed reply is)) (record { shows = shows; left = refl; sent = settles.1.0; read = settles.1.1 })
@@ -49,14 +43,6 @@ module _ (setup : BoardFile) (p : PortState) (before : State) (r : Request) wher
   -- a request that isn't new
   pub settled_does : (port : IpmbPort) (out : Out) → IsSettled r (outcome_at p r) out true → Shows port p → Does (hears_request setup p before r) (done_by (outcome_at p r)) port before out
   settled_does port out settles shows = settled port out (outcome_at p r) refl settles shows
-
-  -- a new one
-  pub new_does : (next : IpmbPort) (after : State) (out : Out) → let given = answer_of setup before (asked_in r) in
-      outcome_at p r ≡ IsNew → Shows next (carries p r given.0) → after ≡ given.1 → out ≡ first_answer r given.0 → AreRead Ipmb (first_response r given.0 ∷ [])
-      → Does (hears_request setup p before r) (done_by (outcome_at p r)) next after out
-  new_does next after out is shows left sent read =
-      subst (λ (o : Outcome). Does (hears_request setup p before r) (done_by o) next after out) (sym is)
-      (subst (λ (d : Deed). Does d (done_by IsNew) next after out) (sym (new_deed is)) (record { shows = shows; left = left; sent = sent; read = read }))
 
 -- what is new is new by the rule
 pub is_new : (r : Request) (o : Outcome) (out : Out) → IsSettled r o out false → o ≡ IsNew
