@@ -1,8 +1,7 @@
 //! The kinds of step: what names them, the tables of their fields, and what a step of each asks for. `docs/PLAN_FILES.md` says
 //! what each means.
-ghost use Rattle.std.specs.Prelude.{◌≡◌, []};
+ghost use Rattle.std.specs.Prelude.{◌≡◌};
 ghost use Rattle.toml.specs.View.{table_view};
-ghost use Rattle.text_fields.specs.Faults.{field_faults};
 ghost use Rattle.plan_file.specs.Kinds.{of_kind, kind_in};
 
 mod bios_attribute;
@@ -22,7 +21,7 @@ mod watchdog;
 
 use record_base::Op;
 use text_fields::tree::has_text;
-use text_fields::{Field, Need, Row, Shape};
+use text_fields::{Checked, Field, Need, Row, Shape};
 use toml::Table;
 
 /// A kind of step, by the kind of record that it changes.
@@ -122,9 +121,9 @@ impl Kind {
     }
 
     /// The change that a step of this kind asks for.
-    pub fn change(&self, step: &Table) -> Op
-        requires { field_faults (of_kind self.now).rows (table_view step.now) ≡ [] }
-        ensures { (of_kind self.now).Holds (table_view step.now) result }
+    pub fn change(&self, step: &Checked<'_>) -> Op
+        requires { step.now.rows.now ≡ (of_kind self.now).rows }
+        ensures { (of_kind self.now).Holds (table_view step.now.table.now) result }
     {
         of_each_kind!(change(self, step))
     }

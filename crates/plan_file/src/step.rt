@@ -10,7 +10,7 @@ use crate::kind::{KIND, kind_in};
 use crate::plan_fault::{NoGet, OutsidePlan, StepFault};
 use record_base::Op;
 use text_fields::tree::{has_text, in_field, number};
-use text_fields::{Field, first_fault};
+use text_fields::{Checked, Field, first_fault};
 use toml::Table;
 
 /// All that no plan changes.
@@ -105,8 +105,8 @@ pub fn read_step(step: &Table) -> Result<Op, StepFault>
     let Some(kind) = kind_in(step) else {
         return Err(kind_fault(step));
     };
-    match first_fault(kind.rows(), step) {
-        Some(fault) => Err(StepFault::Field(fault)),
-        None => Ok(kind.change(step)),
+    match Checked::new(kind.rows(), step) {
+        Ok(known) => Ok(kind.change(&known)),
+        Err(fault) => Err(StepFault::Field(fault)),
     }
 }

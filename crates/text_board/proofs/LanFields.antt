@@ -1,18 +1,15 @@
 -- What an item `[[lan]]` of a file without a fault has in its fields.
-use Rattle.std.proofs.Common.{◌≡◌, ℕ, zero, suc, ◌+◌, ◌<◌, length, get_or, slice_index, map, take, set, List, [], ◌∷◌, ◌++◌, Bool, true, false, ◌||◌, Option, Some, None, IsSome, option_and_then, refl, ap, arith}
+use Rattle.std.proofs.Common.{◌≡◌, ℕ, zero, suc, ◌+◌, ◌<◌, length, get_or, slice_index, map, take, set, List, [], ◌∷◌, ◌++◌, Bool, true, false, ◌||◌, Option, Some, None, IsSome, refl, ap, arith}
 use Rattle.std.proofs.lemmas.List.{take_more, take_more_set, map-append}
 use Rattle.std.specs.List.{list_any}
 use Rattle.std.specs.Option.{option_map_or}
 use Rattle.toml.specs.Data.{Data, Members}
-use Rattle.record_base.specs.declared.lan.LanAddress.{LanAddress}
-use Rattle.record_base.specs.declared.lan.LanParameter.TheVariants as parameter
 use Rattle.record_base.specs.declared.lan_item.Lan.{Lan}
-use Rattle.text_fields.specs.declared.field.Field.{Field}
 use Rattle.text_fields.specs.declared.field.Field.TheVariants as field
 use Rattle.text_fields.specs.declared.lan.LanShape.TheVariants as lan_shape
 use Rattle.text_fields.specs.declared.row.Shape.TheVariants as shape
 use Rattle.text_fields.specs.declared.row.Need.TheVariants as need
-use Rattle.text_fields.specs.Trees.{in_field, natural, number_in, bytes_in, table_of, HasBelow}
+use Rattle.text_fields.specs.Trees.{in_field, natural, number_in, table_of, HasBelow}
 use Rattle.text_fields.proofs.Rows.{Sound, value_of}
 use Rattle.text_board.specs.LanItems.{IsLanIn, channel_of}
 
@@ -43,16 +40,10 @@ channel_below listed tree long sound =
 
 -- ---- addresses
 
-some_bytes : (o : Option (List ℕ)) → option_map_or (λ bytes. true) o false ≡ true → IsSome o
+-- bytes that pass are there
+pub some_bytes : (o : Option (List ℕ)) → option_map_or (λ bytes. true) o false ≡ true → IsSome o
 some_bytes (Some bytes) is = refl
 some_bytes None is = cc
-
--- an address that the item has is four bytes
-pub address_there : (which : LanAddress) (named : Field) (tree : Members) → Sound tree (record { 0 = named; 1 = shape.Lan (lan_shape.Bytes (parameter.Address which)); 2 = need.Always })
-    → IsSome (option_and_then (bytes_in 4) (in_field named tree))
-address_there which named tree sound =
-    let v = value_of tree (record { 0 = named; 1 = shape.Lan (lan_shape.Bytes (parameter.Address which)); 2 = need.Always }) (in_field named tree) refl refl sound in
-    rw v.found (some_bytes (bytes_in 4 v.value) v.within)
 
 -- ---- the channels that are listed
 

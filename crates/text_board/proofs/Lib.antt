@@ -1,4 +1,3 @@
-pub mod TopRows
 pub mod Events
 pub mod RecordIds
 pub mod Items

@@ -1,21 +1,13 @@
 -- The sensors of a file beside those that were read.
-use Rattle.std.proofs.Common.{◌≡◌, ℕ, ◌≤◌, [], map, length, true, Some, refl, arith, nat_le, is_some}
-use Rattle.std.proofs.lemmas.Bool.{and_parts}
-use Rattle.std.proofs.lemmas.Bool.Decides.{nat_tests}
+use Rattle.std.proofs.Common.{◌≡◌, [], map, Some}
 use Rattle.toml.specs.Data.{Data, Members}
-use Rattle.text_fields.specs.declared.field.Field.{Field}
-use Rattle.text_fields.specs.declared.row.Shape.TheVariants as shape
-use Rattle.text_fields.specs.declared.row.Need.TheVariants as need
-use Rattle.text_fields.specs.Ranges.{record_in}
-use Rattle.text_fields.proofs.Rows.{Sound, value_of}
 use Rattle.text_fields.proofs.First.{first-append}
-use Rattle.std.specs.List.{list_all}
 use Rattle.record_base.specs.declared.sensor.Sensor.{Sensor}
 use Rattle.text_fields.specs.declared.field.Field.TheVariants as field
 use Rattle.text_board.specs.declared.tables.TheConstants.{TOP, DEVICE}
 use Rattle.text_board.specs.declared.fault.FileFault.{FileFault}
 use Rattle.text_board.specs.declared.fault.Item.TheVariants as item
-use Rattle.text_fields.specs.Trees.{in_field, members, number_in, table_of, table_in, members_in, or_none}
+use Rattle.text_fields.specs.Trees.{number_in, table_of, table_in, members_in}
 use Rattle.text_fields.specs.Faults.{field_faults, first}
 use Rattle.text_board.specs.Faults.{fault_at, record_faults, sensor_faults, channel_faults, users_in, lan_faults, attribute_faults, state_faults, numeric_faults, board_faults}
 use Rattle.text_board.specs.Holds.{IsSensorIn, number_of}
@@ -23,17 +15,6 @@ use Rattle.text_board.specs.Holds.{IsSensorIn, number_of}
 -- a sensor that a member of an array holds has its number
 pub sensor_numbered : (d : Data) (s : Sensor) → IsSensorIn d s → number_in field.Number (table_of d) ≡ Some (number_of s)
 sensor_numbered d s holds = holds.numbered
-
-le_from : (m n : ℕ) → nat_le m n ≡ true → m ≤ n
-le_from m n h = grind (arith, nat_tests)
-
--- the members of an array of sensor data records without a fault are so many records at most
-pub records_there : (tree : Members) (field : Field) (most : ℕ) → Sound tree (record { 0 = field; 1 = shape.Records most; 2 = need.Always })
-    → (list_all (λ d. is_some (record_in d)) (members_in field tree) ≡ true) × (length (members_in field tree) ≤ most)
-records_there tree field most sound =
-    let v = value_of tree (record { 0 = field; 1 = shape.Records most; 2 = need.Always }) (in_field field tree) refl refl sound in
-    let (few, all) = and_parts (nat_le (length (or_none (members v.value))) most) (list_all (λ d. is_some (record_in d)) (or_none (members v.value))) v.within in
-    rw v.found (all, le_from _ _ few)
 
 -- ---- the faults of a board file
 

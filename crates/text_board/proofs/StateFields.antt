@@ -3,18 +3,16 @@ use Rattle.std.proofs.Common.{◌≡◌, ℕ, ◌==◌, zero, suc, ◌<◌, ◌�
 use Rattle.std.proofs.lemmas.Bool.{and_parts}
 use Rattle.std.proofs.lemmas.Bool.Decides.{nat_tests}
 use Rattle.std.specs.List.{list_all, AllZip}
-use Rattle.toml.specs.Data.{Data, Members}
+use Rattle.toml.specs.Data.{Data}
 use Rattle.toml.specs.View.{view}
 use Rattle.toml.specs.declared.value.Value.{Value}
+use Rattle.record_base.specs.AttributeRangeLaws.{true_le}
 use Rattle.record_base.specs.StateField.{allows}
 use Rattle.record_base.specs.declared.state_effecter.StateEffecter.{StateEffecter}
 use Rattle.text_fields.specs.declared.field.Field.TheVariants as field
-use Rattle.text_fields.specs.declared.row.Shape.TheVariants as shape
-use Rattle.text_fields.specs.declared.row.Need.TheVariants as need
-use Rattle.text_fields.specs.Trees.{IsNaturalIn, in_field, natural, members, members_in, number_in, table_of, or_none}
-use Rattle.text_fields.specs.Ranges.{passes, is_between, is_number, is_listed, is_state, is_state_list, can_be, are_present}
+use Rattle.text_fields.specs.Trees.{IsNaturalIn, natural, members, number_in, table_of, or_none}
+use Rattle.text_fields.specs.Ranges.{passes, is_between, is_number, is_listed, is_state, is_state_list, are_state_lists, can_be, are_present}
 use Rattle.text_board.specs.Holds.{IsStateIn, state_id, operational}
-use Rattle.text_fields.proofs.Rows.{Sound, value_of}
 
 -- a state effecter that a member of an array holds has its id
 pub state_numbered : (d : Data) (e : StateEffecter) → IsStateIn d e → number_in field.Id (table_of d) ≡ Some (state_id e)
@@ -73,24 +71,12 @@ present_at (l ∷ lists) (s ∷ states) zero list state all within inside is als
 present_at (l ∷ lists) (s ∷ states) (suc i) list state all within inside is also =
     present_at lists states i list state (and_parts (can_be (view l) (view s)) (are_present (map view lists) (map view states)) all).1 (omega arith) (omega arith) is also
 
-le_from : (m n : ℕ) → nat_le m n ≡ true → m ≤ n
-le_from m n h = grind (arith, nat_tests)
-
--- the lists of states that an item without a fault has
-pub lists_there : (tree : Members) → Sound tree (record { 0 = field.States; 1 = shape.StateLists; 2 = need.Always })
-    → (1 ≤ length (members_in field.States tree)) × ((length (members_in field.States tree) ≤ 8) × (list_all is_state_list (members_in field.States tree) ≡ true))
-lists_there tree sound =
-    let v = value_of tree (record { 0 = field.States; 1 = shape.StateLists; 2 = need.Always }) (in_field field.States tree) refl refl sound in
-    let ds = or_none (members v.value) in
-    let (some, all) = and_parts (is_between 1 8 (length ds)) (list_all is_state_list ds) v.within in
+-- lists of states for each of 1 to 8 fields
+pub lists_are : (ds : List Data) → are_state_lists ds ≡ true → (1 ≤ length ds) × ((length ds ≤ 8) × (list_all is_state_list ds ≡ true))
+lists_are ds are =
+    let (some, all) = and_parts (is_between 1 8 (length ds)) (list_all is_state_list ds) are in
     let (low, high) = and_parts (nat_le 1 (length ds)) (nat_le (length ds) 8) some in
-    rw v.found (le_from 1 _ low, (le_from _ 8 high, all))
-
--- the states that its fields are in
-pub present_there : (tree : Members) → Sound tree (record { 0 = field.Current; 1 = shape.States; 2 = need.Always }) → are_present (members_in field.States tree) (members_in field.Current tree) ≡ true
-present_there tree sound =
-    let v = value_of tree (record { 0 = field.Current; 1 = shape.States; 2 = need.Always }) (in_field field.Current tree) refl refl sound in
-    rw v.found v.within
+    (true_le 1 (length ds) low, (true_le (length ds) 8 high, all))
 
 -- a state from 1 to 2 is the one that it says
 pub state_told : (n : ℕ) → 1 ≤ n → n ≤ 2 → operational (n == 1) ≡ n

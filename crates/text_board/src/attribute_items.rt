@@ -11,7 +11,7 @@ ghost use Rattle.text_board.specs.Faults.{attribute_rows, attribute_faults_at, a
 
 use crate::check::check;
 use crate::fault::{FileFault, Item};
-use crate::tables::{ATTRIBUTE, ENUMERATION, INTEGER, STRING, TopFields};
+use crate::tables::{ATTRIBUTE, ENUMERATION, INTEGER, STRING, TOP};
 use cfg_records::{
     Attribute, AttributeKind, Attributes, Distinct, EnumerationAttribute, Indexes,
     IntegerAttribute, IntegerSteps, StringAttribute, Text, TextLengths,
@@ -185,7 +185,8 @@ fn attributes_of(alloc: Global, values: &[Value]) -> Result<Vec<Attribute>, File
 }
 
 /// The attributes of the file.
-pub fn attributes(alloc: Global, top: &Checked<'_, TopFields>) -> Result<Attributes, FileFault>
+pub fn attributes(alloc: Global, top: &Checked<'_>) -> Result<Attributes, FileFault>
+    requires { top.now.rows.now ≡ TOP }
     ensures sound { IfOk result (λ _. attribute_faults (members_in Field.Attribute (table_view top.now.table.now)) ≡ []) }
     ensures held { IfOk result (λ attributes. HoldsAttributes (members_in Field.Attribute (table_view top.now.table.now)) attributes.items) }
     ensures err { IfErr result (λ why. (why ≡ FileFault.Memory) ⊎ (first (attribute_faults (members_in Field.Attribute (table_view top.now.table.now))) ≡ Some why)) }

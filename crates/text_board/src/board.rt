@@ -11,12 +11,12 @@ ghost use Rattle.text_board.specs.Holds.{HoldsBoot, HoldsDevice, HoldsEvents, Ho
 
 use crate::attribute_items::attributes;
 use crate::channel_items::file_channels;
-use crate::check::{check, checked};
+use crate::check::checked;
 use crate::effecters::numeric_effecters;
 use crate::fault::{FileFault, Item, Place};
 use crate::lan_items::lans;
 use crate::state_items::state_effecters;
-use crate::tables::{DeviceFields, SENSOR, TopFields};
+use crate::tables::{DEVICE, SENSOR, TOP};
 use crate::users::users;
 use cfg_records::event_enable::{MESSAGES_PLACE, SCANNING_PLACE};
 use cfg_records::mask::has;
@@ -26,12 +26,13 @@ use cfg_records::{
 };
 use std::alloc::Global;
 use text_fields::range::{boot_flags, digits, enables, record, thresholds, watchdog};
-use text_fields::tree::{byte_in, members_in, pair_in, value_in, word_in};
+use text_fields::tree::{byte_in, members_of, word_in};
 use text_fields::{Checked, Field};
 use toml::{Table, Value};
 
 /// What the table says of its board.
-fn device(item: &Checked<'_, DeviceFields>) -> Device
+fn device(item: &Checked<'_>) -> Device
+    requires { item.now.rows.now ≡ DEVICE }
     ensures { HoldsDevice (table_view item.now.table.now) result }
 {
     Device {
@@ -46,15 +47,15 @@ fn device(item: &Checked<'_, DeviceFields>) -> Device
 }
 
 /// The events of the sensor that the table is.
-fn events(table: &Table) -> EventEnable
-    requires { field_faults SENSOR (table_view table.now) ≡ [] }
-    ensures { HoldsEvents (table_view table.now) result }
+fn events(item: &Checked<'_>) -> EventEnable
+    requires { item.now.rows.now ≡ SENSOR }
+    ensures { HoldsEvents (table_view item.now.table.now) result }
 {
-    let supported = word_in(table, Field::Supported);
-    let flags = byte_in(table, Field::Flags);
+    let supported = item.word(Field::Supported);
+    let flags = byte_in(item.table, Field::Flags);
     let enabled = EventMasks {
-        assertions: word_in(table, Field::Assert),
-        deassertions: word_in(table, Field::Deassert),
+        assertions: word_in(item.table, Field::Assert),
+        deassertions: word_in(item.table, Field::Deassert),
     };
     let messages = has(flags, MESSAGES_PLACE);
     let scanning = has(flags, SCANNING_PLACE);
@@ -62,17 +63,16 @@ fn events(table: &Table) -> EventEnable
 }
 
 /// The sensor that the table is.
-fn sensor(table: &Table) -> Sensor
-    requires { field_faults SENSOR (table_view table.now) ≡ [] }
-    ensures { HoldsSensor (table_view table.now) result }
+fn sensor(item: &Checked<'_>) -> Sensor
+    requires { item.now.rows.now ≡ SENSOR }
+    ensures { HoldsSensor (table_view item.now.table.now) result }
 {
-    let values = value_in(table, Field::Thresholds);
     Sensor {
-        number: byte_in(table, Field::Number),
-        sensor_type: byte_in(table, Field::Type),
-        thresholds: thresholds(table, values).unwrap(),
-        hysteresis: pair_in(table, Field::Hysteresis).into(),
-        events: events(table),
+        number: item.byte(Field::Number),
+        sensor_type: item.byte(Field::Type),
+        thresholds: thresholds(item.table, item.value(Field::Thresholds)).unwrap(),
+        hysteresis: item.pair(Field::Hysteresis).into(),
+        events: events(item),
     }
 }
 
@@ -93,8 +93,8 @@ fn next_sensor(before: &[Sensor], value: &Value) -> Result<Sensor, FileFault>
 {
     let item = Item::Sensor(before.len());
     let table = value.as_table().unwrap();
-    check(item, &SENSOR, table)?;
-    let sensor = sensor(table);
+    let known = checked(item, &SENSOR, table)?;
+    let sensor = sensor(&known);
     if is_taken(before, sensor.number) {
         return Err(FileFault::Twice(Place {
             item,
@@ -124,7 +124,8 @@ fn sensors_of(alloc: Global, values: &[Value]) -> Result<Vec<Sensor>, FileFault>
 }
 
 /// The sensors of the file.
-fn sensors(alloc: Global, top: &Checked<'_, TopFields>) -> Result<Sensors, FileFault>
+fn sensors(alloc: Global, top: &Checked<'_>) -> Result<Sensors, FileFault>
+    requires { top.now.rows.now ≡ TOP }
     ensures sound { IfOk result (λ _. sensor_faults (members_in Field.Sensor (table_view top.now.table.now)) ≡ []) }
     ensures held { IfOk result (λ sensors. AllZip IsSensorIn (members_in Field.Sensor (table_view top.now.table.now)) sensors.items) }
     ensures err { IfErr result (λ why. (why ≡ FileFault.Memory) ⊎ (first (sensor_faults (members_in Field.Sensor (table_view top.now.table.now))) ≡ Some why)) }
@@ -134,7 +135,8 @@ fn sensors(alloc: Global, top: &Checked<'_, TopFields>) -> Result<Sensors, FileF
 }
 
 /// The global enables of the file.
-fn global_enables(top: &Checked<'_, TopFields>) -> GlobalEnables
+fn global_enables(top: &Checked<'_>) -> GlobalEnables
+    requires { top.now.rows.now ≡ TOP }
     ensures { HasNumber Field.Enables (table_view top.now.table.now) result.byte }
 {
     enables(top.value(Field::Enables)).unwrap()
@@ -142,7 +144,7 @@ fn global_enables(top: &Checked<'_, TopFields>) -> GlobalEnables
 
 /// The sensor data records that these values are.
 fn records_of(alloc: Global, values: &[Value]) -> Result<Vec<SdrRecord>, FileFault>
-    requires { list_all (λ value. is_some (record_in (view value))) values.now ≡ true }
+    requires { list_all (λ d. is_some (record_in d)) (map view values.now) ≡ true }
     ensures held { IfOk result (λ records. AllZip IsRecordIn (map view values.now) records.items) }
     ensures err { IfErr result (λ why. why ≡ FileFault.Memory) }
 {
@@ -157,12 +159,13 @@ fn records_of(alloc: Global, values: &[Value]) -> Result<Vec<SdrRecord>, FileFau
 }
 
 /// The sensor data records of the file.
-fn sdr(alloc: Global, top: &Checked<'_, TopFields>) -> Result<SdrRecords, FileFault>
+fn sdr(alloc: Global, top: &Checked<'_>) -> Result<SdrRecords, FileFault>
+    requires { top.now.rows.now ≡ TOP }
     ensures sound { IfOk result (λ _. record_faults (members_in Field.Sdr (table_view top.now.table.now)) ≡ []) }
     ensures held { IfOk result (λ sdr. AllZip IsRecordIn (members_in Field.Sdr (table_view top.now.table.now)) sdr.items) }
     ensures err { IfErr result (λ why. (why ≡ FileFault.Memory) ⊎ (first (record_faults (members_in Field.Sdr (table_view top.now.table.now))) ≡ Some why)) }
 {
-    let records = records_of(alloc, members_in(top.table, Field::Sdr))?;
+    let records = records_of(alloc, members_of(top.value(Field::Sdr)))?;
     match Distinct::new(records) {
         Some(records) => Ok(records),
         None => Err(FileFault::Twice(Place {
@@ -173,7 +176,8 @@ fn sdr(alloc: Global, top: &Checked<'_, TopFields>) -> Result<SdrRecords, FileFa
 }
 
 /// The boot options of the file.
-fn boot_options(top: &Checked<'_, TopFields>) -> BootOptions
+fn boot_options(top: &Checked<'_>) -> BootOptions
+    requires { top.now.rows.now ≡ TOP }
     ensures { HoldsBoot (table_view top.now.table.now) result }
 {
     let clearing = top.byte(Field::Boot3);
@@ -184,39 +188,44 @@ fn boot_options(top: &Checked<'_, TopFields>) -> BootOptions
 }
 
 /// The power policy of the file.
-fn power_policy(top: &Checked<'_, TopFields>) -> PowerPolicy
+fn power_policy(top: &Checked<'_>) -> PowerPolicy
+    requires { top.now.rows.now ≡ TOP }
     ensures { HasNumber Field.Policy (table_view top.now.table.now) result.number }
 {
     PowerPolicy::new(top.byte(Field::Policy)).unwrap()
 }
 
 /// The settings of the file's watchdog timer.
-fn timer(top: &Checked<'_, TopFields>) -> Watchdog
+fn timer(top: &Checked<'_>) -> Watchdog
+    requires { top.now.rows.now ≡ TOP }
     ensures { HasNumbers Field.Watchdog (table_view top.now.table.now) (settings result) }
 {
     watchdog(top.value(Field::Watchdog)).unwrap()
 }
 
 /// How many records the log of the file has room for.
-fn log_capacity(top: &Checked<'_, TopFields>) -> LogCapacity
+fn log_capacity(top: &Checked<'_>) -> LogCapacity
+    requires { top.now.rows.now ≡ TOP }
     ensures { HasNumber Field.Log (table_view top.now.table.now) result.records }
 {
     LogCapacity::new(top.word(Field::Log)).unwrap()
 }
 
 /// The board that the tree holds whose own fields have no fault, or its first fault.
-fn board_in(alloc: Global, top: &Checked<'_, TopFields>) -> Result<BoardFile, FileFault>
+fn board_in(alloc: Global, top: &Checked<'_>) -> Result<BoardFile, FileFault>
+    requires rows { top.now.rows.now ≡ TOP }
+    requires sound { field_faults TOP (table_view top.now.table.now) ≡ [] }
     ensures { (result ≡ Err FileFault.Memory) ⊎ Answers (table_view top.now.table.now) result }
 {
     let sdr = sdr(alloc, top)?;
-    let board = checked::<DeviceFields>(Item::Device, top.table(Field::Device))?;
+    let board = checked(Item::Device, &DEVICE, top.table(Field::Device))?;
     let sensors = sensors(alloc, top)?;
-    let file_channels = file_channels(alloc, top.table)?;
+    let file_channels = file_channels(alloc, top)?;
     let lans = lans(alloc, top)?;
     let attributes = attributes(alloc, top)?;
     let state_effecters = state_effecters(alloc, top)?;
     let numeric_effecters = numeric_effecters(alloc, top)?;
-    let users = users(alloc, top.table)?;
+    let users = users(alloc, top)?;
     Ok(BoardFile {
         tid: top.byte(Field::Tid),
         device: device(&board),
@@ -243,7 +252,7 @@ fn board_in(alloc: Global, top: &Checked<'_, TopFields>) -> Result<BoardFile, Fi
 fn board_of(alloc: Global, tree: &Table) -> Result<BoardFile, FileFault>
     ensures { (result ≡ Err FileFault.Memory) ⊎ Answers (table_view tree.now) result }
 {
-    let top = checked::<TopFields>(Item::Top, tree)?;
+    let top = checked(Item::Top, &TOP, tree)?;
     board_in(alloc, &top)
 }
 

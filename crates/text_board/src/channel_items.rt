@@ -17,9 +17,9 @@ use cfg_records::{
     UserAccesses, UserNumber, UserOnChannel,
 };
 use std::alloc::Global;
-use text_fields::Field;
 use text_fields::channels::{accesses, channel_in, limits};
-use text_fields::tree::{in_field, members_in, natural, value_in};
+use text_fields::tree::{in_field, members_in, members_of, natural};
+use text_fields::{Checked, Field};
 use toml::{Table, Value};
 
 /// Whether the channel that the table is has sessions.
@@ -106,8 +106,10 @@ fn channel(users: usize, table: &Table) -> Channel
     requires { field_faults (session_rows users) (table_view table.now) ≡ [] }
     ensures { HoldsChannel (table_view table.now) result }
 {
-    let [first, second] = accesses(value_in(table, Field::Access)).unwrap();
-    let [one, other] = limits(value_in(table, Field::Limit)).unwrap();
+    let rows = session_rows(users);
+    let item = Checked::known(&rows, table);
+    let [first, second] = accesses(item.value(Field::Access)).unwrap();
+    let [one, other] = limits(item.value(Field::Limit)).unwrap();
     Channel {
         number: channel_in(table, Field::Number),
         non_volatile: ChannelAccess::new(first, one).unwrap(),
@@ -270,14 +272,14 @@ fn channels_in(alloc: Global, users: usize, values: &[Value]) -> Result<FileChan
 }
 
 /// The channels of the file.
-pub fn file_channels(alloc: Global, tree: &Table) -> Result<FileChannels, FileFault>
-    requires { field_faults TOP (table_view tree.now) ≡ [] }
-    ensures sound { IfOk result (λ _. channel_faults (users_in (table_view tree.now)) (members_in Field.Channel (table_view tree.now)) ≡ []) }
-    ensures channels { IfOk result (λ file. AllZip IsChannelIn (with_sessions (members_in Field.Channel (table_view tree.now))) file.channels.items) }
-    ensures sessionless { IfOk result (λ file. AllZip IsNumberIn (without_sessions (members_in Field.Channel (table_view tree.now))) file.sessionless.items) }
-    ensures accesses { IfOk result (λ file. map parts_of file.accesses.items ≡ accesses_in (with_sessions (members_in Field.Channel (table_view tree.now)))) }
-    ensures err { IfErr result (λ why. (why ≡ FileFault.Memory) ⊎ (first (channel_faults (users_in (table_view tree.now)) (members_in Field.Channel (table_view tree.now))) ≡ Some why)) }
+pub fn file_channels(alloc: Global, top: &Checked<'_>) -> Result<FileChannels, FileFault>
+    requires { top.now.rows.now ≡ TOP }
+    ensures sound { IfOk result (λ _. channel_faults (users_in (table_view top.now.table.now)) (members_in Field.Channel (table_view top.now.table.now)) ≡ []) }
+    ensures channels { IfOk result (λ file. AllZip IsChannelIn (with_sessions (members_in Field.Channel (table_view top.now.table.now))) file.channels.items) }
+    ensures sessionless { IfOk result (λ file. AllZip IsNumberIn (without_sessions (members_in Field.Channel (table_view top.now.table.now))) file.sessionless.items) }
+    ensures accesses { IfOk result (λ file. map parts_of file.accesses.items ≡ accesses_in (with_sessions (members_in Field.Channel (table_view top.now.table.now)))) }
+    ensures err { IfErr result (λ why. (why ≡ FileFault.Memory) ⊎ (first (channel_faults (users_in (table_view top.now.table.now)) (members_in Field.Channel (table_view top.now.table.now))) ≡ Some why)) }
 {
-    let users = members_in(tree, Field::Users).len();
-    channels_in(alloc, users, members_in(tree, Field::Channel))
+    let users = members_of(top.value(Field::Users)).len();
+    channels_in(alloc, users, top.tables(Field::Channel))
 }

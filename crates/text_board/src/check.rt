@@ -5,7 +5,7 @@ ghost use Rattle.text_fields.specs.Faults.{field_faults, first};
 ghost use Rattle.text_board.specs.Faults.{fault_at};
 
 use crate::fault::{FileFault, Item, Place};
-use text_fields::{Checked, FieldFault, Fields, Row, first_fault};
+use text_fields::{Checked, FieldFault, Row, first_fault};
 use toml::Table;
 
 /// The fault, in an item of a board file.
@@ -19,13 +19,14 @@ fn of_item(fault: FieldFault, item: Item) -> FileFault
     }
 }
 
-/// The table of an item of a board file where its fields have no fault, or else the first.
-pub fn checked<'a, F: Fields>(item: Item, table: &'a Table) -> Result<Checked<'a, F>, FileFault>
+/// The table of an item of a board file where the fields of these rows have no fault, or else the first.
+pub fn checked<'a>(item: Item, rows: &'a [Row], table: &'a Table) -> Result<Checked<'a>, FileFault>
+    ensures rows { IfOk result (λ known. known.rows.now ≡ rows.now) }
     ensures ok { IfOk result (λ known. table_view known.table.now ≡ table_view table.now) }
-    ensures sound { IfOk result (λ _. field_faults F.rows (table_view table.now) ≡ []) }
-    ensures err { IfErr result (λ why. first (map (fault_at item) (field_faults F.rows (table_view table.now))) ≡ Some why) }
+    ensures sound { IfOk result (λ _. field_faults rows.now (table_view table.now) ≡ []) }
+    ensures err { IfErr result (λ why. first (map (fault_at item) (field_faults rows.now (table_view table.now))) ≡ Some why) }
 {
-    match Checked::<F>::new(table) {
+    match Checked::new(rows, table) {
         Ok(known) => Ok(known),
         Err(fault) => Err(of_item(fault, item)),
     }

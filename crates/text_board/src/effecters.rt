@@ -9,39 +9,38 @@ ghost use Rattle.text_fields.specs.Faults.{field_faults, first};
 ghost use Rattle.text_board.specs.Faults.{numeric_faults};
 ghost use Rattle.text_board.specs.Holds.{HoldsRange, HoldsNumeric, IsNumericIn, IsNextNumericFault, effecter_id};
 
-use crate::check::check;
+use crate::check::checked;
 use crate::fault::{FileFault, Item, Place};
-use crate::tables::{NUMERIC, TopFields};
+use crate::tables::{NUMERIC, TOP};
 use cfg_records::{Distinct, NumericEffecter, NumericEffecters, NumericRange};
 use std::alloc::Global;
 use text_fields::numeric::{size_in, sized_in};
-use text_fields::tree::{byte_in, word_in};
 use text_fields::{Checked, Field};
-use toml::{Table, Value};
+use toml::Value;
 
 /// The operational state of an effecter that is enabled.
 pub const ENABLED: u8 = 1;
 
 /// The numbers that the effecter, which the table is, can be set to.
-fn range(table: &Table) -> NumericRange
-    requires { field_faults NUMERIC (table_view table.now) ≡ [] }
-    ensures { HoldsRange (table_view table.now) result }
+fn range(item: &Checked<'_>) -> NumericRange
+    requires { item.now.rows.now ≡ NUMERIC }
+    ensures { HoldsRange (table_view item.now.table.now) result }
 {
-    let size = size_in(table).unwrap();
-    let lower = sized_in(table, size, Field::Lower).unwrap();
-    let upper = sized_in(table, size, Field::Upper).unwrap();
+    let size = size_in(item.table).unwrap();
+    let lower = sized_in(item.table, size, Field::Lower).unwrap();
+    let upper = sized_in(item.table, size, Field::Upper).unwrap();
     NumericRange::new(size, lower, upper).unwrap()
 }
 
 /// The numeric effecter that the table is.
-fn numeric_effecter(table: &Table) -> NumericEffecter
-    requires { field_faults NUMERIC (table_view table.now) ≡ [] }
-    ensures { HoldsNumeric (table_view table.now) result }
+fn numeric_effecter(item: &Checked<'_>) -> NumericEffecter
+    requires { item.now.rows.now ≡ NUMERIC }
+    ensures { HoldsNumeric (table_view item.now.table.now) result }
 {
-    let id = word_in(table, Field::Id);
-    let enabled = byte_in(table, Field::Operational) == ENABLED;
-    let range = range(table);
-    let current = sized_in(table, range.size, Field::Current).unwrap();
+    let id = item.word(Field::Id);
+    let enabled = item.byte(Field::Operational) == ENABLED;
+    let range = range(item);
+    let current = sized_in(item.table, range.size, Field::Current).unwrap();
     NumericEffecter::new(id, enabled, range, current).unwrap()
 }
 
@@ -62,8 +61,8 @@ fn next_effecter(before: &[NumericEffecter], value: &Value) -> Result<NumericEff
 {
     let item = Item::Numeric(before.len());
     let table = value.as_table().unwrap();
-    check(item, &NUMERIC, table)?;
-    let effecter = numeric_effecter(table);
+    let known = checked(item, &NUMERIC, table)?;
+    let effecter = numeric_effecter(&known);
     if is_taken(before, effecter.id) {
         return Err(FileFault::Twice(Place {
             item,
@@ -93,10 +92,8 @@ fn effecters_of(alloc: Global, values: &[Value]) -> Result<Vec<NumericEffecter>,
 }
 
 /// The numeric effecters of the file.
-pub fn numeric_effecters(
-    alloc: Global,
-    top: &Checked<'_, TopFields>,
-) -> Result<NumericEffecters, FileFault>
+pub fn numeric_effecters(alloc: Global, top: &Checked<'_>) -> Result<NumericEffecters, FileFault>
+    requires { top.now.rows.now ≡ TOP }
     ensures sound { IfOk result (λ _. numeric_faults (members_in Field.Numeric (table_view top.now.table.now)) ≡ []) }
     ensures held { IfOk result (λ effecters. AllZip IsNumericIn (members_in Field.Numeric (table_view top.now.table.now)) effecters.items) }
     ensures err { IfErr result (λ why. (why ≡ FileFault.Memory) ⊎ (first (numeric_faults (members_in Field.Numeric (table_view top.now.table.now))) ≡ Some why)) }

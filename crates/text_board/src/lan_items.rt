@@ -1,28 +1,27 @@
 //! The LAN parameters of a board file.
-ghost use Rattle.std.specs.Prelude.{◌≡◌, ◌⊎◌, ◌==◌, [], true, false, Some, IsSome, IfOk, IfErr, map, option_and_then};
+ghost use Rattle.std.specs.Prelude.{◌≡◌, ◌⊎◌, ◌==◌, [], true, false, Some, IfOk, IfErr, map};
 ghost use Rattle.std.specs.List.{list_all, list_any, AllZip};
 ghost use Rattle.record_base.specs.Distinct.{NamesDiffer};
-ghost use Rattle.record_base.specs.Lan.{address_bytes};
 ghost use Rattle.toml.specs.View.{view, table_view};
-ghost use Rattle.text_fields.specs.Trees.{in_field, bytes_in, table_of, HasNumbers};
+ghost use Rattle.text_fields.specs.Trees.{table_of};
 ghost use Rattle.text_fields.specs.Ranges.{is_table};
 ghost use Rattle.text_fields.specs.Faults.{field_faults, first};
 ghost use Rattle.text_board.specs.Faults.{item_faults, lan_faults};
 ghost use Rattle.text_board.specs.LanItems.{has_number, listed_channels, lan_rows, lans_in, HoldsLan, IsLanIn, channel_of};
 ghost use Rattle.text_board.specs.Holds.{IsNextAmong};
 
-use crate::check::check;
+use crate::check::checked;
 use crate::fault::{FileFault, Item, Place};
-use crate::tables::TopFields;
+use crate::tables::TOP;
 use cfg_records::Distinct;
-use record_base::lan::{Ipv4Address, LanAddress, LanParameter};
+use record_base::lan::{LanAddress, LanParameter};
 use record_base::lan_item::{Lan, Lans};
 use std::alloc::Global;
 use text_fields::channels::channel_in;
 use text_fields::lan::{address, vlan};
-use text_fields::tree::{byte_in, number, value_in};
+use text_fields::tree::number;
 use text_fields::{Checked, Field, LanField, LanShape, Need, Row, Shape};
-use toml::{Table, Value};
+use toml::Value;
 
 /// A list of four bytes.
 const ADDRESS: Shape = Shape::Lan(LanShape::Bytes(LanParameter::Address(LanAddress::Ip)));
@@ -95,25 +94,17 @@ fn listed_channels(channels: &[Value]) -> [bool; 16]
     listed
 }
 
-/// The address that the table has in the field.
-fn address_in(table: &Table, field: Field) -> Ipv4Address
-    requires { IsSome (option_and_then (bytes_in 4) (in_field field (table_view table.now))) }
-    ensures { HasNumbers field (table_view table.now) (address_bytes result) }
-{
-    address(value_in(table, field)).unwrap()
-}
-
 /// The LAN parameters that the table is, in a file that lists these channels.
-fn lan(listed: [bool; 16], table: &Table) -> Lan
-    requires { field_faults (lan_rows listed) (table_view table.now) ≡ [] }
-    ensures { HoldsLan (table_view table.now) result }
+fn lan(listed: [bool; 16], item: &Checked<'_>) -> Lan
+    requires { item.now.rows.now ≡ lan_rows listed }
+    ensures { HoldsLan (table_view item.now.table.now) result }
 {
-    let channel = channel_in(table, Field::Channel);
-    let ip = address_in(table, Field::Lan(LanField::Ip));
-    let source = byte_in(table, Field::Lan(LanField::Source));
-    let mask = address_in(table, Field::Lan(LanField::Mask));
-    let gateway = address_in(table, Field::Lan(LanField::Gateway));
-    let vlan = vlan(value_in(table, Field::Lan(LanField::Vlan))).unwrap();
+    let channel = channel_in(item.table, Field::Channel);
+    let ip = address(item.value(Field::Lan(LanField::Ip))).unwrap();
+    let source = item.byte(Field::Lan(LanField::Source));
+    let mask = address(item.value(Field::Lan(LanField::Mask))).unwrap();
+    let gateway = address(item.value(Field::Lan(LanField::Gateway))).unwrap();
+    let vlan = vlan(item.value(Field::Lan(LanField::Vlan))).unwrap();
     Lan::new(channel, ip, source, mask, gateway, vlan).unwrap()
 }
 
@@ -137,8 +128,9 @@ fn next_lan(listed: [bool; 16], before: &[Lan], value: &Value) -> Result<Lan, Fi
 {
     let item = Item::Lan(before.len());
     let table = value.as_table().unwrap();
-    check(item, &lan_rows(listed), table)?;
-    let lan = lan(listed, table);
+    let rows = lan_rows(listed);
+    let known = checked(item, &rows, table)?;
+    let lan = lan(listed, &known);
     if is_taken(before, lan.number.number) {
         return Err(FileFault::Twice(Place {
             item,
@@ -171,7 +163,8 @@ fn lans_of(alloc: Global, listed: [bool; 16], values: &[Value]) -> Result<Vec<La
 }
 
 /// The LAN parameters of the file.
-pub fn lans(alloc: Global, top: &Checked<'_, TopFields>) -> Result<Lans, FileFault>
+pub fn lans(alloc: Global, top: &Checked<'_>) -> Result<Lans, FileFault>
+    requires { top.now.rows.now ≡ TOP }
     ensures sound { IfOk result (λ _. lan_faults (table_view top.now.table.now) ≡ []) }
     ensures held { IfOk result
         (λ lans. AllZip IsLanIn (lans_in (table_view top.now.table.now)) lans.items) }

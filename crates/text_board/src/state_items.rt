@@ -9,15 +9,15 @@ ghost use Rattle.text_fields.specs.Faults.{field_faults, first};
 ghost use Rattle.text_board.specs.Faults.{state_faults};
 ghost use Rattle.text_board.specs.Holds.{IsFieldIn, IsPresentIn, HoldsState, IsStateIn, IsNextStateFault, state_id};
 
-use crate::check::check;
+use crate::check::checked;
 use crate::effecters::ENABLED;
 use crate::fault::{FileFault, Item, Place};
-use crate::tables::{STATE, TopFields};
+use crate::tables::{STATE, TOP};
 use cfg_records::{Distinct, Items, StateEffecter, StateEffecters, StateField};
 use std::alloc::Global;
-use text_fields::tree::{byte_in, members_in, members_of, natural, word_in};
+use text_fields::tree::{members_of, natural};
 use text_fields::{Checked, Field};
-use toml::{Table, Value};
+use toml::Value;
 
 /// The state that the value is.
 fn state(value: &Value) -> u8
@@ -29,7 +29,7 @@ fn state(value: &Value) -> u8
 
 /// The states that these values are.
 fn states_of(alloc: Global, values: &[Value]) -> Result<Vec<u8>, FileFault>
-    requires { list_all (λ value. is_state (view value)) values.now ≡ true }
+    requires { list_all is_state (map view values.now) ≡ true }
     ensures held { IfOk result (λ states. AllZip IsNaturalIn (map view values.now) states.items) }
     ensures err { IfErr result (λ why. why ≡ FileFault.Memory) }
 {
@@ -57,7 +57,7 @@ fn field_of(alloc: Global, states: &Value, current: &Value) -> Result<StateField
 
 /// The fields that can be in the states of these lists, each in one of its own.
 fn fields_of(alloc: Global, lists: &[Value], states: &[Value]) -> Result<Vec<StateField>, FileFault>
-    requires lists { list_all (λ value. is_state_list (view value)) lists.now ≡ true }
+    requires lists { list_all is_state_list (map view lists.now) ≡ true }
     requires current { are_present (map view lists.now) (map view states.now) ≡ true }
     ensures held { IfOk result (λ fields. AllZip IsFieldIn (map view lists.now) fields.items) }
     ensures current { IfOk result (λ fields. AllZip IsPresentIn (map view states.now) fields.items) }
@@ -75,15 +75,15 @@ fn fields_of(alloc: Global, lists: &[Value], states: &[Value]) -> Result<Vec<Sta
 }
 
 /// The state effecter that the table is.
-fn state_effecter(alloc: Global, table: &Table) -> Result<StateEffecter, FileFault>
-    requires { field_faults STATE (table_view table.now) ≡ [] }
-    ensures held { IfOk result (HoldsState (table_view table.now)) }
+fn state_effecter(alloc: Global, item: &Checked<'_>) -> Result<StateEffecter, FileFault>
+    requires { item.now.rows.now ≡ STATE }
+    ensures held { IfOk result (HoldsState (table_view item.now.table.now)) }
     ensures err { IfErr result (λ why. why ≡ FileFault.Memory) }
 {
-    let id = word_in(table, Field::Id);
-    let enabled = byte_in(table, Field::Operational) == ENABLED;
-    let lists = members_in(table, Field::States);
-    let fields = fields_of(alloc, lists, members_in(table, Field::Current))?;
+    let id = item.word(Field::Id);
+    let enabled = item.byte(Field::Operational) == ENABLED;
+    let lists = members_of(item.value(Field::States));
+    let fields = fields_of(alloc, lists, members_of(item.value(Field::Current)))?;
     Ok(StateEffecter::new(id, enabled, fields).unwrap())
 }
 
@@ -108,8 +108,8 @@ fn next_effecter(
 {
     let item = Item::State(before.len());
     let table = value.as_table().unwrap();
-    check(item, &STATE, table)?;
-    let effecter = state_effecter(alloc, table)?;
+    let known = checked(item, &STATE, table)?;
+    let effecter = state_effecter(alloc, &known)?;
     if is_taken(before, effecter.id) {
         return Err(FileFault::Twice(Place {
             item,
@@ -139,10 +139,8 @@ fn effecters_of(alloc: Global, values: &[Value]) -> Result<Vec<StateEffecter>, F
 }
 
 /// The state effecters of the file.
-pub fn state_effecters(
-    alloc: Global,
-    top: &Checked<'_, TopFields>,
-) -> Result<StateEffecters, FileFault>
+pub fn state_effecters(alloc: Global, top: &Checked<'_>) -> Result<StateEffecters, FileFault>
+    requires { top.now.rows.now ≡ TOP }
     ensures sound { IfOk result (λ _. state_faults (members_in Field.State (table_view top.now.table.now)) ≡ []) }
     ensures held { IfOk result (λ effecters. AllZip IsStateIn (members_in Field.State (table_view top.now.table.now)) effecters.items) }
     ensures err { IfErr result (λ why. (why ≡ FileFault.Memory) ⊎ (first (state_faults (members_in Field.State (table_view top.now.table.now))) ≡ Some why)) }

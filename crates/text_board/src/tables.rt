@@ -1,10 +1,9 @@
 //! The fields of each item of a board file: their names, types and ranges, and when they are needed.
 //! `docs/BOARD_FILES.md` says what each means.
 ghost use Rattle.std.specs.Prelude.{◌≡◌};
-ghost use Rattle.text_board.specs.declared.tables.TheConstants.{TOP, DEVICE};
 ghost use Rattle.text_board.specs.Faults.{session_rows};
 
-use text_fields::{BYTE, Field, Fields, LanField, Need, Row, Shape};
+use text_fields::{BYTE, Field, LanField, Need, Row, Shape};
 
 /// A board file's own fields.
 pub const TOP: [Row; 18] = [
@@ -28,17 +27,6 @@ pub const TOP: [Row; 18] = [
     Row(Field::Numeric, Shape::Tables(32), Need::Never),
 ];
 
-/// `TOP`, as the fields of a checked table.
-pub struct TopFields;
-
-impl Fields for TopFields {
-    ghost rows = { TOP };
-
-    fn rows() -> &'static [Row] {
-        &TOP
-    }
-}
-
 /// The fields of `[device]`.
 pub const DEVICE: [Row; 7] = [
     Row(Field::Id, BYTE, Need::Always),
@@ -53,17 +41,6 @@ pub const DEVICE: [Row; 7] = [
     ),
     Row(Field::Product, Shape::Number(0, 0xFFFF), Need::Always),
 ];
-
-/// `DEVICE`, as the fields of a checked table.
-pub struct DeviceFields;
-
-impl Fields for DeviceFields {
-    ghost rows = { DEVICE };
-
-    fn rows() -> &'static [Row] {
-        &DEVICE
-    }
-}
 
 /// The fields of a `[[sensor]]`.
 pub const SENSOR: [Row; 10] = [

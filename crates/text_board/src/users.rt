@@ -1,20 +1,19 @@
 //! The users of a board file.
-ghost use Rattle.std.specs.Prelude.{◌≡◌, ◌<◌, ◌≤◌, ◌+◌, [], true, map, length, is_some, IfOk, IfErr};
+ghost use Rattle.std.specs.Prelude.{◌≡◌, ◌<◌, ◌≤◌, ◌+◌, true, map, length, is_some, IfOk, IfErr};
 ghost use Rattle.std.specs.List.{list_all, AllZip};
 ghost use Rattle.toml.specs.View.{view, table_view};
 ghost use Rattle.text_fields.specs.Trees.{members_in};
 ghost use Rattle.text_fields.specs.Users.{name_of};
-ghost use Rattle.text_fields.specs.Faults.{field_faults};
 ghost use Rattle.text_board.specs.Holds.{IsNameIn, AreNumbered, HoldsUsers};
 
 use crate::fault::FileFault;
 use crate::tables::TOP;
 use cfg_records::{Distinct, User, UserNumber, Users};
 use std::alloc::Global;
-use text_fields::Field;
-use text_fields::tree::members_in;
+use text_fields::tree::members_of;
 use text_fields::users::name;
-use toml::{Table, Value};
+use text_fields::{Checked, Field};
+use toml::Value;
 
 /// The user behind those before, whose name the value is.
 fn next_user(before: &[User], value: &Value) -> User
@@ -32,7 +31,7 @@ fn next_user(before: &[User], value: &Value) -> User
 /// The users whose names these values are, in their order.
 fn users_of(alloc: Global, values: &[Value]) -> Result<Vec<User>, FileFault>
     requires few { length values.now ≤ 16 }
-    requires named { list_all (λ value. is_some (name_of (view value))) values.now ≡ true }
+    requires named { list_all (λ d. is_some (name_of d)) (map view values.now) ≡ true }
     ensures names { IfOk result (λ users. AllZip IsNameIn (map view values.now) users.items) }
     ensures numbers { IfOk result (λ users. AreNumbered 1 users.items) }
     ensures err { IfErr result (λ why. why ≡ FileFault.Memory) }
@@ -49,11 +48,11 @@ fn users_of(alloc: Global, values: &[Value]) -> Result<Vec<User>, FileFault>
 }
 
 /// The users of the file.
-pub fn users(alloc: Global, tree: &Table) -> Result<Users, FileFault>
-    requires { field_faults TOP (table_view tree.now) ≡ [] }
-    ensures held { IfOk result (λ users. HoldsUsers (members_in Field.Users (table_view tree.now)) users.items) }
+pub fn users(alloc: Global, top: &Checked<'_>) -> Result<Users, FileFault>
+    requires { top.now.rows.now ≡ TOP }
+    ensures held { IfOk result (λ users. HoldsUsers (members_in Field.Users (table_view top.now.table.now)) users.items) }
     ensures err { IfErr result (λ why. why ≡ FileFault.Memory) }
 {
-    let users = users_of(alloc, members_in(tree, Field::Users))?;
+    let users = users_of(alloc, members_of(top.value(Field::Users)))?;
     Ok(Distinct::new(users).unwrap())
 }

@@ -3,6 +3,7 @@ use Rattle.std.proofs.Common.{◌≡◌, ℕ, zero, suc, ◌<◌, ◌≤◌, nat
 use Rattle.std.proofs.lemmas.Bool.{and_parts}
 use Rattle.std.proofs.lemmas.Bool.Decides.{nat_tests}
 use Rattle.std.proofs.lemmas.List.{length-map, length-take-le, take_more, drop_more, map-append}
+use Rattle.std.proofs.lemmas.List.Folds.{list_all-map}
 use Rattle.std.specs.List.{list_all, AllZip, list_any}
 use Rattle.toml.specs.Data.{Data, Members}
 use Rattle.toml.specs.View.{view}
@@ -34,6 +35,10 @@ pub each_passes : {A : Type 0} (p : A → Bool) (xs : List A) (i : ℕ) (x : A) 
 each_passes p [] i x all within is = absurd (omega arith)
 each_passes p (y ∷ xs) zero x all within is = rw (ap p is) (and_parts (p y) (list_all p xs) all).0
 each_passes p (y ∷ xs) (suc i) x all within is = each_passes p xs i x (and_parts (p y) (list_all p xs) all).1 (omega arith) is
+
+-- so it does of one of the values of which it holds
+pub each_view : (p : Data → Bool) (vs : List Value) (i : ℕ) (v : Value) → list_all p (map view vs) ≡ true → i < length vs → v ≡ get_or vs i v → p (view v) ≡ true
+each_view p vs i v all = each_passes (λ (x : Value). p (view x)) vs i v (sym (list_all-map p view vs) ∙ all)
 
 members_cases : (o : Option (List Data)) (most : ℕ) → passes (list_all is_table) o ≡ true → nat_le (length (or_none o)) most ≡ true
     → (list_all is_table (or_none o) ≡ true) × (length (or_none o) ≤ most)

@@ -1,5 +1,5 @@
 -- What an item without a fault has in its fields.
-use Rattle.std.proofs.Common.{◌≡◌, ℕ, ◌<◌, ◌≤◌, List, [], ◌∷◌, ◌++◌, map, Bool, true, false, not, cond, Option, Some, None, refl, sym, ◌∙◌, arith, nat_le, IsSome}
+use Rattle.std.proofs.Common.{◌≡◌, ℕ, ◌<◌, ◌≤◌, List, [], ◌∷◌, ◌++◌, map, Bool, true, false, not, cond, Option, Some, None, refl, sym, ◌∙◌, arith, nat_le, IsSome, subst}
 use Rattle.std.proofs.lemmas.Bool.{and_parts}
 use Rattle.std.proofs.lemmas.Bool.Decides.{nat_tests}
 use Rattle.std.proofs.lemmas.Option.{same_Some}
@@ -11,7 +11,7 @@ use Rattle.text_fields.specs.declared.row.Shape.{Shape}
 use Rattle.text_fields.specs.declared.row.Shape.TheVariants as shape
 use Rattle.text_fields.specs.declared.row.Need.TheVariants as need
 use Rattle.text_fields.specs.declared.fault.FieldFault.TheVariants as fault
-use Rattle.text_fields.specs.Trees.{in_field, natural, number_in, HasBelow, flag_in, pair_in}
+use Rattle.text_fields.specs.Trees.{in_field, natural, number_in, HasBelow, flag_in}
 use Rattle.text_fields.specs.Ranges.{passes, has_type, is_between, is_in_range}
 use Rattle.text_fields.specs.Faults.{is_needed, is_missing, is_mistyped, is_beyond, field_faults}
 
@@ -48,6 +48,10 @@ all_sound rows tree none =
     (none_pass (λ (r : Row). fault.Missing r.0) (is_missing tree) rows a)
     (none_pass (λ (r : Row). fault.WrongType r.0) (is_mistyped tree) rows b)
     (none_pass (λ (r : Row). fault.Range r.0) (is_beyond tree) rows c)
+
+-- nor has one whose rows are these
+pub all_checked : {rows known : List Row} (tree : Members) → field_faults rows tree ≡ [] → rows ≡ known → AllByRecursion (Sound tree) known
+all_checked {rows} {known} tree none is = all_sound known tree (subst (λ (r : List Row). field_faults r tree ≡ []) is none)
 
 -- a value that the item has, of its type and in its range
 pub record Value (tree : Members) (field : Field) (shape : Shape) : Type 0 where
@@ -110,9 +114,3 @@ pub flag_there : (tree : Members) (named : Field) → Sound tree (record { 0 = n
 flag_there tree named sound =
     let v = value_of tree (record { 0 = named; 1 = shape.Flag; 2 = need.Always }) (in_field named tree) refl refl sound in
     rw v.found v.typed
-
--- two bytes that the item has
-pub pair_there : {tree : Members} {named : Field} → Sound tree (record { 0 = named; 1 = shape.Pair; 2 = need.Always }) → IsSome (pair_in named tree)
-pair_there {tree} {named} sound =
-    let v = value_of tree (record { 0 = named; 1 = shape.Pair; 2 = need.Always }) (in_field named tree) refl refl sound in
-    rw v.found v.within

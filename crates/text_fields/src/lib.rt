@@ -17,7 +17,7 @@ pub mod tree;
 pub mod users;
 
 pub use check::first_fault;
-pub use checked::{Checked, Fields};
+pub use checked::Checked;
 pub use fault::FieldFault;
 pub use field::Field;
 pub use lan::LanShape;

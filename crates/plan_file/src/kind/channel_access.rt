@@ -1,14 +1,13 @@
 //! The step that sets the access of a channel in one of its stores.
-ghost use Rattle.std.specs.Prelude.{◌≡◌, []};
+ghost use Rattle.std.specs.Prelude.{◌≡◌};
 ghost use Rattle.toml.specs.View.{table_view};
-ghost use Rattle.text_fields.specs.Faults.{field_faults};
 ghost use Rattle.text_fields.specs.Trees.{HasNumber, HasBelow};
 ghost use Rattle.plan_file.specs.Kinds.ChannelAccess.{HoldsChannelChange, HoldsChannelAccess};
 
-use record_base::{ChannelChange, SetChannelAccess, SixBits};
-use text_fields::channels::{channel_in, store};
-use text_fields::tree::{byte_in, in_field, value_in};
-use text_fields::{Field, Need, Row, Shape};
+use record_base::{ChannelChange, ChannelNumber, SetChannelAccess, SixBits};
+use text_fields::channels::store;
+use text_fields::tree::{byte_in, in_field};
+use text_fields::{Checked, Field, Need, Row, Shape};
 use toml::Table;
 
 /// The fields of a step that sets the access of a channel in one of its stores.
@@ -28,28 +27,28 @@ fn six_bits(step: &Table, field: Field) -> SixBits
 }
 
 /// Which of a channel's access and limit the step changes: those that it gives.
-fn channel_change(step: &Table) -> ChannelChange
-    requires { field_faults FIELDS (table_view step.now) ≡ [] }
-    ensures { HoldsChannelChange (table_view step.now) result }
+fn channel_change(step: &Checked<'_>) -> ChannelChange
+    requires { step.now.rows.now ≡ FIELDS }
+    ensures { HoldsChannelChange (table_view step.now.table.now) result }
 {
-    if in_field(step, Field::Limit).is_none() {
-        return ChannelChange::Access(six_bits(step, Field::Access));
+    if in_field(step.table, Field::Limit).is_none() {
+        return ChannelChange::Access(six_bits(step.table, Field::Access));
     }
-    let limit = six_bits(step, Field::Limit);
-    if in_field(step, Field::Access).is_none() {
+    let limit = six_bits(step.table, Field::Limit);
+    if in_field(step.table, Field::Access).is_none() {
         return ChannelChange::Limit(limit);
     }
-    ChannelChange::Both(six_bits(step, Field::Access), limit)
+    ChannelChange::Both(six_bits(step.table, Field::Access), limit)
 }
 
 /// What the step makes of the access of a channel in one of its stores.
-pub fn read(step: &Table) -> SetChannelAccess
-    requires { field_faults FIELDS (table_view step.now) ≡ [] }
-    ensures { HoldsChannelAccess (table_view step.now) result }
+pub fn read(step: &Checked<'_>) -> SetChannelAccess
+    requires { step.now.rows.now ≡ FIELDS }
+    ensures { HoldsChannelAccess (table_view step.now.table.now) result }
 {
     SetChannelAccess {
-        channel: channel_in(step, Field::Channel),
-        store: store(value_in(step, Field::Store)).unwrap(),
+        channel: ChannelNumber::of(step.byte(Field::Channel)),
+        store: store(step.value(Field::Store)).unwrap(),
         change: channel_change(step),
     }
 }

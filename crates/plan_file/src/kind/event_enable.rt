@@ -1,16 +1,15 @@
 //! The step that sets which events are enabled.
-ghost use Rattle.std.specs.Prelude.{◌≡◌, ◌||◌, ℕ, [], true};
+ghost use Rattle.std.specs.Prelude.{◌≡◌, ◌||◌, ℕ, true};
 ghost use Rattle.toml.specs.View.{table_view, view};
 ghost use Rattle.std.specs.List.{list_all, list_any};
 ghost use Rattle.record_base.specs.Masks.{has};
 ghost use Rattle.text_fields.specs.Ranges.{is_offset, is_number};
-ghost use Rattle.text_fields.specs.Faults.{field_faults};
 ghost use Rattle.plan_file.specs.Kinds.EventEnable.{HoldsEvents, HoldsChange, HoldsEventEnable};
 
 use record_base::{EventChange, EventMasks, SetEventEnable};
-use text_fields::tree::{byte_in, flag, has_text, members_in, natural};
-use text_fields::{BYTE, Field, Need, Row, Shape};
-use toml::{Table, Value};
+use text_fields::tree::{has_text, members_in, natural};
+use text_fields::{BYTE, Checked, Field, Need, Row, Shape};
+use toml::Value;
 
 /// The fields of a step that sets which events are enabled.
 pub const FIELDS: [Row; 6] = [
@@ -43,39 +42,39 @@ fn mask_of(offsets: &[Value]) -> u16
 }
 
 /// The events that the step lists.
-fn events(step: &Table) -> EventMasks
-    requires { field_faults FIELDS (table_view step.now) ≡ [] }
-    ensures { HoldsEvents (table_view step.now) result }
+fn events(step: &Checked<'_>) -> EventMasks
+    requires { step.now.rows.now ≡ FIELDS }
+    ensures { HoldsEvents (table_view step.now.table.now) result }
 {
     EventMasks {
-        assertions: mask_of(members_in(step, Field::Assert)),
-        deassertions: mask_of(members_in(step, Field::Deassert)),
+        assertions: mask_of(members_in(step.table, Field::Assert)),
+        deassertions: mask_of(members_in(step.table, Field::Deassert)),
     }
 }
 
 /// What the step makes of the events that are enabled.
-fn event_change(step: &Table) -> EventChange
-    requires { field_faults FIELDS (table_view step.now) ≡ [] }
-    ensures { HoldsChange (table_view step.now) result }
+fn event_change(step: &Checked<'_>) -> EventChange
+    requires { step.now.rows.now ≡ FIELDS }
+    ensures { HoldsChange (table_view step.now.table.now) result }
 {
-    if has_text(step, Field::Select, "leave") {
+    if has_text(step.table, Field::Select, "leave") {
         return EventChange::Leave;
     }
-    if has_text(step, Field::Select, "enable") {
+    if has_text(step.table, Field::Select, "enable") {
         return EventChange::Enable(events(step));
     }
     EventChange::Disable(events(step))
 }
 
 /// What the step makes of a sensor's events.
-pub fn read(step: &Table) -> SetEventEnable
-    requires { field_faults FIELDS (table_view step.now) ≡ [] }
-    ensures { HoldsEventEnable (table_view step.now) result }
+pub fn read(step: &Checked<'_>) -> SetEventEnable
+    requires { step.now.rows.now ≡ FIELDS }
+    ensures { HoldsEventEnable (table_view step.now.table.now) result }
 {
     SetEventEnable {
-        sensor: byte_in(step, Field::Sensor),
-        messages: flag(step, Field::Messages),
-        scanning: flag(step, Field::Scanning),
+        sensor: step.byte(Field::Sensor),
+        messages: step.flag(Field::Messages),
+        scanning: step.flag(Field::Scanning),
         change: event_change(step),
     }
 }

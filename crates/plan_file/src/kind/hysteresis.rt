@@ -1,13 +1,10 @@
 //! The step that sets hysteresis.
-ghost use Rattle.std.specs.Prelude.{◌≡◌, []};
+ghost use Rattle.std.specs.Prelude.{◌≡◌};
 ghost use Rattle.toml.specs.View.{table_view};
-ghost use Rattle.text_fields.specs.Faults.{field_faults};
 ghost use Rattle.plan_file.specs.Kinds.Hysteresis.{HoldsHysteresis};
 
 use record_base::SetHysteresis;
-use text_fields::tree::byte_in;
-use text_fields::{BYTE, Field, Need, Row};
-use toml::Table;
+use text_fields::{BYTE, Checked, Field, Need, Row};
 
 /// The fields of a step that sets hysteresis.
 pub const FIELDS: [Row; 3] = [
@@ -17,13 +14,13 @@ pub const FIELDS: [Row; 3] = [
 ];
 
 /// What the step makes of hysteresis.
-pub fn read(step: &Table) -> SetHysteresis
-    requires { field_faults FIELDS (table_view step.now) ≡ [] }
-    ensures { HoldsHysteresis (table_view step.now) result }
+pub fn read(step: &Checked<'_>) -> SetHysteresis
+    requires { step.now.rows.now ≡ FIELDS }
+    ensures { HoldsHysteresis (table_view step.now.table.now) result }
 {
     SetHysteresis {
-        sensor: byte_in(step, Field::Sensor),
-        positive: byte_in(step, Field::Positive),
-        negative: byte_in(step, Field::Negative),
+        sensor: step.byte(Field::Sensor),
+        positive: step.byte(Field::Positive),
+        negative: step.byte(Field::Negative),
     }
 }

@@ -1,15 +1,12 @@
 //! The step that sets a LAN parameter.
-ghost use Rattle.std.specs.Prelude.{◌≡◌, []};
+ghost use Rattle.std.specs.Prelude.{◌≡◌};
 ghost use Rattle.toml.specs.View.{table_view};
-ghost use Rattle.text_fields.specs.Faults.{field_faults};
 ghost use Rattle.plan_file.specs.Kinds.LanParam.{HoldsLanChange, HoldsLanParam};
 
+use record_base::ChannelNumber;
 use record_base::lan::{LanChange, SetLanParam};
-use text_fields::channels::channel_in;
 use text_fields::lan::{lan_change, lan_parameter_in};
-use text_fields::tree::value_in;
-use text_fields::{Field, LanShape, Need, Row, Shape};
-use toml::Table;
+use text_fields::{Checked, Field, LanShape, Need, Row, Shape};
 
 /// The fields of a step that sets a LAN parameter.
 pub const FIELDS: [Row; 3] = [
@@ -19,21 +16,21 @@ pub const FIELDS: [Row; 3] = [
 ];
 
 /// What becomes of a LAN parameter by the step's data.
-fn change(step: &Table) -> LanChange
-    requires { field_faults FIELDS (table_view step.now) ≡ [] }
-    ensures { HoldsLanChange (table_view step.now) result }
+fn change(step: &Checked<'_>) -> LanChange
+    requires { step.now.rows.now ≡ FIELDS }
+    ensures { HoldsLanChange (table_view step.now.table.now) result }
 {
-    let parameter = lan_parameter_in(step).unwrap();
-    lan_change(parameter, value_in(step, Field::BootData)).unwrap()
+    let parameter = lan_parameter_in(step.table).unwrap();
+    lan_change(parameter, step.value(Field::BootData)).unwrap()
 }
 
 /// What the step makes of a LAN parameter.
-pub fn read(step: &Table) -> SetLanParam
-    requires { field_faults FIELDS (table_view step.now) ≡ [] }
-    ensures { HoldsLanParam (table_view step.now) result }
+pub fn read(step: &Checked<'_>) -> SetLanParam
+    requires { step.now.rows.now ≡ FIELDS }
+    ensures { HoldsLanParam (table_view step.now.table.now) result }
 {
     SetLanParam {
-        channel: channel_in(step, Field::Channel),
+        channel: ChannelNumber::of(step.byte(Field::Channel)),
         change: change(step),
     }
 }

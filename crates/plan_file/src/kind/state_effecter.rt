@@ -1,16 +1,15 @@
 //! The step that sets states of a state effecter.
-ghost use Rattle.std.specs.Prelude.{◌≡◌, ◌≤◌, [], true, is_some, map, length};
+ghost use Rattle.std.specs.Prelude.{◌≡◌, ◌≤◌, true, is_some, map, length};
 ghost use Rattle.toml.specs.View.{table_view, view};
 ghost use Rattle.std.specs.List.{list_all, AllZip};
 ghost use Rattle.text_fields.specs.States.{change_of};
-ghost use Rattle.text_fields.specs.Faults.{field_faults};
 ghost use Rattle.plan_file.specs.Kinds.StateEffecter.{IsChangeIn, HoldsStateEffecter};
 
 use record_base::{FieldChanges, SetStateEffecter};
 use text_fields::states::change_of;
-use text_fields::tree::{members_in, word_in};
-use text_fields::{Field, Need, Row, Shape};
-use toml::{Table, Value};
+use text_fields::tree::members_of;
+use text_fields::{Checked, Field, Need, Row, Shape};
+use toml::Value;
 
 /// The fields of a step that sets states of a state effecter.
 pub const FIELDS: [Row; 2] = [
@@ -21,7 +20,7 @@ pub const FIELDS: [Row; 2] = [
 /// What becomes of each field, as these values say.
 fn changes_of(values: &[Value]) -> FieldChanges
     requires few { length values.now ≤ 8 }
-    requires changes { list_all (λ value. is_some (change_of (view value))) values.now ≡ true }
+    requires changes { list_all (λ d. is_some (change_of d)) (map view values.now) ≡ true }
     ensures held { AllZip IsChangeIn (map view values.now) result }
     ensures few { length result ≤ 8 }
 {
@@ -33,12 +32,12 @@ fn changes_of(values: &[Value]) -> FieldChanges
 }
 
 /// What the step makes of the states of a state effecter.
-pub fn read(step: &Table) -> SetStateEffecter
-    requires { field_faults FIELDS (table_view step.now) ≡ [] }
-    ensures { HoldsStateEffecter (table_view step.now) result }
+pub fn read(step: &Checked<'_>) -> SetStateEffecter
+    requires { step.now.rows.now ≡ FIELDS }
+    ensures { HoldsStateEffecter (table_view step.now.table.now) result }
 {
     SetStateEffecter {
-        effecter: word_in(step, Field::Effecter),
-        changes: changes_of(members_in(step, Field::States)),
+        effecter: step.word(Field::Effecter),
+        changes: changes_of(members_of(step.value(Field::States))),
     }
 }

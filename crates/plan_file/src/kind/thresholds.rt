@@ -1,15 +1,14 @@
 //! The step that sets thresholds.
-ghost use Rattle.std.specs.Prelude.{◌≡◌, ◌≤◌, ◌<◌, ◌==◌, ◌&&◌, ◌||◌, ℕ, [], map, Some};
+ghost use Rattle.std.specs.Prelude.{◌≡◌, ◌≤◌, ◌<◌, ◌==◌, ◌&&◌, ◌||◌, ℕ, map, Some};
 ghost use Rattle.toml.specs.View.{table_view};
 ghost use Rattle.record_base.specs.Masks.{has};
 ghost use Rattle.text_fields.specs.Trees.{number_in};
 ghost use Rattle.text_fields.specs.Ranges.{or_zero};
-ghost use Rattle.text_fields.specs.Faults.{field_faults};
 ghost use Rattle.plan_file.specs.Kinds.Thresholds.{is_given, HoldsThresholds};
 
 use record_base::SetThresholds;
-use text_fields::tree::{byte_in, in_field, number};
-use text_fields::{BYTE, Field, Need, Row};
+use text_fields::tree::{in_field, number};
+use text_fields::{BYTE, Checked, Field, Need, Row};
 use toml::Table;
 
 /// The fields of a step that sets thresholds.
@@ -67,28 +66,28 @@ fn limit(step: &Table, field: Field) -> u8
 }
 
 /// The thresholds that the step gives, each at its place.
-fn limits(step: &Table) -> [u8; 6]
-    requires { field_faults FIELDS (table_view step.now) ≡ [] }
-    ensures { result ≡ map (λ field. or_zero (number_in field (table_view step.now))) LIMITS }
+fn limits(step: &Checked<'_>) -> [u8; 6]
+    requires { step.now.rows.now ≡ FIELDS }
+    ensures { result ≡ map (λ field. or_zero (number_in field (table_view step.now.table.now))) LIMITS }
 {
     [
-        limit(step, Field::LowerNonCritical),
-        limit(step, Field::LowerCritical),
-        limit(step, Field::LowerNonRecoverable),
-        limit(step, Field::UpperNonCritical),
-        limit(step, Field::UpperCritical),
-        limit(step, Field::UpperNonRecoverable),
+        limit(step.table, Field::LowerNonCritical),
+        limit(step.table, Field::LowerCritical),
+        limit(step.table, Field::LowerNonRecoverable),
+        limit(step.table, Field::UpperNonCritical),
+        limit(step.table, Field::UpperCritical),
+        limit(step.table, Field::UpperNonRecoverable),
     ]
 }
 
 /// What the step makes of thresholds.
-pub fn read(step: &Table) -> SetThresholds
-    requires { field_faults FIELDS (table_view step.now) ≡ [] }
-    ensures { HoldsThresholds (table_view step.now) result }
+pub fn read(step: &Checked<'_>) -> SetThresholds
+    requires { step.now.rows.now ≡ FIELDS }
+    ensures { HoldsThresholds (table_view step.now.table.now) result }
 {
     SetThresholds {
-        sensor: byte_in(step, Field::Sensor),
-        mask: given(step),
+        sensor: step.byte(Field::Sensor),
+        mask: given(step.table),
         values: limits(step),
     }
 }

@@ -1,13 +1,12 @@
 //! The step that sets what a user may do on a channel.
-ghost use Rattle.std.specs.Prelude.{◌≡◌, ◌<◌, ◌/◌, ◌%◌, []};
+ghost use Rattle.std.specs.Prelude.{◌≡◌, ◌<◌, ◌/◌, ◌%◌};
 ghost use Rattle.toml.specs.View.{table_view};
-ghost use Rattle.text_fields.specs.Trees.{flag_in, HasNumber, HasBelow};
-ghost use Rattle.text_fields.specs.Faults.{field_faults};
+ghost use Rattle.text_fields.specs.Trees.{flag_in, HasNumber};
 ghost use Rattle.plan_file.specs.Kinds.UserAccess.{bit_of, access_bits, HoldsUserAccess};
 
 use record_base::SetUserAccess;
 use text_fields::tree::{byte_in, in_field};
-use text_fields::{Field, Need, Row, Shape};
+use text_fields::{Checked, Field, Need, Row, Shape};
 use toml::Table;
 
 /// The fields of a step that sets what a user may do on a channel.
@@ -49,23 +48,23 @@ fn bits(step: &Table) -> u8
 }
 
 /// The first byte of the request that the step asks for.
-fn first(step: &Table) -> u8
-    requires { HasBelow 16 Field.Channel (table_view step.now) }
-    ensures channel { HasNumber Field.Channel (table_view step.now) (result % 16) }
-    ensures bits { result / 16 ≡ access_bits (table_view step.now) }
+fn first(step: &Checked<'_>) -> u8
+    requires { step.now.rows.now ≡ FIELDS }
+    ensures channel { HasNumber Field.Channel (table_view step.now.table.now) (result % 16) }
+    ensures bits { result / 16 ≡ access_bits (table_view step.now.table.now) }
 {
-    bits(step) * 16 + byte_in(step, Field::Channel)
+    bits(step.table) * 16 + step.byte(Field::Channel)
 }
 
 /// What the step makes of what a user may do on a channel.
-pub fn read(step: &Table) -> SetUserAccess
-    requires { field_faults FIELDS (table_view step.now) ≡ [] }
-    ensures { HoldsUserAccess (table_view step.now) result }
+pub fn read(step: &Checked<'_>) -> SetUserAccess
+    requires { step.now.rows.now ≡ FIELDS }
+    ensures { HoldsUserAccess (table_view step.now.table.now) result }
 {
     SetUserAccess {
         first: first(step),
-        user: byte_in(step, Field::User),
-        limit: byte_in(step, Field::Limit),
+        user: step.byte(Field::User),
+        limit: byte_in(step.table, Field::Limit),
         session_limit: None,
     }
 }

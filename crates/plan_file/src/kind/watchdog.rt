@@ -1,14 +1,11 @@
 //! The step that sets the watchdog timer.
-ghost use Rattle.std.specs.Prelude.{◌≡◌, ◌≤◌, ◌/◌, ◌%◌, []};
+ghost use Rattle.std.specs.Prelude.{◌≡◌, ◌≤◌, ◌/◌, ◌%◌};
 ghost use Rattle.toml.specs.View.{table_view};
 ghost use Rattle.record_base.specs.Masks.{has};
-ghost use Rattle.text_fields.specs.Faults.{field_faults};
 ghost use Rattle.plan_file.specs.Kinds.Watchdog.{HoldsWatchdog};
 
 use record_base::SetWatchdog;
-use text_fields::tree::{byte_in, flag, word_in};
-use text_fields::{BYTE, Field, Need, Row, Shape};
-use toml::Table;
+use text_fields::{BYTE, Checked, Field, Need, Row, Shape};
 
 /// The fields of a step that sets the watchdog timer.
 pub const FIELDS: [Row; 6] = [
@@ -42,18 +39,15 @@ fn actions_byte(interrupt: u8, action: u8) -> u8
 }
 
 /// What the step makes of the watchdog timer. It neither keeps the timer running nor clears flags.
-pub fn read(step: &Table) -> SetWatchdog
-    requires { field_faults FIELDS (table_view step.now) ≡ [] }
-    ensures { HoldsWatchdog (table_view step.now) result }
+pub fn read(step: &Checked<'_>) -> SetWatchdog
+    requires { step.now.rows.now ≡ FIELDS }
+    ensures { HoldsWatchdog (table_view step.now.table.now) result }
 {
     SetWatchdog {
-        timer_use: use_byte(flag(step, Field::NoLog), byte_in(step, Field::Use)),
-        actions: actions_byte(
-            byte_in(step, Field::Interrupt),
-            byte_in(step, Field::Action),
-        ),
-        pre_timeout: byte_in(step, Field::Pre),
+        timer_use: use_byte(step.flag(Field::NoLog), step.byte(Field::Use)),
+        actions: actions_byte(step.byte(Field::Interrupt), step.byte(Field::Action)),
+        pre_timeout: step.byte(Field::Pre),
         flags_to_clear: 0,
-        initial: word_in(step, Field::Initial),
+        initial: step.word(Field::Initial),
     }
 }

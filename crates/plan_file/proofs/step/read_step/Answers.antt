@@ -1,6 +1,8 @@
-use Rattle.std.proofs.Common.{None, sym, ◌∙◌, ap}
+use Rattle.std.proofs.Common.{None, sym, subst, ◌∙◌, ap}
+use Rattle.toml.specs.Data.{Members}
 use Rattle.toml.specs.View.{table_view}
 use Rattle.text_fields.specs.Faults.{first, field_faults}
+use Rattle.plan_file.specs.Kinds.{of_kind}
 use Rattle.plan_file.proofs.Steps.{outside_first, no_get_first, fault_of_kind, fault_of_field, no_step_fault}
 use Rattle.plan_file.proofs.step.read_step.Goals as goal
 
@@ -16,16 +18,22 @@ returns-in_default-kind_in-clause-err c =
     fault_of_kind (table_view c.args.step.now) None c.kind_fault.result (sym c.kind_in.ensures ∙ c.in_default-kind_in.is) (sym c.outside_plan.ensures ∙ c.in_default.is)
     (sym c.no_get.ensures ∙ c.in_default-no_get.is) c.kind_fault.ensures
 
-pub returns-in-Some-first_fault-clause-err : goal.returns-in-Some-first_fault-clause-err
-returns-in-Some-first_fault-clause-err c =
+pub returns-in-Err-clause-err : goal.returns-in-Err-clause-err
+returns-in-Err-clause-err c =
     let tree = table_view c.args.step.now in
-    fault_of_field tree c.in-Some-kind_in.kind c.in-Some-first_fault.fault (sym c.kind_in.ensures ∙ c.in-Some-kind_in.is) (sym c.outside_plan.ensures ∙ c.in_default.is)
+    fault_of_field tree c.in-Some-kind_in.kind c.in-Err.fault (sym c.kind_in.ensures ∙ c.in-Some-kind_in.is) (sym c.outside_plan.ensures ∙ c.in_default.is)
     (sym c.no_get.ensures ∙ c.in_default-no_get.is)
-    (ap (λ rows. first (field_faults rows tree)) (sym c.rows.ensures) ∙ sym c.first_fault.ensures ∙ c.in-Some-first_fault.is)
+    (ap (λ rows. first (field_faults rows tree)) (sym c.rows.ensures) ∙ c.in-Err.ensures.err)
 
-pub returns-in-None-clause-sound : goal.returns-in-None-clause-sound
-returns-in-None-clause-sound c =
+pub returns-in-Ok-clause-sound : goal.returns-in-Ok-clause-sound
+returns-in-Ok-clause-sound c =
     let tree = table_view c.args.step.now in
     no_step_fault tree c.in-Some-kind_in.kind (sym c.kind_in.ensures ∙ c.in-Some-kind_in.is) (sym c.outside_plan.ensures ∙ c.in_default.is)
     (sym c.no_get.ensures ∙ c.in_default-no_get.is)
-    (ap (λ rows. first (field_faults rows tree)) (sym c.rows.ensures) ∙ sym c.first_fault.ensures ∙ c.in-None.is)
+    (ap (λ rows. first (field_faults rows tree)) (sym c.rows.ensures) ∙ ap first c.in-Ok.ensures.sound)
+
+pub returns-in-Ok-clause-held : goal.returns-in-Ok-clause-held
+returns-in-Ok-clause-held c =
+    let named = c.in-Some-kind_in.kind in
+    let held = subst (λ (t : Members). (of_kind named).Holds t c.change.result) c.in-Ok.ensures.ok c.change.ensures in
+    (named, (sym c.kind_in.ensures ∙ c.in-Some-kind_in.is, held))

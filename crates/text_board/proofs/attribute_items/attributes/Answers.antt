@@ -11,5 +11,5 @@ unwrap-requires c =
     let found = c.in_ok-attributes.attributes.items in
     let held = c.in_ok-attributes.ensures.held in
     let long = AllZip-long IsAttributeIn (map view c.tables.result.now) found held.items ∙ length-map c.tables.result.now view in
-    let few : length found ≤ 64 = rw long c.tables.ensures.few in
+    let few : length found ≤ 64 = rw long (rw c.requires at c.tables.ensures.few) in
     c.new.ensures.made.1 (handles_differ found held.handles, few)

@@ -16,14 +16,14 @@ returns-in_err-sdr c =
     let p = err_from_is_err_and c.from_residual.result c.from_residual.ensures.1 in
     rw (p.1, p.2) (elim c.in_err-sdr.ensures.err [
       | inl memory ↦ inl (ap Err memory)
-      | inr counts ↦ inr (records_first (table_view c.args.top.now.table.now) c.in_err-sdr.field-0.0 c.args.top.now.sound counts)
+      | inr counts ↦ inr (records_first (table_view c.args.top.now.table.now) c.in_err-sdr.field-0.0 c.requires.sound counts)
     ])
 
 pub returns-in_err-board : goal.returns-in_err-board
 returns-in_err-board c =
     let p = err_from_is_err_and c.from_residual-in_err-board.result c.from_residual-in_err-board.ensures.1 in
     let counts = ap (λ t. first (map (fault_at item.Device) (field_faults DEVICE t))) (sym c.table.ensures) ∙ c.in_err-board.ensures.err in
-    rw (p.1, p.2) (inr (device_first (table_view c.args.top.now.table.now) c.in_err-board.field-0.0 c.args.top.now.sound c.in_ok-sdr.ensures.sound counts))
+    rw (p.1, p.2) (inr (device_first (table_view c.args.top.now.table.now) c.in_err-board.field-0.0 c.requires.sound c.in_ok-sdr.ensures.sound counts))
 
 pub returns-in_err-sensors : goal.returns-in_err-sensors
 returns-in_err-sensors c =
@@ -31,7 +31,7 @@ returns-in_err-sensors c =
     let device : field_faults DEVICE (table_in field.Device (table_view c.args.top.now.table.now)) ≡ [] = ap (field_faults DEVICE) (sym c.table.ensures) ∙ c.in_ok-board.ensures.sound in
     rw (p.1, p.2) (elim c.in_err-sensors.ensures.err [
       | inl memory ↦ inl (ap Err memory)
-      | inr counts ↦ inr (sensors_first (table_view c.args.top.now.table.now) c.in_err-sensors.field-0.0 c.args.top.now.sound c.in_ok-sdr.ensures.sound device counts)
+      | inr counts ↦ inr (sensors_first (table_view c.args.top.now.table.now) c.in_err-sensors.field-0.0 c.requires.sound c.in_ok-sdr.ensures.sound device counts)
     ])
 
 pub returns-in_err-file_channels : goal.returns-in_err-file_channels
@@ -40,11 +40,8 @@ returns-in_err-file_channels c =
     let device : field_faults DEVICE (table_in field.Device (table_view c.args.top.now.table.now)) ≡ [] = ap (field_faults DEVICE) (sym c.table.ensures) ∙ c.in_ok-board.ensures.sound in
     rw (p.1, p.2) (elim c.in_err-file_channels.ensures.err [
       | inl memory ↦ inl (ap Err memory)
-      | inr counts ↦ inr (channels_first (table_view c.args.top.now.table.now) c.in_err-file_channels.field-0.0 c.args.top.now.sound c.in_ok-sdr.ensures.sound device c.in_ok-sensors.ensures.sound counts)
+      | inr counts ↦ inr (channels_first (table_view c.args.top.now.table.now) c.in_err-file_channels.field-0.0 c.requires.sound c.in_ok-sdr.ensures.sound device c.in_ok-sensors.ensures.sound counts)
     ])
-
-pub file_channels-requires : goal.file_channels-requires
-file_channels-requires c = c.args.top.now.sound
 
 pub returns-in_err-lans : goal.returns-in_err-lans
 returns-in_err-lans c =
@@ -52,7 +49,7 @@ returns-in_err-lans c =
     let device : field_faults DEVICE (table_in field.Device (table_view c.args.top.now.table.now)) ≡ [] = ap (field_faults DEVICE) (sym c.table.ensures) ∙ c.in_ok-board.ensures.sound in
     rw (p.1, p.2) (elim c.in_err-lans.ensures.err [
       | inl memory ↦ inl (ap Err memory)
-      | inr counts ↦ inr (lans_first (table_view c.args.top.now.table.now) c.in_err-lans.field-0.0 c.args.top.now.sound c.in_ok-sdr.ensures.sound device c.in_ok-sensors.ensures.sound c.in_ok-file_channels.ensures.sound counts)
+      | inr counts ↦ inr (lans_first (table_view c.args.top.now.table.now) c.in_err-lans.field-0.0 c.requires.sound c.in_ok-sdr.ensures.sound device c.in_ok-sensors.ensures.sound c.in_ok-file_channels.ensures.sound counts)
     ])
 
 pub returns-in_err-attributes : goal.returns-in_err-attributes
@@ -61,7 +58,7 @@ returns-in_err-attributes c =
     let device : field_faults DEVICE (table_in field.Device (table_view c.args.top.now.table.now)) ≡ [] = ap (field_faults DEVICE) (sym c.table.ensures) ∙ c.in_ok-board.ensures.sound in
     rw (p.1, p.2) (elim c.in_err-attributes.ensures.err [
       | inl memory ↦ inl (ap Err memory)
-      | inr counts ↦ inr (attributes_first (table_view c.args.top.now.table.now) c.in_err-attributes.field-0.0 c.args.top.now.sound c.in_ok-sdr.ensures.sound device c.in_ok-sensors.ensures.sound c.in_ok-file_channels.ensures.sound c.in_ok-lans.ensures.sound counts)
+      | inr counts ↦ inr (attributes_first (table_view c.args.top.now.table.now) c.in_err-attributes.field-0.0 c.requires.sound c.in_ok-sdr.ensures.sound device c.in_ok-sensors.ensures.sound c.in_ok-file_channels.ensures.sound c.in_ok-lans.ensures.sound counts)
     ])
 
 pub returns-in_err-state_effecters : goal.returns-in_err-state_effecters
@@ -70,7 +67,7 @@ returns-in_err-state_effecters c =
     let device : field_faults DEVICE (table_in field.Device (table_view c.args.top.now.table.now)) ≡ [] = ap (field_faults DEVICE) (sym c.table.ensures) ∙ c.in_ok-board.ensures.sound in
     rw (p.1, p.2) (elim c.in_err-state_effecters.ensures.err [
       | inl memory ↦ inl (ap Err memory)
-      | inr counts ↦ inr (states_first (table_view c.args.top.now.table.now) c.in_err-state_effecters.field-0.0 c.args.top.now.sound c.in_ok-sdr.ensures.sound device c.in_ok-sensors.ensures.sound c.in_ok-file_channels.ensures.sound c.in_ok-lans.ensures.sound c.in_ok-attributes.ensures.sound counts)
+      | inr counts ↦ inr (states_first (table_view c.args.top.now.table.now) c.in_err-state_effecters.field-0.0 c.requires.sound c.in_ok-sdr.ensures.sound device c.in_ok-sensors.ensures.sound c.in_ok-file_channels.ensures.sound c.in_ok-lans.ensures.sound c.in_ok-attributes.ensures.sound counts)
     ])
 
 pub returns-in_err-numeric_effecters : goal.returns-in_err-numeric_effecters
@@ -79,7 +76,7 @@ returns-in_err-numeric_effecters c =
     let device : field_faults DEVICE (table_in field.Device (table_view c.args.top.now.table.now)) ≡ [] = ap (field_faults DEVICE) (sym c.table.ensures) ∙ c.in_ok-board.ensures.sound in
     rw (p.1, p.2) (elim c.in_err-numeric_effecters.ensures.err [
       | inl memory ↦ inl (ap Err memory)
-      | inr counts ↦ inr (effecters_first (table_view c.args.top.now.table.now) c.in_err-numeric_effecters.field-0.0 c.args.top.now.sound c.in_ok-sdr.ensures.sound device c.in_ok-sensors.ensures.sound c.in_ok-file_channels.ensures.sound c.in_ok-lans.ensures.sound c.in_ok-attributes.ensures.sound c.in_ok-state_effecters.ensures.sound counts)
+      | inr counts ↦ inr (effecters_first (table_view c.args.top.now.table.now) c.in_err-numeric_effecters.field-0.0 c.requires.sound c.in_ok-sdr.ensures.sound device c.in_ok-sensors.ensures.sound c.in_ok-file_channels.ensures.sound c.in_ok-lans.ensures.sound c.in_ok-attributes.ensures.sound c.in_ok-state_effecters.ensures.sound counts)
     ])
 
 pub returns-in_err-users : goal.returns-in_err-users
@@ -87,16 +84,13 @@ returns-in_err-users c =
     let p = err_from_is_err_and c.from_residual-in_err-users.result c.from_residual-in_err-users.ensures.1 in
     rw (p.1, p.2) (inl (ap Err c.in_err-users.ensures.err))
 
-pub users-requires : goal.users-requires
-users-requires c = c.args.top.now.sound
-
 pub returns : goal.returns
 returns c =
     let tree = table_view c.args.top.now.table.now in
     let device : field_faults DEVICE (table_in field.Device tree) ≡ [] = ap (field_faults DEVICE) (sym c.table.ensures) ∙ c.in_ok-board.ensures.sound in
     let holds : HoldsDevice (table_in field.Device tree) c.device.result = rw (← c.table.ensures, ← c.in_ok-board.ensures.ok) c.device.ensures in
     inr (
-      no_faults tree c.args.top.now.sound c.in_ok-sdr.ensures.sound device c.in_ok-sensors.ensures.sound c.in_ok-file_channels.ensures.sound c.in_ok-lans.ensures.sound c.in_ok-attributes.ensures.sound c.in_ok-state_effecters.ensures.sound c.in_ok-numeric_effecters.ensures.sound,
+      no_faults tree c.requires.sound c.in_ok-sdr.ensures.sound device c.in_ok-sensors.ensures.sound c.in_ok-file_channels.ensures.sound c.in_ok-lans.ensures.sound c.in_ok-attributes.ensures.sound c.in_ok-state_effecters.ensures.sound c.in_ok-numeric_effecters.ensures.sound,
       record {
         terminus = c.byte.ensures.held;
         clock = c.number.ensures.held;

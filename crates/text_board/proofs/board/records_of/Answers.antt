@@ -2,11 +2,11 @@ use Rattle.std.proofs.Common.{◌≡◌, ◌++◌, ◌∷◌, [], is_some, sym, 
 use Rattle.toml.specs.View.{view}
 use Rattle.text_board.specs.Holds.{IsRecordIn}
 use Rattle.text_fields.specs.Ranges.{record_in}
-use Rattle.text_fields.proofs.Members.{next_zip, each_passes}
+use Rattle.text_fields.proofs.Members.{next_zip, each_view}
 use Rattle.text_board.proofs.board.records_of.Goals as goal
 
 pub unwrap-requires : goal.unwrap-requires
-unwrap-requires c = ap is_some c.record.ensures ∙ each_passes (λ value. is_some (record_in (view value))) c.args.values.now c.loop-value.value-index c.value-item.result c.requires c.loop-value-test.true c.value-item.is
+unwrap-requires c = ap is_some c.record.ensures ∙ each_view (λ d. is_some (record_in d)) c.args.values.now c.loop-value.value-index c.value-item.result c.requires c.loop-value-test.true c.value-item.is
 
 pub loop-value-preserved : goal.loop-value-preserved
 loop-value-preserved c =

@@ -9,5 +9,5 @@ pub unwrap-requires : goal.unwrap-requires
 unwrap-requires c =
     let found = c.in_ok-effecters.effecters.items in
     let long = AllZip-long IsNumericIn (map view c.tables.result.now) found c.in_ok-effecters.ensures.held ∙ length-map c.tables.result.now view in
-    let few : length found ≤ 32 = rw long c.tables.ensures.few in
+    let few : length found ≤ 32 = rw long (rw c.requires at c.tables.ensures.few) in
     c.new.ensures.made.1 (c.in_ok-effecters.ensures.differ, few)

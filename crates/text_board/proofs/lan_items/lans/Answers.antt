@@ -31,7 +31,7 @@ pub unwrap-requires : goal.unwrap-requires
 unwrap-requires c =
     let found = c.in_ok-lans.lans.items in
     let long = AllZip-long IsLanIn (map view c.tables-2.result.now) found c.in_ok-lans.ensures.held ∙ length-map c.tables-2.result.now view in
-    let few : length found ≤ 8 = rw long c.tables-2.ensures.few in
+    let few : length found ≤ 8 = rw long (rw c.requires at c.tables-2.ensures.few) in
     c.new.ensures.made.1 (c.in_ok-lans.ensures.differ, few)
 
 pub returns-clause-sound : goal.returns-clause-sound

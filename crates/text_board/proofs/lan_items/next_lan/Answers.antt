@@ -11,22 +11,22 @@ use Rattle.text_board.proofs.Items.{field_first, taken_first}
 use Rattle.text_board.proofs.LanFields.{lan_numbered}
 use Rattle.text_board.proofs.lan_items.next_lan.Goals as goal
 
-pub returns-in_err-check-clause-err : goal.returns-in_err-check-clause-err
-returns-in_err-check-clause-err c =
+pub returns-in_err-known-clause-err : goal.returns-in_err-known-clause-err
+returns-in_err-known-clause-err c =
     let p = err_from_is_err_and c.from_residual.result c.from_residual.ensures.1 in
     let table : table_of (view c.args.value.now) ≡ table_view c.unwrap-table.result.now = search rules in
     let at = map (fault_at (item.Lan (length c.args.before.now))) in
     rw (p.1, p.2) (λ seen ds zip.
-    field_first IsLanIn item.Lan (λ _. lan_rows c.args.listed) field.Channel channel_of lan_numbered seen ds (view c.args.value.now) c.args.before.now c.in_err-check.field-0.0 zip
+    field_first IsLanIn item.Lan (λ _. lan_rows c.args.listed) field.Channel channel_of lan_numbered seen ds (view c.args.value.now) c.args.before.now c.in_err-known.field-0.0 zip
     (ap (λ t. first (at (field_faults (lan_rows c.args.listed) t))) table
-    ∙ ap (λ rows. first (at (field_faults rows (table_view c.unwrap-table.result.now)))) (sym c.lan_rows.ensures)
-    ∙ c.in_err-check.ensures.err))
+    ∙ ap (λ rows. first (at (field_faults rows (table_view c.unwrap-table.result.now)))) (sym c.lan_rows-rows.ensures)
+    ∙ c.in_err-known.ensures.err))
 
 pub returns-then-is_taken-clause-err : goal.returns-then-is_taken-clause-err
 returns-then-is_taken-clause-err c =
     let table : table_of (view c.args.value.now) ≡ table_view c.unwrap-table.result.now = search rules in
     λ seen ds zip.
     taken_first IsLanIn item.Lan (λ _. lan_rows c.args.listed) field.Channel channel_of lan_numbered seen ds (view c.args.value.now) c.args.before.now (channel_of c.lan-lan.result) zip
-    (ap (field_faults (lan_rows c.args.listed)) table ∙ ap (λ rows. field_faults rows (table_view c.unwrap-table.result.now)) (sym c.lan_rows.ensures) ∙ c.in_ok-check.ensures.ok)
-    (ap (number_in field.Channel) table ∙ c.lan-lan.ensures.numbered)
+    (ap (field_faults (lan_rows c.args.listed)) table ∙ ap (λ rows. field_faults rows (table_view c.unwrap-table.result.now)) (sym c.lan_rows-rows.ensures) ∙ c.in_ok-known.ensures.sound)
+    (ap (number_in field.Channel) (table ∙ sym c.in_ok-known.ensures.ok) ∙ c.lan-lan.ensures.numbered)
     (sym c.is_taken.ensures ∙ c.if-is_taken.true)

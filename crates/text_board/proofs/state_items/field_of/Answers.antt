@@ -1,5 +1,4 @@
-use Rattle.std.proofs.Common.{◌≡◌, true, sym, ◌∙◌, ap}
-use Rattle.std.proofs.lemmas.List.Folds.{list_all-map}
+use Rattle.std.proofs.Common.{◌≡◌, true, ◌∙◌, ap}
 use Rattle.std.specs.List.{list_all, AllZip}
 use Rattle.toml.specs.View.{view}
 use Rattle.record_base.specs.StateField.{allows}
@@ -9,8 +8,7 @@ use Rattle.text_board.proofs.StateFields.{present_small, present_allowed}
 use Rattle.text_board.proofs.state_items.field_of.Goals as goal
 
 pub states_of-requires : goal.states_of-requires
-states_of-requires c =
-    sym (list_all-map is_state view c.members_of.result.now) ∙ ap (list_all is_state) c.members_of.ensures ∙ c.requires.states
+states_of-requires c = ap (list_all is_state) c.members_of.ensures ∙ c.requires.states
 
 pub state-requires : goal.state-requires
 state-requires c = present_small (view c.args.states.now) (view c.args.current.now) c.requires.states c.requires.current

@@ -1,7 +1,8 @@
 use Rattle.std.proofs.Common.{◌≡◌, ◌<◌, ◌++◌, ◌∷◌, [], length, take, arith}
 use Rattle.std.proofs.Math.Seq.{take-length}
+use Rattle.text_fields.specs.Ranges.{is_state_list}
 use Rattle.text_board.specs.Holds.{IsFieldIn, IsPresentIn}
-use Rattle.text_fields.proofs.Members.{next_zip, same_lengths}
+use Rattle.text_fields.proofs.Members.{next_zip, each_view, same_lengths}
 use Rattle.text_board.proofs.StateFields.{present_at}
 use Rattle.text_board.proofs.state_items.fields_of.Goals as goal
 
@@ -9,6 +10,9 @@ pub bounds-states-place : goal.bounds-states-place
 bounds-states-place c =
     let long : length c.args.states.now ≡ length c.args.lists.now = same_lengths c.args.lists.now c.args.states.now c.requires.current in
     omega (arith, long, c.loop-place-test.true)
+
+pub field_of-requires-clause-states : goal.field_of-requires-clause-states
+field_of-requires-clause-states c = each_view is_state_list c.args.lists.now c.loop-place.place c.index-lists-place.result c.requires.lists c.loop-place-test.true c.index-lists-place.is
 
 pub field_of-requires-clause-current : goal.field_of-requires-clause-current
 field_of-requires-clause-current c =

@@ -12,19 +12,19 @@ use Rattle.text_board.proofs.Items.{field_first, taken_first}
 use Rattle.text_board.proofs.StateFields.{state_numbered}
 use Rattle.text_board.proofs.state_items.next_effecter.Goals as goal
 
-pub returns-in_err-check-clause-err : goal.returns-in_err-check-clause-err
-returns-in_err-check-clause-err c =
+pub returns-in_err-known-clause-err : goal.returns-in_err-known-clause-err
+returns-in_err-known-clause-err c =
     let p = err_from_is_err_and c.from_residual.result c.from_residual.ensures.1 in
     let table : table_of (view c.args.value.now) ≡ table_view c.unwrap-table.result.now = search rules in
     rw (p.1, p.2) (inr (λ seen ds zip.
-    field_first IsStateIn item.State (λ tree. STATE) field.Id state_id state_numbered seen ds (view c.args.value.now) c.args.before.now c.in_err-check.field-0.0 zip
-    (ap (λ t. first (map (fault_at (item.State (length c.args.before.now))) (field_faults STATE t))) table ∙ c.in_err-check.ensures.err)))
+    field_first IsStateIn item.State (λ tree. STATE) field.Id state_id state_numbered seen ds (view c.args.value.now) c.args.before.now c.in_err-known.field-0.0 zip
+    (ap (λ t. first (map (fault_at (item.State (length c.args.before.now))) (field_faults STATE t))) table ∙ c.in_err-known.ensures.err)))
 
 pub returns-then-is_taken-clause-err : goal.returns-then-is_taken-clause-err
 returns-then-is_taken-clause-err c =
     let table : table_of (view c.args.value.now) ≡ table_view c.unwrap-table.result.now = search rules in
     inr (λ seen ds zip.
     taken_first IsStateIn item.State (λ tree. STATE) field.Id state_id state_numbered seen ds (view c.args.value.now) c.args.before.now c.in_ok-effecter.effecter.id zip
-    (ap (field_faults STATE) table ∙ c.in_ok-check.ensures.ok)
-    (ap (number_in field.Id) table ∙ c.in_ok-effecter.ensures.held.numbered)
+    (ap (field_faults STATE) table ∙ c.in_ok-known.ensures.sound)
+    (ap (number_in field.Id) (table ∙ sym c.in_ok-known.ensures.ok) ∙ c.in_ok-effecter.ensures.held.numbered)
     (sym c.is_taken.ensures ∙ c.if-is_taken.true))

@@ -1,13 +1,11 @@
 use Rattle.std.proofs.Common.{◌≡◌, ◌++◌, ◌∷◌, []}
-use Rattle.toml.specs.View.{view}
-use Rattle.toml.specs.declared.value.Value.{Value}
 use Rattle.text_fields.specs.Ranges.{is_state}
 use Rattle.text_fields.specs.Trees.{IsNaturalIn}
-use Rattle.text_fields.proofs.Members.{next_zip, each_passes}
+use Rattle.text_fields.proofs.Members.{next_zip, each_view}
 use Rattle.text_board.proofs.state_items.states_of.Goals as goal
 
 pub state-requires : goal.state-requires
-state-requires c = each_passes (λ (value : Value). is_state (view value)) c.args.values.now c.loop-value.value-index c.value-item.result c.requires c.loop-value-test.true c.value-item.is
+state-requires c = each_view is_state c.args.values.now c.loop-value.value-index c.value-item.result c.requires c.loop-value-test.true c.value-item.is
 
 pub loop-value-preserved : goal.loop-value-preserved
 loop-value-preserved c =

@@ -1,9 +1,7 @@
 use Rattle.std.proofs.Common.{◌≡◌, ◌<◌, ◌+◌, ◌++◌, ◌∷◌, [], length, is_some, ◌∙◌, ap, arith}
-use Rattle.toml.specs.View.{view}
-use Rattle.toml.specs.declared.value.Value.{Value}
 use Rattle.text_fields.specs.Users.{name_of}
 use Rattle.text_board.specs.Holds.{IsNameIn}
-use Rattle.text_fields.proofs.Members.{next_zip, each_passes, read_so_far}
+use Rattle.text_fields.proofs.Members.{next_zip, each_view, read_so_far}
 use Rattle.text_board.proofs.UserNames.{numbered_more}
 use Rattle.text_board.proofs.users.users_of.Goals as goal
 
@@ -19,7 +17,7 @@ next_user-user-requires-clause-few c =
 
 pub next_user-user-requires-clause-named : goal.next_user-user-requires-clause-named
 next_user-user-requires-clause-named c =
-    each_passes (λ (value : Value). is_some (name_of (view value))) c.args.values.now c.loop-value.value-index c.value-item.result c.requires.named c.loop-value-test.true c.value-item.is
+    each_view (λ d. is_some (name_of d)) c.args.values.now c.loop-value.value-index c.value-item.result c.requires.named c.loop-value-test.true c.value-item.is
 
 pub loop-value-preserved : goal.loop-value-preserved
 loop-value-preserved c =

@@ -1,14 +1,12 @@
 use Rattle.std.proofs.Common.{◌≡◌, ◌<◌, ◌≤◌, length, is_some, sym, ap, ◌∙◌, arith}
-use Rattle.toml.specs.View.{view}
-use Rattle.toml.specs.declared.value.Value.{Value}
 use Rattle.text_fields.specs.States.{change_of}
 use Rattle.plan_file.specs.Kinds.StateEffecter.{IsChangeIn}
-use Rattle.text_fields.proofs.Members.{next_zip, each_passes, read_so_far}
+use Rattle.text_fields.proofs.Members.{next_zip, each_view, read_so_far}
 use Rattle.plan_file.proofs.kind.state_effecter.changes_of.Goals as goal
 
 pub unwrap-requires : goal.unwrap-requires
 unwrap-requires c =
-    ap is_some c.change_of.ensures ∙ each_passes (λ (value : Value). is_some (change_of (view value))) c.args.values.now c.loop-value.value-index c.value-item.result c.requires.changes c.loop-value-test.true c.value-item.is
+    ap is_some c.change_of.ensures ∙ each_view (λ d. is_some (change_of d)) c.args.values.now c.loop-value.value-index c.value-item.result c.requires.changes c.loop-value-test.true c.value-item.is
 
 pub push-requires : goal.push-requires
 push-requires c =

@@ -5,6 +5,6 @@ use Rattle.text_fields.proofs.CheckedRows.{there}
 use Rattle.text_fields.proofs.checked.Checked.flag.Goals as goal
 
 pub flag-requires : goal.flag-requires
-flag-requires g c =
-    let v = there (table_view c.args.self.now.table.now) c.args.field g.F.Fields.rows c.args.self.now.sound c.requires.always in
+flag-requires c =
+    let v = there (table_view c.args.self.now.table.now) c.args.field c.args.self.now.rows.now c.args.self.now.sound c.requires.always in
     rw v.found (ap (λ s. has_type s v.value) (sym c.requires.flag) ∙ v.typed)

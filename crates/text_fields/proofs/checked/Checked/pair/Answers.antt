@@ -5,7 +5,7 @@ use Rattle.text_fields.proofs.CheckedRows.{there}
 use Rattle.text_fields.proofs.checked.Checked.pair.Goals as goal
 
 pub pair_in-requires : goal.pair_in-requires
-pair_in-requires g c =
+pair_in-requires c =
     let tree = table_view c.args.self.now.table.now in
-    let v = there tree c.args.field g.F.Fields.rows c.args.self.now.sound c.requires.always in
+    let v = there tree c.args.field c.args.self.now.rows.now c.args.self.now.sound c.requires.always in
     rw v.found (ap (λ s. is_in_range tree s v.value) (sym c.requires.pair) ∙ v.within)

@@ -8,11 +8,11 @@ use Rattle.text_fields.proofs.CheckedRows.{tables_there}
 use Rattle.text_fields.proofs.checked.Checked.tables.Goals as goal
 
 pub returns-clause-tables : goal.returns-clause-tables
-returns-clause-tables g c =
-    let tables = tables_there (table_view c.args.self.now.table.now) c.args.field g.F.Fields.rows c.args.self.now.sound c.requires in
+returns-clause-tables c =
+    let tables = tables_there (table_view c.args.self.now.table.now) c.args.field c.args.self.now.rows.now c.args.self.now.sound c.requires in
     sym (list_all-map is_table view c.members_in.result.now) ∙ ap (list_all is_table) c.members_in.ensures ∙ tables.0
 
 pub returns-clause-few : goal.returns-clause-few
-returns-clause-few g c =
-    let tables = tables_there (table_view c.args.self.now.table.now) c.args.field g.F.Fields.rows c.args.self.now.sound c.requires in
+returns-clause-few c =
+    let tables = tables_there (table_view c.args.self.now.table.now) c.args.field c.args.self.now.rows.now c.args.self.now.sound c.requires in
     rw (sym (length-map c.members_in.result.now view) ∙ ap length c.members_in.ensures) tables.1

@@ -8,18 +8,18 @@ use Rattle.text_fields.proofs.CheckedRows.{there}
 use Rattle.text_fields.proofs.checked.Checked.value.Goals as goal
 
 pub value_in-requires : goal.value_in-requires
-value_in-requires g c = rw (there (table_view c.args.self.now.table.now) c.args.field g.F.Fields.rows c.args.self.now.sound c.requires).found refl
+value_in-requires c = rw (there (table_view c.args.self.now.table.now) c.args.field c.args.self.now.rows.now c.args.self.now.sound c.requires).found refl
 
 pub returns-clause-typed : goal.returns-clause-typed
-returns-clause-typed g c =
+returns-clause-typed c =
     let tree = table_view c.args.self.now.table.now in
-    let v = there tree c.args.field g.F.Fields.rows c.args.self.now.sound c.requires in
+    let v = there tree c.args.field c.args.self.now.rows.now c.args.self.now.sound c.requires in
     let same = same_value v.value (view c.value_in.result.now) (in_field c.args.field tree) v.found c.value_in.ensures in
-    ap (has_type (shape_of (row_of c.args.field g.F.Fields.rows))) (sym same) ∙ v.typed
+    ap (has_type (shape_of (row_of c.args.field c.args.self.now.rows.now))) (sym same) ∙ v.typed
 
 pub returns-clause-within : goal.returns-clause-within
-returns-clause-within g c =
+returns-clause-within c =
     let tree = table_view c.args.self.now.table.now in
-    let v = there tree c.args.field g.F.Fields.rows c.args.self.now.sound c.requires in
+    let v = there tree c.args.field c.args.self.now.rows.now c.args.self.now.sound c.requires in
     let same = same_value v.value (view c.value_in.result.now) (in_field c.args.field tree) v.found c.value_in.ensures in
-    ap (is_in_range tree (shape_of (row_of c.args.field g.F.Fields.rows))) (sym same) ∙ v.within
+    ap (is_in_range tree (shape_of (row_of c.args.field c.args.self.now.rows.now))) (sym same) ∙ v.within

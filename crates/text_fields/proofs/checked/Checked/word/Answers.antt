@@ -5,14 +5,14 @@ use Rattle.text_fields.proofs.CheckedRows.{numbered}
 use Rattle.text_fields.proofs.checked.Checked.word.Goals as goal
 
 pub word_in-requires : goal.word_in-requires
-word_in-requires g c =
-    let n = numbered (table_view c.args.self.now.table.now) c.args.field 65535 g.F.Fields.rows c.args.self.now.sound c.requires in
+word_in-requires c =
+    let n = numbered (table_view c.args.self.now.table.now) c.args.field 65535 c.args.self.now.rows.now c.args.self.now.sound c.requires in
     below 65536 n.0 (omega (arith, n.1))
 
 pub returns-clause-least : goal.returns-clause-least
-returns-clause-least g c =
-    at_least c.word_in.result (numbered (table_view c.args.self.now.table.now) c.args.field 65535 g.F.Fields.rows c.args.self.now.sound c.requires).0 c.word_in.ensures
+returns-clause-least c =
+    at_least c.word_in.result (numbered (table_view c.args.self.now.table.now) c.args.field 65535 c.args.self.now.rows.now c.args.self.now.sound c.requires).0 c.word_in.ensures
 
 pub returns-clause-most : goal.returns-clause-most
-returns-clause-most g c =
-    within c.word_in.result (numbered (table_view c.args.self.now.table.now) c.args.field 65535 g.F.Fields.rows c.args.self.now.sound c.requires).0 c.word_in.ensures
+returns-clause-most c =
+    within c.word_in.result (numbered (table_view c.args.self.now.table.now) c.args.field 65535 c.args.self.now.rows.now c.args.self.now.sound c.requires).0 c.word_in.ensures
