@@ -1,3 +1,4 @@
 pub mod Replaying
 pub mod Following
 pub mod Getting
+pub mod Here

@@ -1,17 +1,20 @@
 -- What a call of a board with a history gives, and what it leaves.
-use Rattle.std.specs.Prelude.{◌≡◌, ◌++◌, ◌∷◌, [], ℕ, List, Result}
+use Rattle.std.specs.Prelude.{◌≡◌, ◌≤◌, ◌++◌, ◌∷◌, [], ℕ, List, length, Result}
 use Rattle.record_base.specs.declared.message.Asked.{Asked}
 use Rattle.record_base.specs.declared.message.Answered.{Answered}
+use Rattle.record_base.specs.Meaning.{room_for}
 use Rattle.cfg_records.specs.Records.{Records}
 use Rattle.cfg_records.specs.declared.board_file.BoardFile.{BoardFile}
 use Rattle.bmc_board.specs.declared.bench.Bench.{Bench}
 use Rattle.bmc_board.specs.declared.bench.NoSensor.{NoSensor}
 use Rattle.bmc_board.specs.declared.board.Board.{Board}
 use Rattle.bmc_board.specs.State.{state_of}
+use Rattle.bmc_board.specs.Gives.{Gives}
 use Rattle.bmc_board.specs.Answer.{answer_of}
 use Rattle.bmc_board.specs.Row.{Row, Is}
 use Rattle.bmc_board.specs.Sensing.{bench_of}
 use Rattle.bmc_history.specs.declared.event.Call.{Call}
+use Rattle.bmc_history.specs.declared.event.Call.TheVariants.{Exchanged}
 use Rattle.bmc_history.specs.declared.event.Event.{Event}
 use Rattle.bmc_history.specs.Follows.{Happens}
 
@@ -41,3 +44,20 @@ GainsEvent before after seat call = after ≡ before ++ record { seat = seat; ca
 -- the seat's list has one call more, its last
 abbrev pub GainsCall : List Call → List Call → Call → Type 0
 GainsCall before after call = after ≡ before ++ call ∷ []
+
+-- The board answered the request so, behind the bytes that were there, and the history gained that as the seat's call.
+pub record ExchangesHere {S : Type 0} {g h : _} (setup : BoardFile) (records : S → Records) (before after : Board S g h) (events later : List Event) (seat : ℕ)
+    (asked : Asked) (given : Result (Unit {0}) ℕ) (old new : List ℕ) : Type 0 where
+  pub answered : Answered
+  pub gives : Gives given old new answered
+  pub fits : length answered.body ≤ room_for asked
+  pub row : IsRow setup records before after asked answered
+  pub reply : IsReply setup records before after asked answered
+  pub gained : GainsEvent events later seat (Exchanged asked answered)
+
+-- the answer is given behind the bytes that were there, and the seat's list gained the request with it
+pub record KeepsHere (calls kept : List Call) (asked : Asked) (given : Result (Unit {0}) ℕ) (old new : List ℕ) : Type 0 where
+  pub answered : Answered
+  pub gives : Gives given old new answered
+  pub fits : length answered.body ≤ room_for asked
+  pub gained : GainsCall calls kept (Exchanged asked answered)

@@ -2,15 +2,17 @@
 //!
 //! An entry is filled in its place, and takes no memory. Each place is written once at the opening: the system finds the memory of a page
 //! when it's first written, and a call that holds a board's lock would wait for that.
-ghost use Rattle.std.specs.Prelude.{◌≡◌, ◌<◌, [], IfOk, length, slice_get};
+ghost use Rattle.std.specs.Prelude.{◌≡◌, ◌<◌, ◌≤◌, [], IfOk, length, slice_get};
+ghost use Rattle.two_wire.specs.Sizes.{most_pldm_reply_data};
 ghost use Rattle.bmc_history.specs.Calls.{GainsEvent, GainsCall};
 ghost use Rattle.bmc_history.specs.Seated.{IsBlank};
-ghost use Rattle.bmc_history.specs.declared.event.Call.TheVariants.{Exchanged, Benched};
+ghost use Rattle.bmc_history.specs.Entries.{exchanged};
+ghost use Rattle.bmc_history.specs.declared.event.Call.TheVariants.{Benched};
 
 use crate::entry::{Entry, SeatEntry};
 use crate::event::{Call, Event};
 use bmc_board::{Bench, NoSensor};
-use record_base::{Answered, Asked};
+use bmc_carry::AskedHere;
 use std::alloc::{AllocError, Global};
 use std::marker::Model;
 
@@ -69,15 +71,16 @@ impl Events {
         &self.places[..self.used]
     }
 
-    /// Adds a seat's call of this request and this reply.
-    pub(crate) fn gain_exchange(&mut self, seat: u8, asked: &Asked, answered: &Answered)
-        requires { length self.old.items < self.old.room }
+    /// Adds a seat's call of this request, and of the reply of this code and data.
+    pub(crate) fn gain_exchange(&mut self, seat: u8, asked: &AskedHere<'_>, code: u8, body: &[u8])
+        requires room { length self.old.items < self.old.room }
+        requires fits { length body.now ≤ most_pldm_reply_data }
         ensures items { GainsEvent self.old.items self.new.items
-            seat (Exchanged asked.now answered.now) }
+            seat (exchanged asked.now code body.now) }
         ensures room { self.new.room ≡ self.old.room }
     {
         let place = self.used;
-        self.places[place].put_exchange(seat, asked, answered);
+        self.places[place].put_exchange(seat, asked, code, body);
         self.used = place + 1;
     }
 
@@ -147,14 +150,16 @@ impl Calls {
         &self.places[..self.used]
     }
 
-    /// Adds the call of this request and this reply.
-    pub(crate) fn gain_exchange(&mut self, asked: &Asked, answered: &Answered)
-        requires { length self.old.items < self.old.room }
-        ensures items { GainsCall self.old.items self.new.items (Exchanged asked.now answered.now) }
+    /// Adds the call of this request, and of the reply of this code and data.
+    pub(crate) fn gain_exchange(&mut self, asked: &AskedHere<'_>, code: u8, body: &[u8])
+        requires room { length self.old.items < self.old.room }
+        requires fits { length body.now ≤ most_pldm_reply_data }
+        ensures items { GainsCall self.old.items self.new.items
+            (exchanged asked.now code body.now) }
         ensures room { self.new.room ≡ self.old.room }
     {
         let place = self.used;
-        self.places[place].put_exchange(asked, answered);
+        self.places[place].put_exchange(asked, code, body);
         self.used = place + 1;
     }
 

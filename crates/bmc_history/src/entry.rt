@@ -1,9 +1,12 @@
 //! What was asked and answered, with its bytes in places of their own.
-ghost use Rattle.std.specs.Prelude.{◌≡◌};
-ghost use Rattle.bmc_history.specs.declared.event.Call.TheVariants.{Exchanged, Benched};
+ghost use Rattle.std.specs.Prelude.{◌≡◌, ◌≤◌, length};
+ghost use Rattle.two_wire.specs.Sizes.{most_pldm_reply_data};
+ghost use Rattle.bmc_history.specs.Entries.{exchanged};
+ghost use Rattle.bmc_history.specs.declared.event.Call.TheVariants.{Benched};
 
 use crate::event::{Call, Event};
 use bmc_board::{Bench, NoSensor};
+use bmc_carry::AskedHere;
 use record_base::{Answered, Asked};
 use std::marker::Model;
 use two_wire::size::{MOST_PLDM_REPLY_DATA, MOST_PLDM_REQUEST_DATA};
@@ -67,12 +70,13 @@ impl Entry {
         }
     }
 
-    /// Puts the call of this request and this reply here.
-    pub(crate) fn put_exchange(&mut self, asked: &Asked, answered: &Answered)
-        ensures { self.new ≡ Exchanged asked.now answered.now }
+    /// Puts the call of this request, and of the reply of this code and data, here.
+    pub(crate) fn put_exchange(&mut self, asked: &AskedHere<'_>, code: u8, body: &[u8])
+        requires { length body.now ≤ most_pldm_reply_data }
+        ensures { self.new ≡ exchanged asked.now code body.now }
     {
         match asked {
-            Asked::Ipmi {
+            AskedHere::Ipmi {
                 from,
                 net_fn,
                 lun,
@@ -84,11 +88,11 @@ impl Entry {
                     net_fn: *net_fn,
                     lun: *lun,
                     command: *command,
-                    code: answered.code,
+                    code,
                 };
                 self.request.replace(body.as_slice());
             }
-            Asked::Pldm {
+            AskedHere::Pldm {
                 from,
                 kind,
                 command,
@@ -98,12 +102,12 @@ impl Entry {
                     from: *from,
                     kind: *kind,
                     command: *command,
-                    code: answered.code,
+                    code,
                 };
                 self.request.replace(body.as_slice());
             }
         }
-        self.reply.replace(answered.body.as_slice());
+        self.reply.replace(body);
     }
 
     /// Puts the call of this that happened, and this answer, here.
@@ -187,12 +191,13 @@ impl SeatEntry {
         }
     }
 
-    /// Puts the seat's call of this request and this reply here.
-    pub(crate) fn put_exchange(&mut self, seat: u8, asked: &Asked, answered: &Answered)
-        ensures { self.new ≡ record { seat = seat; call = Exchanged asked.now answered.now } }
+    /// Puts the seat's call of this request, and of the reply of this code and data, here.
+    pub(crate) fn put_exchange(&mut self, seat: u8, asked: &AskedHere<'_>, code: u8, body: &[u8])
+        requires { length body.now ≤ most_pldm_reply_data }
+        ensures { self.new ≡ record { seat = seat; call = exchanged asked.now code body.now } }
     {
         self.seat = seat;
-        self.entry.put_exchange(asked, answered);
+        self.entry.put_exchange(asked, code, body);
     }
 
     /// Puts the seat's call of this that happened, and this answer, here.

@@ -1,10 +1,11 @@
 //! A board with its history.
-ghost use Rattle.std.specs.Prelude.{◌≡◌, ◌≤◌, ◌<◌, ◌↔◌, [], IfOk, IfErr, OnOk, OnErr, IsErr, IsTrue, length};
+ghost use Rattle.std.specs.Prelude.{◌≡◌, ◌+◌, ◌≤◌, ◌<◌, ◌↔◌, [], IfOk, IfErr, OnOk, OnErr, IsErr, IsTrue, length};
 ghost use Rattle.record_base.specs.Meaning.{room_for};
 ghost use Rattle.bmc_board.specs.State.{state_of};
+ghost use Rattle.bmc_carry.specs.Asking.{meant};
 ghost use Rattle.bmc_history.specs.Replay.{Replays, IsRoom};
 ghost use Rattle.bmc_history.specs.Matching.{Matches};
-ghost use Rattle.bmc_history.specs.Calls.{IsRow, IsReply, IsHappening, GainsEvent};
+ghost use Rattle.bmc_history.specs.Calls.{IsRow, IsReply, IsHappening, GainsEvent, ExchangesHere};
 ghost use Rattle.bmc_history.specs.ReplayLaws.{Replays-prop};
 ghost use Rattle.bmc_history.specs.declared.event.Call.TheVariants.{Exchanged, Benched};
 ghost use Rattle.bmc_history.specs.declared.held.OpenFault.TheVariants.{Room};
@@ -13,9 +14,11 @@ use crate::entries::{Calls, Events};
 use crate::history::{History, are_calls};
 use crate::opening::Opening;
 use bmc_board::{Bench, Board, NoSensor};
+use bmc_carry::{AskedHere, Reply, answer_here, answered, code_of};
 use cfg_records::{Answered, Asked, Store};
 use std::alloc::Global;
 use std::marker::PhantomData;
+use two_wire::{Bytes, Code};
 
 /// The most events that a history may have room for.
 pub const MOST_EVENTS: usize = 4_096;
@@ -121,15 +124,19 @@ impl<J: Opening, S: Store> Held<J, S> {
         (board, History::new(history))
     }
 
-    /// Has the board answer, and adds that to the history.
+    /// Has the board answer a request where it lies, and adds that to the history.
     #[inline(always)]
-    fn answer(&mut self, port: u8, asked: &Asked) -> Answered
-        requires { length self.old.history.items < self.old.room }
-        ensures row { IsRow J.setup S.records self.old.board self.new.board asked.now result }
-        ensures answer { IsReply J.setup S.records self.old.board self.new.board asked.now result }
-        ensures fits { length result.body ≤ room_for asked.now }
-        ensures history { GainsEvent self.old.history.items self.new.history.items
-            port (Exchanged asked.now result) }
+    fn answer<B: Reply>(
+        &mut self,
+        port: u8,
+        asked: &AskedHere<'_>,
+        reply: &mut B,
+    ) -> Result<(), Code>
+        requires room { length (B.bytes reply.old) + room_for (meant asked.now) ≤ B.capacity }
+        requires place { length self.old.history.items < self.old.room }
+        ensures { ExchangesHere J.setup S.records self.old.board self.new.board
+            self.old.history.items self.new.history.items port (meant asked.now)
+            result (B.bytes reply.old) (B.bytes reply.new) }
     {
         let Held {
             board,
@@ -137,9 +144,35 @@ impl<J: Opening, S: Store> Held<J, S> {
             room: _,
             of: _,
         } = self;
-        let answered = board.answer(asked);
-        history.gain_exchange(port, asked, &answered);
-        answered
+        let start = reply.as_slice().len();
+        let given = answer_here(board, asked, reply);
+        history.gain_exchange(port, asked, code_of(&given), &reply.as_slice()[start..]);
+        given
+    }
+
+    /// The board's answer to a request that is looked at where it lies: the reply's data are
+    /// appended, and the history gains the request and them. It takes no memory. Where the
+    /// history has no room, nothing changes.
+    #[inline(always)]
+    pub fn exchange_here<B: Reply>(
+        &mut self,
+        port: u8,
+        asked: &AskedHere<'_>,
+        reply: &mut B,
+    ) -> Result<Result<(), Code>, PeriodFull>
+        requires room { length (B.bytes reply.old) + room_for (meant asked.now) ≤ B.capacity }
+        ensures exchanged { IfOk result (λ given.
+            ExchangesHere J.setup S.records self.old.board self.new.board
+            self.old.history.items self.new.history.items port (meant asked.now)
+            given (B.bytes reply.old) (B.bytes reply.new)) }
+        ensures full { IsErr result ↔ (length self.old.history.items ≡ J.room) }
+        ensures same { OnErr result (self.new ≡ self.old) }
+        ensures nothing { OnErr result (B.bytes reply.new ≡ B.bytes reply.old) }
+    {
+        if self.is_full() {
+            return Err(PeriodFull);
+        }
+        Ok(self.answer(port, asked, reply))
     }
 
     /// The board's answer to a request, which the history gains. It takes no memory. Where the
@@ -157,10 +190,11 @@ impl<J: Opening, S: Store> Held<J, S> {
         ensures full { IsErr result ↔ (length self.old.history.items ≡ J.room) }
         ensures same { OnErr result (self.new ≡ self.old) }
     {
-        if self.is_full() {
-            return Err(PeriodFull);
+        let mut body = Bytes::new();
+        match self.exchange_here(port, &AskedHere::of(asked), &mut body) {
+            Ok(given) => Ok(answered(given, body)),
+            Err(full) => Err(full),
         }
-        Ok(self.answer(port, asked))
     }
 
     /// Has something happen on the board, and adds that to the history.

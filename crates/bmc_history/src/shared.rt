@@ -1,9 +1,10 @@
 //! A board that threads share, and its seats.
-ghost use Rattle.std.specs.Prelude.{◌≡◌, ◌≤◌, ◌<◌, ◌^◌, ◌↔◌, true, IsTrue, IfOk, IfErr, IsOk, IsErr, IfSome, OnOk, OnErr, length};
+ghost use Rattle.std.specs.Prelude.{◌≡◌, ◌+◌, ◌≤◌, ◌<◌, ◌^◌, ◌↔◌, true, IsTrue, IfOk, IfErr, IsOk, IsErr, IfSome, OnOk, OnErr, length};
 ghost use Rattle.record_base.specs.Meaning.{room_for};
 ghost use Rattle.bmc_board.specs.State.{state_of};
+ghost use Rattle.bmc_carry.specs.Asking.{meant};
 ghost use Rattle.bmc_history.specs.Replay.{Replays, IsRoom};
-ghost use Rattle.bmc_history.specs.Calls.{IsRow, IsReply, IsHappening, GainsEvent, GainsCall};
+ghost use Rattle.bmc_history.specs.Calls.{IsRow, IsReply, IsHappening, GainsEvent, GainsCall, ExchangesHere, KeepsHere};
 ghost use Rattle.bmc_history.specs.Seated.{IsBlank, IsFresh, SeatMatches, AllMatch, calls_made};
 ghost use Rattle.bmc_history.specs.declared.event.Call.TheVariants.{Exchanged, Benched};
 ghost use Rattle.bmc_history.specs.declared.held.OpenFault.TheVariants.{Room};
@@ -15,10 +16,12 @@ use crate::history::History;
 use crate::opening::Opening;
 use crate::seat::{Seat, Seats};
 use bmc_board::{Bench, Board, NoSensor};
+use bmc_carry::{AskedHere, Reply, answered, code_of};
 use cfg_records::{Answered, Asked, Store};
 use std::alloc::Global;
 use std::sync::ledger::{Blank, Book};
 use std::sync::{Mutex, Wait};
+use two_wire::{Bytes, Code};
 
 /// What lies under the lock: the board with its history, whose events a book counts.
 #[derive(Drop)]
@@ -45,6 +48,53 @@ pub enum CloseFault {
 }
 
 impl<J: Opening, S: Store> Locked<J, S> {
+    /// The board's answer to a request that is looked at where it lies: the reply's data are
+    /// appended, and the history and the seat's list gain the request and them. Where the history
+    /// has no room, the seat is marked as refused, and nothing else changes.
+    pub fn exchange_here<B: Reply>(
+        &mut self,
+        seat: &mut Seat<J>,
+        asked: &AskedHere<'_>,
+        reply: &mut B,
+    ) -> Result<Result<(), Code>, PeriodFull>
+        requires room { length (B.bytes reply.old) + room_for (meant asked.now) ≤ B.capacity }
+        ensures exchanged { IfOk result (λ given.
+            ExchangesHere J.setup S.records self.old.held.board self.new.held.board
+            self.old.held.history.items self.new.held.history.items seat.old.number
+            (meant asked.now) given (B.bytes reply.old) (B.bytes reply.new)) }
+        ensures full { IsErr result ↔ (length self.old.held.history.items ≡ J.room) }
+        ensures same { OnErr result (self.new.held ≡ self.old.held) }
+        ensures nothing { OnErr result (B.bytes reply.new ≡ B.bytes reply.old) }
+        ensures kept { IfOk result (λ given.
+            KeepsHere seat.old.calls.items seat.new.calls.items (meant asked.now)
+            given (B.bytes reply.old) (B.bytes reply.new)) }
+        ensures mark { OnOk result (seat.new.refused ≡ seat.old.refused) }
+        ensures same_list { OnErr result (seat.new.calls.items ≡ seat.old.calls.items) }
+        ensures marked { OnErr result (seat.new.refused ≡ true) }
+        ensures number { seat.new.number ≡ seat.old.number }
+    {
+        let Locked { held, book } = self;
+        let Seat {
+            number,
+            calls,
+            refused,
+            share,
+        } = seat;
+        book.audit(share);
+        let start = reply.as_slice().len();
+        match held.exchange_here(*number, asked, reply) {
+            Ok(given) => {
+                book.add(share, 1);
+                calls.gain_exchange(asked, code_of(&given), &reply.as_slice()[start..]);
+                Ok(given)
+            }
+            Err(full) => {
+                *refused = true;
+                Err(full)
+            }
+        }
+    }
+
     /// The board's answer to a request, which the history and the seat's list gain. Where the
     /// history has no room, the seat is marked as refused, and nothing else changes.
     pub fn exchange(&mut self, seat: &mut Seat<J>, asked: &Asked) -> Result<Answered, PeriodFull>
@@ -65,23 +115,11 @@ impl<J: Opening, S: Store> Locked<J, S> {
         ensures marked { OnErr result (seat.new.refused ≡ true) }
         ensures number { seat.new.number ≡ seat.old.number }
     {
-        let Locked { held, book } = self;
-        let Seat {
-            number,
-            calls,
-            refused,
-            share,
-        } = seat;
-        book.audit(share);
-        let told = held.exchange(*number, asked);
-        match &told {
-            Ok(answered) => {
-                book.add(share, 1);
-                calls.gain_exchange(asked, answered);
-            }
-            Err(_) => *refused = true,
+        let mut body = Bytes::new();
+        match self.exchange_here(seat, &AskedHere::of(asked), &mut body) {
+            Ok(given) => Ok(answered(given, body)),
+            Err(full) => Err(full),
         }
-        told
     }
 
     /// Something happens on the board beside requests, and the history and the seat's list gain it.
@@ -196,6 +234,28 @@ impl<J: Opening, S: Store + Drop> Shared<J, S> {
         ensures number { seat.new.number ≡ seat.old.number }
     {
         self.lock.lock(rt).exchange(seat, asked)
+    }
+
+    /// Waits for the lock, and has the board answer a request that is looked at where it lies. What
+    /// it answers is `Locked::exchange_here`'s. The lock is held for that alone.
+    pub fn exchange_here<B: Reply, R: Wait>(
+        &self,
+        rt: &R,
+        seat: &mut Seat<J>,
+        asked: &AskedHere<'_>,
+        reply: &mut B,
+    ) -> Result<Result<(), Code>, PeriodFull>
+        requires room { length (B.bytes reply.old) + room_for (meant asked.now) ≤ B.capacity }
+        ensures nothing { OnErr result (B.bytes reply.new ≡ B.bytes reply.old) }
+        ensures kept { IfOk result (λ given.
+            KeepsHere seat.old.calls.items seat.new.calls.items (meant asked.now)
+            given (B.bytes reply.old) (B.bytes reply.new)) }
+        ensures mark { OnOk result (seat.new.refused ≡ seat.old.refused) }
+        ensures same_list { OnErr result (seat.new.calls.items ≡ seat.old.calls.items) }
+        ensures marked { OnErr result (seat.new.refused ≡ true) }
+        ensures number { seat.new.number ≡ seat.old.number }
+    {
+        self.lock.lock(rt).exchange_here(seat, asked, reply)
     }
 
     /// Waits for the lock, and has something happen on the board beside requests. What it answers

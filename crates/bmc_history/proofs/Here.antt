@@ -1,0 +1,89 @@
+-- An exchange of a request that is looked at where it lies.
+use Rattle.std.specs.Prelude.{Result, Ok, Err}
+use Rattle.std.proofs.Common.{◌≡◌, ◌≤◌, ◌+◌, ℕ, List, ◌-◌, length, take, drop, sym, ◌∙◌, ap, subst, arith, lit≤}
+use Rattle.std.proofs.lemmas.List.{length-append, length-drop, take_all}
+use Rattle.std.proofs.Math.Seq.{drop-append_seam, drop-length}
+use Rattle.record_base.specs.declared.message.Asked.{Asked}
+use Rattle.record_base.specs.declared.message.Asked.TheVariants.{Ipmi, Pldm}
+use Rattle.record_base.specs.declared.message.Answered.{Answered}
+use Rattle.record_base.specs.Meaning.{room_for}
+use Rattle.cfg_records.specs.Records.{Records}
+use Rattle.cfg_records.specs.declared.board_file.BoardFile.{BoardFile}
+use Rattle.bmc_board.specs.declared.board.Board.{Board}
+use Rattle.bmc_board.specs.State.{state_of}
+use Rattle.bmc_board.specs.Gives.{Gives}
+use Rattle.bmc_board.specs.Answer.{Given}
+use Rattle.bmc_board.specs.Row.{Row}
+use Rattle.bmc_board.proofs.OneAnswer.{has_answer}
+use Rattle.bmc_carry.specs.declared.asked.AskedHere.{AskedHere}
+use Rattle.bmc_carry.specs.Asking.{meant}
+use Rattle.bmc_carry.specs.Carrying.{code_given}
+use Rattle.bmc_history.specs.declared.event.Call.{Call}
+use Rattle.bmc_history.specs.declared.event.Call.TheVariants.{Exchanged}
+use Rattle.bmc_history.specs.Entries.{exchanged}
+use Rattle.bmc_history.specs.declared.event.Event.{Event}
+use Rattle.bmc_history.specs.Calls.{IsRow, IsReply, GainsEvent, GainsCall, ExchangesHere, KeepsHere}
+
+-- what is given stands behind what was there
+pub no_shorter : (given : Result (Unit {0}) ℕ) (old new : List ℕ) (a : Answered) → Gives given old new a → length old ≤ length new
+no_shorter (Ok done) old new a gives =
+    let whole : length new ≡ length old + length a.body = ap length gives.1 ∙ length-append old a.body in
+    omega (arith, whole)
+no_shorter (Err code) old new a gives = let same : length new ≡ length old = ap length gives.1 in omega (arith, same)
+
+-- and its bytes are the answer's data
+pub data_are : (given : Result (Unit {0}) ℕ) (old new : List ℕ) (a : Answered) → Gives given old new a → drop (length old) new ≡ a.body
+data_are (Ok done) old new a gives = ap (λ (xs : List ℕ). drop (length old) xs) gives.1 ∙ drop-append_seam old a.body
+data_are (Err code) old new a gives =
+    ap (λ (xs : List ℕ). drop (length old) xs) gives.1 ∙ drop-length old ∙ sym (ap (λ (b : Answered). b.body) gives.0)
+
+-- as a slice that begins behind what was there shows them
+rest_of : (xs : List ℕ) (n : ℕ) → take (length xs - n) (drop n xs) ≡ drop n xs
+rest_of xs n = let few : length (drop n xs) ≡ length xs - n = length-drop n xs in take_all (length xs - n) (drop n xs) (omega (arith, few))
+
+pub rest_given : (xs start old new : List ℕ) → xs ≡ new → start ≡ old → take (length xs - length start) (drop (length start) xs) ≡ drop (length old) new
+rest_given xs start old new whole first = rest_of xs (length start) ∙ (λ i. drop (length (first i)) (whole i))
+
+-- its code is the answer's
+pub code_is : (given : Result (Unit {0}) ℕ) (old new : List ℕ) (a : Answered) → Gives given old new a → code_given given ≡ a.code
+code_is (Ok done) old new a gives = sym gives.0
+code_is (Err code) old new a gives = sym (ap (λ (b : Answered). b.code) gives.0)
+
+-- the call of what was given is the answer's
+pub call_is : (asked : AskedHere) (given : Result (Unit {0}) ℕ) (old new shown : List ℕ) (code : ℕ) (a : Answered) → Gives given old new a
+    → code ≡ code_given given → shown ≡ drop (length old) new → exchanged asked code shown ≡ Exchanged (meant asked) a
+call_is asked given old new shown code a gives coded taken =
+    let same : (let b : Answered = record { code = code; body = shown } in b) ≡ a =
+    λ i. record { code = (coded ∙ code_is given old new a gives) i; body = (taken ∙ data_are given old new a gives) i } in
+    ap (λ (b : Answered). Exchanged (meant asked) b) same
+
+-- a reply's data have at most 251 bytes
+pub few : (asked : Asked) (body : List ℕ) → length body ≤ room_for asked → length body ≤ 251
+few (Ipmi from net_fn lun command asked) body fits = let at : length body ≤ 24 = fits in omega (arith, at)
+few (Pldm from kind command asked) body fits = fits
+
+-- so many are room for any reply
+pub room_is : (asked : Asked) → room_for asked ≤ 251
+room_is (Ipmi from net_fn lun command body) = lit≤ tt
+room_is (Pldm from kind command body) = lit≤ tt
+
+-- the board's one answer stands in the command relation
+pub row_of : {S : Type 0} {g h : _} (setup : BoardFile) (records : S → Records) (before after : Board S g h) (asked : Asked) (a : Answered)
+    → IsReply setup records before after asked a → IsRow setup records before after asked a
+row_of setup records before after asked a is =
+    subst (λ (p : Given). Row setup (state_of records before) asked p.0 p.1) (sym is) (has_answer setup (state_of records before) asked)
+
+-- an answer in a value of its own is the one that was given
+pub exchanged_as : {S : Type 0} {g h : _} (setup : BoardFile) (records : S → Records) (before after : Board S g h) (events later : List Event) (seat : ℕ) (asked question : Asked)
+    (given : Result (Unit {0}) ℕ) (old new : List ℕ) (a : Answered) → asked ≡ question → (done : ExchangesHere setup records before after events later seat asked given old new)
+    → a ≡ done.answered
+    → IsRow setup records before after question a × IsReply setup records before after question a × (length a.body ≤ room_for question) × GainsEvent events later seat (Exchanged question a)
+exchanged_as setup records before after events later seat asked question given old new a same done said =
+    subst (λ (q : Asked). IsRow setup records before after q a × IsReply setup records before after q a × (length a.body ≤ room_for q) × GainsEvent events later seat (Exchanged q a)) same
+    (subst (λ (b : Answered). IsRow setup records before after asked b × IsReply setup records before after asked b × (length b.body ≤ room_for asked) × GainsEvent events later seat (Exchanged asked b))
+    (sym said) (done.row, done.reply, done.fits, done.gained))
+
+pub kept_as : (calls kept : List Call) (asked question : Asked) (given : Result (Unit {0}) ℕ) (old new : List ℕ) (a : Answered) → asked ≡ question
+    → (done : KeepsHere calls kept asked given old new) → a ≡ done.answered → GainsCall calls kept (Exchanged question a)
+kept_as calls kept asked question given old new a same done said =
+    subst (λ (q : Asked). GainsCall calls kept (Exchanged q a)) same (subst (λ (b : Answered). GainsCall calls kept (Exchanged asked b)) (sym said) done.gained)
