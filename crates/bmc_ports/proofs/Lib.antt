@@ -6,3 +6,4 @@ pub mod Silent
 pub mod Slicing
 pub mod Rounds
 pub mod Timing
+pub mod Calling

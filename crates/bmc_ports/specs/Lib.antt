@@ -6,3 +6,4 @@ pub mod Senders
 pub mod Silence
 pub mod Slices
 pub mod Timing
+pub mod Calling

@@ -2,6 +2,7 @@
 #![tactic(auto)]
 
 mod bell;
+mod caller;
 pub mod gate;
 pub mod lane;
 pub mod lending;

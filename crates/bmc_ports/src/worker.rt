@@ -1,11 +1,12 @@
 //! A worker of one port: it hears frames over a link, has the board answer what they ask, and sends the replies.
 ghost use Rattle.std.specs.Prelude.{◌≡◌, true, [], ◌∷◌, OnOk, OnErr};
-ghost use Rattle.bmc_core.specs.Port.{bus_of, bus_asked};
-ghost use Rattle.bmc_ports.specs.Serving.{CallsNext, frames_in, Carries, Takes, MakesTurn, Worked, end_of};
+ghost use Rattle.bmc_core.specs.Port.{bus_of};
+ghost use Rattle.bmc_ports.specs.Serving.{CallsNext, frames_in, Takes, MakesTurn, Worked, end_of};
 ghost use Rattle.bmc_ports.specs.declared.worker.End.TheVariants.{Turns, Full};
 
+use crate::caller::Caller;
 use crate::gate::Gate;
-use bmc_core::{Out, Pending, Port, Step};
+use bmc_core::{Out, Port};
 use bmc_history::{Opening, PeriodFull, Seat, Shared};
 use bmc_links::{Heard, Link};
 use cfg_records::Store;
@@ -59,44 +60,16 @@ impl<'a, G: Gate> Desk<'a, G> {
         }
     }
 
-    /// Passes the gate once more.
-    fn pass(&mut self, port: u8) {
-        self.gate.pass(port, self.passed);
-        self.passed = self.passed.wrapping_add(1);
+    /// Passes the gate behind an exchange, if there was one, which passed it before.
+    fn pass_behind(&mut self, has_asked: bool, port: u8) {
+        if has_asked {
+            self.gate.pass(port, self.passed.wrapping_add(1));
+            self.passed = self.passed.wrapping_add(2);
+        }
     }
 }
 
-/// Has the board answer a request, tells the port, and sends the reply. Where the history has no room, the request is dropped.
-fn carry_out<J: Opening, S: Store + Drop, L: Link, G: Gate, R: Wait>(
-    rt: &R,
-    shared: &Shared<J, S>,
-    seat: &mut Seat<J>,
-    port: &mut Port,
-    link: &mut L,
-    desk: &mut Desk<'_, G>,
-    pending: Pending,
-) -> Result<(), PeriodFull>
-    requires bus { bus_asked pending ≡ bus_of port.old }
-    ensures carried { OnOk result
-        (Carries pending port.old seat.old.calls.items seat.new.calls.items port.new) }
-    ensures list { OnErr result (seat.new.calls.items ≡ seat.old.calls.items) }
-    ensures port { OnErr result (port.new ≡ port.old) }
-    ensures marked { OnErr result (seat.new.refused ≡ true) }
-    ensures mark { OnOk result (seat.new.refused ≡ seat.old.refused) }
-    ensures number { seat.new.number ≡ seat.old.number }
-    ensures bus { bus_of port.new ≡ bus_of port.old }
-    ensures calls { (L.counts_of link.new).calls ≡ (L.counts_of link.old).calls }
-    ensures heard { (L.counts_of link.new).heard ≡ (L.counts_of link.old).heard }
-{
-    desk.pass(seat.number());
-    let answered = shared.exchange(rt, seat, &pending.asked())?;
-    port.told(pending, &answered, &mut desk.out);
-    send_all(link, desk.out.frames.as_slice());
-    desk.pass(seat.number());
-    Ok(())
-}
-
-/// Has a port take a frame, and does all that the frame asks for.
+/// Has a port take a frame, and does all that the frame asks for. Where the history has no room, the request is dropped.
 fn take_frame<J: Opening, S: Store + Drop, L: Link, G: Gate, R: Wait>(
     rt: &R,
     shared: &Shared<J, S>,
@@ -115,12 +88,14 @@ fn take_frame<J: Opening, S: Store + Drop, L: Link, G: Gate, R: Wait>(
     ensures calls { (L.counts_of link.new).calls ≡ (L.counts_of link.old).calls }
     ensures heard { (L.counts_of link.new).heard ≡ (L.counts_of link.old).heard }
 {
-    match port.hear(frame, &mut desk.out) {
-        Step::Ask(pending) => carry_out(rt, shared, seat, port, link, desk, pending),
-        Step::Done => {
+    let caller = Caller::new(rt, shared, desk.gate, desk.passed);
+    match port.serve(&caller, seat, frame, &mut desk.out) {
+        Ok(has_asked) => {
             send_all(link, desk.out.frames.as_slice());
+            desk.pass_behind(has_asked, seat.number());
             Ok(())
         }
+        Err(full) => Err(full),
     }
 }
 

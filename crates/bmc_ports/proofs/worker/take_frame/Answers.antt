@@ -1,11 +1,14 @@
-use Rattle.bmc_ports.proofs.Turning.{settled, asked}
+use Rattle.bmc_ports.proofs.Calling.{takes, mark_left, number_left, drops}
 use Rattle.bmc_ports.proofs.worker.take_frame.Goals as goal
 
-pub returns-in-Ask-clause-takes : goal.returns-in-Ask-clause-takes
-returns-in-Ask-clause-takes g c =
-    asked c.args.port.now c.args.frame.now c.hear.new.self c.carry_out.new.port c.hear.new.out c.in-Ask.pending c.args.seat.now.calls.items
-    c.carry_out.new.seat.calls.items c.carry_out.result c.in-Ask.ensures.steps c.carry_out.ensures.carried c.carry_out.ensures.list c.carry_out.ensures.port
+pub returns-in-Ok-clause-takes : goal.returns-in-Ok-clause-takes
+returns-in-Ok-clause-takes g c = takes c.args.port.now c.serve.new.self c.args.frame.now c.args.seat.now c.serve.new.kept c.serve.new.out c.in-Ok.has_asked c.in-Ok.ensures.served
 
-pub returns-in-Done-clause-takes : goal.returns-in-Done-clause-takes
-returns-in-Done-clause-takes g c =
-    settled c.args.port.now c.args.frame.now c.hear.new.self c.hear.new.out c.args.seat.now.calls.items c.in-Done.ensures.steps
+pub returns-in-Ok-clause-mark : goal.returns-in-Ok-clause-mark
+returns-in-Ok-clause-mark g c = mark_left c.args.port.now c.serve.new.self c.args.frame.now c.args.seat.now c.serve.new.kept c.serve.new.out c.in-Ok.has_asked c.in-Ok.ensures.served
+
+pub returns-in-Ok-clause-number : goal.returns-in-Ok-clause-number
+returns-in-Ok-clause-number g c = number_left c.args.port.now c.serve.new.self c.args.frame.now c.args.seat.now c.serve.new.kept c.serve.new.out c.in-Ok.has_asked c.in-Ok.ensures.served
+
+pub returns-in-Err-clause-takes : goal.returns-in-Err-clause-takes
+returns-in-Err-clause-takes g c = drops c.args.port.now c.serve.new.self c.args.frame.now c.args.seat.now c.serve.new.kept c.serve.new.out c.in-Err.full c.in-Err.ensures.served
