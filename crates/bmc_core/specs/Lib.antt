@@ -4,7 +4,6 @@ pub mod IpmbHeard
 pub mod IpmbRuns
 pub mod IpmbShown
 pub mod SmbusHeard
-pub mod Boards
 pub mod SmbusShown
 pub mod SmbusRuns
 pub mod Port

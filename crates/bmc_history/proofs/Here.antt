@@ -1,7 +1,7 @@
 -- An exchange of a request that is looked at where it lies.
 use Rattle.std.specs.Prelude.{Result, Ok, Err}
-use Rattle.std.proofs.Common.{◌≡◌, ◌≤◌, ◌+◌, ℕ, List, ◌-◌, length, take, drop, sym, ◌∙◌, ap, subst, arith, lit≤}
-use Rattle.std.proofs.lemmas.List.{length-append, length-drop, take_all}
+use Rattle.std.proofs.Common.{◌≡◌, ◌≤◌, ℕ, List, ◌-◌, length, take, drop, sym, ◌∙◌, ap, subst, arith, lit≤}
+use Rattle.std.proofs.lemmas.List.{length-drop, take_all}
 use Rattle.std.proofs.Math.Seq.{drop-append_seam, drop-length}
 use Rattle.record_base.specs.declared.message.Asked.{Asked}
 use Rattle.record_base.specs.declared.message.Asked.TheVariants.{Ipmi, Pldm}
@@ -24,15 +24,8 @@ use Rattle.bmc_history.specs.Entries.{exchanged}
 use Rattle.bmc_history.specs.declared.event.Event.{Event}
 use Rattle.bmc_history.specs.Calls.{IsRow, IsReply, GainsEvent, GainsCall, ExchangesHere, KeepsHere}
 
--- what is given stands behind what was there
-pub no_shorter : (given : Result (Unit {0}) ℕ) (old new : List ℕ) (a : Answered) → Gives given old new a → length old ≤ length new
-no_shorter (Ok done) old new a gives =
-    let whole : length new ≡ length old + length a.body = ap length gives.1 ∙ length-append old a.body in
-    omega (arith, whole)
-no_shorter (Err code) old new a gives = let same : length new ≡ length old = ap length gives.1 in omega (arith, same)
-
--- and its bytes are the answer's data
-pub data_are : (given : Result (Unit {0}) ℕ) (old new : List ℕ) (a : Answered) → Gives given old new a → drop (length old) new ≡ a.body
+-- the bytes that were appended are the answer's data
+data_are : (given : Result (Unit {0}) ℕ) (old new : List ℕ) (a : Answered) → Gives given old new a → drop (length old) new ≡ a.body
 data_are (Ok done) old new a gives = ap (λ (xs : List ℕ). drop (length old) xs) gives.1 ∙ drop-append_seam old a.body
 data_are (Err code) old new a gives =
     ap (λ (xs : List ℕ). drop (length old) xs) gives.1 ∙ drop-length old ∙ sym (ap (λ (b : Answered). b.body) gives.0)
@@ -45,7 +38,7 @@ pub rest_given : (xs start old new : List ℕ) → xs ≡ new → start ≡ old 
 rest_given xs start old new whole first = rest_of xs (length start) ∙ (λ i. drop (length (first i)) (whole i))
 
 -- its code is the answer's
-pub code_is : (given : Result (Unit {0}) ℕ) (old new : List ℕ) (a : Answered) → Gives given old new a → code_given given ≡ a.code
+code_is : (given : Result (Unit {0}) ℕ) (old new : List ℕ) (a : Answered) → Gives given old new a → code_given given ≡ a.code
 code_is (Ok done) old new a gives = sym gives.0
 code_is (Err code) old new a gives = sym (ap (λ (b : Answered). b.code) gives.0)
 
@@ -56,11 +49,6 @@ call_is asked given old new shown code a gives coded taken =
     let same : (let b : Answered = record { code = code; body = shown } in b) ≡ a =
     λ i. record { code = (coded ∙ code_is given old new a gives) i; body = (taken ∙ data_are given old new a gives) i } in
     ap (λ (b : Answered). Exchanged (meant asked) b) same
-
--- a reply's data have at most 251 bytes
-pub few : (asked : Asked) (body : List ℕ) → length body ≤ room_for asked → length body ≤ 251
-few (Ipmi from net_fn lun command asked) body fits = let at : length body ≤ 24 = fits in omega (arith, at)
-few (Pldm from kind command asked) body fits = fits
 
 -- so many are room for any reply
 pub room_is : (asked : Asked) → room_for asked ≤ 251

@@ -1,6 +1,4 @@
 //! What carries out what a worker's port hears: the board that workers share.
-ghost use Rattle.std.specs.Prelude.{◌≡◌};
-
 use crate::gate::Gate;
 use bmc_carry::{AskedHere, Carrier, Reply};
 use bmc_history::{Opening, PeriodFull, Seat, Shared};
@@ -31,7 +29,6 @@ impl<'a, J: Opening, S: Store + Drop, G: Gate, R: Wait> Caller<'a, J, S, G, R> {
 }
 
 impl<'a, J: Opening, S: Store + Drop, G: Gate, R: Wait> Carrier for Caller<'a, J, S, G, R> {
-    ghost use Rattle.std.specs.Prelude.{◌≡◌};
     ghost use Rattle.bmc_ports.specs.Calling.{HasCalled, HasFoundNoRoom};
 
     type Kept = Seat<J>;
