@@ -11,6 +11,7 @@ use crate::carrier::Carrier;
 use crate::reply::Reply;
 use bmc_board::Board;
 use cfg_records::Store;
+use std::convert::Infallible;
 use std::marker::PhantomData;
 use two_wire::Code;
 
@@ -33,10 +34,6 @@ pub fn answer_here<S: Store, B: Reply>(
     board.reply(asked.command(), asked.body(), reply)
 }
 
-/// What never comes.
-#[derive(Clone, Copy, Debug, PartialEq, Eq)]
-pub enum Never {}
-
 /// Has a board carry out whatever it is asked, with no history.
 #[derive(Clone, Copy, Debug)]
 pub struct Alone<S> {
@@ -55,7 +52,7 @@ impl<S: Store> Carrier for Alone<S> {
 
     type Kept = Board<S>;
 
-    type Refusal = Never;
+    type Refusal = Infallible;
 
     ghost carries = { λ alone before asked answered after.
         IsAnswered S.records before asked answered after };
@@ -68,7 +65,7 @@ impl<S: Store> Carrier for Alone<S> {
         kept: &mut Board<S>,
         asked: &AskedHere<'_>,
         reply: &mut B,
-    ) -> Result<Result<(), Code>, Never> {
+    ) -> Result<Result<(), Code>, Infallible> {
         Ok(answer_here(kept, asked, reply))
     }
 }

@@ -6,7 +6,7 @@ pub mod asked;
 pub mod carrier;
 pub mod reply;
 
-pub use alone::{Alone, Never, answer_here};
+pub use alone::{Alone, answer_here};
 pub use asked::AskedHere;
 pub use carrier::Carrier;
 pub use reply::{Reply, answered, code_of};
